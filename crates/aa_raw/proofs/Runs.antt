@@ -1,0 +1,194 @@
+-- Lemmas on the values in a run of places.
+use Rattle.std.proofs.Common.{◌≡◌, ℕ, ◌+◌, ◌-◌, ◌<◌, ◌≤◌, suc, Bool, true, List, [], ◌∷◌, ◌++◌, Option, Some, None, map, length, take, drop, get_or, refl, sym, ◌∙◌, ap, subst, arith, rules, append_assoc, length-append, length-take, length-drop, add-zero}
+use Rattle.std.proofs.lemmas.List.{places, same_lists, take_at, drop_at, drop-drop, take-append-drop, length-set, length-map, set_split, drop_more, drop-set-lt, drop-append-le, take-append-le, length-take-le, get_or-set_same, drop-take, take-take}
+use Rattle.std.specs.Prelude.{slice_set, is_some}
+use Rattle.std.specs.List.{list_all}
+use Rattle.aa_raw.specs.Places.{somes, run, IsRun, IsFilled, with_run}
+use Rattle.aa_raw.proofs.Places.{length-with_run, run_filled}
+
+module _ {X : Type 0} where
+  pub somes-append : (cs ds : List (Option X)) → somes (cs ++ ds) ≡ somes cs ++ somes ds
+  somes-append [] ds = refl
+  somes-append (None ∷ cs) ds = somes-append cs ds
+  somes-append (Some x ∷ cs) ds = ap (λ xs. x ∷ xs) (somes-append cs ds)
+
+  pub somes-map : (xs : List X) → somes (map Some xs) ≡ xs
+  somes-map [] = refl
+  somes-map (x ∷ xs) = ap (λ ys. x ∷ ys) (somes-map xs)
+
+  somes-le : (cs : List (Option X)) → length (somes cs) ≤ length cs
+  somes-le [] = omega arith
+  somes-le (None ∷ cs) = omega (arith, somes-le cs)
+  somes-le (Some x ∷ cs) = omega (arith, somes-le cs)
+
+  -- places that are all filled are as many as their values, and are those values
+  all-map : (cs : List (Option X)) → list_all is_some cs ≡ true → cs ≡ map Some (somes cs)
+  all-map [] h = refl
+  all-map (None ∷ cs) h = cc
+  all-map (Some x ∷ cs) h = ap (λ ds. Some x ∷ ds) (all-map cs h)
+
+  all-long : (cs : List (Option X)) → list_all is_some cs ≡ true → length (somes cs) ≡ length cs
+  all-long [] h = refl
+  all-long (None ∷ cs) h = cc
+  all-long (Some x ∷ cs) h = ap suc (all-long cs h)
+
+  long-all : (cs : List (Option X)) → length (somes cs) ≡ length cs → list_all is_some cs ≡ true
+  long-all [] h = refl
+  long-all (None ∷ cs) h = absurd (omega (arith, somes-le cs, h))
+  long-all (Some x ∷ cs) h = let e : length (somes cs) ≡ length cs = omega (arith, h) in long-all cs e
+
+  cut-long : (cs : List (Option X)) (from n : ℕ) → from + n ≤ length cs → length (take n (drop from cs)) ≡ n
+  cut-long cs from n h = omega (arith, length-take n (drop from cs), length-drop from cs)
+
+  -- as many values as places
+  pub length-run : (cs : List (Option X)) (from n : ℕ) → IsRun cs from n → length (run cs from n) ≡ n
+  unfolding run
+  length-run cs from n r = all-long (take n (drop from cs)) r.1 ∙ cut-long cs from n r.0
+
+  -- and where there are as many, each place is filled
+  pub IsRun-long : (cs : List (Option X)) (from n : ℕ) → length (run cs from n) ≡ n → from + n ≤ length cs → IsRun cs from n
+  unfolding run
+  IsRun-long cs from n e h = (h, long-all (take n (drop from cs)) (e ∙ sym (cut-long cs from n h)))
+
+  -- a run of places as the values that they hold
+  pub run-filled : (cs : List (Option X)) (from n : ℕ) → IsRun cs from n → take n (drop from cs) ≡ map Some (run cs from n)
+  unfolding run
+  run-filled cs from n r = all-map (take n (drop from cs)) r.1
+
+  -- the values that a slice of a run shows
+  pub run-is : (cs : List (Option X)) (from n : ℕ) (xs : List X) → take n (drop from cs) ≡ map Some xs → run cs from n ≡ xs
+  unfolding run
+  run-is cs from n xs e = ap somes e ∙ somes-map xs
+
+  take-add : (m n : ℕ) (cs : List (Option X)) → take (m + n) cs ≡ take m cs ++ take n (drop m cs)
+  take-add m n cs = sym (same_lists (take m cs ++ take n (drop m cs)) (take (m + n) cs) (search (rules, places)) (λ k d h. grind (arith, places)))
+
+  run_same : (cs ds : List (Option X)) (from n : ℕ) → take n (drop from cs) ≡ take n (drop from ds) → run cs from n ≡ run ds from n
+  unfolding run
+  run_same cs ds from n e = ap somes e
+
+  pub run-zero : (cs : List (Option X)) (from : ℕ) → run cs from 0 ≡ []
+  unfolding run
+  run-zero cs from = refl
+
+  pub run-add : (cs : List (Option X)) (from m n : ℕ) → run cs from (m + n) ≡ run cs from m ++ run cs (from + m) n
+  unfolding run
+  run-add cs from m n = ap somes (take-add m n (drop from cs)) ∙ somes-append (take m (drop from cs)) (take n (drop m (drop from cs))) ∙ ap (λ ds. somes (take m (drop from cs)) ++ somes (take n ds)) (drop-drop m from cs)
+
+  length-run-le : (cs : List (Option X)) (from n : ℕ) → length (run cs from n) ≤ n
+  unfolding run
+  length-run-le cs from n = omega (arith, somes-le (take n (drop from cs)), length-take n (drop from cs))
+
+  -- the parts of a run are runs
+  IsRun-front : (cs : List (Option X)) (from m n : ℕ) → IsRun cs from (m + n) → IsRun cs from m
+  IsRun-front cs from m n h = IsRun-long cs from m (omega (arith, length-run cs from (m + n) h, ap length (run-add cs from m n), length-append (run cs from m) (run cs (from + m) n), length-run-le cs from m, length-run-le cs (from + m) n)) (omega (arith, h.0))
+
+  IsRun-back : (cs : List (Option X)) (from m n : ℕ) → IsRun cs from (m + n) → IsRun cs (from + m) n
+  IsRun-back cs from m n h = IsRun-long cs (from + m) n (omega (arith, length-run cs from (m + n) h, ap length (run-add cs from m n), length-append (run cs from m) (run cs (from + m) n), length-run-le cs from m, length-run-le cs (from + m) n)) (omega (arith, h.0))
+
+  IsRun-join : (cs : List (Option X)) (from m n : ℕ) → IsRun cs from m → IsRun cs (from + m) n → IsRun cs from (m + n)
+  IsRun-join cs from m n h k = IsRun-long cs from (m + n) (omega (arith, length-run cs from m h, length-run cs (from + m) n k, ap length (run-add cs from m n), length-append (run cs from m) (run cs (from + m) n))) (omega (arith, k.0))
+
+  take-one : (cs : List (Option X)) (i : ℕ) → i < length cs → take 1 (drop i cs) ≡ get_or cs i None ∷ []
+  take-one cs i h = ap (take 1) (drop_more cs i None h)
+
+  -- the value in one place
+  pub run-one : (cs : List (Option X)) (i : ℕ) (x : X) → i < length cs → get_or cs i None ≡ Some x → run cs i 1 ≡ x ∷ []
+  unfolding run
+  run-one cs i x h e = ap somes (take-one cs i h) ∙ ap (λ c. somes (c ∷ [])) e
+
+  -- a cut within the first of two joined lists, or behind it
+  cut-first : (p q : List (Option X)) (a k : ℕ) → a + k ≤ length p → take k (drop a (p ++ q)) ≡ take k (drop a p)
+  cut-first p q a k h = ap (take k) (drop-append-le a p q (omega arith)) ∙ take-append-le k (drop a p) q (omega (arith, length-drop a p))
+
+  cut-front : (cs q : List (Option X)) (m a k : ℕ) → a + k ≤ m → m ≤ length cs → take k (drop a (take m cs ++ q)) ≡ take k (drop a cs)
+  cut-front cs q m a k h l =
+      let e : length (take m cs) ≡ m = length-take-le m cs l in
+      cut-first (take m cs) q a k (omega arith) ∙ sym (cut-first (take m cs) (drop m cs) a k (omega arith)) ∙ ap (λ ds. take k (drop a ds)) (take-append-drop m cs)
+
+  -- the same lemmas at numbers that are equal only by arithmetic
+  pub run-split : (cs : List (Option X)) (from a m n k : ℕ) → from + m ≡ a → m + n ≡ k → run cs from k ≡ run cs from m ++ run cs a n
+  run-split cs from a m n k e f = ap (run cs from) (sym f) ∙ run-add cs from m n ∙ ap (λ i. run cs from m ++ run cs i n) e
+
+  pub IsRun-part : (cs : List (Option X)) (from n a k : ℕ) → from ≤ a → a + k ≤ from + n → IsRun cs from n → IsRun cs a k
+  IsRun-part cs from n a k h l r =
+      let P : ℕ → Type 0 = λ i. IsRun cs from i in
+      let Q : ℕ → Type 0 = λ i. IsRun cs i k in
+      let e : n ≡ (a - from) + (k + (n - (a - from) - k)) = omega arith in
+      let f : from + (a - from) ≡ a = omega arith in
+      subst Q f (IsRun-front cs (from + (a - from)) k (n - (a - from) - k) (IsRun-back cs from (a - from) (k + (n - (a - from) - k)) (subst P e r)))
+
+  pub IsRun-joined : (cs : List (Option X)) (from a m n k : ℕ) → from + m ≡ a → m + n ≡ k → IsRun cs from m → IsRun cs a n → IsRun cs from k
+  IsRun-joined cs from a m n k e f r s =
+      let P : ℕ → Type 0 = λ i. IsRun cs i n in
+      let Q : ℕ → Type 0 = λ i. IsRun cs from i in
+      subst Q f (IsRun-join cs from m n r (subst P (sym e) s))
+
+  pub IsRun-nil : (cs : List (Option X)) (from : ℕ) → from ≤ length cs → IsRun cs from 0
+  IsRun-nil cs from h = IsRun-long cs from 0 (ap length (run-zero cs from)) (omega (arith, h))
+
+  -- runs with the same values are runs alike
+  pub IsRun-same : (cs ds : List (Option X)) (from n : ℕ) → length ds ≡ length cs → run ds from n ≡ run cs from n → IsRun cs from n → IsRun ds from n
+  IsRun-same cs ds from n e f r = IsRun-long ds from n (ap length f ∙ length-run cs from n r) (omega (arith, r.0, e))
+
+  -- a write elsewhere leaves a run
+  pub run-set-above : (cs : List (Option X)) (from n i : ℕ) (c : Option X) → i < length cs → from + n ≤ i → run (slice_set cs i c) from n ≡ run cs from n
+  run-set-above cs from n i c l h = run_same (slice_set cs i c) cs from n (ap (λ ds. take n (drop from ds)) (set_split cs i c l) ∙ cut-front cs (c ∷ drop (suc i) cs) i from n h (omega arith))
+
+  pub run-set-below : (cs : List (Option X)) (from n i : ℕ) (c : Option X) → i < from → run (slice_set cs i c) from n ≡ run cs from n
+  run-set-below cs from n i c h = run_same (slice_set cs i c) cs from n (ap (take n) (drop-set-lt from cs i c h))
+
+  pub run-set-same : (cs : List (Option X)) (i : ℕ) (x : X) → i < length cs → run (slice_set cs i (Some x)) i 1 ≡ x ∷ []
+  run-set-same cs i x h = run-one (slice_set cs i (Some x)) i x (omega (arith, length-set cs i (Some x))) (get_or-set_same cs i (Some x) None h)
+
+  pub IsRun-set-above : (cs : List (Option X)) (from n i : ℕ) (c : Option X) → i < length cs → from + n ≤ i → IsRun cs from n → IsRun (slice_set cs i c) from n
+  IsRun-set-above cs from n i c l h r = IsRun-same cs (slice_set cs i c) from n (length-set cs i c) (run-set-above cs from n i c l h) r
+
+  pub IsRun-set-below : (cs : List (Option X)) (from n i : ℕ) (c : Option X) → i < from → IsRun cs from n → IsRun (slice_set cs i c) from n
+  IsRun-set-below cs from n i c h r = IsRun-same cs (slice_set cs i c) from n (length-set cs i c) (run-set-below cs from n i c h) r
+
+  -- a value put behind a run
+  pub run-push : (cs : List (Option X)) (from n : ℕ) (x : X) (i k : ℕ) → from + n ≡ i → n + 1 ≡ k → i < length cs → run (slice_set cs i (Some x)) from k ≡ run cs from n ++ x ∷ []
+  run-push cs from n x i k e f l =
+      run-split (slice_set cs i (Some x)) from i n 1 k e f ∙ ap (λ ys. ys ++ run (slice_set cs i (Some x)) i 1) (run-set-above cs from n i (Some x) l (omega arith)) ∙ ap (λ ys. run cs from n ++ ys) (run-set-same cs i x l)
+
+  pub IsRun-push : (cs : List (Option X)) (from n : ℕ) (x : X) (i k : ℕ) → from + n ≡ i → n + 1 ≡ k → i < length cs → IsRun cs from n → IsRun (slice_set cs i (Some x)) from k
+  IsRun-push cs from n x i k e f l r =
+      IsRun-long (slice_set cs i (Some x)) from k (ap length (run-push cs from n x i k e f l) ∙ length-append (run cs from n) (x ∷ []) ∙ omega (arith, length-run cs from n r)) (omega (arith, length-set cs i (Some x)))
+
+  -- the last of a run taken
+  pub run-pop : (cs : List (Option X)) (from n : ℕ) (x : X) (i k : ℕ) → from + n ≡ i → n + 1 ≡ k → IsRun cs from k → get_or cs i None ≡ Some x → run cs from k ≡ run (slice_set cs i None) from n ++ x ∷ []
+  run-pop cs from n x i k e f r g =
+      let l : i < length cs = omega (arith, r.0) in
+      run-split cs from i n 1 k e f ∙ ap (λ ys. ys ++ run cs i 1) (sym (run-set-above cs from n i None l (omega arith))) ∙ ap (λ ys. run (slice_set cs i None) from n ++ ys) (run-one cs i x l g)
+
+  -- a run within what is the same
+  pub run-below : (cs ds : List (Option X)) (m a k : ℕ) → take m ds ≡ take m cs → a + k ≤ m → run ds a k ≡ run cs a k
+  run-below cs ds m a k e h =
+      let f : a + (m - a) ≡ m = omega arith in
+      let g : (es : List (Option X)) → take k (drop a (take m es)) ≡ take k (drop a es) =
+      λ es. ap (λ i. take k (drop a (take i es))) (sym f) ∙ ap (take k) (drop-take a (m - a) es) ∙ take-take k (m - a) (drop a es) (omega arith) in
+      run_same ds cs a k (sym (g ds) ∙ ap (λ es. take k (drop a es)) e ∙ g cs)
+
+  -- other values in the places of a run
+  pub run-with : (cs : List (Option X)) (from n : ℕ) (xs : List X) → from + n ≤ length cs → length xs ≡ n → run (with_run cs from n (map Some xs)) from n ≡ xs
+  unfolding run
+  run-with cs from n xs h e =
+      let ys : List (Option X) = map Some xs in
+      let l : length ys ≡ n = length-map xs (λ (x : X). Some x) ∙ e in
+      ap (λ ds. somes (take n ds)) (drop_at (take from cs) (ys ++ drop (from + n) cs) from (length-take-le from cs (omega arith))) ∙ ap somes (take_at ys (drop (from + n) cs) n l) ∙ somes-map xs
+
+  pub length-with : (cs : List (Option X)) (from n : ℕ) (xs : List X) → from + n ≤ length cs → length xs ≡ n → length (with_run cs from n (map Some xs)) ≡ length cs
+  length-with cs from n xs h e = length-with_run cs from n (map Some xs) h (length-map xs (λ (x : X). Some x) ∙ e)
+
+  pub IsRun-with : (cs : List (Option X)) (from n : ℕ) (xs : List X) → from + n ≤ length cs → length xs ≡ n → IsRun (with_run cs from n (map Some xs)) from n
+  IsRun-with cs from n xs h e = IsRun-long (with_run cs from n (map Some xs)) from n (ap length (run-with cs from n xs h e) ∙ e) (omega (arith, h, length-with cs from n xs h e))
+
+  pub drop-with : (cs : List (Option X)) (from n : ℕ) (ys : List (Option X)) → from + n ≤ length cs → length ys ≡ n → drop (from + n) (with_run cs from n ys) ≡ drop (from + n) cs
+  drop-with cs from n ys h e =
+      ap (drop (from + n)) (sym (append_assoc (take from cs) ys (drop (from + n) cs)))
+      ∙ drop_at (take from cs ++ ys) (drop (from + n) cs) (from + n) (length-append (take from cs) ys ∙ omega (arith, length-take-le from cs (omega arith), e))
+
+  -- the first place of a run is filled
+  pub first-filled : (cs : List (Option X)) (from n : ℕ) → IsRun cs from n → 0 < n → IsFilled cs from
+  first-filled cs from n r h = let P : ℕ → Type 0 = λ i. IsFilled cs i in subst P (add-zero from) (run_filled cs from n 0 r h)

@@ -1,0 +1,88 @@
+//! Why room was refused: the errors of every call that takes memory.
+ghost use Rattle.std.specs.Prelude.{◌≡◌, Some};
+ghost use Rattle.aa_raw.specs.Refusals.{text_of};
+
+use std::convert::From;
+use std::error::Error;
+use std::fmt;
+use std::marker::Model;
+
+/// Why a reserve was refused. It stands for `allocator_api2::collections::TryReserveErrorKind`.
+#[derive(Clone, Copy, PartialEq, Eq, Debug, Drop)]
+pub enum TryReserveErrorKind {
+    /// The capacity that was needed passes `usize::MAX` elements, or its bytes pass `isize::MAX`.
+    CapacityOverflow,
+    /// The allocator refused a block of `capacity` elements. The original keeps a layout here.
+    AllocError { capacity: usize },
+}
+
+/// The error of a refused reserve. It stands for `allocator_api2::collections::TryReserveError`. A contract sees it as its kind.
+#[derive(Clone, Copy, PartialEq, Eq, Debug, Drop)]
+pub struct TryReserveError {
+    kind: TryReserveErrorKind,
+}
+
+impl Model for TryReserveError {
+    ghost use Rattle.aa_raw.specs.declared.collections.TryReserveErrorKind.{TryReserveErrorKind};
+
+    ghost Value = { TryReserveErrorKind };
+
+    ghost view = { λ e. e.kind };
+
+    ghost inverse = { λ kind. record { kind = kind } };
+}
+
+impl TryReserveError {
+    /// The details: which of the two refusals it was.
+    pub fn kind(&self) -> TryReserveErrorKind
+        ensures { result ≡ self.now }
+    {
+        self.kind
+    }
+}
+
+impl From<TryReserveErrorKind> for TryReserveError {
+    ghost from_gives = { λ kind error. error ≡ kind };
+
+    /// The error of this kind.
+    fn from(kind: TryReserveErrorKind) -> TryReserveError {
+        TryReserveError { kind }
+    }
+}
+
+impl fmt::Display for TryReserveError {
+    ghost output = { λ error. Some (text_of error) };
+
+    fn fmt<W: fmt::Write>(&self, f: &mut fmt::Formatter<W>) -> fmt::Result {
+        let reason = match self.kind {
+            TryReserveErrorKind::CapacityOverflow => {
+                " because the computed capacity exceeded the collection's maximum"
+            }
+            TryReserveErrorKind::AllocError { .. } => {
+                " because the memory allocator returned an error"
+            }
+        };
+        f.write_str("memory allocation failed")?;
+        f.write_str(reason)
+    }
+}
+
+impl Error for TryReserveError {}
+
+/// What a refused call that took a value answers: the value comes back in `source`. The original has none, since its calls abort.
+#[derive(Debug, Drop)]
+pub struct Refused<S> {
+    /// What the call was given.
+    pub source: S,
+    /// Why it was refused.
+    pub error: TryReserveError,
+}
+
+impl<S: Drop> From<Refused<S>> for TryReserveError {
+    ghost from_gives = { λ refused error. error ≡ refused.error };
+
+    /// Drops the source and keeps the error, so that `?` works.
+    fn from(refused: Refused<S>) -> TryReserveError {
+        refused.error
+    }
+}

@@ -1,0 +1,151 @@
+//! The raw layer: a row of places in memory, and the right to give that memory back.
+ghost use Rattle.std.specs.Prelude.{◌≡◌, ℕ, ◌+◌, ◌*◌, ◌^◌, ◌<◌, ◌≤◌, List, Option, Some, None, map, length, take, drop, replicate, get_or, slice_set, IfOk};
+ghost use Rattle.std.specs.Mem.{type_size};
+ghost use Rattle.std.specs.Borrow.{sem};
+ghost use denote.RawPtr.{Ptr};
+ghost use Rattle.aa_raw.specs.Places.{IsRun, IsFilled, IsCapacity, moved, with_run};
+ghost use Rattle.aa_raw.specs.Holding.{row_owns, row_lends, claim_owns, roomy};
+
+use std::alloc::{AllocError, Allocator};
+use std::marker::{Model, PhantomData};
+use std::mem::{align_of, size_of};
+use std::slice;
+
+/// Places side by side in memory from `ptr` on, each empty or holding a value. It owns them, and not the right to free them.
+pub struct Row<T> {
+    ptr: *mut T,
+    ghost places: { List (Option T) },
+}
+
+impl<T> Model for Row<T> {
+    ghost also_owns = { λ r. row_owns T.row r.ptr r.places };
+
+    ghost also_shares = { λ r _ κ. row_lends T.row r.ptr r.places κ };
+}
+
+/// The right to give the memory of `len` places at `ptr` back to `alloc`. It takes no bytes, and says how many places there may be.
+pub struct Claim<T, A: Allocator> {
+    mark: PhantomData<*const (T, A)>,
+    ghost ptr: { Ptr },
+    ghost len: { ℕ },
+    ghost alloc: { A },
+}
+
+impl<T, A: Allocator> Model for Claim<T, A> {
+    ghost also_owns = { λ c. claim_owns T.row (A.dealloc_token c.alloc) c.ptr c.len };
+
+    ghost also_shares = { λ c _ _. roomy T.row c.len };
+}
+
+impl<T, A: Allocator> Claim<T, A> {
+    /// Does nothing: it tells how many places there may be.
+    pub(crate) fn known(&self)
+        ensures { IsCapacity T.row self.now.len }
+    {}
+}
+
+impl<T> Row<T> {
+    ghost use Rattle.aa_raw.specs.Lends.{lends_item, lends_items};
+
+    /// Puts `item` into a place. A value that stood there is forgotten.
+    pub(crate) fn write(&mut self, index: usize, item: T)
+        requires { index < length self.old.places }
+        ensures { (self.new.ptr ≡ self.old.ptr) × (self.new.places ≡ slice_set self.old.places index (Some item)) }
+    {
+        unsafe { self.ptr.add(index).write(item) }
+    }
+
+    /// Moves the value out of a filled place.
+    pub(crate) fn read(&mut self, index: usize) -> T
+        requires { IsFilled self.old.places index }
+        ensures value { get_or self.old.places index None ≡ Some result }
+        ensures places { (self.new.ptr ≡ self.old.ptr) × (self.new.places ≡ slice_set self.old.places index None) }
+    {
+        unsafe { self.ptr.add(index).read() }
+    }
+
+    pub(crate) fn get_mut(&mut self, index: usize) -> &mut T
+        requires { IsFilled self.old.places index }
+        ensures* writes_back { sem 𝓛 (lends_item T.row self.entry index result) }
+        ensures value { get_or self.old.places index None ≡ Some result.now }
+    {
+        unsafe { &mut *self.ptr.add(index) }
+    }
+
+    /// The `len` values from `from` on.
+    pub(crate) fn slice(&self, from: usize, len: usize) -> &[T]
+        requires { IsRun self.now.places from len }
+        ensures { take len (drop from self.now.places) ≡ map Some result.now }
+    {
+        unsafe { slice::from_raw_parts(self.ptr.add(from), len) }
+    }
+
+    pub(crate) fn slice_mut(&mut self, from: usize, len: usize) -> &mut [T]
+        requires { IsRun self.old.places from len }
+        ensures* writes_back { sem 𝓛 (lends_items T.row self.entry from len result) }
+        ensures value { take len (drop from self.old.places) ≡ map Some result.now }
+    {
+        unsafe { slice::from_raw_parts_mut(self.ptr.add(from), len) }
+    }
+
+    /// Moves the `count` values from `from` on of `other` to the places from `to` on.
+    pub(crate) fn take_run(&mut self, to: usize, other: &mut Row<T>, from: usize, count: usize)
+        requires here { (to + count ≤ length self.old.places) × (length self.old.places < 2 ^ 64) }
+        requires there { IsRun other.old.places from count × (length other.old.places < 2 ^ 64) }
+        ensures here { (self.new.ptr ≡ self.old.ptr) × (self.new.places ≡ with_run self.old.places to count (take count (drop from other.old.places))) }
+        ensures there { (other.new.ptr ≡ other.old.ptr) × (other.new.places ≡ with_run other.old.places from count (replicate count None)) }
+    {
+        'each: for i in 0..count {
+            let item = other.read(from + i);
+            self.write(to + i, item);
+        }
+    }
+}
+
+/// Places that take no bytes, with no call to an allocator.
+pub(crate) fn dangle<T, A: Allocator>(_alloc: &A, _len: usize) -> (Row<T>, Claim<T, A>)
+    requires { IsCapacity T.row _len × (_len * type_size T.row ≡ 0) }
+    ensures { (result.0.places ≡ replicate _len None) × (result.1.ptr ≡ result.0.ptr) × (result.1.len ≡ _len) × (result.1.alloc ≡ _alloc.now) }
+{
+    let none: [T; 0] = [];
+    let row = Row {
+        ptr: &raw const none as *const T as *mut T,
+    };
+    (row, Claim { mark: PhantomData })
+}
+
+/// `len` empty places from the allocator.
+pub(crate) fn allocate<T, A: Allocator>(
+    alloc: &A,
+    len: usize,
+) -> Result<(Row<T>, Claim<T, A>), AllocError>
+    requires { IsCapacity T.row len }
+    ensures { IfOk result (λ r. (r.0.places ≡ replicate len None) × (r.1.ptr ≡ r.0.ptr) × (r.1.len ≡ len) × (r.1.alloc ≡ alloc.now)) }
+{
+    match alloc.allocate(len * size_of::<T>(), align_of::<T>()) {
+        Ok(block) => {
+            let row = Row {
+                ptr: block as *mut T,
+            };
+            Ok((row, Claim { mark: PhantomData }))
+        }
+        Err(error) => Err(error),
+    }
+}
+
+/// Gives the memory back. What stands in the places is forgotten.
+pub(crate) fn deallocate<T, A: Allocator>(alloc: &A, len: usize, row: Row<T>, claim: Claim<T, A>)
+    requires { (length row.places ≡ len) × (claim.ptr ≡ row.ptr) × (claim.len ≡ len) × (claim.alloc ≡ alloc.now) × (0 < len * type_size T.row) }
+{
+    let Row { ptr } = row;
+    let Claim { mark: _ } = claim;
+    unsafe {
+        alloc.deallocate(ptr as *mut u8, len * size_of::<T>(), align_of::<T>());
+    }
+}
+
+/// Lets go of places that take no bytes, and of what stands in them.
+pub(crate) fn forget_row<T, A: Allocator>(row: Row<T>, claim: Claim<T, A>) {
+    let Row { ptr: _ } = row;
+    let Claim { mark: _ } = claim;
+}

@@ -1,0 +1,97 @@
+//! What no clause says: sizes, what the tables of capacities give, and each public call once.
+use crate::collections::{Refused, TryReserveError, TryReserveErrorKind};
+use crate::raw_vec::{Growth, RawVec};
+use std::alloc::Global;
+use std::mem::size_of;
+use std::test::Fail;
+
+const _: () = prove!(size_of::<RawVec<u64, Global>>() == 24);
+
+#[test]
+fn places_are_put_and_taken(rt: HostRuntime) -> Result<(), Fail> {
+    let mut block: RawVec<u32> = RawVec::with_capacity(rt.alloc(), 3)?;
+    assert_eq!(rt; block.capacity(), 3);
+    assert_eq!(rt; block.growth(), Growth::Doubling);
+    let _alloc: &Global = block.allocator();
+    block.put(0, 10);
+    block.put(1, 11);
+    block.put(1, 12);
+    assert_eq!(rt; *block.place(1), 12);
+    *block.place_mut(1) = 13;
+    block.slice_mut(0, 2)[0] = 9;
+    assert_eq!(rt; block.slice(0, 2), [9, 13].as_slice());
+    assert!(rt; block.reserve(2, 1).is_ok());
+    assert_eq!(rt; block.capacity(), 3);
+    assert!(rt; block.reserve(2, 2).is_ok());
+    assert_eq!(rt; block.capacity(), 6);
+    assert_eq!(rt; block.slice(0, 2), [9, 13].as_slice());
+    assert_eq!(rt; block.take(1), 13);
+    Ok(())
+}
+
+#[test]
+fn the_least_capacity_is_by_the_size(rt: HostRuntime) {
+    let mut bytes: RawVec<u8> = RawVec::new(rt.alloc());
+    assert_eq!(rt; bytes.capacity(), 0);
+    assert!(rt; bytes.reserve_for_push(0).is_ok());
+    assert_eq!(rt; bytes.capacity(), 8);
+    let mut words: RawVec<u32> = RawVec::new_in(rt.alloc());
+    assert!(rt; words.try_reserve(0, 1).is_ok());
+    assert_eq!(rt; words.capacity(), 4);
+    let mut rows: RawVec<[u8; 1024]> = RawVec::new(rt.alloc());
+    assert!(rt; rows.try_reserve(0, 1).is_ok());
+    assert_eq!(rt; rows.capacity(), 4);
+    let mut long_rows: RawVec<[u8; 1025]> = RawVec::new(rt.alloc());
+    assert!(rt; long_rows.try_reserve(0, 1).is_ok());
+    assert_eq!(rt; long_rows.capacity(), 1);
+}
+
+#[test]
+fn elements_without_size_take_no_memory(rt: HostRuntime) {
+    let mut block: RawVec<()> = RawVec::new(rt.alloc());
+    assert_eq!(rt; block.capacity(), usize::MAX);
+    block.put(5, ());
+    let _unit: &() = block.place(5);
+    block.take(5);
+    assert!(rt; block.try_reserve(0, usize::MAX).is_ok());
+    block.put(0, ());
+    let refused = block.try_reserve(1, usize::MAX);
+    assert_eq!(rt; refused, Err(TryReserveErrorKind::CapacityOverflow.into()));
+}
+
+#[test]
+fn a_capacity_past_the_limits_is_an_overflow(rt: HostRuntime) {
+    let overflow: TryReserveError = TryReserveErrorKind::CapacityOverflow.into();
+    match RawVec::<u32>::with_capacity_in(1 << 61, rt.alloc()) {
+        Ok(_) => assert!(rt; false),
+        Err(error) => assert_eq!(rt; error, overflow),
+    }
+    let mut block: RawVec<u8> = RawVec::new(rt.alloc());
+    assert_eq!(rt; block.try_reserve(0, 1 << 63), Err(overflow));
+    assert_eq!(rt; block.capacity(), 0);
+}
+
+#[test]
+fn errors_tell_their_kind(rt: HostRuntime) -> Result<(), Fail> {
+    let refused = Refused {
+        source: 7,
+        error: TryReserveErrorKind::AllocError { capacity: 5 }.into(),
+    };
+    let error: TryReserveError = refused.into();
+    assert_eq!(rt;
+        error.kind(),
+        TryReserveErrorKind::AllocError { capacity: 5 }
+    );
+    let text = error.to_string(rt.alloc())?;
+    assert_eq!(rt;
+        text.as_str(),
+        "memory allocation failed because the memory allocator returned an error"
+    );
+    let overflow: TryReserveError = TryReserveErrorKind::CapacityOverflow.into();
+    let text = overflow.to_string(rt.alloc())?;
+    assert_eq!(rt;
+        text.as_str(),
+        "memory allocation failed because the computed capacity exceeded the collection's maximum"
+    );
+    Ok(())
+}

@@ -1,0 +1,7 @@
+//! Tests over the whole library, and no part of it: every request for memory refused in turn, what is given back, and runs of commands.
+#![tactic(auto)]
+
+#[cfg(test)]
+mod refusals;
+#[cfg(test)]
+mod runs;

@@ -1,0 +1,6 @@
+pub use Rattle.aa_raw.specs.Growth
+pub use Rattle.aa_raw.specs.Refusals
+pub use Rattle.aa_raw.specs.Places
+pub mod Vector
+pub mod Inner
+pub mod Lends

@@ -1,0 +1,87 @@
+-- A vector as contracts see it, and how it makes room.
+use Rattle.std.specs.Prelude.{◌≡◌, ℕ, ◌+◌, ◌-◌, ◌<◌, ◌≤◌, List, [], length, Option, ◌⊎◌, ◌==◌, if◌then◌else◌}
+use Rattle.aa_raw.specs.declared.raw_vec.Growth.{Growth}
+use Rattle.aa_raw.specs.declared.raw_vec.Growth.TheVariants.{Doubling}
+use Rattle.aa_raw.specs.declared.collections.TryReserveErrorKind.{TryReserveErrorKind}
+use Rattle.aa_raw.specs.declared.collections.TryReserveErrorKind.TheVariants.{CapacityOverflow}
+use Rattle.aa_raw.specs.Growth.{amortized, least_of, usize_max}
+use Rattle.aa_raw.specs.Refusals.{IsRefused}
+
+-- a list beside a capacity, in a block that counts what it does
+pub record Vector (T A : Type 0) : Type 0 where
+  pub items : List T
+  pub capacity : ℕ  -- how many items there may be, `usize::MAX` where they have no size
+  pub growth : Growth
+  pub grown : ℕ  -- elements moved by growth so far
+  pub written : ℕ  -- elements written into places so far
+  pub runs : ℕ  -- calls that wrote any
+  pub alloc : A
+  pub behind : List (Option T)  -- the places behind the items; only a call that has taken a range out speaks of them
+
+-- the capacity of new room for n elements of `size` bytes
+abbrev pub sized : (size n : ℕ) → ℕ
+sized size n = if size == 0 then usize_max else n
+
+module _ {T A : Type 0} where
+  abbrev pub len : Vector T A → ℕ
+  len v = length v.items
+
+  -- k more elements fit
+  abbrev pub HasRoom : Vector T A → ℕ → Type 0
+  HasRoom v k = k ≤ v.capacity - len v
+
+  -- room for k more than old has was asked for, and refused with this error
+  pub record LacksRoom (old : Vector T A) (k : ℕ) (error : TryReserveErrorKind) : Type 0 where
+    pub full : old.capacity - len old < k
+    pub number : IsRefused error (len old + k)
+    pub overflow : usize_max < len old + k → error ≡ CapacityOverflow
+
+  -- v is empty and was just made, with room for n elements of `size` bytes over the allocator a
+  pub record IsNew (size n : ℕ) (a : A) (v : Vector T A) : Type 0 where
+    pub items : v.items ≡ []
+    pub capacity : v.capacity ≡ sized size n
+    pub growth : v.growth ≡ Doubling
+    pub grown : v.grown ≡ 0
+    pub written : v.written ≡ 0
+    pub runs : v.runs ≡ 0
+    pub alloc : v.alloc ≡ a
+
+  -- new has the block of old
+  pub record SameBlock (old new : Vector T A) : Type 0 where
+    pub capacity : new.capacity ≡ old.capacity
+    pub growth : new.growth ≡ old.growth
+    pub grown : new.grown ≡ old.grown
+    pub alloc : new.alloc ≡ old.alloc
+
+  -- new has a new block of c places for elements of `size` bytes, into which n elements of old's were moved
+  pub record NewBlock (size : ℕ) (old : Vector T A) (n c : ℕ) (new : Vector T A) : Type 0 where
+    pub has_size : 0 < size
+    pub capacity : new.capacity ≡ c
+    pub growth : new.growth ≡ old.growth
+    pub grown : new.grown ≡ old.grown + n
+    pub alloc : new.alloc ≡ old.alloc
+
+  -- old, with n elements of `size` bytes in it, made room for k more and is new: a growth asks for room to spare
+  abbrev pub MakesRoom : (size : ℕ) → Vector T A → (n k : ℕ) → Vector T A → Type 0
+  MakesRoom size old n k new =
+      ((k ≤ old.capacity - n) × SameBlock old new)
+      ⊎ ((old.capacity - n < k) × NewBlock size old n (amortized old.growth old.capacity (n + k) (least_of size)) new)
+
+  -- new has the items xs, and made room for k more than old has
+  pub record GrowsTo (size : ℕ) (old : Vector T A) (k : ℕ) (xs : List T) (new : Vector T A) : Type 0 where
+    pub items : new.items ≡ xs
+    pub room : MakesRoom size old (len old) k new
+
+  -- new has the items xs, in the block of old
+  pub record Holds (old : Vector T A) (xs : List T) (new : Vector T A) : Type 0 where
+    pub items : new.items ≡ xs
+    pub block : SameBlock old new
+
+  -- n elements were written into places, by k calls of the block
+  pub record Writes (old : Vector T A) (n k : ℕ) (new : Vector T A) : Type 0 where
+    pub written : new.written ≡ old.written + n
+    pub runs : new.runs ≡ old.runs + k
+
+  -- v with other items as many as it had
+  abbrev pub with_items : Vector T A → List T → Vector T A
+  with_items v xs = record v { items = xs }

@@ -1,0 +1,190 @@
+//! `Vec`: a growable list over an allocator. It stands for `allocator_api2::vec`.
+ghost use Rattle.std.specs.Prelude.{◌≡◌, ◌+◌, ◌-◌, ◌<◌, ◌≤◌, [], ◌∷◌, ◌++◌, length, IfOk, IfErr, IfNone, OnOk, IsOk, IsTrue, ◌↔◌, MatchOption};
+ghost use Rattle.std.specs.Mem.{type_size};
+ghost use Rattle.std.specs.Borrow.{sem};
+ghost use Rattle.aa_raw.specs.Refusals.{IsRefusedAt};
+ghost use Rattle.aa_vec.specs.Vector.{len, HasRoom, LacksRoom, IsNew, SameBlock, GrowsTo, Holds, Writes};
+
+use aa_raw::collections::{Refused, TryReserveError};
+use aa_raw::raw_vec::{Growth, RawVec};
+use std::alloc::{Allocator, Global};
+use std::default::Default;
+use std::marker::Model;
+
+/// A growable list over the allocator `A`. It stands for `allocator_api2::vec::Vec`; a call that takes memory answers a `Result`
+/// in place of aborting. Elements without size take no memory and have the capacity `usize::MAX`.
+pub struct Vec<T, A: Allocator = Global> {
+    block: RawVec<T, A>,
+    len: usize,
+}
+
+impl<T, A: Allocator> Model for Vec<T, A> {
+    ghost use Rattle.aa_vec.specs.Vector.{Vector};
+
+    ghost Value = { Vector T A };
+
+    ghost use Rattle.aa_vec.specs.Inner.{view_of, IsFront};
+
+    ghost view = { view_of };
+
+    ghost invariant = { IsFront };
+}
+
+impl<T> Vec<T, Global> {
+    /// An empty vector on the global allocator. It takes no memory. It stands for `Vec::new`.
+    pub fn new(alloc: Global) -> Self
+        ensures { IsNew (type_size T.row) 0 alloc result }
+    {
+        Vec::new_in(alloc)
+    }
+
+    /// An empty vector with room for `capacity` elements on the global allocator; it is refused as `with_capacity_in` is. It
+    /// stands for `Vec::with_capacity`.
+    pub fn with_capacity(alloc: Global, capacity: usize) -> Result<Self, TryReserveError>
+        ensures made { IfOk result (λ v. IsNew (type_size T.row) capacity alloc v) }
+        ensures refused { IfErr result (λ e. (0 < capacity) × (0 < type_size T.row) × IsRefusedAt e capacity) }
+    {
+        Vec::with_capacity_in(capacity, alloc)
+    }
+}
+
+impl<T, A: Allocator> Vec<T, A> {
+    ghost use Rattle.aa_vec.specs.Lends.{lends_items};
+
+    /// An empty vector. It takes no memory. It stands for `Vec::new_in`.
+    pub fn new_in(alloc: A) -> Self
+        ensures { IsNew (type_size T.row) 0 alloc result }
+    {
+        Vec {
+            block: RawVec::new_in(alloc),
+            len: 0,
+        }
+    }
+
+    /// An empty vector with room for exactly `capacity` elements. It takes memory where `capacity` is above 0 and elements have
+    /// a size. A refusal is `CapacityOverflow` where the bytes pass `isize::MAX`, and else `AllocError` with this capacity. It
+    /// stands for `Vec::with_capacity_in`.
+    pub fn with_capacity_in(capacity: usize, alloc: A) -> Result<Self, TryReserveError>
+        ensures made { IfOk result (λ v. IsNew (type_size T.row) capacity alloc v) }
+        ensures refused { IfErr result (λ e. (0 < capacity) × (0 < type_size T.row) × IsRefusedAt e capacity) }
+    {
+        let block = RawVec::with_capacity_in(capacity, alloc)?;
+        Ok(Vec { block, len: 0 })
+    }
+
+    /// How many elements there are. It stands for `Vec::len`.
+    #[inline]
+    pub fn len(&self) -> usize
+        ensures count { result ≡ len self.now }
+        ensures within { len self.now ≤ self.now.capacity }
+    {
+        self.len
+    }
+
+    /// Whether there is no element. It stands for `Vec::is_empty`.
+    pub fn is_empty(&self) -> bool
+        ensures { IsTrue result ↔ (self.now.items ≡ []) }
+    {
+        self.len == 0
+    }
+
+    /// How many elements there may be before the vector grows; `usize::MAX` for elements without size. It stands for
+    /// `Vec::capacity`.
+    #[inline]
+    pub fn capacity(&self) -> usize
+        ensures count { result ≡ self.now.capacity }
+        ensures within { len self.now ≤ self.now.capacity }
+    {
+        self.block.capacity()
+    }
+
+    /// The allocator under the vector. It stands for `Vec::allocator`.
+    pub fn allocator(&self) -> &A
+        ensures { result.now ≡ self.now.alloc }
+    {
+        self.block.allocator()
+    }
+
+    /// How the vector grows.
+    pub fn growth(&self) -> Growth
+        ensures { result ≡ self.now.growth }
+    {
+        self.block.growth()
+    }
+
+    /// The elements. It stands for `Vec::as_slice`.
+    pub fn as_slice(&self) -> &[T]
+        ensures { result.now ≡ self.now.items }
+    {
+        self.block.slice(0, self.len)
+    }
+
+    /// The elements, to write to. It stands for `Vec::as_mut_slice`.
+    pub fn as_mut_slice(&mut self) -> &mut [T]
+        ensures* writes_back { sem 𝓛 (lends_items T.row A.row A.Allocator self.entry result) }
+        ensures value { result.now ≡ self.old.items }
+    {
+        self.block.slice_mut(0, self.len)
+    }
+
+    /// Puts `value` behind the last element. It takes memory only where the vector is full, and grows then with room to spare.
+    /// A refusal hands the value back and changes nothing: `CapacityOverflow` where the length passes `usize::MAX` or the bytes
+    /// pass `isize::MAX`, else `AllocError` with a capacity of at least one more than the length. It stands for `Vec::push`.
+    #[inline]
+    pub fn push(&mut self, value: T) -> Result<(), Refused<T>>
+        ensures fits { HasRoom self.old 1 → IsOk result }
+        ensures pushed { OnOk result (GrowsTo (type_size T.row) self.old 1 (self.old.items ++ value ∷ []) self.new) }
+        ensures writes { OnOk result (Writes self.old 1 1 self.new) }
+        ensures refused { IfErr result (λ r. (r.source ≡ value) × LacksRoom self.old 1 r.error × (self.new ≡ self.old)) }
+    {
+        let len = self.len;
+        if let Err(error) = self.block.reserve_for_push(len) {
+            return Err(Refused {
+                source: value,
+                error,
+            });
+        }
+        let _within = self.block.capacity();
+        self.block.put(len, value);
+        self.len = len + 1;
+        Ok(())
+    }
+
+    /// Takes the last element, if there is one. The capacity stays. It stands for `Vec::pop`.
+    #[inline]
+    pub fn pop(&mut self) -> Option<T>
+        ensures cases { MatchOption result (self.old.items ≡ []) (λ y. self.old.items ≡ self.new.items ++ y ∷ []) }
+        ensures empty { IfNone result (self.new ≡ self.old) }
+        ensures block { SameBlock self.old self.new }
+        ensures writes { Writes self.old 0 0 self.new }
+    {
+        if self.len == 0 {
+            return None;
+        }
+        let last = self.len - 1;
+        let value = self.block.take(last);
+        self.len = last;
+        Some(value)
+    }
+}
+
+impl<T, A: Allocator + Default> Default for Vec<T, A> {
+    ghost is_default = { λ v. (a : A) × A.is_default a × IsNew (type_size T.row) 0 a v };
+
+    /// An empty vector over a default allocator. It takes no memory.
+    fn default() -> Self {
+        Vec::new_in(A::default())
+    }
+}
+
+impl<T: Drop, A: Allocator> Drop for Vec<T, A> {
+    /// Drops the elements in order, and gives the memory back.
+    fn drop(self) {
+        let Vec { mut block, len } = self;
+        let mut next = 0;
+        while next < len {
+            drop(block.take(next));
+            next += 1;
+        }
+    }
+}

@@ -1,0 +1,4 @@
+pub mod WholeRuns
+pub mod Paid
+pub mod Runs
+pub mod Steps

@@ -1,0 +1,102 @@
+-- What a vector was moved by growth is paid for by what was added to it.
+use Rattle.std.proofs.Common.{◌≡◌, ℕ, ◌+◌, ◌*◌, ◌-◌, ◌<◌, ◌≤◌, max, List, length, ap, ◌∙◌, arith, ◌⊎◌, inl, inr}
+use Rattle.std.specs.Prelude.{if◌then◌else◌, ◌==◌, nat_lt}
+use Rattle.aa_raw.specs.declared.raw_vec.Growth.{Growth}
+use Rattle.aa_raw.specs.declared.raw_vec.Growth.TheVariants.{Doubling, Sparing}
+use Rattle.aa_raw.specs.Growth.{amortized, least_of}
+use Rattle.aa_vec.specs.Vector.{Vector, len, SameBlock, GrowsTo}
+use Rattle.allocator_api2.specs.Run.{moves_each}
+use Rattle.allocator_api2.proofs.Steps.{Change}
+
+-- c places were not enough for `needed` elements: of what was moved by then, the new capacity pays all but the last move
+grown_pays : (G : Growth) (paid g c n needed m : ℕ) → n ≤ c → c < needed → g ≤ paid + (moves_each G - 1) * c → g + n ≤ paid + (moves_each G - 1) * amortized G c needed m
+grown_pays Doubling paid g c n needed m h lt p = omega arith
+grown_pays Sparing paid g c n needed m h lt p = omega arith
+
+all_pays : (G : Growth) (paid g c n k : ℕ) → n ≤ k → c ≤ k → g ≤ paid + (moves_each G - 1) * c → g + n ≤ paid + moves_each G * k
+all_pays Doubling paid g c n k h lt p = omega arith
+all_pays Sparing paid g c n k h lt p = omega arith
+
+amortized-enough : (G : Growth) (c needed m : ℕ) → needed ≤ amortized G c needed m
+amortized-enough Doubling c needed m = omega arith
+amortized-enough Sparing c needed m = omega arith
+
+least_of-le : (size : ℕ) → least_of size ≤ 8
+least_of-le size = grind arith
+
+-- a block that grew is no longer than twice what it needed
+amortized-within : (G : Growth) (c needed m most : ℕ) → c < needed → needed ≤ most → m ≤ 8 → amortized G c needed m ≤ max 8 (2 * most)
+amortized-within Doubling c needed m most lt h e = omega arith
+amortized-within Sparing c needed m most lt h e = omega arith
+
+moves_each-more : (G : Growth) (paid g n k : ℕ) → n ≤ k → g ≤ paid + moves_each G * n → g ≤ paid + moves_each G * k
+moves_each-more Doubling paid g n k h p = omega arith
+moves_each-more Sparing paid g n k h p = omega arith
+
+module _ {T A : Type 0} (size : ℕ) (G : Growth) (paid : ℕ) where
+  -- beside `paid`, n added elements pay for what v was moved
+  pub record IsPaid (n : ℕ) (v : Vector T A) : Type 0 where
+    pub growth : v.growth ≡ G
+    pub fits : len v ≤ v.capacity
+    pub counted : len v ≤ n
+    pub places : v.grown ≤ paid + (moves_each G - 1) * v.capacity
+    pub moved : v.grown ≤ paid + moves_each G * n
+
+  IsPaid-same : (n k : ℕ) (old new : Vector T A) → IsPaid n old → SameBlock old new → len new ≤ len old + k → len new ≤ old.capacity → IsPaid (n + k) new
+  IsPaid-same n k old new p b h f =
+      record {
+        growth = b.growth ∙ p.growth;
+        fits = rw b.capacity f;
+        counted = omega (arith, p.counted);
+        places = rw (b.capacity, b.grown) p.places;
+        moved = rw b.grown (moves_each-more G paid old.grown n (n + k) (omega arith) p.moved);
+      }
+
+  IsPaid-grows : (n k : ℕ) (old : Vector T A) (xs : List T) (new : Vector T A) → IsPaid n old → length xs ≡ len old + k → GrowsTo size old k xs new → IsPaid (n + k) new
+  IsPaid-grows n k old xs new p e g =
+      let l : len new ≡ len old + k = ap length g.items ∙ e in
+      elim g.room [
+        | inl h ↦ IsPaid-same n k old new p h.1 (omega arith) (omega (arith, p.fits, h.0))
+        | inr h ↦
+            let b = h.1 in
+            let m : ℕ = least_of size in
+            let c : new.capacity ≡ amortized G old.capacity (len old + k) m = b.capacity ∙ ap (λ x. amortized x old.capacity (len old + k) m) p.growth in
+            let lt : old.capacity < len old + k = omega (arith, p.fits, h.0) in
+            record {
+              growth = b.growth ∙ p.growth;
+              fits = rw (l, c) (amortized-enough G old.capacity (len old + k) m);
+              counted = omega (arith, p.counted);
+              places = rw (b.grown, c) (grown_pays G paid old.grown old.capacity (len old) (len old + k) m p.fits lt p.places);
+              moved = rw b.grown (all_pays G paid old.grown old.capacity (len old) (n + k) (omega (arith, p.counted)) (omega (arith, p.counted)) p.places);
+            }
+      ]
+
+  pub IsPaid-change : (n k : ℕ) (old new : Vector T A) → IsPaid n old → Change size old k new → IsPaid (n + k) new
+  IsPaid-change n k old new p c =
+      elim c [
+        | inl h ↦ IsPaid-same n k old new p h.block h.longest (h.fits p.fits)
+        | inr h ↦ IsPaid-grows n k old h.items new p h.count h.grows
+      ]
+
+module _ {T A : Type 0} (size : ℕ) where
+  -- no block is longer than 8 places and twice the greatest length
+  pub record IsPlaced (most : ℕ) (v : Vector T A) : Type 0 where
+    pub fits : len v ≤ v.capacity
+    pub capacity : v.capacity ≤ max 8 (2 * most)
+
+  pub IsPlaced-change : (most k : ℕ) (old new : Vector T A) → IsPlaced most old → Change size old k new → IsPlaced (max most (len new)) new
+  IsPlaced-change most k old new p c =
+      elim c [
+        | inl h ↦ record { fits = omega (arith, h.fits p.fits, h.block.capacity); capacity = omega (arith, h.block.capacity, p.capacity) }
+        | inr h ↦
+            let l : len new ≡ len old + k = ap length h.grows.items ∙ h.count in
+            elim h.grows.room [
+              | inl r ↦ record { fits = omega (arith, p.fits, r.0, r.1.capacity); capacity = omega (arith, r.1.capacity, p.capacity) }
+              | inr r ↦
+                  let m : ℕ = least_of size in
+                  record {
+                    fits = rw (l, r.1.capacity) (amortized-enough old.growth old.capacity (len old + k) m);
+                    capacity = rw (l, r.1.capacity) (amortized-within old.growth old.capacity (len old + k) m (max most (len old + k)) (omega (arith, p.fits, r.0)) (omega arith) (least_of-le size));
+                  }
+            ]
+      ]

@@ -1,0 +1,49 @@
+-- What a step of the list machine does to main: it stays in its block, or has grown once.
+use Rattle.std.proofs.Common.{◌≡◌, ℕ, ◌+◌, ◌≤◌, Bool, List, [], ◌∷◌, ◌++◌, length, refl, ap, arith, ◌⊎◌, inl, inr}
+use Rattle.std.proofs.lemmas.List.{length-append}
+use Rattle.aa_vec.specs.Vector.{Vector, len, SameBlock, GrowsTo, Holds}
+use Rattle.allocator_api2.specs.declared.runner.Command.{Command}
+use Rattle.allocator_api2.specs.declared.runner.Command.TheVariants.{Push, Pop}
+use Rattle.allocator_api2.specs.declared.runner.Reply.{Reply}
+use Rattle.allocator_api2.specs.declared.runner.Reply.TheVariants.{Done, Item, Nothing, Refused, Range}
+use Rattle.allocator_api2.specs.Machine.{State, Step}
+use Rattle.allocator_api2.specs.Run.{IsUnhinted, added_by}
+
+module _ {T A : Type 0} (size : ℕ) where
+  -- main stayed in its block, with at most k elements more
+  pub record StaysInBlock (old : Vector T A) (k : ℕ) (new : Vector T A) : Type 0 where
+    pub block : SameBlock old new
+    pub longest : len new ≤ len old + k
+    pub fits : len old ≤ old.capacity → len new ≤ old.capacity
+
+  -- or made room for k more, and has them
+  pub record HasGrown (old : Vector T A) (k : ℕ) (new : Vector T A) : Type 0 where
+    pub items : List T
+    pub count : length items ≡ len old + k
+    pub grows : GrowsTo size old k items new
+
+  abbrev pub Change : Vector T A → ℕ → Vector T A → Type 0
+  Change old k new = StaysInBlock old k new ⊎ HasGrown old k new
+
+  shrinks : (old : Vector T A) (xs : List T) (new : Vector T A) → length xs ≤ len old → Holds old xs new → Change old 0 new
+  shrinks old xs new h b = inl (record { block = b.block; longest = omega (arith, ap length b.items); fits = λ f. omega (arith, ap length b.items) })
+
+  adds : (old : Vector T A) (k : ℕ) (xs : List T) (new : Vector T A) → length xs ≡ len old + k → GrowsTo size old k xs new → Change old k new
+  adds old k xs new h g = inr (record { items = xs; count = h; grows = g })
+
+  module _ {K S : Type 0} where
+    same : (old new : State T A K S) → new ≡ old → Change old.main 0 new.main
+    same old new e = rw e (shrinks old.main old.main.items old.main (omega arith) (record { items = refl; block = record { capacity = refl; growth = refl; grown = refl; alloc = refl } }))
+
+    module _ (Keeps : K → T → Bool → K → T → Type 0) (Repeats : S → T → T → Bool → S → T → T → Type 0) where
+      pub change_of : (old : State T A K S) (command : Command T) (answers : List Bool) (reply : Reply T) (new : State T A K S) → IsUnhinted command → Step size Keeps Repeats old command answers reply new → Change old.main (added_by old command reply new) new.main
+      change_of old (Push x) answers Done new a s = adds old.main 1 _ new.main (length-append old.main.items (x ∷ [])) s.1.2
+      change_of old (Push x) answers (Refused kind) new a s = same old new s.3
+      change_of old (Push x) answers Range new a s = same old new s.2
+      change_of old (Push x) answers _ new a s = absurd s.1
+      change_of old Pop answers (Item y) new a s =
+          shrinks old.main s.1.2.0 new.main (omega (arith, ap length s.1.2.1, length-append s.1.2.0 (y ∷ []))) s.1.2.2
+      change_of old Pop answers Nothing new a s = same old new s.1.2
+      change_of old Pop answers (Refused kind) new a s = same old new s.3
+      change_of old Pop answers Range new a s = same old new s.2
+      change_of old Pop answers _ new a s = absurd s.1

@@ -1,0 +1,26 @@
+use Rattle.std.proofs.Common.{◌≡◌, ◌+◌, ◌∷◌, [], length, arith, refl, ap, ◌∙◌}
+use Rattle.std.proofs.lemmas.List.{length-append, length-reverse}
+use Rattle.allocator_api2.proofs.Runs.{HasRun-start, HasRun-more, HasRun-end}
+use Rattle.allocator_api2.proofs.runner.run.Goals as goal
+
+pub loop-command-init : goal.loop-command-init
+loop-command-init g c =
+    let e = c.turn_round.ensures in
+    record { run = HasRun-start _ _ _ _ _ _ _ e; room = rw (e, length-reverse) c.requires; stay = record { capacity = refl; growth = refl; grown = refl; alloc = refl } }
+
+pub loop-command-preserved : goal.loop-command-preserved
+loop-command-preserved g c =
+    let h = c.loop-command.invariant in
+    let e = c.in-Some.ensures.cases in
+    let more = c.append_reply.ensures.items in
+    let b = c.append_reply.ensures.block in
+    let n : length c.loop-command.rest.items ≡ length c.pop.new.self.items + 1 = ap length e ∙ length-append c.pop.new.self.items (c.in-Some.command ∷ []) in
+    let m : length c.append_reply.new.replies.items ≡ length c.loop-command.replies.items + 1 = ap length more ∙ length-append c.loop-command.replies.items (c.step-reply.result ∷ []) in
+    record {
+      run = HasRun-more _ _ _ h.run e c.step-reply.ensures more;
+      room = omega (arith, b.capacity, h.room);
+      stay = record { capacity = b.capacity ∙ h.stay.capacity; growth = b.growth ∙ h.stay.growth; grown = b.grown ∙ h.stay.grown; alloc = b.alloc ∙ h.stay.alloc };
+    }
+
+pub returns-clause-run : goal.returns-clause-run
+returns-clause-run g c = HasRun-end _ _ _ c.loop-command.invariant.run c.in_default.ensures.cases

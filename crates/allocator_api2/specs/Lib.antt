@@ -1,0 +1,5 @@
+pub use Rattle.aa_raw.specs.Growth
+pub use Rattle.aa_raw.specs.Refusals
+pub use Rattle.aa_vec.specs.Vector
+pub mod Machine
+pub mod Run

@@ -1,0 +1,9 @@
+//! allocator-api2 in Rattle: the vector that takes an allocator, proved. The modules have the original's paths; `runner` runs
+//! lists of commands on two vectors, and its contract is the library's main theorem.
+#![tactic(auto)]
+
+pub use aa_raw::{alloc, collections, raw_vec};
+pub use aa_vec::vec;
+
+pub mod laws;
+pub mod runner;

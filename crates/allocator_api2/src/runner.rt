@@ -1,0 +1,109 @@
+//! `run`: a list of commands on two vectors, and the list machine that its contract speaks of.
+ghost use Rattle.std.specs.Prelude.{reverse, ◌≡◌, List, [], ◌∷◌, ◌++◌, length};
+ghost use Rattle.std.specs.Fn.{CalledAtMut, CalledAtPairMut};
+ghost use Rattle.std.specs.Mem.{type_size};
+ghost use Rattle.aa_vec.specs.Vector.{HasRoom, Holds, SameBlock};
+ghost use Rattle.allocator_api2.specs.Machine.{state_of};
+ghost use Rattle.allocator_api2.specs.Run.{TakesStep, RunsTo};
+ghost use Rattle.allocator_api2.specs.declared.runner.Reply.{Reply};
+
+use aa_raw::collections::TryReserveErrorKind;
+use aa_vec::vec::Vec;
+use std::alloc::Allocator;
+
+/// What `run` is told to do with the main vector.
+#[derive(Drop)]
+pub enum Command<T> {
+    /// Puts an element behind the last one.
+    Push(T),
+    /// Takes the last element.
+    Pop,
+}
+
+/// What `run` answers to a command.
+#[derive(Drop)]
+pub enum Reply<T> {
+    /// It was done.
+    Done,
+    /// The element that was taken.
+    Item(T),
+    /// There was none to take.
+    Nothing,
+    /// The element comes back, since there was no room within the capacity.
+    Back(T),
+    /// Memory was refused, for this reason.
+    Refused(TryReserveErrorKind),
+    /// An index or a range lies outside the list; nothing was done.
+    Range,
+}
+
+/// Runs the commands in order on the two vectors, and puts a reply for each behind those in `replies`, which has room for them.
+/// It takes memory where a vector grows; a refused growth is the command's reply, and the next command goes on.
+pub fn run<T, A, K, S>(
+    main: &mut Vec<T, A>,
+    side: &mut Vec<T, A>,
+    commands: Vec<Command<T>, A>,
+    keep: &mut K,
+    same: &mut S,
+    replies: &mut Vec<Reply<T>, A>,
+)
+where
+    T: Clone + Drop,
+    A: Allocator + Clone + Drop,
+    K: FnMut(&mut T) -> bool,
+    S: FnMut(&mut T, &mut T) -> bool,
+    requires { HasRoom replies.old (length commands.items) }
+    ensures run { (answered : List (Reply T)) × (replies.new.items ≡ replies.old.items ++ answered) × RunsTo (type_size T.row) (CalledAtMut K.FnMut) (CalledAtPairMut S.FnMut) (state_of main.old side.old keep.old same.old) commands.items answered (state_of main.new side.new keep.new same.new) }
+    ensures replies_stay { SameBlock replies.old replies.new }
+{
+    let mut rest = commands;
+    turn_round(&mut rest);
+    while let Some(command) = rest.pop() {
+        let reply = step(main, side, command, keep, same);
+        append_reply(replies, reply);
+    }
+}
+
+// The elements in the other order.
+fn turn_round<T, A: Allocator>(rows: &mut Vec<T, A>)
+    ensures { rows.new.items ≡ reverse rows.old.items }
+{
+    rows.as_mut_slice().reverse();
+}
+
+fn append_reply<T: Drop, A: Allocator>(replies: &mut Vec<T, A>, reply: T)
+    requires { HasRoom replies.old 1 }
+    ensures { Holds replies.old (replies.old.items ++ reply ∷ []) replies.new }
+{
+    match replies.push(reply) {
+        Ok(()) => {}
+        Err(_) => unreachable!(),
+    }
+}
+
+// One command.
+fn step<T, A, K, S>(
+    main: &mut Vec<T, A>,
+    side: &mut Vec<T, A>,
+    command: Command<T>,
+    keep: &mut K,
+    same: &mut S,
+) -> Reply<T>
+where
+    T: Clone + Drop,
+    A: Allocator + Clone + Drop,
+    K: FnMut(&mut T) -> bool,
+    S: FnMut(&mut T, &mut T) -> bool,
+    ensures { TakesStep (type_size T.row) (CalledAtMut K.FnMut) (CalledAtPairMut S.FnMut) (state_of main.old side.old keep.old same.old) command result (state_of main.new side.new keep.new same.new) }
+{
+    match command {
+        Command::Push(value) => match main.push(value) {
+            Ok(()) => Reply::Done,
+            Err(refused) => Reply::Refused(refused.error.kind()),
+        },
+        Command::Pop => match main.pop() {
+            Some(value) => Reply::Item(value),
+            None => Reply::Nothing,
+        },
+    }
+}
