@@ -1,0 +1,25 @@
+-- A list cut at the elements that pass a test, taken from its front.
+use Rattle.std.proofs.Common.{◌≡◌, ℕ, Bool, true, false, List, [], ◌∷◌, take, drop, refl, one-add}
+use Rattle.std.specs.List.{slice_split, position_or_len}
+
+-- what stands before the first element that passes, and what begins there
+abbrev pub front : (ℕ → Bool) → List ℕ → List ℕ
+front p xs = take (position_or_len p xs) xs
+
+abbrev pub following : (ℕ → Bool) → List ℕ → List ℕ
+following p xs = drop (position_or_len p xs) xs
+
+-- the parts after that element
+abbrev pub more_parts : (ℕ → Bool) → List ℕ → List (List ℕ)
+more_parts p [] = []
+more_parts p (x ∷ xs) = slice_split p xs
+
+pub slice_split-front : (p : ℕ → Bool) (xs : List ℕ)
+    → slice_split p xs ≡ front p xs ∷ more_parts p (following p xs)
+slice_split-front p [] = refl
+slice_split-front p (x ∷ xs) = by_test (p x) refl (slice_split-front p xs)
+  where
+    by_test : (b : Bool) → p x ≡ b → slice_split p xs ≡ front p xs ∷ more_parts p (following p xs)
+        → slice_split p (x ∷ xs) ≡ front p (x ∷ xs) ∷ more_parts p (following p (x ∷ xs))
+    by_test true e more = rw e refl
+    by_test false e more = rw (e, more, one-add) refl

@@ -1,0 +1,41 @@
+-- What a fault says of the script, and the status that it gives.
+use Rattle.std.specs.Prelude.{◌≡◌, ℕ, List, ◌++◌, ⊤, Option, IfSome, Result, MatchResult, codes, decimal, ◌↔◌}
+use Rattle.std.specs.IoError.{error_kind}
+use Rattle.std.specs.Str.Lines.{lines}
+use Rattle.std.specs.declared.io.Error.{Error}
+use Rattle.std.specs.declared.io.ErrorKind.TheVariants.{OutOfMemory as MemoryRefused}
+use Rattle.vecrun.specs.Lines.{IsFirstBad}
+use Rattle.vecrun.specs.declared.script.Fault.{Fault}
+use Rattle.vecrun.specs.declared.script.Fault.TheVariants.{BadLine, OutOfMemory, InputOutput}
+
+-- a bad line is the first of the text, where the text is known
+abbrev pub IsFoundIn : Option (List ℕ) → Fault → Type 0
+IsFoundIn text (BadLine number) = IfSome text (λ bytes. IsFirstBad (lines bytes) number)
+IsFoundIn text OutOfMemory = ⊤
+IsFoundIn text InputOutput = ⊤
+
+-- the words of the line of this number are read as what P says, and it is a bad line where P says nothing
+abbrev pub ReadsAs : {X : Type 0} → ℕ → (X → Type 0) → Result X Fault → Type 0
+ReadsAs {X} number P r = MatchResult r P (λ fault. (fault ≡ BadLine number) × ((x : X) → ¬ (P x)))
+
+-- the fault names no line
+abbrev pub NamesNoLine : Fault → Type 0
+NamesNoLine (BadLine number) = ⊥
+NamesNoLine OutOfMemory = ⊤
+NamesNoLine InputOutput = ⊤
+
+abbrev pub status_of : Fault → ℕ
+status_of (BadLine number) = 1
+status_of OutOfMemory = 2
+status_of InputOutput = 3
+
+-- what a fault is told as
+abbrev pub fault_text : Fault → List ℕ
+fault_text (BadLine number) = codes "bad line " ++ decimal number
+fault_text OutOfMemory = codes "out of memory"
+fault_text InputOutput = codes "input or output failed"
+
+-- the error is no bad line, and only refused memory is told as such
+pub record IsFaultOf (error : Error) (fault : Fault) : Type 0 where
+  pub names_no_line : NamesNoLine fault
+  pub memory : (fault ≡ OutOfMemory) ↔ (error_kind error ≡ MemoryRefused)

@@ -1,0 +1,207 @@
+//! From the bytes of a script to its commands.
+ghost use Rattle.std.specs.Prelude.{◌≡◌, ◌≢◌, ℕ, ◌+◌, ◌^◌, ◌<◌, ◌≤◌, ◌==◌, [], length, IfSome, IfNone, MatchOption, IfOk, IfErr, OnOk, slice_index};
+ghost use Rattle.std.specs.Iterator.{YieldsFirstRef, item_count};
+ghost use Rattle.std.specs.List.{prefix_len, position_or_len};
+ghost use Rattle.std.specs.Option.{SomeIff};
+ghost use Rattle.std.specs.Str.Lines.{lines, strip_carriage_return};
+ghost use Rattle.std.specs.Str.Parse.{IsNumeral, digits_value};
+ghost use Rattle.vecrun.specs.Faults.{IsFoundIn, ReadsAs};
+ghost use Rattle.vecrun.specs.Lines.{is_blank, words_of, IsElement, SayAfter, Say, IsBad, HasNoBad};
+
+use crate::script::Fault;
+use allocator_api2::runner::Command;
+use allocator_api2::vec::Vec;
+use std::alloc::Global;
+
+/// The commands of the script's lines, in order. A line without words is no command, but counts.
+///
+/// It takes memory for the commands. The first line that is no known form is `Fault::BadLine`, and
+/// refused memory is `Fault::OutOfMemory`.
+pub fn commands(alloc: Global, text: &[u8]) -> Result<Vec<Command<u32>, Global>, Fault>
+    ensures ok { OnOk result (HasNoBad (lines text.now)) }
+    ensures err { IfErr result
+        (λ fault. IsFoundIn (Some text.now) fault × (fault ≢ Fault.InputOutput)) }
+{
+    let mut commands = Vec::new_in(alloc);
+    for (index, line) in (Lines { rest: text }).enumerate() {
+        if let Some(command) = command_of_line(index + 1, line)? {
+            commands.push(command)?;
+        }
+    }
+    Ok(commands)
+}
+
+// The lines of a text, as `str::lines` gives them: one carriage return before a line feed goes too.
+#[derive(Drop)]
+struct Lines<'a> {
+    rest: &'a [u8],
+}
+
+impl<'a> Iterator for Lines<'a> {
+    type Item = &'a [u8];
+
+    ghost next_gives = { YieldsFirstRef (λ text. lines text.rest.now) };
+
+    ghost remaining = { item_count (λ text. lines text.rest.now) };
+
+    fn next(&mut self) -> Option<&'a [u8]> {
+        if self.rest.is_empty() {
+            return None;
+        }
+        let (line, end) = self.rest.split_at(line_length(self.rest));
+        match end {
+            [] => {
+                self.rest = end;
+                Some(line)
+            }
+            [_line_feed, rest @ ..] => {
+                self.rest = rest;
+                Some(without_carriage_return(line))
+            }
+        }
+    }
+}
+
+// How many bytes stand before the text's first line feed.
+fn line_length(text: &[u8]) -> usize
+    ensures length { result ≡ position_or_len (λ b. b == 10) text.now }
+    ensures bound { result ≤ length text.now }
+{
+    text.iter().take_while(|byte| **byte != b'\n').count()
+}
+
+// The line without the one carriage return at its end, if it has one.
+fn without_carriage_return(line: &[u8]) -> &[u8]
+    ensures { result.now ≡ strip_carriage_return line.now }
+{
+    line.strip_suffix(b"\r").unwrap_or(line)
+}
+
+// The command that the line says, or `None` where it has no words.
+fn command_of_line(number: usize, line: &[u8]) -> Result<Option<Command<u32>>, Fault>
+    ensures ok { IfOk result
+        (λ command. MatchOption command (words_of line.now ≡ []) (Say (words_of line.now))) }
+    ensures err { IfErr result (λ fault. (fault ≡ Fault.BadLine number) × IsBad line.now) }
+{
+    let mut words = Words { rest: line };
+    let Some(first) = words.next() else {
+        return Ok(None);
+    };
+    match std::str::from_utf8(first) {
+        Ok(name) => Ok(Some(command(name, Line { number, words })?)),
+        Err(_) => Err(Fault::BadLine(number)),
+    }
+}
+
+// The command of this name, where the rest of the line is what it takes.
+fn command(name: &str, line: Line<'_>) -> Result<Command<u32>, Fault>
+    ensures { ReadsAs line.entry.number
+        (SayAfter name.now (words_of line.entry.words.rest.now)) result }
+{
+    match name {
+        "push" => line.element().map(Command::Push),
+        "pop" => line.end().map(|()| Command::Pop),
+        _ => Err(line.bad()),
+    }
+}
+
+// What is left of a line after its first word.
+#[derive(Drop)]
+struct Line<'a> {
+    number: usize,
+    words: Words<'a>,
+}
+
+impl Line<'_> {
+    fn bad(&self) -> Fault
+        ensures { result ≡ Fault.BadLine self.now.number }
+    {
+        Fault::BadLine(self.number)
+    }
+
+    // No word.
+    fn end(mut self) -> Result<(), Fault>
+        ensures ok { OnOk result (words_of self.entry.words.rest.now ≡ []) }
+        ensures err { IfErr result (λ fault. (fault ≡ Fault.BadLine self.entry.number)
+            × (words_of self.entry.words.rest.now ≢ [])) }
+    {
+        match self.words.next() {
+            None => Ok(()),
+            Some(_) => Err(self.bad()),
+        }
+    }
+
+    // One word, which is an element.
+    fn element(mut self) -> Result<u32, Fault>
+        ensures { ReadsAs self.entry.number
+            (IsElement (words_of self.entry.words.rest.now)) result }
+    {
+        match (self.words.next().and_then(element), self.words.next()) {
+            (Some(x), None) => Ok(x),
+            _ => Err(self.bad()),
+        }
+    }
+}
+
+// The number that the word writes in decimal digits, if it fits.
+fn element(word: &[u8]) -> Option<u32>
+    ensures { SomeIff result (IsNumeral 10 word.now × (digits_value 10 word.now < 2 ^ 32))
+        (digits_value 10 word.now) }
+{
+    digits(word)?.parse().ok()
+}
+
+// The word as text, if it begins with a digit, so that `parse` meets no sign.
+fn digits(word: &[u8]) -> Option<&str>
+    ensures text { IfSome result (λ text. text.now ≡ word.now) }
+    ensures no_sign { IfSome result (λ _. slice_index word.now 0 ≢ 43) }
+    ensures none { IfNone result (¬ (IsNumeral 10 word.now)) }
+{
+    match word {
+        [b'0'..=b'9', ..] => std::str::from_utf8(word).ok(),
+        _ => None,
+    }
+}
+
+// The words of a line, which spaces and tabs separate.
+#[derive(Drop)]
+struct Words<'a> {
+    rest: &'a [u8],
+}
+
+impl<'a> Iterator for Words<'a> {
+    type Item = &'a [u8];
+
+    ghost next_gives = { YieldsFirstRef (λ words. words_of words.rest.now) };
+
+    ghost remaining = { item_count (λ words. words_of words.rest.now) };
+
+    fn next(&mut self) -> Option<&'a [u8]> {
+        let (_, line) = self.rest.split_at(blank_count(self.rest));
+        let (word, rest) = line.split_at(word_length(line));
+        self.rest = rest;
+        if word.is_empty() { None } else { Some(word) }
+    }
+}
+
+// How many blanks the line begins with.
+fn blank_count(line: &[u8]) -> usize
+    ensures count { result ≡ prefix_len is_blank line.now }
+    ensures bound { result ≤ length line.now }
+{
+    line.iter().take_while(|byte| is_blank(**byte)).count()
+}
+
+// How many bytes stand before the line's first blank.
+fn word_length(line: &[u8]) -> usize
+    ensures length { result ≡ position_or_len is_blank line.now }
+    ensures bound { result ≤ length line.now }
+{
+    line.iter().take_while(|byte| !is_blank(**byte)).count()
+}
+
+fn is_blank(byte: u8) -> bool
+    ensures { result ≡ is_blank byte }
+{
+    byte == b' ' || byte == b'\t'
+}

@@ -1,0 +1,266 @@
+use crate::script::script;
+use std::io;
+use std::io::{ErrorKind, Read, Write};
+use std::test::Fail;
+
+const EMPTY_LISTS: &str = "main len=0 cap=0:\nside len=0 cap=0:\n";
+
+const PUSHED_SEVEN: &str = "done\nmain len=1 cap=4: 7\nside len=0 cap=0:\n";
+
+// Scripts, and what they print.
+const GOOD_SCRIPTS: [(&[u8], &str); 9] = [
+    (
+        b"push 1\npush 2\npop\npop\npop\n",
+        "done\ndone\nitem 2\nitem 1\nnone\nmain len=0 cap=4:\nside len=0 cap=0:\n",
+    ),
+    (
+        b"push 1\npush 2\npush 3\npush 4\npush 5\n",
+        "done\ndone\ndone\ndone\ndone\nmain len=5 cap=8: 1 2 3 4 5\nside len=0 cap=0:\n",
+    ),
+    (
+        b"push 4294967295\n",
+        "done\nmain len=1 cap=4: 4294967295\nside len=0 cap=0:\n",
+    ),
+    (b"", EMPTY_LISTS),
+    (b"\n \t\r\n\n", EMPTY_LISTS),
+    (b"push 007\n", PUSHED_SEVEN),
+    (b"push 007", PUSHED_SEVEN),
+    (b"\t push \t 7  \n", PUSHED_SEVEN),
+    (b"\r\npush 7\r\n", PUSHED_SEVEN),
+];
+
+// Scripts, and the number of the first bad line.
+const BAD_SCRIPTS: [(&[u8], u32); 18] = [
+    (b"push 1\ninsert 0 1\n", 2),
+    (b"push 1\npush\n", 2),
+    (b"\npop x\n", 2),
+    (b"pop x\npush\n", 1),
+    (b"push 1 2\n", 1),
+    (b"push 7\r\r\n", 1),
+    (b"push 7\r", 1),
+    (b"pop\n\r", 2),
+    (b"\xff", 1),
+    (b"pop\npo\xffp\n", 2),
+    (b"push \xff\n", 1),
+    (b"push 4294967296\n", 1),
+    (b"PUSH 1\n", 1),
+    (b"push -1\n", 1),
+    (b"push +1\n", 1),
+    (b"push 0x1\n", 1),
+    (b"push\x0b1\n", 1),
+    (b"push1\n", 1),
+];
+
+#[test]
+fn answers_good_scripts(rt: HostRuntime) {
+    for (mut input, output) in GOOD_SCRIPTS {
+        let (mut written, mut told) = (Vec::new(rt.alloc()), Vec::new(rt.alloc()));
+        let status = script(rt.alloc(), &mut input, &mut written, &mut told);
+        assert_eq!(rt; (text(&written), text(&told), status), (output, "", 0));
+    }
+}
+
+#[test]
+fn names_the_first_bad_line(rt: HostRuntime) -> Result<(), Fail> {
+    for (mut input, number) in BAD_SCRIPTS {
+        let (mut written, mut told) = (Vec::new(rt.alloc()), Vec::new(rt.alloc()));
+        let status = script(rt.alloc(), &mut input, &mut written, &mut told);
+        let fault = format!(in rt.alloc(); "bad line {number}\n")?;
+        assert_eq!(rt;
+            (text(&written), text(&told), status),
+            ("", fault.as_str(), 1)
+        );
+    }
+    Ok(())
+}
+
+fn text(bytes: &[u8]) -> &str {
+    std::str::from_utf8(bytes).unwrap_or("no text")
+}
+
+// A reader or writer that moves at most `most` bytes a call, and fails once, after `calls` calls.
+#[derive(Drop)]
+struct Faulty<T> {
+    inner: T,
+    most: usize,
+    calls: u64,
+    kind: ErrorKind,
+}
+
+impl<T> Faulty<T> {
+    fn count_call(&mut self) -> io::Result<()> {
+        let calls = self.calls;
+        self.calls = calls.wrapping_sub(1);
+        if calls == 0 {
+            return Err(self.kind.into());
+        }
+        Ok(())
+    }
+}
+
+impl<T: Read> Read for Faulty<T> {
+    fn read(&mut self, buf: &mut [u8]) -> io::Result<usize> {
+        self.count_call()?;
+        let most = self.most.min(buf.len());
+        self.inner.read(&mut buf[..most])
+    }
+}
+
+impl<T: Write> Write for Faulty<T> {
+    fn write(&mut self, buf: &[u8]) -> io::Result<usize> {
+        self.count_call()?;
+        let most = self.most.min(buf.len());
+        self.inner.write(&buf[..most])
+    }
+
+    fn flush(&mut self) -> io::Result<()> {
+        self.count_call()?;
+        self.inner.flush()
+    }
+}
+
+const SCRIPT: &[u8] = b"push 1\npush 2\npop\n";
+
+const ANSWER: &str = "done\ndone\nitem 2\nmain len=1 cap=4: 1\nside len=0 cap=0:\n";
+
+#[test]
+fn tells_a_failed_read(rt: HostRuntime) {
+    let rows: [(&[u8], ErrorKind, &str, &str, u8); 5] = [
+        (SCRIPT, ErrorKind::Interrupted, ANSWER, "", 0),
+        (SCRIPT, ErrorKind::OutOfMemory, "", "out of memory\n", 2),
+        (SCRIPT, ErrorKind::Other, "", "input or output failed\n", 3),
+        (
+            SCRIPT,
+            ErrorKind::UnexpectedEof,
+            "",
+            "input or output failed\n",
+            3,
+        ),
+        (
+            b"push\npush 1\npop\n",
+            ErrorKind::Other,
+            "",
+            "input or output failed\n",
+            3,
+        ),
+    ];
+    for (bytes, kind, output, faults, status) in rows {
+        let mut input = Faulty {
+            inner: bytes,
+            most: 4,
+            calls: 3,
+            kind,
+        };
+        let (mut written, mut told) = (Vec::new(rt.alloc()), Vec::new(rt.alloc()));
+        let answer = script(rt.alloc(), &mut input, &mut written, &mut told);
+        assert_eq!(rt; text(&told), faults);
+        assert_eq!(rt; text(&written), output);
+        assert_eq!(rt; answer, status);
+    }
+}
+
+#[test]
+fn tells_a_failed_write(rt: HostRuntime) {
+    for (most, calls) in [
+        (1, 0),
+        (1, 20),
+        (1, 54),
+        (10, 0),
+        (10, 3),
+        (10, 5),
+        (100, 1),
+    ] {
+        let inner = Vec::new(rt.alloc());
+        let mut output = Faulty {
+            inner,
+            most,
+            calls,
+            kind: ErrorKind::Other,
+        };
+        let (mut input, mut told) = (SCRIPT, Vec::new(rt.alloc()));
+        let answer = script(rt.alloc(), &mut input, &mut output, &mut told);
+        assert_eq!(rt;
+            text(&told),
+            "input or output failed\n",
+            "after {calls} calls"
+        );
+        assert!(rt; ANSWER.starts_with(text(&output.inner)));
+        assert_eq!(rt; answer, 3);
+    }
+}
+
+#[test]
+fn writes_in_parts(rt: HostRuntime) {
+    let inner = Vec::new(rt.alloc());
+    let mut output = Faulty {
+        inner,
+        most: 1,
+        calls: 7,
+        kind: ErrorKind::Interrupted,
+    };
+    let (mut input, mut told) = (SCRIPT, Vec::new(rt.alloc()));
+    assert_eq!(rt; script(rt.alloc(), &mut input, &mut output, &mut told), 0);
+    assert_eq!(rt; text(&output.inner), ANSWER);
+    assert!(rt; told.is_empty());
+}
+
+// The answer takes several fills of the output's buffer.
+#[test]
+fn fails_in_a_long_answer(rt: HostRuntime) -> Result<(), Fail> {
+    let (mut pops, mut answer) = (Vec::new(rt.alloc()), Vec::new(rt.alloc()));
+    for _ in 0..4000 {
+        pops.extend_from_slice(b"pop\n")?;
+        answer.extend_from_slice(b"none\n")?;
+    }
+    answer.extend_from_slice(EMPTY_LISTS.as_bytes())?;
+    for (calls, status) in [(0, 3), (1, 3), (4, 3), (9, 0)] {
+        let inner = Vec::new(rt.alloc());
+        let mut output = Faulty {
+            inner,
+            most: 4096,
+            calls,
+            kind: ErrorKind::Other,
+        };
+        let (mut input, mut told) = (pops.as_slice(), Vec::new(rt.alloc()));
+        assert_eq!(rt;
+            script(rt.alloc(), &mut input, &mut output, &mut told),
+            status
+        );
+        assert!(rt; answer.starts_with(&output.inner));
+        assert!(rt; status == 3 || answer == output.inner);
+    }
+    Ok(())
+}
+
+// Holds too where an allocation is refused, as `rt try --test --fail-alloc N` has it.
+#[test]
+fn tells_refused_memory(rt: HostRuntime) {
+    let (Ok(mut written), Ok(mut told)) = (
+        Vec::with_capacity(rt.alloc(), 256),
+        Vec::with_capacity(rt.alloc(), 64),
+    ) else {
+        return;
+    };
+    let mut input = SCRIPT;
+    let status = script(rt.alloc(), &mut input, &mut written, &mut told);
+    let (output, faults) = (text(&written), text(&told));
+    if status == 0 {
+        assert!(rt; output.ends_with("\nside len=0 cap=0:\n"));
+        assert_eq!(rt; faults, "");
+    } else {
+        assert_eq!(rt; (status, output, faults), (2, "", "out of memory\n"));
+    }
+}
+
+#[test]
+fn keeps_the_status_without_a_text(rt: HostRuntime) {
+    let (mut input, mut written) = (b"push\n".as_slice(), Vec::new(rt.alloc()));
+    let mut told = Faulty {
+        inner: Vec::new(rt.alloc()),
+        most: 1,
+        calls: 0,
+        kind: ErrorKind::Other,
+    };
+    assert_eq!(rt; script(rt.alloc(), &mut input, &mut written, &mut told), 1);
+    assert!(rt; written.is_empty());
+}
