@@ -1,10 +1,10 @@
 -- Lemmas on the values in a run of places.
-use Rattle.std.proofs.Common.{◌≡◌, ℕ, ◌+◌, ◌-◌, ◌<◌, ◌≤◌, suc, Bool, true, List, [], ◌∷◌, ◌++◌, Option, Some, None, map, length, take, drop, get_or, refl, sym, ◌∙◌, ap, subst, arith, rules, append_assoc, length-append, length-take, length-drop, add-zero}
-use Rattle.std.proofs.lemmas.List.{places, same_lists, take_at, drop_at, drop-drop, take-append-drop, length-set, length-map, set_split, drop_more, drop-set-lt, drop-append-le, take-append-le, length-take-le, get_or-set_same, drop-take, take-take}
+use Rattle.std.proofs.Common.{◌≡◌, ℕ, ◌+◌, ◌-◌, ◌<◌, ◌≤◌, suc, true, List, [], ◌∷◌, ◌++◌, Option, Some, None, map, length, take, drop, get_or, replicate, refl, sym, ◌∙◌, ap, subst, arith, rules, append_assoc, length-append, length-take, length-drop, add-zero}
+use Rattle.std.proofs.lemmas.List.{places, same_lists, take_at, drop_at, drop-drop, take-append-drop, length-set, length-map, length-replicate, set_split, drop_more, drop-set-lt, drop-append-le, take-append-le, length-take-le, get_or-set_same, drop-take, take-take}
 use Rattle.std.specs.Prelude.{slice_set, is_some}
 use Rattle.std.specs.List.{list_all}
-use Rattle.aa_raw.specs.Places.{somes, run, IsRun, IsFilled, with_run}
-use Rattle.aa_raw.proofs.Places.{length-with_run, run_filled}
+use Rattle.aa_raw.specs.Places.{somes, run, moved, IsRun, IsFilled, with_run}
+use Rattle.aa_raw.proofs.Places.{length-with_run, length-moved, run_filled}
 
 module _ {X : Type 0} where
   pub somes-append : (cs ds : List (Option X)) → somes (cs ++ ds) ≡ somes cs ++ somes ds
@@ -162,6 +162,24 @@ module _ {X : Type 0} where
       let l : i < length cs = omega (arith, r.0) in
       run-split cs from i n 1 k e f ∙ ap (λ ys. ys ++ run cs i 1) (sym (run-set-above cs from n i None l (omega arith))) ∙ ap (λ ys. run (slice_set cs i None) from n ++ ys) (run-one cs i x l g)
 
+  pub IsRun-pop : (cs : List (Option X)) (from n i k : ℕ) → from + n ≡ i → n + 1 ≡ k → IsRun cs from k → IsRun (slice_set cs i None) from n
+  IsRun-pop cs from n i k e f r = IsRun-set-above cs from n i None (omega (arith, r.0)) (omega arith) (IsRun-part cs from k from n (omega arith) (omega arith) r)
+
+  pub last-filled : (cs : List (Option X)) (from n i k : ℕ) → from + n ≡ i → n + 1 ≡ k → IsRun cs from k → IsFilled cs i
+  last-filled cs from n i k e f r = let P : ℕ → Type 0 = λ j. IsFilled cs j in subst P e (run_filled cs from k n r (omega arith))
+
+  -- the first of a run taken
+  pub run-shift : (cs : List (Option X)) (from n : ℕ) (x : X) (i k : ℕ) → from + 1 ≡ i → n + 1 ≡ k → IsRun cs from k → get_or cs from None ≡ Some x → run cs from k ≡ x ∷ run (slice_set cs from None) i n
+  run-shift cs from n x i k e f r g =
+      run-split cs from i 1 n k e (omega arith) ∙ ap (λ ys. ys ++ run cs i n) (run-one cs from x (omega (arith, r.0)) g) ∙ ap (λ ys. x ∷ ys) (sym (run-set-below cs i n from None (omega arith)))
+
+  pub IsRun-shift : (cs : List (Option X)) (from n i k : ℕ) → from + 1 ≡ i → n + 1 ≡ k → IsRun cs from k → IsRun (slice_set cs from None) i n
+  IsRun-shift cs from n i k e f r = IsRun-set-below cs i n from None (omega arith) (IsRun-part cs from k i n (omega arith) (omega arith) r)
+
+  -- a run of none
+  pub run-none : (cs : List (Option X)) (from n : ℕ) → n ≡ 0 → run cs from n ≡ []
+  run-none cs from n e = ap (run cs from) e ∙ run-zero cs from
+
   -- a run within what is the same
   pub run-below : (cs ds : List (Option X)) (m a k : ℕ) → take m ds ≡ take m cs → a + k ≤ m → run ds a k ≡ run cs a k
   run-below cs ds m a k e h =
@@ -192,3 +210,42 @@ module _ {X : Type 0} where
   -- the first place of a run is filled
   pub first-filled : (cs : List (Option X)) (from n : ℕ) → IsRun cs from n → 0 < n → IsFilled cs from
   first-filled cs from n r h = let P : ℕ → Type 0 = λ i. IsFilled cs i in subst P (add-zero from) (run_filled cs from n 0 r h)
+
+  -- the first places of a list that begins as another does
+  pub IsRun-kept : (cs ds : List (Option X)) (n : ℕ) → take n ds ≡ take n cs → n ≤ length ds → IsRun cs 0 n → IsRun ds 0 n
+  IsRun-kept cs ds n e h r = (omega (arith, h), ap (list_all is_some) e ∙ r.1)
+
+  -- a run that was moved holds the same values where it is now
+  pub run-moved : (cs : List (Option X)) (from to n : ℕ) → IsRun cs from n → to + n ≤ length cs → run (moved cs from to n) to n ≡ run cs from n
+  run-moved cs from to n r h =
+      let none = with_run cs from n (replicate n None) in let long : length none ≡ length cs = length-with_run cs from n (replicate n None) r.0 (length-replicate n None) in
+      ap (λ l. run (with_run none to n l) to n) (run-filled cs from n r) ∙ run-with none to n (run cs from n) (omega (arith, long)) (length-run cs from n r)
+
+  pub IsRun-moved : (cs : List (Option X)) (from to n : ℕ) → IsRun cs from n → to + n ≤ length cs → IsRun (moved cs from to n) to n
+  IsRun-moved cs from to n r h = IsRun-long (moved cs from to n) to n (ap length (run-moved cs from to n r h) ∙ length-run cs from n r) (omega (arith, length-moved cs from to n r.0 h))
+
+  -- the first and the last elements of a run
+  pub run-take : (cs : List (Option X)) (from m n : ℕ) → m ≤ n → IsRun cs from n → take m (run cs from n) ≡ run cs from m
+  run-take cs from m n h r =
+      ap (take m) (run-split cs from (from + m) m (n - m) n refl (omega arith)) ∙ take_at (run cs from m) (run cs (from + m) (n - m)) m (length-run cs from m (IsRun-part cs from n from m (omega arith) (omega arith) r))
+
+  pub run-drop : (cs : List (Option X)) (from a m n k : ℕ) → from + m ≡ a → m + k ≡ n → IsRun cs from n → drop m (run cs from n) ≡ run cs a k
+  run-drop cs from a m n k e f r =
+      ap (drop m) (run-split cs from a m k n e f) ∙ drop_at (run cs from m) (run cs a k) m (length-run cs from m (IsRun-part cs from n from m (omega arith) (omega arith) r))
+
+  -- other places leave a run that lies before them, or behind them
+  pub run-with-below : (cs : List (Option X)) (from n : ℕ) (ys : List (Option X)) (a k : ℕ) → from + n ≤ length cs → a + k ≤ from → run (with_run cs from n ys) a k ≡ run cs a k
+  run-with-below cs from n ys a k h l =
+      run-below cs (with_run cs from n ys) from a k (take_at (take from cs) (ys ++ drop (from + n) cs) from (length-take-le from cs (omega arith))) l
+
+  pub run-with-above : (cs : List (Option X)) (from n : ℕ) (ys : List (Option X)) (a k : ℕ) → from + n ≤ length cs → length ys ≡ n → from + n ≤ a → run (with_run cs from n ys) a k ≡ run cs a k
+  run-with-above cs from n ys a k h e l =
+      let f : from + n + (a - (from + n)) ≡ a = omega arith in
+      let g : (es : List (Option X)) → drop (a - (from + n)) (drop (from + n) es) ≡ drop a es = λ es. drop-drop (a - (from + n)) (from + n) es ∙ ap (λ i. drop i es) f in
+      run_same (with_run cs from n ys) cs a k (ap (take k) (sym (g (with_run cs from n ys)) ∙ ap (drop (a - (from + n))) (drop-with cs from n ys h e) ∙ g cs))
+
+  -- a run that was moved leaves one that lies before it, and before where it is now
+  pub run-moved-below : (cs : List (Option X)) (from to n a k : ℕ) → from + n ≤ length cs → to + n ≤ length cs → a + k ≤ from → a + k ≤ to → run (moved cs from to n) a k ≡ run cs a k
+  run-moved-below cs from to n a k h l b c =
+      let none = with_run cs from n (replicate n None) in let long : length none ≡ length cs = length-with_run cs from n (replicate n None) h (length-replicate n None) in
+      run-with-below none to n (take n (drop from cs)) a k (omega (arith, long)) c ∙ run-with-below cs from n (replicate n None) a k h b

@@ -3,6 +3,8 @@ use Rattle.std.specs.Prelude.{◌≡◌, ℕ, ◌+◌, ◌-◌, ◌<◌, ◌≤�
 use Rattle.aa_raw.specs.Growth.{amortized, least_of}
 use Rattle.aa_raw.specs.Places.{most}
 use Rattle.aa_raw.specs.declared.raw_vec.Growth.{Growth}
+use Rattle.aa_raw.specs.declared.raw_vec.Room.{Room}
+use Rattle.aa_raw.specs.declared.raw_vec.Room.TheVariants.{ToSpare, Exact}
 
 pub record Block (X A : Type 0) : Type 0 where
   -- each empty or filled: their number is the capacity
@@ -38,6 +40,11 @@ module _ {X A : Type 0} where
   -- how many places of `size` bytes a growth of b asks for that needs n, with room to spare
   abbrev pub spacious : (size : ℕ) → Block X A → (n : ℕ) → ℕ
   spacious size b n = amortized b.growth (length b.places) n (least_of size)
+
+  -- how many places a reserve of b asks for that needs n
+  abbrev pub wanted : Room → (size : ℕ) → Block X A → (n : ℕ) → ℕ
+  wanted ToSpare size b n = spacious size b n
+  wanted Exact size b n = n
 
   -- old made room for k more than its first n places and is new: where they fit it is unchanged, else it grew to `wanted` places
   pub record Reserves (size : ℕ) (old : Block X A) (n k wanted : ℕ) (new : Block X A) : Type 0 where

@@ -10,3 +10,4 @@ mod size;
 mod tally;
 #[cfg(test)]
 mod tests;
+pub mod vec;

@@ -1,10 +1,12 @@
 //! `RawVec`: a block of places over an allocator. Each place is empty or filled; which ones are filled is known to the caller
 //! and to contracts, and not to the running block.
-ghost use Rattle.std.specs.Prelude.{◌≡◌, ◌+◌, ◌-◌, ◌*◌, ◌^◌, ◌<◌, ◌≤◌, length, map, take, drop, replicate, get_or, slice_set, Some, None, IfOk, IfErr, IfSome, IfNone, OnOk, OnErr, IsOk, IsTrue, false, if◌then◌else◌, ◌==◌};
+ghost use Rattle.std.specs.Prelude.{◌≡◌, ◌≢◌, ◌+◌, ◌-◌, ◌*◌, ◌^◌, ◌<◌, ◌≤◌, length, map, take, drop, replicate, get_or, slice_set, Some, None, IfOk, IfErr, IfSome, IfNone, OnOk, OnErr, IsOk, IsTrue, false, if◌then◌else◌, ◌==◌};
 ghost use Rattle.std.specs.Mem.{type_size};
 ghost use Rattle.std.specs.Borrow.{sem};
+ghost use Rattle.std.specs.Fn.{CalledAtPairMut};
 ghost use Rattle.aa_raw.specs.Places.{IsCapacity, IsFilled, IsRun, most, moved, with_run};
-ghost use Rattle.aa_raw.specs.Block.{fresh, with_places, wrote, grown_to, shrunk_to, start_capacity, spacious, Reserves};
+ghost use Rattle.aa_raw.specs.Block.{fresh, with_places, wrote, grown_to, shrunk_to, start_capacity, spacious, wanted, Reserves};
+ghost use Rattle.aa_raw.specs.Closures.{TakesPairMut, CalledAtPlaces};
 ghost use Rattle.aa_raw.specs.Growth.{least_of, amortized, usize_max};
 ghost use Rattle.aa_raw.specs.Refusals.{IsRefused, IsRefusedAt};
 
@@ -23,6 +25,13 @@ pub enum Growth {
     Doubling,
     /// Half as much again.
     Sparing,
+}
+
+// What a reserve asks for: room to spare, as the block's growth says, or no more than is needed.
+#[derive(Clone, Copy, Drop)]
+enum Room {
+    ToSpare,
+    Exact,
 }
 
 /// A block of places over the allocator `A`. Elements without size take no memory and have `usize::MAX` places. Its drop gives
@@ -72,13 +81,20 @@ impl<T, A: Allocator> RawVec<T, A> {
     ghost use Rattle.aa_raw.specs.BlockLends.{lends_places, lends_place};
 
     /// An empty block. It takes no memory. It stands for `RawVec::new_in`.
-    #[tactic(auto, using(crate::proofs::Places::most_is))]
     pub fn new_in(alloc: A) -> Self
         ensures { result ≡ fresh (start_capacity (type_size T.row)) Growth.Doubling alloc }
     {
+        RawVec::new_growing_in(Growth::Doubling, alloc)
+    }
+
+    /// An empty block that will grow as `growth` says. It takes no memory. The original has no such choice.
+    #[tactic(auto, using(crate::proofs::Places::most_is))]
+    pub fn new_growing_in(growth: Growth, alloc: A) -> Self
+        ensures { result ≡ fresh (start_capacity (type_size T.row)) growth alloc }
+    {
         let capacity = if is_sizeless::<T>() { usize::MAX } else { 0 };
         let row = dangle(&alloc, capacity);
-        made(alloc, Growth::Doubling, capacity, row)
+        made(alloc, growth, capacity, row)
     }
 
     /// A block of `capacity` empty places. Where elements have a size and `capacity` is above 0 it takes memory; a refusal is
@@ -146,6 +162,20 @@ impl<T, A: Allocator> RawVec<T, A> {
         self.row.read(at)
     }
 
+    /// Drops the `count` values from place `from` on, in order; their places are empty afterwards.
+    #[inline]
+    pub fn drop_run(&mut self, from: usize, count: usize)
+    where
+        T: Drop,
+        requires { IsRun self.old.places from count }
+        ensures { self.new ≡ with_places self.old (with_run self.old.places from count (replicate count None)) }
+    {
+        let _within = self.capacity;
+        'each: for dropped in 0..count {
+            drop(self.take(from + dropped));
+        }
+    }
+
     /// The value in the filled place `at`.
     pub fn place(&self, at: usize) -> &T
         requires { IsFilled self.now.places at }
@@ -161,6 +191,27 @@ impl<T, A: Allocator> RawVec<T, A> {
         ensures value { get_or self.old.places at None ≡ Some result.now }
     {
         self.row.get_mut(at)
+    }
+
+    /// Lends the values in two different filled places to `f`, once, and puts back what it leaves of them. Nothing is counted as
+    /// written. The original has no such call.
+    #[inline(always)]
+    pub fn pair_with<R, F: FnMut(&mut T, &mut T) -> R>(
+        &mut self,
+        i: usize,
+        j: usize,
+        f: &mut F,
+    ) -> R
+        requires filled { IsFilled self.old.places i × IsFilled self.old.places j × (i ≢ j) }
+        requires callable { (x y : T) → get_or self.old.places i None ≡ Some x → get_or self.old.places j None ≡ Some y → TakesPairMut F.FnMut f.old x y }
+        ensures { CalledAtPlaces (CalledAtPairMut F.FnMut) f.old self.old i j result f.new self.new }
+    {
+        let mut x = self.row.read(i);
+        let mut y = self.row.read(j);
+        let answer = call_at_one_lifetime(f, &mut x, &mut y);
+        self.row.write(i, x);
+        self.row.write(j, y);
+        answer
     }
 
     /// The `count` values from place `from` on. Where `count` is 0, `from` is still at most the capacity.
@@ -180,6 +231,76 @@ impl<T, A: Allocator> RawVec<T, A> {
         self.row.slice_mut(from, count)
     }
 
+    /// Moves the value in the filled place `from` to the place `to`. A value that stood there is forgotten.
+    #[inline(always)]
+    pub fn move_one(&mut self, from: usize, to: usize)
+        requires { IsFilled self.old.places from × (to < length self.old.places) }
+        ensures { self.new ≡ wrote self.old (moved self.old.places from to 1) (if from == to then 0 else 1) }
+    {
+        if from == to {
+            return;
+        }
+        let item = self.take(from);
+        self.put(to, item);
+    }
+
+    /// Moves the `count` values from place `from` on to the places from `to` on, which may overlap them. Other values that
+    /// stood there are forgotten.
+    #[inline]
+    pub fn move_run(&mut self, from: usize, to: usize, count: usize)
+        requires { IsRun self.old.places from count × (to + count ≤ length self.old.places) }
+        ensures { self.new ≡ wrote self.old (moved self.old.places from to count) (if from == to then 0 else count) }
+    {
+        if from == to {
+            return;
+        }
+        let _capacity = self.capacity;
+        self.row.move_run(from, to, count);
+        self.written.add(count);
+        if count != 0 {
+            self.runs.add(1);
+        }
+    }
+
+    /// Moves the `count` values from place `from` on of the block `other` to the places from `to` on of this one. Values that
+    /// stood there are forgotten.
+    #[inline]
+    pub fn transfer(&mut self, to: usize, other: &mut RawVec<T, A>, from: usize, count: usize)
+        requires { IsRun other.old.places from count × (to + count ≤ length self.old.places) }
+        ensures here { self.new ≡ wrote self.old (with_run self.old.places to count (take count (drop from other.old.places))) count }
+        ensures there { other.new ≡ with_places other.old (with_run other.old.places from count (replicate count None)) }
+    {
+        let _capacities = (self.capacity, other.capacity);
+        self.row.take_run(to, &mut other.row, from, count);
+        self.written.add(count);
+        if count != 0 {
+            self.runs.add(1);
+        }
+    }
+
+    /// Puts `items` into the places from `at` on, each as by `put`.
+    #[inline]
+    pub fn put_array<const N: usize>(&mut self, at: usize, items: [T; N])
+        requires { at + N ≤ length self.old.places }
+        ensures { self.new ≡ wrote self.old (with_run self.old.places at N (map Some items)) N }
+    {
+        self.row.write_array(at, items);
+        self.written.add(N);
+        if N != 0 {
+            self.runs.add(1);
+        }
+    }
+
+    /// Moves the values out of the first `N` places, which are empty afterwards.
+    #[inline]
+    pub fn take_array<const N: usize>(&mut self) -> [T; N]
+        requires { IsRun self.old.places 0 N }
+        ensures value { take N self.old.places ≡ map Some result }
+        ensures after { self.new ≡ with_places self.old (with_run self.old.places 0 N (replicate N None)) }
+    {
+        self.row.read_array()
+    }
+
     /// Makes room for `additional` more than the first `len` places, which are filled. Where they fit, it does nothing; else it
     /// takes a new block with room to spare, moves the `len` values there and gives the old block back. A refusal changes
     /// nothing: `CapacityOverflow` where `len + additional` passes `usize::MAX` or the bytes pass `isize::MAX`, else
@@ -192,10 +313,10 @@ impl<T, A: Allocator> RawVec<T, A> {
         ensures refused { IfErr result (λ e. (self.new ≡ self.old) × IsRefused e (len + additional)) }
         ensures overflow { IfErr result (λ e. usize_max < len + additional → e ≡ TryReserveErrorKind.CapacityOverflow) }
     {
-        if additional <= self.capacity - len || self.grow_for(len, additional) {
+        if additional <= self.capacity - len || self.grow_for(Room::ToSpare, len, additional) {
             return Ok(());
         }
-        Err(self.refusal(len, additional))
+        Err(self.refusal(Room::ToSpare, len, additional))
     }
 
     /// The same as `try_reserve`. It stands for `RawVec::reserve`, which aborts on a refusal.
@@ -207,6 +328,39 @@ impl<T, A: Allocator> RawVec<T, A> {
         ensures overflow { IfErr result (λ e. usize_max < len + additional → e ≡ TryReserveErrorKind.CapacityOverflow) }
     {
         self.try_reserve(len, additional)
+    }
+
+    /// Makes room for `additional` more than the first `len` places, which are filled, as `try_reserve` does and refused as it
+    /// is, but takes a block of no more places than needed. It stands for `RawVec::try_reserve_exact`.
+    #[inline(always)]
+    pub fn try_reserve_exact(
+        &mut self,
+        len: usize,
+        additional: usize,
+    ) -> Result<(), TryReserveError>
+        requires { IsRun self.old.places 0 len }
+        ensures fits { len + additional ≤ length self.old.places → IsOk result }
+        ensures made { OnOk result (Reserves (type_size T.row) self.old len additional (len + additional) self.new) }
+        ensures refused { IfErr result (λ e. (self.new ≡ self.old) × IsRefused e (len + additional)) }
+        ensures number { IfErr result (λ e. IsRefusedAt e (len + additional)) }
+        ensures overflow { IfErr result (λ e. usize_max < len + additional → e ≡ TryReserveErrorKind.CapacityOverflow) }
+    {
+        if additional <= self.capacity - len || self.grow_for(Room::Exact, len, additional) {
+            return Ok(());
+        }
+        Err(self.refusal(Room::Exact, len, additional))
+    }
+
+    /// The same as `try_reserve_exact`. It stands for `RawVec::reserve_exact`, which aborts on a refusal.
+    pub fn reserve_exact(&mut self, len: usize, additional: usize) -> Result<(), TryReserveError>
+        requires { IsRun self.old.places 0 len }
+        ensures fits { len + additional ≤ length self.old.places → IsOk result }
+        ensures made { OnOk result (Reserves (type_size T.row) self.old len additional (len + additional) self.new) }
+        ensures refused { IfErr result (λ e. (self.new ≡ self.old) × IsRefused e (len + additional)) }
+        ensures number { IfErr result (λ e. IsRefusedAt e (len + additional)) }
+        ensures overflow { IfErr result (λ e. usize_max < len + additional → e ≡ TryReserveErrorKind.CapacityOverflow) }
+    {
+        self.try_reserve_exact(len, additional)
     }
 
     /// `try_reserve` for one more than the first `len` places; it tests for room itself. It stands for
@@ -222,15 +376,32 @@ impl<T, A: Allocator> RawVec<T, A> {
         self.try_reserve(len, 1)
     }
 
-    // The growth of `try_reserve`, out of line. It answers in a register, so that the test for room costs no stack.
+    /// Cuts the block to `capacity` places, of which the first `len` are filled, in a new block; the old one is given back. To no
+    /// places it takes no memory. A refusal changes nothing. It stands for `RawVec::shrink_to_fit`, which aborts on a refusal.
+    pub fn shrink_to_fit(&mut self, len: usize, capacity: usize) -> Result<(), TryReserveError>
+        requires { IsRun self.old.places 0 len × (len ≤ capacity) × (capacity ≤ length self.old.places) }
+        ensures shrunk { OnOk result (self.new ≡ (if type_size T.row == 0 then self.old else (if capacity == length self.old.places then self.old else shrunk_to self.old len capacity))) }
+        ensures refused { IfErr result (λ e. (self.new ≡ self.old) × (0 < capacity) × (capacity < length self.old.places) × (0 < type_size T.row) × (e ≡ TryReserveErrorKind.AllocError capacity)) }
+    {
+        if capacity == self.capacity || is_sizeless::<T>() {
+            return Ok(());
+        }
+        self.claim.known();
+        if self.move_to(len, capacity) {
+            return Ok(());
+        }
+        Err(TryReserveErrorKind::AllocError { capacity }.into())
+    }
+
+    // The growth of a reserve, out of line. It answers in a register, so that the test for room costs no stack.
     #[cold]
     #[inline(never)]
-    fn grow_for(&mut self, len: usize, additional: usize) -> bool
+    fn grow_for(&mut self, room: Room, len: usize, additional: usize) -> bool
         requires { IsRun self.old.places 0 len × (length self.old.places < len + additional) }
-        ensures grown { IsTrue result → (0 < type_size T.row) × (self.new ≡ grown_to self.old len (spacious (type_size T.row) self.old (len + additional))) }
+        ensures grown { IsTrue result → (0 < type_size T.row) × (self.new ≡ grown_to self.old len (wanted room (type_size T.row) self.old (len + additional))) }
         ensures kept { result ≡ false → self.new ≡ self.old }
     {
-        match self.capacity_for(len, additional) {
+        match self.capacity_for(room, len, additional) {
             Some(capacity) => self.grow_to(len, capacity),
             None => false,
         }
@@ -239,31 +410,32 @@ impl<T, A: Allocator> RawVec<T, A> {
     // Why `grow_for` answered no.
     #[cold]
     #[inline(never)]
-    fn refusal(&self, len: usize, additional: usize) -> TryReserveError
+    fn refusal(&self, room: Room, len: usize, additional: usize) -> TryReserveError
         requires { (len ≤ length self.now.places) × (length self.now.places < len + additional) }
         ensures refused { IsRefused result (len + additional) }
+        ensures number { IsRefusedAt result (wanted room (type_size T.row) self.now (len + additional)) }
         ensures overflow { usize_max < len + additional → result ≡ TryReserveErrorKind.CapacityOverflow }
     {
-        match self.capacity_for(len, additional) {
+        match self.capacity_for(room, len, additional) {
             Some(capacity) => TryReserveErrorKind::AllocError { capacity }.into(),
             None => TryReserveErrorKind::CapacityOverflow.into(),
         }
     }
 
     // The capacity that a growth asks for, unless a number passes what it may be.
-    fn capacity_for(&self, len: usize, additional: usize) -> Option<usize>
+    fn capacity_for(&self, room: Room, len: usize, additional: usize) -> Option<usize>
         requires { (len ≤ length self.now.places) × (length self.now.places < len + additional) }
-        ensures some { IfSome result (λ c. (c ≡ spacious (type_size T.row) self.now (len + additional)) × (0 < type_size T.row) × IsCapacity T.row c) }
+        ensures some { IfSome result (λ c. (c ≡ wanted room (type_size T.row) self.now (len + additional)) × (len + additional ≤ c) × (0 < type_size T.row) × IsCapacity T.row c) }
         ensures none { usize_max < len + additional → result ≡ None }
     {
         self.claim.known();
         let required = len.checked_add(additional)?;
-        let wanted = amortized_capacity(
-            self.growth,
-            self.capacity,
-            required,
-            least_capacity::<T>(),
-        );
+        let wanted = match room {
+            Room::Exact => required,
+            Room::ToSpare => {
+                amortized_capacity(self.growth, self.capacity, required, least_capacity::<T>())
+            }
+        };
         if fits_in_block::<T>(wanted) {
             Some(wanted)
         } else {
@@ -303,6 +475,19 @@ impl<T, A: Allocator> RawVec<T, A> {
             Err(_) => false,
         }
     }
+}
+
+// Both references have one lifetime, which the borrow checker's proof needs.
+#[inline(always)]
+fn call_at_one_lifetime<'a, T, R, F: FnMut(&mut T, &mut T) -> R>(
+    f: &mut F,
+    x: &'a mut T,
+    y: &'a mut T,
+) -> R
+    requires { TakesPairMut F.FnMut f.old x.old y.old }
+    ensures { CalledAtPairMut F.FnMut f.old x.old y.old result f.new x.new y.new }
+{
+    f(x, y)
 }
 
 // A block over a row that was just made.

@@ -1,5 +1,5 @@
 //! The raw layer: a row of places in memory, and the right to give that memory back.
-ghost use Rattle.std.specs.Prelude.{◌≡◌, ℕ, ◌+◌, ◌*◌, ◌^◌, ◌<◌, ◌≤◌, List, Option, Some, None, map, length, take, drop, replicate, get_or, slice_set, IfOk};
+ghost use Rattle.std.specs.Prelude.{◌≡◌, ℕ, ◌+◌, ◌*◌, ◌^◌, ◌<◌, ◌≤◌, List, Option, Some, None, map, length, take, drop, replicate, get_or, slice_set, IfOk, []};
 ghost use Rattle.std.specs.Mem.{type_size};
 ghost use Rattle.std.specs.Borrow.{sem};
 ghost use denote.RawPtr.{Ptr};
@@ -8,7 +8,7 @@ ghost use Rattle.aa_raw.specs.Holding.{row_owns, row_lends, claim_owns, roomy};
 
 use std::alloc::{AllocError, Allocator};
 use std::marker::{Model, PhantomData};
-use std::mem::{align_of, size_of};
+use std::mem::{align_of, replace, size_of};
 use std::slice;
 
 /// Places side by side in memory from `ptr` on, each empty or holding a value. It owns them, and not the right to free them.
@@ -47,7 +47,19 @@ impl<T, A: Allocator> Claim<T, A> {
 impl<T> Row<T> {
     ghost use Rattle.aa_raw.specs.Lends.{lends_item, lends_items};
 
+    /// No places.
+    #[inline(always)]
+    pub(crate) fn none() -> Row<T>
+        ensures { result.places ≡ [] }
+    {
+        let none: [T; 0] = [];
+        Row {
+            ptr: &raw const none as *const T as *mut T,
+        }
+    }
+
     /// Puts `item` into a place. A value that stood there is forgotten.
+    #[inline(always)]
     pub(crate) fn write(&mut self, index: usize, item: T)
         requires { index < length self.old.places }
         ensures { (self.new.ptr ≡ self.old.ptr) × (self.new.places ≡ slice_set self.old.places index (Some item)) }
@@ -56,6 +68,7 @@ impl<T> Row<T> {
     }
 
     /// Moves the value out of a filled place.
+    #[inline(always)]
     pub(crate) fn read(&mut self, index: usize) -> T
         requires { IsFilled self.old.places index }
         ensures value { get_or self.old.places index None ≡ Some result }
@@ -88,18 +101,120 @@ impl<T> Row<T> {
         unsafe { slice::from_raw_parts_mut(self.ptr.add(from), len) }
     }
 
+    /// Puts `items` into the places from `index` on. Values that stood there are forgotten.
+    pub(crate) fn write_array<const N: usize>(&mut self, index: usize, items: [T; N])
+        requires { index + N ≤ length self.old.places }
+        ensures { (self.new.ptr ≡ self.old.ptr) × (self.new.places ≡ with_run self.old.places index N (map Some items)) }
+    {
+        unsafe { self.ptr.add(index).cast::<[T; N]>().write(items) }
+    }
+
+    /// Moves the first `N` values out.
+    pub(crate) fn read_array<const N: usize>(&mut self) -> [T; N]
+        requires { IsRun self.old.places 0 N }
+        ensures value { take N self.old.places ≡ map Some result }
+        ensures places { (self.new.ptr ≡ self.old.ptr) × (self.new.places ≡ with_run self.old.places 0 N (replicate N None)) }
+    {
+        unsafe { self.ptr.cast::<[T; N]>().read() }
+    }
+
+    /// Moves the `count` values from `from` on to the places from `to` on, which may overlap them.
+    #[inline]
+    pub(crate) fn move_run(&mut self, from: usize, to: usize, count: usize)
+        requires { IsRun self.old.places from count × (to + count ≤ length self.old.places) × (length self.old.places < 2 ^ 64) }
+        ensures { (self.new.ptr ≡ self.old.ptr) × (self.new.places ≡ moved self.old.places from to count) }
+    {
+        let row = replace(self, Row::none());
+        let row = move_within(row, from, to, count);
+        forget_none(replace(self, row));
+    }
+
     /// Moves the `count` values from `from` on of `other` to the places from `to` on.
+    #[inline]
     pub(crate) fn take_run(&mut self, to: usize, other: &mut Row<T>, from: usize, count: usize)
         requires here { (to + count ≤ length self.old.places) × (length self.old.places < 2 ^ 64) }
         requires there { IsRun other.old.places from count × (length other.old.places < 2 ^ 64) }
         ensures here { (self.new.ptr ≡ self.old.ptr) × (self.new.places ≡ with_run self.old.places to count (take count (drop from other.old.places))) }
         ensures there { (other.new.ptr ≡ other.old.ptr) × (other.new.places ≡ with_run other.old.places from count (replicate count None)) }
     {
-        'each: for i in 0..count {
-            let item = other.read(from + i);
-            self.write(to + i, item);
-        }
+        let row = replace(self, Row::none());
+        let source = replace(other, Row::none());
+        let (row, source) = move_across(row, to, source, from, count);
+        forget_none(replace(self, row));
+        forget_none(replace(other, source));
     }
+}
+
+// The loops own the rows that they move within: the bases then stay in registers, and a move is one pass that the compiler
+// can vectorise. Behind a `&mut` each store would make it load the base again.
+
+// Moves the `count` values from `from` on to the places from `to` on.
+#[inline]
+fn move_within<T>(row: Row<T>, from: usize, to: usize, count: usize) -> Row<T>
+    requires { IsRun row.places from count × (to + count ≤ length row.places) × (length row.places < 2 ^ 64) }
+    ensures { (result.ptr ≡ row.ptr) × (result.places ≡ moved row.places from to count) }
+{
+    if to < from {
+        move_down(row, from, to, count)
+    } else if from < to {
+        move_up(row, from, to, count)
+    } else {
+        row
+    }
+}
+
+// The same to places below, the first value first.
+#[inline]
+fn move_down<T>(mut row: Row<T>, from: usize, to: usize, count: usize) -> Row<T>
+    requires { (to < from) × IsRun row.places from count × (length row.places < 2 ^ 64) }
+    ensures { (result.ptr ≡ row.ptr) × (result.places ≡ moved row.places from to count) }
+{
+    'down: for i in 0..count {
+        let item = row.read(from + i);
+        row.write(to + i, item);
+    }
+    row
+}
+
+// The same to places above, the last value first.
+#[inline]
+fn move_up<T>(mut row: Row<T>, from: usize, to: usize, count: usize) -> Row<T>
+    requires { (from < to) × IsRun row.places from count × (to + count ≤ length row.places) × (length row.places < 2 ^ 64) }
+    ensures { (result.ptr ≡ row.ptr) × (result.places ≡ moved row.places from to count) }
+{
+    'up: for i in 0..count {
+        let at = count - 1 - i;
+        let item = row.read(from + at);
+        row.write(to + at, item);
+    }
+    row
+}
+
+// Moves the `count` values from `from` on of `source` to the places from `to` on of `row`.
+#[inline]
+fn move_across<T>(
+    mut row: Row<T>,
+    to: usize,
+    mut source: Row<T>,
+    from: usize,
+    count: usize,
+) -> (Row<T>, Row<T>)
+    requires here { (to + count ≤ length row.places) × (length row.places < 2 ^ 64) }
+    requires there { IsRun source.places from count × (length source.places < 2 ^ 64) }
+    ensures here { (result.0.ptr ≡ row.ptr) × (result.0.places ≡ with_run row.places to count (take count (drop from source.places))) }
+    ensures there { (result.1.ptr ≡ source.ptr) × (result.1.places ≡ with_run source.places from count (replicate count None)) }
+{
+    'each: for i in 0..count {
+        let item = source.read(from + i);
+        row.write(to + i, item);
+    }
+    (row, source)
+}
+
+// Lets go of a row with no claim to memory.
+#[inline(always)]
+fn forget_none<T>(row: Row<T>) {
+    let Row { ptr: _ } = row;
 }
 
 /// Places that take no bytes, with no call to an allocator.

@@ -1,4 +1,7 @@
 //! What no clause says: sizes, what the tables of capacities give, and each public call once.
+mod items;
+mod moves;
+
 use crate::collections::{Refused, TryReserveError, TryReserveErrorKind};
 use crate::raw_vec::{Growth, RawVec};
 use std::alloc::Global;
@@ -54,6 +57,9 @@ fn elements_without_size_take_no_memory(rt: HostRuntime) {
     let _unit: &() = block.place(5);
     block.take(5);
     assert!(rt; block.try_reserve(0, usize::MAX).is_ok());
+    assert!(rt; block.try_reserve_exact(0, usize::MAX).is_ok());
+    assert!(rt; block.shrink_to_fit(0, 0).is_ok());
+    assert_eq!(rt; block.capacity(), usize::MAX);
     block.put(0, ());
     let refused = block.try_reserve(1, usize::MAX);
     assert_eq!(rt; refused, Err(TryReserveErrorKind::CapacityOverflow.into()));
@@ -93,5 +99,42 @@ fn errors_tell_their_kind(rt: HostRuntime) -> Result<(), Fail> {
         text.as_str(),
         "memory allocation failed because the computed capacity exceeded the collection's maximum"
     );
+    Ok(())
+}
+
+#[test]
+fn capacities_are_as_asked(rt: HostRuntime) -> Result<(), Fail> {
+    let mut block: RawVec<u32, Global> = RawVec::with_capacity(rt.alloc(), 3)?;
+    assert_eq!(rt; block.capacity(), 3);
+    block.try_reserve_exact(0, 5)?;
+    assert_eq!(rt; block.capacity(), 5);
+    block.put(0, 7);
+    block.reserve_exact(1, 5)?;
+    assert_eq!(rt; block.capacity(), 6);
+    block.reserve(1, 6)?;
+    assert_eq!(rt; block.capacity(), 12);
+    block.shrink_to_fit(1, 2)?;
+    assert_eq!(rt; block.capacity(), 2);
+    assert_eq!(rt; *block.place(0), 7);
+    block.shrink_to_fit(0, 0)?;
+    assert_eq!(rt; block.capacity(), 0);
+    Ok(())
+}
+
+#[test]
+fn growth_is_as_chosen(rt: HostRuntime) -> Result<(), Fail> {
+    let mut sparing: RawVec<u8, Global> = RawVec::new_growing_in(Growth::Sparing, rt.alloc());
+    assert!(rt; sparing.growth() == Growth::Sparing);
+    sparing.reserve_for_push(0)?;
+    assert_eq!(rt; sparing.capacity(), 8);
+    sparing.reserve(0, 9)?;
+    assert_eq!(rt; sparing.capacity(), 12);
+    let mut doubling: RawVec<u8, Global> = RawVec::new(rt.alloc());
+    assert!(rt; doubling.growth() == Growth::Doubling);
+    doubling.reserve(0, 9)?;
+    assert_eq!(rt; doubling.capacity(), 9);
+    doubling.reserve(0, 10)?;
+    assert_eq!(rt; doubling.capacity(), 18);
+    let _alloc: &Global = doubling.allocator();
     Ok(())
 }

@@ -2,6 +2,10 @@
 #![tactic(auto)]
 
 #[cfg(test)]
+mod block_refusals;
+#[cfg(test)]
 mod refusals;
 #[cfg(test)]
 mod runs;
+#[cfg(test)]
+mod vec_refusals;

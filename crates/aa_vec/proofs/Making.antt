@@ -1,5 +1,5 @@
 -- A vector that was just made.
-use Rattle.std.proofs.Common.{◌≡◌, ℕ, ap, ◌∙◌, length, None, replicate, nat_eq}
+use Rattle.std.proofs.Common.{◌≡◌, ℕ, ap, ◌∙◌, length, None}
 use Rattle.std.proofs.lemmas.List.{length-replicate}
 use Rattle.std.specs.Prelude.{if◌then◌else◌, ◌==◌, Option}
 use Rattle.aa_raw.specs.declared.raw_vec.Growth.TheVariants.{Doubling}
@@ -7,9 +7,8 @@ use Rattle.aa_raw.specs.Block.{Block, fresh}
 use Rattle.aa_raw.specs.Places.{most}
 use Rattle.aa_raw.proofs.Places.{most_is}
 use Rattle.aa_raw.proofs.Runs.{run-zero}
-use Rattle.aa_vec.specs.Vector.{Vector, IsNew, sized}
+use Rattle.aa_vec.specs.Vector.{IsNew}
 use Rattle.aa_vec.specs.Inner.{view_of}
-use Rattle.aa_vec.specs.declared.vec.Vec.TheInside.{Inside}
 
 module _ {T A : Type 0} where
   -- no element stands in a block of empty places

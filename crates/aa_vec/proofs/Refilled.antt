@@ -1,11 +1,11 @@
 -- A vector whose items were written to through a loan.
-use Rattle.std.proofs.Common.{◌≡◌, ℕ, ◌+◌, ◌≤◌, List, ◌++◌, length, drop, map, Option, Some, ap, sym, ◌∙◌, arith, zero-add}
+use Rattle.std.proofs.Common.{◌≡◌, List, length, drop, map, Option, Some, ap, sym, ◌∙◌, zero-add}
 use Rattle.std.proofs.lemmas.List.{length-map}
 use Rattle.std.specs.List.{refill, length_refill}
 use Rattle.aa_raw.specs.Block.{with_places}
 use Rattle.aa_raw.specs.Places.{IsRun, run, with_run}
-use Rattle.aa_raw.proofs.Runs.{length-run, run-is, run-with, length-with, drop-with, IsRun-with}
-use Rattle.aa_vec.specs.Vector.{Vector, with_items}
+use Rattle.aa_raw.proofs.Runs.{length-run, run-with, length-with, drop-with, IsRun-with}
+use Rattle.aa_vec.specs.Vector.{with_items}
 use Rattle.aa_vec.specs.Inner.{view_of, IsFront}
 use Rattle.aa_vec.specs.declared.vec.Vec.TheInside.{Inside}
 

@@ -22,6 +22,10 @@ pub record Vector (T A : Type 0) : Type 0 where
 abbrev pub sized : (size n : ℕ) → ℕ
 sized size n = if size == 0 then usize_max else n
 
+-- how many calls of the block move a run of n elements
+abbrev pub run_count : (n : ℕ) → ℕ
+run_count n = if n == 0 then 0 else 1
+
 module _ {T A : Type 0} where
   abbrev pub len : Vector T A → ℕ
   len v = length v.items
@@ -61,21 +65,41 @@ module _ {T A : Type 0} where
     pub grown : new.grown ≡ old.grown + n
     pub alloc : new.alloc ≡ old.alloc
 
-  -- old, with n elements of `size` bytes in it, made room for k more and is new: a growth asks for room to spare
+  -- old, with n elements of `size` bytes in it, has room for k more and is new: its own block, or one of `wanted` places
+  abbrev pub HasRoomBy : (size wanted : ℕ) → Vector T A → (n k : ℕ) → Vector T A → Type 0
+  HasRoomBy size wanted old n k new =
+      ((k ≤ old.capacity - n) × SameBlock old new) ⊎ ((old.capacity - n < k) × NewBlock size old n wanted new)
+
+  -- a growth asks for room to spare
   abbrev pub MakesRoom : (size : ℕ) → Vector T A → (n k : ℕ) → Vector T A → Type 0
-  MakesRoom size old n k new =
-      ((k ≤ old.capacity - n) × SameBlock old new)
-      ⊎ ((old.capacity - n < k) × NewBlock size old n (amortized old.growth old.capacity (n + k) (least_of size)) new)
+  MakesRoom size old n k new = HasRoomBy size (amortized old.growth old.capacity (n + k) (least_of size)) old n k new
+
+  -- a growth asks for room for k more and no others
+  abbrev pub MakesExactRoom : (size : ℕ) → Vector T A → (n k : ℕ) → Vector T A → Type 0
+  MakesExactRoom size old n k new = HasRoomBy size (n + k) old n k new
 
   -- new has the items xs, and made room for k more than old has
   pub record GrowsTo (size : ℕ) (old : Vector T A) (k : ℕ) (xs : List T) (new : Vector T A) : Type 0 where
     pub items : new.items ≡ xs
     pub room : MakesRoom size old (len old) k new
 
+  -- the same, with room for k more and no others
+  pub record GrowsExactly (size : ℕ) (old : Vector T A) (k : ℕ) (xs : List T) (new : Vector T A) : Type 0 where
+    pub items : new.items ≡ xs
+    pub room : MakesExactRoom size old (len old) k new
+
   -- new has the items xs, in the block of old
   pub record Holds (old : Vector T A) (xs : List T) (new : Vector T A) : Type 0 where
     pub items : new.items ≡ xs
     pub block : SameBlock old new
+
+  -- new has the items of old, in c places
+  pub record Shrinks (old : Vector T A) (c : ℕ) (new : Vector T A) : Type 0 where
+    pub items : new.items ≡ old.items
+    pub capacity : new.capacity ≡ c
+    pub growth : new.growth ≡ old.growth
+    pub grown : new.grown ≡ old.grown
+    pub alloc : new.alloc ≡ old.alloc
 
   -- n elements were written into places, by k calls of the block
   pub record Writes (old : Vector T A) (n k : ℕ) (new : Vector T A) : Type 0 where

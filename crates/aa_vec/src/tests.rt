@@ -90,6 +90,98 @@ fn elements_without_size_take_no_memory(rt: HostRuntime) -> Result<(), Fail> {
     Ok(())
 }
 
+#[test]
+fn elements_are_put_and_taken_at_positions(rt: HostRuntime) -> Result<(), Fail> {
+    let mut v: Vec<u32> = Vec::with_capacity(rt.alloc(), 4)?;
+    for x in 1..4 {
+        v.push(x)?;
+    }
+    assert_eq!(rt; v.len(), 3);
+    v.insert(1, 9)?;
+    assert_eq!(rt; v.as_slice(), [1, 9, 2, 3].as_slice());
+    assert_eq!(rt; v.capacity(), 4);
+    assert_eq!(rt; v.push_within_capacity(7), Err(7));
+    assert_eq!(rt; v.len(), 4);
+    assert_eq!(rt; v.remove(1), 9);
+    assert_eq!(rt; v.as_slice(), [1, 2, 3].as_slice());
+    assert_eq!(rt; v.push_within_capacity(4), Ok(()));
+    assert_eq!(rt; v.len(), 4);
+    assert_eq!(rt; v.swap_remove(1), 2);
+    assert_eq!(rt; v.as_slice(), [1, 4, 3].as_slice());
+    assert_eq!(rt; v.len(), 3);
+    assert_eq!(rt; v.swap_remove(2), 3);
+    v[0] = 6;
+    assert_eq!(rt; v[1], 4);
+    for x in v.iter_mut() {
+        *x /= 2;
+    }
+    assert_eq!(rt; v.iter().copied().max(), Some(3));
+    assert_eq!(rt; v.as_slice(), [3, 2].as_slice());
+    v.truncate(5);
+    v.truncate(1);
+    assert_eq!(rt; v.as_slice(), [3].as_slice());
+    v.clear();
+    assert!(rt; v.is_empty());
+    assert_eq!(rt; v.capacity(), 4);
+    Ok(())
+}
+
+// Three numbers in a vector with room for ten.
+fn three_of_ten(alloc: Global) -> Result<Vec<u32>, Fail> {
+    let mut v: Vec<u32> = Vec::with_capacity(alloc, 10)?;
+    for x in 1..4 {
+        v.push(x)?;
+    }
+    Ok(v)
+}
+
+#[test]
+fn room_is_made_and_given_back(rt: HostRuntime) -> Result<(), Fail> {
+    let mut v = three_of_ten(rt.alloc())?;
+    v.reserve(7)?;
+    assert_eq!(rt; v.capacity(), 10);
+    v.reserve(8)?;
+    assert_eq!(rt; v.capacity(), 20);
+    let mut v = three_of_ten(rt.alloc())?;
+    v.reserve_exact(8)?;
+    assert_eq!(rt; v.capacity(), 11);
+    v.try_reserve_exact(9)?;
+    assert_eq!(rt; v.capacity(), 12);
+    v.shrink_to(20)?;
+    assert_eq!(rt; v.capacity(), 12);
+    v.shrink_to(4)?;
+    assert_eq!(rt; v.capacity(), 4);
+    v.shrink_to(0)?;
+    assert_eq!(rt; v.capacity(), 3);
+    assert_eq!(rt; v.as_slice(), [1, 2, 3].as_slice());
+    v.clear();
+    v.shrink_to_fit()?;
+    assert_eq!(rt; v.capacity(), 0);
+    Ok(())
+}
+
+#[test]
+fn a_length_past_the_limit_is_an_overflow(rt: HostRuntime) -> Result<(), Fail> {
+    let overflow = Err(TryReserveErrorKind::CapacityOverflow.into());
+    let mut bytes: Vec<u8> = Vec::new(rt.alloc());
+    bytes.push(0)?;
+    assert_eq!(rt; bytes.try_reserve(usize::MAX), overflow);
+    assert_eq!(rt; bytes.try_reserve_exact(usize::MAX), overflow);
+    let mut units: Vec<()> = Vec::new(rt.alloc());
+    units.push(())?;
+    units.insert(0, ())?;
+    assert_eq!(rt; units.remove(1), ());
+    assert_eq!(rt; units.try_reserve(usize::MAX - 1), Ok(()));
+    assert_eq!(rt; units.try_reserve(usize::MAX), overflow);
+    units.shrink_to_fit()?;
+    assert_eq!(rt; units.capacity(), usize::MAX);
+    assert_eq!(rt; units.swap_remove(0), ());
+    assert_eq!(rt; units.push_within_capacity(()), Ok(()));
+    units.clear();
+    assert!(rt; units.is_empty());
+    Ok(())
+}
+
 // An element that counts its drops.
 struct Counted<'a>(&'a Cell<u32>);
 
@@ -111,6 +203,11 @@ fn each_element_is_dropped_once(rt: HostRuntime) {
         assert_eq!(rt; drops.get(), 0);
         drop(v.pop());
         assert_eq!(rt; drops.get(), 1);
+        v.truncate(6);
+        assert_eq!(rt; v.len(), 6);
+        assert_eq!(rt; drops.get(), 3);
+        drop(v.swap_remove(1));
+        assert_eq!(rt; drops.get(), 4);
     }
     assert_eq!(rt; drops.get(), 9);
 }

@@ -7,9 +7,15 @@ ghost use Rattle.aa_vec.specs.Vector.{len, HasRoom, LacksRoom, IsNew, SameBlock,
 
 use aa_raw::collections::{Refused, TryReserveError};
 use aa_raw::raw_vec::{Growth, RawVec};
+pub use aa_raw::vec::into_iter;
+pub use aa_raw::vec::into_iter::IntoIter;
 use std::alloc::{Allocator, Global};
 use std::default::Default;
 use std::marker::Model;
+
+mod access;
+mod edits;
+mod room;
 
 /// A growable list over the allocator `A`. It stands for `allocator_api2::vec::Vec`; a call that takes memory answers a `Result`
 /// in place of aborting. Elements without size take no memory and have the capacity `usize::MAX`.
@@ -181,10 +187,6 @@ impl<T: Drop, A: Allocator> Drop for Vec<T, A> {
     /// Drops the elements in order, and gives the memory back.
     fn drop(self) {
         let Vec { mut block, len } = self;
-        let mut next = 0;
-        while next < len {
-            drop(block.take(next));
-            next += 1;
-        }
+        block.drop_run(0, len);
     }
 }

@@ -1,6 +1,5 @@
 -- What a vector was moved by growth is paid for by what was added to it.
-use Rattle.std.proofs.Common.{◌≡◌, ℕ, ◌+◌, ◌*◌, ◌-◌, ◌<◌, ◌≤◌, max, List, length, ap, ◌∙◌, arith, ◌⊎◌, inl, inr}
-use Rattle.std.specs.Prelude.{if◌then◌else◌, ◌==◌, nat_lt}
+use Rattle.std.proofs.Common.{◌≡◌, ℕ, ◌+◌, ◌*◌, ◌-◌, ◌<◌, ◌≤◌, max, List, length, ap, ◌∙◌, arith, inl, inr}
 use Rattle.aa_raw.specs.declared.raw_vec.Growth.{Growth}
 use Rattle.aa_raw.specs.declared.raw_vec.Growth.TheVariants.{Doubling, Sparing}
 use Rattle.aa_raw.specs.Growth.{amortized, least_of}
@@ -17,7 +16,7 @@ all_pays : (G : Growth) (paid g c n k : ℕ) → n ≤ k → c ≤ k → g ≤ p
 all_pays Doubling paid g c n k h lt p = omega arith
 all_pays Sparing paid g c n k h lt p = omega arith
 
-amortized-enough : (G : Growth) (c needed m : ℕ) → needed ≤ amortized G c needed m
+pub amortized-enough : (G : Growth) (c needed m : ℕ) → needed ≤ amortized G c needed m
 amortized-enough Doubling c needed m = omega arith
 amortized-enough Sparing c needed m = omega arith
 

@@ -1,13 +1,29 @@
 -- What a step of the list machine does to main: it stays in its block, or has grown once.
-use Rattle.std.proofs.Common.{◌≡◌, ℕ, ◌+◌, ◌≤◌, Bool, List, [], ◌∷◌, ◌++◌, length, refl, ap, arith, ◌⊎◌, inl, inr}
+use Rattle.std.proofs.Common.{◌≡◌, ℕ, suc, ◌+◌, ◌-◌, ◌≤◌, Bool, List, [], ◌∷◌, length, take, drop, refl, ap, ◌∙◌, arith, ◌⊎◌, inl, inr, length-take, length-drop, length-set}
+use Rattle.std.specs.Prelude.{insert, remove, swap_remove, slice_set, slice_index_or}
 use Rattle.std.proofs.lemmas.List.{length-append}
 use Rattle.aa_vec.specs.Vector.{Vector, len, SameBlock, GrowsTo, Holds}
 use Rattle.allocator_api2.specs.declared.runner.Command.{Command}
-use Rattle.allocator_api2.specs.declared.runner.Command.TheVariants.{Push, Pop}
+use Rattle.allocator_api2.specs.declared.runner.Command.TheVariants.{Push, Within, Pop, Insert, Remove, SwapRemove, Truncate, Clear}
 use Rattle.allocator_api2.specs.declared.runner.Reply.{Reply}
-use Rattle.allocator_api2.specs.declared.runner.Reply.TheVariants.{Done, Item, Nothing, Refused, Range}
+use Rattle.allocator_api2.specs.declared.runner.Reply.TheVariants.{Done, Item, Nothing, Back, Refused, Range}
 use Rattle.allocator_api2.specs.Machine.{State, Step}
 use Rattle.allocator_api2.specs.Run.{IsUnhinted, added_by}
+
+module _ {T : Type 0} where
+  length-insert : (xs : List T) (i : ℕ) (x : T) → i ≤ length xs → length (insert xs i x) ≡ length xs + 1
+  length-insert xs i x h = omega (arith, length-append (take i xs) (x ∷ drop i xs), length-take i xs, length-drop i xs)
+
+  length-remove-le : (xs : List T) (i : ℕ) → length (remove xs i) ≤ length xs
+  length-remove-le xs i = omega (arith, length-append (take i xs) (drop (suc i) xs), length-take i xs, length-drop (suc i) xs)
+
+  length-swap_remove-le : (xs : List T) (i : ℕ) (d : T) → length (swap_remove xs i d) ≤ length xs
+  length-swap_remove-le xs i d =
+      let ys : List T = slice_set xs i (slice_index_or xs (length xs - 1) d) in
+      omega (arith, length-take (length xs - 1) ys, length-set xs i (slice_index_or xs (length xs - 1) d))
+
+  length-take-le : (xs : List T) (n : ℕ) → length (take n xs) ≤ length xs
+  length-take-le xs n = omega (arith, length-take n xs)
 
 module _ {T A : Type 0} (size : ℕ) where
   -- main stayed in its block, with at most k elements more
@@ -41,9 +57,37 @@ module _ {T A : Type 0} (size : ℕ) where
       change_of old (Push x) answers (Refused kind) new a s = same old new s.3
       change_of old (Push x) answers Range new a s = same old new s.2
       change_of old (Push x) answers _ new a s = absurd s.1
+      change_of old (Within x) answers Done new a s =
+          let l = ap length s.1.3.items ∙ length-append old.main.items (x ∷ []) in
+          inl (record { block = s.1.3.block; longest = omega (arith, l); fits = λ f. omega (arith, l, s.1.1) })
+      change_of old (Within x) answers (Back y) new a s = same old new s.1.3
+      change_of old (Within x) answers (Refused kind) new a s = same old new s.3
+      change_of old (Within x) answers Range new a s = same old new s.2
+      change_of old (Within x) answers _ new a s = absurd s.1
       change_of old Pop answers (Item y) new a s =
           shrinks old.main s.1.2.0 new.main (omega (arith, ap length s.1.2.1, length-append s.1.2.0 (y ∷ []))) s.1.2.2
       change_of old Pop answers Nothing new a s = same old new s.1.2
       change_of old Pop answers (Refused kind) new a s = same old new s.3
       change_of old Pop answers Range new a s = same old new s.2
       change_of old Pop answers _ new a s = absurd s.1
+      change_of old (Insert i x) answers Done new a s = adds old.main 1 _ new.main (length-insert old.main.items i x s.0) s.1.2
+      change_of old (Insert i x) answers (Refused kind) new a s = same old new s.3
+      change_of old (Insert i x) answers Range new a s = same old new s.2
+      change_of old (Insert i x) answers _ new a s = absurd s.1
+      change_of old (Remove i) answers (Item y) new a s = shrinks old.main _ new.main (length-remove-le old.main.items i) s.1.3
+      change_of old (Remove i) answers (Refused kind) new a s = same old new s.3
+      change_of old (Remove i) answers Range new a s = same old new s.2
+      change_of old (Remove i) answers _ new a s = absurd s.1
+      change_of old (SwapRemove i) answers (Item y) new a s = shrinks old.main _ new.main (length-swap_remove-le old.main.items i y) s.1.3
+      change_of old (SwapRemove i) answers (Refused kind) new a s = same old new s.3
+      change_of old (SwapRemove i) answers Range new a s = same old new s.2
+      change_of old (SwapRemove i) answers _ new a s = absurd s.1
+      change_of old (Truncate n) answers Done new a s = shrinks old.main _ new.main (length-take-le old.main.items n) s.1.2
+      change_of old (Truncate n) answers (Refused kind) new a s = same old new s.3
+      change_of old (Truncate n) answers Range new a s = same old new s.2
+      change_of old (Truncate n) answers _ new a s = absurd s.1
+      change_of old Clear answers Done new a s = shrinks old.main _ new.main (omega arith) s.1.2
+      change_of old Clear answers (Refused kind) new a s = same old new s.3
+      change_of old Clear answers Range new a s = same old new s.2
+      change_of old Clear answers _ new a s = absurd s.1
+      change_of old command answers reply new a s = absurd a

@@ -5,7 +5,6 @@ use Rattle.std.proofs.lemmas.List.Sums.{sum_by-cons}
 use Rattle.aa_raw.specs.declared.raw_vec.Growth.{Growth}
 use Rattle.aa_vec.specs.Vector.{len}
 use Rattle.allocator_api2.specs.declared.runner.Command.{Command}
-use Rattle.allocator_api2.specs.declared.runner.Command.TheVariants.{Push, Pop}
 use Rattle.allocator_api2.specs.declared.runner.Reply.{Reply}
 use Rattle.allocator_api2.specs.Machine.{State, Step}
 use Rattle.allocator_api2.specs.Run.{Turn, IsRun, AddsOrRemoves, IsUnhinted, added, added_by, cost, greatest_length, moves_each}
@@ -23,8 +22,7 @@ module _ {T A K S : Type 0} (size : ℕ) (Keeps : K → T → Bool → K → T �
 
   -- what is added is paid for, step by step
   paid_step : (G : Growth) (paid n : ℕ) (old : State T A K S) (command : Command T) (answers : List Bool) (reply : Reply T) (new : State T A K S) → IsPaid size G paid n old.main → AddsOrRemoves command → Step size Keeps Repeats old command answers reply new → IsPaid size G paid (n + added_by old command reply new) new.main
-  paid_step G paid n old (Push x) answers reply new p a s = IsPaid-change size G paid n _ old.main new.main p (change_of size Keeps Repeats old (Push x) answers reply new tt s)
-  paid_step G paid n old Pop answers reply new p a s = IsPaid-change size G paid n _ old.main new.main p (change_of size Keeps Repeats old Pop answers reply new tt s)
+  paid_step G paid n old command answers reply new p a s = IsPaid-change size G paid n _ old.main new.main p (change_of size Keeps Repeats old command answers reply new a s)
 
   paid_run : (G : Growth) (paid n : ℕ) (old : State T A K S) (ts : List (Turn T A K S)) (new : State T A K S) → IsRun size Keeps Repeats old ts new → IsPaid size G paid n old.main → AllByRecursion AddsOrRemoves (map (λ t. t.command) ts) → IsPaid size G paid (n + sum_by added ts) new.main
   paid_run G paid n old [] new r p a = rw (r, add-zero) p

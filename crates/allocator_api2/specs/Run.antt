@@ -1,11 +1,11 @@
 -- Whole runs of the list machine, and what is counted on them.
-use Rattle.std.specs.Prelude.{◌≡◌, ℕ, ◌+◌, ◌*◌, ◌≤◌, max, Bool, List, [], ◌∷◌, map, sum_by, ⊤}
+use Rattle.std.specs.Prelude.{◌≡◌, ℕ, ◌+◌, ◌-◌, ◌*◌, ◌≤◌, max, Bool, List, [], ◌∷◌, map, sum_by, ⊤}
 use Rattle.std.specs.List.{AllByRecursion}
 use Rattle.aa_raw.specs.declared.raw_vec.Growth.{Growth}
 use Rattle.aa_raw.specs.declared.raw_vec.Growth.TheVariants.{Doubling, Sparing}
 use Rattle.aa_vec.specs.Vector.{len}
 use Rattle.allocator_api2.specs.declared.runner.Command.{Command}
-use Rattle.allocator_api2.specs.declared.runner.Command.TheVariants.{Push, Pop}
+use Rattle.allocator_api2.specs.declared.runner.Command.TheVariants.{Push, Within, Pop, Insert, Remove, SwapRemove, Truncate, Clear}
 use Rattle.allocator_api2.specs.declared.runner.Reply.{Reply}
 use Rattle.allocator_api2.specs.declared.runner.Reply.TheVariants.{Done, Back, Range}
 use Rattle.allocator_api2.specs.Machine.{State, Step}
@@ -22,17 +22,25 @@ module _ {T : Type 0} where
   -- commands that make no room but for what they add
   abbrev pub AddsOrRemoves : Command T → Type 0
   AddsOrRemoves (Push x) = ⊤
+  AddsOrRemoves (Within x) = ⊤
   AddsOrRemoves Pop = ⊤
+  AddsOrRemoves (Insert i x) = ⊤
+  AddsOrRemoves (Remove i) = ⊤
+  AddsOrRemoves (SwapRemove i) = ⊤
+  AddsOrRemoves (Truncate n) = ⊤
+  AddsOrRemoves Clear = ⊤
+  AddsOrRemoves command = ⊥
 
   -- those of them that are told no hint
   abbrev pub IsUnhinted : Command T → Type 0
-  IsUnhinted (Push x) = ⊤
-  IsUnhinted Pop = ⊤
+  IsUnhinted command = AddsOrRemoves command
 
 module _ {T A K S : Type 0} where
   -- how many elements a command added to main
   abbrev pub added_by : State T A K S → Command T → Reply T → State T A K S → ℕ
   added_by old (Push x) Done new = 1
+  added_by old (Within x) Done new = 1
+  added_by old (Insert i x) Done new = 1
   added_by old command reply new = 0
 
   abbrev pub added : Turn T A K S → ℕ
@@ -41,7 +49,11 @@ module _ {T A K S : Type 0} where
   -- how many elements of main a command may write
   abbrev pub cost_of : State T A K S → Command T → List Bool → State T A K S → ℕ
   cost_of old (Push x) answers new = 1
-  cost_of old Pop answers new = 0
+  cost_of old (Within x) answers new = 1
+  cost_of old (Insert i x) answers new = len old.main - i + 1
+  cost_of old (Remove i) answers new = len old.main - i - 1
+  cost_of old (SwapRemove i) answers new = 1
+  cost_of old command answers new = 0
 
   abbrev pub cost_by : State T A K S → Command T → List Bool → Reply T → State T A K S → ℕ
   cost_by old command answers Range new = 0

@@ -1,13 +1,25 @@
-//! Laws that users of the vector rely on.
+//! Laws that users of the vector rely on. The functions do nothing: their contracts are the laws.
 ghost use Rattle.std.specs.Prelude.{◌≤◌};
+ghost use Rattle.std.specs.Fn.{CalledAtMut, CalledAtPairMut};
+ghost use Rattle.std.specs.Mem.{type_size};
 ghost use Rattle.aa_vec.specs.Vector.{len};
+ghost use Rattle.allocator_api2.specs.Laws.{ReserveHolds};
 
 use aa_vec::vec::Vec;
 use std::alloc::Allocator;
 
-/// Does nothing: it tells that a vector's length is never greater than its capacity.
+/// A vector's length is never greater than its capacity.
 pub fn length_within_capacity<T, A: Allocator>(v: &Vec<T, A>)
     ensures { len v.now ≤ v.now.capacity }
 {
     let _within = v.capacity();
 }
+
+/// After a reserve of k more that was done, the next k commands of a run, all of them pushes within the capacity, are done.
+pub fn reserved_room_takes_pushes<T, A, K, S>()
+where
+    A: Allocator,
+    K: FnMut(&mut T) -> bool,
+    S: FnMut(&mut T, &mut T) -> bool,
+    ensures { ReserveHolds A (type_size T.row) (CalledAtMut K.FnMut) (CalledAtPairMut S.FnMut) }
+{}

@@ -1,5 +1,5 @@
 //! `run`: a list of commands on two vectors, and the list machine that its contract speaks of.
-ghost use Rattle.std.specs.Prelude.{reverse, ◌≡◌, List, [], ◌∷◌, ◌++◌, length};
+ghost use Rattle.std.specs.Prelude.{reverse, ◌≡◌, List, [], ◌∷◌, ◌++◌, length, MatchResult};
 ghost use Rattle.std.specs.Fn.{CalledAtMut, CalledAtPairMut};
 ghost use Rattle.std.specs.Mem.{type_size};
 ghost use Rattle.aa_vec.specs.Vector.{HasRoom, Holds, SameBlock};
@@ -7,7 +7,7 @@ ghost use Rattle.allocator_api2.specs.Machine.{state_of};
 ghost use Rattle.allocator_api2.specs.Run.{TakesStep, RunsTo};
 ghost use Rattle.allocator_api2.specs.declared.runner.Reply.{Reply};
 
-use aa_raw::collections::TryReserveErrorKind;
+use aa_raw::collections::{TryReserveError, TryReserveErrorKind};
 use aa_vec::vec::Vec;
 use std::alloc::Allocator;
 
@@ -16,8 +16,26 @@ use std::alloc::Allocator;
 pub enum Command<T> {
     /// Puts an element behind the last one.
     Push(T),
+    /// Puts an element behind the last one, where the capacity has room for it.
+    Within(T),
     /// Takes the last element.
     Pop,
+    /// Puts an element at an index, which is at most the length.
+    Insert(usize, T),
+    /// Takes the element at an index, and closes the gap.
+    Remove(usize),
+    /// Takes the element at an index, and puts the last one there.
+    SwapRemove(usize),
+    /// Drops all but the first so many elements.
+    Truncate(usize),
+    /// Drops all elements.
+    Clear,
+    /// Makes room for so many more elements, with room to spare.
+    Reserve(usize),
+    /// Makes room for so many more elements and no others.
+    ReserveExact(usize),
+    /// Gives back all but so many places, or as many as there are elements.
+    ShrinkTo(usize),
 }
 
 /// What `run` answers to a command.
@@ -101,9 +119,55 @@ where
             Ok(()) => Reply::Done,
             Err(refused) => Reply::Refused(refused.error.kind()),
         },
+        Command::Within(value) => match main.push_within_capacity(value) {
+            Ok(()) => Reply::Done,
+            Err(value) => Reply::Back(value),
+        },
         Command::Pop => match main.pop() {
             Some(value) => Reply::Item(value),
             None => Reply::Nothing,
         },
+        Command::Insert(index, value) => {
+            if index > main.len() {
+                return Reply::Range;
+            }
+            match main.insert(index, value) {
+                Ok(()) => Reply::Done,
+                Err(refused) => Reply::Refused(refused.error.kind()),
+            }
+        }
+        Command::Remove(index) => {
+            if index >= main.len() {
+                return Reply::Range;
+            }
+            Reply::Item(main.remove(index))
+        }
+        Command::SwapRemove(index) => {
+            if index >= main.len() {
+                return Reply::Range;
+            }
+            Reply::Item(main.swap_remove(index))
+        }
+        Command::Truncate(len) => {
+            main.truncate(len);
+            Reply::Done
+        }
+        Command::Clear => {
+            main.clear();
+            Reply::Done
+        }
+        Command::Reserve(additional) => done(main.try_reserve(additional)),
+        Command::ReserveExact(additional) => done(main.try_reserve_exact(additional)),
+        Command::ShrinkTo(capacity) => done(main.shrink_to(capacity)),
+    }
+}
+
+// The reply to a call that was granted or refused.
+fn done<T>(answer: Result<(), TryReserveError>) -> Reply<T>
+    ensures { MatchResult answer (λ _. result ≡ Reply.Done) (λ kind. result ≡ Reply.Refused kind) }
+{
+    match answer {
+        Ok(()) => Reply::Done,
+        Err(error) => Reply::Refused(error.kind()),
     }
 }

@@ -4,7 +4,7 @@ use Rattle.std.specs.List.{slice_split}
 use Rattle.std.specs.Str.{bytes_eq, IsUtf8}
 use Rattle.std.specs.Str.Parse.{IsNumeral, digits_value}
 use Rattle.allocator_api2.specs.declared.runner.Command.{Command}
-use Rattle.allocator_api2.specs.declared.runner.Command.TheVariants.{Push, Pop}
+use Rattle.allocator_api2.specs.declared.runner.Command.TheVariants.{Push, Within, Pop, Insert, Remove, SwapRemove, Truncate, Clear, Reserve, ReserveExact, ShrinkTo}
 
 -- a space or a tab
 abbrev pub is_blank : ℕ → Bool
@@ -14,16 +14,37 @@ is_blank b = (b == 32) || (b == 9)
 abbrev pub words_of : List ℕ → List (List ℕ)
 words_of line = filter (λ word. nat_lt 0 (length word)) (slice_split is_blank line)
 
--- the words are one, the decimal digits of an element
+-- the word has decimal digits alone, which write the number x below the limit
+abbrev pub Writes : (limit : ℕ) → List ℕ → ℕ → Type 0
+Writes limit word x = IsNumeral 10 word × (digits_value 10 word ≡ x) × (x < limit)
+
+-- the words are one, which writes an element
 abbrev pub IsElement : List (List ℕ) → ℕ → Type 0
-IsElement words x = (word : List ℕ) × (words ≡ word ∷ []) × IsNumeral 10 word × (digits_value 10 word ≡ x) × (x < 2 ^ 32)
+IsElement words x = (word : List ℕ) × (words ≡ word ∷ []) × Writes (2 ^ 32) word x
+
+-- the words are one, which writes a number
+abbrev pub IsNumber : List (List ℕ) → ℕ → Type 0
+IsNumber words n = (word : List ℕ) × (words ≡ word ∷ []) × Writes (2 ^ 64) word n
+
+-- the words are two, which write a number and an element
+abbrev pub AreNumberAndElement : List (List ℕ) → ℕ × ℕ → Type 0
+AreNumberAndElement words p = (v : List ℕ) × (w : List ℕ) × (words ≡ v ∷ w ∷ []) × Writes (2 ^ 64) v p.0 × Writes (2 ^ 32) w p.1
 
 -- the words after this name say the command
 abbrev pub SayAfter : List ℕ → List (List ℕ) → Command ℕ → Type 0
 SayAfter name rest command =
     MatchBool (bytes_eq name (codes "push")) ((x : ℕ) × IsElement rest x × (command ≡ Push x))
+    (MatchBool (bytes_eq name (codes "within")) ((x : ℕ) × IsElement rest x × (command ≡ Within x))
     (MatchBool (bytes_eq name (codes "pop")) ((rest ≡ []) × (command ≡ Pop))
-    ⊥)
+    (MatchBool (bytes_eq name (codes "insert")) ((p : ℕ × ℕ) × AreNumberAndElement rest p × (command ≡ Insert p.0 p.1))
+    (MatchBool (bytes_eq name (codes "remove")) ((n : ℕ) × IsNumber rest n × (command ≡ Remove n))
+    (MatchBool (bytes_eq name (codes "swap_remove")) ((n : ℕ) × IsNumber rest n × (command ≡ SwapRemove n))
+    (MatchBool (bytes_eq name (codes "truncate")) ((n : ℕ) × IsNumber rest n × (command ≡ Truncate n))
+    (MatchBool (bytes_eq name (codes "clear")) ((rest ≡ []) × (command ≡ Clear))
+    (MatchBool (bytes_eq name (codes "reserve")) ((n : ℕ) × IsNumber rest n × (command ≡ Reserve n))
+    (MatchBool (bytes_eq name (codes "reserve_exact")) ((n : ℕ) × IsNumber rest n × (command ≡ ReserveExact n))
+    (MatchBool (bytes_eq name (codes "shrink_to")) ((n : ℕ) × IsNumber rest n × (command ≡ ShrinkTo n))
+    ⊥))))))))))
 
 -- the words say the command
 abbrev pub Say : List (List ℕ) → Command ℕ → Type 0

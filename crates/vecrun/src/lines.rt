@@ -6,7 +6,7 @@ ghost use Rattle.std.specs.Option.{SomeIff};
 ghost use Rattle.std.specs.Str.Lines.{lines, strip_carriage_return};
 ghost use Rattle.std.specs.Str.Parse.{IsNumeral, digits_value};
 ghost use Rattle.vecrun.specs.Faults.{IsFoundIn, ReadsAs};
-ghost use Rattle.vecrun.specs.Lines.{is_blank, words_of, IsElement, SayAfter, Say, IsBad, HasNoBad};
+ghost use Rattle.vecrun.specs.Lines.{is_blank, words_of, IsElement, IsNumber, AreNumberAndElement, SayAfter, Say, IsBad, HasNoBad};
 
 use crate::script::Fault;
 use allocator_api2::runner::Command;
@@ -100,7 +100,18 @@ fn command(name: &str, line: Line<'_>) -> Result<Command<u32>, Fault>
 {
     match name {
         "push" => line.element().map(Command::Push),
+        "within" => line.element().map(Command::Within),
         "pop" => line.end().map(|()| Command::Pop),
+        "insert" => line
+            .number_and_element()
+            .map(|(index, x)| Command::Insert(index, x)),
+        "remove" => line.number().map(Command::Remove),
+        "swap_remove" => line.number().map(Command::SwapRemove),
+        "truncate" => line.number().map(Command::Truncate),
+        "clear" => line.end().map(|()| Command::Clear),
+        "reserve" => line.number().map(Command::Reserve),
+        "reserve_exact" => line.number().map(Command::ReserveExact),
+        "shrink_to" => line.number().map(Command::ShrinkTo),
         _ => Err(line.bad()),
     }
 }
@@ -141,9 +152,40 @@ impl Line<'_> {
             _ => Err(self.bad()),
         }
     }
+
+    // One word, which is a number.
+    fn number(mut self) -> Result<usize, Fault>
+        ensures { ReadsAs self.entry.number (IsNumber (words_of self.entry.words.rest.now)) result }
+    {
+        match (self.words.next().and_then(number), self.words.next()) {
+            (Some(n), None) => Ok(n),
+            _ => Err(self.bad()),
+        }
+    }
+
+    // Two words, a number and an element.
+    fn number_and_element(mut self) -> Result<(usize, u32), Fault>
+        ensures { ReadsAs self.entry.number
+            (AreNumberAndElement (words_of self.entry.words.rest.now)) result }
+    {
+        let number = self.words.next().and_then(number);
+        let element = self.words.next().and_then(element);
+        match (number, element, self.words.next()) {
+            (Some(n), Some(x), None) => Ok((n, x)),
+            _ => Err(self.bad()),
+        }
+    }
 }
 
 // The number that the word writes in decimal digits, if it fits.
+fn number(word: &[u8]) -> Option<usize>
+    ensures { SomeIff result (IsNumeral 10 word.now × (digits_value 10 word.now < 2 ^ 64))
+        (digits_value 10 word.now) }
+{
+    digits(word)?.parse().ok()
+}
+
+// The element that the word writes in decimal digits, if it fits.
 fn element(word: &[u8]) -> Option<u32>
     ensures { SomeIff result (IsNumeral 10 word.now × (digits_value 10 word.now < 2 ^ 32))
         (digits_value 10 word.now) }

@@ -8,7 +8,7 @@ const EMPTY_LISTS: &str = "main len=0 cap=0:\nside len=0 cap=0:\n";
 const PUSHED_SEVEN: &str = "done\nmain len=1 cap=4: 7\nside len=0 cap=0:\n";
 
 // Scripts, and what they print.
-const GOOD_SCRIPTS: [(&[u8], &str); 9] = [
+const GOOD_SCRIPTS: [(&[u8], &str); 15] = [
     (
         b"push 1\npush 2\npop\npop\npop\n",
         "done\ndone\nitem 2\nitem 1\nnone\nmain len=0 cap=4:\nside len=0 cap=0:\n",
@@ -27,11 +27,39 @@ const GOOD_SCRIPTS: [(&[u8], &str); 9] = [
     (b"push 007", PUSHED_SEVEN),
     (b"\t push \t 7  \n", PUSHED_SEVEN),
     (b"\r\npush 7\r\n", PUSHED_SEVEN),
+    (
+        b"push 1\npush 2\npush 3\ninsert 1 9\nswap_remove 0\nwithin 7\npop\n",
+        "done\ndone\ndone\ndone\nitem 1\ndone\nitem 7\nmain len=3 cap=4: 3 9 2\nside len=0 cap=0:\n",
+    ),
+    (
+        b"push 3\npush 9\npush 2\nwithin 4\ninsert 0 5\n",
+        "done\ndone\ndone\ndone\ndone\nmain len=5 cap=8: 5 3 9 2 4\nside len=0 cap=0:\n",
+    ),
+    (
+        b"reserve 5\npush 1\nshrink_to 3\nreserve_exact 3\nwithin 9\nclear\nshrink_to 0\nremove 0\n",
+        "done\ndone\ndone\ndone\ndone\ndone\ndone\nrange\nmain len=0 cap=0:\nside len=0 cap=0:\n",
+    ),
+    (
+        b"push 1\nreserve 18446744073709551615\n",
+        "done\nrefused capacity\nmain len=1 cap=4: 1\nside len=0 cap=0:\n",
+    ),
+    (
+        b"within 1\ninsert 1 2\ntruncate 0\nswap_remove 0\n",
+        "back 1\nrange\ndone\nrange\nmain len=0 cap=0:\nside len=0 cap=0:\n",
+    ),
+    (
+        b"reserve_exact 3\ninsert 0 1\ninsert 0 2\nremove 1\ntruncate 1\nshrink_to 2\n",
+        "done\ndone\ndone\nitem 1\ndone\ndone\nmain len=1 cap=2: 2\nside len=0 cap=0:\n",
+    ),
 ];
 
 // Scripts, and the number of the first bad line.
-const BAD_SCRIPTS: [(&[u8], u32); 18] = [
-    (b"push 1\ninsert 0 1\n", 2),
+const BAD_SCRIPTS: [(&[u8], u32); 22] = [
+    (b"push 1\ninsert 0\n", 2),
+    (b"insert 0 1 2\n", 1),
+    (b"insert 0 4294967296\n", 1),
+    (b"remove 18446744073709551616\n", 1),
+    (b"clear 1\n", 1),
     (b"push 1\npush\n", 2),
     (b"\npop x\n", 2),
     (b"pop x\npush\n", 1),

@@ -1,11 +1,61 @@
 use Rattle.std.proofs.Common.{[], rules}
+use Rattle.std.specs.Fn.{CalledAtMut, CalledAtPairMut}
+use Rattle.std.specs.Mem.{type_size}
+use denote.Param.{param}
+use Rattle.allocator_api2.specs.declared.runner.Command.TheVariants.{Reserve, ReserveExact, ShrinkTo}
+use Rattle.allocator_api2.specs.declared.runner.Reply.{Reply}
+use Rattle.allocator_api2.specs.Machine.{state_of}
+use Rattle.allocator_api2.specs.Run.{TakesStep}
+use Rattle.allocator_api2.proofs.Replies.{replied}
 use Rattle.allocator_api2.proofs.runner.step.Goals as goal
 
 pub returns-in-Ok : goal.returns-in-Ok
 returns-in-Ok g c = rw c.in-Push.is (record { answers = []; step = search rules; writes = search rules })
+
+pub returns-in-Ok-push_within_capacity : goal.returns-in-Ok-push_within_capacity
+returns-in-Ok-push_within_capacity g c = rw c.in-Within.is (record { answers = []; step = search rules; writes = search rules })
+
+pub returns-in-Err-push_within_capacity : goal.returns-in-Err-push_within_capacity
+returns-in-Err-push_within_capacity g c = rw c.in-Within.is (record { answers = []; step = search rules; writes = search rules })
 
 pub returns-in-Some : goal.returns-in-Some
 returns-in-Some g c = rw c.in-Pop.is (record { answers = []; step = search rules; writes = search rules })
 
 pub returns-in-None : goal.returns-in-None
 returns-in-None g c = rw c.in-Pop.is (record { answers = []; step = search rules; writes = search rules })
+
+pub returns-in-Ok-insert : goal.returns-in-Ok-insert
+returns-in-Ok-insert g c = rw c.in-Insert.is (record { answers = []; step = search rules; writes = search rules })
+
+pub returns-else-index-len-2 : goal.returns-else-index-len-2
+returns-else-index-len-2 g c = rw c.in-Remove.is (record { answers = []; step = search rules; writes = search rules })
+
+pub returns-else-index-len-3 : goal.returns-else-index-len-3
+returns-else-index-len-3 g c = rw c.in-SwapRemove.is (record { answers = []; step = search rules; writes = search rules })
+
+pub returns-in-Truncate : goal.returns-in-Truncate
+returns-in-Truncate g c = rw c.in-Truncate.is (record { answers = []; step = search rules; writes = search rules })
+
+pub returns-in-Clear : goal.returns-in-Clear
+returns-in-Clear g c = rw c.in-Clear.is (record { answers = []; step = search rules; writes = search rules })
+
+pub returns-in-Reserve : goal.returns-in-Reserve
+returns-in-Reserve g c =
+    let P : Reply g.row.T.Denot → Type 0 = λ reply. TakesStep (type_size (param 0 g.row.T)) (CalledAtMut g.K.FnMut) (CalledAtPairMut g.S.FnMut) (state_of c.args.main.now c.args.side.now c.args.keep.now c.args.same.now) (Reserve c.in-Reserve.additional) reply (state_of c.try_reserve.new.self c.args.side.now c.args.keep.now c.args.same.now) in
+    rw c.in-Reserve.is (replied P _ _ c.try_reserve.result c.done.result c.done.ensures c.try_reserve.ensures.made c.try_reserve.ensures.refused
+    (λ made. record { answers = []; step = search rules; writes = search rules })
+    (λ kind refused. record { answers = []; step = search rules; writes = search rules }))
+
+pub returns-in-ReserveExact : goal.returns-in-ReserveExact
+returns-in-ReserveExact g c =
+    let P : Reply g.row.T.Denot → Type 0 = λ reply. TakesStep (type_size (param 0 g.row.T)) (CalledAtMut g.K.FnMut) (CalledAtPairMut g.S.FnMut) (state_of c.args.main.now c.args.side.now c.args.keep.now c.args.same.now) (ReserveExact c.in-ReserveExact.additional) reply (state_of c.try_reserve_exact.new.self c.args.side.now c.args.keep.now c.args.same.now) in
+    rw c.in-ReserveExact.is (replied P _ _ c.try_reserve_exact.result c.done-in-ReserveExact.result c.done-in-ReserveExact.ensures c.try_reserve_exact.ensures.made c.try_reserve_exact.ensures.refused
+    (λ made. record { answers = []; step = search rules; writes = search rules })
+    (λ kind refused. record { answers = []; step = search rules; writes = search rules }))
+
+pub returns-in-ShrinkTo : goal.returns-in-ShrinkTo
+returns-in-ShrinkTo g c =
+    let P : Reply g.row.T.Denot → Type 0 = λ reply. TakesStep (type_size (param 0 g.row.T)) (CalledAtMut g.K.FnMut) (CalledAtPairMut g.S.FnMut) (state_of c.args.main.now c.args.side.now c.args.keep.now c.args.same.now) (ShrinkTo c.in-ShrinkTo.capacity) reply (state_of c.shrink_to.new.self c.args.side.now c.args.keep.now c.args.same.now) in
+    rw c.in-ShrinkTo.is (replied P _ _ c.shrink_to.result c.done-in-ShrinkTo.result c.done-in-ShrinkTo.ensures c.shrink_to.ensures.shrunk c.shrink_to.ensures.refused
+    (λ shrunk. record { answers = []; step = search rules; writes = search rules })
+    (λ kind refused. record { answers = []; step = search rules; writes = search rules }))

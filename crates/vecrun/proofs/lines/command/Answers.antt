@@ -1,10 +1,49 @@
 use Rattle.std.proofs.Common.{rules, refl}
-use Rattle.allocator_api2.specs.declared.runner.Command.TheVariants.{Push}
+use Rattle.allocator_api2.specs.declared.runner.Command.TheVariants.{Push, Within, Insert, Remove, SwapRemove, Truncate, Reserve, ReserveExact, ShrinkTo}
 use Rattle.vecrun.proofs.Mapped.{ReadsAs-map}
 use Rattle.vecrun.proofs.lines.command.Goals as goal
 
--- the name picks the form, and what `element` says of the words is said of the command
 pub returns-in-push : goal.returns-in-push
 returns-in-push c =
     let mapped = ReadsAs-map _ _ _ Push c.element.result c.map.result c.element.ensures (search rules) in
     rw c.in-push.is (mapped (λ x p. (x, p, refl)) (λ _ q. (q.0, q.1)))
+
+pub returns-in-within : goal.returns-in-within
+returns-in-within c =
+    let mapped = ReadsAs-map _ _ _ Within c.element-in-within.result c.map-in-within.result c.element-in-within.ensures (search rules) in
+    rw c.in-within.is (mapped (λ x p. (x, p, refl)) (λ _ q. (q.0, q.1)))
+
+pub returns-in-insert : goal.returns-in-insert
+returns-in-insert c =
+    let mapped = ReadsAs-map _ _ _ (λ p. Insert p.0 p.1) c.number_and_element.result c.map-in-insert.result c.number_and_element.ensures (search rules) in
+    rw c.in-insert.is (mapped (λ x p. (x, p, refl)) (λ _ q. (q.0, q.1)))
+
+pub returns-in-remove : goal.returns-in-remove
+returns-in-remove c =
+    let mapped = ReadsAs-map _ _ _ Remove c.number.result c.map-in-remove.result c.number.ensures (search rules) in
+    rw c.in-remove.is (mapped (λ x p. (x, p, refl)) (λ _ q. (q.0, q.1)))
+
+pub returns-in-swap_remove : goal.returns-in-swap_remove
+returns-in-swap_remove c =
+    let mapped = ReadsAs-map _ _ _ SwapRemove c.number-in-swap_remove.result c.map-in-swap_remove.result c.number-in-swap_remove.ensures (search rules) in
+    rw c.in-swap_remove.is (mapped (λ x p. (x, p, refl)) (λ _ q. (q.0, q.1)))
+
+pub returns-in-truncate : goal.returns-in-truncate
+returns-in-truncate c =
+    let mapped = ReadsAs-map _ _ _ Truncate c.number-in-truncate.result c.map-in-truncate.result c.number-in-truncate.ensures (search rules) in
+    rw c.in-truncate.is (mapped (λ x p. (x, p, refl)) (λ _ q. (q.0, q.1)))
+
+pub returns-in-reserve : goal.returns-in-reserve
+returns-in-reserve c =
+    let mapped = ReadsAs-map _ _ _ Reserve c.number-in-reserve.result c.map-in-reserve.result c.number-in-reserve.ensures (search rules) in
+    rw c.in-reserve.is (mapped (λ x p. (x, p, refl)) (λ _ q. (q.0, q.1)))
+
+pub returns-in-reserve_exact : goal.returns-in-reserve_exact
+returns-in-reserve_exact c =
+    let mapped = ReadsAs-map _ _ _ ReserveExact c.number-in-reserve_exact.result c.map-in-reserve_exact.result c.number-in-reserve_exact.ensures (search rules) in
+    rw c.in-reserve_exact.is (mapped (λ x p. (x, p, refl)) (λ _ q. (q.0, q.1)))
+
+pub returns-in-shrink_to : goal.returns-in-shrink_to
+returns-in-shrink_to c =
+    let mapped = ReadsAs-map _ _ _ ShrinkTo c.number-in-shrink_to.result c.map-in-shrink_to.result c.number-in-shrink_to.ensures (search rules) in
+    rw c.in-shrink_to.is (mapped (λ x p. (x, p, refl)) (λ _ q. (q.0, q.1)))

@@ -1,4 +1,4 @@
-use Rattle.std.proofs.Common.{◌≡◌, length, refl, sym, ap, ◌∙◌}
+use Rattle.std.proofs.Common.{length, refl, sym, ap, ◌∙◌}
 use Rattle.std.specs.List.{refill}
 use Rattle.aa_raw.proofs.Runs.{run-is}
 use Rattle.aa_vec.specs.Vector.{with_items}

@@ -1,4 +1,4 @@
-use Rattle.std.proofs.Common.{ap, ◌∙◌, ◌≡◌, sym, eq-eqb, arith, rules, length, []}
+use Rattle.std.proofs.Common.{ap, ◌∙◌, ◌≡◌, sym}
 use Rattle.aa_raw.proofs.Runs.{length-run}
 use Rattle.aa_vec.specs.Vector.{len}
 use Rattle.aa_vec.proofs.Lists.{no-items}

@@ -1,4 +1,4 @@
-use Rattle.std.proofs.Common.{sym, ap, ◌∙◌, arith, length}
+use Rattle.std.proofs.Common.{sym, ap, ◌∙◌, arith}
 use Rattle.aa_raw.proofs.Runs.{length-run}
 use Rattle.aa_vec.specs.Vector.{len}
 use Rattle.aa_vec.proofs.vec.Vec.len.Goals as goal

@@ -1,4 +1,4 @@
-use Rattle.std.proofs.Common.{◌≡◌, ◌+◌, ◌++◌, ◌∷◌, [], ap, subst, sym, arith, refl, false, true}
+use Rattle.std.proofs.Common.{◌≡◌, ◌+◌, ◌++◌, ◌∷◌, [], ap, subst, arith, refl, false, true}
 use Rattle.aa_vec.specs.Vector.{Vector, LacksRoom, HasRoom, GrowsTo}
 use Rattle.aa_vec.specs.Inner.{view_of}
 use Rattle.aa_vec.proofs.Room.{GrowsTo-put, LacksRoom-block}

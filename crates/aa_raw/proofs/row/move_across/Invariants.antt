@@ -1,0 +1,9 @@
+use Rattle.std.proofs.Common.{◌≡◌, take, drop, replicate, None}
+use Rattle.aa_raw.specs.Places.{with_run}
+use Rattle.aa_raw.proofs.row.move_across.Given as goal
+
+abbrev pub invariant-each : goal.invariant-each
+invariant-each g l = record {
+  here : (l.row.ptr ≡ l.fn.row.ptr) × (l.row.places ≡ with_run l.fn.row.places l.to l.i (take l.i (drop l.from l.fn.source.places)));
+  there : (l.source.ptr ≡ l.fn.source.ptr) × (l.source.places ≡ with_run l.fn.source.places l.from l.i (replicate l.i None));
+}

@@ -1,0 +1,6 @@
+use Rattle.std.proofs.Common.{◌≡◌, ◌+◌, ◌-◌}
+use Rattle.aa_raw.specs.Places.{moved}
+use Rattle.aa_raw.proofs.row.move_up.Given as goal
+
+abbrev pub invariant-up : goal.invariant-up
+invariant-up g l = (l.row.ptr ≡ l.fn.row.ptr) × (l.row.places ≡ moved l.fn.row.places (l.from + (l.count - l.i)) (l.to + (l.count - l.i)) l.i)

@@ -1,0 +1,13 @@
+-- What holds of the fields of an `IntoIter`.
+use Rattle.std.specs.Prelude.{◌-◌, ◌≤◌}
+use Rattle.aa_raw.specs.Places.{IsRun, run}
+use Rattle.aa_raw.specs.Left.{Left}
+use Rattle.aa_raw.specs.declared.vec.into_iter.IntoIter.TheInside.{Inside}
+
+module _ {X A : Type 0} where
+  abbrev pub left_of : Inside X A → Left X A
+  left_of v = record { items = run v.block.places v.front (v.back - v.front); alloc = v.block.alloc }
+
+  pub record IsBetween (v : Inside X A) : Type 0 where
+    pub between : v.front ≤ v.back
+    pub filled : IsRun v.block.places v.front (v.back - v.front)

@@ -1,0 +1,2 @@
+//! What a vector of the original gives up when it ends: the iterator over its items. The vector itself stands above this crate.
+pub mod into_iter;

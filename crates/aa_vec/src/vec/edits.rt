@@ -1,0 +1,110 @@
+//! Edits at a position, and elements taken away.
+ghost use Rattle.std.specs.Prelude.{◌≡◌, ◌+◌, ◌-◌, ◌<◌, ◌≤◌, [], ◌∷◌, ◌++◌, take, insert, remove, swap_remove, slice_get, Some, IfErr, OnOk, IsOk, if◌then◌else◌, ◌==◌};
+ghost use Rattle.std.specs.Mem.{type_size};
+ghost use Rattle.aa_vec.specs.Vector.{len, HasRoom, LacksRoom, GrowsTo, Holds, Writes, run_count};
+
+use crate::vec::Vec;
+use aa_raw::collections::Refused;
+use std::alloc::Allocator;
+
+impl<T, A: Allocator> Vec<T, A> {
+    /// Puts `value` behind the last element where the vector is not full, and hands it back where it is. It takes no memory. It
+    /// stands for `Vec::push_within_capacity`.
+    #[inline]
+    pub fn push_within_capacity(&mut self, value: T) -> Result<(), T>
+        ensures pushed { OnOk result ((len self.old < self.old.capacity) × Holds self.old (self.old.items ++ value ∷ []) self.new) }
+        ensures writes { OnOk result (Writes self.old 1 1 self.new) }
+        ensures full { IfErr result (λ x. (len self.old ≡ self.old.capacity) × (x ≡ value) × (self.new ≡ self.old)) }
+    {
+        let len = self.len;
+        if len == self.block.capacity() {
+            return Err(value);
+        }
+        self.block.put(len, value);
+        self.len = len + 1;
+        Ok(())
+    }
+
+    /// Puts `element` at `index`, which is at most the length, and moves those from there on up by one. It takes memory only where
+    /// the vector is full, and grows then with room to spare. A refusal hands the element back and changes nothing, as that of
+    /// `push`. It stands for `Vec::insert`.
+    pub fn insert(&mut self, index: usize, element: T) -> Result<(), Refused<T>>
+        requires { index ≤ len self.old }
+        ensures fits { HasRoom self.old 1 → IsOk result }
+        ensures inserted { OnOk result (GrowsTo (type_size T.row) self.old 1 (insert self.old.items index element) self.new) }
+        ensures writes { OnOk result (Writes self.old (len self.old - index + 1) (run_count (len self.old - index) + 1) self.new) }
+        ensures refused { IfErr result (λ r. (r.source ≡ element) × LacksRoom self.old 1 r.error × (self.new ≡ self.old)) }
+    {
+        let len = self.len;
+        if let Err(error) = self.block.reserve_for_push(len) {
+            return Err(Refused {
+                source: element,
+                error,
+            });
+        }
+        let _within = self.block.capacity();
+        self.block.move_run(index, index + 1, len - index);
+        self.block.put(index, element);
+        self.len = len + 1;
+        Ok(())
+    }
+
+    /// Takes the element at `index`, which is below the length, and moves those behind it down by one. The capacity stays. It
+    /// stands for `Vec::remove`.
+    pub fn remove(&mut self, index: usize) -> T
+        requires { index < len self.old }
+        ensures value { slice_get self.old.items index ≡ Some result }
+        ensures items { Holds self.old (remove self.old.items index) self.new }
+        ensures writes { Writes self.old (len self.old - index - 1) (run_count (len self.old - index - 1)) self.new }
+    {
+        let last = self.len - 1;
+        let value = self.block.take(index);
+        let _within = self.block.capacity();
+        self.block.move_run(index + 1, index, last - index);
+        self.len = last;
+        value
+    }
+
+    /// Takes the element at `index`, which is below the length, and puts the last element there. The capacity stays. It stands
+    /// for `Vec::swap_remove`.
+    pub fn swap_remove(&mut self, index: usize) -> T
+        requires { index < len self.old }
+        ensures value { slice_get self.old.items index ≡ Some result }
+        ensures items { Holds self.old (swap_remove self.old.items index result) self.new }
+        ensures writes { let moved = run_count (len self.old - index - 1) in Writes self.old moved moved self.new }
+    {
+        let last = self.len - 1;
+        let value = self.block.take(index);
+        if index < last {
+            self.block.move_one(last, index);
+        }
+        self.len = last;
+        value
+    }
+
+    /// Drops all but the first `len` elements; where there are no more than that, it does nothing. The capacity stays. It stands
+    /// for `Vec::truncate`.
+    pub fn truncate(&mut self, len: usize)
+    where
+        T: Drop,
+        ensures items { Holds self.old (take len self.old.items) self.new }
+        ensures writes { Writes self.old 0 0 self.new }
+    {
+        if self.len <= len {
+            return;
+        }
+        let count = self.len - len;
+        self.len = len;
+        self.block.drop_run(len, count);
+    }
+
+    /// Drops all elements. The capacity stays. It stands for `Vec::clear`.
+    pub fn clear(&mut self)
+    where
+        T: Drop,
+        ensures items { Holds self.old [] self.new }
+        ensures writes { Writes self.old 0 0 self.new }
+    {
+        self.truncate(0);
+    }
+}

@@ -1,0 +1,28 @@
+-- Laws that users of the vector rely on, over the steps of the list machine.
+use Rattle.std.specs.Prelude.{ℕ, ◌≤◌, Bool, List, length, map, ⊤}
+use Rattle.std.specs.List.{AllByRecursion}
+use Rattle.allocator_api2.specs.declared.runner.Command.{Command}
+use Rattle.allocator_api2.specs.declared.runner.Command.TheVariants.{Within, Reserve}
+use Rattle.allocator_api2.specs.declared.runner.Reply.{Reply}
+use Rattle.allocator_api2.specs.declared.runner.Reply.TheVariants.{Done}
+use Rattle.allocator_api2.specs.Machine.{State, Step}
+use Rattle.allocator_api2.specs.Run.{Turn, IsRun}
+
+-- the command pushes within the capacity
+abbrev pub PushesWithin : {T : Type 0} → Command T → Type 0
+PushesWithin (Within x) = ⊤
+PushesWithin command = ⊥
+
+abbrev pub IsDone : {T : Type 0} → Reply T → Type 0
+IsDone Done = ⊤
+IsDone reply = ⊥
+
+-- after a reserve of k more that was done, the next k commands, all of them pushes within the capacity, are done
+abbrev pub ReserveHolds : {T K S : Type 0} (A : Type 0) (size : ℕ) → (K → T → Bool → K → T → Type 0) → (S → T → T → Bool → S → T → T → Type 0) → Type 0
+ReserveHolds {T} {K} {S} A size Keeps Repeats =
+    (k : ℕ) (old mid : State T A K S) (answers : List Bool) (turns : List (Turn T A K S)) (new : State T A K S)
+    → Step size Keeps Repeats old (Reserve k) answers Done mid
+    → IsRun size Keeps Repeats mid turns new
+    → length turns ≤ k
+    → AllByRecursion PushesWithin (map (λ t. t.command) turns)
+    → AllByRecursion IsDone (map (λ t. t.reply) turns)
