@@ -4,6 +4,8 @@
 #[cfg(test)]
 mod block_refusals;
 #[cfg(test)]
+mod many_refusals;
+#[cfg(test)]
 mod refusals;
 #[cfg(test)]
 mod runs;

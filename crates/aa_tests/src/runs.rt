@@ -9,7 +9,7 @@ use std::test::Fail;
 // The numbers 0 to 8 are pushed and the last one popped.
 fn nine_pushes_and_a_pop<'a>(
     heap: &'a Faulty<Global>,
-) -> Result<Vec<Command<u32>, &'a Faulty<Global>>, TryReserveError> {
+) -> Result<Vec<Command<u32, &'a Faulty<Global>>, &'a Faulty<Global>>, TryReserveError> {
     let mut commands = Vec::with_capacity_in(10, heap)?;
     for x in 0..9 {
         commands.push(Command::Push(x))?;

@@ -1,7 +1,15 @@
+pub mod Blocks
+pub mod Climbing
+pub mod Copied
+pub mod Counted
+pub mod Extending
+pub mod Filled
 pub mod Fronts
+pub mod Joining
 pub mod Lists
 pub mod Making
 pub mod Positions
 pub mod Refilled
 pub mod Room
 pub mod Shrinking
+pub mod Turns

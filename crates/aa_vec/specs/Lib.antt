@@ -4,3 +4,5 @@ pub use Rattle.aa_raw.specs.Places
 pub mod Vector
 pub mod Inner
 pub mod Lends
+pub mod Copies
+pub mod Extending

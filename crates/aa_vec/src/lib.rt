@@ -2,5 +2,9 @@
 #![tactic(auto)]
 
 #[cfg(test)]
+mod copies_tests;
+#[cfg(test)]
+mod extend_tests;
+#[cfg(test)]
 mod tests;
 pub mod vec;

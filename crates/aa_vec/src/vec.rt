@@ -14,7 +14,13 @@ use std::default::Default;
 use std::marker::Model;
 
 mod access;
+mod copies;
 mod edits;
+mod extend;
+pub mod items;
+mod joins;
+mod makes;
+mod plain_copies;
 mod room;
 
 /// A growable list over the allocator `A`. It stands for `allocator_api2::vec::Vec`; a call that takes memory answers a `Result`

@@ -1,6 +1,9 @@
+pub mod Cuts
 pub mod WholeRuns
+pub mod Joined
 pub mod Paid
 pub mod Replies
 pub mod Reserved
 pub mod Runs
 pub mod Steps
+pub mod Stops

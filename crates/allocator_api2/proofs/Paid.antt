@@ -1,10 +1,12 @@
 -- What a vector was moved by growth is paid for by what was added to it.
-use Rattle.std.proofs.Common.{◌≡◌, ℕ, ◌+◌, ◌*◌, ◌-◌, ◌<◌, ◌≤◌, max, List, length, ap, ◌∙◌, arith, inl, inr}
+use Rattle.std.proofs.Common.{◌≡◌, ℕ, ◌+◌, ◌*◌, ◌-◌, ◌<◌, ◌≤◌, min, max, List, length, Option, None, ap, subst, ◌∙◌, arith, inl, inr}
 use Rattle.aa_raw.specs.declared.raw_vec.Growth.{Growth}
 use Rattle.aa_raw.specs.declared.raw_vec.Growth.TheVariants.{Doubling, Sparing}
 use Rattle.aa_raw.specs.Growth.{amortized, least_of}
 use Rattle.aa_vec.specs.Vector.{Vector, len, SameBlock, GrowsTo}
 use Rattle.allocator_api2.specs.Run.{moves_each}
+use Rattle.aa_vec.specs.Extending.{Climbs, stays, grows, asked_for, lower_by}
+use Rattle.aa_vec.proofs.Climbing.{Climbs-rises, Climbs-growth}
 use Rattle.allocator_api2.proofs.Steps.{Change}
 
 -- c places were not enough for `needed` elements: of what was moved by then, the new capacity pays all but the last move
@@ -70,11 +72,42 @@ module _ {T A : Type 0} (size : ℕ) (G : Growth) (paid : ℕ) where
             }
       ]
 
-  pub IsPaid-change : (n k : ℕ) (old new : Vector T A) → IsPaid n old → Change size old k new → IsPaid (n + k) new
-  IsPaid-change n k old new p c =
+  -- each growth of a climb is paid, the last of them by what is there at its end
+  climb_paid : (lower : ℕ → ℕ) (needed k : ℕ) (u v : Vector T A) → Climbs size lower needed u v → min needed v.capacity ≤ k → u.growth ≡ G
+      → u.grown ≤ paid + (moves_each G - 1) * u.capacity → u.grown ≤ paid + moves_each G * k
+      → (v.grown ≤ paid + (moves_each G - 1) * v.capacity) × (v.grown ≤ paid + moves_each G * k)
+  climb_paid lower needed k u v (stays b) h g p q = (rw (b.grown, b.capacity) p, rw b.grown q)
+  climb_paid lower needed k u v (grows {mid = mid} lt (inl m) r) h g p q =
+      climb_paid lower needed k mid v r h (m.1.growth ∙ g) (rw (m.1.grown, m.1.capacity) p) (rw m.1.grown q)
+  climb_paid lower needed k u v (grows {mid = mid} lt (inr m) r) h g p q =
+      let b = m.1 in let c : ℕ = u.capacity in let more : ℕ = asked_for lower (needed - c) in let least : ℕ = least_of size in
+      let places : mid.capacity ≡ amortized G c (c + more) least = b.capacity ∙ ap (λ x. amortized x c (c + more) least) g in
+      let rises : mid.capacity ≤ v.capacity = Climbs-rises size lower needed r in
+      let enough : c + more ≤ mid.capacity = rw places (amortized-enough G c (c + more) least) in
+      let some : c < c + more = omega (arith, m.0) in
+      climb_paid lower needed k mid v r h (b.growth ∙ g)
+      (rw (b.grown, places) (grown_pays G paid u.grown c c (c + more) least (omega arith) some p))
+      (rw b.grown (all_pays G paid u.grown c c k (omega (arith, h, lt, rises, enough)) (omega (arith, h, lt, rises, enough)) p))
+
+  IsPaid-climbs : (lower : ℕ → ℕ) (needed n k : ℕ) (old new : Vector T A) → IsPaid n old → Climbs size lower needed old new → len new ≡ len old + k → len new ≤ new.capacity → min needed new.capacity ≤ len new → IsPaid (n + k) new
+  IsPaid-climbs lower needed n k old new p c l f h =
+      let ends = climb_paid lower needed (n + k) old new c (omega (arith, h, l, p.counted)) p.growth p.places (moves_each-more G paid old.grown n (n + k) (omega arith) p.moved) in
+      record {
+        growth = Climbs-growth size lower needed c ∙ p.growth;
+        fits = f;
+        counted = omega (arith, l, p.counted);
+        places = ends.0;
+        moved = ends.1;
+      }
+
+  pub IsPaid-change : (hint : Option ℕ) (n k : ℕ) (old new : Vector T A) → IsPaid n old → Change size hint old k new → IsPaid (n + k) new
+  IsPaid-change hint n k old new p c =
       elim c [
         | inl h ↦ IsPaid-same n k old new p h.block h.longest (h.fits p.fits)
-        | inr h ↦ IsPaid-grows n k old h.items new p h.count h.grows
+        | inr h ↦ elim h [
+          | inl g ↦ IsPaid-grows n k old g.items new p g.count g.grows
+          | inr g ↦ IsPaid-climbs (lower_by hint) g.needed n k old new p g.climbs g.count g.fits g.full
+        ]
       ]
 
 module _ {T A : Type 0} (size : ℕ) where
@@ -83,19 +116,40 @@ module _ {T A : Type 0} (size : ℕ) where
     pub fits : len v ≤ v.capacity
     pub capacity : v.capacity ≤ max 8 (2 * most)
 
-  pub IsPlaced-change : (most k : ℕ) (old new : Vector T A) → IsPlaced most old → Change size old k new → IsPlaced (max most (len new)) new
-  IsPlaced-change most k old new p c =
+  -- a climb that is told no more than are to come asks for no more than it needs
+  climb_placed : (needed most : ℕ) (u v : Vector T A) → Climbs size (lower_by None) needed u v → min needed v.capacity ≤ most → u.capacity ≤ max 8 (2 * most) → v.capacity ≤ max 8 (2 * most)
+  climb_placed needed most u v (stays b) h p = rw b.capacity p
+  climb_placed needed most u v (grows {mid = mid} lt (inl m) r) h p = climb_placed needed most mid v r h (rw m.1.capacity p)
+  climb_placed needed most u v (grows {mid = mid} lt (inr m) r) h p =
+      let b = m.1 in let c : ℕ = u.capacity in let more : ℕ = asked_for (lower_by None) (needed - c) in let least : ℕ = least_of size in
+      let rises : mid.capacity ≤ v.capacity = Climbs-rises size (lower_by None) needed r in
+      let enough : c + more ≤ mid.capacity = rw b.capacity (amortized-enough u.growth c (c + more) least) in
+      let some : c < c + more = omega (arith, m.0) in
+      climb_placed needed most mid v r h (rw b.capacity (amortized-within u.growth c (c + more) least most some (omega (arith, h, lt, rises, enough)) (least_of-le size)))
+
+  IsPlaced-climbs : (needed most : ℕ) (old new : Vector T A) → IsPlaced most old → Climbs size (lower_by None) needed old new → len new ≤ new.capacity → min needed new.capacity ≤ len new → IsPlaced (max most (len new)) new
+  IsPlaced-climbs needed most old new p c f h =
+      record { fits = f; capacity = climb_placed needed (max most (len new)) old new c (omega (arith, h)) (omega (arith, p.capacity)) }
+
+  IsPlaced-grows : (most k : ℕ) (old : Vector T A) (xs : List T) (new : Vector T A) → IsPlaced most old → length xs ≡ len old + k → GrowsTo size old k xs new → IsPlaced (max most (len new)) new
+  IsPlaced-grows most k old xs new p e g =
+      let l : len new ≡ len old + k = ap length g.items ∙ e in
+      elim g.room [
+        | inl r ↦ record { fits = omega (arith, p.fits, r.0, r.1.capacity); capacity = omega (arith, r.1.capacity, p.capacity) }
+        | inr r ↦
+            let m : ℕ = least_of size in
+            record {
+              fits = rw (l, r.1.capacity) (amortized-enough old.growth old.capacity (len old + k) m);
+              capacity = rw (l, r.1.capacity) (amortized-within old.growth old.capacity (len old + k) m (max most (len old + k)) (omega (arith, p.fits, r.0)) (omega arith) (least_of-le size));
+            }
+      ]
+
+  pub IsPlaced-change : (hint : Option ℕ) → hint ≡ None → (most k : ℕ) (old new : Vector T A) → IsPlaced most old → Change size hint old k new → IsPlaced (max most (len new)) new
+  IsPlaced-change hint none most k old new p c =
       elim c [
         | inl h ↦ record { fits = omega (arith, h.fits p.fits, h.block.capacity); capacity = omega (arith, h.block.capacity, p.capacity) }
-        | inr h ↦
-            let l : len new ≡ len old + k = ap length h.grows.items ∙ h.count in
-            elim h.grows.room [
-              | inl r ↦ record { fits = omega (arith, p.fits, r.0, r.1.capacity); capacity = omega (arith, r.1.capacity, p.capacity) }
-              | inr r ↦
-                  let m : ℕ = least_of size in
-                  record {
-                    fits = rw (l, r.1.capacity) (amortized-enough old.growth old.capacity (len old + k) m);
-                    capacity = rw (l, r.1.capacity) (amortized-within old.growth old.capacity (len old + k) m (max most (len old + k)) (omega (arith, p.fits, r.0)) (omega arith) (least_of-le size));
-                  }
-            ]
+        | inr h ↦ elim h [
+          | inl g ↦ IsPlaced-grows most k old g.items new p g.count g.grows
+          | inr g ↦ IsPlaced-climbs g.needed most old new p (subst (λ x. Climbs size (lower_by x) g.needed old new) none g.climbs) g.fits g.full
+        ]
       ]

@@ -25,7 +25,7 @@ module _ {T A : Type 0} (size : ℕ) where
 
   module _ {K S : Type 0} (Keeps : K → T → Bool → K → T → Type 0) (Repeats : S → T → T → Bool → S → T → T → Type 0) where
     -- a push within the capacity finds room, and leaves room for one fewer
-    step_done : (k : ℕ) (old : State T A K S) (command : Command T) (answers : List Bool) (reply : Reply T) (new : State T A K S)
+    step_done : (k : ℕ) (old : State T A K S) (command : Command T A) (answers : List Bool) (reply : Reply T) (new : State T A K S)
         → HasRoom old.main (k + 1) → PushesWithin command → Step size Keeps Repeats old command answers reply new → IsDone reply × HasRoom new.main k
     step_done k old (Within x) answers Done new h p s =
         (tt, omega (arith, h, ap length s.1.3.items, length-append old.main.items (x ∷ []), s.1.3.block.capacity))

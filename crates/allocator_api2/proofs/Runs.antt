@@ -15,17 +15,17 @@ module _ {T A K S : Type 0} (size : ℕ) (Keeps : K → T → Bool → K → T �
   IsRun-more old (u ∷ ts) mid t r s = (r.0, r.1, r.2, IsRun-more u.after ts mid t r.3 s)
 
   -- of all commands those of `rest`, in turned order, are still to come
-  pub record HasRun (old : State T A K S) (all : List (Command T)) (before : List (Reply T)) (rest : List (Command T)) (replies : List (Reply T)) (now : State T A K S) : Type 0 where
+  pub record HasRun (old : State T A K S) (all : List (Command T A)) (before : List (Reply T)) (rest : List (Command T A)) (replies : List (Reply T)) (now : State T A K S) : Type 0 where
     pub turns : List (Turn T A K S)
     pub run : IsRun size Keeps Repeats old turns now
     pub told : map (λ t. t.command) turns ++ reverse rest ≡ all
     pub answered : replies ≡ before ++ map (λ t. t.reply) turns
 
-  pub HasRun-start : (old : State T A K S) (all : List (Command T)) (before : List (Reply T)) (rest : List (Command T)) → rest ≡ reverse all → HasRun old all before rest before old
+  pub HasRun-start : (old : State T A K S) (all : List (Command T A)) (before : List (Reply T)) (rest : List (Command T A)) → rest ≡ reverse all → HasRun old all before rest before old
   HasRun-start old all before rest e =
       record { turns = []; run = refl; told = ap reverse e ∙ reverse-reverse all; answered = sym (append-nil before) }
 
-  pub HasRun-more : {old : State T A K S} {all : List (Command T)} {before replies replies' : List (Reply T)} {rest rest' : List (Command T)} {now new : State T A K S} {command : Command T} {reply : Reply T} → HasRun old all before rest replies now → rest ≡ rest' ++ command ∷ [] → TakesStep size Keeps Repeats now command reply new → replies' ≡ replies ++ reply ∷ [] → HasRun old all before rest' replies' new
+  pub HasRun-more : {old : State T A K S} {all : List (Command T A)} {before replies replies' : List (Reply T)} {rest rest' : List (Command T A)} {now new : State T A K S} {command : Command T A} {reply : Reply T} → HasRun old all before rest replies now → rest ≡ rest' ++ command ∷ [] → TakesStep size Keeps Repeats now command reply new → replies' ≡ replies ++ reply ∷ [] → HasRun old all before rest' replies' new
   HasRun-more {old = old} {before = before} {rest = rest} {rest' = rest'} {now = now} {new} {command} {reply} h e s e' =
       let t : Turn T A K S = record { before = now; command = command; answers = s.answers; reply = reply; after = new } in
       record {
@@ -36,7 +36,7 @@ module _ {T A K S : Type 0} (size : ℕ) (Keeps : K → T → Bool → K → T �
       }
 
   -- a run with no command to come
-  pub HasRun-end : {old : State T A K S} {all : List (Command T)} {before replies : List (Reply T)} {rest : List (Command T)} {now : State T A K S} → HasRun old all before rest replies now → rest ≡ [] → (answered : List (Reply T)) × (replies ≡ before ++ answered) × RunsTo size Keeps Repeats old all answered now
+  pub HasRun-end : {old : State T A K S} {all : List (Command T A)} {before replies : List (Reply T)} {rest : List (Command T A)} {now : State T A K S} → HasRun old all before rest replies now → rest ≡ [] → (answered : List (Reply T)) × (replies ≡ before ++ answered) × RunsTo size Keeps Repeats old all answered now
   HasRun-end {old = old} {all = all} {now = now} h e =
       let told : map (λ t. t.command) h.turns ≡ all = sym (append-nil _) ∙ subst (λ xs. map (λ t. t.command) h.turns ++ reverse xs ≡ all) e h.told in (
         map (λ t. t.reply) h.turns,

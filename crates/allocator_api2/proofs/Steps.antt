@@ -1,14 +1,16 @@
--- What a step of the list machine does to main: it stays in its block, or has grown once.
-use Rattle.std.proofs.Common.{◌≡◌, ℕ, suc, ◌+◌, ◌-◌, ◌≤◌, Bool, List, [], ◌∷◌, length, take, drop, refl, ap, ◌∙◌, arith, ◌⊎◌, inl, inr, length-take, length-drop, length-set}
+-- What a step of the list machine does to main: it stays in its block, has grown once, or climbed while it was full.
+use Rattle.std.proofs.Common.{◌≡◌, ℕ, suc, ◌+◌, ◌-◌, ◌≤◌, min, Bool, List, [], ◌∷◌, length, take, drop, Option, refl, ap, ◌∙◌, arith, ◌⊎◌, inl, inr, length-take, length-drop, length-set}
 use Rattle.std.specs.Prelude.{insert, remove, swap_remove, slice_set, slice_index_or}
 use Rattle.std.proofs.lemmas.List.{length-append}
 use Rattle.aa_vec.specs.Vector.{Vector, len, SameBlock, GrowsTo, Holds}
 use Rattle.allocator_api2.specs.declared.runner.Command.{Command}
-use Rattle.allocator_api2.specs.declared.runner.Command.TheVariants.{Push, Within, Pop, Insert, Remove, SwapRemove, Truncate, Clear}
+use Rattle.allocator_api2.specs.declared.runner.Command.TheVariants.{Push, Within, Pop, Insert, Remove, SwapRemove, Truncate, Clear, Append, Extend}
 use Rattle.allocator_api2.specs.declared.runner.Reply.{Reply}
 use Rattle.allocator_api2.specs.declared.runner.Reply.TheVariants.{Done, Item, Nothing, Back, Refused, Range}
+use Rattle.aa_vec.specs.Extending.{Climbs, ExtendsAll, ExtendsFull, lower_by}
+use Rattle.aa_raw.specs.declared.collections.TryReserveErrorKind.{TryReserveErrorKind}
 use Rattle.allocator_api2.specs.Machine.{State, Step}
-use Rattle.allocator_api2.specs.Run.{IsUnhinted, added_by}
+use Rattle.allocator_api2.specs.Run.{AddsOrRemoves, hint_of, added_by}
 
 module _ {T : Type 0} where
   length-insert : (xs : List T) (i : ℕ) (x : T) → i ≤ length xs → length (insert xs i x) ≡ length xs + 1
@@ -38,21 +40,43 @@ module _ {T A : Type 0} (size : ℕ) where
     pub count : length items ≡ len old + k
     pub grows : GrowsTo size old k items new
 
-  abbrev pub Change : Vector T A → ℕ → Vector T A → Type 0
-  Change old k new = StaysInBlock old k new ⊎ HasGrown old k new
+  -- or grew while it was full, told of items to come, and has k more. What it needed, or what it has places for, it has now
+  pub record HasClimbed (hint : Option ℕ) (old : Vector T A) (k : ℕ) (new : Vector T A) : Type 0 where
+    pub needed : ℕ
+    pub climbs : Climbs size (lower_by hint) needed old new
+    pub count : len new ≡ len old + k
+    pub fits : len new ≤ new.capacity
+    pub full : min needed new.capacity ≤ len new
 
-  shrinks : (old : Vector T A) (xs : List T) (new : Vector T A) → length xs ≤ len old → Holds old xs new → Change old 0 new
+  abbrev pub Change : Option ℕ → Vector T A → ℕ → Vector T A → Type 0
+  Change hint old k new = StaysInBlock old k new ⊎ (HasGrown old k new ⊎ HasClimbed hint old k new)
+
+  shrinks : {hint : Option ℕ} (old : Vector T A) (xs : List T) (new : Vector T A) → length xs ≤ len old → Holds old xs new → Change hint old 0 new
   shrinks old xs new h b = inl (record { block = b.block; longest = omega (arith, ap length b.items); fits = λ f. omega (arith, ap length b.items) })
 
-  adds : (old : Vector T A) (k : ℕ) (xs : List T) (new : Vector T A) → length xs ≡ len old + k → GrowsTo size old k xs new → Change old k new
-  adds old k xs new h g = inr (record { items = xs; count = h; grows = g })
+  adds : {hint : Option ℕ} (old : Vector T A) (k : ℕ) (xs : List T) (new : Vector T A) → length xs ≡ len old + k → GrowsTo size old k xs new → Change hint old k new
+  adds old k xs new h g = inr (inl (record { items = xs; count = h; grows = g }))
+
+  extends : (hint : Option ℕ) (old : Vector T A) (added : List T) (new : Vector T A) → ExtendsAll size (lower_by hint) old old.items added new → Change hint old (len new - len old) new
+  extends hint old added new e =
+      let l : len new ≡ len old + length added = ap length e.items ∙ length-append old.items added in
+      inr (inr (record { needed = len old + length added; climbs = e.climbs; count = omega (arith, l); fits = omega (arith, l, e.enough); full = omega (arith, l) }))
+
+  stops : (hint : Option ℕ) (old : Vector T A) (added : List T) (error : TryReserveErrorKind) (new : Vector T A) → ExtendsFull size (lower_by hint) old old.items added error new → Change hint old (len new - len old) new
+  stops hint old added error new e =
+      let l : len new ≡ len old + length e.front = ap length e.items ∙ length-append old.items e.front in
+      let full = e.full in
+      inr (inr (record { needed = len old + length added; climbs = e.climbs; count = omega (arith, l); fits = omega (arith, l, full); full = omega (arith, l, full) }))
 
   module _ {K S : Type 0} where
-    same : (old new : State T A K S) → new ≡ old → Change old.main 0 new.main
+    same : {hint : Option ℕ} (old new : State T A K S) → new ≡ old → Change hint old.main 0 new.main
     same old new e = rw e (shrinks old.main old.main.items old.main (omega arith) (record { items = refl; block = record { capacity = refl; growth = refl; grown = refl; alloc = refl } }))
 
+    same_length : {hint : Option ℕ} (old new : State T A K S) → new ≡ old → Change hint old.main (len new.main - len old.main) new.main
+    same_length old new e = rw e (let none : len old.main - len old.main ≡ 0 = omega arith in rw none (same old old refl))
+
     module _ (Keeps : K → T → Bool → K → T → Type 0) (Repeats : S → T → T → Bool → S → T → T → Type 0) where
-      pub change_of : (old : State T A K S) (command : Command T) (answers : List Bool) (reply : Reply T) (new : State T A K S) → IsUnhinted command → Step size Keeps Repeats old command answers reply new → Change old.main (added_by old command reply new) new.main
+      pub change_of : (old : State T A K S) (command : Command T A) (answers : List Bool) (reply : Reply T) (new : State T A K S) → AddsOrRemoves command → Step size Keeps Repeats old command answers reply new → Change (hint_of command) old.main (added_by old command reply new) new.main
       change_of old (Push x) answers Done new a s = adds old.main 1 _ new.main (length-append old.main.items (x ∷ [])) s.1.2
       change_of old (Push x) answers (Refused kind) new a s = same old new s.3
       change_of old (Push x) answers Range new a s = same old new s.2
@@ -90,4 +114,12 @@ module _ {T A : Type 0} (size : ℕ) where
       change_of old Clear answers (Refused kind) new a s = same old new s.3
       change_of old Clear answers Range new a s = same old new s.2
       change_of old Clear answers _ new a s = absurd s.1
+      change_of old Append answers Done new a s = adds old.main (len old.side) _ new.main (length-append old.main.items old.side.items) s.1.3
+      change_of old Append answers (Refused kind) new a s = same old new s.3
+      change_of old Append answers Range new a s = same old new s.2
+      change_of old Append answers _ new a s = absurd s.1
+      change_of old (Extend items hint) answers Done new a s = extends hint old.main items.items new.main s.1.2
+      change_of old (Extend items hint) answers (Refused kind) new a s = stops hint old.main items.items kind new.main s.3.1
+      change_of old (Extend items hint) answers Range new a s = same_length old new s.2
+      change_of old (Extend items hint) answers _ new a s = absurd s.1
       change_of old command answers reply new a s = absurd a

@@ -7,7 +7,7 @@ use Rattle.aa_vec.specs.Vector.{len}
 use Rattle.allocator_api2.specs.declared.runner.Command.{Command}
 use Rattle.allocator_api2.specs.declared.runner.Reply.{Reply}
 use Rattle.allocator_api2.specs.Machine.{State, Step}
-use Rattle.allocator_api2.specs.Run.{Turn, IsRun, AddsOrRemoves, IsUnhinted, added, added_by, cost, greatest_length, moves_each}
+use Rattle.allocator_api2.specs.Run.{Turn, IsRun, AddsOrRemoves, IsUnhinted, hint_of, added, added_by, cost, greatest_length, moves_each}
 use Rattle.allocator_api2.proofs.Paid.{IsPaid, IsPaid-change, IsPlaced, IsPlaced-change}
 use Rattle.allocator_api2.proofs.Steps.{change_of}
 
@@ -21,8 +21,8 @@ module _ {T A K S : Type 0} (size : ℕ) (Keeps : K → T → Bool → K → T �
       omega (arith, r.2)
 
   -- what is added is paid for, step by step
-  paid_step : (G : Growth) (paid n : ℕ) (old : State T A K S) (command : Command T) (answers : List Bool) (reply : Reply T) (new : State T A K S) → IsPaid size G paid n old.main → AddsOrRemoves command → Step size Keeps Repeats old command answers reply new → IsPaid size G paid (n + added_by old command reply new) new.main
-  paid_step G paid n old command answers reply new p a s = IsPaid-change size G paid n _ old.main new.main p (change_of size Keeps Repeats old command answers reply new a s)
+  paid_step : (G : Growth) (paid n : ℕ) (old : State T A K S) (command : Command T A) (answers : List Bool) (reply : Reply T) (new : State T A K S) → IsPaid size G paid n old.main → AddsOrRemoves command → Step size Keeps Repeats old command answers reply new → IsPaid size G paid (n + added_by old command reply new) new.main
+  paid_step G paid n old command answers reply new p a s = IsPaid-change size G paid (hint_of command) n _ old.main new.main p (change_of size Keeps Repeats old command answers reply new a s)
 
   paid_run : (G : Growth) (paid n : ℕ) (old : State T A K S) (ts : List (Turn T A K S)) (new : State T A K S) → IsRun size Keeps Repeats old ts new → IsPaid size G paid n old.main → AllByRecursion AddsOrRemoves (map (λ t. t.command) ts) → IsPaid size G paid (n + sum_by added ts) new.main
   paid_run G paid n old [] new r p a = rw (r, add-zero) p
@@ -41,7 +41,7 @@ module _ {T A K S : Type 0} (size : ℕ) (Keeps : K → T → Bool → K → T �
   placed_run : (most : ℕ) (old : State T A K S) (ts : List (Turn T A K S)) (new : State T A K S) → IsRun size Keeps Repeats old ts new → IsPlaced size most old.main → AllByRecursion IsUnhinted (map (λ t. t.command) ts) → IsPlaced size (max most (greatest_length ts)) new.main
   placed_run most old [] new r p a = rw r (let e : max most 0 ≡ most = omega arith in rw e p)
   placed_run most old (t ∷ ts) new r p a =
-      let q = IsPlaced-change size most _ t.before.main t.after.main (rw r.0 p) (change_of size Keeps Repeats t.before t.command t.answers t.reply t.after a.0 r.1) in
+      let q = IsPlaced-change size (hint_of t.command) a.0.1 most _ t.before.main t.after.main (rw r.0 p) (change_of size Keeps Repeats t.before t.command t.answers t.reply t.after a.0.0 r.1) in
       let e : max most (greatest_length (t ∷ ts)) ≡ max (max most (len t.after.main)) (greatest_length ts) = omega arith in
       subst (λ k. IsPlaced size k new.main) (sym e) (placed_run (max most (len t.after.main)) t.after ts new r.3 q a.1)
 

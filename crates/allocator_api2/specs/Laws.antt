@@ -1,15 +1,15 @@
 -- Laws that users of the vector rely on, over the steps of the list machine.
-use Rattle.std.specs.Prelude.{ℕ, ◌≤◌, Bool, List, length, map, ⊤}
+use Rattle.std.specs.Prelude.{◌≡◌, ℕ, ◌≤◌, Bool, List, length, map, ⊤}
 use Rattle.std.specs.List.{AllByRecursion}
 use Rattle.allocator_api2.specs.declared.runner.Command.{Command}
-use Rattle.allocator_api2.specs.declared.runner.Command.TheVariants.{Within, Reserve}
+use Rattle.allocator_api2.specs.declared.runner.Command.TheVariants.{Within, Reserve, SplitOff, Append}
 use Rattle.allocator_api2.specs.declared.runner.Reply.{Reply}
 use Rattle.allocator_api2.specs.declared.runner.Reply.TheVariants.{Done}
 use Rattle.allocator_api2.specs.Machine.{State, Step}
 use Rattle.allocator_api2.specs.Run.{Turn, IsRun}
 
 -- the command pushes within the capacity
-abbrev pub PushesWithin : {T : Type 0} → Command T → Type 0
+abbrev pub PushesWithin : {T A : Type 0} → Command T A → Type 0
 PushesWithin (Within x) = ⊤
 PushesWithin command = ⊥
 
@@ -26,3 +26,11 @@ ReserveHolds {T} {K} {S} A size Keeps Repeats =
     → length turns ≤ k
     → AllByRecursion PushesWithin (map (λ t. t.command) turns)
     → AllByRecursion IsDone (map (λ t. t.reply) turns)
+
+-- a list that is cut at an index, and then joined to what was cut off, is as it was
+abbrev pub CutIsJoined : {T K S : Type 0} (A : Type 0) (size : ℕ) → (K → T → Bool → K → T → Type 0) → (S → T → T → Bool → S → T → T → Type 0) → Type 0
+CutIsJoined {T} {K} {S} A size Keeps Repeats =
+    (at : ℕ) (old mid new : State T A K S) (answers more : List Bool)
+    → Step size Keeps Repeats old (SplitOff at) answers Done mid
+    → Step size Keeps Repeats mid Append more Done new
+    → new.main.items ≡ old.main.items

@@ -1,11 +1,11 @@
 -- Whole runs of the list machine, and what is counted on them.
-use Rattle.std.specs.Prelude.{◌≡◌, ℕ, ◌+◌, ◌-◌, ◌*◌, ◌≤◌, max, Bool, List, [], ◌∷◌, map, sum_by, ⊤}
+use Rattle.std.specs.Prelude.{◌≡◌, ℕ, ◌+◌, ◌-◌, ◌*◌, ◌≤◌, max, Bool, List, [], ◌∷◌, map, sum_by, Option, None, ⊤}
 use Rattle.std.specs.List.{AllByRecursion}
 use Rattle.aa_raw.specs.declared.raw_vec.Growth.{Growth}
 use Rattle.aa_raw.specs.declared.raw_vec.Growth.TheVariants.{Doubling, Sparing}
 use Rattle.aa_vec.specs.Vector.{len}
 use Rattle.allocator_api2.specs.declared.runner.Command.{Command}
-use Rattle.allocator_api2.specs.declared.runner.Command.TheVariants.{Push, Within, Pop, Insert, Remove, SwapRemove, Truncate, Clear}
+use Rattle.allocator_api2.specs.declared.runner.Command.TheVariants.{Push, Within, Pop, Insert, Remove, SwapRemove, Truncate, Clear, Append, Extend, ExtendFromWithin, Resize}
 use Rattle.allocator_api2.specs.declared.runner.Reply.{Reply}
 use Rattle.allocator_api2.specs.declared.runner.Reply.TheVariants.{Done, Back, Range}
 use Rattle.allocator_api2.specs.Machine.{State, Step}
@@ -13,14 +13,14 @@ use Rattle.allocator_api2.specs.Machine.{State, Step}
 -- one step of a run
 pub record Turn (T A K S : Type 0) : Type 0 where
   pub before : State T A K S
-  pub command : Command T
+  pub command : Command T A
   pub answers : List Bool  -- of the closures that were called
   pub reply : Reply T
   pub after : State T A K S
 
-module _ {T : Type 0} where
+module _ {T A : Type 0} where
   -- commands that make no room but for what they add
-  abbrev pub AddsOrRemoves : Command T → Type 0
+  abbrev pub AddsOrRemoves : Command T A → Type 0
   AddsOrRemoves (Push x) = ⊤
   AddsOrRemoves (Within x) = ⊤
   AddsOrRemoves Pop = ⊤
@@ -29,33 +29,46 @@ module _ {T : Type 0} where
   AddsOrRemoves (SwapRemove i) = ⊤
   AddsOrRemoves (Truncate n) = ⊤
   AddsOrRemoves Clear = ⊤
+  AddsOrRemoves Append = ⊤
+  AddsOrRemoves (Extend items hint) = ⊤
   AddsOrRemoves command = ⊥
 
+  -- how many items it is told are to come, if it is told
+  abbrev pub hint_of : Command T A → Option ℕ
+  hint_of (Extend items hint) = hint
+  hint_of command = None
+
   -- those of them that are told no hint
-  abbrev pub IsUnhinted : Command T → Type 0
-  IsUnhinted command = AddsOrRemoves command
+  abbrev pub IsUnhinted : Command T A → Type 0
+  IsUnhinted command = AddsOrRemoves command × (hint_of command ≡ None)
 
 module _ {T A K S : Type 0} where
   -- how many elements a command added to main
-  abbrev pub added_by : State T A K S → Command T → Reply T → State T A K S → ℕ
+  abbrev pub added_by : State T A K S → Command T A → Reply T → State T A K S → ℕ
   added_by old (Push x) Done new = 1
   added_by old (Within x) Done new = 1
   added_by old (Insert i x) Done new = 1
+  added_by old Append Done new = len old.side
+  added_by old (Extend items hint) reply new = len new.main - len old.main
   added_by old command reply new = 0
 
   abbrev pub added : Turn T A K S → ℕ
   added t = added_by t.before t.command t.reply t.after
 
   -- how many elements of main a command may write
-  abbrev pub cost_of : State T A K S → Command T → List Bool → State T A K S → ℕ
+  abbrev pub cost_of : State T A K S → Command T A → List Bool → State T A K S → ℕ
   cost_of old (Push x) answers new = 1
   cost_of old (Within x) answers new = 1
   cost_of old (Insert i x) answers new = len old.main - i + 1
   cost_of old (Remove i) answers new = len old.main - i - 1
   cost_of old (SwapRemove i) answers new = 1
+  cost_of old Append answers new = len old.side
+  cost_of old (Extend items hint) answers new = len new.main - len old.main
+  cost_of old (ExtendFromWithin from to) answers new = to - from
+  cost_of old (Resize n x) answers new = n - len old.main
   cost_of old command answers new = 0
 
-  abbrev pub cost_by : State T A K S → Command T → List Bool → Reply T → State T A K S → ℕ
+  abbrev pub cost_by : State T A K S → Command T A → List Bool → Reply T → State T A K S → ℕ
   cost_by old command answers Range new = 0
   cost_by old command answers (Back x) new = 0
   cost_by old command answers reply new = cost_of old command answers new
@@ -75,7 +88,7 @@ moves_each Sparing = 3
 
 module _ {T A K S : Type 0} (size : ℕ) (Keeps : K → T → Bool → K → T → Type 0) (Repeats : S → T → T → Bool → S → T → T → Type 0) where
   -- old may answer the command by this reply and become new, writing no more than it costs
-  pub record TakesStep (old : State T A K S) (command : Command T) (reply : Reply T) (new : State T A K S) : Type 0 where
+  pub record TakesStep (old : State T A K S) (command : Command T A) (reply : Reply T) (new : State T A K S) : Type 0 where
     pub answers : List Bool
     pub step : Step size Keeps Repeats old command answers reply new
     pub writes : new.main.written ≤ old.main.written + cost_by old command answers reply new
@@ -89,7 +102,7 @@ module _ {T A K S : Type 0} (size : ℕ) (Keeps : K → T → Bool → K → T �
       × IsRun t.after ts new
 
   -- from old, the machine may give these replies to these commands, and then is new
-  pub record RunsTo (old : State T A K S) (commands : List (Command T)) (replies : List (Reply T)) (new : State T A K S) : Type 0 where
+  pub record RunsTo (old : State T A K S) (commands : List (Command T A)) (replies : List (Reply T)) (new : State T A K S) : Type 0 where
     pub turns : List (Turn T A K S)
     pub run : IsRun old turns new
     pub told : map (λ t. t.command) turns ≡ commands

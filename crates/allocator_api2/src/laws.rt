@@ -3,7 +3,7 @@ ghost use Rattle.std.specs.Prelude.{◌≤◌};
 ghost use Rattle.std.specs.Fn.{CalledAtMut, CalledAtPairMut};
 ghost use Rattle.std.specs.Mem.{type_size};
 ghost use Rattle.aa_vec.specs.Vector.{len};
-ghost use Rattle.allocator_api2.specs.Laws.{ReserveHolds};
+ghost use Rattle.allocator_api2.specs.Laws.{ReserveHolds, CutIsJoined};
 
 use aa_vec::vec::Vec;
 use std::alloc::Allocator;
@@ -22,4 +22,13 @@ where
     K: FnMut(&mut T) -> bool,
     S: FnMut(&mut T, &mut T) -> bool,
     ensures { ReserveHolds A (type_size T.row) (CalledAtMut K.FnMut) (CalledAtPairMut S.FnMut) }
+{}
+
+/// A list that is cut at an index, and then joined to what was cut off, is as it was, where both are done.
+pub fn cut_lists_join_again<T, A, K, S>()
+where
+    A: Allocator,
+    K: FnMut(&mut T) -> bool,
+    S: FnMut(&mut T, &mut T) -> bool,
+    ensures { CutIsJoined A (type_size T.row) (CalledAtMut K.FnMut) (CalledAtPairMut S.FnMut) }
 {}

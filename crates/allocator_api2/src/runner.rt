@@ -2,6 +2,7 @@
 ghost use Rattle.std.specs.Prelude.{reverse, ◌≡◌, List, [], ◌∷◌, ◌++◌, length, MatchResult};
 ghost use Rattle.std.specs.Fn.{CalledAtMut, CalledAtPairMut};
 ghost use Rattle.std.specs.Mem.{type_size};
+ghost use Rattle.aa_vec.specs.Copies.{Copies};
 ghost use Rattle.aa_vec.specs.Vector.{HasRoom, Holds, SameBlock};
 ghost use Rattle.allocator_api2.specs.Machine.{state_of};
 ghost use Rattle.allocator_api2.specs.Run.{TakesStep, RunsTo};
@@ -9,11 +10,12 @@ ghost use Rattle.allocator_api2.specs.declared.runner.Reply.{Reply};
 
 use aa_raw::collections::{TryReserveError, TryReserveErrorKind};
 use aa_vec::vec::Vec;
-use std::alloc::Allocator;
+use aa_vec::vec::items::Items;
+use std::alloc::{Allocator, Global};
 
 /// What `run` is told to do with the main vector.
 #[derive(Drop)]
-pub enum Command<T> {
+pub enum Command<T, A: Allocator = Global> {
     /// Puts an element behind the last one.
     Push(T),
     /// Puts an element behind the last one, where the capacity has room for it.
@@ -36,6 +38,21 @@ pub enum Command<T> {
     ReserveExact(usize),
     /// Gives back all but so many places, or as many as there are elements.
     ShrinkTo(usize),
+    /// Cuts the list at an index, which is at most the length; the elements from there on replace those of side.
+    SplitOff(usize),
+    /// Moves all elements of side behind the last one.
+    Append,
+    /// Puts items behind the last one, which are told to be so many, true or not, or as many as they are.
+    Extend {
+        /// The items, in order.
+        items: Vec<T, A>,
+        /// What is told of their number.
+        hint: Option<usize>,
+    },
+    /// Puts clones of the elements from one index to before another behind the last one.
+    ExtendFromWithin(usize, usize),
+    /// Cuts the list to so many elements, or fills it up to that many with clones of an element, and it last.
+    Resize(usize, T),
 }
 
 /// What `run` answers to a command.
@@ -60,7 +77,7 @@ pub enum Reply<T> {
 pub fn run<T, A, K, S>(
     main: &mut Vec<T, A>,
     side: &mut Vec<T, A>,
-    commands: Vec<Command<T>, A>,
+    commands: Vec<Command<T, A>, A>,
     keep: &mut K,
     same: &mut S,
     replies: &mut Vec<Reply<T>, A>,
@@ -70,7 +87,8 @@ where
     A: Allocator + Clone + Drop,
     K: FnMut(&mut T) -> bool,
     S: FnMut(&mut T, &mut T) -> bool,
-    requires { HasRoom replies.old (length commands.items) }
+    requires room { HasRoom replies.old (length commands.items) }
+    requires copies { Copies T.is_clone }
     ensures run { (answered : List (Reply T)) × (replies.new.items ≡ replies.old.items ++ answered) × RunsTo (type_size T.row) (CalledAtMut K.FnMut) (CalledAtPairMut S.FnMut) (state_of main.old side.old keep.old same.old) commands.items answered (state_of main.new side.new keep.new same.new) }
     ensures replies_stay { SameBlock replies.old replies.new }
 {
@@ -103,7 +121,7 @@ fn append_reply<T: Drop, A: Allocator>(replies: &mut Vec<T, A>, reply: T)
 fn step<T, A, K, S>(
     main: &mut Vec<T, A>,
     side: &mut Vec<T, A>,
-    command: Command<T>,
+    command: Command<T, A>,
     keep: &mut K,
     same: &mut S,
 ) -> Reply<T>
@@ -112,6 +130,7 @@ where
     A: Allocator + Clone + Drop,
     K: FnMut(&mut T) -> bool,
     S: FnMut(&mut T, &mut T) -> bool,
+    requires { Copies T.is_clone }
     ensures { TakesStep (type_size T.row) (CalledAtMut K.FnMut) (CalledAtPairMut S.FnMut) (state_of main.old side.old keep.old same.old) command result (state_of main.new side.new keep.new same.new) }
 {
     match command {
@@ -159,6 +178,42 @@ where
         Command::Reserve(additional) => done(main.try_reserve(additional)),
         Command::ReserveExact(additional) => done(main.try_reserve_exact(additional)),
         Command::ShrinkTo(capacity) => done(main.shrink_to(capacity)),
+        Command::SplitOff(at) => {
+            if at > main.len() {
+                return Reply::Range;
+            }
+            match main.split_off(at) {
+                Ok(tail) => {
+                    *side = tail;
+                    Reply::Done
+                }
+                Err(error) => Reply::Refused(error.kind()),
+            }
+        }
+        Command::Append => match main.append(side) {
+            Ok(()) => Reply::Done,
+            Err(error) => Reply::Refused(error.kind()),
+        },
+        Command::Extend { items, hint } => match main.extend_hinted(Items::new(items, hint)) {
+            Ok(()) => Reply::Done,
+            Err(error) => Reply::Refused(error.kind()),
+        },
+        Command::ExtendFromWithin(from, to) => {
+            if from > to || to > main.len() {
+                return Reply::Range;
+            }
+            match main.extend_from_within(from, to) {
+                Ok(()) => Reply::Done,
+                Err(error) => {
+                    let _within = main.capacity();
+                    Reply::Refused(error.kind())
+                }
+            }
+        }
+        Command::Resize(len, value) => match main.resize(len, value) {
+            Ok(()) => Reply::Done,
+            Err(error) => Reply::Refused(error.kind()),
+        },
     }
 }
 

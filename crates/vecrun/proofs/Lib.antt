@@ -1,5 +1,6 @@
 pub mod Mapped
 pub mod Parts
 pub mod Read
+pub mod Taken
 pub mod TextLines
 pub mod Words

@@ -3,6 +3,7 @@ use Rattle.std.proofs.Common.{◌≡◌, ℕ, ◌+◌, ◌≤◌, List, [], ◌�
 use Rattle.std.proofs.lemmas.List.{append_assoc, length-append}
 use Rattle.std.proofs.lemmas.List.Elements.{All-append}
 use Rattle.std.specs.List.{All}
+use Rattle.std.specs.Global.{Global}
 use Rattle.std.specs.Str.Lines.{lines}
 use Rattle.allocator_api2.specs.declared.runner.Command.{Command}
 use Rattle.vecrun.proofs.TextLines.{length-lines}
@@ -16,7 +17,7 @@ pub record HasRead (text rest : List ℕ) (count : ℕ) : Type 0 where
   pub good : HasNoBad before
 
 -- a line that was read is not bad
-pub read-not_bad : (line : List ℕ) (command : Option (Command ℕ))
+pub read-not_bad : (line : List ℕ) (command : Option (Command ℕ Global))
     → MatchOption command (words_of line ≡ []) (Say (words_of line)) → ¬ (IsBad line)
 read-not_bad line None no_words bad = bad.has_words no_words
 read-not_bad line (Some command) said bad = bad.says_nothing command said

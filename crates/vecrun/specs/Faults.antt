@@ -1,5 +1,5 @@
 -- What a fault says of the script, and the status that it gives.
-use Rattle.std.specs.Prelude.{◌≡◌, ℕ, List, ◌++◌, ⊤, Option, IfSome, Result, MatchResult, codes, decimal, ◌↔◌}
+use Rattle.std.specs.Prelude.{◌≡◌, ℕ, List, ◌++◌, ⊤, Option, IfSome, Result, MatchResult, codes, decimal, ◌↔◌, ◌⊎◌}
 use Rattle.std.specs.IoError.{error_kind}
 use Rattle.std.specs.Str.Lines.{lines}
 use Rattle.std.specs.declared.io.Error.{Error}
@@ -17,6 +17,11 @@ IsFoundIn text InputOutput = ⊤
 -- the words of the line of this number are read as what P says, and it is a bad line where P says nothing
 abbrev pub ReadsAs : {X : Type 0} → ℕ → (X → Type 0) → Result X Fault → Type 0
 ReadsAs {X} number P r = MatchResult r P (λ fault. (fault ≡ BadLine number) × ((x : X) → ¬ (P x)))
+
+-- the same, or memory was refused
+abbrev pub ReadsOrLacks : {X : Type 0} → ℕ → (X → Type 0) → Result X Fault → Type 0
+ReadsOrLacks {X} number P r =
+    MatchResult r P (λ fault. (fault ≡ OutOfMemory) ⊎ ((fault ≡ BadLine number) × ((x : X) → ¬ (P x))))
 
 -- the fault names no line
 abbrev pub NamesNoLine : Fault → Type 0

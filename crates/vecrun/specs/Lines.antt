@@ -1,10 +1,11 @@
 -- The words of a line, and the command that they say.
-use Rattle.std.specs.Prelude.{◌≡◌, ◌≢◌, ℕ, ◌+◌, ◌^◌, ◌<◌, Bool, ◌==◌, ◌||◌, List, [], ◌∷◌, ◌++◌, length, filter, nat_lt, codes, MatchBool, All}
-use Rattle.std.specs.List.{slice_split}
+use Rattle.std.specs.Prelude.{◌≡◌, ◌≢◌, ℕ, ◌+◌, ◌^◌, ◌<◌, Bool, ◌==◌, ◌||◌, List, [], ◌∷◌, ◌++◌, length, filter, Option, None, Some, nat_lt, codes, MatchBool, All}
+use Rattle.std.specs.Global.{Global}
+use Rattle.std.specs.List.{AllZip, slice_split}
 use Rattle.std.specs.Str.{bytes_eq, IsUtf8}
 use Rattle.std.specs.Str.Parse.{IsNumeral, digits_value}
 use Rattle.allocator_api2.specs.declared.runner.Command.{Command}
-use Rattle.allocator_api2.specs.declared.runner.Command.TheVariants.{Push, Within, Pop, Insert, Remove, SwapRemove, Truncate, Clear, Reserve, ReserveExact, ShrinkTo}
+use Rattle.allocator_api2.specs.declared.runner.Command.TheVariants.{Push, Within, Pop, Insert, Remove, SwapRemove, Truncate, Clear, Reserve, ReserveExact, ShrinkTo, SplitOff, Append, Extend, ExtendFromWithin, Resize}
 
 -- a space or a tab
 abbrev pub is_blank : ℕ → Bool
@@ -30,8 +31,12 @@ IsNumber words n = (word : List ℕ) × (words ≡ word ∷ []) × Writes (2 ^ 6
 abbrev pub AreNumberAndElement : List (List ℕ) → ℕ × ℕ → Type 0
 AreNumberAndElement words p = (v : List ℕ) × (w : List ℕ) × (words ≡ v ∷ w ∷ []) × Writes (2 ^ 64) v p.0 × Writes (2 ^ 32) w p.1
 
+-- the words are two, which write numbers
+abbrev pub AreNumbers : List (List ℕ) → ℕ × ℕ → Type 0
+AreNumbers words p = (v : List ℕ) × (w : List ℕ) × (words ≡ v ∷ w ∷ []) × Writes (2 ^ 64) v p.0 × Writes (2 ^ 64) w p.1
+
 -- the words after this name say the command
-abbrev pub SayAfter : List ℕ → List (List ℕ) → Command ℕ → Type 0
+abbrev pub SayAfter : List ℕ → List (List ℕ) → Command ℕ Global → Type 0
 SayAfter name rest command =
     MatchBool (bytes_eq name (codes "push")) ((x : ℕ) × IsElement rest x × (command ≡ Push x))
     (MatchBool (bytes_eq name (codes "within")) ((x : ℕ) × IsElement rest x × (command ≡ Within x))
@@ -44,17 +49,32 @@ SayAfter name rest command =
     (MatchBool (bytes_eq name (codes "reserve")) ((n : ℕ) × IsNumber rest n × (command ≡ Reserve n))
     (MatchBool (bytes_eq name (codes "reserve_exact")) ((n : ℕ) × IsNumber rest n × (command ≡ ReserveExact n))
     (MatchBool (bytes_eq name (codes "shrink_to")) ((n : ℕ) × IsNumber rest n × (command ≡ ShrinkTo n))
-    ⊥))))))))))
+    (MatchBool (bytes_eq name (codes "split_off")) ((n : ℕ) × IsNumber rest n × (command ≡ SplitOff n))
+    (MatchBool (bytes_eq name (codes "append")) ((rest ≡ []) × (command ≡ Append))
+    (MatchBool (bytes_eq name (codes "extend_from_within")) ((p : ℕ × ℕ) × AreNumbers rest p × (command ≡ ExtendFromWithin p.0 p.1))
+    (MatchBool (bytes_eq name (codes "resize")) ((p : ℕ × ℕ) × AreNumberAndElement rest p × (command ≡ Resize p.0 p.1))
+    ⊥))))))))))))))
+
+-- the word is a hyphen where no number is told, and else writes the number
+abbrev pub IsHint : List ℕ → Option ℕ → Type 0
+IsHint word None = word ≡ codes "-"
+IsHint word (Some n) = Writes (2 ^ 64) word n
+
+-- the words, a hint and then elements, say an extension
+abbrev pub SaysExtend : List (List ℕ) → Command ℕ Global → Type 0
+SaysExtend (word ∷ words) (Extend items hint) = IsHint word hint × AllZip (Writes (2 ^ 32)) words items.items
+SaysExtend words command = ⊥
 
 -- the words say the command
-abbrev pub Say : List (List ℕ) → Command ℕ → Type 0
+abbrev pub Say : List (List ℕ) → Command ℕ Global → Type 0
 Say [] command = ⊥
-Say (name ∷ rest) command = IsUtf8 name × SayAfter name rest command
+Say (name ∷ rest) command =
+    IsUtf8 name × MatchBool (bytes_eq name (codes "extend")) (SaysExtend rest command) (SayAfter name rest command)
 
 -- the line has words, and they say no command
 pub record IsBad (line : List ℕ) : Type 0 where
   pub has_words : words_of line ≢ []
-  pub says_nothing : (command : Command ℕ) → ¬ (Say (words_of line) command)
+  pub says_nothing : (command : Command ℕ Global) → ¬ (Say (words_of line) command)
 
 -- no line is bad
 pub record HasNoBad (lines : List (List ℕ)) : Type 0 where

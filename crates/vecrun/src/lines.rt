@@ -1,12 +1,12 @@
 //! From the bytes of a script to its commands.
-ghost use Rattle.std.specs.Prelude.{◌≡◌, ◌≢◌, ℕ, ◌+◌, ◌^◌, ◌<◌, ◌≤◌, ◌==◌, [], length, IfSome, IfNone, MatchOption, IfOk, IfErr, OnOk, slice_index};
+ghost use Rattle.std.specs.Prelude.{◌≡◌, ◌≢◌, ℕ, ◌+◌, ◌^◌, ◌<◌, ◌≤◌, ◌==◌, [], length, IfSome, IfNone, Option, MatchOption, ◌⊎◌, IfOk, IfErr, OnOk, slice_index};
 ghost use Rattle.std.specs.Iterator.{YieldsFirstRef, item_count};
-ghost use Rattle.std.specs.List.{prefix_len, position_or_len};
+ghost use Rattle.std.specs.List.{AllZip, prefix_len, position_or_len};
 ghost use Rattle.std.specs.Option.{SomeIff};
 ghost use Rattle.std.specs.Str.Lines.{lines, strip_carriage_return};
 ghost use Rattle.std.specs.Str.Parse.{IsNumeral, digits_value};
-ghost use Rattle.vecrun.specs.Faults.{IsFoundIn, ReadsAs};
-ghost use Rattle.vecrun.specs.Lines.{is_blank, words_of, IsElement, IsNumber, AreNumberAndElement, SayAfter, Say, IsBad, HasNoBad};
+ghost use Rattle.vecrun.specs.Faults.{IsFoundIn, ReadsAs, ReadsOrLacks};
+ghost use Rattle.vecrun.specs.Lines.{is_blank, words_of, IsElement, IsNumber, AreNumberAndElement, AreNumbers, Writes, IsHint, SaysExtend, SayAfter, Say, IsBad, HasNoBad};
 
 use crate::script::Fault;
 use allocator_api2::runner::Command;
@@ -24,7 +24,7 @@ pub fn commands(alloc: Global, text: &[u8]) -> Result<Vec<Command<u32>, Global>,
 {
     let mut commands = Vec::new_in(alloc);
     for (index, line) in (Lines { rest: text }).enumerate() {
-        if let Some(command) = command_of_line(index + 1, line)? {
+        if let Some(command) = command_of_line(alloc, index + 1, line)? {
             commands.push(command)?;
         }
     }
@@ -78,16 +78,18 @@ fn without_carriage_return(line: &[u8]) -> &[u8]
 }
 
 // The command that the line says, or `None` where it has no words.
-fn command_of_line(number: usize, line: &[u8]) -> Result<Option<Command<u32>>, Fault>
+fn command_of_line(alloc: Global, number: usize, line: &[u8]) -> Result<Option<Command<u32>>, Fault>
     ensures ok { IfOk result
         (λ command. MatchOption command (words_of line.now ≡ []) (Say (words_of line.now))) }
-    ensures err { IfErr result (λ fault. (fault ≡ Fault.BadLine number) × IsBad line.now) }
+    ensures err { IfErr result
+        (λ fault. (fault ≡ Fault.OutOfMemory) ⊎ ((fault ≡ Fault.BadLine number) × IsBad line.now)) }
 {
     let mut words = Words { rest: line };
     let Some(first) = words.next() else {
         return Ok(None);
     };
     match std::str::from_utf8(first) {
+        Ok("extend") => Ok(Some(extension(alloc, Line { number, words })?)),
         Ok(name) => Ok(Some(command(name, Line { number, words })?)),
         Err(_) => Err(Fault::BadLine(number)),
     }
@@ -99,21 +101,57 @@ fn command(name: &str, line: Line<'_>) -> Result<Command<u32>, Fault>
         (SayAfter name.now (words_of line.entry.words.rest.now)) result }
 {
     match name {
-        "push" => line.element().map(Command::Push),
-        "within" => line.element().map(Command::Within),
+        "push" => line.element().map(|x| Command::Push(x)),
+        "within" => line.element().map(|x| Command::Within(x)),
         "pop" => line.end().map(|()| Command::Pop),
         "insert" => line
             .number_and_element()
             .map(|(index, x)| Command::Insert(index, x)),
-        "remove" => line.number().map(Command::Remove),
-        "swap_remove" => line.number().map(Command::SwapRemove),
-        "truncate" => line.number().map(Command::Truncate),
+        "remove" => line.number().map(|n| Command::Remove(n)),
+        "swap_remove" => line.number().map(|n| Command::SwapRemove(n)),
+        "truncate" => line.number().map(|n| Command::Truncate(n)),
         "clear" => line.end().map(|()| Command::Clear),
-        "reserve" => line.number().map(Command::Reserve),
-        "reserve_exact" => line.number().map(Command::ReserveExact),
-        "shrink_to" => line.number().map(Command::ShrinkTo),
+        "reserve" => line.number().map(|n| Command::Reserve(n)),
+        "reserve_exact" => line.number().map(|n| Command::ReserveExact(n)),
+        "shrink_to" => line.number().map(|n| Command::ShrinkTo(n)),
+        "split_off" => line.number().map(|n| Command::SplitOff(n)),
+        "append" => line.end().map(|()| Command::Append),
+        "extend_from_within" => line
+            .numbers()
+            .map(|(from, to)| Command::ExtendFromWithin(from, to)),
+        "resize" => line
+            .number_and_element()
+            .map(|(len, x)| Command::Resize(len, x)),
         _ => Err(line.bad()),
     }
+}
+
+// The extension by the elements of the rest of the line, before which the hint stands. It takes memory for the elements.
+fn extension(alloc: Global, mut line: Line<'_>) -> Result<Command<u32>, Fault>
+    ensures { ReadsOrLacks line.entry.number
+        (SaysExtend (words_of line.entry.words.rest.now)) result }
+{
+    let Some(hint) = line.words.next().and_then(hint) else {
+        return Err(line.bad());
+    };
+    let items = elements(alloc, line)?;
+    Ok(Command::Extend { items, hint })
+}
+
+// The elements that the words of the rest of the line write, all of them. It takes memory for them.
+fn elements(alloc: Global, line: Line<'_>) -> Result<Vec<u32>, Fault>
+    ensures { ReadsOrLacks line.entry.number
+        (λ v. AllZip (Writes (2 ^ 32)) (words_of line.entry.words.rest.now) v.items) result }
+{
+    let Line { number, words } = line;
+    let mut items = Vec::new_in(alloc);
+    'each: for word in words {
+        match element(word) {
+            Some(x) => items.push(x)?,
+            None => return Err(Fault::BadLine(number)),
+        }
+    }
+    Ok(items)
 }
 
 // What is left of a line after its first word.
@@ -163,6 +201,19 @@ impl Line<'_> {
         }
     }
 
+    // Two words, which are numbers.
+    fn numbers(mut self) -> Result<(usize, usize), Fault>
+        ensures { ReadsAs self.entry.number
+            (AreNumbers (words_of self.entry.words.rest.now)) result }
+    {
+        let first = self.words.next().and_then(number);
+        let second = self.words.next().and_then(number);
+        match (first, second, self.words.next()) {
+            (Some(m), Some(n), None) => Ok((m, n)),
+            _ => Err(self.bad()),
+        }
+    }
+
     // Two words, a number and an element.
     fn number_and_element(mut self) -> Result<(usize, u32), Fault>
         ensures { ReadsAs self.entry.number
@@ -183,6 +234,16 @@ fn number(word: &[u8]) -> Option<usize>
         (digits_value 10 word.now) }
 {
     digits(word)?.parse().ok()
+}
+
+// The hint that the word is: a number, or none where it is a hyphen.
+fn hint(word: &[u8]) -> Option<Option<usize>>
+    ensures { MatchOption result ((h : Option ℕ) → ¬ (IsHint word.now h)) (IsHint word.now) }
+{
+    if word == b"-".as_slice() {
+        return Some(None);
+    }
+    number(word).map(|n| Some(n))
 }
 
 // The element that the word writes in decimal digits, if it fits.

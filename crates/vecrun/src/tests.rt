@@ -8,7 +8,7 @@ const EMPTY_LISTS: &str = "main len=0 cap=0:\nside len=0 cap=0:\n";
 const PUSHED_SEVEN: &str = "done\nmain len=1 cap=4: 7\nside len=0 cap=0:\n";
 
 // Scripts, and what they print.
-const GOOD_SCRIPTS: [(&[u8], &str); 15] = [
+const GOOD_SCRIPTS: [(&[u8], &str); 19] = [
     (
         b"push 1\npush 2\npop\npop\npop\n",
         "done\ndone\nitem 2\nitem 1\nnone\nmain len=0 cap=4:\nside len=0 cap=0:\n",
@@ -51,10 +51,30 @@ const GOOD_SCRIPTS: [(&[u8], &str); 15] = [
         b"reserve_exact 3\ninsert 0 1\ninsert 0 2\nremove 1\ntruncate 1\nshrink_to 2\n",
         "done\ndone\ndone\nitem 1\ndone\ndone\nmain len=1 cap=2: 2\nside len=0 cap=0:\n",
     ),
+    (
+        b"extend 0 1 2\nappend\nsplit_off 1\nappend\nresize 4 7\nextend_from_within 1 3\n",
+        "done\ndone\ndone\ndone\ndone\ndone\nmain len=6 cap=8: 1 2 7 7 2 7\nside len=0 cap=1:\n",
+    ),
+    (
+        b"extend 18446744073709551615 5\n",
+        "refused capacity\nmain len=0 cap=0:\nside len=0 cap=0:\n",
+    ),
+    (
+        b"extend -\nextend - 1 2 3 4 5\nextend 0 007\n",
+        "done\ndone\ndone\nmain len=6 cap=10: 1 2 3 4 5 7\nside len=0 cap=0:\n",
+    ),
+    (
+        b"split_off 1\nextend_from_within 0 1\nextend_from_within 1 0\nappend\n",
+        "range\nrange\nrange\ndone\nmain len=0 cap=0:\nside len=0 cap=0:\n",
+    ),
 ];
 
 // Scripts, and the number of the first bad line.
-const BAD_SCRIPTS: [(&[u8], u32); 22] = [
+const BAD_SCRIPTS: [(&[u8], u32); 26] = [
+    (b"extend\n", 1),
+    (b"extend 1 -\n", 1),
+    (b"extend -1 2\n", 1),
+    (b"extend - 1 2 x 3\n", 1),
     (b"push 1\ninsert 0\n", 2),
     (b"insert 0 1 2\n", 1),
     (b"insert 0 4294967296\n", 1),

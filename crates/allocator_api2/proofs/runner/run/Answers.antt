@@ -6,7 +6,7 @@ use Rattle.allocator_api2.proofs.runner.run.Goals as goal
 pub loop-command-init : goal.loop-command-init
 loop-command-init g c =
     let e = c.turn_round.ensures in
-    record { run = HasRun-start _ _ _ _ _ _ _ e; room = rw (e, length-reverse) c.requires; stay = record { capacity = refl; growth = refl; grown = refl; alloc = refl } }
+    record { run = HasRun-start _ _ _ _ _ _ _ e; room = rw (e, length-reverse) c.requires.room; stay = record { capacity = refl; growth = refl; grown = refl; alloc = refl } }
 
 pub loop-command-preserved : goal.loop-command-preserved
 loop-command-preserved g c =

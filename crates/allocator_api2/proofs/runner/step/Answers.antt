@@ -1,4 +1,4 @@
-use Rattle.std.proofs.Common.{[], rules}
+use Rattle.std.proofs.Common.{[], refl, rules}
 use Rattle.std.specs.Fn.{CalledAtMut, CalledAtPairMut}
 use Rattle.std.specs.Mem.{type_size}
 use denote.Param.{param}
@@ -6,7 +6,10 @@ use Rattle.allocator_api2.specs.declared.runner.Command.TheVariants.{Reserve, Re
 use Rattle.allocator_api2.specs.declared.runner.Reply.{Reply}
 use Rattle.allocator_api2.specs.Machine.{state_of}
 use Rattle.allocator_api2.specs.Run.{TakesStep}
+use Rattle.aa_vec.proofs.Counted.{ExtendsAll-items, ExtendsFull-items}
+use Rattle.allocator_api2.proofs.Cuts.{splits, splits-written}
 use Rattle.allocator_api2.proofs.Replies.{replied}
+use Rattle.allocator_api2.proofs.Stops.{stops-full, stops-overflow}
 use Rattle.allocator_api2.proofs.runner.step.Goals as goal
 
 pub returns-in-Ok : goal.returns-in-Ok
@@ -59,3 +62,38 @@ returns-in-ShrinkTo g c =
     rw c.in-ShrinkTo.is (replied P _ _ c.shrink_to.result c.done-in-ShrinkTo.result c.done-in-ShrinkTo.ensures c.shrink_to.ensures.shrunk c.shrink_to.ensures.refused
     (λ shrunk. record { answers = []; step = search rules; writes = search rules })
     (λ kind refused. record { answers = []; step = search rules; writes = search rules }))
+
+pub returns-in-Ok-split_off : goal.returns-in-Ok-split_off
+returns-in-Ok-split_off g c =
+    let e = c.in-Ok-split_off.ensures in
+    let old = c.args.main.now in let head = c.split_off.new.self in let tail = c.in-Ok-split_off.tail in let at = c.in-SplitOff.at in
+    rw c.in-SplitOff.is (record {
+      answers = [];
+      step = (search rules, (refl, refl, refl, splits _ old head tail at _ (λ h. (e.tail h).0) (λ h. (e.head h).0) e.all (λ h. (e.anew h).0)));
+      writes = splits-written _ old head tail at (λ h. (e.head h).1) (λ h. (e.anew h).0);
+    })
+
+pub returns-in-Ok-append : goal.returns-in-Ok-append
+returns-in-Ok-append g c = rw c.in-Append.is (record { answers = []; step = search rules; writes = search rules })
+
+pub returns-in-Ok-extend_hinted : goal.returns-in-Ok-extend_hinted
+returns-in-Ok-extend_hinted g c =
+    let extended = rw c.new.ensures at (ExtendsAll-items _ _ _ _ c.in-Ok-extend_hinted.ensures.extended) in
+    rw c.in-Extend.is (record { answers = []; step = search (rules, extended); writes = search rules })
+
+pub returns-in-Err-extend_hinted : goal.returns-in-Err-extend_hinted
+returns-in-Err-extend_hinted g c =
+    let extended = rw c.new.ensures at (ExtendsFull-items _ _ _ _ _ c.in-Err-extend_hinted.ensures.refused) in
+    let lacks = stops-full _ _ _ _ _ _ extended in
+    let overflow = stops-overflow _ _ _ _ _ _ extended in
+    rw c.in-Extend.is (record { answers = []; step = search (rules, extended, lacks, overflow); writes = search rules })
+
+pub returns-in-Ok-extend_from_within : goal.returns-in-Ok-extend_from_within
+returns-in-Ok-extend_from_within g c =
+    let copied = c.in-Ok-extend_from_within.ensures.copied c.requires in
+    rw c.in-ExtendFromWithin.is (record { answers = []; step = search (rules, copied); writes = search rules })
+
+pub returns-in-Ok-resize : goal.returns-in-Ok-resize
+returns-in-Ok-resize g c =
+    let copied = c.in-Ok-resize.ensures.copied c.requires in
+    rw c.in-Resize.is (record { answers = []; step = search (rules, copied); writes = search rules })

@@ -1,5 +1,5 @@
 use Rattle.std.proofs.Common.{rules, refl}
-use Rattle.allocator_api2.specs.declared.runner.Command.TheVariants.{Push, Within, Insert, Remove, SwapRemove, Truncate, Reserve, ReserveExact, ShrinkTo}
+use Rattle.allocator_api2.specs.declared.runner.Command.TheVariants.{Push, Within, Insert, Remove, SwapRemove, Truncate, Reserve, ReserveExact, ShrinkTo, SplitOff, ExtendFromWithin, Resize}
 use Rattle.vecrun.proofs.Mapped.{ReadsAs-map}
 use Rattle.vecrun.proofs.lines.command.Goals as goal
 
@@ -47,3 +47,18 @@ pub returns-in-shrink_to : goal.returns-in-shrink_to
 returns-in-shrink_to c =
     let mapped = ReadsAs-map _ _ _ ShrinkTo c.number-in-shrink_to.result c.map-in-shrink_to.result c.number-in-shrink_to.ensures (search rules) in
     rw c.in-shrink_to.is (mapped (λ x p. (x, p, refl)) (λ _ q. (q.0, q.1)))
+
+pub returns-in-split_off : goal.returns-in-split_off
+returns-in-split_off c =
+    let mapped = ReadsAs-map _ _ _ SplitOff c.number-in-split_off.result c.map-in-split_off.result c.number-in-split_off.ensures (search rules) in
+    rw c.in-split_off.is (mapped (λ x p. (x, p, refl)) (λ _ q. (q.0, q.1)))
+
+pub returns-in-extend_from_within : goal.returns-in-extend_from_within
+returns-in-extend_from_within c =
+    let mapped = ReadsAs-map _ _ _ (λ p. ExtendFromWithin p.0 p.1) c.numbers.result c.map-in-extend_from_within.result c.numbers.ensures (search rules) in
+    rw c.in-extend_from_within.is (mapped (λ x p. (x, p, refl)) (λ _ q. (q.0, q.1)))
+
+pub returns-in-resize : goal.returns-in-resize
+returns-in-resize c =
+    let mapped = ReadsAs-map _ _ _ (λ p. Resize p.0 p.1) c.number_and_element-in-resize.result c.map-in-resize.result c.number_and_element-in-resize.ensures (search rules) in
+    rw c.in-resize.is (mapped (λ x p. (x, p, refl)) (λ _ q. (q.0, q.1)))

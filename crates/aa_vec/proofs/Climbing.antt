@@ -1,0 +1,99 @@
+-- Lemmas on a vector that grew while it was full.
+use Rattle.std.proofs.Common.{◌≡◌, ℕ, ◌+◌, ◌-◌, ◌<◌, ◌≤◌, refl, ap, ◌∙◌, subst, arith, inl, inr}
+use Rattle.std.specs.Prelude.{min}
+use Rattle.aa_raw.specs.Growth.{usize_max, amortized, least_of}
+use Rattle.aa_vec.specs.Vector.{Vector, SameBlock, HasRoomBy, MakesRoom}
+use Rattle.aa_vec.specs.Extending.{Climbs, stays, grows, asked_for}
+
+module _ {T A : Type 0} where
+  pub SameBlock-refl : (v : Vector T A) → SameBlock v v
+  SameBlock-refl v = record { capacity = refl; growth = refl; grown = refl; alloc = refl }
+
+  pub SameBlock-trans : {u v w : Vector T A} → SameBlock u v → SameBlock v w → SameBlock u w
+  SameBlock-trans p q = record { capacity = q.capacity ∙ p.capacity; growth = q.growth ∙ p.growth; grown = q.grown ∙ p.grown; alloc = q.alloc ∙ p.alloc }
+
+  -- room is made alike in one block
+  HasRoomBy-same : (size wanted n k : ℕ) {u v w : Vector T A} → SameBlock u v → HasRoomBy size wanted v n k w → HasRoomBy size wanted u n k w
+  HasRoomBy-same size wanted n k b (inl h) = inl (omega (arith, h.0, b.capacity), SameBlock-trans b h.1)
+  HasRoomBy-same size wanted n k b (inr h) = inr (
+    omega (arith, h.0, b.capacity),
+    record { has_size = h.1.has_size; capacity = h.1.capacity; growth = h.1.growth ∙ b.growth; grown = h.1.grown ∙ ap (λ m. m + n) b.grown; alloc = h.1.alloc ∙ b.alloc },
+  )
+
+  pub MakesRoom-same : (size n k : ℕ) {u v w : Vector T A} → SameBlock u v → MakesRoom size v n k w → MakesRoom size u n k w
+  MakesRoom-same size n k {u} {v} {w} b m =
+      HasRoomBy-same size (amortized u.growth u.capacity (n + k) (least_of size)) n k b
+      (subst (λ c. HasRoomBy size (amortized u.growth c (n + k) (least_of size)) v n k w) b.capacity
+      (subst (λ g. HasRoomBy size (amortized g v.capacity (n + k) (least_of size)) v n k w) b.growth m))
+
+  pub MakesRoom-into : (size n k : ℕ) {u v w : Vector T A} → MakesRoom size u n k v → SameBlock v w → MakesRoom size u n k w
+  MakesRoom-into size n k (inl h) b = inl (h.0, SameBlock-trans h.1 b)
+  MakesRoom-into size n k (inr h) b = inr (
+    h.0,
+    record { has_size = h.1.has_size; capacity = b.capacity ∙ h.1.capacity; growth = b.growth ∙ h.1.growth; grown = b.grown ∙ h.1.grown; alloc = b.alloc ∙ h.1.alloc },
+  )
+
+  -- there is room for all
+  made_room : (size left : ℕ) (v w : Vector T A) → MakesRoom size v v.capacity left w → 0 < left → v.capacity + left ≤ w.capacity
+  made_room size left v w (inl h) l = absurd (omega (arith, h.0, l))
+  made_room size left v w (inr h) l = omega (arith, h.1.capacity)
+
+  -- and it is no less than before
+  pub MakesRoom-rises : (size k : ℕ) (v w : Vector T A) → MakesRoom size v v.capacity k w → v.capacity ≤ w.capacity
+  MakesRoom-rises size k v w (inl h) = omega (arith, h.1.capacity)
+  MakesRoom-rises size k v w (inr h) = omega (arith, h.1.capacity)
+
+module _ {T A : Type 0} (size : ℕ) (lower : ℕ → ℕ) (needed : ℕ) where
+  -- a climb ends in whatever is in the same block
+  pub Climbs-same : {u v w : Vector T A} → Climbs size lower needed u v → SameBlock v w → Climbs size lower needed u w
+  Climbs-same (stays b) c = stays (SameBlock-trans b c)
+  Climbs-same (grows h m r) c = grows h m (Climbs-same r c)
+
+  -- and goes on by one more growth
+  pub Climbs-more : {u v w : Vector T A} → Climbs size lower needed u v → v.capacity < needed → MakesRoom size v v.capacity (asked_for lower (needed - v.capacity)) w → Climbs size lower needed u w
+  Climbs-more {u} {v} {w} (stays b) l m =
+      let P : ℕ → Type 0 = λ c. MakesRoom size u c (asked_for lower (needed - c)) w in
+      grows (omega (arith, l, b.capacity)) (subst P b.capacity (MakesRoom-same size v.capacity (asked_for lower (needed - v.capacity)) b m)) (stays (SameBlock-refl w))
+  Climbs-more (grows h n r) l m = grows h n (Climbs-more r l m)
+
+  -- the capacity never falls
+  pub Climbs-rises : {u v : Vector T A} → Climbs size lower needed u v → u.capacity ≤ v.capacity
+  Climbs-rises (stays b) = omega (arith, b.capacity)
+  Climbs-rises {u} {v} (grows {mid = mid} h m r) = omega (arith, MakesRoom-rises size (asked_for lower (needed - u.capacity)) u mid m, Climbs-rises r)
+
+  -- where all fit, there is no growth
+  pub Climbs-fits : {u v : Vector T A} → Climbs size lower needed u v → needed ≤ u.capacity → SameBlock u v
+  Climbs-fits (stays b) f = b
+  Climbs-fits (grows h m r) f = absurd (omega (arith, h, f))
+
+  -- what stays through every growth
+  pub Climbs-growth : {u v : Vector T A} → Climbs size lower needed u v → v.growth ≡ u.growth
+  Climbs-growth (stays b) = b.growth
+  Climbs-growth (grows h (inl m) r) = Climbs-growth r ∙ m.1.growth
+  Climbs-growth (grows h (inr m) r) = Climbs-growth r ∙ m.1.growth
+
+  pub Climbs-alloc : {u v : Vector T A} → Climbs size lower needed u v → v.alloc ≡ u.alloc
+  Climbs-alloc (stays b) = b.alloc
+  Climbs-alloc (grows h (inl m) r) = Climbs-alloc r ∙ m.1.alloc
+  Climbs-alloc (grows h (inr m) r) = Climbs-alloc r ∙ m.1.alloc
+
+  -- where just as many are told as are to come, it makes room for them at once
+  pub Climbs-exact : ((n : ℕ) → lower n ≡ n) → {u v : Vector T A} → Climbs size lower needed u v → needed ≤ v.capacity → needed - u.capacity ≤ usize_max → MakesRoom size u u.capacity (needed - u.capacity) v
+  Climbs-exact exact (stays b) enough few = inl (omega (arith, enough, b.capacity), b)
+  Climbs-exact exact {u} {v} (grows {mid = mid} h m r) enough few =
+      let left : ℕ = needed - u.capacity in
+      let asked : asked_for lower left ≡ left = ap (λ n. min (n + 1) usize_max) (exact (left - 1)) ∙ omega (arith, h, few) in
+      let made : MakesRoom size u u.capacity left mid = subst (λ k. MakesRoom size u u.capacity k mid) asked m in
+      MakesRoom-into size u.capacity left made (Climbs-fits r (omega (arith, h, made_room size left u mid made (omega (arith, h)))))
+
+-- the same climb, where r items more are to come after those that were counted, and the bounds agree from the capacity on
+pub Climbs-counted : {T A : Type 0} (size : ℕ) (lower lower' : ℕ → ℕ) (needed r : ℕ) {u v : Vector T A}
+    → ((k : ℕ) → u.capacity + k < needed → lower k ≡ lower' (k + r)) → Climbs size lower needed u v → Climbs size lower' (needed + r) u v
+Climbs-counted size lower lower' needed r same (stays b) = stays b
+Climbs-counted size lower lower' needed r {u} {v} same (grows {mid = mid} h m rest) =
+    let left : ℕ = needed - u.capacity - 1 in
+    let e : left + r ≡ needed + r - u.capacity - 1 = omega (arith, h) in
+    let a : asked_for lower (needed - u.capacity) ≡ asked_for lower' (needed + r - u.capacity) =
+    ap (λ n. min (n + 1) usize_max) (same left (omega (arith, h)) ∙ ap lower' e) in
+    let up : u.capacity ≤ mid.capacity = MakesRoom-rises size (asked_for lower (needed - u.capacity)) u mid m in
+    grows (omega (arith, h)) (subst (λ k. MakesRoom size u u.capacity k mid) a m) (Climbs-counted size lower lower' needed r (λ k l. same k (omega (arith, l, up))) rest)

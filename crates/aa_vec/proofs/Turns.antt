@@ -1,0 +1,53 @@
+-- A closure that is called once for each new place.
+use Rattle.std.proofs.Common.{◌≡◌, ℕ, suc, ◌+◌, ◌-◌, ◌<◌, List, [], ◌∷◌, ◌++◌, length, refl, sym, ap, ◌∙◌, subst, arith, append_assoc, append-nil, length-append}
+use Rattle.std.specs.List.{FoldsTo}
+use Rattle.std.proofs.lemmas.Fn.{FoldsTo-push}
+use Rattle.aa_vec.specs.Copies.{LengthensBy, MayCallTimes}
+use Rattle.aa_vec.specs.Vector.{Vector, GrowsTo, Holds, Writes}
+use Rattle.aa_vec.proofs.Copied.{GrowsTo-then, SameBlock-then, Writes-then}
+
+module _ {T A F : Type 0} (takes : F → Type 0) (step : F → T → F → Type 0) where
+  -- f was called k times of `total`, and is g; what it answered stands behind the items of old
+  pub record Turns (old : Vector T A) (total : ℕ) (f : F) (k : ℕ) (now : Vector T A) (g : F) : Type 0 where
+    pub answers : List T
+    pub calls : FoldsTo step f answers g
+    pub count : length answers ≡ k
+    pub holds : Holds old (old.items ++ answers) now
+    pub writes : Writes old k k now
+    pub more : MayCallTimes takes step (total - k) g
+
+  pub Turns-none : (old : Vector T A) (total : ℕ) (f : F) → MayCallTimes takes step total f → Turns old total f 0 old f
+  Turns-none old total f more = record {
+    answers = [];
+    calls = refl;
+    count = refl;
+    holds = record { items = sym (append-nil old.items); block = record { capacity = refl; growth = refl; grown = refl; alloc = refl } };
+    writes = record { written = omega arith; runs = omega arith };
+    more = subst (λ n. MayCallTimes takes step n f) {x = total} {y = total - 0} (omega arith) more;
+  }
+
+  module _ (old : Vector T A) (total : ℕ) (f : F) (k : ℕ) (now : Vector T A) (g : F) (t : Turns old total f k now g) where
+    next : k < total → MayCallTimes takes step (suc (total - (k + 1))) g
+    next h = subst (λ n. MayCallTimes takes step n g) {x = total - k} {y = suc (total - (k + 1))} (omega (arith, h)) t.more
+
+    pub Turns-may : k < total → takes g
+    Turns-may h = (next h).0
+
+    pub Turns-next : k < total → (y : T) (e : F) (new : Vector T A) → step g y e → Holds now (now.items ++ y ∷ []) new → Writes now 1 1 new → Turns old total f (k + 1) new e
+    Turns-next h y e new s q w = record {
+      answers = t.answers ++ y ∷ [];
+      calls = FoldsTo-push step f t.answers g y e t.calls s;
+      count = length-append t.answers (y ∷ []) ∙ ap (λ n. n + 1) t.count;
+      holds = record { items = q.items ∙ ap (λ l. l ++ y ∷ []) t.holds.items ∙ append_assoc old.items t.answers (y ∷ []); block = SameBlock-then old now new t.holds.block q.block };
+      writes = Writes-then old now new k k 1 1 (k + 1) (k + 1) t.writes w refl refl;
+      more = (next h).1 y e s;
+    }
+
+    pub LengthensBy-turns : (size : ℕ) (first : Vector T A) → k ≡ total → GrowsTo size first total first.items old → LengthensBy step size first total f now
+    LengthensBy-turns size first e made = record {
+      answers = t.answers;
+      last = g;
+      calls = t.calls;
+      count = t.count ∙ e;
+      grows = GrowsTo-then size first old now total first.items (first.items ++ t.answers) made (record { items = t.holds.items ∙ ap (λ l. l ++ t.answers) made.items; block = t.holds.block });
+    }

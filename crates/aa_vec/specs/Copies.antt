@@ -1,0 +1,128 @@
+-- What calls leave that put copies of elements, or results of a closure, into a vector.
+use Rattle.std.specs.Prelude.{◌≡◌, ℕ, zero, suc, ◌+◌, ◌-◌, ◌<◌, ◌≤◌, List, [], ◌∷◌, ◌++◌, length, take, replicate, ◌⊎◌, ⊤, if◌then◌else◌, ◌==◌}
+use Rattle.std.specs.List.{AllZip, FoldsTo}
+use Rattle.aa_raw.specs.declared.collections.TryReserveErrorKind.{TryReserveErrorKind}
+use Rattle.aa_raw.specs.declared.collections.TryReserveErrorKind.TheVariants.{AllocError}
+use Rattle.aa_raw.specs.declared.raw_vec.Growth.{Growth}
+use Rattle.aa_raw.specs.declared.raw_vec.Growth.TheVariants.{Doubling}
+use Rattle.aa_vec.specs.Vector.{Vector, len, sized, GrowsTo, Holds, Writes, LacksRoom, with_items}
+
+-- a clone equals its source. This is a condition on the type of the elements, under which the lists that calls leave are known
+abbrev pub Copies : {T : Type 0} → (T → T → Type 0) → Type 0
+Copies {T} clones = (x y : T) → clones x y → y ≡ x
+
+-- ys are the first of xs, as many as they are
+abbrev pub IsBeginning : {T : Type 0} → (xs ys : List T) → Type 0
+IsBeginning xs ys = ys ≡ take (length ys) xs
+
+-- f may be called, and again in each state that a call leaves, k times in all
+abbrev pub MayCallTimes : {F T : Type 0} → (F → Type 0) → (F → T → F → Type 0) → (k : ℕ) → F → Type 0
+MayCallTimes takes step zero f = ⊤
+MayCallTimes {F} {T} takes step (suc k) f = takes f × ((y : T) (g : F) → step f y g → MayCallTimes takes step k g)
+
+module _ {T A : Type 0} where
+  -- v was just made with the items xs, in room for n elements of `size` bytes that grows so. k calls of the block wrote them
+  pub record IsMade (size n : ℕ) (growth : Growth) (xs : List T) (k : ℕ) (v : Vector T A) : Type 0 where
+    pub items : v.items ≡ xs
+    pub capacity : v.capacity ≡ sized size n
+    pub grows : v.growth ≡ growth
+    pub grown : v.grown ≡ 0
+    pub written : v.written ≡ length xs
+    pub runs : v.runs ≡ k
+
+  -- n elements were written into places, by at most as many calls of the block
+  pub record WritesAtMost (old : Vector T A) (n : ℕ) (new : Vector T A) : Type 0 where
+    pub written : new.written ≡ old.written + n
+    pub runs : new.runs ≤ old.runs + n
+
+  -- v was just made with the items xs, in room for no more that grows so. At most as many calls of the block wrote them
+  pub record IsMadeWithin (size : ℕ) (growth : Growth) (xs : List T) (v : Vector T A) : Type 0 where
+    pub calls : ℕ
+    pub few : calls ≤ length xs
+    pub made : IsMade size (length xs) growth xs calls v
+
+  -- v was just made, with a clone of each of xs in room for no more
+  pub record IsMadeOf (clones : T → T → Type 0) (size : ℕ) (growth : Growth) (xs : List T) (v : Vector T A) : Type 0 where
+    pub added : List T
+    pub each : AllZip clones xs added
+    pub made : IsMade size (length xs) growth added (length xs) v
+
+  -- v was just made, with n items in room for no more: clones of x, and x itself last
+  pub record IsMadeOfOne (clones : T → T → Type 0) (size : ℕ) (x : T) (n : ℕ) (v : Vector T A) : Type 0 where
+    pub added : List T
+    pub each : AllZip clones (replicate (n - 1) x) added
+    pub made : IsMade size n Doubling (if n == 0 then [] else added ++ x ∷ []) n v
+
+  -- new has the block of old, and behind old's items a clone of each of xs, written one by one
+  pub record Adds (clones : T → T → Type 0) (old : Vector T A) (xs : List T) (new : Vector T A) : Type 0 where
+    pub added : List T
+    pub each : AllZip clones xs added
+    pub holds : Holds old (old.items ++ added) new
+    pub writes : Writes old (length xs) (length xs) new
+
+  -- new has the block of old, and behind old's items k others, written one by one: clones of x, and x itself last
+  pub record Fills (clones : T → T → Type 0) (old : Vector T A) (k : ℕ) (x : T) (new : Vector T A) : Type 0 where
+    pub added : List T
+    pub each : AllZip clones (replicate (k - 1) x) added
+    pub holds : Holds old (old.items ++ (added ++ x ∷ [])) new
+    pub writes : Writes old k k new
+
+  -- new has old's items in the block of old, and fewer than k that were written there are gone
+  pub record Undone (old : Vector T A) (k : ℕ) (new : Vector T A) : Type 0 where
+    pub done : ℕ
+    pub fewer : done < k
+    pub holds : Holds old old.items new
+    pub writes : Writes old done done new
+
+  -- new has a clone of each of xs behind old's items, in room that was made for all of them at once
+  pub record Extends (clones : T → T → Type 0) (size : ℕ) (old : Vector T A) (xs : List T) (new : Vector T A) : Type 0 where
+    pub added : List T
+    pub each : AllZip clones xs added
+    pub grows : GrowsTo size old (length xs) (old.items ++ added) new
+
+  -- new has k more items than old, in room that was made for all of them at once: clones of x, and x itself last
+  pub record Lengthens (clones : T → T → Type 0) (size : ℕ) (old : Vector T A) (k : ℕ) (x : T) (new : Vector T A) : Type 0 where
+    pub added : List T
+    pub each : AllZip clones (replicate (k - 1) x) added
+    pub grows : GrowsTo size old k (old.items ++ (added ++ x ∷ [])) new
+
+  -- new has k more items than old, in room that was made for all of them at once: what f answered, called once for each, in order
+  pub record LengthensBy {F : Type 0} (step : F → T → F → Type 0) (size : ℕ) (old : Vector T A) (k : ℕ) (f : F) (new : Vector T A) : Type 0 where
+    pub answers : List T
+    pub last : F  -- the closure's state after the last call
+    pub calls : FoldsTo step f answers last
+    pub count : length answers ≡ k
+    pub grows : GrowsTo size old k (old.items ++ answers) new
+
+  -- k more than old has were to be put behind its items, in room for all of them. There was a failure: they are gone, and the room stays
+  pub record Stopped (failure : Type 0) (size : ℕ) (old : Vector T A) (k : ℕ) (error : TryReserveErrorKind) (new : Vector T A) : Type 0 where
+    pub cause : failure
+    pub number : error ≡ AllocError (len old + k)
+    pub left : GrowsTo size old k old.items new
+    pub done : ℕ
+    pub fewer : done < k
+    pub writes : Writes old done done new
+
+  -- or there was no room for them, and nothing has changed
+  abbrev pub Refuses : (failure : Type 0) (size : ℕ) → Vector T A → (k : ℕ) → TryReserveErrorKind → Vector T A → Type 0
+  Refuses failure size old k error new = (LacksRoom old k error × (new ≡ old)) ⊎ Stopped failure size old k error new
+
+  -- clones of xs were to take the place of old's items, in room for all of them. There was a failure: those of a beginning of xs are there
+  pub record Begins (clones : T → T → Type 0) (failure : Type 0) (size : ℕ) (old : Vector T A) (xs : List T) (error : TryReserveErrorKind) (new : Vector T A) : Type 0 where
+    pub cause : failure
+    pub number : error ≡ AllocError (length xs)
+    pub done : ℕ
+    pub fewer : done < length xs
+    pub added : List T
+    pub each : AllZip clones (take done xs) added
+    pub grows : GrowsTo size (with_items old []) (length xs) added new
+    pub writes : Writes old done done new
+
+  -- there was no room for k items, where those of old were dropped. None is left
+  pub record LeavesNone (old : Vector T A) (k : ℕ) (error : TryReserveErrorKind) (new : Vector T A) : Type 0 where
+    pub lacks : LacksRoom (with_items old []) k error
+    pub holds : Holds old [] new
+    pub writes : Writes old 0 0 new
+
+  abbrev pub StopsAssigning : (clones : T → T → Type 0) (failure : Type 0) (size : ℕ) → Vector T A → (xs : List T) → TryReserveErrorKind → Vector T A → Type 0
+  StopsAssigning clones failure size old xs error new = LeavesNone old (length xs) error new ⊎ Begins clones failure size old xs error new

@@ -1,0 +1,98 @@
+-- A vector that items are put behind, one by one, as an iterator gives them, and what the iterator tells of how many are to come.
+use Rattle.std.specs.Prelude.{◌≡◌, ℕ, ◌+◌, ◌-◌, ◌<◌, ◌≤◌, min, List, [], ◌∷◌, ◌++◌, length, Option, Some, None}
+use Rattle.std.specs.Borrow.{Bor}
+use Rattle.std.specs.Iterator.{Count, YieldsFirst}
+use Rattle.std.specs.Iterator.SizeHint.{IsWithinCount}
+use Rattle.aa_raw.specs.declared.collections.TryReserveErrorKind.{TryReserveErrorKind}
+use Rattle.aa_raw.specs.Growth.{usize_max}
+use Rattle.aa_vec.specs.Vector.{Vector, len, IsNew, LacksRoom, SameBlock, MakesRoom}
+
+-- what an `Items` has: the items that are to come, in order, and the number that it tells of them
+pub record ItemsLeft (T : Type 0) : Type 0 where
+  pub items : List T
+  pub hint : Option ℕ  -- none: it tells how many there are
+
+-- an `Items` gave r and left t: the first item, if there was one, and the hint stays
+abbrev pub gives_item : {T : Type 0} → ItemsLeft T → Option T → ItemsLeft T → Type 0
+gives_item s r t = YieldsFirst (λ left. left.items) s r t × (t.hint ≡ s.hint)
+
+-- what an `Items` with this hint tells, when `left` items are to come
+abbrev pub lower_by : Option ℕ → (left : ℕ) → ℕ
+lower_by None left = left
+lower_by (Some hint) left = hint
+
+-- what a full vector asks room for: `left` items find no place, the first of them is taken, and `lower` of the others is told
+abbrev pub asked_for : (lower : ℕ → ℕ) → (left : ℕ) → ℕ
+asked_for lower left = min (lower (left - 1) + 1) usize_max
+
+module _ {T A : Type 0} where
+  -- old, of elements of `size` bytes, grew while it was full and had not room for `needed`, any number of times, and is new
+  pub data Climbs (size : ℕ) (lower : ℕ → ℕ) (needed : ℕ) : Vector T A → Vector T A → Type 0 where
+    stays : {old new : Vector T A} → SameBlock old new → Climbs size lower needed old new
+    grows : {old mid new : Vector T A} → old.capacity < needed → MakesRoom size old old.capacity (asked_for lower (needed - old.capacity)) mid → Climbs size lower needed mid new → Climbs size lower needed old new
+
+  -- new has xs and all of `added` behind them, in the block of old or the first that old climbed to with places for all
+  pub record ExtendsAll (size : ℕ) (lower : ℕ → ℕ) (old : Vector T A) (xs added : List T) (new : Vector T A) : Type 0 where
+    pub climbs : Climbs size lower (length xs + length added) old new
+    pub enough : length xs + length added ≤ new.capacity
+    pub items : new.items ≡ xs ++ added
+
+  -- new has xs and `front`, a beginning of `added` that fills the places; the first of the others found none, and the room asked for then was refused
+  pub record ExtendsFull (size : ℕ) (lower : ℕ → ℕ) (old : Vector T A) (xs added : List T) (error : TryReserveErrorKind) (new : Vector T A) : Type 0 where
+    pub front : List T
+    pub others : List T
+    pub begins : added ≡ front ++ others
+    pub climbs : Climbs size lower (length xs + length added) old new
+    pub short : new.capacity < length xs + length added
+    pub items : new.items ≡ xs ++ front
+    pub full : length xs + length front ≡ new.capacity
+    pub lacks : LacksRoom new (asked_for lower (length others)) error
+
+-- a call that gave a `&` gave a value equal to what stands there
+abbrev pub Reads : {S T : Type 0} → (S → Option (Bor T) → S → Type 0) → S → Option T → S → Type 0
+Reads steps s None t = steps s None t
+Reads {T = T} steps s (Some x) t = (r : Bor T) × steps s (Some r) t × (x ≡ r.now)
+
+-- in this state an iterator tells the number that `lower_of` has for it
+abbrev pub TellsExactly : {S : Type 0} → (S → ℕ) → S → ℕ → Type 0
+TellsExactly lower_of s n = n ≡ lower_of s
+
+-- in this state it may tell n, as a lower bound of what remains
+abbrev pub TellsAtMost : {S : Type 0} → (S → Count) → S → ℕ → Type 0
+TellsAtMost remaining s n = IsWithinCount n (remaining s)
+
+module _ {S T : Type 0} (steps : S → Option T → S → Type 0) (Tells : S → ℕ → Type 0) where
+  -- calls from s gave xs and led to t, and after each, with k of xs still to come, the state may tell `lower k`
+  abbrev pub YieldsTelling : (lower : ℕ → ℕ) → S → List T → S → Type 0
+  YieldsTelling lower s [] t = s ≡ t
+  YieldsTelling lower s (x ∷ xs) t = (j : S) × steps s (Some x) j × Tells j (lower (length xs)) × YieldsTelling lower j xs t
+
+  module _ {A : Type 0} (size : ℕ) (iter : S) (old : Vector T A) where
+    -- new is old with all that came from `iter` behind its items, in room asked for as the iterator told
+    pub record ExtendsByAll (new : Vector T A) : Type 0 where
+      pub added : List T
+      pub lower : ℕ → ℕ
+      pub last : S
+      pub told : YieldsTelling lower iter added last
+      pub ends : (end : S) × steps last None end
+      pub within : len old ≤ old.capacity
+      pub extends : ExtendsAll size lower old old.items added new
+
+    -- new is old with a beginning of what was taken from `iter`, all but one item, behind its items; room for the one was refused
+    pub record ExtendsByFront (error : TryReserveErrorKind) (new : Vector T A) : Type 0 where
+      pub taken : List T
+      pub lower : ℕ → ℕ
+      pub last : S
+      pub told : YieldsTelling lower iter taken last
+      pub within : len old ≤ old.capacity
+      pub extends : ExtendsFull size lower old old.items taken error new
+      pub one : length extends.others ≡ 1
+
+  module _ {A : Type 0} (size : ℕ) (iter : S) (alloc : A) where
+    -- v was new, and was extended by all that came from `iter`
+    abbrev pub MadeByAll : Vector T A → Type 0
+    MadeByAll v = (new : Vector T A) × IsNew size 0 alloc new × ExtendsByAll size iter new v
+
+    -- a new vector was extended by a beginning, and then room was refused
+    abbrev pub StopsAtFront : TryReserveErrorKind → Type 0
+    StopsAtFront error = (new : Vector T A) × (full : Vector T A) × IsNew size 0 alloc new × ExtendsByFront size iter new error full

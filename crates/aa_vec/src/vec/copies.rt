@@ -1,0 +1,262 @@
+//! Clones of elements, put behind the last one.
+ghost use Rattle.std.specs.Prelude.{◌≡◌, ◌+◌, ◌-◌, ◌<◌, ◌≤◌, [], ◌∷◌, ◌++◌, false, length, take, drop, replicate, All, IsTrue, IfErr, OnOk, OnErr, IsOk};
+ghost use Rattle.std.specs.Mem.{type_size};
+ghost use Rattle.aa_vec.specs.Vector.{len, HasRoom, LacksRoom, GrowsTo, Holds, Writes, with_items};
+ghost use Rattle.aa_vec.specs.Copies.{Copies, IsBeginning, Adds, Fills, Undone, Extends, Lengthens, LengthensBy, MayCallTimes, Refuses, StopsAssigning};
+
+use crate::vec::Vec;
+use aa_raw::collections::{TryReserveError, TryReserveErrorKind};
+use std::alloc::Allocator;
+
+impl<T: Clone, A: Allocator> Vec<T, A> {
+    /// Puts a clone of each element of `other` behind the last one. It makes room for all of them before the first clone, as
+    /// `try_reserve` does and refused as that is. Where a clone is refused, the clones made so far are dropped, the capacity
+    /// stays as it is then, and the error is `AllocError` with the length asked for. It stands for `Vec::extend_from_slice`.
+    pub fn extend_from_slice(&mut self, other: &[T]) -> Result<(), TryReserveError>
+        ensures fits { HasRoom self.old (length other.now) → All T.is_infallible other.now → IsOk result }
+        ensures extended { OnOk result (Extends T.is_clone (type_size T.row) self.old other.now self.new) }
+        ensures copied { Copies T.is_clone → OnOk result (GrowsTo (type_size T.row) self.old (length other.now) (self.old.items ++ other.now) self.new) }
+        ensures writes { OnOk result (Writes self.old (length other.now) (length other.now) self.new) }
+        ensures refused { IfErr result (λ e. Refuses (¬ (All T.is_infallible other.now)) (type_size T.row) self.old (length other.now) e self.new) }
+    {
+        let len = self.len();
+        let count = other.len();
+        if let Err(error) = self.try_reserve(count) {
+            return Err(error);
+        }
+        let _within = self.capacity();
+        if self.push_clones(other) {
+            return Ok(());
+        }
+        Err(TryReserveErrorKind::AllocError {
+            capacity: len + count,
+        }
+        .into())
+    }
+
+    /// Puts a clone of each element from the index `from` to before the index `to` behind the last one; it is refused as
+    /// `extend_from_slice` is. It stands for `Vec::extend_from_within`, which takes a range.
+    pub fn extend_from_within(&mut self, from: usize, to: usize) -> Result<(), TryReserveError>
+        requires { (from ≤ to) × (to ≤ len self.old) }
+        ensures fits { HasRoom self.old (to - from) → All T.is_infallible (take (to - from) (drop from self.old.items)) → IsOk result }
+        ensures extended { OnOk result (Extends T.is_clone (type_size T.row) self.old (take (to - from) (drop from self.old.items)) self.new) }
+        ensures copied { Copies T.is_clone → OnOk result (GrowsTo (type_size T.row) self.old (to - from) (self.old.items ++ take (to - from) (drop from self.old.items)) self.new) }
+        ensures writes { OnOk result (Writes self.old (to - from) (to - from) self.new) }
+        ensures refused { IfErr result (λ e. Refuses (¬ (All T.is_infallible (take (to - from) (drop from self.old.items)))) (type_size T.row) self.old (to - from) e self.new) }
+    {
+        let len = self.len();
+        let count = to - from;
+        if let Err(error) = self.try_reserve(count) {
+            return Err(error);
+        }
+        let _within = self.capacity();
+        if self.push_own(from, count) {
+            return Ok(());
+        }
+        Err(TryReserveErrorKind::AllocError {
+            capacity: len + count,
+        }
+        .into())
+    }
+
+    /// Cuts the vector to `new_len` elements as `truncate` does, or fills it up to that many: with clones of `value`, and with
+    /// `value` itself in the last place. It makes room for all of them before the first clone, and is refused as
+    /// `extend_from_slice` is. It stands for `Vec::resize`.
+    pub fn resize(&mut self, new_len: usize, value: T) -> Result<(), TryReserveError>
+        ensures fits { HasRoom self.old (new_len - len self.old) → (len self.old + 1 < new_len → T.is_infallible value) → IsOk result }
+        ensures cut { new_len ≤ len self.old → IsOk result × Holds self.old (take new_len self.old.items) self.new }
+        ensures filled { OnOk result (len self.old < new_len → Lengthens T.is_clone (type_size T.row) self.old (new_len - len self.old) value self.new) }
+        ensures copied { Copies T.is_clone → OnOk result (GrowsTo (type_size T.row) self.old (new_len - len self.old) (take new_len self.old.items ++ replicate (new_len - len self.old) value) self.new) }
+        ensures writes { OnOk result (Writes self.old (new_len - len self.old) (new_len - len self.old) self.new) }
+        ensures refused { IfErr result (λ e. (len self.old < new_len) × Refuses ((len self.old + 1 < new_len) × (¬ (T.is_infallible value))) (type_size T.row) self.old (new_len - len self.old) e self.new) }
+    {
+        let len = self.len();
+        if new_len <= len {
+            self.truncate(new_len);
+            return Ok(());
+        }
+        if let Err(error) = self.try_reserve(new_len - len) {
+            return Err(error);
+        }
+        if self.fill(new_len - len, value) {
+            return Ok(());
+        }
+        Err(TryReserveErrorKind::AllocError { capacity: new_len }.into())
+    }
+
+    /// Drops all elements, and puts a clone of each element of `other` in their place. It makes room for all of them before the
+    /// first clone; a refusal leaves clones of a beginning of `other`, or nothing, and is `CapacityOverflow`, or `AllocError`
+    /// with a capacity of at least the length of `other`. It stands for the original's `Clone::clone_from`.
+    pub fn assign_from(&mut self, other: &Self) -> Result<(), TryReserveError>
+        ensures fits { len other.now ≤ self.old.capacity → All T.is_infallible other.now.items → IsOk result }
+        ensures assigned { OnOk result (Extends T.is_clone (type_size T.row) (with_items self.old []) other.now.items self.new) }
+        ensures copied { Copies T.is_clone → OnOk result (GrowsTo (type_size T.row) (with_items self.old []) (len other.now) other.now.items self.new) }
+        ensures writes { OnOk result (Writes self.old (len other.now) (len other.now) self.new) }
+        ensures begun { Copies T.is_clone → OnErr result (IsBeginning other.now.items self.new.items) }
+        ensures refused { IfErr result (λ e. StopsAssigning T.is_clone (¬ (All T.is_infallible other.now.items)) (type_size T.row) self.old other.now.items e self.new) }
+    {
+        self.clear();
+        let source = other.as_slice();
+        let count = source.len();
+        if let Err(error) = self.try_reserve(count) {
+            return Err(error);
+        }
+        if self.push_beginning(source) == count {
+            return Ok(());
+        }
+        Err(TryReserveErrorKind::AllocError { capacity: count }.into())
+    }
+
+    // Puts a clone of `source` behind the last element of a vector that is not full, unless the clone is refused.
+    fn push_clone(&mut self, source: &T) -> bool
+        requires room { len self.old < self.old.capacity }
+        ensures pushed { IsTrue result → Adds T.is_clone self.old (source.now ∷ []) self.new }
+        ensures refused { result ≡ false → (¬ (T.is_infallible source.now)) × (self.new ≡ self.old) }
+    {
+        match source.clone() {
+            Ok(copy) => {
+                self.put_next(copy);
+                true
+            }
+            Err(_) => false,
+        }
+    }
+
+    // Puts clones of the elements of `source` behind the last one, up to the first clone that is refused. It answers how many.
+    pub(crate) fn push_beginning(&mut self, source: &[T]) -> usize
+        requires room { HasRoom self.old (length source.now) }
+        ensures within { result ≤ length source.now }
+        ensures pushed { Adds T.is_clone self.old (take result source.now) self.new }
+        ensures refused { result < length source.now → ¬ (All T.is_infallible source.now) }
+    {
+        let _within = self.capacity();
+        let count = source.len();
+        'each: for pushed in 0..count {
+            if !self.push_clone(&source[pushed]) {
+                return pushed;
+            }
+        }
+        count
+    }
+
+    // Puts a clone of each element of `source` behind the last one, or of none where a clone is refused.
+    pub(crate) fn push_clones(&mut self, source: &[T]) -> bool
+        requires room { HasRoom self.old (length source.now) }
+        ensures pushed { IsTrue result → Adds T.is_clone self.old source.now self.new }
+        ensures refused { result ≡ false → (¬ (All T.is_infallible source.now)) × Undone self.old (length source.now) self.new }
+    {
+        let len = self.len();
+        if self.push_beginning(source) == source.len() {
+            return true;
+        }
+        self.truncate(len);
+        false
+    }
+
+    // The same with `count` of its own elements, from the index `from` on.
+    fn push_own(&mut self, from: usize, count: usize) -> bool
+        requires range { from + count ≤ len self.old }
+        requires room { HasRoom self.old count }
+        ensures pushed { IsTrue result → Adds T.is_clone self.old (take count (drop from self.old.items)) self.new }
+        ensures refused { result ≡ false → (¬ (All T.is_infallible (take count (drop from self.old.items)))) × Undone self.old count self.new }
+    {
+        let len = self.len();
+        let _within = self.capacity();
+        'each: for pushed in 0..count {
+            match self.as_slice()[from + pushed].clone() {
+                Ok(copy) => self.put_next(copy),
+                Err(_) => {
+                    self.truncate(len);
+                    return false;
+                }
+            }
+        }
+        true
+    }
+
+    // The same with `count` clones of one value.
+    fn push_same(&mut self, value: &T, count: usize) -> bool
+        requires room { HasRoom self.old count }
+        ensures pushed { IsTrue result → Adds T.is_clone self.old (replicate count value.now) self.new }
+        ensures refused { result ≡ false → (¬ (T.is_infallible value.now)) × Undone self.old count self.new }
+    {
+        let len = self.len();
+        let _within = self.capacity();
+        'each: for _pushed in 0..count {
+            if !self.push_clone(value) {
+                self.truncate(len);
+                return false;
+            }
+        }
+        true
+    }
+
+    // Puts `count` elements behind the last one, clones of `value` and then `value` itself, or none where a clone is refused.
+    pub(crate) fn fill(&mut self, count: usize, value: T) -> bool
+        requires some { 0 < count }
+        requires room { HasRoom self.old count }
+        ensures filled { IsTrue result → Fills T.is_clone self.old count value self.new }
+        ensures refused { result ≡ false → (1 < count) × (¬ (T.is_infallible value)) × Undone self.old count self.new }
+    {
+        if !self.push_same(&value, count - 1) {
+            return false;
+        }
+        self.put_next(value);
+        true
+    }
+}
+
+impl<T, A: Allocator> Vec<T, A> {
+    /// Cuts the vector to `new_len` elements as `truncate` does, or fills it up to that many with what `f` answers, called once
+    /// for each new place, in order. It makes room for all of them before the first call, as `try_reserve` does and refused as
+    /// that is; then `f` is not called. It stands for `Vec::resize_with`.
+    pub fn resize_with<F: FnMut() -> T>(
+        &mut self,
+        new_len: usize,
+        mut f: F,
+    ) -> Result<(), TryReserveError>
+    where
+        T: Drop,
+        requires callable { MayCallTimes (λ g. F.pre g) F.step (new_len - len self.old) f }
+        ensures fits { HasRoom self.old (new_len - len self.old) → IsOk result }
+        ensures cut { new_len ≤ len self.old → IsOk result × Holds self.old (take new_len self.old.items) self.new }
+        ensures filled { OnOk result (len self.old < new_len → LengthensBy F.step (type_size T.row) self.old (new_len - len self.old) f self.new) }
+        ensures writes { OnOk result (Writes self.old (new_len - len self.old) (new_len - len self.old) self.new) }
+        ensures refused { IfErr result (λ e. LacksRoom self.old (new_len - len self.old) e × (self.new ≡ self.old)) }
+    {
+        let len = self.len();
+        if new_len <= len {
+            self.truncate(new_len);
+            return Ok(());
+        }
+        if let Err(error) = self.try_reserve(new_len - len) {
+            return Err(error);
+        }
+        'each: for _filled in len..new_len {
+            let value = answer_of(&mut f);
+            self.put_next(value);
+        }
+        Ok(())
+    }
+
+    // Puts `value` behind the last element of a vector that is not full.
+    #[inline]
+    pub(crate) fn put_next(&mut self, value: T)
+        requires room { len self.old < self.old.capacity }
+        ensures items { Holds self.old (self.old.items ++ value ∷ []) self.new }
+        ensures writes { Writes self.old 1 1 self.new }
+    {
+        let len = self.len;
+        let _within = self.block.capacity();
+        self.block.put(len, value);
+        self.len = len + 1;
+    }
+}
+
+// One call of a closure that makes values.
+fn answer_of<T, F: FnMut() -> T>(f: &mut F) -> T
+    requires { F.pre f.old }
+    ensures { F.step f.old result f.new }
+{
+    f()
+}

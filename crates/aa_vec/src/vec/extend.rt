@@ -1,0 +1,149 @@
+//! Items of an iterator, put behind the elements.
+ghost use Rattle.std.specs.Prelude.{◌≡◌, ◌-◌, ◌<◌, ◌≤◌, ◌++◌, List, map, IfOk, IfErr, OnOk, IsOk};
+ghost use Rattle.std.specs.Bool.{OnTrue, OnFalse};
+ghost use Rattle.std.specs.Mem.{type_size};
+ghost use Rattle.std.specs.Iterator.{IsFinite, Drains, size};
+ghost use Rattle.std.specs.Iterator.Runs.{WholeRun};
+ghost use Rattle.std.specs.Borrow.{Bor};
+ghost use Rattle.aa_vec.specs.Vector.{len, sized, HasRoom, Writes};
+ghost use Rattle.aa_vec.specs.Extending.{ExtendsByAll, ExtendsByFront, MadeByAll, StopsAtFront, Reads, TellsAtMost, TellsExactly};
+
+use crate::vec::Vec;
+use crate::vec::items::Hinted;
+use aa_raw::collections::TryReserveError;
+use aa_raw::raw_vec::Growth;
+use std::alloc::{Allocator, Global};
+
+impl<T, A: Allocator> Vec<T, A> {
+    // Whether there is no place for one more element.
+    #[inline(always)]
+    fn is_full(&self) -> bool
+        ensures full { OnTrue result (len self.now ≡ self.now.capacity) }
+        ensures free { OnFalse result (len self.now < self.now.capacity) }
+        ensures within { len self.now ≤ self.now.capacity }
+    {
+        self.len() == self.capacity()
+    }
+
+    /// Puts the items of `iter`, which ends, behind the last element; it takes each of them first, and memory only where the
+    /// vector is full then, with room to spare for that item and as many as `lower` now tells. A refusal keeps what was placed,
+    /// drops the item that found no place and takes no other: `CapacityOverflow` where the length asked for passes `usize::MAX`
+    /// or its bytes pass `isize::MAX`, else `AllocError` with at least that length. It stands for `Vec::extend`, with `lower` in
+    /// place of `size_hint`.
+    pub fn extend_hinted<I: Hinted<Item = T>>(&mut self, iter: I) -> Result<(), TryReserveError>
+    where
+        T: Drop,
+        requires may_ask { I.can_next iter }
+        requires ends { IsFinite (I.remaining iter) }
+        ensures fits { HasRoom self.old (size (I.remaining iter)) → IsOk result }
+        ensures ran { OnOk result ((xs : List T) × Drains I.next_gives iter xs × (self.new.items ≡ self.old.items ++ xs)) }
+        ensures runs { OnOk result (WholeRun I.next_gives iter (λ p. self.new.items ≡ self.old.items ++ p.items)) }
+        ensures extended { OnOk result (ExtendsByAll I.next_gives (TellsExactly I.lower_of) (type_size T.row) iter self.old self.new) }
+        ensures writes { let placed = len self.new - len self.old in Writes self.old placed placed self.new }
+        ensures refused { IfErr result (λ e. ExtendsByFront I.next_gives (TellsExactly I.lower_of) (type_size T.row) iter self.old e self.new) }
+    {
+        let mut hinted = iter;
+        let _within = self.is_full();
+        while let Some(x) = hinted.next() {
+            if self.is_full() {
+                self.try_reserve(hinted.lower().saturating_add(1))?;
+            }
+            self.put_next(x);
+        }
+        Ok(())
+    }
+
+    /// Puts the items of `iter`, which ends, behind the last element; it takes each of them first, and memory only where the
+    /// vector is full then, with room to spare for that item and the lower bound that `size_hint` now has. It is refused as
+    /// `extend_hinted` is. It stands for `Vec::extend`, which aborts on a refusal.
+    pub fn extend<I: Iterator<Item = T>>(&mut self, iter: I) -> Result<(), TryReserveError>
+    where
+        T: Drop,
+        requires may_ask { I.can_next iter }
+        requires ends { IsFinite (I.remaining iter) }
+        ensures fits { HasRoom self.old (size (I.remaining iter)) → IsOk result }
+        ensures ran { OnOk result ((xs : List T) × Drains I.next_gives iter xs × (self.new.items ≡ self.old.items ++ xs)) }
+        ensures runs { OnOk result (WholeRun I.next_gives iter (λ p. self.new.items ≡ self.old.items ++ p.items)) }
+        ensures extended { OnOk result (ExtendsByAll I.next_gives (TellsAtMost I.remaining) (type_size T.row) iter self.old self.new) }
+        ensures writes { let placed = len self.new - len self.old in Writes self.old placed placed self.new }
+        ensures refused { IfErr result (λ e. ExtendsByFront I.next_gives (TellsAtMost I.remaining) (type_size T.row) iter self.old e self.new) }
+    {
+        let mut rest = iter;
+        let _within = self.is_full();
+        while let Some(x) = rest.next() {
+            if self.is_full() {
+                self.try_reserve(rest.size_hint().0.saturating_add(1))?;
+            }
+            self.put_next(x);
+        }
+        Ok(())
+    }
+
+    /// Puts copies of what the items of `iter`, which ends, refer to behind the last element; else it is as `extend`. It stands
+    /// for `Vec::extend` over references, which aborts on a refusal.
+    pub fn extend_copied<'a, I: Iterator<Item = &'a T>>(
+        &mut self,
+        iter: I,
+    ) -> Result<(), TryReserveError>
+    where
+        T: Copy + 'a,
+        requires may_ask { I.can_next iter }
+        requires ends { IsFinite (I.remaining iter) }
+        ensures fits { HasRoom self.old (size (I.remaining iter)) → IsOk result }
+        ensures ran { OnOk result ((rs : List (Bor T)) × Drains I.next_gives iter rs × (self.new.items ≡ self.old.items ++ map (λ r. r.now) rs)) }
+        ensures runs { OnOk result (WholeRun I.next_gives iter (λ p. self.new.items ≡ self.old.items ++ map (λ r. r.now) p.items)) }
+        ensures extended { OnOk result (ExtendsByAll (Reads I.next_gives) (TellsAtMost I.remaining) (type_size T.row) iter self.old self.new) }
+        ensures writes { let placed = len self.new - len self.old in Writes self.old placed placed self.new }
+        ensures refused { IfErr result (λ e. ExtendsByFront (Reads I.next_gives) (TellsAtMost I.remaining) (type_size T.row) iter self.old e self.new) }
+    {
+        let mut references = iter;
+        let _within = self.is_full();
+        while let Some(x) = references.next() {
+            if self.is_full() {
+                self.try_reserve(references.size_hint().0.saturating_add(1))?;
+            }
+            self.put_next(*x);
+        }
+        Ok(())
+    }
+
+    /// A vector of the items of `iter`, which ends: a new one, extended as `extend` does, so it takes no memory where no item comes
+    /// or elements have no size. It is refused as `extend` is, and then drops what came. The original has no such call.
+    pub fn from_iter_in<I: Iterator<Item = T>>(iter: I, alloc: A) -> Result<Self, TryReserveError>
+    where
+        T: Drop,
+        requires may_ask { I.can_next iter }
+        requires ends { IsFinite (I.remaining iter) }
+        ensures fits { size (I.remaining iter) ≤ sized (type_size T.row) 0 → IsOk result }
+        ensures ran { IfOk result (λ v. Drains I.next_gives iter v.items) }
+        ensures runs { IfOk result (λ v. WholeRun I.next_gives iter (λ p. v.items ≡ p.items)) }
+        ensures made { IfOk result (λ v. MadeByAll I.next_gives (TellsAtMost I.remaining) (type_size T.row) iter alloc v) }
+        ensures growth { IfOk result (λ v. (v.growth ≡ Growth.Doubling) × (v.alloc ≡ alloc)) }
+        ensures writes { IfOk result (λ v. (v.written ≡ len v) × (v.runs ≡ len v)) }
+        ensures refused { IfErr result (λ e. StopsAtFront I.next_gives (TellsAtMost I.remaining) (type_size T.row) iter alloc e) }
+    {
+        let mut v = Vec::new_in(alloc);
+        v.extend(iter)?;
+        Ok(v)
+    }
+}
+
+impl<T> Vec<T, Global> {
+    /// A vector of the items of `iter` on the global allocator; it is refused as `from_iter_in` is. It stands for
+    /// `Vec::from_iter`, which aborts on a refusal.
+    pub fn from_iter<I: Iterator<Item = T>>(alloc: Global, iter: I) -> Result<Self, TryReserveError>
+    where
+        T: Drop,
+        requires may_ask { I.can_next iter }
+        requires ends { IsFinite (I.remaining iter) }
+        ensures fits { size (I.remaining iter) ≤ sized (type_size T.row) 0 → IsOk result }
+        ensures ran { IfOk result (λ v. Drains I.next_gives iter v.items) }
+        ensures runs { IfOk result (λ v. WholeRun I.next_gives iter (λ p. v.items ≡ p.items)) }
+        ensures made { IfOk result (λ v. MadeByAll I.next_gives (TellsAtMost I.remaining) (type_size T.row) iter alloc v) }
+        ensures growth { IfOk result (λ v. (v.growth ≡ Growth.Doubling) × (v.alloc ≡ alloc)) }
+        ensures writes { IfOk result (λ v. (v.written ≡ len v) × (v.runs ≡ len v)) }
+        ensures refused { IfErr result (λ e. StopsAtFront I.next_gives (TellsAtMost I.remaining) (type_size T.row) iter alloc e) }
+    {
+        Vec::from_iter_in(iter, alloc)
+    }
+}

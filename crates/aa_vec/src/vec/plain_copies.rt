@@ -1,0 +1,179 @@
+//! Copies of elements that are `Copy`, in blocks of 64 that compile to copies of memory. Each call is a second one beside that
+//! for `Clone`, since a call can't tell the two apart.
+ghost use Rattle.std.specs.Prelude.{◌≡◌, ◌+◌, ◌-◌, ◌*◌, ◌^◌, ◌<◌, ◌≤◌, ◌++◌, length, take, drop, IfOk, IfErr, OnOk, IsOk};
+ghost use Rattle.std.specs.Mem.{type_size};
+ghost use Rattle.aa_raw.specs.Refusals.{IsRefusedAt};
+ghost use Rattle.aa_raw.specs.declared.raw_vec.Growth.TheVariants.{Doubling};
+ghost use Rattle.aa_vec.specs.Vector.{len, HasRoom, LacksRoom, GrowsTo, Holds, Writes, run_count};
+ghost use Rattle.aa_vec.specs.Copies.{WritesAtMost, IsMadeWithin};
+
+use crate::vec::Vec;
+use aa_raw::collections::TryReserveError;
+use std::alloc::{Allocator, Global};
+
+impl<T: Copy> Vec<T, Global> {
+    /// `from_slice` for elements that are `Copy`, which is refused only where memory is. It stands for what the original's
+    /// `From<&[T]>` compiles to for such elements.
+    pub fn from_slice_copied(alloc: Global, slice: &[T]) -> Result<Self, TryReserveError>
+        ensures made { IfOk result (λ v. IsMadeWithin (type_size T.row) Doubling slice.now v × (v.alloc ≡ alloc)) }
+        ensures refused { IfErr result (λ e. (0 < length slice.now) × (0 < type_size T.row) × IsRefusedAt e (length slice.now)) }
+    {
+        Vec::from_slice_copied_in(slice, alloc)
+    }
+}
+
+impl<T: Copy, A: Allocator> Vec<T, A> {
+    /// `from_slice_in` for elements that are `Copy`, which is refused only where memory is. The original has no such call.
+    pub fn from_slice_copied_in(slice: &[T], alloc: A) -> Result<Self, TryReserveError>
+        ensures made { IfOk result (λ v. IsMadeWithin (type_size T.row) Doubling slice.now v × (v.alloc ≡ alloc)) }
+        ensures refused { IfErr result (λ e. (0 < length slice.now) × (0 < type_size T.row) × IsRefusedAt e (length slice.now)) }
+    {
+        let mut made = Vec::with_capacity_in(slice.len(), alloc)?;
+        let _within = made.capacity();
+        made.put_copies(slice);
+        Ok(made)
+    }
+
+    /// `clone` for elements that are `Copy`, which is refused only where memory or the allocator's clone is. It stands for what
+    /// the original's `Clone` compiles to for such elements.
+    pub fn clone_copied(&self) -> Result<Self, TryReserveError>
+    where
+        A: Clone,
+        ensures made { IfOk result (λ v. IsMadeWithin (type_size T.row) self.now.growth self.now.items v × A.is_clone self.now.alloc v.alloc) }
+        ensures refused { IfErr result (λ e. (A.is_infallible self.now.alloc → (0 < len self.now) × (0 < type_size T.row)) × IsRefusedAt e (len self.now)) }
+    {
+        let mut made = self.empty_like(self.len())?;
+        let _within = made.capacity();
+        made.put_copies(self.as_slice());
+        Ok(made)
+    }
+
+    /// `extend_from_slice` for elements that are `Copy`, which is refused only as `try_reserve` is, and then changes nothing. It
+    /// stands for what the original's `extend_from_slice` compiles to for such elements.
+    pub fn extend_from_slice_copied(&mut self, other: &[T]) -> Result<(), TryReserveError>
+        ensures fits { HasRoom self.old (length other.now) → IsOk result }
+        ensures extended { OnOk result (GrowsTo (type_size T.row) self.old (length other.now) (self.old.items ++ other.now) self.new) }
+        ensures writes { OnOk result (WritesAtMost self.old (length other.now) self.new) }
+        ensures refused { IfErr result (λ e. LacksRoom self.old (length other.now) e × (self.new ≡ self.old)) }
+    {
+        let _within = self.capacity();
+        if let Err(error) = self.try_reserve(other.len()) {
+            return Err(error);
+        }
+        self.put_copies(other);
+        Ok(())
+    }
+
+    /// `extend_from_within` for elements that are `Copy`, which is refused only as `try_reserve` is, and then changes nothing. It
+    /// stands for what the original's `extend_from_within` compiles to for such elements.
+    pub fn extend_from_within_copied(
+        &mut self,
+        from: usize,
+        to: usize,
+    ) -> Result<(), TryReserveError>
+        requires { (from ≤ to) × (to ≤ len self.old) }
+        ensures fits { HasRoom self.old (to - from) → IsOk result }
+        ensures extended { OnOk result (GrowsTo (type_size T.row) self.old (to - from) (self.old.items ++ take (to - from) (drop from self.old.items)) self.new) }
+        ensures writes { OnOk result (WritesAtMost self.old (to - from) self.new) }
+        ensures refused { IfErr result (λ e. LacksRoom self.old (to - from) e × (self.new ≡ self.old)) }
+    {
+        let _within = self.capacity();
+        let count = to - from;
+        if let Err(error) = self.try_reserve(count) {
+            return Err(error);
+        }
+        self.put_own_copies(from, count);
+        Ok(())
+    }
+
+    // Puts copies of all of `source` behind the last element of a vector that has room for them.
+    fn put_copies(&mut self, source: &[T])
+        requires room { HasRoom self.old (length source.now) }
+        ensures items { Holds self.old (self.old.items ++ source.now) self.new }
+        ensures writes { WritesAtMost self.old (length source.now) self.new }
+    {
+        let _within = self.capacity();
+        let done = self.put_blocks(source);
+        let count = source.len();
+        'each: for at in done..count {
+            self.put_next(source[at]);
+        }
+    }
+
+    // The same with whole blocks of 64 from the first on. It answers how many elements they hold.
+    fn put_blocks(&mut self, source: &[T]) -> usize
+        requires room { HasRoom self.old (length source.now) }
+        ensures within { result ≤ length source.now }
+        ensures items { Holds self.old (self.old.items ++ take result source.now) self.new }
+        ensures writes { WritesAtMost self.old result self.new }
+    {
+        let _within = self.block.capacity();
+        let count = source.len();
+        let mut done = 0;
+        'each: while count - done >= 64 {
+            self.put_block(block_at(source, done));
+            done += 64;
+        }
+        done
+    }
+
+    // Puts copies of `count` of its own elements, from the index `from` on, behind the last one of a vector that has room for them.
+    fn put_own_copies(&mut self, from: usize, count: usize)
+        requires range { from + count ≤ len self.old }
+        requires room { HasRoom self.old count }
+        ensures items { Holds self.old (self.old.items ++ take count (drop from self.old.items)) self.new }
+        ensures writes { WritesAtMost self.old count self.new }
+    {
+        let _within = self.capacity();
+        let done = self.put_own_blocks(from, count);
+        'each: for at in done..count {
+            let item = self.as_slice()[from + at];
+            self.put_next(item);
+        }
+    }
+
+    // The same with whole blocks of 64 from the first on. It answers how many elements they hold.
+    fn put_own_blocks(&mut self, from: usize, count: usize) -> usize
+        requires range { from + count ≤ len self.old }
+        requires room { HasRoom self.old count }
+        ensures within { result ≤ count }
+        ensures items { Holds self.old (self.old.items ++ take result (drop from self.old.items)) self.new }
+        ensures writes { WritesAtMost self.old result self.new }
+    {
+        let _within = self.block.capacity();
+        let mut done = 0;
+        'each: while count - done >= 64 {
+            let block = block_at(self.as_slice(), from + done);
+            self.put_block(block);
+            done += 64;
+        }
+        done
+    }
+
+    // Puts the elements of an array behind the last one.
+    #[inline]
+    fn put_block<const N: usize>(&mut self, items: [T; N])
+        requires long { length items ≡ N }
+        requires room { len self.old + N ≤ self.old.capacity }
+        ensures items { Holds self.old (self.old.items ++ items) self.new }
+        ensures writes { Writes self.old N (run_count N) self.new }
+    {
+        let len = self.len;
+        let _within = self.block.capacity();
+        self.block.put_array(len, items);
+        self.len = len + N;
+    }
+}
+
+// The 64 elements from `at` on. They are as many bytes as a block of so many places may have.
+#[inline(always)]
+fn block_at<T: Copy>(source: &[T], at: usize) -> [T; 64]
+    requires within { at + 64 ≤ length source.now }
+    requires small { 64 * type_size T.row < 2 ^ 63 }
+    ensures { result ≡ take 64 (drop at source.now) }
+{
+    match source[at..].split_first_chunk::<64>() {
+        Some((block, _behind)) => *block,
+        None => unreachable!(),
+    }
+}

@@ -1,0 +1,8 @@
+use Rattle.std.proofs.Common.{◌^◌}
+use Rattle.vecrun.specs.Lines.{words_of, Writes}
+use Rattle.vecrun.proofs.Taken.{HasTaken}
+use Rattle.vecrun.proofs.lines.elements.Given as goal
+
+abbrev pub invariant-each : goal.invariant-each
+invariant-each l =
+    HasTaken (Writes (2 ^ 32)) (words_of l.fn.line.words.rest.now) (words_of l.word-iterator.rest.now) l.items.items
