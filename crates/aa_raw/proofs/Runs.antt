@@ -37,7 +37,7 @@ module _ {X : Type 0} where
   long-all (None ∷ cs) h = absurd (omega (arith, somes-le cs, h))
   long-all (Some x ∷ cs) h = let e : length (somes cs) ≡ length cs = omega (arith, h) in long-all cs e
 
-  cut-long : (cs : List (Option X)) (from n : ℕ) → from + n ≤ length cs → length (take n (drop from cs)) ≡ n
+  pub cut-long : (cs : List (Option X)) (from n : ℕ) → from + n ≤ length cs → length (take n (drop from cs)) ≡ n
   cut-long cs from n h = omega (arith, length-take n (drop from cs), length-drop from cs)
 
   -- as many values as places

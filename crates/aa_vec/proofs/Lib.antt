@@ -13,3 +13,14 @@ pub mod Refilled
 pub mod Room
 pub mod Shrinking
 pub mod Turns
+pub mod Gaps
+pub mod Asking
+pub mod Stands
+pub mod Chains
+pub mod Retaining
+pub mod Closed
+pub mod Deduplicating
+pub mod Handed
+pub mod Callable
+pub mod Kept
+pub mod Steady

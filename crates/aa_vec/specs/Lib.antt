@@ -1,3 +1,4 @@
+pub use Rattle.aa_raw.specs.Closures
 pub use Rattle.aa_raw.specs.Growth
 pub use Rattle.aa_raw.specs.Refusals
 pub use Rattle.aa_raw.specs.Places
@@ -6,3 +7,6 @@ pub mod Inner
 pub mod Lends
 pub mod Copies
 pub mod Extending
+pub mod Behind
+pub mod Choosing
+pub mod Until

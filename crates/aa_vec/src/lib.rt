@@ -2,6 +2,8 @@
 #![tactic(auto)]
 
 #[cfg(test)]
+mod choosing_tests;
+#[cfg(test)]
 mod copies_tests;
 #[cfg(test)]
 mod extend_tests;

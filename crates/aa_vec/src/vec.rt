@@ -14,6 +14,9 @@ use std::default::Default;
 use std::marker::Model;
 
 mod access;
+mod asking;
+mod behind;
+mod choosing;
 mod copies;
 mod edits;
 mod extend;

@@ -1,5 +1,7 @@
+pub mod Callable
 pub mod Cuts
 pub mod WholeRuns
+pub mod Differ
 pub mod Joined
 pub mod Paid
 pub mod Replies

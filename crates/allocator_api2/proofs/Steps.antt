@@ -4,11 +4,12 @@ use Rattle.std.specs.Prelude.{insert, remove, swap_remove, slice_set, slice_inde
 use Rattle.std.proofs.lemmas.List.{length-append}
 use Rattle.aa_vec.specs.Vector.{Vector, len, SameBlock, GrowsTo, Holds}
 use Rattle.allocator_api2.specs.declared.runner.Command.{Command}
-use Rattle.allocator_api2.specs.declared.runner.Command.TheVariants.{Push, Within, Pop, Insert, Remove, SwapRemove, Truncate, Clear, Append, Extend}
+use Rattle.allocator_api2.specs.declared.runner.Command.TheVariants.{Push, Within, Pop, Insert, Remove, SwapRemove, Truncate, Clear, Append, Extend, Retain, Dedup}
 use Rattle.allocator_api2.specs.declared.runner.Reply.{Reply}
 use Rattle.allocator_api2.specs.declared.runner.Reply.TheVariants.{Done, Item, Nothing, Back, Refused, Range}
 use Rattle.aa_vec.specs.Extending.{Climbs, ExtendsAll, ExtendsFull, lower_by}
 use Rattle.aa_raw.specs.declared.collections.TryReserveErrorKind.{TryReserveErrorKind}
+use Rattle.aa_vec.proofs.Kept.{length-kept, length-deduplicated}
 use Rattle.allocator_api2.specs.Machine.{State, Step}
 use Rattle.allocator_api2.specs.Run.{AddsOrRemoves, hint_of, added_by}
 
@@ -122,4 +123,12 @@ module _ {T A : Type 0} (size : ℕ) where
       change_of old (Extend items hint) answers (Refused kind) new a s = stops hint old.main items.items kind new.main s.3.1
       change_of old (Extend items hint) answers Range new a s = same_length old new s.2
       change_of old (Extend items hint) answers _ new a s = absurd s.1
+      change_of old Retain answers Done new a s = shrinks old.main _ new.main (length-kept Keeps old.keep old.main.items s.1.2.0.told new.keep s.1.2.0.asked) s.1.2.0.holds
+      change_of old Retain answers (Refused kind) new a s = same old new s.3
+      change_of old Retain answers Range new a s = same old new s.2
+      change_of old Retain answers _ new a s = absurd s.1
+      change_of old Dedup answers Done new a s = shrinks old.main _ new.main (length-deduplicated Repeats old.same old.main.items s.1.2.0.answers new.same s.1.2.0.left s.1.2.0.asked) s.1.2.0.holds
+      change_of old Dedup answers (Refused kind) new a s = same old new s.3
+      change_of old Dedup answers Range new a s = same old new s.2
+      change_of old Dedup answers _ new a s = absurd s.1
       change_of old command answers reply new a s = absurd a

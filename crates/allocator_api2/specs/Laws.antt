@@ -1,6 +1,7 @@
 -- Laws that users of the vector rely on, over the steps of the list machine.
-use Rattle.std.specs.Prelude.{◌≡◌, ℕ, ◌≤◌, Bool, List, length, map, ⊤}
+use Rattle.std.specs.Prelude.{◌≡◌, ℕ, ◌≤◌, Bool, false, List, [], ◌∷◌, length, map, ⊤}
 use Rattle.std.specs.List.{AllByRecursion}
+use Rattle.aa_vec.specs.Choosing.{Equals, Deduplicated}
 use Rattle.allocator_api2.specs.declared.runner.Command.{Command}
 use Rattle.allocator_api2.specs.declared.runner.Command.TheVariants.{Within, Reserve, SplitOff, Append}
 use Rattle.allocator_api2.specs.declared.runner.Reply.{Reply}
@@ -34,3 +35,18 @@ CutIsJoined {T} {K} {S} A size Keeps Repeats =
     → Step size Keeps Repeats old (SplitOff at) answers Done mid
     → Step size Keeps Repeats mid Append more Done new
     → new.main.items ≡ old.main.items
+
+-- of any two neighbours neither is equal to the other
+abbrev pub NeighboursDiffer : {T : Type 0} → (T → T → Bool) → List T → Type 0
+NeighboursDiffer eq [] = ⊤
+NeighboursDiffer eq (x ∷ []) = ⊤
+NeighboursDiffer eq (x ∷ y ∷ xs) = (eq x y ≡ false) × (eq y x ≡ false) × NeighboursDiffer eq (y ∷ xs)
+
+-- each call of the closure tests for equality, and leaves both elements as they were
+abbrev pub TestsEquality : {T S : Type 0} → (T → T → Bool) → (S → T → T → Bool → S → T → T → Type 0) → Type 0
+TestsEquality {T} {S} eq Repeats = (s t : S) (x l y k : T) (answer : Bool) → Repeats s x l answer t y k → Equals eq tt x l answer tt y k
+
+-- what is left without repeats, by a closure that tests for equality, has no two equal neighbours
+abbrev pub LeavesNoRepeats : {T S : Type 0} → (T → T → Bool) → (S → T → T → Bool → S → T → T → Type 0) → Type 0
+LeavesNoRepeats {T} {S} eq Repeats =
+    TestsEquality eq Repeats → (s t : S) (xs left : List T) (answers : List Bool) → Deduplicated Repeats s xs answers t left → NeighboursDiffer eq left

@@ -4,9 +4,10 @@ use Rattle.aa_raw.specs.declared.collections.TryReserveErrorKind.{TryReserveErro
 use Rattle.aa_raw.specs.declared.collections.TryReserveErrorKind.TheVariants.{CapacityOverflow}
 use Rattle.aa_raw.specs.Growth.{usize_max}
 use Rattle.aa_vec.specs.Vector.{Vector, len, sized, HasRoom, GrowsTo, GrowsExactly, Shrinks, SameBlock, Holds}
+use Rattle.aa_vec.specs.Choosing.{Retains, Deduplicates, answers_of}
 use Rattle.aa_vec.specs.Extending.{ExtendsAll, ExtendsFull, lower_by, asked_for}
 use Rattle.allocator_api2.specs.declared.runner.Command.{Command}
-use Rattle.allocator_api2.specs.declared.runner.Command.TheVariants.{Push, Within, Pop, Insert, Remove, SwapRemove, Truncate, Clear, Reserve, ReserveExact, ShrinkTo, SplitOff, Append, Extend, ExtendFromWithin, Resize}
+use Rattle.allocator_api2.specs.declared.runner.Command.TheVariants.{Push, Within, Pop, Insert, Remove, SwapRemove, Truncate, Clear, Reserve, ReserveExact, ShrinkTo, SplitOff, Append, Extend, ExtendFromWithin, Resize, Retain, Dedup}
 use Rattle.allocator_api2.specs.declared.runner.Reply.{Reply}
 use Rattle.allocator_api2.specs.declared.runner.Reply.TheVariants.{Done, Item, Nothing, Back, Refused, Range}
 
@@ -125,6 +126,12 @@ module _ {T A K S : Type 0} (size : ℕ) (Keeps : K → T → Bool → K → T �
   Succeeds old (Resize n x) answers Done new =
       (answers ≡ []) × OnlyMain old new
       × GrowsTo size old.main (n - len old.main) (take n old.main.items ++ replicate (n - len old.main) x) new.main
+  Succeeds old Retain answers Done new =
+      (new.side ≡ old.side) × (new.same ≡ old.same)
+      × ((retains : Retains Keeps old.keep old.main new.keep new.main) × (answers ≡ answers_of retains.told))
+  Succeeds old Dedup answers Done new =
+      (new.side ≡ old.side) × (new.keep ≡ old.keep)
+      × ((removes : Deduplicates Repeats old.same old.main new.same new.main) × (answers ≡ removes.answers))
   -- no other reply is given
   Succeeds old command answers reply new = ⊥
 

@@ -1,11 +1,12 @@
 -- Whole runs of the list machine, and what is counted on them.
-use Rattle.std.specs.Prelude.{◌≡◌, ℕ, ◌+◌, ◌-◌, ◌*◌, ◌≤◌, max, Bool, List, [], ◌∷◌, map, sum_by, Option, None, ⊤}
+use Rattle.std.specs.Prelude.{◌≡◌, ℕ, ◌+◌, ◌-◌, ◌*◌, ◌≤◌, max, Bool, not, List, [], ◌∷◌, map, sum_by, Option, None, ⊤}
 use Rattle.std.specs.List.{AllByRecursion}
 use Rattle.aa_raw.specs.declared.raw_vec.Growth.{Growth}
 use Rattle.aa_raw.specs.declared.raw_vec.Growth.TheVariants.{Doubling, Sparing}
+use Rattle.aa_vec.specs.Choosing.{IsCallableInOrder, IsCallableAlong, kept_behind_removed}
 use Rattle.aa_vec.specs.Vector.{len}
 use Rattle.allocator_api2.specs.declared.runner.Command.{Command}
-use Rattle.allocator_api2.specs.declared.runner.Command.TheVariants.{Push, Within, Pop, Insert, Remove, SwapRemove, Truncate, Clear, Append, Extend, ExtendFromWithin, Resize}
+use Rattle.allocator_api2.specs.declared.runner.Command.TheVariants.{Push, Within, Pop, Insert, Remove, SwapRemove, Truncate, Clear, Append, Extend, ExtendFromWithin, Resize, Retain, Dedup}
 use Rattle.allocator_api2.specs.declared.runner.Reply.{Reply}
 use Rattle.allocator_api2.specs.declared.runner.Reply.TheVariants.{Done, Back, Range}
 use Rattle.allocator_api2.specs.Machine.{State, Step}
@@ -31,6 +32,8 @@ module _ {T A : Type 0} where
   AddsOrRemoves Clear = ⊤
   AddsOrRemoves Append = ⊤
   AddsOrRemoves (Extend items hint) = ⊤
+  AddsOrRemoves Retain = ⊤
+  AddsOrRemoves Dedup = ⊤
   AddsOrRemoves command = ⊥
 
   -- how many items it is told are to come, if it is told
@@ -66,6 +69,8 @@ module _ {T A K S : Type 0} where
   cost_of old (Extend items hint) answers new = len new.main - len old.main
   cost_of old (ExtendFromWithin from to) answers new = to - from
   cost_of old (Resize n x) answers new = n - len old.main
+  cost_of old Retain answers new = kept_behind_removed answers
+  cost_of old Dedup answers new = kept_behind_removed (map not answers)
   cost_of old command answers new = 0
 
   abbrev pub cost_by : State T A K S → Command T A → List Bool → Reply T → State T A K S → ℕ
@@ -113,3 +118,20 @@ module _ {T A K S : Type 0} (size : ℕ) (Keeps : K → T → Bool → K → T �
     pub places : old.main.items ≡ [] → old.main.capacity ≡ 0 → AllByRecursion IsUnhinted commands → new.main.capacity ≤ max 8 (2 * greatest_length turns)
     -- no more elements are written than the commands cost
     pub writes : new.main.written ≤ old.main.written + sum_by cost turns
+
+  module _ (TakesKeep : K → T → Type 0) (TakesSame : S → T → T → Type 0) where
+    -- the closures may be called as the command calls them
+    abbrev pub MayCall : State T A K S → Command T A → Type 0
+    MayCall s Retain = IsCallableInOrder Keeps TakesKeep s.keep s.main.items
+    MayCall s Dedup = IsCallableAlong Repeats TakesSame s.same s.main.items
+    MayCall s command = ⊤
+
+    -- and so along every run: in every state that they reach, on everything that main then holds
+    abbrev pub MayRun : State T A K S → List (Command T A) → Type 0
+    MayRun s [] = ⊤
+    MayRun s (command ∷ commands) =
+        MayCall s command
+        × ((answers : List Bool) (reply : Reply T) (next : State T A K S) → Step size Keeps Repeats s command answers reply next → MayRun next commands)
+
+    pub record IsCallableOnRuns (s : State T A K S) (commands : List (Command T A)) : Type 0 where
+      pub along : MayRun s commands

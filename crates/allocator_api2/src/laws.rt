@@ -1,9 +1,10 @@
 //! Laws that users of the vector rely on. The functions do nothing: their contracts are the laws.
-ghost use Rattle.std.specs.Prelude.{◌≤◌};
+ghost use Rattle.std.specs.Prelude.{◌≤◌, Bool, List};
 ghost use Rattle.std.specs.Fn.{CalledAtMut, CalledAtPairMut};
 ghost use Rattle.std.specs.Mem.{type_size};
+ghost use Rattle.aa_vec.specs.Choosing.{Equals, Deduplicated};
 ghost use Rattle.aa_vec.specs.Vector.{len};
-ghost use Rattle.allocator_api2.specs.Laws.{ReserveHolds, CutIsJoined};
+ghost use Rattle.allocator_api2.specs.Laws.{ReserveHolds, CutIsJoined, NeighboursDiffer, LeavesNoRepeats};
 
 use aa_vec::vec::Vec;
 use std::alloc::Allocator;
@@ -31,4 +32,14 @@ where
     K: FnMut(&mut T) -> bool,
     S: FnMut(&mut T, &mut T) -> bool,
     ensures { CutIsJoined A (type_size T.row) (CalledAtMut K.FnMut) (CalledAtPairMut S.FnMut) }
+{}
+
+/// What `dedup` leaves has no two equal neighbours, and so has what `dedup_by` leaves, or a `Dedup` of a run, by a closure that
+/// tests for equality and leaves the elements as they are.
+pub fn dedup_leaves_no_equal_neighbours<T, S>()
+where
+    T: PartialEq,
+    S: FnMut(&mut T, &mut T) -> bool,
+    ensures dedup { (xs left : List T) (answers : List Bool) → Deduplicated (Equals T.eq) tt xs answers tt left → NeighboursDiffer T.eq left }
+    ensures dedup_by { LeavesNoRepeats T.eq (CalledAtPairMut S.FnMut) }
 {}

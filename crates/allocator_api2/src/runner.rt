@@ -2,10 +2,12 @@
 ghost use Rattle.std.specs.Prelude.{reverse, ◌≡◌, List, [], ◌∷◌, ◌++◌, length, MatchResult};
 ghost use Rattle.std.specs.Fn.{CalledAtMut, CalledAtPairMut};
 ghost use Rattle.std.specs.Mem.{type_size};
+ghost use Rattle.aa_raw.specs.Closures.{TakesPairMut};
+ghost use Rattle.aa_vec.specs.Choosing.{TakesMut};
 ghost use Rattle.aa_vec.specs.Copies.{Copies};
 ghost use Rattle.aa_vec.specs.Vector.{HasRoom, Holds, SameBlock};
 ghost use Rattle.allocator_api2.specs.Machine.{state_of};
-ghost use Rattle.allocator_api2.specs.Run.{TakesStep, RunsTo};
+ghost use Rattle.allocator_api2.specs.Run.{TakesStep, RunsTo, MayCall, IsCallableOnRuns};
 ghost use Rattle.allocator_api2.specs.declared.runner.Reply.{Reply};
 
 use aa_raw::collections::{TryReserveError, TryReserveErrorKind};
@@ -53,6 +55,10 @@ pub enum Command<T, A: Allocator = Global> {
     ExtendFromWithin(usize, usize),
     /// Cuts the list to so many elements, or fills it up to that many with clones of an element, and it last.
     Resize(usize, T),
+    /// Asks `keep` of each element once, in order, and drops those at which it answers false.
+    Retain,
+    /// Asks `same` of each element but the first beside the last one kept before it, and drops it where the answer is true.
+    Dedup,
 }
 
 /// What `run` answers to a command.
@@ -73,7 +79,7 @@ pub enum Reply<T> {
 }
 
 /// Runs the commands in order on the two vectors, and puts a reply for each behind those in `replies`, which has room for them.
-/// It takes memory where a vector grows; a refused growth is the command's reply, and the next command goes on.
+/// `keep` is asked by `Retain`, and `same` by `Dedup`; each goes on from the state that its last call left. It takes memory where a vector grows; a refused growth is the command's reply, and the next command goes on.
 pub fn run<T, A, K, S>(
     main: &mut Vec<T, A>,
     side: &mut Vec<T, A>,
@@ -89,6 +95,7 @@ where
     S: FnMut(&mut T, &mut T) -> bool,
     requires room { HasRoom replies.old (length commands.items) }
     requires copies { Copies T.is_clone }
+    requires callable { IsCallableOnRuns (type_size T.row) (CalledAtMut K.FnMut) (CalledAtPairMut S.FnMut) (TakesMut K.FnMut) (TakesPairMut S.FnMut) (state_of main.old side.old keep.old same.old) commands.items }
     ensures run { (answered : List (Reply T)) × (replies.new.items ≡ replies.old.items ++ answered) × RunsTo (type_size T.row) (CalledAtMut K.FnMut) (CalledAtPairMut S.FnMut) (state_of main.old side.old keep.old same.old) commands.items answered (state_of main.new side.new keep.new same.new) }
     ensures replies_stay { SameBlock replies.old replies.new }
 {
@@ -130,7 +137,8 @@ where
     A: Allocator + Clone + Drop,
     K: FnMut(&mut T) -> bool,
     S: FnMut(&mut T, &mut T) -> bool,
-    requires { Copies T.is_clone }
+    requires copies { Copies T.is_clone }
+    requires callable { MayCall (type_size T.row) (CalledAtMut K.FnMut) (CalledAtPairMut S.FnMut) (TakesMut K.FnMut) (TakesPairMut S.FnMut) (state_of main.old side.old keep.old same.old) command }
     ensures { TakesStep (type_size T.row) (CalledAtMut K.FnMut) (CalledAtPairMut S.FnMut) (state_of main.old side.old keep.old same.old) command result (state_of main.new side.new keep.new same.new) }
 {
     match command {
@@ -214,6 +222,14 @@ where
             Ok(()) => Reply::Done,
             Err(error) => Reply::Refused(error.kind()),
         },
+        Command::Retain => {
+            main.retain_by(keep);
+            Reply::Done
+        }
+        Command::Dedup => {
+            main.dedup_within(same);
+            Reply::Done
+        }
     }
 }
 

@@ -1,33 +1,72 @@
 -- A text of which some lines are read.
-use Rattle.std.proofs.Common.{◌≡◌, ℕ, ◌+◌, ◌≤◌, List, [], ◌∷◌, ◌++◌, length, Option, None, Some, MatchOption, ap, rules, arith}
-use Rattle.std.proofs.lemmas.List.{append_assoc, length-append}
-use Rattle.std.proofs.lemmas.List.Elements.{All-append}
-use Rattle.std.specs.List.{All}
+use Rattle.std.proofs.Common.{◌≡◌, ℕ, Bool, true, ◌+◌, ◌≤◌, List, [], ◌∷◌, ◌++◌, length, map, filter, nat_lt, Option, None, Some, MatchOption, ap, rules, arith}
+use Rattle.std.proofs.lemmas.Bool.Decides.{nat_tests}
+use Rattle.std.proofs.lemmas.List.{append_assoc, append-nil, length-append, map-append}
+use Rattle.std.proofs.lemmas.List.Elements.{All-append, filter-append}
+use Rattle.std.specs.List.{All, AllZip}
 use Rattle.std.specs.Global.{Global}
 use Rattle.std.specs.Str.Lines.{lines}
 use Rattle.allocator_api2.specs.declared.runner.Command.{Command}
 use Rattle.vecrun.proofs.TextLines.{length-lines}
-use Rattle.vecrun.specs.Lines.{HasNoBad, IsBad, words_of, Say}
+use Rattle.vecrun.proofs.Taken.{AllZip-more}
+use Rattle.vecrun.specs.Lines.{HasNoBad, IsBad, words_of, Say, said_in, Mean}
 
--- the first lines of the text, as many as count, are not bad, and rest has the others
-pub record HasRead (text rest : List ℕ) (count : ℕ) : Type 0 where
+-- the first lines of the text, as many as count, are not bad and mean the commands, and rest has the others
+pub record HasRead (text rest : List ℕ) (count : ℕ) (commands : List (Command ℕ Global)) : Type 0 where
   pub before : List (List ℕ)
   pub place : lines text ≡ before ++ lines rest
   pub counted : count ≡ length before
   pub good : HasNoBad before
+  pub meant : Mean before commands
+
+-- what was read of a line: a command, or that it has no words
+abbrev pub IsReadAs : List ℕ → Option (Command ℕ Global) → Type 0
+IsReadAs line command = MatchOption command (words_of line ≡ []) (Say (words_of line))
+
+-- the commands with that of one line more
+abbrev pub with_command : List (Command ℕ Global) → Option (Command ℕ Global) → List (Command ℕ Global)
+with_command commands None = commands
+with_command commands (Some command) = commands ++ command ∷ []
 
 -- a line that was read is not bad
-pub read-not_bad : (line : List ℕ) (command : Option (Command ℕ Global))
-    → MatchOption command (words_of line ≡ []) (Say (words_of line)) → ¬ (IsBad line)
+read-not_bad : (line : List ℕ) (command : Option (Command ℕ Global)) → IsReadAs line command → ¬ (IsBad line)
 read-not_bad line None no_words bad = bad.has_words no_words
 read-not_bad line (Some command) said bad = bad.says_nothing command said
 
+-- whether the line of these words says anything
+abbrev is_said : List (List ℕ) → Bool
+is_said words = nat_lt 0 (length words)
+
+-- a line more is one command more, or none
+Mean-next : (before : List (List ℕ)) (line : List ℕ) (commands : List (Command ℕ Global)) (command : Option (Command ℕ Global))
+    → Mean before commands → IsReadAs line command → Mean (before ++ line ∷ []) (with_command commands command)
+Mean-next before line commands command meant read =
+    rw (map-append words_of before (line ∷ []), filter-append is_said (map words_of before) (words_of line ∷ []))
+    (by_words (words_of line) command read)
+  where
+    by_words : (words : List (List ℕ)) (command : Option (Command ℕ Global)) → MatchOption command (words ≡ []) (Say words)
+        → AllZip Say (said_in before ++ filter is_said (words ∷ [])) (with_command commands command)
+    by_words [] None no_words = rw (append-nil (said_in before)) meant
+    by_words [] (Some command) said = absurd said
+    by_words (word ∷ words) None no_words =
+        let none : length (word ∷ words) ≡ 0 = ap length no_words in
+        absurd (omega arith)
+    by_words (word ∷ words) (Some command) said =
+        let some : is_said (word ∷ words) ≡ true = grind (arith, nat_tests) in
+        rw some (AllZip-more Say (said_in before) commands (word ∷ words) command meant said)
+
 -- the next line is read too
-pub HasRead-next : (text old new line : List ℕ) (before after : ℕ)
-    → HasRead text old before → lines old ≡ line ∷ lines new → after ≡ before + 1 → ¬ (IsBad line)
-    → HasRead text new after
-HasRead-next text old new line before after had next counts not_bad =
-    record { before = had.before ++ (line ∷ []); place = whole; counted = count; good = record { all_good = good } }
+pub HasRead-next : (text old new line : List ℕ) (before after : ℕ) (commands : List (Command ℕ Global)) (command : Option (Command ℕ Global))
+    → HasRead text old before commands → lines old ≡ line ∷ lines new → after ≡ before + 1 → IsReadAs line command
+    → HasRead text new after (with_command commands command)
+HasRead-next text old new line before after commands command had next counts read =
+    record {
+      before = had.before ++ (line ∷ []);
+      place = whole;
+      counted = count;
+      good = record { all_good = good };
+      meant = Mean-next had.before line commands command had.meant read;
+    }
   where
     whole : lines text ≡ (had.before ++ (line ∷ [])) ++ lines new
     whole = rw (append_assoc had.before (line ∷ []) (lines new), ← next) had.place
@@ -36,12 +75,12 @@ HasRead-next text old new line before after had next counts not_bad =
     count = let was = had.counted in omega (arith, length-append had.before (line ∷ []))
 
     good : All (λ l. ¬ (IsBad l)) (had.before ++ (line ∷ []))
-    good = All-append (λ l. ¬ (IsBad l)) had.before (line ∷ []) had.good.all_good (search (rules, not_bad))
+    good = All-append (λ l. ¬ (IsBad l)) had.before (line ∷ []) had.good.all_good (search (rules, read-not_bad line command read))
 
 -- the lines that are left are no more than the bytes
-pub HasRead-bound : (text rest : List ℕ) (count : ℕ) → HasRead text rest count
+pub HasRead-bound : (text rest : List ℕ) (count : ℕ) (commands : List (Command ℕ Global)) → HasRead text rest count commands
     → count + length (lines rest) ≤ length text
-HasRead-bound text rest count had =
+HasRead-bound text rest count commands had =
     let most = length-lines text in
     let whole : length (lines text) ≡ length (had.before ++ lines rest) = ap length had.place in
     let counted = had.counted in

@@ -10,7 +10,7 @@ module _ {W X : Type 0} (R : W → X → Type 0) where
     pub place : all ≡ before ++ rest
     pub each : AllZip R before xs
 
-  AllZip-more : (ws : List W) (xs : List X) (w : W) (x : X) → AllZip R ws xs → R w x → AllZip R (ws ++ w ∷ []) (xs ++ x ∷ [])
+  pub AllZip-more : (ws : List W) (xs : List X) (w : W) (x : X) → AllZip R ws xs → R w x → AllZip R (ws ++ w ∷ []) (xs ++ x ∷ [])
   AllZip-more [] [] w x each r = (r, tt)
   AllZip-more [] (y ∷ ys) w x each r = absurd each
   AllZip-more (v ∷ vs) [] w x each r = absurd each

@@ -1,11 +1,11 @@
 -- The words of a line, and the command that they say.
-use Rattle.std.specs.Prelude.{◌≡◌, ◌≢◌, ℕ, ◌+◌, ◌^◌, ◌<◌, Bool, ◌==◌, ◌||◌, List, [], ◌∷◌, ◌++◌, length, filter, Option, None, Some, nat_lt, codes, MatchBool, All}
+use Rattle.std.specs.Prelude.{◌≡◌, ◌≢◌, ℕ, ◌+◌, ◌^◌, ◌<◌, Bool, ◌==◌, ◌||◌, List, [], ◌∷◌, ◌++◌, length, filter, Option, None, Some, nat_lt, codes, MatchBool, All, map}
 use Rattle.std.specs.Global.{Global}
 use Rattle.std.specs.List.{AllZip, slice_split}
 use Rattle.std.specs.Str.{bytes_eq, IsUtf8}
 use Rattle.std.specs.Str.Parse.{IsNumeral, digits_value}
 use Rattle.allocator_api2.specs.declared.runner.Command.{Command}
-use Rattle.allocator_api2.specs.declared.runner.Command.TheVariants.{Push, Within, Pop, Insert, Remove, SwapRemove, Truncate, Clear, Reserve, ReserveExact, ShrinkTo, SplitOff, Append, Extend, ExtendFromWithin, Resize}
+use Rattle.allocator_api2.specs.declared.runner.Command.TheVariants.{Push, Within, Pop, Insert, Remove, SwapRemove, Truncate, Clear, Reserve, ReserveExact, ShrinkTo, SplitOff, Append, Extend, ExtendFromWithin, Resize, Retain, Dedup}
 
 -- a space or a tab
 abbrev pub is_blank : ℕ → Bool
@@ -53,7 +53,9 @@ SayAfter name rest command =
     (MatchBool (bytes_eq name (codes "append")) ((rest ≡ []) × (command ≡ Append))
     (MatchBool (bytes_eq name (codes "extend_from_within")) ((p : ℕ × ℕ) × AreNumbers rest p × (command ≡ ExtendFromWithin p.0 p.1))
     (MatchBool (bytes_eq name (codes "resize")) ((p : ℕ × ℕ) × AreNumberAndElement rest p × (command ≡ Resize p.0 p.1))
-    ⊥))))))))))))))
+    (MatchBool (bytes_eq name (codes "retain")) ((rest ≡ []) × (command ≡ Retain))
+    (MatchBool (bytes_eq name (codes "dedup")) ((rest ≡ []) × (command ≡ Dedup))
+    ⊥))))))))))))))))
 
 -- the word is a hyphen where no number is told, and else writes the number
 abbrev pub IsHint : List ℕ → Option ℕ → Type 0
@@ -70,6 +72,14 @@ abbrev pub Say : List (List ℕ) → Command ℕ Global → Type 0
 Say [] command = ⊥
 Say (name ∷ rest) command =
     IsUtf8 name × MatchBool (bytes_eq name (codes "extend")) (SaysExtend rest command) (SayAfter name rest command)
+
+-- the words of each line that has some, in order
+abbrev pub said_in : List (List ℕ) → List (List (List ℕ))
+said_in lines = filter (λ words. nat_lt 0 (length words)) (map words_of lines)
+
+-- the lines that have words say these commands, one each and in order
+abbrev pub Mean : List (List ℕ) → List (Command ℕ Global) → Type 0
+Mean lines commands = AllZip Say (said_in lines) commands
 
 -- the line has words, and they say no command
 pub record IsBad (line : List ℕ) : Type 0 where

@@ -6,7 +6,7 @@ ghost use Rattle.std.specs.Option.{SomeIff};
 ghost use Rattle.std.specs.Str.Lines.{lines, strip_carriage_return};
 ghost use Rattle.std.specs.Str.Parse.{IsNumeral, digits_value};
 ghost use Rattle.vecrun.specs.Faults.{IsFoundIn, ReadsAs, ReadsOrLacks};
-ghost use Rattle.vecrun.specs.Lines.{is_blank, words_of, IsElement, IsNumber, AreNumberAndElement, AreNumbers, Writes, IsHint, SaysExtend, SayAfter, Say, IsBad, HasNoBad};
+ghost use Rattle.vecrun.specs.Lines.{is_blank, words_of, IsElement, IsNumber, AreNumberAndElement, AreNumbers, Writes, IsHint, SaysExtend, SayAfter, Say, Mean, IsBad, HasNoBad};
 
 use crate::script::Fault;
 use allocator_api2::runner::Command;
@@ -18,6 +18,7 @@ use std::alloc::Global;
 /// It takes memory for the commands. The first line that is no known form is `Fault::BadLine`, and
 /// refused memory is `Fault::OutOfMemory`.
 pub fn commands(alloc: Global, text: &[u8]) -> Result<Vec<Command<u32>, Global>, Fault>
+    ensures items { IfOk result (λ commands. Mean (lines text.now) commands.items) }
     ensures ok { OnOk result (HasNoBad (lines text.now)) }
     ensures err { IfErr result
         (λ fault. IsFoundIn (Some text.now) fault × (fault ≢ Fault.InputOutput)) }
@@ -122,6 +123,8 @@ fn command(name: &str, line: Line<'_>) -> Result<Command<u32>, Fault>
         "resize" => line
             .number_and_element()
             .map(|(len, x)| Command::Resize(len, x)),
+        "retain" => line.end().map(|()| Command::Retain),
+        "dedup" => line.end().map(|()| Command::Dedup),
         _ => Err(line.bad()),
     }
 }

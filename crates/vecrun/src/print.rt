@@ -10,8 +10,8 @@ use std::alloc::Global;
 use std::io;
 use std::io::Write;
 
-/// Writes a line for each reply and one for each list, and flushes the output. It takes no memory,
-/// and an error is the writer's.
+/// Writes a line for each reply and one for each list. It takes no memory, and an error is the
+/// writer's.
 pub fn print_all<W: Write>(
     output: &mut W,
     replies: &[Reply<u32>],
@@ -23,8 +23,7 @@ pub fn print_all<W: Write>(
 {
     print_replies(output, replies)?;
     print_list(output, "main", main)?;
-    print_list(output, "side", side)?;
-    output.flush()
+    print_list(output, "side", side)
 }
 
 fn print_replies<W: Write>(output: &mut W, replies: &[Reply<u32>]) -> io::Result<()>

@@ -1,10 +1,14 @@
 //! A script from its first byte to its status.
-ghost use Rattle.std.specs.Prelude.{◌≡◌, ◌<◌, ℕ, Some, IfSome, OnOk, IfErr};
-ghost use Rattle.std.specs.Io.KnownBytes.{Keeps};
+ghost use Rattle.std.specs.Prelude.{◌≡◌, ◌<◌, ℕ, List, Some, IfSome, IfOk, OnOk, IfErr};
+ghost use Rattle.std.specs.Fn.{CalledAtMut, CalledAtPairMut};
+ghost use Rattle.std.specs.Io.KnownBytes.{Keeps, Appends};
 ghost use Rattle.std.specs.Str.Lines.{lines};
+ghost use Rattle.aa_vec.specs.Closures.{TakesPairMut};
+ghost use Rattle.aa_vec.specs.Choosing.{TakesMut};
 ghost use Rattle.vecrun.specs.Faults.{IsFoundIn, NamesNoLine, IsFaultOf, status_of, fault_text};
-ghost use Rattle.vecrun.specs.Lines.{HasNoBad, IsFirstBad};
-ghost use Rattle.vecrun.specs.declared.script.Fault.TheVariants.{OutOfMemory};
+ghost use Rattle.vecrun.specs.Lines.{Mean, HasNoBad, IsFirstBad};
+ghost use Rattle.vecrun.specs.Runs.{MayPrint, MayAnswer, IsAnswer};
+ghost use Rattle.vecrun.specs.declared.script.Fault.TheVariants.{OutOfMemory, InputOutput};
 
 use crate::lines;
 use crate::print::print_all;
@@ -12,7 +16,7 @@ use allocator_api2::collections::{Refused, TryReserveError};
 use allocator_api2::runner::{Command, run};
 use allocator_api2::vec::Vec;
 use std::alloc::Global;
-use std::io::{BufWriter, ErrorKind, Read, Write};
+use std::io::{ErrorKind, Read, Write};
 use std::{fmt, io};
 
 /// Why a script did not end well.
@@ -82,7 +86,7 @@ impl From<io::Error> for Fault {
 ///
 /// - 0: the script ran.
 /// - 1: a line is no command. The fault names the first.
-/// - 2: memory was refused for the text, the commands, the replies or the output's buffer.
+/// - 2: memory was refused for the text, the commands, the replies or what is printed.
 /// - 3: reading or writing failed.
 ///
 /// At 1 and 2 nothing is written to `output`. A failed write to `faults` changes nothing.
@@ -97,16 +101,23 @@ pub fn script<R: Read, W: Write, E: Write>(
     // Which lines there are is known of a reader whose bytes are known.
     ensures good { result ≡ 0 →
         IfSome (R.remaining input.old) (λ text. HasNoBad (lines text)) }
+    ensures printed { result ≡ 0 → IfSome (R.remaining input.old) (λ text. (answer : List ℕ)
+        × IsAnswer (lines text) answer
+        × Appends (W.contents output.old) (W.contents output.new) answer) }
     ensures bad { result ≡ 1 →
         IfSome (R.remaining input.old) (λ text. (number : ℕ) × IsFirstBad (lines text) number) }
 
     // What is not written.
     ensures bad_prints_nothing { result ≡ 1 →
         Keeps (W.contents output.old) (W.contents output.new) }
+    ensures refusal_prints_nothing { result ≡ 2 →
+        Keeps (W.contents output.old) (W.contents output.new) }
     ensures good_tells_nothing { result ≡ 0 →
         Keeps (E.contents faults.old) (E.contents faults.new) }
 {
-    match run_script(alloc, input, output) {
+    let mut keep = |x: &mut u32| *x % 2 == 0;
+    let mut same = |x: &mut u32, y: &mut u32| *x == *y;
+    match run_script(alloc, input, &mut keep, &mut same, output) {
         Ok(()) => 0,
         Err(fault) => {
             let _ = writeln!(faults, "{fault}");
@@ -115,18 +126,42 @@ pub fn script<R: Read, W: Write, E: Write>(
     }
 }
 
-fn run_script<R: Read, W: Write>(alloc: Global, input: &mut R, output: &mut W) -> Result<(), Fault>
+/// Reads a script, runs it with these closures, which may be called at every element in every state, and prints what it answers.
+///
+/// It takes memory for the text, the commands, the replies and what is printed. The first line that
+/// is no command is `Fault::BadLine`, refused memory is `Fault::OutOfMemory`, and a failed read or
+/// write is `Fault::InputOutput`. Nothing is printed but at `Ok` and at `Fault::InputOutput`.
+pub fn run_script<R, W, K, S>(
+    alloc: Global,
+    input: &mut R,
+    keep: &mut K,
+    same: &mut S,
+    output: &mut W,
+) -> Result<(), Fault>
+where
+    R: Read,
+    W: Write,
+    K: FnMut(&mut u32) -> bool,
+    S: FnMut(&mut u32, &mut u32) -> bool,
+    requires keep { (k : K) (x : ℕ) → TakesMut K.FnMut k x }
+    requires same { (s : S) (x y : ℕ) → TakesPairMut S.FnMut s x y }
     ensures ok { OnOk result (IfSome (R.remaining input.old) (λ text. HasNoBad (lines text))) }
+    ensures printed { OnOk result (IfSome (R.remaining input.old) (λ text. (answer : List ℕ)
+        × MayAnswer (CalledAtMut K.FnMut) (CalledAtPairMut S.FnMut) alloc keep.old same.old (lines text) answer
+        × Appends (W.contents output.old) (W.contents output.new) answer)) }
     ensures err { IfErr result (IsFoundIn (R.remaining input.old)) }
-    ensures nothing_printed { IfErr result
-        (λ fault. status_of fault ≡ 1 → Keeps (W.contents output.old) (W.contents output.new)) }
+    ensures nothing_printed { IfErr result (λ fault. status_of fault < 3 →
+        Keeps (W.contents output.old) (W.contents output.new)) }
 {
     let commands = read_commands(alloc, input)?;
-    run_commands(alloc, commands, output)
+    let answer = answer(alloc, commands, keep, same)?;
+    print_answer(&answer, output)
 }
 
 // Reads the input to its end, and then looks at its lines.
 fn read_commands<R: Read>(alloc: Global, input: &mut R) -> Result<Vec<Command<u32>, Global>, Fault>
+    ensures items { IfOk result
+        (λ commands. IfSome (R.remaining input.old) (λ text. Mean (lines text) commands.items)) }
     ensures ok { OnOk result (IfSome (R.remaining input.old) (λ text. HasNoBad (lines text))) }
     ensures err { IfErr result (IsFoundIn (R.remaining input.old)) }
 {
@@ -135,38 +170,39 @@ fn read_commands<R: Read>(alloc: Global, input: &mut R) -> Result<Vec<Command<u3
     lines::commands(alloc, &text)
 }
 
-// Makes the output's buffer, so that nothing is written before the memory for it is there.
-fn run_commands<W: Write>(
+// Runs the commands on two empty lists: the text of the replies and of the lists, which is all made
+// before any of it is printed.
+fn answer<K, S>(
     alloc: Global,
     commands: Vec<Command<u32>, Global>,
-    output: &mut W,
-) -> Result<(), Fault>
-    ensures { IfErr result NamesNoLine }
-{
-    let mut output = BufWriter::new(alloc, output)?;
-    answer(alloc, commands, &mut output)
-}
-
-// Runs the commands on two empty lists, and prints the replies and the lists.
-fn answer<W: Write>(
-    alloc: Global,
-    commands: Vec<Command<u32>, Global>,
-    output: &mut W,
-) -> Result<(), Fault>
-    ensures { IfErr result NamesNoLine }
+    keep: &mut K,
+    same: &mut S,
+) -> Result<std::vec::Vec<u8>, Fault>
+where
+    K: FnMut(&mut u32) -> bool,
+    S: FnMut(&mut u32, &mut u32) -> bool,
+    requires keep { (k : K) (x : ℕ) → TakesMut K.FnMut k x }
+    requires same { (s : S) (x y : ℕ) → TakesPairMut S.FnMut s x y }
+    ensures ok { IfOk result (λ text. MayPrint (CalledAtMut K.FnMut) (CalledAtPairMut S.FnMut)
+        alloc keep.old same.old commands.items text.items) }
+    ensures err { IfErr result (λ fault. fault ≡ OutOfMemory) }
 {
     let mut replies = Vec::with_capacity_in(commands.len(), alloc)?;
     let mut main = Vec::new_in(alloc);
     let mut side = Vec::new_in(alloc);
-    let mut keep = |x: &mut u32| *x % 2 == 0;
-    let mut same = |x: &mut u32, y: &mut u32| *x == *y;
-    run(
-        &mut main,
-        &mut side,
-        commands,
-        &mut keep,
-        &mut same,
-        &mut replies,
-    );
-    print_all(output, replies.as_slice(), &main, &side).map_err(|_| Fault::InputOutput)
+    run(&mut main, &mut side, commands, keep, same, &mut replies);
+    let mut text = std::vec::Vec::new(alloc);
+    match print_all(&mut text, replies.as_slice(), &main, &side) {
+        Ok(()) => Ok(text),
+        Err(_) => Err(Fault::OutOfMemory),
+    }
+}
+
+// Writes the text and flushes the output.
+fn print_answer<W: Write>(text: &[u8], output: &mut W) -> Result<(), Fault>
+    ensures ok { OnOk result (Appends (W.contents output.old) (W.contents output.new) text.now) }
+    ensures err { IfErr result (λ fault. fault ≡ InputOutput) }
+{
+    output.write_all(text).map_err(|_| Fault::InputOutput)?;
+    output.flush().map_err(|_| Fault::InputOutput)
 }

@@ -252,7 +252,7 @@ fn writes_in_parts(rt: HostRuntime) {
     assert!(rt; told.is_empty());
 }
 
-// The answer takes several fills of the output's buffer.
+// The answer takes several writes.
 #[test]
 fn fails_in_a_long_answer(rt: HostRuntime) -> Result<(), Fail> {
     let (mut pops, mut answer) = (Vec::new(rt.alloc()), Vec::new(rt.alloc()));

@@ -1,9 +1,10 @@
-use Rattle.std.proofs.Common.{[], refl, rules}
+use Rattle.std.proofs.Common.{[], refl, arith, rules}
 use Rattle.std.specs.Fn.{CalledAtMut, CalledAtPairMut}
 use Rattle.std.specs.Mem.{type_size}
 use denote.Param.{param}
 use Rattle.allocator_api2.specs.declared.runner.Command.TheVariants.{Reserve, ReserveExact, ShrinkTo}
 use Rattle.allocator_api2.specs.declared.runner.Reply.{Reply}
+use Rattle.aa_vec.specs.Choosing.{answers_of}
 use Rattle.allocator_api2.specs.Machine.{state_of}
 use Rattle.allocator_api2.specs.Run.{TakesStep}
 use Rattle.aa_vec.proofs.Counted.{ExtendsAll-items, ExtendsFull-items}
@@ -90,10 +91,20 @@ returns-in-Err-extend_hinted g c =
 
 pub returns-in-Ok-extend_from_within : goal.returns-in-Ok-extend_from_within
 returns-in-Ok-extend_from_within g c =
-    let copied = c.in-Ok-extend_from_within.ensures.copied c.requires in
+    let copied = c.in-Ok-extend_from_within.ensures.copied c.requires.copies in
     rw c.in-ExtendFromWithin.is (record { answers = []; step = search (rules, copied); writes = search rules })
 
 pub returns-in-Ok-resize : goal.returns-in-Ok-resize
 returns-in-Ok-resize g c =
-    let copied = c.in-Ok-resize.ensures.copied c.requires in
+    let copied = c.in-Ok-resize.ensures.copied c.requires.copies in
     rw c.in-Resize.is (record { answers = []; step = search (rules, copied); writes = search rules })
+
+pub returns-in-Retain : goal.returns-in-Retain
+returns-in-Retain g c =
+    let r = c.retain_by.ensures in
+    rw c.in-Retain.is (record { answers = answers_of r.told; step = (tt, (refl, refl, (r, refl))); writes = omega (arith, r.written) })
+
+pub returns-in-Dedup : goal.returns-in-Dedup
+returns-in-Dedup g c =
+    let r = c.dedup_within.ensures in
+    rw c.in-Dedup.is (record { answers = r.answers; step = (tt, (refl, refl, (r, refl))); writes = omega (arith, r.written) })

@@ -1,0 +1,122 @@
+-- Elements behind a gap, asked one after the other beside the last one kept.
+use Rattle.std.proofs.Common.{◌≡◌, ℕ, suc, ◌+◌, ◌<◌, Bool, true, false, List, [], ◌∷◌, ◌++◌, length, map, take, drop, Some, refl, sym, ap, ◌∙◌, subst, arith, length-append}
+use Rattle.std.proofs.lemmas.List.{drop_at, length-map, take-append-drop}
+use Rattle.aa_raw.proofs.Runs.{run-zero}
+use Rattle.aa_vec.specs.Behind.{StandsBehind, behind_items}
+use Rattle.aa_vec.specs.Choosing.{MayChainFrom, MayDeduplicate}
+use Rattle.aa_vec.specs.Until.{ChainsUntil, ChainsAlong, ChainsOn, AsksLast, ChainsBehind}
+use Rattle.aa_vec.specs.Vector.{Vector, len}
+use Rattle.aa_vec.proofs.Climbing.{SameBlock-refl}
+use Rattle.aa_vec.proofs.Stands.{count, first_are, parts, replaced_are, replaced_stand}
+
+module _ {T : Type 0} where
+  -- a list that is not empty has a last element
+  pub split_last : (xs : List T) → 0 < length xs → (front : List T) × (last : T) × (xs ≡ front ++ last ∷ [])
+  split_last [] h = absurd (omega arith)
+  split_last (x ∷ []) h = ([], x, refl)
+  split_last (x ∷ y ∷ xs) h = let p = split_last (y ∷ xs) (omega arith) in (x ∷ p.0, p.1, ap (λ l. x ∷ l) p.2)
+
+  -- a list whose first element is known
+  pub with_first : (xs : List T) (x : T) → take 1 xs ≡ x ∷ [] → xs ≡ x ∷ drop 1 xs
+  with_first xs x e = sym (take-append-drop 1 xs) ∙ ap (λ l. l ++ drop 1 xs) e
+
+  -- lists that differ in their last element are as long
+  pub same_end : (front : List T) (x y : T) → length (front ++ x ∷ []) ≡ length (front ++ y ∷ [])
+  same_end front x y = length-append front (x ∷ []) ∙ sym (length-append front (y ∷ []))
+
+module _ {F T A : Type 0} (Asks : F → T → T → Bool → F → T → T → Type 0) (f : F) (v : Vector T A) (gap : ℕ) where
+  -- there is none to ask
+  pub ChainsBehind-none : 0 < len v → ChainsBehind Asks f v gap 0 0 f v
+  ChainsBehind-none some =
+      let p = split_last v.items some in record {
+        front = p.0;
+        last = p.1;
+        last_left = p.1;
+        left = [];
+        had = p.2;
+        until = subst (λ xs. ChainsUntil Asks f p.1 xs 0 f (p.1 ∷ [])) (sym (run-zero (drop gap v.behind) 0)) (refl, refl);
+        items = p.2;
+        behind = refl;
+        block = SameBlock-refl v;
+        writes = record { written = omega arith; runs = omega arith };
+      }
+
+  module _ (n : ℕ) (some : 0 < n) (stands : StandsBehind v gap n) where
+    pub first_is : (x : T) → behind_items v gap 1 ≡ x ∷ [] → behind_items v gap n ≡ x ∷ drop 1 (behind_items v gap n)
+    first_is x e = with_first (behind_items v gap n) x (sym (first_are v gap n stands 1 (omega arith)) ∙ e)
+
+    -- the first was asked
+    module _ (answer : Bool) (g : F) (w : Vector T A) (asked : AsksLast Asks f v gap answer g w) where
+      abbrev others : List T
+      others = drop 1 (behind_items v gap n)
+
+      all : behind_items v gap n ≡ asked.next ∷ others
+      all = first_is asked.next asked.had.1
+
+      long : length (asked.next_left ∷ others) ≡ n
+      long = omega (arith, count v gap n stands, ap length all)
+
+      now_behind : drop gap w.behind ≡ map Some (asked.next_left ∷ others) ++ drop n (drop gap v.behind)
+      now_behind =
+          let was : drop gap v.behind ≡ map Some (asked.next ∷ others) ++ drop n (drop gap v.behind) = parts v gap n stands ∙ ap (λ l. map Some l ++ drop n (drop gap v.behind)) all in
+          asked.behind ∙ ap (λ ds. Some asked.next_left ∷ drop 1 ds) was
+
+      same_len : len w ≡ len v
+      same_len = ap length asked.items ∙ same_end asked.front asked.last_left asked.last ∙ sym (ap length asked.had.0)
+
+      pub now_stand : StandsBehind w gap n
+      now_stand = replaced_stand v gap n stands w (asked.next_left ∷ others) _ same_len asked.block.capacity long now_behind
+
+      now_are : behind_items w gap n ≡ asked.next_left ∷ others
+      now_are = replaced_are v gap n stands w (asked.next_left ∷ others) _ same_len asked.block.capacity long now_behind
+
+      called : (b : Bool) → answer ≡ b → Asks f asked.next asked.last b g asked.next_left asked.last_left
+      called b e = subst (λ a. Asks f asked.next asked.last a g asked.next_left asked.last_left) e asked.called
+
+      -- and goes
+      pub ChainsBehind-repeat : answer ≡ true → ChainsBehind Asks f v gap n 0 g w
+      ChainsBehind-repeat e =
+          record {
+            front = asked.front;
+            last = asked.last;
+            last_left = asked.last_left;
+            left = asked.next_left ∷ others;
+            had = asked.had.0;
+            until = subst (λ xs. ChainsUntil Asks f asked.last xs 0 g (asked.last_left ∷ asked.next_left ∷ others)) (sym all) (asked.next_left, asked.last_left, called true e, refl);
+            items = asked.items;
+            behind = now_behind;
+            block = asked.block;
+            writes = asked.writes;
+          }
+
+      -- and stays
+      module _ (e : answer ≡ false) where
+        pub may_follow : (Takes : F → T → T → Type 0) → MayChainFrom Asks Takes f asked.last (behind_items v gap n) → MayDeduplicate Asks Takes g (behind_items w gap n)
+        may_follow Takes may =
+            let m : MayChainFrom Asks Takes f asked.last (asked.next ∷ others) = subst (MayChainFrom Asks Takes f asked.last) all may in
+            subst (MayDeduplicate Asks Takes g) (sym now_are) (m.2 g asked.next_left asked.last_left (called false e))
+
+        pub ChainsBehind-more : (k : ℕ) (h : F) (u : Vector T A) → ChainsOn Asks g w gap n k h u → ChainsBehind Asks f v gap n (1 + k) h u
+        ChainsBehind-more k h u on =
+            let follow : ChainsUntil Asks g asked.next_left others k h on.left = subst (λ xs. ChainsAlong Asks g xs k h on.left) now_are on.until in
+            let until : ChainsUntil Asks f asked.last (asked.next ∷ others) (suc k) h (asked.last_left ∷ on.left) = (g, asked.next_left, asked.last_left, on.left, called false e, follow, refl) in
+            let one : suc k ≡ 1 + k = omega arith in
+            let behind_same : drop n (drop gap w.behind) ≡ drop n (drop gap v.behind) =
+            ap (drop n) now_behind ∙ drop_at (map Some (asked.next_left ∷ others)) (drop n (drop gap v.behind)) n (length-map (asked.next_left ∷ others) (λ (x : T). Some x) ∙ long) in
+            record {
+              front = asked.front;
+              last = asked.last;
+              last_left = asked.last_left;
+              left = on.left;
+              had = asked.had.0;
+              until = subst (λ i. ChainsUntil Asks f asked.last (behind_items v gap n) i h (asked.last_left ∷ on.left)) one (subst (λ xs. ChainsUntil Asks f asked.last xs (suc k) h (asked.last_left ∷ on.left)) (sym all) until);
+              items = ap (λ s. s.items) on.leaves.same ∙ asked.items;
+              behind = on.leaves.behind ∙ ap (λ ds. map Some on.left ++ ds) behind_same;
+              block = record {
+                capacity = ap (λ s. s.capacity) on.leaves.same ∙ asked.block.capacity;
+                growth = ap (λ s. s.growth) on.leaves.same ∙ asked.block.growth;
+                grown = ap (λ s. s.grown) on.leaves.same ∙ asked.block.grown;
+                alloc = ap (λ s. s.alloc) on.leaves.same ∙ asked.block.alloc;
+              };
+              writes = record { written = ap (λ s. s.written) on.leaves.same ∙ asked.writes.written; runs = ap (λ s. s.runs) on.leaves.same ∙ asked.writes.runs };
+            }

@@ -1,0 +1,61 @@
+-- Closures whose answers hang on the elements alone: what they leave of a list is a function of it.
+use Rattle.std.proofs.Common.{◌≡◌, Bool, true, false, not, List, [], ◌∷◌, map, refl, ap, ◌∙◌, subst, arith}
+use Rattle.std.specs.Prelude.{cond, filter}
+use Rattle.std.specs.List.{dedup, dedup_from}
+use Rattle.aa_vec.specs.Choosing.{Asked, AskedInOrder, ChainsFrom, Deduplicated, answers_of, kept, kept_behind_removed, removed_count}
+use Rattle.aa_vec.proofs.Closed.{counted}
+
+-- what an element is told by p, and left as by h
+abbrev pub told_by : {T : Type 0} → (T → Bool) → (T → T) → T → Asked T
+told_by p h x = record { answer = p x; left = h x }
+
+-- each element is told by the closure's own answer
+pub asked-steady : {F T : Type 0} (Asks : F → T → Bool → F → T → Type 0) (p : T → Bool) (h : T → T) → ((f : F) (x : T) (answer : Bool) (g : F) (y : T) → Asks f x answer g y → (answer ≡ p x) × (y ≡ h x))
+    → (f : F) (xs : List T) (told : List (Asked T)) (g : F) → AskedInOrder Asks f xs told g → told ≡ map (told_by p h) xs
+asked-steady Asks p h steady f [] [] g a = refl
+asked-steady Asks p h steady f [] (y ∷ told) g a = absurd a
+asked-steady Asks p h steady f (x ∷ xs) [] g a = absurd a
+asked-steady Asks p h steady f (x ∷ xs) (y ∷ told) g a =
+    let s = steady f x y.answer a.0 y.left a.1 in
+    let one : y ≡ told_by p h x = λ i. record { answer = s.0 i; left = s.1 i } in
+    ap (λ z. z ∷ told) one ∙ ap (λ l. told_by p h x ∷ l) (asked-steady Asks p h steady a.0 xs told g a.2)
+
+module _ {F T : Type 0} (Asks : F → T → T → Bool → F → T → T → Type 0) (same : T → T → Bool) (steady : (f : F) (x l : T) (answer : Bool) (g : F) (y k : T) → Asks f x l answer g y k → (answer ≡ same x l) × (y ≡ x) × (k ≡ l)) where
+  -- the answers of such a test, the first beside l
+  abbrev pub answers_from : T → List T → List Bool
+  answers_from l [] = []
+  answers_from l (x ∷ xs) = same x l ∷ answers_from (cond (same x l) l x) xs
+
+  pub chained-steady : (f : F) (l : T) (xs : List T) (answers : List Bool) (g : F) (ys : List T) → ChainsFrom Asks f l xs answers g ys → (answers ≡ answers_from l xs) × (ys ≡ dedup_from same l xs)
+  chained-steady f l [] [] g ys c = (refl, c.1)
+  chained-steady f l [] (a ∷ answers) g ys c = absurd c
+  chained-steady f l (x ∷ xs) [] g ys c = absurd c
+  chained-steady f l (x ∷ xs) (true ∷ answers) g ys c =
+      let s = steady f x l true c.0 c.1 c.2 c.3 in
+      let r = chained-steady c.0 l xs answers g ys (subst (λ k. ChainsFrom Asks c.0 k xs answers g ys) s.2 c.4) in
+      (ap (λ bs. true ∷ bs) r.0 ∙ ap (λ b. b ∷ answers_from (cond b l x) xs) s.0, r.1 ∙ ap (λ b. cond b (dedup_from same l xs) (l ∷ dedup_from same x xs)) s.0)
+  chained-steady f l (x ∷ xs) (false ∷ answers) g ys c =
+      let s = steady f x l false c.0 c.1 c.2 c.4 in
+      let r = chained-steady c.0 x xs answers g c.3 (subst (λ y. ChainsFrom Asks c.0 y xs answers g c.3) s.1 c.5) in (
+        ap (λ bs. false ∷ bs) r.0 ∙ ap (λ b. b ∷ answers_from (cond b l x) xs) s.0,
+        c.6 ∙ ap (λ k. k ∷ c.3) s.2 ∙ ap (λ zs. l ∷ zs) r.1 ∙ ap (λ b. cond b (dedup_from same l xs) (l ∷ dedup_from same x xs)) s.0,
+      )
+
+  pub deduplicated-steady : (f : F) (xs : List T) (answers : List Bool) (g : F) (ys : List T) → Deduplicated Asks f xs answers g ys → ys ≡ dedup same xs
+  deduplicated-steady f [] answers g ys d = d.2
+  deduplicated-steady f (x ∷ xs) answers g ys d = (chained-steady f x xs answers g ys d).1
+
+one_more : {T : Type 0} (p : T → Bool) (h : T → T) (x : T) (xs : List T) (b : Bool) → kept (map (told_by p h) xs) ≡ map h (filter p xs)
+    → map (λ (t : Asked T). t.left) (cond b (told_by p h x ∷ filter (λ t. t.answer) (map (told_by p h) xs)) (filter (λ t. t.answer) (map (told_by p h) xs))) ≡ map h (cond b (x ∷ filter p xs) (filter p xs))
+one_more p h x xs true e = ap (λ l. h x ∷ l) e
+one_more p h x xs false e = e
+
+-- what such a closure keeps
+pub kept-steady : {T : Type 0} (p : T → Bool) (h : T → T) (xs : List T) → kept (map (told_by p h) xs) ≡ map h (filter p xs)
+kept-steady p h [] = refl
+kept-steady p h (x ∷ xs) = one_more p h x xs (p x) (kept-steady p h xs)
+
+-- and where it keeps all, none goes
+pub kept-all : {T : Type 0} (xs : List T) → (kept (map (told_by (λ x. true) (λ x. x)) xs) ≡ xs) × (kept_behind_removed (answers_of (map (told_by (λ x. true) (λ x. x)) xs)) ≡ 0) × (removed_count (answers_of (map (told_by (λ x. true) (λ x. x)) xs)) ≡ 0)
+kept-all [] = (refl, refl, refl)
+kept-all (x ∷ xs) = let r = kept-all xs in (ap (λ l. x ∷ l) r.0, r.1, omega (arith, r.2, counted not true (answers_of (map (told_by (λ x. true) (λ x. x)) xs))))

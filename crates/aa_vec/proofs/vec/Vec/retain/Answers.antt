@@ -1,0 +1,13 @@
+use Rattle.std.proofs.Common.{rules}
+use Rattle.std.specs.Fn.{TakesAt}
+use Rattle.aa_vec.specs.Choosing.{Reads}
+use Rattle.aa_vec.proofs.Handed.{Retains-on, IsCallableInOrder-on}
+use Rattle.aa_vec.proofs.vec.Vec.retain.Goals as goal
+
+pub retain_by-requires : goal.retain_by-requires
+retain_by-requires g c =
+    IsCallableInOrder-on (λ q. q.0) _ (Reads g.F.FnMut) (λ q x answer r y a. search rules) _ (TakesAt g.F.FnMut) (λ q x may. search rules) _ c.args.self.now.items c.requires
+
+pub returns : goal.returns
+returns g c =
+    (_, Retains-on (λ q. q.0) _ (Reads g.F.FnMut) (λ q x answer r y a. search rules) _ c.args.self.now _ _ c.retain_by.ensures)

@@ -1,0 +1,27 @@
+use Rattle.std.proofs.Common.{◌≡◌, ◌-◌, ℕ, length, subst, arith}
+use Rattle.std.specs.Fn.{CalledAtPairMut}
+use Rattle.aa_raw.specs.Closures.{TakesPairMut}
+use Rattle.aa_vec.specs.Until.{ChainsAlong}
+use Rattle.aa_vec.proofs.Asking.{HasChained-none, HasChained-more, ChainsAlong-here, ChainsAlong-end, next_pair}
+use Rattle.aa_vec.proofs.vec.asking.distinct_run.Goals as goal
+
+pub each-init : goal.each-init
+each-init g c = HasChained-none (CalledAtPairMut g.F.FnMut) (TakesPairMut g.F.FnMut) c.args.same.now c.args.elements.now c.requires.some c.requires.callable
+
+pub ask_neighbours-requires-clause-callable : goal.ask_neighbours-requires-clause-callable
+ask_neighbours-requires-clause-callable g c = next_pair (CalledAtPairMut g.F.FnMut) (TakesPairMut g.F.FnMut) _ _ c.each.kept c.each.same c.each.elements c.each.invariant
+
+pub returns-then-ask_neighbours-clause-asked : goal.returns-then-ask_neighbours-clause-asked
+returns-then-ask_neighbours-clause-asked g c =
+    ChainsAlong-here (CalledAtPairMut g.F.FnMut) (TakesPairMut g.F.FnMut) _ _ c.each.kept c.each.same c.each.elements c.each.invariant c.ask_neighbours.result _ _ c.ask_neighbours.ensures c.if-ask_neighbours.true
+
+pub each-preserved : goal.each-preserved
+each-preserved g c =
+    HasChained-more (CalledAtPairMut g.F.FnMut) (TakesPairMut g.F.FnMut) _ _ c.each.kept c.each.same c.each.elements c.each.invariant c.ask_neighbours.result _ _ c.ask_neighbours.ensures c.if-ask_neighbours.false
+
+pub returns-clause-asked : goal.returns-clause-asked
+returns-clause-asked g c =
+    let n : ℕ = length c.args.elements.now - 1 in
+    let all : c.each.kept ≡ n = omega (arith, c.each-test.false, c.each.auto.elements, c.each.invariant.within) in
+    subst (λ i. ChainsAlong (CalledAtPairMut g.F.FnMut) c.args.same.now c.args.elements.now i c.each.same c.each.elements) all
+    (ChainsAlong-end (CalledAtPairMut g.F.FnMut) (TakesPairMut g.F.FnMut) _ _ c.each.kept c.each.same c.each.elements c.each.invariant (omega (arith, c.each-test.false, c.each.auto.elements, c.each.invariant.within)))

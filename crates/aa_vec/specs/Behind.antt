@@ -1,0 +1,34 @@
+-- A vector with elements in the places behind its items, as a call has it that takes them out of a range and closes the gap.
+use Rattle.std.specs.Prelude.{◌≡◌, ℕ, ◌+◌, ◌-◌, ◌≤◌, List, ◌++◌, take, drop, map, Option, Some, if◌then◌else◌, ◌==◌}
+use Rattle.aa_raw.specs.Places.{IsRun, run}
+use Rattle.aa_vec.specs.Vector.{Vector, len, Holds, Writes, run_count}
+
+module _ {T A : Type 0} where
+  -- n elements stand behind the items of v, after a gap of so many places
+  abbrev pub StandsBehind : Vector T A → (gap n : ℕ) → Type 0
+  StandsBehind v gap n = (len v + gap + n ≤ v.capacity) × IsRun (drop gap v.behind) 0 n
+
+  -- those elements
+  abbrev pub behind_items : Vector T A → (gap n : ℕ) → List T
+  behind_items v gap n = run (drop gap v.behind) 0 n
+
+  abbrev pub with_behind : Vector T A → List (Option T) → Vector T A
+  with_behind v places = record v { behind = places }
+
+  -- the items from the index on stand behind the others now
+  pub record SetsBack (old : Vector T A) (at : ℕ) (new : Vector T A) : Type 0 where
+    pub holds : Holds old (take at old.items) new
+    pub stands : StandsBehind new 0 (len old - at)
+    pub elements : behind_items new 0 (len old - at) ≡ drop at old.items
+    pub writes : Writes old 0 0 new
+
+  -- the n elements after the gap were moved down to the items, of which they are the last now; the gap is before what stood behind them
+  pub record ClosesGap (old : Vector T A) (gap n : ℕ) (new : Vector T A) : Type 0 where
+    pub holds : Holds old (old.items ++ behind_items old gap n) new
+    pub behind : drop gap new.behind ≡ drop n (drop gap old.behind)
+    pub writes : let moved = if gap == 0 then 0 else n in Writes old moved (run_count moved) new
+
+  -- of the n elements after the gap these are left, and all else is as it was
+  pub record LeavesBehind (old : Vector T A) (gap n : ℕ) (left : List T) (new : Vector T A) : Type 0 where
+    pub same : new ≡ with_behind old new.behind
+    pub behind : drop gap new.behind ≡ map Some left ++ drop n (drop gap old.behind)

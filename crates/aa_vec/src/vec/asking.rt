@@ -1,0 +1,98 @@
+//! Closures called along a slice, up to the first element that does not stay.
+ghost use Rattle.std.specs.Prelude.{◌≡◌, ◌+◌, ◌<◌, List, ◌∷◌, drop, length};
+ghost use Rattle.std.specs.Fn.{CalledAtMut, CalledAtPairMut, ComparesKeys};
+ghost use Rattle.aa_raw.specs.Closures.{TakesPairMut};
+ghost use Rattle.aa_vec.specs.Choosing.{TakesMut, TakesForKeys, MayAskInOrder, MayDeduplicate};
+ghost use Rattle.aa_vec.specs.Until.{AsksUntil, AsksNeighbours, ChainsAlong};
+
+// Asks the elements in order, up to the first that is not kept. It answers how many are kept before it.
+#[inline]
+pub(crate) fn kept_run<T, F: FnMut(&mut T) -> bool>(elements: &mut [T], keep: &mut F) -> usize
+    requires { MayAskInOrder (CalledAtMut F.FnMut) (TakesMut F.FnMut) keep.old elements.old }
+    ensures { AsksUntil (CalledAtMut F.FnMut) keep.old elements.old result keep.new elements.new }
+{
+    let count = elements.len();
+    let mut kept = 0;
+    'each: while kept < count {
+        if !ask(keep, &mut elements[kept]) {
+            return kept;
+        }
+        kept += 1;
+    }
+    count
+}
+
+// One call.
+#[inline(always)]
+fn ask<T, R, F: FnMut(&mut T) -> R>(f: &mut F, element: &mut T) -> R
+    requires { TakesMut F.FnMut f.old element.old }
+    ensures { CalledAtMut F.FnMut f.old element.old result f.new element.new }
+{
+    f(element)
+}
+
+// Asks the elements behind the first in order, each beside the one before it, up to the first repeat. It answers how many are
+// kept before it.
+#[inline]
+pub(crate) fn distinct_run<T, F: FnMut(&mut T, &mut T) -> bool>(
+    elements: &mut [T],
+    same: &mut F,
+) -> usize
+    requires some { 0 < length elements.old }
+    requires callable { MayDeduplicate (CalledAtPairMut F.FnMut) (TakesPairMut F.FnMut) same.old elements.old }
+    ensures within { result < length elements.old }
+    ensures asked { ChainsAlong (CalledAtPairMut F.FnMut) same.old elements.old result same.new elements.new }
+{
+    let last = elements.len() - 1;
+    let mut kept = 0;
+    'each: while kept < last {
+        if ask_neighbours(same, elements, kept) {
+            return kept;
+        }
+        kept += 1;
+    }
+    last
+}
+
+// Asks the element behind the one at the index beside that one.
+#[inline(always)]
+fn ask_neighbours<T, F: FnMut(&mut T, &mut T) -> bool>(
+    same: &mut F,
+    elements: &mut [T],
+    at: usize,
+) -> bool
+    requires within { at + 1 < length elements.old }
+    requires callable { (l x : T) (xs : List T) → drop at elements.old ≡ l ∷ x ∷ xs → TakesPairMut F.FnMut same.old x l }
+    ensures { AsksNeighbours (CalledAtPairMut F.FnMut) same.old elements.old at result same.new elements.new }
+{
+    let (before, behind) = elements.split_at_mut(at + 1);
+    ask_pair(same, &mut behind[0], &mut before[at])
+}
+
+// One call, at one lifetime for both.
+#[inline(always)]
+fn ask_pair<'a, T, F: FnMut(&mut T, &mut T) -> bool>(
+    same: &mut F,
+    element: &'a mut T,
+    last: &'a mut T,
+) -> bool
+    requires { TakesPairMut F.FnMut same.old element.old last.old }
+    ensures { CalledAtPairMut F.FnMut same.old element.old last.old result same.new element.new last.new }
+{
+    same(element, last)
+}
+
+// Whether the keys are equal, that of the element asked for first.
+#[inline(always)]
+pub(crate) fn same_keys<T, K: PartialEq + Drop, F: FnMut(&mut T) -> K>(
+    key: &mut F,
+    element: &mut T,
+    last: &mut T,
+) -> bool
+    requires { TakesForKeys F.FnMut key.old element.old last.old }
+    ensures { ComparesKeys F.FnMut K.eq key.old element.old last.old result key.new element.new last.new }
+{
+    let first = ask(key, element);
+    let second = ask(key, last);
+    first == second
+}

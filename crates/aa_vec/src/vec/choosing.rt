@@ -1,0 +1,192 @@
+//! Elements that a closure chooses to keep.
+ghost use Rattle.std.specs.Prelude.{◌≡◌, ◌+◌, ◌≤◌, ◌<◌, [], ◌∷◌, ◌++◌, List};
+ghost use Rattle.std.specs.List.{dedup};
+ghost use Rattle.std.specs.Fn.{CalledAtMut, CalledAtPairMut, ComparesKeys, TakesAt};
+ghost use Rattle.aa_raw.specs.Closures.{TakesPairMut};
+ghost use Rattle.aa_vec.specs.Behind.{StandsBehind, behind_items};
+ghost use Rattle.aa_vec.specs.Choosing.{TakesMut, TakesForKeys, Reads, Equals, IsCallableInOrder, IsCallableAlong, MayAskInOrder, MayChainFrom, MayDeduplicate, Retains, Deduplicates};
+ghost use Rattle.aa_vec.specs.Until.{AsksBehind, AsksLast, ChainsOn, ChainsBehind};
+ghost use Rattle.aa_vec.specs.Vector.{len};
+
+use crate::vec::Vec;
+use crate::vec::asking::{distinct_run, kept_run, same_keys};
+use std::alloc::Allocator;
+
+impl<T: Drop, A: Allocator> Vec<T, A> {
+    /// Asks `f` of each element once, in order, and keeps those at which it answers true. The others are dropped. The order and
+    /// the capacity stay; it takes no memory. It stands for `Vec::retain`.
+    pub fn retain<F: FnMut(&T) -> bool + Drop>(&mut self, mut f: F)
+        requires { IsCallableInOrder (Reads F.FnMut) (TakesAt F.FnMut) f self.old.items }
+        ensures { (last : F) × Retains (Reads F.FnMut) f self.old last self.new }
+    {
+        self.retain_by(
+            &mut move |element: &mut T|
+                requires { TakesAt F.FnMut f element.old }
+                ensures { Reads F.FnMut f.entry element.old result f.exit element.new }
+            { f(element) },
+        );
+    }
+
+    /// Asks `f` of each element once, in order, and keeps those at which it answers true, as it leaves them. The others are
+    /// dropped as it leaves them. The order and the capacity stay; it takes no memory. It stands for `Vec::retain_mut`.
+    pub fn retain_mut<F: FnMut(&mut T) -> bool + Drop>(&mut self, mut f: F)
+        requires { IsCallableInOrder (CalledAtMut F.FnMut) (TakesMut F.FnMut) f self.old.items }
+        ensures { (last : F) × Retains (CalledAtMut F.FnMut) f self.old last self.new }
+    {
+        self.retain_by(&mut f);
+    }
+
+    /// Drops each element but the first whose key equals that of the last one that was kept before it. `key` is asked anew for
+    /// both elements of each comparison, first for the one under test. The order and the capacity stay; it takes no memory. It
+    /// stands for `Vec::dedup_by_key`.
+    pub fn dedup_by_key<K: PartialEq + Drop, F: FnMut(&mut T) -> K + Drop>(&mut self, mut key: F)
+        requires { IsCallableAlong (ComparesKeys F.FnMut K.eq) (TakesForKeys F.FnMut) key self.old.items }
+        ensures { (last : F) × Deduplicates (ComparesKeys F.FnMut K.eq) key self.old last self.new }
+    {
+        self.dedup_within(
+            &mut move |element: &mut T, last: &mut T|
+                requires { TakesForKeys F.FnMut key element.old last.old }
+                ensures { ComparesKeys F.FnMut K.eq key.entry element.old last.old result key.exit element.new last.new }
+            { same_keys(&mut key, element, last) },
+        );
+    }
+
+    /// Asks `same_bucket` of each element but the first, in order, beside the last one that was kept before it, and drops it
+    /// where the answer is true. Both stay as `same_bucket` leaves them. The order and the capacity stay; it takes no memory. It
+    /// stands for `Vec::dedup_by`.
+    pub fn dedup_by<F: FnMut(&mut T, &mut T) -> bool + Drop>(&mut self, mut same_bucket: F)
+        requires { IsCallableAlong (CalledAtPairMut F.FnMut) (TakesPairMut F.FnMut) same_bucket self.old.items }
+        ensures { (last : F) × Deduplicates (CalledAtPairMut F.FnMut) same_bucket self.old last self.new }
+    {
+        self.dedup_within(&mut same_bucket);
+    }
+
+    /// Asks `keep` of each element once, in order, and keeps those at which it answers true, as it leaves them. The others are
+    /// dropped as it leaves them. The order and the capacity stay; it takes no memory. This is `retain_mut` by a closure that is
+    /// lent, so that the caller knows what becomes of it.
+    pub fn retain_by<F: FnMut(&mut T) -> bool>(&mut self, keep: &mut F)
+        requires { IsCallableInOrder (CalledAtMut F.FnMut) (TakesMut F.FnMut) keep.old self.old.items }
+        ensures { Retains (CalledAtMut F.FnMut) keep.old self.old keep.new self.new }
+    {
+        let mut left = self.set_back(0);
+        let mut gap = 0;
+        'runs: loop {
+            let kept = self.keep_behind(gap, left, keep);
+            self.close_gap(gap, kept);
+            if kept == left {
+                return;
+            }
+            drop(self.take_behind(gap));
+            gap += 1;
+            left -= kept + 1;
+        }
+    }
+
+    /// Asks `same` of each element but the first, in order, beside the last one that was kept before it, and drops it where the
+    /// answer is true. Both stay as `same` leaves them. The order and the capacity stay; it takes no memory. This is `dedup_by`
+    /// by a closure that is lent, so that the caller knows what becomes of it.
+    pub fn dedup_within<F: FnMut(&mut T, &mut T) -> bool>(&mut self, same: &mut F)
+        requires { IsCallableAlong (CalledAtPairMut F.FnMut) (TakesPairMut F.FnMut) same.old self.old.items }
+        ensures { Deduplicates (CalledAtPairMut F.FnMut) same.old self.old same.new self.new }
+    {
+        if self.is_empty() {
+            return;
+        }
+        let mut left = self.set_back(1);
+        let mut gap = 0;
+        'runs: loop {
+            let distinct = self.chain_behind(gap, left, same);
+            self.close_gap(gap, distinct);
+            if distinct == left {
+                return;
+            }
+            drop(self.take_behind(gap));
+            gap += 1;
+            left -= distinct + 1;
+        }
+    }
+}
+
+impl<T: PartialEq + Drop, A: Allocator> Vec<T, A> {
+    /// Drops each element that equals the last one that was kept before it. The order and the capacity stay; it takes no memory.
+    /// It stands for `Vec::dedup`.
+    pub fn dedup(&mut self)
+        ensures items { self.new.items ≡ dedup T.eq self.old.items }
+        ensures removed { Deduplicates (Equals T.eq) tt self.old tt self.new }
+    {
+        self.dedup_within(
+            &mut |element: &mut T, last: &mut T|
+                ensures { (result ≡ T.eq element.old last.old) × (element.new ≡ element.old) × (last.new ≡ last.old) }
+            { *element == *last },
+        );
+    }
+}
+
+impl<T, A: Allocator> Vec<T, A> {
+    // Asks the `count` elements after the gap in order, up to the first that is not kept. It answers how many are kept before it.
+    fn keep_behind<F: FnMut(&mut T) -> bool>(
+        &mut self,
+        gap: usize,
+        count: usize,
+        keep: &mut F,
+    ) -> usize
+        requires stands { StandsBehind self.old gap count }
+        requires callable { MayAskInOrder (CalledAtMut F.FnMut) (TakesMut F.FnMut) keep.old (behind_items self.old gap count) }
+        ensures { AsksBehind (CalledAtMut F.FnMut) keep.old self.old gap count result keep.new self.new }
+    {
+        let _within = self.block.capacity();
+        kept_run(self.block.slice_mut(self.len + gap, count), keep)
+    }
+
+    // Asks the `count` elements after the gap in order, each beside the last one kept before it, up to the first repeat. It
+    // answers how many are kept before it.
+    fn chain_behind<F: FnMut(&mut T, &mut T) -> bool>(
+        &mut self,
+        gap: usize,
+        count: usize,
+        same: &mut F,
+    ) -> usize
+        requires some { 0 < len self.old }
+        requires stands { StandsBehind self.old gap count }
+        requires callable { (front : List T) (last : T) → self.old.items ≡ front ++ last ∷ [] → MayChainFrom (CalledAtPairMut F.FnMut) (TakesPairMut F.FnMut) same.old last (behind_items self.old gap count) }
+        ensures { ChainsBehind (CalledAtPairMut F.FnMut) same.old self.old gap count result same.new self.new }
+    {
+        if count == 0 {
+            return 0;
+        }
+        if self.ask_last(gap, same) {
+            return 0;
+        }
+        1 + self.chain_on(gap, count, same)
+    }
+
+    // Asks the `count` elements after the gap behind the first of them in order, each beside the one before it, up to the first
+    // repeat. It answers how many are kept before it.
+    fn chain_on<F: FnMut(&mut T, &mut T) -> bool>(
+        &mut self,
+        gap: usize,
+        count: usize,
+        same: &mut F,
+    ) -> usize
+        requires some { 0 < count }
+        requires stands { StandsBehind self.old gap count }
+        requires callable { MayDeduplicate (CalledAtPairMut F.FnMut) (TakesPairMut F.FnMut) same.old (behind_items self.old gap count) }
+        ensures within { result < count }
+        ensures asked { ChainsOn (CalledAtPairMut F.FnMut) same.old self.old gap count result same.new self.new }
+    {
+        let _within = self.block.capacity();
+        distinct_run(self.block.slice_mut(self.len + gap, count), same)
+    }
+
+    // Asks the element after the gap beside the last item.
+    fn ask_last<F: FnMut(&mut T, &mut T) -> bool>(&mut self, gap: usize, same: &mut F) -> bool
+        requires some { 0 < len self.old }
+        requires stands { StandsBehind self.old gap 1 }
+        requires callable { (front : List T) (last x : T) → self.old.items ≡ front ++ last ∷ [] → behind_items self.old gap 1 ≡ x ∷ [] → TakesPairMut F.FnMut same.old x last }
+        ensures { AsksLast (CalledAtPairMut F.FnMut) same.old self.old gap result same.new self.new }
+    {
+        let len = self.len;
+        let _within = self.block.capacity();
+        self.block.pair_with(len + gap, len - 1, same)
+    }
+}
