@@ -12,3 +12,4 @@ pub mod Runs
 mod Seen
 mod Spots
 mod Walk
+pub mod Cloned

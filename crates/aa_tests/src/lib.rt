@@ -4,6 +4,10 @@
 #[cfg(test)]
 mod block_refusals;
 #[cfg(test)]
+mod box_refusals;
+#[cfg(test)]
+mod drain_refusals;
+#[cfg(test)]
 mod many_refusals;
 #[cfg(test)]
 mod refusals;

@@ -114,7 +114,7 @@ fn elements_without_size_need_no_memory_for_many(rt: HostRuntime) -> Result<(), 
 
 // A number in memory of its own, which a clone takes too.
 #[derive(Drop)]
-struct Held<'a> {
+pub(crate) struct Held<'a> {
     number: Numbers<'a>,
 }
 
@@ -128,7 +128,7 @@ impl<'a> Clone for Held<'a> {
 }
 
 // The numbers of `source`, each in memory of its own, in places for just them.
-fn held_numbers<'a>(
+pub(crate) fn held_numbers<'a>(
     heap: &'a Faulty<Global>,
     source: &[u32],
 ) -> Result<Vec<Held<'a>, &'a Faulty<Global>>, TryReserveError> {

@@ -1,15 +1,15 @@
 -- Elements behind the items of a vector, and the gap before them, as the places of its block.
 use Rattle.std.proofs.Common.{◌≡◌, ℕ, ◌+◌, ◌-◌, ◌<◌, ◌≤◌, List, [], ◌∷◌, ◌++◌, length, map, take, drop, replicate, get_or, Option, Some, None, refl, sym, ap, ◌∙◌, subst, arith, inl, inr, length-append, length-drop, length-set}
 use Rattle.std.specs.Prelude.{slice_set, if◌then◌else◌, ◌==◌}
-use Rattle.std.proofs.lemmas.List.{drop-drop, drop-set, drop-set-add, drop-set-lt, length-replicate, length-take-le, take_at, drop_at}
+use Rattle.std.proofs.lemmas.List.{append-nil, drop-drop, drop-set, drop-set-add, drop-set-lt, length-replicate, length-take-le, take_at, drop_at}
 use Rattle.std.specs.List.{refill, length_refill}
 use Rattle.std.proofs.lemmas.Bool.Decides.{eqb_tells}
 use Rattle.aa_raw.specs.Block.{wrote, with_places}
 use Rattle.aa_raw.specs.Places.{IsRun, IsFilled, run, moved, with_run}
 use Rattle.aa_raw.proofs.Places.{length-moved, length-with_run}
-use Rattle.aa_raw.proofs.Runs.{length-run, first-filled, IsRun-long, IsRun-part, IsRun-same, drop-with, run-drop, run-one, run-moved, run-moved-below, run-split, run-take, run-is, run-push, run-set-above, run-with-below, length-with, IsRun-set-above, cut-long}
+use Rattle.aa_raw.proofs.Runs.{length-run, first-filled, IsRun-long, IsRun-part, IsRun-same, drop-with, run-drop, run-one, run-moved, run-moved-below, run-split, run-take, run-is, run-push, run-set-above, run-with-below, run-zero, length-with, IsRun-set-above, cut-long}
 use Rattle.aa_vec.specs.Behind.{StandsBehind, SetsBack, ClosesGap, LeavesBehind, behind_items, with_behind}
-use Rattle.aa_vec.specs.Vector.{len}
+use Rattle.aa_vec.specs.Vector.{Vector, len}
 use Rattle.aa_vec.specs.Inner.{view_of, IsFront}
 use Rattle.aa_vec.specs.declared.vec.Vec.TheInside.{Inside}
 use Rattle.aa_vec.proofs.Lists.{equal, unequal}
@@ -44,6 +44,20 @@ over_gap l gap n =
       | inl h ↦ equal (l + gap) l 0 n (omega (arith, h.1)) ∙ sym (equal gap 0 0 n h.1)
       | inr h ↦ unequal (l + gap) l 0 n (λ e. h.1 (omega (arith, e))) ∙ sym (unequal gap 0 0 n h.1)
     ]
+
+either_way : (gap n : ℕ) → (if gap == 0 then n else n) ≡ n
+either_way gap n = elim (eqb_tells gap 0) [ inl h ↦ equal gap 0 n n h.1 | inr h ↦ unequal gap 0 n n h.1 ]
+
+-- no element leaves a gap as it is
+pub ClosesGap-none : {T A : Type 0} (v : Vector T A) (gap : ℕ) → ClosesGap v gap 0 v
+ClosesGap-none v gap = record {
+  holds = record {
+    items = sym (append-nil v.items) ∙ ap (λ xs. v.items ++ xs) (sym (run-zero (drop gap v.behind) 0));
+    block = record { capacity = refl; growth = refl; grown = refl; alloc = refl };
+  };
+  behind = refl;
+  writes = rw (either_way gap 0) (record { written = omega arith; runs = omega arith });
+}
 
 module _ {T A : Type 0} (v : Inside T A) (front : IsFront v) where
   count : len (view_of v) ≡ v.len

@@ -1,4 +1,5 @@
 pub mod Blocks
+pub mod Boxing
 pub mod Climbing
 pub mod Copied
 pub mod Counted
@@ -24,3 +25,8 @@ pub mod Handed
 pub mod Callable
 pub mod Kept
 pub mod Steady
+pub mod Drained
+pub mod Drains
+pub mod Walks
+pub mod GivenUp
+pub mod HandedOn

@@ -1,5 +1,5 @@
 -- A vector with elements in the places behind its items, as a call has it that takes them out of a range and closes the gap.
-use Rattle.std.specs.Prelude.{◌≡◌, ℕ, ◌+◌, ◌-◌, ◌≤◌, List, ◌++◌, take, drop, map, Option, Some, if◌then◌else◌, ◌==◌}
+use Rattle.std.specs.Prelude.{◌≡◌, ℕ, ◌+◌, ◌-◌, ◌≤◌, List, ◌++◌, take, drop, replicate, map, Option, Some, None, if◌then◌else◌, ◌==◌}
 use Rattle.aa_raw.specs.Places.{IsRun, run}
 use Rattle.aa_vec.specs.Vector.{Vector, len, Holds, Writes, run_count}
 
@@ -32,3 +32,18 @@ module _ {T A : Type 0} where
   pub record LeavesBehind (old : Vector T A) (gap n : ℕ) (left : List T) (new : Vector T A) : Type 0 where
     pub same : new ≡ with_behind old new.behind
     pub behind : drop gap new.behind ≡ map Some left ++ drop n (drop gap old.behind)
+
+  -- the n elements after the gap are gone, and all else is as it was
+  pub record DropsBehind (old : Vector T A) (gap n : ℕ) (new : Vector T A) : Type 0 where
+    pub same : new ≡ with_behind old new.behind
+    pub behind : drop gap new.behind ≡ replicate n None ++ drop n (drop gap old.behind)
+
+  -- the n elements after the gap were moved down to the items, of which they are the last now
+  pub record DropsAndCloses (old : Vector T A) (gap n : ℕ) (new : Vector T A) : Type 0 where
+    pub holds : Holds old (old.items ++ behind_items old gap n) new
+    pub writes : let moved = if gap == 0 then 0 else n in Writes old moved (run_count moved) new
+
+  -- the n elements after the gap and then the m from the place `end` on were moved down to the items, of which they are the last now
+  pub record ClosesTwice (old : Vector T A) (gap n end m : ℕ) (new : Vector T A) : Type 0 where
+    pub holds : Holds old (old.items ++ (behind_items old gap n ++ behind_items old end m)) new
+    pub writes : let first = if gap == 0 then 0 else n in let second = if end - n == 0 then 0 else m in Writes old (first + second) (run_count first + run_count second) new

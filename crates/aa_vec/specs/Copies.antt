@@ -1,15 +1,12 @@
 -- What calls leave that put copies of elements, or results of a closure, into a vector.
 use Rattle.std.specs.Prelude.{◌≡◌, ℕ, zero, suc, ◌+◌, ◌-◌, ◌<◌, ◌≤◌, List, [], ◌∷◌, ◌++◌, length, take, replicate, ◌⊎◌, ⊤, if◌then◌else◌, ◌==◌}
 use Rattle.std.specs.List.{AllZip, FoldsTo}
+pub use Rattle.aa_raw.specs.Clones.{Copies}
 use Rattle.aa_raw.specs.declared.collections.TryReserveErrorKind.{TryReserveErrorKind}
 use Rattle.aa_raw.specs.declared.collections.TryReserveErrorKind.TheVariants.{AllocError}
 use Rattle.aa_raw.specs.declared.raw_vec.Growth.{Growth}
 use Rattle.aa_raw.specs.declared.raw_vec.Growth.TheVariants.{Doubling}
 use Rattle.aa_vec.specs.Vector.{Vector, len, sized, GrowsTo, Holds, Writes, LacksRoom, with_items}
-
--- a clone equals its source. This is a condition on the type of the elements, under which the lists that calls leave are known
-abbrev pub Copies : {T : Type 0} → (T → T → Type 0) → Type 0
-Copies {T} clones = (x y : T) → clones x y → y ≡ x
 
 -- ys are the first of xs, as many as they are
 abbrev pub IsBeginning : {T : Type 0} → (xs ys : List T) → Type 0

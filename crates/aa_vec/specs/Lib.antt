@@ -10,3 +10,5 @@ pub mod Extending
 pub mod Behind
 pub mod Choosing
 pub mod Until
+pub mod Boxes
+pub mod Draining

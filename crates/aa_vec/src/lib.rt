@@ -2,11 +2,17 @@
 #![tactic(auto)]
 
 #[cfg(test)]
+mod boxes_tests;
+#[cfg(test)]
 mod choosing_tests;
 #[cfg(test)]
 mod copies_tests;
 #[cfg(test)]
+mod drain_tests;
+#[cfg(test)]
 mod extend_tests;
+#[cfg(test)]
+mod into_tests;
 #[cfg(test)]
 mod tests;
 pub mod vec;

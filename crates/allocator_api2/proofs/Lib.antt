@@ -1,9 +1,11 @@
 pub mod Callable
 pub mod Cuts
+pub mod Taking
 pub mod WholeRuns
 pub mod Differ
 pub mod Joined
 pub mod Paid
+pub mod Ranges
 pub mod Replies
 pub mod Reserved
 pub mod Runs

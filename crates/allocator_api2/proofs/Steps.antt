@@ -4,12 +4,13 @@ use Rattle.std.specs.Prelude.{insert, remove, swap_remove, slice_set, slice_inde
 use Rattle.std.proofs.lemmas.List.{length-append}
 use Rattle.aa_vec.specs.Vector.{Vector, len, SameBlock, GrowsTo, Holds}
 use Rattle.allocator_api2.specs.declared.runner.Command.{Command}
-use Rattle.allocator_api2.specs.declared.runner.Command.TheVariants.{Push, Within, Pop, Insert, Remove, SwapRemove, Truncate, Clear, Append, Extend, Retain, Dedup}
+use Rattle.allocator_api2.specs.declared.runner.Command.TheVariants.{Push, Within, Pop, Insert, Remove, SwapRemove, Truncate, Clear, Append, Extend, Retain, Dedup, Drain}
 use Rattle.allocator_api2.specs.declared.runner.Reply.{Reply}
 use Rattle.allocator_api2.specs.declared.runner.Reply.TheVariants.{Done, Item, Nothing, Back, Refused, Range}
 use Rattle.aa_vec.specs.Extending.{Climbs, ExtendsAll, ExtendsFull, lower_by}
 use Rattle.aa_raw.specs.declared.collections.TryReserveErrorKind.{TryReserveErrorKind}
 use Rattle.aa_vec.proofs.Kept.{length-kept, length-deduplicated}
+use Rattle.allocator_api2.proofs.Ranges.{length-drained}
 use Rattle.allocator_api2.specs.Machine.{State, Step}
 use Rattle.allocator_api2.specs.Run.{AddsOrRemoves, hint_of, added_by}
 
@@ -131,4 +132,8 @@ module _ {T A : Type 0} (size : ℕ) where
       change_of old Dedup answers (Refused kind) new a s = same old new s.3
       change_of old Dedup answers Range new a s = same old new s.2
       change_of old Dedup answers _ new a s = absurd s.1
+      change_of old (Drain start end front back keep) answers Done new a s = shrinks old.main _ new.main (length-drained old.main.items start end front back keep s.0.0 s.0.1) s.1.3
+      change_of old (Drain start end front back keep) answers (Refused kind) new a s = same old new s.3
+      change_of old (Drain start end front back keep) answers Range new a s = same old new s.2
+      change_of old (Drain start end front back keep) answers _ new a s = absurd s.1
       change_of old command answers reply new a s = absurd a

@@ -1,6 +1,9 @@
--- Laws that users of the vector rely on, over the steps of the list machine.
+-- Laws that users of the vector rely on, over the steps of the list machine and over what the calls leave.
 use Rattle.std.specs.Prelude.{◌≡◌, ℕ, ◌≤◌, Bool, false, List, [], ◌∷◌, length, map, ⊤}
 use Rattle.std.specs.List.{AllByRecursion}
+use Rattle.aa_raw.specs.declared.collections.Refused.{Refused}
+use Rattle.aa_vec.specs.Vector.{Vector, len, sized}
+use Rattle.aa_vec.specs.Boxes.{boxed, HandsBack, IsUnboxed}
 use Rattle.aa_vec.specs.Choosing.{Equals, Deduplicated}
 use Rattle.allocator_api2.specs.declared.runner.Command.{Command}
 use Rattle.allocator_api2.specs.declared.runner.Command.TheVariants.{Within, Reserve, SplitOff, Append}
@@ -50,3 +53,10 @@ TestsEquality {T} {S} eq Repeats = (s t : S) (x l y k : T) (answer : Bool) → R
 abbrev pub LeavesNoRepeats : {T S : Type 0} → (T → T → Bool) → (S → T → T → Bool → S → T → T → Type 0) → Type 0
 LeavesNoRepeats {T} {S} eq Repeats =
     TestsEquality eq Repeats → (s t : S) (xs left : List T) (answers : List Bool) → Deduplicated Repeats s xs answers t left → NeighboursDiffer eq left
+
+-- a list that becomes a boxed slice, and then a vector, is as it was; a vector that could not become one is handed back
+abbrev pub BoxingKeeps : (T A : Type 0) (size : ℕ) → Type 0
+BoxingKeeps T A size =
+    (v : Vector T A)
+    → ((w : Vector T A) → IsUnboxed size (boxed v) w → (w.items ≡ v.items) × (w.capacity ≡ sized size (len v)))
+    × ((r : Refused (Vector T A)) → HandsBack size v r → r.source ≡ v)

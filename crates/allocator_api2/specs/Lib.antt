@@ -4,3 +4,4 @@ pub use Rattle.aa_vec.specs.Vector
 pub mod Laws
 pub mod Machine
 pub mod Run
+pub mod Drained

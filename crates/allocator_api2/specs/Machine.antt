@@ -1,5 +1,5 @@
 -- The list machine: two lists, each beside a capacity, and what each command makes of them.
-use Rattle.std.specs.Prelude.{◌≡◌, ℕ, ◌+◌, ◌-◌, ◌<◌, ◌≤◌, min, max, Bool, List, [], ◌∷◌, ◌++◌, take, drop, replicate, insert, remove, swap_remove, slice_get, Some, ◌⊎◌, ⊤}
+use Rattle.std.specs.Prelude.{◌≡◌, ℕ, ◌+◌, ◌-◌, ◌<◌, ◌≤◌, min, max, Bool, List, [], ◌∷◌, ◌++◌, take, drop, replicate, insert, remove, swap_remove, slice_get, slice_range, reverse, if◌then◌else◌, Some, ◌⊎◌, ⊤}
 use Rattle.aa_raw.specs.declared.collections.TryReserveErrorKind.{TryReserveErrorKind}
 use Rattle.aa_raw.specs.declared.collections.TryReserveErrorKind.TheVariants.{CapacityOverflow}
 use Rattle.aa_raw.specs.Growth.{usize_max}
@@ -7,7 +7,7 @@ use Rattle.aa_vec.specs.Vector.{Vector, len, sized, HasRoom, GrowsTo, GrowsExact
 use Rattle.aa_vec.specs.Choosing.{Retains, Deduplicates, answers_of}
 use Rattle.aa_vec.specs.Extending.{ExtendsAll, ExtendsFull, lower_by, asked_for}
 use Rattle.allocator_api2.specs.declared.runner.Command.{Command}
-use Rattle.allocator_api2.specs.declared.runner.Command.TheVariants.{Push, Within, Pop, Insert, Remove, SwapRemove, Truncate, Clear, Reserve, ReserveExact, ShrinkTo, SplitOff, Append, Extend, ExtendFromWithin, Resize, Retain, Dedup}
+use Rattle.allocator_api2.specs.declared.runner.Command.TheVariants.{Push, Within, Pop, Insert, Remove, SwapRemove, Truncate, Clear, Reserve, ReserveExact, ShrinkTo, SplitOff, Append, Extend, ExtendFromWithin, Resize, Retain, Dedup, Drain}
 use Rattle.allocator_api2.specs.declared.runner.Reply.{Reply}
 use Rattle.allocator_api2.specs.declared.runner.Reply.TheVariants.{Done, Item, Nothing, Back, Refused, Range}
 
@@ -20,6 +20,28 @@ pub record State (T A K S : Type 0) : Type 0 where
 
 abbrev pub state_of : {T A K S : Type 0} → Vector T A → Vector T A → K → S → State T A K S
 state_of main side keep same = record { main = main; side = side; keep = keep; same = same }
+
+-- how many items come from the front of m of them, and then how many of the others from the back
+abbrev pub from_front : (m front : ℕ) → ℕ
+from_front m front = min front m
+
+abbrev pub from_back : (m front back : ℕ) → ℕ
+from_back m front back = min back (m - from_front m front)
+
+-- what a drain of the range leaves of a list where f items came from the front and b from the back, and what it gives of it: those from
+-- the front in order, and those from the back, the last first
+abbrev pub left_of : {T : Type 0} → List T → (start end f b : ℕ) → (keep : Bool) → List T
+left_of xs start end f b keep = take start xs ++ ((if keep then slice_range (slice_range xs start end) f (end - start - b) else []) ++ drop end xs)
+
+abbrev pub given_of : {T : Type 0} → List T → (start end f b : ℕ) → List T
+given_of xs start end f b = take f (slice_range xs start end) ++ reverse (drop (end - start - b) (slice_range xs start end))
+
+-- the same where so many are asked for
+abbrev pub drained : {T : Type 0} → List T → (start end front back : ℕ) → (keep : Bool) → List T
+drained xs start end front back keep = left_of xs start end (from_front (end - start) front) (from_back (end - start) front back) keep
+
+abbrev pub given : {T : Type 0} → List T → (start end front back : ℕ) → List T
+given xs start end front back = given_of xs start end (from_front (end - start) front) (from_back (end - start) front back)
 
 -- a vector was cut: the first `at` elements are in its block, the others in one with room for no more. Cut at 0 it goes away
 -- with its block, and takes a new one of the same capacity
@@ -47,6 +69,7 @@ module _ {T A K S : Type 0} where
   InRange s (SwapRemove i) = i < len s.main
   InRange s (SplitOff at) = at ≤ len s.main
   InRange s (ExtendFromWithin from to) = (from ≤ to) × (to ≤ len s.main)
+  InRange s (Drain start end front back keep) = (start ≤ end) × (end ≤ len s.main)
   InRange s command = ⊤
 
   -- the command needs no memory, and no clone
@@ -61,6 +84,7 @@ module _ {T A K S : Type 0} where
   Fits s (Extend items hint) = HasRoom s.main (len items)
   Fits s (ExtendFromWithin from to) = from ≡ to
   Fits s (Resize n x) = (n ≤ len s.main) ⊎ ((n ≡ len s.main + 1) × (n ≤ s.main.capacity))
+  Fits s (Drain start end front back keep) = HasRoom s.side (from_front (end - start) front + from_back (end - start) front back)
   Fits s command = ⊤
 
   -- the length that a refused command asked room for
@@ -73,6 +97,7 @@ module _ {T A K S : Type 0} where
   length_asked old (Extend items hint) new = len new.main + asked_for (lower_by hint) (len old.main + len items - len new.main)
   length_asked old (ExtendFromWithin from to) new = len old.main + (to - from)
   length_asked old (Resize n x) new = n
+  length_asked old (Drain start end front back keep) new = len old.side + (from_front (end - start) front + from_back (end - start) front back)
   length_asked old command new = 0
 
   -- main has its elements as before, and room for k more was made for it, or it is as it was
@@ -132,6 +157,10 @@ module _ {T A K S : Type 0} (size : ℕ) (Keeps : K → T → Bool → K → T �
   Succeeds old Dedup answers Done new =
       (new.side ≡ old.side) × (new.keep ≡ old.keep)
       × ((removes : Deduplicates Repeats old.same old.main new.same new.main) × (answers ≡ removes.answers))
+  Succeeds old (Drain start end front back keep) answers Done new =
+      (answers ≡ []) × (new.keep ≡ old.keep) × (new.same ≡ old.same)
+      × Holds old.main (drained old.main.items start end front back keep) new.main
+      × GrowsTo size old.side (from_front (end - start) front + from_back (end - start) front back) (old.side.items ++ given old.main.items start end front back) new.side
   -- no other reply is given
   Succeeds old command answers reply new = ⊥
 

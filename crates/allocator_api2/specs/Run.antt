@@ -1,15 +1,15 @@
 -- Whole runs of the list machine, and what is counted on them.
-use Rattle.std.specs.Prelude.{◌≡◌, ℕ, ◌+◌, ◌-◌, ◌*◌, ◌≤◌, max, Bool, not, List, [], ◌∷◌, map, sum_by, Option, None, ⊤}
+use Rattle.std.specs.Prelude.{◌≡◌, ℕ, ◌+◌, ◌-◌, ◌*◌, ◌≤◌, max, Bool, not, List, [], ◌∷◌, map, sum_by, if◌then◌else◌, Option, None, ⊤}
 use Rattle.std.specs.List.{AllByRecursion}
 use Rattle.aa_raw.specs.declared.raw_vec.Growth.{Growth}
 use Rattle.aa_raw.specs.declared.raw_vec.Growth.TheVariants.{Doubling, Sparing}
 use Rattle.aa_vec.specs.Choosing.{IsCallableInOrder, IsCallableAlong, kept_behind_removed}
 use Rattle.aa_vec.specs.Vector.{len}
 use Rattle.allocator_api2.specs.declared.runner.Command.{Command}
-use Rattle.allocator_api2.specs.declared.runner.Command.TheVariants.{Push, Within, Pop, Insert, Remove, SwapRemove, Truncate, Clear, Append, Extend, ExtendFromWithin, Resize, Retain, Dedup}
+use Rattle.allocator_api2.specs.declared.runner.Command.TheVariants.{Push, Within, Pop, Insert, Remove, SwapRemove, Truncate, Clear, Append, Extend, ExtendFromWithin, Resize, Retain, Dedup, Drain}
 use Rattle.allocator_api2.specs.declared.runner.Reply.{Reply}
 use Rattle.allocator_api2.specs.declared.runner.Reply.TheVariants.{Done, Back, Range}
-use Rattle.allocator_api2.specs.Machine.{State, Step}
+use Rattle.allocator_api2.specs.Machine.{State, Step, from_front, from_back}
 
 -- one step of a run
 pub record Turn (T A K S : Type 0) : Type 0 where
@@ -34,6 +34,7 @@ module _ {T A : Type 0} where
   AddsOrRemoves (Extend items hint) = ⊤
   AddsOrRemoves Retain = ⊤
   AddsOrRemoves Dedup = ⊤
+  AddsOrRemoves (Drain start end front back keep) = ⊤
   AddsOrRemoves command = ⊥
 
   -- how many items it is told are to come, if it is told
@@ -71,6 +72,8 @@ module _ {T A K S : Type 0} where
   cost_of old (Resize n x) answers new = n - len old.main
   cost_of old Retain answers new = kept_behind_removed answers
   cost_of old Dedup answers new = kept_behind_removed (map not answers)
+  cost_of old (Drain start end front back keep) answers new =
+      len old.main - end + (if keep then end - start - from_front (end - start) front - from_back (end - start) front back else 0)
   cost_of old command answers new = 0
 
   abbrev pub cost_by : State T A K S → Command T A → List Bool → Reply T → State T A K S → ℕ

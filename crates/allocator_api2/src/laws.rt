@@ -4,7 +4,7 @@ ghost use Rattle.std.specs.Fn.{CalledAtMut, CalledAtPairMut};
 ghost use Rattle.std.specs.Mem.{type_size};
 ghost use Rattle.aa_vec.specs.Choosing.{Equals, Deduplicated};
 ghost use Rattle.aa_vec.specs.Vector.{len};
-ghost use Rattle.allocator_api2.specs.Laws.{ReserveHolds, CutIsJoined, NeighboursDiffer, LeavesNoRepeats};
+ghost use Rattle.allocator_api2.specs.Laws.{ReserveHolds, CutIsJoined, NeighboursDiffer, LeavesNoRepeats, BoxingKeeps};
 
 use aa_vec::vec::Vec;
 use std::alloc::Allocator;
@@ -42,4 +42,10 @@ where
     S: FnMut(&mut T, &mut T) -> bool,
     ensures dedup { (xs left : List T) (answers : List Bool) → Deduplicated (Equals T.eq) tt xs answers tt left → NeighboursDiffer T.eq left }
     ensures dedup_by { LeavesNoRepeats T.eq (CalledAtPairMut S.FnMut) }
+{}
+
+/// A list that becomes a boxed slice, and then a vector, is as it was, with room for no more; a vector that could not become a
+/// boxed slice is handed back.
+pub fn boxed_lists_come_back<T, A: Allocator>()
+    ensures { BoxingKeeps T A (type_size T.row) }
 {}

@@ -1,7 +1,8 @@
-//! allocator-api2 in Rattle: the vector that takes an allocator, proved. The modules have the original's paths; `runner` runs
+//! allocator-api2 in Rattle: the vector and the box that take an allocator, proved. The modules have the original's paths; `runner` runs
 //! lists of commands on two vectors, and its contract is the library's main theorem.
 #![tactic(auto)]
 
+pub use aa_boxed::boxed;
 pub use aa_raw::{alloc, collections, raw_vec};
 pub use aa_vec::vec;
 

@@ -1,18 +1,20 @@
 //! `run`: a list of commands on two vectors, and the list machine that its contract speaks of.
-ghost use Rattle.std.specs.Prelude.{reverse, ◌≡◌, List, [], ◌∷◌, ◌++◌, length, MatchResult};
+ghost use Rattle.std.specs.Prelude.{reverse, ◌≡◌, ◌+◌, ◌-◌, ◌≤◌, true, false, List, [], ◌∷◌, ◌++◌, length, MatchResult};
 ghost use Rattle.std.specs.Fn.{CalledAtMut, CalledAtPairMut};
 ghost use Rattle.std.specs.Mem.{type_size};
 ghost use Rattle.aa_raw.specs.Closures.{TakesPairMut};
 ghost use Rattle.aa_vec.specs.Choosing.{TakesMut};
 ghost use Rattle.aa_vec.specs.Copies.{Copies};
-ghost use Rattle.aa_vec.specs.Vector.{HasRoom, Holds, SameBlock};
+ghost use Rattle.aa_vec.specs.Draining.{drain_rest};
+ghost use Rattle.aa_vec.specs.Vector.{len, HasRoom, Holds, SameBlock};
 ghost use Rattle.allocator_api2.specs.Machine.{state_of};
+ghost use Rattle.allocator_api2.specs.Drained.{AnswersDrain, Drained, TakesFront, TakesBack};
 ghost use Rattle.allocator_api2.specs.Run.{TakesStep, RunsTo, MayCall, IsCallableOnRuns};
 ghost use Rattle.allocator_api2.specs.declared.runner.Reply.{Reply};
 
 use aa_raw::collections::{TryReserveError, TryReserveErrorKind};
-use aa_vec::vec::Vec;
 use aa_vec::vec::items::Items;
+use aa_vec::vec::{Drain, Vec};
 use std::alloc::{Allocator, Global};
 
 /// What `run` is told to do with the main vector.
@@ -59,6 +61,20 @@ pub enum Command<T, A: Allocator = Global> {
     Retain,
     /// Asks `same` of each element but the first beside the last one kept before it, and drops it where the answer is true.
     Dedup,
+    /// Takes items out of a range, so many from the front and then so many from the back, and puts them behind the last element of
+    /// side, in the order in which they came.
+    Drain {
+        /// The index of the range's first element.
+        start: usize,
+        /// The index before which it ends, which is at most the length.
+        end: usize,
+        /// How many items come from the front, or as many as there are.
+        front: usize,
+        /// How many of the others come from the back, or as many as there are.
+        back: usize,
+        /// Whether what is left of the range stays in main.
+        keep: bool,
+    },
 }
 
 /// What `run` answers to a command.
@@ -103,7 +119,7 @@ where
     turn_round(&mut rest);
     while let Some(command) = rest.pop() {
         let reply = step(main, side, command, keep, same);
-        append_reply(replies, reply);
+        append_within(replies, reply);
     }
 }
 
@@ -114,11 +130,12 @@ fn turn_round<T, A: Allocator>(rows: &mut Vec<T, A>)
     rows.as_mut_slice().reverse();
 }
 
-fn append_reply<T: Drop, A: Allocator>(replies: &mut Vec<T, A>, reply: T)
-    requires { HasRoom replies.old 1 }
-    ensures { Holds replies.old (replies.old.items ++ reply ∷ []) replies.new }
+// Puts a value behind the last one of a vector that has room for it.
+fn append_within<T: Drop, A: Allocator>(list: &mut Vec<T, A>, value: T)
+    requires { HasRoom list.old 1 }
+    ensures { Holds list.old (list.old.items ++ value ∷ []) list.new }
 {
-    match replies.push(reply) {
+    match list.push(value) {
         Ok(()) => {}
         Err(_) => unreachable!(),
     }
@@ -229,6 +246,108 @@ where
         Command::Dedup => {
             main.dedup_within(same);
             Reply::Done
+        }
+        Command::Drain {
+            start,
+            end,
+            front,
+            back,
+            keep,
+        } => drain(main, side, start, end, front, back, keep),
+    }
+}
+
+// The command `Drain`.
+fn drain<T: Drop, A: Allocator>(
+    main: &mut Vec<T, A>,
+    side: &mut Vec<T, A>,
+    start: usize,
+    end: usize,
+    front: usize,
+    back: usize,
+    keep: bool,
+) -> Reply<T>
+    ensures { AnswersDrain (type_size T.row) main.old side.old start end front back keep result main.new side.new }
+{
+    if start > end || end > main.len() {
+        return Reply::Range;
+    }
+    let first = front.min(end - start);
+    let last = back.min(end - start - first);
+    if let Err(error) = side.try_reserve(first + last) {
+        return Reply::Refused(error.kind());
+    }
+    if keep {
+        drain_and_keep(main, side, start, end, first, last);
+    } else {
+        drain_and_drop(main, side, start, end, first, last);
+    }
+    Reply::Done
+}
+
+// Takes so many items of a range from the front and then from the back, and keeps the others.
+fn drain_and_keep<T: Drop, A: Allocator>(
+    main: &mut Vec<T, A>,
+    side: &mut Vec<T, A>,
+    start: usize,
+    end: usize,
+    first: usize,
+    last: usize,
+)
+    requires range { (start ≤ end) × (end ≤ len main.old) × (first + last ≤ end - start) }
+    requires room { HasRoom side.old (first + last) }
+    ensures { Drained main.old side.old start end first last true main.new side.new }
+{
+    let mut items = main.drain(start, end);
+    take_front(&mut items, side, first);
+    take_back(&mut items, side, last);
+    items.keep_rest();
+}
+
+// The same, and drops the others.
+fn drain_and_drop<T: Drop, A: Allocator>(
+    main: &mut Vec<T, A>,
+    side: &mut Vec<T, A>,
+    start: usize,
+    end: usize,
+    first: usize,
+    last: usize,
+)
+    requires range { (start ≤ end) × (end ≤ len main.old) × (first + last ≤ end - start) }
+    requires room { HasRoom side.old (first + last) }
+    ensures { Drained main.old side.old start end first last false main.new side.new }
+{
+    let mut items = main.drain(start, end);
+    take_front(&mut items, side, first);
+    take_back(&mut items, side, last);
+}
+
+// Takes so many items from the front, and puts them behind the last element of a vector that has room for them.
+fn take_front<T: Drop, A: Allocator>(
+    items: &mut Drain<'_, T, A>,
+    side: &mut Vec<T, A>,
+    count: usize,
+)
+    requires { (count ≤ length (drain_rest items.old)) × HasRoom side.old count }
+    ensures { TakesFront items.old side.old count items.new side.new }
+{
+    'each: for _taken in 0..count {
+        match items.next() {
+            Some(item) => append_within(side, item),
+            None => unreachable!(),
+        }
+    }
+}
+
+// The same from the back: the last item first.
+fn take_back<T: Drop, A: Allocator>(items: &mut Drain<'_, T, A>, side: &mut Vec<T, A>, count: usize)
+    requires { (count ≤ length (drain_rest items.old)) × HasRoom side.old count }
+    ensures { TakesBack items.old side.old count items.new side.new }
+{
+    'each: for _taken in 0..count {
+        match items.next_back() {
+            Some(item) => append_within(side, item),
+            None => unreachable!(),
         }
     }
 }

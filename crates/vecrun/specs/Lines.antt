@@ -1,11 +1,11 @@
 -- The words of a line, and the command that they say.
-use Rattle.std.specs.Prelude.{◌≡◌, ◌≢◌, ℕ, ◌+◌, ◌^◌, ◌<◌, Bool, ◌==◌, ◌||◌, List, [], ◌∷◌, ◌++◌, length, filter, Option, None, Some, nat_lt, codes, MatchBool, All, map}
+use Rattle.std.specs.Prelude.{◌≡◌, ◌≢◌, ℕ, ◌+◌, ◌^◌, ◌<◌, Bool, true, false, ◌==◌, ◌||◌, List, [], ◌∷◌, ◌++◌, length, filter, Option, None, Some, nat_lt, codes, MatchBool, All, map}
 use Rattle.std.specs.Global.{Global}
 use Rattle.std.specs.List.{AllZip, slice_split}
 use Rattle.std.specs.Str.{bytes_eq, IsUtf8}
 use Rattle.std.specs.Str.Parse.{IsNumeral, digits_value}
 use Rattle.allocator_api2.specs.declared.runner.Command.{Command}
-use Rattle.allocator_api2.specs.declared.runner.Command.TheVariants.{Push, Within, Pop, Insert, Remove, SwapRemove, Truncate, Clear, Reserve, ReserveExact, ShrinkTo, SplitOff, Append, Extend, ExtendFromWithin, Resize, Retain, Dedup}
+use Rattle.allocator_api2.specs.declared.runner.Command.TheVariants.{Push, Within, Pop, Insert, Remove, SwapRemove, Truncate, Clear, Reserve, ReserveExact, ShrinkTo, SplitOff, Append, Extend, ExtendFromWithin, Resize, Retain, Dedup, Drain}
 
 -- a space or a tab
 abbrev pub is_blank : ℕ → Bool
@@ -35,6 +35,18 @@ AreNumberAndElement words p = (v : List ℕ) × (w : List ℕ) × (words ≡ v �
 abbrev pub AreNumbers : List (List ℕ) → ℕ × ℕ → Type 0
 AreNumbers words p = (v : List ℕ) × (w : List ℕ) × (words ≡ v ∷ w ∷ []) × Writes (2 ^ 64) v p.0 × Writes (2 ^ 64) w p.1
 
+-- the word says whether what is left of a range stays
+abbrev pub SaysKept : List ℕ → Bool → Type 0
+SaysKept word true = word ≡ codes "keep"
+SaysKept word false = word ≡ codes "drop"
+
+-- the words are five, which say what a drain takes: where the range begins and ends, how many items come from either end, and whether the
+-- others stay
+abbrev pub AreDrain : List (List ℕ) → ℕ × ℕ × ℕ × ℕ × Bool → Type 0
+AreDrain words p =
+    (s : List ℕ) × (t : List ℕ) × (u : List ℕ) × (v : List ℕ) × (w : List ℕ) × (words ≡ s ∷ t ∷ u ∷ v ∷ w ∷ [])
+    × Writes (2 ^ 64) s p.0 × Writes (2 ^ 64) t p.1 × Writes (2 ^ 64) u p.2 × Writes (2 ^ 64) v p.3 × SaysKept w p.4
+
 -- the words after this name say the command
 abbrev pub SayAfter : List ℕ → List (List ℕ) → Command ℕ Global → Type 0
 SayAfter name rest command =
@@ -55,7 +67,8 @@ SayAfter name rest command =
     (MatchBool (bytes_eq name (codes "resize")) ((p : ℕ × ℕ) × AreNumberAndElement rest p × (command ≡ Resize p.0 p.1))
     (MatchBool (bytes_eq name (codes "retain")) ((rest ≡ []) × (command ≡ Retain))
     (MatchBool (bytes_eq name (codes "dedup")) ((rest ≡ []) × (command ≡ Dedup))
-    ⊥))))))))))))))))
+    (MatchBool (bytes_eq name (codes "drain")) ((p : ℕ × ℕ × ℕ × ℕ × Bool) × AreDrain rest p × (command ≡ Drain p.0 p.1 p.2 p.3 p.4))
+    ⊥)))))))))))))))))
 
 -- the word is a hyphen where no number is told, and else writes the number
 abbrev pub IsHint : List ℕ → Option ℕ → Type 0

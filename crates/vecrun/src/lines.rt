@@ -1,12 +1,12 @@
 //! From the bytes of a script to its commands.
-ghost use Rattle.std.specs.Prelude.{◌≡◌, ◌≢◌, ℕ, ◌+◌, ◌^◌, ◌<◌, ◌≤◌, ◌==◌, [], length, IfSome, IfNone, Option, MatchOption, ◌⊎◌, IfOk, IfErr, OnOk, slice_index};
+ghost use Rattle.std.specs.Prelude.{◌≡◌, ◌≢◌, ℕ, ◌+◌, ◌^◌, ◌<◌, ◌≤◌, ◌==◌, [], length, IfSome, IfNone, Option, MatchOption, Bool, true, false, ◌⊎◌, IfOk, IfErr, OnOk, slice_index};
 ghost use Rattle.std.specs.Iterator.{YieldsFirstRef, item_count};
 ghost use Rattle.std.specs.List.{AllZip, prefix_len, position_or_len};
 ghost use Rattle.std.specs.Option.{SomeIff};
 ghost use Rattle.std.specs.Str.Lines.{lines, strip_carriage_return};
 ghost use Rattle.std.specs.Str.Parse.{IsNumeral, digits_value};
 ghost use Rattle.vecrun.specs.Faults.{IsFoundIn, ReadsAs, ReadsOrLacks};
-ghost use Rattle.vecrun.specs.Lines.{is_blank, words_of, IsElement, IsNumber, AreNumberAndElement, AreNumbers, Writes, IsHint, SaysExtend, SayAfter, Say, Mean, IsBad, HasNoBad};
+ghost use Rattle.vecrun.specs.Lines.{is_blank, words_of, IsElement, IsNumber, AreNumberAndElement, AreNumbers, AreDrain, SaysKept, Writes, IsHint, SaysExtend, SayAfter, Say, Mean, IsBad, HasNoBad};
 
 use crate::script::Fault;
 use allocator_api2::runner::Command;
@@ -125,6 +125,13 @@ fn command(name: &str, line: Line<'_>) -> Result<Command<u32>, Fault>
             .map(|(len, x)| Command::Resize(len, x)),
         "retain" => line.end().map(|()| Command::Retain),
         "dedup" => line.end().map(|()| Command::Dedup),
+        "drain" => line.drain().map(|(start, end, front, back, keep)| Command::Drain {
+            start,
+            end,
+            front,
+            back,
+            keep,
+        }),
         _ => Err(line.bad()),
     }
 }
@@ -228,6 +235,35 @@ impl Line<'_> {
             (Some(n), Some(x), None) => Ok((n, x)),
             _ => Err(self.bad()),
         }
+    }
+
+    // Five words, four numbers and whether what is left stays.
+    fn drain(mut self) -> Result<(usize, usize, usize, usize, bool), Fault>
+        ensures { ReadsAs self.entry.number (AreDrain (words_of self.entry.words.rest.now)) result }
+    {
+        let start = self.words.next().and_then(number);
+        let end = self.words.next().and_then(number);
+        let front = self.words.next().and_then(number);
+        let back = self.words.next().and_then(number);
+        let keep = self.words.next().and_then(kept);
+        match (start, end, front, back, keep, self.words.next()) {
+            (Some(start), Some(end), Some(front), Some(back), Some(keep), None) => {
+                Ok((start, end, front, back, keep))
+            }
+            _ => Err(self.bad()),
+        }
+    }
+}
+
+// Whether what is left of a range stays, if the word says so.
+fn kept(word: &[u8]) -> Option<bool>
+    ensures some { IfSome result (SaysKept word.now) }
+    ensures none { IfNone result ((b : Bool) → ¬ (SaysKept word.now b)) }
+{
+    match word {
+        b"keep" => Some(true),
+        b"drop" => Some(false),
+        _ => None,
     }
 }
 

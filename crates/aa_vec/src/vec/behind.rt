@@ -1,8 +1,8 @@
 //! Elements in the places behind the last one: a call sets its elements back there, and closes the gaps that it makes. Places
 //! are counted from the last element on.
-ghost use Rattle.std.specs.Prelude.{◌≡◌, ◌+◌, ◌<◌, ◌≤◌, [], ◌∷◌, slice_set, None};
+ghost use Rattle.std.specs.Prelude.{◌≡◌, ◌+◌, ◌-◌, ◌<◌, ◌≤◌, [], ◌∷◌, slice_set, None};
 ghost use Rattle.aa_vec.specs.Vector.{len};
-ghost use Rattle.aa_vec.specs.Behind.{StandsBehind, SetsBack, ClosesGap, behind_items, with_behind};
+ghost use Rattle.aa_vec.specs.Behind.{StandsBehind, SetsBack, ClosesGap, DropsBehind, DropsAndCloses, ClosesTwice, behind_items, with_behind};
 
 use crate::vec::Vec;
 use std::alloc::Allocator;
@@ -19,9 +19,35 @@ impl<T, A: Allocator> Vec<T, A> {
         count
     }
 
-    // Moves the `count` elements after the gap down to the last one.
+    // Moves the `count` elements after the gap down to the last one. None and one are most of what a closure that chooses leaves
+    // between two gaps, so they have ways of their own.
     #[inline]
     pub(crate) fn close_gap(&mut self, gap: usize, count: usize)
+        requires { StandsBehind self.old gap count }
+        ensures { ClosesGap self.old gap count self.new }
+    {
+        match count {
+            0 => {}
+            1 => self.close_gap_by_one(gap),
+            _ => self.close_gap_by_run(gap, count),
+        }
+    }
+
+    // The same with one element.
+    #[inline]
+    fn close_gap_by_one(&mut self, gap: usize)
+        requires { StandsBehind self.old gap 1 }
+        ensures { ClosesGap self.old gap 1 self.new }
+    {
+        let len = self.len;
+        let _within = self.block.capacity();
+        self.block.move_one(len + gap, len);
+        self.len = len + 1;
+    }
+
+    // The same with any number of elements.
+    #[inline(never)]
+    fn close_gap_by_run(&mut self, gap: usize, count: usize)
         requires { StandsBehind self.old gap count }
         ensures { ClosesGap self.old gap count self.new }
     {
@@ -40,5 +66,49 @@ impl<T, A: Allocator> Vec<T, A> {
     {
         let _within = self.block.capacity();
         self.block.take(self.len + gap)
+    }
+
+    // The `count` elements after the gap.
+    pub(crate) fn slice_behind(&self, gap: usize, count: usize) -> &[T]
+        requires { StandsBehind self.now gap count }
+        ensures { result.now ≡ behind_items self.now gap count }
+    {
+        let _within = self.block.capacity();
+        self.block.slice(self.len + gap, count)
+    }
+
+    // Drops the `count` elements after the gap.
+    pub(crate) fn drop_behind(&mut self, gap: usize, count: usize)
+    where
+        T: Drop,
+        requires { StandsBehind self.old gap count }
+        ensures { DropsBehind self.old gap count self.new }
+    {
+        let len = self.len;
+        let _within = self.block.capacity();
+        self.block.drop_run(len + gap, count);
+    }
+
+    // Drops the elements from place `front` up to `back` behind the others, and moves those from `end` up to `total` down.
+    pub(crate) fn drop_and_close(&mut self, front: usize, back: usize, end: usize, total: usize)
+    where
+        T: Drop,
+        requires ordered { (front ≤ back) × (back ≤ end) × (end ≤ total) }
+        requires held { StandsBehind self.old front (back - front) × StandsBehind self.old end (total - end) }
+        ensures { DropsAndCloses self.old end (total - end) self.new }
+    {
+        self.drop_behind(front, back - front);
+        self.close_gap(end, total - end);
+    }
+
+    // Moves the elements from place `front` up to `back` behind the others down, and then those from `end` up to `total`.
+    pub(crate) fn close_gaps(&mut self, front: usize, back: usize, end: usize, total: usize)
+        requires ordered { (front ≤ back) × (back ≤ end) × (end ≤ total) }
+        requires held { StandsBehind self.old front (back - front) × StandsBehind self.old end (total - end) }
+        ensures { ClosesTwice self.old front (back - front) end (total - end) self.new }
+    {
+        let kept = back - front;
+        self.close_gap(front, kept);
+        self.close_gap(end - kept, total - end);
     }
 }

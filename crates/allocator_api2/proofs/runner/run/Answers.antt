@@ -20,10 +20,10 @@ pub loop-command-preserved : goal.loop-command-preserved
 loop-command-preserved g c =
     let h = c.loop-command.invariant in
     let e = c.in-Some.ensures.cases in
-    let more = c.append_reply.ensures.items in
-    let b = c.append_reply.ensures.block in
+    let more = c.append_within.ensures.items in
+    let b = c.append_within.ensures.block in
     let n : length c.loop-command.rest.items ≡ length c.pop.new.self.items + 1 = ap length e ∙ length-append c.pop.new.self.items (c.in-Some.command ∷ []) in
-    let m : length c.append_reply.new.replies.items ≡ length c.loop-command.replies.items + 1 = ap length more ∙ length-append c.loop-command.replies.items (c.step-reply.result ∷ []) in
+    let m : length c.append_within.new.list.items ≡ length c.loop-command.replies.items + 1 = ap length more ∙ length-append c.loop-command.replies.items (c.step-reply.result ∷ []) in
     record {
       callable = MayRun-later _ (CalledAtMut g.K.FnMut) (CalledAtPairMut g.S.FnMut) (TakesMut g.K.FnMut) (TakesPairMut g.S.FnMut) _ _ c.pop.new.self.items c.in-Some.command e h.callable _ _ c.step-reply.ensures;
       run = HasRun-more _ _ _ h.run e c.step-reply.ensures more;

@@ -9,6 +9,7 @@ use Rattle.allocator_api2.specs.Machine.{state_of}
 use Rattle.allocator_api2.specs.Run.{TakesStep}
 use Rattle.aa_vec.proofs.Counted.{ExtendsAll-items, ExtendsFull-items}
 use Rattle.allocator_api2.proofs.Cuts.{splits, splits-written}
+use Rattle.allocator_api2.proofs.Ranges.{TakesStep-drain}
 use Rattle.allocator_api2.proofs.Replies.{replied}
 use Rattle.allocator_api2.proofs.Stops.{stops-full, stops-overflow}
 use Rattle.allocator_api2.proofs.runner.step.Goals as goal
@@ -108,3 +109,7 @@ pub returns-in-Dedup : goal.returns-in-Dedup
 returns-in-Dedup g c =
     let r = c.dedup_within.ensures in
     rw c.in-Dedup.is (record { answers = r.answers; step = (tt, (refl, refl, (r, refl))); writes = omega (arith, r.written) })
+
+pub returns-in-Drain : goal.returns-in-Drain
+returns-in-Drain g c =
+    rw c.in-Drain.is (TakesStep-drain _ (CalledAtMut g.K.FnMut) (CalledAtPairMut g.S.FnMut) _ c.in-Drain.start c.in-Drain.end c.in-Drain.front c.in-Drain.back c.in-Drain.keep c.drain.new.main c.drain.new.side c.drain.result c.drain.ensures)

@@ -1,0 +1,108 @@
+-- Items that come of an iterator, and are put into a block.
+use Rattle.std.proofs.Common.{◌≡◌, ℕ, ◌+◌, ◌<◌, ◌≤◌, List, [], ◌∷◌, ◌++◌, length, Option, Some, None, refl, sym, ap, ◌∙◌, subst, arith, length-append, inl, inr}
+use Rattle.std.specs.Prelude.{Result, Ok, Err, IfOk, if◌then◌else◌, ◌==◌}
+use Rattle.std.specs.Iterator.{Yields, Drains}
+use Rattle.std.specs.Iterator.Runs.{WholeRun}
+use Rattle.std.proofs.iter.runs.Consumers.{total_runs}
+use Rattle.std.proofs.lemmas.Bool.Decides.{eqb_tells}
+use Rattle.aa_raw.specs.Growth.{usize_max}
+use Rattle.aa_raw.specs.Places.{most}
+use Rattle.aa_raw.specs.Block.{start_capacity}
+use Rattle.aa_raw.specs.Refusals.{IsRefused, IsRefusedAt}
+use Rattle.aa_raw.specs.declared.collections.TryReserveErrorKind.{TryReserveErrorKind}
+use Rattle.aa_raw.specs.declared.collections.TryReserveErrorKind.TheVariants.{CapacityOverflow, AllocError}
+use Rattle.aa_raw.specs.declared.raw_vec.Growth.TheVariants.{Doubling}
+use Rattle.aa_raw.proofs.Places.{most_is}
+use Rattle.aa_boxed.specs.Slice.{Begun, Slice, ended, with_next, StopsAfter}
+use Rattle.aa_boxed.proofs.Fillings.{none-chosen, some-chosen}
+
+-- a refusal of more is one of less
+pub IsRefused-less : (e : TryReserveErrorKind) (m n : ℕ) → n ≤ m → IsRefused e m → IsRefused e n
+IsRefused-less CapacityOverflow m n h r = tt
+IsRefused-less (AllocError capacity) m n h r = omega (arith, h, r)
+
+pub IsRefused-at : (e : TryReserveErrorKind) (n : ℕ) → IsRefusedAt e n → IsRefused e n
+IsRefused-at CapacityOverflow n r = tt
+IsRefused-at (AllocError capacity) n r = omega (arith, r)
+
+-- more than a new block has places for
+over_start : (size n : ℕ) → 0 < n → (size ≡ 0 → usize_max < n) → n ≤ start_capacity size → ⊥
+over_start size n some many h = elim (eqb_tells size 0) [
+  | inl e ↦ absurd (omega (arith, many e.1, h, none-chosen size most 0 e.1, most_is))
+  | inr e ↦ absurd (omega (arith, some, h, some-chosen size 0 most 0 e.1))
+]
+
+-- w is f, or f with more room
+pub record HasMore {T A : Type 0} (f w : Begun T A) : Type 0 where
+  pub items : w.items ≡ f.items
+  pub growth : w.growth ≡ f.growth
+  pub alloc : w.alloc ≡ f.alloc
+  pub capacity : f.capacity ≤ w.capacity
+
+module _ {S T : Type 0} (steps : S → Option T → S → Type 0) where
+  pub Yields-next : (s : S) (xs : List T) (t : S) (x : T) (u : S) → Yields steps s xs t → steps t (Some x) u → Yields steps s (xs ++ x ∷ []) u
+  Yields-next s [] t x u y p = (u, subst (λ k. steps k (Some x) u) (sym y) p, refl)
+  Yields-next s (z ∷ xs) t x u y p = (y.0, y.1, Yields-next y.0 xs t x u y.2 p)
+
+  -- the items that came, as one run
+  whole_run : (s : S) (ys : List T) → Drains steps s ys → WholeRun steps s (λ p. ys ≡ p.items)
+  whole_run s ys d = total_runs steps s (Unit {0}) (λ xs. ys ≡ xs) (ys, λ _. d, refl) tt
+
+  pub whole_run_of : {A E : Type 0} (f : Begun T A) (s : S) (r : Result (Slice T A) E) → IfOk r (λ b. b ≡ ended f) → Drains steps s f.items → IfOk r (λ b. WholeRun steps s (λ p. b.items ≡ p.items))
+  whole_run_of f s (Ok b) e d = subst (λ ys. WholeRun steps s (λ p. ys ≡ p.items)) (sym (ap (λ y. y.items) e)) (whole_run s f.items d)
+  whole_run_of f s (Err error) e d = tt
+
+  module _ {A : Type 0} (left : S → ℕ) (size : ℕ) (iter : S) (alloc : A) where
+    -- what came from iter, which is now s, was put into f
+    pub record Coming (s : S) (f : Begun T A) : Type 0 where
+      pub came : Yields steps iter f.items s
+      pub grows : f.growth ≡ Doubling
+      pub over : f.alloc ≡ alloc
+      pub sizeless : size ≡ 0 → usize_max ≤ f.capacity
+      pub fewer : length f.items + left s ≤ left iter
+
+    pub Coming-start : (f : Begun T A) → f ≡ record { items = []; capacity = if size == 0 then usize_max else 0; growth = Doubling; alloc = alloc } → Coming iter f
+    Coming-start f e = subst (λ b. Coming iter b) (sym e) (record {
+      came = refl;
+      grows = refl;
+      over = refl;
+      sizeless = λ z. omega (arith, none-chosen size usize_max 0 z);
+      fewer = omega arith;
+    })
+
+    module _ (s : S) (f : Begun T A) (p : Coming s f) where
+      pub Coming-drains : (u : S) → steps s None u → Drains steps iter f.items
+      Coming-drains u h = (u, (s, p.came, h))
+
+      -- one more item came
+      module _ (x : T) (t : S) (step : steps s (Some x) t) (on : left t < left s) where
+        longer : length (f.items ++ x ∷ []) ≡ length f.items + 1
+        longer = length-append f.items (x ∷ [])
+
+        -- and was put into w
+        pub Coming-put : (w : Begun T A) → HasMore f w → (new : Begun T A) → new ≡ with_next w x → Coming t new
+        Coming-put w more new e = subst (λ b. Coming t b) (sym e) (record {
+          came = subst (λ xs. Yields steps iter (xs ++ x ∷ []) t) (sym more.items) (Yields-next iter f.items s x t p.came step);
+          grows = more.growth ∙ p.grows;
+          over = more.alloc ∙ p.over;
+          sizeless = λ z. omega (arith, p.sizeless z, more.capacity);
+          fewer = omega (arith, p.fewer, on, longer, ap (λ xs. length (xs ++ x ∷ [])) more.items);
+        })
+
+        -- or room for it was refused
+        module _ (full : length f.items ≡ f.capacity) where
+          many : size ≡ 0 → usize_max < length (f.items ++ x ∷ [])
+          many z = omega (arith, p.sizeless z, full, longer)
+
+          pub Coming-refused : (k : ℕ) → 0 < k → (e : TryReserveErrorKind) → IsRefused e (length f.items + k) → (usize_max < length f.items + k → e ≡ CapacityOverflow) → StopsAfter steps size iter e
+          Coming-refused k h e r o = record {
+            taken = f.items ++ x ∷ [];
+            last = t;
+            came = Yields-next iter f.items s x t p.came step;
+            some = omega (arith, longer);
+            number = IsRefused-less e (length f.items + k) (length (f.items ++ x ∷ [])) (omega (arith, h, longer)) r;
+            sizeless = λ z. (many z, o (omega (arith, many z, h, longer)));
+          }
+
+          pub Coming-over : left iter ≤ start_capacity size → ⊥
+          Coming-over few = over_start size (length (f.items ++ x ∷ [])) (omega (arith, longer)) many (omega (arith, few, p.fewer, on, longer))

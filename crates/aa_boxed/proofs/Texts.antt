@@ -1,0 +1,51 @@
+-- Texts that come of an iterator, and are put behind a text.
+use Rattle.std.proofs.Common.{◌≡◌, ℕ, ◌+◌, ◌<◌, List, [], ◌∷◌, ◌++◌, length, Option, Some, None, refl, sym, ap, ◌∙◌, subst, append_assoc, append-nil}
+use Rattle.std.specs.Prelude.{flat_map}
+use Rattle.std.specs.Iterator.{Yields, Drains}
+use Rattle.aa_raw.specs.Growth.{usize_max}
+use Rattle.aa_raw.specs.Refusals.{IsRefused}
+use Rattle.aa_raw.specs.declared.collections.TryReserveErrorKind.{TryReserveErrorKind}
+use Rattle.aa_raw.specs.declared.collections.TryReserveErrorKind.TheVariants.{CapacityOverflow}
+use Rattle.aa_boxed.specs.Text.{Text, StopsAtText}
+use Rattle.aa_boxed.proofs.Coming.{Yields-next}
+
+module _ {A : Type 0} where
+  abbrev pub joined : List (Text A) → List ℕ
+  joined ts = flat_map (λ t. t.bytes) ts
+
+  joined-next : (ts : List (Text A)) (t : Text A) → joined (ts ++ t ∷ []) ≡ joined ts ++ t.bytes
+  joined-next [] t = append-nil t.bytes
+  joined-next (u ∷ ts) t = ap (λ bs. u.bytes ++ bs) (joined-next ts t) ∙ sym (append_assoc u.bytes (joined ts) t.bytes)
+
+  module _ {S : Type 0} (steps : S → Option (Text A) → S → Type 0) (iter : S) (old : List ℕ) where
+    -- the texts that came from iter, which is now s, stand behind old, which is now text
+    pub record Joining (s : S) (text : List ℕ) : Type 0 where
+      pub placed : List (Text A)
+      pub came : Yields steps iter placed s
+      pub is : text ≡ old ++ joined placed
+
+    pub Joining-start : Joining iter old
+    Joining-start = record { placed = []; came = refl; is = sym (append-nil old) }
+
+    module _ (s : S) (text : List ℕ) (p : Joining s text) where
+      pub Joining-next : (t : Text A) (u : S) → steps s (Some t) u → (new : List ℕ) → new ≡ text ++ t.bytes → Joining u new
+      Joining-next t u step new e = record {
+        placed = p.placed ++ t ∷ [];
+        came = Yields-next steps iter p.placed s t u p.came step;
+        is = e ∙ ap (λ bs. bs ++ t.bytes) p.is ∙ append_assoc old (joined p.placed) t.bytes ∙ ap (λ bs. old ++ bs) (sym (joined-next p.placed t));
+      }
+
+      pub Joining-end : (u : S) → steps s None u → (ts : List (Text A)) × Drains steps iter ts × (text ≡ old ++ joined ts)
+      Joining-end u step = (p.placed, (u, (s, p.came, step)), p.is)
+
+      pub Joining-stopped : (t : Text A) (u : S) → steps s (Some t) u → (e : TryReserveErrorKind) (new : List ℕ) → new ≡ text
+          → IsRefused e (length text + length t.bytes) → (usize_max < length text + length t.bytes → e ≡ CapacityOverflow) → StopsAtText steps iter old e new
+      Joining-stopped t u step e new same number overflow = record {
+        placed = p.placed;
+        refused = t;
+        last = u;
+        came = Yields-next steps iter p.placed s t u p.came step;
+        text = same ∙ p.is;
+        number = subst (λ bs. IsRefused e (length bs + length t.bytes)) (sym same) number;
+        overflow = subst (λ bs. usize_max < length bs + length t.bytes → e ≡ CapacityOverflow) (sym same) overflow;
+      }

@@ -1,0 +1,153 @@
+//! A block that is being filled from its first place on, to become a boxed slice.
+ghost use Rattle.std.specs.Prelude.{◌≡◌, ◌≢◌, ◌+◌, ◌<◌, ◌≤◌, [], length, All, IfOk, IfErr, OnOk, IsOk, if◌then◌else◌, ◌==◌};
+ghost use Rattle.std.specs.Bool.{OnTrue, OnFalse};
+ghost use Rattle.std.specs.List.{AllZip};
+ghost use Rattle.std.specs.Mem.{type_size};
+ghost use Rattle.aa_raw.specs.Block.{fresh};
+ghost use Rattle.aa_raw.specs.Growth.{usize_max};
+ghost use Rattle.aa_raw.specs.Places.{most};
+ghost use Rattle.aa_raw.specs.Refusals.{IsRefused, IsRefusedAt};
+ghost use Rattle.aa_raw.specs.declared.collections.TryReserveErrorKind.TheVariants.{CapacityOverflow};
+ghost use Rattle.aa_boxed.specs.Slice.{with_next, ended};
+
+use crate::boxed::slice::BoxedSlice;
+use aa_raw::collections::TryReserveError;
+use aa_raw::raw_vec::{Growth, RawVec};
+use std::alloc::Allocator;
+use std::marker::Model;
+
+// Items so far, in the first places of a block. Its drop drops them and gives the memory back.
+pub(crate) struct Filling<T, A: Allocator> {
+    block: RawVec<T, A>,
+    len: usize,
+}
+
+impl<T, A: Allocator> Model for Filling<T, A> {
+    ghost use Rattle.aa_boxed.specs.Slice.{Begun};
+
+    ghost Value = { Begun T A };
+
+    ghost use Rattle.aa_boxed.specs.SliceInner.{begun_of, IsFront};
+
+    ghost view = { begun_of };
+
+    ghost invariant = { IsFront };
+}
+
+impl<T, A: Allocator> Filling<T, A> {
+    // No items yet, with room for `capacity` of them and no more, in a block that grows so.
+    pub(crate) fn with_room(
+        growth: Growth,
+        capacity: usize,
+        alloc: A,
+    ) -> Result<Self, TryReserveError>
+        ensures made { IfOk result (λ f. f ≡ record { items = []; capacity = if type_size T.row == 0 then usize_max else capacity; growth = growth; alloc = alloc }) }
+        ensures refused { IfErr result (λ e. (0 < capacity) × (0 < type_size T.row) × IsRefusedAt e capacity) }
+    {
+        let block = block_for(growth, capacity, alloc)?;
+        Ok(Filling { block, len: 0 })
+    }
+
+    // Whether there is no room for one more item.
+    pub(crate) fn is_full(&self) -> bool
+        ensures full { OnTrue result (length self.now.items ≡ self.now.capacity) }
+        ensures free { OnFalse result (length self.now.items < self.now.capacity) }
+    {
+        self.len == self.block.capacity()
+    }
+
+    // Puts `item` behind the others.
+    pub(crate) fn put(&mut self, item: T)
+        requires { length self.old.items < self.old.capacity }
+        ensures { self.new ≡ with_next self.old item }
+    {
+        let len = self.len;
+        let _within = self.block.capacity();
+        self.block.put(len, item);
+        self.len = len + 1;
+    }
+
+    // Makes room for `additional` items more, with some to spare.
+    pub(crate) fn reserve(&mut self, additional: usize) -> Result<(), TryReserveError>
+        ensures items { self.new.items ≡ self.old.items }
+        ensures growth { self.new.growth ≡ self.old.growth }
+        ensures alloc { self.new.alloc ≡ self.old.alloc }
+        ensures capacity { self.old.capacity ≤ self.new.capacity }
+        ensures made { OnOk result (length self.old.items + additional ≤ self.new.capacity) }
+        ensures refused { IfErr result (λ e. (self.old.capacity < length self.old.items + additional) × IsRefused e (length self.old.items + additional)) }
+        ensures overflow { IfErr result (λ e. usize_max < length self.old.items + additional → e ≡ CapacityOverflow) }
+    {
+        self.block.try_reserve(self.len, additional)
+    }
+
+    // The items as a boxed slice, where the block has no other room.
+    pub(crate) fn whole(self) -> BoxedSlice<T, A>
+        requires { length self.items ≢ self.capacity → self.capacity ≡ usize_max }
+        ensures { result ≡ ended self }
+    {
+        let Filling { block, len } = self;
+        BoxedSlice::from_block(block, len)
+    }
+
+    // The items as a boxed slice, whose block gave back all other room.
+    pub(crate) fn shrunk(self) -> Result<BoxedSlice<T, A>, TryReserveError>
+    where
+        T: Drop,
+        ensures made { IfOk result (λ b. b ≡ ended self) }
+        ensures refused { IfErr result (λ e. (0 < length self.items) × (0 < type_size T.row) × IsRefusedAt e (length self.items)) }
+    {
+        let mut filling = self;
+        let len = filling.len;
+        let _within = filling.block.capacity();
+        match filling.block.shrink_to_fit(len, len) {
+            Ok(()) => Ok(filling.whole()),
+            Err(error) => Err(error),
+        }
+    }
+
+    // Puts a clone of each element of `source` where there are no items yet, up to the first clone that is refused, and says
+    // whether none was.
+    pub(crate) fn put_clones(&mut self, source: &[T]) -> bool
+    where
+        T: Clone,
+        requires empty { self.old.items ≡ [] }
+        requires room { length source.now ≤ self.old.capacity }
+        ensures cloned { OnTrue result (AllZip T.is_clone source.now self.new.items) }
+        ensures refused { OnFalse result (¬ (All T.is_infallible source.now)) }
+        ensures capacity { self.new.capacity ≡ self.old.capacity }
+        ensures growth { self.new.growth ≡ self.old.growth }
+        ensures alloc { self.new.alloc ≡ self.old.alloc }
+    {
+        let count = source.len();
+        'each: for i in 0..count {
+            match source[i].clone() {
+                Ok(copy) => self.put(copy),
+                Err(_) => return false,
+            }
+        }
+        true
+    }
+}
+
+impl<T: Drop, A: Allocator> Drop for Filling<T, A> {
+    fn drop(self) {
+        let Filling { mut block, len } = self;
+        block.drop_run(0, len);
+    }
+}
+
+// A block of `capacity` empty places, that grows so.
+fn block_for<T, A: Allocator>(
+    growth: Growth,
+    capacity: usize,
+    alloc: A,
+) -> Result<RawVec<T, A>, TryReserveError>
+    ensures made { IfOk result (λ b. b ≡ fresh (if type_size T.row == 0 then most else capacity) growth alloc) }
+    ensures refused { IfErr result (λ e. (0 < capacity) × (0 < type_size T.row) × IsRefusedAt e capacity) }
+{
+    let mut block = RawVec::new_growing_in(growth, alloc);
+    match block.try_reserve_exact(0, capacity) {
+        Ok(()) => Ok(block),
+        Err(error) => Err(error),
+    }
+}

@@ -1,0 +1,185 @@
+//! `BoxedSlice`: a list in a block that has room for it and no more.
+ghost use Rattle.std.specs.Prelude.{◌≡◌, ◌<◌, ◌≤◌, [], length, All, IfOk, IfErr, IsOk};
+ghost use Rattle.std.specs.List.{AllZip};
+ghost use Rattle.std.specs.Mem.{type_size};
+ghost use Rattle.std.specs.Borrow.{sem};
+ghost use Rattle.std.specs.Iterator.{IsFinite, Drains, size};
+ghost use Rattle.std.specs.Iterator.Runs.{WholeRun};
+ghost use Rattle.aa_raw.specs.Block.{start_capacity};
+ghost use Rattle.aa_raw.specs.Places.{IsRun};
+ghost use Rattle.aa_raw.specs.Refusals.{IsRefusedAt};
+ghost use Rattle.aa_raw.specs.declared.raw_vec.Growth.TheVariants.{Doubling};
+ghost use Rattle.aa_boxed.specs.Room.{IsJustFor};
+ghost use Rattle.aa_boxed.specs.Slice.{slice_of, StopsAfter};
+
+use crate::boxed::filling::Filling;
+use aa_raw::collections::{TryReserveError, TryReserveErrorKind};
+use aa_raw::raw_vec::{Growth, RawVec};
+use std::alloc::{Allocator, Global};
+use std::default::Default;
+use std::marker::Model;
+
+/// A list whose capacity is its length, or `usize::MAX` where elements have no size; these take no memory. It stands for
+/// `allocator_api2::boxed::Box<[T], A>`.
+pub struct BoxedSlice<T, A: Allocator = Global> {
+    block: RawVec<T, A>,
+    len: usize,
+}
+
+impl<T, A: Allocator> Model for BoxedSlice<T, A> {
+    ghost use Rattle.aa_boxed.specs.Slice.{Slice};
+
+    ghost Value = { Slice T A };
+
+    ghost use Rattle.aa_boxed.specs.SliceInner.{view_of, IsWhole};
+
+    ghost view = { view_of };
+
+    ghost invariant = { IsWhole };
+}
+
+impl<T> BoxedSlice<T, Global> {
+    /// The items of `iter`, which ends, on the global allocator; it is refused as `from_iter_in` is. It stands for `Box<[T]>`'s
+    /// `FromIterator`, which aborts on a refusal.
+    pub fn from_iter<I: Iterator<Item = T>>(alloc: Global, iter: I) -> Result<Self, TryReserveError>
+    where
+        T: Drop,
+        requires may_ask { I.can_next iter }
+        requires ends { IsFinite (I.remaining iter) }
+        ensures fits { size (I.remaining iter) ≤ start_capacity (type_size T.row) → IsOk result }
+        ensures ran { IfOk result (λ b. Drains I.next_gives iter b.items) }
+        ensures runs { IfOk result (λ b. WholeRun I.next_gives iter (λ p. b.items ≡ p.items)) }
+        ensures made { IfOk result (λ b. (b.growth ≡ Doubling) × (b.alloc ≡ alloc)) }
+        ensures refused { IfErr result (λ e. StopsAfter I.next_gives (type_size T.row) iter e) }
+    {
+        BoxedSlice::from_iter_in(iter, alloc)
+    }
+}
+
+impl<T, A: Allocator> BoxedSlice<T, A> {
+    ghost use Rattle.aa_boxed.specs.SliceLends.{lends_items};
+
+    /// A copy of `source`. It takes memory where there are elements and they have a size. A refusal is `CapacityOverflow`, or
+    /// `AllocError` with the length of `source`. It stands for `Box<[T], A>`'s `From<&[T]>`, which aborts on a refusal.
+    pub fn from_slice(alloc: A, source: &[T]) -> Result<Self, TryReserveError>
+    where
+        T: Copy,
+        ensures made { IfOk result (λ b. b ≡ record { items = source.now; growth = Doubling; alloc = alloc }) }
+        ensures refused { IfErr result (λ e. (0 < length source.now) × (0 < type_size T.row) × IsRefusedAt e (length source.now)) }
+    {
+        let count = source.len();
+        let mut filling = Filling::with_room(Growth::Doubling, count, alloc)?;
+        'each: for i in 0..count {
+            filling.put(source[i]);
+        }
+        Ok(filling.whole())
+    }
+
+    /// The items of `iter`, which ends. It takes each item first, and memory where there is no room for it, with room to spare
+    /// for it and the lower bound that `size_hint` then has; at the end it gives back what is not needed. Where memory is
+    /// refused, the items that came are dropped: `CapacityOverflow`, or `AllocError` with at least their number. The original
+    /// has no such call.
+    pub fn from_iter_in<I: Iterator<Item = T>>(iter: I, alloc: A) -> Result<Self, TryReserveError>
+    where
+        T: Drop,
+        requires may_ask { I.can_next iter }
+        requires ends { IsFinite (I.remaining iter) }
+        ensures fits { size (I.remaining iter) ≤ start_capacity (type_size T.row) → IsOk result }
+        ensures ran { IfOk result (λ b. Drains I.next_gives iter b.items) }
+        ensures runs { IfOk result (λ b. WholeRun I.next_gives iter (λ p. b.items ≡ p.items)) }
+        ensures made { IfOk result (λ b. (b.growth ≡ Doubling) × (b.alloc ≡ alloc)) }
+        ensures refused { IfErr result (λ e. StopsAfter I.next_gives (type_size T.row) iter e) }
+    {
+        let mut rest = iter;
+        let mut filling = Filling::with_room(Growth::Doubling, 0, alloc)?;
+        while let Some(x) = rest.next() {
+            if filling.is_full() {
+                filling.reserve(rest.size_hint().0.saturating_add(1))?;
+            }
+            filling.put(x);
+        }
+        filling.shrunk()
+    }
+
+    /// A clone of each element, over a clone of the allocator. It takes memory before the first clone. Where that or a clone is
+    /// refused, nothing is made: `CapacityOverflow`, or `AllocError` with the length. It stands for `Box<[T], A>`'s `Clone`,
+    /// which aborts on a refusal.
+    pub fn clone(&self) -> Result<Self, TryReserveError>
+    where
+        T: Clone + Drop,
+        A: Clone,
+        ensures made { IfOk result (λ b. AllZip T.is_clone self.now.items b.items × (b.growth ≡ self.now.growth) × A.is_clone self.now.alloc b.alloc) }
+        ensures copied { ((x y : T) → T.is_clone x y → y ≡ x) → IfOk result (λ b. b.items ≡ self.now.items) }
+        ensures refused { IfErr result (λ e. (All T.is_infallible self.now.items → A.is_infallible self.now.alloc → (0 < length self.now.items) × (0 < type_size T.row)) × IsRefusedAt e (length self.now.items)) }
+    {
+        let source = self.as_slice();
+        let capacity = source.len();
+        let Ok(alloc) = self.allocator().clone() else {
+            return Err(TryReserveErrorKind::AllocError { capacity }.into());
+        };
+        let mut filling = Filling::with_room(self.block.growth(), capacity, alloc)?;
+        if filling.put_clones(source) {
+            return Ok(filling.whole());
+        }
+        Err(TryReserveErrorKind::AllocError { capacity }.into())
+    }
+
+    /// The values in the first `len` places of `block`, which takes over the block. It takes no memory. The original has no such
+    /// call: a vector there takes itself apart.
+    pub fn from_block(block: RawVec<T, A>, len: usize) -> Self
+        requires filled { IsRun block.places 0 len }
+        requires room { IsJustFor len block.places }
+        ensures { result ≡ slice_of block len }
+    {
+        BoxedSlice { block, len }
+    }
+
+    /// The block, and how many of its places are filled, from the first on. It takes no memory. The original has no such call.
+    pub fn into_block(self) -> (RawVec<T, A>, usize)
+        ensures filled { IsRun result.0.places 0 result.1 }
+        ensures room { IsJustFor result.1 result.0.places }
+        ensures same { slice_of result.0 result.1 ≡ self }
+    {
+        let BoxedSlice { block, len } = self;
+        (block, len)
+    }
+
+    /// The elements. It stands for the dereference of `Box<[T], A>`.
+    pub fn as_slice(&self) -> &[T]
+        ensures { result.now ≡ self.now.items }
+    {
+        self.block.slice(0, self.len)
+    }
+
+    /// The elements, to write to. It stands for the dereference of a mutable `Box<[T], A>`.
+    pub fn as_mut_slice(&mut self) -> &mut [T]
+        ensures* writes_back { sem 𝓛 (lends_items T.row A.row A.Allocator self.entry result) }
+        ensures value { result.now ≡ self.old.items }
+    {
+        self.block.slice_mut(0, self.len)
+    }
+
+    /// The allocator under the slice. It stands for `Box::allocator`.
+    pub fn allocator(&self) -> &A
+        ensures { result.now ≡ self.now.alloc }
+    {
+        self.block.allocator()
+    }
+}
+
+impl<T, A: Allocator + Default> Default for BoxedSlice<T, A> {
+    ghost is_default = { λ b. (b.items ≡ []) × (b.growth ≡ Doubling) × A.is_default b.alloc };
+
+    /// No elements, over the default allocator. It takes no memory.
+    fn default() -> Self {
+        BoxedSlice::from_block(RawVec::new_in(A::default()), 0)
+    }
+}
+
+impl<T: Drop, A: Allocator> Drop for BoxedSlice<T, A> {
+    /// Drops the elements in order, and gives the memory back.
+    fn drop(self) {
+        let BoxedSlice { mut block, len } = self;
+        block.drop_run(0, len);
+    }
+}

@@ -1,0 +1,132 @@
+//! `BoxedText`: text in a block that has room for it and no more.
+ghost use Rattle.std.specs.Prelude.{◌≡◌, ◌+◌, ◌<◌, ◌++◌, List, [], length, flat_map, IfOk, IfErr, OnOk, IsUtf8};
+ghost use Rattle.std.specs.Iterator.{IsFinite, Drains};
+ghost use Rattle.std.specs.String.{string_bytes};
+ghost use Rattle.aa_raw.specs.Growth.{usize_max};
+ghost use Rattle.aa_raw.specs.Refusals.{IsRefused, IsRefusedAt};
+ghost use Rattle.aa_raw.specs.declared.raw_vec.Growth.TheVariants.{Doubling};
+ghost use Rattle.aa_raw.specs.declared.collections.TryReserveErrorKind.TheVariants.{CapacityOverflow};
+ghost use Rattle.aa_boxed.specs.Text.{Text, StopsAtText};
+
+use crate::boxed::slice::BoxedSlice;
+use aa_raw::collections::{TryReserveError, TryReserveErrorKind};
+use std::alloc::{Allocator, Global};
+use std::default::Default;
+use std::marker::Model;
+use std::str;
+use std::string::String;
+
+/// A text, in UTF-8, whose bytes fill their block. It stands for `allocator_api2::boxed::Box<str, A>`.
+pub struct BoxedText<A: Allocator = Global> {
+    bytes: BoxedSlice<u8, A>,
+    ghost utf8: { ∥ IsUtf8 bytes.items ∥₁ },
+    ghost grows: { bytes.growth ≡ Doubling },
+}
+
+impl<A: Allocator> Model for BoxedText<A> {
+    ghost Value = { Text A };
+
+    ghost view = { λ t. record { bytes = t.bytes.items; alloc = t.bytes.alloc } };
+}
+
+impl BoxedText<Global> {
+    /// A copy of the text, over the same allocator. It is refused as `from_text` is. It stands for `Box<str>`'s `Clone`, which
+    /// aborts on a refusal.
+    pub fn clone(&self) -> Result<Self, TryReserveError>
+        ensures made { IfOk result (λ t. t ≡ self.now) }
+        ensures refused { IfErr result (λ e. (0 < length self.now.bytes) × IsRefusedAt e (length self.now.bytes)) }
+    {
+        BoxedText::from_text(*self.allocator(), self.as_str())
+    }
+}
+
+impl<A: Allocator> BoxedText<A> {
+    /// A copy of `text`. It takes memory where there are bytes. A refusal is `CapacityOverflow`, or `AllocError` with the number
+    /// of bytes. It stands for `Box<str, A>`'s `From<&str>`, which aborts on a refusal.
+    pub fn from_text(alloc: A, text: &str) -> Result<Self, TryReserveError>
+        ensures made { IfOk result (λ t. t ≡ record { bytes = text.now; alloc = alloc }) }
+        ensures refused { IfErr result (λ e. (0 < length text.now) × IsRefusedAt e (length text.now)) }
+    {
+        let bytes = BoxedSlice::from_slice(alloc, text.as_bytes())?;
+        Ok(BoxedText { bytes })
+    }
+
+    /// The text. It stands for the dereference of `Box<str, A>`.
+    pub fn as_str(&self) -> &str
+        ensures { result.now ≡ self.now.bytes }
+    {
+        unsafe { str::from_utf8_unchecked(self.bytes.as_slice()) }
+    }
+
+    /// The bytes of the text. It takes no memory. It stands for `Box<[u8], A>`'s `From<Box<str, A>>`.
+    pub fn into_bytes(self) -> BoxedSlice<u8, A>
+        ensures bytes { result ≡ record { items = self.bytes; growth = Doubling; alloc = self.alloc } }
+        ensures utf8 { IsUtf8 result.items }
+    {
+        let BoxedText { bytes } = self;
+        bytes
+    }
+
+    /// The allocator under the text. It stands for `Box::allocator`.
+    pub fn allocator(&self) -> &A
+        ensures { result.now ≡ self.now.alloc }
+    {
+        self.bytes.allocator()
+    }
+}
+
+impl<A: Allocator + Default> Default for BoxedText<A> {
+    ghost is_default = { λ t. (t.bytes ≡ []) × A.is_default t.alloc };
+
+    /// The empty text, over the default allocator. It takes no memory.
+    fn default() -> Self {
+        BoxedText {
+            bytes: BoxedSlice::default(),
+        }
+    }
+}
+
+impl<A: Allocator> Drop for BoxedText<A> {
+    /// Gives the memory back.
+    fn drop(self) {
+        let Self { bytes: _ } = self;
+    }
+}
+
+/// Puts the texts of `iter`, which ends, behind `text`, each of them whole. Where room for one is refused, those before it stay,
+/// and it is dropped: `CapacityOverflow` where the length passes `usize::MAX`, else `AllocError` with the length that was asked
+/// for. It stands for `String`'s `Extend<Box<str, A>>`, which aborts on a refusal.
+pub fn append_texts<S: Allocator, A: Allocator, I: Iterator<Item = BoxedText<A>>>(
+    text: &mut String<S>,
+    iter: I,
+) -> Result<(), TryReserveError>
+    requires may_ask { I.can_next iter }
+    requires ends { IsFinite (I.remaining iter) }
+    ensures appended { OnOk result ((ts : List (Text A)) × Drains I.next_gives iter ts × (string_bytes text.new ≡ string_bytes text.old ++ flat_map (λ t. t.bytes) ts)) }
+    ensures refused { IfErr result (λ e. StopsAtText I.next_gives iter (string_bytes text.old) e (string_bytes text.new)) }
+{
+    let mut rest = iter;
+    while let Some(next) = rest.next() {
+        match append_text(text, next.as_str()) {
+            Ok(()) => {}
+            Err(error) => return Err(error),
+        }
+    }
+    Ok(())
+}
+
+// Puts `more` behind `text`, or changes nothing where that is refused.
+fn append_text<S: Allocator>(text: &mut String<S>, more: &str) -> Result<(), TryReserveError>
+    ensures appended { OnOk result (string_bytes text.new ≡ string_bytes text.old ++ more.now) }
+    ensures kept { IfErr result (λ e. string_bytes text.new ≡ string_bytes text.old) }
+    ensures number { IfErr result (λ e. IsRefused e (length (string_bytes text.old) + length more.now)) }
+    ensures overflow { IfErr result (λ e. usize_max < length (string_bytes text.old) + length more.now → e ≡ CapacityOverflow) }
+{
+    let Some(capacity) = text.as_str().len().checked_add(more.len()) else {
+        return Err(TryReserveErrorKind::CapacityOverflow.into());
+    };
+    match text.push_str(more) {
+        Ok(()) => Ok(()),
+        Err(_) => Err(TryReserveErrorKind::AllocError { capacity }.into()),
+    }
+}

@@ -1,0 +1,6 @@
+//! The boxes of the port, on the block of `aa_raw`.
+#![tactic(auto)]
+
+pub mod boxed;
+#[cfg(test)]
+mod tests;

@@ -1,0 +1,34 @@
+-- Clones of elements put into the first places of a block, one after another.
+use Rattle.std.proofs.Common.{◌≡◌, ℕ, ◌+◌, ◌<◌, ◌≤◌, List, [], ◌∷◌, ◌++◌, length, take, get_or, Option, Some, sym, ap, ◌∙◌, subst, arith, length-append}
+use Rattle.std.specs.Prelude.{slice_set}
+use Rattle.std.specs.List.{AllZip}
+use Rattle.std.proofs.lemmas.List.{length-take-le}
+use Rattle.std.proofs.lemmas.List.Elements.{AllZip-push}
+use Rattle.std.proofs.lemmas.Grind.{take_at_read}
+use Rattle.aa_raw.specs.Places.{IsRun, run}
+use Rattle.aa_raw.specs.Clones.{HoldsClones}
+use Rattle.aa_raw.proofs.Runs.{run-zero, run-push, IsRun-nil, IsRun-push}
+
+module _ {X : Type 0} (clones : X → X → Type 0) where
+  pub none-cloned : (places : List (Option X)) → HoldsClones clones [] places
+  none-cloned places = record { filled = IsRun-nil places 0 (omega arith); each = subst (λ ys. AllZip clones [] ys) (sym (run-zero places 0)) tt }
+
+  -- a clone of the next item of a list
+  pub one-cloned : (xs : List X) (places : List (Option X)) (i : ℕ) (x y : X) → i < length xs → i < length places → x ≡ get_or xs i x → clones x y → HoldsClones clones (take i xs) places → HoldsClones clones (take (i + 1) xs) (slice_set places i (Some y))
+  one-cloned xs places i x y h room e c p =
+      let zs : List X = take i xs in
+      let new : List (Option X) = slice_set places i (Some y) in
+      let long : length zs ≡ i = length-take-le i xs (omega arith) in
+      let next : take (i + 1) xs ≡ zs ++ x ∷ [] = (take_at_read xs i x h).1 ∙ ap (λ z. zs ++ z ∷ []) (sym e) in
+      let more : length zs + 1 ≡ length (zs ++ x ∷ []) = sym (length-append zs (x ∷ [])) in
+      let P : List X → Type 0 = λ l. HoldsClones clones l new in
+      subst P (sym next) (record {
+        filled = IsRun-push places 0 (length zs) y i (length (zs ++ x ∷ [])) (omega (arith, long)) more room p.filled;
+        each = subst (λ ys. AllZip clones (zs ++ x ∷ []) ys) (sym (run-push places 0 (length zs) y i (length (zs ++ x ∷ [])) (omega (arith, long)) more room)) (AllZip-push clones zs (run places 0 (length zs)) x y p.each c);
+      })
+
+  -- a beginning of as many as were put
+  pub beginning-cloned : (xs : List X) (places : List (Option X)) (n : ℕ) → n ≤ length xs → HoldsClones clones (take n xs) places → IsRun places 0 n × AllZip clones (take n xs) (run places 0 n)
+  beginning-cloned xs places n h p =
+      let long : length (take n xs) ≡ n = length-take-le n xs h in
+      (subst (λ k. IsRun places 0 k) long p.filled, subst (λ k. AllZip clones (take n xs) (run places 0 k)) long p.each)

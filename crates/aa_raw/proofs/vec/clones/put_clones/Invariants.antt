@@ -1,0 +1,10 @@
+use Rattle.std.proofs.Common.{◌≡◌, length, take}
+use Rattle.aa_raw.specs.Clones.{HoldsClones}
+use Rattle.aa_raw.proofs.vec.clones.put_clones.Given as goal
+
+abbrev pub invariant-each : goal.invariant-each
+invariant-each g l = record {
+  clones : HoldsClones g.T.Clone.is_clone (take l.put l.source) l.block.places;
+  long : length l.block.places ≡ length l.fn.block.places;
+  alloc : l.block.alloc ≡ l.fn.block.alloc;
+}

@@ -1,0 +1,30 @@
+-- A drain that is given up: its fields, and what a call asks that is handed them.
+use seplogic.Ra.Ura.{Ura}
+use base.Logic.{ent, sep, emp, mono∗, id⊢}
+use contract.BorrowLft.{◌⊑◌}
+use contract.Lifetimes.{Lfts}
+use contract.Monad.{fact}
+use denote.Param.{param}
+use denote.RattleType.{RattleType}
+use denote.Signature.{named_lft}
+use denote.Struct.Declared.{Declared, row}
+use denote.Struct.Laws as laws
+use Rattle.std.specs.declared.alloc.Allocator.{Ghosts}
+use Rattle.aa_vec.specs.contracts.vec.Vec as V
+use Rattle.aa_vec.specs.contracts.vec.drain.Drain as D
+use Rattle.aa_vec.proofs.GivenUp.{two}
+
+module _ (T A : RattleType) (g : Ghosts A.Denot) where
+  abbrev pub Decl : Lfts 3 → Declared
+  Decl κs = D.the_type (named_lft 3 0 tt κs) (param 0 T) (param 1 A) g
+
+  abbrev pub Row : Lfts 3 → RattleType
+  Row κs = row (Decl κs)
+
+  abbrev pub Lws : (κs : Lfts 3) → laws.Laws (Decl κs)
+  Lws κs = (laws.mut_ref_laws (named_lft 3 0 tt κs) (V.the_row (param 0 T) (param 1 A) g) tt, (laws.usize-laws, (laws.usize-laws, (laws.usize-laws, (laws.usize-laws, tt)))))
+
+-- the bounds on the two type parameters, and two facts more
+pub asks : {M : Type 1} (𝓤 : Ura M) (T A : RattleType) (κs : Lfts 3) {φ ψ : Type 0} → φ → ψ
+    → ent 𝓤 (sep 𝓤 (fact 𝓤 (κs.1.0 ⊑ T.lives)) (sep 𝓤 (fact 𝓤 (κs.1.1.0 ⊑ A.lives)) (emp 𝓤))) (sep 𝓤 (fact 𝓤 (κs.1.0 ⊑ T.lives)) (sep 𝓤 (fact 𝓤 (κs.1.1.0 ⊑ A.lives)) (sep 𝓤 (fact 𝓤 φ) (fact 𝓤 ψ))))
+asks 𝓤 T A κs x y = mono∗ 𝓤 (id⊢ 𝓤 (fact 𝓤 (κs.1.0 ⊑ T.lives))) (mono∗ 𝓤 (id⊢ 𝓤 (fact 𝓤 (κs.1.1.0 ⊑ A.lives))) (two 𝓤 x y))

@@ -1,0 +1,83 @@
+-- What a contract sees of a `Drain`: the vector as it is lent, and what is left of the range.
+use Rattle.std.specs.Prelude.{◌≡◌, ℕ, ◌+◌, ◌-◌, List, [], ◌∷◌, ◌++◌, length, take, drop, slice_range, Option, MatchOption, if◌then◌else◌, ◌==◌}
+use Rattle.std.specs.Borrow.{GName}
+use Rattle.std.specs.Iterator.{Yields}
+use Rattle.aa_vec.specs.Behind.{behind_items}
+use Rattle.aa_vec.specs.Vector.{Vector, Holds, Writes, run_count}
+use Rattle.aa_vec.specs.declared.vec.drain.Drain.{Drain}
+
+module _ {T A : Type 0} where
+  -- the reference to the vector
+  abbrev pub drain_lender : Drain T A → GName
+  drain_lender d = d.vec.ghost_name
+
+  -- the vector while it is lent: its items are those before the range
+  abbrev pub drain_vec : Drain T A → Vector T A
+  drain_vec d = d.vec.now
+
+  -- the elements before the range
+  abbrev pub drain_head : Drain T A → List T
+  drain_head d = (drain_vec d).items
+
+  -- the items still to come
+  unfoldable pub drain_rest : Drain T A → List T
+  drain_rest d = behind_items d.vec.now d.front (d.back - d.front)
+
+  -- the elements behind the range
+  unfoldable pub drain_tail : Drain T A → List T
+  drain_tail d = behind_items d.vec.now d.end (d.total - d.end)
+
+  -- how many elements the range had
+  abbrev pub range_len : Drain T A → ℕ
+  range_len d = d.end
+
+  -- how many of them were taken from the front
+  abbrev pub taken_front : Drain T A → ℕ
+  taken_front d = d.front
+
+  -- how many of them were taken from the back
+  abbrev pub taken_back : Drain T A → ℕ
+  taken_back d = d.end - d.back
+
+  -- d takes the elements from the index a up to b out of old, and none was taken yet
+  pub record Drains (old : Vector T A) (a b : ℕ) (d : Drain T A) : Type 0 where
+    pub head : Holds old (take a old.items) (drain_vec d)
+    pub writes : Writes old 0 0 (drain_vec d)
+    pub rest : drain_rest d ≡ slice_range old.items a b
+    pub tail : drain_tail d ≡ drop b old.items
+    pub range : range_len d ≡ b - a
+    pub none_front : taken_front d ≡ 0
+    pub none_back : taken_back d ≡ 0
+
+  -- new has the range and the vector of old, but for what is left of the range
+  pub record DrainKeeps (old new : Drain T A) : Type 0 where
+    pub lender : drain_lender new ≡ drain_lender old
+    pub head : Holds (drain_vec old) (drain_head old) (drain_vec new)
+    pub writes : Writes (drain_vec old) 0 0 (drain_vec new)
+    pub tail : drain_tail new ≡ drain_tail old
+    pub range : range_len new ≡ range_len old
+
+  -- r was taken from the front of s, which is t afterwards, or nothing was left
+  abbrev pub drains_first : Drain T A → Option T → Drain T A → Type 0
+  drains_first s r t =
+      DrainKeeps s t × MatchOption r ((drain_rest s ≡ []) × (t ≡ s)) (λ x. (drain_rest s ≡ x ∷ drain_rest t) × (taken_front t ≡ taken_front s + 1) × (taken_back t ≡ taken_back s))
+
+  -- the same from the back
+  abbrev pub drains_last : Drain T A → Option T → Drain T A → Type 0
+  drains_last s r t =
+      DrainKeeps s t × MatchOption r ((drain_rest s ≡ []) × (t ≡ s)) (λ x. (drain_rest s ≡ drain_rest t ++ x ∷ []) × (taken_front t ≡ taken_front s) × (taken_back t ≡ taken_back s + 1))
+
+  -- each state that calls of `next` lead to keeps the range and the vector of d, but for what is left of the range
+  abbrev pub DrainKeepsAlong : Drain T A → Type 0
+  DrainKeepsAlong d = (xs : List T) (later : Drain T A) → Yields drains_first d xs later → DrainKeeps d later
+
+  -- new has what is before the range and what is behind it, which was moved, in one run, if the range had any element
+  pub record Closes (d : Drain T A) (new : Vector T A) : Type 0 where
+    pub holds : Holds (drain_vec d) (drain_head d ++ drain_tail d) new
+    pub writes : let moved = if range_len d == 0 then 0 else length (drain_tail d) in Writes (drain_vec d) moved (run_count moved) new
+
+  -- new has what is before the range, what is left of it, and what is behind it. The second was moved, in one run, if an item was taken
+  -- from the front, and the third if any was taken
+  pub record KeepsRest (d : Drain T A) (new : Vector T A) : Type 0 where
+    pub holds : Holds (drain_vec d) (drain_head d ++ (drain_rest d ++ drain_tail d)) new
+    pub writes : let rest = if taken_front d == 0 then 0 else length (drain_rest d) in let tail = if taken_front d + taken_back d == 0 then 0 else length (drain_tail d) in Writes (drain_vec d) (rest + tail) (run_count rest + run_count tail) new

@@ -1,0 +1,155 @@
+-- Items taken out of a drain, one after the other, and put behind the elements of another vector.
+use Rattle.std.proofs.Common.{◌≡◌, ℕ, ◌+◌, ◌-◌, ◌<◌, ◌≤◌, List, [], ◌∷◌, ◌++◌, length, take, drop, reverse, Bool, true, false, Some, refl, sym, ap, ◌∙◌, arith, append_assoc, length-append, length-take, length-drop}
+use Rattle.std.specs.Prelude.{slice_range, if◌then◌else◌, ◌==◌}
+use Rattle.std.proofs.Math.Seq.{take-add}
+use Rattle.std.proofs.lemmas.List.{append-nil, drop-drop, take_all, drop_all, drop_at, take_at, take-append-drop, reverse-append, take-take}
+use Rattle.aa_vec.specs.Draining.{Closes, DrainKeeps, Drains, KeepsRest, drain_head, drain_rest, drain_tail, drain_vec, drains_first, drains_last, range_len, taken_back, taken_front}
+use Rattle.aa_vec.specs.Vector.{Vector, len, SameBlock, Holds}
+use Rattle.aa_vec.specs.declared.vec.drain.Drain.{Drain}
+use Rattle.aa_vec.proofs.Climbing.{SameBlock-refl}
+use Rattle.aa_vec.proofs.Copied.{SameBlock-then}
+use Rattle.aa_vec.proofs.Drains.{keeps-same, keeps-then}
+use Rattle.allocator_api2.specs.Drained.{Drained, TakesFront, TakesBack}
+use Rattle.allocator_api2.specs.Machine.{given_of}
+
+-- a choice is no more than the greater
+choice_le : (t : Bool) (a b : ℕ) → a ≤ b → (if t then a else b) ≤ b
+choice_le true a b h = h
+choice_le false a b h = omega arith
+
+module _ {T A : Type 0} (d : Drain T A) (side : Vector T A) where
+  abbrev all : List T
+  all = drain_rest d
+
+  pub TakesFront-none : TakesFront d side 0 d side
+  TakesFront-none = record { keeps = keeps-same d; rest = refl; front = omega arith; back = refl; holds = record { items = sym (append-nil side.items); block = SameBlock-refl side } }
+
+  pub TakesFront-more : (k : ℕ) (e f : Drain T A) (s t : Vector T A) (x : T) → TakesFront d side k e s → drains_first e (Some x) f → Holds s (s.items ++ x ∷ []) t → TakesFront d side (k + 1) f t
+  TakesFront-more k e f s t x h n p =
+      let here : drop k all ≡ x ∷ drain_rest f = sym h.rest ∙ n.1.0 in
+      let more : take (k + 1) all ≡ take k all ++ x ∷ [] = take-add k 1 all ∙ ap (λ l. take k all ++ take 1 l) here in
+      record {
+        keeps = keeps-then d e f h.keeps n.0;
+        rest = ap (drop 1) (sym here) ∙ drop-drop 1 k all;
+        front = omega (arith, n.1.1, h.front);
+        back = n.1.2 ∙ h.back;
+        holds = record {
+          items = p.items ∙ ap (λ l. l ++ x ∷ []) h.holds.items ∙ append_assoc side.items (take k all) (x ∷ []) ∙ ap (λ l. side.items ++ l) (sym more);
+          block = SameBlock-then side s t h.holds.block p.block;
+        };
+      }
+
+  pub TakesBack-none : TakesBack d side 0 d side
+  TakesBack-none =
+      let whole : length all - 0 ≡ length all = omega arith in
+      record {
+        keeps = keeps-same d;
+        rest = sym (take_all (length all - 0) all (omega arith));
+        front = refl;
+        back = omega arith;
+        holds = record { items = sym (append-nil side.items) ∙ ap (λ l. side.items ++ reverse l) (sym (drop_all (length all - 0) all (omega arith))); block = SameBlock-refl side };
+      }
+
+  pub TakesBack-more : (k : ℕ) (e f : Drain T A) (s t : Vector T A) (x : T) → k < length all → TakesBack d side k e s → drains_last e (Some x) f → Holds s (s.items ++ x ∷ []) t → TakesBack d side (k + 1) f t
+  TakesBack-more k e f s t x less h n p =
+      let a : ℕ = length all - k in let b : ℕ = length all - (k + 1) in
+      let up : b + 1 ≡ a = omega (arith, less) in
+      let here : take a all ≡ drain_rest f ++ x ∷ [] = sym h.rest ∙ n.1.0 in
+      let long : length (drain_rest f) ≡ b = omega (arith, ap length here, length-append (drain_rest f) (x ∷ []), length-take a all, less) in
+      let first : drain_rest f ≡ take b all = sym (ap (take b) here ∙ take_at (drain_rest f) (x ∷ []) b long) ∙ take-take b a all (omega arith) in
+      let parts : all ≡ drain_rest f ++ x ∷ drop a all = sym (take-append-drop a all) ∙ ap (λ l. l ++ drop a all) here ∙ append_assoc (drain_rest f) (x ∷ []) (drop a all) in
+      let last : drop b all ≡ x ∷ drop a all = ap (drop b) parts ∙ drop_at (drain_rest f) (x ∷ drop a all) b long in
+      let turned : reverse (drop b all) ≡ reverse (drop a all) ++ x ∷ [] = ap reverse last ∙ reverse-append (x ∷ []) (drop a all) in
+      record {
+        keeps = keeps-then d e f h.keeps n.0;
+        rest = first;
+        front = n.1.1 ∙ h.front;
+        back = omega (arith, n.1.2, h.back);
+        holds = record {
+          items = p.items ∙ ap (λ l. l ++ x ∷ []) h.holds.items ∙ append_assoc side.items (reverse (drop a all)) (x ∷ []) ∙ ap (λ l. side.items ++ l) (sym turned);
+          block = SameBlock-then side s t h.holds.block p.block;
+        };
+      }
+
+-- a range is taken out of `old`, f and b of it from either end put behind the elements of `side`, and then it is closed
+module _ {T A : Type 0} (old side : Vector T A) (start end f b : ℕ) (ordered : start ≤ end) (within : end ≤ len old) (few : f + b ≤ end - start)
+    (d0 d1 d2 : Drain T A) (s1 s2 : Vector T A) (drains : Drains old start end d0) (fronts : TakesFront d0 side f d1 s1) (backs : TakesBack d1 s1 b d2 s2) where
+  abbrev m : ℕ
+  m = end - start
+
+  abbrev middle : List T
+  middle = slice_range old.items start end
+
+  count_middle : length middle ≡ m
+  count_middle = omega (arith, length-take m (drop start old.items), length-drop start old.items, ordered, within)
+
+  rest_front : drain_rest d1 ≡ drop f middle
+  rest_front = fronts.rest ∙ ap (drop f) drains.rest
+
+  left_front : length (drain_rest d1) ≡ m - f
+  left_front = ap length rest_front ∙ length-drop f middle ∙ ap (λ i. i - f) count_middle
+
+  rest_back : drain_rest d2 ≡ slice_range middle f (m - b)
+  rest_back =
+      let n : m - f - b ≡ m - b - f = omega arith in
+      backs.rest ∙ ap (λ i. take (i - b) (drain_rest d1)) left_front ∙ ap (take (m - f - b)) rest_front ∙ ap (λ i. take i (drop f middle)) n
+
+  given_back : drop (length (drain_rest d1) - b) (drain_rest d1) ≡ drop (m - b) middle
+  given_back =
+      let n : f + (m - f - b) ≡ m - b = omega (arith, few) in
+      ap (λ i. drop (i - b) (drain_rest d1)) left_front ∙ ap (drop (m - f - b)) rest_front ∙ drop-drop (m - f - b) f middle ∙ ap (λ i. drop i middle) n
+
+  side_gave : Holds side (side.items ++ given_of old.items start end f b) s2
+  side_gave =
+      let first : s1.items ≡ side.items ++ take f middle = fronts.holds.items ∙ ap (λ l. side.items ++ take f l) drains.rest in
+      record {
+        items = backs.holds.items ∙ ap (λ l. l ++ reverse (drop (length (drain_rest d1) - b) (drain_rest d1))) first ∙ append_assoc side.items (take f middle) (reverse (drop (length (drain_rest d1) - b) (drain_rest d1)))
+            ∙ ap (λ l. side.items ++ (take f middle ++ reverse l)) given_back;
+        block = SameBlock-then side s1 s2 fronts.holds.block backs.holds.block;
+      }
+
+  keeps : DrainKeeps d0 d2
+  keeps = keeps-then d0 d1 d2 fronts.keeps backs.keeps
+
+  head_are : drain_head d2 ≡ take start old.items
+  head_are = keeps.head.items ∙ drains.head.items
+
+  tail_are : drain_tail d2 ≡ drop end old.items
+  tail_are = keeps.tail ∙ drains.tail
+
+  block_same : SameBlock old (drain_vec d2)
+  block_same = SameBlock-then old (drain_vec d0) (drain_vec d2) drains.head.block keeps.head.block
+
+  wrote_none : (drain_vec d2).written ≡ old.written
+  wrote_none = omega (arith, keeps.writes.written, drains.writes.written)
+
+  pub Drained-dropped : (w : Vector T A) → Closes d2 w → Drained old side start end f b false w s2
+  Drained-dropped w c =
+      record {
+        left = record { items = c.holds.items ∙ ap (λ l. l ++ drain_tail d2) head_are ∙ ap (λ l. take start old.items ++ l) tail_are; block = SameBlock-then old (drain_vec d2) w block_same c.holds.block };
+        gave = side_gave;
+        written = omega (arith, c.writes.written, wrote_none, choice_le (range_len d2 == 0) 0 (length (drain_tail d2)) (omega arith), ap length tail_are, length-drop end old.items);
+      }
+
+  pub Drained-kept : (w : Vector T A) → KeepsRest d2 w → Drained old side start end f b true w s2
+  Drained-kept w c =
+      record {
+        left = record {
+          items = c.holds.items ∙ ap (λ l. l ++ (drain_rest d2 ++ drain_tail d2)) head_are ∙ ap (λ l. take start old.items ++ (l ++ drain_tail d2)) rest_back ∙ ap (λ l. take start old.items ++ (slice_range middle f (m - b) ++ l)) tail_are;
+          block = SameBlock-then old (drain_vec d2) w block_same c.holds.block;
+        };
+        gave = side_gave;
+        written = omega (
+          arith,
+          c.writes.written,
+          wrote_none,
+          choice_le (taken_front d2 == 0) 0 (length (drain_rest d2)) (omega arith),
+          choice_le (taken_front d2 + taken_back d2 == 0) 0 (length (drain_tail d2)) (omega arith),
+          ap length tail_are,
+          length-drop end old.items,
+          ap length rest_back,
+          length-take (m - b - f) (drop f middle),
+          length-drop f middle,
+          count_middle,
+        );
+      }

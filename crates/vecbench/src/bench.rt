@@ -1,0 +1,182 @@
+//! Runs the tasks of the input.
+ghost use Rattle.std.specs.Prelude.{◌≡◌, Some};
+ghost use Rattle.vecbench.specs.Faults.{IsFaultOf, status_of, fault_text};
+
+use crate::lines::{Mode, Task, task_of};
+use crate::{ours, standard};
+use std::alloc::Global;
+use std::io::ErrorKind;
+use std::rt::Clock;
+use std::time::{Duration, Instant};
+use std::{fmt, io};
+
+/// Why the program did not end well.
+#[derive(Debug, Drop)]
+pub enum Fault {
+    /// The line of this number, counted from 1, is no task.
+    BadLine(u64),
+    /// Memory was refused.
+    OutOfMemory,
+    /// Reading, writing or the clock failed.
+    InputOutput,
+}
+
+impl Fault {
+    /// The status of the process.
+    pub fn status(&self) -> u8
+        ensures { result ≡ status_of self.now }
+    {
+        match self {
+            Fault::BadLine(_) => 1,
+            Fault::OutOfMemory => 2,
+            Fault::InputOutput => 3,
+        }
+    }
+}
+
+impl fmt::Display for Fault {
+    ghost output = { λ fault. Some (fault_text fault) };
+
+    fn fmt<W: fmt::Write>(&self, f: &mut fmt::Formatter<W>) -> fmt::Result {
+        match self {
+            Fault::BadLine(number) => write!(f, "bad line {number}"),
+            Fault::OutOfMemory => write!(f, "out of memory"),
+            Fault::InputOutput => write!(f, "input or output failed"),
+        }
+    }
+}
+
+impl From<io::Error> for Fault {
+    ghost from_gives = { IsFaultOf };
+
+    fn from(error: io::Error) -> Fault {
+        match error.kind() {
+            ErrorKind::OutOfMemory => Fault::OutOfMemory,
+            _ => Fault::InputOutput,
+        }
+    }
+}
+
+/// Vectors that the cases run on.
+pub trait Lists: Sized + Drop {
+    /// The vectors as the case finds them, or `None` where memory is refused.
+    fn prepared(alloc: Global, task: Task) -> Option<Self>;
+
+    /// Runs the case. It answers whether all memory was granted.
+    fn run(&mut self, task: Task) -> bool;
+
+    /// The checksum of what the vectors hold.
+    fn checksum(&self) -> u64;
+}
+
+/// What is known of a case: the time of its fastest run, where it was run, and what it left.
+#[derive(Clone, Copy, Drop)]
+struct Measure {
+    time: Option<Duration>,
+    checksum: u64,
+}
+
+/// Runs the task of each line and prints what it answers, up to the first line that is no task.
+pub fn bench<R: Input + Print + Clock + Alloc<A = Global>>(rt: &R) -> Result<(), Fault> {
+    let alloc = rt.alloc();
+    let mut number: u64 = 0;
+    for line in rt.lines(rt.alloc()) {
+        let line = line?;
+        number = number.wrapping_add(1);
+        if line.as_str().trim_ascii().is_empty() {
+            continue;
+        }
+        let Some(task) = task_of(line.as_str()) else {
+            return Err(Fault::BadLine(number));
+        };
+        answer(rt, alloc, task)?;
+    }
+    Ok(())
+}
+
+// Runs a task over both vectors and prints its line.
+fn answer<R: Print + Clock>(rt: &R, alloc: Global, task: Task) -> Result<(), Fault> {
+    let first: Measure = measured::<ours::Vectors, R>(rt, alloc, task)?;
+    let second: Measure = measured::<standard::Vectors, R>(rt, alloc, task)?;
+    let Task {
+        mode: _,
+        case,
+        count,
+    } = task;
+    let (a, b) = (first.checksum, second.checksum);
+    match (first.time, second.time) {
+        (Some(ours), Some(standard)) => {
+            let x = PerElement { time: ours, count };
+            let y = PerElement {
+                time: standard,
+                count,
+            };
+            println!(rt; "{case} {count} {x} {y} {a} {b}")?;
+        }
+        _ => println!(rt; "{case} {count} {a} {b}")?,
+    }
+    Ok(())
+}
+
+// Prepares the vectors and runs the case on them, as often as the task says.
+fn measured<L: Lists, R: Clock>(clock: &R, alloc: Global, task: Task) -> Result<Measure, Fault> {
+    match task.mode {
+        Mode::Time(repeat) => {
+            let mut best = timed::<L, R>(clock, alloc, task)?;
+            for _ in 1..repeat {
+                let next = timed::<L, R>(clock, alloc, task)?;
+                if next.time < best.time {
+                    best = next;
+                }
+            }
+            Ok(best)
+        }
+        Mode::Check => {
+            let measure = timed::<L, R>(clock, alloc, task)?;
+            Ok(Measure {
+                time: None,
+                checksum: measure.checksum,
+            })
+        }
+        Mode::Setup => match L::prepared(alloc, task) {
+            Some(lists) => Ok(Measure {
+                time: None,
+                checksum: lists.checksum(),
+            }),
+            None => Err(Fault::OutOfMemory),
+        },
+    }
+}
+
+// Prepares the vectors and runs the case on them once.
+fn timed<L: Lists, R: Clock>(clock: &R, alloc: Global, task: Task) -> Result<Measure, Fault> {
+    let Some(mut lists) = L::prepared(alloc, task) else {
+        return Err(Fault::OutOfMemory);
+    };
+    let start = Instant::now(clock)?;
+    let done = lists.run(task);
+    let time = start.elapsed(clock)?;
+    if !done {
+        return Err(Fault::OutOfMemory);
+    }
+    Ok(Measure {
+        time: Some(time),
+        checksum: lists.checksum(),
+    })
+}
+
+// A time for each of so many elements, which is printed in nanoseconds with one decimal.
+#[derive(Clone, Copy, Drop)]
+struct PerElement {
+    time: Duration,
+    count: u32,
+}
+
+impl fmt::Display for PerElement {
+    fn fmt<W: fmt::Write>(&self, f: &mut fmt::Formatter<W>) -> fmt::Result {
+        let tenths = self.time.as_nanos().saturating_mul(10) / u128::from(self.count.max(1));
+        let whole = tenths / 10;
+        let tenth = tenths % 10;
+        write!(f, "{whole}.{tenth}")
+    }
+}
