@@ -1,3 +1,4 @@
 pub mod Coming
 pub mod Fillings
 pub mod Texts
+pub mod Arrays

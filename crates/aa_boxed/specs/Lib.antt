@@ -6,3 +6,4 @@ pub mod Slice
 pub mod SliceInner
 pub mod SliceLends
 pub mod Text
+pub mod Arrays

@@ -11,6 +11,7 @@ use std::default::Default;
 use std::marker::Model;
 use std::ops::{Deref, DerefMut};
 
+mod arrays;
 mod compared;
 mod filling;
 mod handed_on;

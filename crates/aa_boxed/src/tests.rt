@@ -1,4 +1,5 @@
 //! What no clause says: sizes, printed texts, that calls succeed, and each public call once.
+mod arrays;
 mod lists;
 mod traits;
 

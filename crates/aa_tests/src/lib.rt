@@ -2,6 +2,8 @@
 #![tactic(auto)]
 
 #[cfg(test)]
+mod array_refusals;
+#[cfg(test)]
 mod block_refusals;
 #[cfg(test)]
 mod box_refusals;
@@ -13,5 +15,9 @@ mod many_refusals;
 mod refusals;
 #[cfg(test)]
 mod runs;
+#[cfg(test)]
+mod slices;
+#[cfg(test)]
+mod splice_refusals;
 #[cfg(test)]
 mod vec_refusals;

@@ -72,12 +72,12 @@ module _ {S T : Type 0} (steps : S → Option T → S → Type 0) (Tells : S →
           lacks = subst (λ k. LacksRoom new k error) asked x.lacks;
         }
 
--- extensions by an `Items`
-module _ {T A : Type 0} (size : ℕ) (iter : ItemsLeft T) (old : Vector T A) where
-  abbrev items_lower : ItemsLeft T → ℕ
-  items_lower s = lower_by s.hint (length s.items)
+-- what an `Items` tells
+abbrev pub items_lower : {T : Type 0} → ItemsLeft T → ℕ
+items_lower s = lower_by s.hint (length s.items)
 
-  abbrev HasHint : ItemsLeft T → Type 0
+module _ {T : Type 0} (iter : ItemsLeft T) where
+  abbrev pub HasHint : ItemsLeft T → Type 0
   HasHint s = s.hint ≡ iter.hint
 
   on : (s : ItemsLeft T) (x : T) (t : ItemsLeft T) → HasHint s → gives_item s (Some x) t → HasHint t × (s.items ≡ x ∷ t.items)
@@ -89,11 +89,31 @@ module _ {T A : Type 0} (size : ℕ) (iter : ItemsLeft T) (old : Vector T A) whe
   tells : (s : ItemsLeft T) (n : ℕ) → HasHint s → TellsExactly items_lower s n → n ≡ lower_by iter.hint (length s.items)
   tells s n h e = e ∙ ap (λ hint. lower_by hint (length s.items)) h
 
+  -- `xs` came of it, as it told by `lower`
+  module _ (lower : ℕ → ℕ) (xs : List T) (last : ItemsLeft T) (told : YieldsTelling gives_item (TellsExactly items_lower) lower iter xs last) where
+    pub items-rest : HasHint last × (iter.items ≡ xs ++ last.items) × ((k : ℕ) → k < length xs → lower k ≡ lower_by iter.hint (k + length last.items))
+    items-rest = told-rest gives_item (TellsExactly items_lower) HasHint (λ s. s.items) (lower_by iter.hint) on off tells lower iter xs last refl told
+
+    pub items-told : TellsExactly items_lower iter (lower (length xs)) → (k : ℕ) → k ≤ length xs → lower k ≡ lower_by iter.hint (k + length last.items)
+    items-told first k h =
+        elim (cases_lt k (length xs)) [
+          | inl lt ↦ items-rest.2 k lt
+          | inr ge ↦
+              let e : k ≡ length xs = omega (arith, h, ge) in
+              let n : length iter.items ≡ k + length last.items = omega (arith, e, ap length items-rest.1, length-append xs last.items) in
+              ap lower e ∙ first ∙ ap (lower_by iter.hint) n
+        ]
+
+    pub items-all : (end : ItemsLeft T) → gives_item last None end → xs ≡ iter.items
+    items-all end g = sym (items-rest.1 ∙ ap (λ ys. xs ++ ys) (off last end items-rest.0 g) ∙ append-nil xs)
+
+-- extensions by an `Items`
+module _ {T A : Type 0} (size : ℕ) (iter : ItemsLeft T) (old : Vector T A) where
   pub ExtendsAll-items : (new : Vector T A) → ExtendsByAll gives_item (TellsExactly items_lower) size iter old new → ExtendsAll size (lower_by iter.hint) old old.items iter.items new
-  ExtendsAll-items = ExtendsAll-by gives_item (TellsExactly items_lower) HasHint (λ s. s.items) (lower_by iter.hint) on off tells size iter refl old
+  ExtendsAll-items = ExtendsAll-by gives_item (TellsExactly items_lower) (HasHint iter) (λ s. s.items) (lower_by iter.hint) (on iter) (off iter) (tells iter) size iter refl old
 
   pub ExtendsFull-items : (error : TryReserveErrorKind) (new : Vector T A) → ExtendsByFront gives_item (TellsExactly items_lower) size iter old error new → ExtendsFull size (lower_by iter.hint) old old.items iter.items error new
-  ExtendsFull-items = ExtendsFull-by gives_item (TellsExactly items_lower) HasHint (λ s. s.items) (lower_by iter.hint) on off tells size iter refl old
+  ExtendsFull-items = ExtendsFull-by gives_item (TellsExactly items_lower) (HasHint iter) (λ s. s.items) (lower_by iter.hint) (on iter) (off iter) (tells iter) size iter refl old
 
   -- where it tells how many there are, room for them is made at once
   pub ExtendsAll-counted : (new : Vector T A) → ExtendsByAll gives_item (TellsExactly items_lower) size iter old new → iter.hint ≡ None → length iter.items ≤ usize_max → MakesRoom size old old.capacity (len old + length iter.items - old.capacity) new

@@ -140,6 +140,9 @@ module _ {T A : Type 0} where
     pub dropped_stand : StandsBehind v end m → StandsBehind w end m
     dropped_stand stands = still_stand v w end end m stands (omega (arith, stands.0, ap len dropped.same, ap (λ u. u.capacity) dropped.same)) same
 
+    pub dropped_are : behind_items w end m ≡ behind_items v end m
+    dropped_are = still_are v w end end m same
+
     pub dropped_closed : ClosesGap w end m z → DropsAndCloses v end m z
     dropped_closed closes =
         let moved : ℕ = if end == 0 then 0 else m in record {

@@ -30,3 +30,10 @@ pub mod Drains
 pub mod Walks
 pub mod GivenUp
 pub mod HandedOn
+pub mod Filling
+pub mod Replacing
+pub mod Splicing
+pub mod SplicedOn
+pub mod Answered
+pub mod SplicedItems
+pub mod Flattening

@@ -12,3 +12,7 @@ pub mod Choosing
 pub mod Until
 pub mod Boxes
 pub mod Draining
+pub mod Splicing
+pub mod Filling
+pub mod Splices
+pub mod Arrays

@@ -9,27 +9,37 @@ use aa_raw::collections::{Refused, TryReserveError};
 use aa_raw::raw_vec::{Growth, RawVec};
 pub use aa_raw::vec::into_iter;
 pub use aa_raw::vec::into_iter::IntoIter;
+pub use arrays::ArrayIntoVec;
 pub use boxes::SliceIntoVec;
+pub use compared::same;
 pub use drain::Drain;
+pub use hints::cautious;
+pub use splice::Splice;
 use std::alloc::{Allocator, Global};
 use std::default::Default;
 use std::marker::Model;
 
 mod access;
+mod arrays;
 mod asking;
 mod behind;
 mod boxes;
+mod bytes;
 mod choosing;
+mod compared;
 mod copies;
 pub mod drain;
 mod edits;
 mod extend;
+mod filling;
+mod hints;
 mod into;
 pub mod items;
 mod joins;
 mod makes;
 mod plain_copies;
 mod room;
+pub mod splice;
 
 /// A growable list over the allocator `A`. It stands for `allocator_api2::vec::Vec`; a call that takes memory answers a `Result`
 /// in place of aborting. Elements without size take no memory and have the capacity `usize::MAX`.

@@ -6,8 +6,11 @@ pub mod Differ
 pub mod Joined
 pub mod Paid
 pub mod Ranges
+pub mod Repeated
 pub mod Replies
 pub mod Reserved
 pub mod Runs
 pub mod Steps
+pub mod Spliced
+pub mod SplicedRanges
 pub mod Stops

@@ -4,4 +4,7 @@ pub use Rattle.aa_vec.specs.Vector
 pub mod Laws
 pub mod Machine
 pub mod Run
+pub mod Spliced
 pub mod Drained
+pub mod Comparing
+pub mod Slices

@@ -1,13 +1,14 @@
 -- The list machine: two lists, each beside a capacity, and what each command makes of them.
-use Rattle.std.specs.Prelude.{◌≡◌, ℕ, ◌+◌, ◌-◌, ◌<◌, ◌≤◌, min, max, Bool, List, [], ◌∷◌, ◌++◌, take, drop, replicate, insert, remove, swap_remove, slice_get, slice_range, reverse, if◌then◌else◌, Some, ◌⊎◌, ⊤}
+use Rattle.std.specs.Prelude.{◌≡◌, ℕ, ◌+◌, ◌-◌, ◌<◌, ◌≤◌, min, max, Bool, ◌==◌, List, [], ◌∷◌, ◌++◌, take, drop, replicate, insert, remove, swap_remove, slice_get, slice_range, reverse, if◌then◌else◌, Some, ◌⊎◌, ⊤}
 use Rattle.aa_raw.specs.declared.collections.TryReserveErrorKind.{TryReserveErrorKind}
 use Rattle.aa_raw.specs.declared.collections.TryReserveErrorKind.TheVariants.{CapacityOverflow}
 use Rattle.aa_raw.specs.Growth.{usize_max}
 use Rattle.aa_vec.specs.Vector.{Vector, len, sized, HasRoom, GrowsTo, GrowsExactly, Shrinks, SameBlock, Holds}
 use Rattle.aa_vec.specs.Choosing.{Retains, Deduplicates, answers_of}
 use Rattle.aa_vec.specs.Extending.{ExtendsAll, ExtendsFull, lower_by, asked_for}
+use Rattle.aa_vec.specs.Splicing.{SplicesAll, SplicesShort}
 use Rattle.allocator_api2.specs.declared.runner.Command.{Command}
-use Rattle.allocator_api2.specs.declared.runner.Command.TheVariants.{Push, Within, Pop, Insert, Remove, SwapRemove, Truncate, Clear, Reserve, ReserveExact, ShrinkTo, SplitOff, Append, Extend, ExtendFromWithin, Resize, Retain, Dedup, Drain}
+use Rattle.allocator_api2.specs.declared.runner.Command.TheVariants.{Push, Within, Pop, Insert, Remove, SwapRemove, Truncate, Clear, Reserve, ReserveExact, ShrinkTo, SplitOff, Append, Extend, ExtendFromWithin, Resize, Retain, Dedup, Drain, Splice}
 use Rattle.allocator_api2.specs.declared.runner.Reply.{Reply}
 use Rattle.allocator_api2.specs.declared.runner.Reply.TheVariants.{Done, Item, Nothing, Back, Refused, Range}
 
@@ -55,6 +56,16 @@ pub record Splits {T A : Type 0} (size : ℕ) (old : Vector T A) (at : ℕ) (hea
   pub head_growth : head.growth ≡ old.growth
   pub tail_growth : tail.growth ≡ old.growth
 
+-- n items in place of the range of v, of which `lower` tells how many are to come, need no memory: nothing is behind the range, and they
+-- fit behind what is before it; or fewer come than the range has; or no more are left, once they fill the gap, than are told, and what
+-- is told fits
+abbrev pub FitsRange : {T A : Type 0} → Vector T A → (start end n : ℕ) → (lower : ℕ → ℕ) → Type 0
+FitsRange v start end n lower =
+    let left = n - (end - start) in
+    ((end ≡ len v) × (start + n ≤ v.capacity))
+    ⊎ ((end < len v) × (n < end - start))
+    ⊎ ((end < len v) × (left ≤ lower left) × HasRoom v (lower left))
+
 module _ {T A K S : Type 0} where
   -- nothing but main changed
   pub record OnlyMain (old new : State T A K S) : Type 0 where
@@ -70,6 +81,7 @@ module _ {T A K S : Type 0} where
   InRange s (SplitOff at) = at ≤ len s.main
   InRange s (ExtendFromWithin from to) = (from ≤ to) × (to ≤ len s.main)
   InRange s (Drain start end front back keep) = (start ≤ end) × (end ≤ len s.main)
+  InRange s (Splice start end items hint) = (start ≤ end) × (end ≤ len s.main)
   InRange s command = ⊤
 
   -- the command needs no memory, and no clone
@@ -85,6 +97,7 @@ module _ {T A K S : Type 0} where
   Fits s (ExtendFromWithin from to) = from ≡ to
   Fits s (Resize n x) = (n ≤ len s.main) ⊎ ((n ≡ len s.main + 1) × (n ≤ s.main.capacity))
   Fits s (Drain start end front back keep) = HasRoom s.side (from_front (end - start) front + from_back (end - start) front back)
+  Fits s (Splice start end items hint) = FitsRange s.main start end (len items) (lower_by hint)
   Fits s command = ⊤
 
   -- the length that a refused command asked room for
@@ -98,6 +111,10 @@ module _ {T A K S : Type 0} where
   length_asked old (ExtendFromWithin from to) new = len old.main + (to - from)
   length_asked old (Resize n x) new = n
   length_asked old (Drain start end front back keep) new = len old.side + (from_front (end - start) front + from_back (end - start) front back)
+  length_asked old (Splice start end items hint) new =
+      if end == len old.main
+      then len new.main + asked_for (lower_by hint) (start + len items - len new.main)
+      else len old.main + lower_by hint (len items - (end - start))
   length_asked old command new = 0
 
   -- main has its elements as before, and room for k more was made for it, or it is as it was
@@ -110,6 +127,9 @@ module _ {T A K S : Type 0} where
       OnlyMain old new × ExtendsFull size (lower_by hint) old.main old.main.items items.items kind new.main
   Leaves size old (ExtendFromWithin from to) kind new = KeepsMain size old (to - from) new
   Leaves size old (Resize n x) kind new = KeepsMain size old (n - len old.main) new
+  Leaves size old (Splice start end items hint) kind new =
+      OnlyMain old new
+      × SplicesShort size (lower_by hint) old.main (take start old.main.items) (end - start) (drop end old.main.items) items.items kind new.main
   Leaves size old command kind new = new ≡ old
 
 -- the closures are told by what one call of each may do: `Keeps` from its state and an element to an answer, its next state and
@@ -161,6 +181,9 @@ module _ {T A K S : Type 0} (size : ℕ) (Keeps : K → T → Bool → K → T �
       (answers ≡ []) × (new.keep ≡ old.keep) × (new.same ≡ old.same)
       × Holds old.main (drained old.main.items start end front back keep) new.main
       × GrowsTo size old.side (from_front (end - start) front + from_back (end - start) front back) (old.side.items ++ given old.main.items start end front back) new.side
+  Succeeds old (Splice start end items hint) answers Done new =
+      (answers ≡ []) × OnlyMain old new
+      × SplicesAll size (lower_by hint) old.main (take start old.main.items) (end - start) (drop end old.main.items) items.items new.main
   -- no other reply is given
   Succeeds old command answers reply new = ⊥
 

@@ -6,7 +6,7 @@ use Rattle.aa_raw.specs.declared.raw_vec.Growth.TheVariants.{Doubling, Sparing}
 use Rattle.aa_vec.specs.Choosing.{IsCallableInOrder, IsCallableAlong, kept_behind_removed}
 use Rattle.aa_vec.specs.Vector.{len}
 use Rattle.allocator_api2.specs.declared.runner.Command.{Command}
-use Rattle.allocator_api2.specs.declared.runner.Command.TheVariants.{Push, Within, Pop, Insert, Remove, SwapRemove, Truncate, Clear, Append, Extend, ExtendFromWithin, Resize, Retain, Dedup, Drain}
+use Rattle.allocator_api2.specs.declared.runner.Command.TheVariants.{Push, Within, Pop, Insert, Remove, SwapRemove, Truncate, Clear, Append, Extend, ExtendFromWithin, Resize, Retain, Dedup, Drain, Splice}
 use Rattle.allocator_api2.specs.declared.runner.Reply.{Reply}
 use Rattle.allocator_api2.specs.declared.runner.Reply.TheVariants.{Done, Back, Range}
 use Rattle.allocator_api2.specs.Machine.{State, Step, from_front, from_back}
@@ -74,6 +74,7 @@ module _ {T A K S : Type 0} where
   cost_of old Dedup answers new = kept_behind_removed (map not answers)
   cost_of old (Drain start end front back keep) answers new =
       len old.main - end + (if keep then end - start - from_front (end - start) front - from_back (end - start) front back else 0)
+  cost_of old (Splice start end items hint) answers new = len new.main - (start + (len old.main - end)) + 2 * (len old.main - end)
   cost_of old command answers new = 0
 
   abbrev pub cost_by : State T A K S → Command T A → List Bool → Reply T → State T A K S → ℕ

@@ -5,9 +5,11 @@ ghost use Rattle.std.specs.Mem.{type_size};
 ghost use Rattle.aa_vec.specs.Choosing.{Equals, Deduplicated};
 ghost use Rattle.aa_vec.specs.Vector.{len};
 ghost use Rattle.allocator_api2.specs.Laws.{ReserveHolds, CutIsJoined, NeighboursDiffer, LeavesNoRepeats, BoxingKeeps};
+ghost use Rattle.allocator_api2.specs.Comparing.{IsThatOfTheSlice, IsThatOfTheSlices, OrderAgrees};
 
 use aa_vec::vec::Vec;
 use std::alloc::Allocator;
+use std::hash::Hash;
 
 /// A vector's length is never greater than its capacity.
 pub fn length_within_capacity<T, A: Allocator>(v: &Vec<T, A>)
@@ -48,4 +50,21 @@ where
 /// boxed slice is handed back.
 pub fn boxed_lists_come_back<T, A: Allocator>()
     ensures { BoxingKeeps T A (type_size T.row) }
+{}
+
+/// Vectors are equal, and in order as far as there is one, as the slices of their elements are.
+pub fn vectors_compare_as_their_slices<T: PartialOrd, A: Allocator>()
+    ensures equality { IsThatOfTheSlices ⟦<Vec<T, A> as PartialEq>⟧.eq ⟦<&'static [T] as PartialEq>⟧.eq }
+    ensures order { IsThatOfTheSlices ⟦<Vec<T, A> as PartialOrd>⟧.partial_cmp ⟦<&'static [T] as PartialOrd>⟧.partial_cmp }
+{}
+
+/// Vectors are in order as the slices of their elements are, and the order agrees with equality where the elements' does.
+pub fn vectors_are_ordered_as_their_slices<T: Ord, A: Allocator>()
+    ensures order { IsThatOfTheSlices ⟦<Vec<T, A> as Ord>⟧.cmp ⟦<&'static [T] as Ord>⟧.cmp }
+    ensures agrees { OrderAgrees T.eq T.cmp → OrderAgrees ⟦<Vec<T, A> as PartialEq>⟧.eq ⟦<Vec<T, A> as Ord>⟧.cmp }
+{}
+
+/// Vectors hash as the slices of their elements do.
+pub fn vectors_hash_as_their_slices<T: Hash, A: Allocator>()
+    ensures { IsThatOfTheSlice ⟦<Vec<T, A> as Hash>⟧.hash_input ⟦<&'static [T] as Hash>⟧.hash_input }
 {}

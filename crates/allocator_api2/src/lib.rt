@@ -5,6 +5,9 @@
 pub use aa_boxed::boxed;
 pub use aa_raw::{alloc, collections, raw_vec};
 pub use aa_vec::vec;
+pub use slice::SliceExt;
 
 pub mod laws;
+mod macros;
 pub mod runner;
+pub mod slice;

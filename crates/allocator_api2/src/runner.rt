@@ -9,6 +9,7 @@ ghost use Rattle.aa_vec.specs.Draining.{drain_rest};
 ghost use Rattle.aa_vec.specs.Vector.{len, HasRoom, Holds, SameBlock};
 ghost use Rattle.allocator_api2.specs.Machine.{state_of};
 ghost use Rattle.allocator_api2.specs.Drained.{AnswersDrain, Drained, TakesFront, TakesBack};
+ghost use Rattle.allocator_api2.specs.Spliced.{AnswersSplice};
 ghost use Rattle.allocator_api2.specs.Run.{TakesStep, RunsTo, MayCall, IsCallableOnRuns};
 ghost use Rattle.allocator_api2.specs.declared.runner.Reply.{Reply};
 
@@ -74,6 +75,17 @@ pub enum Command<T, A: Allocator = Global> {
         back: usize,
         /// Whether what is left of the range stays in main.
         keep: bool,
+    },
+    /// Puts items in place of a range, which are told to be so many, true or not, or as many as they are.
+    Splice {
+        /// The index of the range's first element.
+        start: usize,
+        /// The index before which it ends, which is at most the length.
+        end: usize,
+        /// The items, in order.
+        items: Vec<T, A>,
+        /// What is told of their number.
+        hint: Option<usize>,
     },
 }
 
@@ -254,6 +266,12 @@ where
             back,
             keep,
         } => drain(main, side, start, end, front, back, keep),
+        Command::Splice {
+            start,
+            end,
+            items,
+            hint,
+        } => splice(main, start, end, items, hint),
     }
 }
 
@@ -348,6 +366,29 @@ fn take_back<T: Drop, A: Allocator>(items: &mut Drain<'_, T, A>, side: &mut Vec<
         match items.next_back() {
             Some(item) => append_within(side, item),
             None => unreachable!(),
+        }
+    }
+}
+
+// The command `Splice`.
+fn splice<T: Drop, A: Allocator + Clone + Drop>(
+    main: &mut Vec<T, A>,
+    start: usize,
+    end: usize,
+    items: Vec<T, A>,
+    hint: Option<usize>,
+) -> Reply<T>
+    ensures { AnswersSplice (type_size T.row) main.old start end items.items hint result main.new }
+{
+    if start > end || end > main.len() {
+        return Reply::Range;
+    }
+    let range = main.splice(start, end, Items::new(items, hint));
+    match range.finish_hinted() {
+        Ok(()) => Reply::Done,
+        Err(error) => {
+            let _within = main.capacity();
+            Reply::Refused(error.kind())
         }
     }
 }

@@ -31,6 +31,16 @@ pub enum Case {
     Append,
     /// Clones a vector.
     Clone,
+    /// Drains the middle half of a vector twice as long, and takes each item.
+    DrainTaken,
+    /// Drains the middle half of a vector twice as long, and drops the drain.
+    DrainDropped,
+    /// Takes each item out of a vector given up.
+    IntoIter,
+    /// Splices a hundred items at a time into the middle of a vector, empty at first.
+    SpliceGrowing,
+    /// Splices a hundred items at a time in place of the hundred in the middle.
+    SpliceInPlace,
 }
 
 impl Case {
@@ -52,6 +62,11 @@ impl Case {
             "extend" => Some(Case::Extend),
             "append" => Some(Case::Append),
             "clone" => Some(Case::Clone),
+            "drain_taken" => Some(Case::DrainTaken),
+            "drain_dropped" => Some(Case::DrainDropped),
+            "into_iter" => Some(Case::IntoIter),
+            "splice_growing" => Some(Case::SpliceGrowing),
+            "splice_in_place" => Some(Case::SpliceInPlace),
             _ => None,
         }
     }
@@ -74,6 +89,11 @@ impl fmt::Display for Case {
             Case::Extend => write!(f, "extend"),
             Case::Append => write!(f, "append"),
             Case::Clone => write!(f, "clone"),
+            Case::DrainTaken => write!(f, "drain_taken"),
+            Case::DrainDropped => write!(f, "drain_dropped"),
+            Case::IntoIter => write!(f, "into_iter"),
+            Case::SpliceGrowing => write!(f, "splice_growing"),
+            Case::SpliceInPlace => write!(f, "splice_in_place"),
         }
     }
 }

@@ -7,10 +7,12 @@ use crate::checksum::{checksum_from, checksum_of_bytes};
 use crate::lines::Task;
 use allocator_api2::vec::Vec;
 use std::alloc::Global;
+use std::mem::replace;
 
 /// The vectors that a case finds and leaves.
 #[derive(Drop)]
 pub struct Vectors {
+    alloc: Global,
     numbers: Vec<u32>,
     others: Vec<u32>,
     bytes: Vec<u8>,
@@ -20,6 +22,7 @@ pub struct Vectors {
 impl Lists for Vectors {
     fn prepared(alloc: Global, task: Task) -> Option<Self> {
         let mut vectors = Vectors {
+            alloc,
             numbers: Vec::new(alloc),
             others: Vec::new(alloc),
             bytes: Vec::new(alloc),
@@ -31,12 +34,17 @@ impl Lists for Vectors {
             count,
         } = task;
         let done = match case {
-            Case::Push | Case::PushReserved | Case::Extend => true,
+            Case::Push | Case::PushReserved | Case::Extend | Case::SpliceGrowing => true,
             Case::PushPop => fill(&mut vectors.numbers, 3, 1),
             Case::InsertPop | Case::RemovePush => fill(&mut vectors.numbers, 1000, 1),
-            Case::RetainHalf | Case::RetainMost | Case::Clone => fill(
+            Case::RetainHalf
+            | Case::RetainMost
+            | Case::Clone
+            | Case::IntoIter
+            | Case::SpliceInPlace => fill(&mut vectors.numbers, count, 1),
+            Case::DrainTaken | Case::DrainDropped => fill(
                 &mut vectors.numbers,
-                count,
+                count.saturating_mul(2),
                 1,
             ),
             Case::Dedup => fill(&mut vectors.numbers, count, 3),
@@ -61,6 +69,15 @@ impl Lists for Vectors {
             Case::Extend => extend(&mut self.numbers, count),
             Case::Append => append(&mut self.numbers, &mut self.others),
             Case::Clone => clone(&self.numbers, &mut self.others),
+            Case::SpliceGrowing => splice_growing(&mut self.numbers, count),
+            Case::SpliceInPlace => splice_in_place(&mut self.numbers, count),
+            Case::DrainTaken => drain_taken(&mut self.numbers),
+            Case::DrainDropped => drain_dropped(&mut self.numbers),
+            Case::IntoIter => {
+                let empty = Vec::new(self.alloc);
+                let list = replace(&mut self.numbers, empty);
+                self.numbers.push(into_iter(list)).is_ok()
+            }
         }
     }
 
@@ -204,4 +221,55 @@ fn clone(list: &Vec<u32>, copy: &mut Vec<u32>) -> bool {
         }
         Err(_) => false,
     }
+}
+
+#[inline(never)]
+fn drain_taken(list: &mut Vec<u32>) -> bool {
+    let mut sum: u32 = 0;
+    let quarter = list.len() / 4;
+    let rest = list.len() - quarter;
+    for x in list.drain(quarter, rest) {
+        sum = sum.wrapping_add(x);
+    }
+    list.push(sum).is_ok()
+}
+
+#[inline(never)]
+fn drain_dropped(list: &mut Vec<u32>) -> bool {
+    let quarter = list.len() / 4;
+    let rest = list.len() - quarter;
+    drop(list.drain(quarter, rest));
+    true
+}
+
+#[inline(never)]
+fn into_iter(list: Vec<u32>) -> u32 {
+    let mut sum: u32 = 0;
+    for x in list {
+        sum = sum.wrapping_add(x);
+    }
+    sum
+}
+
+#[inline(never)]
+fn splice_growing(list: &mut Vec<u32>, count: u32) -> bool {
+    for _ in 0..count / 100 {
+        let middle = list.len() / 2;
+        if list.splice(middle, middle, 0..100).finish().is_err() {
+            return false;
+        }
+    }
+    true
+}
+
+#[inline(never)]
+fn splice_in_place(list: &mut Vec<u32>, count: u32) -> bool {
+    for _ in 0..count / 100 {
+        let middle = list.len() / 2;
+        let end = middle.saturating_add(100).min(list.len());
+        if list.splice(middle, end, 0..100).finish().is_err() {
+            return false;
+        }
+    }
+    true
 }

@@ -1,4 +1,5 @@
 pub mod Mapped
+pub mod Named
 pub mod Parts
 pub mod Read
 pub mod Taken

@@ -5,7 +5,7 @@ use Rattle.std.specs.List.{AllZip, slice_split}
 use Rattle.std.specs.Str.{bytes_eq, IsUtf8}
 use Rattle.std.specs.Str.Parse.{IsNumeral, digits_value}
 use Rattle.allocator_api2.specs.declared.runner.Command.{Command}
-use Rattle.allocator_api2.specs.declared.runner.Command.TheVariants.{Push, Within, Pop, Insert, Remove, SwapRemove, Truncate, Clear, Reserve, ReserveExact, ShrinkTo, SplitOff, Append, Extend, ExtendFromWithin, Resize, Retain, Dedup, Drain}
+use Rattle.allocator_api2.specs.declared.runner.Command.TheVariants.{Push, Within, Pop, Insert, Remove, SwapRemove, Truncate, Clear, Reserve, ReserveExact, ShrinkTo, SplitOff, Append, Extend, ExtendFromWithin, Resize, Retain, Dedup, Drain, Splice}
 
 -- a space or a tab
 abbrev pub is_blank : ℕ → Bool
@@ -80,11 +80,19 @@ abbrev pub SaysExtend : List (List ℕ) → Command ℕ Global → Type 0
 SaysExtend (word ∷ words) (Extend items hint) = IsHint word hint × AllZip (Writes (2 ^ 32)) words items.items
 SaysExtend words command = ⊥
 
+-- the words, where a range begins and ends, a hint and then elements, say a splice
+abbrev pub SaysSplice : List (List ℕ) → Command ℕ Global → Type 0
+SaysSplice (v ∷ w ∷ word ∷ words) (Splice start end items hint) =
+    Writes (2 ^ 64) v start × Writes (2 ^ 64) w end × IsHint word hint × AllZip (Writes (2 ^ 32)) words items.items
+SaysSplice words command = ⊥
+
 -- the words say the command
 abbrev pub Say : List (List ℕ) → Command ℕ Global → Type 0
 Say [] command = ⊥
 Say (name ∷ rest) command =
-    IsUtf8 name × MatchBool (bytes_eq name (codes "extend")) (SaysExtend rest command) (SayAfter name rest command)
+    IsUtf8 name
+    × MatchBool (bytes_eq name (codes "extend")) (SaysExtend rest command)
+    (MatchBool (bytes_eq name (codes "splice")) (SaysSplice rest command) (SayAfter name rest command))
 
 -- the words of each line that has some, in order
 abbrev pub said_in : List (List ℕ) → List (List (List ℕ))

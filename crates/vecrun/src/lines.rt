@@ -6,7 +6,7 @@ ghost use Rattle.std.specs.Option.{SomeIff};
 ghost use Rattle.std.specs.Str.Lines.{lines, strip_carriage_return};
 ghost use Rattle.std.specs.Str.Parse.{IsNumeral, digits_value};
 ghost use Rattle.vecrun.specs.Faults.{IsFoundIn, ReadsAs, ReadsOrLacks};
-ghost use Rattle.vecrun.specs.Lines.{is_blank, words_of, IsElement, IsNumber, AreNumberAndElement, AreNumbers, AreDrain, SaysKept, Writes, IsHint, SaysExtend, SayAfter, Say, Mean, IsBad, HasNoBad};
+ghost use Rattle.vecrun.specs.Lines.{is_blank, words_of, IsElement, IsNumber, AreNumberAndElement, AreNumbers, AreDrain, SaysKept, Writes, IsHint, SaysExtend, SaysSplice, SayAfter, Say, Mean, IsBad, HasNoBad};
 
 use crate::script::Fault;
 use allocator_api2::runner::Command;
@@ -91,6 +91,7 @@ fn command_of_line(alloc: Global, number: usize, line: &[u8]) -> Result<Option<C
     };
     match std::str::from_utf8(first) {
         Ok("extend") => Ok(Some(extension(alloc, Line { number, words })?)),
+        Ok("splice") => Ok(Some(replacement(alloc, Line { number, words })?)),
         Ok(name) => Ok(Some(command(name, Line { number, words })?)),
         Err(_) => Err(Fault::BadLine(number)),
     }
@@ -146,6 +147,26 @@ fn extension(alloc: Global, mut line: Line<'_>) -> Result<Command<u32>, Fault>
     };
     let items = elements(alloc, line)?;
     Ok(Command::Extend { items, hint })
+}
+
+// The splice by the elements of the rest of the line, before which the range and the hint stand. It takes memory for the elements.
+fn replacement(alloc: Global, mut line: Line<'_>) -> Result<Command<u32>, Fault>
+    ensures { ReadsOrLacks line.entry.number
+        (SaysSplice (words_of line.entry.words.rest.now)) result }
+{
+    let start = line.words.next().and_then(number);
+    let end = line.words.next().and_then(number);
+    let hint = line.words.next().and_then(hint);
+    let (Some(start), Some(end), Some(hint)) = (start, end, hint) else {
+        return Err(line.bad());
+    };
+    let items = elements(alloc, line)?;
+    Ok(Command::Splice {
+        start,
+        end,
+        items,
+        hint,
+    })
 }
 
 // The elements that the words of the rest of the line write, all of them. It takes memory for them.

@@ -8,7 +8,7 @@ const EMPTY_LISTS: &str = "main len=0 cap=0:\nside len=0 cap=0:\n";
 const PUSHED_SEVEN: &str = "done\nmain len=1 cap=4: 7\nside len=0 cap=0:\n";
 
 // Scripts, and what they print.
-const GOOD_SCRIPTS: [(&[u8], &str); 19] = [
+const GOOD_SCRIPTS: [(&[u8], &str); 25] = [
     (
         b"push 1\npush 2\npop\npop\npop\n",
         "done\ndone\nitem 2\nitem 1\nnone\nmain len=0 cap=4:\nside len=0 cap=0:\n",
@@ -67,10 +67,37 @@ const GOOD_SCRIPTS: [(&[u8], &str); 19] = [
         b"split_off 1\nextend_from_within 0 1\nextend_from_within 1 0\nappend\n",
         "range\nrange\nrange\ndone\nmain len=0 cap=0:\nside len=0 cap=0:\n",
     ),
+    (
+        b"extend - 2 4 4 5 4 4\ndedup\nretain\n",
+        "done\ndone\ndone\nmain len=3 cap=6: 2 4 4\nside len=0 cap=0:\n",
+    ),
+    (
+        b"extend - 0 1 2 3 4 5\ndrain 1 4 1 1 keep\ndrain 0 2 0 1 drop\n",
+        "done\ndone\ndone\nmain len=2 cap=6: 4 5\nside len=3 cap=4: 1 3 2\n",
+    ),
+    (
+        b"extend - 0 1 2 3 4 5\ndrain 1 4 1 1 keep\ndrain 0 2 0 1 drop\ndrain 0 2 9 9 drop\ndrain 3 2 0 0 keep\n",
+        "done\ndone\ndone\ndone\nrange\nmain len=0 cap=6:\nside len=5 cap=8: 1 3 2 4 5\n",
+    ),
+    (
+        b"extend - 1 2 3\nsplice 1 2 18446744073709551615 8 9\n",
+        "done\nrefused capacity\nmain len=3 cap=4: 1 8 3\nside len=0 cap=0:\n",
+    ),
+    (
+        b"extend - 0 1 2 3 4 5\ndrain 1 4 1 1 keep\nsplice 1 2 - 7 8 9\nremove 9\nappend\nretain\nshrink_to 1\n",
+        "done\ndone\ndone\nrange\ndone\ndone\ndone\nmain len=3 cap=3: 0 8 4\nside len=0 cap=4:\n",
+    ),
+    (
+        b"extend - 0 1 2 3 4 5\ndrain 1 4 1 1 keep\nsplice 1 2 - 7 8 9\nremove 9\nappend\nretain\nshrink_to 1\nsplit_off 1\n",
+        "done\ndone\ndone\nrange\ndone\ndone\ndone\ndone\nmain len=1 cap=3: 0\nside len=2 cap=2: 8 4\n",
+    ),
 ];
 
 // Scripts, and the number of the first bad line.
-const BAD_SCRIPTS: [(&[u8], u32); 26] = [
+const BAD_SCRIPTS: [(&[u8], u32); 29] = [
+    (b"splice 0 0\n", 1),
+    (b"splice 0 - 1\n", 1),
+    (b"splice 0 0 - x\n", 1),
     (b"extend\n", 1),
     (b"extend 1 -\n", 1),
     (b"extend -1 2\n", 1),

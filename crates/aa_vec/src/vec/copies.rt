@@ -245,6 +245,7 @@ impl<T, A: Allocator> Vec<T, A> {
         requires room { len self.old < self.old.capacity }
         ensures items { Holds self.old (self.old.items ++ value ∷ []) self.new }
         ensures writes { Writes self.old 1 1 self.new }
+        ensures behind { self.new.behind ≡ drop 1 self.old.behind }
     {
         let len = self.len;
         let _within = self.block.capacity();

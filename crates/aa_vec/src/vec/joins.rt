@@ -9,7 +9,7 @@ ghost use Rattle.aa_vec.specs.Copies.{IsMade};
 
 use crate::vec::Vec;
 use aa_raw::collections::{TryReserveError, TryReserveErrorKind};
-use aa_raw::raw_vec::RawVec;
+use aa_raw::raw_vec::{Growth, RawVec};
 use std::alloc::Allocator;
 use std::mem::replace;
 
@@ -85,14 +85,26 @@ impl<T, A: Allocator> Vec<T, A> {
         ensures made { IfOk result (λ b. (b ≡ fresh (if type_size T.row == 0 then most else capacity) self.now.growth b.alloc) × A.is_clone self.now.alloc b.alloc) }
         ensures refused { IfErr result (λ e. (A.is_infallible self.now.alloc → (0 < capacity) × (0 < type_size T.row)) × IsRefusedAt e capacity) }
     {
-        let Ok(alloc) = self.block.allocator().clone() else {
-            return Err(TryReserveErrorKind::AllocError { capacity }.into());
-        };
-        let mut block = RawVec::new_growing_in(self.block.growth(), alloc);
-        match block.try_reserve_exact(0, capacity) {
-            Ok(()) => Ok(block),
-            Err(error) => Err(refused_at(error, capacity)),
-        }
+        block_over(self.block.allocator(), self.block.growth(), capacity)
+    }
+}
+
+// A block of `capacity` empty places that grows so, over a clone of the allocator.
+pub(crate) fn block_over<T, A: Allocator + Clone>(
+    alloc: &A,
+    growth: Growth,
+    capacity: usize,
+) -> Result<RawVec<T, A>, TryReserveError>
+    ensures made { IfOk result (λ b. (b ≡ fresh (if type_size T.row == 0 then most else capacity) growth b.alloc) × A.is_clone alloc.now b.alloc) }
+    ensures refused { IfErr result (λ e. (A.is_infallible alloc.now → (0 < capacity) × (0 < type_size T.row)) × IsRefusedAt e capacity) }
+{
+    let Ok(alloc) = alloc.clone() else {
+        return Err(TryReserveErrorKind::AllocError { capacity }.into());
+    };
+    let mut block = RawVec::new_growing_in(growth, alloc);
+    match block.try_reserve_exact(0, capacity) {
+        Ok(()) => Ok(block),
+        Err(error) => Err(refused_at(error, capacity)),
     }
 }
 

@@ -149,20 +149,6 @@ impl<T: Copy, A: Allocator> Vec<T, A> {
         }
         done
     }
-
-    // Puts the elements of an array behind the last one.
-    #[inline]
-    fn put_block<const N: usize>(&mut self, items: [T; N])
-        requires long { length items ≡ N }
-        requires room { len self.old + N ≤ self.old.capacity }
-        ensures items { Holds self.old (self.old.items ++ items) self.new }
-        ensures writes { Writes self.old N (run_count N) self.new }
-    {
-        let len = self.len;
-        let _within = self.block.capacity();
-        self.block.put_array(len, items);
-        self.len = len + N;
-    }
 }
 
 // The 64 elements from `at` on. They are as many bytes as a block of so many places may have.

@@ -11,6 +11,7 @@ use Rattle.aa_vec.proofs.Counted.{ExtendsAll-items, ExtendsFull-items}
 use Rattle.allocator_api2.proofs.Cuts.{splits, splits-written}
 use Rattle.allocator_api2.proofs.Ranges.{TakesStep-drain}
 use Rattle.allocator_api2.proofs.Replies.{replied}
+use Rattle.allocator_api2.proofs.Spliced.{TakesStep-splice}
 use Rattle.allocator_api2.proofs.Stops.{stops-full, stops-overflow}
 use Rattle.allocator_api2.proofs.runner.step.Goals as goal
 
@@ -86,8 +87,8 @@ returns-in-Ok-extend_hinted g c =
 pub returns-in-Err-extend_hinted : goal.returns-in-Err-extend_hinted
 returns-in-Err-extend_hinted g c =
     let extended = rw c.new.ensures at (ExtendsFull-items _ _ _ _ _ c.in-Err-extend_hinted.ensures.refused) in
-    let lacks = stops-full _ _ _ _ _ _ extended in
-    let overflow = stops-overflow _ _ _ _ _ _ extended in
+    let lacks = stops-full _ _ _ _ _ _ _ extended in
+    let overflow = stops-overflow _ _ _ _ _ _ _ extended in
     rw c.in-Extend.is (record { answers = []; step = search (rules, extended, lacks, overflow); writes = search rules })
 
 pub returns-in-Ok-extend_from_within : goal.returns-in-Ok-extend_from_within
@@ -113,3 +114,8 @@ returns-in-Dedup g c =
 pub returns-in-Drain : goal.returns-in-Drain
 returns-in-Drain g c =
     rw c.in-Drain.is (TakesStep-drain _ (CalledAtMut g.K.FnMut) (CalledAtPairMut g.S.FnMut) _ c.in-Drain.start c.in-Drain.end c.in-Drain.front c.in-Drain.back c.in-Drain.keep c.drain.new.main c.drain.new.side c.drain.result c.drain.ensures)
+
+pub returns-in-Splice : goal.returns-in-Splice
+returns-in-Splice g c =
+    let s = c.in-Splice in
+    rw s.is (TakesStep-splice _ (CalledAtMut g.K.FnMut) (CalledAtPairMut g.S.FnMut) _ s.start s.end s.items s.hint c.splice.new.main c.splice.result c.splice.ensures)

@@ -1,4 +1,6 @@
-use Rattle.std.proofs.Common.{rules, ◌<◌, ◌+◌, ◌^◌, ◌++◌, ◌∷◌, [], length, refl, ap, subst, arith}
+use Rattle.std.proofs.Common.{rules, ◌≡◌, ◌<◌, ◌+◌, ◌^◌, ◌++◌, ◌∷◌, [], length, drop, Some, refl, sym, ap, ◌∙◌, subst, arith}
+use Rattle.std.specs.Prelude.{slice_set}
+use Rattle.std.proofs.lemmas.List.{drop-drop, drop-set-lt}
 use Rattle.aa_raw.proofs.Runs.{length-run, IsRun-push}
 use Rattle.aa_vec.specs.Vector.{Vector, len, Holds}
 use Rattle.aa_vec.specs.Inner.{view_of}
@@ -28,3 +30,11 @@ returns-clause-items g c =
     let room : v.len < length v.block.places = omega (arith, c.requires.room, length-run v.block.places 0 v.len c.self.invariant, ap len c.self.view_is, ap (λ s. s.capacity) c.self.view_is) in
     let P : Vector g.row.T.Denot g.row.A.Denot → Type 0 = λ w. Holds w (w.items ++ x ∷ []) (view_of (record { block = c.put.new.self; len = v.len + 1 })) in
     subst P c.self.view_is (rw c.put.ensures (Holds-put v x c.self.invariant room))
+
+pub returns-clause-behind : goal.returns-clause-behind
+returns-clause-behind g c =
+    let v = c.self.inside in
+    let P : Vector g.row.T.Denot g.row.A.Denot → Type 0 = λ w. drop (v.len + 1) c.put.new.self.places ≡ drop 1 w.behind in
+    let there : drop (v.len + 1) (slice_set v.block.places v.len (Some c.args.value)) ≡ drop 1 (drop v.len v.block.places) =
+    drop-set-lt (v.len + 1) v.block.places v.len (Some c.args.value) (omega arith) ∙ ap (λ i. drop i v.block.places) (omega arith) ∙ sym (drop-drop 1 v.len v.block.places) in
+    subst P c.self.view_is (rw c.put.ensures there)

@@ -1,0 +1,150 @@
+//! Splices over an allocator that refuses, and iterators that lie.
+use aa_faulty::Faulty;
+use allocator_api2::collections::{TryReserveError, TryReserveErrorKind};
+use allocator_api2::vec::Vec;
+use allocator_api2::vec::items::Items;
+use std::alloc::{Allocator, Global};
+use std::test::Fail;
+
+// How a splice ended: whether it was done, refused for want of memory, or for a length too large.
+#[derive(Clone, Copy, PartialEq, Eq, Debug, Drop)]
+enum End {
+    Done,
+    NoMemory,
+    TooLong,
+}
+
+fn end_of(ended: Result<(), TryReserveError>) -> End {
+    match ended {
+        Ok(()) => End::Done,
+        Err(error) => match error.kind() {
+            TryReserveErrorKind::AllocError { .. } => End::NoMemory,
+            TryReserveErrorKind::CapacityOverflow => End::TooLong,
+        },
+    }
+}
+
+fn numbers<A: Allocator>(alloc: A, items: &[u32]) -> Result<Vec<u32, A>, TryReserveError> {
+    let mut v = Vec::new_in(alloc);
+    v.try_reserve_exact(items.len())?;
+    v.extend_from_slice(items)?;
+    Ok(v)
+}
+
+// Replaces a range, from which one element is taken first.
+fn spliced<A: Allocator + Clone>(
+    v: &mut Vec<u32, A>,
+    from: usize,
+    to: usize,
+    items: Items<u32, A>,
+) -> End {
+    if from > to || to > v.len() {
+        return End::TooLong;
+    }
+    let mut range = v.splice(from, to, items);
+    let _first = range.next();
+    end_of(range.finish_hinted())
+}
+
+#[test]
+fn each_request_of_a_splice_is_refused_in_turn(rt: HostRuntime) -> Result<(), Fail> {
+    for (refused, end, left, capacity) in [
+        (0, End::NoMemory, [1, 7, 8, 4].as_slice(), 4),
+        (1, End::NoMemory, [1, 7, 8, 9, 4].as_slice(), 8),
+        (2, End::Done, [1, 7, 8, 9, 10, 4].as_slice(), 8),
+    ] {
+        let heap = Faulty::new(rt.alloc());
+        {
+            let mut v: Vec<u32, &Faulty<Global>> = numbers(&heap, &[1, 2, 3, 4])?;
+            let items = Items::new(numbers(&heap, &[7, 8, 9, 10])?, Some(1));
+            let before = heap.requests();
+            heap.refuse(refused, 1);
+            assert_eq!(rt; spliced(&mut v, 1, 3, items), end);
+            assert_eq!(rt; v.as_slice(), left);
+            assert_eq!(rt; v.capacity(), capacity);
+            assert_eq!(rt;
+                heap.requests(),
+                before.saturating_add((refused + 1).min(2))
+            );
+        }
+        assert_eq!(rt; heap.outstanding(), 0);
+    }
+    Ok(())
+}
+
+#[test]
+fn a_clone_of_the_allocator_is_refused_like_the_first_growth(rt: HostRuntime) -> Result<(), Fail> {
+    let mut v = numbers(Faulty::new(rt.alloc()), &[1, 2, 3, 4])?;
+    v.allocator().refuse_clones(true);
+    let others = numbers(Faulty::new(rt.alloc()), &[7, 8, 9, 10])?;
+    assert_eq!(rt;
+        spliced(&mut v, 1, 3, Items::new(others, Some(1))),
+        End::NoMemory
+    );
+    assert_eq!(rt; v.as_slice(), [1, 7, 8, 9, 4].as_slice());
+    assert_eq!(rt; v.capacity(), 8);
+    Ok(())
+}
+
+#[test]
+fn what_fits_is_put_without_memory(rt: HostRuntime) -> Result<(), Fail> {
+    let heap = Faulty::new(rt.alloc());
+    for (old, range, new, hint, left) in [
+        (
+            [1, 2, 3, 4].as_slice(),
+            (0, 3),
+            [9].as_slice(),
+            Some(usize::MAX),
+            [9, 4].as_slice(),
+        ),
+        (
+            [1, 2, 3].as_slice(),
+            (1, 2),
+            [8].as_slice(),
+            None,
+            [1, 8, 3].as_slice(),
+        ),
+        (
+            [1, 2, 3].as_slice(),
+            (1, 3),
+            [8, 9].as_slice(),
+            Some(7),
+            [1, 8, 9].as_slice(),
+        ),
+    ] {
+        heap.refuse(0, 0);
+        let mut v: Vec<u32, &Faulty<Global>> = numbers(&heap, old)?;
+        let items = Items::new(numbers(&heap, new)?, hint);
+        heap.refuse(0, u64::MAX);
+        assert_eq!(rt; spliced(&mut v, range.0, range.1, items), End::Done);
+        assert_eq!(rt; v.as_slice(), left);
+    }
+    Ok(())
+}
+
+#[test]
+fn a_hint_that_can_not_be_is_refused_where_the_range_is_full(rt: HostRuntime) -> Result<(), Fail> {
+    let mut v = numbers(rt.alloc(), &[1, 2, 3])?;
+    let items = Items::new(numbers(rt.alloc(), &[8, 9])?, Some(usize::MAX));
+    assert_eq!(rt; spliced(&mut v, 1, 2, items), End::TooLong);
+    assert_eq!(rt; v.as_slice(), [1, 8, 3].as_slice());
+    assert_eq!(rt; v.capacity(), 3);
+    Ok(())
+}
+
+#[test]
+fn elements_without_size_are_spliced(rt: HostRuntime) -> Result<(), Fail> {
+    let mut v: Vec<(), Faulty<Global>> = Vec::new_in(Faulty::new(rt.alloc()));
+    let mut more: Vec<(), Faulty<Global>> = Vec::new_in(Faulty::new(rt.alloc()));
+    for _ in 0..3 {
+        v.push(())?;
+        more.push(())?;
+    }
+    v.allocator().refuse(0, u64::MAX);
+    assert!(rt; v.len() == 3);
+    let range = v.splice(1, 2, Items::new(more, Some(1)));
+    range.finish_hinted()?;
+    assert_eq!(rt; v.len(), 5);
+    assert_eq!(rt; v.capacity(), usize::MAX);
+    Ok(())
+}

@@ -1,0 +1,19 @@
+-- What follows where a call was done, and where it was refused.
+use Rattle.std.proofs.Common.{refl}
+use Rattle.std.specs.Prelude.{Result, Ok, Err, OnOk, IfErr, IsOk}
+
+pub on_ok : {X E P Q : Type 0} → (r : Result X E) → OnOk r P → (P → Q) → OnOk r Q
+on_ok (Ok x) p f = f p
+on_ok (Err e) p f = tt
+
+pub if_err : {X E : Type 0} {P Q : E → Type 0} → (r : Result X E) → IfErr r P → ((e : E) → P e → Q e) → IfErr r Q
+if_err (Ok x) p f = tt
+if_err (Err e) p f = f e p
+
+pub either_way : {X E P Q : Type 0} {R : E → Type 0} → (r : Result X E) → OnOk r P → IfErr r R → (P → Q) → ((e : E) → R e → Q) → Q
+either_way (Ok x) p q f h = f p
+either_way (Err e) p q f h = h e q
+
+pub done_unless : {X E : Type 0} → (r : Result X E) → IfErr r (λ _. ⊥) → IsOk r
+done_unless (Ok x) h = refl
+done_unless (Err e) h = absurd h

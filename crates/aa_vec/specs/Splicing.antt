@@ -1,0 +1,92 @@
+-- A range of a vector that is replaced by items, one by one, as an iterator gives them, in the room that it tells. Its elements before
+-- the range are `head`, those behind it `tail`, and the range had `gap` elements.
+use Rattle.std.specs.Prelude.{◌≡◌, ℕ, ◌+◌, ◌-◌, ◌*◌, ◌<◌, ◌≤◌, List, [], ◌++◌, length, Option, None, if◌then◌else◌, ◌==◌, ◌⊎◌}
+use Rattle.std.specs.Iterator.{Yields}
+use Rattle.aa_raw.specs.declared.collections.TryReserveErrorKind.{TryReserveErrorKind}
+use Rattle.aa_raw.specs.Refusals.{IsRefused}
+use Rattle.aa_vec.specs.Vector.{Vector, len, SameBlock, MakesRoom, LacksRoom, run_count}
+use Rattle.aa_vec.specs.Extending.{ExtendsAll, ExtendsFull, YieldsTelling}
+
+-- how often the tail is moved where n items come, and h more are told once they fill the gap: up, where room is made for those that
+-- are told, and where more than those come; and down, where a gap is left in the end
+abbrev pub tail_moves : (gap h n : ℕ) → ℕ
+tail_moves gap h n =
+    if gap - n == 0
+    then run_count h + run_count (n - gap - h) + run_count (h - (n - gap))
+    else 1
+
+module _ {T A : Type 0} where
+  -- room was made for h more than n elements, and then for r more
+  abbrev pub MakesRoomTwice : (size : ℕ) → Vector T A → (n h r : ℕ) → Vector T A → Type 0
+  MakesRoomTwice size old n h r new = (mid : Vector T A) × MakesRoom size old n h mid × MakesRoom size mid (n + h) r new
+
+  module _ (size : ℕ) (lower : ℕ → ℕ) (old : Vector T A) (head : List T) (gap : ℕ) (tail added : List T) where
+    -- how many items find no place in the gap, and how many of them are told
+    abbrev pub left_over : ℕ
+    left_over = length added - gap
+
+    abbrev pub told_over : ℕ
+    told_over = lower left_over
+
+    -- new has all of `added` in place of the range. With no tail they were put behind the head, as an extension does. With one, fewer
+    -- items than the range had take no room; else room was made for those that were told once the gap was full, and then for the others
+    pub record SplicesAll (new : Vector T A) : Type 0 where
+      pub items : new.items ≡ head ++ (added ++ tail)
+      pub at_end : tail ≡ [] → ExtendsAll size lower old head added new
+      pub in_gap : 0 < length tail → length added < gap → SameBlock old new
+      pub beyond : 0 < length tail → gap ≤ length added → MakesRoomTwice size old (length head + gap + length tail) told_over (left_over - told_over) new
+
+    -- `front` fills the gap, and there was no room for those that were told then
+    pub record StopsAtGap (front : List T) (error : TryReserveErrorKind) (new : Vector T A) : Type 0 where
+      pub fills : length front ≡ gap
+      pub block : SameBlock old new
+      pub lacks : LacksRoom new told_over error
+
+    -- it fills the room made for those too, and no vector could be made of the others, or no room for them
+    pub record StopsBeyond (front others : List T) (error : TryReserveErrorKind) (new : Vector T A) : Type 0 where
+      pub fills : length front ≡ gap + told_over
+      pub room : MakesRoom size old (length head + gap + length tail) told_over new
+      pub more : 0 < length others
+      pub refused : IsRefused error 1
+
+    -- with a tail, new has `front`, a beginning of `added`, in place of the range: room for the others was refused
+    pub record SplicesFront (error : TryReserveErrorKind) (new : Vector T A) : Type 0 where
+      pub front : List T
+      pub others : List T
+      pub begins : added ≡ front ++ others
+      pub items : new.items ≡ head ++ (front ++ tail)
+      pub why : StopsAtGap front error new ⊎ StopsBeyond front others error new
+
+    -- new has a beginning of `added` in place of the range, and room for the others was refused
+    abbrev pub SplicesShort : TryReserveErrorKind → Vector T A → Type 0
+    SplicesShort error new = ((tail ≡ []) × ExtendsFull size lower old head added error new) ⊎ ((0 < length tail) × SplicesFront error new)
+
+  -- each of the items that were placed was written once, and the tail at most twice
+  pub record SplicesWithin (old : Vector T A) (head tail : List T) (new : Vector T A) : Type 0 where
+    pub written : let placed = len new - (length head + length tail) in new.written ≤ old.written + (placed + 2 * length tail)
+    pub runs : let placed = len new - (length head + length tail) in new.runs ≤ old.runs + (placed + 2)
+
+module _ {S T : Type 0} (steps : S → Option T → S → Type 0) (Tells : S → ℕ → Type 0) {A : Type 0} (size : ℕ) (iter : S) (old : Vector T A) (head : List T) (gap : ℕ) (tail : List T) where
+  -- new has all that came from `iter` in place of the range, in room asked for as the iterator told
+  pub record SplicesByAll (new : Vector T A) : Type 0 where
+    pub added : List T
+    pub lower : ℕ → ℕ
+    pub last : S
+    pub first : Tells iter (lower (length added))
+    pub told : YieldsTelling steps Tells lower iter added last
+    pub ends : (end : S) × steps last None end
+    pub splices : SplicesAll size lower old head gap tail added new
+    pub written : new.written ≡ old.written + (length added + tail_moves gap (lower (length added - gap)) (length added) * length tail)
+
+  -- new has a beginning of what was taken from `iter` in place of the range; room for more was refused
+  pub record SplicesByFront (error : TryReserveErrorKind) (new : Vector T A) : Type 0 where
+    pub taken : List T
+    pub lower : ℕ → ℕ
+    pub last : S
+    pub first : Tells iter (lower (length taken))
+    pub told : YieldsTelling steps Tells lower iter taken last
+    pub splices : SplicesShort size lower old head gap tail taken error new
+
+-- once the range is full, the iterator tells h
+abbrev pub TellsOnceFull : {S T : Type 0} → (S → Option T → S → Type 0) → (S → ℕ) → S → (gap h : ℕ) → Type 0
+TellsOnceFull {S = S} {T = T} steps lower_of s gap h = (xs : List T) (t : S) → Yields steps s xs t → length xs ≡ gap → lower_of t ≡ h

@@ -1,0 +1,190 @@
+//! Arrays that become vectors, vectors that become arrays, and vectors of arrays whose elements become one list.
+ghost use Rattle.std.specs.Prelude.{◌≡◌, ◌≢◌, ◌+◌, ◌*◌, ◌≤◌, [], ◌++◌, length, MatchResult, IfOk, IfErr};
+ghost use Rattle.std.specs.Mem.{type_size};
+ghost use Rattle.aa_raw.specs.Refusals.{IsRefusedAt};
+ghost use Rattle.aa_raw.specs.declared.raw_vec.Growth.TheVariants.{Doubling};
+ghost use Rattle.aa_boxed.specs.Arrays.{LacksRoomFor};
+ghost use Rattle.aa_vec.specs.Vector.{len, sized, Holds, Writes, run_count};
+ghost use Rattle.aa_vec.specs.Copies.{IsMade};
+ghost use Rattle.aa_vec.specs.Arrays.{flattened, LacksRoomForAll, StaysNested};
+
+use crate::vec::joins::block_over;
+use crate::vec::{SliceIntoVec, Vec};
+use aa_boxed::boxed::Box;
+use aa_raw::collections::{Refused, TryReserveError, TryReserveErrorKind};
+use aa_raw::raw_vec::RawVec;
+use std::alloc::{Allocator, Global};
+
+impl<T> Vec<T, Global> {
+    /// The elements of an array, with room for no more, on the global allocator; it is refused as `from_array_in` is. It stands
+    /// for the original's `From<[T; N]>`, which aborts on a refusal.
+    pub fn from_array<const N: usize>(alloc: Global, items: [T; N]) -> Result<Self, Refused<[T; N]>>
+        ensures made { IfOk result (λ v. IsMade (type_size T.row) N Doubling items (run_count N) v × (v.alloc ≡ alloc)) }
+        ensures refused { IfErr result (λ r. (r.source ≡ items) × LacksRoomFor N (type_size T.row) r.error) }
+    {
+        Vec::from_array_in(items, alloc)
+    }
+}
+
+impl<T, A: Allocator> Vec<T, A> {
+    /// The elements of an array, with room for no more. It takes memory where there are any and they have a size. A refusal hands
+    /// the array back: `CapacityOverflow`, or `AllocError` with its length. The original has no such call.
+    pub fn from_array_in<const N: usize>(items: [T; N], alloc: A) -> Result<Self, Refused<[T; N]>>
+        ensures made { IfOk result (λ v. IsMade (type_size T.row) N Doubling items (run_count N) v × (v.alloc ≡ alloc)) }
+        ensures refused { IfErr result (λ r. (r.source ≡ items) × LacksRoomFor N (type_size T.row) r.error) }
+    {
+        match Vec::with_capacity_in(N, alloc) {
+            Ok(made) => {
+                let mut made = made;
+                made.put_block(items);
+                Ok(made)
+            }
+            Err(error) => Err(Refused {
+                source: items,
+                error,
+            }),
+        }
+    }
+
+    // Puts the elements of an array behind the last one.
+    #[inline]
+    pub(crate) fn put_block<const N: usize>(&mut self, items: [T; N])
+        requires long { length items ≡ N }
+        requires room { len self.old + N ≤ self.old.capacity }
+        ensures items { Holds self.old (self.old.items ++ items) self.new }
+        ensures writes { Writes self.old N (run_count N) self.new }
+    {
+        let len = self.len;
+        let _within = self.block.capacity();
+        self.block.put_array(len, items);
+        self.len = len + N;
+    }
+
+    // All elements, as an array. The block is given back.
+    fn taken_out<const N: usize>(self) -> [T; N]
+        requires { len self ≡ N }
+        ensures { result ≡ self.items }
+    {
+        let Vec { mut block, len: _ } = self;
+        let _capacity = block.capacity();
+        block.take_array()
+    }
+}
+
+impl<T, A: Allocator, const N: usize> TryFrom<Vec<T, A>> for [T; N] {
+    type Error = Vec<T, A>;
+
+    ghost try_from_gives = { λ v r. MatchResult r (λ xs. (xs ≡ v.items) × (len v ≡ N)) (λ w. (w ≡ v) × (len v ≢ N)) };
+
+    /// The elements of a vector of `N`, as an array; the block is given back. It takes no memory. A vector of another length is
+    /// handed back as it was.
+    fn try_from(v: Vec<T, A>) -> Result<[T; N], Vec<T, A>> {
+        if v.len() != N {
+            return Err(v);
+        }
+        Ok(v.taken_out())
+    }
+}
+
+impl<T, A: Allocator, const N: usize> Vec<[T; N], A> {
+    /// The elements of all arrays, in order, in a new block over a clone of the allocator, which has room for as many as the
+    /// vector's own and grows as it does; the vector's own is given back. It takes memory where the vector has room for any and
+    /// they have a size. A refusal hands the vector back as it was: `CapacityOverflow` where the number of elements passes
+    /// `usize::MAX`, else `AllocError` with the capacity asked for, also where the allocator's clone is refused. It stands for
+    /// `Vec::into_flattened`, which keeps the block and panics where the number passes `usize::MAX`.
+    pub fn into_flattened(self) -> Result<Vec<T, A>, Refused<Self>>
+    where
+        A: Clone,
+        ensures made { IfOk result (λ v. IsMade (type_size T.row) (self.capacity * N) self.growth (flattened self.items) (len self * run_count N) v × A.is_clone self.alloc v.alloc) }
+        ensures refused { IfErr result (λ r. StaysNested (A.is_infallible self.alloc) N (type_size T.row) self r) }
+    {
+        match self.room_for_all() {
+            Ok(flat) => Ok(self.poured_into(flat)),
+            Err(error) => Err(Refused {
+                source: self,
+                error,
+            }),
+        }
+    }
+
+    // An empty vector that grows as this one, over a clone of its allocator, with room for the elements of as many arrays as this
+    // one has places.
+    fn room_for_all(&self) -> Result<Vec<T, A>, TryReserveError>
+    where
+        A: Clone,
+        ensures made { IfOk result (λ v. IsMade (type_size T.row) (self.now.capacity * N) self.now.growth [] 0 v × A.is_clone self.now.alloc v.alloc) }
+        ensures enough { IfOk result (λ v. len self.now * N ≤ v.capacity) }
+        ensures refused { IfErr result (λ e. LacksRoomForAll (A.is_infallible self.now.alloc) N (type_size T.row) self.now e) }
+    {
+        let _within = self.capacity();
+        if self.len.checked_mul(N).is_none() {
+            return Err(TryReserveErrorKind::CapacityOverflow.into());
+        }
+        let capacity = self.flat_capacity();
+        match block_over(self.block.allocator(), self.block.growth(), capacity) {
+            Ok(block) => Ok(Vec { block, len: 0 }),
+            Err(error) => Err(error),
+        }
+    }
+
+    // How many elements there may be in the arrays of all places. A block that was given no memory tells whether they have a size.
+    fn flat_capacity(&self) -> usize
+        ensures { result ≡ sized (type_size T.row) (self.now.capacity * N) }
+    {
+        let none: RawVec<T, &A> = RawVec::new_in(self.block.allocator());
+        let capacity = self.block.capacity();
+        let sizeless = none.capacity();
+        if sizeless == 0 {
+            capacity * N
+        } else {
+            sizeless
+        }
+    }
+
+    // Moves the elements of all arrays, in order, behind those of a vector that has room for them. The block is given back.
+    fn poured_into(self, flat: Vec<T, A>) -> Vec<T, A>
+        requires room { len flat + len self * N ≤ flat.capacity }
+        ensures items { Holds flat (flat.items ++ flattened self.items) result }
+        ensures long { length (flattened self.items) ≡ len self * N }
+        ensures writes { Writes flat (len self * N) (len self * run_count N) result }
+    {
+        let Vec { mut block, len } = self;
+        let mut flat = flat;
+        let _within = block.capacity();
+        'each: for i in 0..len {
+            flat.put_block(block.take(i));
+        }
+        flat
+    }
+}
+
+/// What can give the elements of an array up as a vector. The original has `into_vec` as a call of the box itself; here the box
+/// stands below the vector.
+pub trait ArrayIntoVec<T, A: Allocator + Clone, const N: usize> {
+    ghost use Rattle.std.specs.Prelude.{List};
+    ghost use Rattle.aa_boxed.specs.Boxed.{Boxed};
+    ghost use Rattle.aa_vec.specs.Arrays.{IsUnboxedArray};
+
+    /// The array in its box.
+    ghost as_array: { Self → Boxed (List T) A };
+
+    /// The elements as a vector with room for no more, in a block of its own over a clone of the allocator; that of the box is
+    /// given back. It takes memory where there are elements and they have a size. Where that or the clone is refused, the box is
+    /// handed back as it was: `CapacityOverflow`, or `AllocError` with the number of elements. It stands for
+    /// `Box<[T; N], A>::into_vec`, which keeps the block.
+    fn into_vec(self) -> Result<Vec<T, A>, Refused<Self>>
+        ensures made { IfOk result (λ v. IsUnboxedArray A.is_clone (type_size T.row) (as_array self) v) }
+        ensures handed_back { IfErr result (λ r. r.source ≡ self) }
+        ensures refused { IfErr result (λ r. (A.is_infallible (as_array self).alloc → LacksRoomFor N (type_size T.row) r.error) × IsRefusedAt r.error N) };
+}
+
+impl<T, A: Allocator + Clone, const N: usize> ArrayIntoVec<T, A, N> for Box<[T; N], A> {
+    ghost as_array = { λ b. b };
+
+    fn into_vec(self) -> Result<Vec<T, A>, Refused<Self>> {
+        match Box::slice(self) {
+            Ok(list) => Ok(list.into_vec()),
+            Err(refusal) => Err(refusal),
+        }
+    }
+}

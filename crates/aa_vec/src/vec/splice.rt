@@ -1,0 +1,260 @@
+//! `Splice`: a range of a vector, replaced by items.
+ghost use Rattle.std.specs.Prelude.{◌≡◌, ℕ, ◌+◌, ◌-◌, ◌<◌, ◌≤◌, ◌++◌, List, [], length, Some, IfErr, OnOk, IsOk};
+ghost use Rattle.std.specs.Mem.{type_size};
+ghost use Rattle.std.specs.Iterator.{IsFinite, Drains, size};
+ghost use Rattle.std.specs.Iterator.Runs.{WholeRun};
+ghost use Rattle.aa_vec.specs.Vector.{len, HasRoom};
+ghost use Rattle.aa_vec.specs.Behind.{StandsBehind, behind_items};
+ghost use Rattle.aa_vec.specs.Extending.{TellsAtMost, TellsExactly};
+ghost use Rattle.aa_vec.specs.Splicing.{SplicesByAll, SplicesByFront, SplicesWithin, TellsOnceFull};
+
+use crate::vec::Vec;
+use crate::vec::items::Hinted;
+use aa_raw::collections::TryReserveError;
+use std::alloc::{Allocator, Global};
+use std::fmt;
+
+/// A range of a vector that is replaced by items. The elements of the range are taken from either end; `finish` or
+/// `finish_hinted` drops the others and puts the items in their place. It must be spent by one of the two: the original ends it
+/// by its drop, which could answer no refusal. It stands for `allocator_api2::vec::Splice`.
+pub struct Splice<'a, I: Iterator, A: Allocator = Global> {
+    vec: &'a mut Vec<I::Item, A>,
+    // Places behind the vector's last element: the elements of the range not taken yet stand from `front` up to `back`, and the
+    // elements behind the range from `end` up to `total`.
+    front: usize,
+    back: usize,
+    end: usize,
+    total: usize,
+    iter: I,
+    ghost ordered: { (front ≤ back) × (back ≤ end) × (end ≤ total) },
+    ghost held: { StandsBehind vec.now front (back - front) × StandsBehind vec.now end (total - end) },
+}
+
+impl<T, A: Allocator> Vec<T, A> {
+    ghost use Rattle.aa_vec.specs.Draining.{Drains as DrainsRange};
+    ghost use Rattle.aa_vec.specs.Splices.{splice_lender, splice_range, splice_iter};
+
+    /// Takes the elements from the index `from` up to `to` out of the vector, which ends before them at once. They come from
+    /// either end of what this answers; its `finish` puts the items of `iter` in their place. The capacity stays; it takes no
+    /// memory. It stands for `Vec::splice`.
+    pub fn splice<I: Iterator<Item = T>>(
+        &mut self,
+        from: usize,
+        to: usize,
+        iter: I,
+    ) -> Splice<'_, I, A>
+    where
+        A: Clone,
+        requires { (from ≤ to) × (to ≤ len self.old) }
+        ensures lender { splice_lender result ≡ self.entry.ghost_name }
+        ensures drains { DrainsRange self.old from to (splice_range result) }
+        ensures items { splice_iter result ≡ iter }
+    {
+        let total = self.set_back(from);
+        let count = to - from;
+        Splice {
+            vec: self,
+            front: 0,
+            back: count,
+            end: count,
+            total,
+            iter,
+        }
+    }
+}
+
+impl<'a, I: Iterator, A: Allocator> Splice<'a, I, A> {
+    ghost use Rattle.aa_vec.specs.Splices.{splice_rest, splices_first, splices_last};
+
+    /// Takes the first element of the range. At the end it answers `None`.
+    pub fn next(&mut self) -> Option<I::Item>
+        ensures { splices_first self.old result self.new }
+    {
+        let first = self.front;
+        if first == self.back {
+            return None;
+        }
+        self.front = first + 1;
+        Some(self.vec.take_behind(first))
+    }
+
+    /// Takes the last element of the range. At the end it answers `None`.
+    pub fn next_back(&mut self) -> Option<I::Item>
+        ensures { splices_last self.old result self.new }
+    {
+        if self.front == self.back {
+            return None;
+        }
+        let last = self.back - 1;
+        self.back = last;
+        Some(self.vec.take_behind(last))
+    }
+
+    /// How many elements of the range are left.
+    pub fn len(&self) -> usize
+        ensures { result ≡ length (splice_rest self.now) }
+    {
+        self.back - self.front
+    }
+
+    /// The same, exactly, as an iterator tells it.
+    pub fn size_hint(&self) -> (usize, Option<usize>)
+        ensures { result ≡ (length (splice_rest self.now), Some (length (splice_rest self.now))) }
+    {
+        let left = self.len();
+        (left, Some(left))
+    }
+}
+
+impl<'a, I: Iterator, A: Allocator> fmt::Debug for Splice<'a, I, A>
+where
+    I::Item: fmt::Debug,
+{
+    fn fmt<W: fmt::Write>(&self, f: &mut fmt::Formatter<W>) -> fmt::Result {
+        let rest = self.vec.slice_behind(self.front, self.back - self.front);
+        f.debug_tuple("Splice").field(&rest).finish()
+    }
+}
+
+// Ends a splice: drops what was not taken of the range, and puts the items of `iter` in its place, as `lower` tells of them.
+fn end_hinted<I: Hinted, A: Allocator + Clone>(
+    vec: &mut Vec<I::Item, A>,
+    front: usize,
+    back: usize,
+    end: usize,
+    total: usize,
+    iter: I,
+) -> Result<(), TryReserveError>
+where
+    I::Item: Drop,
+    requires ordered { (front ≤ back) × (back ≤ end) × (end ≤ total) }
+    requires held { StandsBehind vec.old front (back - front) × StandsBehind vec.old end (total - end) }
+    requires may_ask { I.can_next iter }
+    requires ends { IsFinite (I.remaining iter) }
+    ensures fits_gap { size (I.remaining iter) < end → IsOk result }
+    ensures fits_end { behind_items vec.old end (total - end) ≡ [] → HasRoom vec.old (size (I.remaining iter)) → IsOk result }
+    ensures fits_told { (h : ℕ) → TellsOnceFull I.next_gives I.lower_of iter end h → size (I.remaining iter) ≤ end + h → len vec.old + end + length (behind_items vec.old end (total - end)) + h ≤ vec.old.capacity → IsOk result }
+    ensures ran { OnOk result ((xs : List I.Item) × Drains I.next_gives iter xs × (vec.new.items ≡ vec.old.items ++ (xs ++ behind_items vec.old end (total - end)))) }
+    ensures runs { OnOk result (WholeRun I.next_gives iter (λ p. vec.new.items ≡ vec.old.items ++ (p.items ++ behind_items vec.old end (total - end)))) }
+    ensures spliced { OnOk result (SplicesByAll I.next_gives (TellsExactly I.lower_of) (type_size I.Item.row) iter vec.old vec.old.items end (behind_items vec.old end (total - end)) vec.new) }
+    ensures writes { SplicesWithin vec.old vec.old.items (behind_items vec.old end (total - end)) vec.new }
+    ensures refused { IfErr result (λ e. SplicesByFront I.next_gives (TellsExactly I.lower_of) (type_size I.Item.row) iter vec.old vec.old.items end (behind_items vec.old end (total - end)) e vec.new) }
+{
+    let count = total - end;
+    vec.drop_behind(front, back - front);
+    if count == 0 {
+        return vec.extend_hinted(iter);
+    }
+    let mut items = iter;
+    if vec.fill_and_close(end, count, &mut items) != 0 {
+        return Ok(());
+    }
+    let told = items.lower();
+    vec.put_more(told, count, items)
+}
+
+// The same, as `size_hint` tells of them.
+fn end_bounded<I: Iterator, A: Allocator + Clone>(
+    vec: &mut Vec<I::Item, A>,
+    front: usize,
+    back: usize,
+    end: usize,
+    total: usize,
+    iter: I,
+) -> Result<(), TryReserveError>
+where
+    I::Item: Drop,
+    requires ordered { (front ≤ back) × (back ≤ end) × (end ≤ total) }
+    requires held { StandsBehind vec.old front (back - front) × StandsBehind vec.old end (total - end) }
+    requires may_ask { I.can_next iter }
+    requires ends { IsFinite (I.remaining iter) }
+    ensures fits_gap { size (I.remaining iter) < end → IsOk result }
+    ensures fits_end { behind_items vec.old end (total - end) ≡ [] → HasRoom vec.old (size (I.remaining iter)) → IsOk result }
+    ensures ran { OnOk result ((xs : List I.Item) × Drains I.next_gives iter xs × (vec.new.items ≡ vec.old.items ++ (xs ++ behind_items vec.old end (total - end)))) }
+    ensures runs { OnOk result (WholeRun I.next_gives iter (λ p. vec.new.items ≡ vec.old.items ++ (p.items ++ behind_items vec.old end (total - end)))) }
+    ensures spliced { OnOk result (SplicesByAll I.next_gives (TellsAtMost I.remaining) (type_size I.Item.row) iter vec.old vec.old.items end (behind_items vec.old end (total - end)) vec.new) }
+    ensures writes { SplicesWithin vec.old vec.old.items (behind_items vec.old end (total - end)) vec.new }
+    ensures refused { IfErr result (λ e. SplicesByFront I.next_gives (TellsAtMost I.remaining) (type_size I.Item.row) iter vec.old vec.old.items end (behind_items vec.old end (total - end)) e vec.new) }
+{
+    let count = total - end;
+    vec.drop_behind(front, back - front);
+    if count == 0 {
+        return vec.extend(iter);
+    }
+    let mut items = iter;
+    if vec.fill_and_close(end, count, &mut items) != 0 {
+        return Ok(());
+    }
+    let told = items.size_hint().0;
+    vec.put_more(told, count, items)
+}
+
+impl<'a, I: Hinted, A: Allocator + Clone> Splice<'a, I, A>
+where
+    I::Item: Drop,
+{
+    ghost use Rattle.aa_vec.specs.Splices.{splice_gap, splice_head, splice_iter, splice_tail, splice_vec};
+
+    /// Drops what was not taken of the range, and leaves the vector what is before the range, the items, which end, and what is
+    /// behind it. With nothing behind the range the items are put there as by `extend_hinted`. Else they fill the places of the
+    /// range. Once these are full, room is made for as many as `lower` then tells, with room to spare, and filled; and only where
+    /// a further item comes, it and the others are gathered in a vector over a clone of the allocator, and room is made for just
+    /// them. It takes no memory where fewer items come than the range had, nor where all fit behind what is before the range and
+    /// nothing is behind it. A refusal leaves what is before the range, a beginning of the items that fills the room there was,
+    /// and what is behind the range, and drops the other items: `CapacityOverflow` where the length asked for passes `usize::MAX`
+    /// or its bytes pass `isize::MAX`, else `AllocError` with at least that length. It stands for the drop of `Splice`, with
+    /// `lower` in place of `size_hint`.
+    pub fn finish_hinted(self) -> Result<(), TryReserveError>
+        requires may_ask { I.can_next (splice_iter self) }
+        requires ends { IsFinite (I.remaining (splice_iter self)) }
+        ensures fits_gap { size (I.remaining (splice_iter self.entry)) < splice_gap self.entry → IsOk result }
+        ensures fits_end { splice_tail self.entry ≡ [] → HasRoom (splice_vec self.entry) (size (I.remaining (splice_iter self.entry))) → IsOk result }
+        ensures fits_told { (h : ℕ) → TellsOnceFull I.next_gives I.lower_of (splice_iter self.entry) (splice_gap self.entry) h → size (I.remaining (splice_iter self.entry)) ≤ splice_gap self.entry + h → len (splice_vec self.entry) + splice_gap self.entry + length (splice_tail self.entry) + h ≤ (splice_vec self.entry).capacity → IsOk result }
+        ensures ran { OnOk result ((xs : List I.Item) × Drains I.next_gives (splice_iter self.entry) xs × (self.exit.0.now.items ≡ splice_head self.entry ++ (xs ++ splice_tail self.entry))) }
+        ensures runs { OnOk result (WholeRun I.next_gives (splice_iter self.entry) (λ p. self.exit.0.now.items ≡ splice_head self.entry ++ (p.items ++ splice_tail self.entry))) }
+        ensures spliced { OnOk result (SplicesByAll I.next_gives (TellsExactly I.lower_of) (type_size I.Item.row) (splice_iter self.entry) (splice_vec self.entry) (splice_head self.entry) (splice_gap self.entry) (splice_tail self.entry) self.exit.0.now) }
+        ensures writes { SplicesWithin (splice_vec self.entry) (splice_head self.entry) (splice_tail self.entry) self.exit.0.now }
+        ensures refused { IfErr result (λ e. SplicesByFront I.next_gives (TellsExactly I.lower_of) (type_size I.Item.row) (splice_iter self.entry) (splice_vec self.entry) (splice_head self.entry) (splice_gap self.entry) (splice_tail self.entry) e self.exit.0.now) }
+    {
+        let Splice {
+            vec,
+            front,
+            back,
+            end,
+            total,
+            iter,
+        } = self;
+        end_hinted(vec, front, back, end, total, iter)
+    }
+}
+
+impl<'a, I: Iterator, A: Allocator + Clone> Splice<'a, I, A>
+where
+    I::Item: Drop,
+{
+    ghost use Rattle.aa_vec.specs.Splices.{splice_gap, splice_head, splice_iter, splice_tail, splice_vec};
+
+    /// The same, with the lower bound of `size_hint` in place of `lower`, and with nothing behind the range as by `extend`. It
+    /// stands for the drop of `Splice`.
+    pub fn finish(self) -> Result<(), TryReserveError>
+        requires may_ask { I.can_next (splice_iter self) }
+        requires ends { IsFinite (I.remaining (splice_iter self)) }
+        ensures fits_gap { size (I.remaining (splice_iter self.entry)) < splice_gap self.entry → IsOk result }
+        ensures fits_end { splice_tail self.entry ≡ [] → HasRoom (splice_vec self.entry) (size (I.remaining (splice_iter self.entry))) → IsOk result }
+        ensures ran { OnOk result ((xs : List I.Item) × Drains I.next_gives (splice_iter self.entry) xs × (self.exit.0.now.items ≡ splice_head self.entry ++ (xs ++ splice_tail self.entry))) }
+        ensures runs { OnOk result (WholeRun I.next_gives (splice_iter self.entry) (λ p. self.exit.0.now.items ≡ splice_head self.entry ++ (p.items ++ splice_tail self.entry))) }
+        ensures spliced { OnOk result (SplicesByAll I.next_gives (TellsAtMost I.remaining) (type_size I.Item.row) (splice_iter self.entry) (splice_vec self.entry) (splice_head self.entry) (splice_gap self.entry) (splice_tail self.entry) self.exit.0.now) }
+        ensures writes { SplicesWithin (splice_vec self.entry) (splice_head self.entry) (splice_tail self.entry) self.exit.0.now }
+        ensures refused { IfErr result (λ e. SplicesByFront I.next_gives (TellsAtMost I.remaining) (type_size I.Item.row) (splice_iter self.entry) (splice_vec self.entry) (splice_head self.entry) (splice_gap self.entry) (splice_tail self.entry) e self.exit.0.now) }
+    {
+        let Splice {
+            vec,
+            front,
+            back,
+            end,
+            total,
+            iter,
+        } = self;
+        end_bounded(vec, front, back, end, total, iter)
+    }
+}

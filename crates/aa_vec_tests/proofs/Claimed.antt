@@ -1,0 +1,196 @@
+-- What worked examples come to, in numbers.
+use Rattle.std.proofs.Common.{◌≡◌, ℕ, ◌+◌, ◌-◌, ◌*◌, ◌<◌, ◌≤◌, List, [], ◌∷◌, ◌++◌, length, take, drop, Option, Some, None, refl, length-append, sym, ap, ◌∙◌, subst, arith, inl, inr, ◌⊎◌}
+use Rattle.std.specs.Prelude.{slice_range, if◌then◌else◌, ◌==◌}
+use Rattle.std.proofs.lemmas.List.{take_at}
+use Rattle.aa_raw.specs.declared.raw_vec.Growth.TheVariants.{Doubling}
+use Rattle.aa_raw.specs.Growth.{amortized}
+use Rattle.aa_vec.specs.Vector.{Vector, len, Holds, MakesRoom}
+use Rattle.aa_vec.specs.Extending.{Climbs, stays as no_more, grows as once_more, asked_for, ExtendsAll, ItemsLeft, gives_item, lower_by, TellsExactly}
+use Rattle.aa_vec.specs.Draining.{Drains, KeepsRest, drain_vec, drain_head, drain_rest, drain_tail, range_len, taken_front, taken_back, drains_first, drains_last}
+use Rattle.aa_vec.specs.Splicing.{MakesRoomTwice, SplicesAll, SplicesByAll, tail_moves}
+use Rattle.aa_vec.specs.declared.vec.drain.Drain.{Drain}
+use Rattle.aa_vec.proofs.Climbing.{Climbs-fits, SameBlock-trans}
+use Rattle.aa_vec.proofs.Counted.{items_lower}
+use Rattle.aa_vec.proofs.Drains.{keeps-then}
+use Rattle.aa_vec.proofs.SplicedItems.{SplicesAll-items, items-written}
+
+module _ {T A : Type 0} (v w : Vector T A) (c n k : ℕ) (places : v.capacity ≡ c) (doubles : v.growth ≡ Doubling) (room : MakesRoom 4 v n k w) where
+  -- room that is there is kept
+  pub kept_at : k ≤ c - n → (w.capacity ≡ c) × (w.growth ≡ Doubling) × (w.grown ≡ v.grown)
+  kept_at fits = elim room [
+    | inl r ↦ (r.1.capacity ∙ places, r.1.growth ∙ doubles, r.1.grown)
+    | inr r ↦ absurd (omega (arith, r.0, fits, places))
+  ]
+
+  -- and else a block of elements of 4 bytes doubles, or takes what is needed
+  pub doubled_to : c - n < k → (w.capacity ≡ amortized Doubling c (n + k) 4) × (w.growth ≡ Doubling) × (w.grown ≡ v.grown + n)
+  doubled_to lacks = elim room [
+    | inl r ↦ absurd (omega (arith, r.0, lacks, places))
+    | inr r ↦ (r.1.capacity ∙ ap (λ g. amortized g v.capacity (n + k) 4) doubles ∙ ap (λ m. amortized Doubling m (n + k) 4) places, r.1.growth ∙ doubles, r.1.grown)
+  ]
+
+-- the two in the middle of four, in four places, are replaced by three, of which h are told once two are placed
+module _ {A : Type 0} (old : Vector ℕ A) (iter : ItemsLeft ℕ) (d : Drain ℕ A) (new : Vector ℕ A) (old_items : old.items ≡ 1 ∷ 2 ∷ 3 ∷ 4 ∷ []) (old_places : old.capacity ≡ 4) (old_growth : old.growth ≡ Doubling)
+    (new_items : iter.items ≡ 7 ∷ 8 ∷ 9 ∷ []) (drains : Drains old 1 3 d) (s : SplicesByAll gives_item (TellsExactly items_lower) 4 iter (drain_vec d) (drain_head d) (range_len d) (drain_tail d) new) where
+  before : drain_head d ≡ 1 ∷ []
+  before = drains.head.items ∙ ap (take 1) old_items
+
+  behind : drain_tail d ≡ 4 ∷ []
+  behind = drains.tail ∙ ap (drop 3) old_items
+
+  spliced : SplicesAll 4 (lower_by iter.hint) (drain_vec d) (drain_head d) (range_len d) (drain_tail d) iter.items new
+  spliced = SplicesAll-items iter 4 (drain_vec d) (drain_head d) (range_len d) (drain_tail d) new s (omega (arith, ap length before, drains.head.block.capacity, old_places))
+
+  pub five_there : new.items ≡ 1 ∷ 7 ∷ 8 ∷ 9 ∷ 4 ∷ []
+  five_there =
+      spliced.items ∙ ap (λ xs. xs ++ (iter.items ++ drain_tail d)) before
+      ∙ ap (λ ys. (1 ∷ []) ++ (ys ++ drain_tail d)) new_items ∙ ap (λ zs. (1 ∷ []) ++ ((7 ∷ 8 ∷ 9 ∷ []) ++ zs)) behind
+
+  three : length iter.items ≡ 3
+  three = ap length new_items
+
+  left_one : length iter.items - range_len d ≡ 1
+  left_one = omega (arith, three, drains.range)
+
+  module _ (h : ℕ) (told : lower_by iter.hint 1 ≡ h) where
+    tells : lower_by iter.hint (length iter.items - range_len d) ≡ h
+    tells = ap (lower_by iter.hint) left_one ∙ told
+
+    pub five_written : new.written ≡ old.written + (3 + tail_moves 2 h 3 * 1)
+    five_written =
+        let P : ℕ → Type 0 = λ n. new.written ≡ (drain_vec d).written + (n + tail_moves 2 h n * 1) in
+        let moved : ℕ → ℕ → ℕ → Type 0 = λ g k t. new.written ≡ (drain_vec d).written + (length iter.items + tail_moves g k (length iter.items) * t) in
+        let first : moved (range_len d) h (length (drain_tail d)) = subst (λ k. moved (range_len d) k (length (drain_tail d))) tells (items-written iter 4 (drain_vec d) (drain_head d) (range_len d) (drain_tail d) new s) in
+        let second : moved 2 h (length (drain_tail d)) = subst (λ g. moved g h (length (drain_tail d))) drains.range first in
+        let third : moved 2 h 1 = subst (λ t. moved 2 h t) (ap length behind) second in
+        let fourth : P 3 = subst P three third in
+        fourth ∙ ap (λ w. w + (3 + tail_moves 2 h 3 * 1)) (omega (arith, drains.writes.written))
+
+    pub five_room : MakesRoomTwice 4 (drain_vec d) 4 h (1 - h) new
+    five_room =
+        let all : length (drain_head d) + range_len d + length (drain_tail d) ≡ 4 = omega (arith, ap length before, ap length behind, drains.range) in
+        let P : ℕ → ℕ → ℕ → Type 0 = λ n k r. MakesRoomTwice 4 (drain_vec d) n k (r - k) new in
+        let made = spliced.beyond (omega (arith, ap length behind)) (omega (arith, three, drains.range)) in
+        subst (λ r. P 4 h r) left_one (subst (λ k. P 4 k (length iter.items - range_len d)) tells (subst (λ n. P n (lower_by iter.hint (length iter.items - range_len d)) (length iter.items - range_len d)) all made))
+
+    pub places : (drain_vec d).capacity ≡ 4
+    places = drains.head.block.capacity ∙ old_places
+
+    pub doubles : (drain_vec d).growth ≡ Doubling
+    doubles = drains.head.block.growth ∙ old_growth
+
+  -- as many as there are, or a hundred
+  pub told_places : (h c : ℕ) → (told : lower_by iter.hint 1 ≡ h) → 0 < h → amortized Doubling 4 (4 + h) 4 ≡ c → 4 + h ≤ c → new.capacity ≡ c
+  told_places h c told some is enough =
+      let r = five_room h told in
+      let mid = doubled_to (drain_vec d) r.0 4 4 h (places h told) (doubles h told) r.1 (omega (arith, some)) in
+      (kept_at r.0 new c (4 + h) (1 - h) (mid.0 ∙ is) mid.1 r.2 (omega (arith, some, enough))).0
+
+  -- none
+  pub untold_places : lower_by iter.hint 1 ≡ 0 → new.capacity ≡ 8
+  untold_places told =
+      let r = five_room 0 told in
+      let mid = kept_at (drain_vec d) r.0 4 4 0 (places 0 told) (doubles 0 told) r.1 (omega arith) in
+      (doubled_to r.0 new 4 4 1 mid.0 mid.1 r.2 (omega arith)).0
+
+-- how many places k pushes onto an empty vector of elements of 4 bytes lead to, and how many elements they move
+abbrev pub Reached : (k c m : ℕ) → Type 0
+Reached k c m =
+    ((k ≡ 0) × (c ≡ 0) × (m ≡ 0)) ⊎ ((0 < k) × (k ≤ 4) × (c ≡ 4) × (m ≡ 0)) ⊎ ((4 < k) × (k ≤ 8) × (c ≡ 8) × (m ≡ 4))
+    ⊎ ((8 < k) × (k ≤ 16) × (c ≡ 16) × (m ≡ 12)) ⊎ ((16 < k) × (k ≤ 32) × (c ≡ 32) × (m ≡ 28)) ⊎ (32 < k)
+
+-- one more push
+module _ {T A : Type 0} (v w : Vector T A) (k m : ℕ) (count : len v ≡ k) (doubles : v.growth ≡ Doubling) (room : MakesRoom 4 v (len v) 1 w) where
+  stays : 1 ≤ v.capacity - len v → w.capacity ≡ v.capacity → Reached k v.capacity m → Reached (k + 1) w.capacity (m + 0)
+  stays h same (inl r) = absurd (omega (arith, h, r.1))
+  stays h same (inr (inl r)) = inr (inl (omega arith, omega (arith, h, count, r.2), same ∙ r.2, omega (arith, r.3)))
+  stays h same (inr (inr (inl r))) = inr (inr (inl (omega (arith, r.0), omega (arith, h, count, r.2), same ∙ r.2, omega (arith, r.3))))
+  stays h same (inr (inr (inr (inl r)))) = inr (inr (inr (inl (omega (arith, r.0), omega (arith, h, count, r.2), same ∙ r.2, omega (arith, r.3)))))
+  stays h same (inr (inr (inr (inr (inl r))))) = inr (inr (inr (inr (inl (omega (arith, r.0), omega (arith, h, count, r.2), same ∙ r.2, omega (arith, r.3))))))
+  stays h same (inr (inr (inr (inr (inr r))))) = inr (inr (inr (inr (inr (omega (arith, r))))))
+
+  larger : (c : ℕ) → v.capacity ≡ c → (n : ℕ) → k ≡ n → v.capacity - len v < 1 → w.capacity ≡ amortized Doubling c (n + 1) 4
+  larger c is n at full = (doubled_to v w c (len v) 1 is doubles room (omega (arith, full, is))).0 ∙ ap (λ j. amortized Doubling c (j + 1) 4) (count ∙ at)
+
+  grows : v.capacity - len v < 1 → Reached k v.capacity m → Reached (k + 1) w.capacity (m + len v)
+  grows full (inl r) = inr (inl (omega arith, omega (arith, r.0), larger 0 r.1 0 r.0 full, omega (arith, r.0, r.2, count)))
+  grows full (inr (inl r)) =
+      let four : k ≡ 4 = omega (arith, full, count, r.1, r.2) in
+      inr (inr (inl (omega (arith, four), omega (arith, four), larger 4 r.2 4 four full, omega (arith, four, r.3, count))))
+  grows full (inr (inr (inl r))) =
+      let eight : k ≡ 8 = omega (arith, full, count, r.1, r.2) in
+      inr (inr (inr (inl (omega (arith, eight), omega (arith, eight), larger 8 r.2 8 eight full, omega (arith, eight, r.3, count)))))
+  grows full (inr (inr (inr (inl r)))) =
+      let sixteen : k ≡ 16 = omega (arith, full, count, r.1, r.2) in
+      inr (inr (inr (inr (inl (omega (arith, sixteen), omega (arith, sixteen), larger 16 r.2 16 sixteen full, omega (arith, sixteen, r.3, count))))))
+  grows full (inr (inr (inr (inr (inl r))))) = inr (inr (inr (inr (inr (omega (arith, full, count, r.1, r.2))))))
+  grows full (inr (inr (inr (inr (inr r))))) = inr (inr (inr (inr (inr (omega (arith, r))))))
+
+  pub reached_next : Reached k v.capacity m → (n : ℕ) × (w.grown ≡ v.grown + n) × Reached (k + 1) w.capacity (m + n)
+  reached_next r = elim room [
+    | inl h ↦ (0, omega (arith, h.1.grown), stays h.0 h.1.capacity r)
+    | inr h ↦ (len v, h.1.grown, grows h.0 r)
+  ]
+
+  pub doubles_still : w.growth ≡ Doubling
+  doubles_still = elim room [
+    | inl h ↦ h.1.growth ∙ doubles
+    | inr h ↦ h.1.growth ∙ doubles
+  ]
+
+-- a full vector of c places that asks for room for 6 more
+climbs_once : {T A : Type 0} (lower : ℕ → ℕ) (needed c : ℕ) (v w : Vector T A) → v.capacity ≡ c → v.growth ≡ Doubling → c < needed → ((n : ℕ) → asked_for lower n ≡ 6) → needed ≤ w.capacity → Climbs 4 lower needed v w
+    → (mid : Vector T A) × (mid.capacity ≡ amortized Doubling c (c + 6) 4) × (mid.growth ≡ Doubling) × (mid.grown ≡ v.grown + c) × Climbs 4 lower needed mid w
+climbs_once lower needed c v w is doubles short six enough (no_more b) = absurd (omega (arith, b.capacity, is, short, enough))
+climbs_once lower needed c v w is doubles short six enough (once_more {mid = mid} h m r) =
+    let asks : ℕ = asked_for lower (needed - v.capacity) in
+    let d = doubled_to v mid c v.capacity asks is doubles m (omega (arith, is, six (needed - v.capacity))) in
+    (mid, d.0 ∙ ap (λ k. amortized Doubling c (k + asks) 4) is ∙ ap (λ k. amortized Doubling c (c + k) 4) (six (needed - v.capacity)), d.1, d.2 ∙ ap (λ k. v.grown + k) is, r)
+
+-- an empty vector is extended by 17, of which 5 are told to be left each time
+pub seventeen_told : {A : Type 0} (old new : Vector ℕ A) (iter : ItemsLeft ℕ) → old.items ≡ [] → old.capacity ≡ 0 → old.growth ≡ Doubling → length iter.items ≡ 17 → iter.hint ≡ Some 5
+    → ExtendsAll 4 (lower_by iter.hint) old old.items iter.items new → (new.capacity ≡ 24) × (new.grown ≡ old.grown + 18)
+seventeen_told old new iter none places doubles count five x =
+    let five_each : ℕ → ℕ = lower_by (Some 5) in
+    let needed : length old.items + length iter.items ≡ 17 = omega (arith, ap length none, count) in
+    let climbs : Climbs 4 five_each 17 old new =
+    subst (λ n. Climbs 4 five_each n old new) needed (subst (λ h. Climbs 4 (lower_by h) (length old.items + length iter.items) old new) five x.climbs) in
+    let enough : 17 ≤ new.capacity = omega (arith, needed, x.enough) in
+    let a = climbs_once five_each 17 0 old new places doubles (omega arith) (λ n. refl) enough climbs in
+    let b = climbs_once five_each 17 6 a.0 new a.1 a.2 (omega arith) (λ n. refl) enough a.4 in
+    let d = climbs_once five_each 17 12 b.0 new b.1 b.2 (omega arith) (λ n. refl) enough b.4 in
+    let same = Climbs-fits 4 five_each 17 d.4 (omega (arith, d.1)) in
+    (same.capacity ∙ d.1, omega (arith, same.grown, d.3, b.3, a.3))
+
+-- an item from the front, and one from the back of two
+one_front : {T A : Type 0} (d e : Drain T A) (r : Option T) → drains_first d r e → (x : T) (xs : List T) → drain_rest d ≡ x ∷ xs → (drain_rest e ≡ xs) × (taken_front e ≡ taken_front d + 1) × (taken_back e ≡ taken_back d)
+one_front d e None h x xs rest = absurd (omega (arith, ap length (sym rest ∙ h.1.0)))
+one_front d e (Some y) h x xs rest = (ap (drop 1) (sym h.1.0 ∙ rest), h.1.1, h.1.2)
+
+one_back : {T A : Type 0} (d e : Drain T A) (r : Option T) → drains_last d r e → (x y : T) → drain_rest d ≡ x ∷ y ∷ [] → (drain_rest e ≡ x ∷ []) × (taken_front e ≡ taken_front d) × (taken_back e ≡ taken_back d + 1)
+one_back d e None h x y rest = absurd (omega (arith, ap length (sym rest ∙ h.1.0)))
+one_back d e (Some z) h x y rest =
+    let all : drain_rest e ++ z ∷ [] ≡ x ∷ y ∷ [] = sym h.1.0 ∙ rest in
+    let one : length (drain_rest e) ≡ 1 = omega (arith, ap length all, length-append (drain_rest e) (z ∷ [])) in
+    (sym (take_at (drain_rest e) (z ∷ []) 1 one) ∙ ap (take 1) all, h.1.1, h.1.2)
+
+-- of the middle half of six one is taken from each end, and the other is kept
+pub middle_stays : {A : Type 0} (old new : Vector ℕ A) (d e f : Drain ℕ A) (r q : Option ℕ) → old.items ≡ 0 ∷ 1 ∷ 2 ∷ 3 ∷ 4 ∷ 5 ∷ [] → Drains old 1 4 d → drains_first d r e → drains_last e q f → KeepsRest f new
+    → Holds old (0 ∷ 2 ∷ 4 ∷ 5 ∷ []) new × (new.written ≡ old.written + 3)
+middle_stays old new d e f r q items drains first last kept =
+    let a = one_front d e r first 1 (2 ∷ 3 ∷ []) (drains.rest ∙ ap (λ xs. slice_range xs 1 4) items) in
+    let b = one_back e f q last 2 3 a.0 in
+    let keeps = keeps-then d e f first.0 last.0 in
+    let head : drain_head f ≡ 0 ∷ [] = keeps.head.items ∙ drains.head.items ∙ ap (take 1) items in
+    let tail : drain_tail f ≡ 4 ∷ 5 ∷ [] = keeps.tail ∙ drains.tail ∙ ap (drop 4) items in
+    let front : taken_front f ≡ 1 = b.1 ∙ a.1 ∙ ap (λ n. n + 1) drains.none_front in
+    let back : taken_back f ≡ 1 = b.2 ∙ ap (λ n. n + 1) (a.2 ∙ drains.none_back) in
+    let P : ℕ → ℕ → ℕ → ℕ → Type 0 = λ i j m n. new.written ≡ (drain_vec f).written + ((if i == 0 then 0 else m) + (if i + j == 0 then 0 else n)) in
+    let w : P 1 1 1 2 =
+    subst (λ i. P i 1 1 2) front (subst (λ j. P (taken_front f) j 1 2) back (subst (λ m. P (taken_front f) (taken_back f) m 2) (ap length b.0) (subst (λ n. P (taken_front f) (taken_back f) (length (drain_rest f)) n) (ap length tail) kept.writes.written))) in (
+      record {
+        items = kept.holds.items ∙ ap (λ xs. xs ++ (drain_rest f ++ drain_tail f)) head ∙ ap (λ xs. (0 ∷ []) ++ (xs ++ drain_tail f)) b.0 ∙ ap (λ xs. (0 ∷ []) ++ ((2 ∷ []) ++ xs)) tail;
+        block = SameBlock-trans drains.head.block (SameBlock-trans keeps.head.block kept.holds.block);
+      },
+      omega (arith, w, keeps.writes.written, drains.writes.written),
+    )

@@ -1,0 +1,131 @@
+//! Callers whose contracts say what worked examples write, and what they move by growth.
+ghost use Rattle.std.specs.Prelude.{◌≡◌, ◌+◌, [], ◌∷◌, length, None, Some, OnOk};
+ghost use Rattle.aa_raw.specs.declared.raw_vec.Growth.TheVariants.{Doubling};
+ghost use Rattle.aa_vec.specs.Vector.{Holds};
+
+use aa_raw::collections::TryReserveError;
+use aa_vec::vec::Vec;
+use aa_vec::vec::items::Items;
+use std::alloc::Allocator;
+
+// Two of four are replaced by three, which tell their number: the one behind is written once.
+fn three_told<A: Allocator + Clone>(
+    v: &mut Vec<u32, A>,
+    items: Items<u32, A>,
+) -> Result<(), TryReserveError>
+    requires old { (v.old.items ≡ 1 ∷ 2 ∷ 3 ∷ 4 ∷ []) × (v.old.capacity ≡ 4) × (v.old.growth ≡ Doubling) }
+    requires new { (items.items ≡ 7 ∷ 8 ∷ 9 ∷ []) × (items.hint ≡ None) }
+    ensures { OnOk result ((v.new.items ≡ 1 ∷ 7 ∷ 8 ∷ 9 ∷ 4 ∷ []) × (v.new.capacity ≡ 8) × (v.new.written ≡ v.old.written + 4)) }
+{
+    let range = v.splice(1, 3, items);
+    range.finish_hinted()?;
+    Ok(())
+}
+
+// The same, where a hundred are told: the one behind is written twice.
+fn hundred_told<A: Allocator + Clone>(
+    v: &mut Vec<u32, A>,
+    items: Items<u32, A>,
+) -> Result<(), TryReserveError>
+    requires old { (v.old.items ≡ 1 ∷ 2 ∷ 3 ∷ 4 ∷ []) × (v.old.capacity ≡ 4) × (v.old.growth ≡ Doubling) }
+    requires new { (items.items ≡ 7 ∷ 8 ∷ 9 ∷ []) × (items.hint ≡ Some 100) }
+    ensures { OnOk result ((v.new.items ≡ 1 ∷ 7 ∷ 8 ∷ 9 ∷ 4 ∷ []) × (v.new.capacity ≡ 104) × (v.new.written ≡ v.old.written + 5)) }
+{
+    let range = v.splice(1, 3, items);
+    range.finish_hinted()?;
+    Ok(())
+}
+
+// The same, where none is told: the one behind is written once.
+fn none_told<A: Allocator + Clone>(
+    v: &mut Vec<u32, A>,
+    items: Items<u32, A>,
+) -> Result<(), TryReserveError>
+    requires old { (v.old.items ≡ 1 ∷ 2 ∷ 3 ∷ 4 ∷ []) × (v.old.capacity ≡ 4) × (v.old.growth ≡ Doubling) }
+    requires new { (items.items ≡ 7 ∷ 8 ∷ 9 ∷ []) × (items.hint ≡ Some 0) }
+    ensures { OnOk result ((v.new.items ≡ 1 ∷ 7 ∷ 8 ∷ 9 ∷ 4 ∷ []) × (v.new.capacity ≡ 8) × (v.new.written ≡ v.old.written + 4)) }
+{
+    let range = v.splice(1, 3, items);
+    range.finish_hinted()?;
+    Ok(())
+}
+
+// Seventeen pushes onto an empty vector: 28 elements are moved by growth.
+fn seventeen_pushes<A: Allocator>(v: &mut Vec<u32, A>) -> Result<(), TryReserveError>
+    requires { (v.old.items ≡ []) × (v.old.capacity ≡ 0) × (v.old.growth ≡ Doubling) }
+    ensures { OnOk result ((v.new.capacity ≡ 32) × (v.new.grown ≡ v.old.grown + 28)) }
+{
+    'each: for x in 0..17 {
+        v.push(x)?;
+    }
+    Ok(())
+}
+
+// Four pushes onto an empty vector, and then ten times a push and a pop: four elements are moved by growth.
+fn pushes_and_pops<A: Allocator>(v: &mut Vec<u32, A>) -> Result<(), TryReserveError>
+    requires { (v.old.items ≡ []) × (v.old.capacity ≡ 0) × (v.old.growth ≡ Doubling) }
+    ensures { OnOk result ((v.new.capacity ≡ 8) × (v.new.grown ≡ v.old.grown + 4)) }
+{
+    'fill: for x in 0..4 {
+        v.push(x)?;
+    }
+    'each: for x in 0..10 {
+        v.push(x)?;
+        let _last = v.pop();
+    }
+    Ok(())
+}
+
+// Seventeen items onto an empty vector, which tell each time that five are left: 18 elements are moved by growth.
+fn seventeen_items<A: Allocator>(
+    v: &mut Vec<u32, A>,
+    items: Items<u32, A>,
+) -> Result<(), TryReserveError>
+    requires old { (v.old.items ≡ []) × (v.old.capacity ≡ 0) × (v.old.growth ≡ Doubling) }
+    requires new { (length items.items ≡ 17) × (items.hint ≡ Some 5) }
+    ensures { OnOk result ((v.new.capacity ≡ 24) × (v.new.grown ≡ v.old.grown + 18)) }
+{
+    v.extend_hinted(items)
+}
+
+// An insert before two of three elements: three are written.
+fn one_put_in<A: Allocator>(v: &mut Vec<u32, A>) -> Result<(), TryReserveError>
+    requires { v.old.items ≡ 1 ∷ 2 ∷ 3 ∷ [] }
+    ensures { OnOk result ((v.new.items ≡ 1 ∷ 9 ∷ 2 ∷ 3 ∷ []) × (v.new.written ≡ v.old.written + 3)) }
+{
+    v.insert(1, 9)?;
+    Ok(())
+}
+
+// It is taken out again: two are written.
+fn one_taken_out<A: Allocator>(v: &mut Vec<u32, A>) -> u32
+    requires { v.old.items ≡ 1 ∷ 9 ∷ 2 ∷ 3 ∷ [] }
+    ensures { (result ≡ 9) × Holds v.old (1 ∷ 2 ∷ 3 ∷ []) v.new × (v.new.written ≡ v.old.written + 2) }
+{
+    v.remove(1)
+}
+
+// Nine pushes of bytes onto an empty vector: eight elements are moved by growth.
+fn nine_bytes<A: Allocator>(v: &mut Vec<u8, A>) -> Result<(), TryReserveError>
+    requires { (v.old.items ≡ []) × (v.old.capacity ≡ 0) × (v.old.growth ≡ Doubling) }
+    ensures { OnOk result ((v.new.capacity ≡ 16) × (v.new.grown ≡ v.old.grown + 8)) }
+{
+    v.push(0)?;
+    'each: for x in 1..8 {
+        v.push(x)?;
+    }
+    v.push(8)?;
+    Ok(())
+}
+
+// Of the middle half of six one is taken from each end, and the other stays: three are written.
+fn middle_kept<A: Allocator>(v: &mut Vec<u32, A>) -> (Option<u32>, Option<u32>)
+    requires { v.old.items ≡ 0 ∷ 1 ∷ 2 ∷ 3 ∷ 4 ∷ 5 ∷ [] }
+    ensures { Holds v.old (0 ∷ 2 ∷ 4 ∷ 5 ∷ []) v.new × (v.new.written ≡ v.old.written + 3) }
+{
+    let mut range = v.drain(1, 4);
+    let first = range.next();
+    let last = range.next_back();
+    range.keep_rest();
+    (first, last)
+}

@@ -1,0 +1,81 @@
+//! What no clause says of comparing, printing and writing vectors: each once, and by callers that know a bound alone.
+ghost use Rattle.std.specs.Prelude.{◌≡◌, ◌++◌, OnOk};
+ghost use Rattle.std.specs.Io.KnownBytes.{Appends};
+
+use aa_vec::vec::{Vec, cautious, same};
+use std::alloc::Global;
+use std::cmp::Ordering;
+use std::hash::{DefaultHasher, Hash, Hasher};
+use std::io;
+use std::io::Write;
+use std::test::Fail;
+
+fn hash_of<T: Hash>(x: &T) -> u64 {
+    let mut hasher = DefaultHasher::new();
+    x.hash(&mut hasher);
+    hasher.finish()
+}
+
+fn order_of<T: Ord>(x: &T, y: &T) -> Ordering {
+    x.cmp(y)
+}
+
+#[test]
+fn vectors_compare_as_their_slices(rt: HostRuntime) -> Result<(), Fail> {
+    let short: Vec<u32> = Vec::from_slice(rt.alloc(), &[1, 2])?;
+    let long: Vec<u32> = Vec::from_slice(rt.alloc(), &[1, 2, 0])?;
+    assert!(rt; short < long);
+    assert!(rt; short != long);
+    assert_eq!(rt; short.partial_cmp(&long), Some(Ordering::Less));
+    assert_eq!(rt; order_of(&long, &short), Ordering::Greater);
+    assert!(rt; same(short.as_slice(), [1, 2].as_slice()));
+    assert!(rt; !same(short.as_slice(), long.as_slice()));
+    assert_eq!(rt; hash_of(&short), hash_of(&[1u32, 2].as_slice()));
+    assert_eq!(rt; format!(in rt.alloc(); "{long:?}")?.as_str(), "[1, 2, 0]");
+    Ok(())
+}
+
+// Writes by the trait's own contract.
+fn put_all<W: Write>(w: &mut W, bytes: &[u8]) -> io::Result<()>
+    ensures { OnOk result (Appends (W.contents w.old) (W.contents w.new) bytes.now) }
+{
+    w.write_all(bytes)?;
+    w.flush()
+}
+
+// What that tells of a vector.
+fn put_all_behind(v: &mut Vec<u8, Global>, bytes: &[u8]) -> io::Result<()>
+    ensures { OnOk result (v.new.items ≡ v.old.items ++ bytes.now) }
+{
+    put_all(v, bytes)
+}
+
+#[test]
+fn bytes_are_written(rt: HostRuntime) -> Result<(), Fail> {
+    let mut v: Vec<u8> = Vec::new(rt.alloc());
+    assert_eq!(rt; v.write(b"ab")?, 2);
+    assert_eq!(rt; v.write(b"ab")?, 2);
+    assert_eq!(rt; v.as_slice(), b"abab".as_slice());
+    assert_eq!(rt; v.capacity(), 8);
+    put_all_behind(&mut v, b"cd")?;
+    assert_eq!(rt; v.as_slice(), b"ababcd".as_slice());
+    Ok(())
+}
+
+#[test]
+fn a_text_is_its_bytes(rt: HostRuntime) -> Result<(), Fail> {
+    let v = Vec::from_text(rt.alloc(), "é")?;
+    assert_eq!(rt; v.as_slice(), [0xc3, 0xa9].as_slice());
+    assert_eq!(rt; v.capacity(), 2);
+    let none = Vec::from_text_in("", rt.alloc())?;
+    assert_eq!(rt; none.capacity(), 0);
+    Ok(())
+}
+
+#[test]
+fn a_hint_is_trusted_up_to_4096(rt: HostRuntime) -> Result<(), Fail> {
+    assert_eq!(rt; cautious(None), 0);
+    assert_eq!(rt; cautious(Some(7)), 7);
+    assert_eq!(rt; cautious(Some(5000)), 4096);
+    Ok(())
+}

@@ -1,0 +1,187 @@
+//! What no clause says of the calls that join, split and copy: each once, and clones that are refused.
+use aa_raw::collections::TryReserveErrorKind;
+use aa_vec::vec::Vec;
+use std::alloc::{AllocError, Global};
+use std::clone::Clone;
+use std::test::Fail;
+
+// A value whose clone is refused at 9.
+#[derive(PartialEq, Eq, Debug, Drop)]
+struct Fragile {
+    value: u32,
+}
+
+impl Clone for Fragile {
+    fn clone(&self) -> Result<Self, AllocError> {
+        if self.value == 9 {
+            return Err(AllocError);
+        }
+        Ok(Fragile { value: self.value })
+    }
+}
+
+fn one_two_three(alloc: Global, capacity: usize) -> Result<Vec<u32>, Fail> {
+    let mut v: Vec<u32> = Vec::with_capacity(alloc, capacity)?;
+    for x in 1..=3 {
+        v.push(x)?;
+    }
+    Ok(v)
+}
+
+#[test]
+fn a_vector_is_appended(rt: HostRuntime) -> Result<(), Fail> {
+    let mut v: Vec<u32> = Vec::with_capacity(rt.alloc(), 2)?;
+    v.push(1)?;
+    v.push(2)?;
+    let mut other: Vec<u32> = Vec::with_capacity(rt.alloc(), 4)?;
+    other.push(3)?;
+    v.append(&mut other)?;
+    assert_eq!(rt; v.as_slice(), [1, 2, 3].as_slice());
+    assert_eq!(rt; v.capacity(), 4);
+    assert!(rt; other.is_empty());
+    assert_eq!(rt; other.capacity(), 4);
+    Ok(())
+}
+
+#[test]
+fn a_vector_is_split(rt: HostRuntime) -> Result<(), Fail> {
+    let mut all = one_two_three(rt.alloc(), 4)?;
+    assert!(rt; all.len() == 3);
+    let taken = all.split_off(0)?;
+    assert_eq!(rt; taken.as_slice(), [1, 2, 3].as_slice());
+    assert_eq!(rt; taken.capacity(), 4);
+    assert!(rt; all.is_empty());
+    assert_eq!(rt; all.capacity(), 4);
+    let mut one = one_two_three(rt.alloc(), 4)?;
+    assert!(rt; one.len() == 3);
+    let behind = one.split_off(1)?;
+    assert_eq!(rt; behind.as_slice(), [2, 3].as_slice());
+    assert_eq!(rt; behind.capacity(), 2);
+    assert_eq!(rt; one.as_slice(), [1].as_slice());
+    assert_eq!(rt; one.capacity(), 4);
+    assert!(rt; one.len() == 1);
+    let none = one.split_off(1)?;
+    assert!(rt; none.is_empty());
+    assert_eq!(rt; none.capacity(), 0);
+    Ok(())
+}
+
+#[test]
+fn clones_are_put_behind(rt: HostRuntime) -> Result<(), Fail> {
+    let mut v = one_two_three(rt.alloc(), 3)?;
+    assert!(rt; v.len() == 3);
+    v.extend_from_within(1, 3)?;
+    assert_eq!(rt; v.as_slice(), [1, 2, 3, 2, 3].as_slice());
+    assert_eq!(rt; v.capacity(), 6);
+    v.extend_from_slice([7, 8].as_slice())?;
+    assert_eq!(rt; v.as_slice(), [1, 2, 3, 2, 3, 7, 8].as_slice());
+    assert_eq!(rt; v.capacity(), 12);
+    v.resize(1, 0)?;
+    assert_eq!(rt; v.as_slice(), [1].as_slice());
+    v.resize(3, 7)?;
+    assert_eq!(rt; v.as_slice(), [1, 7, 7].as_slice());
+    let mut next: u32 = 0;
+    v.resize_with(5, || {
+        next = next.wrapping_add(1);
+        next
+    })?;
+    assert_eq!(rt; v.as_slice(), [1, 7, 7, 1, 2].as_slice());
+    assert_eq!(rt; v.capacity(), 12);
+    Ok(())
+}
+
+#[test]
+fn vectors_are_made_of_clones(rt: HostRuntime) -> Result<(), Fail> {
+    let v = one_two_three(rt.alloc(), 10)?;
+    let copy = v.clone()?;
+    assert_eq!(rt; copy.as_slice(), [1, 2, 3].as_slice());
+    assert_eq!(rt; copy.capacity(), 3);
+    let mut assigned = Vec::from_slice(rt.alloc(), [7, 8].as_slice())?;
+    assert_eq!(rt; assigned.capacity(), 2);
+    let given = Vec::from_slice_in([7, 8].as_slice(), rt.alloc())?;
+    assigned.assign_from(&v)?;
+    assert_eq!(rt; assigned.as_slice(), [1, 2, 3].as_slice());
+    assert_eq!(rt; assigned.capacity(), 4);
+    assigned.assign_from(&given)?;
+    assert_eq!(rt; assigned.as_slice(), [7, 8].as_slice());
+    let three = Vec::from_elem(rt.alloc(), 5, 3)?;
+    assert_eq!(rt; three.as_slice(), [5, 5, 5].as_slice());
+    assert_eq!(rt; three.capacity(), 3);
+    let none = Vec::from_elem_in(5, 0, rt.alloc())?;
+    assert_eq!(rt; none.capacity(), 0);
+    Ok(())
+}
+
+#[test]
+fn refused_clones_are_undone(rt: HostRuntime) -> Result<(), Fail> {
+    let first = Fragile { value: 1 };
+    let mut v: Vec<Fragile> = Vec::new(rt.alloc());
+    v.push(Fragile { value: 1 })?;
+    let others = [
+        Fragile { value: 2 },
+        Fragile { value: 9 },
+        Fragile { value: 3 },
+        Fragile { value: 4 },
+    ];
+    match v.extend_from_slice(others.as_slice()) {
+        Ok(()) => assert!(rt; false),
+        Err(error) => assert_eq!(rt;
+            error.kind(),
+            TryReserveErrorKind::AllocError { capacity: 5 }
+        ),
+    }
+    assert_eq!(rt; v.len(), 1);
+    assert_eq!(rt; v.capacity(), 8);
+    assert!(rt; v.resize(2, Fragile { value: 9 }).is_ok());
+    assert!(rt; v.resize(4, Fragile { value: 9 }).is_err());
+    assert!(rt; v.len() == 2);
+    assert!(rt; v.extend_from_within(0, 2).is_err());
+    assert!(rt; v.len() == 2);
+    assert!(rt; v[0] == first);
+    assert!(rt; v.clone().is_err());
+    let mut begun: Vec<Fragile> = Vec::new(rt.alloc());
+    assert!(rt; begun.assign_from(&v).is_err());
+    assert_eq!(rt; begun.as_slice(), [first].as_slice());
+    Ok(())
+}
+
+// More elements than two blocks of 64 hold.
+#[test]
+fn plain_copies_are_put_behind(rt: HostRuntime) -> Result<(), Fail> {
+    let mut source = [0; 150];
+    let mut next: u32 = 0;
+    for place in source.as_mut_slice() {
+        *place = next;
+        next = next.wrapping_add(1);
+    }
+    let mut v = Vec::from_slice_copied(rt.alloc(), source.as_slice())?;
+    assert_eq!(rt; v.as_slice(), source.as_slice());
+    assert_eq!(rt; v.capacity(), 150);
+    let copy = v.clone_copied()?;
+    assert_eq!(rt; copy.as_slice(), source.as_slice());
+    let short = Vec::from_slice_copied_in([8, 9].as_slice(), rt.alloc())?;
+    v.extend_from_slice_copied(short.as_slice())?;
+    assert_eq!(rt; v.capacity(), 300);
+    assert!(rt; v.len() == 152);
+    v.extend_from_within_copied(10, 150)?;
+    assert!(rt; v.len() == 292);
+    assert_eq!(rt; v[149], 149);
+    assert_eq!(rt; v[151], 9);
+    assert_eq!(rt; v[152], 10);
+    assert_eq!(rt; v[291], 149);
+    Ok(())
+}
+
+#[test]
+fn elements_without_size_are_copied(rt: HostRuntime) -> Result<(), Fail> {
+    let mut v: Vec<()> = Vec::from_elem(rt.alloc(), (), 3)?;
+    assert_eq!(rt; v.capacity(), usize::MAX);
+    assert!(rt; v.len() == 3);
+    let mut behind = v.split_off(1)?;
+    assert_eq!(rt; behind.capacity(), usize::MAX);
+    v.append(&mut behind)?;
+    assert!(rt; v.len() == 3);
+    v.extend_from_within(0, 3)?;
+    assert_eq!(rt; v.len(), 6);
+    Ok(())
+}

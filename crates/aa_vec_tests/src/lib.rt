@@ -1,0 +1,27 @@
+//! Tests of the vector, and callers of it with contracts of their own; no part of the library.
+#![tactic(auto)]
+
+#[cfg(test)]
+mod arrays;
+#[cfg(test)]
+mod boxes;
+#[cfg(test)]
+mod calls;
+#[cfg(test)]
+mod choosing;
+#[cfg(test)]
+mod claims;
+#[cfg(test)]
+mod compared;
+#[cfg(test)]
+mod copies;
+#[cfg(test)]
+mod counted;
+#[cfg(test)]
+mod drain;
+#[cfg(test)]
+mod extend;
+#[cfg(test)]
+mod into;
+#[cfg(test)]
+mod splice;

@@ -1,0 +1,58 @@
+-- A list many times over.
+use Rattle.std.proofs.Common.{◌≡◌, ℕ, zero, suc, ◌+◌, ◌-◌, ◌*◌, ◌≤◌, List, [], ◌++◌, length, take, refl, sym, ap, ◌∙◌, arith, append_assoc, length-append, suc-mul}
+use Rattle.std.proofs.lemmas.List.{take-append-le, take_all}
+use Rattle.std.specs.List.{repeat}
+use Rattle.aa_raw.specs.declared.raw_vec.Growth.TheVariants.{Doubling}
+use Rattle.aa_vec.specs.Vector.{Vector, IsNew, Holds, sized}
+use Rattle.aa_vec.specs.Copies.{IsMadeWithin, WritesAtMost}
+use Rattle.aa_vec.proofs.Climbing.{SameBlock-refl}
+
+module _ {T : Type 0} (xs : List T) where
+  pub length-repeat : (n : ℕ) → length (repeat n xs) ≡ n * length xs
+  length-repeat zero = omega arith
+  length-repeat (suc n) = let both = length-append xs (repeat n xs) in let rest = length-repeat n in let times = suc-mul n (length xs) in omega arith
+
+  pub repeat-add : (m k : ℕ) → repeat m xs ++ repeat k xs ≡ repeat (m + k) xs
+  repeat-add zero k = let e : k ≡ 0 + k = omega arith in ap (λ n. repeat n xs) e
+  repeat-add (suc m) k = let e : suc (m + k) ≡ suc m + k = omega arith in append_assoc xs (repeat m xs) (repeat k xs) ∙ ap (λ l. xs ++ l) (repeat-add m k) ∙ ap (λ n. repeat n xs) e
+
+  -- the first m times of n
+  pub take-repeat : (m n : ℕ) → m ≤ n → take (m * length xs) (repeat n xs) ≡ repeat m xs
+  take-repeat m n h =
+      let e : n ≡ m + (n - m) = omega arith in let long = length-repeat m in
+      ap (λ k. take (m * length xs) (repeat k xs)) e ∙ ap (take (m * length xs)) (sym (repeat-add m (n - m)))
+      ∙ take-append-le (m * length xs) (repeat m xs) (repeat (n - m) xs) (omega arith) ∙ take_all (m * length xs) (repeat m xs) (omega arith)
+
+module _ {T A : Type 0} where
+  -- no times, in an empty vector
+  pub Holds-none : (n : ℕ) (xs : List T) (v : Vector T A) → n ≡ 0 → v.items ≡ [] → Holds v (repeat n xs) v
+  Holds-none zero xs v z e = record { items = e; block = SameBlock-refl v }
+  Holds-none (suc n) xs v z e = absurd (omega (arith, z))
+
+  pub Writes-none : (n : ℕ) (xs : List T) (v : Vector T A) → n ≡ 0 → WritesAtMost v (n * length xs) v
+  Writes-none zero xs v z = record { written = omega arith; runs = omega arith }
+  Writes-none (suc n) xs v z = absurd (omega (arith, z))
+
+  -- what stands in a new vector with room for just that
+  pub IsMadeWithin-repeated : (size n : ℕ) (xs : List T) (a : A) (new v : Vector T A)
+      → IsNew size (n * length xs) a new
+      → Holds new (repeat n xs) v
+      → WritesAtMost new (n * length xs) v
+      → IsMadeWithin size Doubling (repeat n xs) v × (v.alloc ≡ a)
+  IsMadeWithin-repeated size n xs a new v made held wrote =
+      let long = length-repeat xs n in (
+        record {
+          calls = v.runs;
+          few = omega (arith, long, wrote.runs, made.runs);
+          made =
+              record {
+                items = held.items;
+                capacity = held.block.capacity ∙ made.capacity ∙ ap (sized size) (sym long);
+                grows = held.block.growth ∙ made.growth;
+                grown = held.block.grown ∙ made.grown;
+                written = omega (arith, long, wrote.written, made.written);
+                runs = refl;
+              };
+        },
+        held.block.alloc ∙ made.alloc,
+      )

@@ -1,0 +1,217 @@
+//! Vectors of copies of a slice's elements. It stands for `allocator_api2::slice`.
+ghost use Rattle.std.specs.Prelude.{◌≡◌, ◌*◌, ◌<◌, ◌≤◌, ◌++◌, List, [], length, take, All, IfOk, IfErr};
+ghost use Rattle.std.specs.List.{repeat};
+ghost use Rattle.std.specs.Mem.{type_size};
+ghost use Rattle.aa_raw.specs.Refusals.{IsRefusedAt};
+ghost use Rattle.aa_raw.specs.declared.raw_vec.Growth.TheVariants.{Doubling};
+ghost use Rattle.aa_vec.specs.Vector.{len, sized, HasRoom, Holds};
+ghost use Rattle.aa_vec.specs.Copies.{Copies, IsMade, IsMadeOf, IsMadeWithin, WritesAtMost};
+ghost use Rattle.allocator_api2.specs.Slices.{RefusesCopies};
+
+use aa_raw::collections::{TryReserveError, TryReserveErrorKind};
+use aa_vec::vec::Vec;
+use std::alloc::{Allocator, Global};
+
+/// Vectors of this library made of a slice. It stands for the original's `SliceExt`, for `&[T]`. Where a call by dot reaches the
+/// toolchain's own function of the name, the names that end in 2 are there for the same calls.
+pub trait SliceExt<T> {
+    /// The elements of the slice.
+    ghost elements: { Self → List T };
+
+    /// A vector of a clone of each element on the global allocator, with room for no more; it is refused as `to_vec_in2` is. It
+    /// stands for `SliceExt::to_vec`, which aborts on a refusal.
+    fn to_vec(&self, alloc: Global) -> Result<Vec<T, Global>, TryReserveError>
+    where
+        T: Clone,
+        ensures made { IfOk result (λ v. IsMadeOf T.is_clone (type_size T.row) Doubling (elements self.now) v × (v.alloc ≡ alloc)) }
+        ensures copied { Copies T.is_clone → IfOk result (λ v. IsMade (type_size T.row) (length (elements self.now)) Doubling (elements self.now) (length (elements self.now)) v) }
+        ensures refused { IfErr result (λ e. (All T.is_infallible (elements self.now) → (0 < length (elements self.now)) × (0 < type_size T.row)) × IsRefusedAt e (length (elements self.now))) };
+
+    /// The same as `to_vec`. It stands for `SliceExt::to_vec2`.
+    fn to_vec2(&self, alloc: Global) -> Result<Vec<T, Global>, TryReserveError>
+    where
+        T: Clone,
+        ensures made { IfOk result (λ v. IsMadeOf T.is_clone (type_size T.row) Doubling (elements self.now) v × (v.alloc ≡ alloc)) }
+        ensures copied { Copies T.is_clone → IfOk result (λ v. IsMade (type_size T.row) (length (elements self.now)) Doubling (elements self.now) (length (elements self.now)) v) }
+        ensures refused { IfErr result (λ e. (All T.is_infallible (elements self.now) → (0 < length (elements self.now)) × (0 < type_size T.row)) × IsRefusedAt e (length (elements self.now))) };
+
+    /// The same as `to_vec_in2`. It stands for `SliceExt::to_vec_in`, which aborts on a refusal.
+    fn to_vec_in<A: Allocator>(&self, alloc: A) -> Result<Vec<T, A>, TryReserveError>
+    where
+        T: Clone,
+        ensures made { IfOk result (λ v. IsMadeOf T.is_clone (type_size T.row) Doubling (elements self.now) v × (v.alloc ≡ alloc)) }
+        ensures copied { Copies T.is_clone → IfOk result (λ v. IsMade (type_size T.row) (length (elements self.now)) Doubling (elements self.now) (length (elements self.now)) v) }
+        ensures refused { IfErr result (λ e. (All T.is_infallible (elements self.now) → (0 < length (elements self.now)) × (0 < type_size T.row)) × IsRefusedAt e (length (elements self.now))) };
+
+    /// A vector of a clone of each element, with room for no more. It takes memory before the first clone, where there are
+    /// elements and they have a size. Where that or a clone is refused, nothing is made: `AllocError` with the number of
+    /// elements, or `CapacityOverflow`. It stands for `SliceExt::to_vec_in2`, which aborts on a refusal.
+    fn to_vec_in2<A: Allocator>(&self, alloc: A) -> Result<Vec<T, A>, TryReserveError>
+    where
+        T: Clone,
+        ensures made { IfOk result (λ v. IsMadeOf T.is_clone (type_size T.row) Doubling (elements self.now) v × (v.alloc ≡ alloc)) }
+        ensures copied { Copies T.is_clone → IfOk result (λ v. IsMade (type_size T.row) (length (elements self.now)) Doubling (elements self.now) (length (elements self.now)) v) }
+        ensures refused { IfErr result (λ e. (All T.is_infallible (elements self.now) → (0 < length (elements self.now)) × (0 < type_size T.row)) × IsRefusedAt e (length (elements self.now))) };
+
+    /// A vector of the elements `n` times over on the global allocator, in order, with room for no more. It takes memory where
+    /// there are elements to put and they have a size. A refusal is `CapacityOverflow` where their number passes `usize::MAX`
+    /// or their bytes pass `isize::MAX`, and else `AllocError` with their number. It stands for `SliceExt::repeat`, which aborts
+    /// on a refusal.
+    fn repeat(&self, alloc: Global, n: usize) -> Result<Vec<T, Global>, TryReserveError>
+    where
+        T: Repeat,
+        ensures made { IfOk result (λ v. IsMadeWithin (type_size T.row) Doubling (repeat n (elements self.now)) v × (v.alloc ≡ alloc)) }
+        ensures capacity { IfOk result (λ v. v.capacity ≡ sized (type_size T.row) (n * length (elements self.now))) }
+        ensures refused { IfErr result (λ e. RefusesCopies (type_size T.row) (n * length (elements self.now)) e) };
+
+    /// The same as `repeat`. It stands for `SliceExt::repeat2`.
+    fn repeat2(&self, alloc: Global, n: usize) -> Result<Vec<T, Global>, TryReserveError>
+    where
+        T: Repeat,
+        ensures made { IfOk result (λ v. IsMadeWithin (type_size T.row) Doubling (repeat n (elements self.now)) v × (v.alloc ≡ alloc)) }
+        ensures capacity { IfOk result (λ v. v.capacity ≡ sized (type_size T.row) (n * length (elements self.now))) }
+        ensures refused { IfErr result (λ e. RefusesCopies (type_size T.row) (n * length (elements self.now)) e) };
+}
+
+impl<T> SliceExt<T> for &[T] {
+    ghost elements = { λ s. s.now };
+
+    fn to_vec(&self, alloc: Global) -> Result<Vec<T, Global>, TryReserveError>
+    where
+        T: Clone,
+    {
+        self.to_vec2(alloc)
+    }
+
+    fn to_vec2(&self, alloc: Global) -> Result<Vec<T, Global>, TryReserveError>
+    where
+        T: Clone,
+    {
+        Vec::from_slice(alloc, *self)
+    }
+
+    fn to_vec_in<A: Allocator>(&self, alloc: A) -> Result<Vec<T, A>, TryReserveError>
+    where
+        T: Clone,
+    {
+        self.to_vec_in2(alloc)
+    }
+
+    fn to_vec_in2<A: Allocator>(&self, alloc: A) -> Result<Vec<T, A>, TryReserveError>
+    where
+        T: Clone,
+    {
+        Vec::from_slice_in(*self, alloc)
+    }
+
+    fn repeat(&self, alloc: Global, n: usize) -> Result<Vec<T, Global>, TryReserveError>
+    where
+        T: Repeat,
+    {
+        self.repeat2(alloc, n)
+    }
+
+    fn repeat2(&self, alloc: Global, n: usize) -> Result<Vec<T, Global>, TryReserveError>
+    where
+        T: Repeat,
+    {
+        T::repeated(*self, n, alloc)
+    }
+}
+
+/// What elements can be put into a vector many times over: all that are `Copy`. The original asks `Copy` itself.
+pub trait Repeat: Sized {
+    /// A vector of the elements of `source` `n` times over, over any allocator; it is refused as `SliceExt::repeat` is. The
+    /// original has no such call.
+    fn repeated<A: Allocator>(
+        source: &[Self],
+        n: usize,
+        alloc: A,
+    ) -> Result<Vec<Self, A>, TryReserveError>
+        ensures made { IfOk result (λ v. IsMadeWithin (type_size Self.row) Doubling (repeat n source.now) v × (v.alloc ≡ alloc)) }
+        ensures capacity { IfOk result (λ v. v.capacity ≡ sized (type_size Self.row) (n * length source.now)) }
+        ensures refused { IfErr result (λ e. RefusesCopies (type_size Self.row) (n * length source.now) e) };
+}
+
+impl<T: Copy> Repeat for T {
+    fn repeated<A: Allocator>(
+        source: &[T],
+        n: usize,
+        alloc: A,
+    ) -> Result<Vec<T, A>, TryReserveError> {
+        repeated(source, n, alloc)
+    }
+}
+
+// A vector of the elements `n` times over.
+fn repeated<T: Copy, A: Allocator>(
+    source: &[T],
+    n: usize,
+    alloc: A,
+) -> Result<Vec<T, A>, TryReserveError>
+    ensures made { IfOk result (λ v. IsMadeWithin (type_size T.row) Doubling (repeat n source.now) v × (v.alloc ≡ alloc)) }
+    ensures capacity { IfOk result (λ v. v.capacity ≡ sized (type_size T.row) (n * length source.now)) }
+    ensures refused { IfErr result (λ e. RefusesCopies (type_size T.row) (n * length source.now) e) }
+{
+    let Some(count) = n.checked_mul(source.len()) else {
+        return Err(TryReserveErrorKind::CapacityOverflow.into());
+    };
+    let mut made = Vec::with_capacity_in(count, alloc)?;
+    if n > 0 {
+        put_repeated(&mut made, source, n);
+    }
+    Ok(made)
+}
+
+// Puts the elements of `source` `n` times over into an empty vector that has room for them: once, and then what is there again.
+fn put_repeated<T: Copy, A: Allocator>(made: &mut Vec<T, A>, source: &[T], n: usize)
+    requires some { 0 < n }
+    requires empty { made.old.items ≡ [] }
+    requires room { n * length source.now ≤ made.old.capacity }
+    ensures items { Holds made.old (repeat n source.now) made.new }
+    ensures writes { WritesAtMost made.old (n * length source.now) made.new }
+{
+    let _within = made.capacity();
+    put_copies(made, source);
+    let mut done = 1;
+    'each: while done < n {
+        let more = next_count(done, n - done);
+        put_again(made, more * source.len());
+        done += more;
+    }
+}
+
+// How many of the copies that are there are put again, where `left` are still to come.
+fn next_count(done: usize, left: usize) -> usize
+    requires { (0 < done) × (0 < left) }
+    ensures some { 0 < result }
+    ensures done { result ≤ done }
+    ensures left { result ≤ left }
+{
+    if left < done { left } else { done }
+}
+
+// Puts copies of all of `source` behind the last element of a vector that has room for them.
+fn put_copies<T: Copy, A: Allocator>(made: &mut Vec<T, A>, source: &[T])
+    requires room { HasRoom made.old (length source.now) }
+    ensures items { Holds made.old (made.old.items ++ source.now) made.new }
+    ensures writes { WritesAtMost made.old (length source.now) made.new }
+{
+    match made.extend_from_slice_copied(source) {
+        Ok(()) => {}
+        Err(_) => unreachable!(),
+    }
+}
+
+// Puts copies of its own first `count` elements behind the last one of a vector that has room for them.
+fn put_again<T: Copy, A: Allocator>(made: &mut Vec<T, A>, count: usize)
+    requires within { count ≤ len made.old }
+    requires room { HasRoom made.old count }
+    ensures items { Holds made.old (made.old.items ++ take count made.old.items) made.new }
+    ensures writes { WritesAtMost made.old count made.new }
+{
+    match made.extend_from_within_copied(0, count) {
+        Ok(()) => {}
+        Err(_) => unreachable!(),
+    }
+}
