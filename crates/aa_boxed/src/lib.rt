@@ -2,5 +2,3 @@
 #![tactic(auto)]
 
 pub mod boxed;
-#[cfg(test)]
-mod tests;

@@ -8,6 +8,4 @@ pub mod raw_vec;
 mod row;
 mod size;
 mod tally;
-#[cfg(test)]
-mod tests;
 pub mod vec;

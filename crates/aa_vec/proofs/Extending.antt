@@ -179,11 +179,10 @@ module _ {S T : Type 0} (steps : S → Option (Bor T) → S → Type 0) where
       let others = Yields-read y.0 xs t y.2 in
       (y.1.0 ∷ others.0, (y.0, y.1.1, others.1), ap (λ z. z ∷ xs) y.1.2 ∙ ap (λ zs. y.1.0.now ∷ zs) others.2)
 
-  pub Placing-reads : {A : Type 0} (Tells : S → ℕ → Type 0) (left : S → ℕ) (size : ℕ) (iter : S) (old : Vector T A) (s : S) (v : Vector T A) → Placing (Reads steps) Tells left size iter old s v
-      → (u : S) → steps s None u → (rs : List (Bor T)) × Drains steps iter rs × (v.items ≡ old.items ++ map (λ r. r.now) rs)
-  Placing-reads Tells left size iter old s v p u h =
-      let d = Yields-read iter p.front s (Yields-told (Reads steps) Tells p.lower iter p.front s p.told) in
-      (d.0, (u, (s, d.1, h)), p.items ∙ ap (λ xs. old.items ++ xs) d.2)
+  pub Drains-read : (s : S) (xs ys : List T) → (zs : List T) × Drains (Reads steps) s zs × (ys ≡ xs ++ zs) → (rs : List (Bor T)) × Drains steps s rs × (ys ≡ xs ++ map (λ r. r.now) rs)
+  Drains-read s xs ys d =
+      let read = Yields-read s d.0 d.1.1.0 d.1.1.1 in
+      (read.0, (d.1.0, (d.1.1.0, read.1, d.1.1.2)), d.2 ∙ ap (λ zs. xs ++ zs) read.2)
 
 module _ {S T A : Type 0} (steps : S → Option T → S → Type 0) (Tells : S → ℕ → Type 0) (size : ℕ) (iter : S) where
   -- what all extensions keep

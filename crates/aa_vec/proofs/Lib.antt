@@ -25,6 +25,7 @@ pub mod Handed
 pub mod Callable
 pub mod Kept
 pub mod Steady
+pub mod Callers
 pub mod Drained
 pub mod Drains
 pub mod Walks

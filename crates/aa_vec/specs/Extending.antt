@@ -1,11 +1,12 @@
 -- A vector that items are put behind, one by one, as an iterator gives them, and what the iterator tells of how many are to come.
-use Rattle.std.specs.Prelude.{◌≡◌, ℕ, ◌+◌, ◌-◌, ◌<◌, ◌≤◌, min, List, [], ◌∷◌, ◌++◌, length, Option, Some, None}
+use Rattle.std.specs.Prelude.{◌≡◌, ℕ, ◌+◌, ◌-◌, ◌<◌, ◌≤◌, min, List, [], ◌∷◌, ◌++◌, length, Option, Some, None, Result, IfErr, OnOk, IsOk}
 use Rattle.std.specs.Borrow.{Bor}
-use Rattle.std.specs.Iterator.{Count, YieldsFirst}
+use Rattle.std.specs.Iterator.{Count, YieldsFirst, Drains, size as count}
+use Rattle.std.specs.Iterator.Runs.{WholeRun}
 use Rattle.std.specs.Iterator.SizeHint.{IsWithinCount}
 use Rattle.aa_raw.specs.declared.collections.TryReserveErrorKind.{TryReserveErrorKind}
 use Rattle.aa_raw.specs.Growth.{usize_max}
-use Rattle.aa_vec.specs.Vector.{Vector, len, IsNew, LacksRoom, SameBlock, MakesRoom}
+use Rattle.aa_vec.specs.Vector.{Vector, len, HasRoom, IsNew, LacksRoom, SameBlock, MakesRoom, Writes}
 
 -- what an `Items` has: the items that are to come, in order, and the number that it tells of them
 pub record ItemsLeft (T : Type 0) : Type 0 where
@@ -96,3 +97,13 @@ module _ {S T : Type 0} (steps : S → Option T → S → Type 0) (Tells : S →
     -- a new vector was extended by a beginning, and then room was refused
     abbrev pub StopsAtFront : TryReserveErrorKind → Type 0
     StopsAtFront error = (new : Vector T A) × (full : Vector T A) × IsNew size 0 alloc new × ExtendsByFront size iter new error full
+
+-- items of `iter`, of which `left` bounds how many are to come, were put behind those of old, which is new, with this result
+module _ {S T A : Type 0} (steps : S → Option T → S → Type 0) (Tells : S → ℕ → Type 0) (left : S → Count) (size : ℕ) (iter : S) (old : Vector T A) (result : Result Unit TryReserveErrorKind) (new : Vector T A) where
+  pub record Extended : Type 0 where
+    pub fits : HasRoom old (count (left iter)) → IsOk result
+    pub ran : OnOk result ((xs : List T) × Drains steps iter xs × (new.items ≡ old.items ++ xs))
+    pub runs : OnOk result (WholeRun steps iter (λ p. new.items ≡ old.items ++ p.items))
+    pub extended : OnOk result (ExtendsByAll steps Tells size iter old new)
+    pub writes : Writes old (len new - len old) (len new - len old) new
+    pub refused : IfErr result (λ e. ExtendsByFront steps Tells size iter old e new)

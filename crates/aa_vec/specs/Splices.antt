@@ -1,8 +1,11 @@
 -- What a contract sees of a `Splice`: the range, as a `Drain` has it, and the items that are to come in its place.
-use Rattle.std.specs.Prelude.{◌≡◌, ℕ, List, Option}
+use Rattle.std.specs.Prelude.{◌≡◌, ℕ, List, Option, Result}
 use Rattle.std.specs.Borrow.{GName}
+use Rattle.std.specs.Iterator.{Count}
 use Rattle.std.specs.declared.iter.Iterator.{Ghosts}
+use Rattle.aa_raw.specs.declared.collections.TryReserveErrorKind.{TryReserveErrorKind}
 use Rattle.aa_vec.specs.Draining.{drain_lender, drain_vec, drain_head, drain_rest, drain_tail, range_len, drains_first, drains_last}
+use Rattle.aa_vec.specs.Splicing.{Replaced}
 use Rattle.aa_vec.specs.Vector.{Vector}
 use Rattle.aa_vec.specs.declared.vec.drain.Drain.{Drain}
 use Rattle.aa_vec.specs.declared.vec.splice.Splice.{Splice}
@@ -46,3 +49,8 @@ module _ {I A T : Type 0} {g : Ghosts I T} where
   -- the same from the back
   abbrev pub splices_last : Splice I A T g → Option T → Splice I A T g → Type 0
   splices_last s r t = drains_last (splice_range s) r (splice_range t) × (splice_iter t ≡ splice_iter s)
+
+  -- s was ended with this result, and its vector is new
+  abbrev pub SpliceEnds : (steps : I → Option T → I → Type 0) (Tells : I → ℕ → Type 0) (left : I → Count) (size : ℕ) → Splice I A T g → Result Unit TryReserveErrorKind → Vector T A → Type 0
+  SpliceEnds steps Tells left size s result new =
+      Replaced steps Tells left size (splice_iter s) (splice_vec s) (splice_head s) (splice_gap s) (splice_tail s) result new

@@ -1,10 +1,11 @@
 -- A range of a vector that is replaced by items, one by one, as an iterator gives them, in the room that it tells. Its elements before
 -- the range are `head`, those behind it `tail`, and the range had `gap` elements.
-use Rattle.std.specs.Prelude.{◌≡◌, ℕ, ◌+◌, ◌-◌, ◌*◌, ◌<◌, ◌≤◌, List, [], ◌++◌, length, Option, None, if◌then◌else◌, ◌==◌, ◌⊎◌}
-use Rattle.std.specs.Iterator.{Yields}
+use Rattle.std.specs.Prelude.{◌≡◌, ℕ, ◌+◌, ◌-◌, ◌*◌, ◌<◌, ◌≤◌, List, [], ◌++◌, length, Option, None, if◌then◌else◌, ◌==◌, ◌⊎◌, Result, IfErr, OnOk, IsOk}
+use Rattle.std.specs.Iterator.{Count, Yields, Drains, size as count}
+use Rattle.std.specs.Iterator.Runs.{WholeRun}
 use Rattle.aa_raw.specs.declared.collections.TryReserveErrorKind.{TryReserveErrorKind}
 use Rattle.aa_raw.specs.Refusals.{IsRefused}
-use Rattle.aa_vec.specs.Vector.{Vector, len, SameBlock, MakesRoom, LacksRoom, run_count}
+use Rattle.aa_vec.specs.Vector.{Vector, len, HasRoom, SameBlock, MakesRoom, LacksRoom, run_count}
 use Rattle.aa_vec.specs.Extending.{ExtendsAll, ExtendsFull, YieldsTelling}
 
 -- how often the tail is moved where n items come, and h more are told once they fill the gap: up, where room is made for those that
@@ -88,5 +89,17 @@ module _ {S T : Type 0} (steps : S → Option T → S → Type 0) (Tells : S →
     pub splices : SplicesShort size lower old head gap tail taken error new
 
 -- once the range is full, the iterator tells h
-abbrev pub TellsOnceFull : {S T : Type 0} → (S → Option T → S → Type 0) → (S → ℕ) → S → (gap h : ℕ) → Type 0
-TellsOnceFull {S = S} {T = T} steps lower_of s gap h = (xs : List T) (t : S) → Yields steps s xs t → length xs ≡ gap → lower_of t ≡ h
+abbrev pub TellsOnceFull : {S T : Type 0} → (S → Option T → S → Type 0) → (S → ℕ → Type 0) → S → (gap h : ℕ) → Type 0
+TellsOnceFull {S = S} {T = T} steps Tells s gap h = (xs : List T) (t : S) (n : ℕ) → Yields steps s xs t → length xs ≡ gap → Tells t n → n ≡ h
+
+module _ {S T A : Type 0} (steps : S → Option T → S → Type 0) (Tells : S → ℕ → Type 0) (left : S → Count) (size : ℕ) (iter : S) (old : Vector T A) (head : List T) (gap : ℕ) (tail : List T) where
+  -- items of `iter`, of which `left` bounds how many are to come, were put in place of the range of old, which is new, with this result
+  pub record Replaced (result : Result Unit TryReserveErrorKind) (new : Vector T A) : Type 0 where
+    pub fits_gap : count (left iter) < gap → IsOk result
+    pub fits_end : tail ≡ [] → HasRoom old (count (left iter)) → IsOk result
+    pub fits_told : (h : ℕ) → TellsOnceFull steps Tells iter gap h → count (left iter) ≤ gap + h → len old + gap + length tail + h ≤ old.capacity → IsOk result
+    pub ran : OnOk result ((xs : List T) × Drains steps iter xs × (new.items ≡ head ++ (xs ++ tail)))
+    pub runs : OnOk result (WholeRun steps iter (λ p. new.items ≡ head ++ (p.items ++ tail)))
+    pub spliced : OnOk result (SplicesByAll steps Tells size iter old head gap tail new)
+    pub writes : SplicesWithin old head tail new
+    pub refused : IfErr result (λ e. SplicesByFront steps Tells size iter old head gap tail e new)

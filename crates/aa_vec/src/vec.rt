@@ -40,6 +40,7 @@ mod makes;
 mod plain_copies;
 mod room;
 pub mod splice;
+mod telling;
 
 /// A growable list over the allocator `A`. It stands for `allocator_api2::vec::Vec`; a call that takes memory answers a `Result`
 /// in place of aborting. Elements without size take no memory and have the capacity `usize::MAX`.

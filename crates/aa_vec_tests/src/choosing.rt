@@ -2,7 +2,7 @@
 ghost use Rattle.std.specs.Prelude.{◌≡◌, ◌+◌, ◌≤◌, [], ◌∷◌};
 ghost use Rattle.aa_vec.specs.Vector.{Holds};
 
-use crate::counted::Counted;
+use crate::counted::counted_up;
 use aa_vec::vec::Vec;
 use std::alloc::{Allocator, Global};
 use std::cell::Cell;
@@ -66,9 +66,19 @@ fn kept_elements_stay_as_the_closure_left_them(rt: HostRuntime) -> Result<(), Fa
     });
     assert_eq!(rt; v.as_slice(), [2, 6, 8].as_slice());
     assert_eq!(rt; v.capacity(), 4);
+    Ok(())
+}
+
+#[test]
+fn elements_that_pass_are_kept(rt: HostRuntime) -> Result<(), Fail> {
     let mut v = list(rt.alloc(), &[1, 2, 3, 4, 5, 6, 7])?;
     v.retain(|x| *x % 4 != 2);
     assert_eq!(rt; v.as_slice(), [1, 3, 4, 5, 7].as_slice());
+    Ok(())
+}
+
+#[test]
+fn each_element_is_asked_for_once(rt: HostRuntime) -> Result<(), Fail> {
     let mut calls = 0u32;
     let mut v = list(rt.alloc(), &[5, 6, 7])?;
     v.retain_by(&mut |_: &mut u32| {
@@ -90,7 +100,11 @@ fn each_is_asked_beside_the_last_one_kept(rt: HostRuntime) -> Result<(), Fail> {
     });
     assert_eq!(rt; calls.as_slice(), [(3, 1), (5, 1)].as_slice());
     assert_eq!(rt; v.as_slice(), [1, 5].as_slice());
+    Ok(())
+}
 
+#[test]
+fn the_last_one_kept_may_be_written_to(rt: HostRuntime) -> Result<(), Fail> {
     let mut calls: Vec<(u32, u32)> = Vec::new(rt.alloc());
     let mut v = list(rt.alloc(), &[1, 2, 3, 10])?;
     v.dedup_within(&mut |a: &mut u32, b: &mut u32| {
@@ -125,32 +139,48 @@ fn a_closure_may_change_its_answers(rt: HostRuntime) -> Result<(), Fail> {
 }
 
 #[test]
-fn up_to_one_element_nothing_is_asked(rt: HostRuntime) -> Result<(), Fail> {
+fn of_one_element_nothing_is_asked(rt: HostRuntime) -> Result<(), Fail> {
     let mut asked = false;
     let mut one = list(rt.alloc(), &[4])?;
     one.dedup_within(&mut |_: &mut u32, _: &mut u32| {
         asked = true;
         true
     });
-    let mut none = list(rt.alloc(), &[])?;
+    assert!(rt; !asked);
+    assert_eq!(rt; one.as_slice(), [4].as_slice());
+    Ok(())
+}
+
+#[test]
+fn of_no_element_nothing_is_asked(rt: HostRuntime) {
+    let mut asked = false;
+    let mut none: Vec<u32> = Vec::new(rt.alloc());
     none.dedup_within(&mut |_: &mut u32, _: &mut u32| {
         asked = true;
         true
     });
     assert!(rt; !asked);
-    assert_eq!(rt; one.as_slice(), [4].as_slice());
     assert!(rt; none.is_empty());
+}
+
+#[test]
+fn repeats_go_by_equality(rt: HostRuntime) -> Result<(), Fail> {
+    let mut v = list(rt.alloc(), &[1, 2, 2, 3, 2])?;
+    v.dedup();
+    assert_eq!(rt; v.as_slice(), [1, 2, 3, 2].as_slice());
     Ok(())
 }
 
 #[test]
-fn repeats_go_by_equality_and_by_keys(rt: HostRuntime) -> Result<(), Fail> {
-    let mut v = list(rt.alloc(), &[1, 2, 2, 3, 2])?;
-    v.dedup();
-    assert_eq!(rt; v.as_slice(), [1, 2, 3, 2].as_slice());
+fn repeats_go_by_a_closure(rt: HostRuntime) -> Result<(), Fail> {
     let mut v = list(rt.alloc(), &[1, 1, 2, 3, 3, 4])?;
     v.dedup_by(|a, b| *a == *b);
     assert_eq!(rt; v.as_slice(), [1, 2, 3, 4].as_slice());
+    Ok(())
+}
+
+#[test]
+fn repeats_go_by_their_keys(rt: HostRuntime) -> Result<(), Fail> {
     let mut v = list(rt.alloc(), &[10, 20, 21, 30, 20])?;
     v.dedup_by_key(|i| *i / 10);
     assert_eq!(rt; v.as_slice(), [10, 20, 30, 20].as_slice());
@@ -171,26 +201,25 @@ fn the_key_is_asked_of_the_element_under_test_first(rt: HostRuntime) -> Result<(
 }
 
 #[test]
-fn removed_elements_are_dropped_once(rt: HostRuntime) -> Result<(), Fail> {
+fn removed_elements_are_dropped_once(rt: HostRuntime) {
     let drops = Cell::new(0);
-    {
-        let mut v: Vec<Counted<'_>> = Vec::new(rt.alloc());
-        for value in 0..9 {
-            let counted = Counted {
-                value,
-                drops: &drops,
-            };
-            assert!(rt; v.push(counted).is_ok());
-        }
-        v.retain(|x| x.value % 3 != 1);
-        assert_eq!(rt; v.len(), 6);
-        assert_eq!(rt; drops.get(), 3);
-        v.dedup_by_key(|x| x.value / 3);
-        assert_eq!(rt; v.len(), 3);
-        assert_eq!(rt; drops.get(), 6);
-    }
+    let mut v = counted_up(rt.alloc(), &drops, 9);
+    v.retain(|x| x.value % 3 != 1);
+    assert_eq!(rt; v.len(), 6);
+    assert_eq!(rt; drops.get(), 3);
+    drop(v);
     assert_eq!(rt; drops.get(), 9);
-    Ok(())
+}
+
+#[test]
+fn repeated_elements_are_dropped_once(rt: HostRuntime) {
+    let drops = Cell::new(0);
+    let mut v = counted_up(rt.alloc(), &drops, 9);
+    v.dedup_by_key(|x| x.value / 3);
+    assert_eq!(rt; v.len(), 3);
+    assert_eq!(rt; drops.get(), 6);
+    drop(v);
+    assert_eq!(rt; drops.get(), 9);
 }
 
 #[test]

@@ -2,7 +2,7 @@
 ghost use Rattle.std.specs.Prelude.{◌≡◌, ◌+◌, ◌-◌, ◌<◌, ◌≤◌, ◌++◌, length, take, drop, slice_range, IfOk};
 ghost use Rattle.aa_vec.specs.Vector.{len, Holds, Writes};
 
-use crate::counted::Counted;
+use crate::counted::counted_up;
 use aa_vec::vec::{Drain, Vec};
 use std::alloc::{AllocError, Allocator, Global};
 use std::cell::Cell;
@@ -109,12 +109,24 @@ fn a_range_is_taken_from_both_ends(rt: HostRuntime) -> Result<(), Fail> {
     assert_eq!(rt; range.size_hint(), (3, Some(3)));
     assert_eq!(rt; range.next(), Some(1));
     assert_eq!(rt; range.next_back(), Some(3));
-    assert_eq!(rt; range.as_slice(), [2].as_slice());
-    assert_eq!(rt; format!(in rt.alloc(); "{range:?}")?.as_str(), "Drain([2])");
-    let _alloc: &Global = range.allocator();
     drop(range);
     assert_eq!(rt; v.as_slice(), [0, 4, 5].as_slice());
     assert_eq!(rt; v.capacity(), 8);
+    Ok(())
+}
+
+#[test]
+fn what_was_not_taken_is_seen(rt: HostRuntime) -> Result<(), Fail> {
+    let mut v = numbers(rt.alloc(), 6)?;
+    assert!(rt; v.len() == 6);
+    let mut range = v.drain(1, 4);
+    assert_eq!(rt; range.next(), Some(1));
+    assert_eq!(rt; range.as_slice(), [2, 3].as_slice());
+    assert_eq!(rt;
+        format!(in rt.alloc(); "{range:?}")?.as_str(),
+        "Drain([2, 3])"
+    );
+    let _alloc: &Global = range.allocator();
     Ok(())
 }
 
@@ -138,7 +150,6 @@ fn a_forgotten_range_leaves_what_is_before_it(rt: HostRuntime) -> Result<(), Fai
     let mut range = v.drain(1, 4);
     assert_eq!(rt; range.next(), Some(1));
     forget(range);
-    assert_eq!(rt; v.as_slice(), [0].as_slice());
     v.push(7)?;
     assert_eq!(rt; v.as_slice(), [0, 7].as_slice());
     Ok(())
@@ -153,13 +164,18 @@ fn after_the_end_nothing_comes(rt: HostRuntime) -> Result<(), Fail> {
     assert_eq!(rt; range.next(), Some(0));
     assert_eq!(rt; range.next(), None);
     assert_eq!(rt; range.next_back(), None);
-    assert_eq!(rt; range.next(), None);
     assert_eq!(rt; range.len(), 0);
     range.keep_rest();
     assert_eq!(rt; v.as_slice(), [2].as_slice());
+    Ok(())
+}
+
+#[test]
+fn an_empty_range_changes_nothing(rt: HostRuntime) -> Result<(), Fail> {
+    let mut v = numbers(rt.alloc(), 1)?;
     assert!(rt; v.len() == 1);
     drop(v.drain(1, 1));
-    assert_eq!(rt; v.as_slice(), [2].as_slice());
+    assert_eq!(rt; v.as_slice(), [0].as_slice());
     Ok(())
 }
 
@@ -171,12 +187,34 @@ fn callers_leave_the_rest(rt: HostRuntime) -> Result<(), Fail> {
     assert!(rt; v.len() == 27);
     assert_eq!(rt; first_of(&mut v, 1, 3), Some(1));
     assert!(rt; v.len() == 26);
+    Ok(())
+}
+
+#[test]
+fn callers_take_one_range_after_another(rt: HostRuntime) -> Result<(), Fail> {
+    let mut v = numbers(rt.alloc(), 30)?;
+    assert!(rt; v.len() == 30);
     first_five_gone(&mut v);
-    assert!(rt; v.len() == 21);
+    assert!(rt; v.len() == 25);
     assert_eq!(rt; first_large(&mut v, 0, 6), Some(10));
+    assert!(rt; v.len() == 19);
+    Ok(())
+}
+
+#[test]
+fn a_range_stands_in_a_chain(rt: HostRuntime) -> Result<(), Fail> {
+    let mut v = numbers(rt.alloc(), 15)?;
     assert!(rt; v.len() == 15);
-    assert_eq!(rt; even_in(&mut v, 1, 15), 6);
-    assert_eq!(rt; v.as_slice(), [12].as_slice());
+    assert_eq!(rt; even_in(&mut v, 1, 15), 7);
+    assert_eq!(rt; v.as_slice(), [0].as_slice());
+    assert!(rt; v.len() == 1);
+    assert!(rt; !has_large(&mut v, 0, 1));
+    assert!(rt; v.is_empty());
+    Ok(())
+}
+
+#[test]
+fn a_range_is_collected(rt: HostRuntime) -> Result<(), Fail> {
     let mut bytes: Vec<u8> = Vec::new(rt.alloc());
     for x in 0..4 {
         bytes.push(x)?;
@@ -185,39 +223,31 @@ fn callers_leave_the_rest(rt: HostRuntime) -> Result<(), Fail> {
     let seen = collected(rt.alloc(), &mut bytes, 1, 3)?;
     assert_eq!(rt; seen.as_slice(), [1, 2].as_slice());
     assert_eq!(rt; bytes.as_slice(), [0, 3].as_slice());
-    assert!(rt; v.len() == 1);
-    assert!(rt; has_large(&mut v, 0, 1));
-    assert!(rt; v.is_empty());
     Ok(())
 }
 
 #[test]
 fn each_element_of_a_range_is_dropped_once(rt: HostRuntime) {
     let drops = Cell::new(0);
-    {
-        let mut v = Vec::new(rt.alloc());
-        for value in 0..10 {
-            assert!(rt;
-                v.push(Counted {
-                    value,
-                    drops: &drops
-                })
-                .is_ok()
-            );
-        }
-        assert!(rt; v.len() == 10);
-        {
-            let mut range = v.drain(2, 8);
-            let first = range.next();
-            let last = range.next_back();
-            let last_but_one = range.next_back();
-            assert_eq!(rt; drops.get(), 0);
-            drop((first, last, last_but_one));
-            assert_eq!(rt; drops.get(), 3);
-        }
-        assert_eq!(rt; drops.get(), 6);
-        assert_eq!(rt; v.len(), 4);
-    }
+    let mut v = counted_up(rt.alloc(), &drops, 10);
+    assert!(rt; v.len() == 10);
+    let mut range = v.drain(2, 8);
+    let taken = (range.next(), range.next_back());
+    assert_eq!(rt; drops.get(), 0);
+    drop(taken);
+    assert_eq!(rt; drops.get(), 2);
+    drop(range);
+    assert_eq!(rt; drops.get(), 6);
+}
+
+#[test]
+fn each_element_beside_a_range_is_dropped_once(rt: HostRuntime) {
+    let drops = Cell::new(0);
+    let mut v = counted_up(rt.alloc(), &drops, 10);
+    assert!(rt; v.len() == 10);
+    drop(v.drain(2, 8));
+    assert_eq!(rt; drops.get(), 6);
+    drop(v);
     assert_eq!(rt; drops.get(), 10);
 }
 

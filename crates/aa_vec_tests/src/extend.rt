@@ -48,16 +48,32 @@ fn a_full_vector_makes_room_for_what_is_told(rt: HostRuntime) -> Result<(), Fail
     v.extend(3..5)?;
     assert_eq!(rt; v.as_slice(), [1, 2, 3, 4].as_slice());
     assert_eq!(rt; v.capacity(), 4);
+    Ok(())
+}
+
+#[test]
+fn a_vector_is_made_of_items(rt: HostRuntime) -> Result<(), Fail> {
     let five: Vec<u32> = Vec::from_iter(rt.alloc(), 1..6)?;
     assert_eq!(rt; five.as_slice(), [1, 2, 3, 4, 5].as_slice());
     assert_eq!(rt; five.capacity(), 5);
     let three: Vec<u32> = Vec::from_iter_in(1..4, rt.alloc())?;
     assert_eq!(rt; three.capacity(), 4);
-    v.extend_copied(five.iter())?;
+    Ok(())
+}
+
+#[test]
+fn copied_items_are_put_behind(rt: HostRuntime) -> Result<(), Fail> {
+    let mut v = numbers(rt.alloc(), 1, 5, 4)?;
+    v.extend_copied([1, 2, 3, 4, 5].iter())?;
     assert_eq!(rt; v.as_slice(), [1, 2, 3, 4, 1, 2, 3, 4, 5].as_slice());
     assert_eq!(rt; v.capacity(), 9);
+    Ok(())
+}
+
+#[test]
+fn a_slice_is_put_behind_twice(rt: HostRuntime) -> Result<(), Fail> {
     let mut twice: Vec<u32> = Vec::new(rt.alloc());
-    followed_by(&mut twice, three.as_slice())?;
+    followed_by(&mut twice, [1, 2, 3].as_slice())?;
     assert_eq!(rt; twice.as_slice(), [1, 2, 3, 1, 2, 3].as_slice());
     assert_eq!(rt; twice.capacity(), 8);
     Ok(())
@@ -71,6 +87,12 @@ fn an_untrue_hint_is_asked_for_only_where_the_vector_is_full(rt: HostRuntime) ->
     assert_eq!(rt; v.extend_hinted(one), Ok(()));
     assert_eq!(rt; v.as_slice(), [1, 2, 3, 9].as_slice());
     assert_eq!(rt; v.capacity(), 4);
+    Ok(())
+}
+
+#[test]
+fn an_untrue_hint_of_a_full_vector_overflows(rt: HostRuntime) -> Result<(), Fail> {
+    let most = Some(usize::MAX);
     let mut v = numbers(rt.alloc(), 1, 4, 4)?;
     let mut two = numbers(rt.alloc(), 9, 10, 2)?;
     two.push(8)?;
@@ -87,9 +109,19 @@ fn a_vector_grows_by_its_hint_until_all_fit(rt: HostRuntime) -> Result<(), Fail>
     v.extend_hinted(Items::new(numbers(rt.alloc(), 0, 17, 17)?, Some(5)))?;
     assert_eq!(rt; v.len(), 17);
     assert_eq!(rt; v.capacity(), 24);
+    Ok(())
+}
+
+#[test]
+fn a_vector_that_is_told_nothing_has_room_for_no_more(rt: HostRuntime) -> Result<(), Fail> {
     let mut v: Vec<u32> = Vec::new(rt.alloc());
     v.extend_hinted(Items::new(numbers(rt.alloc(), 0, 17, 17)?, None))?;
     assert_eq!(rt; v.capacity(), 17);
+    Ok(())
+}
+
+#[test]
+fn elements_without_size_need_no_hint(rt: HostRuntime) -> Result<(), Fail> {
     let mut units: Vec<()> = Vec::new(rt.alloc());
     let mut one: Vec<()> = Vec::new(rt.alloc());
     one.push(())?;
@@ -106,6 +138,12 @@ fn items_come_in_order_and_tell_their_hint(rt: HostRuntime) -> Result<(), Fail> 
     assert_eq!(rt; items.size_hint(), (0, None));
     assert_eq!(rt; items.next(), Some(4));
     assert_eq!(rt; items.lower(), 2);
+    Ok(())
+}
+
+#[test]
+fn a_vector_is_made_of_items_that_tell(rt: HostRuntime) -> Result<(), Fail> {
+    let items = Items::new(numbers(rt.alloc(), 5, 7, 2)?, None);
     let others = Vec::from_iter(rt.alloc(), items)?;
     assert_eq!(rt; others.as_slice(), [5, 6].as_slice());
     let told = Items::new(numbers(rt.alloc(), 4, 7, 3)?, Some(1));

@@ -6,6 +6,8 @@ mod arrays;
 #[cfg(test)]
 mod boxes;
 #[cfg(test)]
+mod callers;
+#[cfg(test)]
 mod calls;
 #[cfg(test)]
 mod choosing;

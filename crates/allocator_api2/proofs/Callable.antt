@@ -1,39 +1,93 @@
 -- Closures that may be called as a run calls them: along the commands that are still to come, and whatever they are given.
-use Rattle.std.proofs.Common.{◌≡◌, ℕ, Bool, List, [], ◌∷◌, ◌++◌, reverse, sym, ap, ◌∙◌, subst}
+use Rattle.std.proofs.Common.{◌≡◌, ℕ, Bool, true, false, List, [], ◌∷◌, ◌++◌, reverse, sym, ap, ◌∙◌, subst}
+use Rattle.std.specs.Prelude.{⊤}
 use Rattle.std.proofs.lemmas.List.{reverse-append, reverse-reverse}
-use Rattle.aa_vec.proofs.Callable.{IsCallableInOrder-any, IsCallableAlong-any}
+use Rattle.aa_vec.specs.Choosing.{Asked, AskedInOrder, MayAskInOrder, ChainsFrom, Deduplicated, MayChainFrom, MayDeduplicate}
 use Rattle.allocator_api2.specs.declared.runner.Command.{Command}
-use Rattle.allocator_api2.specs.declared.runner.Command.TheVariants.{Retain, Dedup}
+use Rattle.allocator_api2.specs.declared.runner.Command.TheVariants.{SplitOff, Retain, Dedup}
 use Rattle.allocator_api2.specs.declared.runner.Reply.{Reply}
-use Rattle.allocator_api2.specs.Machine.{State}
-use Rattle.allocator_api2.specs.Run.{TakesStep, MayCall, MayRun, IsCallableOnRuns}
+use Rattle.allocator_api2.specs.Machine.{State, Calls, IsPossible, Step}
+use Rattle.allocator_api2.specs.Commands.{TakesStep}
+use Rattle.allocator_api2.specs.Run.{MayCall, MayRun, IsCallableOnRuns}
 
-module _ {T A K S : Type 0} (size : ℕ) (Keeps : K → T → Bool → K → T → Type 0) (Repeats : S → T → T → Bool → S → T → T → Type 0) (TakesKeep : K → T → Type 0) (TakesSame : S → T → T → Type 0) where
+module _ {T A K S : Type 0} (size : ℕ) (calls : Calls T A K S) where
   -- the commands stand in turned order
-  pub MayRun-turned : (s : State T A K S) (all rest : List (Command T A)) → rest ≡ reverse all → MayRun size Keeps Repeats TakesKeep TakesSame s all → MayRun size Keeps Repeats TakesKeep TakesSame s (reverse rest)
-  MayRun-turned s all rest e may = subst (MayRun size Keeps Repeats TakesKeep TakesSame s) (sym (ap reverse e ∙ reverse-reverse all)) may
+  pub MayRun-turned : (s : State T A K S) (all rest : List (Command T A)) → rest ≡ reverse all → MayRun size calls s all → MayRun size calls s (reverse rest)
+  MayRun-turned s all rest e may = subst (MayRun size calls s) (sym (ap reverse e ∙ reverse-reverse all)) may
 
-  module _ (s : State T A K S) (rest later : List (Command T A)) (command : Command T A) (e : rest ≡ later ++ command ∷ []) (may : MayRun size Keeps Repeats TakesKeep TakesSame s (reverse rest)) where
-    next_first : MayRun size Keeps Repeats TakesKeep TakesSame s (command ∷ reverse later)
-    next_first = subst (MayRun size Keeps Repeats TakesKeep TakesSame s) (ap reverse e ∙ reverse-append later (command ∷ [])) may
+  module _ (s : State T A K S) (rest later : List (Command T A)) (command : Command T A) (e : rest ≡ later ++ command ∷ []) (may : MayRun size calls s (reverse rest)) where
+    next_first : MayRun size calls s (command ∷ reverse later)
+    next_first = subst (MayRun size calls s) (ap reverse e ∙ reverse-append later (command ∷ [])) may
 
     -- the next may call them, and then those behind it
-    pub MayCall-next : MayCall size Keeps Repeats TakesKeep TakesSame s command
+    pub MayCall-next : MayCall size calls s command
     MayCall-next = next_first.0
 
-    pub MayRun-later : (reply : Reply T) (next : State T A K S) → TakesStep size Keeps Repeats s command reply next → MayRun size Keeps Repeats TakesKeep TakesSame next (reverse later)
-    MayRun-later reply next step = next_first.1 step.answers reply next step.step
+    pub MayRun-later : (reply : Reply T) (next : State T A K S) → TakesStep size calls s command reply next → IsPossible next.main next.side → MayRun size calls next (reverse later)
+    MayRun-later reply next step possible = next_first.1 step.answers reply next step.step possible
+
+  -- closures that may be called in every state that they reach, on every element
+  module _ (good_keep : K → Type 0) (good_same : S → Type 0)
+      (keep_takes : (k : K) (x : T) → good_keep k → calls.takes_keep k x)
+      (keep_stays : (k next : K) (x y : T) (answer : Bool) → good_keep k → calls.keeps k x answer next y → good_keep next)
+      (same_takes : (s : S) (x y : T) → good_same s → calls.takes_same s x y)
+      (same_stays : (s next : S) (x y x' y' : T) (answer : Bool) → good_same s → calls.repeats s x y answer next x' y' → good_same next) where
+    may_ask : (k : K) (xs : List T) → good_keep k → MayAskInOrder calls.keeps calls.takes_keep k xs
+    may_ask k [] good = tt
+    may_ask k (x ∷ xs) good = (keep_takes k x good, λ answer next y called. may_ask next xs (keep_stays k next x y answer good called))
+
+    may_chain : (s : S) (l : T) (xs : List T) → good_same s → MayChainFrom calls.repeats calls.takes_same s l xs
+    may_chain s l [] good = tt
+    may_chain s l (x ∷ xs) good = (
+      same_takes s x l good,
+      λ next y k called. may_chain next k xs (same_stays s next x l y k true good called),
+      λ next y k called. may_chain next y xs (same_stays s next x l y k false good called),
+    )
+
+    may_deduplicate : (s : S) (xs : List T) → good_same s → MayDeduplicate calls.repeats calls.takes_same s xs
+    may_deduplicate s [] good = tt
+    may_deduplicate s (x ∷ xs) good = may_chain s x xs good
+
+    may_call : (s : State T A K S) (command : Command T A) → good_keep s.keep → good_same s.same → MayCall size calls s command
+    may_call s Retain k r = record { along = may_ask s.keep s.main.items k }
+    may_call s Dedup k r = record { along = may_deduplicate s.same s.main.items r }
+    may_call s _ k r = tt
+
+    asked_stays : (k g : K) (xs : List T) (asked : List (Asked T)) → good_keep k → AskedInOrder calls.keeps k xs asked g → good_keep g
+    asked_stays k g [] [] good e = subst good_keep (sym e) good
+    asked_stays k g (x ∷ xs) (y ∷ ys) good e = asked_stays e.0 g xs ys (keep_stays k e.0 x y.left y.answer good e.1) e.2
+    asked_stays k g [] (y ∷ ys) good e = absurd e
+    asked_stays k g (x ∷ xs) [] good e = absurd e
+
+    chained_stays : (s t : S) (l : T) (xs ys : List T) (answers : List Bool) → good_same s → ChainsFrom calls.repeats s l xs answers t ys → good_same t
+    chained_stays s t l [] ys [] good e = subst good_same (sym e.0) good
+    chained_stays s t l (x ∷ xs) ys (true ∷ answers) good e = chained_stays e.0 t e.2 xs ys answers (same_stays s e.0 x l e.1 e.2 true good e.3) e.4
+    chained_stays s t l (x ∷ xs) ys (false ∷ answers) good e = chained_stays e.0 t e.1 xs e.3 answers (same_stays s e.0 x l e.1 e.2 false good e.4) e.5
+    chained_stays s t l [] ys (answer ∷ answers) good e = absurd e
+    chained_stays s t l (x ∷ xs) ys [] good e = absurd e
+
+    deduplicated_stays : (s t : S) (xs ys : List T) (answers : List Bool) → good_same s → Deduplicated calls.repeats s xs answers t ys → good_same t
+    deduplicated_stays s t [] ys answers good e = subst good_same (sym e.1) good
+    deduplicated_stays s t (x ∷ xs) ys answers good e = chained_stays s t x xs ys answers good e
+
+    step_stays : (s next : State T A K S) (command : Command T A) (answers : List Bool) (reply : Reply T) → good_keep s.keep → good_same s.same → Step size calls s command answers reply next → good_keep next.keep × good_same next.same
+    step_stays s next Retain answers reply k r step = (asked_stays s.keep next.keep s.main.items step.retains.told k step.retains.asked, subst good_same (sym step.same) r)
+    step_stays s next Dedup answers reply k r step = (subst good_keep (sym step.keep) k, deduplicated_stays s.same next.same s.main.items step.removes.left step.removes.answers r step.removes.asked)
+    step_stays s next (SplitOff at) answers reply k r step = (subst good_keep (sym step.cut.keep) k, subst good_same (sym step.cut.same) r)
+    step_stays s next command answers reply k r step = (subst good_keep (sym step.keep) k, subst good_same (sym step.same) r)
+
+    may_run : (s : State T A K S) (commands : List (Command T A)) → good_keep s.keep → good_same s.same → MayRun size calls s commands
+    may_run s [] k r = tt
+    may_run s (command ∷ commands) k r = (
+      may_call s command k r,
+      λ answers reply next step possible. let stays = step_stays s next command answers reply k r step in may_run next commands stays.0 stays.1,
+    )
+
+    -- a run may begin where they are in such states
+    pub IsCallable-invariant : (s : State T A K S) (commands : List (Command T A)) → good_keep s.keep → good_same s.same → IsCallableOnRuns size calls s commands
+    IsCallable-invariant s commands k r = record { along = λ possible. may_run s commands k r }
 
   -- closures that may be called whatever they are given
-  module _ (keep_any : (k : K) (x : T) → TakesKeep k x) (same_any : (s : S) (x y : T) → TakesSame s x y) where
-    may_call : (s : State T A K S) (command : Command T A) → MayCall size Keeps Repeats TakesKeep TakesSame s command
-    may_call s Retain = IsCallableInOrder-any Keeps TakesKeep keep_any s.keep s.main.items
-    may_call s Dedup = IsCallableAlong-any Repeats TakesSame same_any s.same s.main.items
-    may_call s _ = tt
-
-    may_run : (s : State T A K S) (commands : List (Command T A)) → MayRun size Keeps Repeats TakesKeep TakesSame s commands
-    may_run s [] = tt
-    may_run s (command ∷ commands) = (may_call s command, λ answers reply next step. may_run next commands)
-
-    pub IsCallable-any : (s : State T A K S) (commands : List (Command T A)) → IsCallableOnRuns size Keeps Repeats TakesKeep TakesSame s commands
-    IsCallable-any s commands = record { along = may_run s commands }
+  pub IsCallable-any : ((k : K) (x : T) → calls.takes_keep k x) → ((s : S) (x y : T) → calls.takes_same s x y) → (s : State T A K S) (commands : List (Command T A)) → IsCallableOnRuns size calls s commands
+  IsCallable-any keep_any same_any s commands =
+      IsCallable-invariant (λ k. ⊤) (λ r. ⊤) (λ k x good. keep_any k x) (λ k next x y answer good called. tt) (λ r x y good. same_any r x y) (λ r next x y x' y' answer good called. tt) s commands tt tt

@@ -1,13 +1,16 @@
 -- What was cut is whole again when it is joined.
-use Rattle.std.proofs.Common.{◌≡◌, ℕ, Bool, ◌++◌, take, drop}
+use Rattle.std.proofs.Common.{◌≡◌, ℕ, zero, suc, ◌<◌, take, drop, refl, ap, ◌∙◌, arith}
 use Rattle.std.proofs.lemmas.List.{take-append-drop}
+use Rattle.aa_vec.specs.Vector.{Vector}
 use Rattle.allocator_api2.specs.Laws.{CutIsJoined}
+use Rattle.allocator_api2.specs.Machine.{Splits}
 
-pub cut_is_joined : {T A K S : Type 0} (size : ℕ) (Keeps : K → T → Bool → K → T → Type 0) (Repeats : S → T → T → Bool → S → T → T → Type 0)
-    → CutIsJoined A size Keeps Repeats
-cut_is_joined size Keeps Repeats at old mid new answers more cut join =
-    let parts = cut.1.3 in
-    let head : mid.main.items ≡ take at old.main.items = parts.head_items in
-    let tail : mid.side.items ≡ drop at old.main.items = parts.tail_items in
-    let joined : new.main.items ≡ mid.main.items ++ mid.side.items = join.1.3.items in
-    rw (joined, head, tail) (take-append-drop at old.main.items)
+module _ {T A : Type 0} (size : ℕ) (old head tail : Vector T A) where
+  parts_are : (at : ℕ) → Splits size old at head tail → (head.items ≡ take at old.items) × (tail.items ≡ drop at old.items)
+  parts_are zero s = ((s.head_made refl).items, ap (λ v. v.items) (s.tail_all refl))
+  parts_are (suc at) s = let some : 0 < suc at = omega arith in ((s.head_stays some).0.items, (s.tail_made some).items)
+
+pub cut_is_joined : {T A : Type 0} (size : ℕ) → CutIsJoined T A size
+cut_is_joined size at main side head tail main' side' cut join =
+    let parts = parts_are size main head tail at cut.makes in
+    join.makes.joined.items ∙ rw (parts.0, parts.1) (take-append-drop at main.items)

@@ -1,5 +1,5 @@
+pub mod Added
 pub mod Callable
-pub mod Cuts
 pub mod Taking
 pub mod WholeRuns
 pub mod Differ
@@ -7,10 +7,10 @@ pub mod Joined
 pub mod Paid
 pub mod Ranges
 pub mod Repeated
-pub mod Replies
 pub mod Reserved
 pub mod Runs
 pub mod Steps
 pub mod Spliced
 pub mod SplicedRanges
 pub mod Stops
+pub mod Taken

@@ -1,16 +1,14 @@
 -- Room that a reserve made lasts for as many pushes.
-use Rattle.std.proofs.Common.{◌≡◌, ℕ, ◌+◌, ◌-◌, ◌≤◌, Bool, List, [], ◌∷◌, length, map, ap, ◌∙◌, refl, arith, inl, inr}
+use Rattle.std.proofs.Common.{◌≡◌, ℕ, ◌+◌, ◌-◌, ◌≤◌, List, [], ◌∷◌, length, ap, ◌∙◌, refl, arith, inl, inr}
 use Rattle.std.specs.List.{AllByRecursion}
 use Rattle.std.proofs.lemmas.List.{length-append}
 use Rattle.aa_raw.specs.Growth.{least_of}
 use Rattle.aa_vec.specs.Vector.{Vector, len, HasRoom, GrowsTo}
-use Rattle.allocator_api2.specs.declared.runner.Command.{Command}
 use Rattle.allocator_api2.specs.declared.runner.Command.TheVariants.{Within}
 use Rattle.allocator_api2.specs.declared.runner.Reply.{Reply}
 use Rattle.allocator_api2.specs.declared.runner.Reply.TheVariants.{Done, Back, Refused, Range}
-use Rattle.allocator_api2.specs.Laws.{PushesWithin, IsDone, ReserveHolds}
-use Rattle.allocator_api2.specs.Machine.{State, Step}
-use Rattle.allocator_api2.specs.Run.{Turn, IsRun}
+use Rattle.allocator_api2.specs.Laws.{IsDone, PushesWithin, ReserveHolds}
+use Rattle.allocator_api2.specs.Machine.{Answers}
 use Rattle.allocator_api2.proofs.Paid.{amortized-enough}
 
 module _ {T A : Type 0} (size : ℕ) where
@@ -23,27 +21,27 @@ module _ {T A : Type 0} (size : ℕ) where
         | inr h ↦ omega (arith, l, h.1.capacity, amortized-enough old.growth old.capacity (len old + k) (least_of size))
       ]
 
-  module _ {K S : Type 0} (Keeps : K → T → Bool → K → T → Type 0) (Repeats : S → T → T → Bool → S → T → T → Type 0) where
-    -- a push within the capacity finds room, and leaves room for one fewer
-    step_done : (k : ℕ) (old : State T A K S) (command : Command T A) (answers : List Bool) (reply : Reply T) (new : State T A K S)
-        → HasRoom old.main (k + 1) → PushesWithin command → Step size Keeps Repeats old command answers reply new → IsDone reply × HasRoom new.main k
-    step_done k old (Within x) answers Done new h p s =
-        (tt, omega (arith, h, ap length s.1.3.items, length-append old.main.items (x ∷ []), s.1.3.block.capacity))
-    step_done k old (Within x) answers (Back y) new h p s = absurd (omega (arith, h, s.1.1))
-    step_done k old (Within x) answers (Refused kind) new h p s = absurd (s.2 tt)
-    step_done k old (Within x) answers Range new h p s = absurd (s.1 tt)
-    step_done k old (Within x) answers _ new h p s = absurd s.1
-    step_done k old command answers reply new h p s = absurd p
+  -- a push within the capacity finds room, and leaves room for one fewer
+  push_done : (k : ℕ) (main side : Vector T A) (x : T) (reply : Reply T) (main' side' : Vector T A)
+      → HasRoom main (k + 1) → Answers size main side (Within x) reply main' side' → IsDone reply × HasRoom main' k
+  push_done k main side x Done main' side' h s =
+      let held = s.makes.main_does.1 in
+      (tt, omega (arith, h, ap length held.items, length-append main.items (x ∷ []), held.block.capacity))
+  push_done k main side x (Back y) main' side' h s = absurd (omega (arith, h, s.makes.main_does.0))
+  push_done k main side x (Refused kind) main' side' h s = absurd (s.misfits tt)
+  push_done k main side x Range main' side' h s = absurd (s.outside tt)
+  push_done k main side x _ main' side' h s = absurd s.makes.main_does
 
-    all_done : (k : ℕ) (old : State T A K S) (turns : List (Turn T A K S)) (new : State T A K S)
-        → HasRoom old.main k → IsRun size Keeps Repeats old turns new → length turns ≤ k → AllByRecursion PushesWithin (map (λ t. t.command) turns) → AllByRecursion IsDone (map (λ t. t.reply) turns)
-    all_done k old [] new h r l p = tt
-    all_done k old (t ∷ ts) new h r l p =
-        let e : k - 1 + 1 ≡ k = omega (arith, l) in
-        let room : HasRoom t.before.main (k - 1 + 1) = rw (r.0, e) h in
-        let here = step_done (k - 1) t.before t.command t.answers t.reply t.after room p.0 r.1 in
-        (here.0, all_done (k - 1) t.after ts new here.1 r.3 (omega (arith, l)) p.1)
+  all_done : (k : ℕ) (main side : Vector T A) (xs : List T) (replies : List (Reply T))
+      → HasRoom main k → PushesWithin size main side xs replies → length xs ≤ k → AllByRecursion IsDone replies
+  all_done k main side [] [] h p l = tt
+  all_done k main side [] (reply ∷ replies) h p l = absurd p
+  all_done k main side (x ∷ xs) [] h p l = absurd p
+  all_done k main side (x ∷ xs) (reply ∷ replies) h p l =
+      let e : k - 1 + 1 ≡ k = omega (arith, l) in
+      let here = push_done (k - 1) main side x reply p.0 p.1 (rw e h) p.2 in
+      (here.0, all_done (k - 1) p.0 p.1 xs replies here.1 p.3 (omega (arith, l)))
 
-    pub reserve_holds : ReserveHolds A size Keeps Repeats
-    reserve_holds k old mid answers turns new s r l p =
-        all_done k mid turns new (HasRoom-made old.main k old.main.items mid.main refl s.1.2) r l p
+  pub reserve_holds : ReserveHolds T A size
+  reserve_holds k main side main' side' xs replies s p l =
+      all_done k main' side' xs replies (HasRoom-made main k main.items main' refl s.makes.main_does) p l

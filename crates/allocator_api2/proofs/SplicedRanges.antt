@@ -1,7 +1,6 @@
 -- A range that was taken out of a vector and replaced by an `Items`.
-use Rattle.std.proofs.Common.{◌≡◌, ℕ, ◌-◌, ◌≤◌, List, length, take, drop, Option, ap, subst, arith, length-take, length-drop}
+use Rattle.std.proofs.Common.{◌≡◌, ℕ, ◌+◌, ◌*◌, ◌-◌, ◌≤◌, List, length, take, drop, Option, refl, ap, subst, arith, length-take, length-drop}
 use Rattle.aa_raw.specs.declared.collections.TryReserveErrorKind.{TryReserveErrorKind}
-use Rattle.aa_raw.specs.Growth.{usize_max}
 use Rattle.aa_vec.specs.Vector.{Vector, len}
 use Rattle.aa_vec.specs.Draining.{Drains, drain_vec, drain_head, drain_tail, range_len}
 use Rattle.aa_vec.specs.Extending.{ItemsLeft, gives_item, lower_by, TellsExactly}
@@ -9,12 +8,14 @@ use Rattle.aa_vec.specs.Splicing.{SplicesAll, SplicesShort, SplicesByAll, Splice
 use Rattle.aa_vec.specs.declared.vec.drain.Drain.{Drain}
 use Rattle.aa_vec.proofs.Counted.{items_lower}
 use Rattle.aa_vec.proofs.SplicedItems.{SplicesAll-items, SplicesShort-items, SplicesAll-from, SplicesShort-from}
-use Rattle.allocator_api2.specs.Spliced.{AnswersSplice, WritesFew}
+use Rattle.allocator_api2.specs.Commands.{TakesAlone}
+use Rattle.allocator_api2.specs.declared.runner.Command.TheVariants.{Splice}
 use Rattle.allocator_api2.specs.declared.runner.Reply.TheVariants.{Done, Refused}
+use Rattle.allocator_api2.proofs.Spliced.{short-full}
 
 module _ {T A : Type 0} (size : ℕ) (old : Vector T A) (start end : ℕ) (ordered : start ≤ end) (within : end ≤ len old) (room : len old ≤ old.capacity)
-    (items : List T) (hint : Option ℕ) (d : Drain T A) (drains : Drains old start end d)
-    (iter : ItemsLeft T) (all : iter ≡ record { items = items; hint = hint }) (new : Vector T A) where
+    (items : Vector T A) (hint : Option ℕ) (d : Drain T A) (drains : Drains old start end d)
+    (iter : ItemsLeft T) (all : iter ≡ record { items = items.items; hint = hint }) (new : Vector T A) where
   places : length (drain_head d) ≤ (drain_vec d).capacity
   places = omega (arith, ap length drains.head.items, length-take start old.items, drains.head.block.capacity, room)
 
@@ -24,7 +25,7 @@ module _ {T A : Type 0} (size : ℕ) (old : Vector T A) (start end : ℕ) (order
       subst (λ h. P h (end - start) (drop end old.items)) drains.head.items
       (subst (λ g. P (drain_head d) g (drop end old.items)) drains.range (subst (λ t. P (drain_head d) (range_len d) t) drains.tail p))
 
-  few : SplicesWithin (drain_vec d) (drain_head d) (drain_tail d) new → WritesFew size old start end items hint new
+  few : SplicesWithin (drain_vec d) (drain_head d) (drain_tail d) new → new.written ≤ old.written + (len new - (start + (len old - end)) + 2 * (len old - end))
   few w =
       omega (
         arith,
@@ -39,17 +40,31 @@ module _ {T A : Type 0} (size : ℕ) (old : Vector T A) (start end : ℕ) (order
       )
 
   pub Spliced-done : SplicesByAll gives_item (TellsExactly items_lower) size iter (drain_vec d) (drain_head d) (range_len d) (drain_tail d) new
-      → SplicesWithin (drain_vec d) (drain_head d) (drain_tail d) new → AnswersSplice size old start end items hint Done new
-  Spliced-done s w =
+      → SplicesWithin (drain_vec d) (drain_head d) (drain_tail d) new → TakesAlone size old (Splice start end items hint) Done new
+  Spliced-done s w side =
+      let xs : List T = items.items in
       let by_items = subst (λ j. SplicesByAll gives_item (TellsExactly items_lower) size j (drain_vec d) (drain_head d) (range_len d) (drain_tail d) new) all s in
-      let lent = SplicesAll-items (record { items = items; hint = hint }) size (drain_vec d) (drain_head d) (range_len d) (drain_tail d) new by_items places in
-      let spliced = SplicesAll-from size (lower_by hint) drains.head.block (drain_head d) (range_len d) (drain_tail d) items new lent in
-      (ordered, within, of_range (λ h g t. SplicesAll size (lower_by hint) old h g t items new) spliced, few w)
+      let lent = SplicesAll-items (record { items = xs; hint = hint }) size (drain_vec d) (drain_head d) (range_len d) (drain_tail d) new by_items places in
+      let spliced = SplicesAll-from size (lower_by hint) drains.head.block (drain_head d) (range_len d) (drain_tail d) xs new lent in
+      record {
+        answers = record { in_range = (ordered, within); makes = record { side_stays = refl; main_does = of_range (λ h g t. SplicesAll size (lower_by hint) old h g t xs new) spliced } };
+        writes = few w;
+      }
 
   pub Spliced-refused : (kind : TryReserveErrorKind) → SplicesByFront gives_item (TellsExactly items_lower) size iter (drain_vec d) (drain_head d) (range_len d) (drain_tail d) kind new
-      → SplicesWithin (drain_vec d) (drain_head d) (drain_tail d) new → len new ≤ usize_max → AnswersSplice size old start end items hint (Refused kind) new
-  Spliced-refused kind s w limit =
+      → SplicesWithin (drain_vec d) (drain_head d) (drain_tail d) new → TakesAlone size old (Splice start end items hint) (Refused kind) new
+  Spliced-refused kind s w side =
+      let xs : List T = items.items in
       let by_items = subst (λ j. SplicesByFront gives_item (TellsExactly items_lower) size j (drain_vec d) (drain_head d) (range_len d) (drain_tail d) kind new) all s in
-      let lent = SplicesShort-items (record { items = items; hint = hint }) size (drain_vec d) (drain_head d) (range_len d) (drain_tail d) places kind new by_items in
-      let spliced = SplicesShort-from size (lower_by hint) drains.head.block (drain_head d) (range_len d) (drain_tail d) items kind new lent in
-      (ordered, within, of_range (λ h g t. SplicesShort size (lower_by hint) old h g t items kind new) spliced, few w, limit)
+      let lent = SplicesShort-items (record { items = xs; hint = hint }) size (drain_vec d) (drain_head d) (range_len d) (drain_tail d) places kind new by_items in
+      let spliced = SplicesShort-from size (lower_by hint) drains.head.block (drain_head d) (range_len d) (drain_tail d) xs kind new lent in
+      let short = of_range (λ h g t. SplicesShort size (lower_by hint) old h g t xs kind new) spliced in
+      record {
+        answers =
+            record {
+              in_range = (ordered, within);
+              misfits = short-full size (lower_by hint) old start end ordered within xs kind new short;
+              leaves = record { side_stays = refl; main_does = short };
+            };
+        writes = few w;
+      }

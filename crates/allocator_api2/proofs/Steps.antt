@@ -4,14 +4,14 @@ use Rattle.std.specs.Prelude.{insert, remove, swap_remove, slice_set, slice_inde
 use Rattle.std.proofs.lemmas.List.{length-append}
 use Rattle.aa_vec.specs.Vector.{Vector, len, SameBlock, GrowsTo, Holds}
 use Rattle.allocator_api2.specs.declared.runner.Command.{Command}
-use Rattle.allocator_api2.specs.declared.runner.Command.TheVariants.{Push, Within, Pop, Insert, Remove, SwapRemove, Truncate, Clear, Append, Extend, Retain, Dedup, Drain}
+use Rattle.allocator_api2.specs.declared.runner.Command.TheVariants.{SplitOff, Push, Within, Pop, Insert, Remove, SwapRemove, Truncate, Clear, Append, Extend, Retain, Dedup, Drain}
 use Rattle.allocator_api2.specs.declared.runner.Reply.{Reply}
 use Rattle.allocator_api2.specs.declared.runner.Reply.TheVariants.{Done, Item, Nothing, Back, Refused, Range}
 use Rattle.aa_vec.specs.Extending.{Climbs, ExtendsAll, ExtendsFull, lower_by}
 use Rattle.aa_raw.specs.declared.collections.TryReserveErrorKind.{TryReserveErrorKind}
 use Rattle.aa_vec.proofs.Kept.{length-kept, length-deduplicated}
-use Rattle.allocator_api2.proofs.Ranges.{length-drained}
-use Rattle.allocator_api2.specs.Machine.{State, Step}
+use Rattle.allocator_api2.proofs.Ranges.{length-left_of}
+use Rattle.allocator_api2.specs.Machine.{State, Calls, Step, InRange, Makes, Answers, AnswersRefused, ends_of}
 use Rattle.allocator_api2.specs.Run.{AddsOrRemoves, hint_of, added_by}
 
 module _ {T : Type 0} where
@@ -70,70 +70,79 @@ module _ {T A : Type 0} (size : ℕ) where
       let full = e.full in
       inr (inr (record { needed = len old + length added; climbs = e.climbs; count = omega (arith, l); fits = omega (arith, l, full); full = omega (arith, l, full) }))
 
-  module _ {K S : Type 0} where
-    same : {hint : Option ℕ} (old new : State T A K S) → new ≡ old → Change hint old.main 0 new.main
-    same old new e = rw e (shrinks old.main old.main.items old.main (omega arith) (record { items = refl; block = record { capacity = refl; growth = refl; grown = refl; alloc = refl } }))
+  same : {hint : Option ℕ} (old new : Vector T A) → new ≡ old → Change hint old 0 new
+  same old new e = rw e (shrinks old old.items old (omega arith) (record { items = refl; block = record { capacity = refl; growth = refl; grown = refl; alloc = refl } }))
 
-    same_length : {hint : Option ℕ} (old new : State T A K S) → new ≡ old → Change hint old.main (len new.main - len old.main) new.main
-    same_length old new e = rw e (let none : len old.main - len old.main ≡ 0 = omega arith in rw none (same old old refl))
+  -- what a command that was done has made of main
+  change_done : (main side : Vector T A) (command : Command T A) (reply : Reply T) (main' side' : Vector T A) → AddsOrRemoves command → InRange main command → Makes size main side command reply main' side' → Change (hint_of command) main (added_by main side command reply main') main'
+  change_done main side (Push x) Done main' side' a r m = adds main 1 _ main' (length-append main.items (x ∷ [])) m.main_does
+  change_done main side (Within x) Done main' side' a r m =
+      let l = ap length m.main_does.1.items ∙ length-append main.items (x ∷ []) in
+      inl (record { block = m.main_does.1.block; longest = omega (arith, l); fits = λ f. omega (arith, l, m.main_does.0) })
+  change_done main side (Within x) (Back y) main' side' a r m = same main main' m.main_does.2
+  change_done main side Pop (Item y) main' side' a r m =
+      let l = ap length m.main_does.0 ∙ length-append main'.items (y ∷ []) in
+      shrinks main main'.items main' (omega (arith, l)) (record { items = refl; block = m.main_does.1 })
+  change_done main side Pop Nothing main' side' a r m = same main main' m.main_does.1
+  change_done main side (Insert i x) Done main' side' a r m = adds main 1 _ main' (length-insert main.items i x r) m.main_does
+  change_done main side (Remove i) (Item y) main' side' a r m = shrinks main _ main' (length-remove-le main.items i) m.main_does.1
+  change_done main side (SwapRemove i) (Item y) main' side' a r m = shrinks main _ main' (length-swap_remove-le main.items i y) m.main_does.1
+  change_done main side (Truncate n) Done main' side' a r m = shrinks main _ main' (length-take-le main.items n) m.main_does
+  change_done main side Clear Done main' side' a r m = shrinks main _ main' (omega arith) m.main_does
+  change_done main side Append Done main' side' a r m = adds main (len side) _ main' (length-append main.items side.items) m.joined
+  change_done main side (Extend items hint) Done main' side' a r m = extends hint main items.items main' m.main_does
+  change_done main side (Drain start end front back keep) Done main' side' a r m =
+      shrinks main _ main' (length-left_of main.items start end (ends_of (end - start) front back) keep r.0 r.1) m.leaves
+  change_done main side (Push x) _ main' side' a r m = absurd m.main_does
+  change_done main side (Within x) _ main' side' a r m = absurd m.main_does
+  change_done main side Pop _ main' side' a r m = absurd m.main_does
+  change_done main side (Insert i x) _ main' side' a r m = absurd m.main_does
+  change_done main side (Remove i) _ main' side' a r m = absurd m.main_does
+  change_done main side (SwapRemove i) _ main' side' a r m = absurd m.main_does
+  change_done main side (Truncate n) _ main' side' a r m = absurd m.main_does
+  change_done main side Clear _ main' side' a r m = absurd m.main_does
+  change_done main side Append _ main' side' a r m = absurd m.main_does
+  change_done main side (Extend items hint) _ main' side' a r m = absurd m.main_does
+  change_done main side (Drain start end front back keep) _ main' side' a r m = absurd m.main_does
+  change_done main side Retain _ main' side' a r m = absurd m.main_does
+  change_done main side Dedup _ main' side' a r m = absurd m.main_does
+  change_done main side command reply main' side' a r m = absurd a
 
-    module _ (Keeps : K → T → Bool → K → T → Type 0) (Repeats : S → T → T → Bool → S → T → T → Type 0) where
-      pub change_of : (old : State T A K S) (command : Command T A) (answers : List Bool) (reply : Reply T) (new : State T A K S) → AddsOrRemoves command → Step size Keeps Repeats old command answers reply new → Change (hint_of command) old.main (added_by old command reply new) new.main
-      change_of old (Push x) answers Done new a s = adds old.main 1 _ new.main (length-append old.main.items (x ∷ [])) s.1.2
-      change_of old (Push x) answers (Refused kind) new a s = same old new s.3
-      change_of old (Push x) answers Range new a s = same old new s.2
-      change_of old (Push x) answers _ new a s = absurd s.1
-      change_of old (Within x) answers Done new a s =
-          let l = ap length s.1.3.items ∙ length-append old.main.items (x ∷ []) in
-          inl (record { block = s.1.3.block; longest = omega (arith, l); fits = λ f. omega (arith, l, s.1.1) })
-      change_of old (Within x) answers (Back y) new a s = same old new s.1.3
-      change_of old (Within x) answers (Refused kind) new a s = same old new s.3
-      change_of old (Within x) answers Range new a s = same old new s.2
-      change_of old (Within x) answers _ new a s = absurd s.1
-      change_of old Pop answers (Item y) new a s =
-          shrinks old.main s.1.2.0 new.main (omega (arith, ap length s.1.2.1, length-append s.1.2.0 (y ∷ []))) s.1.2.2
-      change_of old Pop answers Nothing new a s = same old new s.1.2
-      change_of old Pop answers (Refused kind) new a s = same old new s.3
-      change_of old Pop answers Range new a s = same old new s.2
-      change_of old Pop answers _ new a s = absurd s.1
-      change_of old (Insert i x) answers Done new a s = adds old.main 1 _ new.main (length-insert old.main.items i x s.0) s.1.2
-      change_of old (Insert i x) answers (Refused kind) new a s = same old new s.3
-      change_of old (Insert i x) answers Range new a s = same old new s.2
-      change_of old (Insert i x) answers _ new a s = absurd s.1
-      change_of old (Remove i) answers (Item y) new a s = shrinks old.main _ new.main (length-remove-le old.main.items i) s.1.3
-      change_of old (Remove i) answers (Refused kind) new a s = same old new s.3
-      change_of old (Remove i) answers Range new a s = same old new s.2
-      change_of old (Remove i) answers _ new a s = absurd s.1
-      change_of old (SwapRemove i) answers (Item y) new a s = shrinks old.main _ new.main (length-swap_remove-le old.main.items i y) s.1.3
-      change_of old (SwapRemove i) answers (Refused kind) new a s = same old new s.3
-      change_of old (SwapRemove i) answers Range new a s = same old new s.2
-      change_of old (SwapRemove i) answers _ new a s = absurd s.1
-      change_of old (Truncate n) answers Done new a s = shrinks old.main _ new.main (length-take-le old.main.items n) s.1.2
-      change_of old (Truncate n) answers (Refused kind) new a s = same old new s.3
-      change_of old (Truncate n) answers Range new a s = same old new s.2
-      change_of old (Truncate n) answers _ new a s = absurd s.1
-      change_of old Clear answers Done new a s = shrinks old.main _ new.main (omega arith) s.1.2
-      change_of old Clear answers (Refused kind) new a s = same old new s.3
-      change_of old Clear answers Range new a s = same old new s.2
-      change_of old Clear answers _ new a s = absurd s.1
-      change_of old Append answers Done new a s = adds old.main (len old.side) _ new.main (length-append old.main.items old.side.items) s.1.3
-      change_of old Append answers (Refused kind) new a s = same old new s.3
-      change_of old Append answers Range new a s = same old new s.2
-      change_of old Append answers _ new a s = absurd s.1
-      change_of old (Extend items hint) answers Done new a s = extends hint old.main items.items new.main s.1.2
-      change_of old (Extend items hint) answers (Refused kind) new a s = stops hint old.main items.items kind new.main s.3.1
-      change_of old (Extend items hint) answers Range new a s = same_length old new s.2
-      change_of old (Extend items hint) answers _ new a s = absurd s.1
-      change_of old Retain answers Done new a s = shrinks old.main _ new.main (length-kept Keeps old.keep old.main.items s.1.2.0.told new.keep s.1.2.0.asked) s.1.2.0.holds
-      change_of old Retain answers (Refused kind) new a s = same old new s.3
-      change_of old Retain answers Range new a s = same old new s.2
-      change_of old Retain answers _ new a s = absurd s.1
-      change_of old Dedup answers Done new a s = shrinks old.main _ new.main (length-deduplicated Repeats old.same old.main.items s.1.2.0.answers new.same s.1.2.0.left s.1.2.0.asked) s.1.2.0.holds
-      change_of old Dedup answers (Refused kind) new a s = same old new s.3
-      change_of old Dedup answers Range new a s = same old new s.2
-      change_of old Dedup answers _ new a s = absurd s.1
-      change_of old (Drain start end front back keep) answers Done new a s = shrinks old.main _ new.main (length-drained old.main.items start end front back keep s.0.0 s.0.1) s.1.3
-      change_of old (Drain start end front back keep) answers (Refused kind) new a s = same old new s.3
-      change_of old (Drain start end front back keep) answers Range new a s = same old new s.2
-      change_of old (Drain start end front back keep) answers _ new a s = absurd s.1
-      change_of old command answers reply new a s = absurd a
+  -- what one that was refused has left of it
+  change_refused : (main side : Vector T A) (command : Command T A) (kind : TryReserveErrorKind) (main' side' : Vector T A) → AddsOrRemoves command → AnswersRefused size main side command kind main' side' → Change (hint_of command) main (added_by main side command (Refused kind) main') main'
+  change_refused main side (Push x) kind main' side' a s = same main main' s.leaves.main_does.1
+  change_refused main side (Insert i x) kind main' side' a s = same main main' s.leaves.main_does.1
+  change_refused main side Append kind main' side' a s = same main main' s.leaves.1.main_same
+  change_refused main side (Extend items hint) kind main' side' a s = stops hint main items.items kind main' s.leaves.main_does
+  change_refused main side (Drain start end front back keep) kind main' side' a s = same main main' s.leaves.1.main_same
+  change_refused main side (Within x) kind main' side' a s = absurd (s.misfits tt)
+  change_refused main side Pop kind main' side' a s = absurd (s.misfits tt)
+  change_refused main side (Remove i) kind main' side' a s = absurd (s.misfits tt)
+  change_refused main side (SwapRemove i) kind main' side' a s = absurd (s.misfits tt)
+  change_refused main side (Truncate n) kind main' side' a s = absurd (s.misfits tt)
+  change_refused main side Clear kind main' side' a s = absurd (s.misfits tt)
+  change_refused main side Retain kind main' side' a s = absurd (s.misfits tt)
+  change_refused main side Dedup kind main' side' a s = absurd (s.misfits tt)
+  change_refused main side command kind main' side' a s = absurd a
+
+  -- and one whose range lies outside
+  change_range : (main side : Vector T A) (command : Command T A) (main' : Vector T A) → AddsOrRemoves command → main' ≡ main → Change (hint_of command) main (added_by main side command Range main') main'
+  change_range main side (Extend items hint) main' a e = let none : len main' - len main ≡ 0 = omega (arith, ap len e) in rw none (same main main' e)
+  change_range main side (Push x) main' a e = same main main' e
+  change_range main side (Within x) main' a e = same main main' e
+  change_range main side (Insert i x) main' a e = same main main' e
+  change_range main side command main' a e = same main main' e
+
+  change_lists : (main side : Vector T A) (command : Command T A) (reply : Reply T) (main' side' : Vector T A) → AddsOrRemoves command → Answers size main side command reply main' side' → Change (hint_of command) main (added_by main side command reply main') main'
+  change_lists main side command Range main' side' a s = change_range main side command main' a s.stays.main_same
+  change_lists main side command (Refused kind) main' side' a s = change_refused main side command kind main' side' a s
+  change_lists main side command reply main' side' a s = change_done main side command reply main' side' a s.in_range s.makes
+
+  module _ {K S : Type 0} (calls : Calls T A K S) where
+    pub change_of : (old : State T A K S) (command : Command T A) (answers : List Bool) (reply : Reply T) (new : State T A K S) → AddsOrRemoves command → Step size calls old command answers reply new → Change (hint_of command) old.main (added_by old.main old.side command reply new.main) new.main
+    change_of old (SplitOff at) answers reply new a s = absurd a
+    change_of old Retain answers reply new a s =
+        let r = s.retains in shrinks old.main _ new.main (length-kept calls.keeps old.keep old.main.items r.told new.keep r.asked) r.holds
+    change_of old Dedup answers reply new a s =
+        let r = s.removes in shrinks old.main _ new.main (length-deduplicated calls.repeats old.same old.main.items r.answers new.same r.left r.asked) r.holds
+    change_of old command answers reply new a s = change_lists old.main old.side command reply new.main new.side a s.lists

@@ -99,7 +99,7 @@ module _ {T A : Type 0} (old side : Vector T A) (start end f b : ℕ) (ordered :
       let n : f + (m - f - b) ≡ m - b = omega (arith, few) in
       ap (λ i. drop (i - b) (drain_rest d1)) left_front ∙ ap (drop (m - f - b)) rest_front ∙ drop-drop (m - f - b) f middle ∙ ap (λ i. drop i middle) n
 
-  side_gave : Holds side (side.items ++ given_of old.items start end f b) s2
+  side_gave : Holds side (side.items ++ given_of old.items start end (f, b)) s2
   side_gave =
       let first : s1.items ≡ side.items ++ take f middle = fronts.holds.items ∙ ap (λ l. side.items ++ take f l) drains.rest in
       record {

@@ -6,46 +6,46 @@ use Rattle.aa_raw.specs.declared.raw_vec.Growth.{Growth}
 use Rattle.aa_vec.specs.Vector.{len}
 use Rattle.allocator_api2.specs.declared.runner.Command.{Command}
 use Rattle.allocator_api2.specs.declared.runner.Reply.{Reply}
-use Rattle.allocator_api2.specs.Machine.{State, Step}
+use Rattle.allocator_api2.specs.Machine.{State, Calls, Step}
 use Rattle.allocator_api2.specs.Run.{Turn, IsRun, AddsOrRemoves, IsUnhinted, hint_of, added, added_by, cost, greatest_length, moves_each}
 use Rattle.allocator_api2.proofs.Paid.{IsPaid, IsPaid-change, IsPlaced, IsPlaced-change}
 use Rattle.allocator_api2.proofs.Steps.{change_of}
 
-module _ {T A K S : Type 0} (size : ℕ) (Keeps : K → T → Bool → K → T → Type 0) (Repeats : S → T → T → Bool → S → T → T → Type 0) where
-  pub writes_law : (old : State T A K S) (ts : List (Turn T A K S)) (new : State T A K S) → IsRun size Keeps Repeats old ts new → new.main.written ≤ old.main.written + sum_by cost ts
+module _ {T A K S : Type 0} (size : ℕ) (calls : Calls T A K S) where
+  pub writes_law : (old : State T A K S) (ts : List (Turn T A K S)) (new : State T A K S) → IsRun size calls old ts new → new.main.written ≤ old.main.written + sum_by cost ts
   writes_law old [] new r = let e : new.main.written ≡ old.main.written = ap (λ s. s.main.written) r in omega arith
   writes_law old (t ∷ ts) new r =
       let e : t.before.main.written ≡ old.main.written = ap (λ s. s.main.written) r.0 in
       let sums : sum_by cost (t ∷ ts) ≡ cost t + sum_by cost ts = sum_by-cons cost t ts in
-      let rest : new.main.written ≤ t.after.main.written + sum_by cost ts = writes_law t.after ts new r.3 in
-      omega (arith, r.2)
+      let rest : new.main.written ≤ t.after.main.written + sum_by cost ts = writes_law t.after ts new r.2 in
+      omega (arith, r.1.writes)
 
   -- what is added is paid for, step by step
-  paid_step : (G : Growth) (paid n : ℕ) (old : State T A K S) (command : Command T A) (answers : List Bool) (reply : Reply T) (new : State T A K S) → IsPaid size G paid n old.main → AddsOrRemoves command → Step size Keeps Repeats old command answers reply new → IsPaid size G paid (n + added_by old command reply new) new.main
-  paid_step G paid n old command answers reply new p a s = IsPaid-change size G paid (hint_of command) n _ old.main new.main p (change_of size Keeps Repeats old command answers reply new a s)
+  paid_step : (G : Growth) (paid n : ℕ) (old : State T A K S) (command : Command T A) (answers : List Bool) (reply : Reply T) (new : State T A K S) → IsPaid size G paid n old.main → AddsOrRemoves command → Step size calls old command answers reply new → IsPaid size G paid (n + added_by old.main old.side command reply new.main) new.main
+  paid_step G paid n old command answers reply new p a s = IsPaid-change size G paid (hint_of command) n _ old.main new.main p (change_of size calls old command answers reply new a s)
 
-  paid_run : (G : Growth) (paid n : ℕ) (old : State T A K S) (ts : List (Turn T A K S)) (new : State T A K S) → IsRun size Keeps Repeats old ts new → IsPaid size G paid n old.main → AllByRecursion AddsOrRemoves (map (λ t. t.command) ts) → IsPaid size G paid (n + sum_by added ts) new.main
+  paid_run : (G : Growth) (paid n : ℕ) (old : State T A K S) (ts : List (Turn T A K S)) (new : State T A K S) → IsRun size calls old ts new → IsPaid size G paid n old.main → AllByRecursion AddsOrRemoves (map (λ t. t.command) ts) → IsPaid size G paid (n + sum_by added ts) new.main
   paid_run G paid n old [] new r p a = rw (r, add-zero) p
   paid_run G paid n old (t ∷ ts) new r p a =
-      let q : IsPaid size G paid (n + added t) t.after.main = paid_step G paid n t.before t.command t.answers t.reply t.after (rw r.0 p) a.0 r.1 in
+      let q : IsPaid size G paid (n + added t) t.after.main = paid_step G paid n t.before t.command t.answers t.reply t.after (rw r.0 p) a.0 r.1.step in
       let e : n + sum_by added (t ∷ ts) ≡ n + added t + sum_by added ts = omega (arith, sum_by-cons added t ts) in
-      subst (λ k. IsPaid size G paid k new.main) (sym e) (paid_run G paid (n + added t) t.after ts new r.3 q a.1)
+      subst (λ k. IsPaid size G paid k new.main) (sym e) (paid_run G paid (n + added t) t.after ts new r.2 q a.1)
 
-  pub moves_law : (old : State T A K S) (ts : List (Turn T A K S)) (new : State T A K S) → IsRun size Keeps Repeats old ts new → old.main.items ≡ [] → AllByRecursion AddsOrRemoves (map (λ t. t.command) ts) → new.main.grown ≤ old.main.grown + moves_each old.main.growth * sum_by added ts
+  pub moves_law : (old : State T A K S) (ts : List (Turn T A K S)) (new : State T A K S) → IsRun size calls old ts new → old.main.items ≡ [] → AllByRecursion AddsOrRemoves (map (λ t. t.command) ts) → new.main.grown ≤ old.main.grown + moves_each old.main.growth * sum_by added ts
   moves_law old ts new r empty plain =
       let l : len old.main ≡ 0 = ap length empty in
       let start : IsPaid size old.main.growth old.main.grown 0 old.main = record { growth = refl; fits = omega arith; counted = omega arith; places = omega arith; moved = omega arith } in
       let end : IsPaid size old.main.growth old.main.grown (0 + sum_by added ts) new.main = paid_run old.main.growth old.main.grown 0 old ts new r start plain in
       subst (λ k. new.main.grown ≤ old.main.grown + moves_each old.main.growth * k) (zero-add (sum_by added ts)) end.moved
 
-  placed_run : (most : ℕ) (old : State T A K S) (ts : List (Turn T A K S)) (new : State T A K S) → IsRun size Keeps Repeats old ts new → IsPlaced size most old.main → AllByRecursion IsUnhinted (map (λ t. t.command) ts) → IsPlaced size (max most (greatest_length ts)) new.main
+  placed_run : (most : ℕ) (old : State T A K S) (ts : List (Turn T A K S)) (new : State T A K S) → IsRun size calls old ts new → IsPlaced size most old.main → AllByRecursion IsUnhinted (map (λ t. t.command) ts) → IsPlaced size (max most (greatest_length ts)) new.main
   placed_run most old [] new r p a = rw r (let e : max most 0 ≡ most = omega arith in rw e p)
   placed_run most old (t ∷ ts) new r p a =
-      let q = IsPlaced-change size (hint_of t.command) a.0.1 most _ t.before.main t.after.main (rw r.0 p) (change_of size Keeps Repeats t.before t.command t.answers t.reply t.after a.0.0 r.1) in
+      let q = IsPlaced-change size (hint_of t.command) a.0.1 most _ t.before.main t.after.main (rw r.0 p) (change_of size calls t.before t.command t.answers t.reply t.after a.0.0 r.1.step) in
       let e : max most (greatest_length (t ∷ ts)) ≡ max (max most (len t.after.main)) (greatest_length ts) = omega arith in
-      subst (λ k. IsPlaced size k new.main) (sym e) (placed_run (max most (len t.after.main)) t.after ts new r.3 q a.1)
+      subst (λ k. IsPlaced size k new.main) (sym e) (placed_run (max most (len t.after.main)) t.after ts new r.2 q a.1)
 
-  pub places_law : (old : State T A K S) (ts : List (Turn T A K S)) (new : State T A K S) → IsRun size Keeps Repeats old ts new → old.main.items ≡ [] → old.main.capacity ≡ 0 → AllByRecursion IsUnhinted (map (λ t. t.command) ts) → new.main.capacity ≤ max 8 (2 * greatest_length ts)
+  pub places_law : (old : State T A K S) (ts : List (Turn T A K S)) (new : State T A K S) → IsRun size calls old ts new → old.main.items ≡ [] → old.main.capacity ≡ 0 → AllByRecursion IsUnhinted (map (λ t. t.command) ts) → new.main.capacity ≤ max 8 (2 * greatest_length ts)
   places_law old ts new r empty none plain =
       let start : IsPlaced size 0 old.main = record { fits = omega (arith, ap length empty); capacity = omega arith } in
       omega (arith, (placed_run 0 old ts new r start plain).capacity)

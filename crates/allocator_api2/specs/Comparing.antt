@@ -12,7 +12,8 @@ module _ {T A X : Type 0} where
 
   -- of two vectors is found what is found of the slices of their elements
   abbrev pub IsThatOfTheSlices : (Vector T A → Vector T A → X) → (Bor (List T) → Bor (List T) → X) → Type 0
-  IsThatOfTheSlices of_vectors of_slices = (v w : Vector T A) (s t : Bor (List T)) → s.now ≡ v.items → t.now ≡ w.items → of_vectors v w ≡ of_slices s t
+  IsThatOfTheSlices of_vectors of_slices =
+      (v w : Vector T A) (s t : Bor (List T)) → s.now ≡ v.items → t.now ≡ w.items → of_vectors v w ≡ of_slices s t
 
 -- those are equal that are equal in order, and no others
 abbrev pub OrderAgrees : {X : Type 0} → (X → X → Bool) → (X → X → Ordering) → Type 0

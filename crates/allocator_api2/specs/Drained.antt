@@ -1,11 +1,9 @@
--- What the parts of a drain do, as one command of a run.
+-- What the parts of the command `Drain` do.
 use Rattle.std.specs.Prelude.{◌≡◌, ℕ, ◌+◌, ◌-◌, ◌≤◌, Bool, ◌++◌, length, take, drop, reverse, if◌then◌else◌}
 use Rattle.aa_vec.specs.Draining.{DrainKeeps, drain_rest, taken_front, taken_back}
-use Rattle.aa_vec.specs.Vector.{Vector, len, Holds, GrowsTo, LacksRoom}
+use Rattle.aa_vec.specs.Vector.{Vector, len, Holds}
 use Rattle.aa_vec.specs.declared.vec.drain.Drain.{Drain}
-use Rattle.allocator_api2.specs.declared.runner.Reply.{Reply}
-use Rattle.allocator_api2.specs.declared.runner.Reply.TheVariants.{Done, Refused, Range}
-use Rattle.allocator_api2.specs.Machine.{from_front, from_back, left_of, given_of, drained, given}
+use Rattle.allocator_api2.specs.Machine.{left_of, given_of}
 
 module _ {T A : Type 0} where
   -- so many items were taken from the front of a drain, and stand behind the elements of side, in order
@@ -26,20 +24,6 @@ module _ {T A : Type 0} where
 
   -- f items of the range of main came from the front and then b from the back, and stand behind those of side; the others stay or go
   pub record Drained (main side : Vector T A) (start end f b : ℕ) (keep : Bool) (main' side' : Vector T A) : Type 0 where
-    pub left : Holds main (left_of main.items start end f b keep) main'
-    pub gave : Holds side (side.items ++ given_of main.items start end f b) side'
+    pub left : Holds main (left_of main.items start end (f, b) keep) main'
+    pub gave : Holds side (side.items ++ given_of main.items start end (f, b)) side'
     pub written : main'.written ≤ main.written + (len main - end + (if keep then end - start - f - b else 0))
-
-  -- the command `Drain` on two vectors: its reply, and what it leaves of them
-  abbrev pub AnswersDrain : (size : ℕ) → Vector T A → Vector T A → (start end front back : ℕ) → (keep : Bool) → Reply T → Vector T A → Vector T A → Type 0
-  AnswersDrain size main side start end front back keep Done main' side' =
-      (start ≤ end) × (end ≤ len main)
-      × Holds main (drained main.items start end front back keep) main'
-      × GrowsTo size side (from_front (end - start) front + from_back (end - start) front back) (side.items ++ given main.items start end front back) side'
-      × (main'.written ≤ main.written + (len main - end + (if keep then end - start - from_front (end - start) front - from_back (end - start) front back else 0)))
-  AnswersDrain size main side start end front back keep (Refused kind) main' side' =
-      (start ≤ end) × (end ≤ len main)
-      × LacksRoom side (from_front (end - start) front + from_back (end - start) front back) kind
-      × (main' ≡ main) × (side' ≡ side)
-  AnswersDrain size main side start end front back keep Range main' side' = (¬ ((start ≤ end) × (end ≤ len main))) × (main' ≡ main) × (side' ≡ side)
-  AnswersDrain size main side start end front back keep reply main' side' = ⊥

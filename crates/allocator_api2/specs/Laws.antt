@@ -1,43 +1,44 @@
 -- Laws that users of the vector rely on, over the steps of the list machine and over what the calls leave.
-use Rattle.std.specs.Prelude.{◌≡◌, ℕ, ◌≤◌, Bool, false, List, [], ◌∷◌, length, map, ⊤}
+use Rattle.std.specs.Prelude.{◌≡◌, ℕ, ◌≤◌, Bool, false, List, [], ◌∷◌, length, ⊤}
 use Rattle.std.specs.List.{AllByRecursion}
 use Rattle.aa_raw.specs.declared.collections.Refused.{Refused}
 use Rattle.aa_vec.specs.Vector.{Vector, len, sized}
 use Rattle.aa_vec.specs.Boxes.{boxed, HandsBack, IsUnboxed}
 use Rattle.aa_vec.specs.Choosing.{Equals, Deduplicated}
-use Rattle.allocator_api2.specs.declared.runner.Command.{Command}
 use Rattle.allocator_api2.specs.declared.runner.Command.TheVariants.{Within, Reserve, SplitOff, Append}
 use Rattle.allocator_api2.specs.declared.runner.Reply.{Reply}
 use Rattle.allocator_api2.specs.declared.runner.Reply.TheVariants.{Done}
-use Rattle.allocator_api2.specs.Machine.{State, Step}
-use Rattle.allocator_api2.specs.Run.{Turn, IsRun}
-
--- the command pushes within the capacity
-abbrev pub PushesWithin : {T A : Type 0} → Command T A → Type 0
-PushesWithin (Within x) = ⊤
-PushesWithin command = ⊥
+use Rattle.allocator_api2.specs.Machine.{Answers}
 
 abbrev pub IsDone : {T : Type 0} → Reply T → Type 0
 IsDone Done = ⊤
 IsDone reply = ⊥
 
+-- the elements are pushed within the capacity of main, one after the other, with these replies
+abbrev pub PushesWithin : {T A : Type 0} (size : ℕ) (main side : Vector T A) → List T → List (Reply T) → Type 0
+PushesWithin size main side [] [] = ⊤
+PushesWithin {T} {A} size main side (x ∷ xs) (reply ∷ replies) =
+    (main' : Vector T A) × (side' : Vector T A) × Answers size main side (Within x) reply main' side'
+    × PushesWithin size main' side' xs replies
+PushesWithin size main side [] (reply ∷ replies) = ⊥
+PushesWithin size main side (x ∷ xs) [] = ⊥
+
 -- after a reserve of k more that was done, the next k commands, all of them pushes within the capacity, are done
-abbrev pub ReserveHolds : {T K S : Type 0} (A : Type 0) (size : ℕ) → (K → T → Bool → K → T → Type 0) → (S → T → T → Bool → S → T → T → Type 0) → Type 0
-ReserveHolds {T} {K} {S} A size Keeps Repeats =
-    (k : ℕ) (old mid : State T A K S) (answers : List Bool) (turns : List (Turn T A K S)) (new : State T A K S)
-    → Step size Keeps Repeats old (Reserve k) answers Done mid
-    → IsRun size Keeps Repeats mid turns new
-    → length turns ≤ k
-    → AllByRecursion PushesWithin (map (λ t. t.command) turns)
-    → AllByRecursion IsDone (map (λ t. t.reply) turns)
+abbrev pub ReserveHolds : (T A : Type 0) (size : ℕ) → Type 0
+ReserveHolds T A size =
+    (k : ℕ) (main side main' side' : Vector T A) (xs : List T) (replies : List (Reply T))
+    → Answers size main side (Reserve k) Done main' side'
+    → PushesWithin size main' side' xs replies
+    → length xs ≤ k
+    → AllByRecursion IsDone replies
 
 -- a list that is cut at an index, and then joined to what was cut off, is as it was
-abbrev pub CutIsJoined : {T K S : Type 0} (A : Type 0) (size : ℕ) → (K → T → Bool → K → T → Type 0) → (S → T → T → Bool → S → T → T → Type 0) → Type 0
-CutIsJoined {T} {K} {S} A size Keeps Repeats =
-    (at : ℕ) (old mid new : State T A K S) (answers more : List Bool)
-    → Step size Keeps Repeats old (SplitOff at) answers Done mid
-    → Step size Keeps Repeats mid Append more Done new
-    → new.main.items ≡ old.main.items
+abbrev pub CutIsJoined : (T A : Type 0) (size : ℕ) → Type 0
+CutIsJoined T A size =
+    (at : ℕ) (main side head tail main' side' : Vector T A)
+    → Answers size main side (SplitOff at) Done head tail
+    → Answers size head tail Append Done main' side'
+    → main'.items ≡ main.items
 
 -- of any two neighbours neither is equal to the other
 abbrev pub NeighboursDiffer : {T : Type 0} → (T → T → Bool) → List T → Type 0
@@ -52,7 +53,8 @@ TestsEquality {T} {S} eq Repeats = (s t : S) (x l y k : T) (answer : Bool) → R
 -- what is left without repeats, by a closure that tests for equality, has no two equal neighbours
 abbrev pub LeavesNoRepeats : {T S : Type 0} → (T → T → Bool) → (S → T → T → Bool → S → T → T → Type 0) → Type 0
 LeavesNoRepeats {T} {S} eq Repeats =
-    TestsEquality eq Repeats → (s t : S) (xs left : List T) (answers : List Bool) → Deduplicated Repeats s xs answers t left → NeighboursDiffer eq left
+    TestsEquality eq Repeats
+    → (s t : S) (xs left : List T) (answers : List Bool) → Deduplicated Repeats s xs answers t left → NeighboursDiffer eq left
 
 -- a list that becomes a boxed slice, and then a vector, is as it was; a vector that could not become one is handed back
 abbrev pub BoxingKeeps : (T A : Type 0) (size : ℕ) → Type 0

@@ -1,11 +1,17 @@
 -- The list machine: two lists, each beside a capacity, and what each command makes of them.
+use denote.Ref.{MutBor}
+use denote.Param.Members.{Mut}
 use Rattle.std.specs.Prelude.{◌≡◌, ℕ, ◌+◌, ◌-◌, ◌<◌, ◌≤◌, min, max, Bool, ◌==◌, List, [], ◌∷◌, ◌++◌, take, drop, replicate, insert, remove, swap_remove, slice_get, slice_range, reverse, if◌then◌else◌, Some, ◌⊎◌, ⊤}
+use Rattle.std.specs.Fn.{CalledAtMut, CalledAtPairMut}
+use Rattle.aa_raw.specs.Closures.{TakesPairMut}
 use Rattle.aa_raw.specs.declared.collections.TryReserveErrorKind.{TryReserveErrorKind}
-use Rattle.aa_raw.specs.declared.collections.TryReserveErrorKind.TheVariants.{CapacityOverflow}
+use Rattle.aa_raw.specs.declared.collections.TryReserveErrorKind.TheVariants.{AllocError}
+use Rattle.aa_raw.specs.Refusals.{IsRefusedAt}
 use Rattle.aa_raw.specs.Growth.{usize_max}
-use Rattle.aa_vec.specs.Vector.{Vector, len, sized, HasRoom, GrowsTo, GrowsExactly, Shrinks, SameBlock, Holds}
-use Rattle.aa_vec.specs.Choosing.{Retains, Deduplicates, answers_of}
-use Rattle.aa_vec.specs.Extending.{ExtendsAll, ExtendsFull, lower_by, asked_for}
+use Rattle.aa_vec.specs.Vector.{Vector, len, sized, HasRoom, LacksRoom, GrowsTo, GrowsExactly, Shrinks, SameBlock, Holds, Writes, run_count}
+use Rattle.aa_vec.specs.Choosing.{TakesMut, Retains, Deduplicates, answers_of}
+use Rattle.aa_vec.specs.Copies.{IsMade}
+use Rattle.aa_vec.specs.Extending.{ExtendsAll, ExtendsFull, lower_by}
 use Rattle.aa_vec.specs.Splicing.{SplicesAll, SplicesShort}
 use Rattle.allocator_api2.specs.declared.runner.Command.{Command}
 use Rattle.allocator_api2.specs.declared.runner.Command.TheVariants.{Push, Within, Pop, Insert, Remove, SwapRemove, Truncate, Clear, Reserve, ReserveExact, ShrinkTo, SplitOff, Append, Extend, ExtendFromWithin, Resize, Retain, Dedup, Drain, Splice}
@@ -22,39 +28,28 @@ pub record State (T A K S : Type 0) : Type 0 where
 abbrev pub state_of : {T A K S : Type 0} → Vector T A → Vector T A → K → S → State T A K S
 state_of main side keep same = record { main = main; side = side; keep = keep; same = same }
 
--- how many items come from the front of m of them, and then how many of the others from the back
-abbrev pub from_front : (m front : ℕ) → ℕ
-from_front m front = min front m
+-- how many items come from the front of m of them, and how many of the others from the back
+abbrev pub ends_of : (m front back : ℕ) → ℕ × ℕ
+ends_of m front back = let f = min front m in (f, min back (m - f))
 
-abbrev pub from_back : (m front back : ℕ) → ℕ
-from_back m front back = min back (m - from_front m front)
+-- what is given where so many are taken from the ends of a range: those from the front in order, and those from the back, the last first
+abbrev pub given_of : {T : Type 0} → List T → (start end : ℕ) → (taken : ℕ × ℕ) → List T
+given_of xs start end taken =
+    let middle = slice_range xs start end in take taken.0 middle ++ reverse (drop (end - start - taken.1) middle)
 
--- what a drain of the range leaves of a list where f items came from the front and b from the back, and what it gives of it: those from
--- the front in order, and those from the back, the last first
-abbrev pub left_of : {T : Type 0} → List T → (start end f b : ℕ) → (keep : Bool) → List T
-left_of xs start end f b keep = take start xs ++ ((if keep then slice_range (slice_range xs start end) f (end - start - b) else []) ++ drop end xs)
+-- and what is left of the list, where the others of the range stay or go
+abbrev pub left_of : {T : Type 0} → List T → (start end : ℕ) → (taken : ℕ × ℕ) → (keep : Bool) → List T
+left_of xs start end taken keep =
+    let middle = slice_range xs start end in
+    take start xs ++ ((if keep then slice_range middle taken.0 (end - start - taken.1) else []) ++ drop end xs)
 
-abbrev pub given_of : {T : Type 0} → List T → (start end f b : ℕ) → List T
-given_of xs start end f b = take f (slice_range xs start end) ++ reverse (drop (end - start - b) (slice_range xs start end))
-
--- the same where so many are asked for
-abbrev pub drained : {T : Type 0} → List T → (start end front back : ℕ) → (keep : Bool) → List T
-drained xs start end front back keep = left_of xs start end (from_front (end - start) front) (from_back (end - start) front back) keep
-
-abbrev pub given : {T : Type 0} → List T → (start end front back : ℕ) → List T
-given xs start end front back = given_of xs start end (from_front (end - start) front) (from_back (end - start) front back)
-
--- a vector was cut: the first `at` elements are in its block, the others in one with room for no more. Cut at 0 it goes away
--- with its block, and takes a new one of the same capacity
+-- a vector was cut. The first `at` elements stay in its block, and the others were moved into one with room for no more. Cut at 0 it
+-- goes away with its block, and a new one of the same capacity stands in its place
 pub record Splits {T A : Type 0} (size : ℕ) (old : Vector T A) (at : ℕ) (head tail : Vector T A) : Type 0 where
-  pub head_items : head.items ≡ take at old.items
-  pub tail_items : tail.items ≡ drop at old.items
-  pub head_block : 0 < at → SameBlock old head
-  pub tail_block : at ≡ 0 → SameBlock old tail
-  pub head_capacity : at ≡ 0 → head.capacity ≡ sized size old.capacity
-  pub tail_capacity : 0 < at → tail.capacity ≡ sized size (len old - at)
-  pub head_growth : head.growth ≡ old.growth
-  pub tail_growth : tail.growth ≡ old.growth
+  pub head_stays : 0 < at → Holds old (take at old.items) head × Writes old 0 0 head
+  pub tail_made : 0 < at → IsMade size (len old - at) old.growth (drop at old.items) (run_count (len old - at)) tail
+  pub tail_all : at ≡ 0 → tail ≡ old
+  pub head_made : at ≡ 0 → IsMade size old.capacity old.growth [] 0 head
 
 -- n items in place of the range of v, of which `lower` tells how many are to come, need no memory: nothing is behind the range, and they
 -- fit behind what is before it; or fewer come than the range has; or no more are left, once they fill the gap, than are told, and what
@@ -66,131 +61,231 @@ FitsRange v start end n lower =
     ⊎ ((end < len v) × (n < end - start))
     ⊎ ((end < len v) × (left ≤ lower left) × HasRoom v (lower left))
 
-module _ {T A K S : Type 0} where
-  -- nothing but main changed
-  pub record OnlyMain (old new : State T A K S) : Type 0 where
-    pub side : new.side ≡ old.side
-    pub keep : new.keep ≡ old.keep
-    pub same : new.same ≡ old.same
-
+module _ {T A : Type 0} where
   -- the indices that the command names lie in main
-  abbrev pub InRange : State T A K S → Command T A → Type 0
-  InRange s (Insert i x) = i ≤ len s.main
-  InRange s (Remove i) = i < len s.main
-  InRange s (SwapRemove i) = i < len s.main
-  InRange s (SplitOff at) = at ≤ len s.main
-  InRange s (ExtendFromWithin from to) = (from ≤ to) × (to ≤ len s.main)
-  InRange s (Drain start end front back keep) = (start ≤ end) × (end ≤ len s.main)
-  InRange s (Splice start end items hint) = (start ≤ end) × (end ≤ len s.main)
-  InRange s command = ⊤
+  abbrev pub InRange : (main : Vector T A) → Command T A → Type 0
+  InRange main (Push x) = ⊤
+  InRange main (Within x) = ⊤
+  InRange main Pop = ⊤
+  InRange main (Insert i x) = i ≤ len main
+  InRange main (Remove i) = i < len main
+  InRange main (SwapRemove i) = i < len main
+  InRange main (Truncate n) = ⊤
+  InRange main Clear = ⊤
+  InRange main (Reserve k) = ⊤
+  InRange main (ReserveExact k) = ⊤
+  InRange main (ShrinkTo k) = ⊤
+  InRange main (SplitOff at) = at ≤ len main
+  InRange main Append = ⊤
+  InRange main (Extend items hint) = ⊤
+  InRange main (ExtendFromWithin from to) = (from ≤ to) × (to ≤ len main)
+  InRange main (Resize n x) = ⊤
+  InRange main Retain = ⊤
+  InRange main Dedup = ⊤
+  InRange main (Drain start end front back keep) = (start ≤ end) × (end ≤ len main)
+  InRange main (Splice start end items hint) = (start ≤ end) × (end ≤ len main)
 
   -- the command needs no memory, and no clone
-  abbrev pub Fits : State T A K S → Command T A → Type 0
-  Fits s (Push x) = HasRoom s.main 1
-  Fits s (Insert i x) = HasRoom s.main 1
-  Fits s (Reserve k) = HasRoom s.main k
-  Fits s (ReserveExact k) = HasRoom s.main k
-  Fits s (ShrinkTo k) = (s.main.capacity ≤ max (len s.main) k) ⊎ (max (len s.main) k ≡ 0) ⊎ (s.main.capacity ≡ usize_max)
-  Fits s (SplitOff at) = ⊥
-  Fits s Append = HasRoom s.main (len s.side)
-  Fits s (Extend items hint) = HasRoom s.main (len items)
-  Fits s (ExtendFromWithin from to) = from ≡ to
-  Fits s (Resize n x) = (n ≤ len s.main) ⊎ ((n ≡ len s.main + 1) × (n ≤ s.main.capacity))
-  Fits s (Drain start end front back keep) = HasRoom s.side (from_front (end - start) front + from_back (end - start) front back)
-  Fits s (Splice start end items hint) = FitsRange s.main start end (len items) (lower_by hint)
-  Fits s command = ⊤
+  abbrev pub Fits : (main side : Vector T A) → Command T A → Type 0
+  Fits main side (Push x) = HasRoom main 1
+  Fits main side (Within x) = ⊤
+  Fits main side Pop = ⊤
+  Fits main side (Insert i x) = HasRoom main 1
+  Fits main side (Remove i) = ⊤
+  Fits main side (SwapRemove i) = ⊤
+  Fits main side (Truncate n) = ⊤
+  Fits main side Clear = ⊤
+  Fits main side (Reserve k) = HasRoom main k
+  Fits main side (ReserveExact k) = HasRoom main k
+  Fits main side (ShrinkTo k) = (main.capacity ≤ max (len main) k) ⊎ (max (len main) k ≡ 0) ⊎ (main.capacity ≡ usize_max)
+  Fits main side (SplitOff at) = ⊥
+  Fits main side Append = HasRoom main (len side)
+  Fits main side (Extend items hint) = HasRoom main (len items)
+  Fits main side (ExtendFromWithin from to) = from ≡ to
+  Fits main side (Resize n x) = (n ≤ len main) ⊎ ((n ≡ len main + 1) × (n ≤ main.capacity))
+  Fits main side Retain = ⊤
+  Fits main side Dedup = ⊤
+  Fits main side (Drain start end front back keep) =
+      let taken = ends_of (end - start) front back in HasRoom side (taken.0 + taken.1)
+  Fits main side (Splice start end items hint) = FitsRange main start end (len items) (lower_by hint)
 
-  -- the length that a refused command asked room for
-  abbrev pub length_asked : State T A K S → Command T A → State T A K S → ℕ
-  length_asked old (Push x) new = len old.main + 1
-  length_asked old (Insert i x) new = len old.main + 1
-  length_asked old (Reserve k) new = len old.main + k
-  length_asked old (ReserveExact k) new = len old.main + k
-  length_asked old Append new = len old.main + len old.side
-  length_asked old (Extend items hint) new = len new.main + asked_for (lower_by hint) (len old.main + len items - len new.main)
-  length_asked old (ExtendFromWithin from to) new = len old.main + (to - from)
-  length_asked old (Resize n x) new = n
-  length_asked old (Drain start end front back keep) new = len old.side + (from_front (end - start) front + from_back (end - start) front back)
-  length_asked old (Splice start end items hint) new =
-      if end == len old.main
-      then len new.main + asked_for (lower_by hint) (start + len items - len new.main)
-      else len old.main + lower_by hint (len items - (end - start))
-  length_asked old command new = 0
+  -- what a command does to main alone; side stays
+  pub record OnMain (side side' : Vector T A) (Does : Type 0) : Type 0 where
+    pub side_stays : side' ≡ side
+    pub main_does : Does
 
-  -- main has its elements as before, and room for k more was made for it, or it is as it was
-  abbrev pub KeepsMain : (size : ℕ) → State T A K S → (k : ℕ) → State T A K S → Type 0
-  KeepsMain size old k new = (new ≡ old) ⊎ (OnlyMain old new × GrowsTo size old.main k old.main.items new.main)
+  -- neither changes
+  pub record Unchanged (main side main' side' : Vector T A) : Type 0 where
+    pub main_same : main' ≡ main
+    pub side_same : side' ≡ side
 
-  -- what a refused command leaves
-  abbrev pub Leaves : (size : ℕ) → State T A K S → Command T A → TryReserveErrorKind → State T A K S → Type 0
-  Leaves size old (Extend items hint) kind new =
-      OnlyMain old new × ExtendsFull size (lower_by hint) old.main old.main.items items.items kind new.main
-  Leaves size old (ExtendFromWithin from to) kind new = KeepsMain size old (to - from) new
-  Leaves size old (Resize n x) kind new = KeepsMain size old (n - len old.main) new
-  Leaves size old (Splice start end items hint) kind new =
-      OnlyMain old new
-      × SplicesShort size (lower_by hint) old.main (take start old.main.items) (end - start) (drop end old.main.items) items.items kind new.main
-  Leaves size old command kind new = new ≡ old
+  -- the elements of side are behind those of main
+  pub record Joins (size : ℕ) (main side main' side' : Vector T A) : Type 0 where
+    pub joined : GrowsTo size main (len side) (main.items ++ side.items) main'
+    pub emptied : Holds side [] side'
 
--- the closures are told by what one call of each may do: `Keeps` from its state and an element to an answer, its next state and
--- the element as it was left, `Repeats` the same for two elements
-module _ {T A K S : Type 0} (size : ℕ) (Keeps : K → T → Bool → K → T → Type 0) (Repeats : S → T → T → Bool → S → T → T → Type 0) where
-  -- what an accepted command answers and leaves, where elements have `size` bytes; the answers are those of the closures called
-  abbrev pub Succeeds : State T A K S → Command T A → List Bool → Reply T → State T A K S → Type 0
-  Succeeds old (Push x) answers Done new =
-      (answers ≡ []) × OnlyMain old new × GrowsTo size old.main 1 (old.main.items ++ x ∷ []) new.main
-  Succeeds old (Within x) answers Done new =
-      (answers ≡ []) × (len old.main < old.main.capacity) × OnlyMain old new × Holds old.main (old.main.items ++ x ∷ []) new.main
-  Succeeds old (Within x) answers (Back y) new = (answers ≡ []) × (len old.main ≡ old.main.capacity) × (y ≡ x) × (new ≡ old)
-  Succeeds old Pop answers (Item y) new =
-      (answers ≡ []) × OnlyMain old new × ((xs : List T) × (old.main.items ≡ xs ++ y ∷ []) × Holds old.main xs new.main)
-  Succeeds old Pop answers Nothing new = (answers ≡ []) × (old.main.items ≡ []) × (new ≡ old)
-  Succeeds old (Insert i x) answers Done new =
-      (answers ≡ []) × OnlyMain old new × GrowsTo size old.main 1 (insert old.main.items i x) new.main
-  Succeeds old (Remove i) answers (Item y) new =
-      (answers ≡ []) × OnlyMain old new × (slice_get old.main.items i ≡ Some y) × Holds old.main (remove old.main.items i) new.main
-  Succeeds old (SwapRemove i) answers (Item y) new =
-      (answers ≡ []) × OnlyMain old new × (slice_get old.main.items i ≡ Some y) × Holds old.main (swap_remove old.main.items i y) new.main
-  Succeeds old (Truncate n) answers Done new = (answers ≡ []) × OnlyMain old new × Holds old.main (take n old.main.items) new.main
-  Succeeds old Clear answers Done new = (answers ≡ []) × OnlyMain old new × Holds old.main [] new.main
-  Succeeds old (Reserve k) answers Done new = (answers ≡ []) × OnlyMain old new × GrowsTo size old.main k old.main.items new.main
-  Succeeds old (ReserveExact k) answers Done new =
-      (answers ≡ []) × OnlyMain old new × GrowsExactly size old.main k old.main.items new.main
-  Succeeds old (ShrinkTo k) answers Done new =
-      (answers ≡ []) × OnlyMain old new × Shrinks old.main (min old.main.capacity (sized size (max (len old.main) k))) new.main
-  Succeeds old (SplitOff at) answers Done new =
-      (answers ≡ []) × (new.keep ≡ old.keep) × (new.same ≡ old.same) × Splits size old.main at new.main new.side
-  Succeeds old Append answers Done new =
-      (answers ≡ []) × (new.keep ≡ old.keep) × (new.same ≡ old.same)
-      × GrowsTo size old.main (len old.side) (old.main.items ++ old.side.items) new.main × Holds old.side [] new.side
-  Succeeds old (Extend items hint) answers Done new =
-      (answers ≡ []) × OnlyMain old new × ExtendsAll size (lower_by hint) old.main old.main.items items.items new.main
-  Succeeds old (ExtendFromWithin from to) answers Done new =
-      (answers ≡ []) × OnlyMain old new
-      × GrowsTo size old.main (to - from) (old.main.items ++ take (to - from) (drop from old.main.items)) new.main
-  Succeeds old (Resize n x) answers Done new =
-      (answers ≡ []) × OnlyMain old new
-      × GrowsTo size old.main (n - len old.main) (take n old.main.items ++ replicate (n - len old.main) x) new.main
-  Succeeds old Retain answers Done new =
-      (new.side ≡ old.side) × (new.same ≡ old.same)
-      × ((retains : Retains Keeps old.keep old.main new.keep new.main) × (answers ≡ answers_of retains.told))
-  Succeeds old Dedup answers Done new =
-      (new.side ≡ old.side) × (new.keep ≡ old.keep)
-      × ((removes : Deduplicates Repeats old.same old.main new.same new.main) × (answers ≡ removes.answers))
-  Succeeds old (Drain start end front back keep) answers Done new =
-      (answers ≡ []) × (new.keep ≡ old.keep) × (new.same ≡ old.same)
-      × Holds old.main (drained old.main.items start end front back keep) new.main
-      × GrowsTo size old.side (from_front (end - start) front + from_back (end - start) front back) (old.side.items ++ given old.main.items start end front back) new.side
-  Succeeds old (Splice start end items hint) answers Done new =
-      (answers ≡ []) × OnlyMain old new
-      × SplicesAll size (lower_by hint) old.main (take start old.main.items) (end - start) (drop end old.main.items) items.items new.main
+  -- what was taken out of the range of main is behind the elements of side
+  pub record Drains (size : ℕ) (main side : Vector T A) (start end : ℕ) (taken : ℕ × ℕ) (keep : Bool)
+      (main' side' : Vector T A) : Type 0 where
+    pub leaves : Holds main (left_of main.items start end taken keep) main'
+    pub gives : GrowsTo size side (taken.0 + taken.1) (side.items ++ given_of main.items start end taken) side'
+
+  -- there was no room for k copies, and nothing has changed; or a clone of an element was refused, and the room for all stays
+  abbrev pub LacksCopies : (size : ℕ) → Vector T A → (k : ℕ) → TryReserveErrorKind → Vector T A → Type 0
+  LacksCopies size old k kind new =
+      (LacksRoom old k kind × (new ≡ old)) ⊎ ((kind ≡ AllocError (len old + k)) × GrowsTo size old k old.items new)
+
+-- elements have `size` bytes
+module _ {T A : Type 0} (size : ℕ) where
+  -- what a command that is done makes of main, where it touches main alone, and its reply
+  abbrev pub MakesOfMain : (main : Vector T A) → Command T A → Reply T → (main' : Vector T A) → Type 0
+  MakesOfMain main (Push x) Done main' = GrowsTo size main 1 (main.items ++ x ∷ []) main'
+  MakesOfMain main (Within x) Done main' = (len main < main.capacity) × Holds main (main.items ++ x ∷ []) main'
+  MakesOfMain main (Within x) (Back y) main' = (len main ≡ main.capacity) × (y ≡ x) × (main' ≡ main)
+  MakesOfMain main Pop (Item y) main' = (main.items ≡ main'.items ++ y ∷ []) × SameBlock main main'
+  MakesOfMain main Pop Nothing main' = (main.items ≡ []) × (main' ≡ main)
+  MakesOfMain main (Insert i x) Done main' = GrowsTo size main 1 (insert main.items i x) main'
+  MakesOfMain main (Remove i) (Item y) main' = (slice_get main.items i ≡ Some y) × Holds main (remove main.items i) main'
+  MakesOfMain main (SwapRemove i) (Item y) main' = (slice_get main.items i ≡ Some y) × Holds main (swap_remove main.items i y) main'
+  MakesOfMain main (Truncate n) Done main' = Holds main (take n main.items) main'
+  MakesOfMain main Clear Done main' = Holds main [] main'
+  MakesOfMain main (Reserve k) Done main' = GrowsTo size main k main.items main'
+  MakesOfMain main (ReserveExact k) Done main' = GrowsExactly size main k main.items main'
+  MakesOfMain main (ShrinkTo k) Done main' = Shrinks main (min main.capacity (sized size (max (len main) k))) main'
+  MakesOfMain main (Extend items hint) Done main' = ExtendsAll size (lower_by hint) main main.items items.items main'
+  MakesOfMain main (ExtendFromWithin from to) Done main' =
+      GrowsTo size main (to - from) (main.items ++ take (to - from) (drop from main.items)) main'
+  MakesOfMain main (Resize n x) Done main' =
+      GrowsTo size main (n - len main) (take n main.items ++ replicate (n - len main) x) main'
+  MakesOfMain main (Splice start end items hint) Done main' =
+      SplicesAll size (lower_by hint) main (take start main.items) (end - start) (drop end main.items) items.items main'
   -- no other reply is given
-  Succeeds old command answers reply new = ⊥
+  MakesOfMain main command reply main' = ⊥
 
-  -- old may answer the command by this reply and become new
-  abbrev pub Step : State T A K S → Command T A → List Bool → Reply T → State T A K S → Type 0
-  Step old command answers Range new = (answers ≡ []) × (¬ InRange old command) × (new ≡ old)
-  Step old command answers (Refused kind) new =
-      (answers ≡ []) × InRange old command × (¬ Fits old command) × Leaves size old command kind new
-      × (usize_max < length_asked old command new → kind ≡ CapacityOverflow)
-  Step old command answers reply new = InRange old command × Succeeds old command answers reply new
+  -- what a command that is done makes of main and side, and its reply
+  abbrev pub Makes : (main side : Vector T A) → Command T A → Reply T → (main' side' : Vector T A) → Type 0
+  Makes main side (SplitOff at) Done main' side' = Splits size main at main' side'
+  Makes main side Append Done main' side' = Joins size main side main' side'
+  Makes main side (Drain start end front back keep) Done main' side' =
+      Drains size main side start end (ends_of (end - start) front back) keep main' side'
+  Makes main side command reply main' side' = OnMain side side' (MakesOfMain main command reply main')
+
+  -- the kind of a refusal, and what it leaves of main, where the command touches main alone
+  abbrev pub LeavesOfMain : (main : Vector T A) → Command T A → TryReserveErrorKind → (main' : Vector T A) → Type 0
+  LeavesOfMain main (Push x) kind main' = LacksRoom main 1 kind × (main' ≡ main)
+  LeavesOfMain main (Insert i x) kind main' = LacksRoom main 1 kind × (main' ≡ main)
+  LeavesOfMain main (Reserve k) kind main' = LacksRoom main k kind × (main' ≡ main)
+  LeavesOfMain main (ReserveExact k) kind main' = LacksRoom main k kind × (main' ≡ main)
+  LeavesOfMain main (ShrinkTo k) kind main' = (kind ≡ AllocError (max (len main) k)) × (main' ≡ main)
+  LeavesOfMain main (Extend items hint) kind main' = ExtendsFull size (lower_by hint) main main.items items.items kind main'
+  LeavesOfMain main (ExtendFromWithin from to) kind main' = LacksCopies size main (to - from) kind main'
+  LeavesOfMain main (Resize n x) kind main' = LacksCopies size main (n - len main) kind main'
+  LeavesOfMain main (Splice start end items hint) kind main' =
+      SplicesShort size (lower_by hint) main (take start main.items) (end - start) (drop end main.items) items.items kind main'
+  -- no other command is refused
+  LeavesOfMain main command kind main' = ⊥
+
+  -- the kind of a refusal, and what it leaves of main and side
+  abbrev pub Leaves : (main side : Vector T A) → Command T A → TryReserveErrorKind → (main' side' : Vector T A) → Type 0
+  Leaves main side (SplitOff at) kind main' side' =
+      IsRefusedAt kind (if at == 0 then main.capacity else len main - at) × Unchanged main side main' side'
+  Leaves main side Append kind main' side' = LacksRoom main (len side) kind × Unchanged main side main' side'
+  Leaves main side (Drain start end front back keep) kind main' side' =
+      let taken = ends_of (end - start) front back in LacksRoom side (taken.0 + taken.1) kind × Unchanged main side main' side'
+  Leaves main side command kind main' side' = OnMain side side' (LeavesOfMain main command kind main')
+
+  -- an index lies outside
+  pub record AnswersRange (main side : Vector T A) (command : Command T A) (main' side' : Vector T A) : Type 0 where
+    pub outside : ¬ InRange main command
+    pub stays : Unchanged main side main' side'
+
+  -- memory or a clone was refused
+  pub record AnswersRefused (main side : Vector T A) (command : Command T A) (kind : TryReserveErrorKind)
+      (main' side' : Vector T A) : Type 0 where
+    pub in_range : InRange main command
+    pub misfits : ¬ Fits main side command
+    pub leaves : Leaves main side command kind main' side'
+
+  -- the command was done
+  pub record AnswersDone (main side : Vector T A) (command : Command T A) (reply : Reply T) (main' side' : Vector T A) : Type 0 where
+    pub in_range : InRange main command
+    pub makes : Makes main side command reply main' side'
+
+  -- a command that calls no closure may be answered so, and leave this
+  abbrev pub Answers : (main side : Vector T A) → Command T A → Reply T → (main' side' : Vector T A) → Type 0
+  Answers main side command Range main' side' = AnswersRange main side command main' side'
+  Answers main side command (Refused kind) main' side' = AnswersRefused main side command kind main' side'
+  Answers main side command reply main' side' = AnswersDone main side command reply main' side'
+
+-- v has no more elements than places, and no more places than can be counted
+pub record IsVector {T A : Type 0} (v : Vector T A) : Type 0 where
+  pub within : len v ≤ v.capacity
+  pub countable : v.capacity ≤ usize_max
+
+-- and so have both vectors
+pub record IsPossible {T A : Type 0} (main side : Vector T A) : Type 0 where
+  pub main_possible : IsVector main
+  pub side_possible : IsVector side
+
+-- what the calls may do that a run makes of other code: of the two closures, and of the allocator's clone
+pub record Calls (T A K S : Type 0) : Type 1 where
+  -- one call of `keep`, from its state and an element: the answer, the next state, and the element as it was left
+  pub keeps : K → T → Bool → K → T → Type 0
+  -- one call of `same`, from its state and two elements
+  pub repeats : S → T → T → Bool → S → T → T → Type 0
+  -- when they may be called
+  pub takes_keep : K → T → Type 0
+  pub takes_same : S → T → T → Type 0
+  -- a clone of the allocator
+  pub clones : A → A → Type 0
+
+abbrev pub calls_of : {T A K S : Type 0} → (A → A → Type 0)
+    → Mut K (MutBor T × Unit {0}) (Bool × (MutBor T × Unit {0}))
+    → Mut S (MutBor T × (MutBor T × Unit {0})) (Bool × (MutBor T × (MutBor T × Unit {0})))
+    → Calls T A K S
+calls_of clones keep same =
+    record {
+      keeps = CalledAtMut keep;
+      repeats = CalledAtPairMut same;
+      takes_keep = TakesMut keep;
+      takes_same = TakesPairMut same;
+      clones = clones;
+    }
+
+module _ {T A K S : Type 0} (size : ℕ) (calls : Calls T A K S) where
+  -- no closure is called
+  pub record CallsNone (old : State T A K S) (command : Command T A) (answers : List Bool) (reply : Reply T)
+      (new : State T A K S) : Type 0 where
+    pub none : answers ≡ []
+    pub keep : new.keep ≡ old.keep
+    pub same : new.same ≡ old.same
+    pub lists : Answers size old.main old.side command reply new.main new.side
+
+  -- and the allocator is cloned for the new block, where main is cut
+  pub record CallsClone (old : State T A K S) (at : ℕ) (answers : List Bool) (reply : Reply T) (new : State T A K S) : Type 0 where
+    pub cut : CallsNone old (SplitOff at) answers reply new
+    pub tail_clone : reply ≡ Done → 0 < at → calls.clones old.main.alloc new.side.alloc
+    pub head_clone : reply ≡ Done → at ≡ 0 → calls.clones old.main.alloc new.main.alloc
+
+  -- `keep` is asked of the elements of main
+  pub record CallsKeep (old : State T A K S) (answers : List Bool) (reply : Reply T) (new : State T A K S) : Type 0 where
+    pub done : reply ≡ Done
+    pub side : new.side ≡ old.side
+    pub same : new.same ≡ old.same
+    pub retains : Retains calls.keeps old.keep old.main new.keep new.main
+    pub asked : answers ≡ answers_of retains.told
+
+  -- `same` is asked of them
+  pub record CallsSame (old : State T A K S) (answers : List Bool) (reply : Reply T) (new : State T A K S) : Type 0 where
+    pub done : reply ≡ Done
+    pub side : new.side ≡ old.side
+    pub keep : new.keep ≡ old.keep
+    pub removes : Deduplicates calls.repeats old.same old.main new.same new.main
+    pub asked : answers ≡ removes.answers
+
+  -- old may answer the command by this reply, where closures that it calls answer so, and become new
+  abbrev pub Step : State T A K S → Command T A → (answers : List Bool) → Reply T → State T A K S → Type 0
+  Step old (SplitOff at) answers reply new = CallsClone old at answers reply new
+  Step old Retain answers reply new = CallsKeep old answers reply new
+  Step old Dedup answers reply new = CallsSame old answers reply new
+  Step old command answers reply new = CallsNone old command answers reply new

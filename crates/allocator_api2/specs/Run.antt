@@ -4,20 +4,17 @@ use Rattle.std.specs.List.{AllByRecursion}
 use Rattle.aa_raw.specs.declared.raw_vec.Growth.{Growth}
 use Rattle.aa_raw.specs.declared.raw_vec.Growth.TheVariants.{Doubling, Sparing}
 use Rattle.aa_vec.specs.Choosing.{IsCallableInOrder, IsCallableAlong, kept_behind_removed}
-use Rattle.aa_vec.specs.Vector.{len}
+use Rattle.aa_vec.specs.Vector.{Vector, len}
 use Rattle.allocator_api2.specs.declared.runner.Command.{Command}
-use Rattle.allocator_api2.specs.declared.runner.Command.TheVariants.{Push, Within, Pop, Insert, Remove, SwapRemove, Truncate, Clear, Append, Extend, ExtendFromWithin, Resize, Retain, Dedup, Drain, Splice}
+use Rattle.allocator_api2.specs.declared.runner.Command.TheVariants.{Push, Within, Pop, Insert, Remove, SwapRemove, Truncate, Clear, Reserve, ReserveExact, ShrinkTo, SplitOff, Append, Extend, ExtendFromWithin, Resize, Retain, Dedup, Drain, Splice}
 use Rattle.allocator_api2.specs.declared.runner.Reply.{Reply}
 use Rattle.allocator_api2.specs.declared.runner.Reply.TheVariants.{Done, Back, Range}
-use Rattle.allocator_api2.specs.Machine.{State, Step, from_front, from_back}
+use Rattle.allocator_api2.specs.Machine.{State, Calls, Step, IsPossible, ends_of}
 
--- one step of a run
-pub record Turn (T A K S : Type 0) : Type 0 where
-  pub before : State T A K S
-  pub command : Command T A
-  pub answers : List Bool  -- of the closures that were called
-  pub reply : Reply T
-  pub after : State T A K S
+-- n where the command was done
+abbrev pub if_done : {T : Type 0} → Reply T → (n : ℕ) → ℕ
+if_done Done n = n
+if_done reply n = 0
 
 module _ {T A : Type 0} where
   -- commands that make no room but for what they add
@@ -35,107 +32,186 @@ module _ {T A : Type 0} where
   AddsOrRemoves Retain = ⊤
   AddsOrRemoves Dedup = ⊤
   AddsOrRemoves (Drain start end front back keep) = ⊤
-  AddsOrRemoves command = ⊥
+  AddsOrRemoves (Reserve k) = ⊥
+  AddsOrRemoves (ReserveExact k) = ⊥
+  AddsOrRemoves (ShrinkTo k) = ⊥
+  AddsOrRemoves (SplitOff at) = ⊥
+  AddsOrRemoves (ExtendFromWithin from to) = ⊥
+  AddsOrRemoves (Resize n x) = ⊥
+  AddsOrRemoves (Splice start end items hint) = ⊥
 
   -- how many items it is told are to come, if it is told
   abbrev pub hint_of : Command T A → Option ℕ
   hint_of (Extend items hint) = hint
+  hint_of (Splice start end items hint) = hint
   hint_of command = None
 
   -- those of them that are told no hint
   abbrev pub IsUnhinted : Command T A → Type 0
   IsUnhinted command = AddsOrRemoves command × (hint_of command ≡ None)
 
-module _ {T A K S : Type 0} where
-  -- how many elements a command added to main
-  abbrev pub added_by : State T A K S → Command T A → Reply T → State T A K S → ℕ
-  added_by old (Push x) Done new = 1
-  added_by old (Within x) Done new = 1
-  added_by old (Insert i x) Done new = 1
-  added_by old Append Done new = len old.side
-  added_by old (Extend items hint) reply new = len new.main - len old.main
-  added_by old command reply new = 0
+  -- those of them that add at most one element
+  abbrev pub AddsOneAtMost : Command T A → Type 0
+  AddsOneAtMost (Push x) = ⊤
+  AddsOneAtMost (Within x) = ⊤
+  AddsOneAtMost Pop = ⊤
+  AddsOneAtMost (Insert i x) = ⊤
+  AddsOneAtMost (Remove i) = ⊤
+  AddsOneAtMost (SwapRemove i) = ⊤
+  AddsOneAtMost (Truncate n) = ⊤
+  AddsOneAtMost Clear = ⊤
+  AddsOneAtMost Retain = ⊤
+  AddsOneAtMost Dedup = ⊤
+  AddsOneAtMost (Drain start end front back keep) = ⊤
+  AddsOneAtMost (Reserve k) = ⊥
+  AddsOneAtMost (ReserveExact k) = ⊥
+  AddsOneAtMost (ShrinkTo k) = ⊥
+  AddsOneAtMost (SplitOff at) = ⊥
+  AddsOneAtMost Append = ⊥
+  AddsOneAtMost (Extend items hint) = ⊥
+  AddsOneAtMost (ExtendFromWithin from to) = ⊥
+  AddsOneAtMost (Resize n x) = ⊥
+  AddsOneAtMost (Splice start end items hint) = ⊥
 
-  abbrev pub added : Turn T A K S → ℕ
-  added t = added_by t.before t.command t.reply t.after
+  -- how many elements a command added to main. A command that may make room for more than it adds counts for nothing
+  abbrev pub added_by : (main side : Vector T A) → Command T A → Reply T → (main' : Vector T A) → ℕ
+  added_by main side (Push x) reply main' = if_done reply 1
+  added_by main side (Within x) reply main' = if_done reply 1
+  added_by main side Pop reply main' = 0
+  added_by main side (Insert i x) reply main' = if_done reply 1
+  added_by main side (Remove i) reply main' = 0
+  added_by main side (SwapRemove i) reply main' = 0
+  added_by main side (Truncate n) reply main' = 0
+  added_by main side Clear reply main' = 0
+  added_by main side (Reserve k) reply main' = 0
+  added_by main side (ReserveExact k) reply main' = 0
+  added_by main side (ShrinkTo k) reply main' = 0
+  added_by main side (SplitOff at) reply main' = 0
+  added_by main side Append reply main' = if_done reply (len side)
+  added_by main side (Extend items hint) reply main' = len main' - len main
+  added_by main side (ExtendFromWithin from to) reply main' = 0
+  added_by main side (Resize n x) reply main' = 0
+  added_by main side Retain reply main' = 0
+  added_by main side Dedup reply main' = 0
+  added_by main side (Drain start end front back keep) reply main' = 0
+  added_by main side (Splice start end items hint) reply main' = 0
 
   -- how many elements of main a command may write
-  abbrev pub cost_of : State T A K S → Command T A → List Bool → State T A K S → ℕ
-  cost_of old (Push x) answers new = 1
-  cost_of old (Within x) answers new = 1
-  cost_of old (Insert i x) answers new = len old.main - i + 1
-  cost_of old (Remove i) answers new = len old.main - i - 1
-  cost_of old (SwapRemove i) answers new = 1
-  cost_of old Append answers new = len old.side
-  cost_of old (Extend items hint) answers new = len new.main - len old.main
-  cost_of old (ExtendFromWithin from to) answers new = to - from
-  cost_of old (Resize n x) answers new = n - len old.main
-  cost_of old Retain answers new = kept_behind_removed answers
-  cost_of old Dedup answers new = kept_behind_removed (map not answers)
-  cost_of old (Drain start end front back keep) answers new =
-      len old.main - end + (if keep then end - start - from_front (end - start) front - from_back (end - start) front back else 0)
-  cost_of old (Splice start end items hint) answers new = len new.main - (start + (len old.main - end)) + 2 * (len old.main - end)
-  cost_of old command answers new = 0
+  abbrev pub cost_of : (main side : Vector T A) → Command T A → List Bool → (main' : Vector T A) → ℕ
+  cost_of main side (Push x) answers main' = 1
+  cost_of main side (Within x) answers main' = 1
+  cost_of main side Pop answers main' = 0
+  cost_of main side (Insert i x) answers main' = len main - i + 1
+  cost_of main side (Remove i) answers main' = len main - i - 1
+  cost_of main side (SwapRemove i) answers main' = 1
+  cost_of main side (Truncate n) answers main' = 0
+  cost_of main side Clear answers main' = 0
+  cost_of main side (Reserve k) answers main' = 0
+  cost_of main side (ReserveExact k) answers main' = 0
+  cost_of main side (ShrinkTo k) answers main' = 0
+  cost_of main side (SplitOff at) answers main' = 0
+  cost_of main side Append answers main' = len side
+  cost_of main side (Extend items hint) answers main' = len main' - len main
+  cost_of main side (ExtendFromWithin from to) answers main' = to - from
+  cost_of main side (Resize n x) answers main' = n - len main
+  cost_of main side Retain answers main' = kept_behind_removed answers
+  cost_of main side Dedup answers main' = kept_behind_removed (map not answers)
+  cost_of main side (Drain start end front back keep) answers main' =
+      let taken = ends_of (end - start) front back in len main - end + (if keep then end - start - taken.0 - taken.1 else 0)
+  cost_of main side (Splice start end items hint) answers main' = len main' - (start + (len main - end)) + 2 * (len main - end)
 
-  abbrev pub cost_by : State T A K S → Command T A → List Bool → Reply T → State T A K S → ℕ
-  cost_by old command answers Range new = 0
-  cost_by old command answers (Back x) new = 0
-  cost_by old command answers reply new = cost_of old command answers new
+  abbrev pub cost_by : (main side : Vector T A) → Command T A → List Bool → Reply T → (main' : Vector T A) → ℕ
+  cost_by main side command answers Range main' = 0
+  cost_by main side command answers (Back x) main' = 0
+  cost_by main side command answers reply main' = cost_of main side command answers main'
+
+-- one step of a run
+pub record Turn (T A K S : Type 0) : Type 0 where
+  pub before : State T A K S
+  pub command : Command T A
+  pub answers : List Bool  -- of the closures that were called
+  pub reply : Reply T
+  pub after : State T A K S
+
+module _ {T A K S : Type 0} where
+  abbrev pub added : Turn T A K S → ℕ
+  added t = added_by t.before.main t.before.side t.command t.reply t.after.main
 
   abbrev pub cost : Turn T A K S → ℕ
-  cost t = cost_by t.before t.command t.answers t.reply t.after
+  cost t = cost_by t.before.main t.before.side t.command t.answers t.reply t.after.main
 
   -- the greatest length of main after a turn
   abbrev pub greatest_length : List (Turn T A K S) → ℕ
   greatest_length [] = 0
   greatest_length (t ∷ ts) = max (len t.after.main) (greatest_length ts)
 
+module _ {T A K S : Type 0} (size : ℕ) (calls : Calls T A K S) where
+  -- a step to a possible state, which writes no more elements into main's places than it costs
+  pub record IsTurn (t : Turn T A K S) : Type 0 where
+    pub step : Step size calls t.before t.command t.answers t.reply t.after
+    pub writes : t.after.main.written ≤ t.before.main.written + cost t
+    pub possible : IsPossible t.after.main t.after.side
+
+  -- the turns lead from old to new, one after the other
+  abbrev pub IsRun : State T A K S → List (Turn T A K S) → State T A K S → Type 0
+  IsRun old [] new = new ≡ old
+  IsRun old (t ∷ ts) new = (t.before ≡ old) × IsTurn t × IsRun t.after ts new
+
+  -- from old, the machine may give these replies to these commands, and then is new
+  pub record RunsTo (old : State T A K S) (commands : List (Command T A)) (replies : List (Reply T)) (new : State T A K S) : Type 0 where
+    pub possible : IsPossible old.main old.side
+    pub turns : List (Turn T A K S)
+    pub run : IsRun old turns new
+    pub commands_are : map (λ t. t.command) turns ≡ commands
+    pub replies_are : map (λ t. t.reply) turns ≡ replies
+
+-- What is proved of every run.
+
 -- how often each added element may be moved by growth
 abbrev pub moves_each : Growth → ℕ
 moves_each Doubling = 2
 moves_each Sparing = 3
 
-module _ {T A K S : Type 0} (size : ℕ) (Keeps : K → T → Bool → K → T → Type 0) (Repeats : S → T → T → Bool → S → T → T → Type 0) where
-  -- old may answer the command by this reply and become new, writing no more than it costs
-  pub record TakesStep (old : State T A K S) (command : Command T A) (reply : Reply T) (new : State T A K S) : Type 0 where
-    pub answers : List Bool
-    pub step : Step size Keeps Repeats old command answers reply new
-    pub writes : new.main.written ≤ old.main.written + cost_by old command answers reply new
+module _ {T A K S : Type 0} (old : State T A K S) (commands : List (Command T A)) (turns : List (Turn T A K S)) (new : State T A K S) where
+  -- from an empty vector, whatever is removed, what was added has been moved by growth twice at most, or three times if sparing
+  abbrev pub GrowthBound : Type 0
+  GrowthBound =
+      old.main.items ≡ [] → AllByRecursion AddsOrRemoves commands
+      → new.main.grown ≤ old.main.grown + moves_each old.main.growth * sum_by added turns
 
-  -- the turns are steps, one after the other, from old to new
-  abbrev pub IsRun : State T A K S → List (Turn T A K S) → State T A K S → Type 0
-  IsRun old [] new = new ≡ old
-  IsRun old (t ∷ ts) new =
-      (t.before ≡ old) × Step size Keeps Repeats t.before t.command t.answers t.reply t.after
-      × (t.after.main.written ≤ t.before.main.written + cost t)
-      × IsRun t.after ts new
+  -- from a vector without places, where the commands tell no hint, main has at most 8 places or twice its greatest length at the end
+  abbrev pub CapacityBound : Type 0
+  CapacityBound =
+      old.main.items ≡ [] → old.main.capacity ≡ 0 → AllByRecursion IsUnhinted commands
+      → new.main.capacity ≤ max 8 (2 * greatest_length turns)
 
-  -- from old, the machine may give these replies to these commands, and then is new
-  pub record RunsTo (old : State T A K S) (commands : List (Command T A)) (replies : List (Reply T)) (new : State T A K S) : Type 0 where
-    pub turns : List (Turn T A K S)
-    pub run : IsRun old turns new
-    pub told : map (λ t. t.command) turns ≡ commands
-    pub answered : map (λ t. t.reply) turns ≡ replies
-    -- from an empty vector, what is added is moved by growth twice at most, or three times if sparing, whatever is removed
-    pub moves : old.main.items ≡ [] → AllByRecursion AddsOrRemoves commands → new.main.grown ≤ old.main.grown + moves_each old.main.growth * sum_by added turns
-    -- no block is longer than 8 places and twice the greatest length
-    pub places : old.main.items ≡ [] → old.main.capacity ≡ 0 → AllByRecursion IsUnhinted commands → new.main.capacity ≤ max 8 (2 * greatest_length turns)
-    -- no more elements are written than the commands cost
-    pub writes : new.main.written ≤ old.main.written + sum_by cost turns
+  -- no more elements were written into main's places than the commands cost
+  abbrev pub WriteBound : Type 0
+  WriteBound = new.main.written ≤ old.main.written + sum_by cost turns
 
-  module _ (TakesKeep : K → T → Type 0) (TakesSame : S → T → T → Type 0) where
-    -- the closures may be called as the command calls them
-    abbrev pub MayCall : State T A K S → Command T A → Type 0
-    MayCall s Retain = IsCallableInOrder Keeps TakesKeep s.keep s.main.items
-    MayCall s Dedup = IsCallableAlong Repeats TakesSame s.same s.main.items
-    MayCall s command = ⊤
+module _ {T A K S : Type 0} (size : ℕ) (calls : Calls T A K S) (old : State T A K S) (commands : List (Command T A)) where
+  -- a run, and what is proved of it
+  pub record RunsWithin (replies : List (Reply T)) (new : State T A K S) : Type 0 where
+    pub run : RunsTo size calls old commands replies new
+    pub growth : GrowthBound old commands run.turns new
+    pub capacity : CapacityBound old commands run.turns new
+    pub writes : WriteBound old commands run.turns new
 
-    -- and so along every run: in every state that they reach, on everything that main then holds
-    abbrev pub MayRun : State T A K S → List (Command T A) → Type 0
-    MayRun s [] = ⊤
-    MayRun s (command ∷ commands) =
-        MayCall s command
-        × ((answers : List Bool) (reply : Reply T) (next : State T A K S) → Step size Keeps Repeats s command answers reply next → MayRun next commands)
+-- When a run may be told to begin.
+module _ {T A K S : Type 0} (size : ℕ) (calls : Calls T A K S) where
+  -- the closures may be called as the command calls them
+  abbrev pub MayCall : State T A K S → Command T A → Type 0
+  MayCall s Retain = IsCallableInOrder calls.keeps calls.takes_keep s.keep s.main.items
+  MayCall s Dedup = IsCallableAlong calls.repeats calls.takes_same s.same s.main.items
+  MayCall s command = ⊤
 
-    pub record IsCallableOnRuns (s : State T A K S) (commands : List (Command T A)) : Type 0 where
-      pub along : MayRun s commands
+  -- and so along every run: in every state that they reach, on everything that main then holds
+  abbrev pub MayRun : State T A K S → List (Command T A) → Type 0
+  MayRun s [] = ⊤
+  MayRun s (command ∷ commands) =
+      MayCall s command
+      × ((answers : List Bool) (reply : Reply T) (next : State T A K S)
+      → Step size calls s command answers reply next → IsPossible next.main next.side → MayRun next commands)
+
+  pub record IsCallableOnRuns (s : State T A K S) (commands : List (Command T A)) : Type 0 where
+    pub along : IsPossible s.main s.side → MayRun s commands

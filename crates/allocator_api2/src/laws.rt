@@ -1,6 +1,6 @@
 //! Laws that users of the vector rely on. The functions do nothing: their contracts are the laws.
 ghost use Rattle.std.specs.Prelude.{◌≤◌, Bool, List};
-ghost use Rattle.std.specs.Fn.{CalledAtMut, CalledAtPairMut};
+ghost use Rattle.std.specs.Fn.{CalledAtPairMut};
 ghost use Rattle.std.specs.Mem.{type_size};
 ghost use Rattle.aa_vec.specs.Choosing.{Equals, Deduplicated};
 ghost use Rattle.aa_vec.specs.Vector.{len};
@@ -19,21 +19,13 @@ pub fn length_within_capacity<T, A: Allocator>(v: &Vec<T, A>)
 }
 
 /// After a reserve of k more that was done, the next k commands of a run, all of them pushes within the capacity, are done.
-pub fn reserved_room_takes_pushes<T, A, K, S>()
-where
-    A: Allocator,
-    K: FnMut(&mut T) -> bool,
-    S: FnMut(&mut T, &mut T) -> bool,
-    ensures { ReserveHolds A (type_size T.row) (CalledAtMut K.FnMut) (CalledAtPairMut S.FnMut) }
+pub fn reserved_room_takes_pushes<T, A: Allocator>()
+    ensures { ReserveHolds T A (type_size T.row) }
 {}
 
 /// A list that is cut at an index, and then joined to what was cut off, is as it was, where both are done.
-pub fn cut_lists_join_again<T, A, K, S>()
-where
-    A: Allocator,
-    K: FnMut(&mut T) -> bool,
-    S: FnMut(&mut T, &mut T) -> bool,
-    ensures { CutIsJoined A (type_size T.row) (CalledAtMut K.FnMut) (CalledAtPairMut S.FnMut) }
+pub fn cut_lists_join_again<T, A: Allocator>()
+    ensures { CutIsJoined T A (type_size T.row) }
 {}
 
 /// What `dedup` leaves has no two equal neighbours, and so has what `dedup_by` leaves, or a `Dedup` of a run, by a closure that
@@ -52,10 +44,14 @@ pub fn boxed_lists_come_back<T, A: Allocator>()
     ensures { BoxingKeeps T A (type_size T.row) }
 {}
 
-/// Vectors are equal, and in order as far as there is one, as the slices of their elements are.
+/// Vectors are equal as the slices of their elements are.
+pub fn vectors_are_equal_as_their_slices<T: PartialEq, A: Allocator>()
+    ensures { IsThatOfTheSlices ⟦<Vec<T, A> as PartialEq>⟧.eq ⟦<&'static [T] as PartialEq>⟧.eq }
+{}
+
+/// Vectors are in order, as far as there is one, as the slices of their elements are.
 pub fn vectors_compare_as_their_slices<T: PartialOrd, A: Allocator>()
-    ensures equality { IsThatOfTheSlices ⟦<Vec<T, A> as PartialEq>⟧.eq ⟦<&'static [T] as PartialEq>⟧.eq }
-    ensures order { IsThatOfTheSlices ⟦<Vec<T, A> as PartialOrd>⟧.partial_cmp ⟦<&'static [T] as PartialOrd>⟧.partial_cmp }
+    ensures { IsThatOfTheSlices ⟦<Vec<T, A> as PartialOrd>⟧.partial_cmp ⟦<&'static [T] as PartialOrd>⟧.partial_cmp }
 {}
 
 /// Vectors are in order as the slices of their elements are, and the order agrees with equality where the elements' does.

@@ -1,22 +1,18 @@
 //! `run`: a list of commands on two vectors, and the list machine that its contract speaks of.
-ghost use Rattle.std.specs.Prelude.{reverse, ◌≡◌, ◌+◌, ◌-◌, ◌≤◌, true, false, List, [], ◌∷◌, ◌++◌, length, MatchResult};
-ghost use Rattle.std.specs.Fn.{CalledAtMut, CalledAtPairMut};
+ghost use Rattle.std.specs.Prelude.{reverse, ◌≡◌, List, [], ◌∷◌, ◌++◌, length};
 ghost use Rattle.std.specs.Mem.{type_size};
-ghost use Rattle.aa_raw.specs.Closures.{TakesPairMut};
-ghost use Rattle.aa_vec.specs.Choosing.{TakesMut};
 ghost use Rattle.aa_vec.specs.Copies.{Copies};
-ghost use Rattle.aa_vec.specs.Draining.{drain_rest};
-ghost use Rattle.aa_vec.specs.Vector.{len, HasRoom, Holds, SameBlock};
-ghost use Rattle.allocator_api2.specs.Machine.{state_of};
-ghost use Rattle.allocator_api2.specs.Drained.{AnswersDrain, Drained, TakesFront, TakesBack};
-ghost use Rattle.allocator_api2.specs.Spliced.{AnswersSplice};
-ghost use Rattle.allocator_api2.specs.Run.{TakesStep, RunsTo, MayCall, IsCallableOnRuns};
-ghost use Rattle.allocator_api2.specs.declared.runner.Reply.{Reply};
+ghost use Rattle.aa_vec.specs.Vector.{HasRoom, Holds, SameBlock};
+ghost use Rattle.allocator_api2.specs.Commands.{TakesStep};
+ghost use Rattle.allocator_api2.specs.Machine.{state_of, calls_of, IsPossible};
+ghost use Rattle.allocator_api2.specs.Run.{RunsWithin, MayCall, IsCallableOnRuns};
 
-use aa_raw::collections::{TryReserveError, TryReserveErrorKind};
-use aa_vec::vec::items::Items;
-use aa_vec::vec::{Drain, Vec};
+use aa_raw::collections::TryReserveErrorKind;
+use aa_vec::vec::Vec;
 use std::alloc::{Allocator, Global};
+
+mod commands;
+mod draining;
 
 /// What `run` is told to do with the main vector.
 #[derive(Drop)]
@@ -107,7 +103,13 @@ pub enum Reply<T> {
 }
 
 /// Runs the commands in order on the two vectors, and puts a reply for each behind those in `replies`, which has room for them.
-/// `keep` is asked by `Retain`, and `same` by `Dedup`; each goes on from the state that its last call left. It takes memory where a vector grows; a refused growth is the command's reply, and the next command goes on.
+/// `keep` is asked by `Retain`, and `same` by `Dedup`; each goes on from the state that its last call left. It takes memory where a
+/// vector grows; a refused growth is the command's reply, and the next command goes on.
+///
+/// **For every element type, allocator, pair of closures and list of commands, `run` leaves the two lists, capacities and replies
+/// of a run of the list machine, in which only a command that does not fit may be refused; and from an empty vector, adding n
+/// elements by pushes, inserts, appends and extensions, under any size hints, whatever is removed between, moves at most 2n
+/// elements by growth** (3n where growth is sparing).
 pub fn run<T, A, K, S>(
     main: &mut Vec<T, A>,
     side: &mut Vec<T, A>,
@@ -123,14 +125,20 @@ where
     S: FnMut(&mut T, &mut T) -> bool,
     requires room { HasRoom replies.old (length commands.items) }
     requires copies { Copies T.is_clone }
-    requires callable { IsCallableOnRuns (type_size T.row) (CalledAtMut K.FnMut) (CalledAtPairMut S.FnMut) (TakesMut K.FnMut) (TakesPairMut S.FnMut) (state_of main.old side.old keep.old same.old) commands.items }
-    ensures run { (answered : List (Reply T)) × (replies.new.items ≡ replies.old.items ++ answered) × RunsTo (type_size T.row) (CalledAtMut K.FnMut) (CalledAtPairMut S.FnMut) (state_of main.old side.old keep.old same.old) commands.items answered (state_of main.new side.new keep.new same.new) }
+    requires callable { IsCallableOnRuns (type_size T.row) (calls_of A.is_clone K.FnMut S.FnMut)
+        (state_of main.old side.old keep.old same.old) commands.items }
+    ensures run { (answered : List (Reply T)) × (replies.new.items ≡ replies.old.items ++ answered)
+        × RunsWithin (type_size T.row) (calls_of A.is_clone K.FnMut S.FnMut)
+        (state_of main.old side.old keep.old same.old) commands.items answered
+        (state_of main.new side.new keep.new same.new) }
     ensures replies_stay { SameBlock replies.old replies.new }
 {
     let mut rest = commands;
     turn_round(&mut rest);
+    find_possible(main, side);
     while let Some(command) = rest.pop() {
         let reply = step(main, side, command, keep, same);
+        find_possible(main, side);
         append_within(replies, reply);
     }
 }
@@ -143,7 +151,7 @@ fn turn_round<T, A: Allocator>(rows: &mut Vec<T, A>)
 }
 
 // Puts a value behind the last one of a vector that has room for it.
-fn append_within<T: Drop, A: Allocator>(list: &mut Vec<T, A>, value: T)
+pub(crate) fn append_within<T: Drop, A: Allocator>(list: &mut Vec<T, A>, value: T)
     requires { HasRoom list.old 1 }
     ensures { Holds list.old (list.old.items ++ value ∷ []) list.new }
 {
@@ -151,6 +159,14 @@ fn append_within<T: Drop, A: Allocator>(list: &mut Vec<T, A>, value: T)
         Ok(()) => {}
         Err(_) => unreachable!(),
     }
+}
+
+// What every two vectors are.
+fn find_possible<T, A: Allocator>(main: &Vec<T, A>, side: &Vec<T, A>)
+    ensures { IsPossible main.now side.now }
+{
+    let _main = main.capacity();
+    let _side = side.capacity();
 }
 
 // One command.
@@ -167,238 +183,43 @@ where
     K: FnMut(&mut T) -> bool,
     S: FnMut(&mut T, &mut T) -> bool,
     requires copies { Copies T.is_clone }
-    requires callable { MayCall (type_size T.row) (CalledAtMut K.FnMut) (CalledAtPairMut S.FnMut) (TakesMut K.FnMut) (TakesPairMut S.FnMut) (state_of main.old side.old keep.old same.old) command }
-    ensures { TakesStep (type_size T.row) (CalledAtMut K.FnMut) (CalledAtPairMut S.FnMut) (state_of main.old side.old keep.old same.old) command result (state_of main.new side.new keep.new same.new) }
+    requires callable { MayCall (type_size T.row) (calls_of A.is_clone K.FnMut S.FnMut)
+        (state_of main.old side.old keep.old same.old) command }
+    ensures { TakesStep (type_size T.row) (calls_of A.is_clone K.FnMut S.FnMut)
+        (state_of main.old side.old keep.old same.old) command result
+        (state_of main.new side.new keep.new same.new) }
 {
     match command {
-        Command::Push(value) => match main.push(value) {
-            Ok(()) => Reply::Done,
-            Err(refused) => Reply::Refused(refused.error.kind()),
-        },
-        Command::Within(value) => match main.push_within_capacity(value) {
-            Ok(()) => Reply::Done,
-            Err(value) => Reply::Back(value),
-        },
-        Command::Pop => match main.pop() {
-            Some(value) => Reply::Item(value),
-            None => Reply::Nothing,
-        },
-        Command::Insert(index, value) => {
-            if index > main.len() {
-                return Reply::Range;
-            }
-            match main.insert(index, value) {
-                Ok(()) => Reply::Done,
-                Err(refused) => Reply::Refused(refused.error.kind()),
-            }
-        }
-        Command::Remove(index) => {
-            if index >= main.len() {
-                return Reply::Range;
-            }
-            Reply::Item(main.remove(index))
-        }
-        Command::SwapRemove(index) => {
-            if index >= main.len() {
-                return Reply::Range;
-            }
-            Reply::Item(main.swap_remove(index))
-        }
-        Command::Truncate(len) => {
-            main.truncate(len);
-            Reply::Done
-        }
-        Command::Clear => {
-            main.clear();
-            Reply::Done
-        }
-        Command::Reserve(additional) => done(main.try_reserve(additional)),
-        Command::ReserveExact(additional) => done(main.try_reserve_exact(additional)),
-        Command::ShrinkTo(capacity) => done(main.shrink_to(capacity)),
-        Command::SplitOff(at) => {
-            if at > main.len() {
-                return Reply::Range;
-            }
-            match main.split_off(at) {
-                Ok(tail) => {
-                    *side = tail;
-                    Reply::Done
-                }
-                Err(error) => Reply::Refused(error.kind()),
-            }
-        }
-        Command::Append => match main.append(side) {
-            Ok(()) => Reply::Done,
-            Err(error) => Reply::Refused(error.kind()),
-        },
-        Command::Extend { items, hint } => match main.extend_hinted(Items::new(items, hint)) {
-            Ok(()) => Reply::Done,
-            Err(error) => Reply::Refused(error.kind()),
-        },
-        Command::ExtendFromWithin(from, to) => {
-            if from > to || to > main.len() {
-                return Reply::Range;
-            }
-            match main.extend_from_within(from, to) {
-                Ok(()) => Reply::Done,
-                Err(error) => {
-                    let _within = main.capacity();
-                    Reply::Refused(error.kind())
-                }
-            }
-        }
-        Command::Resize(len, value) => match main.resize(len, value) {
-            Ok(()) => Reply::Done,
-            Err(error) => Reply::Refused(error.kind()),
-        },
-        Command::Retain => {
-            main.retain_by(keep);
-            Reply::Done
-        }
-        Command::Dedup => {
-            main.dedup_within(same);
-            Reply::Done
-        }
+        Command::Push(value) => commands::push(main, value),
+        Command::Within(value) => commands::within(main, value),
+        Command::Pop => commands::pop(main),
+        Command::Insert(index, value) => commands::insert(main, index, value),
+        Command::Remove(index) => commands::remove(main, index),
+        Command::SwapRemove(index) => commands::swap_remove(main, index),
+        Command::Truncate(len) => commands::truncate(main, len),
+        Command::Clear => commands::clear(main),
+        Command::Reserve(additional) => commands::reserve(main, additional),
+        Command::ReserveExact(additional) => commands::reserve_exact(main, additional),
+        Command::ShrinkTo(capacity) => commands::shrink_to(main, capacity),
+        Command::SplitOff(at) => commands::split_off(main, side, at),
+        Command::Append => commands::append(main, side),
+        Command::Extend { items, hint } => commands::extend(main, items, hint),
+        Command::ExtendFromWithin(from, to) => commands::extend_from_within(main, from, to),
+        Command::Resize(len, value) => commands::resize(main, len, value),
+        Command::Retain => commands::retain(main, keep),
+        Command::Dedup => commands::dedup(main, same),
         Command::Drain {
             start,
             end,
             front,
             back,
             keep,
-        } => drain(main, side, start, end, front, back, keep),
+        } => draining::drain(main, side, start, end, front, back, keep),
         Command::Splice {
             start,
             end,
             items,
             hint,
-        } => splice(main, start, end, items, hint),
-    }
-}
-
-// The command `Drain`.
-fn drain<T: Drop, A: Allocator>(
-    main: &mut Vec<T, A>,
-    side: &mut Vec<T, A>,
-    start: usize,
-    end: usize,
-    front: usize,
-    back: usize,
-    keep: bool,
-) -> Reply<T>
-    ensures { AnswersDrain (type_size T.row) main.old side.old start end front back keep result main.new side.new }
-{
-    if start > end || end > main.len() {
-        return Reply::Range;
-    }
-    let first = front.min(end - start);
-    let last = back.min(end - start - first);
-    if let Err(error) = side.try_reserve(first + last) {
-        return Reply::Refused(error.kind());
-    }
-    if keep {
-        drain_and_keep(main, side, start, end, first, last);
-    } else {
-        drain_and_drop(main, side, start, end, first, last);
-    }
-    Reply::Done
-}
-
-// Takes so many items of a range from the front and then from the back, and keeps the others.
-fn drain_and_keep<T: Drop, A: Allocator>(
-    main: &mut Vec<T, A>,
-    side: &mut Vec<T, A>,
-    start: usize,
-    end: usize,
-    first: usize,
-    last: usize,
-)
-    requires range { (start ≤ end) × (end ≤ len main.old) × (first + last ≤ end - start) }
-    requires room { HasRoom side.old (first + last) }
-    ensures { Drained main.old side.old start end first last true main.new side.new }
-{
-    let mut items = main.drain(start, end);
-    take_front(&mut items, side, first);
-    take_back(&mut items, side, last);
-    items.keep_rest();
-}
-
-// The same, and drops the others.
-fn drain_and_drop<T: Drop, A: Allocator>(
-    main: &mut Vec<T, A>,
-    side: &mut Vec<T, A>,
-    start: usize,
-    end: usize,
-    first: usize,
-    last: usize,
-)
-    requires range { (start ≤ end) × (end ≤ len main.old) × (first + last ≤ end - start) }
-    requires room { HasRoom side.old (first + last) }
-    ensures { Drained main.old side.old start end first last false main.new side.new }
-{
-    let mut items = main.drain(start, end);
-    take_front(&mut items, side, first);
-    take_back(&mut items, side, last);
-}
-
-// Takes so many items from the front, and puts them behind the last element of a vector that has room for them.
-fn take_front<T: Drop, A: Allocator>(
-    items: &mut Drain<'_, T, A>,
-    side: &mut Vec<T, A>,
-    count: usize,
-)
-    requires { (count ≤ length (drain_rest items.old)) × HasRoom side.old count }
-    ensures { TakesFront items.old side.old count items.new side.new }
-{
-    'each: for _taken in 0..count {
-        match items.next() {
-            Some(item) => append_within(side, item),
-            None => unreachable!(),
-        }
-    }
-}
-
-// The same from the back: the last item first.
-fn take_back<T: Drop, A: Allocator>(items: &mut Drain<'_, T, A>, side: &mut Vec<T, A>, count: usize)
-    requires { (count ≤ length (drain_rest items.old)) × HasRoom side.old count }
-    ensures { TakesBack items.old side.old count items.new side.new }
-{
-    'each: for _taken in 0..count {
-        match items.next_back() {
-            Some(item) => append_within(side, item),
-            None => unreachable!(),
-        }
-    }
-}
-
-// The command `Splice`.
-fn splice<T: Drop, A: Allocator + Clone + Drop>(
-    main: &mut Vec<T, A>,
-    start: usize,
-    end: usize,
-    items: Vec<T, A>,
-    hint: Option<usize>,
-) -> Reply<T>
-    ensures { AnswersSplice (type_size T.row) main.old start end items.items hint result main.new }
-{
-    if start > end || end > main.len() {
-        return Reply::Range;
-    }
-    let range = main.splice(start, end, Items::new(items, hint));
-    match range.finish_hinted() {
-        Ok(()) => Reply::Done,
-        Err(error) => {
-            let _within = main.capacity();
-            Reply::Refused(error.kind())
-        }
-    }
-}
-
-// The reply to a call that was granted or refused.
-fn done<T>(answer: Result<(), TryReserveError>) -> Reply<T>
-    ensures { MatchResult answer (λ _. result ≡ Reply.Done) (λ kind. result ≡ Reply.Refused kind) }
-{
-    match answer {
-        Ok(()) => Reply::Done,
-        Err(error) => Reply::Refused(error.kind()),
+        } => commands::splice(main, start, end, items, hint),
     }
 }

@@ -1,7 +1,9 @@
+pub mod Beginnings
 pub mod Mapped
 pub mod Named
 pub mod Parts
 pub mod Read
 pub mod Taken
 pub mod TextLines
+pub mod Told
 pub mod Words

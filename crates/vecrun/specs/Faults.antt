@@ -3,7 +3,8 @@ use Rattle.std.specs.Prelude.{◌≡◌, ℕ, List, ◌++◌, ⊤, Option, IfSom
 use Rattle.std.specs.IoError.{error_kind}
 use Rattle.std.specs.Str.Lines.{lines}
 use Rattle.std.specs.declared.io.Error.{Error}
-use Rattle.std.specs.declared.io.ErrorKind.TheVariants.{OutOfMemory as MemoryRefused}
+use Rattle.std.specs.declared.io.ErrorKind.{ErrorKind}
+use Rattle.std.specs.declared.io.ErrorKind.TheVariants.{OutOfMemory as MemoryRefused, Other}
 use Rattle.vecrun.specs.Lines.{IsFirstBad}
 use Rattle.vecrun.specs.declared.script.Fault.{Fault}
 use Rattle.vecrun.specs.declared.script.Fault.TheVariants.{BadLine, OutOfMemory, InputOutput}
@@ -44,3 +45,8 @@ fault_text InputOutput = codes "input or output failed"
 pub record IsFaultOf (error : Error) (fault : Fault) : Type 0 where
   pub names_no_line : NamesNoLine fault
   pub memory : (fault ≡ OutOfMemory) ↔ (error_kind error ≡ MemoryRefused)
+
+-- the kind that a read's error is told as: a reader's own want of memory is no refusal of ours
+abbrev pub read_kind : ErrorKind → ErrorKind
+read_kind MemoryRefused = Other
+read_kind kind = kind

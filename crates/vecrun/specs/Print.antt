@@ -1,5 +1,6 @@
 -- The bytes that a script prints.
-use Rattle.std.specs.Prelude.{ℕ, List, [], ◌∷◌, ◌++◌, length, codes, decimal}
+use Rattle.std.specs.Prelude.{◌≡◌, ℕ, List, [], ◌∷◌, ◌++◌, length, Option, codes, decimal}
+use Rattle.std.specs.Io.KnownBytes.{Appends}
 use Rattle.std.specs.List.{flat_map}
 use Rattle.allocator_api2.specs.declared.collections.TryReserveErrorKind.TheVariants.{CapacityOverflow, AllocError}
 use Rattle.allocator_api2.specs.declared.runner.Reply.{Reply}
@@ -40,3 +41,7 @@ printed replies main main_capacity side side_capacity =
     replies_text replies
     ++ (line_of (list_text (codes "main") main_capacity main)
     ++ line_of (list_text (codes "side") side_capacity side))
+
+-- known bytes grow by a beginning of the text
+abbrev pub AppendsBeginning : (old new : Option (List ℕ)) → List ℕ → Type 0
+AppendsBeginning old new text = (front : List ℕ) × (rest : List ℕ) × (text ≡ front ++ rest) × Appends old new front

@@ -1,10 +1,11 @@
 -- What the run of a script prints.
-use Rattle.std.specs.Prelude.{◌≡◌, ℕ, Bool, List, length}
+use Rattle.std.specs.Prelude.{◌≡◌, ℕ, ◌%◌, Bool, ◌==◌, List, ⊤}
 use Rattle.std.specs.Global.{Global}
+use Rattle.aa_vec.specs.Choosing.{Equals}
 use Rattle.aa_vec.specs.Vector.{Vector, IsNew}
 use Rattle.allocator_api2.specs.declared.runner.Command.{Command}
 use Rattle.allocator_api2.specs.declared.runner.Reply.{Reply}
-use Rattle.allocator_api2.specs.Machine.{State, state_of}
+use Rattle.allocator_api2.specs.Machine.{State, Calls, state_of}
 use Rattle.allocator_api2.specs.Run.{RunsTo}
 use Rattle.vecrun.specs.Lines.{Mean}
 use Rattle.vecrun.specs.Print.{printed}
@@ -13,7 +14,7 @@ use Rattle.vecrun.specs.Print.{printed}
 abbrev pub element_size : ℕ
 element_size = 4
 
-module _ {K S : Type 0} (Keeps : K → ℕ → Bool → K → ℕ → Type 0) (Repeats : S → ℕ → ℕ → Bool → S → ℕ → ℕ → Type 0) where
+module _ {K S : Type 0} (calls : Calls ℕ Global K S) where
   -- the list machine may run the commands on two empty lists, with the closures in these states, so that what it replies and
   -- leaves is printed as the text
   pub record MayPrint (alloc : Global) (keep : K) (same : S) (commands : List (Command ℕ Global)) (text : List ℕ) : Type 0 where
@@ -23,7 +24,7 @@ module _ {K S : Type 0} (Keeps : K → ℕ → Bool → K → ℕ → Type 0) (R
     pub last : State ℕ Global K S
     pub main_new : IsNew element_size 0 alloc main
     pub side_new : IsNew element_size 0 alloc side
-    pub run : RunsTo element_size Keeps Repeats (state_of main side keep same) commands replies last
+    pub run : RunsTo element_size calls (state_of main side keep same) commands replies last
     pub is_text : text ≡ printed replies last.main.items last.main.capacity last.side.items last.side.capacity
 
   -- the lines mean commands that may print the text
@@ -32,12 +33,15 @@ module _ {K S : Type 0} (Keeps : K → ℕ → Bool → K → ℕ → Type 0) (R
     pub meant : Mean lines commands
     pub prints : MayPrint alloc keep same commands text
 
--- the text has a reply for each command that the lines mean, in a line each, and two lists
-pub record IsAnswer (lines : List (List ℕ)) (text : List ℕ) : Type 0 where
-  pub commands : List (Command ℕ Global)
-  pub replies : List (Reply ℕ)
-  pub main : Vector ℕ Global
-  pub side : Vector ℕ Global
-  pub meant : Mean lines commands
-  pub one_each : length replies ≡ length commands
-  pub is_text : text ≡ printed replies main.items main.capacity side.items side.capacity
+-- an even number stays, and is left as it was
+abbrev pub KeepsEven : Unit {0} → ℕ → Bool → Unit {0} → ℕ → Type 0
+KeepsEven s x answer t y = (answer ≡ (x % 2 == 0)) × (y ≡ x)
+
+-- two numbers repeat each other where they are equal
+abbrev pub RepeatsEqual : Unit {0} → ℕ → ℕ → Bool → Unit {0} → ℕ → ℕ → Type 0
+RepeatsEqual = Equals (λ x l. x == l)
+
+-- the calls that a script's run makes, which may always be made, where the allocator is cloned so
+abbrev pub script_calls : (Global → Global → Type 0) → Calls ℕ Global (Unit {0}) (Unit {0})
+script_calls clones =
+    record { keeps = KeepsEven; repeats = RepeatsEqual; takes_keep = λ s x. ⊤; takes_same = λ s x l. ⊤; clones = clones }

@@ -3,9 +3,11 @@
 
 mod lines;
 mod print;
+mod reading;
 mod script;
 #[cfg(test)]
 mod tests;
+mod writing;
 
 use std::process::ExitCode;
 

@@ -1,17 +1,20 @@
 //! A script from its first byte to its status.
-ghost use Rattle.std.specs.Prelude.{◌≡◌, ◌<◌, ℕ, List, Some, IfSome, IfOk, OnOk, IfErr};
-ghost use Rattle.std.specs.Fn.{CalledAtMut, CalledAtPairMut};
+ghost use Rattle.std.specs.Prelude.{◌≡◌, ◌<◌, ◌%◌, ◌==◌, ◌⊎◌, ℕ, List, Some, IfSome, IfOk, OnOk, IfErr};
 ghost use Rattle.std.specs.Io.KnownBytes.{Keeps, Appends};
 ghost use Rattle.std.specs.Str.Lines.{lines};
 ghost use Rattle.aa_vec.specs.Closures.{TakesPairMut};
 ghost use Rattle.aa_vec.specs.Choosing.{TakesMut};
+ghost use Rattle.allocator_api2.specs.Machine.{calls_of};
 ghost use Rattle.vecrun.specs.Faults.{IsFoundIn, NamesNoLine, IsFaultOf, status_of, fault_text};
 ghost use Rattle.vecrun.specs.Lines.{Mean, HasNoBad, IsFirstBad};
-ghost use Rattle.vecrun.specs.Runs.{MayPrint, MayAnswer, IsAnswer};
+ghost use Rattle.vecrun.specs.Print.{AppendsBeginning};
+ghost use Rattle.vecrun.specs.Runs.{MayPrint, MayAnswer, script_calls};
 ghost use Rattle.vecrun.specs.declared.script.Fault.TheVariants.{OutOfMemory, InputOutput};
 
 use crate::lines;
 use crate::print::print_all;
+use crate::reading::Reading;
+use crate::writing::write_text;
 use allocator_api2::collections::{Refused, TryReserveError};
 use allocator_api2::runner::{Command, run};
 use allocator_api2::vec::Vec;
@@ -87,9 +90,10 @@ impl From<io::Error> for Fault {
 /// - 0: the script ran.
 /// - 1: a line is no command. The fault names the first.
 /// - 2: memory was refused for the text, the commands, the replies or what is printed.
-/// - 3: reading or writing failed.
+/// - 3: reading or writing failed, for want of memory or else.
 ///
-/// At 1 and 2 nothing is written to `output`. A failed write to `faults` changes nothing.
+/// At 1 and 2 nothing is written to `output`, and at 3 no more than a beginning of what the script prints. Even numbers stay at
+/// `retain`, and `dedup` goes by equality. A failed write to `faults` changes nothing.
 pub fn script<R: Read, W: Write, E: Write>(
     alloc: Global,
     input: &mut R,
@@ -102,21 +106,29 @@ pub fn script<R: Read, W: Write, E: Write>(
     ensures good { result ≡ 0 →
         IfSome (R.remaining input.old) (λ text. HasNoBad (lines text)) }
     ensures printed { result ≡ 0 → IfSome (R.remaining input.old) (λ text. (answer : List ℕ)
-        × IsAnswer (lines text) answer
+        × MayAnswer (script_calls ⟦<Global as Clone>⟧.is_clone) alloc tt tt (lines text) answer
         × Appends (W.contents output.old) (W.contents output.new) answer) }
     ensures bad { result ≡ 1 →
         IfSome (R.remaining input.old) (λ text. (number : ℕ) × IsFirstBad (lines text) number) }
 
-    // What is not written.
+    // What is not written, and that nothing but a beginning of an answer is.
     ensures bad_prints_nothing { result ≡ 1 →
         Keeps (W.contents output.old) (W.contents output.new) }
     ensures refusal_prints_nothing { result ≡ 2 →
         Keeps (W.contents output.old) (W.contents output.new) }
+    ensures part { Keeps (W.contents output.old) (W.contents output.new)
+        ⊎ IfSome (R.remaining input.old) (λ text. (answer : List ℕ)
+        × MayAnswer (script_calls ⟦<Global as Clone>⟧.is_clone) alloc tt tt (lines text) answer
+        × AppendsBeginning (W.contents output.old) (W.contents output.new) answer) }
     ensures good_tells_nothing { result ≡ 0 →
         Keeps (E.contents faults.old) (E.contents faults.new) }
 {
-    let mut keep = |x: &mut u32| *x % 2 == 0;
-    let mut same = |x: &mut u32, y: &mut u32| *x == *y;
+    let mut keep = |x: &mut u32|
+        ensures { (result ≡ (x.old % 2 == 0)) × (x.new ≡ x.old) }
+    { *x % 2 == 0 };
+    let mut same = |x: &mut u32, y: &mut u32|
+        ensures { (result ≡ (x.old == y.old)) × (x.new ≡ x.old) × (y.new ≡ y.old) }
+    { *x == *y };
     match run_script(alloc, input, &mut keep, &mut same, output) {
         Ok(()) => 0,
         Err(fault) => {
@@ -147,11 +159,17 @@ where
     requires same { (s : S) (x y : ℕ) → TakesPairMut S.FnMut s x y }
     ensures ok { OnOk result (IfSome (R.remaining input.old) (λ text. HasNoBad (lines text))) }
     ensures printed { OnOk result (IfSome (R.remaining input.old) (λ text. (answer : List ℕ)
-        × MayAnswer (CalledAtMut K.FnMut) (CalledAtPairMut S.FnMut) alloc keep.old same.old (lines text) answer
+        × MayAnswer (calls_of ⟦<Global as Clone>⟧.is_clone K.FnMut S.FnMut) alloc keep.old same.old (lines text) answer
         × Appends (W.contents output.old) (W.contents output.new) answer)) }
     ensures err { IfErr result (IsFoundIn (R.remaining input.old)) }
+
+    // What is not written, and that nothing but a beginning of an answer is.
     ensures nothing_printed { IfErr result (λ fault. status_of fault < 3 →
         Keeps (W.contents output.old) (W.contents output.new)) }
+    ensures part { Keeps (W.contents output.old) (W.contents output.new)
+        ⊎ IfSome (R.remaining input.old) (λ text. (answer : List ℕ)
+        × MayAnswer (calls_of ⟦<Global as Clone>⟧.is_clone K.FnMut S.FnMut) alloc keep.old same.old (lines text) answer
+        × AppendsBeginning (W.contents output.old) (W.contents output.new) answer) }
 {
     let commands = read_commands(alloc, input)?;
     let answer = answer(alloc, commands, keep, same)?;
@@ -166,7 +184,7 @@ fn read_commands<R: Read>(alloc: Global, input: &mut R) -> Result<Vec<Command<u3
     ensures err { IfErr result (IsFoundIn (R.remaining input.old)) }
 {
     let mut text = std::vec::Vec::new(alloc);
-    input.read_to_end(&mut text)?;
+    Reading { reader: input }.read_to_end(&mut text)?;
     lines::commands(alloc, &text)
 }
 
@@ -183,7 +201,7 @@ where
     S: FnMut(&mut u32, &mut u32) -> bool,
     requires keep { (k : K) (x : ℕ) → TakesMut K.FnMut k x }
     requires same { (s : S) (x y : ℕ) → TakesPairMut S.FnMut s x y }
-    ensures ok { IfOk result (λ text. MayPrint (CalledAtMut K.FnMut) (CalledAtPairMut S.FnMut)
+    ensures ok { IfOk result (λ text. MayPrint (calls_of ⟦<Global as Clone>⟧.is_clone K.FnMut S.FnMut)
         alloc keep.old same.old commands.items text.items) }
     ensures err { IfErr result (λ fault. fault ≡ OutOfMemory) }
 {
@@ -202,7 +220,8 @@ where
 fn print_answer<W: Write>(text: &[u8], output: &mut W) -> Result<(), Fault>
     ensures ok { OnOk result (Appends (W.contents output.old) (W.contents output.new) text.now) }
     ensures err { IfErr result (λ fault. fault ≡ InputOutput) }
+    ensures part { AppendsBeginning (W.contents output.old) (W.contents output.new) text.now }
 {
-    output.write_all(text).map_err(|_| Fault::InputOutput)?;
+    write_text(text, output)?;
     output.flush().map_err(|_| Fault::InputOutput)
 }

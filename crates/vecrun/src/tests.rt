@@ -202,7 +202,13 @@ const ANSWER: &str = "done\ndone\nitem 2\nmain len=1 cap=4: 1\nside len=0 cap=0:
 fn tells_a_failed_read(rt: HostRuntime) {
     let rows: [(&[u8], ErrorKind, &str, &str, u8); 5] = [
         (SCRIPT, ErrorKind::Interrupted, ANSWER, "", 0),
-        (SCRIPT, ErrorKind::OutOfMemory, "", "out of memory\n", 2),
+        (
+            SCRIPT,
+            ErrorKind::OutOfMemory,
+            "",
+            "input or output failed\n",
+            3,
+        ),
         (SCRIPT, ErrorKind::Other, "", "input or output failed\n", 3),
         (
             SCRIPT,

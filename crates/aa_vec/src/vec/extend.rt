@@ -6,10 +6,11 @@ ghost use Rattle.std.specs.Iterator.{IsFinite, Drains, size};
 ghost use Rattle.std.specs.Iterator.Runs.{WholeRun};
 ghost use Rattle.std.specs.Borrow.{Bor};
 ghost use Rattle.aa_vec.specs.Vector.{len, sized, HasRoom, Writes};
-ghost use Rattle.aa_vec.specs.Extending.{ExtendsByAll, ExtendsByFront, MadeByAll, StopsAtFront, Reads, TellsAtMost, TellsExactly};
+ghost use Rattle.aa_vec.specs.Extending.{Extended, ExtendsByAll, ExtendsByFront, MadeByAll, StopsAtFront, Reads, TellsAtMost, TellsExactly};
 
 use crate::vec::Vec;
 use crate::vec::items::Hinted;
+use crate::vec::telling::{ByHint, ByLower, ByReading, Telling};
 use aa_raw::collections::TryReserveError;
 use aa_raw::raw_vec::Growth;
 use std::alloc::{Allocator, Global};
@@ -25,6 +26,29 @@ impl<T, A: Allocator> Vec<T, A> {
         self.len() == self.capacity()
     }
 
+    // Puts the items of `iter` behind the last element: each is taken first, and where the vector is full then, room is made for it
+    // and as many more as are told. The calls below stand on it.
+    pub(crate) fn extend_telling<I: Telling<Item = T>>(
+        &mut self,
+        iter: I,
+    ) -> Result<(), TryReserveError>
+    where
+        T: Drop,
+        requires may_ask { I.can_next iter }
+        requires ends { IsFinite (I.remaining iter) }
+        ensures { Extended I.next_gives I.tells I.remaining (type_size T.row) iter self.old result self.new }
+    {
+        let mut rest = iter;
+        let _within = self.is_full();
+        while let Some(x) = rest.next() {
+            if self.is_full() {
+                self.try_reserve(rest.told().saturating_add(1))?;
+            }
+            self.put_next(x);
+        }
+        Ok(())
+    }
+
     /// Puts the items of `iter`, which ends, behind the last element; it takes each of them first, and memory only where the
     /// vector is full then, with room to spare for that item and as many as `lower` now tells. A refusal keeps what was placed,
     /// drops the item that found no place and takes no other: `CapacityOverflow` where the length asked for passes `usize::MAX`
@@ -35,22 +59,9 @@ impl<T, A: Allocator> Vec<T, A> {
         T: Drop,
         requires may_ask { I.can_next iter }
         requires ends { IsFinite (I.remaining iter) }
-        ensures fits { HasRoom self.old (size (I.remaining iter)) → IsOk result }
-        ensures ran { OnOk result ((xs : List T) × Drains I.next_gives iter xs × (self.new.items ≡ self.old.items ++ xs)) }
-        ensures runs { OnOk result (WholeRun I.next_gives iter (λ p. self.new.items ≡ self.old.items ++ p.items)) }
-        ensures extended { OnOk result (ExtendsByAll I.next_gives (TellsExactly I.lower_of) (type_size T.row) iter self.old self.new) }
-        ensures writes { let placed = len self.new - len self.old in Writes self.old placed placed self.new }
-        ensures refused { IfErr result (λ e. ExtendsByFront I.next_gives (TellsExactly I.lower_of) (type_size T.row) iter self.old e self.new) }
+        ensures { Extended I.next_gives (TellsExactly I.lower_of) I.remaining (type_size T.row) iter self.old result self.new }
     {
-        let mut hinted = iter;
-        let _within = self.is_full();
-        while let Some(x) = hinted.next() {
-            if self.is_full() {
-                self.try_reserve(hinted.lower().saturating_add(1))?;
-            }
-            self.put_next(x);
-        }
-        Ok(())
+        self.extend_telling(ByLower::new(iter))
     }
 
     /// Puts the items of `iter`, which ends, behind the last element; it takes each of them first, and memory only where the
@@ -61,22 +72,9 @@ impl<T, A: Allocator> Vec<T, A> {
         T: Drop,
         requires may_ask { I.can_next iter }
         requires ends { IsFinite (I.remaining iter) }
-        ensures fits { HasRoom self.old (size (I.remaining iter)) → IsOk result }
-        ensures ran { OnOk result ((xs : List T) × Drains I.next_gives iter xs × (self.new.items ≡ self.old.items ++ xs)) }
-        ensures runs { OnOk result (WholeRun I.next_gives iter (λ p. self.new.items ≡ self.old.items ++ p.items)) }
-        ensures extended { OnOk result (ExtendsByAll I.next_gives (TellsAtMost I.remaining) (type_size T.row) iter self.old self.new) }
-        ensures writes { let placed = len self.new - len self.old in Writes self.old placed placed self.new }
-        ensures refused { IfErr result (λ e. ExtendsByFront I.next_gives (TellsAtMost I.remaining) (type_size T.row) iter self.old e self.new) }
+        ensures { Extended I.next_gives (TellsAtMost I.remaining) I.remaining (type_size T.row) iter self.old result self.new }
     {
-        let mut rest = iter;
-        let _within = self.is_full();
-        while let Some(x) = rest.next() {
-            if self.is_full() {
-                self.try_reserve(rest.size_hint().0.saturating_add(1))?;
-            }
-            self.put_next(x);
-        }
-        Ok(())
+        self.extend_telling(ByHint::new(iter))
     }
 
     /// Puts copies of what the items of `iter`, which ends, refer to behind the last element; else it is as `extend`. It stands
@@ -89,22 +87,11 @@ impl<T, A: Allocator> Vec<T, A> {
         T: Copy + 'a,
         requires may_ask { I.can_next iter }
         requires ends { IsFinite (I.remaining iter) }
-        ensures fits { HasRoom self.old (size (I.remaining iter)) → IsOk result }
+        ensures copied { Extended (Reads I.next_gives) (TellsAtMost I.remaining) I.remaining (type_size T.row) iter self.old result self.new }
         ensures ran { OnOk result ((rs : List (Bor T)) × Drains I.next_gives iter rs × (self.new.items ≡ self.old.items ++ map (λ r. r.now) rs)) }
         ensures runs { OnOk result (WholeRun I.next_gives iter (λ p. self.new.items ≡ self.old.items ++ map (λ r. r.now) p.items)) }
-        ensures extended { OnOk result (ExtendsByAll (Reads I.next_gives) (TellsAtMost I.remaining) (type_size T.row) iter self.old self.new) }
-        ensures writes { let placed = len self.new - len self.old in Writes self.old placed placed self.new }
-        ensures refused { IfErr result (λ e. ExtendsByFront (Reads I.next_gives) (TellsAtMost I.remaining) (type_size T.row) iter self.old e self.new) }
     {
-        let mut references = iter;
-        let _within = self.is_full();
-        while let Some(x) = references.next() {
-            if self.is_full() {
-                self.try_reserve(references.size_hint().0.saturating_add(1))?;
-            }
-            self.put_next(*x);
-        }
-        Ok(())
+        self.extend_telling(ByReading::new(iter))
     }
 
     /// A vector of the items of `iter`, which ends: a new one, extended as `extend` does, so it takes no memory where no item comes

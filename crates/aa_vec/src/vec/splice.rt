@@ -6,10 +6,11 @@ ghost use Rattle.std.specs.Iterator.Runs.{WholeRun};
 ghost use Rattle.aa_vec.specs.Vector.{len, HasRoom};
 ghost use Rattle.aa_vec.specs.Behind.{StandsBehind, behind_items};
 ghost use Rattle.aa_vec.specs.Extending.{TellsAtMost, TellsExactly};
-ghost use Rattle.aa_vec.specs.Splicing.{SplicesByAll, SplicesByFront, SplicesWithin, TellsOnceFull};
+ghost use Rattle.aa_vec.specs.Splicing.{Replaced};
 
 use crate::vec::Vec;
 use crate::vec::items::Hinted;
+use crate::vec::telling::{ByHint, ByLower, Telling};
 use aa_raw::collections::TryReserveError;
 use std::alloc::{Allocator, Global};
 use std::fmt;
@@ -116,7 +117,38 @@ where
     }
 }
 
-// Ends a splice: drops what was not taken of the range, and puts the items of `iter` in its place, as `lower` tells of them.
+// Ends a splice: drops what was not taken of the range, and puts the items of `iter` in its place, as it tells of them. The two
+// below stand on it.
+fn end_telling<I: Telling, A: Allocator + Clone>(
+    vec: &mut Vec<I::Item, A>,
+    front: usize,
+    back: usize,
+    end: usize,
+    total: usize,
+    iter: I,
+) -> Result<(), TryReserveError>
+where
+    I::Item: Drop,
+    requires ordered { (front ≤ back) × (back ≤ end) × (end ≤ total) }
+    requires held { StandsBehind vec.old front (back - front) × StandsBehind vec.old end (total - end) }
+    requires may_ask { I.can_next iter }
+    requires ends { IsFinite (I.remaining iter) }
+    ensures { Replaced I.next_gives I.tells I.remaining (type_size I.Item.row) iter vec.old vec.old.items end (behind_items vec.old end (total - end)) result vec.new }
+{
+    let count = total - end;
+    vec.drop_behind(front, back - front);
+    if count == 0 {
+        return vec.extend_telling(iter);
+    }
+    let mut items = iter;
+    if vec.fill_and_close(end, count, &mut items) != 0 {
+        return Ok(());
+    }
+    let told = items.told();
+    vec.put_more(told, count, items)
+}
+
+// The same, as `lower` tells of them.
 fn end_hinted<I: Hinted, A: Allocator + Clone>(
     vec: &mut Vec<I::Item, A>,
     front: usize,
@@ -131,26 +163,9 @@ where
     requires held { StandsBehind vec.old front (back - front) × StandsBehind vec.old end (total - end) }
     requires may_ask { I.can_next iter }
     requires ends { IsFinite (I.remaining iter) }
-    ensures fits_gap { size (I.remaining iter) < end → IsOk result }
-    ensures fits_end { behind_items vec.old end (total - end) ≡ [] → HasRoom vec.old (size (I.remaining iter)) → IsOk result }
-    ensures fits_told { (h : ℕ) → TellsOnceFull I.next_gives I.lower_of iter end h → size (I.remaining iter) ≤ end + h → len vec.old + end + length (behind_items vec.old end (total - end)) + h ≤ vec.old.capacity → IsOk result }
-    ensures ran { OnOk result ((xs : List I.Item) × Drains I.next_gives iter xs × (vec.new.items ≡ vec.old.items ++ (xs ++ behind_items vec.old end (total - end)))) }
-    ensures runs { OnOk result (WholeRun I.next_gives iter (λ p. vec.new.items ≡ vec.old.items ++ (p.items ++ behind_items vec.old end (total - end)))) }
-    ensures spliced { OnOk result (SplicesByAll I.next_gives (TellsExactly I.lower_of) (type_size I.Item.row) iter vec.old vec.old.items end (behind_items vec.old end (total - end)) vec.new) }
-    ensures writes { SplicesWithin vec.old vec.old.items (behind_items vec.old end (total - end)) vec.new }
-    ensures refused { IfErr result (λ e. SplicesByFront I.next_gives (TellsExactly I.lower_of) (type_size I.Item.row) iter vec.old vec.old.items end (behind_items vec.old end (total - end)) e vec.new) }
+    ensures { Replaced I.next_gives (TellsExactly I.lower_of) I.remaining (type_size I.Item.row) iter vec.old vec.old.items end (behind_items vec.old end (total - end)) result vec.new }
 {
-    let count = total - end;
-    vec.drop_behind(front, back - front);
-    if count == 0 {
-        return vec.extend_hinted(iter);
-    }
-    let mut items = iter;
-    if vec.fill_and_close(end, count, &mut items) != 0 {
-        return Ok(());
-    }
-    let told = items.lower();
-    vec.put_more(told, count, items)
+    end_telling(vec, front, back, end, total, ByLower::new(iter))
 }
 
 // The same, as `size_hint` tells of them.
@@ -168,32 +183,16 @@ where
     requires held { StandsBehind vec.old front (back - front) × StandsBehind vec.old end (total - end) }
     requires may_ask { I.can_next iter }
     requires ends { IsFinite (I.remaining iter) }
-    ensures fits_gap { size (I.remaining iter) < end → IsOk result }
-    ensures fits_end { behind_items vec.old end (total - end) ≡ [] → HasRoom vec.old (size (I.remaining iter)) → IsOk result }
-    ensures ran { OnOk result ((xs : List I.Item) × Drains I.next_gives iter xs × (vec.new.items ≡ vec.old.items ++ (xs ++ behind_items vec.old end (total - end)))) }
-    ensures runs { OnOk result (WholeRun I.next_gives iter (λ p. vec.new.items ≡ vec.old.items ++ (p.items ++ behind_items vec.old end (total - end)))) }
-    ensures spliced { OnOk result (SplicesByAll I.next_gives (TellsAtMost I.remaining) (type_size I.Item.row) iter vec.old vec.old.items end (behind_items vec.old end (total - end)) vec.new) }
-    ensures writes { SplicesWithin vec.old vec.old.items (behind_items vec.old end (total - end)) vec.new }
-    ensures refused { IfErr result (λ e. SplicesByFront I.next_gives (TellsAtMost I.remaining) (type_size I.Item.row) iter vec.old vec.old.items end (behind_items vec.old end (total - end)) e vec.new) }
+    ensures { Replaced I.next_gives (TellsAtMost I.remaining) I.remaining (type_size I.Item.row) iter vec.old vec.old.items end (behind_items vec.old end (total - end)) result vec.new }
 {
-    let count = total - end;
-    vec.drop_behind(front, back - front);
-    if count == 0 {
-        return vec.extend(iter);
-    }
-    let mut items = iter;
-    if vec.fill_and_close(end, count, &mut items) != 0 {
-        return Ok(());
-    }
-    let told = items.size_hint().0;
-    vec.put_more(told, count, items)
+    end_telling(vec, front, back, end, total, ByHint::new(iter))
 }
 
 impl<'a, I: Hinted, A: Allocator + Clone> Splice<'a, I, A>
 where
     I::Item: Drop,
 {
-    ghost use Rattle.aa_vec.specs.Splices.{splice_gap, splice_head, splice_iter, splice_tail, splice_vec};
+    ghost use Rattle.aa_vec.specs.Splices.{splice_iter, SpliceEnds};
 
     /// Drops what was not taken of the range, and leaves the vector what is before the range, the items, which end, and what is
     /// behind it. With nothing behind the range the items are put there as by `extend_hinted`. Else they fill the places of the
@@ -207,14 +206,7 @@ where
     pub fn finish_hinted(self) -> Result<(), TryReserveError>
         requires may_ask { I.can_next (splice_iter self) }
         requires ends { IsFinite (I.remaining (splice_iter self)) }
-        ensures fits_gap { size (I.remaining (splice_iter self.entry)) < splice_gap self.entry → IsOk result }
-        ensures fits_end { splice_tail self.entry ≡ [] → HasRoom (splice_vec self.entry) (size (I.remaining (splice_iter self.entry))) → IsOk result }
-        ensures fits_told { (h : ℕ) → TellsOnceFull I.next_gives I.lower_of (splice_iter self.entry) (splice_gap self.entry) h → size (I.remaining (splice_iter self.entry)) ≤ splice_gap self.entry + h → len (splice_vec self.entry) + splice_gap self.entry + length (splice_tail self.entry) + h ≤ (splice_vec self.entry).capacity → IsOk result }
-        ensures ran { OnOk result ((xs : List I.Item) × Drains I.next_gives (splice_iter self.entry) xs × (self.exit.0.now.items ≡ splice_head self.entry ++ (xs ++ splice_tail self.entry))) }
-        ensures runs { OnOk result (WholeRun I.next_gives (splice_iter self.entry) (λ p. self.exit.0.now.items ≡ splice_head self.entry ++ (p.items ++ splice_tail self.entry))) }
-        ensures spliced { OnOk result (SplicesByAll I.next_gives (TellsExactly I.lower_of) (type_size I.Item.row) (splice_iter self.entry) (splice_vec self.entry) (splice_head self.entry) (splice_gap self.entry) (splice_tail self.entry) self.exit.0.now) }
-        ensures writes { SplicesWithin (splice_vec self.entry) (splice_head self.entry) (splice_tail self.entry) self.exit.0.now }
-        ensures refused { IfErr result (λ e. SplicesByFront I.next_gives (TellsExactly I.lower_of) (type_size I.Item.row) (splice_iter self.entry) (splice_vec self.entry) (splice_head self.entry) (splice_gap self.entry) (splice_tail self.entry) e self.exit.0.now) }
+        ensures { SpliceEnds I.next_gives (TellsExactly I.lower_of) I.remaining (type_size I.Item.row) self.entry result self.exit.0.now }
     {
         let Splice {
             vec,
@@ -232,20 +224,14 @@ impl<'a, I: Iterator, A: Allocator + Clone> Splice<'a, I, A>
 where
     I::Item: Drop,
 {
-    ghost use Rattle.aa_vec.specs.Splices.{splice_gap, splice_head, splice_iter, splice_tail, splice_vec};
+    ghost use Rattle.aa_vec.specs.Splices.{splice_iter, SpliceEnds};
 
     /// The same, with the lower bound of `size_hint` in place of `lower`, and with nothing behind the range as by `extend`. It
     /// stands for the drop of `Splice`.
     pub fn finish(self) -> Result<(), TryReserveError>
         requires may_ask { I.can_next (splice_iter self) }
         requires ends { IsFinite (I.remaining (splice_iter self)) }
-        ensures fits_gap { size (I.remaining (splice_iter self.entry)) < splice_gap self.entry → IsOk result }
-        ensures fits_end { splice_tail self.entry ≡ [] → HasRoom (splice_vec self.entry) (size (I.remaining (splice_iter self.entry))) → IsOk result }
-        ensures ran { OnOk result ((xs : List I.Item) × Drains I.next_gives (splice_iter self.entry) xs × (self.exit.0.now.items ≡ splice_head self.entry ++ (xs ++ splice_tail self.entry))) }
-        ensures runs { OnOk result (WholeRun I.next_gives (splice_iter self.entry) (λ p. self.exit.0.now.items ≡ splice_head self.entry ++ (p.items ++ splice_tail self.entry))) }
-        ensures spliced { OnOk result (SplicesByAll I.next_gives (TellsAtMost I.remaining) (type_size I.Item.row) (splice_iter self.entry) (splice_vec self.entry) (splice_head self.entry) (splice_gap self.entry) (splice_tail self.entry) self.exit.0.now) }
-        ensures writes { SplicesWithin (splice_vec self.entry) (splice_head self.entry) (splice_tail self.entry) self.exit.0.now }
-        ensures refused { IfErr result (λ e. SplicesByFront I.next_gives (TellsAtMost I.remaining) (type_size I.Item.row) (splice_iter self.entry) (splice_vec self.entry) (splice_head self.entry) (splice_gap self.entry) (splice_tail self.entry) e self.exit.0.now) }
+        ensures { SpliceEnds I.next_gives (TellsAtMost I.remaining) I.remaining (type_size I.Item.row) self.entry result self.exit.0.now }
     {
         let Splice {
             vec,

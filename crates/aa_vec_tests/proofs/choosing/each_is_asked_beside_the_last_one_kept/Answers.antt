@@ -3,6 +3,3 @@ use Rattle.aa_vec_tests.proofs.choosing.each_is_asked_beside_the_last_one_kept.G
 
 pub dedup_within-requires : goal.dedup_within-requires
 dedup_within-requires g c = IsCallableAlong-any _ _ (λ f x l p q e d. tt) _ _
-
-pub dedup_within-requires-2 : goal.dedup_within-requires-2
-dedup_within-requires-2 g c = IsCallableAlong-any _ _ (λ f x l p q e d. tt) _ _

@@ -3,9 +3,3 @@ use Rattle.aa_vec_tests.proofs.choosing.kept_elements_stay_as_the_closure_left_t
 
 pub retain_mut-requires : goal.retain_mut-requires
 retain_mut-requires g c = IsCallableInOrder-any _ _ (λ f x p e. tt) _ _
-
-pub retain-requires : goal.retain-requires
-retain-requires g c = IsCallableInOrder-any _ _ (λ f x p e. tt) _ _
-
-pub retain_by-requires : goal.retain_by-requires
-retain_by-requires g c = IsCallableInOrder-any _ _ (λ f x p e. tt) _ _

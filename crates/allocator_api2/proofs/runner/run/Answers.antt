@@ -1,8 +1,6 @@
 use Rattle.std.proofs.Common.{◌≡◌, ◌+◌, ◌∷◌, [], length, arith, refl, ap, ◌∙◌}
 use Rattle.std.proofs.lemmas.List.{length-append, length-reverse}
-use Rattle.std.specs.Fn.{CalledAtMut, CalledAtPairMut}
-use Rattle.aa_raw.specs.Closures.{TakesPairMut}
-use Rattle.aa_vec.specs.Choosing.{TakesMut}
+use Rattle.allocator_api2.specs.Machine.{calls_of}
 use Rattle.allocator_api2.proofs.Callable.{MayRun-turned, MayRun-later, MayCall-next}
 use Rattle.allocator_api2.proofs.Runs.{HasRun-start, HasRun-more, HasRun-end}
 use Rattle.allocator_api2.proofs.runner.run.Goals as goal
@@ -10,26 +8,33 @@ use Rattle.allocator_api2.proofs.runner.run.Goals as goal
 pub loop-command-init : goal.loop-command-init
 loop-command-init g c =
     let e = c.turn_round.ensures in
-    record { run = HasRun-start _ _ _ _ _ _ _ e; callable = MayRun-turned _ (CalledAtMut g.K.FnMut) (CalledAtPairMut g.S.FnMut) (TakesMut g.K.FnMut) (TakesPairMut g.S.FnMut) _ c.args.commands.items _ e c.requires.callable.along; room = rw (e, length-reverse) c.requires.room; stay = record { capacity = refl; growth = refl; grown = refl; alloc = refl } }
+    let possible = c.find_possible.ensures in
+    record {
+      run = HasRun-start _ _ _ _ _ _ e possible;
+      callable = MayRun-turned _ (calls_of g.A.Clone.is_clone g.K.FnMut g.S.FnMut) _ c.args.commands.items _ e (c.requires.callable.along possible);
+      room = rw (e, length-reverse) c.requires.room;
+      stay = record { capacity = refl; growth = refl; grown = refl; alloc = refl };
+    }
 
 pub step-reply-requires-clause-callable : goal.step-reply-requires-clause-callable
 step-reply-requires-clause-callable g c =
-    MayCall-next _ (CalledAtMut g.K.FnMut) (CalledAtPairMut g.S.FnMut) (TakesMut g.K.FnMut) (TakesPairMut g.S.FnMut) _ _ c.pop.new.self.items c.in-Some.command c.in-Some.ensures.cases c.loop-command.invariant.callable
+    MayCall-next _ (calls_of g.A.Clone.is_clone g.K.FnMut g.S.FnMut) _ _ c.pop.new.self.items c.in-Some.command c.in-Some.ensures.cases c.loop-command.invariant.callable
 
 pub loop-command-preserved : goal.loop-command-preserved
 loop-command-preserved g c =
     let h = c.loop-command.invariant in
     let e = c.in-Some.ensures.cases in
+    let possible = c.find_possible-in-Some.ensures in
     let more = c.append_within.ensures.items in
     let b = c.append_within.ensures.block in
     let n : length c.loop-command.rest.items ≡ length c.pop.new.self.items + 1 = ap length e ∙ length-append c.pop.new.self.items (c.in-Some.command ∷ []) in
     let m : length c.append_within.new.list.items ≡ length c.loop-command.replies.items + 1 = ap length more ∙ length-append c.loop-command.replies.items (c.step-reply.result ∷ []) in
     record {
-      callable = MayRun-later _ (CalledAtMut g.K.FnMut) (CalledAtPairMut g.S.FnMut) (TakesMut g.K.FnMut) (TakesPairMut g.S.FnMut) _ _ c.pop.new.self.items c.in-Some.command e h.callable _ _ c.step-reply.ensures;
-      run = HasRun-more _ _ _ h.run e c.step-reply.ensures more;
+      callable = MayRun-later _ (calls_of g.A.Clone.is_clone g.K.FnMut g.S.FnMut) _ _ c.pop.new.self.items c.in-Some.command e h.callable _ _ c.step-reply.ensures possible;
+      run = HasRun-more _ _ h.run e c.step-reply.ensures possible more;
       room = omega (arith, b.capacity, h.room);
       stay = record { capacity = b.capacity ∙ h.stay.capacity; growth = b.growth ∙ h.stay.growth; grown = b.grown ∙ h.stay.grown; alloc = b.alloc ∙ h.stay.alloc };
     }
 
 pub returns-clause-run : goal.returns-clause-run
-returns-clause-run g c = HasRun-end _ _ _ c.loop-command.invariant.run c.in_default.ensures.cases
+returns-clause-run g c = HasRun-end _ _ c.loop-command.invariant.run c.in_default.ensures.cases

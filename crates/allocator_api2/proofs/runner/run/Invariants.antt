@@ -1,19 +1,16 @@
 use Rattle.std.proofs.Common.{length, reverse}
-use Rattle.std.specs.Fn.{CalledAtMut, CalledAtPairMut}
 use Rattle.std.specs.Mem.{type_size}
 use denote.Param.{param}
-use Rattle.aa_raw.specs.Closures.{TakesPairMut}
-use Rattle.aa_vec.specs.Choosing.{TakesMut}
 use Rattle.aa_vec.specs.Vector.{HasRoom, SameBlock}
-use Rattle.allocator_api2.specs.Machine.{state_of}
+use Rattle.allocator_api2.specs.Machine.{state_of, calls_of}
 use Rattle.allocator_api2.specs.Run.{MayRun}
 use Rattle.allocator_api2.proofs.Runs.{HasRun}
 use Rattle.allocator_api2.proofs.runner.run.Given as goal
 
 abbrev pub invariant-loop-command : goal.invariant-loop-command
 invariant-loop-command g l = record {
-  run : HasRun (type_size (param 0 g.row.T)) (CalledAtMut g.K.FnMut) (CalledAtPairMut g.S.FnMut) (state_of l.fn.main l.fn.side l.fn.keep l.fn.same) l.fn.commands.items l.fn.replies.items l.rest.items l.replies.items (state_of l.main l.side l.keep l.same);
-  callable : MayRun (type_size (param 0 g.row.T)) (CalledAtMut g.K.FnMut) (CalledAtPairMut g.S.FnMut) (TakesMut g.K.FnMut) (TakesPairMut g.S.FnMut) (state_of l.main l.side l.keep l.same) (reverse l.rest.items);
+  run : HasRun (type_size (param 0 g.row.T)) (calls_of g.A.Clone.is_clone g.K.FnMut g.S.FnMut) (state_of l.fn.main l.fn.side l.fn.keep l.fn.same) l.fn.commands.items l.fn.replies.items l.rest.items l.replies.items (state_of l.main l.side l.keep l.same);
+  callable : MayRun (type_size (param 0 g.row.T)) (calls_of g.A.Clone.is_clone g.K.FnMut g.S.FnMut) (state_of l.main l.side l.keep l.same) (reverse l.rest.items);
   room : HasRoom l.replies (length l.rest.items);
   stay : SameBlock l.fn.replies l.replies;
 }

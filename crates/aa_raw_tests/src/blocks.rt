@@ -1,0 +1,185 @@
+//! What no clause says of a block: sizes, what the tables of capacities give, and each public call once.
+ghost use Rattle.std.specs.Prelude.{◌≡◌, [], ◌∷◌, Some, None, IfOk};
+
+use aa_raw::collections::{Refused, TryReserveError, TryReserveErrorKind};
+use aa_raw::raw_vec::{Growth, RawVec};
+use std::alloc::Global;
+use std::mem::size_of;
+use std::test::Fail;
+
+const _: () = prove!(size_of::<RawVec<u64, Global>>() == 24);
+
+#[test]
+fn places_are_put_and_taken(rt: HostRuntime) -> Result<(), Fail> {
+    let mut block: RawVec<u32> = RawVec::with_capacity(rt.alloc(), 3)?;
+    assert_eq!(rt; block.capacity(), 3);
+    assert_eq!(rt; block.growth(), Growth::Doubling);
+    let _alloc: &Global = block.allocator();
+    block.put(0, 10);
+    block.put(1, 11);
+    block.put(1, 12);
+    assert_eq!(rt; *block.place(1), 12);
+    assert_eq!(rt; block.take(1), 12);
+    Ok(())
+}
+
+// A block `10 11 _`.
+fn two_of_three(alloc: Global) -> Result<RawVec<u32>, TryReserveError>
+    ensures { IfOk result (λ block. block.places ≡ Some 10 ∷ Some 11 ∷ None ∷ []) }
+{
+    let mut block: RawVec<u32> = RawVec::with_capacity(alloc, 3)?;
+    block.put(0, 10);
+    block.put(1, 11);
+    Ok(block)
+}
+
+#[test]
+fn places_are_written_to(rt: HostRuntime) -> Result<(), Fail> {
+    let mut block = two_of_three(rt.alloc())?;
+    *block.place_mut(1) = 13;
+    block.slice_mut(0, 2)[0] = 9;
+    assert_eq!(rt; block.slice(0, 2), [9, 13].as_slice());
+    Ok(())
+}
+
+#[test]
+fn values_stay_where_a_block_grows(rt: HostRuntime) -> Result<(), Fail> {
+    let mut block = two_of_three(rt.alloc())?;
+    block.reserve(2, 1)?;
+    assert_eq!(rt; block.capacity(), 3);
+    block.reserve(2, 2)?;
+    assert_eq!(rt; block.capacity(), 6);
+    assert_eq!(rt; block.slice(0, 2), [10, 11].as_slice());
+    Ok(())
+}
+
+#[test]
+fn the_least_capacity_is_by_the_size(rt: HostRuntime) {
+    let mut bytes: RawVec<u8> = RawVec::new(rt.alloc());
+    assert_eq!(rt; bytes.capacity(), 0);
+    assert!(rt; bytes.reserve_for_push(0).is_ok());
+    assert_eq!(rt; bytes.capacity(), 8);
+    let mut words: RawVec<u32> = RawVec::new_in(rt.alloc());
+    assert!(rt; words.try_reserve(0, 1).is_ok());
+    assert_eq!(rt; words.capacity(), 4);
+}
+
+#[test]
+fn the_least_capacity_of_large_elements_is_small(rt: HostRuntime) {
+    let mut rows: RawVec<[u8; 1024]> = RawVec::new(rt.alloc());
+    assert!(rt; rows.try_reserve(0, 1).is_ok());
+    assert_eq!(rt; rows.capacity(), 4);
+    let mut long_rows: RawVec<[u8; 1025]> = RawVec::new(rt.alloc());
+    assert!(rt; long_rows.try_reserve(0, 1).is_ok());
+    assert_eq!(rt; long_rows.capacity(), 1);
+}
+
+#[test]
+fn elements_without_size_take_no_memory(rt: HostRuntime) {
+    let mut block: RawVec<()> = RawVec::new(rt.alloc());
+    assert_eq!(rt; block.capacity(), usize::MAX);
+    block.put(5, ());
+    let _unit: &() = block.place(5);
+    block.take(5);
+    assert!(rt; block.shrink_to_fit(0, 0).is_ok());
+    assert_eq!(rt; block.capacity(), usize::MAX);
+}
+
+#[test]
+fn elements_without_size_need_no_growth(rt: HostRuntime) {
+    let mut block: RawVec<()> = RawVec::new(rt.alloc());
+    assert!(rt; block.try_reserve(0, usize::MAX).is_ok());
+    assert!(rt; block.try_reserve_exact(0, usize::MAX).is_ok());
+    block.put(0, ());
+    let refused = block.try_reserve(1, usize::MAX);
+    assert_eq!(rt; refused, Err(TryReserveErrorKind::CapacityOverflow.into()));
+}
+
+#[test]
+fn a_capacity_past_the_limits_is_an_overflow(rt: HostRuntime) {
+    let overflow: TryReserveError = TryReserveErrorKind::CapacityOverflow.into();
+    match RawVec::<u32>::with_capacity_in(1 << 61, rt.alloc()) {
+        Ok(_) => assert!(rt; false),
+        Err(error) => assert_eq!(rt; error, overflow),
+    }
+    let mut block: RawVec<u8> = RawVec::new(rt.alloc());
+    assert_eq!(rt; block.try_reserve(0, 1 << 63), Err(overflow));
+    assert_eq!(rt; block.capacity(), 0);
+}
+
+#[test]
+fn errors_tell_their_kind(rt: HostRuntime) -> Result<(), Fail> {
+    let refused = Refused {
+        source: 7,
+        error: TryReserveErrorKind::AllocError { capacity: 5 }.into(),
+    };
+    let error: TryReserveError = refused.into();
+    assert_eq!(rt;
+        error.kind(),
+        TryReserveErrorKind::AllocError { capacity: 5 }
+    );
+    Ok(())
+}
+
+#[test]
+fn errors_are_printed(rt: HostRuntime) -> Result<(), Fail> {
+    let error: TryReserveError = TryReserveErrorKind::AllocError { capacity: 5 }.into();
+    let text = error.to_string(rt.alloc())?;
+    assert_eq!(rt;
+        text.as_str(),
+        "memory allocation failed because the memory allocator returned an error"
+    );
+    let overflow: TryReserveError = TryReserveErrorKind::CapacityOverflow.into();
+    let text = overflow.to_string(rt.alloc())?;
+    assert_eq!(rt;
+        text.as_str(),
+        "memory allocation failed because the computed capacity exceeded the collection's maximum"
+    );
+    Ok(())
+}
+
+#[test]
+fn capacities_are_as_asked(rt: HostRuntime) -> Result<(), Fail> {
+    let mut block: RawVec<u32, Global> = RawVec::with_capacity(rt.alloc(), 3)?;
+    assert_eq!(rt; block.capacity(), 3);
+    block.try_reserve_exact(0, 5)?;
+    assert_eq!(rt; block.capacity(), 5);
+    block.put(0, 7);
+    block.reserve_exact(1, 5)?;
+    assert_eq!(rt; block.capacity(), 6);
+    Ok(())
+}
+
+#[test]
+fn room_is_given_back(rt: HostRuntime) -> Result<(), Fail> {
+    let mut block: RawVec<u32, Global> = RawVec::with_capacity(rt.alloc(), 12)?;
+    block.put(0, 7);
+    block.shrink_to_fit(1, 2)?;
+    assert_eq!(rt; block.capacity(), 2);
+    assert_eq!(rt; *block.place(0), 7);
+    block.shrink_to_fit(0, 0)?;
+    assert_eq!(rt; block.capacity(), 0);
+    Ok(())
+}
+
+#[test]
+fn growth_by_half_is_as_chosen(rt: HostRuntime) -> Result<(), Fail> {
+    let mut sparing: RawVec<u8, Global> = RawVec::new_growing_in(Growth::Sparing, rt.alloc());
+    assert!(rt; sparing.growth() == Growth::Sparing);
+    sparing.reserve_for_push(0)?;
+    assert_eq!(rt; sparing.capacity(), 8);
+    sparing.reserve(0, 9)?;
+    assert_eq!(rt; sparing.capacity(), 12);
+    Ok(())
+}
+
+#[test]
+fn growth_doubles_where_nothing_is_chosen(rt: HostRuntime) -> Result<(), Fail> {
+    let mut doubling: RawVec<u8, Global> = RawVec::new(rt.alloc());
+    assert!(rt; doubling.growth() == Growth::Doubling);
+    doubling.reserve(0, 9)?;
+    assert_eq!(rt; doubling.capacity(), 9);
+    doubling.reserve(0, 10)?;
+    assert_eq!(rt; doubling.capacity(), 18);
+    Ok(())
+}

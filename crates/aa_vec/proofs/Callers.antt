@@ -1,0 +1,61 @@
+-- What a caller of the vector closes its goals by: the room there is, calls in one block one after another, and closures whose
+-- answers hang on the elements alone.
+use Rattle.std.proofs.Common.{◌≡◌, ℕ, zero, suc, ◌-◌, ◌<◌, ◌≤◌, Bool, true, false, List, [], ◌∷◌, ◌++◌, length, take, replicate, refl, sym, ap, ◌∙◌, arith, inl, inr}
+use Rattle.std.specs.Prelude.{filter, ◌==◌, if◌then◌else◌, Result, Ok, Err, IsOk, OnOk}
+use Rattle.std.specs.List.{FoldsTo}
+use Rattle.aa_raw.specs.Growth.{usize_max}
+use Rattle.aa_vec.specs.Choosing.{Retains, kept}
+use Rattle.aa_vec.specs.Copies.{MayCallTimes, LengthensBy}
+use Rattle.aa_vec.specs.Vector.{Vector, len, sized, GrowsTo, HasRoom, Holds}
+use Rattle.aa_vec.proofs.Callable.{IsCallableInOrder-any, IsCallableAlong-any}
+use Rattle.aa_vec.proofs.Climbing.{SameBlock-trans}
+use Rattle.aa_vec.proofs.Steady.{asked-steady, kept-steady}
+use Rattle.std.proofs.lemmas.Bool.{cases_lt}
+use Rattle.std.proofs.lemmas.List.{append-nil, map-id, take_all}
+
+-- new room for n elements has room for n
+pub sized_room : (size n : ℕ) → n ≤ usize_max → n ≤ sized size n
+sized_room size n h = elim (size == 0) as (λ b. n ≤ (if b then usize_max else n)) [ true ↦ h | false ↦ omega arith ]
+
+module _ {T A : Type 0} where
+  -- the room that was made is there
+  pub HasRoom_grown : (size k : ℕ) (old new : Vector T A) → GrowsTo size old k old.items new → HasRoom new k
+  HasRoom_grown size k old new p = elim p.room [
+    | inl h ↦ omega (arith, h.0, h.1.capacity, ap length p.items)
+    | inr h ↦ omega (arith, h.1.capacity, ap length p.items)
+  ]
+
+  -- two calls in one block
+  pub Holds_then : (old mid new : Vector T A) (xs ys : List T) → Holds old xs mid → Holds mid ys new → Holds old ys new
+  Holds_then old mid new xs ys p q = record { items = q.items; block = SameBlock-trans p.block q.block }
+
+module _ {F T : Type 0} (step : F → T → F → Type 0) where
+  -- a closure that may always be called
+  pub MayCallTimes_any : (takes : F → Type 0) (k : ℕ) (f : F) → ((g : F) → takes g) → MayCallTimes takes step k f
+  MayCallTimes_any takes zero f any = tt
+  MayCallTimes_any takes (suc k) f any = (any f, λ y g s. MayCallTimes_any takes k g any)
+
+  all_same : (x : T) (f : F) (ys : List T) (last : F) → ((f : F) (y : T) (g : F) → step f y g → y ≡ x) → FoldsTo step f ys last → ys ≡ replicate (length ys) x
+  all_same x f [] last is h = refl
+  all_same x f (y ∷ ys) last is h = λ i. is f y h.0 h.1 i ∷ all_same x h.0 ys last is h.2 i
+
+  -- one that always answers x
+  pub LengthensBy_same : {A : Type 0} (size k : ℕ) (x : T) (f : F) (old new : Vector T A) → LengthensBy step size old k f new → ((f : F) (y : T) (g : F) → step f y g → y ≡ x) → new.items ≡ old.items ++ replicate k x
+  LengthensBy_same size k x f old new made is = made.grows.items ∙ ap (λ ys. old.items ++ ys) (all_same x f made.answers made.last is made.calls ∙ ap (λ n. replicate n x) made.count)
+
+  -- and where a vector is filled up with it, that is the rest
+  pub filled_same : {A E : Type 0} (r : Result Unit E) (size n : ℕ) (x : T) (f : F) (old new : Vector T A) → OnOk r (len old < n → LengthensBy step size old (n - len old) f new) → (n ≤ len old → IsOk r × Holds old (take n old.items) new)
+      → ((f : F) (y : T) (g : F) → step f y g → y ≡ x) → OnOk r (new.items ≡ take n old.items ++ replicate (n - len old) x)
+  filled_same (Err e) size n x f old new fills cut is = tt
+  filled_same (Ok u) size n x f old new fills cut is = elim (cases_lt (len old) n) [
+    | inl l ↦ LengthensBy_same size (n - len old) x f old new (fills l) is ∙ ap (λ ys. ys ++ replicate (n - len old) x) (sym (take_all n old.items (omega (arith, l))))
+    | inr l ↦ (cut l).1.items ∙ sym (append-nil (take n old.items)) ∙ ap (λ k. take n old.items ++ replicate k x) (let z : 0 ≡ n - len old = omega (arith, l) in z)
+  ]
+
+-- a test that leaves each element as it was
+module _ {F T A : Type 0} (Asks : F → T → Bool → F → T → Type 0) where
+  pub Retains_filter : (test : T → Bool) (f : F) (old : Vector T A) (g : F) (new : Vector T A) → Retains Asks f old g new → ((f : F) (x : T) (answer : Bool) (g : F) (y : T) → Asks f x answer g y → (answer ≡ test x) × (y ≡ x)) → new.items ≡ filter test old.items
+  Retains_filter test f old g new r steady =
+      r.holds.items ∙ ap kept (asked-steady Asks test (λ x. x) steady f old.items r.told g r.asked) ∙ kept-steady test (λ x. x) old.items ∙ map-id (filter test old.items)
+
+pub ruleset callers = (sized_room, HasRoom_grown, SameBlock-trans, Holds_then, IsCallableInOrder-any, IsCallableAlong-any, MayCallTimes_any, LengthensBy_same, filled_same, Retains_filter)

@@ -1,0 +1,74 @@
+-- What a list of commands added, where each adds at most one element.
+use Rattle.std.proofs.Common.{◌≡◌, ℕ, ◌+◌, ◌*◌, ◌≤◌, List, [], ◌∷◌, length, map, sum_by, sym, ap, subst, arith}
+use Rattle.std.specs.List.{AllByRecursion}
+use Rattle.std.proofs.lemmas.List.{length-map}
+use Rattle.std.proofs.lemmas.List.Sums.{sum_by-cons}
+use Rattle.aa_raw.specs.declared.raw_vec.Growth.{Growth}
+use Rattle.aa_raw.specs.declared.raw_vec.Growth.TheVariants.{Doubling, Sparing}
+use Rattle.aa_vec.specs.Vector.{Vector}
+use Rattle.allocator_api2.specs.declared.runner.Command.{Command}
+use Rattle.allocator_api2.specs.declared.runner.Command.TheVariants.{Push, Within, Pop, Insert, Remove, SwapRemove, Truncate, Clear, Retain, Dedup, Drain}
+use Rattle.allocator_api2.specs.declared.runner.Reply.{Reply}
+use Rattle.allocator_api2.specs.declared.runner.Reply.TheVariants.{Done}
+use Rattle.allocator_api2.specs.Machine.{State, Calls}
+use Rattle.allocator_api2.specs.Run.{Turn, AddsOrRemoves, AddsOneAtMost, added, added_by, if_done, moves_each, RunsWithin}
+
+if_done-le : {T : Type 0} (reply : Reply T) (n : ℕ) → if_done reply n ≤ n
+if_done-le Done n = omega arith
+if_done-le _ n = omega arith
+
+moves_each-le : (G : Growth) (grown paid n k : ℕ) → n ≤ k → grown ≤ paid + moves_each G * n → grown ≤ paid + moves_each G * k
+moves_each-le Doubling grown paid n k le h = omega arith
+moves_each-le Sparing grown paid n k le h = omega arith
+
+module _ {T A : Type 0} where
+  adds_or_removes : (command : Command T A) → AddsOneAtMost command → AddsOrRemoves command
+  adds_or_removes (Push x) a = tt
+  adds_or_removes (Within x) a = tt
+  adds_or_removes Pop a = tt
+  adds_or_removes (Insert i x) a = tt
+  adds_or_removes (Remove i) a = tt
+  adds_or_removes (SwapRemove i) a = tt
+  adds_or_removes (Truncate n) a = tt
+  adds_or_removes Clear a = tt
+  adds_or_removes Retain a = tt
+  adds_or_removes Dedup a = tt
+  adds_or_removes (Drain start end front back keep) a = tt
+  adds_or_removes command a = absurd a
+
+  pub all_add_or_remove : (commands : List (Command T A)) → AllByRecursion AddsOneAtMost commands → AllByRecursion AddsOrRemoves commands
+  all_add_or_remove [] a = tt
+  all_add_or_remove (command ∷ commands) a = (adds_or_removes command a.0, all_add_or_remove commands a.1)
+
+  one_at_most : (main side : Vector T A) (command : Command T A) (reply : Reply T) (main' : Vector T A) → AddsOneAtMost command → added_by main side command reply main' ≤ 1
+  one_at_most main side (Push x) reply main' a = if_done-le reply 1
+  one_at_most main side (Within x) reply main' a = if_done-le reply 1
+  one_at_most main side (Insert i x) reply main' a = if_done-le reply 1
+  one_at_most main side Pop reply main' a = omega arith
+  one_at_most main side (Remove i) reply main' a = omega arith
+  one_at_most main side (SwapRemove i) reply main' a = omega arith
+  one_at_most main side (Truncate n) reply main' a = omega arith
+  one_at_most main side Clear reply main' a = omega arith
+  one_at_most main side Retain reply main' a = omega arith
+  one_at_most main side Dedup reply main' a = omega arith
+  one_at_most main side (Drain start end front back keep) reply main' a = omega arith
+  one_at_most main side command reply main' a = absurd a
+
+module _ {T A K S : Type 0} where
+  -- no more was added than there were commands
+  pub added-le : (turns : List (Turn T A K S)) → AllByRecursion AddsOneAtMost (map (λ t. t.command) turns) → sum_by added turns ≤ length turns
+  added-le [] a = omega arith
+  added-le (t ∷ ts) a =
+      let one = one_at_most t.before.main t.before.side t.command t.reply t.after.main a.0 in
+      let rest = added-le ts a.1 in
+      omega (arith, sum_by-cons added t ts)
+
+  -- so from an empty vector growth moved at most twice as many elements as there were commands, or three times as many if sparing
+  pub grown-le : {size : ℕ} {calls : Calls T A K S} {old new : State T A K S} {commands : List (Command T A)} {replies : List (Reply T)}
+      → RunsWithin size calls old commands replies new → old.main.items ≡ [] → AllByRecursion AddsOneAtMost commands
+      → new.main.grown ≤ old.main.grown + moves_each old.main.growth * length commands
+  grown-le {old = old} {new} {commands} r empty a =
+      let turns : List (Turn T A K S) = r.run.turns in
+      let few = added-le turns (subst (AllByRecursion AddsOneAtMost) (sym r.run.commands_are) a) in
+      let count : length turns ≡ length commands = simp length-map at (ap length r.run.commands_are) in
+      moves_each-le old.main.growth new.main.grown old.main.grown (sum_by added turns) (length commands) (omega arith) (r.growth empty (all_add_or_remove commands a))

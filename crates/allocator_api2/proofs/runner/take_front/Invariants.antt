@@ -1,5 +1,0 @@
-use Rattle.allocator_api2.specs.Drained.{TakesFront}
-use Rattle.allocator_api2.proofs.runner.take_front.Given as goal
-
-abbrev pub invariant-each : goal.invariant-each
-invariant-each g l = TakesFront l.fn.items l.fn.side l._taken l.items l.side

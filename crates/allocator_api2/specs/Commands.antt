@@ -1,0 +1,24 @@
+-- What the functions of single commands promise.
+use Rattle.std.specs.Prelude.{ℕ, ◌+◌, ◌≤◌, Bool, List, []}
+use Rattle.aa_vec.specs.Vector.{Vector}
+use Rattle.allocator_api2.specs.declared.runner.Command.{Command}
+use Rattle.allocator_api2.specs.declared.runner.Reply.{Reply}
+use Rattle.allocator_api2.specs.Machine.{State, Calls, Answers, Step}
+use Rattle.allocator_api2.specs.Run.{cost_by}
+
+module _ {T A : Type 0} (size : ℕ) where
+  -- a command that calls no closure is answered as the machine may answer it, and writes no more than it costs
+  pub record Takes (main side : Vector T A) (command : Command T A) (reply : Reply T) (main' side' : Vector T A) : Type 0 where
+    pub answers : Answers size main side command reply main' side'
+    pub writes : main'.written ≤ main.written + cost_by main side command [] reply main'
+
+  -- the same of a command that touches main alone, whatever side is
+  abbrev pub TakesAlone : (main : Vector T A) → Command T A → Reply T → (main' : Vector T A) → Type 0
+  TakesAlone main command reply main' = (side : Vector T A) → Takes main side command reply main' side
+
+module _ {T A K S : Type 0} (size : ℕ) (calls : Calls T A K S) where
+  -- the machine may answer a command by this reply and become new, writing no more than it costs
+  pub record TakesStep (old : State T A K S) (command : Command T A) (reply : Reply T) (new : State T A K S) : Type 0 where
+    pub answers : List Bool
+    pub step : Step size calls old command answers reply new
+    pub writes : new.main.written ≤ old.main.written + cost_by old.main old.side command answers reply new.main

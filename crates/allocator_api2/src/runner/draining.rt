@@ -1,0 +1,107 @@
+//! The command `Drain` of `run`, and its parts.
+ghost use Rattle.std.specs.Prelude.{◌+◌, ◌-◌, ◌≤◌, true, false, length};
+ghost use Rattle.std.specs.Mem.{type_size};
+ghost use Rattle.aa_vec.specs.Draining.{drain_rest};
+ghost use Rattle.aa_vec.specs.Vector.{len, HasRoom};
+ghost use Rattle.allocator_api2.specs.Commands.{Takes};
+ghost use Rattle.allocator_api2.specs.Drained.{Drained, TakesFront, TakesBack};
+ghost use Rattle.allocator_api2.specs.declared.runner.Command.{Command};
+
+use crate::runner::{Reply, append_within};
+use aa_vec::vec::{Drain, Vec};
+use std::alloc::Allocator;
+
+// Tests the range, makes room in side for what is asked for, and then takes it.
+pub(crate) fn drain<T: Drop, A: Allocator>(
+    main: &mut Vec<T, A>,
+    side: &mut Vec<T, A>,
+    start: usize,
+    end: usize,
+    front: usize,
+    back: usize,
+    keep: bool,
+) -> Reply<T>
+    ensures { Takes (type_size T.row) main.old side.old (Command.Drain start end front back keep) result main.new side.new }
+{
+    if start > end || end > main.len() {
+        return Reply::Range;
+    }
+    let first = front.min(end - start);
+    let last = back.min(end - start - first);
+    if let Err(error) = side.try_reserve(first + last) {
+        return Reply::Refused(error.kind());
+    }
+    if keep {
+        drain_and_keep(main, side, start, end, first, last);
+    } else {
+        drain_and_drop(main, side, start, end, first, last);
+    }
+    Reply::Done
+}
+
+// Takes so many items of a range from the front and then from the back, and keeps the others.
+fn drain_and_keep<T: Drop, A: Allocator>(
+    main: &mut Vec<T, A>,
+    side: &mut Vec<T, A>,
+    start: usize,
+    end: usize,
+    first: usize,
+    last: usize,
+)
+    requires range { (start ≤ end) × (end ≤ len main.old) × (first + last ≤ end - start) }
+    requires room { HasRoom side.old (first + last) }
+    ensures { Drained main.old side.old start end first last true main.new side.new }
+{
+    let mut items = main.drain(start, end);
+    take_front(&mut items, side, first);
+    take_back(&mut items, side, last);
+    items.keep_rest();
+}
+
+// The same, and drops the others.
+fn drain_and_drop<T: Drop, A: Allocator>(
+    main: &mut Vec<T, A>,
+    side: &mut Vec<T, A>,
+    start: usize,
+    end: usize,
+    first: usize,
+    last: usize,
+)
+    requires range { (start ≤ end) × (end ≤ len main.old) × (first + last ≤ end - start) }
+    requires room { HasRoom side.old (first + last) }
+    ensures { Drained main.old side.old start end first last false main.new side.new }
+{
+    let mut items = main.drain(start, end);
+    take_front(&mut items, side, first);
+    take_back(&mut items, side, last);
+}
+
+// Takes so many items from the front, and puts them behind the last element of a vector that has room for them.
+fn take_front<T: Drop, A: Allocator>(
+    items: &mut Drain<'_, T, A>,
+    side: &mut Vec<T, A>,
+    count: usize,
+)
+    requires { (count ≤ length (drain_rest items.old)) × HasRoom side.old count }
+    ensures { TakesFront items.old side.old count items.new side.new }
+{
+    'each: for _taken in 0..count {
+        match items.next() {
+            Some(item) => append_within(side, item),
+            None => unreachable!(),
+        }
+    }
+}
+
+// The same from the back: the last item first.
+fn take_back<T: Drop, A: Allocator>(items: &mut Drain<'_, T, A>, side: &mut Vec<T, A>, count: usize)
+    requires { (count ≤ length (drain_rest items.old)) × HasRoom side.old count }
+    ensures { TakesBack items.old side.old count items.new side.new }
+{
+    'each: for _taken in 0..count {
+        match items.next_back() {
+            Some(item) => append_within(side, item),
+            None => unreachable!(),
+        }
+    }
+}
