@@ -5,14 +5,11 @@ use Rattle.std.specs.Iterator.{Yields, Drains}
 use Rattle.std.specs.Iterator.Runs.{WholeRun}
 use Rattle.std.proofs.iter.runs.Consumers.{total_runs}
 use Rattle.std.proofs.lemmas.Bool.Decides.{eqb_tells}
-use Rattle.aa_raw.specs.Growth.{usize_max}
-use Rattle.aa_raw.specs.Places.{most}
-use Rattle.aa_raw.specs.Block.{start_capacity}
+use Rattle.aa_raw.specs.Growth.{usize_max, sized}
 use Rattle.aa_raw.specs.Refusals.{IsRefused, IsRefusedAt}
 use Rattle.aa_raw.specs.declared.collections.TryReserveErrorKind.{TryReserveErrorKind}
 use Rattle.aa_raw.specs.declared.collections.TryReserveErrorKind.TheVariants.{CapacityOverflow, AllocError}
 use Rattle.aa_raw.specs.declared.raw_vec.Growth.TheVariants.{Doubling}
-use Rattle.aa_raw.proofs.Places.{most_is}
 use Rattle.aa_boxed.specs.Slice.{Begun, Slice, ended, with_next, StopsAfter}
 use Rattle.aa_boxed.proofs.Fillings.{none-chosen, some-chosen}
 
@@ -26,10 +23,10 @@ IsRefused-at CapacityOverflow n r = tt
 IsRefused-at (AllocError capacity) n r = omega (arith, r)
 
 -- more than a new block has places for
-over_start : (size n : ℕ) → 0 < n → (size ≡ 0 → usize_max < n) → n ≤ start_capacity size → ⊥
+over_start : (size n : ℕ) → 0 < n → (size ≡ 0 → usize_max < n) → n ≤ sized size 0 → ⊥
 over_start size n some many h = elim (eqb_tells size 0) [
-  | inl e ↦ absurd (omega (arith, many e.1, h, none-chosen size most 0 e.1, most_is))
-  | inr e ↦ absurd (omega (arith, some, h, some-chosen size 0 most 0 e.1))
+  | inl e ↦ absurd (omega (arith, many e.1, h, none-chosen size usize_max 0 e.1))
+  | inr e ↦ absurd (omega (arith, some, h, some-chosen size 0 usize_max 0 e.1))
 ]
 
 -- w is f, or f with more room
@@ -104,5 +101,5 @@ module _ {S T : Type 0} (steps : S → Option T → S → Type 0) where
             sizeless = λ z. (many z, o (omega (arith, many z, h, longer)));
           }
 
-          pub Coming-over : left iter ≤ start_capacity size → ⊥
+          pub Coming-over : left iter ≤ sized size 0 → ⊥
           Coming-over few = over_start size (length (f.items ++ x ∷ [])) (omega (arith, longer)) many (omega (arith, few, p.fewer, on, longer))

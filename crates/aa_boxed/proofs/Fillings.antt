@@ -1,17 +1,18 @@
 -- A block that is being filled.
-use Rattle.std.proofs.Common.{◌≡◌, ◌≢◌, ℕ, ◌+◌, ◌<◌, ◌≤◌, List, [], ◌∷◌, ◌++◌, Option, None, Some, length, take, refl, sym, ap, ◌∙◌, subst, arith, inl, inr, ◌⊎◌, ◌-◌, replicate, eq-eqb, length-append}
-use Rattle.std.specs.Prelude.{slice_set, Result, Ok, Err, IsOk, OnOk, IfErr, if◌then◌else◌, ◌==◌}
+use Rattle.std.proofs.Common.{◌≡◌, ◌≢◌, ℕ, ◌+◌, ◌<◌, ◌≤◌, List, [], ◌∷◌, ◌++◌, Option, None, Some, length, take, refl, sym, ap, ◌∙◌, arith, inl, inr, ◌⊎◌, ◌-◌, replicate, eq-eqb, length-append}
+use Rattle.std.specs.Prelude.{slice_set, Result, Ok, Err, OnOk, IfErr, if◌then◌else◌, ◌==◌}
 use Rattle.std.proofs.lemmas.List.{length-set, length-replicate, take_at, length-take-le}
 use Rattle.std.proofs.lemmas.Bool.{cases_lt}
 use Rattle.std.proofs.lemmas.Bool.Decides.{eqb_tells}
 use Rattle.aa_raw.specs.Block.{Block, Reserves, wrote, fresh, shrunk_to}
-use Rattle.aa_raw.specs.Places.{run, most}
-use Rattle.aa_raw.specs.Growth.{usize_max}
+use Rattle.aa_raw.specs.Places.{run}
+use Rattle.aa_raw.specs.Growth.{usize_max, sized}
 use Rattle.aa_raw.specs.Refusals.{IsRefused}
+use Rattle.aa_raw.specs.Room.{LacksRoom}
 use Rattle.aa_raw.specs.declared.collections.TryReserveErrorKind.{TryReserveErrorKind}
 use Rattle.aa_raw.specs.declared.collections.TryReserveErrorKind.TheVariants.{CapacityOverflow}
 use Rattle.aa_raw.specs.declared.raw_vec.Growth.{Growth}
-use Rattle.aa_raw.proofs.Places.{most_is}
+use Rattle.aa_raw.proofs.Places.{length-empty_places}
 use Rattle.aa_raw.proofs.Runs.{run-below, run-push, run-zero, length-run}
 use Rattle.aa_boxed.specs.Slice.{with_next, slice_of}
 use Rattle.aa_boxed.specs.SliceInner.{begun_of, IsFront}
@@ -19,11 +20,10 @@ use Rattle.aa_boxed.specs.declared.boxed.filling.Filling.TheInside.{Inside}
 
 module _ {T A : Type 0} where
   -- no item stands in a block of empty places
-  pub begun-fresh : (size n : ℕ) (growth : Growth) (a : A) (b : Block T A) → b ≡ fresh (if size == 0 then most else n) growth a
-      → begun_of (record { block = b; len = 0 }) ≡ record { items = []; capacity = if size == 0 then usize_max else n; growth = growth; alloc = a }
+  pub begun-fresh : (size n : ℕ) (growth : Growth) (a : A) (b : Block T A) → b ≡ fresh size n growth a
+      → begun_of (record { block = b; len = 0 }) ≡ record { items = []; capacity = sized size n; growth = growth; alloc = a }
   begun-fresh size n growth a b e =
-      let long : length b.places ≡ (if size == 0 then usize_max else n) =
-      ap (λ (x : Block T A). length x.places) e ∙ length-replicate {A = Option T} (if size == 0 then most else n) None ∙ ap (λ m. if size == 0 then m else n) most_is in
+      let long : length b.places ≡ sized size n = ap (λ (x : Block T A). length x.places) e ∙ length-empty_places T size n in
       let items : run b.places 0 0 ≡ [] = run-zero b.places 0 in
       λ i. record { items = items i; capacity = long i; growth = (e i).growth; alloc = (e i).alloc }
 
@@ -41,12 +41,12 @@ module _ {T A : Type 0} (v : Inside T A) (front : IsFront v) where
 
   module _ (size k wanted : ℕ) (b : Block T A) where
     -- room that the block was asked for leaves the items
-    pub items-kept : (r : Result Unit TryReserveErrorKind) → OnOk r (Reserves size v.block v.len k wanted b) → IfErr r (λ e. (b ≡ v.block) × IsRefused e (v.len + k)) → run b.places 0 v.len ≡ run v.block.places 0 v.len
+    pub items-kept : (r : Result Unit TryReserveErrorKind) → OnOk r (Reserves size v.block v.len k wanted b) → IfErr r (λ e. (b ≡ v.block) × LacksRoom (length v.block.places) v.len k e) → run b.places 0 v.len ≡ run v.block.places 0 v.len
     items-kept (Ok x) made refused = run-below v.block.places b.places v.len 0 v.len made.kept (omega arith)
     items-kept (Err e) made refused = ap (λ (x : Block T A). run x.places 0 v.len) refused.0
 
     -- and there are no fewer places
-    pub places-kept : (r : Result Unit TryReserveErrorKind) → OnOk r (Reserves size v.block v.len k wanted b) → IfErr r (λ e. (b ≡ v.block) × IsRefused e (v.len + k)) → length v.block.places ≤ length b.places
+    pub places-kept : (r : Result Unit TryReserveErrorKind) → OnOk r (Reserves size v.block v.len k wanted b) → IfErr r (λ e. (b ≡ v.block) × LacksRoom (length v.block.places) v.len k e) → length v.block.places ≤ length b.places
     places-kept (Ok x) made refused = elim (cases_lt (length v.block.places) (v.len + k)) [
       | inl lt ↦ omega (arith, lt, made.room)
       | inr le ↦ omega (arith, ap (λ (x : Block T A). length x.places) (made.fits le))
@@ -59,16 +59,16 @@ module _ {T A : Type 0} (v : Inside T A) (front : IsFront v) where
     room-made (Err e) made = tt
 
   -- or it was refused, for want of it
-  pub room-refused : (k : ℕ) (b : Block T A) (r : Result Unit TryReserveErrorKind) → (v.len + k ≤ length v.block.places → IsOk r) → IfErr r (λ e. (b ≡ v.block) × IsRefused e (v.len + k))
-      → IfErr r (λ e. (length v.block.places < length (begun_of v).items + k) × IsRefused e (length (begun_of v).items + k))
-  room-refused k b (Ok x) fits refused = tt
-  room-refused k b (Err e) fits refused =
-      let short : length v.block.places < v.len + k = elim (cases_lt (length v.block.places) (v.len + k)) [ inl lt ↦ lt | inr le ↦ let h = fits le in cc ] in
-      (omega (arith, items-long, short), subst (λ n. IsRefused e (n + k)) (sym items-long) refused.1)
+  module _ (k : ℕ) (b : Block T A) where
+    pub room-refused : (r : Result Unit TryReserveErrorKind) → IfErr r (λ e. (b ≡ v.block) × LacksRoom (length v.block.places) v.len k e)
+        → IfErr r (λ e. (length v.block.places < length (begun_of v).items + k) × IsRefused e (length (begun_of v).items + k))
+    room-refused (Ok x) refused = tt
+    room-refused (Err e) refused = (omega (arith, items-long, refused.1.full), rw items-long (refused.1.number))
 
-  pub room-overflow : (k : ℕ) (r : Result Unit TryReserveErrorKind) → IfErr r (λ e. usize_max < v.len + k → e ≡ CapacityOverflow) → IfErr r (λ e. usize_max < length (begun_of v).items + k → e ≡ CapacityOverflow)
-  room-overflow k (Ok x) h = tt
-  room-overflow k (Err e) h = subst (λ n. usize_max < n + k → e ≡ CapacityOverflow) (sym items-long) h
+    pub room-overflow : (r : Result Unit TryReserveErrorKind) → IfErr r (λ e. (b ≡ v.block) × LacksRoom (length v.block.places) v.len k e)
+        → IfErr r (λ e. usize_max < length (begun_of v).items + k → e ≡ CapacityOverflow)
+    room-overflow (Ok x) refused = tt
+    room-overflow (Err e) refused = rw items-long (refused.1.overflow)
 
 -- a choice by whether a number is 0
 pub none-chosen : {X : Type 0} (n : ℕ) (x y : X) → n ≡ 0 → (if n == 0 then x else y) ≡ x
@@ -77,12 +77,8 @@ none-chosen n x y e = ap (λ t. if t then x else y) (eq-eqb n 0 e)
 pub some-chosen : {X : Type 0} (m n : ℕ) (x y : X) → m ≢ n → (if m == n then x else y) ≡ y
 some-chosen m n x y ne = elim (eqb_tells m n) [ inl h ↦ absurd (ne h.1) | inr h ↦ ap (λ t. if t then x else y) h.0 ]
 
--- new room for n is room for n
-pub room-for : (size n : ℕ) → n ≤ usize_max → n ≤ (if size == 0 then usize_max else n)
-room-for size n h = elim (eqb_tells size 0) [ inl e ↦ omega (arith, h, none-chosen size usize_max n e.1) | inr e ↦ omega (arith, some-chosen size 0 usize_max n e.1) ]
-
 -- and for no more
-pub room-whole : (size n m : ℕ) → m ≡ n → m ≢ (if size == 0 then usize_max else n) → (if size == 0 then usize_max else n) ≡ usize_max
+pub room-whole : (size n m : ℕ) → m ≡ n → m ≢ sized size n → sized size n ≡ usize_max
 room-whole size n m e ne = elim (eqb_tells size 0) [ inl h ↦ none-chosen size usize_max n h.1 | inr h ↦ absurd (ne (e ∙ sym (some-chosen size 0 usize_max n h.1))) ]
 
 -- the block gave back the room behind the items

@@ -18,7 +18,8 @@ module _ {T A : Type 0} where
 
   -- the values in the first places, and room for as many as there are places
   abbrev pub begun_of : InsideFilling T A → Begun T A
-  begun_of v = record { items = run v.block.places 0 v.len; capacity = length v.block.places; growth = v.block.growth; alloc = v.block.alloc }
+  begun_of v =
+      record { items = run v.block.places 0 v.len; capacity = length v.block.places; growth = v.block.growth; alloc = v.block.alloc }
 
   -- the first places are filled, as many as there are items so far
   abbrev pub IsFront : InsideFilling T A → Type 0

@@ -9,4 +9,6 @@ use Rattle.aa_boxed.specs.contracts.boxed.slice.BoxedSlice.{the_row}
 module _ (R A : RattleType) (g : Ghosts A.Denot) (s : MutBor (Slice R.Denot A.Denot)) where
   -- the items are the last values written through r
   abbrev pub lends_items : MutBor (List R.Denot) → Fml
-  lends_items r = Lends (the_row R A g) (Array R 0) s r (λ ws. record { items = refill (length s.now.items) r.now ws; growth = s.now.growth; alloc = s.now.alloc })
+  lends_items r =
+      Lends (the_row R A g) (Array R 0) s r
+      (λ ws. record { items = refill (length s.now.items) r.now ws; growth = s.now.growth; alloc = s.now.alloc })

@@ -12,7 +12,8 @@ pub record Text (A : Type 0) : Type 0 where
   pub alloc : A
 
 -- of an iterator's texts all that came but the last stand behind old, which is new; room for the last was refused
-pub record StopsAtText {S A : Type 0} (steps : S → Option (Text A) → S → Type 0) (iter : S) (old : List ℕ) (error : TryReserveErrorKind) (new : List ℕ) : Type 0 where
+pub record StopsAtText {S A : Type 0} (steps : S → Option (Text A) → S → Type 0) (iter : S) (old : List ℕ) (error : TryReserveErrorKind)
+    (new : List ℕ) : Type 0 where
   pub placed : List (Text A)
   pub refused : Text A
   pub last : S

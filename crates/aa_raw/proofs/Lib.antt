@@ -2,12 +2,16 @@ mod Access
 mod Arrays
 mod Claims
 mod Each
+pub mod Calls
 pub mod Emptied
 mod Filled
+pub mod Firsts
 mod Lending
 mod Loans
 pub mod Places
+pub mod Positions
 pub mod Moves
+pub mod Reserving
 pub mod Runs
 mod Seen
 mod Spots

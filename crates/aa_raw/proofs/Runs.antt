@@ -190,7 +190,7 @@ module _ {X : Type 0} where
 
   -- other values in the places of a run
   pub run-with : (cs : List (Option X)) (from n : ℕ) (xs : List X) → from + n ≤ length cs → length xs ≡ n → run (with_run cs from n (map Some xs)) from n ≡ xs
-  unfolding run
+  unfolding run with_run
   run-with cs from n xs h e =
       let ys : List (Option X) = map Some xs in
       let l : length ys ≡ n = length-map xs (λ (x : X). Some x) ∙ e in
@@ -203,6 +203,7 @@ module _ {X : Type 0} where
   IsRun-with cs from n xs h e = IsRun-long (with_run cs from n (map Some xs)) from n (ap length (run-with cs from n xs h e) ∙ e) (omega (arith, h, length-with cs from n xs h e))
 
   pub drop-with : (cs : List (Option X)) (from n : ℕ) (ys : List (Option X)) → from + n ≤ length cs → length ys ≡ n → drop (from + n) (with_run cs from n ys) ≡ drop (from + n) cs
+  unfolding with_run
   drop-with cs from n ys h e =
       ap (drop (from + n)) (sym (append_assoc (take from cs) ys (drop (from + n) cs)))
       ∙ drop_at (take from cs ++ ys) (drop (from + n) cs) (from + n) (length-append (take from cs) ys ∙ omega (arith, length-take-le from cs (omega arith), e))
@@ -217,6 +218,7 @@ module _ {X : Type 0} where
 
   -- a run that was moved holds the same values where it is now
   pub run-moved : (cs : List (Option X)) (from to n : ℕ) → IsRun cs from n → to + n ≤ length cs → run (moved cs from to n) to n ≡ run cs from n
+  unfolding moved
   run-moved cs from to n r h =
       let none = with_run cs from n (replicate n None) in let long : length none ≡ length cs = length-with_run cs from n (replicate n None) r.0 (length-replicate n None) in
       ap (λ l. run (with_run none to n l) to n) (run-filled cs from n r) ∙ run-with none to n (run cs from n) (omega (arith, long)) (length-run cs from n r)
@@ -235,6 +237,7 @@ module _ {X : Type 0} where
 
   -- other places leave a run that lies before them, or behind them
   pub run-with-below : (cs : List (Option X)) (from n : ℕ) (ys : List (Option X)) (a k : ℕ) → from + n ≤ length cs → a + k ≤ from → run (with_run cs from n ys) a k ≡ run cs a k
+  unfolding with_run
   run-with-below cs from n ys a k h l =
       run-below cs (with_run cs from n ys) from a k (take_at (take from cs) (ys ++ drop (from + n) cs) from (length-take-le from cs (omega arith))) l
 
@@ -246,6 +249,7 @@ module _ {X : Type 0} where
 
   -- a run that was moved leaves one that lies before it, and before where it is now
   pub run-moved-below : (cs : List (Option X)) (from to n a k : ℕ) → from + n ≤ length cs → to + n ≤ length cs → a + k ≤ from → a + k ≤ to → run (moved cs from to n) a k ≡ run cs a k
+  unfolding moved
   run-moved-below cs from to n a k h l b c =
       let none = with_run cs from n (replicate n None) in let long : length none ≡ length cs = length-with_run cs from n (replicate n None) h (length-replicate n None) in
       run-with-below none to n (take n (drop from cs)) a k (omega (arith, long)) c ∙ run-with-below cs from n (replicate n None) a k h b

@@ -1,10 +1,10 @@
 -- What a contract sees of a `RawVec`.
-use Rattle.std.specs.Prelude.{◌≡◌, ℕ, ◌+◌, ◌-◌, ◌<◌, ◌≤◌, List, ◌++◌, length, take, replicate, Option, None, if◌then◌else◌, ◌==◌}
-use Rattle.aa_raw.specs.Growth.{amortized, least_of}
-use Rattle.aa_raw.specs.Places.{most}
+use Rattle.std.specs.Prelude.{◌≡◌, ℕ, ◌+◌, ◌-◌, ◌<◌, ◌≤◌, List, ◌++◌, length, take, replicate, Option, None, if◌then◌else◌, ◌==◌, nat_le}
+use Rattle.aa_raw.specs.Growth.{amortized, least_of, usize_max}
+use Rattle.aa_raw.specs.Places.{empty_places}
 use Rattle.aa_raw.specs.declared.raw_vec.Growth.{Growth}
 use Rattle.aa_raw.specs.declared.raw_vec.Room.{Room}
-use Rattle.aa_raw.specs.declared.raw_vec.Room.TheVariants.{ToSpare, Exact}
+use Rattle.aa_raw.specs.declared.raw_vec.Room.TheVariants.{Amortized, Exact}
 
 pub record Block (X A : Type 0) : Type 0 where
   -- each empty or filled: their number is the capacity
@@ -17,42 +17,58 @@ pub record Block (X A : Type 0) : Type 0 where
   pub alloc : A
 
 module _ {X A : Type 0} where
-  -- a new block of c empty places
-  abbrev pub fresh : ℕ → Growth → A → Block X A
-  fresh c g a = record { places = replicate c None; growth = g; grown = 0; written = 0; runs = 0; alloc = a }
+  -- a new block of empty places for n elements of `size` bytes
+  abbrev pub fresh : (size n : ℕ) → Growth → A → Block X A
+  fresh size n g a = record { places = empty_places size n; growth = g; grown = 0; written = 0; runs = 0; alloc = a }
 
   abbrev pub with_places : Block X A → List (Option X) → Block X A
   with_places b cs = record { places = cs; growth = b.growth; grown = b.grown; written = b.written; runs = b.runs; alloc = b.alloc }
 
   -- b with the places cs, after one call that wrote n elements
   abbrev pub wrote : Block X A → List (Option X) → ℕ → Block X A
-  wrote b cs n = record { places = cs; growth = b.growth; grown = b.grown; written = b.written + n; runs = b.runs + (if n == 0 then 0 else 1); alloc = b.alloc }
+  wrote b cs n =
+      record {
+        places = cs;
+        growth = b.growth;
+        grown = b.grown;
+        written = b.written + n;
+        runs = b.runs + (if n == 0 then 0 else 1);
+        alloc = b.alloc;
+      }
 
   -- a block of c places that has the first len of b, made by a growth
   abbrev pub grown_to : Block X A → ℕ → ℕ → Block X A
-  grown_to b len c = record { places = take len b.places ++ replicate (c - len) None; growth = b.growth; grown = b.grown + len; written = b.written; runs = b.runs; alloc = b.alloc }
+  grown_to b len c =
+      record {
+        places = take len b.places ++ replicate (c - len) None;
+        growth = b.growth;
+        grown = b.grown + len;
+        written = b.written;
+        runs = b.runs;
+        alloc = b.alloc;
+      }
 
   -- the same by a shrink
   abbrev pub shrunk_to : Block X A → ℕ → ℕ → Block X A
   shrunk_to b len c = with_places b (take len b.places ++ replicate (c - len) None)
 
 module _ {X A : Type 0} where
-  -- how many places of `size` bytes a growth of b asks for that needs n, with room to spare
-  abbrev pub spacious : (size : ℕ) → Block X A → (n : ℕ) → ℕ
-  spacious size b n = amortized b.growth (length b.places) n (least_of size)
-
-  -- how many places a reserve of b asks for that needs n
+  -- how many places of `size` bytes a growth of b asks for that needs n
   abbrev pub wanted : Room → (size : ℕ) → Block X A → (n : ℕ) → ℕ
-  wanted ToSpare size b n = spacious size b n
+  wanted Amortized size b n = amortized b.growth (length b.places) n (least_of size)
   wanted Exact size b n = n
 
-  -- old made room for k more than its first n places and is new: where they fit it is unchanged, else it grew to `wanted` places
+  -- old made room for k more than its first n places and is new: where they fit it is unchanged, else it grew to `wanted` places of
+  -- `size` bytes. The second half says what of that a caller asks for
   pub record Reserves (size : ℕ) (old : Block X A) (n k wanted : ℕ) (new : Block X A) : Type 0 where
-    pub room : n + k ≤ length new.places
-    pub kept : take n new.places ≡ take n old.places
     pub fits : n + k ≤ length old.places → new ≡ old
-    pub grown : length old.places < n + k → (0 < size) × (new ≡ grown_to old n wanted)
-
--- the capacity of a block that was not given any, of elements of `size` bytes
-abbrev pub start_capacity : (size : ℕ) → ℕ
-start_capacity size = if size == 0 then most else 0
+    pub grows : length old.places < n + k → (0 < size) × (new ≡ grown_to old n wanted)
+    pub room : n + k ≤ length new.places
+    pub within : length new.places ≤ usize_max
+    pub capacity : length new.places ≡ (if nat_le (n + k) (length old.places) then length old.places else wanted)
+    pub kept : take n new.places ≡ take n old.places
+    pub growth : new.growth ≡ old.growth
+    pub grown : new.grown ≡ (if nat_le (n + k) (length old.places) then old.grown else old.grown + n)
+    pub written : new.written ≡ old.written
+    pub runs : new.runs ≡ old.runs
+    pub alloc : new.alloc ≡ old.alloc

@@ -7,6 +7,10 @@ use Rattle.aa_raw.specs.declared.raw_vec.Growth.TheVariants.{Doubling, Sparing}
 abbrev pub usize_max : ℕ
 usize_max = 2 ^ 64 - 1
 
+-- the capacity of new room for n elements of `size` bytes
+abbrev pub sized : (size n : ℕ) → ℕ
+sized size n = if size == 0 then usize_max else n
+
 -- the least capacity of a block that has grown with room to spare, of elements of `size` bytes
 abbrev pub least_of : (size : ℕ) → ℕ
 least_of size = if size == 1 then 8 else (if nat_lt 1024 size then 1 else 4)

@@ -1,19 +1,24 @@
 -- What stands in the places of a block.
-use Rattle.std.specs.Prelude.{◌≡◌, ℕ, ◌+◌, ◌*◌, ◌^◌, ◌<◌, ◌≤◌, true, get_or, List, [], ◌∷◌, ◌++◌, length, take, drop, replicate, Option, Some, None, is_some}
+use Rattle.std.specs.Prelude.{◌≡◌, ℕ, ◌+◌, ◌*◌, ◌^◌, ◌<◌, ◌≤◌, true, get_or, List, [], ◌∷◌, ◌++◌, length, take, drop, replicate, Option, Some, None, is_some, if◌then◌else◌, ◌==◌}
 use Rattle.std.specs.List.{list_all}
 use Rattle.aa_raw.specs.Growth.{usize_max}
 use denote.RattleType.{RattleType}
 use Rattle.std.specs.Mem.{type_size}
 
--- `usize::MAX` where it counts places. It is closed: a list of so many places must not be written out.
-unfoldable pub most : ℕ
-most = usize_max
-
--- a block may have c places: they take fewer than 2 ^ 63 bytes, and where they take none for want of an element's size there are as many as can be
+-- a block may have c places: they take fewer than 2 ^ 63 bytes, and where they take none for want of an element's size there are as
+-- many as can be
 abbrev pub IsCapacity : RattleType → ℕ → Type 0
 IsCapacity R c = (c * type_size R < 2 ^ 63) × (type_size R ≡ 0 → usize_max ≤ c)
 
 module _ {X : Type 0} where
+  -- as many empty places as there can be. They stay folded: so long a list must not be written out
+  unfoldable pub endless_places : List (Option X)
+  endless_places = replicate usize_max None
+
+  -- empty places for n elements of `size` bytes
+  abbrev pub empty_places : (size n : ℕ) → List (Option X)
+  empty_places size n = if size == 0 then endless_places else replicate n None
+
   -- the place at the index holds a value
   abbrev pub IsFilled : List (Option X) → ℕ → Type 0
   IsFilled cs i = is_some (get_or cs i None) ≡ true
@@ -33,9 +38,9 @@ module _ {X : Type 0} where
   run cs from n = somes (take n (drop from cs))
 
   -- cs, with others in place of the n from the index from on
-  abbrev pub with_run : List (Option X) → ℕ → ℕ → List (Option X) → List (Option X)
+  unfoldable pub with_run : List (Option X) → ℕ → ℕ → List (Option X) → List (Option X)
   with_run cs from n others = take from cs ++ (others ++ drop (from + n) cs)
 
   -- the n values from the index from on are moved to the index to
-  abbrev pub moved : List (Option X) → ℕ → ℕ → ℕ → List (Option X)
+  unfoldable pub moved : List (Option X) → ℕ → ℕ → ℕ → List (Option X)
   moved cs from to n = with_run (with_run cs from n (replicate n None)) to n (take n (drop from cs))

@@ -4,11 +4,12 @@ ghost use Rattle.std.specs.Prelude.{◌≡◌, ◌≢◌, ◌+◌, ◌-◌, ◌*
 ghost use Rattle.std.specs.Mem.{type_size};
 ghost use Rattle.std.specs.Borrow.{sem};
 ghost use Rattle.std.specs.Fn.{CalledAtPairMut};
-ghost use Rattle.aa_raw.specs.Places.{IsCapacity, IsFilled, IsRun, most, moved, with_run};
-ghost use Rattle.aa_raw.specs.Block.{fresh, with_places, wrote, grown_to, shrunk_to, start_capacity, spacious, wanted, Reserves};
+ghost use Rattle.aa_raw.specs.Places.{IsCapacity, IsFilled, IsRun, moved, with_run};
+ghost use Rattle.aa_raw.specs.Block.{fresh, with_places, wrote, grown_to, shrunk_to, wanted, Reserves};
 ghost use Rattle.aa_raw.specs.Closures.{TakesPairMut, CalledAtPlaces};
-ghost use Rattle.aa_raw.specs.Growth.{least_of, amortized, usize_max};
-ghost use Rattle.aa_raw.specs.Refusals.{IsRefused, IsRefusedAt};
+ghost use Rattle.aa_raw.specs.Growth.{amortized, least_of, usize_max};
+ghost use Rattle.aa_raw.specs.Refusals.{IsRefusedAt};
+ghost use Rattle.aa_raw.specs.Room.{HasRoom, LacksRoom};
 
 use crate::collections::{TryReserveError, TryReserveErrorKind};
 use crate::row::{Claim, Row, allocate, dangle, deallocate, forget_row};
@@ -27,10 +28,10 @@ pub enum Growth {
     Sparing,
 }
 
-// What a reserve asks for: room to spare, as the block's growth says, or no more than is needed.
+// What a reserve asks for: room to spare by the block's growth, so that moves are few over many calls, or no more than is needed.
 #[derive(Clone, Copy, Drop)]
 enum Room {
-    ToSpare,
+    Amortized,
     Exact,
 }
 
@@ -62,7 +63,7 @@ impl<T, A: Allocator> Model for RawVec<T, A> {
 impl<T> RawVec<T, Global> {
     /// An empty block on the global allocator. It takes no memory. It stands for `RawVec::new`.
     pub fn new(alloc: Global) -> Self
-        ensures { result ≡ fresh (start_capacity (type_size T.row)) Growth.Doubling alloc }
+        ensures { result ≡ fresh (type_size T.row) 0 Growth.Doubling alloc }
     {
         RawVec::new_in(alloc)
     }
@@ -70,27 +71,28 @@ impl<T> RawVec<T, Global> {
     /// A block of `capacity` empty places on the global allocator. Where elements have a size and `capacity` is above 0 it takes
     /// memory, and is refused as `with_capacity_in` is. It stands for `RawVec::with_capacity`.
     pub fn with_capacity(alloc: Global, capacity: usize) -> Result<Self, TryReserveError>
-        ensures made { IfOk result (λ v. v ≡ fresh (if type_size T.row == 0 then most else capacity) Growth.Doubling alloc) }
+        ensures made { IfOk result (λ v. v ≡ fresh (type_size T.row) capacity Growth.Doubling alloc) }
         ensures refused { IfErr result (λ e. (0 < capacity) × (0 < type_size T.row) × IsRefusedAt e capacity) }
     {
         RawVec::with_capacity_in(capacity, alloc)
     }
 }
 
+#[tactic(auto, using(crate::proofs::Reserving::after_calls))]
 impl<T, A: Allocator> RawVec<T, A> {
     ghost use Rattle.aa_raw.specs.BlockLends.{lends_places, lends_place};
 
     /// An empty block. It takes no memory. It stands for `RawVec::new_in`.
     pub fn new_in(alloc: A) -> Self
-        ensures { result ≡ fresh (start_capacity (type_size T.row)) Growth.Doubling alloc }
+        ensures { result ≡ fresh (type_size T.row) 0 Growth.Doubling alloc }
     {
         RawVec::new_growing_in(Growth::Doubling, alloc)
     }
 
     /// An empty block that will grow as `growth` says. It takes no memory. The original has no such choice.
-    #[tactic(auto, using(crate::proofs::Places::most_is))]
+    #[tactic(auto, using(crate::proofs::Reserving::made_empty))]
     pub fn new_growing_in(growth: Growth, alloc: A) -> Self
-        ensures { result ≡ fresh (start_capacity (type_size T.row)) growth alloc }
+        ensures { result ≡ fresh (type_size T.row) 0 growth alloc }
     {
         let capacity = if is_sizeless::<T>() { usize::MAX } else { 0 };
         let row = dangle(&alloc, capacity);
@@ -100,9 +102,9 @@ impl<T, A: Allocator> RawVec<T, A> {
     /// A block of `capacity` empty places. Where elements have a size and `capacity` is above 0 it takes memory; a refusal is
     /// `CapacityOverflow` where the bytes pass `isize::MAX`, and else `AllocError` with this capacity. It stands for
     /// `RawVec::with_capacity_in`.
-    #[tactic(auto, using(crate::proofs::Places::most_is))]
+    #[tactic(auto, using(crate::proofs::Reserving::made_empty))]
     pub fn with_capacity_in(capacity: usize, alloc: A) -> Result<Self, TryReserveError>
-        ensures made { IfOk result (λ v. v ≡ fresh (if type_size T.row == 0 then most else capacity) Growth.Doubling alloc) }
+        ensures made { IfOk result (λ v. v ≡ fresh (type_size T.row) capacity Growth.Doubling alloc) }
         ensures refused { IfErr result (λ e. (0 < capacity) × (0 < type_size T.row) × IsRefusedAt e capacity) }
     {
         if capacity == 0 || is_sizeless::<T>() {
@@ -170,6 +172,7 @@ impl<T, A: Allocator> RawVec<T, A> {
         requires { IsRun self.old.places from count }
         ensures { self.new ≡ with_places self.old (with_run self.old.places from count (replicate count None)) }
     {
+        // It does nothing but tell the prover that places are at most `usize::MAX`.
         let _within = self.capacity;
         'each: for dropped in 0..count {
             drop(self.take(from + dropped));
@@ -308,24 +311,22 @@ impl<T, A: Allocator> RawVec<T, A> {
     #[inline(always)]
     pub fn try_reserve(&mut self, len: usize, additional: usize) -> Result<(), TryReserveError>
         requires { IsRun self.old.places 0 len }
-        ensures fits { len + additional ≤ length self.old.places → IsOk result }
-        ensures made { OnOk result (Reserves (type_size T.row) self.old len additional (spacious (type_size T.row) self.old (len + additional)) self.new) }
-        ensures refused { IfErr result (λ e. (self.new ≡ self.old) × IsRefused e (len + additional)) }
-        ensures overflow { IfErr result (λ e. usize_max < len + additional → e ≡ TryReserveErrorKind.CapacityOverflow) }
+        ensures fits { HasRoom (length self.old.places) len additional → IsOk result }
+        ensures made { OnOk result (Reserves (type_size T.row) self.old len additional (amortized self.old.growth (length self.old.places) (len + additional) (least_of (type_size T.row))) self.new) }
+        ensures refused { IfErr result (λ e. (self.new ≡ self.old) × LacksRoom (length self.old.places) len additional e) }
     {
-        if additional <= self.capacity - len || self.grow_for(Room::ToSpare, len, additional) {
+        if additional <= self.capacity - len || self.grow_for(Room::Amortized, len, additional) {
             return Ok(());
         }
-        Err(self.refusal(Room::ToSpare, len, additional))
+        Err(self.refusal(Room::Amortized, len, additional))
     }
 
     /// The same as `try_reserve`. It stands for `RawVec::reserve`, which aborts on a refusal.
     pub fn reserve(&mut self, len: usize, additional: usize) -> Result<(), TryReserveError>
         requires { IsRun self.old.places 0 len }
-        ensures fits { len + additional ≤ length self.old.places → IsOk result }
-        ensures made { OnOk result (Reserves (type_size T.row) self.old len additional (spacious (type_size T.row) self.old (len + additional)) self.new) }
-        ensures refused { IfErr result (λ e. (self.new ≡ self.old) × IsRefused e (len + additional)) }
-        ensures overflow { IfErr result (λ e. usize_max < len + additional → e ≡ TryReserveErrorKind.CapacityOverflow) }
+        ensures fits { HasRoom (length self.old.places) len additional → IsOk result }
+        ensures made { OnOk result (Reserves (type_size T.row) self.old len additional (amortized self.old.growth (length self.old.places) (len + additional) (least_of (type_size T.row))) self.new) }
+        ensures refused { IfErr result (λ e. (self.new ≡ self.old) × LacksRoom (length self.old.places) len additional e) }
     {
         self.try_reserve(len, additional)
     }
@@ -339,11 +340,10 @@ impl<T, A: Allocator> RawVec<T, A> {
         additional: usize,
     ) -> Result<(), TryReserveError>
         requires { IsRun self.old.places 0 len }
-        ensures fits { len + additional ≤ length self.old.places → IsOk result }
+        ensures fits { HasRoom (length self.old.places) len additional → IsOk result }
         ensures made { OnOk result (Reserves (type_size T.row) self.old len additional (len + additional) self.new) }
-        ensures refused { IfErr result (λ e. (self.new ≡ self.old) × IsRefused e (len + additional)) }
+        ensures refused { IfErr result (λ e. (self.new ≡ self.old) × LacksRoom (length self.old.places) len additional e) }
         ensures number { IfErr result (λ e. IsRefusedAt e (len + additional)) }
-        ensures overflow { IfErr result (λ e. usize_max < len + additional → e ≡ TryReserveErrorKind.CapacityOverflow) }
     {
         if additional <= self.capacity - len || self.grow_for(Room::Exact, len, additional) {
             return Ok(());
@@ -354,11 +354,10 @@ impl<T, A: Allocator> RawVec<T, A> {
     /// The same as `try_reserve_exact`. It stands for `RawVec::reserve_exact`, which aborts on a refusal.
     pub fn reserve_exact(&mut self, len: usize, additional: usize) -> Result<(), TryReserveError>
         requires { IsRun self.old.places 0 len }
-        ensures fits { len + additional ≤ length self.old.places → IsOk result }
+        ensures fits { HasRoom (length self.old.places) len additional → IsOk result }
         ensures made { OnOk result (Reserves (type_size T.row) self.old len additional (len + additional) self.new) }
-        ensures refused { IfErr result (λ e. (self.new ≡ self.old) × IsRefused e (len + additional)) }
+        ensures refused { IfErr result (λ e. (self.new ≡ self.old) × LacksRoom (length self.old.places) len additional e) }
         ensures number { IfErr result (λ e. IsRefusedAt e (len + additional)) }
-        ensures overflow { IfErr result (λ e. usize_max < len + additional → e ≡ TryReserveErrorKind.CapacityOverflow) }
     {
         self.try_reserve_exact(len, additional)
     }
@@ -368,10 +367,9 @@ impl<T, A: Allocator> RawVec<T, A> {
     #[inline(always)]
     pub fn reserve_for_push(&mut self, len: usize) -> Result<(), TryReserveError>
         requires { IsRun self.old.places 0 len }
-        ensures fits { len + 1 ≤ length self.old.places → IsOk result }
-        ensures made { OnOk result (Reserves (type_size T.row) self.old len 1 (spacious (type_size T.row) self.old (len + 1)) self.new) }
-        ensures refused { IfErr result (λ e. (self.new ≡ self.old) × IsRefused e (len + 1)) }
-        ensures overflow { IfErr result (λ e. usize_max < len + 1 → e ≡ TryReserveErrorKind.CapacityOverflow) }
+        ensures fits { HasRoom (length self.old.places) len 1 → IsOk result }
+        ensures made { OnOk result (Reserves (type_size T.row) self.old len 1 (amortized self.old.growth (length self.old.places) (len + 1) (least_of (type_size T.row))) self.new) }
+        ensures refused { IfErr result (λ e. (self.new ≡ self.old) × LacksRoom (length self.old.places) len 1 e) }
     {
         self.try_reserve(len, 1)
     }
@@ -398,7 +396,7 @@ impl<T, A: Allocator> RawVec<T, A> {
     #[inline(never)]
     fn grow_for(&mut self, room: Room, len: usize, additional: usize) -> bool
         requires { IsRun self.old.places 0 len × (length self.old.places < len + additional) }
-        ensures grown { IsTrue result → (0 < type_size T.row) × (self.new ≡ grown_to self.old len (wanted room (type_size T.row) self.old (len + additional))) }
+        ensures grown { IsTrue result → Reserves (type_size T.row) self.old len additional (wanted room (type_size T.row) self.old (len + additional)) self.new }
         ensures kept { result ≡ false → self.new ≡ self.old }
     {
         match self.capacity_for(room, len, additional) {
@@ -412,9 +410,8 @@ impl<T, A: Allocator> RawVec<T, A> {
     #[inline(never)]
     fn refusal(&self, room: Room, len: usize, additional: usize) -> TryReserveError
         requires { (len ≤ length self.now.places) × (length self.now.places < len + additional) }
-        ensures refused { IsRefused result (len + additional) }
+        ensures refused { LacksRoom (length self.now.places) len additional result }
         ensures number { IsRefusedAt result (wanted room (type_size T.row) self.now (len + additional)) }
-        ensures overflow { usize_max < len + additional → result ≡ TryReserveErrorKind.CapacityOverflow }
     {
         match self.capacity_for(room, len, additional) {
             Some(capacity) => TryReserveErrorKind::AllocError { capacity }.into(),
@@ -432,7 +429,7 @@ impl<T, A: Allocator> RawVec<T, A> {
         let required = len.checked_add(additional)?;
         let wanted = match room {
             Room::Exact => required,
-            Room::ToSpare => {
+            Room::Amortized => {
                 amortized_capacity(self.growth, self.capacity, required, least_capacity::<T>())
             }
         };
@@ -510,6 +507,20 @@ fn made<T, A: Allocator>(
         written: Tally::zero(),
         runs: Tally::zero(),
         alloc,
+    }
+}
+
+/// The refusal of a first growth to `required` elements, by a block that doubles: for who could not make that block, since the clone
+/// of its allocator was refused. `CapacityOverflow` where the bytes pass `isize::MAX`, else `AllocError` with the capacity that the
+/// growth would have asked for. It takes no memory. The original has no such call.
+pub fn first_refusal<T>(required: usize) -> TryReserveError
+    ensures { IsRefusedAt result (amortized Growth.Doubling 0 required (least_of (type_size T.row))) }
+{
+    let capacity = amortized_capacity(Growth::Doubling, 0, required, least_capacity::<T>());
+    if fits_in_block::<T>(capacity) {
+        TryReserveErrorKind::AllocError { capacity }.into()
+    } else {
+        TryReserveErrorKind::CapacityOverflow.into()
     }
 }
 

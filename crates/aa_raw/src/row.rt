@@ -45,7 +45,7 @@ impl<T, A: Allocator> Claim<T, A> {
 }
 
 impl<T> Row<T> {
-    ghost use Rattle.aa_raw.specs.Lends.{lends_item, lends_items};
+    ghost use Rattle.aa_raw.specs.Lends.{lends_at, lends_from};
 
     /// No places.
     #[inline(always)]
@@ -79,7 +79,7 @@ impl<T> Row<T> {
 
     pub(crate) fn get_mut(&mut self, index: usize) -> &mut T
         requires { IsFilled self.old.places index }
-        ensures* writes_back { sem 𝓛 (lends_item T.row self.entry index result) }
+        ensures* writes_back { sem 𝓛 (lends_at T.row self.entry index result) }
         ensures value { get_or self.old.places index None ≡ Some result.now }
     {
         unsafe { &mut *self.ptr.add(index) }
@@ -95,7 +95,7 @@ impl<T> Row<T> {
 
     pub(crate) fn slice_mut(&mut self, from: usize, len: usize) -> &mut [T]
         requires { IsRun self.old.places from len }
-        ensures* writes_back { sem 𝓛 (lends_items T.row self.entry from len result) }
+        ensures* writes_back { sem 𝓛 (lends_from T.row self.entry from len result) }
         ensures value { take len (drop from self.old.places) ≡ map Some result.now }
     {
         unsafe { slice::from_raw_parts_mut(self.ptr.add(from), len) }
@@ -165,6 +165,7 @@ fn move_within<T>(row: Row<T>, from: usize, to: usize, count: usize) -> Row<T>
 
 // The same to places below, the first value first.
 #[inline]
+#[tactic(auto, using(crate::proofs::Places::begun_moves))]
 fn move_down<T>(mut row: Row<T>, from: usize, to: usize, count: usize) -> Row<T>
     requires { (to < from) × IsRun row.places from count × (length row.places < 2 ^ 64) }
     ensures { (result.ptr ≡ row.ptr) × (result.places ≡ moved row.places from to count) }
@@ -178,6 +179,7 @@ fn move_down<T>(mut row: Row<T>, from: usize, to: usize, count: usize) -> Row<T>
 
 // The same to places above, the last value first.
 #[inline]
+#[tactic(auto, using(crate::proofs::Places::begun_moves))]
 fn move_up<T>(mut row: Row<T>, from: usize, to: usize, count: usize) -> Row<T>
     requires { (from < to) × IsRun row.places from count × (to + count ≤ length row.places) × (length row.places < 2 ^ 64) }
     ensures { (result.ptr ≡ row.ptr) × (result.places ≡ moved row.places from to count) }
@@ -192,6 +194,7 @@ fn move_up<T>(mut row: Row<T>, from: usize, to: usize, count: usize) -> Row<T>
 
 // Moves the `count` values from `from` on of `source` to the places from `to` on of `row`.
 #[inline]
+#[tactic(auto, using(crate::proofs::Places::begun_moves))]
 fn move_across<T>(
     mut row: Row<T>,
     to: usize,

@@ -34,6 +34,7 @@ fn two_of_three(alloc: Global) -> Result<RawVec<u32>, TryReserveError>
 }
 
 #[test]
+#[tactic(auto, unfolding(aa_raw::specs::Places::with_run, aa_raw::specs::Places::moved))]
 fn places_are_written_to(rt: HostRuntime) -> Result<(), Fail> {
     let mut block = two_of_three(rt.alloc())?;
     *block.place_mut(1) = 13;
@@ -90,6 +91,12 @@ fn elements_without_size_need_no_growth(rt: HostRuntime) {
     let mut block: RawVec<()> = RawVec::new(rt.alloc());
     assert!(rt; block.try_reserve(0, usize::MAX).is_ok());
     assert!(rt; block.try_reserve_exact(0, usize::MAX).is_ok());
+}
+
+#[test]
+#[tactic(auto, using(aa_raw::proofs::Calls::at_ends))]
+fn elements_without_size_are_no_more_than_can_be_counted(rt: HostRuntime) {
+    let mut block: RawVec<()> = RawVec::new(rt.alloc());
     block.put(0, ());
     let refused = block.try_reserve(1, usize::MAX);
     assert_eq!(rt; refused, Err(TryReserveErrorKind::CapacityOverflow.into()));

@@ -71,6 +71,7 @@ fn items_are_written_to(rt: HostRuntime) -> Result<(), Fail> {
 }
 
 #[test]
+#[tactic(auto, using(aa_raw::proofs::Calls::at_ends))]
 fn sizeless_items_are_counted_down(rt: HostRuntime) -> Result<(), Fail> {
     let mut block: RawVec<(), Global> = RawVec::new_in(rt.alloc());
     block.put(0, ());
@@ -133,6 +134,7 @@ fn a_loop_takes_the_items(rt: HostRuntime) -> Result<(), Fail> {
 }
 
 #[test]
+#[tactic(auto, unfolding(aa_raw::specs::Places::with_run, aa_raw::specs::Places::moved))]
 fn generic_callers_take_the_items(rt: HostRuntime) -> Result<(), Fail> {
     let mut block: RawVec<u8, Global> = RawVec::with_capacity_in(3, rt.alloc())?;
     block.put_array(0, [5, 6, 7]);

@@ -5,5 +5,6 @@
 mod blocks;
 #[cfg(test)]
 mod items;
+pub mod line;
 #[cfg(test)]
 mod moves;

@@ -1,4 +1,6 @@
 //! Moves of values within and between blocks.
+#![tactic(auto, unfolding(aa_raw::specs::Places::with_run, aa_raw::specs::Places::moved))]
+
 ghost use Rattle.std.specs.Prelude.{◌≡◌, ◌+◌, [], ◌∷◌, Some, None, IfOk};
 ghost use Rattle.aa_raw.specs.Block.{with_places};
 

@@ -1,9 +1,12 @@
 //! The block over an allocator that refuses, and what it gives back.
+ghost use Rattle.std.specs.Prelude.{◌+◌, ◌<◌, ◌≤◌, length, OnOk};
+ghost use Rattle.aa_raw.specs.Places.{IsRun};
+
 use aa_faulty::Faulty;
-use allocator_api2::collections::TryReserveErrorKind;
+use allocator_api2::collections::{TryReserveError, TryReserveErrorKind};
 use allocator_api2::raw_vec::{Growth, RawVec};
 use allocator_api2::vec::into_iter::IntoIter;
-use std::alloc::Global;
+use std::alloc::{Allocator, Global};
 use std::test::Fail;
 
 // Numbers on the allocator of a test.
@@ -47,21 +50,54 @@ fn a_refused_shrink_leaves_the_block(rt: HostRuntime) -> Result<(), Fail> {
     Ok(())
 }
 
+// Two values, in the first places.
+#[tactic(auto, using(aa_raw::proofs::Calls::at_ends))]
+fn two_put<A: Allocator>(block: &mut RawVec<u32, A>)
+    requires { 2 ≤ length block.old.places }
+    ensures { IsRun block.new.places 0 2 }
+{
+    block.put(0, 1);
+    block.put(1, 2);
+}
+
+// Values of a block, moved to the places of another.
+#[tactic(auto, using(aa_raw::proofs::Calls::in_runs))]
+fn moved_over<A: Allocator>(
+    block: &mut RawVec<u32, A>,
+    from: usize,
+    count: usize,
+    other: &mut RawVec<u32, A>,
+    to: usize,
+)
+    requires { IsRun block.old.places from count × (to + count ≤ length other.old.places) }
+    ensures { IsRun other.new.places to count }
+{
+    other.transfer(to, block, from, count);
+}
+
+// They are moved down by one place, and the others given back.
+#[tactic(auto, using(aa_raw::proofs::Calls::with_room, aa_raw::proofs::Calls::in_runs))]
+fn lowered_and_shrunk<A: Allocator>(block: &mut RawVec<u32, A>) -> Result<(), TryReserveError>
+    requires { IsRun block.old.places 1 2 }
+    ensures { OnOk result (IsRun block.new.places 0 2) }
+{
+    block.move_run(1, 0, 2);
+    block.shrink_to_fit(2, 2)
+}
+
 #[test]
 fn every_byte_comes_back(rt: HostRuntime) -> Result<(), Fail> {
     let heap = Faulty::new(rt.alloc());
     {
         let mut first: Block<'_> = RawVec::with_capacity_in(2, &heap)?;
         let mut second: Block<'_> = RawVec::with_capacity_in(3, &heap)?;
-        first.put(0, 1);
-        first.put(1, 2);
-        second.transfer(1, &mut first, 0, 2);
+        two_put(&mut first);
+        moved_over(&mut first, 0, 2, &mut second, 1);
         assert_eq!(rt; second.slice(1, 2), [1, 2].as_slice());
         assert_eq!(rt; heap.outstanding(), 20);
         first.try_reserve(0, 3)?;
         assert_eq!(rt; heap.outstanding(), 28);
-        second.move_run(1, 0, 2);
-        second.shrink_to_fit(2, 2)?;
+        lowered_and_shrunk(&mut second)?;
         assert_eq!(rt; heap.outstanding(), 24);
         let mut items = IntoIter::from_block(second, 2);
         assert_eq!(rt; items.next(), Some(1));
@@ -71,17 +107,26 @@ fn every_byte_comes_back(rt: HostRuntime) -> Result<(), Fail> {
     Ok(())
 }
 
+// A value without size, in the first place.
+#[tactic(auto, using(aa_raw::proofs::Calls::at_ends))]
+fn unit_put<A: Allocator>(block: &mut RawVec<(), A>)
+    requires { 0 < length block.old.places }
+    ensures { IsRun block.new.places 0 1 }
+{
+    block.put(0, ());
+}
+
 #[test]
 fn elements_without_size_ask_for_nothing(rt: HostRuntime) -> Result<(), Fail> {
     let heap = Faulty::new(rt.alloc());
     heap.refuse(0, u64::MAX);
     {
         let mut block: RawVec<(), &Faulty<Global>> = RawVec::with_capacity_in(5, &heap)?;
-        block.put(0, ());
-        block.try_reserve(1, 5)?;
-        block.try_reserve_exact(1, 5)?;
-        block.shrink_to_fit(1, 1)?;
+        block.try_reserve(0, 5)?;
+        block.try_reserve_exact(0, 5)?;
+        block.shrink_to_fit(0, 1)?;
         assert_eq!(rt; block.capacity(), usize::MAX);
+        unit_put(&mut block);
         let mut items = IntoIter::from_block(block, 1);
         assert_eq!(rt; items.next_back(), Some(()));
     }

@@ -18,17 +18,41 @@ fn nine_pushes_and_a_pop<'a>(
     Ok(commands)
 }
 
-// Runs the commands while the request numbered `refused` of the run fails: the replies refused for want of memory, other than
-// expected ones, and the main vector's length and capacity.
-fn run_with_one_refused(
-    alloc: Global,
+// Two numbers are put at the end, and ten in place of the first, of which four are told each time.
+fn ten_for_one<'a>(
+    heap: &'a Faulty<Global>,
+) -> Result<Vec<Command<u32, &'a Faulty<Global>>, &'a Faulty<Global>>, TryReserveError> {
+    let mut two: Vec<u32, &Faulty<Global>> = Vec::with_capacity_in(2, heap)?;
+    two.extend_from_slice(&[1, 2])?;
+    let mut ten: Vec<u32, &Faulty<Global>> = Vec::with_capacity_in(10, heap)?;
+    ten.extend_from_slice(&[10, 11, 12, 13, 14, 15, 16, 17, 18, 19])?;
+    let mut commands = Vec::with_capacity_in(2, heap)?;
+    commands.push(Command::Extend {
+        items: two,
+        hint: None,
+    })?;
+    commands.push(Command::Splice {
+        start: 0,
+        end: 1,
+        items: ten,
+        hint: Some(4),
+    })?;
+    Ok(commands)
+}
+
+// What a run came to: the replies done, those refused for want of memory, the requests, and main's length and capacity.
+type Came = (usize, usize, u64, usize, usize);
+
+// Runs the commands while the request numbered `refused` of the run fails.
+fn run_with_one_refused<'a>(
+    heap: &'a Faulty<Global>,
+    commands: Vec<Command<u32, &'a Faulty<Global>>, &'a Faulty<Global>>,
     refused: u64,
-) -> Result<(usize, usize, usize, usize), TryReserveError> {
-    let heap = Faulty::new(alloc);
-    let commands = nine_pushes_and_a_pop(&heap)?;
-    let mut main: Vec<u32, &Faulty<Global>> = Vec::new_in(&heap);
-    let mut side: Vec<u32, &Faulty<Global>> = Vec::new_in(&heap);
-    let mut replies = Vec::with_capacity_in(commands.len(), &heap)?;
+) -> Result<Came, TryReserveError> {
+    let mut main: Vec<u32, &Faulty<Global>> = Vec::new_in(heap);
+    let mut side: Vec<u32, &Faulty<Global>> = Vec::new_in(heap);
+    let mut replies = Vec::with_capacity_in(commands.len(), heap)?;
+    let before = heap.requests();
     heap.refuse(refused, 1);
     run(
         &mut main,
@@ -53,14 +77,36 @@ fn run_with_one_refused(
             )
         })
         .count();
-    Ok((done, refusals, main.len(), main.capacity()))
+    let requests = heap.requests().saturating_sub(before);
+    Ok((done, refusals, requests, main.len(), main.capacity()))
 }
 
 #[test]
 fn one_refused_request_refuses_one_push(rt: HostRuntime) -> Result<(), Fail> {
-    for refused in 0..3 {
-        assert_eq!(rt; run_with_one_refused(rt.alloc(), refused)?, (8, 1, 7, 8));
+    for (refused, came) in [
+        (0, (8, 1, 3, 7, 8)),
+        (1, (8, 1, 3, 7, 8)),
+        (2, (8, 1, 3, 7, 8)),
+        (3, (9, 0, 3, 8, 16)),
+    ] {
+        let heap = Faulty::new(rt.alloc());
+        let commands = nine_pushes_and_a_pop(&heap)?;
+        assert_eq!(rt; run_with_one_refused(&heap, commands, refused)?, came);
     }
-    assert_eq!(rt; run_with_one_refused(rt.alloc(), 3)?, (9, 0, 8, 16));
+    Ok(())
+}
+
+#[test]
+fn a_splice_asks_for_what_is_told_each_time(rt: HostRuntime) -> Result<(), Fail> {
+    for (refused, came) in [
+        (1, (1, 1, 2, 2, 4)),
+        (2, (1, 1, 3, 6, 8)),
+        (3, (1, 1, 4, 6, 8)),
+        (4, (2, 0, 4, 11, 16)),
+    ] {
+        let heap = Faulty::new(rt.alloc());
+        let commands = ten_for_one(&heap)?;
+        assert_eq!(rt; run_with_one_refused(&heap, commands, refused)?, came);
+    }
     Ok(())
 }

@@ -6,11 +6,11 @@ use allocator_api2::vec::items::Items;
 use std::alloc::{Allocator, Global};
 use std::test::Fail;
 
-// How a splice ended: whether it was done, refused for want of memory, or for a length too large.
+// How a splice ended: whether it was done, refused for want of memory for so many elements, or for a length too large.
 #[derive(Clone, Copy, PartialEq, Eq, Debug, Drop)]
 enum End {
     Done,
-    NoMemory,
+    NoMemory(usize),
     TooLong,
 }
 
@@ -18,7 +18,7 @@ fn end_of(ended: Result<(), TryReserveError>) -> End {
     match ended {
         Ok(()) => End::Done,
         Err(error) => match error.kind() {
-            TryReserveErrorKind::AllocError { .. } => End::NoMemory,
+            TryReserveErrorKind::AllocError { capacity } => End::NoMemory(capacity),
             TryReserveErrorKind::CapacityOverflow => End::TooLong,
         },
     }
@@ -49,8 +49,8 @@ fn spliced<A: Allocator + Clone>(
 #[test]
 fn each_request_of_a_splice_is_refused_in_turn(rt: HostRuntime) -> Result<(), Fail> {
     for (refused, end, left, capacity) in [
-        (0, End::NoMemory, [1, 7, 8, 4].as_slice(), 4),
-        (1, End::NoMemory, [1, 7, 8, 9, 4].as_slice(), 8),
+        (0, End::NoMemory(8), [1, 7, 8, 4].as_slice(), 4),
+        (1, End::NoMemory(4), [1, 7, 8, 9, 4].as_slice(), 8),
         (2, End::Done, [1, 7, 8, 9, 10, 4].as_slice(), 8),
     ] {
         let heap = Faulty::new(rt.alloc());
@@ -79,7 +79,7 @@ fn a_clone_of_the_allocator_is_refused_like_the_first_growth(rt: HostRuntime) ->
     let others = numbers(Faulty::new(rt.alloc()), &[7, 8, 9, 10])?;
     assert_eq!(rt;
         spliced(&mut v, 1, 3, Items::new(others, Some(1))),
-        End::NoMemory
+        End::NoMemory(4)
     );
     assert_eq!(rt; v.as_slice(), [1, 7, 8, 9, 4].as_slice());
     assert_eq!(rt; v.capacity(), 8);

@@ -1,5 +1,5 @@
 -- Elements behind a gap, asked one after the other beside the last one kept.
-use Rattle.std.proofs.Common.{◌≡◌, ℕ, suc, ◌+◌, ◌<◌, Bool, true, false, List, [], ◌∷◌, ◌++◌, length, map, take, drop, Some, refl, sym, ap, ◌∙◌, subst, arith, length-append}
+use Rattle.std.proofs.Common.{◌≡◌, ℕ, suc, ◌+◌, ◌<◌, Bool, true, false, List, [], ◌∷◌, ◌++◌, length, map, drop, Some, refl, sym, ap, ◌∙◌, subst, arith, length-append}
 use Rattle.std.proofs.lemmas.List.{drop_at, length-map, take-append-drop}
 use Rattle.aa_raw.proofs.Runs.{run-zero}
 use Rattle.aa_vec.specs.Behind.{StandsBehind, behind_items}
@@ -7,7 +7,8 @@ use Rattle.aa_vec.specs.Choosing.{MayChainFrom, MayDeduplicate}
 use Rattle.aa_vec.specs.Until.{ChainsUntil, ChainsAlong, ChainsOn, AsksLast, ChainsBehind}
 use Rattle.aa_vec.specs.Vector.{Vector, len}
 use Rattle.aa_vec.proofs.Climbing.{SameBlock-refl}
-use Rattle.aa_vec.proofs.Stands.{count, first_are, parts, replaced_are, replaced_stand}
+use Rattle.aa_vec.proofs.Gaps.{lent-is, refilled, LeavesBehind-view}
+use Rattle.aa_vec.proofs.Stands.{count, first_are, parts, replaced_are}
 
 module _ {T : Type 0} where
   -- a list that is not empty has a last element
@@ -15,10 +16,6 @@ module _ {T : Type 0} where
   split_last [] h = absurd (omega arith)
   split_last (x ∷ []) h = ([], x, refl)
   split_last (x ∷ y ∷ xs) h = let p = split_last (y ∷ xs) (omega arith) in (x ∷ p.0, p.1, ap (λ l. x ∷ l) p.2)
-
-  -- a list whose first element is known
-  pub with_first : (xs : List T) (x : T) → take 1 xs ≡ x ∷ [] → xs ≡ x ∷ drop 1 xs
-  with_first xs x e = sym (take-append-drop 1 xs) ∙ ap (λ l. l ++ drop 1 xs) e
 
   -- lists that differ in their last element are as long
   pub same_end : (front : List T) (x y : T) → length (front ++ x ∷ []) ≡ length (front ++ y ∷ [])
@@ -43,7 +40,7 @@ module _ {F T A : Type 0} (Asks : F → T → T → Bool → F → T → T → T
 
   module _ (n : ℕ) (some : 0 < n) (stands : StandsBehind v gap n) where
     pub first_is : (x : T) → behind_items v gap 1 ≡ x ∷ [] → behind_items v gap n ≡ x ∷ drop 1 (behind_items v gap n)
-    first_is x e = with_first (behind_items v gap n) x (sym (first_are v gap n stands 1 (omega arith)) ∙ e)
+    first_is x e = let xs : List T = behind_items v gap n in sym (take-append-drop 1 xs) ∙ ap (λ l. l ++ drop 1 xs) (sym (first_are v gap n stands 1 (omega arith)) ∙ e)
 
     -- the first was asked
     module _ (answer : Bool) (g : F) (w : Vector T A) (asked : AsksLast Asks f v gap answer g w) where
@@ -63,9 +60,6 @@ module _ {F T A : Type 0} (Asks : F → T → T → Bool → F → T → T → T
 
       same_len : len w ≡ len v
       same_len = ap length asked.items ∙ same_end asked.front asked.last_left asked.last ∙ sym (ap length asked.had.0)
-
-      pub now_stand : StandsBehind w gap n
-      now_stand = replaced_stand v gap n stands w (asked.next_left ∷ others) _ same_len asked.block.capacity long now_behind
 
       now_are : behind_items w gap n ≡ asked.next_left ∷ others
       now_are = replaced_are v gap n stands w (asked.next_left ∷ others) _ same_len asked.block.capacity long now_behind
@@ -112,11 +106,12 @@ module _ {F T A : Type 0} (Asks : F → T → T → Bool → F → T → T → T
               until = subst (λ i. ChainsUntil Asks f asked.last (behind_items v gap n) i h (asked.last_left ∷ on.left)) one (subst (λ xs. ChainsUntil Asks f asked.last xs (suc k) h (asked.last_left ∷ on.left)) (sym all) until);
               items = ap (λ s. s.items) on.leaves.same ∙ asked.items;
               behind = on.leaves.behind ∙ ap (λ ds. map Some on.left ++ ds) behind_same;
-              block = record {
-                capacity = ap (λ s. s.capacity) on.leaves.same ∙ asked.block.capacity;
-                growth = ap (λ s. s.growth) on.leaves.same ∙ asked.block.growth;
-                grown = ap (λ s. s.grown) on.leaves.same ∙ asked.block.grown;
-                alloc = ap (λ s. s.alloc) on.leaves.same ∙ asked.block.alloc;
-              };
-              writes = record { written = ap (λ s. s.written) on.leaves.same ∙ asked.writes.written; runs = ap (λ s. s.runs) on.leaves.same ∙ asked.writes.runs };
+              block = rw on.leaves.same (record { capacity = asked.block.capacity; growth = asked.block.growth; grown = asked.block.grown; alloc = asked.block.alloc });
+              writes = rw on.leaves.same (record { written = asked.writes.written; runs = asked.writes.runs });
             }
+
+-- elements asked one after the other
+pub ruleset chains = (ChainsBehind-none, ChainsBehind-repeat, ChainsBehind-more)
+
+-- elements lent to who asks them
+pub ruleset lents = (lent-is, refilled, LeavesBehind-view)

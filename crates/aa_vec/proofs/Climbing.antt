@@ -1,8 +1,8 @@
 -- Lemmas on a vector that grew while it was full.
-use Rattle.std.proofs.Common.{◌≡◌, ℕ, ◌+◌, ◌-◌, ◌<◌, ◌≤◌, refl, ap, ◌∙◌, subst, arith, inl, inr}
+use Rattle.std.proofs.Common.{◌≡◌, ℕ, ◌+◌, ◌-◌, ◌<◌, ◌≤◌, List, ◌++◌, append_assoc, refl, ap, ◌∙◌, subst, arith, inl, inr}
 use Rattle.std.specs.Prelude.{min}
-use Rattle.aa_raw.specs.Growth.{usize_max, amortized, least_of}
-use Rattle.aa_vec.specs.Vector.{Vector, SameBlock, HasRoomBy, MakesRoom}
+use Rattle.aa_raw.specs.Growth.{usize_max}
+use Rattle.aa_vec.specs.Vector.{Vector, SameBlock, Holds, MakesRoom}
 use Rattle.aa_vec.specs.Extending.{Climbs, stays, grows, asked_for}
 
 module _ {T A : Type 0} where
@@ -13,18 +13,12 @@ module _ {T A : Type 0} where
   SameBlock-trans p q = record { capacity = q.capacity ∙ p.capacity; growth = q.growth ∙ p.growth; grown = q.grown ∙ p.grown; alloc = q.alloc ∙ p.alloc }
 
   -- room is made alike in one block
-  HasRoomBy-same : (size wanted n k : ℕ) {u v w : Vector T A} → SameBlock u v → HasRoomBy size wanted v n k w → HasRoomBy size wanted u n k w
-  HasRoomBy-same size wanted n k b (inl h) = inl (omega (arith, h.0, b.capacity), SameBlock-trans b h.1)
-  HasRoomBy-same size wanted n k b (inr h) = inr (
-    omega (arith, h.0, b.capacity),
-    record { has_size = h.1.has_size; capacity = h.1.capacity; growth = h.1.growth ∙ b.growth; grown = h.1.grown ∙ ap (λ m. m + n) b.grown; alloc = h.1.alloc ∙ b.alloc },
-  )
-
   pub MakesRoom-same : (size n k : ℕ) {u v w : Vector T A} → SameBlock u v → MakesRoom size v n k w → MakesRoom size u n k w
-  MakesRoom-same size n k {u} {v} {w} b m =
-      HasRoomBy-same size (amortized u.growth u.capacity (n + k) (least_of size)) n k b
-      (subst (λ c. HasRoomBy size (amortized u.growth c (n + k) (least_of size)) v n k w) b.capacity
-      (subst (λ g. HasRoomBy size (amortized g v.capacity (n + k) (least_of size)) v n k w) b.growth m))
+  MakesRoom-same size n k b (inl h) = inl (omega (arith, h.0, b.capacity), SameBlock-trans b h.1)
+  MakesRoom-same size n k {u} {v} {w} b (inr h) = inr (
+    omega (arith, h.0, b.capacity),
+    record { has_size = h.1.has_size; capacity = rw (← b.growth, ← b.capacity) h.1.capacity; growth = h.1.growth ∙ b.growth; grown = h.1.grown ∙ ap (λ m. m + n) b.grown; alloc = h.1.alloc ∙ b.alloc },
+  )
 
   pub MakesRoom-into : (size n k : ℕ) {u v w : Vector T A} → MakesRoom size u n k v → SameBlock v w → MakesRoom size u n k w
   MakesRoom-into size n k (inl h) b = inl (h.0, SameBlock-trans h.1 b)
@@ -34,14 +28,35 @@ module _ {T A : Type 0} where
   )
 
   -- there is room for all
-  made_room : (size left : ℕ) (v w : Vector T A) → MakesRoom size v v.capacity left w → 0 < left → v.capacity + left ≤ w.capacity
-  made_room size left v w (inl h) l = absurd (omega (arith, h.0, l))
-  made_room size left v w (inr h) l = omega (arith, h.1.capacity)
+  pub MakesRoom-fits : (size n k : ℕ) (v w : Vector T A) → MakesRoom size v n k w → n ≤ w.capacity → n + k ≤ w.capacity
+  MakesRoom-fits size n k v w (inl h) l = omega (arith, h.0, h.1.capacity, l)
+  MakesRoom-fits size n k v w (inr h) l = omega (arith, h.1.capacity)
+
+  pub MakesRoom-room : (size n k : ℕ) (v w : Vector T A) → n ≤ v.capacity → MakesRoom size v n k w → n + k ≤ w.capacity
+  MakesRoom-room size n k v w within m = MakesRoom-fits size n k v w m (elim m [ inl h ↦ omega (arith, h.1.capacity, within) | inr h ↦ omega (arith, h.1.capacity) ])
+
+  -- items put behind others, and those behind the items there were
+  pub Holds-more : (old mid new : Vector T A) (xs ys : List T) → Holds old (old.items ++ xs) mid → Holds mid (mid.items ++ ys) new → Holds old (old.items ++ (xs ++ ys)) new
+  Holds-more old mid new xs ys p q = record { items = q.items ∙ ap (λ l. l ++ ys) p.items ∙ append_assoc old.items xs ys; block = SameBlock-trans p.block q.block }
 
   -- and it is no less than before
   pub MakesRoom-rises : (size k : ℕ) (v w : Vector T A) → MakesRoom size v v.capacity k w → v.capacity ≤ w.capacity
   MakesRoom-rises size k v w (inl h) = omega (arith, h.1.capacity)
   MakesRoom-rises size k v w (inr h) = omega (arith, h.1.capacity)
+
+-- the same climb from another vector in the same block, where r items more are to come after those that were counted, and the bounds agree
+-- from the capacity on
+pub Climbs-counted : {T A : Type 0} (size : ℕ) (lower by : ℕ → ℕ) (needed r all : ℕ) {u v w : Vector T A} → SameBlock u v → needed + r ≡ all
+    → ((k : ℕ) → u.capacity + k < needed → lower k ≡ by (k + r)) → Climbs size lower needed v w → Climbs size by all u w
+Climbs-counted size lower by needed r all b e same (stays c) = stays (SameBlock-trans b c)
+Climbs-counted size lower by needed r all {u} {v} {w} b e same (grows {mid = mid} h m rest) =
+    let left : ℕ = needed - u.capacity - 1 in
+    let P : ℕ → Type 0 = λ c. MakesRoom size u c (asked_for lower (needed - c)) mid in
+    let a : asked_for lower (needed - u.capacity) ≡ asked_for by (all - u.capacity) =
+    ap (λ n. min (n + 1) usize_max) (same left (omega (arith, h, b.capacity)) ∙ ap by (omega (arith, h, b.capacity, e))) in
+    let up : u.capacity ≤ mid.capacity = omega (arith, MakesRoom-rises size (asked_for lower (needed - v.capacity)) v mid m, b.capacity) in
+    grows (omega (arith, h, b.capacity, e)) (subst (λ k. MakesRoom size u u.capacity k mid) a (subst P b.capacity (MakesRoom-same size v.capacity (asked_for lower (needed - v.capacity)) b m)))
+    (Climbs-counted size lower by needed r all (SameBlock-refl mid) e (λ k l. same k (omega (arith, l, up))) rest)
 
 module _ {T A : Type 0} (size : ℕ) (lower : ℕ → ℕ) (needed : ℕ) where
   -- a climb ends in whatever is in the same block
@@ -51,9 +66,7 @@ module _ {T A : Type 0} (size : ℕ) (lower : ℕ → ℕ) (needed : ℕ) where
 
   -- and goes on by one more growth
   pub Climbs-more : {u v w : Vector T A} → Climbs size lower needed u v → v.capacity < needed → MakesRoom size v v.capacity (asked_for lower (needed - v.capacity)) w → Climbs size lower needed u w
-  Climbs-more {u} {v} {w} (stays b) l m =
-      let P : ℕ → Type 0 = λ c. MakesRoom size u c (asked_for lower (needed - c)) w in
-      grows (omega (arith, l, b.capacity)) (subst P b.capacity (MakesRoom-same size v.capacity (asked_for lower (needed - v.capacity)) b m)) (stays (SameBlock-refl w))
+  Climbs-more {w = w} (stays b) l m = Climbs-counted size lower lower needed 0 needed b (omega arith) (λ k _. ap lower (omega arith)) (grows l m (stays (SameBlock-refl w)))
   Climbs-more (grows h n r) l m = grows h n (Climbs-more r l m)
 
   -- the capacity never falls
@@ -84,16 +97,4 @@ module _ {T A : Type 0} (size : ℕ) (lower : ℕ → ℕ) (needed : ℕ) where
       let left : ℕ = needed - u.capacity in
       let asked : asked_for lower left ≡ left = ap (λ n. min (n + 1) usize_max) (exact (left - 1)) ∙ omega (arith, h, few) in
       let made : MakesRoom size u u.capacity left mid = subst (λ k. MakesRoom size u u.capacity k mid) asked m in
-      MakesRoom-into size u.capacity left made (Climbs-fits r (omega (arith, h, made_room size left u mid made (omega (arith, h)))))
-
--- the same climb, where r items more are to come after those that were counted, and the bounds agree from the capacity on
-pub Climbs-counted : {T A : Type 0} (size : ℕ) (lower lower' : ℕ → ℕ) (needed r : ℕ) {u v : Vector T A}
-    → ((k : ℕ) → u.capacity + k < needed → lower k ≡ lower' (k + r)) → Climbs size lower needed u v → Climbs size lower' (needed + r) u v
-Climbs-counted size lower lower' needed r same (stays b) = stays b
-Climbs-counted size lower lower' needed r {u} {v} same (grows {mid = mid} h m rest) =
-    let left : ℕ = needed - u.capacity - 1 in
-    let e : left + r ≡ needed + r - u.capacity - 1 = omega (arith, h) in
-    let a : asked_for lower (needed - u.capacity) ≡ asked_for lower' (needed + r - u.capacity) =
-    ap (λ n. min (n + 1) usize_max) (same left (omega (arith, h)) ∙ ap lower' e) in
-    let up : u.capacity ≤ mid.capacity = MakesRoom-rises size (asked_for lower (needed - u.capacity)) u mid m in
-    grows (omega (arith, h)) (subst (λ k. MakesRoom size u u.capacity k mid) a m) (Climbs-counted size lower lower' needed r (λ k l. same k (omega (arith, l, up))) rest)
+      MakesRoom-into size u.capacity left made (Climbs-fits r (omega (arith, h, MakesRoom-fits size u.capacity left u mid made (MakesRoom-rises size left u mid made))))

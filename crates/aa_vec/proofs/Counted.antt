@@ -1,119 +1,85 @@
 -- Extensions by an iterator that tells a function of how many items are to come.
-use Rattle.std.proofs.Common.{◌≡◌, ℕ, ◌+◌, ◌-◌, ◌<◌, ◌≤◌, List, [], ◌∷◌, ◌++◌, length, Option, Some, None, append_assoc, refl, sym, ap, ◌∙◌, subst, arith, inl, inr, length-append}
+use Rattle.std.proofs.Common.{◌≡◌, ℕ, ◌+◌, ◌-◌, ◌<◌, ◌≤◌, List, [], ◌∷◌, ◌++◌, length, None, append_assoc, sym, ap, ◌∙◌, subst, arith, inl, inr, length-append}
 use Rattle.std.specs.Prelude.{min}
 use Rattle.std.proofs.lemmas.Bool.{cases_lt}
 use Rattle.std.proofs.lemmas.List.{append-nil}
 use Rattle.aa_raw.specs.declared.collections.TryReserveErrorKind.{TryReserveErrorKind}
 use Rattle.aa_raw.specs.Growth.{usize_max}
-use Rattle.aa_vec.specs.Vector.{Vector, len, LacksRoom, MakesRoom}
+use Rattle.aa_vec.specs.Vector.{Vector, len, SameBlock, LacksRoom, MakesRoom}
 use Rattle.aa_vec.specs.Extending.{Climbs, asked_for, YieldsTelling, ExtendsAll, ExtendsFull, ExtendsByAll, ExtendsByFront, ItemsLeft, gives_item, lower_by, TellsExactly}
-use Rattle.aa_vec.proofs.Climbing.{Climbs-counted, Climbs-exact}
+use Rattle.aa_vec.proofs.Climbing.{SameBlock-refl, Climbs-counted, Climbs-exact}
 
--- the states of interest have `Holds`; each shows the items to come, and what may be told is `by` their number
-module _ {S T : Type 0} (steps : S → Option T → S → Type 0) (Tells : S → ℕ → Type 0) (Holds : S → Type 0) (rest : S → List T) (by : ℕ → ℕ)
-    (on : (s : S) (x : T) (t : S) → Holds s → steps s (Some x) t → Holds t × (rest s ≡ x ∷ rest t))
-    (off : (s t : S) → Holds s → steps s None t → rest s ≡ [])
-    (tells : (s : S) (n : ℕ) → Holds s → Tells s n → n ≡ by (length (rest s))) where
-  pub told-rest : (lower : ℕ → ℕ) (s : S) (xs : List T) (t : S) → Holds s → YieldsTelling steps Tells lower s xs t
-      → Holds t × (rest s ≡ xs ++ rest t) × ((k : ℕ) → k < length xs → lower k ≡ by (k + length (rest t)))
-  told-rest lower s [] t h y = (subst Holds y h, ap rest y, λ k l. absurd (omega (arith, l)))
-  told-rest lower s (x ∷ xs) t h y =
-      let first = on s x y.0 h y.1 in
-      let others = told-rest lower y.0 xs t first.0 y.3 in
-      let n : length (rest y.0) ≡ length xs + length (rest t) = ap length others.1 ∙ length-append xs (rest t) in (
-        others.0,
-        first.1 ∙ ap (λ zs. x ∷ zs) others.1,
-        λ k l. elim (cases_lt k (length xs)) [
-          | inl lt ↦ others.2 k lt
-          | inr le ↦
-              let e : k ≡ length xs = omega (arith, l, le) in
-              ap lower e ∙ tells y.0 (lower (length xs)) first.0 y.2 ∙ ap by (n ∙ ap (λ m. m + length (rest t)) (sym e))
-        ],
-      )
+-- another function tells the same of `taken`, behind which `more` is to come; and the vector was another in the same block
+module _ {T A : Type 0} (size : ℕ) (lower by : ℕ → ℕ) {u v : Vector T A} (b : SameBlock u v) (head taken more : List T)
+    (same : (k : ℕ) → (length head ≤ u.capacity → k < length taken) → lower k ≡ by (k + length more)) where
+  climbs-told : (all : ℕ) (new : Vector T A) → length head + length taken + length more ≡ all → Climbs size lower (length head + length taken) v new → Climbs size by all u new
+  climbs-told all new e = Climbs-counted size lower by (length head + length taken) (length more) all b e (λ k l. same k (λ within. omega (arith, l, within)))
 
-  module _ {A : Type 0} (size : ℕ) (iter : S) (holds : Holds iter) (old : Vector T A) where
-    climbs-rest : (lower : ℕ → ℕ) (xs : List T) (last : S) → YieldsTelling steps Tells lower iter xs last → len old ≤ old.capacity → (new : Vector T A) → Climbs size lower (len old + length xs) old new
-        → Climbs size by (len old + length (rest iter)) old new
-    climbs-rest lower xs last y within new climbs =
-        let r = told-rest lower iter xs last holds y in
-        let e : len old + length xs + length (rest last) ≡ len old + length (rest iter) = omega (arith, ap length r.1, length-append xs (rest last)) in
-        subst (λ n. Climbs size by n old new) e
-        (Climbs-counted size lower by (len old + length xs) (length (rest last)) (λ k l. r.2 k (omega (arith, l, within))) climbs)
+  pub ExtendsAll-told : (new : Vector T A) → more ≡ [] → ExtendsAll size lower v head taken new → ExtendsAll size by u head taken new
+  ExtendsAll-told new none x = record { climbs = climbs-told (length head + length taken) new (omega (arith, ap length none)) x.climbs; enough = x.enough; items = x.items }
 
-    pub ExtendsAll-by : (new : Vector T A) → ExtendsByAll steps Tells size iter old new → ExtendsAll size by old old.items (rest iter) new
-    ExtendsAll-by new e =
-        let r = told-rest e.lower iter e.added e.last holds e.told in
-        let all : e.added ≡ rest iter = sym (r.1 ∙ ap (λ ys. e.added ++ ys) (off e.last e.ends.0 r.0 e.ends.1) ∙ append-nil e.added) in
-        record {
-          climbs = climbs-rest e.lower e.added e.last e.told e.within new e.extends.climbs;
-          enough = omega (arith, e.extends.enough, ap length all);
-          items = e.extends.items ∙ ap (λ ys. old.items ++ ys) all;
-        }
-
-    pub ExtendsFull-by : (error : TryReserveErrorKind) (new : Vector T A) → ExtendsByFront steps Tells size iter old error new → ExtendsFull size by old old.items (rest iter) error new
-    ExtendsFull-by error new e =
-        let r = told-rest e.lower iter e.taken e.last holds e.told in
-        let x = e.extends in
-        let more : List T = rest e.last in
-        let others : List T = x.others ++ more in
-        let taken : length e.taken ≡ length x.front + length x.others = ap length x.begins ∙ length-append x.front x.others in
-        let n : length (rest iter) ≡ length e.taken + length more = ap length r.1 ∙ length-append e.taken more in
-        let first : e.lower (length x.others - 1) ≡ by (length others - 1) =
-        r.2 (length x.others - 1) (omega (arith, e.one, taken)) ∙ ap by (omega (arith, e.one, length-append x.others more)) in
-        let asked : asked_for e.lower (length x.others) ≡ asked_for by (length others) = ap (λ m. min (m + 1) usize_max) first in
-        record {
-          front = x.front;
-          others = others;
-          begins = r.1 ∙ ap (λ ys. ys ++ more) x.begins ∙ append_assoc x.front x.others more;
-          climbs = climbs-rest e.lower e.taken e.last e.told e.within new x.climbs;
-          short = omega (arith, x.short, n);
-          items = x.items;
-          full = x.full;
-          lacks = subst (λ k. LacksRoom new k error) asked x.lacks;
-        }
+  pub ExtendsFull-told : (all : List T) → all ≡ taken ++ more → (error : TryReserveErrorKind) (new : Vector T A) → ExtendsFull size lower v head taken error new → ExtendsFull size by u head all error new
+  ExtendsFull-told all e error new x =
+      let others : List T = x.others ++ more in
+      let taken_is : length taken ≡ length x.front + length x.others = ap length x.begins ∙ length-append x.front x.others in
+      let all_is : length all ≡ length taken + length more = ap length e ∙ length-append taken more in
+      let some : 0 < length x.others = omega (arith, x.short, x.full, taken_is) in
+      let asked : asked_for lower (length x.others) ≡ asked_for by (length others) =
+      ap (λ n. min (n + 1) usize_max) (same (length x.others - 1) (λ _. omega (arith, some, taken_is)) ∙ ap by (omega (arith, some, length-append x.others more))) in
+      record {
+        front = x.front;
+        others = others;
+        begins = e ∙ ap (λ ys. ys ++ more) x.begins ∙ append_assoc x.front x.others more;
+        climbs = climbs-told (length head + length all) new (omega (arith, all_is)) x.climbs;
+        short = omega (arith, x.short, all_is);
+        items = x.items;
+        full = x.full;
+        lacks = subst (λ k. LacksRoom new k error) asked x.lacks;
+      }
 
 -- what an `Items` tells
 abbrev pub items_lower : {T : Type 0} → ItemsLeft T → ℕ
 items_lower s = lower_by s.hint (length s.items)
 
-module _ {T : Type 0} (iter : ItemsLeft T) where
-  abbrev pub HasHint : ItemsLeft T → Type 0
-  HasHint s = s.hint ≡ iter.hint
-
-  on : (s : ItemsLeft T) (x : T) (t : ItemsLeft T) → HasHint s → gives_item s (Some x) t → HasHint t × (s.items ≡ x ∷ t.items)
-  on s x t h g = (g.1 ∙ h, g.0)
-
-  off : (s t : ItemsLeft T) → HasHint s → gives_item s None t → s.items ≡ []
-  off s t h g = g.0.0
-
-  tells : (s : ItemsLeft T) (n : ℕ) → HasHint s → TellsExactly items_lower s n → n ≡ lower_by iter.hint (length s.items)
-  tells s n h e = e ∙ ap (λ hint. lower_by hint (length s.items)) h
-
+module _ {T : Type 0} (lower : ℕ → ℕ) where
   -- `xs` came of it, as it told by `lower`
-  module _ (lower : ℕ → ℕ) (xs : List T) (last : ItemsLeft T) (told : YieldsTelling gives_item (TellsExactly items_lower) lower iter xs last) where
-    pub items-rest : HasHint last × (iter.items ≡ xs ++ last.items) × ((k : ℕ) → k < length xs → lower k ≡ lower_by iter.hint (k + length last.items))
-    items-rest = told-rest gives_item (TellsExactly items_lower) HasHint (λ s. s.items) (lower_by iter.hint) on off tells lower iter xs last refl told
+  pub items-rest : (s : ItemsLeft T) (xs : List T) (t : ItemsLeft T) → YieldsTelling gives_item (TellsExactly items_lower) lower s xs t
+      → (s.items ≡ xs ++ t.items) × ((k : ℕ) → k < length xs → lower k ≡ lower_by s.hint (k + length t.items))
+  items-rest s [] t y = (ap (λ u. u.items) y, λ k l. absurd (omega (arith, l)))
+  items-rest s (x ∷ xs) t y =
+      let others = items-rest y.0 xs t y.3 in
+      let hint : (n : ℕ) → lower_by y.0.hint n ≡ lower_by s.hint n = λ n. ap (λ h. lower_by h n) y.1.1 in (
+        y.1.0 ∙ ap (λ zs. x ∷ zs) others.0,
+        λ k l. elim (cases_lt k (length xs)) [
+          | inl lt ↦ others.1 k lt ∙ hint (k + length t.items)
+          | inr le ↦ ap lower (omega (arith, l, le)) ∙ y.2 ∙ hint (length y.0.items) ∙ ap (lower_by s.hint) (omega (arith, l, le, ap length others.0, length-append xs t.items))
+        ],
+      )
 
+  module _ (iter : ItemsLeft T) (xs : List T) (last : ItemsLeft T) (told : YieldsTelling gives_item (TellsExactly items_lower) lower iter xs last) where
     pub items-told : TellsExactly items_lower iter (lower (length xs)) → (k : ℕ) → k ≤ length xs → lower k ≡ lower_by iter.hint (k + length last.items)
     items-told first k h =
+        let r = items-rest iter xs last told in
         elim (cases_lt k (length xs)) [
-          | inl lt ↦ items-rest.2 k lt
-          | inr ge ↦
-              let e : k ≡ length xs = omega (arith, h, ge) in
-              let n : length iter.items ≡ k + length last.items = omega (arith, e, ap length items-rest.1, length-append xs last.items) in
-              ap lower e ∙ first ∙ ap (lower_by iter.hint) n
+          | inl lt ↦ r.1 k lt
+          | inr ge ↦ ap lower (omega (arith, h, ge)) ∙ first ∙ ap (lower_by iter.hint) (omega (arith, h, ge, ap length r.0, length-append xs last.items))
         ]
 
-    pub items-all : (end : ItemsLeft T) → gives_item last None end → xs ≡ iter.items
-    items-all end g = sym (items-rest.1 ∙ ap (λ ys. xs ++ ys) (off last end items-rest.0 g) ∙ append-nil xs)
+    pub items-all : last.items ≡ [] → xs ≡ iter.items
+    items-all none = sym ((items-rest iter xs last told).0 ∙ ap (λ ys. xs ++ ys) none ∙ append-nil xs)
 
 -- extensions by an `Items`
 module _ {T A : Type 0} (size : ℕ) (iter : ItemsLeft T) (old : Vector T A) where
   pub ExtendsAll-items : (new : Vector T A) → ExtendsByAll gives_item (TellsExactly items_lower) size iter old new → ExtendsAll size (lower_by iter.hint) old old.items iter.items new
-  ExtendsAll-items = ExtendsAll-by gives_item (TellsExactly items_lower) (HasHint iter) (λ s. s.items) (lower_by iter.hint) (on iter) (off iter) (tells iter) size iter refl old
+  ExtendsAll-items new e =
+      let same = (items-rest e.lower iter e.added e.last e.told).1 in
+      subst (λ xs. ExtendsAll size (lower_by iter.hint) old old.items xs new) (items-all e.lower iter e.added e.last e.told e.ends.1.0.0)
+      (ExtendsAll-told size e.lower (lower_by iter.hint) (SameBlock-refl old) old.items e.added e.last.items (λ k h. same k (h e.within)) new e.ends.1.0.0 e.extends)
 
   pub ExtendsFull-items : (error : TryReserveErrorKind) (new : Vector T A) → ExtendsByFront gives_item (TellsExactly items_lower) size iter old error new → ExtendsFull size (lower_by iter.hint) old old.items iter.items error new
-  ExtendsFull-items = ExtendsFull-by gives_item (TellsExactly items_lower) (HasHint iter) (λ s. s.items) (lower_by iter.hint) (on iter) (off iter) (tells iter) size iter refl old
+  ExtendsFull-items error new e =
+      let r = items-rest e.lower iter e.taken e.last e.told in
+      ExtendsFull-told size e.lower (lower_by iter.hint) (SameBlock-refl old) old.items e.taken e.last.items (λ k h. r.1 k (h e.within)) iter.items r.0 error new e.extends
 
   -- where it tells how many there are, room for them is made at once
   pub ExtendsAll-counted : (new : Vector T A) → ExtendsByAll gives_item (TellsExactly items_lower) size iter old new → iter.hint ≡ None → length iter.items ≤ usize_max → MakesRoom size old old.capacity (len old + length iter.items - old.capacity) new

@@ -8,7 +8,7 @@ use Rattle.aa_vec.specs.Until.{ChainsUntil, ChainsBehind}
 use Rattle.aa_vec.specs.Vector.{Vector, len, SameBlock, run_count}
 use Rattle.aa_vec.proofs.Chains.{same_end}
 use Rattle.aa_vec.proofs.Closed.{still, counted, few_runs, written_all, written_more}
-use Rattle.aa_vec.proofs.Copied.{SameBlock-then}
+use Rattle.aa_vec.proofs.Climbing.{SameBlock-trans}
 use Rattle.aa_vec.proofs.Stands.{count, replaced_are, replaced_stand, first_stand, moved_items, others_are, others_stand, later_are, later_stand}
 
 -- what holds at the last element of a list, wherever it is cut before its last
@@ -156,7 +156,7 @@ module _ {F T : Type 0} (Asks : F → T → T → Bool → F → T → T → Typ
         items_are = moved_items w gap n asked_stand k kept_within u closes ∙ ap (λ l. w.items ++ take k l) asked_are ∙ ap (λ l. l ++ take k asked.left) asked.items ∙ append_assoc asked.front (asked.last_left ∷ []) (take k asked.left)
 
         block_same : SameBlock old u
-        block_same = SameBlock-then old w u (SameBlock-then old v w now.block asked.block) closes.holds.block
+        block_same = SameBlock-trans (SameBlock-trans now.block asked.block) closes.holds.block
 
         wrote : u.written ≡ v.written + (if gap == 0 then 0 else k)
         wrote = omega (arith, closes.writes.written, asked.writes.written)
@@ -215,6 +215,6 @@ module _ {F T : Type 0} (Asks : F → T → T → Bool → F → T → T → Typ
                     omega (arith, c.2, wrote, ap (λ s. s.written) taken, written_more gap k (map not q.0) (map not answers) q.2 q.3),
                     omega (arith, c.3, q.4),
                   ));
-              block = SameBlock-then old u z block_same (record { capacity = ap (λ s. s.capacity) taken; growth = ap (λ s. s.growth) taken; grown = ap (λ s. s.grown) taken; alloc = ap (λ s. s.alloc) taken });
+              block = SameBlock-trans block_same (record { capacity = ap (λ s. s.capacity) taken; growth = ap (λ s. s.growth) taken; grown = ap (λ s. s.grown) taken; alloc = ap (λ s. s.alloc) taken });
               runs = omega (arith, ap (λ s. s.runs) taken, ran, now.runs, few_runs gap k);
             }

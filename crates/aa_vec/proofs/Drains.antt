@@ -1,42 +1,30 @@
 -- Steps of a drain.
-use Rattle.std.proofs.Common.{◌≡◌, ℕ, ◌+◌, ◌-◌, ◌<◌, ◌≤◌, List, [], ◌∷◌, ◌++◌, length, take, drop, Option, Some, None, refl, sym, ap, ◌∙◌, subst, arith, length-append, length-drop, length-take}
+use borrow.Rule.Reborrow.{re_v}
+use Rattle.std.proofs.Common.{◌≡◌, ℕ, ◌+◌, ◌-◌, ◌<◌, ◌≤◌, List, [], ◌∷◌, ◌++◌, length, take, drop, Option, Some, None, refl, sym, ap, ◌∙◌, subst, arith, length-append, length-drop, length-set, length-take, MutBor}
 use Rattle.std.specs.Prelude.{slice_set, slice_range}
-use Rattle.std.specs.Iterator.{MakesProgress, item_count}
 use Rattle.std.specs.Iterator.Runs.{YieldsInOrder, YieldsInReverse}
 use Rattle.std.proofs.iter.runs.Sources.{from_front, from_back, as_is, as_is_back}
-use Rattle.std.specs.declared.iter.Iterator.{can_next-default}
-use Rattle.std.proofs.lemmas.List.{drop-drop, drop-take, take-take, take_at}
-use Rattle.aa_raw.proofs.Runs.{run-none, length-run}
-use Rattle.aa_vec.specs.Behind.{StandsBehind, SetsBack, behind_items, with_behind}
+use Rattle.std.proofs.lemmas.List.{drop-drop, drop-set-add, drop-set-lt, drop-take}
+use Rattle.aa_raw.specs.Places.{IsRun, run}
+use Rattle.aa_raw.proofs.Runs.{run-none, run-split, run-set-above, IsRun-part, IsRun-set-above, length-run}
+use Rattle.aa_vec.proofs.Gaps.{run-of_drop, IsRun-to_drop}
+use Rattle.aa_vec.specs.Behind.{StandsBehind, SetsBack, behind_items}
 use Rattle.aa_vec.specs.Vector.{Vector, len}
-use Rattle.aa_vec.specs.Draining.{DrainKeeps, DrainKeepsAlong, drain_rest, drain_tail, drains_first, drains_last}
+use Rattle.aa_vec.specs.Draining.{TakesRange, DrainKeeps, DrainKeepsAlong, drain_rest, drain_tail, drains_first, drains_last}
 use Rattle.aa_vec.specs.declared.vec.drain.Drain.{Drain}
-use Rattle.aa_vec.proofs.Drained.{part_stand, parts_are, later_part, above_stand, above_are, below_stand, below_are}
+use Rattle.aa_vec.proofs.Climbing.{SameBlock-refl, SameBlock-trans}
+use Rattle.aa_vec.proofs.Drained.{part_stand, later_part}
 use Rattle.aa_vec.proofs.Stands.{first_are}
 
 module _ {T A : Type 0} where
   -- nothing is changed where the drain is
   pub keeps-same : (d : Drain T A) → DrainKeeps d d
-  keeps-same d = record {
-    lender = refl;
-    head = record { items = refl; block = record { capacity = refl; growth = refl; grown = refl; alloc = refl } };
-    writes = record { written = omega arith; runs = omega arith };
-    tail = refl;
-    range = refl;
-  }
+  keeps-same d = record { lender = refl; head = record { items = refl; block = SameBlock-refl d.vec.now }; writes = record { written = omega arith; runs = omega arith }; tail = refl; range = refl }
 
   pub keeps-then : (d e f : Drain T A) → DrainKeeps d e → DrainKeeps e f → DrainKeeps d f
   keeps-then d e f h k = record {
     lender = k.lender ∙ h.lender;
-    head = record {
-      items = k.head.items ∙ h.head.items;
-      block = record {
-        capacity = k.head.block.capacity ∙ h.head.block.capacity;
-        growth = k.head.block.growth ∙ h.head.block.growth;
-        grown = k.head.block.grown ∙ h.head.block.grown;
-        alloc = k.head.block.alloc ∙ h.head.block.alloc;
-      };
-    };
+    head = record { items = k.head.items ∙ h.head.items; block = SameBlock-trans h.head.block k.head.block };
     writes = record { written = omega (arith, k.writes.written, h.writes.written); runs = omega (arith, k.writes.runs, h.writes.runs) };
     tail = k.tail ∙ h.tail;
     range = k.range ∙ h.range;
@@ -53,18 +41,7 @@ module _ {T A : Type 0} where
   pub runs-in_reverse : YieldsInReverse (drains_last {T = T} {A = A}) drain_rest
   runs-in_reverse p s = as_is_back p (drain_rest p.from) (from_back (drains_last {T = T} {A = A}) (λ x. x) drain_rest (λ d e h. ap length h.1.0) (λ d x e h. h.1.0) p s)
 
-  -- an item fewer is left, from either end
-  pub progress_first : (s t : Drain T A) (x : T) → drain_rest s ≡ x ∷ drain_rest t → MakesProgress (can_next-default (Drain T A) T) (item_count drain_rest) s (Some x) t
-  progress_first s t x e = record { on = λ _. (tt, tt, omega (arith, ap length e)); keeps = tt; rests = λ _. tt }
-
-  pub progress_last : (s t : Drain T A) (x : T) → drain_rest s ≡ drain_rest t ++ x ∷ [] → MakesProgress (can_next-default (Drain T A) T) (item_count drain_rest) s (Some x) t
-  progress_last s t x e = record { on = λ _. (tt, tt, omega (arith, ap length e, length-append (drain_rest t) (x ∷ []))); keeps = tt; rests = λ _. tt }
-
-  -- nothing is left
-  pub none_left : (d : Drain T A) → d.front ≡ d.back → drain_rest d ≡ []
-  unfolding drain_rest
-  none_left d e = run-none (drop d.front d.vec.now.behind) 0 (d.back - d.front) (omega (arith, e))
-
+  -- how many are left, and how many are behind the range
   pub count_left : (d : Drain T A) → length (drain_rest d) ≡ d.back - d.front
   unfolding drain_rest
   count_left d = length-run (drop d.front d.vec.now.behind) 0 (d.back - d.front) d.held.0.1
@@ -76,62 +53,10 @@ module _ {T A : Type 0} where
   -- what is left of a range once its first item was taken
   pub first_taken : (d e : Drain T A) (r : Option T) → drains_first d r e → (xs : List T) (a b : ℕ) → drain_rest d ≡ slice_range xs a b → a < b → b ≤ length xs → drain_rest e ≡ slice_range xs (a + 1) b
   first_taken d e None h xs a b rest l m = absurd (omega (arith, l, m, ap length (sym rest ∙ h.1.0), length-take (b - a) (drop a xs), length-drop a xs))
-  first_taken d e (Some x) h xs a b rest l m =
-      let more : b - (a + 1) + 1 ≡ b - a = omega arith in
-      sym (ap (take (b - (a + 1))) (sym (drop-drop 1 a xs)) ∙ sym (drop-take 1 (b - (a + 1)) (drop a xs)) ∙ ap (λ k. drop 1 (take k (drop a xs))) (omega arith) ∙ ap (drop 1) (sym rest ∙ h.1.0))
-
-  -- what is left of a range once its last item was taken
-  pub last_taken : (d e : Drain T A) (r : Option T) → drains_last d r e → (xs : List T) (a b : ℕ) → drain_rest d ≡ slice_range xs a b → a < b → b ≤ length xs → drain_rest e ≡ slice_range xs a (b - 1)
-  last_taken d e None h xs a b rest l m = absurd (omega (arith, l, m, ap length (sym rest ∙ h.1.0), length-take (b - a) (drop a xs), length-drop a xs))
-  last_taken d e (Some x) h xs a b rest l m =
-      let ys : List T = drain_rest e in
-      let all : ys ++ x ∷ [] ≡ take (b - a) (drop a xs) = sym h.1.0 ∙ rest in
-      let count : length ys ≡ b - 1 - a = omega (arith, l, m, ap length all, length-append ys (x ∷ []), length-take (b - a) (drop a xs), length-drop a xs) in
-      sym (take_at ys (x ∷ []) (b - 1 - a) count) ∙ ap (take (b - 1 - a)) all ∙ take-take (b - 1 - a) (b - a) (drop a xs) (omega arith)
-
-  -- an item is taken
-  module _ (d : Drain T A) (some : d.front < d.back) (w : Vector T A) (x : T) where
-    -- from the front
-    module _ (value : behind_items d.vec.now d.front 1 ≡ x ∷ []) (taken : w ≡ with_behind d.vec.now (slice_set d.vec.now.behind d.front None)) where
-      abbrev left : ℕ
-      left = d.back - (d.front + 1)
-
-      later_stand : StandsBehind d.vec.now (d.front + 1) left
-      later_stand = part_stand d.vec.now d.front (d.back - d.front) d.held.0 (d.front + 1) left (omega arith) (omega arith)
-
-      pub front_held : StandsBehind w (d.front + 1) (d.back - (d.front + 1)) × StandsBehind w d.end (d.total - d.end)
-      front_held = (above_stand d.vec.now w d.front taken (d.front + 1) (omega arith) left later_stand, above_stand d.vec.now w d.front taken d.end (omega (arith, d.ordered)) (d.total - d.end) d.held.1)
-
-      pub front_rest : behind_items d.vec.now d.front (d.back - d.front) ≡ x ∷ behind_items w (d.front + 1) (d.back - (d.front + 1))
-      front_rest =
-          parts_are d.vec.now d.front 1 (d.back - d.front) left (omega arith) d.held.0 ∙ ap (λ xs. xs ++ behind_items d.vec.now (d.front + 1) left) value
-          ∙ ap (λ xs. x ∷ xs) (sym (above_are d.vec.now w d.front taken (d.front + 1) (omega arith) left))
-
-      pub front_tail : behind_items w d.end (d.total - d.end) ≡ behind_items d.vec.now d.end (d.total - d.end)
-      front_tail = above_are d.vec.now w d.front taken d.end (omega (arith, d.ordered)) (d.total - d.end)
-
-    -- from the back
-    module _ (value : behind_items d.vec.now (d.back - 1) 1 ≡ x ∷ []) (taken : w ≡ with_behind d.vec.now (slice_set d.vec.now.behind (d.back - 1) None)) where
-      abbrev few : ℕ
-      few = d.back - 1 - d.front
-
-      whole : StandsBehind d.vec.now d.front (d.back - 1 - d.front + 1)
-      whole = part_stand d.vec.now d.front (d.back - d.front) d.held.0 d.front (d.back - 1 - d.front + 1) (omega arith) (omega arith)
-
-      pub back_held : StandsBehind w d.front (d.back - 1 - d.front) × StandsBehind w d.end (d.total - d.end)
-      back_held = (below_stand d.vec.now w (d.back - 1) taken d.front few (omega arith) whole, above_stand d.vec.now w (d.back - 1) taken d.end (omega (arith, d.ordered)) (d.total - d.end) d.held.1)
-
-      pub back_rest : behind_items d.vec.now d.front (d.back - d.front) ≡ behind_items w d.front (d.back - 1 - d.front) ++ x ∷ []
-      back_rest =
-          parts_are d.vec.now d.front few (d.back - d.front) 1 (omega arith) d.held.0
-          ∙ ap (λ xs. behind_items d.vec.now d.front few ++ xs) (ap (λ i. behind_items d.vec.now i 1) (omega arith) ∙ value)
-          ∙ ap (λ xs. xs ++ x ∷ []) (sym (below_are d.vec.now w (d.back - 1) taken d.front few (omega arith) whole))
-
-      pub back_tail : behind_items w d.end (d.total - d.end) ≡ behind_items d.vec.now d.end (d.total - d.end)
-      back_tail = above_are d.vec.now w (d.back - 1) taken d.end (omega (arith, d.ordered)) (d.total - d.end)
+  first_taken d e (Some x) h xs a b rest l m = grind (arith, h.1.0, drop-drop 1 a xs, drop-take 1 (b - (a + 1)) (drop a xs))
 
   -- the items from an index on are behind the others now, of which those up to another index are a range
-  module _ (old new : Vector T A) (a b total : ℕ) (range : a ≤ b) (inside : b ≤ len old) (count : a + total ≡ len old) (sets : SetsBack old a new) where
+  module _ (old new : Vector T A) (a b total : ℕ) (range : (a ≤ b) × (b ≤ len old)) (count : a + total ≡ len old) (sets : SetsBack old a new) where
     abbrev n : ℕ
     n = b - a
 
@@ -142,12 +67,48 @@ module _ {T A : Type 0} where
     all_are = ap (λ k. behind_items new 0 k) (omega (arith, count)) ∙ sets.elements
 
     pub range_held : StandsBehind new 0 (b - a - 0) × StandsBehind new (b - a) (total - (b - a))
-    range_held = (part_stand new 0 total all 0 (n - 0) (omega arith) (omega (arith, count)), part_stand new 0 total all n (total - n) (omega arith) (omega (arith, count)))
+    range_held = (part_stand new 0 total all 0 (n - 0) (omega arith) (omega (arith, count, range)), part_stand new 0 total all n (total - n) (omega arith) (omega (arith, count, range)))
 
-    pub range_rest : behind_items new 0 (b - a - 0) ≡ slice_range old.items a b
-    range_rest = ap (behind_items new 0) (omega arith) ∙ first_are new 0 total all n (omega (arith, count)) ∙ ap (take n) all_are
+    pub range_drains : (lent : MutBor (Vector T A)) (ordered : (0 ≤ n) × (n ≤ n) × (n ≤ total)) (held : StandsBehind new 0 (n - 0) × StandsBehind new n (total - n)) → TakesRange old a b (record { vec = re_v new lent; front = 0; back = n; end = n; total = total; ordered = ordered; held = held })
+    unfolding drain_rest drain_tail
+    range_drains lent ordered held = record {
+      head = sets.holds;
+      writes = sets.writes;
+      rest = ap (behind_items new 0) (omega arith) ∙ first_are new 0 total all n (omega (arith, count, range)) ∙ ap (take n) all_are;
+      tail = grind (arith, later_part new 0 n total (total - n) (omega (arith, count, range)) all, all_are, drop-drop n a old.items);
+      range = refl;
+      none_front = refl;
+      none_back = omega arith;
+    }
 
-    pub range_tail : behind_items new (b - a) (total - (b - a)) ≡ drop b old.items
-    range_tail =
-        ap (λ i. behind_items new i (total - n)) (omega arith) ∙ later_part new 0 n total (total - n) (omega (arith, count)) all ∙ ap (drop n) all_are ∙ drop-drop n a old.items
-        ∙ ap (λ i. drop i old.items) (omega arith)
+-- the first of the places that are left
+module _ {X : Type 0} (bs : List (Option X)) (f b : ℕ) (some : f < b) (r : IsRun (drop f bs) 0 (b - f)) where
+  pub run-next : run (drop f bs) 0 (b - f) ≡ run (drop f bs) 0 1 ++ run (drop (f + 1) bs) 0 (b - (f + 1))
+  run-next = grind (arith, run-split (drop f bs) 0 1 1 (b - (f + 1)) (b - f) (omega arith) (omega (arith, some)), run-of_drop (drop f bs) 1 (b - (f + 1)), drop-drop 1 f bs)
+
+  pub IsRun-next : IsRun (drop (f + 1) bs) 0 (b - (f + 1))
+  IsRun-next = subst (λ ds. IsRun ds 0 (b - (f + 1))) (drop-drop 1 f bs) (IsRun-to_drop (drop f bs) 1 (b - (f + 1)) (IsRun-part (drop f bs) 0 (b - f) 1 (b - (f + 1)) (omega arith) (omega (arith, some)) r))
+
+  -- and the last
+  abbrev few : ℕ
+  few = b - 1 - f
+
+  pub run-last : run (drop f bs) 0 (b - f) ≡ run (drop f bs) 0 (b - 1 - f) ++ run (drop (b - 1) bs) 0 1
+  run-last = grind (arith, run-split (drop f bs) 0 few few 1 (b - f) (omega arith) (omega (arith, some)), run-of_drop (drop f bs) few 1, drop-drop few f bs)
+
+  pub IsRun-end : IsRun (drop (b - 1) bs) 0 1
+  IsRun-end =
+      let there : drop few (drop f bs) ≡ drop (b - 1) bs = grind (arith, drop-drop few f bs) in
+      subst (λ ds. IsRun ds 0 1) there (IsRun-to_drop (drop f bs) few 1 (IsRun-part (drop f bs) 0 (b - f) few 1 (omega arith) (omega (arith, some)) r))
+
+  set-there : drop f (slice_set bs (b - 1) None) ≡ slice_set (drop f bs) few None
+  set-there = ap (λ i. drop f (slice_set bs i None)) (omega (arith, some)) ∙ drop-set-add f bs few None
+
+  pub run-before : run (drop f (slice_set bs (b - 1) None)) 0 (b - 1 - f) ≡ run (drop f bs) 0 (b - 1 - f)
+  run-before = ap (λ ds. run ds 0 few) set-there ∙ run-set-above (drop f bs) 0 few few None (omega (arith, r.0, some)) (omega arith)
+
+  pub IsRun-before : IsRun (drop f (slice_set bs (b - 1) None)) 0 (b - 1 - f)
+  IsRun-before = subst (λ ds. IsRun ds 0 few) (sym set-there) (IsRun-set-above (drop f bs) 0 few few None (omega (arith, r.0, some)) (omega arith) (IsRun-part (drop f bs) 0 (b - f) 0 few (omega arith) (omega (arith, some)) r))
+
+-- an item taken from either end
+pub ruleset from_ends = (run-next, IsRun-next, run-last, IsRun-end, run-before, IsRun-before, drop-set-lt, run-none, length-set, length-drop, length-append)

@@ -1,5 +1,5 @@
 -- A vector that items of an iterator are put behind.
-use Rattle.std.proofs.Common.{◌≡◌, ℕ, zero, suc, ◌+◌, ◌-◌, ◌<◌, ◌≤◌, List, [], ◌∷◌, ◌++◌, length, Option, Some, None, append_assoc, refl, sym, ap, ◌∙◌, subst, arith, length-append, inl, inr}
+use Rattle.std.proofs.Common.{◌≡◌, ℕ, zero, suc, ◌+◌, ◌-◌, ◌<◌, ◌≤◌, List, [], ◌∷◌, ◌++◌, length, Option, Some, None, append_assoc, refl, sym, ap, ◌∙◌, subst, arith, length-append}
 use Rattle.std.specs.Prelude.{min, map}
 use Rattle.std.specs.Borrow.{Bor}
 use Rattle.std.specs.Iterator.Runs.{WholeRun}
@@ -9,8 +9,8 @@ use Rattle.std.proofs.lemmas.List.{append-nil}
 use Rattle.aa_raw.specs.declared.collections.TryReserveErrorKind.{TryReserveErrorKind}
 use Rattle.aa_raw.specs.Growth.{usize_max}
 use Rattle.aa_vec.specs.Vector.{Vector, len, HasRoom, LacksRoom, GrowsTo, Holds, Writes, MakesRoom}
-use Rattle.aa_vec.specs.Extending.{Climbs, stays, asked_for, YieldsTelling, ExtendsByAll, ExtendsByFront, Reads}
-use Rattle.aa_vec.proofs.Climbing.{SameBlock-refl, Climbs-same, Climbs-more, Climbs-rises, Climbs-counted, Climbs-growth, Climbs-alloc}
+use Rattle.aa_vec.specs.Extending.{Climbs, stays, asked_for, YieldsTelling, ExtendsByAll, ExtendsByFront, CopiesOf}
+use Rattle.aa_vec.proofs.Climbing.{SameBlock-refl, MakesRoom-fits, MakesRoom-rises, Climbs-same, Climbs-more, Climbs-rises, Climbs-counted, Climbs-growth, Climbs-alloc}
 
 -- the items that came, as one run
 pub whole_run : {S A : Type 0} (steps : S → Option A → S → Type 0) (s : S) (P : List A → Type 0) → (xs : List A) × Drains steps s xs × P xs → WholeRun steps s (λ p. P p.items)
@@ -20,11 +20,6 @@ whole_run steps s P d = total_runs steps s (Unit {0}) P (d.0, λ _. d.1, d.2) tt
 abbrev pub told_behind : (n : ℕ) → (lower : ℕ → ℕ) → ℕ → ℕ
 told_behind n lower zero = n
 told_behind n lower (suc k) = lower k
-
--- a vector that made room for k more has it
-grown_room : {T A : Type 0} (size k : ℕ) (v w : Vector T A) → len v ≤ v.capacity → MakesRoom size v (len v) k w → len v + k ≤ w.capacity
-grown_room size k v w h (inl m) = omega (arith, h, m.0, m.1.capacity)
-grown_room size k v w h (inr m) = omega (arith, m.1.capacity)
 
 module _ {S T : Type 0} (steps : S → Option T → S → Type 0) (Tells : S → ℕ → Type 0) where
   pub YieldsTelling-more : (lower : ℕ → ℕ) (n : ℕ) (s : S) (xs : List T) (t : S) (x : T) (u : S) → YieldsTelling steps Tells lower s xs t → steps t (Some x) u → Tells u n → YieldsTelling steps Tells (told_behind n lower) s (xs ++ x ∷ []) u
@@ -101,9 +96,8 @@ module _ {S T : Type 0} (steps : S → Option T → S → Type 0) (Tells : S →
 
         climbed : Climbs size next_lower (len old + length next_front) old v
         climbed =
-            let e : len old + length p.front + 1 ≡ len old + length next_front = omega (arith, longer) in
-            subst (λ k. Climbs size next_lower k old v) e
-            (Climbs-counted size p.lower next_lower (len old + length p.front) 1 (λ k _. let f : suc k ≡ k + 1 = omega arith in ap next_lower f) p.climbs)
+            Climbs-counted size p.lower next_lower (len old + length p.front) 1 (len old + length next_front) (SameBlock-refl old) (omega (arith, longer))
+            (λ k _. let f : suc k ≡ k + 1 = omega arith in ap next_lower f) p.climbs
 
         -- it is placed in w, a vector that v climbed to
         module _ (w new : Vector T A) (climbs : Climbs size next_lower (len old + length next_front) old w) (same : w.items ≡ v.items) (w_written : w.written ≡ v.written) (w_runs : w.runs ≡ v.runs)
@@ -142,7 +136,7 @@ module _ {S T : Type 0} (steps : S → Option T → S → Type 0) (Tells : S →
               let asked : k ≡ asked_for next_lower (len old + length next_front - v.capacity) = e ∙ ap (asked_for next_lower) (sym one_left) in
               let m : MakesRoom size v v.capacity (asked_for next_lower (len old + length next_front - v.capacity)) w =
               subst (λ j. MakesRoom size v j (asked_for next_lower (len old + length next_front - v.capacity)) w) full (subst (λ j. MakesRoom size v (len v) j w) asked g.room) in
-              let room : len w < w.capacity = omega (arith, e, full, ap length g.items, grown_room size k v w p.fits g.room) in
+              let room : len w < w.capacity = omega (arith, e, full, ap length g.items, MakesRoom-fits size (len v) k v w g.room (omega (arith, full, MakesRoom-rises size _ v w m))) in
               placed w new (Climbs-more size next_lower (len old + length next_front) climbed (omega (arith, full, count, longer)) m) g.items
               (omega (arith, z.written)) (omega (arith, z.runs)) room holds writes
 
@@ -173,13 +167,13 @@ module _ {S T : Type 0} (steps : S → Option T → S → Type 0) (Tells : S →
 
 module _ {S T : Type 0} (steps : S → Option (Bor T) → S → Type 0) where
   -- the references that were given
-  Yields-read : (s : S) (xs : List T) (t : S) → Yields (Reads steps) s xs t → (rs : List (Bor T)) × Yields steps s rs t × (xs ≡ map (λ r. r.now) rs)
+  Yields-read : (s : S) (xs : List T) (t : S) → Yields (CopiesOf steps) s xs t → (rs : List (Bor T)) × Yields steps s rs t × (xs ≡ map (λ r. r.now) rs)
   Yields-read s [] t y = ([], y, refl)
   Yields-read s (x ∷ xs) t y =
       let others = Yields-read y.0 xs t y.2 in
       (y.1.0 ∷ others.0, (y.0, y.1.1, others.1), ap (λ z. z ∷ xs) y.1.2 ∙ ap (λ zs. y.1.0.now ∷ zs) others.2)
 
-  pub Drains-read : (s : S) (xs ys : List T) → (zs : List T) × Drains (Reads steps) s zs × (ys ≡ xs ++ zs) → (rs : List (Bor T)) × Drains steps s rs × (ys ≡ xs ++ map (λ r. r.now) rs)
+  pub Drains-read : (s : S) (xs ys : List T) → (zs : List T) × Drains (CopiesOf steps) s zs × (ys ≡ xs ++ zs) → (rs : List (Bor T)) × Drains steps s rs × (ys ≡ xs ++ map (λ r. r.now) rs)
   Drains-read s xs ys d =
       let read = Yields-read s d.0 d.1.1.0 d.1.1.1 in
       (read.0, (d.1.0, (d.1.1.0, read.1, d.1.1.2)), d.2 ∙ ap (λ zs. xs ++ zs) read.2)
@@ -187,11 +181,10 @@ module _ {S T : Type 0} (steps : S → Option (Bor T) → S → Type 0) where
 module _ {S T A : Type 0} (steps : S → Option T → S → Type 0) (Tells : S → ℕ → Type 0) (size : ℕ) (iter : S) where
   -- what all extensions keep
   module _ (old new : Vector T A) (e : ExtendsByAll steps Tells size iter old new) where
-    pub ExtendsByAll-drains : Drains steps iter e.added
-    ExtendsByAll-drains = (e.ends.0, (e.last, Yields-told steps Tells e.lower iter e.added e.last e.told, e.ends.1))
-
     pub ExtendsByAll-growth : new.growth ≡ old.growth
     ExtendsByAll-growth = Climbs-growth size e.lower (len old + length e.added) e.extends.climbs
 
     pub ExtendsByAll-alloc : new.alloc ≡ old.alloc
     ExtendsByAll-alloc = Climbs-alloc size e.lower (len old + length e.added) e.extends.climbs
+
+pub ruleset extended = (ExtendsByAll-growth, ExtendsByAll-alloc)

@@ -1,18 +1,21 @@
 -- Elements behind the items of a vector, and the gap before them, as the places of its block.
-use Rattle.std.proofs.Common.{◌≡◌, ℕ, ◌+◌, ◌-◌, ◌<◌, ◌≤◌, List, [], ◌∷◌, ◌++◌, length, map, take, drop, replicate, get_or, Option, Some, None, refl, sym, ap, ◌∙◌, subst, arith, inl, inr, length-append, length-drop, length-set}
+use Rattle.std.proofs.Common.{◌≡◌, ℕ, ◌+◌, ◌-◌, ◌<◌, ◌≤◌, List, [], ◌∷◌, ◌++◌, length, map, take, drop, replicate, get_or, Option, Some, None, refl, sym, ap, ◌∙◌, subst, arith, inl, inr, length-append, length-drop, length-set, length-take}
 use Rattle.std.specs.Prelude.{slice_set, if◌then◌else◌, ◌==◌}
-use Rattle.std.proofs.lemmas.List.{append-nil, drop-drop, drop-set, drop-set-add, drop-set-lt, length-replicate, length-take-le, take_at, drop_at}
+use Rattle.std.proofs.lemmas.List.{append-nil, drop-drop, drop-set, drop-set-add, drop-set-lt, length-map, length-replicate, length-take-le, take_at, drop_at}
 use Rattle.std.specs.List.{refill, length_refill}
-use Rattle.std.proofs.lemmas.Bool.Decides.{eqb_tells}
-use Rattle.aa_raw.specs.Block.{wrote, with_places}
+use Rattle.aa_raw.specs.Block.{with_places}
 use Rattle.aa_raw.specs.Places.{IsRun, IsFilled, run, moved, with_run}
+use Rattle.aa_raw.proofs.Calls.{IsRun-with-below}
 use Rattle.aa_raw.proofs.Places.{length-moved, length-with_run}
-use Rattle.aa_raw.proofs.Runs.{length-run, first-filled, IsRun-long, IsRun-part, IsRun-same, drop-with, run-drop, run-one, run-moved, run-moved-below, run-split, run-take, run-is, run-push, run-set-above, run-with-below, run-zero, length-with, IsRun-set-above, cut-long}
-use Rattle.aa_vec.specs.Behind.{StandsBehind, SetsBack, ClosesGap, LeavesBehind, behind_items, with_behind}
+use Rattle.aa_raw.proofs.Runs.{length-run, first-filled, IsRun-long, IsRun-part, IsRun-same, drop-with, run-drop, run-one, run-moved, run-moved-below, run-split, run-take, run-is, run-push, run-set-above, IsRun-set-above, run-with-below, run-zero, cut-long}
+use Rattle.aa_vec.specs.Behind.{StandsBehind, LeavesBehind, behind_items}
 use Rattle.aa_vec.specs.Vector.{Vector, len}
 use Rattle.aa_vec.specs.Inner.{view_of, IsFront}
 use Rattle.aa_vec.specs.declared.vec.Vec.TheInside.{Inside}
-use Rattle.aa_vec.proofs.Lists.{equal, unequal}
+
+-- where the same stands above two places, the same stands as far above them
+pub further : {Y : Type 0} (ds es : List Y) (a b c d : ℕ) → a ≤ c → c + b ≡ d + a → drop a ds ≡ drop b es → drop c ds ≡ drop d es
+further ds es a b c d h h' e = grind (arith, drop-drop (c - a) a ds, drop-drop (c - a) b es)
 
 module _ {X : Type 0} where
   -- a run of places, and the same one of the places from one on
@@ -26,59 +29,62 @@ module _ {X : Type 0} where
   pub IsRun-to_drop : (cs : List (Option X)) (a n : ℕ) → IsRun cs a n → IsRun (drop a cs) 0 n
   IsRun-to_drop cs a n r = (omega (arith, length-drop a cs, r.0), r.1)
 
+  -- the last of a run, as the places from there on
+  pub run-back : (cs : List (Option X)) (a n : ℕ) → IsRun cs 0 n → a ≤ n → drop a (run cs 0 n) ≡ run (drop a cs) 0 (n - a)
+  run-back cs a n r h = run-drop cs 0 a a n (n - a) (omega arith) (omega (arith, h)) r ∙ sym (run-of_drop cs a (n - a))
+
+  pub IsRun-back : (cs : List (Option X)) (a n : ℕ) → IsRun cs 0 n → a ≤ n → IsRun (drop a cs) 0 (n - a)
+  IsRun-back cs a n r h = IsRun-to_drop cs a (n - a) (IsRun-part cs 0 n a (n - a) (omega arith) (omega (arith, h)) r)
+
+  pub length-front : (cs : List (Option X)) (a n : ℕ) → IsRun cs 0 n → a ≤ n → length (take a (run cs 0 n)) ≡ a
+  length-front cs a n r h = grind (arith, length-run cs 0 n r, length-take)
+
+  pub IsRun-front : (cs : List (Option X)) (a n : ℕ) → IsRun cs 0 n → a ≤ n → IsRun cs 0 a
+  IsRun-front cs a n r h = IsRun-part cs 0 n 0 a (omega arith) (omega (arith, h)) r
+
   -- what stands above a run that was moved down is where it was
   pub drop-moved : (cs : List (Option X)) (from to n : ℕ) → to ≤ from → from + n ≤ length cs → drop (from + n) (moved cs from to n) ≡ drop (from + n) cs
+  unfolding moved with_run
   drop-moved cs from to n h l =
       let none = with_run cs from n (replicate n None) in
-      let long : length none ≡ length cs = length-with_run cs from n (replicate n None) l (length-replicate n None) in
-      let ys = take n (drop from cs) in
-      let e : to + n + (from - to) ≡ from + n = omega arith in
-      let up : (ds : List (Option X)) → drop (from - to) (drop (to + n) ds) ≡ drop (from + n) ds = λ ds. drop-drop (from - to) (to + n) ds ∙ ap (λ i. drop i ds) e in
-      sym (up (moved cs from to n)) ∙ ap (drop (from - to)) (drop-with none to n ys (omega (arith, long)) (cut-long cs from n l)) ∙ up none
-      ∙ drop-with cs from n (replicate n None) l (length-replicate n None)
+      let room : to + n ≤ length none = omega (arith, length-with_run cs from n (replicate n None) l (length-replicate n None)) in
+      further (moved cs from to n) none (to + n) (to + n) (from + n) (from + n) (omega arith) refl (drop-with none to n (take n (drop from cs)) room (cut-long cs from n l)) ∙ drop-with cs from n (replicate n None) l (length-replicate n None)
 
 -- a move over a gap writes nothing where there is no gap
 pub over_gap : (l gap n : ℕ) → (if l + gap == l then 0 else n) ≡ (if gap == 0 then 0 else n)
-over_gap l gap n =
-    elim (eqb_tells gap 0) [
-      | inl h ↦ equal (l + gap) l 0 n (omega (arith, h.1)) ∙ sym (equal gap 0 0 n h.1)
-      | inr h ↦ unequal (l + gap) l 0 n (λ e. h.1 (omega (arith, e))) ∙ sym (unequal gap 0 0 n h.1)
-    ]
+over_gap l gap n = grind arith
 
-either_way : (gap n : ℕ) → (if gap == 0 then n else n) ≡ n
-either_way gap n = elim (eqb_tells gap 0) [ inl h ↦ equal gap 0 n n h.1 | inr h ↦ unequal gap 0 n n h.1 ]
+-- places after a run was moved down over a gap to the l before it
+module _ {X : Type 0} (cs : List (Option X)) (l gap n : ℕ) (stands : IsRun (drop gap (drop l cs)) 0 n) (fits : l + gap + n ≤ length cs) where
+  pub run-closed : run (moved cs (l + gap) l n) 0 (l + n) ≡ run cs 0 l ++ run (drop gap (drop l cs)) 0 n
+  run-closed =
+      let there : IsRun cs (l + gap) n = IsRun-of_drop cs (l + gap) n fits (subst (λ ds. IsRun ds 0 n) (drop-drop gap l cs) stands) in
+      grind (arith, run-split (moved cs (l + gap) l n) 0 l l n (l + n) (omega arith) refl, run-moved-below cs (l + gap) l n 0 l fits (omega (arith, fits)) (omega arith) (omega arith), run-moved cs (l + gap) l n there (omega (arith, fits)), drop-drop gap l cs, run-of_drop cs (l + gap) n)
 
--- no element leaves a gap as it is
-pub ClosesGap-none : {T A : Type 0} (v : Vector T A) (gap : ℕ) → ClosesGap v gap 0 v
-ClosesGap-none v gap = record {
-  holds = record {
-    items = sym (append-nil v.items) ∙ ap (λ xs. v.items ++ xs) (sym (run-zero (drop gap v.behind) 0));
-    block = record { capacity = refl; growth = refl; grown = refl; alloc = refl };
-  };
-  behind = refl;
-  writes = rw (either_way gap 0) (record { written = omega arith; runs = omega arith });
-}
+  pub drop-closed : drop gap (drop (l + n) (moved cs (l + gap) l n)) ≡ drop n (drop gap (drop l cs))
+  drop-closed = grind (arith, drop-drop, drop-moved cs (l + gap) l n (omega arith) fits)
+
+  pub IsRun-closed : IsRun cs 0 l → IsRun (moved cs (l + gap) l n) 0 (l + n)
+  IsRun-closed front =
+      let long : length (run (moved cs (l + gap) l n) 0 (l + n)) ≡ l + n = omega (arith, ap length run-closed, length-append (run cs 0 l) (run (drop gap (drop l cs)) 0 n), length-run cs 0 l front, length-run (drop gap (drop l cs)) 0 n stands) in
+      IsRun-long (moved cs (l + gap) l n) 0 (l + n) long (omega (arith, fits, length-moved cs (l + gap) l n fits (omega (arith, fits))))
+
+-- other places in a run's stead, over a gap behind the first l
+pub drop-laid : {X : Type 0} (cs es : List (Option X)) (l gap n : ℕ) → l + gap + n ≤ length cs → drop gap (drop l (with_run cs (l + gap) n es)) ≡ es ++ drop n (drop gap (drop l cs))
+unfolding with_run
+drop-laid cs es l gap n h =
+    grind (arith, drop-drop, drop_at (take (l + gap) cs) (es ++ drop (l + gap + n) cs) (l + gap) (length-take-le (l + gap) cs (omega (arith, h))))
+
+pub IsRun-cleared : {X : Type 0} (cs : List (Option X)) (l gap n : ℕ) → IsRun cs 0 l → l + gap + n ≤ length cs → IsRun (with_run cs (l + gap) n (replicate n None)) 0 l
+IsRun-cleared cs l gap n r h = IsRun-with-below cs (l + gap) n (replicate n None) 0 l h (length-replicate n None) (omega arith) r
+
+-- what stands behind the vector that is seen
+pub seen : {T A : Type 0} (v : Inside T A) (w : Vector T A) → view_of v ≡ w → (gap n : ℕ) → StandsBehind w gap n → StandsBehind (view_of v) gap n
+seen v w is gap n stands = subst (λ u. StandsBehind u gap n) (sym is) stands
 
 module _ {T A : Type 0} (v : Inside T A) (front : IsFront v) where
   count : len (view_of v) ≡ v.len
   count = length-run v.block.places 0 v.len front
-
-  pub SetsBack-view : (at : ℕ) → at ≤ v.len → SetsBack (view_of v) at (view_of (record { block = v.block; len = at }))
-  SetsBack-view at h =
-      let m : ℕ = v.len - at in
-      let places : List (Option T) = v.block.places in
-      let fewer : len (view_of v) - at ≡ m = ap (λ k. k - at) count in
-      let new = view_of (record { block = v.block; len = at }) in
-      let there : IsRun places at m = IsRun-part places 0 v.len at m (omega arith) (omega arith) front in
-      let short : length (run places 0 at) ≡ at = length-run places 0 at (IsRun-part places 0 v.len 0 at (omega arith) (omega arith) front) in
-      let P : ℕ → Type 0 = λ k. StandsBehind new 0 k in
-      let Q : ℕ → Type 0 = λ k. behind_items new 0 k ≡ drop at (view_of v).items in
-      record {
-        holds = record { items = sym (run-take places 0 at v.len h front); block = record { capacity = refl; growth = refl; grown = refl; alloc = refl } };
-        stands = subst P (sym fewer) (omega (arith, short, front.0), IsRun-to_drop places at m there);
-        elements = subst Q (sym fewer) (run-of_drop places at m ∙ sym (run-drop places 0 at at v.len m (omega arith) (omega arith) front));
-        writes = record { written = omega arith; runs = omega arith };
-      }
 
   module _ (gap n : ℕ) (stands : StandsBehind (view_of v) gap n) where
     pub within : v.len + gap + n ≤ length v.block.places
@@ -87,41 +93,10 @@ module _ {T A : Type 0} (v : Inside T A) (front : IsFront v) where
     -- they are a run of the block
     pub there : IsRun v.block.places (v.len + gap) n
     there =
-        let P : List (Option T) → Type 0 = λ ds. IsRun ds 0 n in
-        IsRun-of_drop v.block.places (v.len + gap) n within (subst P (drop-drop gap v.len v.block.places) stands.1)
+        IsRun-of_drop v.block.places (v.len + gap) n within (subst (λ ds. IsRun ds 0 n) (drop-drop gap v.len v.block.places) stands.1)
 
     pub elements : behind_items (view_of v) gap n ≡ run v.block.places (v.len + gap) n
     elements = ap (λ ds. run ds 0 n) (drop-drop gap v.len v.block.places) ∙ run-of_drop v.block.places (v.len + gap) n
-
-    abbrev pub closed : List (Option T)
-    closed = moved v.block.places (v.len + gap) v.len n
-
-    run-closed : run closed 0 (v.len + n) ≡ run v.block.places 0 v.len ++ behind_items (view_of v) gap n
-    run-closed =
-        let places : List (Option T) = v.block.places in
-        run-split closed 0 v.len v.len n (v.len + n) (omega arith) refl
-        ∙ ap (λ xs. xs ++ run closed v.len n) (run-moved-below places (v.len + gap) v.len n 0 v.len within (omega (arith, within)) (omega arith) (omega arith))
-        ∙ ap (λ xs. run places 0 v.len ++ xs) (run-moved places (v.len + gap) v.len n there (omega (arith, within)) ∙ sym elements)
-
-    long : length closed ≡ length v.block.places
-    long = length-moved v.block.places (v.len + gap) v.len n within (omega (arith, within))
-
-    pub IsFront-closed : IsRun closed 0 (v.len + n)
-    IsFront-closed =
-        IsRun-long closed 0 (v.len + n) (ap length run-closed ∙ length-append (run v.block.places 0 v.len) (behind_items (view_of v) gap n) ∙ omega (arith, count, ap length elements, length-run v.block.places (v.len + gap) n there))
-        (omega (arith, long, within))
-
-    pub ClosesGap-view : (k : ℕ) → k ≡ (if gap == 0 then 0 else n) → ClosesGap (view_of v) gap n (view_of (record { block = wrote v.block closed k; len = v.len + n }))
-    ClosesGap-view k e =
-        let places : List (Option T) = v.block.places in
-        let over : v.len + n + gap ≡ v.len + gap + n = omega arith in
-        record {
-          holds = record { items = run-closed; block = record { capacity = long; growth = refl; grown = refl; alloc = refl } };
-          behind =
-              drop-drop gap (v.len + n) closed ∙ ap (λ i. drop i closed) over ∙ drop-moved places (v.len + gap) v.len n (omega arith) within
-              ∙ sym (drop-drop n (v.len + gap) places) ∙ ap (drop n) (sym (drop-drop gap v.len places));
-          writes = rw (← e) (record { written = refl; runs = refl });
-        }
 
   -- one of them is taken
   module _ (gap : ℕ) (stands : StandsBehind (view_of v) gap 1) where
@@ -130,19 +105,6 @@ module _ {T A : Type 0} (v : Inside T A) (front : IsFront v) where
 
     pub taken-value : (x : T) → get_or v.block.places (v.len + gap) None ≡ Some x → behind_items (view_of v) gap 1 ≡ x ∷ []
     taken-value x e = elements gap 1 stands ∙ run-one v.block.places (v.len + gap) x (omega (arith, within gap 1 stands)) e
-
-    -- a write behind the items
-    module _ (c : Option T) where
-      pub IsFront-behind : IsRun (slice_set v.block.places (v.len + gap) c) 0 v.len
-      IsFront-behind = IsRun-set-above v.block.places 0 v.len (v.len + gap) c (omega (arith, within gap 1 stands)) (omega arith) front
-
-      pub view_of-behind : view_of (record { block = with_places v.block (slice_set v.block.places (v.len + gap) c); len = v.len }) ≡ with_behind (view_of v) (slice_set (drop v.len v.block.places) gap c)
-      view_of-behind =
-          let ds : List (Option T) = slice_set v.block.places (v.len + gap) c in
-          let items : run ds 0 v.len ≡ run v.block.places 0 v.len = run-set-above v.block.places 0 v.len (v.len + gap) c (omega (arith, within gap 1 stands)) (omega arith) in
-          let places : length ds ≡ length v.block.places = length-set v.block.places (v.len + gap) c in
-          let behind : drop v.len ds ≡ slice_set (drop v.len v.block.places) gap c = drop-set-add v.len v.block.places gap c in
-          λ i. record { items = items i; capacity = places i; growth = v.block.growth; grown = v.block.grown; written = v.block.written; runs = v.block.runs; alloc = v.block.alloc; behind = behind i }
 
 -- the last item, and an element after the gap
 module _ {T A : Type 0} (v : Inside T A) (front : IsFront v) (some : 0 < v.len) (gap : ℕ) (stands : StandsBehind (view_of v) gap 1) where
@@ -175,11 +137,6 @@ module _ {T A : Type 0} (v : Inside T A) (front : IsFront v) (some : 0 < v.len) 
     pub length-rewritten : length rewritten ≡ length v.block.places
     length-rewritten = length-set (slice_set v.block.places (v.len + gap) (Some y)) (v.len - 1) (Some m) ∙ length-set v.block.places (v.len + gap) (Some y)
 
-    pub IsFront-rewritten : IsRun rewritten 0 v.len
-    IsFront-rewritten =
-        IsRun-long rewritten 0 v.len (ap length run-rewritten ∙ length-append before (m ∷ []) ∙ omega (arith, length-run v.block.places 0 (v.len - 1) (IsRun-part v.block.places 0 v.len 0 (v.len - 1) (omega arith) (omega arith) front)))
-        (omega (arith, length-rewritten, inside))
-
     pub drop-rewritten : drop gap (drop v.len rewritten) ≡ Some y ∷ drop 1 (drop gap (drop v.len v.block.places))
     drop-rewritten =
         drop-drop gap v.len rewritten ∙ drop-set-lt (v.len + gap) (slice_set v.block.places (v.len + gap) (Some y)) (v.len - 1) (Some m) (omega arith)
@@ -198,33 +155,43 @@ module _ {T A : Type 0} (v : Inside T A) (front : IsFront v) (gap n : ℕ) (stan
   abbrev pub relent : List (Option T)
   relent = with_run v.block.places (v.len + gap) n (map Some (refill n xs ws))
 
-  full : length (refill n xs ws) ≡ n
-  full = sym (length_refill n xs ws count-lent)
-
-  room : v.len + gap + n ≤ length v.block.places
-  room = within v front gap n stands
-
-  same-front : run relent 0 v.len ≡ run v.block.places 0 v.len
-  same-front = run-with-below v.block.places (v.len + gap) n (map Some (refill n xs ws)) 0 v.len room (omega arith)
-
-  long-relent : length relent ≡ length v.block.places
-  long-relent = length-with v.block.places (v.len + gap) n (refill n xs ws) room full
+  full : length (map (λ (x : T). Some x) (refill n xs ws)) ≡ n
+  full = length-map (refill n xs ws) (λ (x : T). Some x) ∙ sym (length_refill n xs ws count-lent)
 
   pub IsFront-relent : IsRun relent 0 v.len
-  IsFront-relent = IsRun-same v.block.places relent 0 v.len long-relent same-front front
-
-  drop-relent : drop gap (drop v.len relent) ≡ map Some (refill n xs ws) ++ drop n (drop gap (drop v.len v.block.places))
-  drop-relent =
-      drop-drop gap v.len relent
-      ∙ drop_at (take (v.len + gap) v.block.places) (map Some (refill n xs ws) ++ drop (v.len + gap + n) v.block.places) (v.len + gap) (length-take-le (v.len + gap) v.block.places (omega (arith, room)))
-      ∙ ap (λ ds. map Some (refill n xs ws) ++ ds) (sym (drop-drop n (v.len + gap) v.block.places) ∙ ap (drop n) (sym (drop-drop gap v.len v.block.places)))
+  IsFront-relent = IsRun-with-below v.block.places (v.len + gap) n (map Some (refill n xs ws)) 0 v.len (within v front gap n stands) full (omega arith) front
 
   -- as many were left as were lent
   pub refilled : length ws ≡ length xs → refill n xs ws ≡ ws
   refilled e = take_at ws (drop (length ws) xs) n (omega (arith, e, count-lent))
 
   pub LeavesBehind-view : LeavesBehind (view_of v) gap n (refill n xs ws) (view_of (record { block = with_places v.block relent; len = v.len }))
-  LeavesBehind-view = record {
-    same = λ i. record { items = same-front i; capacity = long-relent i; growth = v.block.growth; grown = v.block.grown; written = v.block.written; runs = v.block.runs; alloc = v.block.alloc; behind = drop v.len relent };
-    behind = drop-relent;
-  }
+  LeavesBehind-view =
+      let room : v.len + gap + n ≤ length v.block.places = within v front gap n stands in
+      let items = run-with-below v.block.places (v.len + gap) n (map Some (refill n xs ws)) 0 v.len room (omega arith) in
+      let capacity = length-with_run v.block.places (v.len + gap) n (map Some (refill n xs ws)) room full in
+      record {
+        same = λ i. record { items = items i; capacity = capacity i; growth = v.block.growth; grown = v.block.grown; written = v.block.written; runs = v.block.runs; alloc = v.block.alloc; behind = drop v.len relent };
+        behind = drop-laid v.block.places (map Some (refill n xs ws)) v.len gap n room;
+      }
+
+-- places behind the items, as those of the block
+pub ruleset behind = (run-of_drop, IsRun-to_drop, drop-moved, over_gap, drop-drop, drop-set-lt)
+
+-- a gap that no element is behind
+pub ruleset no_gap = (append-nil, run-zero)
+
+-- a gap that was closed
+pub ruleset closed = (run-closed, drop-closed, IsRun-closed, over_gap, length-moved, length-run, drop-drop)
+
+-- elements that were set back
+pub ruleset set_apart = (length-drop, length-front, run-back, IsRun-back, IsRun-front, run-take, length-run)
+
+-- an element that was taken
+pub ruleset emptied = (run-one, run-set-above, length-set, drop-set-add, drop-drop, first-filled, run-of_drop, length-run, IsRun-set-above)
+
+-- elements that are lent
+pub ruleset lent = (run-is, drop-drop, run-of_drop, length-run)
+
+-- elements that were dropped
+pub ruleset cleared = (drop-laid, drop-drop, run-with-below, IsRun-cleared, length-with_run, length-replicate, length-run)

@@ -5,14 +5,9 @@ pub mod Copied
 pub mod Counted
 pub mod Extending
 pub mod Filled
-pub mod Fronts
 pub mod Joining
 pub mod Lists
-pub mod Making
-pub mod Positions
-pub mod Refilled
 pub mod Room
-pub mod Shrinking
 pub mod Turns
 pub mod Gaps
 pub mod Asking
@@ -31,6 +26,8 @@ pub mod Drains
 pub mod Walks
 pub mod GivenUp
 pub mod HandedOn
+pub mod Telling
+pub mod Gathered
 pub mod Filling
 pub mod Replacing
 pub mod Splicing

@@ -6,7 +6,7 @@ use Rattle.aa_vec.specs.Behind.{StandsBehind, SetsBack, ClosesGap, behind_items,
 use Rattle.aa_vec.specs.Choosing.{Asked, answers_of, kept, kept_behind_removed, removed_count, AskedInOrder, MayAskInOrder, Retains}
 use Rattle.aa_vec.specs.Until.{AsksUntil, AsksBehind}
 use Rattle.aa_vec.specs.Vector.{Vector, len, SameBlock, run_count}
-use Rattle.aa_vec.proofs.Copied.{SameBlock-then}
+use Rattle.aa_vec.proofs.Climbing.{SameBlock-trans}
 use Rattle.aa_vec.proofs.Closed.{still, counted, few_runs, written_all, written_more}
 use Rattle.aa_vec.proofs.Stands.{count, left_are, left_stand, first_stand, moved_items, others_are, others_stand, later_are, later_stand}
 
@@ -188,6 +188,6 @@ module _ {F T : Type 0} (Asks : F → T → Bool → F → T → Type 0) where
                     omega (arith, c.3, wrote, ap (λ s. s.written) taken, written_more gap k (answers_of r.every) (answers_of told) r.behind r.stay),
                     omega (arith, c.4, r.gone),
                   );
-              block = SameBlock-then old u z block_same (record { capacity = ap (λ s. s.capacity) taken; growth = ap (λ s. s.growth) taken; grown = ap (λ s. s.grown) taken; alloc = ap (λ s. s.alloc) taken });
+              block = SameBlock-trans block_same (record { capacity = ap (λ s. s.capacity) taken; growth = ap (λ s. s.growth) taken; grown = ap (λ s. s.grown) taken; alloc = ap (λ s. s.alloc) taken });
               runs = omega (arith, ap (λ s. s.runs) taken, ran, now.runs, few_runs gap k);
             }

@@ -5,9 +5,20 @@ use seplogic.Ra.Ura.{Ura}
 use lib.Dec.{T}
 use mir.Syntax.{Ty, w64, named}
 use mir.Val.{has_ty, vint, vstruct, of_list, has_tys, WT, WTs}
-use base.Logic.{SProp, ent, ex, emp, emp∗, via, mono∗, ex_i}
+pub use base.Logic.{SProp}
+use base.Logic.{ent, ex, emp, emp∗, via, mono∗, ex_i}
 use types.Logic.{Logic, sem}
 use types.Kit.{◌$◌, by, fpick}
+pub use types.Kit.{regoal, prop}
+pub use prog.Wp.{WpFn}
+pub use denote.Exit.{at}
+pub use denote.Laws.{Is, shows}
+pub use denote.Steps.{peeks}
+pub use denote.Triple.Clauses.{at_exit}
+pub use Rattle.std.proofs.raw_atomic.Walks.{proved_at}
+pub use Rattle.std.specs.Iterator.{IsFinite}
+pub use Rattle.aa_vec.specs.Vector.{Vector}
+pub use Rattle.aa_vec.proofs.GivenUp.{only_said, goes}
 use contract.BorrowLft.{◌⊑◌}
 use contract.Lifetimes.{Lfts}
 use contract.Monad.{fact_use, fact_i}

@@ -1,12 +1,11 @@
 -- What stands behind the items of a vector, after each of the calls that work on it.
-use Rattle.std.proofs.Common.{◌≡◌, ℕ, ◌+◌, ◌-◌, ◌<◌, ◌≤◌, List, ◌++◌, length, map, take, drop, Option, Some, None, sym, ap, ◌∙◌, subst, arith, length-append}
+use Rattle.std.proofs.Common.{◌≡◌, ℕ, ◌+◌, ◌-◌, ◌<◌, ◌≤◌, List, ◌++◌, length, map, take, drop, Option, Some, None, sym, ap, ◌∙◌, arith, length-append}
 use Rattle.std.specs.Prelude.{slice_set}
-use Rattle.std.proofs.lemmas.List.{drop-drop, drop-set-lt, length-map, take_at, take-append-drop}
-use Rattle.aa_raw.specs.Places.{IsRun, run}
-use Rattle.aa_raw.proofs.Runs.{length-run, run-is, run-take, run-drop, run-filled, IsRun-long, IsRun-part}
+use Rattle.std.proofs.lemmas.List.{drop-drop, length-map, take_at, take-append-drop}
+use Rattle.aa_raw.proofs.Runs.{length-run, run-is, run-take, run-filled, IsRun-long}
 use Rattle.aa_vec.specs.Behind.{StandsBehind, ClosesGap, LeavesBehind, behind_items, with_behind}
 use Rattle.aa_vec.specs.Vector.{Vector, len}
-use Rattle.aa_vec.proofs.Gaps.{run-of_drop, IsRun-to_drop}
+use Rattle.aa_vec.proofs.Drained.{still_stand, still_are, part_stand, later_part, above_stand, above_are}
 
 module _ {T A : Type 0} (v : Vector T A) (gap n : ℕ) (stands : StandsBehind v gap n) where
   abbrev pub elements : List T
@@ -17,7 +16,7 @@ module _ {T A : Type 0} (v : Vector T A) (gap n : ℕ) (stands : StandsBehind v 
 
   -- the first of them
   pub first_stand : (k : ℕ) → k ≤ n → StandsBehind v gap k
-  first_stand k h = (omega (arith, stands.0), IsRun-part (drop gap v.behind) 0 n 0 k (omega arith) (omega arith) stands.1)
+  first_stand k h = part_stand v gap n stands gap k (omega arith) (omega (arith, h))
 
   pub first_are : (k : ℕ) → k ≤ n → behind_items v gap k ≡ take k elements
   first_are k h = sym (run-take (drop gap v.behind) 0 k n h stands.1)
@@ -50,34 +49,24 @@ module _ {T A : Type 0} (v : Vector T A) (gap n : ℕ) (stands : StandsBehind v 
   -- the gap was closed by the first k of them
   module _ (k : ℕ) (h : k ≤ n) (w : Vector T A) (closes : ClosesGap v gap k w) where
     pub moved_len : len w ≡ len v + k
-    moved_len = ap length closes.holds.items ∙ length-append v.items (behind_items v gap k) ∙ ap (λ i. len v + i) (length-run (drop gap v.behind) 0 k (first_stand k h).1)
+    moved_len = grind (arith, closes.holds.items, length-append, length-run (drop gap v.behind) 0 k (first_stand k h).1)
 
     pub moved_items : w.items ≡ v.items ++ take k elements
     moved_items = closes.holds.items ∙ ap (λ l. v.items ++ l) (first_are k h)
 
+    others : drop gap w.behind ≡ drop (gap + k) v.behind
+    others = closes.behind ∙ drop-drop k gap v.behind
+
     pub others_are : behind_items w gap (n - k) ≡ drop k elements
-    others_are =
-        ap (λ ds. run ds 0 (n - k)) closes.behind ∙ run-of_drop (drop gap v.behind) k (n - k) ∙ sym (run-drop (drop gap v.behind) 0 k k n (n - k) (omega arith) (omega arith) stands.1)
+    others_are = still_are v w (gap + k) gap (n - k) others ∙ later_part v gap k n (n - k) (omega (arith, h)) stands
 
     pub others_stand : StandsBehind w gap (n - k)
-    others_stand =
-        let P : List (Option T) → Type 0 = λ ds. IsRun ds 0 (n - k) in (
-          omega (arith, stands.0, moved_len, closes.holds.block.capacity),
-          subst P (sym closes.behind) (IsRun-to_drop (drop gap v.behind) k (n - k) (IsRun-part (drop gap v.behind) 0 n k (n - k) (omega arith) (omega arith) stands.1)),
-        )
+    others_stand = still_stand v w (gap + k) gap (n - k) (part_stand v gap n stands (gap + k) (n - k) (omega arith) (omega (arith, h))) (omega (arith, stands.0, h, moved_len, closes.holds.block.capacity)) others
 
   -- the first of them was taken
   module _ (some : 0 < n) (w : Vector T A) (taken : w ≡ with_behind v (slice_set v.behind gap None)) where
-    behind_is : drop (gap + 1) w.behind ≡ drop 1 (drop gap v.behind)
-    behind_is = ap (λ u. drop (gap + 1) u.behind) taken ∙ drop-set-lt (gap + 1) v.behind gap None (omega arith) ∙ sym (drop-drop 1 gap v.behind)
-
     pub later_are : behind_items w (gap + 1) (n - 1) ≡ drop 1 elements
-    later_are =
-        ap (λ ds. run ds 0 (n - 1)) behind_is ∙ run-of_drop (drop gap v.behind) 1 (n - 1) ∙ sym (run-drop (drop gap v.behind) 0 1 1 n (n - 1) (omega arith) (omega arith) stands.1)
+    later_are = above_are v w gap taken (gap + 1) (omega arith) (n - 1) ∙ later_part v gap 1 n (n - 1) (omega (arith, some)) stands
 
     pub later_stand : StandsBehind w (gap + 1) (n - 1)
-    later_stand =
-        let P : List (Option T) → Type 0 = λ ds. IsRun ds 0 (n - 1) in (
-          omega (arith, stands.0, ap len taken, ap (λ u. u.capacity) taken),
-          subst P (sym behind_is) (IsRun-to_drop (drop gap v.behind) 1 (n - 1) (IsRun-part (drop gap v.behind) 0 n 1 (n - 1) (omega arith) (omega arith) stands.1)),
-        )
+    later_stand = above_stand v w gap taken (gap + 1) (omega arith) (n - 1) (part_stand v gap n stands (gap + 1) (n - 1) (omega arith) (omega (arith, some)))

@@ -1,10 +1,11 @@
 -- A closure that is called once for each new place.
-use Rattle.std.proofs.Common.{◌≡◌, ℕ, suc, ◌+◌, ◌-◌, ◌<◌, List, [], ◌∷◌, ◌++◌, length, refl, sym, ap, ◌∙◌, subst, arith, append_assoc, append-nil, length-append}
+use Rattle.std.proofs.Common.{◌≡◌, ℕ, suc, ◌+◌, ◌-◌, ◌<◌, ◌≤◌, List, [], ◌∷◌, ◌++◌, length, refl, sym, ap, ◌∙◌, subst, arith, append-nil, length-append}
 use Rattle.std.specs.List.{FoldsTo}
 use Rattle.std.proofs.lemmas.Fn.{FoldsTo-push}
 use Rattle.aa_vec.specs.Copies.{LengthensBy, MayCallTimes}
-use Rattle.aa_vec.specs.Vector.{Vector, GrowsTo, Holds, Writes}
-use Rattle.aa_vec.proofs.Copied.{GrowsTo-then, SameBlock-then, Writes-then}
+use Rattle.aa_vec.specs.Vector.{Vector, len, GrowsTo, Holds, Writes}
+use Rattle.aa_vec.proofs.Climbing.{Holds-more, SameBlock-refl}
+use Rattle.aa_vec.proofs.Copied.{grown-to, room-there}
 
 module _ {T A F : Type 0} (takes : F → Type 0) (step : F → T → F → Type 0) where
   -- f was called k times of `total`, and is g; what it answered stands behind the items of old
@@ -21,8 +22,8 @@ module _ {T A F : Type 0} (takes : F → Type 0) (step : F → T → F → Type 
     answers = [];
     calls = refl;
     count = refl;
-    holds = record { items = sym (append-nil old.items); block = record { capacity = refl; growth = refl; grown = refl; alloc = refl } };
-    writes = record { written = omega arith; runs = omega arith };
+    holds = record { items = sym (append-nil old.items); block = SameBlock-refl old };
+    writes = omega arith;
     more = subst (λ n. MayCallTimes takes step n f) {x = total} {y = total - 0} (omega arith) more;
   }
 
@@ -38,16 +39,16 @@ module _ {T A F : Type 0} (takes : F → Type 0) (step : F → T → F → Type 
       answers = t.answers ++ y ∷ [];
       calls = FoldsTo-push step f t.answers g y e t.calls s;
       count = length-append t.answers (y ∷ []) ∙ ap (λ n. n + 1) t.count;
-      holds = record { items = q.items ∙ ap (λ l. l ++ y ∷ []) t.holds.items ∙ append_assoc old.items t.answers (y ∷ []); block = SameBlock-then old now new t.holds.block q.block };
-      writes = Writes-then old now new k k 1 1 (k + 1) (k + 1) t.writes w refl refl;
+      holds = Holds-more old now new t.answers (y ∷ []) t.holds q;
+      writes = omega arith;
       more = (next h).1 y e s;
     }
 
-    pub LengthensBy-turns : (size : ℕ) (first : Vector T A) → k ≡ total → GrowsTo size first total first.items old → LengthensBy step size first total f now
-    LengthensBy-turns size first e made = record {
-      answers = t.answers;
-      last = g;
-      calls = t.calls;
-      count = t.count ∙ e;
-      grows = GrowsTo-then size first old now total first.items (first.items ++ t.answers) made (record { items = t.holds.items ∙ ap (λ l. l ++ t.answers) made.items; block = t.holds.block });
-    }
+    module _ (size : ℕ) (first : Vector T A) (made : GrowsTo size first total first.items old) where
+      pub Turns-room : k < total → len first ≤ first.capacity → len now < now.capacity
+      Turns-room h within = omega (arith, h, room-there size first old old total made within, ap length t.holds.items, length-append old.items t.answers, t.count, t.holds.block.capacity)
+
+      pub LengthensBy-turns : k ≡ total → LengthensBy step size first total f now
+      LengthensBy-turns e = record { answers = t.answers; last = g; calls = t.calls; count = t.count ∙ e; grows = grown-to size first old now total made t.answers t.holds }
+
+pub ruleset turns = (Turns-none, Turns-may, Turns-next, Turns-room, LengthensBy-turns)

@@ -46,4 +46,5 @@ module _ {T A : Type 0} where
   -- the n elements after the gap and then the m from the place `end` on were moved down to the items, of which they are the last now
   pub record ClosesTwice (old : Vector T A) (gap n end m : ℕ) (new : Vector T A) : Type 0 where
     pub holds : Holds old (old.items ++ (behind_items old gap n ++ behind_items old end m)) new
-    pub writes : let first = if gap == 0 then 0 else n in let second = if end - n == 0 then 0 else m in Writes old (first + second) (run_count first + run_count second) new
+    pub writes : let first = if gap == 0 then 0 else n in let second = if end - n == 0 then 0 else m in
+        Writes old (first + second) (run_count first + run_count second) new

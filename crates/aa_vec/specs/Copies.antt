@@ -84,7 +84,8 @@ module _ {T A : Type 0} where
     pub grows : GrowsTo size old k (old.items ++ (added ++ x ∷ [])) new
 
   -- new has k more items than old, in room that was made for all of them at once: what f answered, called once for each, in order
-  pub record LengthensBy {F : Type 0} (step : F → T → F → Type 0) (size : ℕ) (old : Vector T A) (k : ℕ) (f : F) (new : Vector T A) : Type 0 where
+  pub record LengthensBy {F : Type 0} (step : F → T → F → Type 0) (size : ℕ) (old : Vector T A) (k : ℕ) (f : F)
+      (new : Vector T A) : Type 0 where
     pub answers : List T
     pub last : F  -- the closure's state after the last call
     pub calls : FoldsTo step f answers last
@@ -92,7 +93,8 @@ module _ {T A : Type 0} where
     pub grows : GrowsTo size old k (old.items ++ answers) new
 
   -- k more than old has were to be put behind its items, in room for all of them. There was a failure: they are gone, and the room stays
-  pub record Stopped (failure : Type 0) (size : ℕ) (old : Vector T A) (k : ℕ) (error : TryReserveErrorKind) (new : Vector T A) : Type 0 where
+  pub record Stopped (failure : Type 0) (size : ℕ) (old : Vector T A) (k : ℕ) (error : TryReserveErrorKind)
+      (new : Vector T A) : Type 0 where
     pub cause : failure
     pub number : error ≡ AllocError (len old + k)
     pub left : GrowsTo size old k old.items new
@@ -105,7 +107,8 @@ module _ {T A : Type 0} where
   Refuses failure size old k error new = (LacksRoom old k error × (new ≡ old)) ⊎ Stopped failure size old k error new
 
   -- clones of xs were to take the place of old's items, in room for all of them. There was a failure: those of a beginning of xs are there
-  pub record Begins (clones : T → T → Type 0) (failure : Type 0) (size : ℕ) (old : Vector T A) (xs : List T) (error : TryReserveErrorKind) (new : Vector T A) : Type 0 where
+  pub record Begins (clones : T → T → Type 0) (failure : Type 0) (size : ℕ) (old : Vector T A) (xs : List T)
+      (error : TryReserveErrorKind) (new : Vector T A) : Type 0 where
     pub cause : failure
     pub number : error ≡ AllocError (length xs)
     pub done : ℕ
@@ -121,5 +124,6 @@ module _ {T A : Type 0} where
     pub holds : Holds old [] new
     pub writes : Writes old 0 0 new
 
-  abbrev pub StopsAssigning : (clones : T → T → Type 0) (failure : Type 0) (size : ℕ) → Vector T A → (xs : List T) → TryReserveErrorKind → Vector T A → Type 0
+  abbrev pub StopsAssigning : (clones : T → T → Type 0) (failure : Type 0) (size : ℕ) → Vector T A → (xs : List T) → TryReserveErrorKind
+      → Vector T A → Type 0
   StopsAssigning clones failure size old xs error new = LeavesNone old (length xs) error new ⊎ Begins clones failure size old xs error new

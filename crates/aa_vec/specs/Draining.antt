@@ -40,7 +40,7 @@ module _ {T A : Type 0} where
   taken_back d = d.end - d.back
 
   -- d takes the elements from the index a up to b out of old, and none was taken yet
-  pub record Drains (old : Vector T A) (a b : ℕ) (d : Drain T A) : Type 0 where
+  pub record TakesRange (old : Vector T A) (a b : ℕ) (d : Drain T A) : Type 0 where
     pub head : Holds old (take a old.items) (drain_vec d)
     pub writes : Writes old 0 0 (drain_vec d)
     pub rest : drain_rest d ≡ slice_range old.items a b
@@ -60,12 +60,16 @@ module _ {T A : Type 0} where
   -- r was taken from the front of s, which is t afterwards, or nothing was left
   abbrev pub drains_first : Drain T A → Option T → Drain T A → Type 0
   drains_first s r t =
-      DrainKeeps s t × MatchOption r ((drain_rest s ≡ []) × (t ≡ s)) (λ x. (drain_rest s ≡ x ∷ drain_rest t) × (taken_front t ≡ taken_front s + 1) × (taken_back t ≡ taken_back s))
+      DrainKeeps s t
+      × MatchOption r ((drain_rest s ≡ []) × (t ≡ s))
+      (λ x. (drain_rest s ≡ x ∷ drain_rest t) × (taken_front t ≡ taken_front s + 1) × (taken_back t ≡ taken_back s))
 
   -- the same from the back
   abbrev pub drains_last : Drain T A → Option T → Drain T A → Type 0
   drains_last s r t =
-      DrainKeeps s t × MatchOption r ((drain_rest s ≡ []) × (t ≡ s)) (λ x. (drain_rest s ≡ drain_rest t ++ x ∷ []) × (taken_front t ≡ taken_front s) × (taken_back t ≡ taken_back s + 1))
+      DrainKeeps s t
+      × MatchOption r ((drain_rest s ≡ []) × (t ≡ s))
+      (λ x. (drain_rest s ≡ drain_rest t ++ x ∷ []) × (taken_front t ≡ taken_front s) × (taken_back t ≡ taken_back s + 1))
 
   -- each state that calls of `next` lead to keeps the range and the vector of d, but for what is left of the range
   abbrev pub DrainKeepsAlong : Drain T A → Type 0
@@ -80,4 +84,6 @@ module _ {T A : Type 0} where
   -- from the front, and the third if any was taken
   pub record KeepsRest (d : Drain T A) (new : Vector T A) : Type 0 where
     pub holds : Holds (drain_vec d) (drain_head d ++ (drain_rest d ++ drain_tail d)) new
-    pub writes : let rest = if taken_front d == 0 then 0 else length (drain_rest d) in let tail = if taken_front d + taken_back d == 0 then 0 else length (drain_tail d) in Writes (drain_vec d) (rest + tail) (run_count rest + run_count tail) new
+    pub writes : let rest = if taken_front d == 0 then 0 else length (drain_rest d) in
+        let tail = if taken_front d + taken_back d == 0 then 0 else length (drain_tail d) in
+        Writes (drain_vec d) (rest + tail) (run_count rest + run_count tail) new

@@ -30,7 +30,9 @@ module _ {T A : Type 0} where
   -- old, of elements of `size` bytes, grew while it was full and had not room for `needed`, any number of times, and is new
   pub data Climbs (size : ℕ) (lower : ℕ → ℕ) (needed : ℕ) : Vector T A → Vector T A → Type 0 where
     stays : {old new : Vector T A} → SameBlock old new → Climbs size lower needed old new
-    grows : {old mid new : Vector T A} → old.capacity < needed → MakesRoom size old old.capacity (asked_for lower (needed - old.capacity)) mid → Climbs size lower needed mid new → Climbs size lower needed old new
+    grows : {old mid new : Vector T A} → old.capacity < needed
+        → MakesRoom size old old.capacity (asked_for lower (needed - old.capacity)) mid → Climbs size lower needed mid new
+        → Climbs size lower needed old new
 
   -- new has xs and all of `added` behind them, in the block of old or the first that old climbed to with places for all
   pub record ExtendsAll (size : ℕ) (lower : ℕ → ℕ) (old : Vector T A) (xs added : List T) (new : Vector T A) : Type 0 where
@@ -38,8 +40,10 @@ module _ {T A : Type 0} where
     pub enough : length xs + length added ≤ new.capacity
     pub items : new.items ≡ xs ++ added
 
-  -- new has xs and `front`, a beginning of `added` that fills the places; the first of the others found none, and the room asked for then was refused
-  pub record ExtendsFull (size : ℕ) (lower : ℕ → ℕ) (old : Vector T A) (xs added : List T) (error : TryReserveErrorKind) (new : Vector T A) : Type 0 where
+  -- new has xs and `front`, a beginning of `added` that fills the places; the first of the others found none, and the room asked for
+  -- then was refused
+  pub record ExtendsFull (size : ℕ) (lower : ℕ → ℕ) (old : Vector T A) (xs added : List T) (error : TryReserveErrorKind)
+      (new : Vector T A) : Type 0 where
     pub front : List T
     pub others : List T
     pub begins : added ≡ front ++ others
@@ -50,9 +54,9 @@ module _ {T A : Type 0} where
     pub lacks : LacksRoom new (asked_for lower (length others)) error
 
 -- a call that gave a `&` gave a value equal to what stands there
-abbrev pub Reads : {S T : Type 0} → (S → Option (Bor T) → S → Type 0) → S → Option T → S → Type 0
-Reads steps s None t = steps s None t
-Reads {T = T} steps s (Some x) t = (r : Bor T) × steps s (Some r) t × (x ≡ r.now)
+abbrev pub CopiesOf : {S T : Type 0} → (S → Option (Bor T) → S → Type 0) → S → Option T → S → Type 0
+CopiesOf steps s None t = steps s None t
+CopiesOf {T = T} steps s (Some x) t = (r : Bor T) × steps s (Some r) t × (x ≡ r.now)
 
 -- in this state an iterator tells the number that `lower_of` has for it
 abbrev pub TellsExactly : {S : Type 0} → (S → ℕ) → S → ℕ → Type 0
@@ -99,7 +103,8 @@ module _ {S T : Type 0} (steps : S → Option T → S → Type 0) (Tells : S →
     StopsAtFront error = (new : Vector T A) × (full : Vector T A) × IsNew size 0 alloc new × ExtendsByFront size iter new error full
 
 -- items of `iter`, of which `left` bounds how many are to come, were put behind those of old, which is new, with this result
-module _ {S T A : Type 0} (steps : S → Option T → S → Type 0) (Tells : S → ℕ → Type 0) (left : S → Count) (size : ℕ) (iter : S) (old : Vector T A) (result : Result Unit TryReserveErrorKind) (new : Vector T A) where
+module _ {S T A : Type 0} (steps : S → Option T → S → Type 0) (Tells : S → ℕ → Type 0) (left : S → Count) (size : ℕ) (iter : S)
+    (old : Vector T A) (result : Result Unit TryReserveErrorKind) (new : Vector T A) where
   pub record Extended : Type 0 where
     pub fits : HasRoom old (count (left iter)) → IsOk result
     pub ran : OnOk result ((xs : List T) × Drains steps iter xs × (new.items ≡ old.items ++ xs))

@@ -1,11 +1,11 @@
 -- A gap before the elements behind the items of a vector, as items of an iterator are put into it, and as it is made.
-use Rattle.std.specs.Prelude.{◌≡◌, ℕ, ◌+◌, ◌-◌, ◌*◌, ◌<◌, ◌≤◌, List, ◌∷◌, ◌++◌, take, drop, length, Option, None, if◌then◌else◌, ◌==◌, ◌⊎◌}
-use Rattle.std.specs.Iterator.{Yields, Drains}
+use Rattle.std.specs.Prelude.{◌≡◌, ℕ, ◌+◌, ◌-◌, ◌*◌, ◌<◌, ◌≤◌, List, ◌∷◌, ◌++◌, take, drop, length, Option, None, if◌then◌else◌, ◌==◌, ◌⊎◌, Result, IfErr, OnOk}
+use Rattle.std.specs.Iterator.{Count, Yields, Drains, size as count_of}
 use Rattle.aa_raw.specs.declared.collections.TryReserveErrorKind.{TryReserveErrorKind}
-use Rattle.aa_raw.specs.Refusals.{IsRefused}
-use Rattle.aa_vec.specs.Vector.{Vector, len, SameBlock, LacksRoom, Holds, Writes, MakesRoom, run_count}
+use Rattle.aa_vec.specs.Vector.{Vector, len, HasRoom, SameBlock, LacksRoom, Holds, Writes, MakesRoom, run_count}
 use Rattle.aa_vec.specs.Behind.{StandsBehind, behind_items}
-use Rattle.aa_vec.specs.Splicing.{MakesRoomTwice, tail_moves}
+use Rattle.aa_vec.specs.Extending.{YieldsTelling}
+use Rattle.aa_vec.specs.Splicing.{MakesRoomTwice, LacksVector, LacksOthers, tail_moves}
 
 module _ {T A : Type 0} where
   -- the n elements behind the items were moved up by the gap
@@ -23,72 +23,113 @@ module _ {T A : Type 0} where
     pub elements : behind_items new gap n ≡ drop (len old - n) old.items
     pub writes : let moved = if gap == 0 then 0 else n in Writes old moved (run_count moved) new
 
-module _ {S T A : Type 0} (steps : S → Option T → S → Type 0) (s : S) (old : Vector T A) (gap n : ℕ) where
-  -- calls from s gave `added` and led to `last`: as many as the gap has places, and no other was made, or fewer, and the next call,
-  -- that led to t, gave none
-  pub record Comes (left : ℕ) (t : S) : Type 0 where
+module _ {S T : Type 0} (steps : S → Option T → S → Type 0) (s : S) (gap left : ℕ) (last : S) where
+  -- calls from s gave `added` and led to `last`, and `left` places of the gap are left
+  pub record Comes : Type 0 where
     pub added : List T
-    pub last : S
     pub given : Yields steps s added last
     pub count : length added + left ≡ gap
+
+  -- no other call was made where no place is left; else the next one, that led to t, gave none
+  pub record Stops (t : S) : Type 0 where
     pub full : left ≡ 0 → t ≡ last
     pub ended : 0 < left → steps last None t
 
+module _ {S T A : Type 0} (steps : S → Option T → S → Type 0) (s : S) (old : Vector T A) (gap n : ℕ) where
   -- what came was put into the gap, of which `left` places are left before the n elements behind it
-  pub record FillsGap (left : ℕ) (t : S) (new : Vector T A) : Type 0 where
-    pub comes : Comes left t
+  pub record Placed (left : ℕ) (last : S) (new : Vector T A) : Type 0 where
+    pub comes : Comes steps s gap left last
     pub holds : Holds old (old.items ++ comes.added) new
     pub stands : StandsBehind new left n
     pub elements : behind_items new left n ≡ behind_items old gap n
     pub writes : Writes old (length comes.added) (length comes.added) new
 
+  -- as many as the gap has places, or all that came
+  pub record FillsGap (left : ℕ) (t : S) (new : Vector T A) : Type 0 where
+    pub last : S
+    pub placed : Placed left last new
+    pub stops : Stops steps s gap left last t
+
   -- and then those were moved down
   pub record FillsAndCloses (left : ℕ) (t : S) (new : Vector T A) : Type 0 where
-    pub comes : Comes left t
+    pub last : S
+    pub comes : Comes steps s gap left last
+    pub stops : Stops steps s gap left last t
     pub holds : Holds old (old.items ++ (comes.added ++ behind_items old gap n)) new
-    pub writes : let moved = if left == 0 then 0 else n in Writes old (length comes.added + moved) (length comes.added + run_count moved) new
-
-module _ {S T A : Type 0} (steps : S → Option T → S → Type 0) (size : ℕ) (s : S) (old : Vector T A) where
-  module _ (n : ℕ) (first : T) where
-    -- `first` and all that came from s were put before the last n items of old, in room made for just them
-    pub record PutsRest (new : Vector T A) : Type 0 where
-      pub rest : List T
-      pub given : Drains steps s rest
-      pub items : new.items ≡ take (len old - n) old.items ++ ((first ∷ rest) ++ drop (len old - n) old.items)
-      pub room : MakesRoom size old (len old) (length (first ∷ rest)) new
-      pub writes : Writes old (length (first ∷ rest) + n) (1 + run_count n) new
-
-    -- no vector could be made of `first` and what was taken from s, or no room for them
-    pub record LacksRest (error : TryReserveErrorKind) : Type 0 where
-      pub rest : List T
-      pub last : S
-      pub given : Yields steps s rest last
-      pub refused : IsRefused error 1
-
-  module _ (told n : ℕ) where
-    -- all that came from s was put before the last n items of old, in room made for as many as were told and then for the others
-    pub record PutsAll (new : Vector T A) : Type 0 where
-      pub added : List T
-      pub last : S
-      pub given : Yields steps s added last
-      pub ends : (end : S) × steps last None end
-      pub items : new.items ≡ take (len old - n) old.items ++ (added ++ drop (len old - n) old.items)
-      pub room : MakesRoomTwice size old (len old) told (length added - told) new
-      pub written : new.written ≡ old.written + (length added + tail_moves 0 told (length added) * n)
-
-    -- a beginning of what was taken from s was put there; there was no room for as many as were told, or for the others
-    pub record PutsFront (error : TryReserveErrorKind) (new : Vector T A) : Type 0 where
-      pub front : List T
-      pub others : List T
-      pub last : S
-      pub given : Yields steps s (front ++ others) last
-      pub items : new.items ≡ take (len old - n) old.items ++ (front ++ drop (len old - n) old.items)
-      pub why :
-          ((length (front ++ others) ≡ 0) × SameBlock old new × LacksRoom old told error)
-          ⊎ ((length front ≡ told) × (0 < length others) × MakesRoom size old (len old) told new × IsRefused error 1)
+    pub writes : let moved = if left == 0 then 0 else n in
+        Writes old (length comes.added + moved) (length comes.added + run_count moved) new
 
 -- each of the items that were put was written once, and each of n others at most twice
 pub record PutsWithin {T A : Type 0} (old : Vector T A) (n : ℕ) (new : Vector T A) : Type 0 where
   pub longer : len old ≤ len new
   pub written : let placed = len new - len old in new.written ≤ old.written + (placed + 2 * n)
   pub runs : let placed = len new - len old in new.runs ≤ old.runs + (placed + 2)
+
+-- `rest` came from s, which told the number of it, and so did each state that followed
+pub record Told {S T : Type 0} (steps : S → Option T → S → Type 0) (Tells : S → ℕ → Type 0) (s : S) (rest : List T) : Type 0 where
+  pub lower : ℕ → ℕ
+  pub last : S
+  pub first : Tells s (lower (length rest))
+  pub each : YieldsTelling steps Tells lower s rest last
+
+module _ {S T A : Type 0} (steps : S → Option T → S → Type 0) (Tells : S → ℕ → Type 0) (size : ℕ) (s : S) (first : T) where
+  -- `first` and all that came from s were gathered in a vector
+  pub record Gathers (v : Vector T A) : Type 0 where
+    pub rest : List T
+    pub told : Told steps Tells s rest
+    pub ends : (end : S) × steps told.last None end
+    pub items : v.items ≡ first ∷ rest
+
+  -- no vector over a clone of the allocator of old could be made of `first` and what was taken from s
+  pub record GathersShort (fails : Type 0) (old : Vector T A) (error : TryReserveErrorKind) : Type 0 where
+    pub rest : List T
+    pub told : Told steps Tells s rest
+    pub lacks : LacksVector A fails size told.lower (first ∷ rest) error
+
+module _ {S T A : Type 0} (steps : S → Option T → S → Type 0) (size : ℕ) (s : S) (old : Vector T A) where
+  -- `added`, that is `first` and all that came from s, was put before the last n items of old, in room made for just them
+  pub record PutsRest (n : ℕ) (first : T) (new : Vector T A) : Type 0 where
+    pub added : List T
+    pub comes : (rest : List T) × Drains steps s rest × (added ≡ first ∷ rest)
+    pub items : new.items ≡ take (len old - n) old.items ++ (added ++ drop (len old - n) old.items)
+    pub room : MakesRoom size old (len old) (length added) new
+    pub writes : Writes old (length added + n) (1 + run_count n) new
+
+  -- all that came from s was put before the last n items of old, in room made for as many as were told and then for the others
+  pub record PutsAll (told n : ℕ) (new : Vector T A) : Type 0 where
+    pub added : List T
+    pub last : S
+    pub given : Yields steps s added last
+    pub ends : (end : S) × steps last None end
+    pub items : new.items ≡ take (len old - n) old.items ++ (added ++ drop (len old - n) old.items)
+    pub room : MakesRoomTwice size old (len old) told (length added - told) new
+    pub written : new.written ≡ old.written + (length added + tail_moves 0 told (length added) * n)
+
+module _ {S T A : Type 0} (steps : S → Option T → S → Type 0) (Tells : S → ℕ → Type 0) (fails : Type 0) (size : ℕ) (s : S)
+    (old : Vector T A) where
+  -- no vector could be made of `first` and what was taken from s, or there was no room for them
+  pub record LacksRest (n : ℕ) (first : T) (error : TryReserveErrorKind) : Type 0 where
+    pub rest : List T
+    pub told : Told steps Tells s rest
+    pub lacks : LacksOthers fails ((end : S) × steps told.last None end) size told.lower old (first ∷ rest) error
+
+  module _ (told n : ℕ) where
+    -- a beginning of what was taken from s was put there; there was no room for as many as were told, or for the others
+    pub record PutsFront (error : TryReserveErrorKind) (new : Vector T A) : Type 0 where
+      pub front : List T
+      pub others : List T
+      pub lower : ℕ → ℕ
+      pub last : S
+      pub given : YieldsTelling steps Tells lower s (front ++ others) last
+      pub items : new.items ≡ take (len old - n) old.items ++ (front ++ drop (len old - n) old.items)
+      pub why :
+          ((length (front ++ others) ≡ 0) × SameBlock old new × LacksRoom new told error)
+          ⊎ ((length front ≡ told) × (0 < length others) × MakesRoom size old (len old) told new
+          × LacksOthers fails ((end : S) × steps last None end) size lower new others error)
+
+    -- all that comes from s, of which `remaining` bounds how many, was put there, with this result
+    pub record Puts (remaining : S → Count) (result : Result Unit TryReserveErrorKind) (new : Vector T A) : Type 0 where
+      pub all : OnOk result (PutsAll steps size s old told n new)
+      pub writes : PutsWithin old n new
+      pub refused : IfErr result (λ e. PutsFront e new)
+      pub few : IfErr result (λ e. HasRoom old told → told < count_of (remaining s))

@@ -19,4 +19,6 @@ module _ (R A : RattleType) (g : Ghosts A.Denot) (v : MutBor (Vector R.Denot A.D
 
   -- the items are the last values written through what the iterator gave
   abbrev pub lends_all : IterMut R.Denot → Fml
-  lends_all i = follows (the_row R A g) (Array R 0) v.ghost_name (iter_mut_name i) (λ ws. with_items v.now (refill (length v.now.items) v.now.items ws))
+  lends_all i =
+      follows (the_row R A g) (Array R 0) v.ghost_name (iter_mut_name i)
+      (λ ws. with_items v.now (refill (length v.now.items) v.now.items ws))

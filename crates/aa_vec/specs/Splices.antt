@@ -51,6 +51,7 @@ module _ {I A T : Type 0} {g : Ghosts I T} where
   splices_last s r t = drains_last (splice_range s) r (splice_range t) × (splice_iter t ≡ splice_iter s)
 
   -- s was ended with this result, and its vector is new
-  abbrev pub SpliceEnds : (steps : I → Option T → I → Type 0) (Tells : I → ℕ → Type 0) (left : I → Count) (size : ℕ) → Splice I A T g → Result Unit TryReserveErrorKind → Vector T A → Type 0
-  SpliceEnds steps Tells left size s result new =
-      Replaced steps Tells left size (splice_iter s) (splice_vec s) (splice_head s) (splice_gap s) (splice_tail s) result new
+  abbrev pub SpliceEnds : (steps : I → Option T → I → Type 0) (Tells : I → ℕ → Type 0) (left : I → Count) (fails : Type 0) (size : ℕ)
+      → Splice I A T g → Result Unit TryReserveErrorKind → Vector T A → Type 0
+  SpliceEnds steps Tells left fails size s result new =
+      Replaced steps Tells left fails size (splice_iter s) (splice_vec s) (splice_head s) (splice_gap s) (splice_tail s) result new

@@ -4,9 +4,11 @@ use Rattle.std.specs.Prelude.{◌≡◌, ℕ, ◌+◌, ◌-◌, ◌*◌, ◌<◌
 use Rattle.std.specs.Iterator.{Count, Yields, Drains, size as count}
 use Rattle.std.specs.Iterator.Runs.{WholeRun}
 use Rattle.aa_raw.specs.declared.collections.TryReserveErrorKind.{TryReserveErrorKind}
-use Rattle.aa_raw.specs.Refusals.{IsRefused}
-use Rattle.aa_vec.specs.Vector.{Vector, len, HasRoom, SameBlock, MakesRoom, LacksRoom, run_count}
-use Rattle.aa_vec.specs.Extending.{ExtendsAll, ExtendsFull, YieldsTelling}
+use Rattle.aa_raw.specs.declared.raw_vec.Growth.TheVariants.{Doubling}
+use Rattle.aa_raw.specs.Growth.{amortized, least_of}
+use Rattle.aa_raw.specs.Refusals.{IsRefusedAt}
+use Rattle.aa_vec.specs.Vector.{Vector, len, HasRoom, IsNew, SameBlock, MakesRoom, LacksRoom, run_count}
+use Rattle.aa_vec.specs.Extending.{ExtendsAll, ExtendsFull, YieldsTelling, asked_for}
 
 -- how often the tail is moved where n items come, and h more are told once they fill the gap: up, where room is made for those that
 -- are told, and where more than those come; and down, where a gap is left in the end
@@ -16,10 +18,23 @@ tail_moves gap h n =
     then run_count h + run_count (n - gap - h) + run_count (h - (n - gap))
     else 1
 
+-- items were to be gathered in a vector of their own, over a clone of the allocator, as an extension of a new vector takes them: the clone
+-- was refused, with the number that the first growth of that vector would have asked for, or that growth was, or a further one. `fails`
+-- says that the clone may be refused
+abbrev pub LacksVector : {T : Type 0} (A fails : Type 0) (size : ℕ) (lower : ℕ → ℕ) → List T → TryReserveErrorKind → Type 0
+LacksVector {T = T} A fails size lower items error =
+    (fails × IsRefusedAt error (amortized Doubling 0 (asked_for lower (length items)) (least_of size)))
+    ⊎ ((made : Vector T A) × (full : Vector T A) × IsNew size 0 made.alloc made × ExtendsFull size lower made [] items error full)
+
 module _ {T A : Type 0} where
   -- room was made for h more than n elements, and then for r more
   abbrev pub MakesRoomTwice : (size : ℕ) → Vector T A → (n h r : ℕ) → Vector T A → Type 0
   MakesRoomTwice size old n h r new = (mid : Vector T A) × MakesRoom size old n h mid × MakesRoom size mid (n + h) r new
+
+  -- no vector could be made of the others, or, where they are all that is to come, there was no room for just them in v
+  abbrev pub LacksOthers : (fails whole : Type 0) (size : ℕ) (lower : ℕ → ℕ) → Vector T A → List T → TryReserveErrorKind → Type 0
+  LacksOthers fails whole size lower v others error =
+      LacksVector A fails size lower others error ⊎ (whole × LacksRoom v (length others) error)
 
   module _ (size : ℕ) (lower : ℕ → ℕ) (old : Vector T A) (head : List T) (gap : ℕ) (tail added : List T) where
     -- how many items find no place in the gap, and how many of them are told
@@ -35,7 +50,8 @@ module _ {T A : Type 0} where
       pub items : new.items ≡ head ++ (added ++ tail)
       pub at_end : tail ≡ [] → ExtendsAll size lower old head added new
       pub in_gap : 0 < length tail → length added < gap → SameBlock old new
-      pub beyond : 0 < length tail → gap ≤ length added → MakesRoomTwice size old (length head + gap + length tail) told_over (left_over - told_over) new
+      pub beyond : 0 < length tail → gap ≤ length added
+          → MakesRoomTwice size old (length head + gap + length tail) told_over (left_over - told_over) new
 
     -- `front` fills the gap, and there was no room for those that were told then
     pub record StopsAtGap (front : List T) (error : TryReserveErrorKind) (new : Vector T A) : Type 0 where
@@ -43,31 +59,33 @@ module _ {T A : Type 0} where
       pub block : SameBlock old new
       pub lacks : LacksRoom new told_over error
 
-    -- it fills the room made for those too, and no vector could be made of the others, or no room for them
-    pub record StopsBeyond (front others : List T) (error : TryReserveErrorKind) (new : Vector T A) : Type 0 where
+    -- it fills the room made for those too, and the others found none
+    pub record StopsBeyond (fails whole : Type 0) (front others : List T) (error : TryReserveErrorKind) (new : Vector T A) : Type 0 where
       pub fills : length front ≡ gap + told_over
       pub room : MakesRoom size old (length head + gap + length tail) told_over new
       pub more : 0 < length others
-      pub refused : IsRefused error 1
+      pub lacks : LacksOthers fails whole size lower new others error
 
     -- with a tail, new has `front`, a beginning of `added`, in place of the range: room for the others was refused
-    pub record SplicesFront (error : TryReserveErrorKind) (new : Vector T A) : Type 0 where
+    pub record SplicesFront (fails whole : Type 0) (error : TryReserveErrorKind) (new : Vector T A) : Type 0 where
       pub front : List T
       pub others : List T
       pub begins : added ≡ front ++ others
       pub items : new.items ≡ head ++ (front ++ tail)
-      pub why : StopsAtGap front error new ⊎ StopsBeyond front others error new
+      pub why : StopsAtGap front error new ⊎ StopsBeyond fails whole front others error new
 
     -- new has a beginning of `added` in place of the range, and room for the others was refused
-    abbrev pub SplicesShort : TryReserveErrorKind → Vector T A → Type 0
-    SplicesShort error new = ((tail ≡ []) × ExtendsFull size lower old head added error new) ⊎ ((0 < length tail) × SplicesFront error new)
+    abbrev pub SplicesShort : (fails whole : Type 0) → TryReserveErrorKind → Vector T A → Type 0
+    SplicesShort fails whole error new =
+        ((tail ≡ []) × ExtendsFull size lower old head added error new) ⊎ ((0 < length tail) × SplicesFront fails whole error new)
 
   -- each of the items that were placed was written once, and the tail at most twice
   pub record SplicesWithin (old : Vector T A) (head tail : List T) (new : Vector T A) : Type 0 where
     pub written : let placed = len new - (length head + length tail) in new.written ≤ old.written + (placed + 2 * length tail)
     pub runs : let placed = len new - (length head + length tail) in new.runs ≤ old.runs + (placed + 2)
 
-module _ {S T : Type 0} (steps : S → Option T → S → Type 0) (Tells : S → ℕ → Type 0) {A : Type 0} (size : ℕ) (iter : S) (old : Vector T A) (head : List T) (gap : ℕ) (tail : List T) where
+module _ {S T : Type 0} (steps : S → Option T → S → Type 0) (Tells : S → ℕ → Type 0) {A : Type 0} (size : ℕ) (iter : S)
+    (old : Vector T A) (head : List T) (gap : ℕ) (tail : List T) where
   -- new has all that came from `iter` in place of the range, in room asked for as the iterator told
   pub record SplicesByAll (new : Vector T A) : Type 0 where
     pub added : List T
@@ -80,26 +98,29 @@ module _ {S T : Type 0} (steps : S → Option T → S → Type 0) (Tells : S →
     pub written : new.written ≡ old.written + (length added + tail_moves gap (lower (length added - gap)) (length added) * length tail)
 
   -- new has a beginning of what was taken from `iter` in place of the range; room for more was refused
-  pub record SplicesByFront (error : TryReserveErrorKind) (new : Vector T A) : Type 0 where
+  pub record SplicesByFront (fails : Type 0) (error : TryReserveErrorKind) (new : Vector T A) : Type 0 where
     pub taken : List T
     pub lower : ℕ → ℕ
     pub last : S
     pub first : Tells iter (lower (length taken))
     pub told : YieldsTelling steps Tells lower iter taken last
-    pub splices : SplicesShort size lower old head gap tail taken error new
+    pub splices : SplicesShort size lower old head gap tail taken fails ((end : S) × steps last None end) error new
 
 -- once the range is full, the iterator tells h
 abbrev pub TellsOnceFull : {S T : Type 0} → (S → Option T → S → Type 0) → (S → ℕ → Type 0) → S → (gap h : ℕ) → Type 0
-TellsOnceFull {S = S} {T = T} steps Tells s gap h = (xs : List T) (t : S) (n : ℕ) → Yields steps s xs t → length xs ≡ gap → Tells t n → n ≡ h
+TellsOnceFull {S = S} {T = T} steps Tells s gap h =
+    (xs : List T) (t : S) (n : ℕ) → Yields steps s xs t → length xs ≡ gap → Tells t n → n ≡ h
 
-module _ {S T A : Type 0} (steps : S → Option T → S → Type 0) (Tells : S → ℕ → Type 0) (left : S → Count) (size : ℕ) (iter : S) (old : Vector T A) (head : List T) (gap : ℕ) (tail : List T) where
+module _ {S T A : Type 0} (steps : S → Option T → S → Type 0) (Tells : S → ℕ → Type 0) (left : S → Count) (fails : Type 0) (size : ℕ)
+    (iter : S) (old : Vector T A) (head : List T) (gap : ℕ) (tail : List T) where
   -- items of `iter`, of which `left` bounds how many are to come, were put in place of the range of old, which is new, with this result
   pub record Replaced (result : Result Unit TryReserveErrorKind) (new : Vector T A) : Type 0 where
     pub fits_gap : count (left iter) < gap → IsOk result
     pub fits_end : tail ≡ [] → HasRoom old (count (left iter)) → IsOk result
-    pub fits_told : (h : ℕ) → TellsOnceFull steps Tells iter gap h → count (left iter) ≤ gap + h → len old + gap + length tail + h ≤ old.capacity → IsOk result
+    pub fits_told : (h : ℕ) → TellsOnceFull steps Tells iter gap h → count (left iter) ≤ gap + h
+        → len old + gap + length tail + h ≤ old.capacity → IsOk result
     pub ran : OnOk result ((xs : List T) × Drains steps iter xs × (new.items ≡ head ++ (xs ++ tail)))
     pub runs : OnOk result (WholeRun steps iter (λ p. new.items ≡ head ++ (p.items ++ tail)))
     pub spliced : OnOk result (SplicesByAll steps Tells size iter old head gap tail new)
     pub writes : SplicesWithin old head tail new
-    pub refused : IfErr result (λ e. SplicesByFront steps Tells size iter old head gap tail e new)
+    pub refused : IfErr result (λ e. SplicesByFront steps Tells size iter old head gap tail fails e new)

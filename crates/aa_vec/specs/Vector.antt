@@ -3,9 +3,9 @@ use Rattle.std.specs.Prelude.{◌≡◌, ℕ, ◌+◌, ◌-◌, ◌<◌, ◌≤�
 use Rattle.aa_raw.specs.declared.raw_vec.Growth.{Growth}
 use Rattle.aa_raw.specs.declared.raw_vec.Growth.TheVariants.{Doubling}
 use Rattle.aa_raw.specs.declared.collections.TryReserveErrorKind.{TryReserveErrorKind}
-use Rattle.aa_raw.specs.declared.collections.TryReserveErrorKind.TheVariants.{CapacityOverflow}
-use Rattle.aa_raw.specs.Growth.{amortized, least_of, usize_max}
-use Rattle.aa_raw.specs.Refusals.{IsRefused}
+pub use Rattle.aa_raw.specs.Growth.{sized}
+use Rattle.aa_raw.specs.Growth.{amortized, least_of}
+use Rattle.aa_raw.specs.Room as Room
 
 -- a list beside a capacity, in a block that counts what it does
 pub record Vector (T A : Type 0) : Type 0 where
@@ -18,10 +18,6 @@ pub record Vector (T A : Type 0) : Type 0 where
   pub alloc : A
   pub behind : List (Option T)  -- the places behind the items; only a call that has taken a range out speaks of them
 
--- the capacity of new room for n elements of `size` bytes
-abbrev pub sized : (size n : ℕ) → ℕ
-sized size n = if size == 0 then usize_max else n
-
 -- how many calls of the block move a run of n elements
 abbrev pub run_count : (n : ℕ) → ℕ
 run_count n = if n == 0 then 0 else 1
@@ -32,13 +28,11 @@ module _ {T A : Type 0} where
 
   -- k more elements fit
   abbrev pub HasRoom : Vector T A → ℕ → Type 0
-  HasRoom v k = k ≤ v.capacity - len v
+  HasRoom v k = Room.HasRoom v.capacity (len v) k
 
   -- room for k more than old has was asked for, and refused with this error
-  pub record LacksRoom (old : Vector T A) (k : ℕ) (error : TryReserveErrorKind) : Type 0 where
-    pub full : old.capacity - len old < k
-    pub number : IsRefused error (len old + k)
-    pub overflow : usize_max < len old + k → error ≡ CapacityOverflow
+  abbrev pub LacksRoom : Vector T A → ℕ → TryReserveErrorKind → Type 0
+  LacksRoom old k error = Room.LacksRoom old.capacity (len old) k error
 
   -- v is empty and was just made, with room for n elements of `size` bytes over the allocator a
   pub record IsNew (size n : ℕ) (a : A) (v : Vector T A) : Type 0 where

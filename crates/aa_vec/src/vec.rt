@@ -79,10 +79,12 @@ impl<T> Vec<T, Global> {
     }
 }
 
+#[tactic(auto, using(aa_raw::proofs::Calls::at_ends))]
 impl<T, A: Allocator> Vec<T, A> {
     ghost use Rattle.aa_vec.specs.Lends.{lends_items};
 
     /// An empty vector. It takes no memory. It stands for `Vec::new_in`.
+    #[tactic(auto, using(aa_raw::proofs::Calls::with_room))]
     pub fn new_in(alloc: A) -> Self
         ensures { IsNew (type_size T.row) 0 alloc result }
     {
@@ -95,6 +97,7 @@ impl<T, A: Allocator> Vec<T, A> {
     /// An empty vector with room for exactly `capacity` elements. It takes memory where `capacity` is above 0 and elements have
     /// a size. A refusal is `CapacityOverflow` where the bytes pass `isize::MAX`, and else `AllocError` with this capacity. It
     /// stands for `Vec::with_capacity_in`.
+    #[tactic(auto, using(aa_raw::proofs::Calls::with_room))]
     pub fn with_capacity_in(capacity: usize, alloc: A) -> Result<Self, TryReserveError>
         ensures made { IfOk result (λ v. IsNew (type_size T.row) capacity alloc v) }
         ensures refused { IfErr result (λ e. (0 < capacity) × (0 < type_size T.row) × IsRefusedAt e capacity) }
@@ -144,6 +147,7 @@ impl<T, A: Allocator> Vec<T, A> {
     }
 
     /// The elements. It stands for `Vec::as_slice`.
+    #[tactic(auto, using(aa_raw::proofs::Calls::shown))]
     pub fn as_slice(&self) -> &[T]
         ensures { result.now ≡ self.now.items }
     {
@@ -151,6 +155,7 @@ impl<T, A: Allocator> Vec<T, A> {
     }
 
     /// The elements, to write to. It stands for `Vec::as_mut_slice`.
+    #[tactic(auto, using(aa_raw::proofs::Calls::shown))]
     pub fn as_mut_slice(&mut self) -> &mut [T]
         ensures* writes_back { sem 𝓛 (lends_items T.row A.row A.Allocator self.entry result) }
         ensures value { result.now ≡ self.old.items }
@@ -162,6 +167,7 @@ impl<T, A: Allocator> Vec<T, A> {
     /// A refusal hands the value back and changes nothing: `CapacityOverflow` where the length passes `usize::MAX` or the bytes
     /// pass `isize::MAX`, else `AllocError` with a capacity of at least one more than the length. It stands for `Vec::push`.
     #[inline]
+    #[tactic(auto, using(aa_raw::proofs::Calls::with_room))]
     pub fn push(&mut self, value: T) -> Result<(), Refused<T>>
         ensures fits { HasRoom self.old 1 → IsOk result }
         ensures pushed { OnOk result (GrowsTo (type_size T.row) self.old 1 (self.old.items ++ value ∷ []) self.new) }
@@ -175,7 +181,6 @@ impl<T, A: Allocator> Vec<T, A> {
                 error,
             });
         }
-        let _within = self.block.capacity();
         self.block.put(len, value);
         self.len = len + 1;
         Ok(())

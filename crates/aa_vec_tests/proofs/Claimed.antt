@@ -6,7 +6,7 @@ use Rattle.aa_raw.specs.declared.raw_vec.Growth.TheVariants.{Doubling}
 use Rattle.aa_raw.specs.Growth.{amortized}
 use Rattle.aa_vec.specs.Vector.{Vector, len, Holds, MakesRoom}
 use Rattle.aa_vec.specs.Extending.{Climbs, stays as no_more, grows as once_more, asked_for, ExtendsAll, ItemsLeft, gives_item, lower_by, TellsExactly}
-use Rattle.aa_vec.specs.Draining.{Drains, KeepsRest, drain_vec, drain_head, drain_rest, drain_tail, range_len, taken_front, taken_back, drains_first, drains_last}
+use Rattle.aa_vec.specs.Draining.{TakesRange, KeepsRest, drain_vec, drain_head, drain_rest, drain_tail, range_len, taken_front, taken_back, drains_first, drains_last}
 use Rattle.aa_vec.specs.Splicing.{MakesRoomTwice, SplicesAll, SplicesByAll, tail_moves}
 use Rattle.aa_vec.specs.declared.vec.drain.Drain.{Drain}
 use Rattle.aa_vec.proofs.Climbing.{Climbs-fits, SameBlock-trans}
@@ -30,16 +30,16 @@ module _ {T A : Type 0} (v w : Vector T A) (c n k : ℕ) (places : v.capacity �
   ]
 
 -- the two in the middle of four, in four places, are replaced by three, of which h are told once two are placed
-module _ {A : Type 0} (old : Vector ℕ A) (iter : ItemsLeft ℕ) (d : Drain ℕ A) (new : Vector ℕ A) (old_items : old.items ≡ 1 ∷ 2 ∷ 3 ∷ 4 ∷ []) (old_places : old.capacity ≡ 4) (old_growth : old.growth ≡ Doubling)
-    (new_items : iter.items ≡ 7 ∷ 8 ∷ 9 ∷ []) (drains : Drains old 1 3 d) (s : SplicesByAll gives_item (TellsExactly items_lower) 4 iter (drain_vec d) (drain_head d) (range_len d) (drain_tail d) new) where
+module _ {A : Type 0} (old : Vector ℕ A) (iter : ItemsLeft ℕ) (d : Drain ℕ A) (new : Vector ℕ A) (was : (old.items ≡ 1 ∷ 2 ∷ 3 ∷ 4 ∷ []) × (old.capacity ≡ 4) × (old.growth ≡ Doubling))
+    (new_items : iter.items ≡ 7 ∷ 8 ∷ 9 ∷ []) (drains : TakesRange old 1 3 d) (s : SplicesByAll gives_item (TellsExactly items_lower) 4 iter (drain_vec d) (drain_head d) (range_len d) (drain_tail d) new) where
   before : drain_head d ≡ 1 ∷ []
-  before = drains.head.items ∙ ap (take 1) old_items
+  before = drains.head.items ∙ ap (take 1) was.0
 
   behind : drain_tail d ≡ 4 ∷ []
-  behind = drains.tail ∙ ap (drop 3) old_items
+  behind = drains.tail ∙ ap (drop 3) was.0
 
   spliced : SplicesAll 4 (lower_by iter.hint) (drain_vec d) (drain_head d) (range_len d) (drain_tail d) iter.items new
-  spliced = SplicesAll-items iter 4 (drain_vec d) (drain_head d) (range_len d) (drain_tail d) new s (omega (arith, ap length before, drains.head.block.capacity, old_places))
+  spliced = SplicesAll-items iter 4 (drain_vec d) (drain_head d) (range_len d) (drain_tail d) new s (omega (arith, ap length before, drains.head.block.capacity, was.1))
 
   pub five_there : new.items ≡ 1 ∷ 7 ∷ 8 ∷ 9 ∷ 4 ∷ []
   five_there =
@@ -74,24 +74,24 @@ module _ {A : Type 0} (old : Vector ℕ A) (iter : ItemsLeft ℕ) (d : Drain ℕ
         subst (λ r. P 4 h r) left_one (subst (λ k. P 4 k (length iter.items - range_len d)) tells (subst (λ n. P n (lower_by iter.hint (length iter.items - range_len d)) (length iter.items - range_len d)) all made))
 
     pub places : (drain_vec d).capacity ≡ 4
-    places = drains.head.block.capacity ∙ old_places
+    places = drains.head.block.capacity ∙ was.1
 
     pub doubles : (drain_vec d).growth ≡ Doubling
-    doubles = drains.head.block.growth ∙ old_growth
+    doubles = drains.head.block.growth ∙ was.2
 
   -- as many as there are, or a hundred
-  pub told_places : (h c : ℕ) → (told : lower_by iter.hint 1 ≡ h) → 0 < h → amortized Doubling 4 (4 + h) 4 ≡ c → 4 + h ≤ c → new.capacity ≡ c
-  told_places h c told some is enough =
+  pub told_some : (h c : ℕ) → (told : lower_by iter.hint 1 ≡ h) → 0 < h → amortized Doubling 4 (4 + h) 4 ≡ c → 4 + h ≤ c → (new.capacity ≡ c) × (new.written ≡ old.written + (3 + tail_moves 2 h 3 * 1))
+  told_some h c told some is enough =
       let r = five_room h told in
       let mid = doubled_to (drain_vec d) r.0 4 4 h (places h told) (doubles h told) r.1 (omega (arith, some)) in
-      (kept_at r.0 new c (4 + h) (1 - h) (mid.0 ∙ is) mid.1 r.2 (omega (arith, some, enough))).0
+      ((kept_at r.0 new c (4 + h) (1 - h) (mid.0 ∙ is) mid.1 r.2 (omega (arith, some, enough))).0, five_written h told)
 
   -- none
-  pub untold_places : lower_by iter.hint 1 ≡ 0 → new.capacity ≡ 8
-  untold_places told =
+  pub told_none : lower_by iter.hint 1 ≡ 0 → (new.capacity ≡ 8) × (new.written ≡ old.written + 4)
+  told_none told =
       let r = five_room 0 told in
       let mid = kept_at (drain_vec d) r.0 4 4 0 (places 0 told) (doubles 0 told) r.1 (omega arith) in
-      (doubled_to r.0 new 4 4 1 mid.0 mid.1 r.2 (omega arith)).0
+      ((doubled_to r.0 new 4 4 1 mid.0 mid.1 r.2 (omega arith)).0, five_written 0 told)
 
 -- how many places k pushes onto an empty vector of elements of 4 bytes lead to, and how many elements they move
 abbrev pub Reached : (k c m : ℕ) → Type 0
@@ -175,7 +175,7 @@ one_back d e (Some z) h x y rest =
     (sym (take_at (drain_rest e) (z ∷ []) 1 one) ∙ ap (take 1) all, h.1.1, h.1.2)
 
 -- of the middle half of six one is taken from each end, and the other is kept
-pub middle_stays : {A : Type 0} (old new : Vector ℕ A) (d e f : Drain ℕ A) (r q : Option ℕ) → old.items ≡ 0 ∷ 1 ∷ 2 ∷ 3 ∷ 4 ∷ 5 ∷ [] → Drains old 1 4 d → drains_first d r e → drains_last e q f → KeepsRest f new
+pub middle_stays : {A : Type 0} (old new : Vector ℕ A) (d e f : Drain ℕ A) (r q : Option ℕ) → old.items ≡ 0 ∷ 1 ∷ 2 ∷ 3 ∷ 4 ∷ 5 ∷ [] → TakesRange old 1 4 d → drains_first d r e → drains_last e q f → KeepsRest f new
     → Holds old (0 ∷ 2 ∷ 4 ∷ 5 ∷ []) new × (new.written ≡ old.written + 3)
 middle_stays old new d e f r q items drains first last kept =
     let a = one_front d e r first 1 (2 ∷ 3 ∷ []) (drains.rest ∙ ap (λ xs. slice_range xs 1 4) items) in

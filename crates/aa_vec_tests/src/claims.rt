@@ -8,42 +8,18 @@ use aa_vec::vec::Vec;
 use aa_vec::vec::items::Items;
 use std::alloc::Allocator;
 
-// Two of four are replaced by three, which tell their number: the one behind is written once.
-fn three_told<A: Allocator + Clone>(
+// Two of four are replaced by three. Where these tell their number, or that none comes, the one behind is written once; where they
+// tell a hundred, twice.
+fn two_by_three<A: Allocator + Clone>(
     v: &mut Vec<u32, A>,
     items: Items<u32, A>,
 ) -> Result<(), TryReserveError>
     requires old { (v.old.items ≡ 1 ∷ 2 ∷ 3 ∷ 4 ∷ []) × (v.old.capacity ≡ 4) × (v.old.growth ≡ Doubling) }
-    requires new { (items.items ≡ 7 ∷ 8 ∷ 9 ∷ []) × (items.hint ≡ None) }
-    ensures { OnOk result ((v.new.items ≡ 1 ∷ 7 ∷ 8 ∷ 9 ∷ 4 ∷ []) × (v.new.capacity ≡ 8) × (v.new.written ≡ v.old.written + 4)) }
-{
-    let range = v.splice(1, 3, items);
-    range.finish_hinted()?;
-    Ok(())
-}
-
-// The same, where a hundred are told: the one behind is written twice.
-fn hundred_told<A: Allocator + Clone>(
-    v: &mut Vec<u32, A>,
-    items: Items<u32, A>,
-) -> Result<(), TryReserveError>
-    requires old { (v.old.items ≡ 1 ∷ 2 ∷ 3 ∷ 4 ∷ []) × (v.old.capacity ≡ 4) × (v.old.growth ≡ Doubling) }
-    requires new { (items.items ≡ 7 ∷ 8 ∷ 9 ∷ []) × (items.hint ≡ Some 100) }
-    ensures { OnOk result ((v.new.items ≡ 1 ∷ 7 ∷ 8 ∷ 9 ∷ 4 ∷ []) × (v.new.capacity ≡ 104) × (v.new.written ≡ v.old.written + 5)) }
-{
-    let range = v.splice(1, 3, items);
-    range.finish_hinted()?;
-    Ok(())
-}
-
-// The same, where none is told: the one behind is written once.
-fn none_told<A: Allocator + Clone>(
-    v: &mut Vec<u32, A>,
-    items: Items<u32, A>,
-) -> Result<(), TryReserveError>
-    requires old { (v.old.items ≡ 1 ∷ 2 ∷ 3 ∷ 4 ∷ []) × (v.old.capacity ≡ 4) × (v.old.growth ≡ Doubling) }
-    requires new { (items.items ≡ 7 ∷ 8 ∷ 9 ∷ []) × (items.hint ≡ Some 0) }
-    ensures { OnOk result ((v.new.items ≡ 1 ∷ 7 ∷ 8 ∷ 9 ∷ 4 ∷ []) × (v.new.capacity ≡ 8) × (v.new.written ≡ v.old.written + 4)) }
+    requires new { items.items ≡ 7 ∷ 8 ∷ 9 ∷ [] }
+    ensures items { OnOk result (v.new.items ≡ 1 ∷ 7 ∷ 8 ∷ 9 ∷ 4 ∷ []) }
+    ensures exact { items.hint ≡ None → OnOk result ((v.new.capacity ≡ 8) × (v.new.written ≡ v.old.written + 4)) }
+    ensures hundred { items.hint ≡ Some 100 → OnOk result ((v.new.capacity ≡ 104) × (v.new.written ≡ v.old.written + 5)) }
+    ensures none { items.hint ≡ Some 0 → OnOk result ((v.new.capacity ≡ 8) × (v.new.written ≡ v.old.written + 4)) }
 {
     let range = v.splice(1, 3, items);
     range.finish_hinted()?;

@@ -1,5 +1,6 @@
 -- A splice that was refused did not fit.
 use Rattle.std.proofs.Common.{◌≡◌, ℕ, ◌+◌, ◌-◌, ◌<◌, ◌≤◌, List, ◌++◌, length, take, drop, ap, ◌∙◌, arith, ◌⊎◌, inl, inr, length-append, length-take, length-drop}
+use Rattle.std.specs.Prelude.{⊤}
 use Rattle.aa_raw.specs.declared.collections.TryReserveErrorKind.{TryReserveErrorKind}
 use Rattle.aa_vec.specs.Vector.{Vector, len}
 use Rattle.aa_vec.specs.Splicing.{SplicesFront, SplicesShort}
@@ -22,7 +23,7 @@ module _ {T A : Type 0} (size : ℕ) (lower : ℕ → ℕ) (old : Vector T A) (s
   long_tail : length tail ≡ len old - end
   long_tail = length-drop end old.items
 
-  module _ (front : SplicesFront size lower old head gap tail added error new) where
+  module _ (front : SplicesFront size lower old head gap tail added ⊤ ⊤ error new) where
     count : length added ≡ length front.front + length front.others
     count = ap length front.begins ∙ length-append front.front front.others
 
@@ -42,7 +43,7 @@ module _ {T A : Type 0} (size : ℕ) (lower : ℕ → ℕ) (old : Vector T A) (s
           ]
         ]
 
-  module _ (short : SplicesShort size lower old head gap tail added error new) where
+  module _ (short : SplicesShort size lower old head gap tail added ⊤ ⊤ error new) where
     pub short-full : ¬ FitsRange old start end (length added) lower
     short-full fits =
         elim short [

@@ -1,8 +1,9 @@
 -- A range that was taken out of a vector and replaced by an `Items`.
 use Rattle.std.proofs.Common.{◌≡◌, ℕ, ◌+◌, ◌*◌, ◌-◌, ◌≤◌, List, length, take, drop, Option, refl, ap, subst, arith, length-take, length-drop}
+use Rattle.std.specs.Prelude.{⊤}
 use Rattle.aa_raw.specs.declared.collections.TryReserveErrorKind.{TryReserveErrorKind}
 use Rattle.aa_vec.specs.Vector.{Vector, len}
-use Rattle.aa_vec.specs.Draining.{Drains, drain_vec, drain_head, drain_tail, range_len}
+use Rattle.aa_vec.specs.Draining.{TakesRange, drain_vec, drain_head, drain_tail, range_len}
 use Rattle.aa_vec.specs.Extending.{ItemsLeft, gives_item, lower_by, TellsExactly}
 use Rattle.aa_vec.specs.Splicing.{SplicesAll, SplicesShort, SplicesByAll, SplicesByFront, SplicesWithin}
 use Rattle.aa_vec.specs.declared.vec.drain.Drain.{Drain}
@@ -14,7 +15,7 @@ use Rattle.allocator_api2.specs.declared.runner.Reply.TheVariants.{Done, Refused
 use Rattle.allocator_api2.proofs.Spliced.{short-full}
 
 module _ {T A : Type 0} (size : ℕ) (old : Vector T A) (start end : ℕ) (ordered : start ≤ end) (within : end ≤ len old) (room : len old ≤ old.capacity)
-    (items : Vector T A) (hint : Option ℕ) (d : Drain T A) (drains : Drains old start end d)
+    (items : Vector T A) (hint : Option ℕ) (d : Drain T A) (drains : TakesRange old start end d)
     (iter : ItemsLeft T) (all : iter ≡ record { items = items.items; hint = hint }) (new : Vector T A) where
   places : length (drain_head d) ≤ (drain_vec d).capacity
   places = omega (arith, ap length drains.head.items, length-take start old.items, drains.head.block.capacity, room)
@@ -51,14 +52,14 @@ module _ {T A : Type 0} (size : ℕ) (old : Vector T A) (start end : ℕ) (order
         writes = few w;
       }
 
-  pub Spliced-refused : (kind : TryReserveErrorKind) → SplicesByFront gives_item (TellsExactly items_lower) size iter (drain_vec d) (drain_head d) (range_len d) (drain_tail d) kind new
+  pub Spliced-refused : {fails : Type 0} (kind : TryReserveErrorKind) → SplicesByFront gives_item (TellsExactly items_lower) size iter (drain_vec d) (drain_head d) (range_len d) (drain_tail d) fails kind new
       → SplicesWithin (drain_vec d) (drain_head d) (drain_tail d) new → TakesAlone size old (Splice start end items hint) (Refused kind) new
-  Spliced-refused kind s w side =
+  Spliced-refused {fails = fails} kind s w side =
       let xs : List T = items.items in
-      let by_items = subst (λ j. SplicesByFront gives_item (TellsExactly items_lower) size j (drain_vec d) (drain_head d) (range_len d) (drain_tail d) kind new) all s in
+      let by_items = subst (λ j. SplicesByFront gives_item (TellsExactly items_lower) size j (drain_vec d) (drain_head d) (range_len d) (drain_tail d) fails kind new) all s in
       let lent = SplicesShort-items (record { items = xs; hint = hint }) size (drain_vec d) (drain_head d) (range_len d) (drain_tail d) places kind new by_items in
       let spliced = SplicesShort-from size (lower_by hint) drains.head.block (drain_head d) (range_len d) (drain_tail d) xs kind new lent in
-      let short = of_range (λ h g t. SplicesShort size (lower_by hint) old h g t xs kind new) spliced in
+      let short = of_range (λ h g t. SplicesShort size (lower_by hint) old h g t xs ⊤ ⊤ kind new) spliced in
       record {
         answers =
             record {

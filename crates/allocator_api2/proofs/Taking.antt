@@ -3,11 +3,11 @@ use Rattle.std.proofs.Common.{◌≡◌, ℕ, ◌+◌, ◌-◌, ◌<◌, ◌≤�
 use Rattle.std.specs.Prelude.{slice_range, if◌then◌else◌, ◌==◌}
 use Rattle.std.proofs.Math.Seq.{take-add}
 use Rattle.std.proofs.lemmas.List.{append-nil, drop-drop, take_all, drop_all, drop_at, take_at, take-append-drop, reverse-append, take-take}
-use Rattle.aa_vec.specs.Draining.{Closes, DrainKeeps, Drains, KeepsRest, drain_head, drain_rest, drain_tail, drain_vec, drains_first, drains_last, range_len, taken_back, taken_front}
+use Rattle.aa_vec.specs.Draining.{Closes, DrainKeeps, TakesRange, KeepsRest, drain_head, drain_rest, drain_tail, drain_vec, drains_first, drains_last, range_len, taken_back, taken_front}
 use Rattle.aa_vec.specs.Vector.{Vector, len, SameBlock, Holds}
 use Rattle.aa_vec.specs.declared.vec.drain.Drain.{Drain}
 use Rattle.aa_vec.proofs.Climbing.{SameBlock-refl}
-use Rattle.aa_vec.proofs.Copied.{SameBlock-then}
+use Rattle.aa_vec.proofs.Climbing.{SameBlock-trans}
 use Rattle.aa_vec.proofs.Drains.{keeps-same, keeps-then}
 use Rattle.allocator_api2.specs.Drained.{Drained, TakesFront, TakesBack}
 use Rattle.allocator_api2.specs.Machine.{given_of}
@@ -35,7 +35,7 @@ module _ {T A : Type 0} (d : Drain T A) (side : Vector T A) where
         back = n.1.2 ∙ h.back;
         holds = record {
           items = p.items ∙ ap (λ l. l ++ x ∷ []) h.holds.items ∙ append_assoc side.items (take k all) (x ∷ []) ∙ ap (λ l. side.items ++ l) (sym more);
-          block = SameBlock-then side s t h.holds.block p.block;
+          block = SameBlock-trans h.holds.block p.block;
         };
       }
 
@@ -67,13 +67,13 @@ module _ {T A : Type 0} (d : Drain T A) (side : Vector T A) where
         back = omega (arith, n.1.2, h.back);
         holds = record {
           items = p.items ∙ ap (λ l. l ++ x ∷ []) h.holds.items ∙ append_assoc side.items (reverse (drop a all)) (x ∷ []) ∙ ap (λ l. side.items ++ l) (sym turned);
-          block = SameBlock-then side s t h.holds.block p.block;
+          block = SameBlock-trans h.holds.block p.block;
         };
       }
 
 -- a range is taken out of `old`, f and b of it from either end put behind the elements of `side`, and then it is closed
 module _ {T A : Type 0} (old side : Vector T A) (start end f b : ℕ) (ordered : start ≤ end) (within : end ≤ len old) (few : f + b ≤ end - start)
-    (d0 d1 d2 : Drain T A) (s1 s2 : Vector T A) (drains : Drains old start end d0) (fronts : TakesFront d0 side f d1 s1) (backs : TakesBack d1 s1 b d2 s2) where
+    (d0 d1 d2 : Drain T A) (s1 s2 : Vector T A) (drains : TakesRange old start end d0) (fronts : TakesFront d0 side f d1 s1) (backs : TakesBack d1 s1 b d2 s2) where
   abbrev m : ℕ
   m = end - start
 
@@ -105,7 +105,7 @@ module _ {T A : Type 0} (old side : Vector T A) (start end f b : ℕ) (ordered :
       record {
         items = backs.holds.items ∙ ap (λ l. l ++ reverse (drop (length (drain_rest d1) - b) (drain_rest d1))) first ∙ append_assoc side.items (take f middle) (reverse (drop (length (drain_rest d1) - b) (drain_rest d1)))
             ∙ ap (λ l. side.items ++ (take f middle ++ reverse l)) given_back;
-        block = SameBlock-then side s1 s2 fronts.holds.block backs.holds.block;
+        block = SameBlock-trans fronts.holds.block backs.holds.block;
       }
 
   keeps : DrainKeeps d0 d2
@@ -118,7 +118,7 @@ module _ {T A : Type 0} (old side : Vector T A) (start end f b : ℕ) (ordered :
   tail_are = keeps.tail ∙ drains.tail
 
   block_same : SameBlock old (drain_vec d2)
-  block_same = SameBlock-then old (drain_vec d0) (drain_vec d2) drains.head.block keeps.head.block
+  block_same = SameBlock-trans drains.head.block keeps.head.block
 
   wrote_none : (drain_vec d2).written ≡ old.written
   wrote_none = omega (arith, keeps.writes.written, drains.writes.written)
@@ -126,7 +126,7 @@ module _ {T A : Type 0} (old side : Vector T A) (start end f b : ℕ) (ordered :
   pub Drained-dropped : (w : Vector T A) → Closes d2 w → Drained old side start end f b false w s2
   Drained-dropped w c =
       record {
-        left = record { items = c.holds.items ∙ ap (λ l. l ++ drain_tail d2) head_are ∙ ap (λ l. take start old.items ++ l) tail_are; block = SameBlock-then old (drain_vec d2) w block_same c.holds.block };
+        left = record { items = c.holds.items ∙ ap (λ l. l ++ drain_tail d2) head_are ∙ ap (λ l. take start old.items ++ l) tail_are; block = SameBlock-trans block_same c.holds.block };
         gave = side_gave;
         written = omega (arith, c.writes.written, wrote_none, choice_le (range_len d2 == 0) 0 (length (drain_tail d2)) (omega arith), ap length tail_are, length-drop end old.items);
       }
@@ -136,7 +136,7 @@ module _ {T A : Type 0} (old side : Vector T A) (start end f b : ℕ) (ordered :
       record {
         left = record {
           items = c.holds.items ∙ ap (λ l. l ++ (drain_rest d2 ++ drain_tail d2)) head_are ∙ ap (λ l. take start old.items ++ (l ++ drain_tail d2)) rest_back ∙ ap (λ l. take start old.items ++ (slice_range middle f (m - b) ++ l)) tail_are;
-          block = SameBlock-then old (drain_vec d2) w block_same c.holds.block;
+          block = SameBlock-trans block_same c.holds.block;
         };
         gave = side_gave;
         written = omega (

@@ -125,7 +125,7 @@ module _ {T A : Type 0} where
     pub emptied : Holds side [] side'
 
   -- what was taken out of the range of main is behind the elements of side
-  pub record Drains (size : ℕ) (main side : Vector T A) (start end : ℕ) (taken : ℕ × ℕ) (keep : Bool)
+  pub record MovesRange (size : ℕ) (main side : Vector T A) (start end : ℕ) (taken : ℕ × ℕ) (keep : Bool)
       (main' side' : Vector T A) : Type 0 where
     pub leaves : Holds main (left_of main.items start end taken keep) main'
     pub gives : GrowsTo size side (taken.0 + taken.1) (side.items ++ given_of main.items start end taken) side'
@@ -167,7 +167,7 @@ module _ {T A : Type 0} (size : ℕ) where
   Makes main side (SplitOff at) Done main' side' = Splits size main at main' side'
   Makes main side Append Done main' side' = Joins size main side main' side'
   Makes main side (Drain start end front back keep) Done main' side' =
-      Drains size main side start end (ends_of (end - start) front back) keep main' side'
+      MovesRange size main side start end (ends_of (end - start) front back) keep main' side'
   Makes main side command reply main' side' = OnMain side side' (MakesOfMain main command reply main')
 
   -- the kind of a refusal, and what it leaves of main, where the command touches main alone
@@ -181,7 +181,8 @@ module _ {T A : Type 0} (size : ℕ) where
   LeavesOfMain main (ExtendFromWithin from to) kind main' = LacksCopies size main (to - from) kind main'
   LeavesOfMain main (Resize n x) kind main' = LacksCopies size main (n - len main) kind main'
   LeavesOfMain main (Splice start end items hint) kind main' =
-      SplicesShort size (lower_by hint) main (take start main.items) (end - start) (drop end main.items) items.items kind main'
+      -- a clone of the allocator may be refused, and no other item is to come
+      SplicesShort size (lower_by hint) main (take start main.items) (end - start) (drop end main.items) items.items ⊤ ⊤ kind main'
   -- no other command is refused
   LeavesOfMain main command kind main' = ⊥
 

@@ -15,6 +15,7 @@ use std::hash::Hash;
 pub fn length_within_capacity<T, A: Allocator>(v: &Vec<T, A>)
     ensures { len v.now ≤ v.now.capacity }
 {
+    // It does nothing but tell the prover that places are at most `usize::MAX`.
     let _within = v.capacity();
 }
 

@@ -1,5 +1,5 @@
 //! A script from its first byte to its status.
-ghost use Rattle.std.specs.Prelude.{◌≡◌, ◌<◌, ◌%◌, ◌==◌, ◌⊎◌, ℕ, List, Some, IfSome, IfOk, OnOk, IfErr};
+ghost use Rattle.std.specs.Prelude.{◌≡◌, ◌≢◌, ◌<◌, ◌%◌, ◌==◌, ◌⊎◌, ℕ, List, Some, IfSome, IfOk, OnOk, IfErr};
 ghost use Rattle.std.specs.Io.KnownBytes.{Keeps, Appends};
 ghost use Rattle.std.specs.Str.Lines.{lines};
 ghost use Rattle.aa_vec.specs.Closures.{TakesPairMut};
@@ -7,8 +7,9 @@ ghost use Rattle.aa_vec.specs.Choosing.{TakesMut};
 ghost use Rattle.allocator_api2.specs.Machine.{calls_of};
 ghost use Rattle.vecrun.specs.Faults.{IsFoundIn, NamesNoLine, IsFaultOf, status_of, fault_text};
 ghost use Rattle.vecrun.specs.Lines.{Mean, HasNoBad, IsFirstBad};
-ghost use Rattle.vecrun.specs.Print.{AppendsBeginning};
+ghost use Rattle.vecrun.specs.Print.{AppendsBeginning, line_of};
 ghost use Rattle.vecrun.specs.Runs.{MayPrint, MayAnswer, script_calls};
+ghost use Rattle.vecrun.specs.declared.script.Fault.{Fault};
 ghost use Rattle.vecrun.specs.declared.script.Fault.TheVariants.{OutOfMemory, InputOutput};
 
 use crate::lines;
@@ -19,6 +20,7 @@ use allocator_api2::collections::{Refused, TryReserveError};
 use allocator_api2::runner::{Command, run};
 use allocator_api2::vec::Vec;
 use std::alloc::Global;
+use std::fmt::InlineText;
 use std::io::{ErrorKind, Read, Write};
 use std::{fmt, io};
 
@@ -93,7 +95,8 @@ impl From<io::Error> for Fault {
 /// - 3: reading or writing failed, for want of memory or else.
 ///
 /// At 1 and 2 nothing is written to `output`, and at 3 no more than a beginning of what the script prints. Even numbers stay at
-/// `retain`, and `dedup` goes by equality. A failed write to `faults` changes nothing.
+/// `retain`, and `dedup` goes by equality. To `faults` the fault's line is written, or a beginning of it where a write fails, which
+/// changes no status.
 pub fn script<R: Read, W: Write, E: Write>(
     alloc: Global,
     input: &mut R,
@@ -120,6 +123,9 @@ pub fn script<R: Read, W: Write, E: Write>(
         ⊎ IfSome (R.remaining input.old) (λ text. (answer : List ℕ)
         × MayAnswer (script_calls ⟦<Global as Clone>⟧.is_clone) alloc tt tt (lines text) answer
         × AppendsBeginning (W.contents output.old) (W.contents output.new) answer) }
+    ensures told { result ≢ 0 → (fault : Fault) × (result ≡ status_of fault)
+        × IsFoundIn (R.remaining input.old) fault
+        × AppendsBeginning (E.contents faults.old) (E.contents faults.new) (line_of (fault_text fault)) }
     ensures good_tells_nothing { result ≡ 0 →
         Keeps (E.contents faults.old) (E.contents faults.new) }
 {
@@ -132,7 +138,7 @@ pub fn script<R: Read, W: Write, E: Write>(
     match run_script(alloc, input, &mut keep, &mut same, output) {
         Ok(()) => 0,
         Err(fault) => {
-            let _ = writeln!(faults, "{fault}");
+            tell(&fault, faults);
             fault.status()
         }
     }
@@ -213,6 +219,21 @@ where
     match print_all(&mut text, replies.as_slice(), &main, &side) {
         Ok(()) => Ok(text),
         Err(_) => Err(Fault::OutOfMemory),
+    }
+}
+
+// Writes the fault's line, or a beginning of it where a write fails.
+fn tell<E: Write>(fault: &Fault, faults: &mut E)
+    ensures { AppendsBeginning (E.contents faults.old) (E.contents faults.new) (line_of (fault_text fault.now)) }
+{
+    let text = InlineText::<64>::of(fault);
+    let line = text.as_str().as_bytes();
+    // A text that was cut to fit ends in dots, and no fault's text does.
+    if line.ends_with(b"...") {
+        return;
+    }
+    if write_text(line, faults).is_ok() {
+        let _ = write_text(b"\n", faults);
     }
 }
 

@@ -65,6 +65,7 @@ impl<T, A: Allocator> BoxedSlice<T, A> {
         ensures { result ≡ self.items }
     {
         let (mut block, _len) = self.into_block();
+        // It does nothing but tell the prover that places are at most `usize::MAX`.
         let _capacity = block.capacity();
         block.take_array()
     }
@@ -93,6 +94,7 @@ impl<T, A: Allocator, const N: usize> Box<[T; N], A> {
 }
 
 // The elements of an array as a boxed slice, in an empty block that has room for them and no more.
+#[tactic(auto, using(aa_raw::proofs::Calls::in_runs))]
 fn filled<T, A: Allocator, const N: usize>(block: RawVec<T, A>, items: [T; N]) -> BoxedSlice<T, A>
     requires room { IsJustFor N block.places × (N ≤ length block.places) }
     ensures { result ≡ record { items = items; growth = block.growth; alloc = block.alloc } }

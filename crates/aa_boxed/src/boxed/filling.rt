@@ -4,8 +4,7 @@ ghost use Rattle.std.specs.Bool.{OnTrue, OnFalse};
 ghost use Rattle.std.specs.List.{AllZip};
 ghost use Rattle.std.specs.Mem.{type_size};
 ghost use Rattle.aa_raw.specs.Block.{fresh};
-ghost use Rattle.aa_raw.specs.Growth.{usize_max};
-ghost use Rattle.aa_raw.specs.Places.{most};
+ghost use Rattle.aa_raw.specs.Growth.{sized, usize_max};
 ghost use Rattle.aa_raw.specs.Refusals.{IsRefused, IsRefusedAt};
 ghost use Rattle.aa_raw.specs.declared.collections.TryReserveErrorKind.TheVariants.{CapacityOverflow};
 ghost use Rattle.aa_boxed.specs.Slice.{with_next, ended};
@@ -41,7 +40,7 @@ impl<T, A: Allocator> Filling<T, A> {
         capacity: usize,
         alloc: A,
     ) -> Result<Self, TryReserveError>
-        ensures made { IfOk result (λ f. f ≡ record { items = []; capacity = if type_size T.row == 0 then usize_max else capacity; growth = growth; alloc = alloc }) }
+        ensures made { IfOk result (λ f. f ≡ record { items = []; capacity = sized (type_size T.row) capacity; growth = growth; alloc = alloc }) }
         ensures refused { IfErr result (λ e. (0 < capacity) × (0 < type_size T.row) × IsRefusedAt e capacity) }
     {
         let block = block_for(growth, capacity, alloc)?;
@@ -62,6 +61,7 @@ impl<T, A: Allocator> Filling<T, A> {
         ensures { self.new ≡ with_next self.old item }
     {
         let len = self.len;
+        // It does nothing but tell the prover that places are at most `usize::MAX`.
         let _within = self.block.capacity();
         self.block.put(len, item);
         self.len = len + 1;
@@ -142,7 +142,7 @@ fn block_for<T, A: Allocator>(
     capacity: usize,
     alloc: A,
 ) -> Result<RawVec<T, A>, TryReserveError>
-    ensures made { IfOk result (λ b. b ≡ fresh (if type_size T.row == 0 then most else capacity) growth alloc) }
+    ensures made { IfOk result (λ b. b ≡ fresh (type_size T.row) capacity growth alloc) }
     ensures refused { IfErr result (λ e. (0 < capacity) × (0 < type_size T.row) × IsRefusedAt e capacity) }
 {
     let mut block = RawVec::new_growing_in(growth, alloc);

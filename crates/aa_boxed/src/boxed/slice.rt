@@ -5,7 +5,7 @@ ghost use Rattle.std.specs.Mem.{type_size};
 ghost use Rattle.std.specs.Borrow.{sem};
 ghost use Rattle.std.specs.Iterator.{IsFinite, Drains, size};
 ghost use Rattle.std.specs.Iterator.Runs.{WholeRun};
-ghost use Rattle.aa_raw.specs.Block.{start_capacity};
+ghost use Rattle.aa_raw.specs.Growth.{sized};
 ghost use Rattle.aa_raw.specs.Places.{IsRun};
 ghost use Rattle.aa_raw.specs.Refusals.{IsRefusedAt};
 ghost use Rattle.aa_raw.specs.declared.raw_vec.Growth.TheVariants.{Doubling};
@@ -46,7 +46,7 @@ impl<T> BoxedSlice<T, Global> {
         T: Drop,
         requires may_ask { I.can_next iter }
         requires ends { IsFinite (I.remaining iter) }
-        ensures fits { size (I.remaining iter) ≤ start_capacity (type_size T.row) → IsOk result }
+        ensures fits { size (I.remaining iter) ≤ sized (type_size T.row) 0 → IsOk result }
         ensures ran { IfOk result (λ b. Drains I.next_gives iter b.items) }
         ensures runs { IfOk result (λ b. WholeRun I.next_gives iter (λ p. b.items ≡ p.items)) }
         ensures made { IfOk result (λ b. (b.growth ≡ Doubling) × (b.alloc ≡ alloc)) }
@@ -84,7 +84,7 @@ impl<T, A: Allocator> BoxedSlice<T, A> {
         T: Drop,
         requires may_ask { I.can_next iter }
         requires ends { IsFinite (I.remaining iter) }
-        ensures fits { size (I.remaining iter) ≤ start_capacity (type_size T.row) → IsOk result }
+        ensures fits { size (I.remaining iter) ≤ sized (type_size T.row) 0 → IsOk result }
         ensures ran { IfOk result (λ b. Drains I.next_gives iter b.items) }
         ensures runs { IfOk result (λ b. WholeRun I.next_gives iter (λ p. b.items ≡ p.items)) }
         ensures made { IfOk result (λ b. (b.growth ≡ Doubling) × (b.alloc ≡ alloc)) }

@@ -50,6 +50,7 @@ impl<T, A: Allocator> IntoIter<T, A> {
     }
 
     /// The items that are left, in order. It stands for `IntoIter::as_slice`.
+    #[tactic(auto, using(crate::proofs::Calls::shown))]
     pub fn as_slice(&self) -> &[T]
         ensures { result.now ≡ self.now.items }
     {
@@ -73,6 +74,7 @@ impl<T, A: Allocator> IntoIter<T, A> {
 
     /// How many items are left. It stands for `IntoIter::len`, and is right for elements without size too.
     #[inline]
+    #[tactic(auto, using(crate::proofs::Calls::shown))]
     pub fn len(&self) -> usize
         ensures { result ≡ length self.now.items }
     {
@@ -90,6 +92,7 @@ impl<T, A: Allocator> IntoIter<T, A> {
 
     /// Takes the first item. At the end it answers `None`, and so for good. It stands for `IntoIter::next`.
     #[inline(always)]
+    #[tactic(auto, using(crate::proofs::Calls::at_ends))]
     pub fn next(&mut self) -> Option<T>
         ensures { gives_first self.old result self.new }
     {
@@ -104,6 +107,7 @@ impl<T, A: Allocator> IntoIter<T, A> {
     /// Takes the last item. At the end it answers `None`, and so for good. It stands for `IntoIter::next_back`, which lets the
     /// length grow for elements without size.
     #[inline(always)]
+    #[tactic(auto, using(crate::proofs::Calls::at_ends))]
     pub fn next_back(&mut self) -> Option<T>
         ensures { gives_last self.old result self.new }
     {

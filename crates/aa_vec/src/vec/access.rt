@@ -26,6 +26,7 @@ impl<T, A: Allocator> Vec<T, A> {
         self.as_mut_slice().iter_mut()
     }
 
+    #[tactic(auto, using(aa_raw::proofs::Positions::at_positions))]
     fn item_mut(&mut self, index: usize) -> &mut T
         requires { index < length self.old.items }
         ensures* writes_back { sem 𝓛 (lends_item T.row A.row A.Allocator self.entry index result) }

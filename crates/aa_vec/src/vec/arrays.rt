@@ -1,14 +1,16 @@
 //! Arrays that become vectors, vectors that become arrays, and vectors of arrays whose elements become one list.
-ghost use Rattle.std.specs.Prelude.{◌≡◌, ◌≢◌, ◌+◌, ◌*◌, ◌≤◌, [], ◌++◌, length, MatchResult, IfOk, IfErr};
+ghost use Rattle.std.specs.Prelude.{◌≡◌, ◌≢◌, ◌+◌, ◌*◌, ◌<◌, ◌≤◌, [], ◌++◌, length, MatchResult, IfOk, IfErr, OnOk};
 ghost use Rattle.std.specs.Mem.{type_size};
+ghost use Rattle.aa_raw.specs.Growth.{usize_max};
 ghost use Rattle.aa_raw.specs.Refusals.{IsRefusedAt};
+ghost use Rattle.aa_raw.specs.declared.collections.TryReserveErrorKind.TheVariants.{CapacityOverflow};
 ghost use Rattle.aa_raw.specs.declared.raw_vec.Growth.TheVariants.{Doubling};
 ghost use Rattle.aa_boxed.specs.Arrays.{LacksRoomFor};
 ghost use Rattle.aa_vec.specs.Vector.{len, sized, Holds, Writes, run_count};
 ghost use Rattle.aa_vec.specs.Copies.{IsMade};
 ghost use Rattle.aa_vec.specs.Arrays.{flattened, LacksRoomForAll, StaysNested};
 
-use crate::vec::joins::block_over;
+use crate::vec::joins::empty_over;
 use crate::vec::{SliceIntoVec, Vec};
 use aa_boxed::boxed::Box;
 use aa_raw::collections::{Refused, TryReserveError, TryReserveErrorKind};
@@ -29,6 +31,7 @@ impl<T> Vec<T, Global> {
 impl<T, A: Allocator> Vec<T, A> {
     /// The elements of an array, with room for no more. It takes memory where there are any and they have a size. A refusal hands
     /// the array back: `CapacityOverflow`, or `AllocError` with its length. The original has no such call.
+    #[tactic(auto, using(aa_raw::proofs::Calls::in_runs))]
     pub fn from_array_in<const N: usize>(items: [T; N], alloc: A) -> Result<Self, Refused<[T; N]>>
         ensures made { IfOk result (λ v. IsMade (type_size T.row) N Doubling items (run_count N) v × (v.alloc ≡ alloc)) }
         ensures refused { IfErr result (λ r. (r.source ≡ items) × LacksRoomFor N (type_size T.row) r.error) }
@@ -48,6 +51,7 @@ impl<T, A: Allocator> Vec<T, A> {
 
     // Puts the elements of an array behind the last one.
     #[inline]
+    #[tactic(auto, using(aa_raw::proofs::Calls::in_runs))]
     pub(crate) fn put_block<const N: usize>(&mut self, items: [T; N])
         requires long { length items ≡ N }
         requires room { len self.old + N ≤ self.old.capacity }
@@ -55,12 +59,14 @@ impl<T, A: Allocator> Vec<T, A> {
         ensures writes { Writes self.old N (run_count N) self.new }
     {
         let len = self.len;
+        // It does nothing but tell the prover that places are at most `usize::MAX`.
         let _within = self.block.capacity();
         self.block.put_array(len, items);
         self.len = len + N;
     }
 
     // All elements, as an array. The block is given back.
+    #[tactic(auto, using(aa_raw::proofs::Calls::in_runs, aa_raw::proofs::Calls::shown))]
     fn taken_out<const N: usize>(self) -> [T; N]
         requires { len self ≡ N }
         ensures { result ≡ self.items }
@@ -109,6 +115,7 @@ impl<T, A: Allocator, const N: usize> Vec<[T; N], A> {
 
     // An empty vector that grows as this one, over a clone of its allocator, with room for the elements of as many arrays as this
     // one has places.
+    #[tactic(auto, using(crate::proofs::Flattening::in_arrays))]
     fn room_for_all(&self) -> Result<Vec<T, A>, TryReserveError>
     where
         A: Clone,
@@ -116,15 +123,24 @@ impl<T, A: Allocator, const N: usize> Vec<[T; N], A> {
         ensures enough { IfOk result (λ v. len self.now * N ≤ v.capacity) }
         ensures refused { IfErr result (λ e. LacksRoomForAll (A.is_infallible self.now.alloc) N (type_size T.row) self.now e) }
     {
+        if let Err(error) = self.check_number() {
+            return Err(error);
+        }
         let _within = self.capacity();
+        let flat = empty_over(self.allocator(), self.growth(), self.flat_capacity())?;
+        Ok(flat)
+    }
+
+    // Refuses arrays that have more than `usize::MAX` elements in all.
+    #[tactic(auto, using(aa_raw::proofs::Calls::at_ends))]
+    fn check_number(&self) -> Result<(), TryReserveError>
+        ensures few { OnOk result (len self.now * N ≤ usize_max) }
+        ensures over { IfErr result (λ e. (e ≡ CapacityOverflow) × (usize_max < len self.now * N)) }
+    {
         if self.len.checked_mul(N).is_none() {
             return Err(TryReserveErrorKind::CapacityOverflow.into());
         }
-        let capacity = self.flat_capacity();
-        match block_over(self.block.allocator(), self.block.growth(), capacity) {
-            Ok(block) => Ok(Vec { block, len: 0 }),
-            Err(error) => Err(error),
-        }
+        Ok(())
     }
 
     // How many elements there may be in the arrays of all places. A block that was given no memory tells whether they have a size.
@@ -142,6 +158,7 @@ impl<T, A: Allocator, const N: usize> Vec<[T; N], A> {
     }
 
     // Moves the elements of all arrays, in order, behind those of a vector that has room for them. The block is given back.
+    #[tactic(auto, using(aa_raw::proofs::Calls::at_ends, crate::proofs::Flattening::poured))]
     fn poured_into(self, flat: Vec<T, A>) -> Vec<T, A>
         requires room { len flat + len self * N ≤ flat.capacity }
         ensures items { Holds flat (flat.items ++ flattened self.items) result }

@@ -9,6 +9,7 @@ use std::alloc::Allocator;
 
 impl<T, A: Allocator> Vec<T, A> {
     // Sets the elements from the index on back behind the others. It answers how many they are.
+    #[tactic(auto, using(crate::proofs::Gaps::set_apart))]
     pub(crate) fn set_back(&mut self, at: usize) -> usize
         requires { at ≤ len self.old }
         ensures count { at + result ≡ len self.old }
@@ -22,6 +23,7 @@ impl<T, A: Allocator> Vec<T, A> {
     // Moves the `count` elements after the gap down to the last one. None and one are most of what a closure that chooses leaves
     // between two gaps, so they have ways of their own.
     #[inline]
+    #[tactic(auto, using(crate::proofs::Gaps::no_gap))]
     pub(crate) fn close_gap(&mut self, gap: usize, count: usize)
         requires { StandsBehind self.old gap count }
         ensures { ClosesGap self.old gap count self.new }
@@ -35,11 +37,13 @@ impl<T, A: Allocator> Vec<T, A> {
 
     // The same with one element.
     #[inline]
+    #[tactic(auto, using(crate::proofs::Gaps::closed))]
     fn close_gap_by_one(&mut self, gap: usize)
         requires { StandsBehind self.old gap 1 }
         ensures { ClosesGap self.old gap 1 self.new }
     {
         let len = self.len;
+        // It does nothing but tell the prover that places are at most `usize::MAX`.
         let _within = self.block.capacity();
         self.block.move_one(len + gap, len);
         self.len = len + 1;
@@ -47,6 +51,7 @@ impl<T, A: Allocator> Vec<T, A> {
 
     // The same with any number of elements.
     #[inline(never)]
+    #[tactic(auto, using(crate::proofs::Gaps::closed))]
     fn close_gap_by_run(&mut self, gap: usize, count: usize)
         requires { StandsBehind self.old gap count }
         ensures { ClosesGap self.old gap count self.new }
@@ -59,6 +64,7 @@ impl<T, A: Allocator> Vec<T, A> {
 
     // Takes the element after the gap out of its place.
     #[inline]
+    #[tactic(auto, using(crate::proofs::Gaps::emptied))]
     pub(crate) fn take_behind(&mut self, gap: usize) -> T
         requires { StandsBehind self.old gap 1 }
         ensures value { behind_items self.old gap 1 ≡ result ∷ [] }
@@ -69,6 +75,7 @@ impl<T, A: Allocator> Vec<T, A> {
     }
 
     // The `count` elements after the gap.
+    #[tactic(auto, using(crate::proofs::Gaps::lent))]
     pub(crate) fn slice_behind(&self, gap: usize, count: usize) -> &[T]
         requires { StandsBehind self.now gap count }
         ensures { result.now ≡ behind_items self.now gap count }
@@ -78,6 +85,7 @@ impl<T, A: Allocator> Vec<T, A> {
     }
 
     // Drops the `count` elements after the gap.
+    #[tactic(auto, using(crate::proofs::Gaps::cleared))]
     pub(crate) fn drop_behind(&mut self, gap: usize, count: usize)
     where
         T: Drop,
@@ -90,6 +98,7 @@ impl<T, A: Allocator> Vec<T, A> {
     }
 
     // Drops the elements from place `front` up to `back` behind the others, and moves those from `end` up to `total` down.
+    #[tactic(auto, using(crate::proofs::Drained::closing))]
     pub(crate) fn drop_and_close(&mut self, front: usize, back: usize, end: usize, total: usize)
     where
         T: Drop,
@@ -102,6 +111,7 @@ impl<T, A: Allocator> Vec<T, A> {
     }
 
     // Moves the elements from place `front` up to `back` behind the others down, and then those from `end` up to `total`.
+    #[tactic(auto, using(crate::proofs::Drained::closing))]
     pub(crate) fn close_gaps(&mut self, front: usize, back: usize, end: usize, total: usize)
         requires ordered { (front ≤ back) × (back ≤ end) × (end ≤ total) }
         requires held { StandsBehind self.old front (back - front) × StandsBehind self.old end (total - end) }

@@ -14,11 +14,13 @@ impl<T, A: Allocator> Vec<T, A> {
     /// The elements as a boxed slice. Where there is room for more, it is given back as by `shrink_to_fit`; so it takes memory
     /// only where the length is neither 0 nor the capacity, and elements have a size. A refusal hands the vector back as it was:
     /// `AllocError` with the length. It stands for `Vec::into_boxed_slice`, which aborts on a refusal.
+    #[tactic(auto, using(aa_raw::proofs::Calls::at_ends))]
     pub fn into_boxed_slice(self) -> Result<BoxedSlice<T, A>, Refused<Self>>
         ensures made { IfOk result (λ b. b ≡ boxed self) }
         ensures refused { IfErr result (λ r. HandsBack (type_size T.row) self r) }
     {
         let mut vec = self;
+        // It does nothing but tell the prover that places are at most `usize::MAX`.
         let _within = vec.block.capacity();
         match vec.shrink_to_fit() {
             Ok(()) => Ok(vec.whole()),
@@ -27,6 +29,7 @@ impl<T, A: Allocator> Vec<T, A> {
     }
 
     // The elements as a boxed slice, where there is no room for more.
+    #[tactic(auto, using(aa_raw::proofs::Calls::at_ends))]
     fn whole(self) -> BoxedSlice<T, A>
         requires { len self ≢ self.capacity → self.capacity ≡ usize_max }
         ensures { result ≡ boxed self }

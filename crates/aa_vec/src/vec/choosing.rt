@@ -134,12 +134,14 @@ impl<T, A: Allocator> Vec<T, A> {
         requires callable { MayAskInOrder (CalledAtMut F.FnMut) (TakesMut F.FnMut) keep.old (behind_items self.old gap count) }
         ensures { AsksBehind (CalledAtMut F.FnMut) keep.old self.old gap count result keep.new self.new }
     {
+        // It does nothing but tell the prover that places are at most `usize::MAX`.
         let _within = self.block.capacity();
         kept_run(self.block.slice_mut(self.len + gap, count), keep)
     }
 
     // Asks the `count` elements after the gap in order, each beside the last one kept before it, up to the first repeat. It
     // answers how many are kept before it.
+    #[tactic(auto, using(crate::proofs::Chains::chains))]
     fn chain_behind<F: FnMut(&mut T, &mut T) -> bool>(
         &mut self,
         gap: usize,
@@ -162,6 +164,7 @@ impl<T, A: Allocator> Vec<T, A> {
 
     // Asks the `count` elements after the gap behind the first of them in order, each beside the one before it, up to the first
     // repeat. It answers how many are kept before it.
+    #[tactic(auto, using(crate::proofs::Chains::lents))]
     fn chain_on<F: FnMut(&mut T, &mut T) -> bool>(
         &mut self,
         gap: usize,

@@ -24,6 +24,7 @@ impl<T: Clone, A: Allocator> Vec<T, A> {
         if let Err(error) = self.try_reserve(count) {
             return Err(error);
         }
+        // It does nothing but tell the prover that places are at most `usize::MAX`.
         let _within = self.capacity();
         if self.push_clones(other) {
             return Ok(());
@@ -62,6 +63,7 @@ impl<T: Clone, A: Allocator> Vec<T, A> {
     /// Cuts the vector to `new_len` elements as `truncate` does, or fills it up to that many: with clones of `value`, and with
     /// `value` itself in the last place. It makes room for all of them before the first clone, and is refused as
     /// `extend_from_slice` is. It stands for `Vec::resize`.
+    #[tactic(auto, using(crate::proofs::Copied::copied))]
     pub fn resize(&mut self, new_len: usize, value: T) -> Result<(), TryReserveError>
         ensures fits { HasRoom self.old (new_len - len self.old) → (len self.old + 1 < new_len → T.is_infallible value) → IsOk result }
         ensures cut { new_len ≤ len self.old → IsOk result × Holds self.old (take new_len self.old.items) self.new }
@@ -87,6 +89,7 @@ impl<T: Clone, A: Allocator> Vec<T, A> {
     /// Drops all elements, and puts a clone of each element of `other` in their place. It makes room for all of them before the
     /// first clone; a refusal leaves clones of a beginning of `other`, or nothing, and is `CapacityOverflow`, or `AllocError`
     /// with a capacity of at least the length of `other`. It stands for the original's `Clone::clone_from`.
+    #[tactic(auto, using(crate::proofs::Copied::copied))]
     pub fn assign_from(&mut self, other: &Self) -> Result<(), TryReserveError>
         ensures fits { len other.now ≤ self.old.capacity → All T.is_infallible other.now.items → IsOk result }
         ensures assigned { OnOk result (Extends T.is_clone (type_size T.row) (with_items self.old []) other.now.items self.new) }
@@ -107,22 +110,8 @@ impl<T: Clone, A: Allocator> Vec<T, A> {
         Err(TryReserveErrorKind::AllocError { capacity: count }.into())
     }
 
-    // Puts a clone of `source` behind the last element of a vector that is not full, unless the clone is refused.
-    fn push_clone(&mut self, source: &T) -> bool
-        requires room { len self.old < self.old.capacity }
-        ensures pushed { IsTrue result → Adds T.is_clone self.old (source.now ∷ []) self.new }
-        ensures refused { result ≡ false → (¬ (T.is_infallible source.now)) × (self.new ≡ self.old) }
-    {
-        match source.clone() {
-            Ok(copy) => {
-                self.put_next(copy);
-                true
-            }
-            Err(_) => false,
-        }
-    }
-
     // Puts clones of the elements of `source` behind the last one, up to the first clone that is refused. It answers how many.
+    #[tactic(auto, using(crate::proofs::Copied::copied))]
     pub(crate) fn push_beginning(&mut self, source: &[T]) -> usize
         requires room { HasRoom self.old (length source.now) }
         ensures within { result ≤ length source.now }
@@ -132,8 +121,9 @@ impl<T: Clone, A: Allocator> Vec<T, A> {
         let _within = self.capacity();
         let count = source.len();
         'each: for pushed in 0..count {
-            if !self.push_clone(&source[pushed]) {
-                return pushed;
+            match source[pushed].clone() {
+                Ok(copy) => self.put_next(copy),
+                Err(_) => return pushed,
             }
         }
         count
@@ -154,11 +144,13 @@ impl<T: Clone, A: Allocator> Vec<T, A> {
     }
 
     // The same with `count` of its own elements, from the index `from` on.
+    #[tactic(auto, using(crate::proofs::Copied::copied))]
     fn push_own(&mut self, from: usize, count: usize) -> bool
         requires range { from + count ≤ len self.old }
         requires room { HasRoom self.old count }
         ensures pushed { IsTrue result → Adds T.is_clone self.old (take count (drop from self.old.items)) self.new }
-        ensures refused { result ≡ false → (¬ (All T.is_infallible (take count (drop from self.old.items)))) × Undone self.old count self.new }
+        ensures refused { result ≡ false → ¬ (All T.is_infallible (take count (drop from self.old.items))) }
+        ensures undone { result ≡ false → Undone self.old count self.new }
     {
         let len = self.len();
         let _within = self.capacity();
@@ -175,6 +167,7 @@ impl<T: Clone, A: Allocator> Vec<T, A> {
     }
 
     // The same with `count` clones of one value.
+    #[tactic(auto, using(crate::proofs::Copied::copied))]
     fn push_same(&mut self, value: &T, count: usize) -> bool
         requires room { HasRoom self.old count }
         ensures pushed { IsTrue result → Adds T.is_clone self.old (replicate count value.now) self.new }
@@ -183,9 +176,12 @@ impl<T: Clone, A: Allocator> Vec<T, A> {
         let len = self.len();
         let _within = self.capacity();
         'each: for _pushed in 0..count {
-            if !self.push_clone(value) {
-                self.truncate(len);
-                return false;
+            match value.clone() {
+                Ok(copy) => self.put_next(copy),
+                Err(_) => {
+                    self.truncate(len);
+                    return false;
+                }
             }
         }
         true
@@ -210,6 +206,7 @@ impl<T, A: Allocator> Vec<T, A> {
     /// Cuts the vector to `new_len` elements as `truncate` does, or fills it up to that many with what `f` answers, called once
     /// for each new place, in order. It makes room for all of them before the first call, as `try_reserve` does and refused as
     /// that is; then `f` is not called. It stands for `Vec::resize_with`.
+    #[tactic(auto, using(crate::proofs::Turns::turns))]
     pub fn resize_with<F: FnMut() -> T>(
         &mut self,
         new_len: usize,
@@ -232,7 +229,7 @@ impl<T, A: Allocator> Vec<T, A> {
         if let Err(error) = self.try_reserve(new_len - len) {
             return Err(error);
         }
-        'each: for _filled in len..new_len {
+        'each: for _filled in 0..new_len - len {
             let value = answer_of(&mut f);
             self.put_next(value);
         }
@@ -241,6 +238,7 @@ impl<T, A: Allocator> Vec<T, A> {
 
     // Puts `value` behind the last element of a vector that is not full.
     #[inline]
+    #[tactic(auto, using(aa_raw::proofs::Calls::at_ends))]
     pub(crate) fn put_next(&mut self, value: T)
         requires room { len self.old < self.old.capacity }
         ensures items { Holds self.old (self.old.items ++ value ∷ []) self.new }

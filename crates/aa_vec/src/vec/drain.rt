@@ -27,7 +27,7 @@ pub struct Drain<'a, T, A: Allocator = Global> {
 
 impl<T, A: Allocator> Vec<T, A> {
     ghost use Rattle.std.specs.Iterator.Runs.{YieldsInOrder, YieldsInReverse};
-    ghost use Rattle.aa_vec.specs.Draining.{drain_lender, drain_rest, Drains, DrainKeepsAlong, drains_first, drains_last};
+    ghost use Rattle.aa_vec.specs.Draining.{drain_lender, drain_rest, TakesRange, DrainKeepsAlong, drains_first, drains_last};
 
     /// Takes the elements from the index `from` up to `to` out of the vector, which ends before them at once. They come from
     /// either end of what this answers; its drop closes the gap. The capacity stays; it takes no memory. It stands for
@@ -35,7 +35,7 @@ impl<T, A: Allocator> Vec<T, A> {
     pub fn drain(&mut self, from: usize, to: usize) -> Drain<'_, T, A>
         requires { (from ≤ to) × (to ≤ len self.old) }
         ensures lender { drain_lender result ≡ self.entry.ghost_name }
-        ensures drains { Drains self.old from to result }
+        ensures drains { TakesRange self.old from to result }
         ensures stays { DrainKeepsAlong result }
         ensures runs { YieldsInOrder (drains_first {T = T} {A = A}) drain_rest }
         ensures runs_back { YieldsInReverse (drains_last {T = T} {A = A}) drain_rest }
@@ -56,6 +56,7 @@ impl<'a, T, A: Allocator> Drain<'a, T, A> {
     ghost use Rattle.aa_vec.specs.Draining.{drain_vec, drain_rest, KeepsRest};
 
     /// The items still to come, in order. It stands for `Drain::as_slice`.
+    #[tactic(auto, unfolding(crate::specs::Draining::drain_rest))]
     pub fn as_slice(&self) -> &[T]
         ensures { result.now ≡ drain_rest self.now }
     {
@@ -95,6 +96,7 @@ impl<'a, T: Drop, A: Allocator> Iterator for Drain<'a, T, A> {
     ghost remaining = { item_count drain_rest };
 
     /// Takes the first item. At the end it answers `None`, and so for good.
+    #[tactic(auto, using(crate::proofs::Drains::from_ends), unfolding(crate::specs::Draining::drain_rest, crate::specs::Draining::drain_tail))]
     fn next(&mut self) -> Option<T> {
         let first = self.front;
         if first == self.back {
@@ -122,6 +124,7 @@ impl<'a, T: Drop, A: Allocator> DoubleEndedIterator for Drain<'a, T, A> {
     ghost next_back_gives = { drains_last };
 
     /// Takes the last item. At the end it answers `None`, and so for good.
+    #[tactic(auto, using(crate::proofs::Drains::from_ends), unfolding(crate::specs::Draining::drain_rest, crate::specs::Draining::drain_tail))]
     fn next_back(&mut self) -> Option<T> {
         if self.front == self.back {
             return None;

@@ -11,6 +11,7 @@ impl<T, A: Allocator> Vec<T, A> {
     /// Puts `value` behind the last element where the vector is not full, and hands it back where it is. It takes no memory. It
     /// stands for `Vec::push_within_capacity`.
     #[inline]
+    #[tactic(auto, using(aa_raw::proofs::Calls::at_ends))]
     pub fn push_within_capacity(&mut self, value: T) -> Result<(), T>
         ensures pushed { OnOk result ((len self.old < self.old.capacity) × Holds self.old (self.old.items ++ value ∷ []) self.new) }
         ensures writes { OnOk result (Writes self.old 1 1 self.new) }
@@ -28,6 +29,7 @@ impl<T, A: Allocator> Vec<T, A> {
     /// Puts `element` at `index`, which is at most the length, and moves those from there on up by one. It takes memory only where
     /// the vector is full, and grows then with room to spare. A refusal hands the element back and changes nothing, as that of
     /// `push`. It stands for `Vec::insert`.
+    #[tactic(auto, using(aa_raw::proofs::Positions::at_positions))]
     pub fn insert(&mut self, index: usize, element: T) -> Result<(), Refused<T>>
         requires { index ≤ len self.old }
         ensures fits { HasRoom self.old 1 → IsOk result }
@@ -42,7 +44,6 @@ impl<T, A: Allocator> Vec<T, A> {
                 error,
             });
         }
-        let _within = self.block.capacity();
         self.block.move_run(index, index + 1, len - index);
         self.block.put(index, element);
         self.len = len + 1;
@@ -51,6 +52,7 @@ impl<T, A: Allocator> Vec<T, A> {
 
     /// Takes the element at `index`, which is below the length, and moves those behind it down by one. The capacity stays. It
     /// stands for `Vec::remove`.
+    #[tactic(auto, using(aa_raw::proofs::Positions::at_positions))]
     pub fn remove(&mut self, index: usize) -> T
         requires { index < len self.old }
         ensures value { slice_get self.old.items index ≡ Some result }
@@ -59,7 +61,6 @@ impl<T, A: Allocator> Vec<T, A> {
     {
         let last = self.len - 1;
         let value = self.block.take(index);
-        let _within = self.block.capacity();
         self.block.move_run(index + 1, index, last - index);
         self.len = last;
         value
@@ -67,6 +68,7 @@ impl<T, A: Allocator> Vec<T, A> {
 
     /// Takes the element at `index`, which is below the length, and puts the last element there. The capacity stays. It stands
     /// for `Vec::swap_remove`.
+    #[tactic(auto, using(aa_raw::proofs::Positions::at_positions))]
     pub fn swap_remove(&mut self, index: usize) -> T
         requires { index < len self.old }
         ensures value { slice_get self.old.items index ≡ Some result }
@@ -84,6 +86,7 @@ impl<T, A: Allocator> Vec<T, A> {
 
     /// Drops all but the first `len` elements; where there are no more than that, it does nothing. The capacity stays. It stands
     /// for `Vec::truncate`.
+    #[tactic(auto, using(aa_raw::proofs::Calls::in_runs))]
     pub fn truncate(&mut self, len: usize)
     where
         T: Drop,

@@ -6,7 +6,7 @@ ghost use Rattle.std.specs.Iterator.{IsFinite, Drains, size};
 ghost use Rattle.std.specs.Iterator.Runs.{WholeRun};
 ghost use Rattle.std.specs.Borrow.{Bor};
 ghost use Rattle.aa_vec.specs.Vector.{len, sized, HasRoom, Writes};
-ghost use Rattle.aa_vec.specs.Extending.{Extended, ExtendsByAll, ExtendsByFront, MadeByAll, StopsAtFront, Reads, TellsAtMost, TellsExactly};
+ghost use Rattle.aa_vec.specs.Extending.{Extended, ExtendsByAll, ExtendsByFront, MadeByAll, StopsAtFront, CopiesOf, TellsAtMost, TellsExactly};
 
 use crate::vec::Vec;
 use crate::vec::items::Hinted;
@@ -39,6 +39,7 @@ impl<T, A: Allocator> Vec<T, A> {
         ensures { Extended I.next_gives I.tells I.remaining (type_size T.row) iter self.old result self.new }
     {
         let mut rest = iter;
+        // It does nothing but tell the prover that places are at most `usize::MAX`.
         let _within = self.is_full();
         while let Some(x) = rest.next() {
             if self.is_full() {
@@ -87,7 +88,7 @@ impl<T, A: Allocator> Vec<T, A> {
         T: Copy + 'a,
         requires may_ask { I.can_next iter }
         requires ends { IsFinite (I.remaining iter) }
-        ensures copied { Extended (Reads I.next_gives) (TellsAtMost I.remaining) I.remaining (type_size T.row) iter self.old result self.new }
+        ensures copied { Extended (CopiesOf I.next_gives) (TellsAtMost I.remaining) I.remaining (type_size T.row) iter self.old result self.new }
         ensures ran { OnOk result ((rs : List (Bor T)) × Drains I.next_gives iter rs × (self.new.items ≡ self.old.items ++ map (λ r. r.now) rs)) }
         ensures runs { OnOk result (WholeRun I.next_gives iter (λ p. self.new.items ≡ self.old.items ++ map (λ r. r.now) p.items)) }
     {
@@ -96,6 +97,7 @@ impl<T, A: Allocator> Vec<T, A> {
 
     /// A vector of the items of `iter`, which ends: a new one, extended as `extend` does, so it takes no memory where no item comes
     /// or elements have no size. It is refused as `extend` is, and then drops what came. The original has no such call.
+    #[tactic(auto, using(crate::proofs::Extending::extended))]
     pub fn from_iter_in<I: Iterator<Item = T>>(iter: I, alloc: A) -> Result<Self, TryReserveError>
     where
         T: Drop,
@@ -110,8 +112,10 @@ impl<T, A: Allocator> Vec<T, A> {
         ensures refused { IfErr result (λ e. StopsAtFront I.next_gives (TellsAtMost I.remaining) (type_size T.row) iter alloc e) }
     {
         let mut v = Vec::new_in(alloc);
-        v.extend(iter)?;
-        Ok(v)
+        match v.extend(iter) {
+            Ok(()) => Ok(v),
+            Err(error) => Err(error),
+        }
     }
 }
 

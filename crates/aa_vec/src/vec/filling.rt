@@ -2,18 +2,20 @@
 ghost use Rattle.std.specs.Prelude.{◌≡◌, ◌+◌, ◌-◌, ◌<◌, ◌≤◌, List, ◌∷◌, ◌++◌, drop, IfOk, IfErr, OnOk, IsOk, if◌then◌else◌};
 ghost use Rattle.std.specs.Mem.{type_size};
 ghost use Rattle.std.specs.Iterator.{IsFinite, Drains, Yields, size};
-ghost use Rattle.aa_raw.specs.Refusals.{IsRefused};
 ghost use Rattle.aa_vec.specs.Vector.{len, HasRoom, LacksRoom, Holds, Writes, run_count};
 ghost use Rattle.aa_vec.specs.Behind.{StandsBehind};
-ghost use Rattle.aa_vec.specs.Filling.{OpensGap, Widens, FillsGap, FillsAndCloses, PutsRest, LacksRest, PutsAll, PutsFront, PutsWithin};
+ghost use Rattle.aa_vec.specs.Filling.{OpensGap, Widens, FillsGap, FillsAndCloses, Gathers, GathersShort, PutsRest, LacksRest, Puts};
 
 use crate::vec::Vec;
-use aa_raw::collections::{TryReserveError, TryReserveErrorKind};
+use crate::vec::telling::Telling;
+use aa_raw::collections::TryReserveError;
+use aa_raw::raw_vec::first_refusal;
 use std::alloc::Allocator;
 
 impl<T, A: Allocator> Vec<T, A> {
     // Puts items of `iter` into the gap before the `count` elements behind the others, until it is full or they end. It answers
     // how many places of the gap are left.
+    #[tactic(auto, using(crate::proofs::Filling::gaps))]
     fn fill_gap<I: Iterator<Item = T>>(&mut self, gap: usize, count: usize, iter: &mut I) -> usize
         requires stands { StandsBehind self.old gap count }
         requires may_ask { I.can_next iter.old }
@@ -53,17 +55,20 @@ impl<T, A: Allocator> Vec<T, A> {
     }
 
     // Moves the `count` elements behind the others up by the gap.
+    #[tactic(auto, using(aa_raw::proofs::Calls::in_runs, crate::proofs::Gaps::behind))]
     fn open_gap(&mut self, gap: usize, count: usize)
         requires stands { StandsBehind self.old 0 count }
         requires room { len self.old + gap + count ≤ self.old.capacity }
         ensures { OpensGap self.old gap count self.new }
     {
         let len = self.len;
+        // It does nothing but tell the prover that places are at most `usize::MAX`.
         let _within = self.block.capacity();
         self.block.move_run(len, len + gap, count);
     }
 
     // Makes room for as many more elements as the gap has places, and moves the last `count` elements up behind it.
+    #[tactic(auto, using(crate::proofs::Filling::gaps))]
     fn widen(&mut self, gap: usize, count: usize) -> Result<(), TryReserveError>
         requires { count ≤ len self.old }
         ensures fits { HasRoom self.old gap → IsOk result }
@@ -71,49 +76,41 @@ impl<T, A: Allocator> Vec<T, A> {
         ensures refused { IfErr result (λ e. LacksRoom self.old gap e × (self.new ≡ self.old)) }
     {
         self.try_reserve(gap)?;
-        let at = self.len - count;
+        let at = self.len() - count;
         self.set_back(at);
         self.open_gap(gap, count);
         Ok(())
     }
 
-    // A vector of `first` and the items of `iter`, over a clone of the allocator.
-    fn gathered<I: Iterator<Item = T>>(&self, first: T, iter: I) -> Result<Self, TryReserveError>
+    // A vector of `first` and the items of `iter`, over a clone of the allocator: a new one, extended as it tells of them.
+    #[tactic(auto, using(crate::proofs::Gathered::gathered))]
+    fn gathered<I: Telling<Item = T>>(&self, first: T, iter: I) -> Result<Self, TryReserveError>
     where
         T: Drop,
         A: Clone,
         requires may_ask { I.can_next iter }
         requires ends { IsFinite (I.remaining iter) }
-        ensures all { IfOk result (λ v. (xs : List T) × Drains I.next_gives iter xs × (v.items ≡ first ∷ xs)) }
-        ensures refused { IfErr result (λ e. IsRefused e 1 × (xs : List T) × (last : I) × Yields I.next_gives iter xs last) }
+        ensures all { IfOk result (λ v. Gathers I.next_gives I.tells (type_size T.row) iter first v) }
+        ensures refused { IfErr result (λ e. GathersShort I.next_gives I.tells (type_size T.row) iter first (¬ (A.is_infallible self.now.alloc)) self.now e) }
     {
+        let wanted = iter.told().saturating_add(1);
         let Ok(alloc) = self.allocator().clone() else {
-            return Err(TryReserveErrorKind::AllocError { capacity: 1 }.into());
+            return Err(first_refusal::<T>(wanted));
         };
         let mut more = Vec::new_in(alloc);
-        more.try_reserve(iter.size_hint().0.saturating_add(1))?;
+        if let Err(error) = more.try_reserve(wanted) {
+            return Err(error);
+        }
         more.put_next(first);
-        more.extend(iter)?;
-        Ok(more)
-    }
-
-    // Moves all elements of `more`, which fit, behind the last one.
-    fn fill_from(&mut self, more: &mut Self)
-        requires { HasRoom self.old (len more.old) }
-        ensures holds { Holds self.old (self.old.items ++ more.old.items) self.new }
-        ensures behind { self.new.behind ≡ drop (len more.old) self.old.behind }
-        ensures writes { Writes self.old (len more.old) (run_count (len more.old)) self.new }
-    {
-        let len = self.len;
-        let count = more.len;
-        let _within = self.block.capacity();
-        self.block.transfer(len, &mut more.block, 0, count);
-        more.len = 0;
-        self.len = len + count;
+        match more.extend_telling(iter) {
+            Ok(()) => Ok(more),
+            Err(error) => Err(error),
+        }
     }
 
     // Puts `first` and the items of `iter` before the last `count` elements.
-    fn put_rest<I: Iterator<Item = T>>(
+    #[tactic(auto, using(crate::proofs::Replacing::runs_put))]
+    fn put_rest<I: Telling<Item = T>>(
         &mut self,
         count: usize,
         first: T,
@@ -126,7 +123,7 @@ impl<T, A: Allocator> Vec<T, A> {
         requires may_ask { I.can_next iter }
         requires ends { IsFinite (I.remaining iter) }
         ensures all { OnOk result (PutsRest I.next_gives (type_size T.row) iter self.old count first self.new) }
-        ensures refused { IfErr result (λ e. LacksRest I.next_gives (type_size T.row) iter self.old count first e × (self.new ≡ self.old)) }
+        ensures refused { IfErr result (λ e. LacksRest I.next_gives I.tells (¬ (A.is_infallible self.old.alloc)) (type_size T.row) iter self.old count first e × (self.new ≡ self.old)) }
     {
         let mut more = self.gathered(first, iter)?;
         self.widen(more.len(), count)?;
@@ -136,7 +133,7 @@ impl<T, A: Allocator> Vec<T, A> {
     }
 
     // Puts the items of `iter` before the last `count` elements: first as many as were told, in room made for them.
-    pub(crate) fn put_more<I: Iterator<Item = T>>(
+    pub(crate) fn put_more<I: Telling<Item = T>>(
         &mut self,
         told: usize,
         count: usize,
@@ -148,10 +145,7 @@ impl<T, A: Allocator> Vec<T, A> {
         requires count { (0 < count) × (count ≤ len self.old) }
         requires may_ask { I.can_next iter }
         requires ends { IsFinite (I.remaining iter) }
-        ensures all { OnOk result (PutsAll I.next_gives (type_size T.row) iter self.old told count self.new) }
-        ensures writes { PutsWithin self.old count self.new }
-        ensures refused { IfErr result (λ e. PutsFront I.next_gives (type_size T.row) iter self.old told count e self.new) }
-        ensures few { IfErr result (λ e. HasRoom self.old told → told < size (I.remaining iter)) }
+        ensures { Puts I.next_gives I.tells (¬ (A.is_infallible self.old.alloc)) (type_size T.row) iter self.old told count I.remaining result self.new }
     {
         self.widen(told, count)?;
         let mut rest = iter;

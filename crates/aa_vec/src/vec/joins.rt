@@ -1,8 +1,7 @@
 //! Whole runs of elements that pass from one vector to another.
-ghost use Rattle.std.specs.Prelude.{◌≡◌, ◌-◌, ◌<◌, ◌≤◌, [], ◌++◌, take, drop, IfOk, IfErr, OnOk, IsOk, if◌then◌else◌, ◌==◌};
+ghost use Rattle.std.specs.Prelude.{◌≡◌, ◌+◌, ◌-◌, ◌<◌, ◌≤◌, [], ◌++◌, take, drop, IfOk, IfErr, OnOk, IsOk, if◌then◌else◌, ◌==◌};
 ghost use Rattle.std.specs.Mem.{type_size};
 ghost use Rattle.aa_raw.specs.Block.{fresh};
-ghost use Rattle.aa_raw.specs.Places.{most};
 ghost use Rattle.aa_raw.specs.Refusals.{IsRefusedAt};
 ghost use Rattle.aa_vec.specs.Vector.{len, HasRoom, LacksRoom, GrowsTo, Holds, Writes, run_count};
 ghost use Rattle.aa_vec.specs.Copies.{IsMade};
@@ -25,22 +24,51 @@ impl<T, A: Allocator> Vec<T, A> {
         ensures takes { Writes other.old 0 0 other.new }
         ensures refused { IfErr result (λ e. LacksRoom self.old (len other.old) e × (self.new ≡ self.old) × (other.new ≡ other.old)) }
     {
-        let len = self.len;
-        let count = other.len;
-        if let Err(error) = self.block.try_reserve(len, count) {
+        if let Err(error) = self.try_reserve(other.len()) {
             return Err(error);
         }
-        let _within = self.block.capacity();
-        self.block.transfer(len, &mut other.block, 0, count);
-        other.len = 0;
-        self.len = len + count;
+        self.fill_from(other);
         Ok(())
+    }
+
+    // Moves all elements of `more`, which fit, behind the last one.
+    pub(crate) fn fill_from(&mut self, more: &mut Self)
+        requires { HasRoom self.old (len more.old) }
+        ensures holds { Holds self.old (self.old.items ++ more.old.items) self.new }
+        ensures behind { self.new.behind ≡ drop (len more.old) self.old.behind }
+        ensures writes { Writes self.old (len more.old) (run_count (len more.old)) self.new }
+        ensures emptied { Holds more.old [] more.new }
+        ensures takes { Writes more.old 0 0 more.new }
+    {
+        self.take_from(more, 0);
+    }
+
+    // Moves the elements of `other` from the index `at` on, which fit, behind the last one.
+    #[inline]
+    #[tactic(auto, using(aa_raw::proofs::Calls::in_runs, crate::proofs::Joining::transferred))]
+    fn take_from(&mut self, other: &mut Self, at: usize)
+        requires within { at ≤ len other.old }
+        requires room { HasRoom self.old (len other.old - at) }
+        ensures holds { Holds self.old (self.old.items ++ drop at other.old.items) self.new }
+        ensures behind { self.new.behind ≡ drop (len other.old - at) self.old.behind }
+        ensures writes { Writes self.old (len other.old - at) (run_count (len other.old - at)) self.new }
+        ensures left { Holds other.old (take at other.old.items) other.new }
+        ensures takes { Writes other.old 0 0 other.new }
+    {
+        let len = self.len;
+        let count = other.len - at;
+        // It does nothing but tell the prover that places are at most `usize::MAX`.
+        let _within = self.block.capacity();
+        self.block.transfer(len, &mut other.block, at, count);
+        other.len = at;
+        self.len = len + count;
     }
 
     /// Takes the elements from `at`, which is at most the length, into a vector of their own, over a clone of the allocator and
     /// with room for no more than them. `split_off(0)` hands over the old block, and this vector takes a new one of the same
     /// capacity. A refusal changes nothing: `AllocError` with the capacity asked for, also where the allocator's clone is
     /// refused, or `CapacityOverflow`. It stands for `Vec::split_off`.
+    #[tactic(auto, using(aa_raw::proofs::Calls::with_room))]
     pub fn split_off(&mut self, at: usize) -> Result<Self, TryReserveError>
     where
         A: Clone,
@@ -54,17 +82,16 @@ impl<T, A: Allocator> Vec<T, A> {
         let len = self.len;
         if at == 0 {
             let block = self.block_like(self.block.capacity())?;
-            self.len = 0;
+            self.len = at;
             return Ok(Vec {
                 block: replace(&mut self.block, block),
                 len,
             });
         }
-        let count = len - at;
-        let mut block = self.block_like(count)?;
-        block.transfer(0, &mut self.block, at, count);
-        self.len = at;
-        Ok(Vec { block, len: count })
+        let mut tail = self.empty_like(len - at)?;
+        let _within = tail.capacity();
+        tail.take_from(self, at);
+        Ok(tail)
     }
 
     // An empty vector that grows as this one, with room for `capacity` elements, over a clone of its allocator.
@@ -74,48 +101,47 @@ impl<T, A: Allocator> Vec<T, A> {
         ensures made { IfOk result (λ v. IsMade (type_size T.row) capacity self.now.growth [] 0 v × A.is_clone self.now.alloc v.alloc) }
         ensures refused { IfErr result (λ e. (A.is_infallible self.now.alloc → (0 < capacity) × (0 < type_size T.row)) × IsRefusedAt e capacity) }
     {
-        let block = self.block_like(capacity)?;
-        Ok(Vec { block, len: 0 })
+        empty_over(self.allocator(), self.growth(), capacity)
     }
 
     // A block of `capacity` empty places that grows as this vector, over a clone of its allocator.
     fn block_like(&self, capacity: usize) -> Result<RawVec<T, A>, TryReserveError>
     where
         A: Clone,
-        ensures made { IfOk result (λ b. (b ≡ fresh (if type_size T.row == 0 then most else capacity) self.now.growth b.alloc) × A.is_clone self.now.alloc b.alloc) }
+        ensures made { IfOk result (λ b. (b ≡ fresh (type_size T.row) capacity self.now.growth b.alloc) × A.is_clone self.now.alloc b.alloc) }
         ensures refused { IfErr result (λ e. (A.is_infallible self.now.alloc → (0 < capacity) × (0 < type_size T.row)) × IsRefusedAt e capacity) }
     {
         block_over(self.block.allocator(), self.block.growth(), capacity)
     }
 }
 
+// An empty vector that grows so, with room for `capacity` elements, over a clone of the allocator.
+#[tactic(auto, using(aa_raw::proofs::Calls::with_room))]
+pub(crate) fn empty_over<T, A: Allocator + Clone>(
+    alloc: &A,
+    growth: Growth,
+    capacity: usize,
+) -> Result<Vec<T, A>, TryReserveError>
+    ensures made { IfOk result (λ v. IsMade (type_size T.row) capacity growth [] 0 v × A.is_clone alloc.now v.alloc) }
+    ensures refused { IfErr result (λ e. (A.is_infallible alloc.now → (0 < capacity) × (0 < type_size T.row)) × IsRefusedAt e capacity) }
+{
+    let block = block_over(alloc, growth, capacity)?;
+    Ok(Vec { block, len: 0 })
+}
+
 // A block of `capacity` empty places that grows so, over a clone of the allocator.
-pub(crate) fn block_over<T, A: Allocator + Clone>(
+fn block_over<T, A: Allocator + Clone>(
     alloc: &A,
     growth: Growth,
     capacity: usize,
 ) -> Result<RawVec<T, A>, TryReserveError>
-    ensures made { IfOk result (λ b. (b ≡ fresh (if type_size T.row == 0 then most else capacity) growth b.alloc) × A.is_clone alloc.now b.alloc) }
+    ensures made { IfOk result (λ b. (b ≡ fresh (type_size T.row) capacity growth b.alloc) × A.is_clone alloc.now b.alloc) }
     ensures refused { IfErr result (λ e. (A.is_infallible alloc.now → (0 < capacity) × (0 < type_size T.row)) × IsRefusedAt e capacity) }
 {
     let Ok(alloc) = alloc.clone() else {
         return Err(TryReserveErrorKind::AllocError { capacity }.into());
     };
     let mut block = RawVec::new_growing_in(growth, alloc);
-    match block.try_reserve_exact(0, capacity) {
-        Ok(()) => Ok(block),
-        Err(error) => Err(refused_at(error, capacity)),
-    }
-}
-
-// The same refusal, where exactly `capacity` was asked for.
-fn refused_at(error: TryReserveError, capacity: usize) -> TryReserveError
-    ensures { IsRefusedAt result capacity }
-{
-    match error.kind() {
-        TryReserveErrorKind::CapacityOverflow => error,
-        TryReserveErrorKind::AllocError { .. } => TryReserveErrorKind::AllocError {
-            capacity,
-        }.into(),
-    }
+    block.try_reserve_exact(0, capacity)?;
+    Ok(block)
 }

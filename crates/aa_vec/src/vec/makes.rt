@@ -43,6 +43,7 @@ impl<T: Clone, A: Allocator> Vec<T, A> {
     {
         let capacity = slice.len();
         let mut made = Vec::with_capacity_in(capacity, alloc)?;
+        // It does nothing but tell the prover that places are at most `usize::MAX`.
         let _within = made.capacity();
         if made.push_clones(slice) {
             return Ok(made);

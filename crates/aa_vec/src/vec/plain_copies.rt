@@ -29,6 +29,7 @@ impl<T: Copy, A: Allocator> Vec<T, A> {
         ensures refused { IfErr result (λ e. (0 < length slice.now) × (0 < type_size T.row) × IsRefusedAt e (length slice.now)) }
     {
         let mut made = Vec::with_capacity_in(slice.len(), alloc)?;
+        // It does nothing but tell the prover that places are at most `usize::MAX`.
         let _within = made.capacity();
         made.put_copies(slice);
         Ok(made)

@@ -9,6 +9,7 @@ use crate::vec::Vec;
 use aa_raw::collections::TryReserveError;
 use std::alloc::Allocator;
 
+#[tactic(auto, using(aa_raw::proofs::Calls::with_room))]
 impl<T, A: Allocator> Vec<T, A> {
     /// Makes room for `additional` more elements. Where they fit, it does nothing; else it takes memory and grows with room to
     /// spare. A refusal changes nothing: `CapacityOverflow` where the length would pass `usize::MAX` or the bytes pass

@@ -32,7 +32,7 @@ pub struct Splice<'a, I: Iterator, A: Allocator = Global> {
 }
 
 impl<T, A: Allocator> Vec<T, A> {
-    ghost use Rattle.aa_vec.specs.Draining.{Drains as DrainsRange};
+    ghost use Rattle.aa_vec.specs.Draining.{TakesRange};
     ghost use Rattle.aa_vec.specs.Splices.{splice_lender, splice_range, splice_iter};
 
     /// Takes the elements from the index `from` up to `to` out of the vector, which ends before them at once. They come from
@@ -48,7 +48,7 @@ impl<T, A: Allocator> Vec<T, A> {
         A: Clone,
         requires { (from ≤ to) × (to ≤ len self.old) }
         ensures lender { splice_lender result ≡ self.entry.ghost_name }
-        ensures drains { DrainsRange self.old from to (splice_range result) }
+        ensures drains { TakesRange self.old from to (splice_range result) }
         ensures items { splice_iter result ≡ iter }
     {
         let total = self.set_back(from);
@@ -68,6 +68,7 @@ impl<'a, I: Iterator, A: Allocator> Splice<'a, I, A> {
     ghost use Rattle.aa_vec.specs.Splices.{splice_rest, splices_first, splices_last};
 
     /// Takes the first element of the range. At the end it answers `None`.
+    #[tactic(auto, using(crate::proofs::Drains::from_ends), unfolding(crate::specs::Draining::drain_rest, crate::specs::Draining::drain_tail))]
     pub fn next(&mut self) -> Option<I::Item>
         ensures { splices_first self.old result self.new }
     {
@@ -80,6 +81,7 @@ impl<'a, I: Iterator, A: Allocator> Splice<'a, I, A> {
     }
 
     /// Takes the last element of the range. At the end it answers `None`.
+    #[tactic(auto, using(crate::proofs::Drains::from_ends), unfolding(crate::specs::Draining::drain_rest, crate::specs::Draining::drain_tail))]
     pub fn next_back(&mut self) -> Option<I::Item>
         ensures { splices_last self.old result self.new }
     {
@@ -92,6 +94,7 @@ impl<'a, I: Iterator, A: Allocator> Splice<'a, I, A> {
     }
 
     /// How many elements of the range are left.
+    #[tactic(auto, using(crate::proofs::Drains::count_left))]
     pub fn len(&self) -> usize
         ensures { result ≡ length (splice_rest self.now) }
     {
@@ -133,7 +136,7 @@ where
     requires held { StandsBehind vec.old front (back - front) × StandsBehind vec.old end (total - end) }
     requires may_ask { I.can_next iter }
     requires ends { IsFinite (I.remaining iter) }
-    ensures { Replaced I.next_gives I.tells I.remaining (type_size I.Item.row) iter vec.old vec.old.items end (behind_items vec.old end (total - end)) result vec.new }
+    ensures { Replaced I.next_gives I.tells I.remaining (¬ (A.is_infallible vec.old.alloc)) (type_size I.Item.row) iter vec.old vec.old.items end (behind_items vec.old end (total - end)) result vec.new }
 {
     let count = total - end;
     vec.drop_behind(front, back - front);
@@ -163,7 +166,7 @@ where
     requires held { StandsBehind vec.old front (back - front) × StandsBehind vec.old end (total - end) }
     requires may_ask { I.can_next iter }
     requires ends { IsFinite (I.remaining iter) }
-    ensures { Replaced I.next_gives (TellsExactly I.lower_of) I.remaining (type_size I.Item.row) iter vec.old vec.old.items end (behind_items vec.old end (total - end)) result vec.new }
+    ensures { Replaced I.next_gives (TellsExactly I.lower_of) I.remaining (¬ (A.is_infallible vec.old.alloc)) (type_size I.Item.row) iter vec.old vec.old.items end (behind_items vec.old end (total - end)) result vec.new }
 {
     end_telling(vec, front, back, end, total, ByLower::new(iter))
 }
@@ -183,7 +186,7 @@ where
     requires held { StandsBehind vec.old front (back - front) × StandsBehind vec.old end (total - end) }
     requires may_ask { I.can_next iter }
     requires ends { IsFinite (I.remaining iter) }
-    ensures { Replaced I.next_gives (TellsAtMost I.remaining) I.remaining (type_size I.Item.row) iter vec.old vec.old.items end (behind_items vec.old end (total - end)) result vec.new }
+    ensures { Replaced I.next_gives (TellsAtMost I.remaining) I.remaining (¬ (A.is_infallible vec.old.alloc)) (type_size I.Item.row) iter vec.old vec.old.items end (behind_items vec.old end (total - end)) result vec.new }
 {
     end_telling(vec, front, back, end, total, ByHint::new(iter))
 }
@@ -192,21 +195,23 @@ impl<'a, I: Hinted, A: Allocator + Clone> Splice<'a, I, A>
 where
     I::Item: Drop,
 {
-    ghost use Rattle.aa_vec.specs.Splices.{splice_iter, SpliceEnds};
+    ghost use Rattle.aa_vec.specs.Splices.{splice_iter, splice_vec, SpliceEnds};
 
     /// Drops what was not taken of the range, and leaves the vector what is before the range, the items, which end, and what is
     /// behind it. With nothing behind the range the items are put there as by `extend_hinted`. Else they fill the places of the
     /// range. Once these are full, room is made for as many as `lower` then tells, with room to spare, and filled; and only where
-    /// a further item comes, it and the others are gathered in a vector over a clone of the allocator, and room is made for just
-    /// them. It takes no memory where fewer items come than the range had, nor where all fit behind what is before the range and
-    /// nothing is behind it. A refusal leaves what is before the range, a beginning of the items that fills the room there was,
-    /// and what is behind the range, and drops the other items: `CapacityOverflow` where the length asked for passes `usize::MAX`
-    /// or its bytes pass `isize::MAX`, else `AllocError` with at least that length. It stands for the drop of `Splice`, with
-    /// `lower` in place of `size_hint`.
+    /// a further item comes, it and the others are gathered in a new vector over a clone of the allocator, as by `extend_hinted`,
+    /// and room is made for just them. It takes no memory where fewer items come than the range had, nor where all fit behind
+    /// what is before the range and nothing is behind it, nor where no more are left, once the range is full, than are told, and
+    /// these fit, nor for elements without size. A refusal leaves what is before the range, a beginning of the items that fills
+    /// the room there was, and what is behind the range, and drops the other items: `CapacityOverflow` where the length asked for
+    /// passes `usize::MAX` or its bytes pass `isize::MAX`, else `AllocError` with at least that length. A refused clone of the
+    /// allocator is answered as the first growth of the new vector would be. It stands for the drop of `Splice`, with `lower` in
+    /// place of `size_hint`.
     pub fn finish_hinted(self) -> Result<(), TryReserveError>
         requires may_ask { I.can_next (splice_iter self) }
         requires ends { IsFinite (I.remaining (splice_iter self)) }
-        ensures { SpliceEnds I.next_gives (TellsExactly I.lower_of) I.remaining (type_size I.Item.row) self.entry result self.exit.0.now }
+        ensures { SpliceEnds I.next_gives (TellsExactly I.lower_of) I.remaining (¬ (A.is_infallible (splice_vec self.entry).alloc)) (type_size I.Item.row) self.entry result self.exit.0.now }
     {
         let Splice {
             vec,
@@ -224,14 +229,14 @@ impl<'a, I: Iterator, A: Allocator + Clone> Splice<'a, I, A>
 where
     I::Item: Drop,
 {
-    ghost use Rattle.aa_vec.specs.Splices.{splice_iter, SpliceEnds};
+    ghost use Rattle.aa_vec.specs.Splices.{splice_iter, splice_vec, SpliceEnds};
 
     /// The same, with the lower bound of `size_hint` in place of `lower`, and with nothing behind the range as by `extend`. It
     /// stands for the drop of `Splice`.
     pub fn finish(self) -> Result<(), TryReserveError>
         requires may_ask { I.can_next (splice_iter self) }
         requires ends { IsFinite (I.remaining (splice_iter self)) }
-        ensures { SpliceEnds I.next_gives (TellsAtMost I.remaining) I.remaining (type_size I.Item.row) self.entry result self.exit.0.now }
+        ensures { SpliceEnds I.next_gives (TellsAtMost I.remaining) I.remaining (¬ (A.is_infallible (splice_vec self.entry).alloc)) (type_size I.Item.row) self.entry result self.exit.0.now }
     {
         let Splice {
             vec,

@@ -1,7 +1,7 @@
 //! Iterators that tell how many items are to come: what extensions and splices ask them.
 ghost use Rattle.std.specs.Prelude.{◌≡◌, ℕ};
 ghost use Rattle.std.proofs.Common.{refl, zero-le};
-ghost use Rattle.aa_vec.specs.Extending.{Reads, TellsAtMost, TellsExactly};
+ghost use Rattle.aa_vec.specs.Extending.{CopiesOf, TellsAtMost, TellsExactly};
 
 use crate::vec::items::Hinted;
 use std::marker::Model;
@@ -146,7 +146,7 @@ impl<'a, T: Copy + 'a, I: Iterator<Item = &'a T>> Iterator for ByReading<I> {
 
     ghost can_next = { I.can_next };
 
-    ghost next_gives = { Reads I.next_gives };
+    ghost next_gives = { CopiesOf I.next_gives };
 
     ghost remaining = { I.remaining };
 

@@ -1,6 +1,6 @@
 use Rattle.std.proofs.Common.{◌+◌, ◌*◌, ◌≤◌, ◌++◌, length, take, ap, ◌∙◌, arith, mul-le-mul_right, add-mul}
 use Rattle.std.specs.List.{repeat}
-use Rattle.aa_vec.proofs.Copied.{SameBlock-then}
+use Rattle.aa_vec.proofs.Climbing.{SameBlock-trans}
 use Rattle.allocator_api2.proofs.Repeated.{length-repeat, repeat-add, take-repeat}
 use Rattle.allocator_api2.proofs.slice.put_repeated.Goals as goal
 
@@ -24,7 +24,7 @@ each-preserved g c =
       omega (arith, c.next_count-more.ensures.left, c.each-test.true),
       record {
         items = put.items ∙ ap (λ l. l ++ take (m * length xs) l) held.items ∙ ap (λ l. repeat d xs ++ l) (take-repeat xs m d c.next_count-more.ensures.done) ∙ repeat-add xs d m;
-        block = SameBlock-then c.args.made.now c.each.made c.put_again.new.made held.block put.block;
+        block = SameBlock-trans held.block put.block;
       },
       record { written = omega (arith, wrote.written, writes.written, both); runs = omega (arith, wrote.runs, writes.runs, both) },
     )

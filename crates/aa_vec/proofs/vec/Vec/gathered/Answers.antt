@@ -1,12 +1,17 @@
-use Rattle.std.proofs.Common.{arith}
-use Rattle.std.proofs.lemmas.Result.{err_from_is_err_and}
-use Rattle.aa_vec.specs.Extending.{TellsAtMost}
-use Rattle.aa_vec.proofs.Extending.{Yields-told}
-use Rattle.aa_vec.proofs.Filling.{IsRefused-fewer}
+use Rattle.std.specs.Prelude.{⊤}
+use Rattle.aa_vec.proofs.Gathered.{Gathers-all, GathersShort-first, GathersShort-more}
 use Rattle.aa_vec.proofs.vec.Vec.gathered.Goals as goal
 
-pub returns-in_err-extend-clause-refused : goal.returns-in_err-extend-clause-refused
-returns-in_err-extend-clause-refused g c =
-    let p = err_from_is_err_and c.from_residual-in_err-extend.result c.from_residual-in_err-extend.ensures.1 in
-    let e = c.in_err-extend.ensures.refused in
-    rw (p.1, p.2) (IsRefused-fewer _ 1 _ (omega arith) e.extends.lacks.number, e.taken, e.last, Yields-told g.I.Iterator.next_gives (TellsAtMost g.I.Iterator.remaining) e.lower c.args.iter e.taken e.last e.told)
+pub returns-in-Err-clause-refused : goal.returns-in-Err-clause-refused
+returns-in-Err-clause-refused g c =
+    GathersShort-first _ _ _ _ _ _ c.args.self.now _ c.told.ensures _ c.saturating_add-wanted.ensures _ c.new_in-more.result c.new_in-more.ensures _ c.in-Err.ensures.refused.0
+
+pub returns-in-Ok-extend_telling-clause-all : goal.returns-in-Ok-extend_telling-clause-all
+returns-in-Ok-extend_telling-clause-all g c =
+    Gathers-all _ _ ⊤ _ _ _ c.args.self.now _ c.told.ensures _ c.saturating_add-wanted.ensures _ c.new_in-more.result c.new_in-more.ensures
+    c.try_reserve.new.self c.in_default-try_reserve.ensures.made c.put_next.new.self c.put_next.ensures.items _ c.in-Ok-extend_telling.ensures.extended
+
+pub returns-in-Err-extend_telling-clause-refused : goal.returns-in-Err-extend_telling-clause-refused
+returns-in-Err-extend_telling-clause-refused g c =
+    GathersShort-more _ _ _ _ _ _ c.args.self.now _ c.told.ensures _ c.saturating_add-wanted.ensures _ c.new_in-more.result c.new_in-more.ensures
+    c.try_reserve.new.self c.in_default-try_reserve.ensures.made c.put_next.new.self c.put_next.ensures.items _ _ c.in-Err-extend_telling.ensures.refused

@@ -7,7 +7,7 @@ use Rattle.aa_vec.specs.Choosing.{TakesMut, MayAskInOrder}
 use Rattle.aa_vec.specs.Until.{AsksBehind}
 use Rattle.aa_vec.specs.Vector.{Vector}
 use Rattle.aa_vec.specs.Inner.{view_of}
-use Rattle.aa_vec.proofs.Gaps.{there, within, lent-is, refilled, relent, LeavesBehind-view}
+use Rattle.aa_vec.proofs.Gaps.{there, within, lent-is, refilled, relent, IsFront-relent, LeavesBehind-view}
 use Rattle.aa_vec.proofs.vec.Vec.keep_behind.Goals as goal
 
 pub overflow_add-self-inside : goal.overflow_add-self-inside
@@ -29,6 +29,12 @@ kept_run-requires g c =
     let stands : StandsBehind (view_of v) c.args.gap c.args.count = subst (λ w. StandsBehind w c.args.gap c.args.count) (sym c.self.view_is) c.requires.stands in
     subst (MayAskInOrder (CalledAtMut g.F.FnMut) (TakesMut g.F.FnMut) c.args.keep.now)
     (sym (ap (λ w. behind_items w c.args.gap c.args.count) c.self.view_is) ∙ lent-is v c.self.invariant c.args.gap c.args.count stands c.slice_mut.result.now c.slice_mut.result.now c.slice_mut.ensures.value) c.requires.callable
+
+pub invariant_of-self : goal.invariant_of-self
+invariant_of-self g c =
+    let v = c.self.inside in let gap = c.args.gap in let n = c.args.count in
+    let stands : StandsBehind (view_of v) gap n = subst (λ w. StandsBehind w gap n) (sym c.self.view_is) c.requires.stands in
+    IsFront-relent v c.self.invariant gap n stands c.slice_mut.result.now c.kept_run.new.elements c.slice_mut.ensures.value
 
 pub returns : goal.returns
 returns g c =

@@ -4,4 +4,4 @@ use Rattle.aa_vec.proofs.Turns.{Turns}
 use Rattle.aa_vec.proofs.vec.Vec.resize_with.Given as goal
 
 abbrev pub invariant-each : goal.invariant-each
-invariant-each g l = Turns (λ p. g.F.FnMut.pre p tt) (λ p y q. Called g.F.FnMut p tt y q) l.initial.self (l.new_len - l.len) l.initial.f (l._filled - l.len) l.self l.f
+invariant-each g l = Turns (λ p. g.F.FnMut.pre p tt) (λ p y q. Called g.F.FnMut p tt y q) l.initial.self (l.new_len - l.len) l.initial.f l._filled l.self l.f

@@ -1,7 +1,7 @@
 use Rattle.std.proofs.Common.{rules}
 use Rattle.std.specs.Mem.{type_size}
 use denote.Param.{param}
-use Rattle.aa_vec.specs.Splices.{splice_range, splice_iter}
+use Rattle.aa_vec.specs.Splices.{splice_range, splice_iter, splice_vec}
 use Rattle.allocator_api2.specs.Commands.{Takes}
 use Rattle.allocator_api2.specs.declared.runner.Command.TheVariants.{Splice}
 use Rattle.allocator_api2.specs.declared.runner.Reply.TheVariants.{Done, Refused}
@@ -21,5 +21,5 @@ returns-in-Err g c = λ side.
     let s = c.splice-range.result in
     let new = c.finish_hinted.new.self.0 in
     let refused : Takes (type_size (param 0 g.row.T)) c.args.main.now side (Splice c.args.start c.args.end c.args.items c.args.hint) (Refused c.kind.result) new side =
-    Spliced-refused _ c.args.main.now c.args.start c.args.end (search rules) (search rules) c.len.ensures.within c.args.items c.args.hint (splice_range s) c.splice-range.ensures.drains (splice_iter s) (search rules) new c.kind.result (rw c.kind.ensures c.in-Err.ensures.refused) c.finish_hinted.ensures.writes side in
+    Spliced-refused _ c.args.main.now c.args.start c.args.end (search rules) (search rules) c.len.ensures.within c.args.items c.args.hint (splice_range s) c.splice-range.ensures.drains (splice_iter s) (search rules) new {fails = ¬ (g.A.Clone.is_infallible (splice_vec s).alloc)} c.kind.result (rw c.kind.ensures c.in-Err.ensures.refused) c.finish_hinted.ensures.writes side in
     search rules

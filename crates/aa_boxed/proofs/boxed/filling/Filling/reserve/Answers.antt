@@ -27,10 +27,10 @@ pub returns-clause-refused : goal.returns-clause-refused
 returns-clause-refused g c =
     let r = c.try_reserve in
     let P : Begun g.row.T.Denot g.row.A.Denot → Type 0 = λ w. IfErr r.result (λ e. (w.capacity < length w.items + c.args.additional) × IsRefused e (length w.items + c.args.additional)) in
-    subst P c.self.view_is (room-refused c.self.inside c.self.invariant c.args.additional r.new.self r.result r.ensures.fits r.ensures.refused)
+    subst P c.self.view_is (room-refused c.self.inside c.self.invariant c.args.additional r.new.self r.result r.ensures.refused)
 
 pub returns-clause-overflow : goal.returns-clause-overflow
 returns-clause-overflow g c =
     let r = c.try_reserve in
     let P : Begun g.row.T.Denot g.row.A.Denot → Type 0 = λ w. IfErr r.result (λ e. usize_max < length w.items + c.args.additional → e ≡ CapacityOverflow) in
-    subst P c.self.view_is (room-overflow c.self.inside c.self.invariant c.args.additional r.result r.ensures.overflow)
+    subst P c.self.view_is (room-overflow c.self.inside c.self.invariant c.args.additional r.new.self r.result r.ensures.refused)

@@ -1,6 +1,14 @@
-use Rattle.std.proofs.Common.{◌-◌}
-use Rattle.aa_vec.proofs.Flattening.{Pours}
+use Rattle.std.proofs.Common.{◌≡◌, ◌+◌, ◌-◌, ◌*◌, ◌++◌}
+use Rattle.aa_raw.specs.Places.{IsRun, run}
+use Rattle.aa_vec.specs.Arrays.{flattened}
+use Rattle.aa_vec.specs.Vector.{len, SameBlock, Writes, run_count}
 use Rattle.aa_vec.proofs.vec.arrays.Vec+array+N+T+A.poured_into.Given as goal
 
 abbrev pub invariant-each : goal.invariant-each
-invariant-each g l = Pours g.row.N l.fn.flat l.initial.block.places l.len l.i (l.len - l.i) l.block.places l.flat
+invariant-each g l = record {
+  filled : IsRun l.block.places l.i (l.len - l.i);
+  block : SameBlock l.fn.flat l.flat;
+  items : l.flat.items ++ flattened (run l.block.places l.i (l.len - l.i)) ≡ l.fn.flat.items ++ flattened l.fn.self.items;
+  long : len l.flat ≡ len l.fn.flat + l.i * g.row.N;
+  writes : Writes l.fn.flat (l.i * g.row.N) (l.i * run_count g.row.N) l.flat;
+}

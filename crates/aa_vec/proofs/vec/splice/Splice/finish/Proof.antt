@@ -1,19 +1,7 @@
 -- `finish` hands the reference and the iterator on to `end_bounded`, for good: so it owes no splice at the return.
 use Rattle.aa_vec.proofs.Walks.{refl, List, [], ◌∷◌, ◌++◌, Args, dcons, dnil, a_type, inst_fn, Val, sep, id⊢, ftrue, ‵, raw, ◌⊛◌, some, later, ◌$◌, ◌∵◌, !, qed, move, keep, use1, group, split, join, fjoin, pick, await, suffices, done, whole, sub, enter, stop, fld, of_opd, addr, and_then, no_more, returns, alloc_all, pass_all, free_all, look_at, get, get_in, through, sets, lands_as, fact, tables, bounded, owns, nothing, heard, fields, calls_at, Ended, lasts, alive, triple_of, framed, Stays, walk_of, ends_at, ◌≡◌}
-use base.Logic.{SProp}
-use types.Kit.{regoal, prop}
-use contract.Monad.{fact}
-use denote.Exit.{at}
-use denote.Laws.{Is, shows}
-use denote.Steps.{peeks}
-use denote.Triple.Clauses.{at_exit}
-use prog.Wp.{WpFn}
-use Rattle.std.proofs.raw_atomic.Walks.{proved_at}
-use Rattle.aa_vec.proofs.GivenUp.{only_said, goes}
-use Rattle.aa_vec.proofs.SplicedOn.{Decl, Row, words, word, Fits, opened, asks, Answer, answer_laws}
-use Rattle.std.specs.Iterator.{IsFinite}
+use Rattle.aa_vec.proofs.SplicedOn.{SProp, regoal, prop, at, Is, shows, peeks, at_exit, WpFn, proved_at, only_said, goes, IsFinite, Vector, Decl, Row, words, word, Fits, opened, asks, Answer, answer_laws}
 use Rattle.aa_vec.specs.Draining.{drain_tail}
-use Rattle.aa_vec.specs.Vector.{Vector}
 use Rattle.aa_vec.specs.contracts.vec.splice.Splice.finish as f
 use Rattle.aa_vec.proofs.vec.splice.Splice.finish.Statement.{statement}
 use Rattle.aa_vec.proofs.vec.splice.Splice.finish.Code as code

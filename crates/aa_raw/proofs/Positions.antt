@@ -1,0 +1,164 @@
+-- Lemmas on edits at a position of the first n places of a block, which are filled.
+use Rattle.std.proofs.Common.{◌≡◌, ◌≢◌, ℕ, suc, ◌+◌, ◌-◌, ◌<◌, ◌≤◌, List, [], ◌∷◌, ◌++◌, length, take, drop, get_or, Option, Some, None, true, refl, sym, ap, ◌∙◌, subst, arith, length-append, length-take, length-drop, length-set, zero-add, get_or-set_other}
+use Rattle.std.specs.Prelude.{slice_set, slice_get, insert, remove, swap_remove, is_some}
+use Rattle.std.proofs.lemmas.Bool.Decides.{nat_tests}
+use Rattle.std.proofs.lemmas.List.{set-set, set_comm, take-append-drop, take-set-le}
+use Rattle.std.proofs.lemmas.Option.{slice_get_read, get_or_from_slice_get}
+use Rattle.aa_raw.specs.Places.{IsRun, IsFilled, run, moved}
+use Rattle.aa_raw.proofs.Moves.{moved_one}
+use Rattle.aa_raw.proofs.Calls.{run-of_none, IsRun-rest, run-reserved, IsRun-reserved}
+use Rattle.aa_raw.proofs.Places.{lengths, length-moved, run_filled}
+use Rattle.aa_raw.proofs.Runs.{length-run, IsRun-long, IsRun-part, IsRun-same, run-split, run-take, run-drop, run-set-same, run-set-above, run-set-below, run-moved, run-moved-below, run-one}
+use Rattle.aa_raw.proofs.Firsts.{IsRun-set, run-set, run-at}
+
+module _ {T : Type 0} where
+  pub value_in : (o : Option T) → is_some o ≡ true → (x : T) × (o ≡ Some x)
+  value_in None e = cc
+  value_in (Some x) e = (x, refl)
+
+  module _ (cs : List (Option T)) (n : ℕ) (front : IsRun cs 0 n) where
+    -- one of them is filled
+    pub front-filled : (i : ℕ) → i < n → IsFilled cs i
+    front-filled i h = subst (λ k. IsFilled cs k) (zero-add i) (run_filled cs 0 n i front h)
+
+    -- the value that is read there
+    pub front-get : (i : ℕ) (x : T) → i < n → get_or cs i None ≡ Some x → slice_get (run cs 0 n) i ≡ Some x
+    front-get i x h e = slice_get_read (run cs 0 n) n i x (sym (length-run cs 0 n front)) h (run-at cs n i x front h e)
+
+    -- those from i on are moved up by one, and x put at i
+    abbrev pub inserted : (i : ℕ) → T → List (Option T)
+    inserted i x = slice_set (moved cs i (i + 1) (n - i)) i (Some x)
+
+    module _ (i : ℕ) (x : T) (within : i ≤ n) (room : n < length cs) where
+      long : length (moved cs i (i + 1) (n - i)) ≡ length cs
+      long = length-moved cs i (i + 1) (n - i) (omega arith) (omega arith)
+
+      pub length-inserted : length (inserted i x) ≡ length cs
+      length-inserted = length-set (moved cs i (i + 1) (n - i)) i (Some x) ∙ long
+
+      pub run-inserted : run (inserted i x) 0 (n + 1) ≡ insert (run cs 0 n) i x
+      run-inserted =
+          let k : ℕ = n - i in
+          let M : List (Option T) = moved cs i (i + 1) k in
+          let ds : List (Option T) = inserted i x in
+          let part : IsRun cs i k = IsRun-part cs 0 n i k (omega arith) (omega arith) front in
+          let before : run ds 0 i ≡ take i (run cs 0 n) = run-set-above M 0 i i (Some x) (omega (arith, long)) (omega arith) ∙ run-moved-below cs i (i + 1) k 0 i (omega arith) (omega arith) (omega arith) (omega arith) ∙ sym (run-take cs 0 i n within front) in
+          let here : run ds i 1 ≡ x ∷ [] = run-set-same M i x (omega (arith, long)) in
+          let behind : run ds (i + 1) k ≡ drop i (run cs 0 n) = run-set-below M (i + 1) k i (Some x) (omega arith) ∙ run-moved cs i (i + 1) k part (omega arith) ∙ sym (run-drop cs 0 i i n k (omega arith) (omega arith) front) in
+          run-split ds 0 i i (k + 1) (n + 1) (omega arith) (omega arith)
+          ∙ ap (λ ys. run ds 0 i ++ ys) (run-split ds i (i + 1) 1 k (k + 1) refl (omega arith))
+          ∙ ap (λ ys. ys ++ (run ds i 1 ++ run ds (i + 1) k)) before
+          ∙ ap (λ ys. take i (run cs 0 n) ++ (ys ++ run ds (i + 1) k)) here
+          ∙ ap (λ ys. take i (run cs 0 n) ++ (x ∷ ys)) behind
+
+      pub IsRun-inserted : IsRun (inserted i x) 0 (n + 1)
+      IsRun-inserted =
+          IsRun-long (inserted i x) 0 (n + 1)
+          (ap length run-inserted ∙ length-append (take i (run cs 0 n)) (x ∷ drop i (run cs 0 n)) ∙ omega (arith, length-take i (run cs 0 n), length-drop i (run cs 0 n), length-run cs 0 n front, within))
+          (omega (arith, length-inserted))
+
+    -- place i is emptied, and those behind it are moved down by one
+    abbrev pub removed : (i : ℕ) → List (Option T)
+    removed i = moved (slice_set cs i None) (i + 1) i (n - 1 - i)
+
+    module _ (i : ℕ) (within : i < n) where
+      taken : length (slice_set cs i None) ≡ length cs
+      taken = length-set cs i None
+
+      -- those behind it are still there
+      pub IsRun-behind : IsRun (slice_set cs i None) (i + 1) (n - 1 - i)
+      IsRun-behind =
+          IsRun-same cs (slice_set cs i None) (i + 1) (n - 1 - i) taken (run-set-below cs (i + 1) (n - 1 - i) i None (omega arith)) (IsRun-part cs 0 n (i + 1) (n - 1 - i) (omega arith) (omega arith) front)
+
+      pub length-removed : length (removed i) ≡ length cs
+      length-removed = length-moved (slice_set cs i None) (i + 1) i (n - 1 - i) (omega (arith, taken, front.0)) (omega (arith, taken, front.0)) ∙ taken
+
+      pub run-removed : run (removed i) 0 (n - 1) ≡ remove (run cs 0 n) i
+      run-removed =
+          let k : ℕ = n - 1 - i in
+          let ds : List (Option T) = slice_set cs i None in
+          let before : run (removed i) 0 i ≡ take i (run cs 0 n) =
+          run-moved-below ds (i + 1) i k 0 i (omega (arith, taken, front.0)) (omega (arith, taken, front.0)) (omega arith) (omega arith) ∙ run-set-above cs 0 i i None (omega (arith, front.0)) (omega arith) ∙ sym (run-take cs 0 i n (omega arith) front) in
+          let behind : run (removed i) i k ≡ drop (suc i) (run cs 0 n) =
+          run-moved ds (i + 1) i k IsRun-behind (omega (arith, taken, front.0)) ∙ run-set-below cs (i + 1) k i None (omega arith) ∙ sym (run-drop cs 0 (i + 1) (suc i) n k (omega arith) (omega arith) front) in
+          run-split (removed i) 0 i i k (n - 1) (omega arith) (omega arith) ∙ ap (λ ys. ys ++ run (removed i) i k) before ∙ ap (λ ys. take i (run cs 0 n) ++ ys) behind
+
+      pub IsRun-removed : IsRun (removed i) 0 (n - 1)
+      IsRun-removed =
+          IsRun-long (removed i) 0 (n - 1)
+          (ap length run-removed ∙ length-append (take i (run cs 0 n)) (drop (suc i) (run cs 0 n)) ∙ omega (arith, length-take i (run cs 0 n), length-drop (suc i) (run cs 0 n), length-run cs 0 n front, within))
+          (omega (arith, length-removed, front.0))
+
+      -- the last one is taken: nothing moves
+      pub run-last_removed : (d : T) → i ≡ n - 1 → run (slice_set cs i None) 0 (n - 1) ≡ swap_remove (run cs 0 n) i d
+      run-last_removed d e =
+          let xs : List T = run cs 0 n in
+          run-set-above cs 0 (n - 1) i None (omega (arith, front.0)) (omega arith) ∙ sym (run-take cs 0 (n - 1) n (omega arith) front)
+          ∙ sym (take-set-le (n - 1) xs i (get_or xs (n - 1) d) (omega arith)) ∙ ap (λ k. take (k - 1) (slice_set xs i (get_or xs (k - 1) d))) (sym (length-run cs 0 n front))
+
+      -- another is taken: the last one is moved to its place
+      abbrev pub swapped : List (Option T)
+      swapped = moved (slice_set cs i None) (n - 1) i 1
+
+      pub length-swapped : length swapped ≡ length cs
+      length-swapped = length-moved (slice_set cs i None) (n - 1) i 1 (omega (arith, taken, front.0)) (omega (arith, taken, front.0)) ∙ taken
+
+      -- the last one is still there
+      pub last-filled : i < n - 1 → IsFilled (slice_set cs i None) (n - 1)
+      last-filled h = ap is_some (get_or-set_other cs i (n - 1) None None (λ e. absurd (omega arith))) ∙ front-filled (n - 1) (omega arith)
+
+      pub run-swapped : (d : T) → i < n - 1 → run swapped 0 (n - 1) ≡ swap_remove (run cs 0 n) i d
+      run-swapped d h =
+          let last : ℕ = n - 1 in
+          let xs : List T = run cs 0 n in
+          let v = value_in (get_or cs last None) (front-filled last (omega arith)) in
+          let y : T = v.0 in
+          let there : last ≢ i = λ e. absurd (omega arith) in
+          let moved_is : get_or (slice_set cs i None) last None ≡ Some y = get_or-set_other cs i last None None there ∙ v.1 in
+          let places : swapped ≡ slice_set (slice_set cs i (Some y)) last None =
+          moved_one (slice_set cs i None) last i there (omega (arith, taken, front.0)) (omega (arith, taken, front.0))
+          ∙ ap (λ c. slice_set (slice_set (slice_set cs i None) last None) i c) moved_is
+          ∙ ap (λ l. slice_set l i (Some y)) (set_comm cs i last None None (λ e. there (sym e)))
+          ∙ set-set (slice_set cs last None) i None (Some y)
+          ∙ set_comm cs last i None (Some y) there in
+          let last_is : y ≡ get_or xs last d = sym (get_or_from_slice_get xs last y d (front-get last y (omega arith) v.1)) in
+          ap (λ l. run l 0 last) places
+          ∙ run-set-above (slice_set cs i (Some y)) 0 last last None (omega (arith, front.0, length-set cs i (Some y))) (omega arith)
+          ∙ sym (run-take (slice_set cs i (Some y)) 0 last n (omega arith) (IsRun-set cs n i y front))
+          ∙ ap (take last) (run-set cs n i y front within ∙ ap (slice_set xs i) last_is)
+          ∙ ap (λ k. take (k - 1) (slice_set xs i (get_or xs (k - 1) d))) (sym (length-run cs 0 n front))
+
+      -- one element fewer, all of them there
+      pub IsRun-fewer : (d : T) (ds : List (Option T)) → length ds ≡ length cs → run ds 0 (n - 1) ≡ swap_remove (run cs 0 n) i d → IsRun ds 0 (n - 1)
+      IsRun-fewer d ds l e =
+          let xs : List T = run cs 0 n in
+          let ys : List T = slice_set xs i (get_or xs (length xs - 1) d) in
+          IsRun-long ds 0 (n - 1) (ap length e ∙ omega (arith, length-take (length xs - 1) ys, length-set xs i (get_or xs (length xs - 1) d), length-run cs 0 n front, within)) (omega (arith, l, front.0))
+
+      value : T
+      value = (value_in (get_or cs i None) (front-filled i within)).0
+
+      pub IsRun-last_removed : i ≡ n - 1 → IsRun (slice_set cs i None) 0 (n - 1)
+      IsRun-last_removed e = IsRun-fewer value (slice_set cs i None) taken (run-last_removed value e)
+
+      pub IsRun-swapped : i < n - 1 → IsRun swapped 0 (n - 1)
+      IsRun-swapped h = IsRun-fewer value swapped length-swapped (run-swapped value h)
+
+  -- the first of the first n taken, and those behind it moved down by one
+  module _ (cs : List (Option T)) (n : ℕ) (some : 0 < n) (front : IsRun cs 0 n) where
+    none : n - 1 - 0 ≡ n - 1
+    none = omega arith
+
+    pub IsRun-behind_first : IsRun (slice_set cs 0 None) 1 (n - 1)
+    IsRun-behind_first = subst (IsRun (slice_set cs 0 None) 1) none (IsRun-behind cs n front 0 some)
+
+    pub IsRun-removed_first : IsRun (moved (slice_set cs 0 None) 1 0 (n - 1)) 0 (n - 1)
+    IsRun-removed_first = subst (λ k. IsRun (moved (slice_set cs 0 None) 1 0 k) 0 (n - 1)) none (IsRun-removed cs n front 0 some)
+
+    pub run-removed_first : (x : T) → get_or cs 0 None ≡ Some x → x ∷ run (moved (slice_set cs 0 None) 1 0 (n - 1)) 0 (n - 1) ≡ run cs 0 n
+    run-removed_first x e =
+        let first : run cs 0 1 ≡ x ∷ [] = run-one cs 0 x (omega (arith, front.0)) e in
+        ap (λ k. x ∷ run (moved (slice_set cs 0 None) 1 0 k) 0 (n - 1)) (sym none) ∙ ap (λ ys. x ∷ ys) (run-removed cs n front 0 some) ∙ ap (λ ys. ys ++ drop 1 (run cs 0 n)) (sym first ∙ sym (run-take cs 0 1 n (omega arith) front))
+        ∙ take-append-drop 1 (run cs 0 n)
+
+pub ruleset at_positions = (nat_tests, lengths, length-run, length-set, run-of_none, IsRun-rest, run-reserved, IsRun-reserved, front-filled, front-get, length-inserted, run-inserted, IsRun-inserted, IsRun-behind, length-removed, run-removed, IsRun-removed, IsRun-behind_first, run-removed_first, IsRun-removed_first, run-last_removed, IsRun-last_removed, last-filled, length-swapped, run-swapped, IsRun-swapped, IsRun-set, run-set, run-at)

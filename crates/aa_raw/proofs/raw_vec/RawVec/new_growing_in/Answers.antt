@@ -1,0 +1,20 @@
+use Rattle.std.proofs.Common.{◌≡◌, ◌<◌, List, Option, None, replicate, ap, ◌∙◌, arith, inl, inr}
+use Rattle.std.proofs.lemmas.Bool.Decides.{eqb_tells}
+use Rattle.std.specs.Mem.{type_size}
+use denote.Param.{param}
+use Rattle.aa_raw.specs.Block.{Block}
+use Rattle.aa_raw.specs.Places.{empty_places}
+use Rattle.aa_raw.proofs.Places.{endless-empty, sized-empty}
+use Rattle.aa_raw.proofs.raw_vec.RawVec.new_growing_in.Goals.{then-is_sizeless, else-is_sizeless}
+use Rattle.aa_raw.proofs.raw_vec.RawVec.new_growing_in.Goals as goal
+
+pub returns : goal.returns
+returns g c =
+    let X : Type 0 = g.row.T.Denot in let size = type_size (param 0 g.row.T) in
+    let empty : replicate c.if-is_sizeless.capacity None ≡ empty_places {X = X} size 0 = elim c.if-is_sizeless.branch [
+      | then-is_sizeless w ↦ endless-empty X size 0 c.if-is_sizeless.capacity (c.is_sizeless.ensures.0 w.if-is_sizeless.true) w.capacity-is
+      | else-is_sizeless w ↦ let some : 0 < size = elim (eqb_tells size 0) [ inl h ↦ let t = c.is_sizeless.ensures.1 h.1 in let f = w.if-is_sizeless.false in cc | inr h ↦ omega (arith, h.1) ] in
+          ap (λ n. replicate {A = Option X} n None) w.capacity-is ∙ sized-empty X size 0 some
+    ] in
+    let place : List (Option X) → Block X g.row.A.Denot = λ cs. record { places = cs; growth = c.args.growth; grown = 0; written = 0; runs = 0; alloc = c.args.alloc } in
+    c.made.ensures ∙ ap place (c.dangle-row.ensures.0 ∙ empty)

@@ -1,0 +1,133 @@
+-- Items gathered in a vector of their own, and what was asked for where they could not be.
+use Rattle.std.proofs.Common.{◌≡◌, ℕ, ◌+◌, ◌-◌, ◌<◌, ◌≤◌, List, [], ◌∷◌, ◌++◌, length, Option, refl, sym, ap, ◌∙◌, subst, arith, inl, inr, length-append}
+use Rattle.std.specs.Prelude.{min}
+use Rattle.std.proofs.lemmas.Bool.Decides.{eqb_tells}
+use Rattle.std.proofs.lemmas.List.{append-nil}
+use Rattle.aa_raw.specs.declared.collections.TryReserveErrorKind.{TryReserveErrorKind}
+use Rattle.aa_raw.specs.declared.raw_vec.Growth.TheVariants.{Doubling}
+use Rattle.aa_raw.specs.Growth.{amortized, least_of, usize_max}
+use Rattle.aa_raw.specs.Refusals.{IsRefusedAt}
+use Rattle.aa_vec.specs.Vector.{Vector, len, IsNew, LacksRoom, GrowsTo, Holds, MakesRoom}
+use Rattle.aa_vec.specs.Extending.{Climbs, stays, grows, asked_for, ExtendsFull, ExtendsByAll, ExtendsByFront}
+use Rattle.aa_vec.specs.Splicing.{LacksVector, LacksOthers}
+use Rattle.aa_vec.specs.Filling.{Told, Gathers, GathersShort}
+use Rattle.aa_vec.proofs.Climbing.{SameBlock-refl, Climbs-counted}
+use Rattle.aa_vec.proofs.Counted.{ExtendsFull-told}
+use Rattle.aa_vec.proofs.Lists.{equal, unequal}
+use Rattle.aa_vec.proofs.Telling.{told_first}
+
+-- another function tells the same of the items, behind which `more` is to come
+module _ {T A : Type 0} (size : ℕ) (lower by : ℕ → ℕ) (items : List T) (some : 0 < length items) where
+  module _ (more : List T) (same : (k : ℕ) → k < length items → lower k ≡ by (k + length more)) (error : TryReserveErrorKind) where
+    LacksVector-told : (fails fails' : Type 0) → (fails → fails') → LacksVector A fails size lower items error → LacksVector A fails' size by (items ++ more) error
+    LacksVector-told fails fails' f l =
+        let asked : asked_for lower (length items) ≡ asked_for by (length (items ++ more)) =
+        ap (λ n. min (n + 1) usize_max) (same (length items - 1) (omega (arith, some)) ∙ ap by (omega (arith, some, length-append items more))) in
+        elim l [
+          | inl h ↦ inl (f h.0, subst (λ k. IsRefusedAt error (amortized Doubling 0 k (least_of size))) asked h.1)
+          | inr h ↦ inr (h.0, h.1, h.2, ExtendsFull-told size lower by (SameBlock-refl h.0) [] items more (λ k l. same k (l (omega arith))) (items ++ more) refl error h.1 h.3)
+        ]
+
+    pub LacksOthers-told : (fails fails' whole whole' : Type 0) → (fails → fails') → (whole → whole') → (whole → more ≡ []) → (v : Vector T A) → LacksOthers fails whole size lower v items error
+        → LacksOthers fails' whole' size by v (items ++ more) error
+    LacksOthers-told fails fails' whole whole' f w none v l = elim l [
+      | inl h ↦ inl (LacksVector-told fails fails' f h)
+      | inr h ↦ inr (w h.0, subst (λ k. LacksRoom v k error) (omega (arith, length-append items more, ap length (none h.0))) h.1)
+    ]
+
+  pub LacksOthers-same : ((k : ℕ) → k < length items → lower k ≡ by k) → (fails fails' whole : Type 0) → (fails → fails') → (v : Vector T A) (error : TryReserveErrorKind) → LacksOthers fails whole size lower v items error
+      → LacksOthers fails' whole size by v items error
+  LacksOthers-same same fails fails' whole f v error l =
+      let nil : List T = [] in
+      subst (λ ys. LacksOthers fails' whole size by v ys error) (append-nil items) (LacksOthers-told nil (λ k h. same k h ∙ ap by (omega arith)) error fails fails' whole whole f (λ w. w) (λ _. refl) v l)
+
+-- n is told behind `first`
+module _ {S T A : Type 0} (steps : S → Option T → S → Type 0) (Tells : S → ℕ → Type 0) (fails : Type 0) (size : ℕ) (s : S) (first : T) (old : Vector T A) (n : ℕ) (tells : Tells s n) (wanted : ℕ) (is : wanted ≡ min (n + 1) usize_max) where
+  abbrev none_taken : Told steps Tells s []
+  none_taken = record { lower = λ _. n; last = s; first = tells; each = refl }
+
+  -- the clone of the allocator was refused
+  pub GathersShort-clone : (error : TryReserveErrorKind) → IsRefusedAt error (amortized Doubling 0 wanted (least_of size)) → fails → GathersShort steps Tells size s first fails old error
+  GathersShort-clone error r f = record { rest = []; told = none_taken; lacks = inl (f, subst (λ k. IsRefusedAt error (amortized Doubling 0 k (least_of size))) is r) }
+
+  module _ (a : A) (made : Vector T A) (new : IsNew size 0 a made) where
+    made_new : IsNew size 0 made.alloc made
+    made_new = record { items = new.items; capacity = new.capacity; growth = new.growth; grown = new.grown; written = new.written; runs = new.runs; alloc = refl }
+
+    -- its first growth was
+    pub GathersShort-first : (error : TryReserveErrorKind) → LacksRoom made wanted error → GathersShort steps Tells size s first fails old error
+    GathersShort-first error lacks =
+        let no_places : made.capacity ≡ 0 = elim (eqb_tells size 0) [
+          | inl h ↦ absurd (omega (arith, lacks.full, ap length new.items, is, new.capacity, equal size 0 usize_max 0 h.1))
+          | inr h ↦ new.capacity ∙ unequal size 0 usize_max 0 h.1
+        ] in
+        record {
+          rest = [];
+          told = none_taken;
+          lacks = inr (
+            made,
+            made,
+            made_new,
+            record {
+              front = [];
+              others = first ∷ [];
+              begins = refl;
+              climbs = stays (SameBlock-refl made);
+              short = omega (arith, no_places);
+              items = new.items;
+              full = omega (arith, no_places);
+              lacks = subst (λ k. LacksRoom made k error) is lacks;
+            },
+          );
+        }
+
+    -- `first` was put there, and others behind it
+    module _ (v : Vector T A) (g : GrowsTo size made wanted made.items v) (w : Vector T A) (put : Holds v (v.items ++ first ∷ []) w) where
+      one : w.items ≡ first ∷ []
+      one = put.items ∙ ap (λ ys. ys ++ first ∷ []) (g.items ∙ new.items)
+
+      pub Gathers-all : (x : Vector T A) → ExtendsByAll steps Tells size s w x → Gathers steps Tells size s first x
+      Gathers-all x e =
+          let f = told_first steps Tells e.lower s e.added e.last e.told n tells in
+          record { rest = e.added; told = record { lower = f.0; last = e.last; first = f.4; each = f.2 }; ends = e.ends; items = e.extends.items ∙ ap (λ ys. ys ++ e.added) one }
+
+      pub GathersShort-more : (x : Vector T A) (error : TryReserveErrorKind) → ExtendsByFront steps Tells size s w error x → GathersShort steps Tells size s first fails old error
+      GathersShort-more x error e =
+          let nil : List T = [] in
+          let all : List T = first ∷ e.taken in
+          let f = told_first steps Tells e.lower s e.taken e.last e.told n tells in
+          let same : (k : ℕ) → (length w.items ≤ v.capacity → k < length e.taken) → e.lower k ≡ f.0 (k + length nil) = λ k h. f.1 k (h (omega (arith, e.within, put.block.capacity))) ∙ ap f.0 (omega arith) in
+          let full : ExtendsFull size f.0 v w.items e.taken error x = ExtendsFull-told size e.lower f.0 put.block w.items e.taken nil same e.taken (sym (append-nil e.taken)) error x e.extends in
+          let needed : length w.items + length e.taken ≡ length nil + length all = omega (arith, ap length one) in
+          let rest : Climbs size f.0 (length nil + length all) v x = subst (λ k. Climbs size f.0 k v x) needed full.climbs in
+          let none : len made ≡ 0 = ap length new.items in
+          let climbs : Climbs size f.0 (length nil + length all) made x = elim g.room [
+            | inl h ↦ Climbs-counted size f.0 f.0 (length nil + length all) 0 (length nil + length all) h.1 (omega arith) (λ k _. ap f.0 (omega arith)) rest
+            | inr h ↦
+                let no_places : made.capacity ≡ 0 = new.capacity ∙ unequal size 0 usize_max 0 (λ z. absurd (omega (arith, z, h.1.has_size))) in
+                let asked : wanted ≡ asked_for f.0 (length nil + length all - made.capacity) = is ∙ ap (λ k. min (k + 1) usize_max) (sym f.3 ∙ ap f.0 (omega (arith, no_places))) in
+                let m : MakesRoom size made made.capacity (asked_for f.0 (length nil + length all - made.capacity)) v =
+                subst (λ k. MakesRoom size made made.capacity k v) asked (subst (λ k. MakesRoom size made k wanted v) {x = len made} {y = made.capacity} (omega (arith, none, no_places)) g.room) in
+                grows (omega (arith, no_places)) m rest
+          ] in
+          record {
+            rest = e.taken;
+            told = record { lower = f.0; last = e.last; first = f.4; each = f.2 };
+            lacks = inr (
+              made,
+              x,
+              made_new,
+              record {
+                front = first ∷ full.front;
+                others = full.others;
+                begins = ap (λ ys. first ∷ ys) full.begins;
+                climbs = climbs;
+                short = omega (arith, full.short, needed);
+                items = full.items ∙ ap (λ ys. ys ++ full.front) one;
+                full = omega (arith, full.full, ap length one);
+                lacks = full.lacks;
+              },
+            );
+          }
+
+pub ruleset gathered = (GathersShort-clone)

@@ -1,8 +1,0 @@
-use Rattle.std.proofs.Common.{ap, arith}
-use Rattle.aa_raw.proofs.Runs.{length-run}
-use Rattle.aa_vec.specs.Vector.{len}
-use Rattle.aa_vec.proofs.vec.Vec.capacity.Goals as goal
-
-pub returns-clause-within : goal.returns-clause-within
-returns-clause-within g c =
-    omega (arith, length-run c.self.inside.block.places 0 c.self.inside.len c.self.invariant, c.self.invariant.0, ap len c.self.view_is, ap (λ v. v.capacity) c.self.view_is)
