@@ -1,26 +1,22 @@
 -- Items that come of an iterator, and are put into a block.
 use Rattle.std.proofs.Common.{◌≡◌, ℕ, ◌+◌, ◌<◌, ◌≤◌, List, [], ◌∷◌, ◌++◌, length, Option, Some, None, refl, sym, ap, ◌∙◌, subst, arith, length-append, inl, inr}
-use Rattle.std.specs.Prelude.{Result, Ok, Err, IfOk, if◌then◌else◌, ◌==◌}
+use Rattle.std.specs.Prelude.{Result, Ok, Err, IfOk, IfErr, if◌then◌else◌, ◌==◌}
 use Rattle.std.specs.Iterator.{Yields, Drains}
 use Rattle.std.specs.Iterator.Runs.{WholeRun}
 use Rattle.std.proofs.iter.runs.Consumers.{total_runs}
 use Rattle.std.proofs.lemmas.Bool.Decides.{eqb_tells}
 use Rattle.aa_raw.specs.Growth.{usize_max, sized}
-use Rattle.aa_raw.specs.Refusals.{IsRefused, IsRefusedAt}
+use Rattle.aa_raw.specs.Refusals.{IsRefused}
 use Rattle.aa_raw.specs.declared.collections.TryReserveErrorKind.{TryReserveErrorKind}
 use Rattle.aa_raw.specs.declared.collections.TryReserveErrorKind.TheVariants.{CapacityOverflow, AllocError}
 use Rattle.aa_raw.specs.declared.raw_vec.Growth.TheVariants.{Doubling}
-use Rattle.aa_boxed.specs.Slice.{Begun, Slice, ended, with_next, StopsAfter}
+use Rattle.aa_boxed.specs.Slice.{Begun, Slice, ended, with_next, Stops}
 use Rattle.aa_boxed.proofs.Fillings.{none-chosen, some-chosen}
 
 -- a refusal of more is one of less
 pub IsRefused-less : (e : TryReserveErrorKind) (m n : ℕ) → n ≤ m → IsRefused e m → IsRefused e n
 IsRefused-less CapacityOverflow m n h r = tt
 IsRefused-less (AllocError capacity) m n h r = omega (arith, h, r)
-
-pub IsRefused-at : (e : TryReserveErrorKind) (n : ℕ) → IsRefusedAt e n → IsRefused e n
-IsRefused-at CapacityOverflow n r = tt
-IsRefused-at (AllocError capacity) n r = omega (arith, r)
 
 -- more than a new block has places for
 over_start : (size n : ℕ) → 0 < n → (size ≡ 0 → usize_max < n) → n ≤ sized size 0 → ⊥
@@ -48,6 +44,12 @@ module _ {S T : Type 0} (steps : S → Option T → S → Type 0) where
   pub whole_run_of : {A E : Type 0} (f : Begun T A) (s : S) (r : Result (Slice T A) E) → IfOk r (λ b. b ≡ ended f) → Drains steps s f.items → IfOk r (λ b. WholeRun steps s (λ p. b.items ≡ p.items))
   whole_run_of f s (Ok b) e d = subst (λ ys. WholeRun steps s (λ p. ys ≡ p.items)) (sym (ap (λ y. y.items) e)) (whole_run s f.items d)
   whole_run_of f s (Err error) e d = tt
+
+  -- at the end a block of just their number was refused
+  pub stops_at_end : {A : Type 0} (f : Begun T A) (s : S) (size : ℕ) (r : Result (Slice T A) TryReserveErrorKind)
+      → IfErr r (λ e. (0 < length f.items) × (0 < size) × (e ≡ AllocError (length f.items))) → Drains steps s f.items → IfErr r (Stops steps size s)
+  stops_at_end f s size (Ok b) e d = tt
+  stops_at_end f s size (Err error) e d = inr (record { taken = f.items; came = d; some = e.0; has_size = e.1; number = e.2 })
 
   module _ {A : Type 0} (left : S → ℕ) (size : ℕ) (iter : S) (alloc : A) where
     -- what came from iter, which is now s, was put into f
@@ -91,15 +93,16 @@ module _ {S T : Type 0} (steps : S → Option T → S → Type 0) where
           many : size ≡ 0 → usize_max < length (f.items ++ x ∷ [])
           many z = omega (arith, p.sizeless z, full, longer)
 
-          pub Coming-refused : (k : ℕ) → 0 < k → (e : TryReserveErrorKind) → IsRefused e (length f.items + k) → (usize_max < length f.items + k → e ≡ CapacityOverflow) → StopsAfter steps size iter e
-          Coming-refused k h e r o = record {
+          pub Coming-refused : (k : ℕ) → 0 < k → (e : TryReserveErrorKind) → IsRefused e (length f.items + k) → (usize_max < length f.items + k → e ≡ CapacityOverflow) → Stops steps size iter e
+          Coming-refused k h e r o = inl (record {
             taken = f.items ++ x ∷ [];
             last = t;
             came = Yields-next iter f.items s x t p.came step;
             some = omega (arith, longer);
             number = IsRefused-less e (length f.items + k) (length (f.items ++ x ∷ [])) (omega (arith, h, longer)) r;
-            sizeless = λ z. (many z, o (omega (arith, many z, h, longer)));
-          }
+            overflow = λ over. o (omega (arith, over, h, longer));
+            sizeless = many;
+          })
 
           pub Coming-over : left iter ≤ sized size 0 → ⊥
           Coming-over few = over_start size (length (f.items ++ x ∷ [])) (omega (arith, longer)) many (omega (arith, few, p.fewer, on, longer))

@@ -5,11 +5,19 @@ use Rattle.aa_raw.specs.Growth.{usize_max}
 use Rattle.aa_raw.specs.Refusals.{IsRefused}
 use Rattle.aa_raw.specs.declared.collections.TryReserveErrorKind.{TryReserveErrorKind}
 use Rattle.aa_raw.specs.declared.collections.TryReserveErrorKind.TheVariants.{CapacityOverflow}
+use Rattle.aa_raw.specs.declared.raw_vec.Growth.{Growth}
+use Rattle.aa_boxed.specs.Slice.{Slice}
 
--- the bytes of a text in UTF-8
+-- the bytes of a text in UTF-8; their block keeps how it grows for the vector that they may become
 pub record Text (A : Type 0) : Type 0 where
   pub bytes : List ℕ
+  pub growth : Growth
   pub alloc : A
+
+module _ {A : Type 0} where
+  -- the bytes alone, as a boxed slice
+  abbrev pub bytes_of : Text A → Slice ℕ A
+  bytes_of t = record { items = t.bytes; growth = t.growth; alloc = t.alloc }
 
 -- of an iterator's texts all that came but the last stand behind old, which is new; room for the last was refused
 pub record StopsAtText {S A : Type 0} (steps : S → Option (Text A) → S → Type 0) (iter : S) (old : List ℕ) (error : TryReserveErrorKind)

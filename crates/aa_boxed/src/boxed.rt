@@ -12,6 +12,7 @@ use std::marker::Model;
 use std::ops::{Deref, DerefMut};
 
 mod arrays;
+mod cloned;
 mod compared;
 mod filling;
 mod handed_on;

@@ -2,3 +2,4 @@
 #![tactic(auto)]
 
 pub mod boxed;
+pub mod slices;

@@ -65,6 +65,21 @@ fn a_text_is_its_bytes(rt: HostRuntime) -> Result<(), Fail> {
 }
 
 #[test]
+fn bytes_in_utf8_become_a_text(rt: HostRuntime) -> Result<(), Fail> {
+    let bytes = BoxedText::from_text(rt.alloc(), "héllo")?.into_bytes();
+    match BoxedText::from_bytes(bytes) {
+        Ok(text) => assert_eq!(rt; text.as_str(), "héllo"),
+        Err(_) => assert!(rt; false),
+    }
+    let cut: BoxedSlice<u8> = BoxedSlice::from_slice(rt.alloc(), &[0x68, 0xc3])?;
+    match BoxedText::from_bytes(cut) {
+        Ok(_) => assert!(rt; false),
+        Err(back) => assert_eq!(rt; back.as_slice(), [0x68, 0xc3].as_slice()),
+    }
+    Ok(())
+}
+
+#[test]
 fn a_text_is_printed(rt: HostRuntime) -> Result<(), Fail> {
     let text = BoxedText::from_text(rt.alloc(), "héllo")?;
     assert_eq!(rt;

@@ -1,5 +1,8 @@
 //! The traits that a box hands on, through their bounds.
+ghost use Rattle.std.specs.Prelude.{◌≡◌};
+
 use aa_boxed::boxed::{Box, BoxedSlice, BoxedText};
+use std::alloc::{AllocError, Allocator};
 use std::cell::Cell;
 use std::cmp::Ordering;
 use std::hash::{DefaultHasher, Hash, Hasher};
@@ -113,6 +116,146 @@ fn a_position_is_sought_in_a_box(rt: HostRuntime) -> Result<(), Fail> {
     let mut b = Box::new(rt.alloc(), Cursor::new(b"one".as_slice()))?;
     assert_eq!(rt; b.seek(SeekFrom::Start(1))?, 1);
     assert_eq!(rt; b.stream_position()?, 1);
+    b.seek_relative(1)?;
+    assert_eq!(rt; b.stream_position()?, 2);
+    b.rewind()?;
+    assert_eq!(rt; b.stream_position()?, 0);
+    Ok(())
+}
+
+// How many bytes are shown at once. What is known of the allocator before is known after.
+fn count_shown<B: BufRead, A: Allocator>(b: &mut Box<B, A>) -> io::Result<usize>
+    ensures { b.new.alloc ≡ b.old.alloc }
+{
+    Ok(b.fill_buf()?.len())
+}
+
+// Reads to the end. What is known of the allocator before is known after.
+fn read_out<R: Read, A: Allocator>(b: &mut Box<R, A>, rest: &mut Vec<u8>) -> io::Result<usize>
+    ensures { b.new.alloc ≡ b.old.alloc }
+{
+    (**b).read_to_end(rest)
+}
+
+// Writes a number. What is known of the allocator before is known after.
+fn write_number<W: Write, A: Allocator>(b: &mut Box<W, A>, number: u32) -> io::Result<()>
+    ensures { b.new.alloc ≡ b.old.alloc }
+{
+    (**b).write_fmt(number)
+}
+
+#[test]
+fn a_box_is_read_and_written_through_its_value(rt: HostRuntime) -> Result<(), Fail> {
+    let mut b = Box::new(rt.alloc(), Cursor::new(b"one".as_slice()))?;
+    assert_eq!(rt; count_shown(&mut b)?, 3);
+    let mut rest = Vec::new(rt.alloc());
+    assert_eq!(rt; read_out(&mut b, &mut rest)?, 3);
+    let mut written = Box::new(rt.alloc(), rest)?;
+    write_number(&mut written, 2)?;
+    assert_eq!(rt; written.as_slice(), b"one2".as_slice());
+    Ok(())
+}
+
+// What it does by its own functions is not what the traits would do by its `read`, `write` and `seek`, which do nothing.
+#[derive(Drop)]
+struct Own {
+    position: u64,
+}
+
+impl Read for Own {
+    fn read(&mut self, _: &mut [u8]) -> io::Result<usize> {
+        Ok(0)
+    }
+
+    fn read_exact(&mut self, buf: &mut [u8]) -> io::Result<()> {
+        buf.fill(b'x');
+        Ok(())
+    }
+}
+
+impl BufRead for Own {
+    fn fill_buf(&mut self) -> io::Result<&[u8]> {
+        Ok(b"own")
+    }
+
+    fn consume(&mut self, _: usize) {}
+}
+
+impl Write for Own {
+    fn write(&mut self, _: &[u8]) -> io::Result<usize> {
+        Ok(0)
+    }
+
+    fn flush(&mut self) -> io::Result<()> {
+        Ok(())
+    }
+
+    fn write_all(&mut self, _: &[u8]) -> io::Result<()> {
+        Ok(())
+    }
+}
+
+impl Seek for Own {
+    fn seek(&mut self, _: SeekFrom) -> io::Result<u64> {
+        Err(io::ErrorKind::Unsupported.into())
+    }
+
+    fn rewind(&mut self) -> io::Result<()> {
+        self.position = 1;
+        Ok(())
+    }
+
+    fn stream_position(&mut self) -> io::Result<u64> {
+        Ok(self.position)
+    }
+
+    fn seek_relative(&mut self, _: i64) -> io::Result<()> {
+        self.position = 2;
+        Ok(())
+    }
+}
+
+#[test]
+fn a_value_reads_and_writes_by_its_own_functions(rt: HostRuntime) -> Result<(), Fail> {
+    let mut b = Box::new(rt.alloc(), Own { position: 0 })?;
+    let mut two = [0; 2];
+    assert_eq!(rt; b.read(&mut two)?, 0);
+    b.read_exact(&mut two)?;
+    assert_eq!(rt; two, *b"xx");
+    assert_eq!(rt; b.fill_buf()?, b"own".as_slice());
+    assert_eq!(rt; b.write(b"one")?, 0);
+    b.write_all(b"one")?;
+    b.write_fmt(3)?;
+    Ok(())
+}
+
+#[test]
+fn a_value_seeks_by_its_own_functions(rt: HostRuntime) -> Result<(), Fail> {
+    let mut b = Box::new(rt.alloc(), Own { position: 7 })?;
+    assert!(rt; b.seek(SeekFrom::Start(0)).is_err());
+    assert_eq!(rt; b.stream_position()?, 7);
+    b.rewind()?;
+    assert_eq!(rt; b.stream_position()?, 1);
+    b.seek_relative(5)?;
+    assert_eq!(rt; b.stream_position()?, 2);
+    Ok(())
+}
+
+fn clone_of<T: Clone>(x: &T) -> Result<T, AllocError> {
+    x.clone()
+}
+
+#[test]
+fn boxes_are_cloned_through_the_trait(rt: HostRuntime) -> Result<(), Fail> {
+    let list: BoxedSlice<u32> = BoxedSlice::from_slice(rt.alloc(), &[1, 2])?;
+    assert!(rt; clone_of(&list)? == list);
+    let text = BoxedText::from_text(rt.alloc(), "text")?;
+    assert!(rt; clone_of(&text)? == text);
+    let mut boxes = Vec::new(rt.alloc());
+    boxes.push(Box::new(rt.alloc(), 7u32)?)?;
+    let more = boxes.clone()?;
+    assert_eq!(rt; more.len(), 1);
+    assert_eq!(rt; *more[0], 7);
     Ok(())
 }
 

@@ -13,7 +13,7 @@ use allocator_api2::vec::Vec;
 use std::alloc::Allocator;
 
 /// Runs commands such as `Push`, `Insert` and `Pop` from an empty list: growth moves at most twice as many elements as there are
-/// commands.
+/// commands, and each has one reply.
 pub fn grown_by_commands<T, A>(
     main: &mut Vec<T, A>,
     side: &mut Vec<T, A>,
@@ -28,7 +28,8 @@ where
     requires few { AllByRecursion AddsOneAtMost commands.items }
     requires room { HasRoom replies.old (length commands.items) }
     requires copies { Copies T.is_clone }
-    ensures { main.new.grown ≤ main.old.grown + 2 * length commands.items }
+    ensures grown { main.new.grown ≤ main.old.grown + 2 * length commands.items }
+    ensures replied { length replies.new.items ≡ length replies.old.items + length commands.items }
 {
     run(
         main,

@@ -69,13 +69,14 @@ impl fmt::Display for TryReserveError {
 
 impl Error for TryReserveError {}
 
-/// What a refused call that took a value answers: the value comes back in `source`. The original has none, since its calls abort.
+/// What a refused call that took a value answers: the value comes back in `source`. It passes through `?` as it is, and as the
+/// error alone where that is what the function answers. The original has none, since its calls abort.
 #[derive(Debug, Drop)]
 pub struct Refused<S> {
     /// What the call was given.
     pub source: S,
     /// Why it was refused.
-    pub error: TryReserveError,
+    pub error: TryReserveErrorKind,
 }
 
 impl<S: Drop> From<Refused<S>> for TryReserveError {
@@ -83,6 +84,6 @@ impl<S: Drop> From<Refused<S>> for TryReserveError {
 
     /// Drops the source and keeps the error, so that `?` works.
     fn from(refused: Refused<S>) -> TryReserveError {
-        refused.error
+        refused.error.into()
     }
 }

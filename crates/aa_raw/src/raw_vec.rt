@@ -5,11 +5,11 @@ ghost use Rattle.std.specs.Mem.{type_size};
 ghost use Rattle.std.specs.Borrow.{sem};
 ghost use Rattle.std.specs.Fn.{CalledAtPairMut};
 ghost use Rattle.aa_raw.specs.Places.{IsCapacity, IsFilled, IsRun, moved, with_run};
-ghost use Rattle.aa_raw.specs.Block.{fresh, with_places, wrote, grown_to, shrunk_to, wanted, Reserves};
+ghost use Rattle.aa_raw.specs.Block.{fresh, with_places, wrote, grown_to, shrunk_to, wanted, Reserves, Reserved};
 ghost use Rattle.aa_raw.specs.Closures.{TakesPairMut, CalledAtPlaces};
 ghost use Rattle.aa_raw.specs.Growth.{amortized, least_of, usize_max};
 ghost use Rattle.aa_raw.specs.Refusals.{IsRefusedAt};
-ghost use Rattle.aa_raw.specs.Room.{HasRoom, LacksRoom};
+ghost use Rattle.aa_raw.specs.Room.{LacksRoom};
 
 use crate::collections::{TryReserveError, TryReserveErrorKind};
 use crate::row::{Claim, Row, allocate, dangle, deallocate, forget_row};
@@ -311,9 +311,7 @@ impl<T, A: Allocator> RawVec<T, A> {
     #[inline(always)]
     pub fn try_reserve(&mut self, len: usize, additional: usize) -> Result<(), TryReserveError>
         requires { IsRun self.old.places 0 len }
-        ensures fits { HasRoom (length self.old.places) len additional → IsOk result }
-        ensures made { OnOk result (Reserves (type_size T.row) self.old len additional (amortized self.old.growth (length self.old.places) (len + additional) (least_of (type_size T.row))) self.new) }
-        ensures refused { IfErr result (λ e. (self.new ≡ self.old) × LacksRoom (length self.old.places) len additional e) }
+        ensures { Reserved (type_size T.row) self.old len additional (amortized self.old.growth (length self.old.places) (len + additional) (least_of (type_size T.row))) result self.new }
     {
         if additional <= self.capacity - len || self.grow_for(Room::Amortized, len, additional) {
             return Ok(());
@@ -324,9 +322,7 @@ impl<T, A: Allocator> RawVec<T, A> {
     /// The same as `try_reserve`. It stands for `RawVec::reserve`, which aborts on a refusal.
     pub fn reserve(&mut self, len: usize, additional: usize) -> Result<(), TryReserveError>
         requires { IsRun self.old.places 0 len }
-        ensures fits { HasRoom (length self.old.places) len additional → IsOk result }
-        ensures made { OnOk result (Reserves (type_size T.row) self.old len additional (amortized self.old.growth (length self.old.places) (len + additional) (least_of (type_size T.row))) self.new) }
-        ensures refused { IfErr result (λ e. (self.new ≡ self.old) × LacksRoom (length self.old.places) len additional e) }
+        ensures { Reserved (type_size T.row) self.old len additional (amortized self.old.growth (length self.old.places) (len + additional) (least_of (type_size T.row))) result self.new }
     {
         self.try_reserve(len, additional)
     }
@@ -340,9 +336,7 @@ impl<T, A: Allocator> RawVec<T, A> {
         additional: usize,
     ) -> Result<(), TryReserveError>
         requires { IsRun self.old.places 0 len }
-        ensures fits { HasRoom (length self.old.places) len additional → IsOk result }
-        ensures made { OnOk result (Reserves (type_size T.row) self.old len additional (len + additional) self.new) }
-        ensures refused { IfErr result (λ e. (self.new ≡ self.old) × LacksRoom (length self.old.places) len additional e) }
+        ensures reserved { Reserved (type_size T.row) self.old len additional (len + additional) result self.new }
         ensures number { IfErr result (λ e. IsRefusedAt e (len + additional)) }
     {
         if additional <= self.capacity - len || self.grow_for(Room::Exact, len, additional) {
@@ -354,9 +348,7 @@ impl<T, A: Allocator> RawVec<T, A> {
     /// The same as `try_reserve_exact`. It stands for `RawVec::reserve_exact`, which aborts on a refusal.
     pub fn reserve_exact(&mut self, len: usize, additional: usize) -> Result<(), TryReserveError>
         requires { IsRun self.old.places 0 len }
-        ensures fits { HasRoom (length self.old.places) len additional → IsOk result }
-        ensures made { OnOk result (Reserves (type_size T.row) self.old len additional (len + additional) self.new) }
-        ensures refused { IfErr result (λ e. (self.new ≡ self.old) × LacksRoom (length self.old.places) len additional e) }
+        ensures reserved { Reserved (type_size T.row) self.old len additional (len + additional) result self.new }
         ensures number { IfErr result (λ e. IsRefusedAt e (len + additional)) }
     {
         self.try_reserve_exact(len, additional)
@@ -367,9 +359,7 @@ impl<T, A: Allocator> RawVec<T, A> {
     #[inline(always)]
     pub fn reserve_for_push(&mut self, len: usize) -> Result<(), TryReserveError>
         requires { IsRun self.old.places 0 len }
-        ensures fits { HasRoom (length self.old.places) len 1 → IsOk result }
-        ensures made { OnOk result (Reserves (type_size T.row) self.old len 1 (amortized self.old.growth (length self.old.places) (len + 1) (least_of (type_size T.row))) self.new) }
-        ensures refused { IfErr result (λ e. (self.new ≡ self.old) × LacksRoom (length self.old.places) len 1 e) }
+        ensures { Reserved (type_size T.row) self.old len 1 (amortized self.old.growth (length self.old.places) (len + 1) (least_of (type_size T.row))) result self.new }
     {
         self.try_reserve(len, 1)
     }

@@ -118,7 +118,7 @@ fn a_capacity_past_the_limits_is_an_overflow(rt: HostRuntime) {
 fn errors_tell_their_kind(rt: HostRuntime) -> Result<(), Fail> {
     let refused = Refused {
         source: 7,
-        error: TryReserveErrorKind::AllocError { capacity: 5 }.into(),
+        error: TryReserveErrorKind::AllocError { capacity: 5 },
     };
     let error: TryReserveError = refused.into();
     assert_eq!(rt;

@@ -1,6 +1,7 @@
 //! A list on a block of its own, as an author of a collection writes one: a contract for each call, and no proof file.
 ghost use Rattle.std.specs.Prelude.{◌≡◌, ◌≤◌, [], ◌∷◌, ◌++◌, length, take, IfErr, OnOk, IsOk, MatchOption};
-ghost use Rattle.aa_raw.specs.Growth.{usize_max};
+ghost use Rattle.std.specs.Mem.{type_size};
+ghost use Rattle.aa_raw.specs.Growth.{sized, usize_max};
 ghost use Rattle.aa_raw.specs.Room.{LacksRoom};
 ghost use Rattle.aa_raw_tests.specs.Line.{Fits};
 
@@ -33,7 +34,8 @@ impl<T, A: Allocator> Model for Line<T, A> {
 impl<T, A: Allocator> Line<T, A> {
     #[tactic(auto, using(aa_raw::proofs::Calls::with_room))]
     pub fn new_in(alloc: A) -> Self
-        ensures { result.items ≡ [] }
+        ensures items { result.items ≡ [] }
+        ensures room { result.capacity ≡ sized (type_size T.row) 0 }
     {
         Line {
             block: RawVec::new_in(alloc),
@@ -44,7 +46,7 @@ impl<T, A: Allocator> Line<T, A> {
     // It takes memory only where fewer than `additional` more items fit.
     #[tactic(auto, using(aa_raw::proofs::Calls::with_room))]
     pub fn reserve(&mut self, additional: usize) -> Result<(), TryReserveError>
-        ensures fits { Fits self.old additional → IsOk result }
+        ensures fits { Fits self.old additional → IsOk result × (self.new ≡ self.old) }
         ensures room { OnOk result (Fits self.new additional) }
         ensures bound { OnOk result (self.new.capacity ≤ usize_max) }
         ensures items { OnOk result (self.new.items ≡ self.old.items) }
@@ -54,14 +56,14 @@ impl<T, A: Allocator> Line<T, A> {
     }
 
     pub fn push(&mut self, item: T) -> Result<(), Refused<T>>
-        ensures fits { Fits self.old 1 → IsOk result }
+        ensures fits { Fits self.old 1 → IsOk result × (self.new.capacity ≡ self.old.capacity) }
         ensures pushed { OnOk result (self.new.items ≡ self.old.items ++ item ∷ []) }
         ensures refused { IfErr result (λ r. (r.source ≡ item) × LacksRoom self.old.capacity (length self.old.items) 1 r.error × (self.new ≡ self.old)) }
     {
         if let Err(error) = self.reserve(1) {
             return Err(Refused {
                 source: item,
-                error,
+                error: error.kind(),
             });
         }
         self.block.put(self.len, item);
@@ -70,7 +72,8 @@ impl<T, A: Allocator> Line<T, A> {
     }
 
     pub fn pop(&mut self) -> Option<T>
-        ensures { MatchOption result ((self.old.items ≡ []) × (self.new ≡ self.old)) (λ x. self.old.items ≡ self.new.items ++ x ∷ []) }
+        ensures taken { MatchOption result ((self.old.items ≡ []) × (self.new ≡ self.old)) (λ x. self.old.items ≡ self.new.items ++ x ∷ []) }
+        ensures room { self.new.capacity ≡ self.old.capacity }
     {
         if self.len == 0 {
             return None;
@@ -82,7 +85,8 @@ impl<T, A: Allocator> Line<T, A> {
     // The items behind the first move down by one place.
     #[tactic(auto, using(aa_raw::proofs::Positions::at_positions))]
     pub fn pop_first(&mut self) -> Option<T>
-        ensures { MatchOption result ((self.old.items ≡ []) × (self.new ≡ self.old)) (λ x. self.old.items ≡ x ∷ self.new.items) }
+        ensures taken { MatchOption result ((self.old.items ≡ []) × (self.new ≡ self.old)) (λ x. self.old.items ≡ x ∷ self.new.items) }
+        ensures room { self.new.capacity ≡ self.old.capacity }
     {
         if self.len == 0 {
             return None;
@@ -98,7 +102,8 @@ impl<T, A: Allocator> Line<T, A> {
     pub fn truncate(&mut self, len: usize)
     where
         T: Drop,
-        ensures { self.new.items ≡ take len self.old.items }
+        ensures items { self.new.items ≡ take len self.old.items }
+        ensures room { self.new.capacity ≡ self.old.capacity }
     {
         if len < self.len {
             self.block.drop_run(len, self.len - len);

@@ -37,7 +37,7 @@ fn the_macro_makes_vectors(rt: HostRuntime) -> Result<(), Fail> {
     };
     assert_eq!(rt; refusal.source, [8, 9]);
     assert_eq!(rt;
-        refusal.error.kind(),
+        refusal.error,
         TryReserveErrorKind::AllocError { capacity: 2 }
     );
     Ok(())
@@ -52,7 +52,7 @@ fn a_refused_flattening_hands_the_vector_back(rt: HostRuntime) -> Result<(), Fai
         Ok(_) => return Ok(assert!(rt; false)),
         Err(refusal) => {
             assert_eq!(rt;
-                refusal.error.kind(),
+                refusal.error,
                 TryReserveErrorKind::AllocError { capacity: 4 }
             );
             refusal.source
@@ -89,7 +89,7 @@ fn a_refused_clone_of_the_allocator_hands_the_vector_back(rt: HostRuntime) -> Re
         Ok(_) => assert!(rt; false),
         Err(refusal) => {
             assert_eq!(rt;
-                refusal.error.kind(),
+                refusal.error,
                 TryReserveErrorKind::AllocError { capacity: 4 }
             );
             refusal.source.allocator().refuse_clones(false);
@@ -175,7 +175,7 @@ fn refused_boxes_are_handed_back(rt: HostRuntime) -> Result<(), Fail> {
         return Ok(assert!(rt; false));
     };
     assert_eq!(rt;
-        refusal.error.kind(),
+        refusal.error,
         TryReserveErrorKind::AllocError { capacity: 3 }
     );
     let Err(refusal) = refusal.source.into_vec() else {

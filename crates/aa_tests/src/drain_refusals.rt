@@ -15,13 +15,13 @@ fn a_range_is_taken_without_memory(rt: HostRuntime) -> Result<(), Fail> {
         let mut v: Vec<u32, &Faulty<Global>> = Vec::from_slice_in(&[0, 1, 2, 3, 4, 5], &heap)?;
         heap.refuse(0, u64::MAX);
         assert!(rt; v.len() == 6);
-        let mut range = v.drain(1, 4);
+        let mut range = v.drain(1..4);
         assert_eq!(rt; range.next(), Some(1));
         assert_eq!(rt; range.next_back(), Some(3));
         range.keep_rest();
         assert_eq!(rt; v.as_slice(), [0, 2, 4, 5].as_slice());
         assert!(rt; v.len() == 4);
-        drop(v.drain(1, 3));
+        drop(v.drain(1..3));
         assert_eq!(rt; v.as_slice(), [0, 5].as_slice());
         assert_eq!(rt; v.capacity(), 6);
         let mut items = v.into_iter();
@@ -39,7 +39,7 @@ fn elements_without_size_need_no_memory_for_ranges(rt: HostRuntime) -> Result<()
         v.push(())?;
     }
     assert!(rt; v.len() == 3);
-    drop(v.drain(1, 2));
+    drop(v.drain(1..2));
     assert!(rt; v.len() == 2);
     let rest = v.split_off(1)?;
     let mut one = Vec::new_in(Refusing);

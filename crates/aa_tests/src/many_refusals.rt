@@ -4,8 +4,7 @@ use aa_faulty::refusing::Refusing;
 use allocator_api2::collections::{TryReserveError, TryReserveErrorKind};
 use allocator_api2::vec::Vec;
 use allocator_api2::vec::items::Items;
-use std::alloc::{AllocError, Global};
-use std::clone::Clone;
+use std::alloc::Global;
 use std::test::Fail;
 
 // Numbers on the allocator of a test.
@@ -74,6 +73,21 @@ fn a_refused_extension_keeps_what_fits(rt: HostRuntime) -> Result<(), Fail> {
     Ok(())
 }
 
+#[test]
+fn a_refused_extension_takes_one_item_more(rt: HostRuntime) -> Result<(), Fail> {
+    let heap = Faulty::new(rt.alloc());
+    let mut v = numbers(&heap, &[1, 2], 2)?;
+    let mut more = 3..6;
+    heap.refuse(0, 1);
+    assert!(rt; v.extend_by(&mut more).is_err());
+    assert_eq!(rt; v.as_slice(), [1, 2].as_slice());
+    assert_eq!(rt; more.next(), Some(4));
+    v.extend_by(&mut more)?;
+    assert_eq!(rt; v.as_slice(), [1, 2, 5].as_slice());
+    assert_eq!(rt; more.next(), None);
+    Ok(())
+}
+
 fn numbers_of(alloc: Global, source: &[u32]) -> Result<Vec<u32>, TryReserveError> {
     Vec::from_slice(alloc, source)
 }
@@ -87,7 +101,7 @@ fn refused_copies_change_nothing(rt: HostRuntime) -> Result<(), Fail> {
     assert_eq!(rt; v.extend_from_slice(&[3]), Err(refused.into()));
     assert!(rt; v.extend_from_slice_copied(&[3]).is_err());
     assert!(rt; v.len() == 2);
-    assert!(rt; v.extend_from_within(0, 2).is_err());
+    assert!(rt; v.extend_from_within(0..2).is_err());
     assert!(rt; v.resize(3, 7).is_err());
     assert!(rt; v.clone().is_err());
     assert!(rt; v.clone_copied().is_err());
@@ -112,31 +126,14 @@ fn elements_without_size_need_no_memory_for_many(rt: HostRuntime) -> Result<(), 
     Ok(())
 }
 
-// A number in memory of its own, which a clone takes too.
-#[derive(Drop)]
-pub(crate) struct Held<'a> {
-    number: Numbers<'a>,
-}
-
-impl<'a> Clone for Held<'a> {
-    fn clone(&self) -> Result<Self, AllocError> {
-        match self.number.clone() {
-            Ok(number) => Ok(Held { number }),
-            Err(_) => Err(AllocError),
-        }
-    }
-}
-
-// The numbers of `source`, each in memory of its own, in places for just them.
+// The numbers of `source`, each in a vector of its own, in places for just them.
 pub(crate) fn held_numbers<'a>(
     heap: &'a Faulty<Global>,
     source: &[u32],
-) -> Result<Vec<Held<'a>, &'a Faulty<Global>>, TryReserveError> {
+) -> Result<Vec<Numbers<'a>, &'a Faulty<Global>>, TryReserveError> {
     let mut v = Vec::with_capacity_in(source.len(), heap)?;
     for x in source {
-        v.push(Held {
-            number: numbers(heap, &[*x], 1)?,
-        })?;
+        v.push(numbers(heap, &[*x], 1)?)?;
     }
     Ok(v)
 }

@@ -72,7 +72,7 @@ fn pushes_with_one_refused(rt: &impl Abort, alloc: Global, refused: u64) -> u64 
                     assert_eq!(rt; refusal.source, x);
                     assert_eq!(rt; v.len(), before);
                     assert_eq!(rt; v.capacity(), capacity);
-                    match refusal.error.kind() {
+                    match refusal.error {
                         TryReserveErrorKind::AllocError { capacity } => {
                             assert!(rt; before < capacity);
                         }
@@ -111,7 +111,7 @@ fn pushes_that_fit_need_no_memory(rt: HostRuntime) -> Result<(), Fail> {
         Err(refusal) => {
             assert_eq!(rt; refusal.source, 4);
             assert_eq!(rt;
-                refusal.error.kind(),
+                refusal.error,
                 TryReserveErrorKind::AllocError { capacity: 8 }
             );
         }

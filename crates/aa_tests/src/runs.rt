@@ -81,32 +81,31 @@ fn run_with_one_refused<'a>(
     Ok((done, refusals, requests, main.len(), main.capacity()))
 }
 
-#[test]
-fn one_refused_request_refuses_one_push(rt: HostRuntime) -> Result<(), Fail> {
-    for (refused, came) in [
-        (0, (8, 1, 3, 7, 8)),
-        (1, (8, 1, 3, 7, 8)),
-        (2, (8, 1, 3, 7, 8)),
-        (3, (9, 0, 3, 8, 16)),
-    ] {
-        let heap = Faulty::new(rt.alloc());
-        let commands = nine_pushes_and_a_pop(&heap)?;
-        assert_eq!(rt; run_with_one_refused(&heap, commands, refused)?, came);
-    }
-    Ok(())
+// Which commands are run.
+#[derive(Clone, Copy)]
+enum Told {
+    NinePushesAndAPop,
+    TenForOne,
 }
 
 #[test]
-fn a_splice_asks_for_what_is_told_each_time(rt: HostRuntime) -> Result<(), Fail> {
-    for (refused, came) in [
-        (1, (1, 1, 2, 2, 4)),
-        (2, (1, 1, 3, 6, 8)),
-        (3, (1, 1, 4, 6, 8)),
-        (4, (2, 0, 4, 11, 16)),
+fn one_refused_request_refuses_one_command(rt: HostRuntime) -> Result<(), Fail> {
+    for (told, refused, came) in [
+        (Told::NinePushesAndAPop, 0, (8, 1, 3, 7, 8)),
+        (Told::NinePushesAndAPop, 1, (8, 1, 3, 7, 8)),
+        (Told::NinePushesAndAPop, 2, (8, 1, 3, 7, 8)),
+        (Told::NinePushesAndAPop, 3, (9, 0, 3, 8, 16)),
+        (Told::TenForOne, 1, (1, 1, 2, 2, 4)),
+        (Told::TenForOne, 2, (1, 1, 3, 6, 8)),
+        (Told::TenForOne, 3, (1, 1, 4, 6, 8)),
+        (Told::TenForOne, 4, (2, 0, 4, 11, 16)),
     ] {
         let heap = Faulty::new(rt.alloc());
-        let commands = ten_for_one(&heap)?;
-        assert_eq!(rt; run_with_one_refused(&heap, commands, refused)?, came);
+        let commands = match told {
+            Told::NinePushesAndAPop => nine_pushes_and_a_pop(&heap),
+            Told::TenForOne => ten_for_one(&heap),
+        };
+        assert_eq!(rt; run_with_one_refused(&heap, commands?, refused)?, came);
     }
     Ok(())
 }

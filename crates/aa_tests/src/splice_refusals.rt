@@ -41,7 +41,7 @@ fn spliced<A: Allocator + Clone>(
     if from > to || to > v.len() {
         return End::TooLong;
     }
-    let mut range = v.splice(from, to, items);
+    let mut range = v.splice(from..to, items);
     let _first = range.next();
     end_of(range.finish_hinted())
 }
@@ -68,6 +68,49 @@ fn each_request_of_a_splice_is_refused_in_turn(rt: HostRuntime) -> Result<(), Fa
             );
         }
         assert_eq!(rt; heap.outstanding(), 0);
+    }
+    Ok(())
+}
+
+// Replaces the two numbers in the middle of `[1, 2, 3, 4]` by those from `first` up to `end`, of which `size_hint` tells exactly,
+// while `granted` requests are granted: how it ended, what is left, the capacity, and how many requests there were.
+fn middle_replaced(
+    alloc: Global,
+    first: u32,
+    end: u32,
+    granted: u64,
+) -> Result<(End, Vec<u32>, usize, u64), TryReserveError> {
+    let heap = Faulty::new(alloc);
+    let mut v: Vec<u32, &Faulty<Global>> = numbers(&heap, &[1, 2, 3, 4])?;
+    let before = heap.requests();
+    heap.refuse(granted, u64::MAX);
+    let ended = match v.len() {
+        4 => end_of(v.splice(1..3, first..end).finish()),
+        _ => End::TooLong,
+    };
+    let requests = heap.requests().saturating_sub(before);
+    Ok((ended, numbers(alloc, v.as_slice())?, v.capacity(), requests))
+}
+
+#[test]
+fn room_is_made_at_once_for_what_size_hint_tells(rt: HostRuntime) -> Result<(), Fail> {
+    for (first, granted, end, left, capacity, requests) in [
+        (8, 0, End::Done, [1, 8, 9, 4].as_slice(), 4, 0),
+        (7, 1, End::Done, [1, 7, 8, 9, 4].as_slice(), 8, 1),
+        (7, 0, End::NoMemory(8), [1, 7, 8, 4].as_slice(), 4, 1),
+        (
+            1,
+            1,
+            End::Done,
+            [1, 1, 2, 3, 4, 5, 6, 7, 8, 9, 4].as_slice(),
+            11,
+            1,
+        ),
+    ] {
+        let (ended, list, places, asked) = middle_replaced(rt.alloc(), first, 10, granted)?;
+        assert_eq!(rt; ended, end);
+        assert_eq!(rt; list.as_slice(), left);
+        assert_eq!(rt; (places, asked), (capacity, requests));
     }
     Ok(())
 }
@@ -142,7 +185,7 @@ fn elements_without_size_are_spliced(rt: HostRuntime) -> Result<(), Fail> {
     }
     v.allocator().refuse(0, u64::MAX);
     assert!(rt; v.len() == 3);
-    let range = v.splice(1, 2, Items::new(more, Some(1)));
+    let range = v.splice(1..2, Items::new(more, Some(1)));
     range.finish_hinted()?;
     assert_eq!(rt; v.len(), 5);
     assert_eq!(rt; v.capacity(), usize::MAX);

@@ -30,7 +30,7 @@ fn a_refused_insert_hands_its_element_back(rt: HostRuntime) -> Result<(), Fail> 
         Err(refusal) => {
             assert_eq!(rt; refusal.source, 9);
             assert_eq!(rt;
-                refusal.error.kind(),
+                refusal.error,
                 TryReserveErrorKind::AllocError { capacity: 6 }
             );
         }

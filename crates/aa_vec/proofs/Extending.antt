@@ -69,16 +69,19 @@ module _ {S T : Type 0} (steps : S → Option T → S → Type 0) (Tells : S →
       Placing-writes placed e = record { written = omega (arith, p.written, count, e); runs = omega (arith, p.runs, count, e) }
 
       -- no item is to come
-      pub Placing-end : (u : S) → steps s None u → ExtendsByAll steps Tells size iter old v
-      Placing-end u h = record {
-        added = p.front;
-        lower = p.lower;
-        last = s;
-        told = p.told;
-        ends = (u, h);
-        within = p.within;
-        extends = record { climbs = p.climbs; enough = omega (arith, p.fits, count); items = p.items };
-      }
+      pub Placing-end : (u : S) → steps s None u → (all : ExtendsByAll steps Tells size iter old v) × (all.ends.0 ≡ u)
+      Placing-end u h = (
+        record {
+          added = p.front;
+          lower = p.lower;
+          last = s;
+          told = p.told;
+          ends = (u, h);
+          within = p.within;
+          extends = record { climbs = p.climbs; enough = omega (arith, p.fits, count); items = p.items };
+        },
+        refl,
+      )
 
       pub Placing-drains : (u : S) → steps s None u → (xs : List T) × Drains steps iter xs × (v.items ≡ old.items ++ xs)
       Placing-drains u h = (p.front, (u, (s, Yields-told p.lower iter p.front s p.told, h)), p.items)
@@ -141,25 +144,28 @@ module _ {S T : Type 0} (steps : S → Option T → S → Type 0) (Tells : S →
               (omega (arith, z.written)) (omega (arith, z.runs)) room holds writes
 
           -- or room for it was refused
-          pub Placing-refused : (k : ℕ) → k ≡ min (n + 1) usize_max → (error : TryReserveErrorKind) → LacksRoom v k error → ExtendsByFront steps Tells size iter old error v
-          Placing-refused k e error lacks = record {
-            taken = next_front;
-            lower = next_lower;
-            last = t;
-            told = YieldsTelling-more p.lower n iter p.front s x t p.told step tells;
-            within = p.within;
-            extends = record {
-              front = p.front;
-              others = x ∷ [];
-              begins = refl;
-              climbs = climbed;
-              short = omega (arith, full, count, longer);
-              items = p.items;
-              full = omega (arith, full, count);
-              lacks = subst (λ j. LacksRoom v j error) e lacks;
-            };
-            one = refl;
-          }
+          pub Placing-refused : (k : ℕ) → k ≡ min (n + 1) usize_max → (error : TryReserveErrorKind) → LacksRoom v k error → (front : ExtendsByFront steps Tells size iter old error v) × (front.last ≡ t)
+          Placing-refused k e error lacks = (
+            record {
+              taken = next_front;
+              lower = next_lower;
+              last = t;
+              told = YieldsTelling-more p.lower n iter p.front s x t p.told step tells;
+              within = p.within;
+              extends = record {
+                front = p.front;
+                others = x ∷ [];
+                begins = refl;
+                climbs = climbed;
+                short = omega (arith, full, count, longer);
+                items = p.items;
+                full = omega (arith, full, count);
+                lacks = subst (λ j. LacksRoom v j error) e lacks;
+              };
+              one = refl;
+            },
+            refl,
+          )
 
           -- more came than fit at the start
           pub Placing-over : HasRoom old (left iter) → ⊥

@@ -1,5 +1,5 @@
 -- Items gathered in a vector of their own, and what was asked for where they could not be.
-use Rattle.std.proofs.Common.{◌≡◌, ℕ, ◌+◌, ◌-◌, ◌<◌, ◌≤◌, List, [], ◌∷◌, ◌++◌, length, Option, refl, sym, ap, ◌∙◌, subst, arith, inl, inr, length-append}
+use Rattle.std.proofs.Common.{◌≡◌, ℕ, ◌+◌, ◌-◌, ◌<◌, ◌≤◌, List, [], ◌∷◌, ◌++◌, length, Option, None, refl, sym, ap, ◌∙◌, subst, arith, inl, inr, length-append}
 use Rattle.std.specs.Prelude.{min}
 use Rattle.std.proofs.lemmas.Bool.Decides.{eqb_tells}
 use Rattle.std.proofs.lemmas.List.{append-nil}
@@ -47,15 +47,15 @@ module _ {S T A : Type 0} (steps : S → Option T → S → Type 0) (Tells : S �
   none_taken = record { lower = λ _. n; last = s; first = tells; each = refl }
 
   -- the clone of the allocator was refused
-  pub GathersShort-clone : (error : TryReserveErrorKind) → IsRefusedAt error (amortized Doubling 0 wanted (least_of size)) → fails → GathersShort steps Tells size s first fails old error
-  GathersShort-clone error r f = record { rest = []; told = none_taken; lacks = inl (f, subst (λ k. IsRefusedAt error (amortized Doubling 0 k (least_of size))) is r) }
+  pub GathersShort-clone : (error : TryReserveErrorKind) → IsRefusedAt error (amortized Doubling 0 wanted (least_of size)) → fails → GathersShort steps Tells size s first fails old error s
+  GathersShort-clone error r f = record { rest = []; told = none_taken; stops = refl; lacks = inl (f, subst (λ k. IsRefusedAt error (amortized Doubling 0 k (least_of size))) is r) }
 
   module _ (a : A) (made : Vector T A) (new : IsNew size 0 a made) where
     made_new : IsNew size 0 made.alloc made
     made_new = record { items = new.items; capacity = new.capacity; growth = new.growth; grown = new.grown; written = new.written; runs = new.runs; alloc = refl }
 
     -- its first growth was
-    pub GathersShort-first : (error : TryReserveErrorKind) → LacksRoom made wanted error → GathersShort steps Tells size s first fails old error
+    pub GathersShort-first : (error : TryReserveErrorKind) → LacksRoom made wanted error → GathersShort steps Tells size s first fails old error s
     GathersShort-first error lacks =
         let no_places : made.capacity ≡ 0 = elim (eqb_tells size 0) [
           | inl h ↦ absurd (omega (arith, lacks.full, ap length new.items, is, new.capacity, equal size 0 usize_max 0 h.1))
@@ -64,6 +64,7 @@ module _ {S T A : Type 0} (steps : S → Option T → S → Type 0) (Tells : S �
         record {
           rest = [];
           told = none_taken;
+          stops = refl;
           lacks = inr (
             made,
             made,
@@ -86,13 +87,16 @@ module _ {S T A : Type 0} (steps : S → Option T → S → Type 0) (Tells : S �
       one : w.items ≡ first ∷ []
       one = put.items ∙ ap (λ ys. ys ++ first ∷ []) (g.items ∙ new.items)
 
-      pub Gathers-all : (x : Vector T A) → ExtendsByAll steps Tells size s w x → Gathers steps Tells size s first x
-      Gathers-all x e =
+      pub Gathers-all : (x : Vector T A) (t : S) → (e : ExtendsByAll steps Tells size s w x) × (e.ends.0 ≡ t) → Gathers steps Tells size s first x t
+      Gathers-all x t by =
+          let e = by.0 in
           let f = told_first steps Tells e.lower s e.added e.last e.told n tells in
-          record { rest = e.added; told = record { lower = f.0; last = e.last; first = f.4; each = f.2 }; ends = e.ends; items = e.extends.items ∙ ap (λ ys. ys ++ e.added) one }
+          let P : S → Type 0 = λ k. steps e.last None k in
+          record { rest = e.added; told = record { lower = f.0; last = e.last; first = f.4; each = f.2 }; ends = subst P by.1 e.ends.1; items = e.extends.items ∙ ap (λ ys. ys ++ e.added) one }
 
-      pub GathersShort-more : (x : Vector T A) (error : TryReserveErrorKind) → ExtendsByFront steps Tells size s w error x → GathersShort steps Tells size s first fails old error
-      GathersShort-more x error e =
+      pub GathersShort-more : (x : Vector T A) (error : TryReserveErrorKind) (t : S) → (e : ExtendsByFront steps Tells size s w error x) × (e.last ≡ t) → GathersShort steps Tells size s first fails old error t
+      GathersShort-more x error t by =
+          let e = by.0 in
           let nil : List T = [] in
           let all : List T = first ∷ e.taken in
           let f = told_first steps Tells e.lower s e.taken e.last e.told n tells in
@@ -113,6 +117,7 @@ module _ {S T A : Type 0} (steps : S → Option T → S → Type 0) (Tells : S �
           record {
             rest = e.taken;
             told = record { lower = f.0; last = e.last; first = f.4; each = f.2 };
+            stops = by.1;
             lacks = inr (
               made,
               x,

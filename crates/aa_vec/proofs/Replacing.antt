@@ -79,26 +79,26 @@ moves_rest told r n h = omega (arith, moves_times told (told + r) n, over_some (
 
 module _ {S T A : Type 0} (steps : S → Option T → S → Type 0) (Tells : S → ℕ → Type 0) (remaining : S → Count) (size : ℕ) (s : S) (old : Vector T A) where
   -- room for as many as were told was refused
-  pub Puts-none : {fails : Type 0} (told n : ℕ) (error : TryReserveErrorKind) → LacksRoom old told error → Puts steps Tells fails size s old told n remaining (Err error) old
+  pub Puts-none : {fails : Type 0} (told n : ℕ) (error : TryReserveErrorKind) → LacksRoom old told error → Puts steps Tells fails size s old told n remaining (Err error) old s
   Puts-none told n error lacks = record {
     all = tt;
     writes = record { longer = omega arith; written = omega arith; runs = omega arith };
-    refused = record { front = []; others = []; lower = λ _. 0; last = s; given = refl; items = sym (take-append-drop (len old - n) old.items); why = inl (refl, SameBlock-refl old, lacks) };
+    refused = record { front = []; others = []; lower = λ _. 0; last = s; given = refl; stops = inl refl; items = sym (take-append-drop (len old - n) old.items); why = inl (refl, SameBlock-refl old, lacks) };
     few = λ room. absurd (omega (arith, room, lacks.full));
   }
 
   -- a run, gathered in a vector, was put before the last n items, behind which nothing was moved
-  pub PutsRest-gathered : (n : ℕ) (first : T) (more : Vector T A) → Gathers steps Tells size s first more → (k : ℕ) → k ≡ len more
+  pub PutsRest-gathered : (n : ℕ) (first : T) (more : Vector T A) (u : S) → Gathers steps Tells size s first more u → (k : ℕ) → k ≡ len more
       → (v w x : Vector T A) → Widens size old k n v → Holds v (v.items ++ more.items) w → w.behind ≡ drop (len more) v.behind → Writes v (len more) (run_count (len more)) w → ClosesGap w 0 n x
-      → PutsRest steps size s old n first x
-  PutsRest-gathered n first more h k e v w x widened holds behind writes closes =
+      → PutsRest steps size s old n first x u
+  PutsRest-gathered n first more u h k e v w x widened holds behind writes closes =
       let new : List T = more.items in
       let head : List T = take (len old - n) old.items in
       let wid : Widens size old (length new) n v = subst (λ j. Widens size old j n v) e widened in
       let some : 0 < length new = omega (arith, ap length h.items) in
       record {
         added = new;
-        comes = (h.rest, (h.ends.0, (h.told.last, Yields-told steps Tells h.told.lower s h.rest h.told.last h.told.each, h.ends.1)), h.items);
+        comes = (h.rest, h.told.last, Yields-told steps Tells h.told.lower s h.rest h.told.last h.told.each, h.ends, h.items);
         items =
             closes.holds.items ∙ ap (λ ys. ys ++ behind_items w 0 n) (holds.items ∙ ap (λ ys. ys ++ new) wid.items) ∙ append_assoc head new (behind_items w 0 n)
             ∙ ap (λ ys. head ++ (new ++ ys)) (still_are v w (length new) 0 n behind ∙ wid.elements);
@@ -110,12 +110,12 @@ module _ {S T A : Type 0} (steps : S → Option T → S → Type 0) (Tells : S �
       }
 
   -- they could not be gathered, or there was no room for them
-  pub LacksRest-gathered : {fails : Type 0} (n : ℕ) (first : T) (error : TryReserveErrorKind) → GathersShort steps Tells size s first fails old error → LacksRest steps Tells fails size s old n first error
-  LacksRest-gathered n first error g = record { rest = g.rest; told = g.told; lacks = inl g.lacks }
+  pub LacksRest-gathered : {fails : Type 0} (n : ℕ) (first : T) (error : TryReserveErrorKind) (u : S) → GathersShort steps Tells size s first fails old error u → LacksRest steps Tells fails size s old n first error u
+  LacksRest-gathered n first error u g = record { rest = g.rest; told = g.told; stops = inl g.stops; lacks = inl g.lacks }
 
-  pub LacksRest-room : {fails : Type 0} (n : ℕ) (first : T) (more : Vector T A) → Gathers steps Tells size s first more → (k : ℕ) → k ≡ len more → (error : TryReserveErrorKind) → LacksRoom old k error
-      → LacksRest steps Tells fails size s old n first error
-  LacksRest-room n first more g k e error lacks = record { rest = g.rest; told = g.told; lacks = inr (g.ends, subst (λ j. LacksRoom old j error) (e ∙ ap length g.items) lacks) }
+  pub LacksRest-room : {fails : Type 0} (n : ℕ) (first : T) (more : Vector T A) (u : S) → Gathers steps Tells size s first more u → (k : ℕ) → k ≡ len more → (error : TryReserveErrorKind) → LacksRoom old k error
+      → LacksRest steps Tells fails size s old n first error u
+  LacksRest-room n first more u g k e error lacks = record { rest = g.rest; told = g.told; stops = inr g.ends; lacks = inr ((u, g.ends), subst (λ j. LacksRoom old j error) (e ∙ ap length g.items) lacks) }
 
   -- room was made for as many as were told, and `comes.added` was put there
   module _ (told n : ℕ) (few : n ≤ len old) (y : Vector T A) (wid : Widens size old told n y) (left : ℕ) (t : S) (z : Vector T A) (f : FillsAndCloses steps s y told n left t z) where
@@ -154,13 +154,13 @@ module _ {S T A : Type 0} (steps : S → Option T → S → Type 0) (Tells : S �
     }
 
     -- no further item is to come
-    pub Puts-told : {fails : Type 0} (end : S) → steps f.last None end → Puts steps Tells fails size s old told n remaining (Ok tt) z
+    pub Puts-told : {fails : Type 0} (end : S) → steps f.last None end → Puts steps Tells fails size s old told n remaining (Ok tt) z end
     Puts-told end ended = record {
       all = record {
         added = came;
         last = f.last;
         given = f.comes.given;
-        ends = (end, ended);
+        ends = ended;
         items = z_items;
         room = (z, z_room, inl (omega (arith, f.comes.count), SameBlock-refl z));
         written = z_written ∙ ap (λ k. old.written + k) (moves_told told left (length came) n f.comes.count);
@@ -181,12 +181,12 @@ module _ {S T A : Type 0} (steps : S → Option T → S → Type 0) (Tells : S �
           Yields-join steps s came f.last (first ∷ rest) last f.comes.given (u, subst P (f.stops.full full) step, y)
 
       -- and were put behind those
-      module _ (new : Vector T A) (r : PutsRest steps size u z n first new) where
+      module _ (new : Vector T A) (after : S) (r : PutsRest steps size u z n first new after) where
         abbrev others : List T
         others = r.added
 
         some : 0 < length others
-        some = omega (arith, ap length r.comes.2)
+        some = omega (arith, ap length r.comes.4)
 
         new_items : new.items ≡ head ++ ((came ++ others) ++ tail)
         new_items = r.items ∙ put_between head came tail others z.items n z_items tail_count
@@ -194,17 +194,16 @@ module _ {S T A : Type 0} (steps : S → Option T → S → Type 0) (Tells : S �
         all_count : length (came ++ others) ≡ told + length others
         all_count = length-append came others ∙ ap (λ k. k + length others) told_came
 
-        all_put : PutsAll steps size s old told n new
+        all_put : PutsAll steps size s old told n new after
         all_put =
-            let d = r.comes.1 in
             let P : ℕ → Type 0 = λ k. MakesRoom size z k (length (came ++ others) - told) new in
             let Q : ℕ → Type 0 = λ k. MakesRoom size z (len z) k new in
             let R : ℕ → ℕ = λ k. old.written + (k + tail_moves 0 told k * n) in
             record {
               added = came ++ others;
-              last = d.1.0;
-              given = subst (λ ys. Yields steps s (came ++ ys) d.1.0) (sym r.comes.2) (given_more r.comes.0 d.1.0 d.1.1);
-              ends = (d.0, d.1.2);
+              last = r.comes.1;
+              given = subst (λ ys. Yields steps s (came ++ ys) r.comes.1) (sym r.comes.4) (given_more r.comes.0 r.comes.1 r.comes.2);
+              ends = r.comes.3;
               items = new_items;
               room = (z, z_room, subst P (omega (arith, z_len, told_came)) (subst Q (omega (arith, all_count)) r.room));
               written =
@@ -222,10 +221,10 @@ module _ {S T A : Type 0} (steps : S → Option T → S → Type 0) (Tells : S �
               runs = omega (arith, r.writes.runs, f.writes.runs, wid.writes.runs, longer, z_len, some, one_at_most (over told n), ap run_count (over_none left n full), one_at_most n);
             }
 
-      pub Puts-rest : (P : A → Type 0) → ((k : S) → (m : ℕ) × Tells k m) → (result : Result Unit TryReserveErrorKind) (new : Vector T A) → OnOk result (PutsRest steps size u z n first new) → IfErr result (λ e. LacksRest steps Tells (P z.alloc) size u z n first e × (new ≡ z)) → told < count_of (remaining s)
-          → Puts steps Tells (P old.alloc) size s old told n remaining result new
-      Puts-rest P tell (Ok x) new r _ more = record { all = all_put new r; writes = rest_within new r; refused = tt; few = tt }
-      Puts-rest P tell (Err e) new _ l more =
+      pub Puts-rest : (P : A → Type 0) → ((k : S) → (m : ℕ) × Tells k m) → (result : Result Unit TryReserveErrorKind) (new : Vector T A) (after : S) → OnOk result (PutsRest steps size u z n first new after) → IfErr result (λ e. LacksRest steps Tells (P z.alloc) size u z n first e after × (new ≡ z)) → told < count_of (remaining s)
+          → Puts steps Tells (P old.alloc) size s old told n remaining result new after
+      Puts-rest P tell (Ok x) new after r _ more = record { all = all_put new after r; writes = rest_within new after r; refused = tt; few = tt }
+      Puts-rest P tell (Err e) new after _ l more =
           let Q : S → Type 0 = λ k. Yields steps s came k in
           let alloc : z.alloc ≡ old.alloc = elim z_room [ inl h ↦ h.1.alloc | inr h ↦ h.1.alloc ] in
           let others : List T = first ∷ l.0.rest in
@@ -239,6 +238,7 @@ module _ {S T A : Type 0} (steps : S → Option T → S → Type 0) (Tells : S �
               lower = g.0;
               last = l.0.told.last;
               given = g.3;
+              stops = l.0.stops;
               items = z_items;
               why = inr (told_came, omega arith, z_room, LacksOthers-same size l.0.told.lower g.0 others (omega arith) g.1 _ _ _ (subst P alloc) z e l.0.lacks);
             };

@@ -1,5 +1,5 @@
 -- A vector that items are put behind, one by one, as an iterator gives them, and what the iterator tells of how many are to come.
-use Rattle.std.specs.Prelude.{◌≡◌, ℕ, ◌+◌, ◌-◌, ◌<◌, ◌≤◌, min, List, [], ◌∷◌, ◌++◌, length, Option, Some, None, Result, IfErr, OnOk, IsOk}
+use Rattle.std.specs.Prelude.{◌≡◌, ℕ, ◌+◌, ◌-◌, ◌<◌, ◌≤◌, min, List, [], ◌∷◌, ◌++◌, length, Option, Some, None, ◌⊎◌, Result, IfErr, OnOk, IsOk}
 use Rattle.std.specs.Borrow.{Bor}
 use Rattle.std.specs.Iterator.{Count, YieldsFirst, Drains, size as count}
 use Rattle.std.specs.Iterator.Runs.{WholeRun}
@@ -58,6 +58,10 @@ abbrev pub CopiesOf : {S T : Type 0} → (S → Option (Bor T) → S → Type 0)
 CopiesOf steps s None t = steps s None t
 CopiesOf {T = T} steps s (Some x) t = (r : Bor T) × steps s (Some r) t × (x ≡ r.now)
 
+-- `after` is where calls stopped that had led to `last`: there, or behind one further call, which gave none
+abbrev pub StopsAt : {S T : Type 0} → (S → Option T → S → Type 0) → (last after : S) → Type 0
+StopsAt steps last after = (last ≡ after) ⊎ steps last None after
+
 -- in this state an iterator tells the number that `lower_of` has for it
 abbrev pub TellsExactly : {S : Type 0} → (S → ℕ) → S → ℕ → Type 0
 TellsExactly lower_of s n = n ≡ lower_of s
@@ -101,6 +105,13 @@ module _ {S T : Type 0} (steps : S → Option T → S → Type 0) (Tells : S →
     -- a new vector was extended by a beginning, and then room was refused
     abbrev pub StopsAtFront : TryReserveErrorKind → Type 0
     StopsAtFront error = (new : Vector T A) × (full : Vector T A) × IsNew size 0 alloc new × ExtendsByFront size iter new error full
+
+-- items of `iter` were put behind those of old, which is new, with this result, and `after` is what is left of it: nothing was taken but
+-- what was placed and, where room was refused, one item more
+module _ {S T A : Type 0} (steps : S → Option T → S → Type 0) (Tells : S → ℕ → Type 0) (size : ℕ) (iter : S) (old : Vector T A) where
+  pub record LeavesIter (after : S) (result : Result Unit TryReserveErrorKind) (new : Vector T A) : Type 0 where
+    pub ended : OnOk result ((all : ExtendsByAll steps Tells size iter old new) × (all.ends.0 ≡ after))
+    pub stopped : IfErr result (λ e. (front : ExtendsByFront steps Tells size iter old e new) × (front.last ≡ after))
 
 -- items of `iter`, of which `left` bounds how many are to come, were put behind those of old, which is new, with this result
 module _ {S T A : Type 0} (steps : S → Option T → S → Type 0) (Tells : S → ℕ → Type 0) (left : S → Count) (size : ℕ) (iter : S)

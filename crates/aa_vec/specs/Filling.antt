@@ -4,7 +4,7 @@ use Rattle.std.specs.Iterator.{Count, Yields, Drains, size as count_of}
 use Rattle.aa_raw.specs.declared.collections.TryReserveErrorKind.{TryReserveErrorKind}
 use Rattle.aa_vec.specs.Vector.{Vector, len, HasRoom, SameBlock, LacksRoom, Holds, Writes, MakesRoom, run_count}
 use Rattle.aa_vec.specs.Behind.{StandsBehind, behind_items}
-use Rattle.aa_vec.specs.Extending.{YieldsTelling}
+use Rattle.aa_vec.specs.Extending.{YieldsTelling, StopsAt}
 use Rattle.aa_vec.specs.Splicing.{MakesRoomTwice, LacksVector, LacksOthers, tail_moves}
 
 module _ {T A : Type 0} where
@@ -73,63 +73,69 @@ pub record Told {S T : Type 0} (steps : S → Option T → S → Type 0) (Tells 
   pub each : YieldsTelling steps Tells lower s rest last
 
 module _ {S T A : Type 0} (steps : S → Option T → S → Type 0) (Tells : S → ℕ → Type 0) (size : ℕ) (s : S) (first : T) where
-  -- `first` and all that came from s were gathered in a vector
-  pub record Gathers (v : Vector T A) : Type 0 where
+  -- `first` and all that came from s, of which `after` is left, were gathered in a vector
+  pub record Gathers (v : Vector T A) (after : S) : Type 0 where
     pub rest : List T
     pub told : Told steps Tells s rest
-    pub ends : (end : S) × steps told.last None end
+    pub ends : steps told.last None after
     pub items : v.items ≡ first ∷ rest
 
-  -- no vector over a clone of the allocator of old could be made of `first` and what was taken from s
-  pub record GathersShort (fails : Type 0) (old : Vector T A) (error : TryReserveErrorKind) : Type 0 where
+  -- no vector over a clone of the allocator of old could be made of `first` and what was taken from s, of which `after` is left
+  pub record GathersShort (fails : Type 0) (old : Vector T A) (error : TryReserveErrorKind) (after : S) : Type 0 where
     pub rest : List T
     pub told : Told steps Tells s rest
+    pub stops : told.last ≡ after
     pub lacks : LacksVector A fails size told.lower (first ∷ rest) error
 
 module _ {S T A : Type 0} (steps : S → Option T → S → Type 0) (size : ℕ) (s : S) (old : Vector T A) where
-  -- `added`, that is `first` and all that came from s, was put before the last n items of old, in room made for just them
-  pub record PutsRest (n : ℕ) (first : T) (new : Vector T A) : Type 0 where
+  -- `added`, that is `first` and all that came from s, of which `after` is left, was put before the last n items of old, in room made for
+  -- just them
+  pub record PutsRest (n : ℕ) (first : T) (new : Vector T A) (after : S) : Type 0 where
     pub added : List T
-    pub comes : (rest : List T) × Drains steps s rest × (added ≡ first ∷ rest)
+    pub comes : (rest : List T) × (last : S) × Yields steps s rest last × steps last None after × (added ≡ first ∷ rest)
     pub items : new.items ≡ take (len old - n) old.items ++ (added ++ drop (len old - n) old.items)
     pub room : MakesRoom size old (len old) (length added) new
     pub writes : Writes old (length added + n) (1 + run_count n) new
 
-  -- all that came from s was put before the last n items of old, in room made for as many as were told and then for the others
-  pub record PutsAll (told n : ℕ) (new : Vector T A) : Type 0 where
+  -- all that came from s, of which `after` is left, was put before the last n items of old, in room made for as many as were told and
+  -- then for the others
+  pub record PutsAll (told n : ℕ) (new : Vector T A) (after : S) : Type 0 where
     pub added : List T
     pub last : S
     pub given : Yields steps s added last
-    pub ends : (end : S) × steps last None end
+    pub ends : steps last None after
     pub items : new.items ≡ take (len old - n) old.items ++ (added ++ drop (len old - n) old.items)
     pub room : MakesRoomTwice size old (len old) told (length added - told) new
     pub written : new.written ≡ old.written + (length added + tail_moves 0 told (length added) * n)
 
 module _ {S T A : Type 0} (steps : S → Option T → S → Type 0) (Tells : S → ℕ → Type 0) (fails : Type 0) (size : ℕ) (s : S)
     (old : Vector T A) where
-  -- no vector could be made of `first` and what was taken from s, or there was no room for them
-  pub record LacksRest (n : ℕ) (first : T) (error : TryReserveErrorKind) : Type 0 where
+  -- no vector could be made of `first` and what was taken from s, of which `after` is left, or there was no room for them
+  pub record LacksRest (n : ℕ) (first : T) (error : TryReserveErrorKind) (after : S) : Type 0 where
     pub rest : List T
     pub told : Told steps Tells s rest
+    pub stops : StopsAt steps told.last after
     pub lacks : LacksOthers fails ((end : S) × steps told.last None end) size told.lower old (first ∷ rest) error
 
   module _ (told n : ℕ) where
-    -- a beginning of what was taken from s was put there; there was no room for as many as were told, or for the others
-    pub record PutsFront (error : TryReserveErrorKind) (new : Vector T A) : Type 0 where
+    -- a beginning of what was taken from s, of which `after` is left, was put there; there was no room for as many as were told, or for
+    -- the others
+    pub record PutsFront (error : TryReserveErrorKind) (new : Vector T A) (after : S) : Type 0 where
       pub front : List T
       pub others : List T
       pub lower : ℕ → ℕ
       pub last : S
       pub given : YieldsTelling steps Tells lower s (front ++ others) last
+      pub stops : StopsAt steps last after
       pub items : new.items ≡ take (len old - n) old.items ++ (front ++ drop (len old - n) old.items)
       pub why :
           ((length (front ++ others) ≡ 0) × SameBlock old new × LacksRoom new told error)
           ⊎ ((length front ≡ told) × (0 < length others) × MakesRoom size old (len old) told new
           × LacksOthers fails ((end : S) × steps last None end) size lower new others error)
 
-    -- all that comes from s, of which `remaining` bounds how many, was put there, with this result
-    pub record Puts (remaining : S → Count) (result : Result Unit TryReserveErrorKind) (new : Vector T A) : Type 0 where
-      pub all : OnOk result (PutsAll steps size s old told n new)
+    -- all that comes from s, of which `remaining` bounds how many and `after` is left, was put there, with this result
+    pub record Puts (remaining : S → Count) (result : Result Unit TryReserveErrorKind) (new : Vector T A) (after : S) : Type 0 where
+      pub all : OnOk result (PutsAll steps size s old told n new after)
       pub writes : PutsWithin old n new
-      pub refused : IfErr result (λ e. PutsFront e new)
+      pub refused : IfErr result (λ e. PutsFront e new after)
       pub few : IfErr result (λ e. HasRoom old told → told < count_of (remaining s))

@@ -8,7 +8,7 @@ use Rattle.aa_raw.specs.declared.raw_vec.Growth.TheVariants.{Doubling}
 use Rattle.aa_raw.specs.Growth.{amortized, least_of}
 use Rattle.aa_raw.specs.Refusals.{IsRefusedAt}
 use Rattle.aa_vec.specs.Vector.{Vector, len, HasRoom, IsNew, SameBlock, MakesRoom, LacksRoom, run_count}
-use Rattle.aa_vec.specs.Extending.{ExtendsAll, ExtendsFull, YieldsTelling, asked_for}
+use Rattle.aa_vec.specs.Extending.{ExtendsAll, ExtendsFull, StopsAt, YieldsTelling, asked_for}
 
 -- how often the tail is moved where n items come, and h more are told once they fill the gap: up, where room is made for those that
 -- are told, and where more than those come; and down, where a gap is left in the end
@@ -105,6 +105,14 @@ module _ {S T : Type 0} (steps : S → Option T → S → Type 0) (Tells : S →
     pub first : Tells iter (lower (length taken))
     pub told : YieldsTelling steps Tells lower iter taken last
     pub splices : SplicesShort size lower old head gap tail taken fails ((end : S) × steps last None end) error new
+
+-- items were put in place of the range with this result, and `after` is what is left of `iter`: nothing was taken from it but what found a
+-- place, and what was gathered where others found none
+module _ {S T A : Type 0} (steps : S → Option T → S → Type 0) (Tells : S → ℕ → Type 0) (fails : Type 0) (size : ℕ) (iter : S)
+    (old : Vector T A) (head : List T) (gap : ℕ) (tail : List T) where
+  pub record SplicesIter (after : S) (result : Result Unit TryReserveErrorKind) (new : Vector T A) : Type 0 where
+    pub ended : OnOk result ((all : SplicesByAll steps Tells size iter old head gap tail new) × (all.ends.0 ≡ after))
+    pub stopped : IfErr result (λ e. (front : SplicesByFront steps Tells size iter old head gap tail fails e new) × StopsAt steps front.last after)
 
 -- once the range is full, the iterator tells h
 abbrev pub TellsOnceFull : {S T : Type 0} → (S → Option T → S → Type 0) → (S → ℕ → Type 0) → S → (gap h : ℕ) → Type 0

@@ -1,5 +1,5 @@
 -- A vector as contracts see it, and how it makes room.
-use Rattle.std.specs.Prelude.{◌≡◌, ℕ, ◌+◌, ◌-◌, ◌<◌, ◌≤◌, List, [], length, Option, ◌⊎◌, ◌==◌, if◌then◌else◌}
+use Rattle.std.specs.Prelude.{◌≡◌, ℕ, ◌+◌, ◌-◌, ◌<◌, ◌≤◌, List, [], length, Option, ◌⊎◌, ◌==◌, if◌then◌else◌, Result, IfErr, OnOk, IsOk}
 use Rattle.aa_raw.specs.declared.raw_vec.Growth.{Growth}
 use Rattle.aa_raw.specs.declared.raw_vec.Growth.TheVariants.{Doubling}
 use Rattle.aa_raw.specs.declared.collections.TryReserveErrorKind.{TryReserveErrorKind}
@@ -99,6 +99,14 @@ module _ {T A : Type 0} where
   pub record Writes (old : Vector T A) (n k : ℕ) (new : Vector T A) : Type 0 where
     pub written : new.written ≡ old.written + n
     pub runs : new.runs ≡ old.runs + k
+
+  -- room for k more was asked for in old, which is new, with this result: where they fit it was granted, and then `Grown` holds; a refusal
+  -- changed nothing
+  pub record Reserved (old : Vector T A) (k : ℕ) (Grown : Type 0) (result : Result Unit TryReserveErrorKind) (new : Vector T A) : Type 0 where
+    pub fits : HasRoom old k → IsOk result
+    pub made : OnOk result Grown
+    pub writes : Writes old 0 0 new
+    pub refused : IfErr result (λ e. LacksRoom old k e × (new ≡ old))
 
   -- v with other items as many as it had
   abbrev pub with_items : Vector T A → List T → Vector T A

@@ -1,17 +1,18 @@
 //! `Vec`: a growable list over an allocator. It stands for `allocator_api2::vec`.
-ghost use Rattle.std.specs.Prelude.{◌≡◌, ◌+◌, ◌-◌, ◌<◌, ◌≤◌, [], ◌∷◌, ◌++◌, length, IfOk, IfErr, IfNone, OnOk, IsOk, IsTrue, ◌↔◌, MatchOption};
+ghost use Rattle.std.specs.Prelude.{◌≡◌, ◌+◌, ◌-◌, ◌*◌, ◌^◌, ◌<◌, ◌≤◌, [], ◌∷◌, ◌++◌, length, IfOk, IfErr, IfNone, OnOk, IsOk, IsTrue, ◌↔◌, MatchOption};
 ghost use Rattle.std.specs.Mem.{type_size};
 ghost use Rattle.std.specs.Borrow.{sem};
+ghost use Rattle.aa_raw.specs.Places.{IsCapacity};
 ghost use Rattle.aa_raw.specs.Refusals.{IsRefusedAt};
 ghost use Rattle.aa_vec.specs.Vector.{len, HasRoom, LacksRoom, IsNew, SameBlock, GrowsTo, Holds, Writes};
 
+pub use aa_boxed::slices::same;
 use aa_raw::collections::{Refused, TryReserveError};
 use aa_raw::raw_vec::{Growth, RawVec};
 pub use aa_raw::vec::into_iter;
 pub use aa_raw::vec::into_iter::IntoIter;
 pub use arrays::ArrayIntoVec;
 pub use boxes::SliceIntoVec;
-pub use compared::same;
 pub use drain::Drain;
 pub use hints::cautious;
 pub use splice::Splice;
@@ -111,7 +112,10 @@ impl<T, A: Allocator> Vec<T, A> {
     pub fn len(&self) -> usize
         ensures count { result ≡ len self.now }
         ensures within { len self.now ≤ self.now.capacity }
+        ensures small { result * type_size T.row < 2 ^ 63 }
     {
+        // It does nothing but tell the prover that places are at most `usize::MAX`.
+        let _within = self.block.capacity();
         self.len
     }
 
@@ -128,6 +132,7 @@ impl<T, A: Allocator> Vec<T, A> {
     pub fn capacity(&self) -> usize
         ensures count { result ≡ self.now.capacity }
         ensures within { len self.now ≤ self.now.capacity }
+        ensures may_be { IsCapacity T.row result }
     {
         self.block.capacity()
     }
@@ -178,7 +183,7 @@ impl<T, A: Allocator> Vec<T, A> {
         if let Err(error) = self.block.reserve_for_push(len) {
             return Err(Refused {
                 source: value,
-                error,
+                error: error.kind(),
             });
         }
         self.block.put(len, value);

@@ -30,8 +30,12 @@ module _ {T A : Type 0} (v w : Vector T A) (c n k : ℕ) (places : v.capacity �
   ]
 
 -- the two in the middle of four, in four places, are replaced by three, of which h are told once two are placed
-module _ {A : Type 0} (old : Vector ℕ A) (iter : ItemsLeft ℕ) (d : Drain ℕ A) (new : Vector ℕ A) (was : (old.items ≡ 1 ∷ 2 ∷ 3 ∷ 4 ∷ []) × (old.capacity ≡ 4) × (old.growth ≡ Doubling))
-    (new_items : iter.items ≡ 7 ∷ 8 ∷ 9 ∷ []) (drains : TakesRange old 1 3 d) (s : SplicesByAll gives_item (TellsExactly items_lower) 4 iter (drain_vec d) (drain_head d) (range_len d) (drain_tail d) new) where
+module _ {A : Type 0} {old : Vector ℕ A} {iter given : ItemsLeft ℕ} {d : Drain ℕ A} {new : Vector ℕ A} (drains : TakesRange old 1 3 d)
+    (s : SplicesByAll gives_item (TellsExactly items_lower) 4 iter (drain_vec d) (drain_head d) (range_len d) (drain_tail d) new) (same : iter ≡ given)
+    (was : (old.items ≡ 1 ∷ 2 ∷ 3 ∷ 4 ∷ []) × (old.capacity ≡ 4) × (old.growth ≡ Doubling)) (new_items : given.items ≡ 7 ∷ 8 ∷ 9 ∷ []) where
+  come : iter.items ≡ 7 ∷ 8 ∷ 9 ∷ []
+  come = ap (λ i. i.items) same ∙ new_items
+
   before : drain_head d ≡ 1 ∷ []
   before = drains.head.items ∙ ap (take 1) was.0
 
@@ -44,10 +48,10 @@ module _ {A : Type 0} (old : Vector ℕ A) (iter : ItemsLeft ℕ) (d : Drain ℕ
   pub five_there : new.items ≡ 1 ∷ 7 ∷ 8 ∷ 9 ∷ 4 ∷ []
   five_there =
       spliced.items ∙ ap (λ xs. xs ++ (iter.items ++ drain_tail d)) before
-      ∙ ap (λ ys. (1 ∷ []) ++ (ys ++ drain_tail d)) new_items ∙ ap (λ zs. (1 ∷ []) ++ ((7 ∷ 8 ∷ 9 ∷ []) ++ zs)) behind
+      ∙ ap (λ ys. (1 ∷ []) ++ (ys ++ drain_tail d)) come ∙ ap (λ zs. (1 ∷ []) ++ ((7 ∷ 8 ∷ 9 ∷ []) ++ zs)) behind
 
   three : length iter.items ≡ 3
-  three = ap length new_items
+  three = ap length come
 
   left_one : length iter.items - range_len d ≡ 1
   left_one = omega (arith, three, drains.range)
@@ -79,19 +83,21 @@ module _ {A : Type 0} (old : Vector ℕ A) (iter : ItemsLeft ℕ) (d : Drain ℕ
     pub doubles : (drain_vec d).growth ≡ Doubling
     doubles = drains.head.block.growth ∙ was.2
 
-  -- as many as there are, or a hundred
-  pub told_some : (h c : ℕ) → (told : lower_by iter.hint 1 ≡ h) → 0 < h → amortized Doubling 4 (4 + h) 4 ≡ c → 4 + h ≤ c → (new.capacity ≡ c) × (new.written ≡ old.written + (3 + tail_moves 2 h 3 * 1))
-  told_some h c told some is enough =
-      let r = five_room h told in
-      let mid = doubled_to (drain_vec d) r.0 4 4 h (places h told) (doubles h told) r.1 (omega (arith, some)) in
-      ((kept_at r.0 new c (4 + h) (1 - h) (mid.0 ∙ is) mid.1 r.2 (omega (arith, some, enough))).0, five_written h told)
+  -- some: as many as there are, or a hundred
+  pub told_some : (hint : Option ℕ) (h c : ℕ) → given.hint ≡ hint → lower_by hint 1 ≡ h → 0 < h → amortized Doubling 4 (4 + h) 4 ≡ c → 4 + h ≤ c → (new.capacity ≡ c) × (new.written ≡ old.written + (3 + tail_moves 2 h 3 * 1))
+  told_some hint h c has told some is enough =
+      let at_two : lower_by iter.hint 1 ≡ h = ap (λ i. lower_by i.hint 1) same ∙ ap (λ m. lower_by m 1) has ∙ told in
+      let r = five_room h at_two in
+      let mid = doubled_to (drain_vec d) r.0 4 4 h (places h at_two) (doubles h at_two) r.1 (omega (arith, some)) in
+      ((kept_at r.0 new c (4 + h) (1 - h) (mid.0 ∙ is) mid.1 r.2 (omega (arith, some, enough))).0, five_written h at_two)
 
   -- none
-  pub told_none : lower_by iter.hint 1 ≡ 0 → (new.capacity ≡ 8) × (new.written ≡ old.written + 4)
-  told_none told =
-      let r = five_room 0 told in
-      let mid = kept_at (drain_vec d) r.0 4 4 0 (places 0 told) (doubles 0 told) r.1 (omega arith) in
-      ((doubled_to r.0 new 4 4 1 mid.0 mid.1 r.2 (omega arith)).0, five_written 0 told)
+  pub told_none : given.hint ≡ Some 0 → (new.capacity ≡ 8) × (new.written ≡ old.written + 4)
+  told_none has =
+      let at_two : lower_by iter.hint 1 ≡ 0 = ap (λ i. lower_by i.hint 1) same ∙ ap (λ m. lower_by m 1) has in
+      let r = five_room 0 at_two in
+      let mid = kept_at (drain_vec d) r.0 4 4 0 (places 0 at_two) (doubles 0 at_two) r.1 (omega arith) in
+      ((doubled_to r.0 new 4 4 1 mid.0 mid.1 r.2 (omega arith)).0, five_written 0 at_two)
 
 -- how many places k pushes onto an empty vector of elements of 4 bytes lead to, and how many elements they move
 abbrev pub Reached : (k c m : ℕ) → Type 0

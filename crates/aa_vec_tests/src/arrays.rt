@@ -86,7 +86,7 @@ fn too_many_elements_overflow(rt: HostRuntime) -> Result<(), Fail> {
     match v.into_flattened() {
         Ok(_) => assert!(rt; false),
         Err(refused) => {
-            assert_eq!(rt; refused.error.kind(), TryReserveErrorKind::CapacityOverflow);
+            assert_eq!(rt; refused.error, TryReserveErrorKind::CapacityOverflow);
             assert_eq!(rt; refused.source.len(), 2);
         }
     }

@@ -21,7 +21,7 @@ fn two_by_three<A: Allocator + Clone>(
     ensures hundred { items.hint ≡ Some 100 → OnOk result ((v.new.capacity ≡ 104) × (v.new.written ≡ v.old.written + 5)) }
     ensures none { items.hint ≡ Some 0 → OnOk result ((v.new.capacity ≡ 8) × (v.new.written ≡ v.old.written + 4)) }
 {
-    let range = v.splice(1, 3, items);
+    let range = v.splice(1..3, items);
     range.finish_hinted()?;
     Ok(())
 }
@@ -99,7 +99,7 @@ fn middle_kept<A: Allocator>(v: &mut Vec<u32, A>) -> (Option<u32>, Option<u32>)
     requires { v.old.items ≡ 0 ∷ 1 ∷ 2 ∷ 3 ∷ 4 ∷ 5 ∷ [] }
     ensures { Holds v.old (0 ∷ 2 ∷ 4 ∷ 5 ∷ []) v.new × (v.new.written ≡ v.old.written + 3) }
 {
-    let mut range = v.drain(1, 4);
+    let mut range = v.drain(1..4);
     let first = range.next();
     let last = range.next_back();
     range.keep_rest();

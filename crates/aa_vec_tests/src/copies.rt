@@ -80,7 +80,7 @@ fn a_vector_is_split_at_its_end(rt: HostRuntime) -> Result<(), Fail> {
 fn clones_are_put_behind(rt: HostRuntime) -> Result<(), Fail> {
     let mut v = one_two_three(rt.alloc(), 3)?;
     assert!(rt; v.len() == 3);
-    v.extend_from_within(1, 3)?;
+    v.extend_from_within(1..3)?;
     assert_eq!(rt; v.as_slice(), [1, 2, 3, 2, 3].as_slice());
     assert_eq!(rt; v.capacity(), 6);
     v.extend_from_slice([7, 8].as_slice())?;
@@ -136,6 +136,31 @@ fn a_vector_is_assigned_clones(rt: HostRuntime) -> Result<(), Fail> {
     Ok(())
 }
 
+// A vector of the vectors [1, 2] and [3].
+fn two_rows(alloc: Global) -> Result<Vec<Vec<u32>>, Fail> {
+    let mut rows: Vec<Vec<u32>> = Vec::new(alloc);
+    rows.push(Vec::from_slice(alloc, &[1, 2])?)?;
+    rows.push(Vec::from_slice(alloc, &[3])?)?;
+    Ok(rows)
+}
+
+#[test]
+fn vectors_of_vectors_are_cloned(rt: HostRuntime) -> Result<(), Fail> {
+    let mut rows = two_rows(rt.alloc())?;
+    let copy = rows.clone()?;
+    assert!(rt; copy == rows);
+    for row in rows.iter_mut() {
+        row.push(9)?;
+    }
+    assert!(rt; copy == two_rows(rt.alloc())?);
+    rows.extend_from_slice(copy.as_slice())?;
+    rows.resize(6, Vec::from_slice(rt.alloc(), &[7])?)?;
+    let lengths = [3, 2, 2, 1, 1, 1];
+    assert!(rt; rows.iter().map(|row| row.len()).eq(lengths.iter().copied()));
+    assert!(rt; rows.pop() == rows.pop());
+    Ok(())
+}
+
 #[test]
 fn an_element_is_cloned_many_times(rt: HostRuntime) -> Result<(), Fail> {
     let three = Vec::from_elem(rt.alloc(), 5, 3)?;
@@ -181,7 +206,7 @@ fn a_refused_clone_adds_nothing(rt: HostRuntime) -> Result<(), Fail> {
     let mut v = one_and_nine(rt.alloc())?;
     assert!(rt; v.resize(4, Fragile { value: 9 }).is_err());
     assert!(rt; v.len() == 2);
-    assert!(rt; v.extend_from_within(0, 2).is_err());
+    assert!(rt; v.extend_from_within(0..2).is_err());
     assert!(rt; v.len() == 2);
     assert_eq!(rt; v[0], Fragile { value: 1 });
     Ok(())
@@ -225,7 +250,7 @@ fn plain_copies_are_put_behind(rt: HostRuntime) -> Result<(), Fail> {
     v.extend_from_slice_copied(short.as_slice())?;
     assert_eq!(rt; v.capacity(), 300);
     assert!(rt; v.len() == 152);
-    v.extend_from_within_copied(10, 150)?;
+    v.extend_from_within_copied(10..150)?;
     assert!(rt; v.len() == 292);
     assert_eq!(rt; v[149], 149);
     assert_eq!(rt; v[151], 9);
@@ -243,7 +268,7 @@ fn elements_without_size_are_copied(rt: HostRuntime) -> Result<(), Fail> {
     assert_eq!(rt; behind.capacity(), usize::MAX);
     v.append(&mut behind)?;
     assert!(rt; v.len() == 3);
-    v.extend_from_within(0, 3)?;
+    v.extend_from_within(0..3)?;
     assert_eq!(rt; v.len(), 6);
     Ok(())
 }

@@ -20,7 +20,7 @@ fn ends_of<T: Drop, A: Allocator>(
     requires { (from + 2 ≤ to) × (to ≤ len v.old) }
     ensures { Holds v.old (take from v.old.items ++ drop to v.old.items) v.new }
 {
-    let mut range = v.drain(from, to);
+    let mut range = v.drain(from..to);
     let first = range.next();
     let last = range.next_back();
     (first, last)
@@ -32,7 +32,7 @@ fn first_of<T: Drop, A: Allocator>(v: &mut Vec<T, A>, from: usize, to: usize) ->
     requires { (from < to) × (to ≤ len v.old) }
     ensures { Holds v.old (take from v.old.items ++ (slice_range v.old.items (from + 1) to ++ drop to v.old.items)) v.new }
 {
-    let mut range = v.drain(from, to);
+    let mut range = v.drain(from..to);
     let first = range.next();
     range.keep_rest();
     first
@@ -44,7 +44,7 @@ fn first_large<A: Allocator>(v: &mut Vec<u32, A>, from: usize, to: usize) -> Opt
     ensures { Holds v.old (take from v.old.items ++ drop to v.old.items) v.new }
 {
     let mut found = None;
-    for x in v.drain(from, to) {
+    for x in v.drain(from..to) {
         if x > 9 {
             found = Some(x);
             break;
@@ -58,15 +58,15 @@ fn first_five_gone<T: Drop, A: Allocator>(v: &mut Vec<T, A>)
     requires { 10 ≤ len v.old }
     ensures { Holds v.old (drop 5 v.old.items) v.new }
 {
-    drop(v.drain(0, 3));
-    drop(v.drain(0, 2));
+    drop(v.drain(0..3));
+    drop(v.drain(0..2));
 }
 
 // A range in a chain of iterators.
 fn even_in<A: Allocator>(v: &mut Vec<u32, A>, from: usize, to: usize) -> usize
     requires { (from ≤ to) × (to ≤ len v.old) }
 {
-    v.drain(from, to).filter(|x| *x % 2 == 0).count()
+    v.drain(from..to).filter(|x| *x % 2 == 0).count()
 }
 
 // A range, as a list of the toolchain's.
@@ -79,7 +79,7 @@ fn collected<A: Allocator>(
     requires { (from ≤ to) × (to ≤ len v.old) }
     ensures { IfOk result (λ r. r.items ≡ slice_range v.old.items from to) }
 {
-    v.drain(from, to).collect(alloc)
+    v.drain(from..to).collect(alloc)
 }
 
 // Whether a range has a large number; all of it is gone then.
@@ -87,7 +87,7 @@ fn has_large<A: Allocator>(v: &mut Vec<u32, A>, from: usize, to: usize) -> bool
     requires { (from ≤ to) × (to ≤ len v.old) }
     ensures { Holds v.old (take from v.old.items ++ drop to v.old.items) v.new }
 {
-    let mut range = v.drain(from, to);
+    let mut range = v.drain(from..to);
     range.any(|x| x > 9)
 }
 
@@ -104,7 +104,7 @@ fn numbers(alloc: Global, end: u32) -> Result<Vec<u32>, Fail> {
 fn a_range_is_taken_from_both_ends(rt: HostRuntime) -> Result<(), Fail> {
     let mut v = numbers(rt.alloc(), 6)?;
     assert!(rt; v.len() == 6);
-    let mut range = v.drain(1, 4);
+    let mut range = v.drain(1..4);
     assert_eq!(rt; range.len(), 3);
     assert_eq!(rt; range.size_hint(), (3, Some(3)));
     assert_eq!(rt; range.next(), Some(1));
@@ -119,7 +119,7 @@ fn a_range_is_taken_from_both_ends(rt: HostRuntime) -> Result<(), Fail> {
 fn what_was_not_taken_is_seen(rt: HostRuntime) -> Result<(), Fail> {
     let mut v = numbers(rt.alloc(), 6)?;
     assert!(rt; v.len() == 6);
-    let mut range = v.drain(1, 4);
+    let mut range = v.drain(1..4);
     assert_eq!(rt; range.next(), Some(1));
     assert_eq!(rt; range.as_slice(), [2, 3].as_slice());
     assert_eq!(rt;
@@ -134,7 +134,7 @@ fn what_was_not_taken_is_seen(rt: HostRuntime) -> Result<(), Fail> {
 fn what_was_not_taken_is_kept(rt: HostRuntime) -> Result<(), Fail> {
     let mut v = numbers(rt.alloc(), 6)?;
     assert!(rt; v.len() == 6);
-    let mut range = v.drain(1, 4);
+    let mut range = v.drain(1..4);
     assert_eq!(rt; range.next(), Some(1));
     assert_eq!(rt; range.next_back(), Some(3));
     range.keep_rest();
@@ -147,7 +147,7 @@ fn what_was_not_taken_is_kept(rt: HostRuntime) -> Result<(), Fail> {
 fn a_forgotten_range_leaves_what_is_before_it(rt: HostRuntime) -> Result<(), Fail> {
     let mut v = numbers(rt.alloc(), 6)?;
     assert!(rt; v.len() == 6);
-    let mut range = v.drain(1, 4);
+    let mut range = v.drain(1..4);
     assert_eq!(rt; range.next(), Some(1));
     forget(range);
     v.push(7)?;
@@ -159,7 +159,7 @@ fn a_forgotten_range_leaves_what_is_before_it(rt: HostRuntime) -> Result<(), Fai
 fn after_the_end_nothing_comes(rt: HostRuntime) -> Result<(), Fail> {
     let mut v = numbers(rt.alloc(), 3)?;
     assert!(rt; v.len() == 3);
-    let mut range = v.drain(0, 2);
+    let mut range = v.drain(0..2);
     assert_eq!(rt; range.next_back(), Some(1));
     assert_eq!(rt; range.next(), Some(0));
     assert_eq!(rt; range.next(), None);
@@ -174,7 +174,7 @@ fn after_the_end_nothing_comes(rt: HostRuntime) -> Result<(), Fail> {
 fn an_empty_range_changes_nothing(rt: HostRuntime) -> Result<(), Fail> {
     let mut v = numbers(rt.alloc(), 1)?;
     assert!(rt; v.len() == 1);
-    drop(v.drain(1, 1));
+    drop(v.drain(1..1));
     assert_eq!(rt; v.as_slice(), [0].as_slice());
     Ok(())
 }
@@ -231,7 +231,7 @@ fn each_element_of_a_range_is_dropped_once(rt: HostRuntime) {
     let drops = Cell::new(0);
     let mut v = counted_up(rt.alloc(), &drops, 10);
     assert!(rt; v.len() == 10);
-    let mut range = v.drain(2, 8);
+    let mut range = v.drain(2..8);
     let taken = (range.next(), range.next_back());
     assert_eq!(rt; drops.get(), 0);
     drop(taken);
@@ -245,7 +245,7 @@ fn each_element_beside_a_range_is_dropped_once(rt: HostRuntime) {
     let drops = Cell::new(0);
     let mut v = counted_up(rt.alloc(), &drops, 10);
     assert!(rt; v.len() == 10);
-    drop(v.drain(2, 8));
+    drop(v.drain(2..8));
     assert_eq!(rt; drops.get(), 6);
     drop(v);
     assert_eq!(rt; drops.get(), 10);
@@ -258,7 +258,7 @@ fn elements_without_size_are_drained(rt: HostRuntime) -> Result<(), Fail> {
         v.push(())?;
     }
     assert!(rt; v.len() == 4);
-    let mut range = v.drain(1, 3);
+    let mut range = v.drain(1..3);
     assert_eq!(rt; range.next_back(), Some(()));
     assert_eq!(rt; range.len(), 1);
     range.keep_rest();

@@ -92,14 +92,13 @@ fn an_untrue_hint_is_asked_for_only_where_the_vector_is_full(rt: HostRuntime) ->
 
 #[test]
 fn an_untrue_hint_of_a_full_vector_overflows(rt: HostRuntime) -> Result<(), Fail> {
-    let most = Some(usize::MAX);
     let mut v = numbers(rt.alloc(), 1, 4, 4)?;
-    let mut two = numbers(rt.alloc(), 9, 10, 2)?;
-    two.push(8)?;
+    let mut items = Items::new(numbers(rt.alloc(), 7, 10, 3)?, Some(usize::MAX));
     let overflow = Err(TryReserveErrorKind::CapacityOverflow.into());
-    assert_eq!(rt; extended(&mut v, Items::new(two, most)), overflow);
-    assert_eq!(rt; v.as_slice(), [1, 2, 3, 9].as_slice());
+    assert_eq!(rt; v.extend_hinted_by(&mut items), overflow);
+    assert_eq!(rt; v.as_slice(), [1, 2, 3, 7].as_slice());
     assert_eq!(rt; v.capacity(), 4);
+    assert_eq!(rt; items.next(), Some(9));
     Ok(())
 }
 

@@ -17,7 +17,7 @@ fn a_range_is_replaced_in_the_room_that_is_told(rt: HostRuntime) -> Result<(), F
         let mut v = list(rt.alloc(), &[1, 2, 3, 4])?;
         let items = Items::new(list(rt.alloc(), &[7, 8, 9])?, hint);
         assert!(rt; v.len() == 4);
-        v.splice(1, 3, items).finish_hinted()?;
+        v.splice(1..3, items).finish_hinted()?;
         assert_eq!(rt; v.as_slice(), [1, 7, 8, 9, 4].as_slice());
         assert_eq!(rt; v.capacity(), capacity);
     }
@@ -28,7 +28,7 @@ fn a_range_is_replaced_in_the_room_that_is_told(rt: HostRuntime) -> Result<(), F
 fn what_is_replaced_comes_from_both_ends(rt: HostRuntime) -> Result<(), Fail> {
     let mut v = list(rt.alloc(), &[1, 2, 3, 4])?;
     assert!(rt; v.len() == 4);
-    let mut range = v.splice(1, 3, 7..8);
+    let mut range = v.splice(1..3, 7..8);
     assert_eq!(rt; range.len(), 2);
     assert_eq!(rt; range.size_hint(), (2, Some(2)));
     assert_eq!(rt; range.next_back(), Some(3));
@@ -44,7 +44,7 @@ fn what_is_replaced_comes_from_both_ends(rt: HostRuntime) -> Result<(), Fail> {
 fn a_range_is_replaced_by_any_iterator(rt: HostRuntime) -> Result<(), Fail> {
     let mut v = list(rt.alloc(), &[1, 2, 3, 4])?;
     assert!(rt; v.len() == 4);
-    let range = v.splice(0, 3, 9..10);
+    let range = v.splice(0..3, 9..10);
     let text = format!(in rt.alloc(); "{range:?}");
     range.finish()?;
     assert_eq!(rt; text?.as_str(), "Splice([1, 2, 3])");
@@ -56,7 +56,7 @@ fn a_range_is_replaced_by_any_iterator(rt: HostRuntime) -> Result<(), Fail> {
 fn items_are_put_where_nothing_was(rt: HostRuntime) -> Result<(), Fail> {
     let mut v = list(rt.alloc(), &[1, 2])?;
     assert!(rt; v.len() == 2);
-    let range = v.splice(1, 1, 9..10);
+    let range = v.splice(1..1, 9..10);
     range.finish()?;
     assert_eq!(rt; v.as_slice(), [1, 9, 2].as_slice());
     Ok(())
@@ -66,7 +66,7 @@ fn items_are_put_where_nothing_was(rt: HostRuntime) -> Result<(), Fail> {
 fn a_range_is_replaced_by_as_many(rt: HostRuntime) -> Result<(), Fail> {
     let mut v = list(rt.alloc(), &[1, 2, 3])?;
     assert!(rt; v.len() == 3);
-    let range = v.splice(1, 3, 8..10);
+    let range = v.splice(1..3, 8..10);
     range.finish()?;
     assert_eq!(rt; v.as_slice(), [1, 8, 9].as_slice());
     assert_eq!(rt; v.capacity(), 3);

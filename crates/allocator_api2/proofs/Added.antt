@@ -72,3 +72,12 @@ module _ {T A K S : Type 0} where
       let few = added-le turns (subst (AllByRecursion AddsOneAtMost) (sym r.run.commands_are) a) in
       let count : length turns ≡ length commands = simp length-map at (ap length r.run.commands_are) in
       moves_each-le old.main.growth new.main.grown old.main.grown (sum_by added turns) (length commands) (omega arith) (r.growth empty (all_add_or_remove commands a))
+
+  -- each command has one reply
+  pub replies-count : {size : ℕ} {calls : Calls T A K S} {old new : State T A K S} {commands : List (Command T A)} {replies : List (Reply T)}
+      → RunsWithin size calls old commands replies new → length replies ≡ length commands
+  replies-count {commands = commands} {replies} r =
+      let turns : List (Turn T A K S) = r.run.turns in
+      let given : length turns ≡ length replies = simp length-map at (ap length r.run.replies_are) in
+      let count : length turns ≡ length commands = simp length-map at (ap length r.run.commands_are) in
+      omega (arith, given, count)

@@ -211,7 +211,7 @@ fn put_again<T: Copy, A: Allocator>(made: &mut Vec<T, A>, count: usize)
     ensures items { Holds made.old (made.old.items ++ take count made.old.items) made.new }
     ensures writes { WritesAtMost made.old count made.new }
 {
-    match made.extend_from_within_copied(0, count) {
+    match made.extend_from_within_copied(0..count) {
         Ok(()) => {}
         Err(_) => unreachable!(),
     }

@@ -228,7 +228,7 @@ fn drain_taken(list: &mut Vec<u32>) -> bool {
     let mut sum: u32 = 0;
     let quarter = list.len() / 4;
     let rest = list.len() - quarter;
-    for x in list.drain(quarter, rest) {
+    for x in list.drain(quarter..rest) {
         sum = sum.wrapping_add(x);
     }
     list.push(sum).is_ok()
@@ -238,7 +238,7 @@ fn drain_taken(list: &mut Vec<u32>) -> bool {
 fn drain_dropped(list: &mut Vec<u32>) -> bool {
     let quarter = list.len() / 4;
     let rest = list.len() - quarter;
-    drop(list.drain(quarter, rest));
+    drop(list.drain(quarter..rest));
     true
 }
 
@@ -255,7 +255,7 @@ fn into_iter(list: Vec<u32>) -> u32 {
 fn splice_growing(list: &mut Vec<u32>, count: u32) -> bool {
     for _ in 0..count / 100 {
         let middle = list.len() / 2;
-        if list.splice(middle, middle, 0..100).finish().is_err() {
+        if list.splice(middle..middle, 0..100).finish().is_err() {
             return false;
         }
     }
@@ -267,7 +267,7 @@ fn splice_in_place(list: &mut Vec<u32>, count: u32) -> bool {
     for _ in 0..count / 100 {
         let middle = list.len() / 2;
         let end = middle.saturating_add(100).min(list.len());
-        if list.splice(middle, end, 0..100).finish().is_err() {
+        if list.splice(middle..end, 0..100).finish().is_err() {
             return false;
         }
     }

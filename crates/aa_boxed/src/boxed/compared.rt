@@ -9,9 +9,9 @@ use std::fmt::{Debug, Display, Formatter};
 use std::hash::{Hash, Hasher};
 
 impl<T: PartialEq, A: Allocator> PartialEq for Box<T, A> {
-    ghost eq = { λ x y. T.eq x.value y.value };
+    ghost eq = { λ left right. T.eq left.value right.value };
 
-    ghost laws = { on_per (λ x. x.value) T.laws };
+    ghost laws = { on_per (λ b. b.value) T.laws };
 
     fn eq(&self, other: &Self) -> bool {
         **self == **other
@@ -19,13 +19,13 @@ impl<T: PartialEq, A: Allocator> PartialEq for Box<T, A> {
 }
 
 impl<T: Eq, A: Allocator> Eq for Box<T, A> {
-    ghost laws = { on_equiv (λ x. x.value) T.Eq.laws };
+    ghost laws = { on_equiv (λ b. b.value) T.Eq.laws };
 }
 
 impl<T: PartialOrd, A: Allocator> PartialOrd for Box<T, A> {
-    ghost partial_cmp = { λ x y. T.partial_cmp x.value y.value };
+    ghost partial_cmp = { λ left right. T.partial_cmp left.value right.value };
 
-    ghost laws = { on_po (λ x. x.value) T.PartialOrd.laws };
+    ghost laws = { on_po (λ b. b.value) T.PartialOrd.laws };
 
     fn partial_cmp(&self, other: &Self) -> Option<Ordering> {
         (**self).partial_cmp(&**other)
@@ -33,13 +33,13 @@ impl<T: PartialOrd, A: Allocator> PartialOrd for Box<T, A> {
 }
 
 impl<T: Ord, A: Allocator> Ord for Box<T, A> {
-    ghost cmp = { λ x y. T.cmp x.value y.value };
+    ghost cmp = { λ left right. T.cmp left.value right.value };
 
-    ghost total = { on_total (λ x. x.value) T.total };
+    ghost total = { on_total (λ b. b.value) T.total };
 
-    ghost matches_partial_cmp = { λ x y. T.matches_partial_cmp x.value y.value };
+    ghost matches_partial_cmp = { λ left right. T.matches_partial_cmp left.value right.value };
 
-    ghost matches_eq = { λ x y. T.matches_eq x.value y.value };
+    ghost matches_eq = { λ left right. T.matches_eq left.value right.value };
 
     fn cmp(&self, other: &Self) -> Ordering {
         (**self).cmp(&**other)
@@ -49,7 +49,7 @@ impl<T: Ord, A: Allocator> Ord for Box<T, A> {
 impl<T: Hash, A: Allocator> Hash for Box<T, A> {
     ghost hash_input = { λ b. T.hash_input b.value };
 
-    ghost respects_eq = { λ x y e. T.respects_eq x.value y.value e };
+    ghost respects_eq = { λ left right e. T.respects_eq left.value right.value e };
 
     fn hash<H: Hasher>(&self, state: &mut H) {
         (**self).hash(state);

@@ -10,7 +10,7 @@ ghost use Rattle.aa_raw.specs.declared.collections.TryReserveErrorKind.TheVarian
 ghost use Rattle.aa_boxed.specs.Slice.{with_next, ended};
 
 use crate::boxed::slice::BoxedSlice;
-use aa_raw::collections::TryReserveError;
+use aa_raw::collections::{TryReserveError, TryReserveErrorKind};
 use aa_raw::raw_vec::{Growth, RawVec};
 use std::alloc::Allocator;
 use std::marker::Model;
@@ -94,7 +94,7 @@ impl<T, A: Allocator> Filling<T, A> {
     where
         T: Drop,
         ensures made { IfOk result (λ b. b ≡ ended self) }
-        ensures refused { IfErr result (λ e. (0 < length self.items) × (0 < type_size T.row) × IsRefusedAt e (length self.items)) }
+        ensures refused { IfErr result (λ e. (0 < length self.items) × (0 < type_size T.row) × (e ≡ TryReserveErrorKind.AllocError (length self.items))) }
     {
         let mut filling = self;
         let len = filling.len;

@@ -1,9 +1,11 @@
 //! Reading, writing and seeking, handed on to the value of a box.
-ghost use Rattle.std.specs.Prelude.{◌≡◌, OnOk, IfOk, IfSome};
-ghost use Rattle.std.specs.Io.{ReadsAtMost, WritesAtMost};
+ghost use Rattle.std.specs.Prelude.{◌≡◌, [], length, OnOk, IfOk, IfSome};
+ghost use Rattle.std.specs.Borrow.{sem};
+ghost use Rattle.aa_boxed.specs.contracts.boxed.Box.{the_row};
+ghost use Rattle.std.specs.Io.{ReadsAtMost, WritesAtMost, StartsWith};
 ghost use Rattle.std.specs.Io.KnownBytes.{Keeps, Appends, Consumes, ReadConsumes, WriteAppends};
-ghost use Rattle.std.specs.Io.BufRead.{DropsConsumable};
-ghost use Rattle.std.specs.Io.Seek.{StaysAt, SeekMoves};
+ghost use Rattle.std.specs.Io.BufRead.{Rests, FillKeeps, DropsConsumable};
+ghost use Rattle.std.specs.Io.Seek.{StaysAt, MovesTo, MovesBy, SeekMoves};
 
 use crate::boxed::Box;
 use std::alloc::Allocator;
@@ -31,7 +33,11 @@ impl<R: Read, A: Allocator> Read for Box<R, A> {
 impl<B: BufRead, A: Allocator> BufRead for Box<B, A> {
     ghost consumable_len = { λ b. B.consumable_len b.value };
 
-    fn fill_buf(&mut self) -> Result<&[u8]> {
+    fn fill_buf(&mut self) -> Result<&[u8]>
+        ensures front { IfSome (B.Read.remaining self.old.value) (λ xs. IfOk result (λ s. StartsWith xs s.now)) }
+        ensures end { IfSome (B.Read.remaining self.old.value) (λ xs. IfOk result (λ s. length s.now ≡ 0 → xs ≡ [])) }
+        ensures* after_borrow { sem 𝓛 (Rests (the_row B.row A.row A.Allocator) self.entry (λ new. FillKeeps (B.Read.remaining self.old.value) (B.Read.remaining new.value) (B.consumable_len new.value) result × (new.alloc ≡ self.old.alloc))) }
+    {
         (**self).fill_buf()
     }
 
@@ -82,6 +88,14 @@ impl<S: Seek, A: Allocator> Seek for Box<S, A> {
         (**self).seek(to)
     }
 
+    fn rewind(&mut self) -> Result<()>
+        ensures moves { MovesTo (S.stream_position self.old.value) (S.stream_position self.new.value) 0 result }
+        ensures bytes { Keeps (S.stream_bytes self.old.value) (S.stream_bytes self.new.value) }
+        ensures alloc { self.new.alloc ≡ self.old.alloc }
+    {
+        (**self).rewind()
+    }
+
     fn stream_position(&mut self) -> Result<u64>
         ensures value { IfSome (S.stream_position self.old.value) (λ at. IfOk result (λ n. n ≡ at)) }
         ensures stays { StaysAt (S.stream_position self.old.value) (S.stream_position self.new.value) }
@@ -89,5 +103,13 @@ impl<S: Seek, A: Allocator> Seek for Box<S, A> {
         ensures alloc { self.new.alloc ≡ self.old.alloc }
     {
         (**self).stream_position()
+    }
+
+    fn seek_relative(&mut self, offset: i64) -> Result<()>
+        ensures moves { MovesBy (S.stream_position self.old.value) (S.stream_position self.new.value) offset result }
+        ensures bytes { Keeps (S.stream_bytes self.old.value) (S.stream_bytes self.new.value) }
+        ensures alloc { self.new.alloc ≡ self.old.alloc }
+    {
+        (**self).seek_relative(offset)
     }
 }

@@ -10,7 +10,7 @@ ghost use Rattle.aa_raw.specs.Places.{IsRun};
 ghost use Rattle.aa_raw.specs.Refusals.{IsRefusedAt};
 ghost use Rattle.aa_raw.specs.declared.raw_vec.Growth.TheVariants.{Doubling};
 ghost use Rattle.aa_boxed.specs.Room.{IsJustFor};
-ghost use Rattle.aa_boxed.specs.Slice.{slice_of, StopsAfter};
+ghost use Rattle.aa_boxed.specs.Slice.{slice_of, Stops};
 
 use crate::boxed::filling::Filling;
 use aa_raw::collections::{TryReserveError, TryReserveErrorKind};
@@ -50,7 +50,7 @@ impl<T> BoxedSlice<T, Global> {
         ensures ran { IfOk result (λ b. Drains I.next_gives iter b.items) }
         ensures runs { IfOk result (λ b. WholeRun I.next_gives iter (λ p. b.items ≡ p.items)) }
         ensures made { IfOk result (λ b. (b.growth ≡ Doubling) × (b.alloc ≡ alloc)) }
-        ensures refused { IfErr result (λ e. StopsAfter I.next_gives (type_size T.row) iter e) }
+        ensures refused { IfErr result (λ e. Stops I.next_gives (type_size T.row) iter e) }
     {
         BoxedSlice::from_iter_in(iter, alloc)
     }
@@ -77,8 +77,9 @@ impl<T, A: Allocator> BoxedSlice<T, A> {
 
     /// The items of `iter`, which ends. It takes each item first, and memory where there is no room for it, with room to spare
     /// for it and the lower bound that `size_hint` then has; at the end it gives back what is not needed. Where memory is
-    /// refused, the items that came are dropped: `CapacityOverflow`, or `AllocError` with at least their number. The original
-    /// has no such call.
+    /// refused, the items that came are dropped. While items come, that is `CapacityOverflow` where the length asked for passes
+    /// `usize::MAX` or its bytes `isize::MAX`, or `AllocError` with at least the number of those that came; at the end
+    /// `AllocError` with the length. The original has no such call.
     pub fn from_iter_in<I: Iterator<Item = T>>(iter: I, alloc: A) -> Result<Self, TryReserveError>
     where
         T: Drop,
@@ -88,7 +89,7 @@ impl<T, A: Allocator> BoxedSlice<T, A> {
         ensures ran { IfOk result (λ b. Drains I.next_gives iter b.items) }
         ensures runs { IfOk result (λ b. WholeRun I.next_gives iter (λ p. b.items ≡ p.items)) }
         ensures made { IfOk result (λ b. (b.growth ≡ Doubling) × (b.alloc ≡ alloc)) }
-        ensures refused { IfErr result (λ e. StopsAfter I.next_gives (type_size T.row) iter e) }
+        ensures refused { IfErr result (λ e. Stops I.next_gives (type_size T.row) iter e) }
     {
         let mut rest = iter;
         let mut filling = Filling::with_room(Growth::Doubling, 0, alloc)?;

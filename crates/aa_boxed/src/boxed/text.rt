@@ -1,12 +1,12 @@
 //! `BoxedText`: text in a block that has room for it and no more.
-ghost use Rattle.std.specs.Prelude.{◌≡◌, ◌+◌, ◌<◌, ◌++◌, List, [], length, flat_map, IfOk, IfErr, OnOk, IsUtf8};
+ghost use Rattle.std.specs.Prelude.{◌≡◌, ◌+◌, ◌<◌, ◌++◌, List, [], length, flat_map, IfOk, IfErr, OnOk, MatchResult, IsUtf8};
 ghost use Rattle.std.specs.Iterator.{IsFinite, Drains};
 ghost use Rattle.std.specs.String.{string_bytes};
 ghost use Rattle.aa_raw.specs.Growth.{usize_max};
 ghost use Rattle.aa_raw.specs.Refusals.{IsRefused, IsRefusedAt};
 ghost use Rattle.aa_raw.specs.declared.raw_vec.Growth.TheVariants.{Doubling};
 ghost use Rattle.aa_raw.specs.declared.collections.TryReserveErrorKind.TheVariants.{CapacityOverflow};
-ghost use Rattle.aa_boxed.specs.Text.{Text, StopsAtText};
+ghost use Rattle.aa_boxed.specs.Text.{Text, bytes_of, StopsAtText};
 
 use crate::boxed::slice::BoxedSlice;
 use aa_raw::collections::{TryReserveError, TryReserveErrorKind};
@@ -20,13 +20,12 @@ use std::string::String;
 pub struct BoxedText<A: Allocator = Global> {
     bytes: BoxedSlice<u8, A>,
     ghost utf8: { ∥ IsUtf8 bytes.items ∥₁ },
-    ghost grows: { bytes.growth ≡ Doubling },
 }
 
 impl<A: Allocator> Model for BoxedText<A> {
     ghost Value = { Text A };
 
-    ghost view = { λ t. record { bytes = t.bytes.items; alloc = t.bytes.alloc } };
+    ghost view = { λ t. record { bytes = t.bytes.items; growth = t.bytes.growth; alloc = t.bytes.alloc } };
 }
 
 impl BoxedText<Global> {
@@ -36,7 +35,8 @@ impl BoxedText<Global> {
         ensures made { IfOk result (λ t. t ≡ self.now) }
         ensures refused { IfErr result (λ e. (0 < length self.now.bytes) × IsRefusedAt e (length self.now.bytes)) }
     {
-        BoxedText::from_text(*self.allocator(), self.as_str())
+        let bytes = self.bytes.clone()?;
+        Ok(BoxedText { bytes })
     }
 }
 
@@ -44,11 +44,22 @@ impl<A: Allocator> BoxedText<A> {
     /// A copy of `text`. It takes memory where there are bytes. A refusal is `CapacityOverflow`, or `AllocError` with the number
     /// of bytes. It stands for `Box<str, A>`'s `From<&str>`, which aborts on a refusal.
     pub fn from_text(alloc: A, text: &str) -> Result<Self, TryReserveError>
-        ensures made { IfOk result (λ t. t ≡ record { bytes = text.now; alloc = alloc }) }
+        ensures made { IfOk result (λ t. t ≡ record { bytes = text.now; growth = Doubling; alloc = alloc }) }
         ensures refused { IfErr result (λ e. (0 < length text.now) × IsRefusedAt e (length text.now)) }
     {
         let bytes = BoxedSlice::from_slice(alloc, text.as_bytes())?;
         Ok(BoxedText { bytes })
+    }
+
+    /// The bytes as a text, in their own block, where they are UTF-8; else they are handed back as they were. It takes no memory.
+    /// The original has no such call.
+    pub fn from_bytes(bytes: BoxedSlice<u8, A>) -> Result<Self, BoxedSlice<u8, A>>
+        ensures { MatchResult result (λ t. (bytes_of t ≡ bytes) × IsUtf8 bytes.items) (λ back. (back ≡ bytes) × (¬ (IsUtf8 bytes.items))) }
+    {
+        match str::from_utf8(bytes.as_slice()) {
+            Ok(_) => Ok(BoxedText { bytes }),
+            Err(_) => Err(bytes),
+        }
     }
 
     /// The text. It stands for the dereference of `Box<str, A>`.
@@ -60,7 +71,7 @@ impl<A: Allocator> BoxedText<A> {
 
     /// The bytes of the text. It takes no memory. It stands for `Box<[u8], A>`'s `From<Box<str, A>>`.
     pub fn into_bytes(self) -> BoxedSlice<u8, A>
-        ensures bytes { result ≡ record { items = self.bytes; growth = Doubling; alloc = self.alloc } }
+        ensures bytes { result ≡ bytes_of self }
         ensures utf8 { IsUtf8 result.items }
     {
         let BoxedText { bytes } = self;
@@ -76,7 +87,7 @@ impl<A: Allocator> BoxedText<A> {
 }
 
 impl<A: Allocator + Default> Default for BoxedText<A> {
-    ghost is_default = { λ t. (t.bytes ≡ []) × A.is_default t.alloc };
+    ghost is_default = { λ t. (t.bytes ≡ []) × (t.growth ≡ Doubling) × A.is_default t.alloc };
 
     /// The empty text, over the default allocator. It takes no memory.
     fn default() -> Self {

@@ -2,13 +2,13 @@
 ghost use Rattle.std.specs.Prelude.{◌≡◌, ◌<◌, ◌≤◌, length, take, All, IfOk, IfErr};
 ghost use Rattle.std.specs.List.{AllZip};
 ghost use Rattle.std.specs.Mem.{type_size};
-ghost use Rattle.aa_raw.specs.Clones.{Copies, HoldsClones};
+ghost use Rattle.aa_raw.specs.Clones.{ClonesFreely, Copies, HoldsClones};
 ghost use Rattle.aa_raw.specs.Refusals.{IsRefusedAt};
 
 use crate::collections::{TryReserveError, TryReserveErrorKind};
 use crate::raw_vec::RawVec;
 use crate::vec::into_iter::IntoIter;
-use std::alloc::Allocator;
+use std::alloc::{AllocError, Allocator};
 
 impl<T: Clone, A: Allocator + Clone> IntoIter<T, A> {
     /// A clone of each item that is left, in order, over a clone of the allocator, in room for no more. It takes memory before
@@ -33,6 +33,17 @@ impl<T: Clone, A: Allocator + Clone> IntoIter<T, A> {
             return Ok(made);
         }
         Err(TryReserveErrorKind::AllocError { capacity }.into())
+    }
+}
+
+impl<T: Clone, A: Allocator + Clone> Clone for IntoIter<T, A> {
+    ghost is_clone = { λ left copy. AllZip T.is_clone left.items copy.items × A.is_clone left.alloc copy.alloc };
+
+    ghost is_infallible = { λ left. ClonesFreely T.is_infallible (type_size T.row) left.items × A.is_infallible left.alloc };
+
+    /// The same as the inherent `clone`, whose error also tells the number.
+    fn clone(&self) -> Result<Self, AllocError> {
+        IntoIter::clone(self).map_err(|_| AllocError)
     }
 }
 

@@ -1,6 +1,7 @@
 //! Elements by their index, and over all of them.
 ghost use Rattle.std.specs.Prelude.{◌≡◌, ◌<◌, length, slice_index_or};
 ghost use Rattle.std.specs.Borrow.{sem};
+ghost use Rattle.std.specs.Iterator.Adapters.{IterYieldsInOrder, IterYieldsInReverse};
 ghost use Rattle.std.specs.Slice.Iter.{iter_rest, iter_mut_rest};
 
 use crate::vec::Vec;
@@ -13,7 +14,9 @@ impl<T, A: Allocator> Vec<T, A> {
 
     /// The elements in order, from either end. It stands for the slice's `iter`.
     pub fn iter(&self) -> Iter<'_, T>
-        ensures { iter_rest result ≡ self.now.items }
+        ensures rest { iter_rest result ≡ self.now.items }
+        ensures runs { IterYieldsInOrder T }
+        ensures runs_back { IterYieldsInReverse T }
     {
         self.as_slice().iter()
     }

@@ -44,7 +44,7 @@ impl<T, A: Allocator> Vec<T, A> {
             }
             Err(error) => Err(Refused {
                 source: items,
-                error,
+                error: error.kind(),
             }),
         }
     }
@@ -108,7 +108,7 @@ impl<T, A: Allocator, const N: usize> Vec<[T; N], A> {
             Ok(flat) => Ok(self.poured_into(flat)),
             Err(error) => Err(Refused {
                 source: self,
-                error,
+                error: error.kind(),
             }),
         }
     }
@@ -123,12 +123,9 @@ impl<T, A: Allocator, const N: usize> Vec<[T; N], A> {
         ensures enough { IfOk result (λ v. len self.now * N ≤ v.capacity) }
         ensures refused { IfErr result (λ e. LacksRoomForAll (A.is_infallible self.now.alloc) N (type_size T.row) self.now e) }
     {
-        if let Err(error) = self.check_number() {
-            return Err(error);
-        }
+        self.check_number()?;
         let _within = self.capacity();
-        let flat = empty_over(self.allocator(), self.growth(), self.flat_capacity())?;
-        Ok(flat)
+        empty_over(self.allocator(), self.growth(), self.flat_capacity())
     }
 
     // Refuses arrays that have more than `usize::MAX` elements in all.

@@ -24,7 +24,10 @@ impl<T, A: Allocator> Vec<T, A> {
         let _within = vec.block.capacity();
         match vec.shrink_to_fit() {
             Ok(()) => Ok(vec.whole()),
-            Err(error) => Err(Refused { source: vec, error }),
+            Err(error) => Err(Refused {
+                source: vec,
+                error: error.kind(),
+            }),
         }
     }
 

@@ -7,6 +7,7 @@ ghost use Rattle.aa_vec.specs.Copies.{Copies, IsBeginning, Adds, Fills, Undone, 
 use crate::vec::Vec;
 use aa_raw::collections::{TryReserveError, TryReserveErrorKind};
 use std::alloc::Allocator;
+use std::ops::Range;
 
 impl<T: Clone, A: Allocator> Vec<T, A> {
     /// Puts a clone of each element of `other` behind the last one. It makes room for all of them before the first clone, as
@@ -35,23 +36,24 @@ impl<T: Clone, A: Allocator> Vec<T, A> {
         .into())
     }
 
-    /// Puts a clone of each element from the index `from` to before the index `to` behind the last one; it is refused as
-    /// `extend_from_slice` is. It stands for `Vec::extend_from_within`, which takes a range.
-    pub fn extend_from_within(&mut self, from: usize, to: usize) -> Result<(), TryReserveError>
-        requires { (from ≤ to) × (to ≤ len self.old) }
-        ensures fits { HasRoom self.old (to - from) → All T.is_infallible (take (to - from) (drop from self.old.items)) → IsOk result }
-        ensures extended { OnOk result (Extends T.is_clone (type_size T.row) self.old (take (to - from) (drop from self.old.items)) self.new) }
-        ensures copied { Copies T.is_clone → OnOk result (GrowsTo (type_size T.row) self.old (to - from) (self.old.items ++ take (to - from) (drop from self.old.items)) self.new) }
-        ensures writes { OnOk result (Writes self.old (to - from) (to - from) self.new) }
-        ensures refused { IfErr result (λ e. Refuses (¬ (All T.is_infallible (take (to - from) (drop from self.old.items)))) (type_size T.row) self.old (to - from) e self.new) }
+    /// Puts a clone of each element of the range behind the last one; it is refused as `extend_from_slice` is. It stands for
+    /// `Vec::extend_from_within`.
+    #[tactic(auto, using(crate::proofs::Copied::copied))]
+    pub fn extend_from_within(&mut self, range: Range<usize>) -> Result<(), TryReserveError>
+        requires { (range.start ≤ range.end) × (range.end ≤ len self.old) }
+        ensures fits { HasRoom self.old (range.end - range.start) → All T.is_infallible (take (range.end - range.start) (drop range.start self.old.items)) → IsOk result }
+        ensures extended { OnOk result (Extends T.is_clone (type_size T.row) self.old (take (range.end - range.start) (drop range.start self.old.items)) self.new) }
+        ensures copied { Copies T.is_clone → OnOk result (GrowsTo (type_size T.row) self.old (range.end - range.start) (self.old.items ++ take (range.end - range.start) (drop range.start self.old.items)) self.new) }
+        ensures writes { OnOk result (Writes self.old (range.end - range.start) (range.end - range.start) self.new) }
+        ensures refused { IfErr result (λ e. Refuses (¬ (All T.is_infallible (take (range.end - range.start) (drop range.start self.old.items)))) (type_size T.row) self.old (range.end - range.start) e self.new) }
     {
         let len = self.len();
-        let count = to - from;
+        let count = range.end - range.start;
         if let Err(error) = self.try_reserve(count) {
             return Err(error);
         }
         let _within = self.capacity();
-        if self.push_own(from, count) {
+        if self.push_own(range.start, count) {
             return Ok(());
         }
         Err(TryReserveErrorKind::AllocError {

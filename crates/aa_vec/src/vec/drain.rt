@@ -9,6 +9,7 @@ use crate::vec::Vec;
 use std::alloc::{Allocator, Global};
 use std::fmt;
 use std::iter::FusedIterator;
+use std::ops::Range;
 
 /// A range of a vector, whose items are taken from either end. While it lives the vector ends before the range. Dropped, it drops
 /// the items still to come and leaves the vector what is before the range and what is behind it; forgotten, it leaves what is
@@ -29,19 +30,18 @@ impl<T, A: Allocator> Vec<T, A> {
     ghost use Rattle.std.specs.Iterator.Runs.{YieldsInOrder, YieldsInReverse};
     ghost use Rattle.aa_vec.specs.Draining.{drain_lender, drain_rest, TakesRange, DrainKeepsAlong, drains_first, drains_last};
 
-    /// Takes the elements from the index `from` up to `to` out of the vector, which ends before them at once. They come from
-    /// either end of what this answers; its drop closes the gap. The capacity stays; it takes no memory. It stands for
-    /// `Vec::drain`.
-    pub fn drain(&mut self, from: usize, to: usize) -> Drain<'_, T, A>
-        requires { (from ≤ to) × (to ≤ len self.old) }
+    /// Takes the elements of the range out of the vector, which ends before them at once. They come from either end of what this
+    /// answers; its drop closes the gap. The capacity stays; it takes no memory. It stands for `Vec::drain`.
+    pub fn drain(&mut self, range: Range<usize>) -> Drain<'_, T, A>
+        requires { (range.start ≤ range.end) × (range.end ≤ len self.old) }
         ensures lender { drain_lender result ≡ self.entry.ghost_name }
-        ensures drains { TakesRange self.old from to result }
+        ensures drains { TakesRange self.old range.start range.end result }
         ensures stays { DrainKeepsAlong result }
         ensures runs { YieldsInOrder (drains_first {T = T} {A = A}) drain_rest }
         ensures runs_back { YieldsInReverse (drains_last {T = T} {A = A}) drain_rest }
     {
-        let total = self.set_back(from);
-        let count = to - from;
+        let total = self.set_back(range.start);
+        let count = range.end - range.start;
         Drain {
             vec: self,
             front: 0,

@@ -41,7 +41,7 @@ impl<T, A: Allocator> Vec<T, A> {
         if let Err(error) = self.block.reserve_for_push(len) {
             return Err(Refused {
                 source: element,
-                error,
+                error: error.kind(),
             });
         }
         self.block.move_run(index, index + 1, len - index);

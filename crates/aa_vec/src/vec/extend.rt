@@ -6,11 +6,11 @@ ghost use Rattle.std.specs.Iterator.{IsFinite, Drains, size};
 ghost use Rattle.std.specs.Iterator.Runs.{WholeRun};
 ghost use Rattle.std.specs.Borrow.{Bor};
 ghost use Rattle.aa_vec.specs.Vector.{len, sized, HasRoom, Writes};
-ghost use Rattle.aa_vec.specs.Extending.{Extended, ExtendsByAll, ExtendsByFront, MadeByAll, StopsAtFront, CopiesOf, TellsAtMost, TellsExactly};
+ghost use Rattle.aa_vec.specs.Extending.{Extended, LeavesIter, ExtendsByAll, ExtendsByFront, MadeByAll, StopsAtFront, CopiesOf, TellsAtMost, TellsExactly};
 
 use crate::vec::Vec;
 use crate::vec::items::Hinted;
-use crate::vec::telling::{ByHint, ByLower, ByReading, Telling};
+use crate::vec::telling::{ByHint, ByLower, Reading, Telling};
 use aa_raw::collections::TryReserveError;
 use aa_raw::raw_vec::Growth;
 use std::alloc::{Allocator, Global};
@@ -28,22 +28,22 @@ impl<T, A: Allocator> Vec<T, A> {
 
     // Puts the items of `iter` behind the last element: each is taken first, and where the vector is full then, room is made for it
     // and as many more as are told. The calls below stand on it.
-    pub(crate) fn extend_telling<I: Telling<Item = T>>(
+    pub(crate) fn extend_telling<W: Telling<I>, I: Iterator<Item = T>>(
         &mut self,
-        iter: I,
+        iter: &mut I,
     ) -> Result<(), TryReserveError>
     where
         T: Drop,
-        requires may_ask { I.can_next iter }
-        requires ends { IsFinite (I.remaining iter) }
-        ensures { Extended I.next_gives I.tells I.remaining (type_size T.row) iter self.old result self.new }
+        requires may_ask { I.can_next iter.old }
+        requires ends { IsFinite (I.remaining iter.old) }
+        ensures extends { Extended I.next_gives W.tells I.remaining (type_size T.row) iter.old self.old result self.new }
+        ensures leaves { LeavesIter I.next_gives W.tells (type_size T.row) iter.old self.old iter.new result self.new }
     {
-        let mut rest = iter;
         // It does nothing but tell the prover that places are at most `usize::MAX`.
         let _within = self.is_full();
-        while let Some(x) = rest.next() {
+        while let Some(x) = iter.next() {
             if self.is_full() {
-                self.try_reserve(rest.told().saturating_add(1))?;
+                self.try_reserve(W::told(iter).saturating_add(1))?;
             }
             self.put_next(x);
         }
@@ -62,7 +62,24 @@ impl<T, A: Allocator> Vec<T, A> {
         requires ends { IsFinite (I.remaining iter) }
         ensures { Extended I.next_gives (TellsExactly I.lower_of) I.remaining (type_size T.row) iter self.old result self.new }
     {
-        self.extend_telling(ByLower::new(iter))
+        let mut rest = iter;
+        self.extend_hinted_by(&mut rest)
+    }
+
+    /// `extend_hinted` by an iterator that is lent: no item is taken from it but those that found a place and, on a refusal, one,
+    /// which is dropped. The original has no such call.
+    pub fn extend_hinted_by<I: Hinted<Item = T>>(
+        &mut self,
+        iter: &mut I,
+    ) -> Result<(), TryReserveError>
+    where
+        T: Drop,
+        requires may_ask { I.can_next iter.old }
+        requires ends { IsFinite (I.remaining iter.old) }
+        ensures extends { Extended I.next_gives (TellsExactly I.lower_of) I.remaining (type_size T.row) iter.old self.old result self.new }
+        ensures leaves { LeavesIter I.next_gives (TellsExactly I.lower_of) (type_size T.row) iter.old self.old iter.new result self.new }
+    {
+        self.extend_telling::<ByLower, I>(iter)
     }
 
     /// Puts the items of `iter`, which ends, behind the last element; it takes each of them first, and memory only where the
@@ -75,7 +92,21 @@ impl<T, A: Allocator> Vec<T, A> {
         requires ends { IsFinite (I.remaining iter) }
         ensures { Extended I.next_gives (TellsAtMost I.remaining) I.remaining (type_size T.row) iter self.old result self.new }
     {
-        self.extend_telling(ByHint::new(iter))
+        let mut rest = iter;
+        self.extend_by(&mut rest)
+    }
+
+    /// `extend` by an iterator that is lent: no item is taken from it but those that found a place and, on a refusal, one, which
+    /// is dropped. It stands for `Vec::extend` with `by_ref`.
+    pub fn extend_by<I: Iterator<Item = T>>(&mut self, iter: &mut I) -> Result<(), TryReserveError>
+    where
+        T: Drop,
+        requires may_ask { I.can_next iter.old }
+        requires ends { IsFinite (I.remaining iter.old) }
+        ensures extends { Extended I.next_gives (TellsAtMost I.remaining) I.remaining (type_size T.row) iter.old self.old result self.new }
+        ensures leaves { LeavesIter I.next_gives (TellsAtMost I.remaining) (type_size T.row) iter.old self.old iter.new result self.new }
+    {
+        self.extend_telling::<ByHint, I>(iter)
     }
 
     /// Puts copies of what the items of `iter`, which ends, refer to behind the last element; else it is as `extend`. It stands
@@ -92,7 +123,8 @@ impl<T, A: Allocator> Vec<T, A> {
         ensures ran { OnOk result ((rs : List (Bor T)) × Drains I.next_gives iter rs × (self.new.items ≡ self.old.items ++ map (λ r. r.now) rs)) }
         ensures runs { OnOk result (WholeRun I.next_gives iter (λ p. self.new.items ≡ self.old.items ++ map (λ r. r.now) p.items)) }
     {
-        self.extend_telling(ByReading::new(iter))
+        let mut copies = Reading::new(iter);
+        self.extend_by(&mut copies)
     }
 
     /// A vector of the items of `iter`, which ends: a new one, extended as `extend` does, so it takes no memory where no item comes

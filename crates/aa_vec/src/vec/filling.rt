@@ -82,18 +82,22 @@ impl<T, A: Allocator> Vec<T, A> {
         Ok(())
     }
 
-    // A vector of `first` and the items of `iter`, over a clone of the allocator: a new one, extended as it tells of them.
+    // A vector of `first` and the items of `iter`, over a clone of the allocator: a new one, extended as is told of them.
     #[tactic(auto, using(crate::proofs::Gathered::gathered))]
-    fn gathered<I: Telling<Item = T>>(&self, first: T, iter: I) -> Result<Self, TryReserveError>
+    fn gathered<W: Telling<I>, I: Iterator<Item = T>>(
+        &self,
+        first: T,
+        iter: &mut I,
+    ) -> Result<Self, TryReserveError>
     where
         T: Drop,
         A: Clone,
-        requires may_ask { I.can_next iter }
-        requires ends { IsFinite (I.remaining iter) }
-        ensures all { IfOk result (λ v. Gathers I.next_gives I.tells (type_size T.row) iter first v) }
-        ensures refused { IfErr result (λ e. GathersShort I.next_gives I.tells (type_size T.row) iter first (¬ (A.is_infallible self.now.alloc)) self.now e) }
+        requires may_ask { I.can_next iter.old }
+        requires ends { IsFinite (I.remaining iter.old) }
+        ensures all { IfOk result (λ v. Gathers I.next_gives W.tells (type_size T.row) iter.old first v iter.new) }
+        ensures refused { IfErr result (λ e. GathersShort I.next_gives W.tells (type_size T.row) iter.old first (¬ (A.is_infallible self.now.alloc)) self.now e iter.new) }
     {
-        let wanted = iter.told().saturating_add(1);
+        let wanted = W::told(iter).saturating_add(1);
         let Ok(alloc) = self.allocator().clone() else {
             return Err(first_refusal::<T>(wanted));
         };
@@ -102,7 +106,7 @@ impl<T, A: Allocator> Vec<T, A> {
             return Err(error);
         }
         more.put_next(first);
-        match more.extend_telling(iter) {
+        match more.extend_telling::<W, I>(iter) {
             Ok(()) => Ok(more),
             Err(error) => Err(error),
         }
@@ -110,22 +114,22 @@ impl<T, A: Allocator> Vec<T, A> {
 
     // Puts `first` and the items of `iter` before the last `count` elements.
     #[tactic(auto, using(crate::proofs::Replacing::runs_put))]
-    fn put_rest<I: Telling<Item = T>>(
+    fn put_rest<W: Telling<I>, I: Iterator<Item = T>>(
         &mut self,
         count: usize,
         first: T,
-        iter: I,
+        iter: &mut I,
     ) -> Result<(), TryReserveError>
     where
         T: Drop,
         A: Clone,
         requires count { count ≤ len self.old }
-        requires may_ask { I.can_next iter }
-        requires ends { IsFinite (I.remaining iter) }
-        ensures all { OnOk result (PutsRest I.next_gives (type_size T.row) iter self.old count first self.new) }
-        ensures refused { IfErr result (λ e. LacksRest I.next_gives I.tells (¬ (A.is_infallible self.old.alloc)) (type_size T.row) iter self.old count first e × (self.new ≡ self.old)) }
+        requires may_ask { I.can_next iter.old }
+        requires ends { IsFinite (I.remaining iter.old) }
+        ensures all { OnOk result (PutsRest I.next_gives (type_size T.row) iter.old self.old count first self.new iter.new) }
+        ensures refused { IfErr result (λ e. LacksRest I.next_gives W.tells (¬ (A.is_infallible self.old.alloc)) (type_size T.row) iter.old self.old count first e iter.new × (self.new ≡ self.old)) }
     {
-        let mut more = self.gathered(first, iter)?;
+        let mut more = self.gathered::<W, I>(first, iter)?;
         self.widen(more.len(), count)?;
         self.fill_from(&mut more);
         self.close_gap(0, count);
@@ -133,27 +137,26 @@ impl<T, A: Allocator> Vec<T, A> {
     }
 
     // Puts the items of `iter` before the last `count` elements: first as many as were told, in room made for them.
-    pub(crate) fn put_more<I: Telling<Item = T>>(
+    pub(crate) fn put_more<W: Telling<I>, I: Iterator<Item = T>>(
         &mut self,
         told: usize,
         count: usize,
-        iter: I,
+        iter: &mut I,
     ) -> Result<(), TryReserveError>
     where
         T: Drop,
         A: Clone,
         requires count { (0 < count) × (count ≤ len self.old) }
-        requires may_ask { I.can_next iter }
-        requires ends { IsFinite (I.remaining iter) }
-        ensures { Puts I.next_gives I.tells (¬ (A.is_infallible self.old.alloc)) (type_size T.row) iter self.old told count I.remaining result self.new }
+        requires may_ask { I.can_next iter.old }
+        requires ends { IsFinite (I.remaining iter.old) }
+        ensures { Puts I.next_gives W.tells (¬ (A.is_infallible self.old.alloc)) (type_size T.row) iter.old self.old told count I.remaining result self.new iter.new }
     {
         self.widen(told, count)?;
-        let mut rest = iter;
-        if self.fill_and_close(told, count, &mut rest) != 0 {
+        if self.fill_and_close(told, count, iter) != 0 {
             return Ok(());
         }
-        match rest.next() {
-            Some(first) => self.put_rest(count, first, rest),
+        match iter.next() {
+            Some(first) => self.put_rest::<W, I>(count, first, iter),
             None => Ok(()),
         }
     }

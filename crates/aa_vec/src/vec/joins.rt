@@ -82,7 +82,7 @@ impl<T, A: Allocator> Vec<T, A> {
         let len = self.len;
         if at == 0 {
             let block = self.block_like(self.block.capacity())?;
-            self.len = at;
+            self.len = 0;
             return Ok(Vec {
                 block: replace(&mut self.block, block),
                 len,

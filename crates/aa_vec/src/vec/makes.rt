@@ -1,6 +1,7 @@
 //! New vectors of copies.
 ghost use Rattle.std.specs.Prelude.{◌≡◌, ◌-◌, ◌<◌, length, replicate, All, IfOk, IfErr};
 ghost use Rattle.std.specs.Mem.{type_size};
+ghost use Rattle.aa_raw.specs.Clones.{ClonesFreely};
 ghost use Rattle.aa_raw.specs.Refusals.{IsRefusedAt};
 ghost use Rattle.aa_raw.specs.declared.raw_vec.Growth.TheVariants.{Doubling};
 ghost use Rattle.aa_vec.specs.Vector.{len};
@@ -8,7 +9,7 @@ ghost use Rattle.aa_vec.specs.Copies.{Copies, IsMade, IsMadeOf, IsMadeOfOne};
 
 use crate::vec::Vec;
 use aa_raw::collections::{TryReserveError, TryReserveErrorKind};
-use std::alloc::{Allocator, Global};
+use std::alloc::{AllocError, Allocator, Global};
 
 impl<T: Clone> Vec<T, Global> {
     /// A vector of a clone of each element of `slice` on the global allocator, with room for no more; it is refused as
@@ -87,5 +88,16 @@ impl<T: Clone, A: Allocator> Vec<T, A> {
             return Ok(made);
         }
         Err(TryReserveErrorKind::AllocError { capacity }.into())
+    }
+}
+
+impl<T: Clone, A: Allocator + Clone> Clone for Vec<T, A> {
+    ghost is_clone = { λ v copy. IsMadeOf T.is_clone (type_size T.row) v.growth v.items copy × A.is_clone v.alloc copy.alloc };
+
+    ghost is_infallible = { λ v. ClonesFreely T.is_infallible (type_size T.row) v.items × A.is_infallible v.alloc };
+
+    /// The same as the inherent `clone`, whose error also tells the number.
+    fn clone(&self) -> Result<Self, AllocError> {
+        Vec::clone(self).map_err(|_| AllocError)
     }
 }

@@ -10,6 +10,7 @@ ghost use Rattle.aa_vec.specs.Copies.{WritesAtMost, IsMadeWithin};
 use crate::vec::Vec;
 use aa_raw::collections::TryReserveError;
 use std::alloc::{Allocator, Global};
+use std::ops::Range;
 
 impl<T: Copy> Vec<T, Global> {
     /// `from_slice` for elements that are `Copy`, which is refused only where memory is. It stands for what the original's
@@ -67,23 +68,19 @@ impl<T: Copy, A: Allocator> Vec<T, A> {
 
     /// `extend_from_within` for elements that are `Copy`, which is refused only as `try_reserve` is, and then changes nothing. It
     /// stands for what the original's `extend_from_within` compiles to for such elements.
-    pub fn extend_from_within_copied(
-        &mut self,
-        from: usize,
-        to: usize,
-    ) -> Result<(), TryReserveError>
-        requires { (from ≤ to) × (to ≤ len self.old) }
-        ensures fits { HasRoom self.old (to - from) → IsOk result }
-        ensures extended { OnOk result (GrowsTo (type_size T.row) self.old (to - from) (self.old.items ++ take (to - from) (drop from self.old.items)) self.new) }
-        ensures writes { OnOk result (WritesAtMost self.old (to - from) self.new) }
-        ensures refused { IfErr result (λ e. LacksRoom self.old (to - from) e × (self.new ≡ self.old)) }
+    pub fn extend_from_within_copied(&mut self, range: Range<usize>) -> Result<(), TryReserveError>
+        requires { (range.start ≤ range.end) × (range.end ≤ len self.old) }
+        ensures fits { HasRoom self.old (range.end - range.start) → IsOk result }
+        ensures extended { OnOk result (GrowsTo (type_size T.row) self.old (range.end - range.start) (self.old.items ++ take (range.end - range.start) (drop range.start self.old.items)) self.new) }
+        ensures writes { OnOk result (WritesAtMost self.old (range.end - range.start) self.new) }
+        ensures refused { IfErr result (λ e. LacksRoom self.old (range.end - range.start) e × (self.new ≡ self.old)) }
     {
         let _within = self.capacity();
-        let count = to - from;
+        let count = range.end - range.start;
         if let Err(error) = self.try_reserve(count) {
             return Err(error);
         }
-        self.put_own_copies(from, count);
+        self.put_own_copies(range.start, count);
         Ok(())
     }
 

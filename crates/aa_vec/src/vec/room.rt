@@ -2,7 +2,7 @@
 ghost use Rattle.std.specs.Prelude.{◌≡◌, ◌<◌, min, max, IfErr, OnOk, IsOk};
 ghost use Rattle.std.specs.Mem.{type_size};
 ghost use Rattle.aa_raw.specs.Growth.{usize_max};
-ghost use Rattle.aa_vec.specs.Vector.{len, sized, HasRoom, LacksRoom, GrowsTo, GrowsExactly, Shrinks, Writes};
+ghost use Rattle.aa_vec.specs.Vector.{len, sized, Reserved, GrowsTo, GrowsExactly, Shrinks, Writes};
 ghost use Rattle.aa_raw.specs.declared.collections.TryReserveErrorKind.TheVariants.{AllocError};
 
 use crate::vec::Vec;
@@ -15,10 +15,7 @@ impl<T, A: Allocator> Vec<T, A> {
     /// spare. A refusal changes nothing: `CapacityOverflow` where the length would pass `usize::MAX` or the bytes pass
     /// `isize::MAX`, else `AllocError` with a capacity of at least the length asked for. It stands for `Vec::try_reserve`.
     pub fn try_reserve(&mut self, additional: usize) -> Result<(), TryReserveError>
-        ensures fits { HasRoom self.old additional → IsOk result }
-        ensures made { OnOk result (GrowsTo (type_size T.row) self.old additional self.old.items self.new) }
-        ensures writes { Writes self.old 0 0 self.new }
-        ensures refused { IfErr result (λ e. LacksRoom self.old additional e × (self.new ≡ self.old)) }
+        ensures { Reserved self.old additional (GrowsTo (type_size T.row) self.old additional self.old.items self.new) result self.new }
     {
         self.block.try_reserve(self.len, additional)
     }
@@ -26,30 +23,21 @@ impl<T, A: Allocator> Vec<T, A> {
     /// Makes room for exactly `additional` more elements where they do not fit; else it is as `try_reserve`. It stands for
     /// `Vec::try_reserve_exact`.
     pub fn try_reserve_exact(&mut self, additional: usize) -> Result<(), TryReserveError>
-        ensures fits { HasRoom self.old additional → IsOk result }
-        ensures made { OnOk result (GrowsExactly (type_size T.row) self.old additional self.old.items self.new) }
-        ensures writes { Writes self.old 0 0 self.new }
-        ensures refused { IfErr result (λ e. LacksRoom self.old additional e × (self.new ≡ self.old)) }
+        ensures { Reserved self.old additional (GrowsExactly (type_size T.row) self.old additional self.old.items self.new) result self.new }
     {
         self.block.try_reserve_exact(self.len, additional)
     }
 
     /// The same as `try_reserve`. It stands for `Vec::reserve`, which aborts on a refusal.
     pub fn reserve(&mut self, additional: usize) -> Result<(), TryReserveError>
-        ensures fits { HasRoom self.old additional → IsOk result }
-        ensures made { OnOk result (GrowsTo (type_size T.row) self.old additional self.old.items self.new) }
-        ensures writes { Writes self.old 0 0 self.new }
-        ensures refused { IfErr result (λ e. LacksRoom self.old additional e × (self.new ≡ self.old)) }
+        ensures { Reserved self.old additional (GrowsTo (type_size T.row) self.old additional self.old.items self.new) result self.new }
     {
         self.try_reserve(additional)
     }
 
     /// The same as `try_reserve_exact`. It stands for `Vec::reserve_exact`, which aborts on a refusal.
     pub fn reserve_exact(&mut self, additional: usize) -> Result<(), TryReserveError>
-        ensures fits { HasRoom self.old additional → IsOk result }
-        ensures made { OnOk result (GrowsExactly (type_size T.row) self.old additional self.old.items self.new) }
-        ensures writes { Writes self.old 0 0 self.new }
-        ensures refused { IfErr result (λ e. LacksRoom self.old additional e × (self.new ≡ self.old)) }
+        ensures { Reserved self.old additional (GrowsExactly (type_size T.row) self.old additional self.old.items self.new) result self.new }
     {
         self.try_reserve_exact(additional)
     }

@@ -6,7 +6,7 @@ ghost use Rattle.std.specs.Iterator.Runs.{WholeRun};
 ghost use Rattle.aa_vec.specs.Vector.{len, HasRoom};
 ghost use Rattle.aa_vec.specs.Behind.{StandsBehind, behind_items};
 ghost use Rattle.aa_vec.specs.Extending.{TellsAtMost, TellsExactly};
-ghost use Rattle.aa_vec.specs.Splicing.{Replaced};
+ghost use Rattle.aa_vec.specs.Splicing.{Replaced, SplicesIter};
 
 use crate::vec::Vec;
 use crate::vec::items::Hinted;
@@ -14,6 +14,7 @@ use crate::vec::telling::{ByHint, ByLower, Telling};
 use aa_raw::collections::TryReserveError;
 use std::alloc::{Allocator, Global};
 use std::fmt;
+use std::ops::Range;
 
 /// A range of a vector that is replaced by items. The elements of the range are taken from either end; `finish` or
 /// `finish_hinted` drops the others and puts the items in their place. It must be spent by one of the two: the original ends it
@@ -35,24 +36,23 @@ impl<T, A: Allocator> Vec<T, A> {
     ghost use Rattle.aa_vec.specs.Draining.{TakesRange};
     ghost use Rattle.aa_vec.specs.Splices.{splice_lender, splice_range, splice_iter};
 
-    /// Takes the elements from the index `from` up to `to` out of the vector, which ends before them at once. They come from
-    /// either end of what this answers; its `finish` puts the items of `iter` in their place. The capacity stays; it takes no
-    /// memory. It stands for `Vec::splice`.
+    /// Takes the elements of the range out of the vector, which ends before them at once. They come from either end of what this
+    /// answers; its `finish` puts the items of `iter` in their place. The capacity stays; it takes no memory. It stands for
+    /// `Vec::splice`.
     pub fn splice<I: Iterator<Item = T>>(
         &mut self,
-        from: usize,
-        to: usize,
+        range: Range<usize>,
         iter: I,
     ) -> Splice<'_, I, A>
     where
         A: Clone,
-        requires { (from ≤ to) × (to ≤ len self.old) }
+        requires { (range.start ≤ range.end) × (range.end ≤ len self.old) }
         ensures lender { splice_lender result ≡ self.entry.ghost_name }
-        ensures drains { TakesRange self.old from to (splice_range result) }
+        ensures drains { TakesRange self.old range.start range.end (splice_range result) }
         ensures items { splice_iter result ≡ iter }
     {
-        let total = self.set_back(from);
-        let count = to - from;
+        let total = self.set_back(range.start);
+        let count = range.end - range.start;
         Splice {
             vec: self,
             front: 0,
@@ -122,33 +122,33 @@ where
 
 // Ends a splice: drops what was not taken of the range, and puts the items of `iter` in its place, as it tells of them. The two
 // below stand on it.
-fn end_telling<I: Telling, A: Allocator + Clone>(
+fn end_telling<W: Telling<I>, I: Iterator, A: Allocator + Clone>(
     vec: &mut Vec<I::Item, A>,
     front: usize,
     back: usize,
     end: usize,
     total: usize,
-    iter: I,
+    iter: &mut I,
 ) -> Result<(), TryReserveError>
 where
     I::Item: Drop,
     requires ordered { (front ≤ back) × (back ≤ end) × (end ≤ total) }
     requires held { StandsBehind vec.old front (back - front) × StandsBehind vec.old end (total - end) }
-    requires may_ask { I.can_next iter }
-    requires ends { IsFinite (I.remaining iter) }
-    ensures { Replaced I.next_gives I.tells I.remaining (¬ (A.is_infallible vec.old.alloc)) (type_size I.Item.row) iter vec.old vec.old.items end (behind_items vec.old end (total - end)) result vec.new }
+    requires may_ask { I.can_next iter.old }
+    requires ends { IsFinite (I.remaining iter.old) }
+    ensures replaces { Replaced I.next_gives W.tells I.remaining (¬ (A.is_infallible vec.old.alloc)) (type_size I.Item.row) iter.old vec.old vec.old.items end (behind_items vec.old end (total - end)) result vec.new }
+    ensures leaves { SplicesIter I.next_gives W.tells (¬ (A.is_infallible vec.old.alloc)) (type_size I.Item.row) iter.old vec.old vec.old.items end (behind_items vec.old end (total - end)) iter.new result vec.new }
 {
     let count = total - end;
     vec.drop_behind(front, back - front);
     if count == 0 {
-        return vec.extend_telling(iter);
+        return vec.extend_telling::<W, I>(iter);
     }
-    let mut items = iter;
-    if vec.fill_and_close(end, count, &mut items) != 0 {
+    if vec.fill_and_close(end, count, iter) != 0 {
         return Ok(());
     }
-    let told = items.told();
-    vec.put_more(told, count, items)
+    let told = W::told(iter);
+    vec.put_more::<W, I>(told, count, iter)
 }
 
 // The same, as `lower` tells of them.
@@ -168,7 +168,8 @@ where
     requires ends { IsFinite (I.remaining iter) }
     ensures { Replaced I.next_gives (TellsExactly I.lower_of) I.remaining (¬ (A.is_infallible vec.old.alloc)) (type_size I.Item.row) iter vec.old vec.old.items end (behind_items vec.old end (total - end)) result vec.new }
 {
-    end_telling(vec, front, back, end, total, ByLower::new(iter))
+    let mut items = iter;
+    end_telling::<ByLower, I, A>(vec, front, back, end, total, &mut items)
 }
 
 // The same, as `size_hint` tells of them.
@@ -188,7 +189,8 @@ where
     requires ends { IsFinite (I.remaining iter) }
     ensures { Replaced I.next_gives (TellsAtMost I.remaining) I.remaining (¬ (A.is_infallible vec.old.alloc)) (type_size I.Item.row) iter vec.old vec.old.items end (behind_items vec.old end (total - end)) result vec.new }
 {
-    end_telling(vec, front, back, end, total, ByHint::new(iter))
+    let mut items = iter;
+    end_telling::<ByHint, I, A>(vec, front, back, end, total, &mut items)
 }
 
 impl<'a, I: Hinted, A: Allocator + Clone> Splice<'a, I, A>

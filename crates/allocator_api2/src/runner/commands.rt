@@ -21,7 +21,7 @@ where
 {
     match main.push(value) {
         Ok(()) => Reply::Done,
-        Err(refused) => Reply::Refused(refused.error.kind()),
+        Err(refused) => Reply::Refused(refused.error),
     }
 }
 
@@ -55,7 +55,7 @@ pub(crate) fn insert<T: Drop, A: Allocator>(
     }
     match main.insert(index, value) {
         Ok(()) => Reply::Done,
-        Err(refused) => Reply::Refused(refused.error.kind()),
+        Err(refused) => Reply::Refused(refused.error),
     }
 }
 
@@ -172,7 +172,7 @@ pub(crate) fn extend_from_within<T: Clone + Drop, A: Allocator>(
     if from > to || to > main.len() {
         return Reply::Range;
     }
-    match main.extend_from_within(from, to) {
+    match main.extend_from_within(from..to) {
         Ok(()) => Reply::Done,
         Err(error) => Reply::Refused(error.kind()),
     }
@@ -230,7 +230,7 @@ pub(crate) fn splice<T: Drop, A: Allocator + Clone + Drop>(
     if start > end || end > main.len() {
         return Reply::Range;
     }
-    let range = main.splice(start, end, Items::new(items, hint));
+    let range = main.splice(start..end, Items::new(items, hint));
     match range.finish_hinted() {
         Ok(()) => Reply::Done,
         Err(error) => Reply::Refused(error.kind()),

@@ -52,7 +52,7 @@ fn drain_and_keep<T: Drop, A: Allocator>(
     requires room { HasRoom side.old (first + last) }
     ensures { Drained main.old side.old start end first last true main.new side.new }
 {
-    let mut items = main.drain(start, end);
+    let mut items = main.drain(start..end);
     take_front(&mut items, side, first);
     take_back(&mut items, side, last);
     items.keep_rest();
@@ -71,7 +71,7 @@ fn drain_and_drop<T: Drop, A: Allocator>(
     requires room { HasRoom side.old (first + last) }
     ensures { Drained main.old side.old start end first last false main.new side.new }
 {
-    let mut items = main.drain(start, end);
+    let mut items = main.drain(start..end);
     take_front(&mut items, side, first);
     take_back(&mut items, side, last);
 }

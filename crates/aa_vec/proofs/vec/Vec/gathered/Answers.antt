@@ -9,9 +9,9 @@ returns-in-Err-clause-refused g c =
 pub returns-in-Ok-extend_telling-clause-all : goal.returns-in-Ok-extend_telling-clause-all
 returns-in-Ok-extend_telling-clause-all g c =
     Gathers-all _ _ ⊤ _ _ _ c.args.self.now _ c.told.ensures _ c.saturating_add-wanted.ensures _ c.new_in-more.result c.new_in-more.ensures
-    c.try_reserve.new.self c.in_default-try_reserve.ensures.made c.put_next.new.self c.put_next.ensures.items _ c.in-Ok-extend_telling.ensures.extended
+    c.try_reserve.new.self c.in_default-try_reserve.ensures.made c.put_next.new.self c.put_next.ensures.items _ _ c.in-Ok-extend_telling.ensures.leaves.ended
 
 pub returns-in-Err-extend_telling-clause-refused : goal.returns-in-Err-extend_telling-clause-refused
 returns-in-Err-extend_telling-clause-refused g c =
     GathersShort-more _ _ _ _ _ _ c.args.self.now _ c.told.ensures _ c.saturating_add-wanted.ensures _ c.new_in-more.result c.new_in-more.ensures
-    c.try_reserve.new.self c.in_default-try_reserve.ensures.made c.put_next.new.self c.put_next.ensures.items _ _ c.in-Err-extend_telling.ensures.refused
+    c.try_reserve.new.self c.in_default-try_reserve.ensures.made c.put_next.new.self c.put_next.ensures.items _ _ _ c.in-Err-extend_telling.ensures.leaves.stopped

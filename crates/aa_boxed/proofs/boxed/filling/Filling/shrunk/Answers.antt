@@ -1,7 +1,8 @@
-use Rattle.std.proofs.Common.{ap, ◌∙◌, length, arith, ◌≤◌, ◌≡◌}
+use Rattle.std.proofs.Common.{ap, sym, ◌∙◌, length, arith, ◌≤◌, ◌≡◌}
 use Rattle.std.specs.Mem.{type_size}
 use denote.Param.{param}
 use Rattle.aa_raw.specs.Growth.{usize_max}
+use Rattle.aa_raw.specs.declared.collections.TryReserveErrorKind.TheVariants.{AllocError}
 use Rattle.aa_boxed.specs.Slice.{ended}
 use Rattle.aa_boxed.proofs.Fillings.{shrunk-room, shrunk-ended, items-long}
 use Rattle.aa_boxed.proofs.boxed.filling.Filling.shrunk.Goals as goal
@@ -19,4 +20,4 @@ pub returns-in-Err-clause-refused : goal.returns-in-Err-clause-refused
 returns-in-Err-clause-refused g c =
     let e = c.in-Err.ensures.refused in let long = items-long c.filling.inside c.filling.invariant in
     let same = ap (λ s. length s.items) c.filling.view_is in
-    (omega (arith, e.1, long, same), e.3, rw (e.4) (omega (arith, long, same)))
+    (omega (arith, e.1, long, same), e.3, e.4 ∙ ap AllocError (sym long ∙ same))

@@ -1,6 +1,6 @@
 use Rattle.std.proofs.Common.{refl, sym, subst, arith}
 use Rattle.std.proofs.lemmas.Result.{err_from_is_err_and}
-use Rattle.aa_boxed.proofs.Coming.{HasMore, Coming-start, Coming-put, Coming-drains, Coming-refused, Coming-over, whole_run_of}
+use Rattle.aa_boxed.proofs.Coming.{HasMore, Coming-start, Coming-put, Coming-drains, Coming-refused, Coming-over, whole_run_of, stops_at_end}
 use Rattle.aa_boxed.proofs.boxed.slice.BoxedSlice.from_iter_in.Goals.{then-is_full+in_ok-reserve, else-is_full}
 use Rattle.aa_boxed.proofs.boxed.slice.BoxedSlice.from_iter_in.Goals as goal
 
@@ -38,3 +38,6 @@ returns-in_err-reserve-clause-refused g c =
 
 pub returns-clause-runs : goal.returns-clause-runs
 returns-clause-runs g c = whole_run_of _ c.loop-x.filling c.args.iter c.shrunk.result c.shrunk.ensures.made (Coming-drains _ _ _ _ _ _ c.loop-x.filling c.loop-x.invariant.coming _ c.in_default.ensures.steps)
+
+pub returns-clause-refused : goal.returns-clause-refused
+returns-clause-refused g c = stops_at_end _ c.loop-x.filling c.args.iter _ c.shrunk.result c.shrunk.ensures.refused (Coming-drains _ _ _ _ _ _ c.loop-x.filling c.loop-x.invariant.coming _ c.in_default.ensures.steps)

@@ -10,7 +10,7 @@ use Rattle.aa_vec.proofs.vec.splice.end_hinted.Met.{met}
 
 pub finish_hinted_spec : {M : Type 1} → statement M
 unfolding drain_tail
-finish_hinted_spec 𝓤 𝓛 𝓜 𝓡 wired I A X LI LA LX gH dH gI dI gA dA gC dC dropI dropA dropX metH metI metA metC m3 m4 m5 =
+finish_hinted_spec 𝓤 𝓛 𝓜 𝓡 wired I A X LI LA LX gH dH gI dI gA dA gC dC dropI dropA dropX metH metI metA metC metDropI metDropA metDropX =
     let E : Ended = f.ended I A X gH dH gI dI gA dA gC dC dropI dropA dropX in
     let stayed : Stays E.signature.params E.kept = (only_said 4 (Row I A X gI gA) (at (0 ∷ [])), tt) in
     let c = f.clauses I A X gH dH gI dI gA dA gC dC dropI dropA dropX 𝓛 𝓜.mem 𝓡.returns in
@@ -41,7 +41,7 @@ finish_hinted_spec 𝓤 𝓛 𝓜 𝓡 wired I A X LI LA LX gH dH gI dI gA dA gC
     sets ! (of_opd ! (get_in ! (fld ! refl (stop !)) (sub ! 4 refl (whole !)))) refl (tt, t.1.1.1.1.1.0) $
     sets ! (of_opd ! (get_in ! (fld ! refl (stop !)) (sub ! 5 refl (whole !)))) refl fit.1.0 $
     sets ! (addr ! (through ! refl (stop !))) refl (tt, tt) $ sets ! (of_opd ! (get ! refl)) refl fit.1.0 $
-    calls_at ! (framed 𝓤 𝓛.H 𝓜 𝓣) G (met 𝓤 𝓛 𝓜 𝓡 (code.calls-aa_vec::vec::splice::end_hinted 𝓡.env wired) I A X LI LA LX gH dH gI dI gA dA gC dC dropI dropA dropX metH metI metA metC m3 m4 m5) z
+    calls_at ! (framed 𝓤 𝓛.H 𝓜 𝓣) G (met 𝓤 𝓛 𝓜 𝓡 (code.calls-aa_vec::vec::splice::end_hinted 𝓡.env wired) I A X LI LA LX gH dH gI dI gA dA gC dC dropI dropA dropX metH metI metA metC metDropI metDropA metDropX) z
     (and_then ! (get ! refl) (and_then ! (get ! refl) (and_then ! (get ! refl) (and_then ! (get ! refl) (and_then ! (get ! refl) (and_then ! (get ! refl) (no_more !))))))) (λ v.
     let T : Ended = g.ended I A X gH dH gI dI gA dA gC dC dropI dropA dropX in
     use1 𝓛 (later (some (λ (r : Answer.Denot). (raw (alive 𝓛 S κs qs) ⊛ ‵ (Answer.own_val r (v ∷ []))) ⊛
