@@ -126,7 +126,12 @@ impl<T, A: Allocator> RawVec<T, A> {
         ensures may_be { IsCapacity T.row result }
     {
         self.claim.known();
-        self.capacity
+        let capacity = self.capacity;
+        // Elements without size have `usize::MAX` places. Said so, the compiler knows it and reads no field.
+        if is_sizeless::<T>() {
+            return capacity.max(usize::MAX);
+        }
+        capacity
     }
 
     /// The allocator under the block. It stands for `RawVec::allocator`.
@@ -361,7 +366,10 @@ impl<T, A: Allocator> RawVec<T, A> {
         requires { IsRun self.old.places 0 len }
         ensures { Reserved (type_size T.row) self.old len 1 (amortized self.old.growth (length self.old.places) (len + 1) (least_of (type_size T.row))) result self.new }
     {
-        self.try_reserve(len, 1)
+        if len < self.capacity() || self.grow_for(Room::Amortized, len, 1) {
+            return Ok(());
+        }
+        Err(self.refusal(Room::Amortized, len, 1))
     }
 
     /// Cuts the block to `capacity` places, of which the first `len` are filled, in a new block; the old one is given back. To no

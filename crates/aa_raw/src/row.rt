@@ -1,5 +1,6 @@
 //! The raw layer: a row of places in memory, and the right to give that memory back.
-ghost use Rattle.std.specs.Prelude.{◌≡◌, ℕ, ◌+◌, ◌*◌, ◌^◌, ◌<◌, ◌≤◌, List, Option, Some, None, map, length, take, drop, replicate, get_or, slice_set, IfOk, []};
+ghost use Rattle.std.specs.Prelude.{◌≡◌, ℕ, ◌+◌, ◌*◌, ◌^◌, ◌<◌, ◌≤◌, List, ◌++◌, Option, Some, None, map, length, take, drop, replicate, get_or, slice_set, IfOk};
+ghost use Rattle.core.specs.Ptr.{ptr_add};
 ghost use Rattle.std.specs.Mem.{type_size};
 ghost use Rattle.std.specs.Borrow.{sem};
 ghost use denote.RawPtr.{Ptr};
@@ -8,7 +9,7 @@ ghost use Rattle.aa_raw.specs.Holding.{row_owns, row_lends, claim_owns, roomy};
 
 use std::alloc::{AllocError, Allocator};
 use std::marker::{Model, PhantomData};
-use std::mem::{align_of, replace, size_of};
+use std::mem::{align_of, size_of};
 use std::slice;
 
 /// Places side by side in memory from `ptr` on, each empty or holding a value. It owns them, and not the right to free them.
@@ -46,17 +47,6 @@ impl<T, A: Allocator> Claim<T, A> {
 
 impl<T> Row<T> {
     ghost use Rattle.aa_raw.specs.Lends.{lends_at, lends_from};
-
-    /// No places.
-    #[inline(always)]
-    pub(crate) fn none() -> Row<T>
-        ensures { result.places ≡ [] }
-    {
-        let none: [T; 0] = [];
-        Row {
-            ptr: &raw const none as *const T as *mut T,
-        }
-    }
 
     /// Puts `item` into a place. A value that stood there is forgotten.
     #[inline(always)]
@@ -120,13 +110,18 @@ impl<T> Row<T> {
 
     /// Moves the `count` values from `from` on to the places from `to` on, which may overlap them.
     #[inline]
+    #[tactic(auto, using(crate::proofs::Places::cut_moves))]
     pub(crate) fn move_run(&mut self, from: usize, to: usize, count: usize)
         requires { IsRun self.old.places from count × (to + count ≤ length self.old.places) × (length self.old.places < 2 ^ 64) }
         ensures { (self.new.ptr ≡ self.old.ptr) × (self.new.places ≡ moved self.old.places from to count) }
     {
-        let row = replace(self, Row::none());
-        let row = move_within(row, from, to, count);
-        forget_none(replace(self, row));
+        if from < to {
+            let run = self.cut(from);
+            self.join(raise(run, to - from, count));
+        } else if to < from {
+            let run = self.cut(to);
+            self.join(lower(run, from - to, count));
+        }
     }
 
     /// Moves the `count` values from `from` on of `other` to the places from `to` on.
@@ -137,57 +132,107 @@ impl<T> Row<T> {
         ensures here { (self.new.ptr ≡ self.old.ptr) × (self.new.places ≡ with_run self.old.places to count (take count (drop from other.old.places))) }
         ensures there { (other.new.ptr ≡ other.old.ptr) × (other.new.places ≡ with_run other.old.places from count (replicate count None)) }
     {
-        let row = replace(self, Row::none());
-        let source = replace(other, Row::none());
+        let row = self.cut(0);
+        let source = other.cut(0);
         let (row, source) = move_across(row, to, source, from, count);
-        forget_none(replace(self, row));
-        forget_none(replace(other, source));
+        self.join(row);
+        other.join(source);
+    }
+
+    // Takes the places from `at` on off the end, as a row of their own.
+    #[inline(always)]
+    fn cut(&mut self, at: usize) -> Row<T>
+        requires { at ≤ length self.old.places }
+        ensures before { (self.new.ptr ≡ self.old.ptr) × (self.new.places ≡ take at self.old.places) }
+        ensures behind { (result.ptr ≡ ptr_add T.row at self.old.ptr) × (result.places ≡ drop at self.old.places) }
+        ensures few { length self.old.places * type_size T.row < 2 ^ 63 }
+    {
+        Row {
+            ptr: unsafe { self.ptr.add(at) },
+        }
+    }
+
+    // Puts the places of `behind` back, which begin where these end.
+    #[inline(always)]
+    fn join(&mut self, behind: Row<T>)
+        requires begins { behind.ptr ≡ ptr_add T.row (length self.old.places) self.old.ptr }
+        requires few { (length self.old.places + length behind.places) * type_size T.row < 2 ^ 63 }
+        ensures { (self.new.ptr ≡ self.old.ptr) × (self.new.places ≡ self.old.places ++ behind.places) }
+    {
+        let Row { ptr: _ } = behind;
     }
 }
 
 // The loops own the rows that they move within: the bases then stay in registers, and a move is one pass that the compiler
-// can vectorise. Behind a `&mut` each store would make it load the base again.
+// can vectorise. Behind a `&mut` each store would make it load the base again. Where both addresses are a parameter's and a
+// constant, it makes one copy of memory of the loop, before it puts the function in line. So the places that move are cut off
+// as a row, and a move by one place has a function of its own; elements of several words need both that one and its caller.
 
-// Moves the `count` values from `from` on to the places from `to` on.
-#[inline]
-fn move_within<T>(row: Row<T>, from: usize, to: usize, count: usize) -> Row<T>
-    requires { IsRun row.places from count × (to + count ≤ length row.places) × (length row.places < 2 ^ 64) }
-    ensures { (result.ptr ≡ row.ptr) × (result.places ≡ moved row.places from to count) }
+// Moves the first `count` values up by `by` places.
+fn raise<T>(row: Row<T>, by: usize, count: usize) -> Row<T>
+    requires { (0 < by) × IsRun row.places 0 count × (by + count ≤ length row.places) × (length row.places < 2 ^ 64) }
+    ensures { (result.ptr ≡ row.ptr) × (result.places ≡ moved row.places 0 by count) }
 {
-    if to < from {
-        move_down(row, from, to, count)
-    } else if from < to {
-        move_up(row, from, to, count)
+    if by == 1 {
+        raise_by_one(row, count)
     } else {
-        row
+        move_up(row, by, count)
     }
 }
 
-// The same to places below, the first value first.
-#[inline]
-#[tactic(auto, using(crate::proofs::Places::begun_moves))]
-fn move_down<T>(mut row: Row<T>, from: usize, to: usize, count: usize) -> Row<T>
-    requires { (to < from) × IsRun row.places from count × (length row.places < 2 ^ 64) }
-    ensures { (result.ptr ≡ row.ptr) × (result.places ≡ moved row.places from to count) }
+// The same by one place.
+fn raise_by_one<T>(row: Row<T>, count: usize) -> Row<T>
+    requires { IsRun row.places 0 count × (1 + count ≤ length row.places) × (length row.places < 2 ^ 64) }
+    ensures { (result.ptr ≡ row.ptr) × (result.places ≡ moved row.places 0 1 count) }
 {
-    'down: for i in 0..count {
-        let item = row.read(from + i);
-        row.write(to + i, item);
+    move_up(row, 1, count)
+}
+
+// Moves the `count` values from place `by` on down to the first place.
+fn lower<T>(row: Row<T>, by: usize, count: usize) -> Row<T>
+    requires { (0 < by) × IsRun row.places by count × (length row.places < 2 ^ 64) }
+    ensures { (result.ptr ≡ row.ptr) × (result.places ≡ moved row.places by 0 count) }
+{
+    if by == 1 {
+        lower_by_one(row, count)
+    } else {
+        move_down(row, by, count)
+    }
+}
+
+// The same by one place.
+fn lower_by_one<T>(row: Row<T>, count: usize) -> Row<T>
+    requires { IsRun row.places 1 count × (length row.places < 2 ^ 64) }
+    ensures { (result.ptr ≡ row.ptr) × (result.places ≡ moved row.places 1 0 count) }
+{
+    move_down(row, 1, count)
+}
+
+// The loop of `raise`, the last value first.
+#[inline(always)]
+#[tactic(auto, using(crate::proofs::Places::begun_moves))]
+fn move_up<T>(mut row: Row<T>, by: usize, count: usize) -> Row<T>
+    requires { (0 < by) × IsRun row.places 0 count × (by + count ≤ length row.places) × (length row.places < 2 ^ 64) }
+    ensures { (result.ptr ≡ row.ptr) × (result.places ≡ moved row.places 0 by count) }
+{
+    'up: for i in 0..count {
+        let at = by + count - 1 - i;
+        let item = row.read(at - by);
+        row.write(at, item);
     }
     row
 }
 
-// The same to places above, the last value first.
-#[inline]
+// The loop of `lower`, the first value first.
+#[inline(always)]
 #[tactic(auto, using(crate::proofs::Places::begun_moves))]
-fn move_up<T>(mut row: Row<T>, from: usize, to: usize, count: usize) -> Row<T>
-    requires { (from < to) × IsRun row.places from count × (to + count ≤ length row.places) × (length row.places < 2 ^ 64) }
-    ensures { (result.ptr ≡ row.ptr) × (result.places ≡ moved row.places from to count) }
+fn move_down<T>(mut row: Row<T>, by: usize, count: usize) -> Row<T>
+    requires { (0 < by) × IsRun row.places by count × (length row.places < 2 ^ 64) }
+    ensures { (result.ptr ≡ row.ptr) × (result.places ≡ moved row.places by 0 count) }
 {
-    'up: for i in 0..count {
-        let at = count - 1 - i;
-        let item = row.read(from + at);
-        row.write(to + at, item);
+    'down: for i in 0..count {
+        let item = row.read(by + i);
+        row.write(i, item);
     }
     row
 }
@@ -212,12 +257,6 @@ fn move_across<T>(
         row.write(to + i, item);
     }
     (row, source)
-}
-
-// Lets go of a row with no claim to memory.
-#[inline(always)]
-fn forget_none<T>(row: Row<T>) {
-    let Row { ptr: _ } = row;
 }
 
 /// Places that take no bytes, with no call to an allocator.

@@ -6,10 +6,10 @@ use Rattle.aa_vec.specs.Behind.{StandsBehind, SetsBack, ClosesGap, behind_items,
 use Rattle.aa_vec.specs.Choosing.{kept_behind_removed, removed_count, ChainsFrom, Deduplicated, MayChainFrom, MayDeduplicate, Deduplicates}
 use Rattle.aa_vec.specs.Until.{ChainsUntil, ChainsBehind}
 use Rattle.aa_vec.specs.Vector.{Vector, len, SameBlock, run_count}
-use Rattle.aa_vec.proofs.Chains.{same_end}
+use Rattle.aa_vec.proofs.Chains.{chained_are, chained_len, chained_long, chained_stand, chained_within}
 use Rattle.aa_vec.proofs.Closed.{still, counted, few_runs, written_all, written_more}
 use Rattle.aa_vec.proofs.Climbing.{SameBlock-trans}
-use Rattle.aa_vec.proofs.Stands.{count, replaced_are, replaced_stand, first_stand, moved_items, others_are, others_stand, later_are, later_stand}
+use Rattle.aa_vec.proofs.Stands.{count, moved_items, moved_len, others_are, others_stand, later_are, later_stand}
 
 -- what holds at the last element of a list, wherever it is cut before its last
 at_last : {T : Type 0} (P : List T → T → Type 0) (xs front : List T) (last : T) → xs ≡ front ++ last ∷ [] → P front last → (front' : List T) (last' : T) → xs ≡ front' ++ last' ∷ [] → P front' last'
@@ -34,18 +34,6 @@ module _ {F T : Type 0} (Asks : F → T → T → Bool → F → T → T → Typ
     pub more : (answers : List Bool) (g : F) (ys : List T) → ChainsFrom Asks h last rest answers g ys
         → (every : List Bool) × ChainsFrom Asks f l xs every g (before ++ ys) × (kept_behind_removed (map not every) ≡ count_by (λ s. s) (map not answers))
         × (count_by (λ s. s) (map not every) ≡ k + count_by (λ s. s) (map not answers)) × (removed_count (map not every) ≡ 1 + removed_count (map not answers))
-
-  chain-length : (f h : F) (l : T) (xs : List T) (k : ℕ) (ws : List T) → ChainsUntil Asks f l xs k h ws → length ws ≡ suc (length xs)
-  chain-length f h l [] zero ws u = ap length u.1
-  chain-length f h l [] (suc k) ws u = absurd u
-  chain-length f h l (x ∷ xs) zero ws u = ap length u.3
-  chain-length f h l (x ∷ xs) (suc k) ws u = ap length u.6 ∙ ap suc (chain-length u.0 h u.1 xs k u.3 u.5)
-
-  chain-within : (f h : F) (l : T) (xs : List T) (k : ℕ) (ws : List T) → ChainsUntil Asks f l xs k h ws → k ≤ length xs
-  chain-within f h l [] zero ws u = omega arith
-  chain-within f h l [] (suc k) ws u = absurd u
-  chain-within f h l (x ∷ xs) zero ws u = omega arith
-  chain-within f h l (x ∷ xs) (suc k) ws u = omega (arith, chain-within u.0 h u.1 xs k u.3 u.5)
 
   chain-more : (f h : F) (l : T) (xs : List T) (k : ℕ) (ws : List T) → ChainsUntil Asks f l xs k h ws → k < length xs → Follows f l xs k h ws
   chain-more f h l [] k ws u less = absurd (omega (arith, less))
@@ -127,33 +115,27 @@ module _ {F T : Type 0} (Asks : F → T → T → Bool → F → T → T → Typ
       abbrev ws : List T
       ws = asked.last_left ∷ asked.left
 
-      long : length asked.left ≡ n
-      long = omega (arith, chain-length h g asked.last (behind_items v gap n) k ws asked.until, count v gap n now.stands)
+      asked_long : length asked.left ≡ n
+      asked_long = chained_long Asks h v gap n now.stands k g w asked
 
-      pub kept_within : k ≤ n
-      kept_within = omega (arith, chain-within h g asked.last (behind_items v gap n) k ws asked.until, count v gap n now.stands)
+      within : k ≤ n
+      within = chained_within Asks h v gap n now.stands k g w asked
 
-      same_len : len w ≡ len v
-      same_len = ap length asked.items ∙ same_end asked.front asked.last_left asked.last ∙ sym (ap length asked.had)
-
-      asked_stand : StandsBehind w gap n
-      asked_stand = replaced_stand v gap n now.stands w asked.left _ same_len asked.block.capacity long asked.behind
-
-      asked_are : behind_items w gap n ≡ asked.left
-      asked_are = replaced_are v gap n now.stands w asked.left _ same_len asked.block.capacity long asked.behind
-
-      pub kept_stand : StandsBehind w gap k
-      kept_stand = first_stand w gap n asked_stand k kept_within
+      stood : StandsBehind w gap n
+      stood = chained_stand Asks h v gap n now.stands k g w asked
 
       module _ (u : Vector T A) (closes : ClosesGap w gap k u) where
+        pub chain_closed_len : len u ≡ len v + k
+        chain_closed_len = moved_len w gap n stood k within u closes ∙ ap (λ l. l + k) (chained_len Asks h v gap n now.stands k g w asked)
+
         pub rest_stand : StandsBehind u gap (n - k)
-        rest_stand = others_stand w gap n asked_stand k kept_within u closes
+        rest_stand = others_stand w gap n stood k within u closes
 
         rest_are : behind_items u gap (n - k) ≡ drop k asked.left
-        rest_are = others_are w gap n asked_stand k kept_within u closes ∙ ap (drop k) asked_are
+        rest_are = others_are w gap n stood k within u closes ∙ ap (drop k) (chained_are Asks h v gap n now.stands k g w asked)
 
         items_are : u.items ≡ asked.front ++ take (suc k) ws
-        items_are = moved_items w gap n asked_stand k kept_within u closes ∙ ap (λ l. w.items ++ take k l) asked_are ∙ ap (λ l. l ++ take k asked.left) asked.items ∙ append_assoc asked.front (asked.last_left ∷ []) (take k asked.left)
+        items_are = moved_items w gap n stood k within u closes ∙ ap (λ l. w.items ++ take k l) (chained_are Asks h v gap n now.stands k g w asked) ∙ ap (λ l. l ++ take k asked.left) asked.items ∙ append_assoc asked.front (asked.last_left ∷ []) (take k asked.left)
 
         block_same : SameBlock old u
         block_same = SameBlock-trans (SameBlock-trans now.block asked.block) closes.holds.block
@@ -173,7 +155,7 @@ module _ {F T : Type 0} (Asks : F → T → T → Bool → F → T → T → Typ
               answers = c.0;
               left = asked.front ++ ws;
               asked = c.1;
-              holds = record { items = items_are ∙ ap (λ l. asked.front ++ l) (take_all (suc k) ws (omega (arith, e, long))); block = block_same };
+              holds = record { items = items_are ∙ ap (λ l. asked.front ++ l) (take_all (suc k) ws (omega (arith, e, asked_long))); block = block_same };
               written = omega (arith, c.2, wrote, written_all gap k (map not r.0) r.2 (omega (arith, r.3, e, count v gap n now.stands)));
               runs = omega (arith, c.3, ran, now.runs, r.4, few_runs gap k);
             }

@@ -1,15 +1,16 @@
 -- A vector that items of an iterator are put behind.
-use Rattle.std.proofs.Common.{◌≡◌, ℕ, zero, suc, ◌+◌, ◌-◌, ◌<◌, ◌≤◌, List, [], ◌∷◌, ◌++◌, length, Option, Some, None, append_assoc, refl, sym, ap, ◌∙◌, subst, arith, length-append}
+use Rattle.std.proofs.Common.{◌≡◌, ℕ, zero, suc, ◌+◌, ◌-◌, ◌<◌, ◌≤◌, List, [], ◌∷◌, ◌++◌, length, Option, Some, None, Ok, append_assoc, refl, sym, ap, ◌∙◌, subst, arith, length-append}
 use Rattle.std.specs.Prelude.{min, map}
 use Rattle.std.specs.Borrow.{Bor}
 use Rattle.std.specs.Iterator.Runs.{WholeRun}
 use Rattle.std.proofs.iter.runs.Consumers.{total_runs}
-use Rattle.std.specs.Iterator.{Yields, Drains}
+use Rattle.std.specs.Iterator.{Count, Yields, Drains}
 use Rattle.std.proofs.lemmas.List.{append-nil}
 use Rattle.aa_raw.specs.declared.collections.TryReserveErrorKind.{TryReserveErrorKind}
 use Rattle.aa_raw.specs.Growth.{usize_max}
 use Rattle.aa_vec.specs.Vector.{Vector, len, HasRoom, LacksRoom, GrowsTo, Holds, Writes, MakesRoom}
-use Rattle.aa_vec.specs.Extending.{Climbs, stays, asked_for, YieldsTelling, ExtendsByAll, ExtendsByFront, CopiesOf}
+use Rattle.aa_vec.specs.Filling.{Placed, FillsGap}
+use Rattle.aa_vec.specs.Extending.{Climbs, stays, asked_for, YieldsTelling, ExtendsByAll, ExtendsByFront, Extended, CopiesOf}
 use Rattle.aa_vec.proofs.Climbing.{SameBlock-refl, MakesRoom-fits, MakesRoom-rises, Climbs-same, Climbs-more, Climbs-rises, Climbs-counted, Climbs-growth, Climbs-alloc}
 
 -- the items that came, as one run
@@ -32,7 +33,19 @@ module _ {S T : Type 0} (steps : S → Option T → S → Type 0) (Tells : S →
   Yields-told lower s [] t y = y
   Yields-told lower s (x ∷ xs) t y = (y.0, y.1, Yields-told lower y.0 xs t y.3)
 
-  module _ {A : Type 0} (left : S → ℕ) (size : ℕ) (iter : S) (old : Vector T A) where
+  -- the same of items that followed, where each state tells some number
+  told_on : ((s : S) → (n : ℕ) × Tells s n) → (lower : ℕ → ℕ) (s : S) (front : List T) (t : S) (xs : List T) (u : S) → YieldsTelling steps Tells lower s front t → Yields steps t xs u
+      → (next : ℕ → ℕ) × YieldsTelling steps Tells next s (front ++ xs) u × ((k : ℕ) → lower k ≡ next (k + length xs))
+  told_on some lower s front t [] u y z =
+      let Q : List T → Type 0 = λ l. YieldsTelling steps Tells lower s l u in
+      (lower, subst Q (sym (append-nil front)) (subst (YieldsTelling steps Tells lower s front) z y), λ k. ap lower (omega arith))
+  told_on some lower s front t (x ∷ xs) u y z =
+      let n = some z.0 in
+      let r = told_on some (told_behind n.0 lower) s (front ++ x ∷ []) z.0 xs u (YieldsTelling-more lower n.0 s front t x z.0 y z.1 n.1) z.2 in
+      let Q : List T → Type 0 = λ l. YieldsTelling steps Tells r.0 s l u in
+      (r.0, subst Q (append_assoc front (x ∷ []) xs) r.1, λ k. r.2 (suc k) ∙ ap r.0 (omega arith))
+
+  module _ {A : Type 0} (size : ℕ) (iter : S) (old : Vector T A) where
     -- of what came from iter, which is now s, `front` was placed, and the vector is v
     pub record Placing (s : S) (v : Vector T A) : Type 0 where
       pub front : List T
@@ -44,7 +57,6 @@ module _ {S T : Type 0} (steps : S → Option T → S → Type 0) (Tells : S →
       pub fits : len v ≤ v.capacity
       pub written : v.written ≡ old.written + length front
       pub runs : v.runs ≡ old.runs + length front
-      pub fewer : length front + left s ≤ left iter
 
     pub Placing-start : len old ≤ old.capacity → Placing iter old
     Placing-start h = record {
@@ -57,7 +69,6 @@ module _ {S T : Type 0} (steps : S → Option T → S → Type 0) (Tells : S →
       fits = h;
       written = omega arith;
       runs = omega arith;
-      fewer = omega arith;
     }
 
     module _ (s : S) (v : Vector T A) (p : Placing s v) where
@@ -86,12 +97,52 @@ module _ {S T : Type 0} (steps : S → Option T → S → Type 0) (Tells : S →
       pub Placing-drains : (u : S) → steps s None u → (xs : List T) × Drains steps iter xs × (v.items ≡ old.items ++ xs)
       Placing-drains u h = (p.front, (u, (s, Yields-told p.lower iter p.front s p.told, h)), p.items)
 
-      -- one more item x came, behind which n is told
-      module _ (x : T) (t : S) (step : steps s (Some x) t) (n : ℕ) (tells : Tells t n) (on : left t < left s) where
-        abbrev pub next_front : List T
+      pub Placing-extended : (left : S → Count) (u : S) → steps s None u → Extended steps Tells left size iter old (Ok tt) v
+      Placing-extended left u h =
+          let ran = Placing-drains u h in
+          record {
+            fits = λ _. refl;
+            ran = ran;
+            runs = whole_run steps iter (λ xs. v.items ≡ old.items ++ xs) ran;
+            extended = (Placing-end u h).0;
+            writes = Placing-writes (len v - len old) refl;
+            refused = tt;
+          }
+
+      -- items came that found free places
+      pub Placing-filled : ((s : S) → (n : ℕ) × Tells s n) → (left : ℕ) (t : S) (new : Vector T A) → Placed steps s v (v.capacity - len v) 0 left t new → Placing t new
+      Placing-filled some left t new q =
+          let xs : List T = q.comes.added in
+          let r = told_on some p.lower iter p.front s xs t p.told q.comes.given in
+          let front : List T = p.front ++ xs in
+          let longer : length front ≡ length p.front + length xs = length-append p.front xs in
+          let e : new.items ≡ old.items ++ front = q.holds.items ∙ ap (λ ys. ys ++ xs) p.items ∙ append_assoc old.items p.front xs in
+          record {
+            front = front;
+            lower = r.0;
+            told = r.1;
+            within = p.within;
+            climbs = Climbs-same size r.0 (len old + length front) (Climbs-counted size p.lower r.0 (len old + length p.front) (length xs) (len old + length front) (SameBlock-refl old) (omega (arith, longer)) (λ k _. r.2 k) p.climbs) q.holds.block;
+            items = e;
+            fits = omega (arith, ap length e, length-append old.items front, longer, count, p.fits, q.comes.count, q.holds.block.capacity);
+            written = omega (arith, q.writes.written, p.written, longer);
+            runs = omega (arith, q.writes.runs, p.runs, longer);
+          }
+
+      -- until no place was left
+      pub Placing-full : ((s : S) → (n : ℕ) × Tells s n) → (left : ℕ) (t : S) (new : Vector T A) → left ≡ 0 → FillsGap steps s v (v.capacity - len v) 0 left t new
+          → Placing t new × (len new ≡ new.capacity) × (len new ≡ v.capacity)
+      Placing-full some left t new e f =
+          let q = f.placed in
+          let long : len new ≡ v.capacity = omega (arith, e, ap length q.holds.items, length-append v.items q.comes.added, q.comes.count, p.fits) in
+          (subst (λ u. Placing u new) (sym (f.stops.full e)) (Placing-filled some left f.last new q), long ∙ sym q.holds.block.capacity, long)
+
+      -- v is full, and one more item x came, behind which n is told
+      module _ (full : len v ≡ v.capacity) (x : T) (t : S) (step : steps s (Some x) t) (n : ℕ) (tells : Tells t n) where
+        abbrev next_front : List T
         next_front = p.front ++ x ∷ []
 
-        abbrev pub next_lower : ℕ → ℕ
+        abbrev next_lower : ℕ → ℕ
         next_lower = told_behind n p.lower
 
         longer : length next_front ≡ length p.front + 1
@@ -102,74 +153,57 @@ module _ {S T : Type 0} (steps : S → Option T → S → Type 0) (Tells : S →
             Climbs-counted size p.lower next_lower (len old + length p.front) 1 (len old + length next_front) (SameBlock-refl old) (omega (arith, longer))
             (λ k _. let f : suc k ≡ k + 1 = omega arith in ap next_lower f) p.climbs
 
-        -- it is placed in w, a vector that v climbed to
-        module _ (w new : Vector T A) (climbs : Climbs size next_lower (len old + length next_front) old w) (same : w.items ≡ v.items) (w_written : w.written ≡ v.written) (w_runs : w.runs ≡ v.runs)
-            (room : len w < w.capacity) (holds : Holds w (w.items ++ x ∷ []) new) (writes : Writes w 1 1 new) where
-          placed : Placing t new
-          placed =
-              let e : new.items ≡ old.items ++ next_front = holds.items ∙ ap (λ ys. ys ++ x ∷ []) (same ∙ p.items) ∙ append_assoc old.items p.front (x ∷ []) in
-              let l : len new ≡ len old + length next_front = ap length e ∙ length-append old.items next_front in
-              record {
-                front = next_front;
-                lower = next_lower;
-                told = YieldsTelling-more p.lower n iter p.front s x t p.told step tells;
-                within = p.within;
-                climbs = Climbs-same size next_lower (len old + length next_front) climbs holds.block;
-                items = e;
-                fits = omega (arith, l, longer, count, room, ap length same, holds.block.capacity);
-                written = omega (arith, writes.written, w_written, p.written, longer);
-                runs = omega (arith, writes.runs, w_runs, p.runs, longer);
-                fewer = omega (arith, p.fewer, longer, on);
-              }
+        one_left : len old + length next_front - v.capacity ≡ 1
+        one_left = omega (arith, full, count, longer)
 
-        -- where v is not full, in v
-        pub Placing-put : (w new : Vector T A) → w ≡ v → len v < v.capacity → Holds w (w.items ++ x ∷ []) new → Writes w 1 1 new → Placing t new
-        Placing-put w new e room holds writes =
-            let same : w.items ≡ v.items = ap (λ u. u.items) e in
-            let few : len w < w.capacity = omega (arith, room, ap length same, ap (λ u. u.capacity) e) in
-            placed w new (subst (λ u. Climbs size next_lower (len old + length next_front) old u) (sym e) climbed) same (ap (λ u. u.written) e) (ap (λ u. u.runs) e) few holds writes
-
-        -- where it is full, in w, which has grown
-        module _ (full : len v ≡ v.capacity) where
-          one_left : len old + length next_front - v.capacity ≡ 1
-          one_left = omega (arith, full, count, longer)
-
-          pub Placing-grown : (k : ℕ) → k ≡ min (n + 1) usize_max → (w new : Vector T A) → GrowsTo size v k v.items w → Writes v 0 0 w → Holds w (w.items ++ x ∷ []) new → Writes w 1 1 new → Placing t new
-          Placing-grown k e w new g z holds writes =
-              let asked : k ≡ asked_for next_lower (len old + length next_front - v.capacity) = e ∙ ap (asked_for next_lower) (sym one_left) in
-              let m : MakesRoom size v v.capacity (asked_for next_lower (len old + length next_front - v.capacity)) w =
-              subst (λ j. MakesRoom size v j (asked_for next_lower (len old + length next_front - v.capacity)) w) full (subst (λ j. MakesRoom size v (len v) j w) asked g.room) in
-              let room : len w < w.capacity = omega (arith, e, full, ap length g.items, MakesRoom-fits size (len v) k v w g.room (omega (arith, full, MakesRoom-rises size _ v w m))) in
-              placed w new (Climbs-more size next_lower (len old + length next_front) climbed (omega (arith, full, count, longer)) m) g.items
-              (omega (arith, z.written)) (omega (arith, z.runs)) room holds writes
-
-          -- or room for it was refused
-          pub Placing-refused : (k : ℕ) → k ≡ min (n + 1) usize_max → (error : TryReserveErrorKind) → LacksRoom v k error → (front : ExtendsByFront steps Tells size iter old error v) × (front.last ≡ t)
-          Placing-refused k e error lacks = (
+        -- it is placed in w, which v has grown to
+        pub Placing-grown : (k : ℕ) → k ≡ min (n + 1) usize_max → (w new : Vector T A) → GrowsTo size v k v.items w → Writes v 0 0 w → Holds w (w.items ++ x ∷ []) new → Writes w 1 1 new → Placing t new
+        Placing-grown k e w new g z holds writes =
+            let asked : k ≡ asked_for next_lower (len old + length next_front - v.capacity) = e ∙ ap (asked_for next_lower) (sym one_left) in
+            let m : MakesRoom size v v.capacity (asked_for next_lower (len old + length next_front - v.capacity)) w =
+            subst (λ j. MakesRoom size v j (asked_for next_lower (len old + length next_front - v.capacity)) w) full (subst (λ j. MakesRoom size v (len v) j w) asked g.room) in
+            let room : len w < w.capacity = omega (arith, e, full, ap length g.items, MakesRoom-fits size (len v) k v w g.room (omega (arith, full, MakesRoom-rises size _ v w m))) in
+            let climbs : Climbs size next_lower (len old + length next_front) old w = Climbs-more size next_lower (len old + length next_front) climbed (omega (arith, full, count, longer)) m in
+            let i : new.items ≡ old.items ++ next_front = holds.items ∙ ap (λ ys. ys ++ x ∷ []) (g.items ∙ p.items) ∙ append_assoc old.items p.front (x ∷ []) in
             record {
-              taken = next_front;
+              front = next_front;
               lower = next_lower;
-              last = t;
               told = YieldsTelling-more p.lower n iter p.front s x t p.told step tells;
               within = p.within;
-              extends = record {
-                front = p.front;
-                others = x ∷ [];
-                begins = refl;
-                climbs = climbed;
-                short = omega (arith, full, count, longer);
-                items = p.items;
-                full = omega (arith, full, count);
-                lacks = subst (λ j. LacksRoom v j error) e lacks;
-              };
-              one = refl;
-            },
-            refl,
-          )
+              climbs = Climbs-same size next_lower (len old + length next_front) climbs holds.block;
+              items = i;
+              fits = omega (arith, ap length holds.items, length-append w.items (x ∷ []), room, holds.block.capacity);
+              written = omega (arith, writes.written, z.written, p.written, longer);
+              runs = omega (arith, writes.runs, z.runs, p.runs, longer);
+            }
 
-          -- more came than fit at the start
-          pub Placing-over : HasRoom old (left iter) → ⊥
-          Placing-over h = absurd (omega (arith, h, full, count, p.fewer, on, Climbs-rises size p.lower (len old + length p.front) p.climbs))
+        -- or room for it was refused
+        pub Placing-refused : (k : ℕ) → k ≡ min (n + 1) usize_max → (error : TryReserveErrorKind) → LacksRoom v k error → (front : ExtendsByFront steps Tells size iter old error v) × (front.last ≡ t)
+        Placing-refused k e error lacks = (
+          record {
+            taken = next_front;
+            lower = next_lower;
+            last = t;
+            told = YieldsTelling-more p.lower n iter p.front s x t p.told step tells;
+            within = p.within;
+            extends = record {
+              front = p.front;
+              others = x ∷ [];
+              begins = refl;
+              climbs = climbed;
+              short = omega (arith, full, count, longer);
+              items = p.items;
+              full = omega (arith, full, count);
+              lacks = subst (λ j. LacksRoom v j error) e lacks;
+            };
+            one = refl;
+          },
+          refl,
+        )
+
+      -- more came than fit at the start, where v is full and another item came of the `left` that were to come
+      pub Placing-over : len v ≡ v.capacity → (left all : ℕ) → 0 < left → len v + left ≤ len old + all → HasRoom old all → ⊥
+      Placing-over full left all some few h = absurd (omega (arith, h, full, some, few, count, Climbs-rises size p.lower (len old + length p.front) p.climbs))
 
 module _ {S T : Type 0} (steps : S → Option (Bor T) → S → Type 0) where
   -- the references that were given

@@ -1,7 +1,7 @@
 -- Elements behind the items of a vector, and the gap before them, as the places of its block.
 use Rattle.std.proofs.Common.{◌≡◌, ℕ, ◌+◌, ◌-◌, ◌<◌, ◌≤◌, List, [], ◌∷◌, ◌++◌, length, map, take, drop, replicate, get_or, Option, Some, None, refl, sym, ap, ◌∙◌, subst, arith, inl, inr, length-append, length-drop, length-set, length-take}
 use Rattle.std.specs.Prelude.{slice_set, if◌then◌else◌, ◌==◌}
-use Rattle.std.proofs.lemmas.List.{append-nil, drop-drop, drop-set, drop-set-add, drop-set-lt, length-map, length-replicate, length-take-le, take_at, drop_at}
+use Rattle.std.proofs.lemmas.List.{append-nil, drop-append-le, drop-drop, drop-take, drop-set, drop-set-add, drop-set-lt, length-map, length-replicate, length-take-le, take_at, drop_at}
 use Rattle.std.specs.List.{refill, length_refill}
 use Rattle.aa_raw.specs.Block.{with_places}
 use Rattle.aa_raw.specs.Places.{IsRun, IsFilled, run, moved, with_run}
@@ -74,6 +74,15 @@ pub drop-laid : {X : Type 0} (cs es : List (Option X)) (l gap n : ℕ) → l + g
 unfolding with_run
 drop-laid cs es l gap n h =
     grind (arith, drop-drop, drop_at (take (l + gap) cs) (es ++ drop (l + gap + n) cs) (l + gap) (length-take-le (l + gap) cs (omega (arith, h))))
+
+-- and below them the same places
+take-laid : {X : Type 0} (cs es : List (Option X)) (l gap n : ℕ) → l + gap + n ≤ length cs → take gap (drop l (with_run cs (l + gap) n es)) ≡ take gap (drop l cs)
+unfolding with_run
+take-laid cs es l gap n h =
+    let rest = es ++ drop (l + gap + n) cs in let front = take (l + gap) cs in
+    let long : length front ≡ l + gap = length-take-le (l + gap) cs (omega (arith, h)) in
+    let part : take gap (drop l cs) ≡ drop l front = sym (drop-take l gap cs) in
+    ap (take gap) (drop-append-le l front rest (omega (arith, long)) ∙ ap (λ ds. ds ++ rest) (sym part)) ∙ take_at (take gap (drop l cs)) rest gap (length-take-le gap (drop l cs) (omega (arith, h, length-drop l cs)))
 
 pub IsRun-cleared : {X : Type 0} (cs : List (Option X)) (l gap n : ℕ) → IsRun cs 0 l → l + gap + n ≤ length cs → IsRun (with_run cs (l + gap) n (replicate n None)) 0 l
 IsRun-cleared cs l gap n r h = IsRun-with-below cs (l + gap) n (replicate n None) 0 l h (length-replicate n None) (omega arith) r
@@ -172,6 +181,7 @@ module _ {T A : Type 0} (v : Inside T A) (front : IsFront v) (gap n : ℕ) (stan
       let capacity = length-with_run v.block.places (v.len + gap) n (map Some (refill n xs ws)) room full in
       record {
         same = λ i. record { items = items i; capacity = capacity i; growth = v.block.growth; grown = v.block.grown; written = v.block.written; runs = v.block.runs; alloc = v.block.alloc; behind = drop v.len relent };
+        below = take-laid v.block.places (map Some (refill n xs ws)) v.len gap n room;
         behind = drop-laid v.block.places (map Some (refill n xs ws)) v.len gap n room;
       }
 

@@ -1,4 +1,3 @@
-pub mod Blocks
 pub mod Boxing
 pub mod Climbing
 pub mod Copied
@@ -13,6 +12,7 @@ pub mod Gaps
 pub mod Asking
 pub mod Stands
 pub mod Chains
+pub mod Peeled
 pub mod Retaining
 pub mod Closed
 pub mod Deduplicating

@@ -8,7 +8,7 @@ use Rattle.aa_vec.specs.Until.{AsksUntil, AsksBehind}
 use Rattle.aa_vec.specs.Vector.{Vector, len, SameBlock, run_count}
 use Rattle.aa_vec.proofs.Climbing.{SameBlock-trans}
 use Rattle.aa_vec.proofs.Closed.{still, counted, few_runs, written_all, written_more}
-use Rattle.aa_vec.proofs.Stands.{count, left_are, left_stand, first_stand, moved_items, others_are, others_stand, later_are, later_stand}
+use Rattle.aa_vec.proofs.Stands.{count, first_stand, left_are, left_stand, moved_items, moved_len, others_are, others_stand, later_are, later_stand}
 
 module _ {F T : Type 0} (Asks : F → T → Bool → F → T → Type 0) where
   -- what all of xs were told, where the first k stay, one goes, and those behind it were told so
@@ -20,13 +20,13 @@ module _ {F T : Type 0} (Asks : F → T → Bool → F → T → Type 0) where
     pub stay : count_by (λ s. s) (answers_of every) ≡ k + count_by (λ s. s) (answers_of told)
     pub gone : removed_count (answers_of every) ≡ 1 + removed_count (answers_of told)
 
-  until-length : (f h : F) (xs : List T) (k : ℕ) (left : List T) → AsksUntil Asks f xs k h left → length left ≡ length xs
+  pub until-length : (f h : F) (xs : List T) (k : ℕ) (left : List T) → AsksUntil Asks f xs k h left → length left ≡ length xs
   until-length f h [] zero left u = ap length u.1
   until-length f h [] (suc k) left u = absurd u
   until-length f h (x ∷ xs) zero left u = ap length u.2
   until-length f h (x ∷ xs) (suc k) left u = ap length u.5 ∙ ap suc (until-length u.0 h xs k u.2 u.4)
 
-  until-within : (f h : F) (xs : List T) (k : ℕ) (left : List T) → AsksUntil Asks f xs k h left → k ≤ length xs
+  pub until-within : (f h : F) (xs : List T) (k : ℕ) (left : List T) → AsksUntil Asks f xs k h left → k ≤ length xs
   until-within f h [] zero left u = omega arith
   until-within f h [] (suc k) left u = absurd u
   until-within f h (x ∷ xs) zero left u = omega arith
@@ -131,6 +131,9 @@ module _ {F T : Type 0} (Asks : F → T → Bool → F → T → Type 0) where
       kept_stand = first_stand w gap n asked_stand k kept_within
 
       module _ (u : Vector T A) (closes : ClosesGap w gap k u) where
+        pub closed_len : len u ≡ len v + k
+        closed_len = moved_len w gap n asked_stand k kept_within u closes ∙ ap (λ l. l + k) (ap len asked.leaves.same)
+
         pub rest_stand : StandsBehind u gap (n - k)
         rest_stand = others_stand w gap n asked_stand k kept_within u closes
 

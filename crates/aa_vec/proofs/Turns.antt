@@ -1,9 +1,9 @@
 -- A closure that is called once for each new place.
-use Rattle.std.proofs.Common.{◌≡◌, ℕ, suc, ◌+◌, ◌-◌, ◌<◌, ◌≤◌, List, [], ◌∷◌, ◌++◌, length, refl, sym, ap, ◌∙◌, subst, arith, append-nil, length-append}
+use Rattle.std.proofs.Common.{◌≡◌, ℕ, suc, ◌+◌, ◌-◌, ◌<◌, List, [], ◌∷◌, ◌++◌, length, refl, sym, ap, ◌∙◌, subst, arith, append-nil, length-append}
 use Rattle.std.specs.List.{FoldsTo}
 use Rattle.std.proofs.lemmas.Fn.{FoldsTo-push}
-use Rattle.aa_vec.specs.Copies.{LengthensBy, MayCallTimes}
-use Rattle.aa_vec.specs.Vector.{Vector, len, GrowsTo, Holds, Writes}
+use Rattle.aa_vec.specs.Copies.{AddsAnswers, LengthensBy, MayCallTimes}
+use Rattle.aa_vec.specs.Vector.{Vector, len, GrowsTo, HasRoom, Holds, Writes}
 use Rattle.aa_vec.proofs.Climbing.{Holds-more, SameBlock-refl}
 use Rattle.aa_vec.proofs.Copied.{grown-to, room-there}
 
@@ -44,11 +44,22 @@ module _ {T A F : Type 0} (takes : F → Type 0) (step : F → T → F → Type 
       more = (next h).1 y e s;
     }
 
-    module _ (size : ℕ) (first : Vector T A) (made : GrowsTo size first total first.items old) where
-      pub Turns-room : k < total → len first ≤ first.capacity → len now < now.capacity
-      Turns-room h within = omega (arith, h, room-there size first old old total made within, ap length t.holds.items, length-append old.items t.answers, t.count, t.holds.block.capacity)
+    pub Turns-room : k < total → HasRoom old total → len now < now.capacity
+    Turns-room h room = omega (arith, h, room, ap length t.holds.items, length-append old.items t.answers, t.count, t.holds.block.capacity)
 
-      pub LengthensBy-turns : k ≡ total → LengthensBy step size first total f now
-      LengthensBy-turns e = record { answers = t.answers; last = g; calls = t.calls; count = t.count ∙ e; grows = grown-to size first old now total made t.answers t.holds }
+    pub AddsAnswers-turns : k ≡ total → AddsAnswers step old total f now
+    AddsAnswers-turns e = record {
+      answers = t.answers;
+      last = g;
+      calls = t.calls;
+      count = t.count ∙ e;
+      holds = t.holds;
+      writes = subst (λ n. Writes old n n now) e t.writes;
+    }
 
-pub ruleset turns = (Turns-none, Turns-may, Turns-next, Turns-room, LengthensBy-turns)
+  -- in a vector that has just made room for all of them
+  pub LengthensBy-answers : (size : ℕ) (first old new : Vector T A) (k : ℕ) (f : F) → GrowsTo size first k first.items old → AddsAnswers step old k f new → LengthensBy step size first k f new
+  LengthensBy-answers size first old new k f made adds =
+      record { answers = adds.answers; last = adds.last; calls = adds.calls; count = adds.count; grows = grown-to size first old new k made adds.answers adds.holds }
+
+pub ruleset turns = (Turns-none, Turns-may, Turns-next, Turns-room, AddsAnswers-turns, LengthensBy-answers, room-there)

@@ -31,6 +31,7 @@ module _ {T A : Type 0} where
   -- of the n elements after the gap these are left, and all else is as it was
   pub record LeavesBehind (old : Vector T A) (gap n : ℕ) (left : List T) (new : Vector T A) : Type 0 where
     pub same : new ≡ with_behind old new.behind
+    pub below : take gap new.behind ≡ take gap old.behind
     pub behind : drop gap new.behind ≡ map Some left ++ drop n (drop gap old.behind)
 
   -- the n elements after the gap are gone, and all else is as it was

@@ -83,6 +83,15 @@ module _ {T A : Type 0} where
     pub each : AllZip clones (replicate (k - 1) x) added
     pub grows : GrowsTo size old k (old.items ++ (added ++ x ∷ [])) new
 
+  -- new has the block of old, and behind old's items k others, written one by one: what f answered, called once for each, in order
+  pub record AddsAnswers {F : Type 0} (step : F → T → F → Type 0) (old : Vector T A) (k : ℕ) (f : F) (new : Vector T A) : Type 0 where
+    pub answers : List T
+    pub last : F  -- the closure's state after the last call
+    pub calls : FoldsTo step f answers last
+    pub count : length answers ≡ k
+    pub holds : Holds old (old.items ++ answers) new
+    pub writes : Writes old k k new
+
   -- new has k more items than old, in room that was made for all of them at once: what f answered, called once for each, in order
   pub record LengthensBy {F : Type 0} (step : F → T → F → Type 0) (size : ℕ) (old : Vector T A) (k : ℕ) (f : F)
       (new : Vector T A) : Type 0 where

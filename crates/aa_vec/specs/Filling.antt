@@ -1,6 +1,6 @@
 -- A gap before the elements behind the items of a vector, as items of an iterator are put into it, and as it is made.
 use Rattle.std.specs.Prelude.{◌≡◌, ℕ, ◌+◌, ◌-◌, ◌*◌, ◌<◌, ◌≤◌, List, ◌∷◌, ◌++◌, take, drop, length, Option, None, if◌then◌else◌, ◌==◌, ◌⊎◌, Result, IfErr, OnOk}
-use Rattle.std.specs.Iterator.{Count, Yields, Drains, size as count_of}
+use Rattle.std.specs.Iterator.{Count, Yields, size as count_of}
 use Rattle.aa_raw.specs.declared.collections.TryReserveErrorKind.{TryReserveErrorKind}
 use Rattle.aa_vec.specs.Vector.{Vector, len, HasRoom, SameBlock, LacksRoom, Holds, Writes, MakesRoom, run_count}
 use Rattle.aa_vec.specs.Behind.{StandsBehind, behind_items}

@@ -1,7 +1,16 @@
 -- Calls of a closure along a list, up to the first element that does not stay.
-use Rattle.std.specs.Prelude.{◌≡◌, ℕ, zero, suc, Bool, true, false, List, [], ◌∷◌, ◌++◌, map, take, drop, Some}
-use Rattle.aa_vec.specs.Behind.{LeavesBehind, behind_items}
+use Rattle.std.specs.Prelude.{◌≡◌, ℕ, zero, suc, Bool, true, false, List, [], ◌∷◌, ◌++◌, map, take, drop, Some, ◌+◌, ◌-◌, ◌<◌, slice_set, None}
+use Rattle.aa_vec.specs.Behind.{ClosesGap, LeavesBehind, behind_items, with_behind}
 use Rattle.aa_vec.specs.Vector.{Vector, SameBlock, Writes}
+
+-- of the elements in the places from `at` up to `end`, after the gap, so many as stay were moved down, to be `kept` with those before
+-- them; one behind them, if there is one, was taken out, and `next` is the first place behind it
+pub record TakesNext {T A : Type 0} (MovesDown : ℕ → Vector T A → Type 0) (gap at end : ℕ) (new : Vector T A) (next : ℕ) : Type 0 where
+  pub stay : ℕ
+  pub kept : Vector T A
+  pub keeps : MovesDown stay kept
+  pub goes : at + stay < end → (new ≡ with_behind kept (slice_set kept.behind gap None)) × (next ≡ at + stay + 1)
+  pub none : at + stay ≡ end → (new ≡ kept) × (next ≡ end)
 
 module _ {F T : Type 0} (Asks : F → T → Bool → F → T → Type 0) where
   -- from f on, the first k of xs were asked and stay; one behind them, if there is one, was asked and goes. ys are all, as they were left
@@ -16,6 +25,16 @@ module _ {F T : Type 0} (Asks : F → T → Bool → F → T → Type 0) where
     pub left : List T
     pub until : AsksUntil f (behind_items old gap n) k g left
     pub leaves : LeavesBehind old gap n left new
+
+  -- and then the k that stay were moved down
+  pub record KeepsDown {A : Type 0} (f : F) (old : Vector T A) (gap n k : ℕ) (g : F) (new : Vector T A) : Type 0 where
+    pub left : Vector T A
+    pub asks : AsksBehind f old gap n k g left
+    pub closes : ClosesGap left gap k new
+
+  -- so were those in the places from `at` up to `end`, and the first that goes was taken out
+  abbrev pub Passes : {A : Type 0} → F → Vector T A → (gap at end : ℕ) → F → Vector T A → (next : ℕ) → Type 0
+  Passes f old gap at end g = TakesNext (λ k v. KeepsDown f old gap (end - at) k g v) gap at end
 
 module _ {F T : Type 0} (Asks : F → T → T → Bool → F → T → T → Type 0) where
   -- from f on, the first k of xs were asked, each beside the one before it, the first beside l, and stay; one behind them, if there
@@ -75,3 +94,13 @@ module _ {F T : Type 0} (Asks : F → T → T → Bool → F → T → T → Typ
     pub behind : drop gap new.behind ≡ map Some left ++ drop n (drop gap old.behind)
     pub block : SameBlock old new
     pub writes : Writes old 0 0 new
+
+  -- and then the k that stay were moved down
+  pub record ChainsDown {A : Type 0} (f : F) (old : Vector T A) (gap n k : ℕ) (g : F) (new : Vector T A) : Type 0 where
+    pub left : Vector T A
+    pub chains : ChainsBehind f old gap n k g left
+    pub closes : ClosesGap left gap k new
+
+  -- so were those in the places from `at` up to `end`, and the first repeat was taken out
+  abbrev pub PassesChain : {A : Type 0} → F → Vector T A → (gap at end : ℕ) → F → Vector T A → (next : ℕ) → Type 0
+  PassesChain f old gap at end g = TakesNext (λ k v. ChainsDown f old gap (end - at) k g v) gap at end

@@ -203,9 +203,8 @@ impl<T, A: Allocator> Vec<T, A> {
             return None;
         }
         let last = self.len - 1;
-        let value = self.block.take(last);
         self.len = last;
-        Some(value)
+        Some(self.block.take(last))
     }
 }
 

@@ -1,22 +1,24 @@
 //! The cases, by their names.
-ghost use Rattle.std.specs.Prelude.{◌≡◌, ◌≢◌, Some, IfSome, IfNone};
-ghost use Rattle.vecbench.specs.Cases.{name_of};
+ghost use Rattle.std.specs.Prelude.{◌≡◌, ◌≢◌, ◌++◌, Some, IfSome, IfNone};
+ghost use Rattle.vecbench.specs.Cases.{name_of, name_of_call, suffix_of};
 
 use std::fmt;
 
-/// What is timed. COUNT is the number of its steps or elements.
+/// What is timed. COUNT is the number of its steps or elements. Elements are `u32` where nothing else is said.
 #[derive(Clone, Copy, PartialEq, Debug, Drop)]
 pub enum Case {
-    /// Pushes numbers onto an empty vector.
-    Push,
+    /// The call over elements of the size.
+    Sized(Call, Size),
     /// Pushes a number and pops it.
     PushPop,
     /// Reserves room for numbers and pushes them.
     PushReserved,
-    /// Inserts in the middle of 1,000 and pops.
-    InsertPop,
-    /// Removes from the middle of 1,000 and pushes.
-    RemovePush,
+    /// Pushes a number onto a full vector, which moves all of it.
+    PushFull,
+    /// Inserts before the first `u64` and pops, a hundred times.
+    InsertFront,
+    /// Removes the first `u64` and pushes, a hundred times.
+    RemoveFront,
     /// Keeps every other element.
     RetainHalf,
     /// Keeps 99 of 100 elements.
@@ -27,20 +29,50 @@ pub enum Case {
     ExtendFromSlice,
     /// Extends an empty vector by a range, which knows its length.
     Extend,
+    /// Extends an empty vector by an iterator that does not tell how many items come.
+    ExtendUnhinted,
     /// Appends a vector to an empty one.
     Append,
-    /// Clones a vector.
-    Clone,
     /// Drains the middle half of a vector twice as long, and takes each item.
     DrainTaken,
     /// Drains the middle half of a vector twice as long, and drops the drain.
     DrainDropped,
+    /// Drains the first `u64` and pushes, a hundred times.
+    DrainFront,
     /// Takes each item out of a vector given up.
     IntoIter,
     /// Splices a hundred items at a time into the middle of a vector, empty at first.
     SpliceGrowing,
     /// Splices a hundred items at a time in place of the hundred in the middle.
     SpliceInPlace,
+    /// Splices an item in before the first `u64` and pops, a hundred times.
+    SpliceFront,
+}
+
+/// What is timed at each size of the elements.
+#[derive(Clone, Copy, PartialEq, Debug, Drop)]
+pub enum Call {
+    /// Pushes elements onto an empty vector.
+    Push,
+    /// Inserts in the middle of 1,000 and pops.
+    InsertPop,
+    /// Removes from the middle of 1,000 and pushes.
+    RemovePush,
+    /// Clones a vector.
+    Clone,
+}
+
+/// How large an element is.
+#[derive(Clone, Copy, PartialEq, Debug, Drop)]
+pub enum Size {
+    /// 4 bytes, a `u32`.
+    Four,
+    /// A byte.
+    One,
+    /// 24 bytes.
+    TwentyFour,
+    /// No byte.
+    Zero,
 }
 
 impl Case {
@@ -49,27 +81,60 @@ impl Case {
         ensures some { IfSome result (λ case. name.now ≡ name_of case) }
         ensures none { IfNone result ((case : Case) → name.now ≢ name_of case) }
     {
-        match name {
-            "push" => Some(Case::Push),
-            "push_pop" => Some(Case::PushPop),
-            "push_reserved" => Some(Case::PushReserved),
-            "insert_pop" => Some(Case::InsertPop),
-            "remove_push" => Some(Case::RemovePush),
-            "retain_half" => Some(Case::RetainHalf),
-            "retain_most" => Some(Case::RetainMost),
-            "dedup" => Some(Case::Dedup),
-            "extend_from_slice" => Some(Case::ExtendFromSlice),
-            "extend" => Some(Case::Extend),
-            "append" => Some(Case::Append),
-            "clone" => Some(Case::Clone),
-            "drain_taken" => Some(Case::DrainTaken),
-            "drain_dropped" => Some(Case::DrainDropped),
-            "into_iter" => Some(Case::IntoIter),
-            "splice_growing" => Some(Case::SpliceGrowing),
-            "splice_in_place" => Some(Case::SpliceInPlace),
-            _ => None,
-        }
+        let case = match name {
+            "push_pop" => Case::PushPop,
+            "push_reserved" => Case::PushReserved,
+            "push_full" => Case::PushFull,
+            "insert_front" => Case::InsertFront,
+            "remove_front" => Case::RemoveFront,
+            "retain_half" => Case::RetainHalf,
+            "retain_most" => Case::RetainMost,
+            "dedup" => Case::Dedup,
+            "extend_from_slice" => Case::ExtendFromSlice,
+            "extend" => Case::Extend,
+            "extend_unhinted" => Case::ExtendUnhinted,
+            "append" => Case::Append,
+            "drain_taken" => Case::DrainTaken,
+            "drain_dropped" => Case::DrainDropped,
+            "drain_front" => Case::DrainFront,
+            "into_iter" => Case::IntoIter,
+            "splice_growing" => Case::SpliceGrowing,
+            "splice_in_place" => Case::SpliceInPlace,
+            "splice_front" => Case::SpliceFront,
+            _ => {
+                let (call, size) = sized(name)?;
+                Case::Sized(call, size)
+            }
+        };
+        Some(case)
     }
+}
+
+// The call and the size that a case of this name has.
+fn sized(name: &str) -> Option<(Call, Size)>
+    ensures some { IfSome result (λ case. name.now ≡ name_of_call case.0 ++ suffix_of case.1) }
+    ensures none { IfNone result ((call : Call) → (size : Size) → name.now ≢ name_of_call call ++ suffix_of size) }
+{
+    let case = match name {
+        "push" => (Call::Push, Size::Four),
+        "push_u8" => (Call::Push, Size::One),
+        "push_24" => (Call::Push, Size::TwentyFour),
+        "push_sizeless" => (Call::Push, Size::Zero),
+        "insert_pop" => (Call::InsertPop, Size::Four),
+        "insert_pop_u8" => (Call::InsertPop, Size::One),
+        "insert_pop_24" => (Call::InsertPop, Size::TwentyFour),
+        "insert_pop_sizeless" => (Call::InsertPop, Size::Zero),
+        "remove_push" => (Call::RemovePush, Size::Four),
+        "remove_push_u8" => (Call::RemovePush, Size::One),
+        "remove_push_24" => (Call::RemovePush, Size::TwentyFour),
+        "remove_push_sizeless" => (Call::RemovePush, Size::Zero),
+        "clone" => (Call::Clone, Size::Four),
+        "clone_u8" => (Call::Clone, Size::One),
+        "clone_24" => (Call::Clone, Size::TwentyFour),
+        "clone_sizeless" => (Call::Clone, Size::Zero),
+        _ => return None,
+    };
+    Some(case)
 }
 
 impl fmt::Display for Case {
@@ -77,23 +142,52 @@ impl fmt::Display for Case {
 
     fn fmt<W: fmt::Write>(&self, f: &mut fmt::Formatter<W>) -> fmt::Result {
         match self {
-            Case::Push => write!(f, "push"),
+            Case::Sized(call, size) => write!(f, "{call}{size}"),
             Case::PushPop => write!(f, "push_pop"),
             Case::PushReserved => write!(f, "push_reserved"),
-            Case::InsertPop => write!(f, "insert_pop"),
-            Case::RemovePush => write!(f, "remove_push"),
+            Case::PushFull => write!(f, "push_full"),
+            Case::InsertFront => write!(f, "insert_front"),
+            Case::RemoveFront => write!(f, "remove_front"),
             Case::RetainHalf => write!(f, "retain_half"),
             Case::RetainMost => write!(f, "retain_most"),
             Case::Dedup => write!(f, "dedup"),
             Case::ExtendFromSlice => write!(f, "extend_from_slice"),
             Case::Extend => write!(f, "extend"),
+            Case::ExtendUnhinted => write!(f, "extend_unhinted"),
             Case::Append => write!(f, "append"),
-            Case::Clone => write!(f, "clone"),
             Case::DrainTaken => write!(f, "drain_taken"),
             Case::DrainDropped => write!(f, "drain_dropped"),
+            Case::DrainFront => write!(f, "drain_front"),
             Case::IntoIter => write!(f, "into_iter"),
             Case::SpliceGrowing => write!(f, "splice_growing"),
             Case::SpliceInPlace => write!(f, "splice_in_place"),
+            Case::SpliceFront => write!(f, "splice_front"),
+        }
+    }
+}
+
+impl fmt::Display for Call {
+    ghost output = { λ call. Some (name_of_call call) };
+
+    fn fmt<W: fmt::Write>(&self, f: &mut fmt::Formatter<W>) -> fmt::Result {
+        match self {
+            Call::Push => write!(f, "push"),
+            Call::InsertPop => write!(f, "insert_pop"),
+            Call::RemovePush => write!(f, "remove_push"),
+            Call::Clone => write!(f, "clone"),
+        }
+    }
+}
+
+impl fmt::Display for Size {
+    ghost output = { λ size. Some (suffix_of size) };
+
+    fn fmt<W: fmt::Write>(&self, f: &mut fmt::Formatter<W>) -> fmt::Result {
+        match self {
+            Size::Four => Ok(()),
+            Size::One => write!(f, "_u8"),
+            Size::TwentyFour => write!(f, "_24"),
+            Size::Zero => write!(f, "_sizeless"),
         }
     }
 }

@@ -1,25 +1,17 @@
-//! A checksum of a list of numbers.
+//! A checksum of a list of elements.
 ghost use Rattle.std.specs.Prelude.{◌≡◌};
 ghost use Rattle.vecbench.specs.Sums.{checksum_from};
 
-/// The checksum of the numbers, from that of what came before them. Each number and their order decide it.
-pub fn checksum_from(sum: u64, numbers: &[u32]) -> u64
-    ensures { result ≡ checksum_from sum numbers.now }
-{
-    let mut sum = sum;
-    'each: for number in numbers {
-        sum = sum.wrapping_mul(31).wrapping_add(u64::from(*number));
-    }
-    sum
-}
+use crate::element::Element;
 
-/// The same over bytes.
-pub fn checksum_of_bytes(sum: u64, bytes: &[u8]) -> u64
-    ensures { result ≡ checksum_from sum bytes.now }
+/// The checksum of the elements, from that of what came before them. The number of each element and their order decide it.
+pub fn checksum_from<E: Element>(sum: u64, elements: &[E]) -> u64
+    ensures { result ≡ checksum_from E.number_of sum elements.now }
 {
     let mut sum = sum;
-    'each: for byte in bytes {
-        sum = sum.wrapping_mul(31).wrapping_add(u64::from(*byte));
+    'each: for element in elements {
+        let number = u64::from(element.number());
+        sum = sum.wrapping_mul(31).wrapping_add(number);
     }
     sum
 }

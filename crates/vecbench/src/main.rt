@@ -10,6 +10,7 @@
 mod bench;
 mod case;
 mod checksum;
+mod element;
 mod lines;
 mod ours;
 mod standard;

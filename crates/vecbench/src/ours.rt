@@ -2,8 +2,9 @@
 ghost use Rattle.std.specs.Prelude.{◌<◌};
 
 use crate::bench::Lists;
-use crate::case::Case;
-use crate::checksum::{checksum_from, checksum_of_bytes};
+use crate::case::{Call, Case, Size};
+use crate::checksum::checksum_from;
+use crate::element::{Element, Wide};
 use crate::lines::Task;
 use allocator_api2::vec::Vec;
 use std::alloc::Global;
@@ -13,98 +14,149 @@ use std::mem::replace;
 #[derive(Drop)]
 pub struct Vectors {
     alloc: Global,
-    numbers: Vec<u32>,
-    others: Vec<u32>,
-    bytes: Vec<u8>,
+    numbers: Pair<u32>,
+    // For the cases at the front, so that other cases share no code with them: that would change what the compiler inlines.
+    longs: Pair<u64>,
+    bytes: Pair<u8>,
+    wides: Pair<Wide>,
+    units: Pair<()>,
     source: Vec<u8>,
+}
+
+// Two vectors of one type of elements.
+#[derive(Drop)]
+struct Pair<E> {
+    list: Vec<E>,
+    other: Vec<E>,
 }
 
 impl Lists for Vectors {
     fn prepared(alloc: Global, task: Task) -> Option<Self> {
         let mut vectors = Vectors {
             alloc,
-            numbers: Vec::new(alloc),
-            others: Vec::new(alloc),
-            bytes: Vec::new(alloc),
+            numbers: Pair::new(alloc),
+            longs: Pair::new(alloc),
+            bytes: Pair::new(alloc),
+            wides: Pair::new(alloc),
+            units: Pair::new(alloc),
             source: Vec::new(alloc),
         };
-        let Task {
-            mode: _,
-            case,
-            count,
-        } = task;
-        let done = match case {
-            Case::Push | Case::PushReserved | Case::Extend | Case::SpliceGrowing => true,
-            Case::PushPop => fill(&mut vectors.numbers, 3, 1),
-            Case::InsertPop | Case::RemovePush => fill(&mut vectors.numbers, 1000, 1),
-            Case::RetainHalf
-            | Case::RetainMost
-            | Case::Clone
-            | Case::IntoIter
-            | Case::SpliceInPlace => fill(&mut vectors.numbers, count, 1),
-            Case::DrainTaken | Case::DrainDropped => fill(
-                &mut vectors.numbers,
-                count.saturating_mul(2),
-                1,
-            ),
-            Case::Dedup => fill(&mut vectors.numbers, count, 3),
-            Case::ExtendFromSlice => fill_bytes(&mut vectors.source, count),
-            Case::Append => fill(&mut vectors.others, count, 1),
-        };
-        if done { Some(vectors) } else { None }
+        if vectors.prepare(task.case, task.count) {
+            Some(vectors)
+        } else {
+            None
+        }
     }
 
     fn run(&mut self, task: Task) -> bool {
         let count = task.count;
+        let numbers = &mut self.numbers.list;
         match task.case {
-            Case::Push => push(&mut self.numbers, count),
-            Case::PushPop => push_pop(&mut self.numbers, count),
-            Case::PushReserved => push_reserved(&mut self.numbers, count),
-            Case::InsertPop => insert_pop(&mut self.numbers, count),
-            Case::RemovePush => remove_push(&mut self.numbers, count),
-            Case::RetainHalf => retain_half(&mut self.numbers),
-            Case::RetainMost => retain_most(&mut self.numbers),
-            Case::Dedup => dedup(&mut self.numbers),
-            Case::ExtendFromSlice => extend_from_slice(&mut self.bytes, self.source.as_slice()),
-            Case::Extend => extend(&mut self.numbers, count),
-            Case::Append => append(&mut self.numbers, &mut self.others),
-            Case::Clone => clone(&self.numbers, &mut self.others),
-            Case::SpliceGrowing => splice_growing(&mut self.numbers, count),
-            Case::SpliceInPlace => splice_in_place(&mut self.numbers, count),
-            Case::DrainTaken => drain_taken(&mut self.numbers),
-            Case::DrainDropped => drain_dropped(&mut self.numbers),
-            Case::IntoIter => {
-                let empty = Vec::new(self.alloc);
-                let list = replace(&mut self.numbers, empty);
-                self.numbers.push(into_iter(list)).is_ok()
+            Case::Sized(call, Size::Four) => self.numbers.run(call, count),
+            Case::Sized(call, Size::One) => self.bytes.run(call, count),
+            Case::Sized(call, Size::TwentyFour) => self.wides.run(call, count),
+            Case::Sized(call, Size::Zero) => self.units.run(call, count),
+            Case::PushPop => push_pop(numbers, count),
+            Case::PushReserved => push_reserved(numbers, count),
+            Case::PushFull => push_full(numbers),
+            Case::InsertFront => insert_front(&mut self.longs.list),
+            Case::RemoveFront => remove_front(&mut self.longs.list),
+            Case::RetainHalf => retain_half(numbers),
+            Case::RetainMost => retain_most(numbers),
+            Case::Dedup => dedup(numbers),
+            Case::ExtendFromSlice => {
+                extend_from_slice(&mut self.bytes.list, self.source.as_slice())
             }
+            Case::Extend => extend(numbers, count),
+            Case::ExtendUnhinted => extend_unhinted(numbers, count),
+            Case::Append => append(numbers, &mut self.numbers.other),
+            Case::DrainTaken => drain_taken(numbers),
+            Case::DrainDropped => drain_dropped(numbers),
+            Case::DrainFront => drain_front(&mut self.longs.list),
+            Case::IntoIter => {
+                let list = replace(numbers, Vec::new(self.alloc));
+                numbers.push(into_iter(list)).is_ok()
+            }
+            Case::SpliceGrowing => splice_growing(numbers, count),
+            Case::SpliceInPlace => splice_in_place(numbers, count),
+            Case::SpliceFront => splice_front(&mut self.longs.list),
         }
     }
 
     fn checksum(&self) -> u64 {
-        let numbers = checksum_from(1, self.numbers.as_slice());
-        let others = checksum_from(numbers, self.others.as_slice());
-        checksum_of_bytes(others, self.bytes.as_slice())
+        let numbers = self.numbers.checksum(1);
+        let longs = self.longs.checksum(numbers);
+        let bytes = self.bytes.checksum(longs);
+        let wides = self.wides.checksum(bytes);
+        self.units.checksum(wides)
     }
 }
 
-// Each number below `count`, divided by `runs`.
-fn fill(list: &mut Vec<u32>, count: u32, runs: u32) -> bool
+impl Vectors {
+    // Fills the vectors as the case finds them. It answers whether all memory was granted.
+    fn prepare(&mut self, case: Case, count: u32) -> bool {
+        let numbers = &mut self.numbers.list;
+        match case {
+            Case::Sized(call, Size::Four) => self.numbers.prepare(call, count),
+            Case::Sized(call, Size::One) => self.bytes.prepare(call, count),
+            Case::Sized(call, Size::TwentyFour) => self.wides.prepare(call, count),
+            Case::Sized(call, Size::Zero) => self.units.prepare(call, count),
+            Case::PushReserved | Case::Extend | Case::ExtendUnhinted | Case::SpliceGrowing => true,
+            Case::PushPop => fill(numbers, 3, 1),
+            Case::PushFull => {
+                numbers.reserve_exact(count as usize).is_ok() && fill(numbers, count, 1)
+            }
+            Case::InsertFront | Case::RemoveFront | Case::DrainFront | Case::SpliceFront => {
+                fill(&mut self.longs.list, count, 1)
+            }
+            Case::RetainHalf | Case::RetainMost | Case::IntoIter | Case::SpliceInPlace => {
+                fill(numbers, count, 1)
+            }
+            Case::DrainTaken | Case::DrainDropped => fill(numbers, count.saturating_mul(2), 1),
+            Case::Dedup => fill(numbers, count, 3),
+            Case::ExtendFromSlice => fill(&mut self.source, count, 1),
+            Case::Append => fill(&mut self.numbers.other, count, 1),
+        }
+    }
+}
+
+impl<E: Element> Pair<E> {
+    fn new(alloc: Global) -> Self {
+        Pair {
+            list: Vec::new(alloc),
+            other: Vec::new(alloc),
+        }
+    }
+
+    fn prepare(&mut self, call: Call, count: u32) -> bool {
+        match call {
+            Call::Push => true,
+            Call::InsertPop | Call::RemovePush => fill(&mut self.list, 1000, 1),
+            Call::Clone => fill(&mut self.list, count, 1),
+        }
+    }
+
+    fn run(&mut self, call: Call, count: u32) -> bool {
+        match call {
+            Call::Push => push(&mut self.list, count),
+            Call::InsertPop => insert_pop(&mut self.list, count),
+            Call::RemovePush => remove_push(&mut self.list, count),
+            Call::Clone => clone(&self.list, &mut self.other),
+        }
+    }
+
+    fn checksum(&self, sum: u64) -> u64 {
+        let list = checksum_from(sum, self.list.as_slice());
+        checksum_from(list, self.other.as_slice())
+    }
+}
+
+// The elements of each number below `count`, divided by `runs`.
+fn fill<E: Element>(list: &mut Vec<E>, count: u32, runs: u32) -> bool
     requires { 0 < runs }
 {
     for i in 0..count {
-        if list.push(i / runs).is_err() {
-            return false;
-        }
-    }
-    true
-}
-
-fn fill_bytes(list: &mut Vec<u8>, count: u32) -> bool {
-    let mut byte: u8 = 0;
-    for _ in 0..count {
-        byte = byte.wrapping_add(7);
-        if list.push(byte).is_err() {
+        if list.push(E::of(i / runs)).is_err() {
             return false;
         }
     }
@@ -112,13 +164,55 @@ fn fill_bytes(list: &mut Vec<u8>, count: u32) -> bool {
 }
 
 #[inline(never)]
-fn push(list: &mut Vec<u32>, count: u32) -> bool {
+fn push<E: Element>(list: &mut Vec<E>, count: u32) -> bool {
     for i in 0..count {
-        if list.push(i).is_err() {
+        if list.push(E::of(i)).is_err() {
             return false;
         }
     }
     true
+}
+
+#[inline(never)]
+fn insert_pop<E: Element>(list: &mut Vec<E>, count: u32) -> bool {
+    let mut sum: u32 = 0;
+    for i in 0..count {
+        let middle = list.len() / 2;
+        if list.insert(middle, E::of(i)).is_err() {
+            return false;
+        }
+        if let Some(x) = list.pop() {
+            sum = sum.wrapping_add(x.number());
+        }
+    }
+    list.push(E::of(sum)).is_ok()
+}
+
+#[inline(never)]
+fn remove_push<E: Element>(list: &mut Vec<E>, count: u32) -> bool {
+    let mut sum: u32 = 0;
+    for i in 0..count {
+        if list.is_empty() {
+            return false;
+        }
+        let middle = list.len() / 2;
+        sum = sum.wrapping_add(list.remove(middle).number());
+        if list.push(E::of(i)).is_err() {
+            return false;
+        }
+    }
+    list.push(E::of(sum)).is_ok()
+}
+
+#[inline(never)]
+fn clone<E: Element>(list: &Vec<E>, copy: &mut Vec<E>) -> bool {
+    match list.clone() {
+        Ok(made) => {
+            *copy = made;
+            true
+        }
+        Err(_) => false,
+    }
 }
 
 #[inline(never)]
@@ -149,11 +243,15 @@ fn push_reserved(list: &mut Vec<u32>, count: u32) -> bool {
 }
 
 #[inline(never)]
-fn insert_pop(list: &mut Vec<u32>, count: u32) -> bool {
-    let mut sum: u32 = 0;
-    for i in 0..count {
-        let middle = list.len() / 2;
-        if list.insert(middle, i).is_err() {
+fn push_full(list: &mut Vec<u32>) -> bool {
+    list.push(0).is_ok()
+}
+
+#[inline(never)]
+fn insert_front(list: &mut Vec<u64>) -> bool {
+    let mut sum: u64 = 0;
+    for i in 0..100 {
+        if list.insert(0, i).is_err() {
             return false;
         }
         if let Some(x) = list.pop() {
@@ -164,14 +262,13 @@ fn insert_pop(list: &mut Vec<u32>, count: u32) -> bool {
 }
 
 #[inline(never)]
-fn remove_push(list: &mut Vec<u32>, count: u32) -> bool {
-    let mut sum: u32 = 0;
-    for i in 0..count {
+fn remove_front(list: &mut Vec<u64>) -> bool {
+    let mut sum: u64 = 0;
+    for i in 0..100 {
         if list.is_empty() {
             return false;
         }
-        let middle = list.len() / 2;
-        sum = sum.wrapping_add(list.remove(middle));
+        sum = sum.wrapping_add(list.remove(0));
         if list.push(i).is_err() {
             return false;
         }
@@ -208,19 +305,13 @@ fn extend(list: &mut Vec<u32>, count: u32) -> bool {
 }
 
 #[inline(never)]
-fn append(list: &mut Vec<u32>, other: &mut Vec<u32>) -> bool {
-    list.append(other).is_ok()
+fn extend_unhinted(list: &mut Vec<u32>, count: u32) -> bool {
+    list.extend((0..count).filter(|_| true)).is_ok()
 }
 
 #[inline(never)]
-fn clone(list: &Vec<u32>, copy: &mut Vec<u32>) -> bool {
-    match list.clone() {
-        Ok(made) => {
-            *copy = made;
-            true
-        }
-        Err(_) => false,
-    }
+fn append(list: &mut Vec<u32>, other: &mut Vec<u32>) -> bool {
+    list.append(other).is_ok()
 }
 
 #[inline(never)]
@@ -239,6 +330,20 @@ fn drain_dropped(list: &mut Vec<u32>) -> bool {
     let quarter = list.len() / 4;
     let rest = list.len() - quarter;
     drop(list.drain(quarter..rest));
+    true
+}
+
+#[inline(never)]
+fn drain_front(list: &mut Vec<u64>) -> bool {
+    for i in 0..100 {
+        if list.is_empty() {
+            return false;
+        }
+        drop(list.drain(0..1));
+        if list.push(i).is_err() {
+            return false;
+        }
+    }
     true
 }
 
@@ -272,4 +377,18 @@ fn splice_in_place(list: &mut Vec<u32>, count: u32) -> bool {
         }
     }
     true
+}
+
+#[inline(never)]
+fn splice_front(list: &mut Vec<u64>) -> bool {
+    let mut sum: u64 = 0;
+    for i in 0..100 {
+        if list.splice(0..0, i..i + 1).finish().is_err() {
+            return false;
+        }
+        if let Some(x) = list.pop() {
+            sum = sum.wrapping_add(x);
+        }
+    }
+    list.push(sum).is_ok()
 }

@@ -1,11 +1,11 @@
 //! Which lines are tasks.
-use crate::case::Case;
+use crate::case::{Call, Case, Size};
 use crate::lines::{Mode, Task, task_of};
 use std::test::Fail;
 
 #[test]
 fn a_line_is_a_task_or_nothing(rt: HostRuntime) -> Result<(), Fail> {
-    let (case, count) = (Case::Push, 10);
+    let (case, count) = (Case::Sized(Call::Push, Size::Four), 10);
     let timed = |repeat| Some(Task {
         mode: Mode::Time(repeat),
         case,
@@ -36,5 +36,30 @@ fn a_line_is_a_task_or_nothing(rt: HostRuntime) -> Result<(), Fail> {
     assert_eq!(rt; task_of("check push 10 3"), None);
     assert_eq!(rt; task_of("shove 10"), None);
     assert_eq!(rt; task_of("push 4294967296"), None);
+    Ok(())
+}
+
+#[test]
+fn a_name_may_have_a_size(rt: HostRuntime) -> Result<(), Fail> {
+    let task = |case| Some(Task {
+        mode: Mode::Check,
+        case,
+        count: 5,
+    });
+    assert_eq!(rt;
+        task_of("check insert_pop_u8 5"),
+        task(Case::Sized(Call::InsertPop, Size::One))
+    );
+    assert_eq!(rt;
+        task_of("check remove_push_24 5"),
+        task(Case::Sized(Call::RemovePush, Size::TwentyFour))
+    );
+    assert_eq!(rt;
+        task_of("check clone_sizeless 5"),
+        task(Case::Sized(Call::Clone, Size::Zero))
+    );
+    assert_eq!(rt; task_of("check splice_front 5"), task(Case::SpliceFront));
+    assert_eq!(rt; task_of("check push_pop_u8 5"), None);
+    assert_eq!(rt; task_of("check push_ 5"), None);
     Ok(())
 }

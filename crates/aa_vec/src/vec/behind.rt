@@ -20,46 +20,30 @@ impl<T, A: Allocator> Vec<T, A> {
         count
     }
 
-    // Moves the `count` elements after the gap down to the last one. None and one are most of what a closure that chooses leaves
-    // between two gaps, so they have ways of their own.
+    // Moves the `count` elements after the gap down to the last one.
     #[inline]
-    #[tactic(auto, using(crate::proofs::Gaps::no_gap))]
+    #[tactic(auto, using(crate::proofs::Gaps::closed))]
     pub(crate) fn close_gap(&mut self, gap: usize, count: usize)
         requires { StandsBehind self.old gap count }
         ensures { ClosesGap self.old gap count self.new }
     {
-        match count {
-            0 => {}
-            1 => self.close_gap_by_one(gap),
-            _ => self.close_gap_by_run(gap, count),
-        }
-    }
-
-    // The same with one element.
-    #[inline]
-    #[tactic(auto, using(crate::proofs::Gaps::closed))]
-    fn close_gap_by_one(&mut self, gap: usize)
-        requires { StandsBehind self.old gap 1 }
-        ensures { ClosesGap self.old gap 1 self.new }
-    {
         let len = self.len;
         // It does nothing but tell the prover that places are at most `usize::MAX`.
         let _within = self.block.capacity();
-        self.block.move_one(len + gap, len);
-        self.len = len + 1;
+        self.len = len + count;
+        self.block.move_run(len + gap, len, count);
     }
 
-    // The same with any number of elements.
-    #[inline(never)]
-    #[tactic(auto, using(crate::proofs::Gaps::closed))]
-    fn close_gap_by_run(&mut self, gap: usize, count: usize)
-        requires { StandsBehind self.old gap count }
-        ensures { ClosesGap self.old gap count self.new }
+    // The same with one element over a gap of some places, which is far less work than a run.
+    #[inline(always)]
+    #[tactic(auto, using(crate::proofs::Peeled::closed_by_one))]
+    pub(crate) fn close_gap_by_one(&mut self, gap: usize)
+        requires some { 0 < gap }
+        requires stands { StandsBehind self.old gap 1 }
+        ensures { ClosesGap self.old gap 1 self.new }
     {
-        let len = self.len;
-        let _within = self.block.capacity();
-        self.block.move_run(len + gap, len, count);
-        self.len = len + count;
+        let item = self.take_behind(gap);
+        self.put_next(item);
     }
 
     // Takes the element after the gap out of its place.

@@ -1,15 +1,16 @@
 //! Elements that a closure chooses to keep.
-ghost use Rattle.std.specs.Prelude.{◌≡◌, ◌+◌, ◌≤◌, ◌<◌, [], ◌∷◌, ◌++◌, List};
+ghost use Rattle.std.specs.Prelude.{◌≡◌, ◌+◌, ◌-◌, ◌≤◌, ◌<◌, [], ◌∷◌, ◌++◌, List};
 ghost use Rattle.std.specs.List.{dedup};
 ghost use Rattle.std.specs.Fn.{CalledAtMut, CalledAtPairMut, ComparesKeys, TakesAt};
 ghost use Rattle.aa_raw.specs.Closures.{TakesPairMut};
 ghost use Rattle.aa_vec.specs.Behind.{StandsBehind, behind_items};
 ghost use Rattle.aa_vec.specs.Choosing.{TakesMut, TakesForKeys, Reads, Equals, IsCallableInOrder, IsCallableAlong, MayAskInOrder, MayChainFrom, MayDeduplicate, Retains, Deduplicates};
-ghost use Rattle.aa_vec.specs.Until.{AsksBehind, AsksLast, ChainsOn, ChainsBehind};
+ghost use Rattle.aa_vec.specs.Until.{AsksBehind, Passes, AsksLast, ChainsOn, ChainsBehind, PassesChain};
 ghost use Rattle.aa_vec.specs.Vector.{len};
 
 use crate::vec::Vec;
 use crate::vec::asking::{distinct_run, kept_run, same_keys};
+use core::mem::replace_with;
 use std::alloc::Allocator;
 
 impl<T: Drop, A: Allocator> Vec<T, A> {
@@ -68,18 +69,7 @@ impl<T: Drop, A: Allocator> Vec<T, A> {
         requires { IsCallableInOrder (CalledAtMut F.FnMut) (TakesMut F.FnMut) keep.old self.old.items }
         ensures { Retains (CalledAtMut F.FnMut) keep.old self.old keep.new self.new }
     {
-        let mut left = self.set_back(0);
-        let mut gap = 0;
-        'runs: loop {
-            let kept = self.keep_behind(gap, left, keep);
-            self.close_gap(gap, kept);
-            if kept == left {
-                return;
-            }
-            drop(self.take_behind(gap));
-            gap += 1;
-            left -= kept + 1;
-        }
+        let _keep = replace_with(self, keep, retained);
     }
 
     /// Asks `same` of each element but the first, in order, beside the last one that was kept before it, and drops it where the
@@ -89,21 +79,7 @@ impl<T: Drop, A: Allocator> Vec<T, A> {
         requires { IsCallableAlong (CalledAtPairMut F.FnMut) (TakesPairMut F.FnMut) same.old self.old.items }
         ensures { Deduplicates (CalledAtPairMut F.FnMut) same.old self.old same.new self.new }
     {
-        if self.is_empty() {
-            return;
-        }
-        let mut left = self.set_back(1);
-        let mut gap = 0;
-        'runs: loop {
-            let distinct = self.chain_behind(gap, left, same);
-            self.close_gap(gap, distinct);
-            if distinct == left {
-                return;
-            }
-            drop(self.take_behind(gap));
-            gap += 1;
-            left -= distinct + 1;
-        }
+        let _same = replace_with(self, same, deduplicated);
     }
 }
 
@@ -124,6 +100,7 @@ impl<T: PartialEq + Drop, A: Allocator> Vec<T, A> {
 
 impl<T, A: Allocator> Vec<T, A> {
     // Asks the `count` elements after the gap in order, up to the first that is not kept. It answers how many are kept before it.
+    #[inline(always)]
     fn keep_behind<F: FnMut(&mut T) -> bool>(
         &mut self,
         gap: usize,
@@ -164,6 +141,7 @@ impl<T, A: Allocator> Vec<T, A> {
 
     // Asks the `count` elements after the gap behind the first of them in order, each beside the one before it, up to the first
     // repeat. It answers how many are kept before it.
+    #[inline(always)]
     #[tactic(auto, using(crate::proofs::Chains::lents))]
     fn chain_on<F: FnMut(&mut T, &mut T) -> bool>(
         &mut self,
@@ -182,6 +160,7 @@ impl<T, A: Allocator> Vec<T, A> {
     }
 
     // Asks the element after the gap beside the last item.
+    #[inline(always)]
     fn ask_last<F: FnMut(&mut T, &mut T) -> bool>(&mut self, gap: usize, same: &mut F) -> bool
         requires some { 0 < len self.old }
         requires stands { StandsBehind self.old gap 1 }
@@ -192,4 +171,140 @@ impl<T, A: Allocator> Vec<T, A> {
         let _within = self.block.capacity();
         self.block.pair_with(len + gap, len - 1, same)
     }
+}
+
+// The loops own the vector, so that its fields stay in registers, and hand the closure back. Before the first element that goes
+// none is moved.
+
+// `retain_by`.
+fn retained<'a, T: Drop, A: Allocator, F: FnMut(&mut T) -> bool>(
+    mut list: Vec<T, A>,
+    keep: &'a mut F,
+) -> (Vec<T, A>, &'a mut F)
+    requires { IsCallableInOrder (CalledAtMut F.FnMut) (TakesMut F.FnMut) keep.old list.items }
+    ensures same_reference { result.1.ghost_name ≡ keep.entry.ghost_name }
+    ensures retains { Retains (CalledAtMut F.FnMut) keep.old list result.1.now result.0 }
+{
+    let end = list.set_back(0);
+    let first = list.keep_behind(0, end, keep);
+    list.close_gap(0, first);
+    if end <= first {
+        return (list, keep);
+    }
+    drop(list.take_behind(0));
+    let mut at = first + 1;
+    'runs: while at < end {
+        let gap = at - list.len();
+        (list, at) = passed(list, gap, at, end, keep);
+    }
+    (list, keep)
+}
+
+// Asks the elements after the gap, which are those in the places from `at` up to `end`, in order, up to the first that is not kept,
+// drops that one, and moves those before it down to the last one. It answers the next place. The first two are asked one by one:
+// where one of them goes, that is far less work than a run.
+#[inline(always)]
+fn passed<T: Drop, A: Allocator, F: FnMut(&mut T) -> bool>(
+    mut list: Vec<T, A>,
+    gap: usize,
+    at: usize,
+    end: usize,
+    keep: &mut F,
+) -> (Vec<T, A>, usize)
+    requires there { len list + gap ≡ at }
+    requires gone { 0 < gap }
+    requires some { at < end }
+    requires stands { StandsBehind list gap (end - at) }
+    requires callable { MayAskInOrder (CalledAtMut F.FnMut) (TakesMut F.FnMut) keep.old (behind_items list gap (end - at)) }
+    ensures { Passes (CalledAtMut F.FnMut) keep.old list gap at end keep.new result.0 result.1 }
+{
+    let rest = at + 1;
+    if list.keep_behind(gap, 1, keep) == 0 {
+        drop(list.take_behind(gap));
+        return (list, rest);
+    }
+    if end <= rest {
+        list.close_gap_by_one(gap);
+        return (list, end);
+    }
+    if list.keep_behind(gap + 1, 1, keep) == 0 {
+        list.close_gap_by_one(gap);
+        drop(list.take_behind(gap));
+        return (list, rest + 1);
+    }
+    let kept = 2 + list.keep_behind(gap + 1 + 1, end - rest - 1, keep);
+    list.close_gap(gap, kept);
+    if end <= at + kept {
+        return (list, end);
+    }
+    drop(list.take_behind(gap));
+    (list, at + kept + 1)
+}
+
+// `dedup_within`.
+fn deduplicated<'a, T: Drop, A: Allocator, F: FnMut(&mut T, &mut T) -> bool>(
+    mut list: Vec<T, A>,
+    same: &'a mut F,
+) -> (Vec<T, A>, &'a mut F)
+    requires { IsCallableAlong (CalledAtPairMut F.FnMut) (TakesPairMut F.FnMut) same.old list.items }
+    ensures same_reference { result.1.ghost_name ≡ same.entry.ghost_name }
+    ensures removes { Deduplicates (CalledAtPairMut F.FnMut) same.old list result.1.now result.0 }
+{
+    if list.is_empty() {
+        return (list, same);
+    }
+    let end = list.len();
+    let left = list.set_back(1);
+    let first = list.chain_behind(0, left, same);
+    list.close_gap(0, first);
+    if left <= first {
+        return (list, same);
+    }
+    drop(list.take_behind(0));
+    let mut at = first + 2;
+    'runs: while at < end {
+        let gap = at - list.len();
+        (list, at) = passed_chain(list, gap, at, end, same);
+    }
+    (list, same)
+}
+
+// The same, where each element is asked beside the last one kept before it, and repeats go.
+#[inline(always)]
+fn passed_chain<T: Drop, A: Allocator, F: FnMut(&mut T, &mut T) -> bool>(
+    mut list: Vec<T, A>,
+    gap: usize,
+    at: usize,
+    end: usize,
+    same: &mut F,
+) -> (Vec<T, A>, usize)
+    requires there { len list + gap ≡ at }
+    requires gone { 0 < gap }
+    requires some { at < end }
+    requires items { 0 < len list }
+    requires stands { StandsBehind list gap (end - at) }
+    requires callable { (front : List T) (last : T) → list.items ≡ front ++ last ∷ [] → MayChainFrom (CalledAtPairMut F.FnMut) (TakesPairMut F.FnMut) same.old last (behind_items list gap (end - at)) }
+    ensures { PassesChain (CalledAtPairMut F.FnMut) same.old list gap at end same.new result.0 result.1 }
+{
+    let rest = at + 1;
+    if list.ask_last(gap, same) {
+        drop(list.take_behind(gap));
+        return (list, rest);
+    }
+    if end <= rest {
+        list.close_gap_by_one(gap);
+        return (list, end);
+    }
+    if list.chain_on(gap, 2, same) == 0 {
+        list.close_gap_by_one(gap);
+        drop(list.take_behind(gap));
+        return (list, rest + 1);
+    }
+    let kept = 2 + list.chain_on(gap + 1, end - rest, same);
+    list.close_gap(gap, kept);
+    if end <= at + kept {
+        return (list, end);
+    }
+    drop(list.take_behind(gap));
+    (list, at + kept + 1)
 }

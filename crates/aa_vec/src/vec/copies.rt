@@ -2,10 +2,11 @@
 ghost use Rattle.std.specs.Prelude.{◌≡◌, ◌+◌, ◌-◌, ◌<◌, ◌≤◌, [], ◌∷◌, ◌++◌, false, length, take, drop, replicate, All, IsTrue, IfErr, OnOk, OnErr, IsOk};
 ghost use Rattle.std.specs.Mem.{type_size};
 ghost use Rattle.aa_vec.specs.Vector.{len, HasRoom, LacksRoom, GrowsTo, Holds, Writes, with_items};
-ghost use Rattle.aa_vec.specs.Copies.{Copies, IsBeginning, Adds, Fills, Undone, Extends, Lengthens, LengthensBy, MayCallTimes, Refuses, StopsAssigning};
+ghost use Rattle.aa_vec.specs.Copies.{Copies, IsBeginning, Adds, AddsAnswers, Fills, Undone, Extends, Lengthens, LengthensBy, MayCallTimes, Refuses, StopsAssigning};
 
 use crate::vec::Vec;
 use aa_raw::collections::{TryReserveError, TryReserveErrorKind};
+use core::mem::replace_with;
 use std::alloc::Allocator;
 use std::ops::Range;
 
@@ -113,22 +114,13 @@ impl<T: Clone, A: Allocator> Vec<T, A> {
     }
 
     // Puts clones of the elements of `source` behind the last one, up to the first clone that is refused. It answers how many.
-    #[tactic(auto, using(crate::proofs::Copied::copied))]
     pub(crate) fn push_beginning(&mut self, source: &[T]) -> usize
         requires room { HasRoom self.old (length source.now) }
         ensures within { result ≤ length source.now }
         ensures pushed { Adds T.is_clone self.old (take result source.now) self.new }
         ensures refused { result < length source.now → ¬ (All T.is_infallible source.now) }
     {
-        let _within = self.capacity();
-        let count = source.len();
-        'each: for pushed in 0..count {
-            match source[pushed].clone() {
-                Ok(copy) => self.put_next(copy),
-                Err(_) => return pushed,
-            }
-        }
-        count
+        replace_with(self, source, with_beginning)
     }
 
     // Puts a clone of each element of `source` behind the last one, or of none where a clone is refused.
@@ -155,17 +147,11 @@ impl<T: Clone, A: Allocator> Vec<T, A> {
         ensures undone { result ≡ false → Undone self.old count self.new }
     {
         let len = self.len();
-        let _within = self.capacity();
-        'each: for pushed in 0..count {
-            match self.as_slice()[from + pushed].clone() {
-                Ok(copy) => self.put_next(copy),
-                Err(_) => {
-                    self.truncate(len);
-                    return false;
-                }
-            }
+        if replace_with(self, (from, count), with_own) == count {
+            return true;
         }
-        true
+        self.truncate(len);
+        false
     }
 
     // The same with `count` clones of one value.
@@ -176,17 +162,11 @@ impl<T: Clone, A: Allocator> Vec<T, A> {
         ensures refused { result ≡ false → (¬ (T.is_infallible value.now)) × Undone self.old count self.new }
     {
         let len = self.len();
-        let _within = self.capacity();
-        'each: for _pushed in 0..count {
-            match value.clone() {
-                Ok(copy) => self.put_next(copy),
-                Err(_) => {
-                    self.truncate(len);
-                    return false;
-                }
-            }
+        if replace_with(self, (value, count), with_same) == count {
+            return true;
         }
-        true
+        self.truncate(len);
+        false
     }
 
     // Puts `count` elements behind the last one, clones of `value` and then `value` itself, or none where a clone is refused.
@@ -212,7 +192,7 @@ impl<T, A: Allocator> Vec<T, A> {
     pub fn resize_with<F: FnMut() -> T>(
         &mut self,
         new_len: usize,
-        mut f: F,
+        f: F,
     ) -> Result<(), TryReserveError>
     where
         T: Drop,
@@ -231,10 +211,7 @@ impl<T, A: Allocator> Vec<T, A> {
         if let Err(error) = self.try_reserve(new_len - len) {
             return Err(error);
         }
-        'each: for _filled in 0..new_len - len {
-            let value = answer_of(&mut f);
-            self.put_next(value);
-        }
+        replace_with(self, (new_len - len, f), with_answers);
         Ok(())
     }
 
@@ -252,6 +229,86 @@ impl<T, A: Allocator> Vec<T, A> {
         self.block.put(len, value);
         self.len = len + 1;
     }
+}
+
+// The loops own the vector that they fill: nothing that is stored in its places can then change its fields, which stay in
+// registers. Each puts clones behind the last element, up to the first that is refused, and answers how many.
+
+// Clones of the elements of `source`.
+#[tactic(auto, using(crate::proofs::Copied::copied))]
+fn with_beginning<T: Clone, A: Allocator>(mut list: Vec<T, A>, source: &[T]) -> (Vec<T, A>, usize)
+    requires room { HasRoom list (length source.now) }
+    ensures within { result.1 ≤ length source.now }
+    ensures pushed { Adds T.is_clone list (take result.1 source.now) result.0 }
+    ensures refused { result.1 < length source.now → ¬ (All T.is_infallible source.now) }
+{
+    let _within = list.capacity();
+    let count = source.len();
+    'each: for pushed in 0..count {
+        match source[pushed].clone() {
+            Ok(copy) => list.put_next(copy),
+            Err(_) => return (list, pushed),
+        }
+    }
+    (list, count)
+}
+
+// Clones of as many of its own elements as the second number says, from the index on that the first is.
+#[tactic(auto, using(crate::proofs::Copied::copied))]
+fn with_own<T: Clone, A: Allocator>(mut list: Vec<T, A>, own: (usize, usize)) -> (Vec<T, A>, usize)
+    requires range { own.0 + own.1 ≤ len list }
+    requires room { HasRoom list own.1 }
+    ensures within { result.1 ≤ own.1 }
+    ensures pushed { Adds T.is_clone list (take result.1 (drop own.0 list.items)) result.0 }
+    ensures refused { result.1 < own.1 → ¬ (All T.is_infallible (take own.1 (drop own.0 list.items))) }
+{
+    let (from, count) = own;
+    let _within = list.capacity();
+    'each: for pushed in 0..count {
+        match list.as_slice()[from + pushed].clone() {
+            Ok(copy) => list.put_next(copy),
+            Err(_) => return (list, pushed),
+        }
+    }
+    (list, count)
+}
+
+// As many clones of one value as the number says.
+#[tactic(auto, using(crate::proofs::Copied::copied))]
+fn with_same<T: Clone, A: Allocator>(mut list: Vec<T, A>, same: (&T, usize)) -> (Vec<T, A>, usize)
+    requires room { HasRoom list same.1 }
+    ensures within { result.1 ≤ same.entry.1 }
+    ensures pushed { Adds T.is_clone list (take result.1 (replicate same.entry.1 same.entry.0.now)) result.0 }
+    ensures refused { result.1 < same.entry.1 → ¬ (T.is_infallible same.entry.0.now) }
+{
+    let (value, count) = same;
+    let _within = list.capacity();
+    'each: for pushed in 0..count {
+        match value.clone() {
+            Ok(copy) => list.put_next(copy),
+            Err(_) => return (list, pushed),
+        }
+    }
+    (list, count)
+}
+
+// As many values as the number says, of which each is what the closure answers.
+#[tactic(auto, using(crate::proofs::Turns::turns))]
+fn with_answers<T, A: Allocator, F: FnMut() -> T>(
+    mut list: Vec<T, A>,
+    calls: (usize, F),
+) -> (Vec<T, A>, ())
+    requires room { HasRoom list calls.0 }
+    requires callable { MayCallTimes (λ g. F.pre g) F.step calls.0 calls.1 }
+    ensures { AddsAnswers F.step list calls.0 calls.1 result.0 }
+{
+    let (count, mut f) = calls;
+    let _within = list.capacity();
+    'each: for _filled in 0..count {
+        let value = answer_of(&mut f);
+        list.put_next(value);
+    }
+    (list, ())
 }
 
 // One call of a closure that makes values.

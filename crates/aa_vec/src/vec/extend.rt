@@ -1,11 +1,11 @@
 //! Items of an iterator, put behind the elements.
-ghost use Rattle.std.specs.Prelude.{◌≡◌, ◌-◌, ◌<◌, ◌≤◌, ◌++◌, List, map, IfOk, IfErr, OnOk, IsOk};
-ghost use Rattle.std.specs.Bool.{OnTrue, OnFalse};
+ghost use Rattle.std.specs.Prelude.{◌≡◌, ◌+◌, ◌-◌, ◌≤◌, ◌++◌, List, map, IfOk, IfErr, OnOk, IsOk};
 ghost use Rattle.std.specs.Mem.{type_size};
 ghost use Rattle.std.specs.Iterator.{IsFinite, Drains, size};
 ghost use Rattle.std.specs.Iterator.Runs.{WholeRun};
 ghost use Rattle.std.specs.Borrow.{Bor};
 ghost use Rattle.aa_vec.specs.Vector.{len, sized, HasRoom, Writes};
+ghost use Rattle.aa_vec.specs.Filling.{FillsGap};
 ghost use Rattle.aa_vec.specs.Extending.{Extended, LeavesIter, ExtendsByAll, ExtendsByFront, MadeByAll, StopsAtFront, CopiesOf, TellsAtMost, TellsExactly};
 
 use crate::vec::Vec;
@@ -16,18 +16,29 @@ use aa_raw::raw_vec::Growth;
 use std::alloc::{Allocator, Global};
 
 impl<T, A: Allocator> Vec<T, A> {
-    // Whether there is no place for one more element.
+    // How many places are free.
     #[inline(always)]
-    fn is_full(&self) -> bool
-        ensures full { OnTrue result (len self.now ≡ self.now.capacity) }
-        ensures free { OnFalse result (len self.now < self.now.capacity) }
-        ensures within { len self.now ≤ self.now.capacity }
+    fn free(&self) -> usize
+        ensures { len self.now + result ≡ self.now.capacity }
     {
-        self.len() == self.capacity()
+        self.capacity() - self.len()
+    }
+
+    // Puts items of `iter` behind the last element, until no place is left or they end. It answers how many places are left.
+    #[inline(always)]
+    fn fill_up<I: Iterator<Item = T>>(&mut self, iter: &mut I) -> usize
+        requires may_ask { I.can_next iter.old }
+        requires ends { IsFinite (I.remaining iter.old) }
+        ensures fills { FillsGap I.next_gives iter.old self.old (self.old.capacity - len self.old) 0 result iter.new self.new }
+        ensures goes { result ≡ 0 → I.can_next iter.new × IsFinite (I.remaining iter.new) × (self.old.capacity - len self.old + size (I.remaining iter.new) ≤ size (I.remaining iter.old)) }
+        ensures within { self.old.capacity - len self.old - result ≤ size (I.remaining iter.old) }
+    {
+        self.fill_gap(self.free(), 0, iter)
     }
 
     // Puts the items of `iter` behind the last element: each is taken first, and where the vector is full then, room is made for it
     // and as many more as are told. The calls below stand on it.
+    #[inline]
     pub(crate) fn extend_telling<W: Telling<I>, I: Iterator<Item = T>>(
         &mut self,
         iter: &mut I,
@@ -39,15 +50,18 @@ impl<T, A: Allocator> Vec<T, A> {
         ensures extends { Extended I.next_gives W.tells I.remaining (type_size T.row) iter.old self.old result self.new }
         ensures leaves { LeavesIter I.next_gives W.tells (type_size T.row) iter.old self.old iter.new result self.new }
     {
-        // It does nothing but tell the prover that places are at most `usize::MAX`.
-        let _within = self.is_full();
-        while let Some(x) = iter.next() {
-            if self.is_full() {
-                self.try_reserve(W::told(iter).saturating_add(1))?;
+        // It does nothing but tell the prover that no more elements are there than places.
+        let _within = self.free();
+        'full: loop {
+            if self.fill_up(iter) != 0 {
+                return Ok(());
             }
+            let Some(x) = iter.next() else {
+                return Ok(());
+            };
+            self.try_reserve(W::told(iter).saturating_add(1))?;
             self.put_next(x);
         }
-        Ok(())
     }
 
     /// Puts the items of `iter`, which ends, behind the last element; it takes each of them first, and memory only where the
@@ -68,6 +82,7 @@ impl<T, A: Allocator> Vec<T, A> {
 
     /// `extend_hinted` by an iterator that is lent: no item is taken from it but those that found a place and, on a refusal, one,
     /// which is dropped. The original has no such call.
+    #[inline]
     pub fn extend_hinted_by<I: Hinted<Item = T>>(
         &mut self,
         iter: &mut I,
@@ -98,6 +113,7 @@ impl<T, A: Allocator> Vec<T, A> {
 
     /// `extend` by an iterator that is lent: no item is taken from it but those that found a place and, on a refusal, one, which
     /// is dropped. It stands for `Vec::extend` with `by_ref`.
+    #[inline]
     pub fn extend_by<I: Iterator<Item = T>>(&mut self, iter: &mut I) -> Result<(), TryReserveError>
     where
         T: Drop,

@@ -10,13 +10,19 @@ use crate::vec::Vec;
 use crate::vec::telling::Telling;
 use aa_raw::collections::TryReserveError;
 use aa_raw::raw_vec::first_refusal;
+use core::mem::replace_with;
 use std::alloc::Allocator;
 
 impl<T, A: Allocator> Vec<T, A> {
     // Puts items of `iter` into the gap before the `count` elements behind the others, until it is full or they end. It answers
     // how many places of the gap are left.
-    #[tactic(auto, using(crate::proofs::Filling::gaps))]
-    fn fill_gap<I: Iterator<Item = T>>(&mut self, gap: usize, count: usize, iter: &mut I) -> usize
+    #[inline(always)]
+    pub(crate) fn fill_gap<I: Iterator<Item = T>>(
+        &mut self,
+        gap: usize,
+        count: usize,
+        iter: &mut I,
+    ) -> usize
         requires stands { StandsBehind self.old gap count }
         requires may_ask { I.can_next iter.old }
         requires ends { IsFinite (I.remaining iter.old) }
@@ -24,15 +30,8 @@ impl<T, A: Allocator> Vec<T, A> {
         ensures goes { result ≡ 0 → I.can_next iter.new × IsFinite (I.remaining iter.new) × (gap + size (I.remaining iter.new) ≤ size (I.remaining iter.old)) }
         ensures within { gap - result ≤ size (I.remaining iter.old) }
     {
-        let mut left = gap;
-        while left != 0 {
-            let Some(x) = iter.next() else {
-                return left;
-            };
-            self.put_next(x);
-            left -= 1;
-        }
-        0
+        let (left, _iter) = replace_with(self, (iter, gap, count), with_gap_filled);
+        left
     }
 
     // The same, and then moves the `count` elements down. It answers how many places of the gap were left.
@@ -160,4 +159,32 @@ impl<T, A: Allocator> Vec<T, A> {
             None => Ok(()),
         }
     }
+}
+
+// `fill_gap` over a vector that it owns: nothing that is stored in its places can then change its fields, which stay in registers.
+// It is given the iterator, the places of the gap, and how many elements stand behind it, and hands the iterator back.
+#[inline(always)]
+#[tactic(auto, using(crate::proofs::Filling::gaps))]
+fn with_gap_filled<'a, T, A: Allocator, I: Iterator<Item = T>>(
+    mut list: Vec<T, A>,
+    from: (&'a mut I, usize, usize),
+) -> (Vec<T, A>, (usize, &'a mut I))
+    requires stands { StandsBehind list from.1 from.2 }
+    requires may_ask { I.can_next from.0.now }
+    requires ends { IsFinite (I.remaining from.0.now) }
+    ensures same_reference { result.1.1.ghost_name ≡ from.entry.0.ghost_name }
+    ensures fills { FillsGap I.next_gives from.entry.0.now list from.entry.1 from.entry.2 result.1.0 result.1.1.now result.0 }
+    ensures goes { result.1.0 ≡ 0 → I.can_next result.1.1.now × IsFinite (I.remaining result.1.1.now) × (from.entry.1 + size (I.remaining result.1.1.now) ≤ size (I.remaining from.entry.0.now)) }
+    ensures within { from.entry.1 - result.1.0 ≤ size (I.remaining from.entry.0.now) }
+{
+    let (iter, gap, _count) = from;
+    let mut left = gap;
+    while left != 0 {
+        let Some(x) = iter.next() else {
+            return (list, (left, iter));
+        };
+        list.put_next(x);
+        left -= 1;
+    }
+    (list, (0, iter))
 }

@@ -1,5 +1,5 @@
-//! Copies of elements that are `Copy`, in blocks of 64 that compile to copies of memory. Each call is a second one beside that
-//! for `Clone`, since a call can't tell the two apart.
+//! Copies of elements that are `Copy`. Each call is a second one beside that for `Clone`, since a call can't tell the two apart: it
+//! can't be refused for a clone. Where a clone is a plain copy it is no faster.
 ghost use Rattle.std.specs.Prelude.{◌≡◌, ◌+◌, ◌-◌, ◌*◌, ◌^◌, ◌<◌, ◌≤◌, ◌++◌, length, take, drop, IfOk, IfErr, OnOk, IsOk};
 ghost use Rattle.std.specs.Mem.{type_size};
 ghost use Rattle.aa_raw.specs.Refusals.{IsRefusedAt};
@@ -9,6 +9,7 @@ ghost use Rattle.aa_vec.specs.Copies.{WritesAtMost, IsMadeWithin};
 
 use crate::vec::Vec;
 use aa_raw::collections::TryReserveError;
+use core::mem::replace_with;
 use std::alloc::{Allocator, Global};
 use std::ops::Range;
 
@@ -90,29 +91,7 @@ impl<T: Copy, A: Allocator> Vec<T, A> {
         ensures items { Holds self.old (self.old.items ++ source.now) self.new }
         ensures writes { WritesAtMost self.old (length source.now) self.new }
     {
-        let _within = self.capacity();
-        let done = self.put_blocks(source);
-        let count = source.len();
-        'each: for at in done..count {
-            self.put_next(source[at]);
-        }
-    }
-
-    // The same with whole blocks of 64 from the first on. It answers how many elements they hold.
-    fn put_blocks(&mut self, source: &[T]) -> usize
-        requires room { HasRoom self.old (length source.now) }
-        ensures within { result ≤ length source.now }
-        ensures items { Holds self.old (self.old.items ++ take result source.now) self.new }
-        ensures writes { WritesAtMost self.old result self.new }
-    {
-        let _within = self.block.capacity();
-        let count = source.len();
-        let mut done = 0;
-        'each: while count - done >= 64 {
-            self.put_block(block_at(source, done));
-            done += 64;
-        }
-        done
+        replace_with(self, source, with_copies)
     }
 
     // Puts copies of `count` of its own elements, from the index `from` on, behind the last one of a vector that has room for them.
@@ -122,42 +101,42 @@ impl<T: Copy, A: Allocator> Vec<T, A> {
         ensures items { Holds self.old (self.old.items ++ take count (drop from self.old.items)) self.new }
         ensures writes { WritesAtMost self.old count self.new }
     {
-        let _within = self.capacity();
-        let done = self.put_own_blocks(from, count);
-        'each: for at in done..count {
-            let item = self.as_slice()[from + at];
-            self.put_next(item);
-        }
-    }
-
-    // The same with whole blocks of 64 from the first on. It answers how many elements they hold.
-    fn put_own_blocks(&mut self, from: usize, count: usize) -> usize
-        requires range { from + count ≤ len self.old }
-        requires room { HasRoom self.old count }
-        ensures within { result ≤ count }
-        ensures items { Holds self.old (self.old.items ++ take result (drop from self.old.items)) self.new }
-        ensures writes { WritesAtMost self.old result self.new }
-    {
-        let _within = self.block.capacity();
-        let mut done = 0;
-        'each: while count - done >= 64 {
-            let block = block_at(self.as_slice(), from + done);
-            self.put_block(block);
-            done += 64;
-        }
-        done
+        replace_with(self, (from, count), with_own_copies)
     }
 }
 
-// The 64 elements from `at` on. They are as many bytes as a block of so many places may have.
-#[inline(always)]
-fn block_at<T: Copy>(source: &[T], at: usize) -> [T; 64]
-    requires within { at + 64 ≤ length source.now }
-    requires small { 64 * type_size T.row < 2 ^ 63 }
-    ensures { result ≡ take 64 (drop at source.now) }
+// The loops own the vector that they fill: nothing that is stored in its places can then change its fields, which stay in
+// registers, and each compiles to copies of many elements at once.
+
+// `put_copies`.
+fn with_copies<T: Copy, A: Allocator>(mut list: Vec<T, A>, source: &[T]) -> (Vec<T, A>, ())
+    requires room { HasRoom list (length source.now) }
+    ensures items { Holds list (list.items ++ source.now) result.0 }
+    ensures writes { WritesAtMost list (length source.now) result.0 }
 {
-    match source[at..].split_first_chunk::<64>() {
-        Some((block, _behind)) => *block,
-        None => unreachable!(),
+    let _within = list.capacity();
+    let count = source.len();
+    'each: for at in 0..count {
+        list.put_next(source[at]);
     }
+    (list, ())
+}
+
+// `put_own_copies`, from the first number on, and as many as the second says.
+fn with_own_copies<T: Copy, A: Allocator>(
+    mut list: Vec<T, A>,
+    own: (usize, usize),
+) -> (Vec<T, A>, ())
+    requires range { own.0 + own.1 ≤ len list }
+    requires room { HasRoom list own.1 }
+    ensures items { Holds list (list.items ++ take own.1 (drop own.0 list.items)) result.0 }
+    ensures writes { WritesAtMost list own.1 result.0 }
+{
+    let (from, count) = own;
+    let _within = list.capacity();
+    'each: for at in 0..count {
+        let item = list.as_slice()[from + at];
+        list.put_next(item);
+    }
+    (list, ())
 }

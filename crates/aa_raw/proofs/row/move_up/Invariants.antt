@@ -3,4 +3,4 @@ use Rattle.aa_raw.specs.Places.{moved}
 use Rattle.aa_raw.proofs.row.move_up.Given as goal
 
 abbrev pub invariant-up : goal.invariant-up
-invariant-up g l = (l.row.ptr ≡ l.fn.row.ptr) × (l.row.places ≡ moved l.fn.row.places (l.from + (l.count - l.i)) (l.to + (l.count - l.i)) l.i)
+invariant-up g l = (l.row.ptr ≡ l.fn.row.ptr) × (l.row.places ≡ moved l.fn.row.places (l.count - l.i) (l.by + (l.count - l.i)) l.i)

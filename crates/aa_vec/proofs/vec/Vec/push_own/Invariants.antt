@@ -1,6 +1,0 @@
-use Rattle.std.proofs.Common.{take, drop}
-use Rattle.aa_vec.specs.Copies.{Adds}
-use Rattle.aa_vec.proofs.vec.Vec.push_own.Given as goal
-
-abbrev pub invariant-each : goal.invariant-each
-invariant-each g l = Adds g.T.Clone.is_clone l.fn.self (take l.pushed (drop l.from l.fn.self.items)) l.self

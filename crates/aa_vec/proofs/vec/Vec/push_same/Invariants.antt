@@ -1,6 +1,0 @@
-use Rattle.std.proofs.Common.{replicate, take}
-use Rattle.aa_vec.specs.Copies.{Adds}
-use Rattle.aa_vec.proofs.vec.Vec.push_same.Given as goal
-
-abbrev pub invariant-each : goal.invariant-each
-invariant-each g l = Adds g.T.Clone.is_clone l.fn.self (take l._pushed (replicate l.count l.value)) l.self

@@ -1,0 +1,6 @@
+use Rattle.std.proofs.Common.{replicate, take}
+use Rattle.aa_vec.specs.Copies.{Adds}
+use Rattle.aa_vec.proofs.vec.copies.with_same.Given as goal
+
+abbrev pub invariant-each : goal.invariant-each
+invariant-each g l = Adds g.T.Clone.is_clone l.fn.list (take l.pushed (replicate l.count l.value)) l.list

@@ -1,0 +1,88 @@
+//! What the vectors hold.
+ghost use Rattle.std.specs.Prelude.{◌≡◌, ◌%◌, ◌^◌, ℕ};
+ghost use Rattle.vecbench.specs.Sums.{number_of_wide};
+
+/// An element. It is made from a number, and tells one that the checksum is made from.
+pub trait Element: Clone + Drop {
+    ghost number_of: { Self → ℕ };
+
+    /// The element made from the number.
+    fn of(number: u32) -> Self;
+
+    /// The number that the element tells.
+    fn number(&self) -> u32
+        ensures { result ≡ number_of self.now };
+}
+
+impl Element for u32 {
+    ghost number_of = { λ x. x };
+
+    fn of(number: u32) -> Self {
+        number
+    }
+
+    fn number(&self) -> u32 {
+        *self
+    }
+}
+
+impl Element for u64 {
+    ghost number_of = { λ x. x % 2 ^ 32 };
+
+    fn of(number: u32) -> Self {
+        u64::from(number)
+    }
+
+    fn number(&self) -> u32 {
+        (*self % 4_294_967_296) as u32
+    }
+}
+
+impl Element for u8 {
+    ghost number_of = { λ x. x };
+
+    fn of(number: u32) -> Self {
+        (number % 256) as u8
+    }
+
+    fn number(&self) -> u32 {
+        u32::from(*self)
+    }
+}
+
+/// An element of 24 bytes.
+#[derive(Clone, Copy, Drop)]
+pub struct Wide {
+    first: u64,
+    second: u64,
+    third: u64,
+}
+
+impl Element for Wide {
+    ghost number_of = { λ x. number_of_wide x.first x.second x.third };
+
+    fn of(number: u32) -> Self {
+        let part = u64::from(number);
+        Wide {
+            first: part,
+            second: part,
+            third: part,
+        }
+    }
+
+    fn number(&self) -> u32 {
+        let two = self.first.wrapping_add(self.second);
+        (two.wrapping_add(self.third) % 4_294_967_296) as u32
+    }
+}
+
+// It has no size.
+impl Element for () {
+    ghost number_of = { λ x. 0 };
+
+    fn of(_number: u32) -> Self {}
+
+    fn number(&self) -> u32 {
+        0
+    }
+}
