@@ -40,6 +40,25 @@ fn ten_for_one<'a>(
     Ok(commands)
 }
 
+// The numbers 1 to 6 are put at the end, and two even ones of the last five are taken out.
+fn two_of_five<'a>(
+    heap: &'a Faulty<Global>,
+) -> Result<Vec<Command<u32, &'a Faulty<Global>>, &'a Faulty<Global>>, TryReserveError> {
+    let mut six: Vec<u32, &Faulty<Global>> = Vec::with_capacity_in(6, heap)?;
+    six.extend_from_slice(&[1, 2, 3, 4, 5, 6])?;
+    let mut commands = Vec::with_capacity_in(2, heap)?;
+    commands.push(Command::Extend {
+        items: six,
+        hint: None,
+    })?;
+    commands.push(Command::ExtractIf {
+        start: 1,
+        end: 6,
+        take: 2,
+    })?;
+    Ok(commands)
+}
+
 // What a run came to: the replies done, those refused for want of memory, the requests, and main's length and capacity.
 type Came = (usize, usize, u64, usize, usize);
 
@@ -86,6 +105,7 @@ fn run_with_one_refused<'a>(
 enum Told {
     NinePushesAndAPop,
     TenForOne,
+    TwoOfFive,
 }
 
 #[test]
@@ -99,11 +119,14 @@ fn one_refused_request_refuses_one_command(rt: HostRuntime) -> Result<(), Fail> 
         (Told::TenForOne, 2, (1, 1, 3, 6, 8)),
         (Told::TenForOne, 3, (1, 1, 4, 6, 8)),
         (Told::TenForOne, 4, (2, 0, 4, 11, 16)),
+        (Told::TwoOfFive, 1, (1, 1, 2, 6, 6)),
+        (Told::TwoOfFive, 2, (2, 0, 2, 4, 6)),
     ] {
         let heap = Faulty::new(rt.alloc());
         let commands = match told {
             Told::NinePushesAndAPop => nine_pushes_and_a_pop(&heap),
             Told::TenForOne => ten_for_one(&heap),
+            Told::TwoOfFive => two_of_five(&heap),
         };
         assert_eq!(rt; run_with_one_refused(&heap, commands?, refused)?, came);
     }

@@ -1,6 +1,7 @@
 -- A slice of which a closure was asked in order, up to one place.
-use Rattle.std.proofs.Common.{◌≡◌, ℕ, suc, ◌+◌, ◌<◌, ◌≤◌, Bool, true, false, List, [], ◌∷◌, ◌++◌, length, take, drop, get_or, sym, ap, ◌∙◌, subst, refl, arith, append_assoc, length-set, length-append, length-drop, zero-add, add-zero}
-use Rattle.std.specs.Prelude.{slice_set}
+use mathlib.Core.Bool.{beq}
+use Rattle.std.proofs.Common.{◌≡◌, not, ℕ, suc, ◌+◌, ◌<◌, ◌≤◌, Bool, true, false, List, [], ◌∷◌, ◌++◌, length, take, drop, get_or, sym, ap, ◌∙◌, subst, refl, arith, append_assoc, length-set, length-append, length-drop, zero-add, add-zero}
+use Rattle.std.specs.Prelude.{slice_set, if◌then◌else◌}
 use Rattle.std.proofs.Math.Seq.{drop-cons}
 use Rattle.std.proofs.lemmas.List.{append-nil, drop-set-lt, take_more_set, take-set, take_all, drop_all, take-append-drop, drop-set, drop-append-le, take-append-le, take_at, drop_at, length-take-le}
 use Rattle.aa_vec.specs.Choosing.{MayAskInOrder, MayChainFrom, MayDeduplicate}
@@ -18,6 +19,19 @@ module _ {T : Type 0} (ys : List T) (i : ℕ) (d : T) (h : i < length ys) where
   -- all of them
   pub whole_set : (y : T) → slice_set ys i y ≡ take i ys ++ y ∷ drop (i + 1) ys
   whole_set y = sym (take-append-drop i (slice_set ys i y)) ∙ ap (λ l. l ++ drop i (slice_set ys i y)) (take-set ys i y) ∙ ap (λ l. take i ys ++ l) (drop-set ys i y h)
+
+-- an answer that is not that of those that stay, and one that is
+pub goes_where : (answer stays : Bool) → not (beq answer stays) ≡ true → answer ≡ (if stays then false else not false)
+goes_where true true differs = sym differs
+goes_where true false differs = refl
+goes_where false true differs = refl
+goes_where false false differs = differs
+
+pub stays_where : (answer stays : Bool) → not (beq answer stays) ≡ false → answer ≡ (if stays then true else not true)
+stays_where true true same = refl
+stays_where true false same = same
+stays_where false true same = sym same
+stays_where false false same = refl
 
 module _ {F T : Type 0} (Asks : F → T → Bool → F → T → Type 0) (Takes : F → T → Type 0) where
   -- the first i of xs were asked and stay: the closure is h now, and the elements are ys

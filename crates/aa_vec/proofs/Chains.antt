@@ -1,15 +1,14 @@
 -- Elements behind a gap, asked one after the other beside the last one kept.
-use Rattle.std.proofs.Common.{◌≡◌, ℕ, zero, suc, ◌+◌, ◌-◌, ◌<◌, ◌≤◌, Bool, true, false, List, [], ◌∷◌, ◌++◌, length, map, drop, Some, refl, sym, ap, ◌∙◌, subst, arith, length-append}
-use Rattle.std.specs.Prelude.{slice_set, None}
+use Rattle.std.proofs.Common.{◌≡◌, ℕ, suc, ◌+◌, ◌<◌, Bool, true, false, List, [], ◌∷◌, ◌++◌, length, map, drop, Some, refl, sym, ap, ◌∙◌, subst, arith, length-append}
 use Rattle.std.proofs.lemmas.List.{drop_at, length-map, take-append-drop}
 use Rattle.aa_raw.proofs.Runs.{run-zero}
-use Rattle.aa_vec.specs.Behind.{StandsBehind, ClosesGap, behind_items, with_behind}
+use Rattle.aa_vec.specs.Behind.{StandsBehind, behind_items}
 use Rattle.aa_vec.specs.Choosing.{MayChainFrom, MayDeduplicate}
-use Rattle.aa_vec.specs.Until.{ChainsUntil, ChainsAlong, ChainsOn, AsksLast, ChainsBehind, ChainsDown, PassesChain}
+use Rattle.aa_vec.specs.Until.{ChainsUntil, ChainsAlong, ChainsOn, AsksLast, ChainsBehind}
 use Rattle.aa_vec.specs.Vector.{Vector, len}
 use Rattle.aa_vec.proofs.Climbing.{SameBlock-refl}
 use Rattle.aa_vec.proofs.Gaps.{lent-is, refilled, LeavesBehind-view}
-use Rattle.aa_vec.proofs.Stands.{count, first_are, first_stand, others_stand, parts, replaced_are, replaced_stand}
+use Rattle.aa_vec.proofs.Stands.{count, first_are, parts, replaced_are}
 
 module _ {T : Type 0} where
   -- a list that is not empty has a last element
@@ -21,54 +20,6 @@ module _ {T : Type 0} where
   -- lists that differ in their last element are as long
   pub same_end : (front : List T) (x y : T) → length (front ++ x ∷ []) ≡ length (front ++ y ∷ [])
   same_end front x y = length-append front (x ∷ []) ∙ sym (length-append front (y ∷ []))
-
-module _ {F T : Type 0} (Asks : F → T → T → Bool → F → T → T → Type 0) where
-  pub chain-length : (f h : F) (l : T) (xs : List T) (k : ℕ) (ws : List T) → ChainsUntil Asks f l xs k h ws → length ws ≡ suc (length xs)
-  chain-length f h l [] zero ws u = ap length u.1
-  chain-length f h l [] (suc k) ws u = absurd u
-  chain-length f h l (x ∷ xs) zero ws u = ap length u.3
-  chain-length f h l (x ∷ xs) (suc k) ws u = ap length u.6 ∙ ap suc (chain-length u.0 h u.1 xs k u.3 u.5)
-
-  pub chain-within : (f h : F) (l : T) (xs : List T) (k : ℕ) (ws : List T) → ChainsUntil Asks f l xs k h ws → k ≤ length xs
-  chain-within f h l [] zero ws u = omega arith
-  chain-within f h l [] (suc k) ws u = absurd u
-  chain-within f h l (x ∷ xs) zero ws u = omega arith
-  chain-within f h l (x ∷ xs) (suc k) ws u = omega (arith, chain-within u.0 h u.1 xs k u.3 u.5)
-
-  -- the elements behind a gap were asked, and stand there yet
-  module _ {A : Type 0} (f : F) (v : Vector T A) (gap n : ℕ) (stands : StandsBehind v gap n) (k : ℕ) (g : F) (w : Vector T A) (asked : ChainsBehind Asks f v gap n k g w) where
-    abbrev ws : List T
-    ws = asked.last_left ∷ asked.left
-
-    pub chained_long : length asked.left ≡ n
-    chained_long = omega (arith, chain-length f g asked.last (behind_items v gap n) k ws asked.until, count v gap n stands)
-
-    pub chained_within : k ≤ n
-    chained_within = omega (arith, chain-within f g asked.last (behind_items v gap n) k ws asked.until, count v gap n stands)
-
-    pub chained_len : len w ≡ len v
-    chained_len = ap length asked.items ∙ same_end asked.front asked.last_left asked.last ∙ sym (ap length asked.had)
-
-    pub chained_stand : StandsBehind w gap n
-    chained_stand = replaced_stand v gap n stands w asked.left _ chained_len asked.block.capacity chained_long asked.behind
-
-    pub chained_are : behind_items w gap n ≡ asked.left
-    chained_are = replaced_are v gap n stands w asked.left _ chained_len asked.block.capacity chained_long asked.behind
-
-  -- those in the places from `at` up to `end`, of which those that stay were moved down
-  module _ {A : Type 0} (f : F) (v : Vector T A) (gap at end : ℕ) (stands : StandsBehind v gap (end - at)) (k : ℕ) (g : F) (w : Vector T A) (asked : ChainsBehind Asks f v gap (end - at) k g w) (last : Vector T A) (closes : ClosesGap w gap k last) where
-    down : ChainsDown Asks f v gap (end - at) k g last
-    down = record { left = w; chains = asked; closes = closes }
-
-    pub rest_stands : k < end - at → StandsBehind last gap 1
-    rest_stands less =
-        first_stand last gap (end - at - k) (others_stand w gap (end - at) (chained_stand f v gap (end - at) stands k g w asked) k (chained_within f v gap (end - at) stands k g w asked) last closes) 1 (omega (arith, less))
-
-    pub PassesChain-goes : k < end - at → (z : Vector T A) → z ≡ with_behind last (slice_set last.behind gap None) → (next : ℕ) → next ≡ at + k + 1 → PassesChain Asks f v gap at end g z next
-    PassesChain-goes less z taken next e = record { stay = k; kept = last; keeps = down; goes = λ _. (taken, e); none = λ h. absurd (omega (arith, less, h)) }
-
-    pub PassesChain-none : k ≡ end - at → at < end → PassesChain Asks f v gap at end g last end
-    PassesChain-none e some = record { stay = k; kept = last; keeps = down; goes = λ h. absurd (omega (arith, e, h, some)); none = λ _. (refl, refl) }
 
 module _ {F T A : Type 0} (Asks : F → T → T → Bool → F → T → T → Type 0) (f : F) (v : Vector T A) (gap : ℕ) where
   -- there is none to ask
@@ -112,9 +63,6 @@ module _ {F T A : Type 0} (Asks : F → T → T → Bool → F → T → T → T
 
       now_are : behind_items w gap n ≡ asked.next_left ∷ others
       now_are = replaced_are v gap n stands w (asked.next_left ∷ others) _ same_len asked.block.capacity long now_behind
-
-      pub follow_stand : StandsBehind w gap n
-      follow_stand = replaced_stand v gap n stands w (asked.next_left ∷ others) _ same_len asked.block.capacity long now_behind
 
       called : (b : Bool) → answer ≡ b → Asks f asked.next asked.last b g asked.next_left asked.last_left
       called b e = subst (λ a. Asks f asked.next asked.last a g asked.next_left asked.last_left) e asked.called

@@ -1,8 +1,8 @@
 -- What is written where gaps are closed: all that stay behind the first that goes, in one run for each that goes.
-use Rattle.std.proofs.Common.{◌≡◌, ℕ, zero, suc, ◌+◌, ◌-◌, ◌≤◌, Bool, List, ◌∷◌, ap, arith}
-use Rattle.std.specs.Prelude.{cond, count_by, if◌then◌else◌, ◌==◌}
+use Rattle.std.proofs.Common.{◌≡◌, ℕ, zero, suc, ◌+◌, ◌-◌, ◌<◌, ◌≤◌, Bool, true, false, not, List, [], ◌∷◌, refl, sym, ap, ◌∙◌, subst, arith}
+use Rattle.std.specs.Prelude.{cond, count_by, min, if◌then◌else◌, ◌==◌}
 use Rattle.std.proofs.lemmas.List.Sums.{sum_by-cons}
-use Rattle.aa_vec.specs.Choosing.{kept_behind_removed}
+use Rattle.aa_vec.specs.Choosing.{kept_behind_removed, removed_count}
 use Rattle.aa_vec.specs.Vector.{run_count}
 
 -- how many of those yet to be told will be written: all that stay, once there is a gap
@@ -10,13 +10,17 @@ abbrev pub still : (gap : ℕ) → List Bool → ℕ
 still zero stays = kept_behind_removed stays
 still (suc gap) stays = count_by (λ s. s) stays
 
+pub still-none : (gap : ℕ) → still gap [] ≡ 0
+still-none zero = refl
+still-none (suc gap) = refl
+
 -- one answer more
 pub counted : (p : Bool → Bool) (a : Bool) (stays : List Bool) → count_by p (a ∷ stays) ≡ cond (p a) 1 0 + count_by p stays
 counted p a stays = sum_by-cons (λ x. cond (p x) 1 0) a stays
 
 -- once there is a gap, all that come down over it are written
-over : (gap k : ℕ) → (if suc gap == 0 then 0 else k) ≡ k
-over gap k = grind arith
+pub over : (gap k : ℕ) → 0 < gap → (if gap == 0 then 0 else k) ≡ k
+over gap k some = grind (arith, some)
 
 -- elements are moved in one run, if there are any
 one_run : (n : ℕ) → run_count n ≤ 1
@@ -26,13 +30,41 @@ one_run n = grind arith
 pub few_runs : (gap k : ℕ) → run_count (if gap == 0 then 0 else k) + (gap - 1) ≤ gap
 few_runs gap k = grind (arith, one_run)
 
--- where k more stay and none goes, all that are written are those k
-pub written_all : (gap k : ℕ) (every : List Bool) → kept_behind_removed every ≡ 0 → count_by (λ s. s) every ≡ k → still gap every ≡ (if gap == 0 then 0 else k)
-written_all zero k every none all = none
-written_all (suc gap) k every none all = grind arith
+some_run : (n : ℕ) → run_count n ≤ n
+some_run n = grind arith
 
--- where k more stay and then one goes, those k are written, and all that stay behind it
-pub written_more : (gap k : ℕ) (every told : List Bool) → kept_behind_removed every ≡ count_by (λ s. s) told → count_by (λ s. s) every ≡ k + count_by (λ s. s) told
-    → still gap every ≡ (if gap == 0 then 0 else k) + still (gap + 1) told
-written_more zero k every told behind stay = omega (arith, behind)
-written_more (suc gap) k every told behind stay = let more : still (suc gap + 1) told ≡ count_by (λ s. s) told = ap (λ i. still i told) {x = suc gap + 1} {y = suc (gap + 1)} (omega arith) in grind arith
+-- and in none where none is moved
+pub no_run : (gap k : ℕ) → run_count (if gap == 0 then 0 else k) ≤ k
+no_run zero k = omega arith
+no_run (suc gap) k = subst (λ i. run_count i ≤ k) (sym (over (suc gap) k (omega arith))) (some_run k)
+
+-- of n elements the first k stay, and the next, if there is one, goes; behind it so many stay
+abbrev pub marks : (k n : ℕ) → List Bool → List Bool
+marks zero zero told = told
+marks zero (suc n) told = false ∷ told
+marks (suc k) zero told = told
+marks (suc k) (suc n) told = true ∷ marks k n told
+
+marks-stay : (k n : ℕ) → k ≤ n → (told : List Bool) → count_by (λ s. s) (marks k n told) ≡ k + count_by (λ s. s) told
+marks-stay zero zero h told = omega arith
+marks-stay zero (suc n) h told = omega (arith, counted (λ s. s) false told)
+marks-stay (suc k) zero h told = absurd (omega (arith, h))
+marks-stay (suc k) (suc n) h told = omega (arith, counted (λ s. s) true (marks k n told), marks-stay k n (omega (arith, h)) told)
+
+-- one more goes, if there is one
+pub marks-gone : (k n : ℕ) → k ≤ n → (told : List Bool) → removed_count (marks k n told) ≡ min (n - k) 1 + removed_count told
+marks-gone zero zero h told = omega arith
+marks-gone zero (suc n) h told = omega (arith, counted not false told)
+marks-gone (suc k) zero h told = absurd (omega (arith, h))
+marks-gone (suc k) (suc n) h told = omega (arith, counted not true (marks k n told), marks-gone k n (omega (arith, h)) told)
+
+marks-behind : (k n : ℕ) → k ≤ n → (told : List Bool) → kept_behind_removed (marks k n told) ≡ still (min (n - k) 1) told
+marks-behind zero zero h told = refl
+marks-behind zero (suc n) h told = ap (λ i. still i told) {x = 1} {y = min (suc n - 0) 1} (omega arith)
+marks-behind (suc k) zero h told = absurd (omega (arith, h))
+marks-behind (suc k) (suc n) h told = marks-behind k n (omega (arith, h)) told ∙ ap (λ i. still i told) {x = min (n - k) 1} {y = min (suc n - suc k) 1} (omega arith)
+
+-- those k are written, once there is a gap, and all that stay behind one that goes
+pub marks-written : (gap k n : ℕ) → k ≤ n → (told : List Bool) → still gap (marks k n told) ≡ (if gap == 0 then 0 else k) + still (gap + min (n - k) 1) told
+marks-written zero k n h told = omega (arith, marks-behind k n h told, ap (λ i. still i told) {x = min (n - k) 1} {y = 0 + min (n - k) 1} (omega arith))
+marks-written (suc gap) k n h told = marks-stay k n h told ∙ ap (λ i. i + count_by (λ s. s) told) (sym (over (suc gap) k (omega arith))) ∙ ap (λ i. (if suc gap == 0 then 0 else k) + still i told) {x = suc (gap + min (n - k) 1)} {y = suc gap + min (n - k) 1} (omega arith)

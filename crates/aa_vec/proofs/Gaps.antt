@@ -1,13 +1,13 @@
 -- Elements behind the items of a vector, and the gap before them, as the places of its block.
 use Rattle.std.proofs.Common.{◌≡◌, ℕ, ◌+◌, ◌-◌, ◌<◌, ◌≤◌, List, [], ◌∷◌, ◌++◌, length, map, take, drop, replicate, get_or, Option, Some, None, refl, sym, ap, ◌∙◌, subst, arith, inl, inr, length-append, length-drop, length-set, length-take}
 use Rattle.std.specs.Prelude.{slice_set, if◌then◌else◌, ◌==◌}
-use Rattle.std.proofs.lemmas.List.{append-nil, drop-append-le, drop-drop, drop-take, drop-set, drop-set-add, drop-set-lt, length-map, length-replicate, length-take-le, take_at, drop_at}
+use Rattle.std.proofs.lemmas.List.{append-nil, drop-append-le, drop-drop, drop-map, drop-take, drop-set, drop-set-add, drop-set-lt, length-map, length-replicate, length-take-le, take-append-drop, take_at, drop_at}
 use Rattle.std.specs.List.{refill, length_refill}
 use Rattle.aa_raw.specs.Block.{with_places}
 use Rattle.aa_raw.specs.Places.{IsRun, IsFilled, run, moved, with_run}
 use Rattle.aa_raw.proofs.Calls.{IsRun-with-below}
 use Rattle.aa_raw.proofs.Places.{length-moved, length-with_run}
-use Rattle.aa_raw.proofs.Runs.{length-run, first-filled, IsRun-long, IsRun-part, IsRun-same, drop-with, run-drop, run-one, run-moved, run-moved-below, run-split, run-take, run-is, run-push, run-set-above, IsRun-set-above, run-with-below, run-zero, cut-long}
+use Rattle.aa_raw.proofs.Runs.{length-run, first-filled, IsRun-long, IsRun-part, IsRun-same, drop-with, run-drop, run-one, run-filled, run-moved, run-moved-below, run-split, run-take, run-is, run-push, run-set-above, IsRun-set-above, run-with-below, run-zero, cut-long}
 use Rattle.aa_vec.specs.Behind.{StandsBehind, LeavesBehind, behind_items}
 use Rattle.aa_vec.specs.Vector.{Vector, len}
 use Rattle.aa_vec.specs.Inner.{view_of, IsFront}
@@ -41,6 +41,12 @@ module _ {X : Type 0} where
 
   pub IsRun-front : (cs : List (Option X)) (a n : ℕ) → IsRun cs 0 n → a ≤ n → IsRun cs 0 a
   IsRun-front cs a n r h = IsRun-part cs 0 n 0 a (omega arith) (omega (arith, h)) r
+
+  pub drop-set_apart : (cs : List (Option X)) (a n : ℕ) → IsRun cs 0 n → a ≤ n → drop a cs ≡ map Some (drop a (run cs 0 n)) ++ drop n cs
+  drop-set_apart cs a n r h =
+      let some : X → Option X = λ x. Some x in let all : List X = run cs 0 n in
+      let parts : cs ≡ map some all ++ drop n cs = sym (take-append-drop n cs) ∙ ap (λ ds. ds ++ drop n cs) (run-filled cs 0 n r) in
+      ap (drop a) parts ∙ drop-append-le a (map some all) (drop n cs) (omega (arith, h, length-map all some, length-run cs 0 n r)) ∙ ap (λ ds. ds ++ drop n cs) (drop-map some a all)
 
   -- what stands above a run that was moved down is where it was
   pub drop-moved : (cs : List (Option X)) (from to n : ℕ) → to ≤ from → from + n ≤ length cs → drop (from + n) (moved cs from to n) ≡ drop (from + n) cs
@@ -195,7 +201,7 @@ pub ruleset no_gap = (append-nil, run-zero)
 pub ruleset closed = (run-closed, drop-closed, IsRun-closed, over_gap, length-moved, length-run, drop-drop)
 
 -- elements that were set back
-pub ruleset set_apart = (length-drop, length-front, run-back, IsRun-back, IsRun-front, run-take, length-run)
+pub ruleset set_apart = (drop-set_apart, length-drop, length-front, run-back, IsRun-back, IsRun-front, run-take, length-run)
 
 -- an element that was taken
 pub ruleset emptied = (run-one, run-set-above, length-set, drop-set-add, drop-drop, first-filled, run-of_drop, length-run, IsRun-set-above)

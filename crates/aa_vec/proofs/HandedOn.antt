@@ -1,4 +1,4 @@
--- A drain that is given up: its fields, and what a call asks that is handed them.
+-- A drain that is given up, and a range out of which elements were taken: the fields, and what a call asks that is handed them.
 use seplogic.Ra.Ura.{Ura}
 use base.Logic.{ent, sep, emp, mono∗, id⊢}
 use contract.BorrowLft.{◌⊑◌}
@@ -12,17 +12,27 @@ use denote.Struct.Laws as laws
 use Rattle.std.specs.declared.alloc.Allocator.{Ghosts}
 use Rattle.aa_vec.specs.contracts.vec.Vec as V
 use Rattle.aa_vec.specs.contracts.vec.drain.Drain as D
+use Rattle.aa_vec.specs.contracts.vec.extract_if.ExtractBy as E
 use Rattle.aa_vec.proofs.GivenUp.{two}
 
 module _ (T A : RattleType) (g : Ghosts A.Denot) where
   abbrev pub Decl : Lfts 3 → Declared
   Decl κs = D.the_type (named_lft 3 0 tt κs) (param 0 T) (param 1 A) g
 
+  abbrev pub DeclBy : Lfts 3 → Declared
+  DeclBy κs = E.the_type (named_lft 3 0 tt κs) (param 0 T) (param 1 A) g
+
   abbrev pub Row : Lfts 3 → RattleType
   Row κs = row (Decl κs)
 
+  abbrev pub RowBy : Lfts 3 → RattleType
+  RowBy κs = row (DeclBy κs)
+
   abbrev pub Lws : (κs : Lfts 3) → laws.Laws (Decl κs)
   Lws κs = (laws.mut_ref_laws (named_lft 3 0 tt κs) (V.the_row (param 0 T) (param 1 A) g) tt, (laws.usize-laws, (laws.usize-laws, (laws.usize-laws, (laws.usize-laws, tt)))))
+
+  abbrev pub LwsBy : (κs : Lfts 3) → laws.Laws (DeclBy κs)
+  LwsBy κs = (laws.mut_ref_laws (named_lft 3 0 tt κs) (V.the_row (param 0 T) (param 1 A) g) tt, (laws.usize-laws, (laws.usize-laws, (laws.usize-laws, (laws.usize-laws, tt)))))
 
 -- the bounds on the two type parameters, and two facts more
 pub asks : {M : Type 1} (𝓤 : Ura M) (T A : RattleType) (κs : Lfts 3) {φ ψ : Type 0} → φ → ψ

@@ -12,10 +12,13 @@ pub mod Gaps
 pub mod Asking
 pub mod Stands
 pub mod Chains
-pub mod Peeled
+pub mod Stages
 pub mod Retaining
 pub mod Closed
 pub mod Deduplicating
+pub mod Extracting
+pub mod Extracts
+pub mod Extracted
 pub mod Handed
 pub mod Callable
 pub mod Kept

@@ -20,6 +20,7 @@ module _ {T A : Type 0} where
     pub holds : Holds old (take at old.items) new
     pub stands : StandsBehind new 0 (len old - at)
     pub elements : behind_items new 0 (len old - at) ≡ drop at old.items
+    pub behind : new.behind ≡ map Some (drop at old.items) ++ old.behind
     pub writes : Writes old 0 0 new
 
   -- the n elements after the gap were moved down to the items, of which they are the last now; the gap is before what stood behind them

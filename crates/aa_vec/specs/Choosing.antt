@@ -2,7 +2,7 @@
 -- that it is lent, to an answer, its next state, and the elements as it left them.
 use denote.Ref.{MutBor, Bor}
 use denote.Param.Members.{Mut}
-use Rattle.std.specs.Prelude.{◌≡◌, ℕ, ◌+◌, ◌≤◌, Bool, true, false, not, List, [], ◌∷◌, map, filter, count_by, ⊤}
+use Rattle.std.specs.Prelude.{◌≡◌, ℕ, ◌+◌, ◌≤◌, Bool, true, false, not, List, [], ◌∷◌, ◌++◌, ◌⊎◌, map, filter, count_by, ⊤}
 use Rattle.std.specs.Fn.{CalledAt, CalledAtMut}
 use Rattle.aa_vec.specs.Vector.{Vector, Holds}
 
@@ -33,6 +33,14 @@ answers_of told = map (λ t. t.answer) told
 -- those at which the answer was true, as they were left
 abbrev pub kept : {T : Type 0} → List (Asked T) → List T
 kept told = map (λ t. t.left) (filter (λ t. t.answer) told)
+
+-- those at which it was false
+abbrev pub passed_over : {T : Type 0} → List (Asked T) → List T
+passed_over told = map (λ t. t.left) (filter (λ t. not t.answer) told)
+
+-- the answer at the last of them was true, if there is one
+abbrev pub EndsTrue : {T : Type 0} → List (Asked T) → Type 0
+EndsTrue {T} told = (told ≡ []) ⊎ ((front : List (Asked T)) × (x : T) × (told ≡ front ++ record { answer = true; left = x } ∷ []))
 
 -- of elements that stay where it is true, how many stand behind the first that goes
 abbrev pub kept_behind_removed : List Bool → ℕ

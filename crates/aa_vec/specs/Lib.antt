@@ -7,6 +7,7 @@ pub mod Inner
 pub mod Lends
 pub mod Copies
 pub mod Extending
+pub mod Extracting
 pub mod Behind
 pub mod Choosing
 pub mod Until

@@ -1,16 +1,19 @@
 -- Calls of a closure along a list, up to the first element that does not stay.
-use Rattle.std.specs.Prelude.{◌≡◌, ℕ, zero, suc, Bool, true, false, List, [], ◌∷◌, ◌++◌, map, take, drop, Some, ◌+◌, ◌-◌, ◌<◌, slice_set, None}
-use Rattle.aa_vec.specs.Behind.{ClosesGap, LeavesBehind, behind_items, with_behind}
-use Rattle.aa_vec.specs.Vector.{Vector, SameBlock, Writes}
+use Rattle.std.specs.Prelude.{◌≡◌, ℕ, zero, suc, ◌≤◌, Bool, true, false, not, List, [], ◌∷◌, ◌++◌, map, take, drop, Option, Some, ◌+◌, ◌-◌, ◌<◌, slice_set, None, MatchOption, if◌then◌else◌, ◌==◌}
+use Rattle.aa_vec.specs.Behind.{StandsBehind, ClosesGap, LeavesBehind, behind_items, with_behind}
+use Rattle.aa_vec.specs.Vector.{Vector, Holds, SameBlock, Writes, run_count}
 
--- of the elements in the places from `at` up to `end`, after the gap, so many as stay were moved down, to be `kept` with those before
--- them; one behind them, if there is one, was taken out, and `next` is the first place behind it
-pub record TakesNext {T A : Type 0} (MovesDown : ℕ → Vector T A → Type 0) (gap at end : ℕ) (new : Vector T A) (next : ℕ) : Type 0 where
-  pub stay : ℕ
-  pub kept : Vector T A
-  pub keeps : MovesDown stay kept
-  pub goes : at + stay < end → (new ≡ with_behind kept (slice_set kept.behind gap None)) × (next ≡ at + stay + 1)
-  pub none : at + stay ≡ end → (new ≡ kept) × (next ≡ end)
+-- of the elements of old behind the gap, which are in the places from `at` up to `end`, the first `kept` were moved down; one behind
+-- them, if there is one, was taken out, and `next` is the first place behind it
+pub record TakesNext {T A : Type 0} (old : Vector T A) (gap at end kept : ℕ) (new : Vector T A) (next : ℕ) : Type 0 where
+  pub closed : Vector T A
+  pub closes : ClosesGap old gap kept closed
+  pub goes : at + kept < end → (new ≡ with_behind closed (slice_set closed.behind gap None)) × (next ≡ at + kept + 1)
+  pub none : at + kept ≡ end → (new ≡ closed) × (next ≡ end)
+
+-- an element stays where a closure gives this answer
+abbrev pub StaysAt : {F T : Type 0} → Bool → (F → T → Bool → F → T → Type 0) → F → T → Bool → F → T → Type 0
+StaysAt answer Asks f x stays g y = Asks f x (if answer then stays else not stays) g y
 
 module _ {F T : Type 0} (Asks : F → T → Bool → F → T → Type 0) where
   -- from f on, the first k of xs were asked and stay; one behind them, if there is one, was asked and goes. ys are all, as they were left
@@ -32,9 +35,20 @@ module _ {F T : Type 0} (Asks : F → T → Bool → F → T → Type 0) where
     pub asks : AsksBehind f old gap n k g left
     pub closes : ClosesGap left gap k new
 
-  -- so were those in the places from `at` up to `end`, and the first that goes was taken out
-  abbrev pub Passes : {A : Type 0} → F → Vector T A → (gap at end : ℕ) → F → Vector T A → (next : ℕ) → Type 0
-  Passes f old gap at end g = TakesNext (λ k v. KeepsDown f old gap (end - at) k g v) gap at end
+  -- of the elements in the places from `front` up to `end` the first so many were asked and stay, and were moved down to the `kept` ones;
+  -- one behind them, if there is one, was asked and taken out. `next` is the first place that was not asked
+  pub record Picks {A : Type 0} (f : F) (old : Vector T A) (kept front end : ℕ) (stay next : ℕ) (item : Option T) (g : F)
+      (new : Vector T A) : Type 0 where
+    pub left : List T
+    pub until : AsksUntil f (behind_items old front (end - front)) stay g left
+    pub holds : Holds old old.items new
+    pub stands : StandsBehind new 0 (kept + stay)
+    pub stayed : behind_items new 0 (kept + stay) ≡ behind_items old 0 kept ++ take stay left
+    pub within : (kept + stay ≤ next) × (front ≤ next) × (next ≤ end)
+    pub above : drop next new.behind ≡ drop next old.behind
+    pub cases : MatchOption item ((stay ≡ end - front) × (next ≡ end))
+        (λ x. (next ≡ front + stay + 1) × (drop stay left ≡ x ∷ behind_items old next (end - next)))
+    pub writes : let moved = if front - kept == 0 then 0 else stay in Writes old moved (run_count moved) new
 
 module _ {F T : Type 0} (Asks : F → T → T → Bool → F → T → T → Type 0) where
   -- from f on, the first k of xs were asked, each beside the one before it, the first beside l, and stay; one behind them, if there
@@ -94,13 +108,3 @@ module _ {F T : Type 0} (Asks : F → T → T → Bool → F → T → T → Typ
     pub behind : drop gap new.behind ≡ map Some left ++ drop n (drop gap old.behind)
     pub block : SameBlock old new
     pub writes : Writes old 0 0 new
-
-  -- and then the k that stay were moved down
-  pub record ChainsDown {A : Type 0} (f : F) (old : Vector T A) (gap n k : ℕ) (g : F) (new : Vector T A) : Type 0 where
-    pub left : Vector T A
-    pub chains : ChainsBehind f old gap n k g left
-    pub closes : ClosesGap left gap k new
-
-  -- so were those in the places from `at` up to `end`, and the first repeat was taken out
-  abbrev pub PassesChain : {A : Type 0} → F → Vector T A → (gap at end : ℕ) → F → Vector T A → (next : ℕ) → Type 0
-  PassesChain f old gap at end g = TakesNext (λ k v. ChainsDown f old gap (end - at) k g v) gap at end

@@ -4,6 +4,7 @@ ghost use Rattle.std.specs.Mem.{type_size};
 ghost use Rattle.std.specs.Borrow.{sem};
 ghost use Rattle.aa_raw.specs.Places.{IsCapacity};
 ghost use Rattle.aa_raw.specs.Refusals.{IsRefusedAt};
+ghost use Rattle.aa_vec.specs.Copies.{IsMade};
 ghost use Rattle.aa_vec.specs.Vector.{len, HasRoom, LacksRoom, IsNew, SameBlock, GrowsTo, Holds, Writes};
 
 pub use aa_boxed::slices::same;
@@ -14,6 +15,7 @@ pub use aa_raw::vec::into_iter::IntoIter;
 pub use arrays::ArrayIntoVec;
 pub use boxes::SliceIntoVec;
 pub use drain::Drain;
+pub use extract_if::{ExtractBy, ExtractIf};
 pub use hints::cautious;
 pub use splice::Splice;
 use std::alloc::{Allocator, Global};
@@ -32,6 +34,7 @@ mod copies;
 pub mod drain;
 mod edits;
 mod extend;
+pub mod extract_if;
 mod filling;
 mod hints;
 mod into;
@@ -85,12 +88,21 @@ impl<T, A: Allocator> Vec<T, A> {
     ghost use Rattle.aa_vec.specs.Lends.{lends_items};
 
     /// An empty vector. It takes no memory. It stands for `Vec::new_in`.
-    #[tactic(auto, using(aa_raw::proofs::Calls::with_room))]
     pub fn new_in(alloc: A) -> Self
         ensures { IsNew (type_size T.row) 0 alloc result }
     {
+        Vec::new_growing_in(Growth::Doubling, alloc)
+    }
+
+    /// An empty vector that will grow as `growth` says: one that doubles moves fewer elements, and one that spares keeps less room
+    /// that it does not use. It takes no memory. The original has no such choice.
+    #[tactic(auto, using(aa_raw::proofs::Calls::with_room))]
+    pub fn new_growing_in(growth: Growth, alloc: A) -> Self
+        ensures made { IsMade (type_size T.row) 0 growth [] 0 result }
+        ensures alloc { result.alloc ≡ alloc }
+    {
         Vec {
-            block: RawVec::new_in(alloc),
+            block: RawVec::new_growing_in(growth, alloc),
             len: 0,
         }
     }

@@ -1,7 +1,9 @@
 -- What worked examples come to, in numbers.
-use Rattle.std.proofs.Common.{◌≡◌, ℕ, ◌+◌, ◌-◌, ◌*◌, ◌<◌, ◌≤◌, List, [], ◌∷◌, ◌++◌, length, take, drop, Option, Some, None, refl, length-append, sym, ap, ◌∙◌, subst, arith, inl, inr, ◌⊎◌}
+use Rattle.std.proofs.Common.{◌≡◌, ℕ, Bool, true, false, nat_lt, zero, suc, ◌+◌, ◌-◌, ◌*◌, ◌<◌, ◌≤◌, List, [], ◌∷◌, ◌++◌, length, take, drop, Option, Some, None, refl, length-append, sym, ap, ◌∙◌, subst, arith, inl, inr}
 use Rattle.std.specs.Prelude.{slice_range, if◌then◌else◌, ◌==◌}
 use Rattle.std.proofs.lemmas.List.{take_at}
+use Rattle.std.proofs.lemmas.Bool.Decides.{nat_tests}
+use Rattle.aa_raw.specs.declared.raw_vec.Growth.{Growth}
 use Rattle.aa_raw.specs.declared.raw_vec.Growth.TheVariants.{Doubling}
 use Rattle.aa_raw.specs.Growth.{amortized}
 use Rattle.aa_vec.specs.Vector.{Vector, len, Holds, MakesRoom}
@@ -14,19 +16,19 @@ use Rattle.aa_vec.proofs.Counted.{items_lower}
 use Rattle.aa_vec.proofs.Drains.{keeps-then}
 use Rattle.aa_vec.proofs.SplicedItems.{SplicesAll-items, items-written}
 
-module _ {T A : Type 0} (v w : Vector T A) (c n k : ℕ) (places : v.capacity ≡ c) (doubles : v.growth ≡ Doubling) (room : MakesRoom 4 v n k w) where
+module _ {T A : Type 0} {g : Growth} (v w : Vector T A) (c n k : ℕ) (places : v.capacity ≡ c) (grows : v.growth ≡ g) (room : MakesRoom 4 v n k w) where
   -- room that is there is kept
-  pub kept_at : k ≤ c - n → (w.capacity ≡ c) × (w.growth ≡ Doubling) × (w.grown ≡ v.grown)
+  pub kept_at : k ≤ c - n → (w.capacity ≡ c) × (w.growth ≡ g) × (w.grown ≡ v.grown)
   kept_at fits = elim room [
-    | inl r ↦ (r.1.capacity ∙ places, r.1.growth ∙ doubles, r.1.grown)
+    | inl r ↦ (r.1.capacity ∙ places, r.1.growth ∙ grows, r.1.grown)
     | inr r ↦ absurd (omega (arith, r.0, fits, places))
   ]
 
-  -- and else a block of elements of 4 bytes doubles, or takes what is needed
-  pub doubled_to : c - n < k → (w.capacity ≡ amortized Doubling c (n + k) 4) × (w.growth ≡ Doubling) × (w.grown ≡ v.grown + n)
-  doubled_to lacks = elim room [
+  -- and else a block of elements of 4 bytes grows, or takes what is needed
+  pub grows_to : c - n < k → (w.capacity ≡ amortized g c (n + k) 4) × (w.growth ≡ g) × (w.grown ≡ v.grown + n)
+  grows_to lacks = elim room [
     | inl r ↦ absurd (omega (arith, r.0, lacks, places))
-    | inr r ↦ (r.1.capacity ∙ ap (λ g. amortized g v.capacity (n + k) 4) doubles ∙ ap (λ m. amortized Doubling m (n + k) 4) places, r.1.growth ∙ doubles, r.1.grown)
+    | inr r ↦ (r.1.capacity ∙ ap (λ h. amortized h v.capacity (n + k) 4) grows ∙ ap (λ m. amortized g m (n + k) 4) places, r.1.growth ∙ grows, r.1.grown)
   ]
 
 -- the two in the middle of four, in four places, are replaced by three, of which h are told once two are placed
@@ -88,7 +90,7 @@ module _ {A : Type 0} {old : Vector ℕ A} {iter given : ItemsLeft ℕ} {d : Dra
   told_some hint h c has told some is enough =
       let at_two : lower_by iter.hint 1 ≡ h = ap (λ i. lower_by i.hint 1) same ∙ ap (λ m. lower_by m 1) has ∙ told in
       let r = five_room h at_two in
-      let mid = doubled_to (drain_vec d) r.0 4 4 h (places h at_two) (doubles h at_two) r.1 (omega (arith, some)) in
+      let mid = grows_to (drain_vec d) r.0 4 4 h (places h at_two) (doubles h at_two) r.1 (omega (arith, some)) in
       ((kept_at r.0 new c (4 + h) (1 - h) (mid.0 ∙ is) mid.1 r.2 (omega (arith, some, enough))).0, five_written h at_two)
 
   -- none
@@ -97,52 +99,39 @@ module _ {A : Type 0} {old : Vector ℕ A} {iter given : ItemsLeft ℕ} {d : Dra
       let at_two : lower_by iter.hint 1 ≡ 0 = ap (λ i. lower_by i.hint 1) same ∙ ap (λ m. lower_by m 1) has in
       let r = five_room 0 at_two in
       let mid = kept_at (drain_vec d) r.0 4 4 0 (places 0 at_two) (doubles 0 at_two) r.1 (omega arith) in
-      ((doubled_to r.0 new 4 4 1 mid.0 mid.1 r.2 (omega arith)).0, five_written 0 at_two)
+      ((grows_to r.0 new 4 4 1 mid.0 mid.1 r.2 (omega arith)).0, five_written 0 at_two)
 
--- how many places k pushes onto an empty vector of elements of 4 bytes lead to, and how many elements they move
-abbrev pub Reached : (k c m : ℕ) → Type 0
-Reached k c m =
-    ((k ≡ 0) × (c ≡ 0) × (m ≡ 0)) ⊎ ((0 < k) × (k ≤ 4) × (c ≡ 4) × (m ≡ 0)) ⊎ ((4 < k) × (k ≤ 8) × (c ≡ 8) × (m ≡ 4))
-    ⊎ ((8 < k) × (k ≤ 16) × (c ≡ 16) × (m ≡ 12)) ⊎ ((16 < k) × (k ≤ 32) × (c ≡ 32) × (m ≡ 28)) ⊎ (32 < k)
+-- how many places k pushes onto an empty vector of elements of 4 bytes lead to, and how many elements they move by growth
+abbrev pub reached : Growth → ℕ → ℕ × ℕ
+reached g zero = (0, 0)
+reached g (suc k) = let r = reached g k in if nat_lt k r.0 then r else (amortized g r.0 (k + 1) 4, r.1 + k)
 
--- one more push
-module _ {T A : Type 0} (v w : Vector T A) (k m : ℕ) (count : len v ≡ k) (doubles : v.growth ≡ Doubling) (room : MakesRoom 4 v (len v) 1 w) where
-  stays : 1 ≤ v.capacity - len v → w.capacity ≡ v.capacity → Reached k v.capacity m → Reached (k + 1) w.capacity (m + 0)
-  stays h same (inl r) = absurd (omega (arith, h, r.1))
-  stays h same (inr (inl r)) = inr (inl (omega arith, omega (arith, h, count, r.2), same ∙ r.2, omega (arith, r.3)))
-  stays h same (inr (inr (inl r))) = inr (inr (inl (omega (arith, r.0), omega (arith, h, count, r.2), same ∙ r.2, omega (arith, r.3))))
-  stays h same (inr (inr (inr (inl r)))) = inr (inr (inr (inl (omega (arith, r.0), omega (arith, h, count, r.2), same ∙ r.2, omega (arith, r.3)))))
-  stays h same (inr (inr (inr (inr (inl r))))) = inr (inr (inr (inr (inl (omega (arith, r.0), omega (arith, h, count, r.2), same ∙ r.2, omega (arith, r.3))))))
-  stays h same (inr (inr (inr (inr (inr r))))) = inr (inr (inr (inr (inr (omega (arith, r))))))
+module _ {T A : Type 0} (g : Growth) (old : Vector T A) where
+  -- v is old after k pushes
+  pub record IsPushed (k : ℕ) (v : Vector T A) : Type 0 where
+    pub count : len v ≡ k
+    pub growth : v.growth ≡ g
+    pub capacity : v.capacity ≡ (reached g k).0
+    pub grown : v.grown ≡ old.grown + (reached g k).1
 
-  larger : (c : ℕ) → v.capacity ≡ c → (n : ℕ) → k ≡ n → v.capacity - len v < 1 → w.capacity ≡ amortized Doubling c (n + 1) 4
-  larger c is n at full = (doubled_to v w c (len v) 1 is doubles room (omega (arith, full, is))).0 ∙ ap (λ j. amortized Doubling c (j + 1) 4) (count ∙ at)
+  -- one more
+  pub IsPushed-next : (k : ℕ) (v w : Vector T A) (x : T) → IsPushed k v → w.items ≡ v.items ++ x ∷ [] → MakesRoom 4 v (len v) 1 w → IsPushed (k + 1) w
+  IsPushed-next k v w x p items room = subst (λ n. IsPushed n w) (omega arith) (by_test (nat_lt k (reached g k).0) refl)
+    where
+      counts : len w ≡ suc k
+      counts = let count = p.count in omega (arith, ap length items, length-append v.items (x ∷ []))
 
-  grows : v.capacity - len v < 1 → Reached k v.capacity m → Reached (k + 1) w.capacity (m + len v)
-  grows full (inl r) = inr (inl (omega arith, omega (arith, r.0), larger 0 r.1 0 r.0 full, omega (arith, r.0, r.2, count)))
-  grows full (inr (inl r)) =
-      let four : k ≡ 4 = omega (arith, full, count, r.1, r.2) in
-      inr (inr (inl (omega (arith, four), omega (arith, four), larger 4 r.2 4 four full, omega (arith, four, r.3, count))))
-  grows full (inr (inr (inl r))) =
-      let eight : k ≡ 8 = omega (arith, full, count, r.1, r.2) in
-      inr (inr (inr (inl (omega (arith, eight), omega (arith, eight), larger 8 r.2 8 eight full, omega (arith, eight, r.3, count)))))
-  grows full (inr (inr (inr (inl r)))) =
-      let sixteen : k ≡ 16 = omega (arith, full, count, r.1, r.2) in
-      inr (inr (inr (inr (inl (omega (arith, sixteen), omega (arith, sixteen), larger 16 r.2 16 sixteen full, omega (arith, sixteen, r.3, count))))))
-  grows full (inr (inr (inr (inr (inl r))))) = inr (inr (inr (inr (inr (omega (arith, full, count, r.1, r.2))))))
-  grows full (inr (inr (inr (inr (inr r))))) = inr (inr (inr (inr (inr (omega (arith, r))))))
-
-  pub reached_next : Reached k v.capacity m → (n : ℕ) × (w.grown ≡ v.grown + n) × Reached (k + 1) w.capacity (m + n)
-  reached_next r = elim room [
-    | inl h ↦ (0, omega (arith, h.1.grown), stays h.0 h.1.capacity r)
-    | inr h ↦ (len v, h.1.grown, grows h.0 r)
-  ]
-
-  pub doubles_still : w.growth ≡ Doubling
-  doubles_still = elim room [
-    | inl h ↦ h.1.growth ∙ doubles
-    | inr h ↦ h.1.growth ∙ doubles
-  ]
+      by_test : (b : Bool) → nat_lt k (reached g k).0 ≡ b → IsPushed (suc k) w
+      by_test true e =
+          let fits : 1 ≤ (reached g k).0 - len v = let count = p.count in grind (arith, nat_tests) in
+          let d = kept_at v w (reached g k).0 (len v) 1 p.capacity p.growth room fits in
+          record { count = counts; growth = d.1; capacity = rw e d.0; grown = rw e (d.2 ∙ p.grown) }
+      by_test false e =
+          let lacks : (reached g k).0 - len v < 1 = let count = p.count in grind (arith, nat_tests) in
+          let d = grows_to v w (reached g k).0 (len v) 1 p.capacity p.growth room lacks in
+          let count = p.count in
+          let grown = p.grown in
+          record { count = counts; growth = d.1; capacity = rw e (d.0 ∙ ap (λ n. amortized g (reached g k).0 (n + 1) 4) count); grown = rw e (omega (arith, d.2)) }
 
 -- a full vector of c places that asks for room for 6 more
 climbs_once : {T A : Type 0} (lower : ℕ → ℕ) (needed c : ℕ) (v w : Vector T A) → v.capacity ≡ c → v.growth ≡ Doubling → c < needed → ((n : ℕ) → asked_for lower n ≡ 6) → needed ≤ w.capacity → Climbs 4 lower needed v w
@@ -150,7 +139,7 @@ climbs_once : {T A : Type 0} (lower : ℕ → ℕ) (needed c : ℕ) (v w : Vecto
 climbs_once lower needed c v w is doubles short six enough (no_more b) = absurd (omega (arith, b.capacity, is, short, enough))
 climbs_once lower needed c v w is doubles short six enough (once_more {mid = mid} h m r) =
     let asks : ℕ = asked_for lower (needed - v.capacity) in
-    let d = doubled_to v mid c v.capacity asks is doubles m (omega (arith, is, six (needed - v.capacity))) in
+    let d = grows_to v mid c v.capacity asks is doubles m (omega (arith, is, six (needed - v.capacity))) in
     (mid, d.0 ∙ ap (λ k. amortized Doubling c (k + asks) 4) is ∙ ap (λ k. amortized Doubling c (c + k) 4) (six (needed - v.capacity)), d.1, d.2 ∙ ap (λ k. v.grown + k) is, r)
 
 -- an empty vector is extended by 17, of which 5 are told to be left each time

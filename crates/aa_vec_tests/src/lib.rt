@@ -24,6 +24,10 @@ mod drain;
 #[cfg(test)]
 mod extend;
 #[cfg(test)]
+mod extract_if;
+#[cfg(test)]
+mod growing;
+#[cfg(test)]
 mod into;
 #[cfg(test)]
 mod splice;

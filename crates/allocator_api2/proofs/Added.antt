@@ -7,7 +7,7 @@ use Rattle.aa_raw.specs.declared.raw_vec.Growth.{Growth}
 use Rattle.aa_raw.specs.declared.raw_vec.Growth.TheVariants.{Doubling, Sparing}
 use Rattle.aa_vec.specs.Vector.{Vector}
 use Rattle.allocator_api2.specs.declared.runner.Command.{Command}
-use Rattle.allocator_api2.specs.declared.runner.Command.TheVariants.{Push, Within, Pop, Insert, Remove, SwapRemove, Truncate, Clear, Retain, Dedup, Drain}
+use Rattle.allocator_api2.specs.declared.runner.Command.TheVariants.{Push, Within, Pop, Insert, Remove, SwapRemove, Truncate, Clear, Retain, Dedup, Drain, ExtractIf}
 use Rattle.allocator_api2.specs.declared.runner.Reply.{Reply}
 use Rattle.allocator_api2.specs.declared.runner.Reply.TheVariants.{Done}
 use Rattle.allocator_api2.specs.Machine.{State, Calls}
@@ -34,6 +34,7 @@ module _ {T A : Type 0} where
   adds_or_removes Retain a = tt
   adds_or_removes Dedup a = tt
   adds_or_removes (Drain start end front back keep) a = tt
+  adds_or_removes (ExtractIf start end count) a = tt
   adds_or_removes command a = absurd a
 
   pub all_add_or_remove : (commands : List (Command T A)) → AllByRecursion AddsOneAtMost commands → AllByRecursion AddsOrRemoves commands
@@ -52,6 +53,7 @@ module _ {T A : Type 0} where
   one_at_most main side Retain reply main' a = omega arith
   one_at_most main side Dedup reply main' a = omega arith
   one_at_most main side (Drain start end front back keep) reply main' a = omega arith
+  one_at_most main side (ExtractIf start end count) reply main' a = omega arith
   one_at_most main side command reply main' a = absurd a
 
 module _ {T A K S : Type 0} where

@@ -1,11 +1,12 @@
 -- Closures that may be called as a run calls them: along the commands that are still to come, and whatever they are given.
-use Rattle.std.proofs.Common.{◌≡◌, ℕ, Bool, true, false, List, [], ◌∷◌, ◌++◌, reverse, sym, ap, ◌∙◌, subst}
-use Rattle.std.specs.Prelude.{⊤}
+use Rattle.std.proofs.Common.{◌≡◌, ℕ, Bool, true, false, List, [], ◌∷◌, ◌++◌, length, reverse, take, sym, ap, ◌∙◌, subst}
+use Rattle.std.specs.Prelude.{⊤, slice_range}
 use Rattle.std.proofs.lemmas.List.{reverse-append, reverse-reverse}
 use Rattle.aa_vec.specs.Choosing.{Asked, AskedInOrder, MayAskInOrder, ChainsFrom, Deduplicated, MayChainFrom, MayDeduplicate}
 use Rattle.allocator_api2.specs.declared.runner.Command.{Command}
-use Rattle.allocator_api2.specs.declared.runner.Command.TheVariants.{SplitOff, Retain, Dedup}
+use Rattle.allocator_api2.specs.declared.runner.Command.TheVariants.{SplitOff, Retain, Dedup, ExtractIf}
 use Rattle.allocator_api2.specs.declared.runner.Reply.{Reply}
+use Rattle.allocator_api2.specs.declared.runner.Reply.TheVariants.{Done, Item, Nothing, Back, Refused, Range}
 use Rattle.allocator_api2.specs.Machine.{State, Calls, IsPossible, Step}
 use Rattle.allocator_api2.specs.Commands.{TakesStep}
 use Rattle.allocator_api2.specs.Run.{MayCall, MayRun, IsCallableOnRuns}
@@ -51,6 +52,7 @@ module _ {T A K S : Type 0} (size : ℕ) (calls : Calls T A K S) where
     may_call : (s : State T A K S) (command : Command T A) → good_keep s.keep → good_same s.same → MayCall size calls s command
     may_call s Retain k r = record { along = may_ask s.keep s.main.items k }
     may_call s Dedup k r = record { along = may_deduplicate s.same s.main.items r }
+    may_call s (ExtractIf start end count) k r = record { along = may_ask s.keep (slice_range s.main.items start end) k }
     may_call s _ k r = tt
 
     asked_stays : (k g : K) (xs : List T) (asked : List (Asked T)) → good_keep k → AskedInOrder calls.keeps k xs asked g → good_keep g
@@ -74,6 +76,13 @@ module _ {T A K S : Type 0} (size : ℕ) (calls : Calls T A K S) where
     step_stays s next Retain answers reply k r step = (asked_stays s.keep next.keep s.main.items step.retains.told k step.retains.asked, subst good_same (sym step.same) r)
     step_stays s next Dedup answers reply k r step = (subst good_keep (sym step.keep) k, deduplicated_stays s.same next.same s.main.items step.removes.left step.removes.answers r step.removes.asked)
     step_stays s next (SplitOff at) answers reply k r step = (subst good_keep (sym step.cut.keep) k, subst good_same (sym step.cut.same) r)
+    step_stays s next (ExtractIf start end count) answers Done k r step =
+        (asked_stays s.keep next.keep (take (length step.takes.told) (slice_range s.main.items start end)) step.takes.told k step.takes.asked, subst good_same (sym step.same) r)
+    step_stays s next (ExtractIf start end count) answers (Item y) k r step = (subst good_keep (sym step.keep) k, subst good_same (sym step.same) r)
+    step_stays s next (ExtractIf start end count) answers Nothing k r step = (subst good_keep (sym step.keep) k, subst good_same (sym step.same) r)
+    step_stays s next (ExtractIf start end count) answers (Back y) k r step = (subst good_keep (sym step.keep) k, subst good_same (sym step.same) r)
+    step_stays s next (ExtractIf start end count) answers (Refused kind) k r step = (subst good_keep (sym step.keep) k, subst good_same (sym step.same) r)
+    step_stays s next (ExtractIf start end count) answers Range k r step = (subst good_keep (sym step.keep) k, subst good_same (sym step.same) r)
     step_stays s next command answers reply k r step = (subst good_keep (sym step.keep) k, subst good_same (sym step.same) r)
 
     may_run : (s : State T A K S) (commands : List (Command T A)) → good_keep s.keep → good_same s.same → MayRun size calls s commands

@@ -3,6 +3,7 @@ pub mod Callable
 pub mod Taking
 pub mod WholeRuns
 pub mod Differ
+pub mod Extracting
 pub mod Joined
 pub mod Paid
 pub mod Ranges

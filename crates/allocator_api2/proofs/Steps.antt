@@ -4,12 +4,13 @@ use Rattle.std.specs.Prelude.{insert, remove, swap_remove, slice_set, slice_inde
 use Rattle.std.proofs.lemmas.List.{length-append}
 use Rattle.aa_vec.specs.Vector.{Vector, len, SameBlock, GrowsTo, Holds}
 use Rattle.allocator_api2.specs.declared.runner.Command.{Command}
-use Rattle.allocator_api2.specs.declared.runner.Command.TheVariants.{SplitOff, Push, Within, Pop, Insert, Remove, SwapRemove, Truncate, Clear, Append, Extend, Retain, Dedup, Drain}
+use Rattle.allocator_api2.specs.declared.runner.Command.TheVariants.{SplitOff, Push, Within, Pop, Insert, Remove, SwapRemove, Truncate, Clear, Append, Extend, Retain, Dedup, Drain, ExtractIf}
 use Rattle.allocator_api2.specs.declared.runner.Reply.{Reply}
 use Rattle.allocator_api2.specs.declared.runner.Reply.TheVariants.{Done, Item, Nothing, Back, Refused, Range}
 use Rattle.aa_vec.specs.Extending.{Climbs, ExtendsAll, ExtendsFull, lower_by}
 use Rattle.aa_raw.specs.declared.collections.TryReserveErrorKind.{TryReserveErrorKind}
 use Rattle.aa_vec.proofs.Kept.{length-kept, length-deduplicated}
+use Rattle.allocator_api2.proofs.Extracting.{length-taken_out}
 use Rattle.allocator_api2.proofs.Ranges.{length-left_of}
 use Rattle.allocator_api2.specs.Machine.{State, Calls, Step, InRange, Makes, Answers, AnswersRefused, ends_of}
 use Rattle.allocator_api2.specs.Run.{AddsOrRemoves, hint_of, added_by}
@@ -104,6 +105,7 @@ module _ {T A : Type 0} (size : ℕ) where
   change_done main side Append _ main' side' a r m = absurd m.main_does
   change_done main side (Extend items hint) _ main' side' a r m = absurd m.main_does
   change_done main side (Drain start end front back keep) _ main' side' a r m = absurd m.main_does
+  change_done main side (ExtractIf start end count) _ main' side' a r m = absurd m.main_does
   change_done main side Retain _ main' side' a r m = absurd m.main_does
   change_done main side Dedup _ main' side' a r m = absurd m.main_does
   change_done main side command reply main' side' a r m = absurd a
@@ -115,6 +117,7 @@ module _ {T A : Type 0} (size : ℕ) where
   change_refused main side Append kind main' side' a s = same main main' s.leaves.1.main_same
   change_refused main side (Extend items hint) kind main' side' a s = stops hint main items.items kind main' s.leaves.main_does
   change_refused main side (Drain start end front back keep) kind main' side' a s = same main main' s.leaves.1.main_same
+  change_refused main side (ExtractIf start end count) kind main' side' a s = same main main' s.leaves.1.main_same
   change_refused main side (Within x) kind main' side' a s = absurd (s.misfits tt)
   change_refused main side Pop kind main' side' a s = absurd (s.misfits tt)
   change_refused main side (Remove i) kind main' side' a s = absurd (s.misfits tt)
@@ -145,4 +148,11 @@ module _ {T A : Type 0} (size : ℕ) where
         let r = s.retains in shrinks old.main _ new.main (length-kept calls.keeps old.keep old.main.items r.told new.keep r.asked) r.holds
     change_of old Dedup answers reply new a s =
         let r = s.removes in shrinks old.main _ new.main (length-deduplicated calls.repeats old.same old.main.items r.answers new.same r.left r.asked) r.holds
+    change_of old (ExtractIf start end count) answers Done new a s =
+        let t = s.takes in shrinks old.main _ new.main (length-taken_out calls.keeps size old.main old.side start end count old.keep new.main new.side new.keep s.in_range.0 s.in_range.1 t) t.leaves
+    change_of old (ExtractIf start end count) answers (Item y) new a s = change_lists old.main old.side (ExtractIf start end count) (Item y) new.main new.side a s.lists
+    change_of old (ExtractIf start end count) answers Nothing new a s = change_lists old.main old.side (ExtractIf start end count) Nothing new.main new.side a s.lists
+    change_of old (ExtractIf start end count) answers (Back y) new a s = change_lists old.main old.side (ExtractIf start end count) (Back y) new.main new.side a s.lists
+    change_of old (ExtractIf start end count) answers (Refused kind) new a s = change_lists old.main old.side (ExtractIf start end count) (Refused kind) new.main new.side a s.lists
+    change_of old (ExtractIf start end count) answers Range new a s = change_lists old.main old.side (ExtractIf start end count) Range new.main new.side a s.lists
     change_of old command answers reply new a s = change_lists old.main old.side command reply new.main new.side a s.lists

@@ -1,11 +1,13 @@
 -- A command that is answered as the machine may answer it is a step of the machine.
 use Rattle.std.proofs.Common.{◌≡◌, ℕ, [], refl}
 use Rattle.std.specs.Prelude.{⊤}
+use Rattle.aa_vec.specs.Choosing.{answers_of}
 use Rattle.aa_vec.specs.Vector.{Vector}
 use Rattle.allocator_api2.specs.declared.runner.Command.{Command}
-use Rattle.allocator_api2.specs.declared.runner.Command.TheVariants.{SplitOff, Retain, Dedup}
+use Rattle.allocator_api2.specs.declared.runner.Command.TheVariants.{SplitOff, Retain, Dedup, ExtractIf}
 use Rattle.allocator_api2.specs.declared.runner.Reply.{Reply}
-use Rattle.allocator_api2.specs.Commands.{Takes, TakesAlone, TakesStep}
+use Rattle.allocator_api2.specs.declared.runner.Reply.TheVariants.{Done, Item, Nothing, Back, Refused, Range}
+use Rattle.allocator_api2.specs.Commands.{Takes, TakesAlone, TakesChosen, TakesStep}
 use Rattle.allocator_api2.specs.Machine.{Calls, state_of}
 
 module _ {T A : Type 0} where
@@ -14,7 +16,18 @@ module _ {T A : Type 0} where
   AsksNone (SplitOff at) = ⊥
   AsksNone Retain = ⊥
   AsksNone Dedup = ⊥
+  AsksNone (ExtractIf start end count) = ⊥
   AsksNone command = ⊤
+
+module _ {T A K S : Type 0} {size : ℕ} {calls : Calls T A K S} {main side main' : Vector T A} {k : K} {s : S} where
+  chosen : {side' : Vector T A} {k' : K} (start end count : ℕ) (reply : Reply T) → TakesChosen size calls.keeps main side k start end count reply main' side' k'
+      → TakesStep size calls (state_of main side k s) (ExtractIf start end count) reply (state_of main' side' k' s)
+  chosen start end count Done t = record { answers = answers_of t.1.told; step = record { in_range = t.0; same = refl; takes = t.1; asked = refl }; writes = t.2 }
+  chosen start end count (Item y) t = record { answers = []; step = record { none = refl; keep = t.0; same = refl; lists = t.1.answers }; writes = t.1.writes }
+  chosen start end count Nothing t = record { answers = []; step = record { none = refl; keep = t.0; same = refl; lists = t.1.answers }; writes = t.1.writes }
+  chosen start end count (Back y) t = record { answers = []; step = record { none = refl; keep = t.0; same = refl; lists = t.1.answers }; writes = t.1.writes }
+  chosen start end count (Refused kind) t = record { answers = []; step = record { none = refl; keep = t.0; same = refl; lists = t.1.answers }; writes = t.1.writes }
+  chosen start end count Range t = record { answers = []; step = record { none = refl; keep = t.0; same = refl; lists = t.1.answers }; writes = t.1.writes }
 
 module _ {T A K S : Type 0} {size : ℕ} {calls : Calls T A K S} {main side main' : Vector T A} {k : K} {s : S} {reply : Reply T} where
   taken : {side' : Vector T A} (command : Command T A) → AsksNone command → Takes size main side command reply main' side'
@@ -22,6 +35,7 @@ module _ {T A K S : Type 0} {size : ℕ} {calls : Calls T A K S} {main side main
   taken (SplitOff at) none t = absurd none
   taken Retain none t = absurd none
   taken Dedup none t = absurd none
+  taken (ExtractIf start end count) none t = absurd none
   taken command none t = record { answers = []; step = record { none = refl; keep = refl; same = refl; lists = t.answers }; writes = t.writes }
 
   pub takes_both : {side' : Vector T A} {told command : Command T A} → told ≡ command → AsksNone command → Takes size main side command reply main' side'
@@ -31,3 +45,7 @@ module _ {T A K S : Type 0} {size : ℕ} {calls : Calls T A K S} {main side main
   pub takes_alone : {told command : Command T A} → told ≡ command → AsksNone command → TakesAlone size main command reply main'
       → TakesStep size calls (state_of main side k s) told reply (state_of main' side k s)
   takes_alone {command = command} e none t = takes_both e none (t side)
+
+  pub takes_chosen : {side' : Vector T A} {k' : K} {told : Command T A} (start end count : ℕ) → told ≡ ExtractIf start end count → TakesChosen size calls.keeps main side k start end count reply main' side' k'
+      → TakesStep size calls (state_of main side k s) told reply (state_of main' side' k' s)
+  takes_chosen start end count e t = rw e (chosen start end count reply t)

@@ -1,9 +1,11 @@
 -- What the functions of single commands promise.
-use Rattle.std.specs.Prelude.{ℕ, ◌+◌, ◌≤◌, Bool, List, []}
-use Rattle.aa_vec.specs.Vector.{Vector}
+use Rattle.std.specs.Prelude.{◌≡◌, ℕ, ◌+◌, ◌-◌, ◌≤◌, Bool, List, []}
+use Rattle.aa_vec.specs.Vector.{Vector, len}
 use Rattle.allocator_api2.specs.declared.runner.Command.{Command}
+use Rattle.allocator_api2.specs.declared.runner.Command.TheVariants.{ExtractIf}
 use Rattle.allocator_api2.specs.declared.runner.Reply.{Reply}
-use Rattle.allocator_api2.specs.Machine.{State, Calls, Answers, Step}
+use Rattle.allocator_api2.specs.declared.runner.Reply.TheVariants.{Done}
+use Rattle.allocator_api2.specs.Machine.{State, Calls, Answers, InRange, Step, TakesOut}
 use Rattle.allocator_api2.specs.Run.{cost_by}
 
 module _ {T A : Type 0} (size : ℕ) where
@@ -22,3 +24,13 @@ module _ {T A K S : Type 0} (size : ℕ) (calls : Calls T A K S) where
     pub answers : List Bool
     pub step : Step size calls old command answers reply new
     pub writes : new.main.written ≤ old.main.written + cost_by old.main old.side command answers reply new.main
+
+module _ {T A K : Type 0} (size : ℕ) (Keeps : K → T → Bool → K → T → Type 0) where
+  -- elements of the range were taken out, and no more of main was written than stands behind the range's start then; or the closure was
+  -- not called
+  abbrev pub TakesChosen : (main side : Vector T A) → K → (start end count : ℕ) → Reply T → (main' side' : Vector T A) → K → Type 0
+  TakesChosen main side keep start end count Done main' side' keep' =
+      InRange main (ExtractIf start end count) × TakesOut Keeps size main side start end count keep main' side' keep'
+      × (main'.written ≤ main.written + (len main' - start))
+  TakesChosen main side keep start end count reply main' side' keep' =
+      (keep' ≡ keep) × Takes size main side (ExtractIf start end count) reply main' side'

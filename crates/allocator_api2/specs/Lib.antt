@@ -1,3 +1,7 @@
+pub use Rattle.aa_gap.specs.Buffer
+pub use Rattle.aa_gap.specs.Editing
+pub use Rattle.aa_gap.specs.Page
+pub use Rattle.aa_gap.specs.Taken
 pub use Rattle.aa_raw.specs.Block
 pub use Rattle.aa_raw.specs.Clones
 pub use Rattle.aa_raw.specs.Closures

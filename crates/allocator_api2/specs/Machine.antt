@@ -1,7 +1,7 @@
 -- The list machine: two lists, each beside a capacity, and what each command makes of them.
 use denote.Ref.{MutBor}
 use denote.Param.Members.{Mut}
-use Rattle.std.specs.Prelude.{◌≡◌, ℕ, ◌+◌, ◌-◌, ◌<◌, ◌≤◌, min, max, Bool, ◌==◌, List, [], ◌∷◌, ◌++◌, take, drop, replicate, insert, remove, swap_remove, slice_get, slice_range, reverse, if◌then◌else◌, Some, ◌⊎◌, ⊤}
+use Rattle.std.specs.Prelude.{◌≡◌, ℕ, ◌+◌, ◌-◌, ◌<◌, ◌≤◌, min, max, Bool, ◌==◌, List, [], ◌∷◌, ◌++◌, length, take, drop, replicate, insert, remove, swap_remove, slice_get, slice_range, reverse, if◌then◌else◌, Some, ◌⊎◌, ⊤}
 use Rattle.std.specs.Fn.{CalledAtMut, CalledAtPairMut}
 use Rattle.aa_raw.specs.Closures.{TakesPairMut}
 use Rattle.aa_raw.specs.declared.collections.TryReserveErrorKind.{TryReserveErrorKind}
@@ -9,12 +9,12 @@ use Rattle.aa_raw.specs.declared.collections.TryReserveErrorKind.TheVariants.{Al
 use Rattle.aa_raw.specs.Refusals.{IsRefusedAt}
 use Rattle.aa_raw.specs.Growth.{usize_max}
 use Rattle.aa_vec.specs.Vector.{Vector, len, sized, HasRoom, LacksRoom, GrowsTo, GrowsExactly, Shrinks, SameBlock, Holds, Writes, run_count}
-use Rattle.aa_vec.specs.Choosing.{TakesMut, Retains, Deduplicates, answers_of}
+use Rattle.aa_vec.specs.Choosing.{Asked, AskedInOrder, EndsTrue, TakesMut, Retains, Deduplicates, answers_of, kept, passed_over}
 use Rattle.aa_vec.specs.Copies.{IsMade}
 use Rattle.aa_vec.specs.Extending.{ExtendsAll, ExtendsFull, lower_by}
 use Rattle.aa_vec.specs.Splicing.{SplicesAll, SplicesShort}
 use Rattle.allocator_api2.specs.declared.runner.Command.{Command}
-use Rattle.allocator_api2.specs.declared.runner.Command.TheVariants.{Push, Within, Pop, Insert, Remove, SwapRemove, Truncate, Clear, Reserve, ReserveExact, ShrinkTo, SplitOff, Append, Extend, ExtendFromWithin, Resize, Retain, Dedup, Drain, Splice}
+use Rattle.allocator_api2.specs.declared.runner.Command.TheVariants.{Push, Within, Pop, Insert, Remove, SwapRemove, Truncate, Clear, Reserve, ReserveExact, ShrinkTo, SplitOff, Append, Extend, ExtendFromWithin, Resize, Retain, Dedup, Drain, ExtractIf, Splice}
 use Rattle.allocator_api2.specs.declared.runner.Reply.{Reply}
 use Rattle.allocator_api2.specs.declared.runner.Reply.TheVariants.{Done, Item, Nothing, Back, Refused, Range}
 
@@ -83,6 +83,7 @@ module _ {T A : Type 0} where
   InRange main Retain = ⊤
   InRange main Dedup = ⊤
   InRange main (Drain start end front back keep) = (start ≤ end) × (end ≤ len main)
+  InRange main (ExtractIf start end count) = (start ≤ end) × (end ≤ len main)
   InRange main (Splice start end items hint) = (start ≤ end) × (end ≤ len main)
 
   -- the command needs no memory, and no clone
@@ -107,6 +108,7 @@ module _ {T A : Type 0} where
   Fits main side Dedup = ⊤
   Fits main side (Drain start end front back keep) =
       let taken = ends_of (end - start) front back in HasRoom side (taken.0 + taken.1)
+  Fits main side (ExtractIf start end count) = HasRoom side (min count (end - start))
   Fits main side (Splice start end items hint) = FitsRange main start end (len items) (lower_by hint)
 
   -- what a command does to main alone; side stays
@@ -129,6 +131,17 @@ module _ {T A : Type 0} where
       (main' side' : Vector T A) : Type 0 where
     pub leaves : Holds main (left_of main.items start end taken keep) main'
     pub gives : GrowsTo size side (taken.0 + taken.1) (side.items ++ given_of main.items start end taken) side'
+
+  -- of the range of main the first elements were asked of `keep`, in order. Those at which it answered true, so many at most, are behind
+  -- the elements of side; no other was asked after the last of them, and the others stay
+  pub record TakesOut {K : Type 0} (Keeps : K → T → Bool → K → T → Type 0) (size : ℕ) (main side : Vector T A) (start end count : ℕ)
+      (keep : K) (main' side' : Vector T A) (keep' : K) : Type 0 where
+    pub told : List (Asked T)
+    pub asked : AskedInOrder Keeps keep (take (length told) (slice_range main.items start end)) told keep'
+    pub enough : (length (kept told) ≡ min count (end - start)) × EndsTrue told
+        ⊎ (length (kept told) < min count (end - start)) × (length told ≡ end - start)
+    pub leaves : Holds main (take start main.items ++ (passed_over told ++ drop (start + length told) main.items)) main'
+    pub gives : GrowsTo size side (min count (end - start)) (side.items ++ kept told) side'
 
   -- there was no room for k copies, and nothing has changed; or a clone of an element was refused, and the room for all stays
   abbrev pub LacksCopies : (size : ℕ) → Vector T A → (k : ℕ) → TryReserveErrorKind → Vector T A → Type 0
@@ -193,6 +206,8 @@ module _ {T A : Type 0} (size : ℕ) where
   Leaves main side Append kind main' side' = LacksRoom main (len side) kind × Unchanged main side main' side'
   Leaves main side (Drain start end front back keep) kind main' side' =
       let taken = ends_of (end - start) front back in LacksRoom side (taken.0 + taken.1) kind × Unchanged main side main' side'
+  Leaves main side (ExtractIf start end count) kind main' side' =
+      LacksRoom side (min count (end - start)) kind × Unchanged main side main' side'
   Leaves main side command kind main' side' = OnMain side side' (LeavesOfMain main command kind main')
 
   -- an index lies outside
@@ -284,9 +299,21 @@ module _ {T A K S : Type 0} (size : ℕ) (calls : Calls T A K S) where
     pub removes : Deduplicates calls.repeats old.same old.main new.same new.main
     pub asked : answers ≡ removes.answers
 
+  -- `keep` is asked of elements of a range, and no closure is called where the reply is another
+  pub record CallsExtract (old : State T A K S) (start end count : ℕ) (answers : List Bool) (new : State T A K S) : Type 0 where
+    pub in_range : InRange old.main (ExtractIf start end count)
+    pub same : new.same ≡ old.same
+    pub takes : TakesOut calls.keeps size old.main old.side start end count old.keep new.main new.side new.keep
+    pub asked : answers ≡ answers_of takes.told
+
+  abbrev pub CallsChosen : State T A K S → (start end count : ℕ) → (answers : List Bool) → Reply T → State T A K S → Type 0
+  CallsChosen old start end count answers Done new = CallsExtract old start end count answers new
+  CallsChosen old start end count answers reply new = CallsNone old (ExtractIf start end count) answers reply new
+
   -- old may answer the command by this reply, where closures that it calls answer so, and become new
   abbrev pub Step : State T A K S → Command T A → (answers : List Bool) → Reply T → State T A K S → Type 0
   Step old (SplitOff at) answers reply new = CallsClone old at answers reply new
   Step old Retain answers reply new = CallsKeep old answers reply new
   Step old Dedup answers reply new = CallsSame old answers reply new
+  Step old (ExtractIf start end count) answers reply new = CallsChosen old start end count answers reply new
   Step old command answers reply new = CallsNone old command answers reply new

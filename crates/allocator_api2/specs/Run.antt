@@ -1,12 +1,12 @@
 -- Whole runs of the list machine, and what is counted on them.
-use Rattle.std.specs.Prelude.{◌≡◌, ℕ, ◌+◌, ◌-◌, ◌*◌, ◌≤◌, max, Bool, not, List, [], ◌∷◌, map, sum_by, if◌then◌else◌, Option, None, ⊤}
+use Rattle.std.specs.Prelude.{◌≡◌, ℕ, ◌+◌, ◌-◌, ◌*◌, ◌≤◌, max, Bool, not, List, [], ◌∷◌, map, slice_range, sum_by, if◌then◌else◌, Option, None, ⊤}
 use Rattle.std.specs.List.{AllByRecursion}
 use Rattle.aa_raw.specs.declared.raw_vec.Growth.{Growth}
 use Rattle.aa_raw.specs.declared.raw_vec.Growth.TheVariants.{Doubling, Sparing}
 use Rattle.aa_vec.specs.Choosing.{IsCallableInOrder, IsCallableAlong, kept_behind_removed}
 use Rattle.aa_vec.specs.Vector.{Vector, len}
 use Rattle.allocator_api2.specs.declared.runner.Command.{Command}
-use Rattle.allocator_api2.specs.declared.runner.Command.TheVariants.{Push, Within, Pop, Insert, Remove, SwapRemove, Truncate, Clear, Reserve, ReserveExact, ShrinkTo, SplitOff, Append, Extend, ExtendFromWithin, Resize, Retain, Dedup, Drain, Splice}
+use Rattle.allocator_api2.specs.declared.runner.Command.TheVariants.{Push, Within, Pop, Insert, Remove, SwapRemove, Truncate, Clear, Reserve, ReserveExact, ShrinkTo, SplitOff, Append, Extend, ExtendFromWithin, Resize, Retain, Dedup, Drain, ExtractIf, Splice}
 use Rattle.allocator_api2.specs.declared.runner.Reply.{Reply}
 use Rattle.allocator_api2.specs.declared.runner.Reply.TheVariants.{Done, Back, Range}
 use Rattle.allocator_api2.specs.Machine.{State, Calls, Step, IsPossible, ends_of}
@@ -32,6 +32,7 @@ module _ {T A : Type 0} where
   AddsOrRemoves Retain = ⊤
   AddsOrRemoves Dedup = ⊤
   AddsOrRemoves (Drain start end front back keep) = ⊤
+  AddsOrRemoves (ExtractIf start end count) = ⊤
   AddsOrRemoves (Reserve k) = ⊥
   AddsOrRemoves (ReserveExact k) = ⊥
   AddsOrRemoves (ShrinkTo k) = ⊥
@@ -63,6 +64,7 @@ module _ {T A : Type 0} where
   AddsOneAtMost Retain = ⊤
   AddsOneAtMost Dedup = ⊤
   AddsOneAtMost (Drain start end front back keep) = ⊤
+  AddsOneAtMost (ExtractIf start end count) = ⊤
   AddsOneAtMost (Reserve k) = ⊥
   AddsOneAtMost (ReserveExact k) = ⊥
   AddsOneAtMost (ShrinkTo k) = ⊥
@@ -94,6 +96,7 @@ module _ {T A : Type 0} where
   added_by main side Retain reply main' = 0
   added_by main side Dedup reply main' = 0
   added_by main side (Drain start end front back keep) reply main' = 0
+  added_by main side (ExtractIf start end count) reply main' = 0
   added_by main side (Splice start end items hint) reply main' = 0
 
   -- how many elements of main a command may write
@@ -118,6 +121,7 @@ module _ {T A : Type 0} where
   cost_of main side Dedup answers main' = kept_behind_removed (map not answers)
   cost_of main side (Drain start end front back keep) answers main' =
       let taken = ends_of (end - start) front back in len main - end + (if keep then end - start - taken.0 - taken.1 else 0)
+  cost_of main side (ExtractIf start end count) answers main' = len main' - start
   cost_of main side (Splice start end items hint) answers main' = len main' - (start + (len main - end)) + 2 * (len main - end)
 
   abbrev pub cost_by : (main side : Vector T A) → Command T A → List Bool → Reply T → (main' : Vector T A) → ℕ
@@ -173,13 +177,14 @@ moves_each Doubling = 2
 moves_each Sparing = 3
 
 module _ {T A K S : Type 0} (old : State T A K S) (commands : List (Command T A)) (turns : List (Turn T A K S)) (new : State T A K S) where
-  -- from an empty vector, whatever is removed, what was added has been moved by growth twice at most, or three times if sparing
+  -- from an empty vector, adding n elements, whatever is removed between, moves at most 2n elements by growth, or 3n if sparing
   abbrev pub GrowthBound : Type 0
   GrowthBound =
       old.main.items ≡ [] → AllByRecursion AddsOrRemoves commands
       → new.main.grown ≤ old.main.grown + moves_each old.main.growth * sum_by added turns
 
-  -- from a vector without places, where the commands tell no hint, main has at most 8 places or twice its greatest length at the end
+  -- from a vector without places, where the commands tell no hint, main has at most 8 places or twice its greatest length at the end,
+  -- whichever way it grows
   abbrev pub CapacityBound : Type 0
   CapacityBound =
       old.main.items ≡ [] → old.main.capacity ≡ 0 → AllByRecursion IsUnhinted commands
@@ -203,6 +208,7 @@ module _ {T A K S : Type 0} (size : ℕ) (calls : Calls T A K S) where
   abbrev pub MayCall : State T A K S → Command T A → Type 0
   MayCall s Retain = IsCallableInOrder calls.keeps calls.takes_keep s.keep s.main.items
   MayCall s Dedup = IsCallableAlong calls.repeats calls.takes_same s.same s.main.items
+  MayCall s (ExtractIf start end count) = IsCallableInOrder calls.keeps calls.takes_keep s.keep (slice_range s.main.items start end)
   MayCall s command = ⊤
 
   -- and so along every run: in every state that they reach, on everything that main then holds

@@ -13,6 +13,7 @@ use std::alloc::{Allocator, Global};
 
 mod commands;
 mod draining;
+mod extracting;
 
 /// What `run` is told to do with the main vector.
 #[derive(Drop)]
@@ -72,6 +73,16 @@ pub enum Command<T, A: Allocator = Global> {
         /// Whether what is left of the range stays in main.
         keep: bool,
     },
+    /// Takes out of a range the elements at which `keep` answers true, so many at most, and puts them behind the last element of
+    /// side. No other is asked after the last of them.
+    ExtractIf {
+        /// The index of the range's first element.
+        start: usize,
+        /// The index before which it ends, which is at most the length.
+        end: usize,
+        /// How many elements are taken at most.
+        take: usize,
+    },
     /// Puts items in place of a range, which are told to be so many, true or not, or as many as they are.
     Splice {
         /// The index of the range's first element.
@@ -103,13 +114,13 @@ pub enum Reply<T> {
 }
 
 /// Runs the commands in order on the two vectors, and puts a reply for each behind those in `replies`, which has room for them.
-/// `keep` is asked by `Retain`, and `same` by `Dedup`; each goes on from the state that its last call left. It takes memory where a
+/// `keep` is asked by `Retain` and `ExtractIf`, and `same` by `Dedup`; each goes on from the state that its last call left. It takes memory where a
 /// vector grows; a refused growth is the command's reply, and the next command goes on.
 ///
 /// **For every element type, allocator, pair of closures and list of commands, `run` leaves the two lists, capacities and replies
 /// of a run of the list machine, in which only a command that does not fit may be refused; and from an empty vector, adding n
 /// elements by pushes, inserts, appends and extensions, under any size hints, whatever is removed between, moves at most 2n
-/// elements by growth** (3n where growth is sparing).
+/// elements by growth, or 3n if sparing.**
 pub fn run<T, A, K, S>(
     main: &mut Vec<T, A>,
     side: &mut Vec<T, A>,
@@ -216,6 +227,9 @@ where
             back,
             keep,
         } => draining::drain(main, side, start, end, front, back, keep),
+        Command::ExtractIf { start, end, take } => {
+            extracting::extract(main, side, start, end, take, keep)
+        }
         Command::Splice {
             start,
             end,

@@ -1,8 +1,11 @@
 pub mod Beginnings
 pub mod Mapped
 pub mod Named
+pub mod Numbers
 pub mod Parts
+pub mod Pieces
 pub mod Read
+pub mod Sparing
 pub mod Taken
 pub mod TextLines
 pub mod Told

@@ -1,5 +1,5 @@
 -- Words of which some were read as elements.
-use Rattle.std.proofs.Common.{◌≡◌, List, [], ◌∷◌, ◌++◌, rules}
+use Rattle.std.proofs.Common.{◌≡◌, ◌≢◌, refl, List, [], ◌∷◌, ◌++◌, rules}
 use Rattle.std.proofs.lemmas.List.{append_assoc, append-nil}
 use Rattle.std.specs.List.{AllZip}
 
@@ -15,6 +15,12 @@ module _ {W X : Type 0} (R : W → X → Type 0) where
   AllZip-more [] (y ∷ ys) w x each r = absurd each
   AllZip-more (v ∷ vs) [] w x each r = absurd each
   AllZip-more (v ∷ vs) (y ∷ ys) w x each r = (each.0, AllZip-more vs ys w x each.1 r)
+
+  pub AllZip-append : (ws vs : List W) (xs ys : List X) → AllZip R ws xs → AllZip R vs ys → AllZip R (ws ++ vs) (xs ++ ys)
+  AllZip-append [] vs [] ys each more = more
+  AllZip-append [] vs (x ∷ xs) ys each more = absurd each
+  AllZip-append (w ∷ ws) vs [] ys each more = absurd each
+  AllZip-append (w ∷ ws) vs (x ∷ xs) ys each more = (each.0, AllZip-append ws vs xs ys each.1 more)
 
   -- some element is read of each word
   AllZip-one : (before : List W) (w : W) (rest : List W) (xs : List X) → AllZip R (before ++ w ∷ rest) xs → (x : X) × R w x
@@ -45,3 +51,9 @@ module _ {W X : Type 0} (R : W → X → Type 0) where
       let whole : all ≡ had.before ++ w ∷ new = rw (← next) had.place in
       let one = AllZip-one had.before w new ys (rw whole at each) in
       never one.0 one.1
+
+  -- the word that is left first is not read
+  pub HasTaken-stuck : (all old : List W) (xs : List X) → HasTaken all old xs → old ≢ [] → ((w : W) (more : List W) (x : X) → old ≡ w ∷ more → ¬ (R w x))
+      → (ys : List X) → ¬ (AllZip R all ys)
+  HasTaken-stuck all [] xs had some never ys each = some refl
+  HasTaken-stuck all (w ∷ more) xs had some never ys each = HasTaken-none all (w ∷ more) more w xs had refl (λ x. never w more x refl) ys each

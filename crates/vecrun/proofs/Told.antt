@@ -1,15 +1,16 @@
 -- A run whose closures are told in other words: where those say what each call does, they say it of the run.
-use Rattle.std.proofs.Common.{ℕ, Bool, inl, inr, true, false, List, [], ◌∷◌}
-use Rattle.std.specs.Prelude.{Option, None, Some, IfSome, ◌⊎◌}
+use Rattle.std.proofs.Common.{ℕ, Bool, inl, inr, true, false, List, [], ◌∷◌, length, take}
+use Rattle.std.specs.Prelude.{Option, None, Some, IfSome, ◌⊎◌, slice_range}
 use Rattle.std.specs.Global.{Global}
 use Rattle.std.specs.Io.KnownBytes.{Keeps, Appends}
 use Rattle.std.specs.Str.Lines.{lines}
 use Rattle.aa_vec.specs.Choosing.{Asked, AskedInOrder, Retains, ChainsFrom, Deduplicated, Deduplicates}
 use Rattle.aa_vec.specs.Vector.{Vector}
 use Rattle.allocator_api2.specs.declared.runner.Command.{Command}
-use Rattle.allocator_api2.specs.declared.runner.Command.TheVariants.{SplitOff, Retain, Dedup}
+use Rattle.allocator_api2.specs.declared.runner.Command.TheVariants.{SplitOff, Retain, Dedup, ExtractIf}
 use Rattle.allocator_api2.specs.declared.runner.Reply.{Reply}
-use Rattle.allocator_api2.specs.Machine.{State, Calls, CallsNone, Step}
+use Rattle.allocator_api2.specs.declared.runner.Reply.TheVariants.{Done, Item, Nothing, Back, Refused, Range}
+use Rattle.allocator_api2.specs.Machine.{State, Calls, CallsNone, Step, TakesOut}
 use Rattle.allocator_api2.specs.Run.{Turn, IsRun, RunsTo}
 use Rattle.vecrun.specs.Print.{AppendsBeginning}
 use Rattle.vecrun.specs.Runs.{element_size, MayAnswer}
@@ -38,6 +39,11 @@ module _ {T K S : Type 0} (Asks Told : K → T → Bool → K → T → Type 0) 
   Retains-told k old l new h =
       record { told = h.told; asked = asked-told k old.items h.told l h.asked; holds = h.holds; written = h.written; runs = h.runs }
 
+  TakesOut-told : {A : Type 0} (size : ℕ) (main side : Vector T A) (start end count : ℕ) (k : K) (main' side' : Vector T A) (l : K)
+      → TakesOut Asks size main side start end count k main' side' l → TakesOut Told size main side start end count k main' side' l
+  TakesOut-told size main side start end count k main' side' l h =
+      record { told = h.told; asked = asked-told k (take (length h.told) (slice_range main.items start end)) h.told l h.asked; enough = h.enough; leaves = h.leaves; gives = h.gives }
+
   Deduplicates-told : {A : Type 0} (s : S) (old : Vector T A) (r : S) (new : Vector T A) → Deduplicates Repeats s old r new → Deduplicates ToldPair s old r new
   Deduplicates-told s old r new h =
       record {
@@ -60,7 +66,7 @@ module _ {T A K S : Type 0} (calls told : Calls T A K S)
 
     Step-told : (old : State T A K S) (command : Command T A) (answers : List Bool) (reply : Reply T) (new : State T A K S)
         → Step size calls old command answers reply new → Step size told old command answers reply new
-    unfolding Retains-told Deduplicates-told
+    unfolding Retains-told Deduplicates-told TakesOut-told
     Step-told old (SplitOff at) answers reply new s =
         record {
           cut = CallsNone-told old (SplitOff at) answers reply new s.cut;
@@ -73,6 +79,14 @@ module _ {T A K S : Type 0} (calls told : Calls T A K S)
     Step-told old Dedup answers reply new s =
         let kept = Deduplicates-told calls.keeps told.keeps calls.repeats told.repeats keeps repeats old.same old.main new.same new.main s.removes in
         record { done = s.done; side = s.side; keep = s.keep; removes = kept; asked = s.asked }
+    Step-told old (ExtractIf start end count) answers Done new s =
+        let taken = TakesOut-told calls.keeps told.keeps calls.repeats told.repeats keeps repeats size old.main old.side start end count old.keep new.main new.side new.keep s.takes in
+        record { in_range = s.in_range; same = s.same; takes = taken; asked = s.asked }
+    Step-told old (ExtractIf start end count) answers (Item y) new s = CallsNone-told old (ExtractIf start end count) answers (Item y) new s
+    Step-told old (ExtractIf start end count) answers Nothing new s = CallsNone-told old (ExtractIf start end count) answers Nothing new s
+    Step-told old (ExtractIf start end count) answers (Back y) new s = CallsNone-told old (ExtractIf start end count) answers (Back y) new s
+    Step-told old (ExtractIf start end count) answers (Refused kind) new s = CallsNone-told old (ExtractIf start end count) answers (Refused kind) new s
+    Step-told old (ExtractIf start end count) answers Range new s = CallsNone-told old (ExtractIf start end count) answers Range new s
     Step-told old command answers reply new s = CallsNone-told old command answers reply new s
 
     IsRun-told : (old : State T A K S) (turns : List (Turn T A K S)) (new : State T A K S) → IsRun size calls old turns new → IsRun size told old turns new

@@ -1,6 +1,9 @@
 -- The words of a line, taken from its front.
-use Rattle.std.proofs.Common.{◌≡◌, ◌≢◌, ℕ, ◌+◌, Bool, true, false, not, List, [], ◌∷◌, length, drop, filter, nat_lt, refl, sym, ap, ◌∙◌, arith, one-add, length-take}
+use Rattle.std.proofs.Common.{◌≡◌, ◌≢◌, ℕ, zero, suc, ◌+◌, ◌<◌, Bool, true, false, not, List, [], ◌∷◌, length, drop, filter, nat_lt, refl, sym, ap, ◌∙◌, arith, one-add, length-take, length-drop}
 use Rattle.std.specs.List.{prefix_len, position_or_len}
+use Rattle.std.specs.Prelude.{MatchBool, nat_eq}
+use Rattle.std.proofs.lemmas.Bool.{eqb-true, eqb-false}
+use Rattle.std.proofs.lemmas.List.{drop_all}
 use Rattle.std.proofs.lemmas.Bool.Decides.{nat_tests}
 use Rattle.std.proofs.lemmas.List.Sums.{prefix_len-le-length}
 use Rattle.vecrun.specs.Lines.{is_blank, words_of}
@@ -62,3 +65,49 @@ words_of_first_word xs word rest is_front is_rest some =
     let split : words_of line ≡ front is_blank line ∷ words_of (following is_blank line) =
     rw (slice_split-front is_blank line, kept, words_of-following line) refl in
     rw (is_front, is_rest) (sym (words_of-unindented xs) ∙ split)
+
+-- the first word stands behind the blanks in front
+pub first_word_is : (xs word : List ℕ) (more : List (List ℕ)) → words_of xs ≡ word ∷ more → word ≡ front is_blank (unindented xs)
+first_word_is xs word more e = by_length (length (front is_blank (unindented xs))) refl
+  where
+    by_length : (n : ℕ) → length (front is_blank (unindented xs)) ≡ n → word ≡ front is_blank (unindented xs)
+    by_length zero none =
+        let no_words = (words_of_no_word xs (front is_blank (unindented xs)) (following is_blank (unindented xs)) refl refl none).0 in
+        absurd (omega (arith, ap length (sym e ∙ no_words)))
+    by_length (suc n) some =
+        let first = words_of_first_word xs (front is_blank (unindented xs)) (following is_blank (unindented xs)) refl refl (omega arith) in
+        cc
+
+-- behind the blanks in front there is a word, or nothing
+pub word_there : (xs : List ℕ) → length (unindented xs) ≢ 0 → length (front is_blank (unindented xs)) ≢ 0
+word_there xs some none =
+    let counted = length-take (position_or_len is_blank (unindented xs)) (unindented xs) in
+    let within = prefix_len-le-length (λ x. not (is_blank x)) (unindented xs) in
+    let at_end : unindented xs ≡ [] = unindented_end xs (omega arith) in
+    some (ap length at_end)
+
+-- where all of a line is blank it has no words, and else it has some
+pub words_or_none : (xs : List ℕ) → MatchBool (nat_eq (prefix_len is_blank xs) (length xs)) (words_of xs ≡ []) (words_of xs ≢ [])
+words_or_none xs = by_test (nat_eq (prefix_len is_blank xs) (length xs)) refl
+  where
+    by_test : (b : Bool) → nat_eq (prefix_len is_blank xs) (length xs) ≡ b → MatchBool b (words_of xs ≡ []) (words_of xs ≢ [])
+    by_test true e =
+        let all = eqb-true (prefix_len is_blank xs) (length xs) e in
+        let gone : unindented xs ≡ [] = drop_all (prefix_len is_blank xs) xs (omega arith) in
+        sym (words_of-unindented xs) ∙ rw gone refl
+    by_test false e =
+        let part = eqb-false (prefix_len is_blank xs) (length xs) e in
+        let within = prefix_len-le-length is_blank xs in
+        let left : length (unindented xs) ≢ 0 = λ h. part (omega (arith, length-drop (prefix_len is_blank xs) xs)) in
+        let some = word_there xs left in
+        let first = words_of_first_word xs (front is_blank (unindented xs)) (following is_blank (unindented xs)) refl refl some in
+        λ none. omega (arith, ap length (sym none ∙ first))
+
+-- a step over a word leaves less of the line
+pub following-shorter : (xs : List ℕ) → length (front is_blank (unindented xs)) ≢ 0 → length (following is_blank (unindented xs)) < length xs
+following-shorter xs some =
+    let line = unindented xs in
+    let word = length-take (position_or_len is_blank line) line in
+    let rest = length-drop (position_or_len is_blank line) line in
+    let left = length-drop (prefix_len is_blank xs) xs in
+    omega arith

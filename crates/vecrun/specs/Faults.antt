@@ -1,19 +1,28 @@
 -- What a fault says of the script, and the status that it gives.
-use Rattle.std.specs.Prelude.{◌≡◌, ℕ, List, ◌++◌, ⊤, Option, IfSome, Result, MatchResult, codes, decimal, ◌↔◌, ◌⊎◌}
+use Rattle.std.specs.Prelude.{◌≡◌, ℕ, ◌+◌, List, ◌++◌, ⊤, Option, IfSome, Result, MatchResult, codes, decimal, ◌↔◌, ◌⊎◌}
 use Rattle.std.specs.IoError.{error_kind}
 use Rattle.std.specs.Str.Lines.{lines}
 use Rattle.std.specs.declared.io.Error.{Error}
 use Rattle.std.specs.declared.io.ErrorKind.{ErrorKind}
 use Rattle.std.specs.declared.io.ErrorKind.TheVariants.{OutOfMemory as MemoryRefused, Other}
-use Rattle.vecrun.specs.Lines.{IsFirstBad}
+use Rattle.vecrun.specs.Lines.{IsFirstBad, command_lines}
 use Rattle.vecrun.specs.declared.script.Fault.{Fault}
 use Rattle.vecrun.specs.declared.script.Fault.TheVariants.{BadLine, OutOfMemory, InputOutput}
 
--- a bad line is the first of the text, where the text is known
+-- a bad line is the first of these
+abbrev pub IsFoundAmong : List (List ℕ) → Fault → Type 0
+IsFoundAmong lines (BadLine number) = IsFirstBad lines number
+IsFoundAmong lines OutOfMemory = ⊤
+IsFoundAmong lines InputOutput = ⊤
+
+-- a bad line is the first of the script, where its text is known
 abbrev pub IsFoundIn : Option (List ℕ) → Fault → Type 0
-IsFoundIn text (BadLine number) = IfSome text (λ bytes. IsFirstBad (lines bytes) number)
-IsFoundIn text OutOfMemory = ⊤
-IsFoundIn text InputOutput = ⊤
+IsFoundIn text fault = IfSome text (λ bytes. IsFoundAmong (command_lines (lines bytes)) fault)
+
+-- the fault of lines in front of which so many others stand
+abbrev pub behind : ℕ → Fault → Fault
+behind before (BadLine number) = BadLine (before + number)
+behind before fault = fault
 
 -- the words of the line of this number are read as what P says, and it is a bad line where P says nothing
 abbrev pub ReadsAs : {X : Type 0} → ℕ → (X → Type 0) → Result X Fault → Type 0

@@ -1,11 +1,13 @@
 -- The words of a line, and the command that they say.
-use Rattle.std.specs.Prelude.{◌≡◌, ◌≢◌, ℕ, ◌+◌, ◌^◌, ◌<◌, Bool, true, false, ◌==◌, ◌||◌, List, [], ◌∷◌, ◌++◌, length, filter, Option, None, Some, nat_lt, codes, MatchBool, All, map}
+use Rattle.std.specs.Prelude.{◌≡◌, ◌≢◌, ℕ, ◌+◌, ◌^◌, ◌<◌, Bool, true, false, ◌==◌, ◌||◌, List, [], ◌∷◌, ◌++◌, length, filter, if◌then◌else◌, Option, None, Some, nat_lt, codes, MatchBool, All, map}
 use Rattle.std.specs.Global.{Global}
-use Rattle.std.specs.List.{AllZip, slice_split}
+use Rattle.std.specs.List.{AllByRecursion, AllZip, slice_split}
 use Rattle.std.specs.Str.{bytes_eq, IsUtf8}
 use Rattle.std.specs.Str.Parse.{IsNumeral, digits_value}
+use Rattle.allocator_api2.specs.declared.raw_vec.Growth.{Growth}
+use Rattle.allocator_api2.specs.declared.raw_vec.Growth.TheVariants.{Doubling, Sparing}
 use Rattle.allocator_api2.specs.declared.runner.Command.{Command}
-use Rattle.allocator_api2.specs.declared.runner.Command.TheVariants.{Push, Within, Pop, Insert, Remove, SwapRemove, Truncate, Clear, Reserve, ReserveExact, ShrinkTo, SplitOff, Append, Extend, ExtendFromWithin, Resize, Retain, Dedup, Drain, Splice}
+use Rattle.allocator_api2.specs.declared.runner.Command.TheVariants.{Push, Within, Pop, Insert, Remove, SwapRemove, Truncate, Clear, Reserve, ReserveExact, ShrinkTo, SplitOff, Append, Extend, ExtendFromWithin, Resize, Retain, Dedup, Drain, ExtractIf, Splice}
 
 -- a space or a tab
 abbrev pub is_blank : ℕ → Bool
@@ -34,6 +36,12 @@ AreNumberAndElement words p = (v : List ℕ) × (w : List ℕ) × (words ≡ v �
 -- the words are two, which write numbers
 abbrev pub AreNumbers : List (List ℕ) → ℕ × ℕ → Type 0
 AreNumbers words p = (v : List ℕ) × (w : List ℕ) × (words ≡ v ∷ w ∷ []) × Writes (2 ^ 64) v p.0 × Writes (2 ^ 64) w p.1
+
+-- the words are three, which write numbers
+abbrev pub AreThreeNumbers : List (List ℕ) → ℕ × ℕ × ℕ → Type 0
+AreThreeNumbers words p =
+    (u : List ℕ) × (v : List ℕ) × (w : List ℕ) × (words ≡ u ∷ v ∷ w ∷ [])
+    × Writes (2 ^ 64) u p.0 × Writes (2 ^ 64) v p.1 × Writes (2 ^ 64) w p.2
 
 -- the word says whether what is left of a range stays
 abbrev pub SaysKept : List ℕ → Bool → Type 0
@@ -68,7 +76,8 @@ SayAfter name rest command =
     (MatchBool (bytes_eq name (codes "retain")) ((rest ≡ []) × (command ≡ Retain))
     (MatchBool (bytes_eq name (codes "dedup")) ((rest ≡ []) × (command ≡ Dedup))
     (MatchBool (bytes_eq name (codes "drain")) ((p : ℕ × ℕ × ℕ × ℕ × Bool) × AreDrain rest p × (command ≡ Drain p.0 p.1 p.2 p.3 p.4))
-    ⊥)))))))))))))))))
+    (MatchBool (bytes_eq name (codes "extract")) ((p : ℕ × ℕ × ℕ) × AreThreeNumbers rest p × (command ≡ ExtractIf p.0 p.1 p.2))
+    ⊥))))))))))))))))))
 
 -- the word is a hyphen where no number is told, and else writes the number
 abbrev pub IsHint : List ℕ → Option ℕ → Type 0
@@ -97,6 +106,32 @@ Say (name ∷ rest) command =
 -- the words of each line that has some, in order
 abbrev pub said_in : List (List ℕ) → List (List (List ℕ))
 said_in lines = filter (λ words. nat_lt 0 (length words)) (map words_of lines)
+
+-- the words are `sparing` alone
+abbrev pub are_sparing : List (List ℕ) → Bool
+are_sparing (word ∷ []) = bytes_eq word (codes "sparing")
+are_sparing words = false
+
+-- the first of the lines' words, if there are any, are `sparing` alone
+abbrev pub begin_sparing : List (List (List ℕ)) → Bool
+begin_sparing [] = false
+begin_sparing (words ∷ others) = are_sparing words
+
+-- how the vectors of a script with these lines grow: sparingly, where the first line that has words is `sparing` alone
+abbrev pub growth_in : List (List ℕ) → Growth
+growth_in lines = if begin_sparing (said_in lines) then Sparing else Doubling
+
+-- the lines as those of commands: the line that chooses sparing growth stands among them as a blank one
+abbrev pub command_lines : List (List ℕ) → List (List ℕ)
+command_lines [] = []
+command_lines (line ∷ lines) =
+    if length (words_of line) == 0 then line ∷ command_lines lines
+    else ((if are_sparing (words_of line) then [] else line) ∷ lines)
+
+-- all of the lines are blank ones, so many, and then these others
+abbrev pub AreBehind : (count : ℕ) → (others all : List (List ℕ)) → Type 0
+AreBehind count others all =
+    (before : List (List ℕ)) × AllByRecursion (λ line. words_of line ≡ []) before × (count ≡ length before) × (all ≡ before ++ others)
 
 -- the lines that have words say these commands, one each and in order
 abbrev pub Mean : List (List ℕ) → List (Command ℕ Global) → Type 0

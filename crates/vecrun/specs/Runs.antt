@@ -1,13 +1,15 @@
 -- What the run of a script prints.
-use Rattle.std.specs.Prelude.{◌≡◌, ℕ, ◌%◌, Bool, ◌==◌, List, ⊤}
+use Rattle.std.specs.Prelude.{◌≡◌, ℕ, ◌%◌, Bool, ◌==◌, List, [], ⊤}
 use Rattle.std.specs.Global.{Global}
 use Rattle.aa_vec.specs.Choosing.{Equals}
-use Rattle.aa_vec.specs.Vector.{Vector, IsNew}
+use Rattle.aa_vec.specs.Copies.{IsMade}
+use Rattle.aa_vec.specs.Vector.{Vector}
+use Rattle.allocator_api2.specs.declared.raw_vec.Growth.{Growth}
 use Rattle.allocator_api2.specs.declared.runner.Command.{Command}
 use Rattle.allocator_api2.specs.declared.runner.Reply.{Reply}
 use Rattle.allocator_api2.specs.Machine.{State, Calls, state_of}
 use Rattle.allocator_api2.specs.Run.{RunsTo}
-use Rattle.vecrun.specs.Lines.{Mean}
+use Rattle.vecrun.specs.Lines.{Mean, growth_in, command_lines}
 use Rattle.vecrun.specs.Print.{printed}
 
 -- the size of an element in bytes
@@ -15,23 +17,23 @@ abbrev pub element_size : ℕ
 element_size = 4
 
 module _ {K S : Type 0} (calls : Calls ℕ Global K S) where
-  -- the list machine may run the commands on two empty lists, with the closures in these states, so that what it replies and
-  -- leaves is printed as the text
-  pub record MayPrint (alloc : Global) (keep : K) (same : S) (commands : List (Command ℕ Global)) (text : List ℕ) : Type 0 where
+  -- the list machine may run the commands on two empty lists that grow so, with the closures in these states, so that what it
+  -- replies and leaves is printed as the text
+  pub record MayPrint (growth : Growth) (alloc : Global) (keep : K) (same : S) (commands : List (Command ℕ Global)) (text : List ℕ) : Type 0 where
     pub main : Vector ℕ Global
     pub side : Vector ℕ Global
     pub replies : List (Reply ℕ)
     pub last : State ℕ Global K S
-    pub main_new : IsNew element_size 0 alloc main
-    pub side_new : IsNew element_size 0 alloc side
+    pub main_new : IsMade element_size 0 growth [] 0 main × (main.alloc ≡ alloc)
+    pub side_new : IsMade element_size 0 growth [] 0 side × (side.alloc ≡ alloc)
     pub run : RunsTo element_size calls (state_of main side keep same) commands replies last
     pub is_text : text ≡ printed replies last.main.items last.main.capacity last.side.items last.side.capacity
 
-  -- the lines mean commands that may print the text
+  -- the script's lines say how the two lists grow, and mean commands that may print the text
   pub record MayAnswer (alloc : Global) (keep : K) (same : S) (lines : List (List ℕ)) (text : List ℕ) : Type 0 where
     pub commands : List (Command ℕ Global)
-    pub meant : Mean lines commands
-    pub prints : MayPrint alloc keep same commands text
+    pub meant : Mean (command_lines lines) commands
+    pub prints : MayPrint (growth_in lines) alloc keep same commands text
 
 -- an even number stays, and is left as it was
 abbrev pub KeepsEven : Unit {0} → ℕ → Bool → Unit {0} → ℕ → Type 0

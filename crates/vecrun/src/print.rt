@@ -1,5 +1,5 @@
 //! What a script prints: a line for each reply, and a line for each list.
-ghost use Rattle.std.specs.Prelude.{OnOk};
+ghost use Rattle.std.specs.Prelude.{◌≡◌, ◌≤◌, ◌∷◌, drop, decimal, OnOk};
 ghost use Rattle.std.specs.Io.KnownBytes.{Appends};
 ghost use Rattle.vecrun.specs.Print.{line_of, reply_text, replies_text, elements_text, list_text, printed};
 
@@ -26,7 +26,8 @@ pub fn print_all<W: Write>(
     print_list(output, "side", side)
 }
 
-fn print_replies<W: Write>(output: &mut W, replies: &[Reply<u32>]) -> io::Result<()>
+/// Writes a line for each reply. It takes no memory, and an error is the writer's.
+pub fn print_replies<W: Write>(output: &mut W, replies: &[Reply<u32>]) -> io::Result<()>
     ensures { OnOk result
         (Appends (W.contents output.old) (W.contents output.new) (replies_text replies.now)) }
 {
@@ -41,7 +42,7 @@ fn print_reply<W: Write>(output: &mut W, reply: &Reply<u32>) -> io::Result<()>
         (Appends (W.contents output.old) (W.contents output.new) (line_of (reply_text reply.now))) }
 {
     match reply {
-        Reply::Done => writeln!(output, "done"),
+        Reply::Done => output.write_all(b"done\n"),
         Reply::Item(x) => writeln!(output, "item {x}"),
         Reply::Nothing => writeln!(output, "none"),
         Reply::Back(x) => writeln!(output, "back {x}"),
@@ -82,8 +83,29 @@ fn print_elements<W: Write>(output: &mut W, elements: &[u32]) -> io::Result<()>
     ensures { OnOk result
         (Appends (W.contents output.old) (W.contents output.new) (elements_text elements.now)) }
 {
+    let mut buffer = [b' '; WIDTH];
     for x in elements {
-        write!(output, " {x}")?;
+        let start = lay_out(*x, &mut buffer);
+        output.write_all(&buffer[start..])?;
     }
     Ok(())
+}
+
+// As many bytes as a space and the longest element take.
+const WIDTH: usize = 11;
+
+// Puts the element behind a space at the buffer's end, and tells where they begin.
+fn lay_out(x: u32, buffer: &mut [u8; WIDTH]) -> usize
+    ensures start { result ≤ WIDTH }
+    ensures text { drop result buffer.new ≡ 32 ∷ decimal x }
+{
+    let (mut at, mut rest) = (WIDTH, x);
+    'digits: while 10 <= rest {
+        at -= 1;
+        buffer[at] = b'0' + (rest % 10) as u8;
+        rest /= 10;
+    }
+    buffer[at - 1] = b'0' + rest as u8;
+    buffer[at - 2] = b' ';
+    at - 2
 }

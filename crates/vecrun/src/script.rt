@@ -1,23 +1,24 @@
 //! A script from its first byte to its status.
-ghost use Rattle.std.specs.Prelude.{◌≡◌, ◌≢◌, ◌<◌, ◌%◌, ◌==◌, ◌⊎◌, ℕ, List, Some, IfSome, IfOk, OnOk, IfErr};
+ghost use Rattle.std.specs.Prelude.{◌≡◌, ◌≢◌, ◌+◌, ◌^◌, ◌<◌, ◌%◌, ◌==◌, ◌⊎◌, ℕ, List, Some, IfSome, IfOk, OnOk, IfErr};
 ghost use Rattle.std.specs.Io.KnownBytes.{Keeps, Appends};
 ghost use Rattle.std.specs.Str.Lines.{lines};
 ghost use Rattle.aa_vec.specs.Closures.{TakesPairMut};
 ghost use Rattle.aa_vec.specs.Choosing.{TakesMut};
-ghost use Rattle.allocator_api2.specs.Machine.{calls_of};
-ghost use Rattle.vecrun.specs.Faults.{IsFoundIn, NamesNoLine, IsFaultOf, status_of, fault_text};
-ghost use Rattle.vecrun.specs.Lines.{Mean, HasNoBad, IsFirstBad};
+ghost use Rattle.allocator_api2.specs.Machine.{calls_of, state_of};
+ghost use Rattle.allocator_api2.specs.Run.{RunsTo};
+ghost use Rattle.vecrun.specs.Faults.{IsFoundIn, IsFoundAmong, behind, NamesNoLine, IsFaultOf, status_of, fault_text};
+ghost use Rattle.vecrun.specs.Lines.{HasNoBad, IsFirstBad, command_lines};
 ghost use Rattle.vecrun.specs.Print.{AppendsBeginning, line_of};
-ghost use Rattle.vecrun.specs.Runs.{MayPrint, MayAnswer, script_calls};
+ghost use Rattle.vecrun.specs.Runs.{element_size, MayAnswer, script_calls};
 ghost use Rattle.vecrun.specs.declared.script.Fault.{Fault};
 ghost use Rattle.vecrun.specs.declared.script.Fault.TheVariants.{OutOfMemory, InputOutput};
 
 use crate::lines;
-use crate::print::print_all;
+use crate::print::{print_all, print_replies};
 use crate::reading::Reading;
 use crate::writing::write_text;
 use allocator_api2::collections::{Refused, TryReserveError};
-use allocator_api2::runner::{Command, run};
+use allocator_api2::runner::{Command, Reply, run};
 use allocator_api2::vec::Vec;
 use std::alloc::Global;
 use std::fmt::InlineText;
@@ -43,6 +44,17 @@ impl Fault {
             Fault::BadLine(_) => 1,
             Fault::OutOfMemory => 2,
             Fault::InputOutput => 3,
+        }
+    }
+
+    // The fault of lines in front of which so many others stand.
+    fn behind(self, before: usize) -> Fault
+        requires { (number : ℕ) → self ≡ Fault.BadLine number → before + number < 2 ^ 64 }
+        ensures { result ≡ behind before self }
+    {
+        match self {
+            Fault::BadLine(number) => Fault::BadLine(before + number),
+            fault => fault,
         }
     }
 }
@@ -107,12 +119,12 @@ pub fn script<R: Read, W: Write, E: Write>(
 
     // Which lines there are is known of a reader whose bytes are known.
     ensures good { result ≡ 0 →
-        IfSome (R.remaining input.old) (λ text. HasNoBad (lines text)) }
+        IfSome (R.remaining input.old) (λ text. HasNoBad (command_lines (lines text))) }
     ensures printed { result ≡ 0 → IfSome (R.remaining input.old) (λ text. (answer : List ℕ)
         × MayAnswer (script_calls ⟦<Global as Clone>⟧.is_clone) alloc tt tt (lines text) answer
         × Appends (W.contents output.old) (W.contents output.new) answer) }
     ensures bad { result ≡ 1 →
-        IfSome (R.remaining input.old) (λ text. (number : ℕ) × IsFirstBad (lines text) number) }
+        IfSome (R.remaining input.old) (λ text. (number : ℕ) × IsFirstBad (command_lines (lines text)) number) }
 
     // What is not written, and that nothing but a beginning of an answer is.
     ensures bad_prints_nothing { result ≡ 1 →
@@ -163,7 +175,7 @@ where
     S: FnMut(&mut u32, &mut u32) -> bool,
     requires keep { (k : K) (x : ℕ) → TakesMut K.FnMut k x }
     requires same { (s : S) (x y : ℕ) → TakesPairMut S.FnMut s x y }
-    ensures ok { OnOk result (IfSome (R.remaining input.old) (λ text. HasNoBad (lines text))) }
+    ensures ok { OnOk result (IfSome (R.remaining input.old) (λ text. HasNoBad (command_lines (lines text)))) }
     ensures printed { OnOk result (IfSome (R.remaining input.old) (λ text. (answer : List ℕ)
         × MayAnswer (calls_of ⟦<Global as Clone>⟧.is_clone K.FnMut S.FnMut) alloc keep.old same.old (lines text) answer
         × Appends (W.contents output.old) (W.contents output.new) answer)) }
@@ -177,28 +189,26 @@ where
         × MayAnswer (calls_of ⟦<Global as Clone>⟧.is_clone K.FnMut S.FnMut) alloc keep.old same.old (lines text) answer
         × AppendsBeginning (W.contents output.old) (W.contents output.new) answer) }
 {
-    let commands = read_commands(alloc, input)?;
-    let answer = answer(alloc, commands, keep, same)?;
+    let text = read_text(alloc, input)?;
+    let answer = answer(alloc, text, keep, same)?;
     print_answer(&answer, output)
 }
 
-// Reads the input to its end, and then looks at its lines.
-fn read_commands<R: Read>(alloc: Global, input: &mut R) -> Result<Vec<Command<u32>, Global>, Fault>
-    ensures items { IfOk result
-        (λ commands. IfSome (R.remaining input.old) (λ text. Mean (lines text) commands.items)) }
-    ensures ok { OnOk result (IfSome (R.remaining input.old) (λ text. HasNoBad (lines text))) }
-    ensures err { IfErr result (IsFoundIn (R.remaining input.old)) }
+// Reads the input to its end.
+fn read_text<R: Read>(alloc: Global, input: &mut R) -> Result<std::vec::Vec<u8>, Fault>
+    ensures text { IfOk result (λ text. IfSome (R.remaining input.old) (λ bytes. text.items ≡ bytes)) }
+    ensures err { IfErr result NamesNoLine }
 {
     let mut text = std::vec::Vec::new(alloc);
     Reading { reader: input }.read_to_end(&mut text)?;
-    lines::commands(alloc, &text)
+    Ok(text)
 }
 
-// Runs the commands on two empty lists: the text of the replies and of the lists, which is all made
-// before any of it is printed.
+// Looks at all lines, and then runs their commands on two empty lists, which grow as the script says, a piece of the text at a time: the text of the replies and
+// of the lists, which is all made before any of it is printed. What is but one piece is looked at as it is read.
 fn answer<K, S>(
     alloc: Global,
-    commands: Vec<Command<u32>, Global>,
+    text: std::vec::Vec<u8>,
     keep: &mut K,
     same: &mut S,
 ) -> Result<std::vec::Vec<u8>, Fault>
@@ -207,19 +217,63 @@ where
     S: FnMut(&mut u32, &mut u32) -> bool,
     requires keep { (k : K) (x : ℕ) → TakesMut K.FnMut k x }
     requires same { (s : S) (x y : ℕ) → TakesPairMut S.FnMut s x y }
-    ensures ok { IfOk result (λ text. MayPrint (calls_of ⟦<Global as Clone>⟧.is_clone K.FnMut S.FnMut)
-        alloc keep.old same.old commands.items text.items) }
+    ensures good { OnOk result (HasNoBad (command_lines (lines text.items))) }
+    ensures ok { IfOk result (λ answer. MayAnswer (calls_of ⟦<Global as Clone>⟧.is_clone K.FnMut S.FnMut)
+        alloc keep.old same.old (lines text.items) answer.items) }
+    ensures err { IfErr result (λ fault. IsFoundIn (Some text.items) fault × (fault ≢ InputOutput)) }
+{
+    let (growth, before, rest) = lines::chosen_growth(&text);
+    let (mut piece, mut others) = lines::first_lines(rest);
+    if !others.is_empty() {
+        if let Err(fault) = lines::check(alloc, rest) {
+            return Err(fault.behind(before));
+        }
+    }
+    let mut main = Vec::new_growing_in(growth, alloc);
+    let mut side = Vec::new_growing_in(growth, alloc);
+    let mut answer = std::vec::Vec::new(alloc);
+    'pieces: while !others.is_empty() {
+        let commands = lines::commands(alloc, piece)?;
+        let replies = run_all(alloc, commands, &mut main, &mut side, keep, same)?;
+        let Ok(()) = print_replies(&mut answer, replies.as_slice()) else {
+            return Err(Fault::OutOfMemory);
+        };
+        (piece, others) = lines::first_lines(others);
+    }
+    let last = match lines::commands(alloc, piece) {
+        Ok(last) => last,
+        Err(fault) => return Err(fault.behind(before)),
+    };
+    drop(text);
+    let replies = run_all(alloc, last, &mut main, &mut side, keep, same)?;
+    match print_all(&mut answer, replies.as_slice(), &main, &side) {
+        Ok(()) => Ok(answer),
+        Err(_) => Err(Fault::OutOfMemory),
+    }
+}
+
+// Runs the commands: the replies.
+fn run_all<K, S>(
+    alloc: Global,
+    commands: Vec<Command<u32>, Global>,
+    main: &mut Vec<u32, Global>,
+    side: &mut Vec<u32, Global>,
+    keep: &mut K,
+    same: &mut S,
+) -> Result<Vec<Reply<u32>, Global>, Fault>
+where
+    K: FnMut(&mut u32) -> bool,
+    S: FnMut(&mut u32, &mut u32) -> bool,
+    requires keep { (k : K) (x : ℕ) → TakesMut K.FnMut k x }
+    requires same { (s : S) (x y : ℕ) → TakesPairMut S.FnMut s x y }
+    ensures ok { IfOk result (λ replies. RunsTo element_size (calls_of ⟦<Global as Clone>⟧.is_clone K.FnMut S.FnMut)
+        (state_of main.old side.old keep.old same.old) commands.items replies.items
+        (state_of main.new side.new keep.new same.new)) }
     ensures err { IfErr result (λ fault. fault ≡ OutOfMemory) }
 {
     let mut replies = Vec::with_capacity_in(commands.len(), alloc)?;
-    let mut main = Vec::new_in(alloc);
-    let mut side = Vec::new_in(alloc);
-    run(&mut main, &mut side, commands, keep, same, &mut replies);
-    let mut text = std::vec::Vec::new(alloc);
-    match print_all(&mut text, replies.as_slice(), &main, &side) {
-        Ok(()) => Ok(text),
-        Err(_) => Err(Fault::OutOfMemory),
-    }
+    run(main, side, commands, keep, same, &mut replies);
+    Ok(replies)
 }
 
 // Writes the fault's line, or a beginning of it where a write fails.

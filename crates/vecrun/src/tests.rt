@@ -8,7 +8,7 @@ const EMPTY_LISTS: &str = "main len=0 cap=0:\nside len=0 cap=0:\n";
 const PUSHED_SEVEN: &str = "done\nmain len=1 cap=4: 7\nside len=0 cap=0:\n";
 
 // Scripts, and what they print.
-const GOOD_SCRIPTS: [(&[u8], &str); 25] = [
+const GOOD_SCRIPTS: [(&[u8], &str); 29] = [
     (
         b"push 1\npush 2\npop\npop\npop\n",
         "done\ndone\nitem 2\nitem 1\nnone\nmain len=0 cap=4:\nside len=0 cap=0:\n",
@@ -80,6 +80,19 @@ const GOOD_SCRIPTS: [(&[u8], &str); 25] = [
         "done\ndone\ndone\ndone\nrange\nmain len=0 cap=6:\nside len=5 cap=8: 1 3 2 4 5\n",
     ),
     (
+        b"extend - 1 2 3 4 5 6\nextract 1 6 2\nextract 4 9 1\n",
+        "done\ndone\nrange\nmain len=4 cap=6: 1 3 5 6\nside len=2 cap=4: 2 4\n",
+    ),
+    (
+        b"sparing\nextend 0 1 2 3 4 5\n",
+        "done\nmain len=5 cap=6: 1 2 3 4 5\nside len=0 cap=0:\n",
+    ),
+    (
+        b"\n\t\r\n  sparing\t\r\nextend 0 1 2 3 4 5\nsplit_off 5\nextend 0 1 2\nappend\npush 9\n",
+        "done\ndone\ndone\ndone\ndone\nmain len=8 cap=9: 1 2 3 4 5 1 2 9\nside len=0 cap=0:\n",
+    ),
+    (b"\nsparing", EMPTY_LISTS),
+    (
         b"extend - 1 2 3\nsplice 1 2 18446744073709551615 8 9\n",
         "done\nrefused capacity\nmain len=3 cap=4: 1 8 3\nside len=0 cap=0:\n",
     ),
@@ -94,7 +107,13 @@ const GOOD_SCRIPTS: [(&[u8], &str); 25] = [
 ];
 
 // Scripts, and the number of the first bad line.
-const BAD_SCRIPTS: [(&[u8], u32); 29] = [
+const BAD_SCRIPTS: [(&[u8], u32); 35] = [
+    (b"sparing\nsparing\n", 2),
+    (b"push 1\nsparing\n", 2),
+    (b"\nsparing 1\n", 2),
+    (b"sparing\n\npush\n", 3),
+    (b"Sparing\n", 1),
+    (b"extract 0 1\n", 1),
     (b"splice 0 0\n", 1),
     (b"splice 0 - 1\n", 1),
     (b"splice 0 0 - x\n", 1),
@@ -310,6 +329,65 @@ fn fails_in_a_long_answer(rt: HostRuntime) -> Result<(), Fail> {
         assert!(rt; answer.starts_with(&output.inner));
         assert!(rt; status == 3 || answer == output.inner);
     }
+    Ok(())
+}
+
+// It is run in several pieces.
+#[test]
+fn runs_a_long_script(rt: HostRuntime) -> Result<(), Fail> {
+    let (mut lines, mut answer) = (Vec::new(rt.alloc()), Vec::new(rt.alloc()));
+    for _ in 0..1000 {
+        lines.extend_from_slice(b"push 7\r\n\nextend - 8 9\npop\nsplit_off 1\n")?;
+        answer.extend_from_slice(b"done\ndone\nitem 9\ndone\n")?;
+        lines.extend_from_slice(b"clear\n")?;
+        answer.extend_from_slice(b"done\n")?;
+    }
+    answer.extend_from_slice(b"main len=0 cap=4:\nside len=1 cap=1: 8\n")?;
+    let (mut written, mut told) = (Vec::new(rt.alloc()), Vec::new(rt.alloc()));
+    let mut input = lines.as_slice();
+    let status = script(rt.alloc(), &mut input, &mut written, &mut told);
+    assert_eq!(rt; (text(&told), status), ("", 0));
+    assert!(rt; written == answer);
+    Ok(())
+}
+
+#[test]
+fn names_a_bad_line_of_a_late_piece(rt: HostRuntime) -> Result<(), Fail> {
+    let mut lines = Vec::new(rt.alloc());
+    for _ in 0..2000 {
+        lines.extend_from_slice(b"push 7\n")?;
+    }
+    lines.extend_from_slice(b"pop 7\npush\n")?;
+    let (mut written, mut told) = (Vec::new(rt.alloc()), Vec::new(rt.alloc()));
+    let mut input = lines.as_slice();
+    let status = script(rt.alloc(), &mut input, &mut written, &mut told);
+    assert_eq!(rt;
+        (text(&written), text(&told), status),
+        ("", "bad line 2001\n", 1)
+    );
+    Ok(())
+}
+
+// Its first line chooses sparing growth, and lines of all its pieces count on from there.
+#[test]
+fn counts_the_lines_of_a_long_sparing_script(rt: HostRuntime) -> Result<(), Fail> {
+    let mut lines = Vec::new(rt.alloc());
+    lines.extend_from_slice(b"\nsparing\n")?;
+    for _ in 0..2000 {
+        lines.extend_from_slice(b"push 7\n")?;
+    }
+    let (mut written, mut told) = (Vec::new(rt.alloc()), Vec::new(rt.alloc()));
+    let mut input = lines.as_slice();
+    let status = script(rt.alloc(), &mut input, &mut written, &mut told);
+    assert_eq!(rt; (text(&told), status), ("", 0));
+    assert!(rt; text(&written).contains("\nmain len=2000 cap=2775: 7 7"));
+    lines.extend_from_slice(b"sparing\n")?;
+    let (mut written, mut input) = (Vec::new(rt.alloc()), lines.as_slice());
+    let status = script(rt.alloc(), &mut input, &mut written, &mut told);
+    assert_eq!(rt;
+        (text(&written), text(&told), status),
+        ("", "bad line 2003\n", 1)
+    );
     Ok(())
 }
 

@@ -1,25 +1,61 @@
 //! Closures called along a slice, up to the first element that does not stay.
-ghost use Rattle.std.specs.Prelude.{◌≡◌, ◌+◌, ◌<◌, List, ◌∷◌, drop, length};
+ghost use Rattle.std.specs.Prelude.{◌≡◌, ◌+◌, ◌<◌, true, List, ◌∷◌, drop, length};
 ghost use Rattle.std.specs.Fn.{CalledAtMut, CalledAtPairMut, ComparesKeys};
 ghost use Rattle.aa_raw.specs.Closures.{TakesPairMut};
 ghost use Rattle.aa_vec.specs.Choosing.{TakesMut, TakesForKeys, MayAskInOrder, MayDeduplicate};
-ghost use Rattle.aa_vec.specs.Until.{AsksUntil, AsksNeighbours, ChainsAlong};
+ghost use Rattle.aa_vec.specs.Until.{StaysAt, AsksUntil, AsksNeighbours, ChainsAlong};
 
-// Asks the elements in order, up to the first that is not kept. It answers how many are kept before it.
-#[inline]
-pub(crate) fn kept_run<T, F: FnMut(&mut T) -> bool>(elements: &mut [T], keep: &mut F) -> usize
+// Asks the elements in order, up to the first that is not kept. It answers how many are kept before it. The first two are asked one
+// by one: where one of them goes, that is far less work than a run.
+#[inline(always)]
+pub(crate) fn count_kept<T, F: FnMut(&mut T) -> bool>(elements: &mut [T], keep: &mut F) -> usize
     requires { MayAskInOrder (CalledAtMut F.FnMut) (TakesMut F.FnMut) keep.old elements.old }
     ensures { AsksUntil (CalledAtMut F.FnMut) keep.old elements.old result keep.new elements.new }
+{
+    // It does nothing but tell the prover that a slice has at most `usize::MAX` elements.
+    let _count = count_of(elements);
+    let Some((first, others)) = elements.split_first_mut() else {
+        return 0;
+    };
+    if !ask(keep, first) {
+        return 0;
+    }
+    let Some((second, others)) = others.split_first_mut() else {
+        return 1;
+    };
+    if !ask(keep, second) {
+        return 1;
+    }
+    2 + kept_run(others, true, keep)
+}
+
+// The same in one run, up to the first at which the answer is not `stays`.
+#[inline]
+pub(crate) fn kept_run<T, F: FnMut(&mut T) -> bool>(
+    elements: &mut [T],
+    stays: bool,
+    keep: &mut F,
+) -> usize
+    requires { MayAskInOrder (StaysAt stays (CalledAtMut F.FnMut)) (TakesMut F.FnMut) keep.old elements.old }
+    ensures { AsksUntil (StaysAt stays (CalledAtMut F.FnMut)) keep.old elements.old result keep.new elements.new }
 {
     let count = elements.len();
     let mut kept = 0;
     'each: while kept < count {
-        if !ask(keep, &mut elements[kept]) {
+        if ask(keep, &mut elements[kept]) != stays {
             return kept;
         }
         kept += 1;
     }
     count
+}
+
+// How many they are.
+#[inline(always)]
+fn count_of<T>(elements: &[T]) -> usize
+    ensures { result ≡ length elements.now }
+{
+    elements.len()
 }
 
 // One call.
@@ -32,7 +68,7 @@ fn ask<T, R, F: FnMut(&mut T) -> R>(f: &mut F, element: &mut T) -> R
 }
 
 // Asks the elements behind the first in order, each beside the one before it, up to the first repeat. It answers how many are
-// kept before it.
+// kept before it. The second is asked by itself, as above.
 #[inline]
 pub(crate) fn distinct_run<T, F: FnMut(&mut T, &mut T) -> bool>(
     elements: &mut [T],
@@ -44,7 +80,13 @@ pub(crate) fn distinct_run<T, F: FnMut(&mut T, &mut T) -> bool>(
     ensures asked { ChainsAlong (CalledAtPairMut F.FnMut) same.old elements.old result same.new elements.new }
 {
     let last = elements.len() - 1;
-    let mut kept = 0;
+    if last == 0 {
+        return 0;
+    }
+    if ask_neighbours(same, elements, 0) {
+        return 0;
+    }
+    let mut kept = 1;
     'each: while kept < last {
         if ask_neighbours(same, elements, kept) {
             return kept;

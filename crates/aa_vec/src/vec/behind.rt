@@ -36,7 +36,7 @@ impl<T, A: Allocator> Vec<T, A> {
 
     // The same with one element over a gap of some places, which is far less work than a run.
     #[inline(always)]
-    #[tactic(auto, using(crate::proofs::Peeled::closed_by_one))]
+    #[tactic(auto, using(crate::proofs::Stands::closing))]
     pub(crate) fn close_gap_by_one(&mut self, gap: usize)
         requires some { 0 < gap }
         requires stands { StandsBehind self.old gap 1 }
@@ -104,5 +104,16 @@ impl<T, A: Allocator> Vec<T, A> {
         let kept = back - front;
         self.close_gap(front, kept);
         self.close_gap(end - kept, total - end);
+    }
+
+    // Moves the `kept` elements behind the others down, and then those from place `front` up to `total`.
+    #[tactic(auto, using(crate::proofs::Drained::closing))]
+    pub(crate) fn close_kept(&mut self, kept: usize, front: usize, end: usize, total: usize)
+        requires ordered { (kept ≤ front) × (front ≤ end) × (end ≤ total) }
+        requires held { StandsBehind self.old 0 kept × StandsBehind self.old front (total - front) }
+        ensures { ClosesTwice self.old 0 kept front (total - front) self.new }
+    {
+        let _range_end = end;
+        self.close_gaps(0, kept, front, total);
     }
 }

@@ -5,11 +5,11 @@ ghost use Rattle.std.specs.Fn.{CalledAtMut, CalledAtPairMut, ComparesKeys, Takes
 ghost use Rattle.aa_raw.specs.Closures.{TakesPairMut};
 ghost use Rattle.aa_vec.specs.Behind.{StandsBehind, behind_items};
 ghost use Rattle.aa_vec.specs.Choosing.{TakesMut, TakesForKeys, Reads, Equals, IsCallableInOrder, IsCallableAlong, MayAskInOrder, MayChainFrom, MayDeduplicate, Retains, Deduplicates};
-ghost use Rattle.aa_vec.specs.Until.{AsksBehind, Passes, AsksLast, ChainsOn, ChainsBehind, PassesChain};
+ghost use Rattle.aa_vec.specs.Until.{AsksBehind, TakesNext, AsksLast, ChainsOn, ChainsBehind};
 ghost use Rattle.aa_vec.specs.Vector.{len};
 
 use crate::vec::Vec;
-use crate::vec::asking::{distinct_run, kept_run, same_keys};
+use crate::vec::asking::{count_kept, distinct_run, same_keys};
 use core::mem::replace_with;
 use std::alloc::Allocator;
 
@@ -101,6 +101,7 @@ impl<T: PartialEq + Drop, A: Allocator> Vec<T, A> {
 impl<T, A: Allocator> Vec<T, A> {
     // Asks the `count` elements after the gap in order, up to the first that is not kept. It answers how many are kept before it.
     #[inline(always)]
+    #[tactic(auto, using(crate::proofs::Chains::lents))]
     fn keep_behind<F: FnMut(&mut T) -> bool>(
         &mut self,
         gap: usize,
@@ -113,11 +114,12 @@ impl<T, A: Allocator> Vec<T, A> {
     {
         // It does nothing but tell the prover that places are at most `usize::MAX`.
         let _within = self.block.capacity();
-        kept_run(self.block.slice_mut(self.len + gap, count), keep)
+        count_kept(self.block.slice_mut(self.len + gap, count), keep)
     }
 
     // Asks the `count` elements after the gap in order, each beside the last one kept before it, up to the first repeat. It
     // answers how many are kept before it.
+    #[inline(always)]
     #[tactic(auto, using(crate::proofs::Chains::chains))]
     fn chain_behind<F: FnMut(&mut T, &mut T) -> bool>(
         &mut self,
@@ -186,59 +188,15 @@ fn retained<'a, T: Drop, A: Allocator, F: FnMut(&mut T) -> bool>(
     ensures retains { Retains (CalledAtMut F.FnMut) keep.old list result.1.now result.0 }
 {
     let end = list.set_back(0);
-    let first = list.keep_behind(0, end, keep);
-    list.close_gap(0, first);
-    if end <= first {
-        return (list, keep);
-    }
-    drop(list.take_behind(0));
-    let mut at = first + 1;
+    let mut at = 0;
+    let first = list.keep_behind(0, end - at, keep);
+    (list, at) = first_passed(list, 0, at, end, first);
     'runs: while at < end {
         let gap = at - list.len();
-        (list, at) = passed(list, gap, at, end, keep);
+        let kept = list.keep_behind(gap, end - at, keep);
+        (list, at) = passed(list, gap, at, end, kept);
     }
     (list, keep)
-}
-
-// Asks the elements after the gap, which are those in the places from `at` up to `end`, in order, up to the first that is not kept,
-// drops that one, and moves those before it down to the last one. It answers the next place. The first two are asked one by one:
-// where one of them goes, that is far less work than a run.
-#[inline(always)]
-fn passed<T: Drop, A: Allocator, F: FnMut(&mut T) -> bool>(
-    mut list: Vec<T, A>,
-    gap: usize,
-    at: usize,
-    end: usize,
-    keep: &mut F,
-) -> (Vec<T, A>, usize)
-    requires there { len list + gap ≡ at }
-    requires gone { 0 < gap }
-    requires some { at < end }
-    requires stands { StandsBehind list gap (end - at) }
-    requires callable { MayAskInOrder (CalledAtMut F.FnMut) (TakesMut F.FnMut) keep.old (behind_items list gap (end - at)) }
-    ensures { Passes (CalledAtMut F.FnMut) keep.old list gap at end keep.new result.0 result.1 }
-{
-    let rest = at + 1;
-    if list.keep_behind(gap, 1, keep) == 0 {
-        drop(list.take_behind(gap));
-        return (list, rest);
-    }
-    if end <= rest {
-        list.close_gap_by_one(gap);
-        return (list, end);
-    }
-    if list.keep_behind(gap + 1, 1, keep) == 0 {
-        list.close_gap_by_one(gap);
-        drop(list.take_behind(gap));
-        return (list, rest + 1);
-    }
-    let kept = 2 + list.keep_behind(gap + 1 + 1, end - rest - 1, keep);
-    list.close_gap(gap, kept);
-    if end <= at + kept {
-        return (list, end);
-    }
-    drop(list.take_behind(gap));
-    (list, at + kept + 1)
 }
 
 // `dedup_within`.
@@ -254,53 +212,63 @@ fn deduplicated<'a, T: Drop, A: Allocator, F: FnMut(&mut T, &mut T) -> bool>(
         return (list, same);
     }
     let end = list.len();
-    let left = list.set_back(1);
-    let first = list.chain_behind(0, left, same);
-    list.close_gap(0, first);
-    if left <= first {
-        return (list, same);
-    }
-    drop(list.take_behind(0));
-    let mut at = first + 2;
+    let mut at = 1;
+    let _left = list.set_back(at);
+    let first = list.chain_behind(0, end - at, same);
+    (list, at) = first_passed(list, 0, at, end, first);
     'runs: while at < end {
         let gap = at - list.len();
-        (list, at) = passed_chain(list, gap, at, end, same);
+        let kept = list.chain_behind(gap, end - at, same);
+        (list, at) = passed(list, gap, at, end, kept);
     }
     (list, same)
 }
 
-// The same, where each element is asked beside the last one kept before it, and repeats go.
+// Of the elements after the gap, which are those in the places from `at` up to `end`, moves the first `kept` down to the last item,
+// and drops the one behind them, if there is one. It answers the next place. None and one are far less work than a run.
 #[inline(always)]
-fn passed_chain<T: Drop, A: Allocator, F: FnMut(&mut T, &mut T) -> bool>(
+fn passed<T: Drop, A: Allocator>(
     mut list: Vec<T, A>,
     gap: usize,
     at: usize,
     end: usize,
-    same: &mut F,
+    kept: usize,
 ) -> (Vec<T, A>, usize)
-    requires there { len list + gap ≡ at }
     requires gone { 0 < gap }
     requires some { at < end }
-    requires items { 0 < len list }
+    requires within { at + kept ≤ end }
     requires stands { StandsBehind list gap (end - at) }
-    requires callable { (front : List T) (last : T) → list.items ≡ front ++ last ∷ [] → MayChainFrom (CalledAtPairMut F.FnMut) (TakesPairMut F.FnMut) same.old last (behind_items list gap (end - at)) }
-    ensures { PassesChain (CalledAtPairMut F.FnMut) same.old list gap at end same.new result.0 result.1 }
+    ensures { TakesNext list gap at end kept result.0 result.1 }
 {
-    let rest = at + 1;
-    if list.ask_last(gap, same) {
+    let left = end - at;
+    if kept == 0 {
         drop(list.take_behind(gap));
-        return (list, rest);
+        return (list, at + 1);
     }
-    if end <= rest {
+    if kept == 1 {
         list.close_gap_by_one(gap);
+        if 1 < left {
+            drop(list.take_behind(gap));
+            return (list, at + 1 + 1);
+        }
         return (list, end);
     }
-    if list.chain_on(gap, 2, same) == 0 {
-        list.close_gap_by_one(gap);
-        drop(list.take_behind(gap));
-        return (list, rest + 1);
-    }
-    let kept = 2 + list.chain_on(gap + 1, end - rest, same);
+    first_passed(list, gap, at, end, kept)
+}
+
+// The same of any number, and after any gap.
+#[inline(always)]
+fn first_passed<T: Drop, A: Allocator>(
+    mut list: Vec<T, A>,
+    gap: usize,
+    at: usize,
+    end: usize,
+    kept: usize,
+) -> (Vec<T, A>, usize)
+    requires within { at + kept ≤ end }
+    requires stands { StandsBehind list gap (end - at) }
+    ensures { TakesNext list gap at end kept result.0 result.1 }
+{
     list.close_gap(gap, kept);
     if end <= at + kept {
         return (list, end);

@@ -1,6 +1,6 @@
 use Rattle.std.proofs.Common.{[], refl, rules}
 use Rattle.aa_vec.specs.Choosing.{answers_of}
-use Rattle.allocator_api2.proofs.Taken.{takes_alone, takes_both}
+use Rattle.allocator_api2.proofs.Taken.{takes_alone, takes_both, takes_chosen}
 use Rattle.allocator_api2.proofs.runner.step.Goals as goal
 
 pub returns-in-Push : goal.returns-in-Push
@@ -72,3 +72,6 @@ pub returns-in-Dedup : goal.returns-in-Dedup
 returns-in-Dedup g c =
     let r = c.dedup.ensures.deduplicates in
     rw c.in-Dedup.is (record { answers = r.answers; step = record { done = c.dedup.ensures.done; side = refl; keep = refl; removes = r; asked = refl }; writes = search rules })
+
+pub returns-in-ExtractIf : goal.returns-in-ExtractIf
+returns-in-ExtractIf g c = takes_chosen c.in-ExtractIf.start c.in-ExtractIf.end c.in-ExtractIf.take c.in-ExtractIf.is c.extract.ensures

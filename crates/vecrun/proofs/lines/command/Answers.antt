@@ -1,5 +1,5 @@
 use Rattle.std.proofs.Common.{rules, refl}
-use Rattle.allocator_api2.specs.declared.runner.Command.TheVariants.{Push, Within, Insert, Remove, SwapRemove, Truncate, Reserve, ReserveExact, ShrinkTo, SplitOff, ExtendFromWithin, Resize, Drain}
+use Rattle.allocator_api2.specs.declared.runner.Command.TheVariants.{Push, Within, Insert, Remove, SwapRemove, Truncate, Reserve, ReserveExact, ShrinkTo, SplitOff, ExtendFromWithin, Resize, Drain, ExtractIf}
 use Rattle.vecrun.proofs.Mapped.{ReadsAs-map}
 use Rattle.vecrun.proofs.lines.command.Goals as goal
 
@@ -67,3 +67,8 @@ pub returns-in-drain : goal.returns-in-drain
 returns-in-drain c =
     let mapped = ReadsAs-map _ _ _ (λ p. Drain p.0 p.1 p.2 p.3 p.4) c.drain.result c.map-in-drain.result c.drain.ensures (search rules) in
     rw c.in-drain.is (mapped (λ x p. (x, p, refl)) (λ _ q. (q.0, q.1)))
+
+pub returns-in-extract : goal.returns-in-extract
+returns-in-extract c =
+    let mapped = ReadsAs-map _ _ _ (λ p. ExtractIf p.0 p.1 p.2) c.three_numbers.result c.map-in-extract.result c.three_numbers.ensures (search rules) in
+    rw c.in-extract.is (mapped (λ x p. (x, p, refl)) (λ _ q. (q.0, q.1)))

@@ -10,12 +10,12 @@ loop-index-init c =
     let enumerated = c.enumerate-index-items.ensures in
     let read : HasRead text text 0 [] =
     record { before = []; place = refl; counted = refl; good = record { all_good = search rules }; meant = tt } in
-    rw (c.new_in-commands.ensures.items, c.into_iter-index-iterator.ensures.into_iter_gives, enumerated.source, enumerated.count)
+    rw (c.in_ok-commands.ensures.made.items, c.into_iter-index-iterator.ensures.into_iter_gives, enumerated.source, enumerated.count)
     ((tt, tt, inl (omega (arith, length-lines text))), tt, read)
 
 -- the line that was taken is read
-pub loop-index-preserved-in-Continue-branch-3 : goal.loop-index-preserved-in-Continue-branch-3
-loop-index-preserved-in-Continue-branch-3 c =
+pub loop-index-preserved-in-Continue-branch-4 : goal.loop-index-preserved-in-Continue-branch-4
+loop-index-preserved-in-Continue-branch-4 c =
     let (lines_left, at, counts, bound) = c.in-Some.ensures.steps in
     let (able, ends, had) = c.loop-index.invariant in
     let read = HasRead-next c.args.text.now c.loop-index.index-iterator.iter.rest.now c.next.new.self.iter.rest.now

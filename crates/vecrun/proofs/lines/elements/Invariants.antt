@@ -1,8 +1,11 @@
-use Rattle.std.proofs.Common.{◌^◌}
+use Rattle.std.proofs.Common.{◌^◌, length}
 use Rattle.vecrun.specs.Lines.{words_of, Writes}
 use Rattle.vecrun.proofs.Taken.{HasTaken}
 use Rattle.vecrun.proofs.lines.elements.Given as goal
 
 abbrev pub invariant-each : goal.invariant-each
 invariant-each l =
-    HasTaken (Writes (2 ^ 32)) (words_of l.fn.line.words.rest.now) (words_of l.word-iterator.rest.now) l.items.items
+    HasTaken (Writes (2 ^ 32)) (words_of l.fn.line.words.rest.now) (words_of l.words.rest.now) l.items.items
+
+abbrev pub decreases-each : goal.decreases-each
+decreases-each l = length l.words.rest.now

@@ -1,6 +1,5 @@
-use Rattle.std.proofs.Common.{inr}
+use Rattle.std.proofs.Common.{◌≡◌, ℕ, List, inr, subst}
 use Rattle.std.specs.Str.Lines.{lines}
-use Rattle.vecrun.specs.Lines.{Mean}
 use Rattle.vecrun.specs.Runs.{MayAnswer}
 use Rattle.vecrun.proofs.Beginnings.{IfSome-begun}
 use Rattle.vecrun.proofs.script.run_script.Goals as goal
@@ -9,7 +8,8 @@ use Rattle.vecrun.proofs.script.run_script.Goals as goal
 pub returns-clause-part : goal.returns-clause-part
 returns-clause-part g c =
     let begun = rw c.deref.ensures.value at c.print_answer.ensures.part in
-    inr (IfSome-begun (λ text. Mean (lines text) c.in_ok-commands.commands.items)
-    (λ text answer. MayAnswer _ c.args.alloc c.args.keep.now c.args.same.now (lines text) answer)
-    _ _ _ _ c.in_ok-commands.ensures.items
-    (λ text meant. record { commands = c.in_ok-commands.commands.items; meant = meant; prints = c.in_ok-answer.ensures.ok }) begun)
+    let Answers : List ℕ → Type 0 =
+    λ text. MayAnswer _ c.args.alloc c.args.keep.now c.args.same.now (lines text) c.in_ok-answer.answer.items in
+    inr (IfSome-begun (λ bytes. c.in_ok-text.text.items ≡ bytes)
+    (λ bytes answer. MayAnswer _ c.args.alloc c.args.keep.now c.args.same.now (lines bytes) answer)
+    _ _ _ _ c.in_ok-text.ensures.text (λ bytes same. subst Answers same c.in_ok-answer.ensures.ok) begun)

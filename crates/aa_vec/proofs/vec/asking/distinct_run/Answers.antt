@@ -1,23 +1,30 @@
-use Rattle.std.proofs.Common.{◌≡◌, ◌-◌, ℕ, length, subst, arith}
+use Rattle.std.proofs.Common.{rules, ◌≡◌, ◌-◌, ℕ, length, subst, arith}
 use Rattle.std.specs.Fn.{CalledAtPairMut}
 use Rattle.aa_raw.specs.Closures.{TakesPairMut}
 use Rattle.aa_vec.specs.Until.{ChainsAlong}
 use Rattle.aa_vec.proofs.Asking.{HasChained-none, HasChained-more, ChainsAlong-here, ChainsAlong-end, next_pair}
 use Rattle.aa_vec.proofs.vec.asking.distinct_run.Goals as goal
 
-pub each-init : goal.each-init
-each-init g c = HasChained-none (CalledAtPairMut g.F.FnMut) (TakesPairMut g.F.FnMut) c.args.same.now c.args.elements.now c.requires.some c.requires.callable
+pub returns-then-last-eq0-clause-asked : goal.returns-then-last-eq0-clause-asked
+returns-then-last-eq0-clause-asked g c = ChainsAlong-end (CalledAtPairMut g.F.FnMut) (TakesPairMut g.F.FnMut) _ _ 0 c.args.same.now c.args.elements.now (HasChained-none (CalledAtPairMut g.F.FnMut) (TakesPairMut g.F.FnMut) c.args.same.now c.args.elements.now c.requires.some c.requires.callable) (omega (arith, c.requires.some, c.if-last-eq0.true))
 
 pub ask_neighbours-requires-clause-callable : goal.ask_neighbours-requires-clause-callable
-ask_neighbours-requires-clause-callable g c = next_pair (CalledAtPairMut g.F.FnMut) (TakesPairMut g.F.FnMut) _ _ c.each.kept c.each.same c.each.elements c.each.invariant
+ask_neighbours-requires-clause-callable g c = next_pair (CalledAtPairMut g.F.FnMut) (TakesPairMut g.F.FnMut) _ _ 0 c.args.same.now c.args.elements.now (HasChained-none (CalledAtPairMut g.F.FnMut) (TakesPairMut g.F.FnMut) c.args.same.now c.args.elements.now c.requires.some c.requires.callable)
 
 pub returns-then-ask_neighbours-clause-asked : goal.returns-then-ask_neighbours-clause-asked
-returns-then-ask_neighbours-clause-asked g c =
-    ChainsAlong-here (CalledAtPairMut g.F.FnMut) (TakesPairMut g.F.FnMut) _ _ c.each.kept c.each.same c.each.elements c.each.invariant c.ask_neighbours.result _ _ c.ask_neighbours.ensures c.if-ask_neighbours.true
+returns-then-ask_neighbours-clause-asked g c = ChainsAlong-here (CalledAtPairMut g.F.FnMut) (TakesPairMut g.F.FnMut) _ _ 0 c.args.same.now c.args.elements.now (HasChained-none (CalledAtPairMut g.F.FnMut) (TakesPairMut g.F.FnMut) c.args.same.now c.args.elements.now c.requires.some c.requires.callable) c.ask_neighbours.result _ _ c.ask_neighbours.ensures (search rules)
+
+pub each-init : goal.each-init
+each-init g c = HasChained-more (CalledAtPairMut g.F.FnMut) (TakesPairMut g.F.FnMut) _ _ 0 c.args.same.now c.args.elements.now (HasChained-none (CalledAtPairMut g.F.FnMut) (TakesPairMut g.F.FnMut) c.args.same.now c.args.elements.now c.requires.some c.requires.callable) c.ask_neighbours.result _ _ c.ask_neighbours.ensures (search rules)
+
+pub ask_neighbours-requires-in-each-clause-callable : goal.ask_neighbours-requires-in-each-clause-callable
+ask_neighbours-requires-in-each-clause-callable g c = next_pair (CalledAtPairMut g.F.FnMut) (TakesPairMut g.F.FnMut) _ _ c.each.kept c.each.same c.each.elements c.each.invariant
+
+pub returns-then-ask_neighbours-2-clause-asked : goal.returns-then-ask_neighbours-2-clause-asked
+returns-then-ask_neighbours-2-clause-asked g c = ChainsAlong-here (CalledAtPairMut g.F.FnMut) (TakesPairMut g.F.FnMut) _ _ c.each.kept c.each.same c.each.elements c.each.invariant c.ask_neighbours-in-each.result _ _ c.ask_neighbours-in-each.ensures (search rules)
 
 pub each-preserved : goal.each-preserved
-each-preserved g c =
-    HasChained-more (CalledAtPairMut g.F.FnMut) (TakesPairMut g.F.FnMut) _ _ c.each.kept c.each.same c.each.elements c.each.invariant c.ask_neighbours.result _ _ c.ask_neighbours.ensures c.if-ask_neighbours.false
+each-preserved g c = HasChained-more (CalledAtPairMut g.F.FnMut) (TakesPairMut g.F.FnMut) _ _ c.each.kept c.each.same c.each.elements c.each.invariant c.ask_neighbours-in-each.result _ _ c.ask_neighbours-in-each.ensures (search rules)
 
 pub returns-clause-asked : goal.returns-clause-asked
 returns-clause-asked g c =

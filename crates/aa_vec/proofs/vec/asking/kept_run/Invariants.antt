@@ -1,11 +1,12 @@
 use Rattle.std.proofs.Common.{◌-◌}
 use Rattle.std.specs.Fn.{CalledAtMut}
 use Rattle.aa_vec.specs.Choosing.{TakesMut}
+use Rattle.aa_vec.specs.Until.{StaysAt}
 use Rattle.aa_vec.proofs.Asking.{HasAsked}
 use Rattle.aa_vec.proofs.vec.asking.kept_run.Given as goal
 
 abbrev pub invariant-each : goal.invariant-each
-invariant-each g l = HasAsked (CalledAtMut g.F.FnMut) (TakesMut g.F.FnMut) l.fn.keep l.fn.elements l.kept l.keep l.elements
+invariant-each g l = HasAsked (StaysAt l.fn.stays (CalledAtMut g.F.FnMut)) (TakesMut g.F.FnMut) l.fn.keep l.fn.elements l.kept l.keep l.elements
 
 abbrev pub decreases-each : goal.decreases-each
 decreases-each g l = l.count - l.kept

@@ -1,0 +1,6 @@
+pub mod Costs
+pub mod Moves
+pub mod Pages
+pub mod Parts
+pub mod Taking
+pub mod Texts

@@ -1,0 +1,98 @@
+-- What a contract sees of elements that a closure takes out of a range: the vector as it is lent, the elements that stay, those that
+-- were not asked yet, and what is behind the range.
+use Rattle.std.specs.Prelude.{◌≡◌, ℕ, ◌+◌, ◌-◌, ◌≤◌, Bool, false, List, [], ◌∷◌, ◌++◌, length, take, drop, slice_range, Option, MatchOption, if◌then◌else◌, ◌==◌}
+use Rattle.std.specs.Borrow.{GName}
+use Rattle.std.specs.Iterator.{Yields}
+use Rattle.aa_vec.specs.Behind.{behind_items}
+use Rattle.aa_vec.specs.Choosing.{Asked, AskedInOrder, EndsTrue, kept, passed_over}
+use Rattle.aa_vec.specs.Until.{AsksUntil, StaysAt}
+use Rattle.aa_vec.specs.Vector.{Vector, Holds, Writes, run_count}
+use Rattle.aa_vec.specs.declared.vec.extract_if.ExtractBy.{ExtractBy}
+use Rattle.aa_vec.specs.declared.vec.extract_if.ExtractIf.{ExtractIf}
+
+module _ {T A : Type 0} where
+  -- the reference to the vector
+  abbrev pub extract_lender : ExtractBy T A → GName
+  extract_lender e = e.vec.ghost_name
+
+  -- the vector while it is lent: its items are those before the range
+  abbrev pub extract_vec : ExtractBy T A → Vector T A
+  extract_vec e = e.vec.now
+
+  -- the elements before the range
+  abbrev pub extract_head : ExtractBy T A → List T
+  extract_head e = (extract_vec e).items
+
+  -- those of the range that were asked and stay
+  unfoldable pub extract_kept : ExtractBy T A → List T
+  extract_kept e = behind_items e.vec.now 0 e.kept
+
+  -- those that were not asked yet
+  unfoldable pub extract_rest : ExtractBy T A → List T
+  extract_rest e = behind_items e.vec.now e.front (e.end - e.front)
+
+  -- the elements behind the range
+  unfoldable pub extract_tail : ExtractBy T A → List T
+  extract_tail e = behind_items e.vec.now e.end (e.total - e.end)
+
+  -- how many were taken out
+  abbrev pub extract_count : ExtractBy T A → ℕ
+  extract_count e = e.front - e.kept
+
+  -- e takes elements from the index a up to b out of old, and none was asked yet
+  pub record ExtractsRange (old : Vector T A) (a b : ℕ) (e : ExtractBy T A) : Type 0 where
+    pub head : Holds old (take a old.items) (extract_vec e)
+    pub writes : Writes old 0 0 (extract_vec e)
+    pub kept : extract_kept e ≡ []
+    pub rest : extract_rest e ≡ slice_range old.items a b
+    pub tail : extract_tail e ≡ drop b old.items
+    pub none : extract_count e ≡ 0
+
+  -- new has what is before the range, what stays of it, what was not asked, and what is behind it. The last two were moved, in one run,
+  -- if an element was taken out
+  pub record ClosesExtract (e : ExtractBy T A) (new : Vector T A) : Type 0 where
+    pub holds : Holds (extract_vec e) (extract_head e ++ (extract_kept e ++ (extract_rest e ++ extract_tail e))) new
+    pub writes : let moved = if extract_count e == 0 then 0 else length (extract_rest e) + length (extract_tail e) in
+        Writes (extract_vec e) moved (run_count moved) new
+
+module _ {F T : Type 0} (Asks : F → T → Bool → F → T → Type 0) where
+  -- one call from s: the first so many of the elements that were not asked were asked and stay, and the one behind them, if there is one,
+  -- was asked and taken out; nothing else was asked. The others of the range, and what is before and behind it, are as they were
+  pub record Extracts {A : Type 0} (f : F) (s : ExtractBy T A) (r : Option T) (g : F) (t : ExtractBy T A) : Type 0 where
+    pub stay : ℕ
+    pub left : List T
+    pub until : AsksUntil (StaysAt false Asks) f (extract_rest s) stay g left
+    pub lender : extract_lender t ≡ extract_lender s
+    pub head : Holds (extract_vec s) (extract_head s) (extract_vec t)
+    pub kept : extract_kept t ≡ extract_kept s ++ take stay left
+    pub tail : extract_tail t ≡ extract_tail s
+    pub cases : MatchOption r
+        ((stay ≡ length (extract_rest s)) × (extract_rest t ≡ []) × (extract_count t ≡ extract_count s))
+        (λ x. (drop stay left ≡ x ∷ extract_rest t) × (extract_count t ≡ extract_count s + 1))
+    pub writes : let moved = if extract_count s == 0 then 0 else stay in Writes (extract_vec s) moved (run_count moved) (extract_vec t)
+
+  -- from s on, the closure was asked of elements that were not asked before, in order: xs are those at which it answered true, as it left
+  -- them, and those at which it answered false stay, as it left them. All else is as it was, and what stays was written at most once
+  pub record Extracted {A : Type 0} (f : F) (s : ExtractBy T A) (xs : List T) (g : F) (t : ExtractBy T A) : Type 0 where
+    pub told : List (Asked T)
+    pub asked : AskedInOrder Asks f (take (length told) (extract_rest s)) told g
+    pub items : xs ≡ kept told
+    pub kept : extract_kept t ≡ extract_kept s ++ passed_over told
+    pub rest : extract_rest t ≡ drop (length told) (extract_rest s)
+    pub lender : extract_lender t ≡ extract_lender s
+    pub head : Holds (extract_vec s) (extract_head s) (extract_vec t)
+    pub tail : extract_tail t ≡ extract_tail s
+    pub count : extract_count t ≡ extract_count s + length xs
+    pub written : (extract_vec t).written ≤ (extract_vec s).written + length (passed_over told)
+
+  -- and no other was asked after the last that was taken out
+  pub record ExtractedTo {A : Type 0} (f : F) (s : ExtractBy T A) (xs : List T) (g : F) (t : ExtractBy T A) : Type 0 where
+    pub extracted : Extracted f s xs g t
+    pub ends : EndsTrue extracted.told
+
+  -- so was each state reached that calls of `next` lead to, as long as they give items; each but the first of these moved one run at most
+  abbrev pub ExtractsAlong : {A : Type 0} → ExtractIf T F A → Type 0
+  ExtractsAlong {A} s =
+      (xs : List T) (later : ExtractIf T F A) → Yields (λ u r t. Extracts u.f u.by r t.f t.by) s xs later
+      → ExtractedTo s.f s.by xs later.f later.by
+      × ((extract_vec later.by).runs + (extract_count s.by - 1) ≤ (extract_vec s.by).runs + (extract_count later.by - 1))

@@ -1,0 +1,7 @@
+use Rattle.std.specs.Fn.{CalledAtMut}
+use Rattle.aa_vec.specs.Choosing.{TakesMut}
+use Rattle.allocator_api2.proofs.Extracting.{TakenSoFar}
+use Rattle.allocator_api2.proofs.runner.extracting.take_chosen.Given as goal
+
+abbrev pub invariant-each : goal.invariant-each
+invariant-each g l = TakenSoFar (CalledAtMut g.K.FnMut) (TakesMut g.K.FnMut) l.fn.keep l.fn.range l.fn.side l._taken l.keep l.range l.side

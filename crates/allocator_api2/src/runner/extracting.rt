@@ -1,0 +1,85 @@
+//! The command `ExtractIf` of `run`, and its parts.
+ghost use Rattle.std.specs.Prelude.{◌≡◌, ◌+◌, ◌-◌, ◌≤◌, min, length, slice_range, ◌++◌};
+ghost use Rattle.std.specs.Fn.{CalledAtMut};
+ghost use Rattle.std.specs.Mem.{type_size};
+ghost use Rattle.aa_vec.specs.Choosing.{TakesMut, IsCallableInOrder};
+ghost use Rattle.aa_vec.specs.Extracting.{extract_rest};
+ghost use Rattle.aa_vec.specs.Vector.{len, HasRoom};
+ghost use Rattle.allocator_api2.specs.Commands.{TakesChosen};
+ghost use Rattle.allocator_api2.specs.Drained.{Chosen, TakesUpTo};
+
+use crate::runner::{Reply, append_within};
+use aa_vec::vec::{ExtractBy, Vec};
+use std::alloc::Allocator;
+
+// Tests the range, makes room in side for as many as may be taken, and then takes them.
+pub(crate) fn extract<T, A, K>(
+    main: &mut Vec<T, A>,
+    side: &mut Vec<T, A>,
+    start: usize,
+    end: usize,
+    take: usize,
+    keep: &mut K,
+) -> Reply<T>
+where
+    T: Drop,
+    A: Allocator,
+    K: FnMut(&mut T) -> bool,
+    requires { IsCallableInOrder (CalledAtMut K.FnMut) (TakesMut K.FnMut) keep.old (slice_range main.old.items start end) }
+    ensures { TakesChosen (type_size T.row) (CalledAtMut K.FnMut) main.old side.old keep.old start end take result main.new side.new keep.new }
+{
+    if start > end || end > main.len() {
+        return Reply::Range;
+    }
+    let most = take.min(end - start);
+    if let Err(error) = side.try_reserve(most) {
+        return Reply::Refused(error.kind());
+    }
+    extract_into(main, side, start, end, most, keep);
+    Reply::Done
+}
+
+// Takes at most so many elements out of a range, and puts them behind the last element of a vector that has room for them.
+fn extract_into<T, A, K>(
+    main: &mut Vec<T, A>,
+    side: &mut Vec<T, A>,
+    start: usize,
+    end: usize,
+    most: usize,
+    keep: &mut K,
+)
+where
+    T: Drop,
+    A: Allocator,
+    K: FnMut(&mut T) -> bool,
+    requires range { (start ≤ end) × (end ≤ len main.old) }
+    requires room { HasRoom side.old most }
+    requires callable { IsCallableInOrder (CalledAtMut K.FnMut) (TakesMut K.FnMut) keep.old (slice_range main.old.items start end) }
+    ensures { Chosen (CalledAtMut K.FnMut) main.old side.old keep.old start end most main.new side.new keep.new }
+{
+    let mut range = main.extract_by(start..end);
+    take_chosen(&mut range, side, most, keep);
+}
+
+// The same from a range out of which elements are taken.
+fn take_chosen<T, A, K>(
+    range: &mut ExtractBy<'_, T, A>,
+    side: &mut Vec<T, A>,
+    most: usize,
+    keep: &mut K,
+)
+where
+    T: Drop,
+    A: Allocator,
+    K: FnMut(&mut T) -> bool,
+    requires room { HasRoom side.old most }
+    requires callable { IsCallableInOrder (CalledAtMut K.FnMut) (TakesMut K.FnMut) keep.old (extract_rest range.old) }
+    ensures { TakesUpTo (CalledAtMut K.FnMut) keep.old range.old side.old most keep.new range.new side.new }
+{
+    'each: for _taken in 0..most {
+        match range.next_by(keep) {
+            Some(item) => append_within(side, item),
+            None => return,
+        }
+    }
+}
