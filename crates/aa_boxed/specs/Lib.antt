@@ -7,3 +7,4 @@ pub mod SliceInner
 pub mod SliceLends
 pub mod Text
 pub mod Arrays
+pub mod formers

@@ -1,4 +1,5 @@
-//! A caller that lists `allocator_api2` alone, and concludes from `run`'s contract what it wants to know.
+//! Callers that list `allocator_api2` alone: one for each group of calls, as `docs/CALLING.md` shows them, and one that concludes from `run`'s
+//! contract what it wants to know.
 #![tactic(auto)]
 
 ghost use Rattle.std.specs.Prelude.{◌≡◌, ◌+◌, ◌*◌, ◌≤◌, [], length};
@@ -7,6 +8,14 @@ ghost use Rattle.allocator_api2.specs.Copies.{Copies};
 ghost use Rattle.allocator_api2.specs.Run.{AddsOneAtMost};
 ghost use Rattle.allocator_api2.specs.Vector.{HasRoom};
 ghost use Rattle.allocator_api2.specs.declared.raw_vec.Growth.TheVariants.{Doubling};
+
+pub mod boxes;
+pub mod chosen;
+pub mod positions;
+pub mod ranges;
+pub mod room;
+pub mod stack;
+pub mod texts;
 
 use allocator_api2::runner::{Command, Reply, run};
 use allocator_api2::vec::Vec;

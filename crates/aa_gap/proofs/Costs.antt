@@ -9,9 +9,9 @@ use Rattle.aa_raw.specs.Growth.{amortized, least_of}
 use Rattle.aa_gap.specs.declared.gap_buffer.Edit.{Edit}
 use Rattle.aa_gap.specs.declared.gap_buffer.Edit.TheVariants.{Insert, DeleteBack, DeleteForward, MoveTo}
 use Rattle.aa_gap.specs.Buffer.{Buffer, text, cursor, len, gap, travel, behind, distance, run_count, with_parts, with_room, room, moved_to, SameButWrites, WritesAtMost, GrowsWithin}
-use Rattle.aa_gap.specs.Page.{Page, page, all_edited, written_by, runs_by, put_by, total}
+use Rattle.aa_gap.specs.Page.{Page, page, all_edited, written_by, runs_by, inserts, total}
 use Rattle.aa_gap.specs.Editing.{Costs}
-use Rattle.aa_gap.proofs.Pages.{total-push}
+use Rattle.aa_gap.proofs.Pages.{total-push, inserts-push}
 
 module _ {T A : Type 0} where
   -- no growth
@@ -35,11 +35,12 @@ module _ {T A : Type 0} where
   pub Costs-push : (old mid new : Buffer T A) (es : List (Edit T)) (e : Edit T) → page mid ≡ all_edited es (page old) → mid.growth ≡ old.growth → Costs old es mid → Costs mid (e ∷ []) new → Costs old (es ++ e ∷ []) new
   Costs-push old mid new es e leaves growth d n =
       let more : (by : Edit T → Page T → ℕ) → total by es (page old) + total by (e ∷ []) (page mid) ≡ total by (es ++ e ∷ []) (page old) = λ by. omega (arith, ap (by e) leaves, total-push by es e (page old)) in
+      let more_inserts : inserts es + inserts (e ∷ []) ≡ inserts (es ++ e ∷ []) = sym (inserts-push es e) in
       record {
-        longer = omega (arith, d.longer, n.longer, more put_by);
+        longer = omega (arith, d.longer, n.longer, more_inserts);
         writes = omega (arith, d.writes, n.writes, more written_by);
         runs = omega (arith, d.runs, n.runs, more runs_by);
-        grown = GrowsWithin-push old.growth old mid new (total put_by es (page old)) (total put_by (e ∷ []) (page mid)) (total put_by (es ++ e ∷ []) (page old)) d.longer (more put_by) d.grown (subst (λ g. GrowsWithin g mid (total put_by (e ∷ []) (page mid)) new) growth n.grown);
+        grown = GrowsWithin-push old.growth old mid new (inserts es) (inserts (e ∷ [])) (inserts (es ++ e ∷ [])) d.longer more_inserts d.grown (subst (λ g. GrowsWithin g mid (inserts (e ∷ [])) new) growth n.grown);
       }
 
   -- parts that are no longer, in the same block
@@ -49,7 +50,7 @@ module _ {T A : Type 0} where
         longer = omega arith;
         writes = omega (arith, ap (λ b. b.written) same, ap (λ b. b.grown) same);
         runs = omega (arith, ap (λ b. b.runs) same);
-        grown = GrowsWithin-stays old.growth old new (total put_by (e ∷ []) (page old)) (ap (λ b. b.grown) same) (ap (λ b. b.capacity) same);
+        grown = GrowsWithin-stays old.growth old new (inserts (e ∷ [])) (ap (λ b. b.grown) same) (ap (λ b. b.capacity) same);
       }
 
   pub Costs-delete_back : (old new : Buffer T A) (r : Option T) → MatchOption r ((old.before ≡ []) × (new.before ≡ [])) (λ x. old.before ≡ new.before ++ x ∷ []) → new ≡ with_parts old new.before old.after → Costs old (DeleteBack ∷ []) new

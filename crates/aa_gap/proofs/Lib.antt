@@ -1,3 +1,4 @@
+pub mod Callers
 pub mod Costs
 pub mod Moves
 pub mod Pages

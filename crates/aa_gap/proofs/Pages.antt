@@ -3,9 +3,9 @@ use Rattle.std.proofs.Common.{◌≡◌, ◌+◌, List, [], ◌∷◌, ◌++◌,
 use Rattle.std.specs.Prelude.{ℕ, remove, MatchOption}
 use Rattle.std.proofs.lemmas.List.Edits.{remove-append_right}
 use Rattle.aa_gap.specs.declared.gap_buffer.Edit.{Edit}
-use Rattle.aa_gap.specs.declared.gap_buffer.Edit.TheVariants.{DeleteForward}
+use Rattle.aa_gap.specs.declared.gap_buffer.Edit.TheVariants.{Insert, DeleteBack, DeleteForward, MoveTo}
 use Rattle.aa_gap.specs.Buffer.{Buffer, text, cursor, with_parts}
-use Rattle.aa_gap.specs.Page.{Page, page, edited, all_edited, total}
+use Rattle.aa_gap.specs.Page.{Page, page, edited, all_edited, inserts, total}
 use Rattle.aa_gap.specs.Editing.{Edits}
 
 module _ {T : Type 0} where
@@ -16,6 +16,13 @@ module _ {T : Type 0} where
   pub total-push : (by : Edit T → Page T → ℕ) (es : List (Edit T)) (e : Edit T) (p : Page T) → total by (es ++ e ∷ []) p ≡ total by es p + by e (all_edited es p)
   total-push by [] e p = omega arith
   total-push by (d ∷ es) e p = omega (arith, total-push by es e (edited d p))
+
+  pub inserts-push : (es : List (Edit T)) (e : Edit T) → inserts (es ++ e ∷ []) ≡ inserts es + inserts (e ∷ [])
+  inserts-push [] e = omega arith
+  inserts-push (Insert x ∷ es) e = omega (arith, inserts-push es e)
+  inserts-push (DeleteBack ∷ es) e = inserts-push es e
+  inserts-push (DeleteForward ∷ es) e = inserts-push es e
+  inserts-push (MoveTo q ∷ es) e = inserts-push es e
 
   -- the first of two parts is followed by the second without its first
   after-removed : (xs ys zs : List T) (r : Option T) → MatchOption r ((ys ≡ []) × (zs ≡ [])) (λ x. ys ≡ x ∷ zs) → remove (xs ++ ys) (length xs) ≡ xs ++ zs

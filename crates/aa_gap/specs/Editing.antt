@@ -5,7 +5,7 @@ use Rattle.aa_raw.specs.declared.collections.TryReserveErrorKind.{TryReserveErro
 use Rattle.aa_gap.specs.declared.gap_buffer.Edit.{Edit}
 use Rattle.aa_gap.specs.declared.gap_buffer.Edit.TheVariants.{Insert}
 use Rattle.aa_gap.specs.Buffer.{Buffer, len, GrowsWithin, LacksRoom}
-use Rattle.aa_gap.specs.Page.{page, all_edited, written_by, runs_by, put_by, total}
+use Rattle.aa_gap.specs.Page.{page, all_edited, written_by, runs_by, inserts, total}
 
 module _ {T A : Type 0} where
   -- new is old after these edits
@@ -15,12 +15,12 @@ module _ {T A : Type 0} where
     pub growth : new.growth ≡ old.growth
     pub room : old.capacity ≤ new.capacity
 
-  -- what these edits took: the text is longer by what was put at most, and besides what they write no more was written than growth moved
+  -- what these edits took: the text is longer by the inserts at most, and besides what they write no more was written than growth moved
   pub record Costs (old : Buffer T A) (edits : List (Edit T)) (new : Buffer T A) : Type 0 where
-    pub longer : len new ≤ len old + total put_by edits (page old)
+    pub longer : len new ≤ len old + inserts edits
     pub writes : new.written + old.grown ≤ old.written + new.grown + total written_by edits (page old)
     pub runs : new.runs ≤ old.runs + total runs_by edits (page old)
-    pub grown : GrowsWithin old.growth old (total put_by edits (page old)) new
+    pub grown : GrowsWithin old.growth old (inserts edits) new
 
   module _ {I : Type 0} (steps : I → Option (Edit T) → I → Type 0) (from : I) (old : Buffer T A) where
     -- all that came from an iterator was done

@@ -39,12 +39,13 @@ module _ {T : Type 0} where
   runs_by DeleteForward p = 0
   runs_by (MoveTo q) p = run_count (distance p.position (min q (length p.text)))
 
-  -- how many elements an edit puts
-  abbrev pub put_by : Edit T → Page T → ℕ
-  put_by (Insert x) p = 1
-  put_by DeleteBack p = 0
-  put_by DeleteForward p = 0
-  put_by (MoveTo q) p = 0
+  -- how many of these edits put an element
+  abbrev pub inserts : List (Edit T) → ℕ
+  inserts [] = 0
+  inserts (Insert x ∷ es) = inserts es + 1
+  inserts (DeleteBack ∷ es) = inserts es
+  inserts (DeleteForward ∷ es) = inserts es
+  inserts (MoveTo q ∷ es) = inserts es
 
   -- the sum of what `by` says of each of these edits and the page that it finds
   abbrev pub total : (by : Edit T → Page T → ℕ) → List (Edit T) → Page T → ℕ

@@ -1,4 +1,5 @@
 //! Elements that count how often such an element is dropped.
+use aa_faulty::Faulty;
 use aa_gap::gap_buffer::{Edit, GapBuffer};
 use aa_raw::collections::TryReserveError;
 use std::alloc::Global;
@@ -61,5 +62,26 @@ fn deleting_edits_drop_what_they_take(rt: HostRuntime) -> Result<(), Fail> {
     let mut rest = edits.into_iter();
     text.edit_all(&mut rest)?;
     assert_eq!(rt; drops.get(), 2);
+    Ok(())
+}
+
+#[test]
+fn a_refused_edit_drops_its_element(rt: HostRuntime) -> Result<(), Fail> {
+    let heap = Faulty::new(rt.alloc());
+    let drops = Cell::new(0);
+    let mut text: GapBuffer<Counted<'_>, &Faulty<Global>> = GapBuffer::new_in(&heap);
+    let mut edits = Vec::new(rt.alloc());
+    for _ in 0..3u32 {
+        assert!(rt; edits.push(Edit::Insert(Counted { drops: &drops })).is_ok());
+    }
+    let mut rest = edits.into_iter();
+    heap.refuse(0, 1);
+    assert!(rt; text.edit_all(&mut rest).is_err());
+    assert_eq!(rt; drops.get(), 1);
+    assert_eq!(rt; rest.len(), 2);
+    text.edit_all(&mut rest)?;
+    assert_eq!(rt; drops.get(), 1);
+    drop(text);
+    assert_eq!(rt; drops.get(), 3);
     Ok(())
 }

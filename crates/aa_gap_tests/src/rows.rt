@@ -103,18 +103,6 @@ fn room_is_as_asked(rt: HostRuntime) -> Result<(), Fail> {
 }
 
 #[test]
-fn elements_without_size_take_no_memory(rt: HostRuntime) -> Result<(), Fail> {
-    let mut text: GapBuffer<()> = GapBuffer::new_in(rt.alloc());
-    assert_eq!(rt; text.capacity(), usize::MAX);
-    text.insert(())?;
-    text.insert(())?;
-    text.move_to(0);
-    assert_eq!(rt; text.delete_forward(), Some(()));
-    assert_eq!(rt; text.len(), 1);
-    Ok(())
-}
-
-#[test]
 fn edits_come_from_an_iterator(rt: HostRuntime) -> Result<(), Fail> {
     let mut text: GapBuffer<u32> = GapBuffer::new_in(rt.alloc());
     let edits = vec![in rt.alloc();

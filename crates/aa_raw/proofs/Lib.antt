@@ -17,3 +17,5 @@ mod Seen
 mod Spots
 mod Walk
 pub mod Cloned
+pub mod Beyond
+mod LeftOver

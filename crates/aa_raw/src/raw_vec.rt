@@ -169,6 +169,16 @@ impl<T, A: Allocator> RawVec<T, A> {
         self.row.read(at)
     }
 
+    /// Forgets what stands in the places from `from` on. It does nothing when the program runs.
+    #[inline(always)]
+    pub fn forget_from(&mut self, from: usize)
+        requires { from ≤ length self.old.places }
+        ensures { self.new ≡ with_places self.old (with_run self.old.places from (length self.old.places - from) (replicate (length self.old.places - from) None)) }
+    {
+        let count = self.capacity - from;
+        self.row.forget(from, count);
+    }
+
     /// Drops the `count` values from place `from` on, in order; their places are empty afterwards.
     #[inline]
     pub fn drop_run(&mut self, from: usize, count: usize)

@@ -108,6 +108,13 @@ impl<T> Row<T> {
         unsafe { self.ptr.cast::<[T; N]>().read() }
     }
 
+    /// Does nothing when the program runs: what stands in the `_count` places from `_from` on is forgotten.
+    #[inline(always)]
+    pub(crate) fn forget(&mut self, _from: usize, _count: usize)
+        requires { _from + _count ≤ length self.old.places }
+        ensures { (self.new.ptr ≡ self.old.ptr) × (self.new.places ≡ with_run self.old.places _from _count (replicate _count None)) }
+    {}
+
     /// Moves the `count` values from `from` on to the places from `to` on, which may overlap them.
     #[inline]
     #[tactic(auto, using(crate::proofs::Places::cut_moves))]

@@ -9,7 +9,7 @@ use Rattle.aa_vec.specs.Copies.{MayCallTimes, LengthensBy}
 use Rattle.aa_vec.specs.Vector.{Vector, len, sized, GrowsTo, HasRoom, Holds}
 use Rattle.aa_vec.proofs.Callable.{IsCallableInOrder-any, IsCallableAlong-any}
 use Rattle.aa_vec.proofs.Climbing.{SameBlock-trans}
-use Rattle.aa_vec.proofs.Steady.{asked-steady, kept-steady}
+use Rattle.aa_vec.proofs.Steady.{asked-steady, asked-reading, kept-steady}
 use Rattle.std.proofs.lemmas.Bool.{cases_lt}
 use Rattle.std.proofs.lemmas.List.{append-nil, map-id, take_all}
 
@@ -58,4 +58,9 @@ module _ {F T A : Type 0} (Asks : F → T → Bool → F → T → Type 0) where
   Retains_filter test f old g new r steady =
       r.holds.items ∙ ap kept (asked-steady Asks test (λ x. x) steady f old.items r.told g r.asked) ∙ kept-steady test (λ x. x) old.items ∙ map-id (filter test old.items)
 
-pub ruleset callers = (sized_room, HasRoom_grown, SameBlock-trans, Holds_then, IsCallableInOrder-any, IsCallableAlong-any, MayCallTimes_any, LengthensBy_same, filled_same, Retains_filter)
+  -- and of a closure that only reads what it holds, as one that compares with a key
+  pub Retains_filter_reading : (test : T → Bool) (f : F) (old : Vector T A) (g : F) (new : Vector T A) → Retains Asks f old g new → ((x : T) (answer : Bool) (g : F) (y : T) → Asks f x answer g y → (answer ≡ test x) × (y ≡ x) × (g ≡ f)) → new.items ≡ filter test old.items
+  Retains_filter_reading test f old g new r reads =
+      r.holds.items ∙ ap kept (asked-reading Asks test f reads old.items r.told g r.asked) ∙ kept-steady test (λ x. x) old.items ∙ map-id (filter test old.items)
+
+pub ruleset callers = (sized_room, HasRoom_grown, SameBlock-trans, Holds_then, IsCallableInOrder-any, IsCallableAlong-any, MayCallTimes_any, LengthensBy_same, filled_same, Retains_filter, Retains_filter_reading)

@@ -20,6 +20,17 @@ asked-steady Asks p h steady f (x ∷ xs) (y ∷ told) g a =
     let one : y ≡ told_by p h x = λ i. record { answer = s.0 i; left = s.1 i } in
     ap (λ z. z ∷ told) one ∙ ap (λ l. told_by p h x ∷ l) (asked-steady Asks p h steady a.0 xs told g a.2)
 
+-- and by one that only reads what it holds, in the state that it has
+pub asked-reading : {F T : Type 0} (Asks : F → T → Bool → F → T → Type 0) (p : T → Bool) (f : F) → ((x : T) (answer : Bool) (g : F) (y : T) → Asks f x answer g y → (answer ≡ p x) × (y ≡ x) × (g ≡ f))
+    → (xs : List T) (told : List (Asked T)) (g : F) → AskedInOrder Asks f xs told g → told ≡ map (told_by p (λ x. x)) xs
+asked-reading Asks p f reads [] [] g a = refl
+asked-reading Asks p f reads [] (y ∷ told) g a = absurd a
+asked-reading Asks p f reads (x ∷ xs) [] g a = absurd a
+asked-reading Asks p f reads (x ∷ xs) (y ∷ told) g a =
+    let s = reads x y.answer a.0 y.left a.1 in
+    let one : y ≡ told_by p (λ x. x) x = λ i. record { answer = s.0 i; left = s.1 i } in
+    ap (λ z. z ∷ told) one ∙ ap (λ l. told_by p (λ x. x) x ∷ l) (asked-reading Asks p f reads xs told g (subst (λ next. AskedInOrder Asks next xs told g) s.2 a.2))
+
 module _ {F T : Type 0} (Asks : F → T → T → Bool → F → T → T → Type 0) (same : T → T → Bool) (steady : (f : F) (x l : T) (answer : Bool) (g : F) (y k : T) → Asks f x l answer g y k → (answer ≡ same x l) × (y ≡ x) × (k ≡ l)) where
   -- the answers of such a test, the first beside l
   abbrev pub answers_from : T → List T → List Bool

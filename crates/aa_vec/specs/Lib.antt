@@ -17,3 +17,4 @@ pub mod Splicing
 pub mod Filling
 pub mod Splices
 pub mod Arrays
+pub mod formers

@@ -30,4 +30,8 @@ mod growing;
 #[cfg(test)]
 mod into;
 #[cfg(test)]
+mod left_early;
+#[cfg(test)]
+mod liars;
+#[cfg(test)]
 mod splice;

@@ -15,3 +15,5 @@ pub mod Spliced
 pub mod SplicedRanges
 pub mod Stops
 pub mod Taken
+pub mod Blocks
+pub mod Callers

@@ -1,7 +1,7 @@
 -- What the cases are called.
 use Rattle.std.specs.Prelude.{ℕ, List, codes, ◌++◌}
 use Rattle.vecbench.specs.declared.case.Case.{Case}
-use Rattle.vecbench.specs.declared.case.Case.TheVariants.{Sized, PushPop, PushReserved, PushFull, InsertFront, RemoveFront, RetainHalf, RetainMost, Dedup, ExtendFromSlice, Extend, ExtendUnhinted, Append, DrainTaken, DrainDropped, DrainFront, IntoIter, SpliceGrowing, SpliceInPlace, SpliceFront}
+use Rattle.vecbench.specs.declared.case.Case.TheVariants.{Sized, PushPop, PushReserved, PushFull, InsertFront, RemoveFront, RetainHalf, RetainMost, Dedup, ExtendFromSlice, Extend, ExtendUnhinted, Append, DrainTaken, DrainDropped, DrainFront, IntoIter, SpliceGrowing, SpliceInPlace, SpliceFront, InsertMiddle, GapInsert}
 use Rattle.vecbench.specs.declared.case.Call.{Call}
 use Rattle.vecbench.specs.declared.case.Call.TheVariants.{Push, InsertPop, RemovePush, Clone}
 use Rattle.vecbench.specs.declared.case.Size.{Size}
@@ -41,3 +41,5 @@ name_of IntoIter = codes "into_iter"
 name_of SpliceGrowing = codes "splice_growing"
 name_of SpliceInPlace = codes "splice_in_place"
 name_of SpliceFront = codes "splice_front"
+name_of InsertMiddle = codes "insert_middle"
+name_of GapInsert = codes "gap_insert"

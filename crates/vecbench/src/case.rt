@@ -47,6 +47,10 @@ pub enum Case {
     SpliceInPlace,
     /// Splices an item in before the first `u64` and pops, a hundred times.
     SpliceFront,
+    /// Inserts a thousand numbers in the middle, each behind the one before.
+    InsertMiddle,
+    /// The same at the cursor of a gap buffer; over the toolchain's vector as `InsertMiddle`.
+    GapInsert,
 }
 
 /// What is timed at each size of the elements.
@@ -101,6 +105,8 @@ impl Case {
             "splice_growing" => Case::SpliceGrowing,
             "splice_in_place" => Case::SpliceInPlace,
             "splice_front" => Case::SpliceFront,
+            "insert_middle" => Case::InsertMiddle,
+            "gap_insert" => Case::GapInsert,
             _ => {
                 let (call, size) = sized(name)?;
                 Case::Sized(call, size)
@@ -162,6 +168,8 @@ impl fmt::Display for Case {
             Case::SpliceGrowing => write!(f, "splice_growing"),
             Case::SpliceInPlace => write!(f, "splice_in_place"),
             Case::SpliceFront => write!(f, "splice_front"),
+            Case::InsertMiddle => write!(f, "insert_middle"),
+            Case::GapInsert => write!(f, "gap_insert"),
         }
     }
 }

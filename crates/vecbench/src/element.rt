@@ -50,6 +50,18 @@ impl Element for u8 {
     }
 }
 
+impl Element for u16 {
+    ghost number_of = { λ x. x };
+
+    fn of(number: u32) -> Self {
+        (number % 65_536) as u16
+    }
+
+    fn number(&self) -> u32 {
+        u32::from(*self)
+    }
+}
+
 /// An element of 24 bytes.
 #[derive(Clone, Copy, Drop)]
 pub struct Wide {

@@ -6,6 +6,7 @@ use crate::case::{Call, Case, Size};
 use crate::checksum::checksum_from;
 use crate::element::{Element, Wide};
 use crate::lines::Task;
+use allocator_api2::gap_buffer::GapBuffer;
 use allocator_api2::vec::Vec;
 use std::alloc::Global;
 use std::mem::replace;
@@ -21,6 +22,9 @@ pub struct Vectors {
     wides: Pair<Wide>,
     units: Pair<()>,
     source: Vec<u8>,
+    // For the inserts in the middle, likewise.
+    shorts: Pair<u16>,
+    text: GapBuffer<u16>,
 }
 
 // Two vectors of one type of elements.
@@ -40,6 +44,8 @@ impl Lists for Vectors {
             wides: Pair::new(alloc),
             units: Pair::new(alloc),
             source: Vec::new(alloc),
+            shorts: Pair::new(alloc),
+            text: GapBuffer::new_in(alloc),
         };
         if vectors.prepare(task.case, task.count) {
             Some(vectors)
@@ -80,6 +86,8 @@ impl Lists for Vectors {
             Case::SpliceGrowing => splice_growing(numbers, count),
             Case::SpliceInPlace => splice_in_place(numbers, count),
             Case::SpliceFront => splice_front(&mut self.longs.list),
+            Case::InsertMiddle => insert_middle(&mut self.shorts.list),
+            Case::GapInsert => gap_insert(&mut self.text),
         }
     }
 
@@ -88,7 +96,10 @@ impl Lists for Vectors {
         let longs = self.longs.checksum(numbers);
         let bytes = self.bytes.checksum(longs);
         let wides = self.wides.checksum(bytes);
-        self.units.checksum(wides)
+        let units = self.units.checksum(wides);
+        let shorts = self.shorts.checksum(units);
+        let before = checksum_from(shorts, self.text.before());
+        checksum_from(before, self.text.after())
     }
 }
 
@@ -112,6 +123,8 @@ impl Vectors {
             Case::RetainHalf | Case::RetainMost | Case::IntoIter | Case::SpliceInPlace => {
                 fill(numbers, count, 1)
             }
+            Case::InsertMiddle => fill(&mut self.shorts.list, count, 1),
+            Case::GapInsert => fill_text(&mut self.text, count),
             Case::DrainTaken | Case::DrainDropped => fill(numbers, count.saturating_mul(2), 1),
             Case::Dedup => fill(numbers, count, 3),
             Case::ExtendFromSlice => fill(&mut self.source, count, 1),
@@ -160,6 +173,17 @@ fn fill<E: Element>(list: &mut Vec<E>, count: u32, runs: u32) -> bool
             return false;
         }
     }
+    true
+}
+
+// The numbers below `count`, the cursor in the middle.
+fn fill_text(text: &mut GapBuffer<u16>, count: u32) -> bool {
+    for i in 0..count {
+        if text.insert(u16::of(i)).is_err() {
+            return false;
+        }
+    }
+    text.move_to(text.len() / 2);
     true
 }
 
@@ -391,4 +415,26 @@ fn splice_front(list: &mut Vec<u64>) -> bool {
         }
     }
     list.push(sum).is_ok()
+}
+
+#[inline(never)]
+fn insert_middle(list: &mut Vec<u16>) -> bool {
+    let middle = list.len() / 2;
+    for i in 0..1000 {
+        let at = middle.saturating_add(usize::from(i)).min(list.len());
+        if list.insert(at, i).is_err() {
+            return false;
+        }
+    }
+    true
+}
+
+#[inline(never)]
+fn gap_insert(text: &mut GapBuffer<u16>) -> bool {
+    for i in 0..1000 {
+        if text.insert(i).is_err() {
+            return false;
+        }
+    }
+    true
 }

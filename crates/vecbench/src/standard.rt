@@ -20,6 +20,8 @@ pub struct Vectors {
     wides: Pair<Wide>,
     units: Pair<()>,
     source: Vec<u8>,
+    // For the inserts in the middle, likewise.
+    shorts: Pair<u16>,
 }
 
 // Two vectors of one type of elements.
@@ -39,6 +41,7 @@ impl Lists for Vectors {
             wides: Pair::new(alloc),
             units: Pair::new(alloc),
             source: Vec::new(alloc),
+            shorts: Pair::new(alloc),
         };
         if vectors.prepare(task.case, task.count) {
             Some(vectors)
@@ -79,6 +82,8 @@ impl Lists for Vectors {
             Case::SpliceGrowing => splice_growing(numbers, count),
             Case::SpliceInPlace => splice_in_place(numbers, count),
             Case::SpliceFront => splice_front(&mut self.longs.list),
+            Case::InsertMiddle => insert_middle(&mut self.shorts.list),
+            Case::GapInsert => gap_insert(&mut self.shorts.list),
         }
     }
 
@@ -87,7 +92,8 @@ impl Lists for Vectors {
         let longs = self.longs.checksum(numbers);
         let bytes = self.bytes.checksum(longs);
         let wides = self.wides.checksum(bytes);
-        self.units.checksum(wides)
+        let units = self.units.checksum(wides);
+        self.shorts.checksum(units)
     }
 }
 
@@ -111,6 +117,7 @@ impl Vectors {
             Case::RetainHalf | Case::RetainMost | Case::IntoIter | Case::SpliceInPlace => {
                 fill(numbers, count, 1)
             }
+            Case::InsertMiddle | Case::GapInsert => fill(&mut self.shorts.list, count, 1),
             Case::DrainTaken | Case::DrainDropped => fill(numbers, count.saturating_mul(2), 1),
             Case::Dedup => fill(numbers, count, 3),
             Case::ExtendFromSlice => fill(&mut self.source, count, 1),
@@ -390,4 +397,22 @@ fn splice_front(list: &mut Vec<u64>) -> bool {
         }
     }
     list.push(sum).is_ok()
+}
+
+#[inline(never)]
+fn insert_middle(list: &mut Vec<u16>) -> bool {
+    let middle = list.len() / 2;
+    for i in 0..1000 {
+        let at = middle.saturating_add(usize::from(i)).min(list.len());
+        if list.insert(at, i).is_err() {
+            return false;
+        }
+    }
+    true
+}
+
+// The toolchain has no gap buffer.
+#[inline(never)]
+fn gap_insert(list: &mut Vec<u16>) -> bool {
+    insert_middle(list)
 }

@@ -132,6 +132,8 @@ impl<T, A: Allocator> BoxedSlice<T, A> {
         requires room { IsJustFor len block.places }
         ensures { result ≡ slice_of block len }
     {
+        let mut block = block;
+        block.forget_from(len);
         BoxedSlice { block, len }
     }
 

@@ -42,6 +42,8 @@ impl<T, A: Allocator> IntoIter<T, A> {
         requires { IsRun block.places 0 len }
         ensures { result ≡ record { items = run block.places 0 len; alloc = block.alloc } }
     {
+        let mut block = block;
+        block.forget_from(len);
         IntoIter {
             block,
             front: 0,
@@ -92,7 +94,7 @@ impl<T, A: Allocator> IntoIter<T, A> {
 
     /// Takes the first item. At the end it answers `None`, and so for good. It stands for `IntoIter::next`.
     #[inline(always)]
-    #[tactic(auto, using(crate::proofs::Calls::at_ends))]
+    #[tactic(auto, using(crate::proofs::Calls::at_ends, crate::proofs::Beyond::at_sides))]
     pub fn next(&mut self) -> Option<T>
         ensures { gives_first self.old result self.new }
     {
@@ -107,7 +109,7 @@ impl<T, A: Allocator> IntoIter<T, A> {
     /// Takes the last item. At the end it answers `None`, and so for good. It stands for `IntoIter::next_back`, which lets the
     /// length grow for elements without size.
     #[inline(always)]
-    #[tactic(auto, using(crate::proofs::Calls::at_ends))]
+    #[tactic(auto, using(crate::proofs::Calls::at_ends, crate::proofs::Beyond::at_sides))]
     pub fn next_back(&mut self) -> Option<T>
         ensures { gives_last self.old result self.new }
     {

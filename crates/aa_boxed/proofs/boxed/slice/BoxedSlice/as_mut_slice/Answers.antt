@@ -1,5 +1,7 @@
-use Rattle.std.proofs.Common.{◌≡◌, length, refl, sym, ap, ◌∙◌}
+use Rattle.std.proofs.Common.{◌≡◌, length, map, Some, refl, sym, ap, ◌∙◌, arith}
+use Rattle.std.proofs.lemmas.List.{length-map}
 use Rattle.std.specs.List.{refill, length_refill}
+use Rattle.aa_raw.proofs.Beyond.{none-behind-with}
 use Rattle.aa_raw.proofs.Runs.{run-is, length-run, run-with, IsRun-with, length-with}
 use Rattle.aa_boxed.proofs.boxed.slice.BoxedSlice.as_mut_slice.Goals as goal
 
@@ -10,6 +12,7 @@ invariant_of-self-lent g c w =
     let full = sym (length_refill n r w long) in record {
       filled = IsRun-with cs 0 n (refill n r w) run.0 full;
       room = rw (length-with cs 0 n (refill n r w) run.0 full) c.self.invariant.room;
+      others = none-behind-with cs 0 n run.0 (map Some (refill n r w)) n (length-map (refill n r w) Some ∙ full) (omega arith) c.self.invariant.others;
     }
 
 pub returns : goal.returns

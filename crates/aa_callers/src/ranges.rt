@@ -1,0 +1,49 @@
+//! Ranges taken out of a vector, and put into one.
+ghost use Rattle.std.specs.Prelude.{◌≡◌, ◌≤◌, ◌++◌, ◌/◌, drop, length, map, take, OnOk};
+
+use allocator_api2::collections::TryReserveError;
+use allocator_api2::vec::Vec;
+use std::alloc::Allocator;
+
+/// Moves the first `count` numbers of `from` behind those of `to`. What `from` holds afterwards is not known: the range goes into the
+/// chain by value.
+pub fn move_first<A: Allocator>(
+    from: &mut Vec<u32, A>,
+    to: &mut Vec<u32, A>,
+    count: usize,
+) -> Result<(), TryReserveError>
+    requires { count ≤ length from.old.items }
+    ensures { OnOk result (to.new.items ≡ to.old.items ++ take count from.old.items) }
+{
+    to.extend(from.drain(0..count))
+}
+
+/// The number at the range's start and the rest of the vector without the range.
+pub fn first_of_range<A: Allocator>(v: &mut Vec<u32, A>, start: usize, end: usize) -> Option<u32>
+    requires { (start ≤ end) × (end ≤ length v.old.items) }
+    ensures { v.new.items ≡ take start v.old.items ++ drop end v.old.items }
+{
+    let mut range = v.drain(start..end);
+    range.next()
+}
+
+/// Puts the items of `with` in the place of a range.
+pub fn replace<A: Allocator + Clone>(
+    v: &mut Vec<u32, A>,
+    start: usize,
+    end: usize,
+    with: Vec<u32, A>,
+) -> Result<(), TryReserveError>
+    requires { (start ≤ end) × (end ≤ length v.old.items) }
+    ensures { OnOk result (v.new.items ≡ take start v.old.items ++ (with.items ++ drop end v.old.items)) }
+{
+    v.splice(start..end, with.into_iter()).finish()?;
+    Ok(())
+}
+
+/// Puts half of each number behind the others.
+pub fn add_halves<A: Allocator>(v: &mut Vec<u32, A>, numbers: &[u32]) -> Result<(), TryReserveError>
+    ensures { OnOk result (v.new.items ≡ v.old.items ++ map (λ x. x / 2) numbers.now) }
+{
+    v.extend(numbers.iter().map(|x| *x / 2))
+}

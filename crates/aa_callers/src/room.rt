@@ -1,0 +1,59 @@
+//! Room that is made first, and what is pushed into it.
+ghost use Rattle.std.specs.Prelude.{◌≡◌, [], ◌∷◌, ◌++◌, replicate, IfErr, IfOk, OnErr, OnOk};
+ghost use Rattle.allocator_api2.specs.Vector.{HasRoom, Holds};
+
+use allocator_api2::collections::{Refused, TryReserveError};
+use allocator_api2::vec::Vec;
+use std::alloc::Allocator;
+
+/// Puts a number behind the others. A refusal hands it back.
+pub fn add<A: Allocator>(v: &mut Vec<u64, A>, x: u64) -> Result<(), Refused<u64>>
+    ensures added { OnOk result (v.new.items ≡ v.old.items ++ x ∷ []) }
+    ensures refused { IfErr result (λ r. (r.source ≡ x) × (v.new ≡ v.old)) }
+{
+    v.push(x)
+}
+
+/// Puts two numbers behind the others, or neither.
+pub fn add_two<A: Allocator>(v: &mut Vec<u64, A>, a: u64, b: u64) -> Result<(), TryReserveError>
+    ensures both { OnOk result (v.new.items ≡ v.old.items ++ a ∷ b ∷ []) }
+    ensures neither { OnErr result (v.new ≡ v.old) }
+{
+    v.try_reserve(2)?;
+    push_within(v, a);
+    push_within(v, b);
+    Ok(())
+}
+
+/// A vector of two numbers.
+pub fn two_in<A: Allocator>(alloc: A, a: u64, b: u64) -> Result<Vec<u64, A>, TryReserveError>
+    ensures { IfOk result (λ v. v.items ≡ a ∷ b ∷ []) }
+{
+    let mut v = Vec::with_capacity_in(2, alloc)?;
+    push_within(&mut v, a);
+    push_within(&mut v, b);
+    Ok(v)
+}
+
+/// Puts `count` zeroes behind the others, or none.
+pub fn add_zeroes<A: Allocator>(v: &mut Vec<u64, A>, count: usize) -> Result<(), TryReserveError>
+    ensures all { OnOk result (v.new.items ≡ v.old.items ++ replicate count 0) }
+    ensures none { OnErr result (v.new ≡ v.old) }
+{
+    v.try_reserve(count)?;
+    'each: for _i in 0..count {
+        push_within(v, 0);
+    }
+    Ok(())
+}
+
+// Puts a number into room that is there: the block stays.
+fn push_within<A: Allocator>(v: &mut Vec<u64, A>, x: u64)
+    requires room { HasRoom v.old 1 }
+    ensures { Holds v.old (v.old.items ++ x ∷ []) v.new }
+{
+    match v.push_within_capacity(x) {
+        Ok(()) => {}
+        Err(_) => unreachable!(),
+    }
+}

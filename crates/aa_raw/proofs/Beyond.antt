@@ -1,0 +1,53 @@
+-- Places of which those before a run, or those behind it, hold no value, and what the calls of a block do to that.
+--     none_there         new places hold none
+--     at_sides           take at an end of the run
+--     none-before-with, none-behind-with      other values in the run
+--     none-forgotten     what stood behind the run is forgotten
+use Rattle.std.proofs.Common.{◌≡◌, ℕ, zero, suc, ◌+◌, ◌-◌, ◌<◌, ◌≤◌, List, ◌∷◌, [], ◌++◌, Option, None, true, ◌&&◌, length, take, drop, replicate, refl, sym, ap, subst, ◌∙◌, arith}
+use Rattle.std.specs.Prelude.{is_none, slice_set}
+use Rattle.std.specs.List.{list_all}
+use Rattle.std.proofs.lemmas.List.{length-take-le, take_at, drop_at, drop_all, drop-set, drop-set-lt, take-set-le, take_more_set}
+use Rattle.std.proofs.lemmas.List.Folds.{list_all-append}
+use Rattle.aa_raw.specs.Places.{with_run}
+use Rattle.aa_raw.proofs.Runs.{drop-with}
+
+pub none_there : (X : Type 0) (n : ℕ) → list_all {X = Option X} is_none (replicate n None) ≡ true
+none_there X zero = refl
+none_there X (suc n) = none_there X n
+
+module _ {X : Type 0} where
+  abbrev None_in : List (Option X) → Type 0
+  None_in cs = list_all is_none cs ≡ true
+
+  -- the first of a run taken
+  pub none-before_taken : (cs : List (Option X)) (front : ℕ) → front < length cs → None_in (take front cs) → None_in (take (front + 1) (slice_set cs front None))
+  none-before_taken cs front some e = ap (list_all is_none) (take_more_set cs front None some) ∙ list_all-append is_none (take front cs) (None ∷ []) ∙ (λ i. e i && true)
+
+  pub none-behind_kept : (cs : List (Option X)) (back i : ℕ) → i < back → None_in (drop back cs) → None_in (drop back (slice_set cs i None))
+  none-behind_kept cs back i below e = ap (list_all is_none) (drop-set-lt back cs i None below) ∙ e
+
+  -- and the last
+  pub none-behind_taken : (cs : List (Option X)) (back : ℕ) → 0 < back → back ≤ length cs → None_in (drop back cs) → None_in (drop (back - 1) (slice_set cs (back - 1) None))
+  none-behind_taken cs back some within e =
+      let same : back - 1 + 1 ≡ back = omega (arith, some) in ap (list_all is_none) (drop-set cs (back - 1) None (omega (arith, some, within))) ∙ ap (λ k. list_all is_none (drop k cs)) same ∙ e
+
+  pub none-before_kept : (cs : List (Option X)) (front i : ℕ) → front ≤ i → None_in (take front cs) → None_in (take front (slice_set cs i None))
+  none-before_kept cs front i above e = ap (list_all is_none) (take-set-le front cs i None above) ∙ e
+
+  pub ruleset at_sides = (none-before_taken, none-behind_kept, none-behind_taken, none-before_kept)
+
+  module _ (cs : List (Option X)) (from n : ℕ) (within : from + n ≤ length cs) where
+    pub none-before-with : (ys : List (Option X)) → None_in (take from cs) → None_in (take from (with_run cs from n ys))
+    unfolding with_run
+    none-before-with ys e = ap (list_all is_none) (take_at (take from cs) (ys ++ drop (from + n) cs) from (length-take-le from cs (omega (arith, within)))) ∙ e
+
+    pub none-behind-with : (ys : List (Option X)) (to : ℕ) → length ys ≡ n → from + n ≡ to → None_in (drop to cs) → None_in (drop to (with_run cs from n ys))
+    none-behind-with ys to long e none =
+        subst (λ k. None_in (drop k (with_run cs from n ys))) e (ap (list_all is_none) (drop-with cs from n ys within long) ∙ subst (λ k. None_in (drop k cs)) (sym e) none)
+
+  pub none-forgotten : (cs : List (Option X)) (n m : ℕ) → n + m ≡ length cs → None_in (drop n (with_run cs n m (replicate m None)))
+  unfolding with_run
+  none-forgotten cs n m all =
+      ap (list_all is_none) (drop_at (take n cs) (replicate m None ++ drop (n + m) cs) n (length-take-le n cs (omega (arith, all))))
+      ∙ list_all-append is_none (replicate m None) (drop (n + m) cs)
+      ∙ (λ i. none_there X m i && list_all is_none (drop_all (n + m) cs (omega (arith, all)) i))

@@ -1,0 +1,3 @@
+pub mod row
+pub mod raw_vec
+pub mod vec

@@ -1,0 +1,18 @@
+-- The equations of `total`.
+use Rattle.std.proofs.Common.{◌≡◌, ℕ, ◌+◌, List, [], ◌∷◌, ◌++◌, arith}
+use Rattle.aa_recursive.specs.Trees.{total_step, total, total_of_all}
+use Rattle.aa_recursive.specs.declared.tree.Tree.{Tree}
+use Rattle.aa_recursive.specs.declared.tree.Tree.TheOpen.{Tree-F}
+use Rattle.aa_recursive.specs.declared.tree.Tree.TheViews.{out-Tree, roll-Tree}
+use Rattle.aa_recursive.specs.declared.tree.Tree.TheFolds.{fold-roll-Tree, fold_out-Tree}
+
+module _ {A : Type 0} where
+  pub total_roll : (x : Tree-F A (Tree A)) → total (roll-Tree A x) ≡ x.value + total_of_all x.below.items
+  total_roll = fold-roll-Tree A ℕ total_step
+
+  pub total_out : (t : Tree A) → total t ≡ (out-Tree A t).value + total_of_all (out-Tree A t).below.items
+  total_out = fold_out-Tree A ℕ total_step
+
+  pub total_of_all_push : (ts : List (Tree A)) (t : Tree A) → total_of_all (ts ++ (t ∷ [])) ≡ total_of_all ts + total t
+  total_of_all_push [] t = omega arith
+  total_of_all_push (u ∷ ts) t = omega (arith, total_of_all_push ts t)

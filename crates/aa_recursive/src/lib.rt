@@ -1,0 +1,10 @@
+//! Tests of types that hold themselves through the library's boxes and vectors, and no part of it.
+#![tactic(auto)]
+
+pub mod derived;
+pub mod forms;
+pub mod list;
+pub mod search;
+#[cfg(test)]
+mod tests;
+pub mod tree;

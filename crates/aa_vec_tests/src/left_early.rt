@@ -1,0 +1,277 @@
+//! Ranges and items that are left early, forgotten, or taken from both ends until they meet: what stands then, and what is dropped.
+ghost use Rattle.std.specs.Prelude.{◌≤◌};
+ghost use Rattle.aa_vec.specs.Vector.{len};
+
+use crate::counted::{Counted, counted_up};
+use aa_raw::collections::TryReserveError;
+use aa_vec::vec::items::Items;
+use aa_vec::vec::{Drain, IntoIter, Vec};
+use std::alloc::Global;
+use std::cell::Cell;
+use std::mem::forget;
+use std::rc::Rc;
+use std::test::Fail;
+
+// How a range is left.
+#[derive(Clone, Copy)]
+enum Left {
+    Ended,
+    Kept,
+    Forgotten,
+}
+
+// Takes `first` items from the front and `last` from the back, by turns, as far as there are so many, and drops them: how many came.
+macro_rules! taken_from_ends {
+    ($items:ident, $first:ident, $last:ident) => {{
+        let mut taken = 0u32;
+        for turn in 0..$first.max($last) {
+            if turn < $first && $items.next().is_some() {
+                taken = taken.saturating_add(1);
+            }
+            if turn < $last && $items.next_back().is_some() {
+                taken = taken.saturating_add(1);
+            }
+        }
+        taken
+    }};
+}
+
+fn taken_of_drain<T: Drop>(range: &mut Drain<'_, T, Global>, first: u32, last: u32) -> u32 {
+    taken_from_ends!(range, first, last)
+}
+
+fn taken_of_items<T: Drop>(items: &mut IntoIter<T, Global>, first: u32, last: u32) -> u32 {
+    taken_from_ends!(items, first, last)
+}
+
+fn has_values(v: &Vec<Counted<'_>>, values: &[u32]) -> bool {
+    v.iter().map(|x| x.value).eq(values.iter().copied())
+}
+
+#[test]
+fn what_is_left_of_a_drain_is_dropped_kept_or_lost(rt: HostRuntime) {
+    for (first, last, left, values, dropped) in [
+        (1, 2, Left::Ended, [0, 1, 8, 9].as_slice(), 6),
+        (3, 3, Left::Ended, [0, 1, 8, 9].as_slice(), 6),
+        (0, 9, Left::Ended, [0, 1, 8, 9].as_slice(), 6),
+        (
+            0,
+            0,
+            Left::Kept,
+            [0, 1, 2, 3, 4, 5, 6, 7, 8, 9].as_slice(),
+            0,
+        ),
+        (1, 2, Left::Kept, [0, 1, 3, 4, 5, 8, 9].as_slice(), 3),
+        (4, 4, Left::Kept, [0, 1, 8, 9].as_slice(), 6),
+        (7, 0, Left::Forgotten, [0, 1].as_slice(), 6),
+    ] {
+        let drops = Cell::new(0u32);
+        let mut v = counted_up(rt.alloc(), &drops, 10);
+        assert!(rt; v.len() == 10);
+        let mut range = v.drain(2..8);
+        let taken = taken_of_drain(&mut range, first, last);
+        assert_eq!(rt;
+            (taken, drops.get()),
+            (first.saturating_add(last).min(6), taken)
+        );
+        match left {
+            Left::Ended => drop(range),
+            Left::Kept => range.keep_rest(),
+            Left::Forgotten => forget(range),
+        }
+        assert_eq!(rt; (v.capacity(), drops.get()), (16, dropped));
+        assert!(rt; has_values(&v, values));
+        drop(v);
+        assert_eq!(rt;
+            drops.get() as usize,
+            values.len().saturating_add(dropped as usize)
+        );
+    }
+}
+
+#[test]
+fn what_is_left_of_items_is_dropped_or_lost(rt: HostRuntime) {
+    for (first, last, left, taken, dropped) in [
+        (0, 0, Left::Ended, 0, 5),
+        (2, 1, Left::Ended, 3, 5),
+        (3, 3, Left::Ended, 5, 5),
+        (0, 6, Left::Ended, 5, 5),
+        (0, 0, Left::Forgotten, 0, 0),
+        (1, 2, Left::Forgotten, 3, 3),
+    ] {
+        let drops = Cell::new(0u32);
+        let mut items = counted_up(rt.alloc(), &drops, 5).into_iter();
+        assert_eq!(rt; taken_of_items(&mut items, first, last), taken);
+        assert_eq!(rt;
+            (items.len(), drops.get()),
+            (5usize.saturating_sub(taken as usize), taken)
+        );
+        if matches!(left, Left::Ended) {
+            drop(items);
+        } else {
+            forget(items);
+        }
+        assert_eq!(rt; drops.get(), dropped);
+    }
+}
+
+// Takes up to `count` even ones of the places 2 to 7, and leaves the others.
+#[tactic(auto, using(aa_vec::proofs::Callers::callers))]
+fn evens_taken(v: &mut Vec<Counted<'_>>, count: u32, left: Left)
+    requires { 8 ≤ len v.old }
+{
+    let mut evens = v.extract_if(2..8, |x| x.value % 2 == 0);
+    for _ in 0..count {
+        drop(evens.next());
+    }
+    if matches!(left, Left::Ended) {
+        drop(evens);
+    } else {
+        forget(evens);
+    }
+}
+
+#[test]
+fn what_is_left_of_an_extraction_stays_or_is_lost(rt: HostRuntime) {
+    for (count, left, values, dropped) in [
+        (0, Left::Ended, [0, 1, 2, 3, 4, 5, 6, 7, 8, 9].as_slice(), 0),
+        (2, Left::Ended, [0, 1, 3, 5, 6, 7, 8, 9].as_slice(), 2),
+        (4, Left::Ended, [0, 1, 3, 5, 7, 8, 9].as_slice(), 3),
+        (0, Left::Forgotten, [0, 1].as_slice(), 0),
+        (2, Left::Forgotten, [0, 1].as_slice(), 2),
+    ] {
+        let drops = Cell::new(0u32);
+        let mut v = counted_up(rt.alloc(), &drops, 10);
+        assert!(rt; v.len() == 10);
+        evens_taken(&mut v, count, left);
+        assert_eq!(rt; (v.capacity(), drops.get()), (16, dropped));
+        assert!(rt; has_values(&v, values));
+        drop(v);
+        assert_eq!(rt;
+            drops.get() as usize,
+            values.len().saturating_add(dropped as usize)
+        );
+    }
+}
+
+// Elements without references that can be counted: as many stand as `origin` is shared by.
+fn sharing(alloc: Global, origin: &Rc<(), Global>, count: usize) -> Result<Vec<Rc<()>>, Fail> {
+    let mut v: Vec<Rc<()>> = Vec::new(alloc);
+    for _ in 0..count {
+        v.push(origin.clone()?)?;
+    }
+    Ok(v)
+}
+
+// Replaces a range by items, once elements were taken from both its ends: how many came.
+fn spliced<T: Drop>(
+    v: &mut Vec<T>,
+    (from, to): (usize, usize),
+    items: Items<T>,
+    (first, last): (u32, u32),
+) -> Result<u32, TryReserveError> {
+    if from > to || to > v.len() {
+        return Ok(0);
+    }
+    let mut range = v.splice(from..to, items);
+    let taken = taken_from_ends!(range, first, last);
+    range.finish_hinted()?;
+    Ok(taken)
+}
+
+// A splice must be ended, so that none is forgotten.
+#[test]
+fn what_is_left_of_a_splice_is_dropped(rt: HostRuntime) -> Result<(), Fail> {
+    for (first, last, taken) in [(0, 0, 0), (1, 2, 3), (3, 3, 6), (7, 0, 6), (0, 9, 6)] {
+        let origin = Rc::new(rt.alloc(), ())?;
+        let mut v = sharing(rt.alloc(), &origin, 10)?;
+        let items = Items::new(sharing(rt.alloc(), &origin, 2)?, None);
+        assert_eq!(rt; Rc::strong_count(&origin), 13);
+        assert_eq!(rt; spliced(&mut v, (2, 8), items, (first, last)), Ok(taken));
+        assert_eq!(rt; (v.len(), v.capacity()), (6, 16));
+        assert_eq!(rt; Rc::strong_count(&origin), 7);
+        drop(v);
+        assert_eq!(rt; Rc::strong_count(&origin), 1);
+    }
+    Ok(())
+}
+
+fn units(alloc: Global, count: usize) -> Result<Vec<()>, Fail> {
+    let mut v: Vec<()> = Vec::new(alloc);
+    v.resize(count, ())?;
+    Ok(v)
+}
+
+#[test]
+fn elements_without_size_are_left_early(rt: HostRuntime) -> Result<(), Fail> {
+    for (first, last, left, taken, length) in [
+        (0, 0, Left::Ended, 0, 2),
+        (2, 2, Left::Ended, 3, 2),
+        (1, 1, Left::Kept, 2, 3),
+        (4, 0, Left::Kept, 3, 2),
+        (1, 0, Left::Forgotten, 1, 1),
+    ] {
+        let mut v = units(rt.alloc(), 5)?;
+        assert!(rt; v.len() == 5);
+        let mut range = v.drain(1..4);
+        assert_eq!(rt; taken_of_drain(&mut range, first, last), taken);
+        match left {
+            Left::Ended => drop(range),
+            Left::Kept => range.keep_rest(),
+            Left::Forgotten => forget(range),
+        }
+        assert_eq!(rt; (v.len(), v.capacity()), (length, usize::MAX));
+        let mut items = v.into_iter();
+        let _taken = taken_of_items(&mut items, first, last);
+        let all = first.saturating_add(last) as usize;
+        assert_eq!(rt; items.len(), length.saturating_sub(all));
+    }
+    Ok(())
+}
+
+#[test]
+fn elements_without_size_are_spliced_early(rt: HostRuntime) -> Result<(), Fail> {
+    for (first, last, taken) in [(0, 0, 0), (1, 1, 2), (2, 2, 3), (0, 4, 3)] {
+        let mut v = units(rt.alloc(), 5)?;
+        let items = Items::new(units(rt.alloc(), 2)?, Some(usize::MAX));
+        assert_eq!(rt; spliced(&mut v, (1, 4), items, (first, last)), Ok(taken));
+        assert_eq!(rt; (v.len(), v.capacity()), (4, usize::MAX));
+    }
+    Ok(())
+}
+
+// Takes up to `count` of each second one of the places 1 to 4, and leaves the others.
+#[tactic(auto, using(aa_vec::proofs::Callers::callers))]
+fn seconds_taken(v: &mut Vec<()>, count: u32, left: Left)
+    requires { 5 ≤ len v.old }
+{
+    let mut turn = false;
+    let mut seconds = v.extract_if(1..5, |_| {
+        turn = !turn;
+        !turn
+    });
+    for _ in 0..count {
+        let _unit = seconds.next();
+    }
+    if matches!(left, Left::Ended) {
+        drop(seconds);
+    } else {
+        forget(seconds);
+    }
+}
+
+#[test]
+fn elements_without_size_are_extracted_early(rt: HostRuntime) -> Result<(), Fail> {
+    for (count, left, length) in [
+        (0, Left::Ended, 6),
+        (1, Left::Ended, 5),
+        (3, Left::Ended, 4),
+        (1, Left::Forgotten, 1),
+    ] {
+        let mut v = units(rt.alloc(), 6)?;
+        assert!(rt; v.len() == 6);
+        seconds_taken(&mut v, count, left);
+        assert_eq!(rt; (v.len(), v.capacity()), (length, usize::MAX));
+    }
+    Ok(())
+}

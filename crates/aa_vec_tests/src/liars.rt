@@ -1,0 +1,365 @@
+//! What lies: hints, iterators that end early, closures that answer by turns, an equality that never holds, clones that differ.
+ghost use Rattle.std.specs.Prelude.{◌≡◌, ◌-◌, false};
+ghost use Rattle.std.specs.Iterator.{at_most};
+ghost use Rattle.std.proofs.Common.{refl};
+
+use crate::counted::counted_up;
+use aa_raw::collections::{TryReserveError, TryReserveErrorKind};
+use aa_vec::vec::items::Hinted;
+use aa_vec::vec::{Vec, same};
+use std::alloc::{AllocError, Global};
+use std::cell::Cell;
+use std::clone::Clone;
+use std::test::Fail;
+
+// What becomes of a hint as an item comes.
+#[derive(Clone, Copy)]
+enum Manner {
+    Stays,
+    CountsDown,
+    TurnsTo(usize),
+}
+
+impl Manner {
+    fn next_hint(self, hint: usize) -> (usize, Manner) {
+        match self {
+            Manner::Stays => (hint, self),
+            Manner::CountsDown => (hint.saturating_sub(1), self),
+            Manner::TurnsTo(other) => (other, Manner::TurnsTo(hint)),
+        }
+    }
+}
+
+// The numbers from 0 to 4, of whose number `hint` is told.
+#[derive(Drop)]
+struct Liar {
+    next: u32,
+    hint: usize,
+    manner: Manner,
+}
+
+impl Iterator for Liar {
+    type Item = u32;
+
+    ghost remaining = { λ s. at_most (5 - s.next) };
+
+    fn next(&mut self) -> Option<u32> {
+        let x = self.next;
+        if x >= 5 {
+            return None;
+        }
+        let (hint, manner) = self.manner.next_hint(self.hint);
+        self.next = x + 1;
+        self.hint = hint;
+        self.manner = manner;
+        Some(x)
+    }
+}
+
+impl Hinted for Liar {
+    ghost lower_of = { λ s. s.hint };
+
+    fn lower(&self) -> usize {
+        self.hint
+    }
+}
+
+fn told(hint: usize, manner: Manner) -> Liar {
+    Liar {
+        next: 0,
+        hint,
+        manner,
+    }
+}
+
+// What a call answers whose numbers fit, or pass the limit.
+fn answer(fits: bool) -> Result<(), TryReserveError> {
+    if fits {
+        return Ok(());
+    }
+    Err(TryReserveErrorKind::CapacityOverflow.into())
+}
+
+#[test]
+fn untrue_hints_decide_the_room_alone(rt: HostRuntime) -> Result<(), Fail> {
+    for (hint, manner, room, fits, length, capacity) in [
+        (0, Manner::Stays, 0, true, 5, 8),
+        (1, Manner::Stays, 0, true, 5, 8),
+        (usize::MAX, Manner::Stays, 0, false, 0, 0),
+        (usize::MAX, Manner::Stays, 4, false, 4, 4),
+        (usize::MAX, Manner::Stays, 5, true, 5, 5),
+        (4, Manner::CountsDown, 0, true, 5, 8),
+        (5, Manner::CountsDown, 0, true, 5, 5),
+        (6, Manner::CountsDown, 0, true, 5, 6),
+        (9, Manner::TurnsTo(0), 0, true, 5, 8),
+        (0, Manner::TurnsTo(9), 0, true, 5, 10),
+        (usize::MAX, Manner::TurnsTo(0), 0, true, 5, 8),
+        (0, Manner::TurnsTo(usize::MAX), 0, false, 0, 0),
+    ] {
+        let mut v: Vec<u32> = Vec::with_capacity(rt.alloc(), room)?;
+        assert_eq!(rt; v.extend_hinted(told(hint, manner)), answer(fits));
+        assert!(rt; v.iter().copied().eq(0..length));
+        assert_eq!(rt; v.capacity(), capacity);
+    }
+    Ok(())
+}
+
+fn list(alloc: Global, items: &[u32]) -> Result<Vec<u32>, Fail> {
+    let mut v: Vec<u32> = Vec::with_capacity(alloc, items.len())?;
+    v.extend_from_slice(items)?;
+    Ok(v)
+}
+
+#[test]
+fn untrue_hints_of_a_splice_decide_the_room_alone(rt: HostRuntime) -> Result<(), Fail> {
+    let all = [1, 0, 1, 2, 3, 4, 4].as_slice();
+    let full = [1, 0, 1, 4].as_slice();
+    for (hint, manner, fits, left, capacity) in [
+        (0, Manner::Stays, true, all, 8),
+        (1, Manner::Stays, true, all, 8),
+        (100, Manner::Stays, true, all, 104),
+        (usize::MAX, Manner::Stays, false, full, 4),
+        (4, Manner::CountsDown, true, all, 8),
+        (6, Manner::CountsDown, true, all, 8),
+        (100, Manner::CountsDown, true, all, 102),
+        (9, Manner::TurnsTo(0), true, all, 13),
+        (0, Manner::TurnsTo(9), true, all, 8),
+        (1, Manner::TurnsTo(usize::MAX), true, all, 8),
+        (0, Manner::TurnsTo(usize::MAX), false, full, 4),
+        (usize::MAX, Manner::TurnsTo(0), false, full, 4),
+    ] {
+        let mut v = list(rt.alloc(), &[1, 2, 3, 4])?;
+        assert!(rt; v.len() == 4);
+        let range = v.splice(1..3, told(hint, manner));
+        assert_eq!(rt; range.finish_hinted(), answer(fits));
+        assert_eq!(rt; v.as_slice(), left);
+        assert_eq!(rt; v.capacity(), capacity);
+    }
+    Ok(())
+}
+
+#[test]
+fn untrue_hints_of_a_splice_at_the_end(rt: HostRuntime) -> Result<(), Fail> {
+    let all = [1, 2, 0, 1, 2, 3, 4].as_slice();
+    let full = [1, 2, 0, 1].as_slice();
+    for (hint, manner, fits, left, capacity) in [
+        (0, Manner::Stays, true, all, 8),
+        (100, Manner::Stays, true, all, 105),
+        (usize::MAX, Manner::Stays, false, full, 4),
+        (9, Manner::TurnsTo(usize::MAX), false, full, 4),
+        (usize::MAX, Manner::TurnsTo(9), true, all, 14),
+    ] {
+        let mut v = list(rt.alloc(), &[1, 2, 3, 4])?;
+        assert!(rt; v.len() == 4);
+        let range = v.splice(2..4, told(hint, manner));
+        assert_eq!(rt; range.finish_hinted(), answer(fits));
+        assert_eq!(rt; v.as_slice(), left);
+        assert_eq!(rt; v.capacity(), capacity);
+    }
+    Ok(())
+}
+
+// The numbers from `next` up to 9, of which each third is an end, behind which the others are given.
+#[derive(Drop)]
+struct Pausing {
+    next: u32,
+}
+
+impl Iterator for Pausing {
+    type Item = u32;
+
+    ghost remaining = { λ s. at_most (9 - s.next) };
+
+    fn next(&mut self) -> Option<u32> {
+        let x = self.next;
+        if x >= 9 {
+            return None;
+        }
+        self.next = x + 1;
+        if x % 3 == 0 {
+            return None;
+        }
+        Some(x)
+    }
+}
+
+impl Hinted for Pausing {
+    ghost lower_of = { λ s. 9 - s.next };
+
+    fn lower(&self) -> usize {
+        9usize.saturating_sub(self.next as usize)
+    }
+}
+
+#[test]
+fn behind_an_end_nothing_is_asked(rt: HostRuntime) -> Result<(), Fail> {
+    for capacity in [0, 1, 2, 3, 4, 9] {
+        let mut v: Vec<u32> = Vec::with_capacity(rt.alloc(), capacity)?;
+        let mut items = Pausing { next: 1 };
+        v.extend_by(&mut items)?;
+        assert_eq!(rt; v.as_slice(), [1, 2].as_slice());
+        assert_eq!(rt; items.next, 4);
+        v.extend_hinted_by(&mut items)?;
+        assert_eq!(rt; v.as_slice(), [1, 2, 4, 5].as_slice());
+        assert_eq!(rt; items.next, 7);
+        items.next = 6;
+        v.extend_by(&mut items)?;
+        assert_eq!(rt; (v.len(), items.next), (4, 7));
+    }
+    Ok(())
+}
+
+#[test]
+fn a_splice_asks_nothing_behind_an_end(rt: HostRuntime) -> Result<(), Fail> {
+    for (from, to, first, left) in [
+        (1, 3, 0, [7, 7].as_slice()),
+        (1, 4, 1, [7, 1, 2].as_slice()),
+        (0, 3, 1, [1, 2, 7].as_slice()),
+        (1, 3, 1, [7, 1, 2, 7].as_slice()),
+        (1, 2, 1, [7, 1, 2, 7, 7].as_slice()),
+        (2, 2, 4, [7, 7, 4, 5, 7, 7].as_slice()),
+    ] {
+        let mut v = list(rt.alloc(), &[7, 7, 7, 7])?;
+        assert!(rt; from <= to && to <= v.len());
+        v.splice(from..to, Pausing { next: first }).finish()?;
+        assert_eq!(rt; v.as_slice(), left);
+        let mut w = list(rt.alloc(), &[7, 7, 7, 7])?;
+        assert!(rt; to <= w.len());
+        let range = w.splice(from..to, Pausing { next: first });
+        range.finish_hinted()?;
+        assert_eq!(rt; w.as_slice(), left);
+    }
+    Ok(())
+}
+
+// The closures answer true at each call whose number `turn` divides.
+#[test]
+#[tactic(auto, using(aa_vec::proofs::Callers::callers))]
+fn answers_by_turns_keep_and_remove(rt: HostRuntime) -> Result<(), Fail> {
+    for (turn, kept, distinct) in [(1, 9, 1), (2, 4, 5), (3, 3, 7), (9, 1, 9), (10, 0, 9)] {
+        let drops = Cell::new(0);
+        let mut calls = 0u32;
+        let mut v = counted_up(rt.alloc(), &drops, 9);
+        v.retain_by(&mut |_| {
+            calls = calls.wrapping_add(1);
+            calls.checked_rem(turn) == Some(0)
+        });
+        assert_eq!(rt; (v.len(), calls), (kept, 9));
+        drop(v);
+        assert_eq!(rt; drops.get(), 9);
+        let mut w = counted_up(rt.alloc(), &drops, 9);
+        w.dedup_within(&mut |_, _| {
+            calls = calls.wrapping_add(1);
+            calls.wrapping_sub(9).checked_rem(turn) == Some(0)
+        });
+        assert_eq!(rt; (w.len(), calls), (distinct, 17));
+        drop(w);
+        assert_eq!(rt; drops.get(), 18);
+    }
+    Ok(())
+}
+
+// The key is the number of the call, divided by `turn`: two of each comparison are equal, or never, or by turns.
+#[test]
+#[tactic(auto, using(aa_vec::proofs::Callers::callers))]
+fn keys_by_turns_keep_and_remove(rt: HostRuntime) -> Result<(), Fail> {
+    for (turn, left) in [
+        (1, [1, 2, 3, 4, 5, 6].as_slice()),
+        (2, [1].as_slice()),
+        (3, [1, 3, 6].as_slice()),
+    ] {
+        let calls = Cell::new(0u32);
+        let mut v = list(rt.alloc(), &[1, 2, 3, 4, 5, 6])?;
+        v.dedup_by_key(|_| {
+            let call = calls.get();
+            calls.set(call.wrapping_add(1));
+            call.checked_div(turn).unwrap_or(0)
+        });
+        assert_eq!(rt; v.as_slice(), left);
+        assert_eq!(rt; calls.get(), 10);
+    }
+    Ok(())
+}
+
+// A value that equals none, itself neither.
+#[derive(Debug, Drop)]
+struct Unlike {
+    value: u32,
+}
+
+impl PartialEq for Unlike {
+    ghost eq = { λ _ _. false };
+
+    ghost laws = { record { symm = λ x y. refl; trans = λ x y z p q. p } };
+
+    fn eq(&self, _other: &Unlike) -> bool {
+        false
+    }
+}
+
+#[test]
+#[tactic(auto, using(aa_vec::proofs::Callers::callers))]
+fn an_equality_that_never_holds_removes_nothing(rt: HostRuntime) -> Result<(), Fail> {
+    let none: Vec<Unlike> = Vec::new(rt.alloc());
+    assert!(rt; none == none);
+    let mut v: Vec<Unlike> = Vec::new(rt.alloc());
+    for _ in 0..3 {
+        v.push(Unlike { value: 7 })?;
+    }
+    v.dedup();
+    assert_eq!(rt; (v.len(), v.capacity()), (3, 4));
+    assert!(rt; v.iter().all(|x| x.value == 7));
+    assert!(rt; v != v);
+    assert!(rt; v != none);
+    assert!(rt; !same(v.as_slice(), v.as_slice()));
+    assert!(rt; !v.as_slice().contains(&Unlike { value: 7 }));
+    v.dedup_by_key(|x| Unlike { value: x.value });
+    assert_eq!(rt; v.len(), 3);
+    Ok(())
+}
+
+// A value whose clone is one more.
+#[derive(Drop)]
+struct Drifting {
+    value: u32,
+}
+
+impl Clone for Drifting {
+    fn clone(&self) -> Result<Self, AllocError> {
+        Ok(valued(self.value.wrapping_add(1)))
+    }
+}
+
+fn valued(value: u32) -> Drifting {
+    Drifting { value }
+}
+
+fn holds(v: &Vec<Drifting>, values: &[u32]) -> bool {
+    v.iter().map(|x| x.value).eq(values.iter().copied())
+}
+
+#[test]
+fn clones_that_differ_are_put_behind(rt: HostRuntime) -> Result<(), Fail> {
+    let mut v = Vec::from_slice(rt.alloc(), &[valued(1), valued(5)])?;
+    assert!(rt; holds(&v, &[2, 6]));
+    v.extend_from_slice(&[valued(8)])?;
+    assert!(rt; v.len() == 3);
+    v.extend_from_within(1..3)?;
+    assert!(rt; holds(&v, &[2, 6, 9, 7, 10]));
+    v.resize(8, valued(30))?;
+    assert!(rt; holds(&v, &[2, 6, 9, 7, 10, 31, 31, 30]));
+    Ok(())
+}
+
+#[test]
+fn clones_that_differ_are_made(rt: HostRuntime) -> Result<(), Fail> {
+    let mut v = Vec::from_elem(rt.alloc(), valued(7), 3)?;
+    assert!(rt; holds(&v, &[8, 8, 7]));
+    let copy = v.clone()?;
+    assert!(rt; holds(&copy, &[9, 9, 8]));
+    v.assign_from(&copy)?;
+    assert!(rt; holds(&v, &[10, 10, 9]));
+    let items = v.into_iter().clone()?;
+    assert!(rt; items.map(|x| x.value).eq([11, 11, 10].iter().copied()));
+    Ok(())
+}

@@ -1,0 +1,115 @@
+use crate::arena::Arena;
+use crate::editor::Editor;
+use crate::fixed::Fixed;
+use crate::records::{decode, encode, push_record};
+use crate::text::TextBuilder;
+use aa_faulty::Faulty;
+use allocator_api2::vec::Vec;
+use std::test::Fail;
+
+#[test]
+fn values_are_found_by_their_handles(rt: HostRuntime) {
+    let heap = Faulty::new(rt.alloc());
+    let mut arena: Arena<u64, &Faulty<_>> = Arena::new_in(&heap);
+    let Ok(one) = arena.alloc(10) else {
+        return assert!(rt; false);
+    };
+    let Ok(two) = arena.alloc(20) else {
+        return assert!(rt; false);
+    };
+    assert_eq!(rt; *arena.get(one), 10);
+    *arena.get_mut(one) = 11;
+    assert_eq!(rt; arena.replace(two, 21), 20);
+    assert_eq!(rt; arena.try_get(one).copied(), Some(11));
+    assert_eq!(rt; arena.try_get(two).copied(), Some(21));
+    assert_eq!(rt; arena.len(), 2);
+}
+
+#[test]
+fn records_come_back(rt: HostRuntime) -> Result<(), Fail> {
+    let records: [&[u8]; 3] = [b"one", b"", b"three"];
+    let bytes = encode(&records, rt.alloc())?;
+    assert_eq!(rt; bytes.as_slice().len(), 32);
+    match decode(bytes.as_slice(), rt.alloc())? {
+        Some(back) => {
+            assert_eq!(rt; back.len(), 3);
+            assert_eq!(rt; back.as_slice()[2], b"three".as_slice());
+        }
+        None => assert!(rt; false),
+    }
+    match decode(&bytes.as_slice()[1..], rt.alloc())? {
+        Some(_) => assert!(rt; false),
+        None => {}
+    }
+    let mut log = Vec::new(rt.alloc());
+    push_record(&mut log, b"ab")?;
+    assert_eq!(rt; log.as_slice(), b"\x02\0\0\0\0\0\0\0ab".as_slice());
+    Ok(())
+}
+
+#[test]
+fn text_is_built(rt: HostRuntime) -> Result<(), Fail> {
+    let mut text = TextBuilder::new_in(rt.alloc());
+    text.push_str("n = ")?;
+    text.push_u64(1024)?;
+    match text.finish() {
+        Ok(done) => assert_eq!(rt; done.as_str(), "n = 1024"),
+        Err(_) => assert!(rt; false),
+    }
+    Ok(())
+}
+
+#[test]
+fn a_word_is_typed_into_a_line(rt: HostRuntime) -> Result<(), Fail> {
+    let mut line = Editor::new_in(rt.alloc());
+    line.type_in(b"a line")?;
+    line.go_to(2);
+    line.type_in(b"short ")?;
+    assert_eq!(rt; line.before(), b"a short ".as_slice());
+    assert_eq!(rt; line.after(), b"line".as_slice());
+    assert_eq!(rt; line.backspace(), Some(b' '));
+    line.go_to(99);
+    assert_eq!(rt; line.before(), b"a shortline".as_slice());
+    Ok(())
+}
+
+#[test]
+fn a_refused_word_changes_no_line(rt: HostRuntime) {
+    let heap = Faulty::new(rt.alloc());
+    let mut line: Editor<&Faulty<_>> = Editor::new_in(&heap);
+    assert!(rt; line.type_in(b"kept").is_ok());
+    line.go_to(2);
+    heap.refuse(0, 1000);
+    assert!(rt; line.type_in(b"a much longer word").is_err());
+    assert_eq!(rt; line.before(), b"ke".as_slice());
+    assert_eq!(rt; line.after(), b"pt".as_slice());
+}
+
+#[test]
+fn a_full_vector_hands_back(rt: HostRuntime) {
+    let heap = Faulty::new(rt.alloc());
+    let Ok(mut few) = Fixed::<u64, &Faulty<_>>::with_capacity_in(2, &heap) else {
+        return assert!(rt; false);
+    };
+    assert_eq!(rt; few.push(1), Ok(()));
+    assert_eq!(rt; few.push(2), Ok(()));
+    assert_eq!(rt; few.push(3), Err(3));
+    assert_eq!(rt; few.as_slice(), [1u64, 2].as_slice());
+    assert_eq!(rt; few.pop(), Some(2));
+    assert_eq!(rt; few.push(4), Ok(()));
+    assert_eq!(rt; heap.requests(), 1);
+    drop(few);
+    assert_eq!(rt; heap.outstanding(), 0);
+}
+
+#[test]
+fn a_refused_value_is_handed_back(rt: HostRuntime) {
+    let heap = Faulty::new(rt.alloc());
+    let mut arena: Arena<u64, &Faulty<_>> = Arena::new_in(&heap);
+    heap.refuse(0, 1000);
+    match arena.alloc(7) {
+        Ok(_) => assert!(rt; false),
+        Err(back) => assert_eq!(rt; back.source, 7),
+    }
+    assert_eq!(rt; arena.len(), 0);
+}
