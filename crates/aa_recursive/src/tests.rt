@@ -170,6 +170,7 @@ fn lists_are_compared_and_printed(rt: HostRuntime) -> Result<(), Fail> {
     let low = link(1, Some(Box::new(rt.alloc(), link(2, None))?));
     let high = link(1, Some(Box::new(rt.alloc(), link(3, None))?));
     assert!(rt; low == low);
+    assert!(rt; low.clone()? == low);
     assert!(rt; low != high);
     assert!(rt; short < low);
     assert!(rt; low < high);
