@@ -1,5 +1,5 @@
 //! Ranges taken out of a vector, and put into one.
-ghost use Rattle.std.specs.Prelude.{◌≡◌, ◌≤◌, ◌++◌, ◌/◌, drop, length, map, take, OnOk};
+ghost use Rattle.std.specs.Prelude.{◌≡◌, ◌≤◌, ◌++◌, ◌/◌, drop, length, map, take, OnOk, ℕ, List, [], ◌∷◌, slice_range, MatchOption};
 
 use allocator_api2::collections::TryReserveError;
 use allocator_api2::vec::Vec;
@@ -18,10 +18,11 @@ pub fn move_first<A: Allocator>(
     to.extend(from.drain(0..count))
 }
 
-/// The number at the range's start and the rest of the vector without the range.
+/// The first number of a range, if it has one; the vector is left without the range.
 pub fn first_of_range<A: Allocator>(v: &mut Vec<u32, A>, start: usize, end: usize) -> Option<u32>
     requires { (start ≤ end) × (end ≤ length v.old.items) }
-    ensures { v.new.items ≡ take start v.old.items ++ drop end v.old.items }
+    ensures first { MatchOption result (slice_range v.old.items start end ≡ []) (λ x. (others : List ℕ) × (slice_range v.old.items start end ≡ x ∷ others)) }
+    ensures rest { v.new.items ≡ take start v.old.items ++ drop end v.old.items }
 {
     let mut range = v.drain(start..end);
     range.next()

@@ -1,21 +1,23 @@
 //! Room that is made first, and what is pushed into it.
-ghost use Rattle.std.specs.Prelude.{◌≡◌, [], ◌∷◌, ◌++◌, replicate, IfErr, IfOk, OnErr, OnOk};
+ghost use Rattle.std.specs.Prelude.{◌≡◌, [], ◌∷◌, ◌++◌, replicate, IfErr, IfOk, OnErr, OnOk, IsOk};
 ghost use Rattle.allocator_api2.specs.Vector.{HasRoom, Holds};
 
 use allocator_api2::collections::{Refused, TryReserveError};
 use allocator_api2::vec::Vec;
 use std::alloc::Allocator;
 
-/// Puts a number behind the others. A refusal hands it back.
+/// Puts a number behind the others. A refusal hands it back; there is none where a place is free.
 pub fn add<A: Allocator>(v: &mut Vec<u64, A>, x: u64) -> Result<(), Refused<u64>>
+    ensures fits { HasRoom v.old 1 → IsOk result }
     ensures added { OnOk result (v.new.items ≡ v.old.items ++ x ∷ []) }
     ensures refused { IfErr result (λ r. (r.source ≡ x) × (v.new ≡ v.old)) }
 {
     v.push(x)
 }
 
-/// Puts two numbers behind the others, or neither.
+/// Puts two numbers behind the others, or neither; both where two places are free.
 pub fn add_two<A: Allocator>(v: &mut Vec<u64, A>, a: u64, b: u64) -> Result<(), TryReserveError>
+    ensures fits { HasRoom v.old 2 → IsOk result }
     ensures both { OnOk result (v.new.items ≡ v.old.items ++ a ∷ b ∷ []) }
     ensures neither { OnErr result (v.new ≡ v.old) }
 {
@@ -37,6 +39,7 @@ pub fn two_in<A: Allocator>(alloc: A, a: u64, b: u64) -> Result<Vec<u64, A>, Try
 
 /// Puts `count` zeroes behind the others, or none.
 pub fn add_zeroes<A: Allocator>(v: &mut Vec<u64, A>, count: usize) -> Result<(), TryReserveError>
+    ensures fits { HasRoom v.old count → IsOk result }
     ensures all { OnOk result (v.new.items ≡ v.old.items ++ replicate count 0) }
     ensures none { OnErr result (v.new ≡ v.old) }
 {

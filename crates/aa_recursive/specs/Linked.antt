@@ -10,6 +10,7 @@ abbrev pub tail_of : {A : Type 0} → Option (Boxed (List ℕ) A) → List ℕ
 tail_of None = []
 tail_of (Some b) = b.value
 
+-- the values from a node on, given those behind it
 abbrev pub values_step : {A : Type 0} → Node-F A (List ℕ) → List ℕ
 values_step n = n.value ∷ tail_of n.next
 

@@ -9,6 +9,7 @@ abbrev pub sum_of : List ℕ → ℕ
 sum_of [] = 0
 sum_of (n ∷ ns) = n + sum_of ns
 
+-- the sum of a node, given those of its children
 abbrev pub total_step : {A : Type 0} → Tree-F A ℕ → ℕ
 total_step t = t.value + sum_of t.below.items
 
@@ -25,6 +26,7 @@ abbrev pub greatest : List ℕ → ℕ
 greatest [] = 0
 greatest (n ∷ ns) = max n (greatest ns)
 
+-- the levels of a node, given those of its children
 abbrev pub height_step : {A : Type 0} → Tree-F A ℕ → ℕ
 height_step t = suc (greatest t.below.items)
 
@@ -36,6 +38,7 @@ height {A} = fold-Tree A ℕ height_step
 abbrev pub height_of_all : {A : Type 0} → List (Tree A) → ℕ
 height_of_all ts = greatest (map height ts)
 
+-- the values from a node on, given those from its children on
 abbrev pub nodes_step : {A : Type 0} → Tree-F A (List (ℕ × ℕ)) → List (ℕ × ℕ)
 nodes_step t = (t.value, length t.below.items) ∷ flat_map (λ ns. ns) t.below.items
 

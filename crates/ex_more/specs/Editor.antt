@@ -2,6 +2,7 @@
 use Rattle.std.specs.Prelude.{ℕ, List, ◌++◌}
 use Rattle.allocator_api2.specs.Buffer.{Buffer}
 
+-- what is before the cursor, and what is after it
 pub record Line : Type 0 where
   pub before : List ℕ
   pub after : List ℕ

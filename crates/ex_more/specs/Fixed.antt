@@ -1,6 +1,7 @@
 -- A vector of a fixed capacity, as its users see it.
 use Rattle.std.specs.Prelude.{ℕ, List, []}
 
+-- a list, and how long it may be
 pub record Held (T : Type 0) : Type 0 where
   pub items : List T
   pub capacity : ℕ  -- how many there may be
