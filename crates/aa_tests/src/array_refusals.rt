@@ -123,6 +123,26 @@ fn a_vector_of_another_length_is_handed_back(rt: HostRuntime) -> Result<(), Fail
     Ok(())
 }
 
+#[test]
+fn a_refused_array_is_handed_back(rt: HostRuntime) {
+    let heap = Faulty::new(rt.alloc());
+    let drops = Cell::new(0);
+    let refused = TryReserveErrorKind::AllocError { capacity: 3 };
+    let array = [Counted(&drops), Counted(&drops), Counted(&drops)];
+    heap.refuse(0, 2);
+    let Err(refusal) = Vec::from_array_in(array, &heap) else {
+        return assert!(rt; false);
+    };
+    assert_eq!(rt; refusal.error, refused);
+    let Err(refusal) = BoxedSlice::from_array_in(refusal.source, &heap) else {
+        return assert!(rt; false);
+    };
+    assert_eq!(rt; refusal.error, refused);
+    assert_eq!(rt; drops.get(), 0);
+    drop(refusal.source);
+    assert_eq!(rt; (drops.get(), heap.outstanding()), (3, 0));
+}
+
 // Takes three counted elements from an array to a boxed slice, an array in a box, a boxed slice, an array in a box and a vector, while
 // the request numbered `refused` fails: how many of the five were done.
 fn carried(heap: &Faulty<Global>, drops: &Cell<u32>, refused: u64) -> u32 {

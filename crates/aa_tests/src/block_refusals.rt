@@ -2,6 +2,7 @@
 ghost use Rattle.std.specs.Prelude.{◌+◌, ◌<◌, ◌≤◌, length, OnOk};
 ghost use Rattle.aa_raw.specs.Places.{IsRun};
 
+use crate::seen::{End, end_of};
 use aa_faulty::Faulty;
 use allocator_api2::collections::{TryReserveError, TryReserveErrorKind};
 use allocator_api2::raw_vec::{Growth, RawVec};
@@ -24,6 +25,37 @@ fn a_refused_exact_reserve_leaves_the_block(rt: HostRuntime) -> Result<(), Fail>
     assert_eq!(rt; block.capacity(), 5);
     assert_eq!(rt; block.growth(), Growth::Sparing);
     assert_eq!(rt; heap.requests(), 2);
+    Ok(())
+}
+
+#[derive(Clone, Copy)]
+enum Reserve {
+    Amortized,
+    Exact,
+    ForPush,
+}
+
+#[test]
+fn each_reserve_of_a_block_is_refused(rt: HostRuntime) -> Result<(), Fail> {
+    for (call, capacity) in [
+        (Reserve::Amortized, 4),
+        (Reserve::Exact, 3),
+        (Reserve::ForPush, 4),
+    ] {
+        let heap = Faulty::new(rt.alloc());
+        let mut block: Block<'_> = RawVec::new_in(&heap);
+        heap.refuse(0, 1);
+        for (end, left) in [(End::NoMemory(capacity), 0), (End::Done, capacity)] {
+            let ended = match call {
+                Reserve::Amortized => block.reserve(0, 3),
+                Reserve::Exact => block.reserve_exact(0, 3),
+                Reserve::ForPush => block.reserve_for_push(0),
+            };
+            assert_eq!(rt; end_of(ended), end);
+            assert_eq!(rt; block.capacity(), left);
+        }
+        assert_eq!(rt; heap.requests(), 2);
+    }
     Ok(())
 }
 

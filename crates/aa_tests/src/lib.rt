@@ -1,4 +1,57 @@
 //! Tests over the whole library, and no part of it: every request for memory refused in turn, what is given back, and runs of commands.
+//!
+//! Each public call that takes memory or clones, the number of its requests in a worked case, and the module whose test refuses each of
+//! them in turn and looks at the error, at what stands then, and at what comes back. `clones` refuses the clone of an allocator, and
+//! `overflows` and `command_refusals` ask for lengths past `usize::MAX` and for bytes past `isize::MAX`.
+//!
+//! | Call | Requests | Refused in |
+//! |---|---|---|
+//! | `RawVec::with_capacity_in` | 1 | `makers`, `refusals` |
+//! | `RawVec::reserve`, `reserve_exact`, `reserve_for_push` | 1 | `block_refusals` |
+//! | `RawVec::try_reserve`, `try_reserve_exact`, `shrink_to_fit` | 1 | `refusals`, `block_refusals` |
+//! | `IntoIter::clone` | 1, and 3 of the elements | `makers`, `drain_refusals`, `clones` |
+//! | `Box::new_in`, `try_new_in`, `try_default`, `new_uninit_in`, `try_new_uninit_in` | 1 | `box_refusals` |
+//! | `Box::clone` | 1, and 1 of the value | `box_refusals`, `clones` |
+//! | `BoxedSlice::from_array_in` | 1 | `array_refusals` |
+//! | `BoxedSlice::from_slice` | 1 | `makers`, `box_refusals` |
+//! | `BoxedSlice::from_iter_in` | 2; 4 for nine items that nothing is told of | `makers`, `box_refusals` |
+//! | `BoxedSlice::clone` | 1, and 3 of the elements | `makers`, `box_refusals`, `clones` |
+//! | `BoxedSlice::try_into_array`, `Box::slice`, `into_vec` of an array in a box | 1 | `array_refusals`, `clones` |
+//! | `BoxedText::from_text` | 1 | `makers`, `box_refusals` |
+//! | `append_texts` | 1 | `box_refusals` |
+//! | `Vec::with_capacity_in` | 1 | `makers` |
+//! | `Vec::push`, `insert` | 1 | `changes`, `refusals`, `vec_refusals` |
+//! | `Vec::try_reserve`, `reserve`, `try_reserve_exact`, `reserve_exact` | 1 | `changes`, `vec_refusals` |
+//! | `Vec::shrink_to`, `shrink_to_fit` | 1 | `changes`, `vec_refusals` |
+//! | `Vec::append`, `split_off` | 1 | `changes`, `many_refusals`, `clones` |
+//! | `Vec::extend_from_slice` | 1, and 3 of the elements | `changes`, `many_refusals` |
+//! | `Vec::extend_from_within` | 1, and 2 of the elements | `changes` |
+//! | `Vec::resize` | 1, and 1 of the elements | `changes` |
+//! | `Vec::assign_from` | 1, and 3 of the elements | `changes`, `many_refusals` |
+//! | `Vec::extend`, `extend_by`, `extend_hinted`, `extend_hinted_by` | 1 | `changes`, `many_refusals` |
+//! | `Splice::finish` | 1 | `splice_refusals` |
+//! | `Splice::finish_hinted` | 2 | `splice_refusals` |
+//! | `Vec::extend_copied`, `extend_from_slice_copied`, `extend_from_within_copied`, `resize_with` | 1 | `plain_changes` |
+//! | `Vec::write`, `write_all` | 1 | `plain_changes`, `slices` |
+//! | `Vec::clone` | 1, and 3 of the elements | `makers`, `clones` |
+//! | `Vec::clone_copied` | 1 | `plain_changes`, `clones` |
+//! | `Vec::from_slice_in`, `SliceExt::to_vec_in`, `to_vec_in2` | 1, and 3 of the elements | `makers`, `slices` |
+//! | `Vec::from_elem_in` | 1, and 4 for each clone but the last | `makers` |
+//! | `Vec::from_iter_in` | 1 | `makers` |
+//! | `Vec::from_slice_copied_in`, `from_text_in`, `Repeat::repeated` | 1 | `makers`, `slices` |
+//! | `Vec::from_array_in`, `vec_of!` | 1 | `array_refusals` |
+//! | `Vec::into_boxed_slice` | 1 | `box_refusals` |
+//! | `Vec::into_flattened` | 1 | `array_refusals` |
+//! | `GapBuffer::with_capacity_in` | 1 | `makers` |
+//! | `GapBuffer::insert`, `reserve`, `edit_all` | 1 | `aa_gap_tests` |
+//! | `run`: `Push`, `Insert`, `Reserve`, `ReserveExact`, `ShrinkTo`, `SplitOff`, `Append`, `Resize`, `Drain` | 1 | `command_refusals` |
+//! | `run`: `Extend`, `ExtendFromWithin`, `ExtractIf`, `Splice` | 1; 4 for ten items of which four are told | `command_refusals`, `runs` |
+//!
+//! `run_commands` runs every command on lists of 0 to 100 numbers, and of 0 to 8 whose clones take memory, with each request refused in turn,
+//! beside `plain_machine`, which says in plain words what is left.
+//!
+//! The calls of the same names on the global allocator hand on to these; nothing here refuses what that grants, but lengths and bytes
+//! past the limits.
 #![tactic(auto)]
 
 #[cfg(test)]
@@ -8,13 +61,31 @@ mod block_refusals;
 #[cfg(test)]
 mod box_refusals;
 #[cfg(test)]
+mod changes;
+#[cfg(test)]
+mod clones;
+#[cfg(test)]
+mod command_refusals;
+#[cfg(test)]
 mod drain_refusals;
+#[cfg(test)]
+mod makers;
 #[cfg(test)]
 mod many_refusals;
 #[cfg(test)]
+mod overflows;
+#[cfg(test)]
+mod plain_changes;
+#[cfg(test)]
+mod plain_machine;
+#[cfg(test)]
 mod refusals;
 #[cfg(test)]
+mod run_commands;
+#[cfg(test)]
 mod runs;
+#[cfg(test)]
+mod seen;
 #[cfg(test)]
 mod slices;
 #[cfg(test)]

@@ -1,28 +1,12 @@
 //! Splices over an allocator that refuses, and iterators that lie.
+use crate::seen::{End, end_of};
 use aa_faulty::Faulty;
-use allocator_api2::collections::{TryReserveError, TryReserveErrorKind};
+use allocator_api2::collections::TryReserveError;
 use allocator_api2::vec::Vec;
 use allocator_api2::vec::items::Items;
 use std::alloc::{Allocator, Global};
+use std::rc::Rc;
 use std::test::Fail;
-
-// How a splice ended: whether it was done, refused for want of memory for so many elements, or for a length too large.
-#[derive(Clone, Copy, PartialEq, Eq, Debug, Drop)]
-enum End {
-    Done,
-    NoMemory(usize),
-    TooLong,
-}
-
-fn end_of(ended: Result<(), TryReserveError>) -> End {
-    match ended {
-        Ok(()) => End::Done,
-        Err(error) => match error.kind() {
-            TryReserveErrorKind::AllocError { capacity } => End::NoMemory(capacity),
-            TryReserveErrorKind::CapacityOverflow => End::TooLong,
-        },
-    }
-}
 
 fn numbers<A: Allocator>(alloc: A, items: &[u32]) -> Result<Vec<u32, A>, TryReserveError> {
     let mut v = Vec::new_in(alloc);
@@ -32,11 +16,11 @@ fn numbers<A: Allocator>(alloc: A, items: &[u32]) -> Result<Vec<u32, A>, TryRese
 }
 
 // Replaces a range, from which one element is taken first.
-fn spliced<A: Allocator + Clone>(
-    v: &mut Vec<u32, A>,
+fn spliced<T: Drop, A: Allocator + Clone>(
+    v: &mut Vec<T, A>,
     from: usize,
     to: usize,
-    items: Items<u32, A>,
+    items: Items<T, A>,
 ) -> End {
     if from > to || to > v.len() {
         return End::TooLong;
@@ -68,6 +52,53 @@ fn each_request_of_a_splice_is_refused_in_turn(rt: HostRuntime) -> Result<(), Fa
             );
         }
         assert_eq!(rt; heap.outstanding(), 0);
+    }
+    Ok(())
+}
+
+// The same of the two in the middle of four, from which none is taken first, as `size_hint` tells of the items.
+fn middle_spliced<T: Drop, A: Allocator + Clone>(v: &mut Vec<T, A>, items: Vec<T, A>) -> End {
+    if v.len() != 4 {
+        return End::TooLong;
+    }
+    end_of(v.splice(1..3, items.into_iter()).finish())
+}
+
+// Elements without references that can be counted: as many stand as `origin` is shared by.
+fn sharing<'a>(
+    heap: &'a Faulty<Global>,
+    origin: &Rc<(), Global>,
+    count: usize,
+) -> Result<Vec<Rc<()>, &'a Faulty<Global>>, Fail> {
+    let mut v = Vec::with_capacity_in(count, heap)?;
+    for _ in 0..count {
+        v.push(origin.clone()?)?;
+    }
+    Ok(v)
+}
+
+#[test]
+fn each_element_of_a_refused_splice_is_dropped_once(rt: HostRuntime) -> Result<(), Fail> {
+    for (told, refused, end, left) in [
+        (Some(1), 0, End::NoMemory(8), 4),
+        (Some(1), 1, End::NoMemory(4), 5),
+        (Some(1), 2, End::Done, 6),
+        (None, 0, End::NoMemory(8), 4),
+        (None, 1, End::Done, 6),
+    ] {
+        let heap = Faulty::new(rt.alloc());
+        let origin = Rc::new(rt.alloc(), ())?;
+        let mut v = sharing(&heap, &origin, 4)?;
+        let items = sharing(&heap, &origin, 4)?;
+        heap.refuse(refused, 1);
+        let ended = match told {
+            None => middle_spliced(&mut v, items),
+            _ => spliced(&mut v, 1, 3, Items::new(items, told)),
+        };
+        assert_eq!(rt; (ended, v.len()), (end, left));
+        assert_eq!(rt; Rc::strong_count(&origin), left + 1);
+        drop(v);
+        assert_eq!(rt; (Rc::strong_count(&origin), heap.outstanding()), (1, 0));
     }
     Ok(())
 }

@@ -1,7 +1,7 @@
 -- What holds of the fields of a `Fixed`, and what is seen of them.
 use Rattle.std.specs.Prelude.{length}
 use Rattle.allocator_api2.specs.Places.{IsRun, run}
-use Rattle.ex_more.specs.Fixed.{Held}
+use Rattle.ex_more.specs.Held.{Held}
 use Rattle.ex_more.specs.declared.fixed.Fixed.TheInside.{Inside}
 
 module _ {T A : Type 0} where

@@ -1,5 +1,5 @@
 pub mod Records
 pub mod Lends
-pub mod Fixed
+pub mod Held
 pub mod FixedInner
 pub mod Editor

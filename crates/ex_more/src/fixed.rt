@@ -3,7 +3,7 @@ ghost use Rattle.std.specs.Prelude.{◌≡◌, ◌<◌, [], ◌∷◌, ◌++◌,
 ghost use Rattle.std.specs.Mem.{type_size};
 ghost use Rattle.allocator_api2.specs.Growth.{sized};
 ghost use Rattle.allocator_api2.specs.Refusals.{IsRefusedAt};
-ghost use Rattle.ex_more.specs.Fixed.{none_of, with_items};
+ghost use Rattle.ex_more.specs.Held.{none_of, with_items};
 
 use allocator_api2::collections::TryReserveError;
 use allocator_api2::raw_vec::RawVec;
@@ -17,7 +17,7 @@ pub struct Fixed<T, A: Allocator> {
 }
 
 impl<T, A: Allocator> Model for Fixed<T, A> {
-    ghost use Rattle.ex_more.specs.Fixed.{Held};
+    ghost use Rattle.ex_more.specs.Held.{Held};
 
     ghost Value = { Held T };
 

@@ -1,6 +1,7 @@
 //! Records: each is its length in 8 bytes, the low one first, and then its bytes.
-ghost use Rattle.std.specs.Prelude.{◌≡◌, ℕ, ◌<◌, ◌≤◌, ◌-◌, List, ◌++◌, length, map, IfOk, IfSome, IsSomeAnd, MatchOption, OnOk, OnErr};
+ghost use Rattle.std.specs.Prelude.{◌≡◌, ℕ, ◌<◌, List, ◌++◌, length, map, IfOk, IfSome, IsOk, IsSomeAnd, MatchOption, OnOk, OnErr};
 ghost use Rattle.std.specs.Io.KnownBytes.{Appends};
+ghost use Rattle.allocator_api2.specs.Vector.{GrowsTo, HasRoom, Holds};
 ghost use Rattle.ex_more.specs.Records.{encoded, encoding, Fits, AllFit};
 
 use allocator_api2::boxed::BoxedSlice;
@@ -18,11 +19,15 @@ pub fn write_record<W: Write>(writer: &mut W, entry: &[u8]) -> Written<()>
     writer.write_all(entry)
 }
 
-/// Puts a record behind the bytes of a vector. It is there whole, or not at all.
+/// Puts a record behind the bytes of a vector. It is there whole, or not at all; where there is room it takes no memory.
+#[tactic(auto, using(crate::proofs::Rooms::rooms))]
 pub fn push_record<A: Allocator>(log: &mut Vec<u8, A>, entry: &[u8]) -> Result<(), TryReserveError>
-    ensures pushed { OnOk result (log.new.items ≡ log.old.items ++ encoded entry.now) }
+    ensures fits { HasRoom log.old (length (encoded entry.now)) → IsOk result }
+    ensures pushed { OnOk result (GrowsTo 1 log.old (length (encoded entry.now)) (log.old.items ++ encoded entry.now) log.new) }
     ensures refused { OnErr result (log.new ≡ log.old) }
 {
+    // It tells the prover that there are at most `usize::MAX` places.
+    let _places = log.capacity();
     let count = (entry.len() as u64).to_le_bytes();
     let Some(more) = entry.len().checked_add(count.len()) else {
         return Err(TryReserveErrorKind::CapacityOverflow.into());
@@ -35,9 +40,8 @@ pub fn push_record<A: Allocator>(log: &mut Vec<u8, A>, entry: &[u8]) -> Result<(
 
 // Puts bytes behind those of a vector that has room for them.
 fn put<A: Allocator>(log: &mut Vec<u8, A>, bytes: &[u8])
-    requires { length bytes.now ≤ log.old.capacity - length log.old.items }
-    ensures items { log.new.items ≡ log.old.items ++ bytes.now }
-    ensures capacity { log.new.capacity ≡ log.old.capacity }
+    requires { HasRoom log.old (length bytes.now) }
+    ensures { Holds log.old (log.old.items ++ bytes.now) log.new }
 {
     match log.extend_from_slice_copied(bytes) {
         Ok(()) => {}

@@ -113,3 +113,33 @@ fn a_refused_value_is_handed_back(rt: HostRuntime) {
     }
     assert_eq!(rt; arena.len(), 0);
 }
+
+// Room that was made is there though all memory is refused.
+#[test]
+fn reserved_room_takes_what_fits(rt: HostRuntime) -> Result<(), Fail> {
+    let heap = Faulty::new(rt.alloc());
+    let mut arena: Arena<u64, &Faulty<_>> = Arena::new_in(&heap);
+    let mut text: TextBuilder<&Faulty<_>> = TextBuilder::new_in(&heap);
+    let mut line: Editor<&Faulty<_>> = Editor::new_in(&heap);
+    let mut log: Vec<u8, &Faulty<_>> = Vec::new_in(&heap);
+    arena.reserve(20)?;
+    text.reserve(24)?;
+    line.reserve(20)?;
+    log.try_reserve(20)?;
+    heap.refuse(0, 1000);
+    for value in 0..20 {
+        assert!(rt; arena.alloc(value).is_ok());
+    }
+    assert!(rt; text.push_str("24 bytes ").is_ok());
+    assert!(rt; text.push_str("are in all here").is_ok());
+    assert_eq!(rt; text.as_str(), "24 bytes are in all here");
+    assert!(rt; line.type_in(b"a fairly long line").is_ok());
+    line.go_to(1);
+    assert!(rt; line.type_in(b"s ").is_ok());
+    assert!(rt; push_record(&mut log, b"a dozen more").is_ok());
+    assert_eq!(rt; log.len(), 20);
+    assert_eq!(rt; heap.refused(), 0);
+    assert!(rt; text.push_u64(7).is_err());
+    assert!(rt; arena.alloc(20).is_err());
+    Ok(())
+}

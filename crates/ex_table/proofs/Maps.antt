@@ -1,15 +1,16 @@
 -- Slots as a finite map.
-use Rattle.std.proofs.Common.{◌≡◌, ℕ, ◌+◌, ◌<◌, ◌≤◌, true, cond, List, [], ◌∷◌, length, get_or, Option, Some, None, refl, sym, ◌∙◌, ap, subst, arith, inl, inr}
+use Rattle.std.proofs.Common.{◌≡◌, ℕ, ◌+◌, ◌-◌, ◌<◌, ◌≤◌, true, cond, List, [], ◌∷◌, length, get_or, Option, Some, None, refl, sym, ◌∙◌, ap, subst, arith, inl, inr}
 use Rattle.std.proofs.Math.ListN.{set}
 use Rattle.std.proofs.lemmas.List.{length-set}
-use Rattle.std.specs.Prelude.{count_by, ◌==◌, is_some}
+use Rattle.std.specs.Prelude.{count_by, ◌==◌, ◌/◌, is_some}
 use Rattle.std.specs.Ordering.{nat_cmp, eq_by_cmp}
 use Rattle.std.specs.Cmp.{unsigned_tied, nat_cmp_total}
 use Rattle.std.specs.FinMap.{FinMap, get, insert, remove, len, from_entries, get-from_entries, get-insert, get-remove, len-insert, len-empty, same_map, nat_cmp-IsAntisymmetric}
 use Rattle.std.proofs.lemmas.Bool.{cases_eq, eq-eqb, ne_eqb, eqb-true, both_ways}
 use Rattle.ex_table.specs.declared.slots.Slot.{Slot}
 use Rattle.ex_table.specs.declared.slots.Slot.TheVariants.{Empty, Gone, Held}
-use Rattle.ex_table.specs.Slots.{is_key, is_held, is_empty, value_of, with_value, slot_at, entries_of, found, IsSound}
+use Rattle.ex_table.specs.Contents.{Filled}
+use Rattle.ex_table.specs.Slots.{is_key, is_held, is_empty, value_of, with_value, slot_at, entries_of, found, room_of, IsSound}
 use Rattle.ex_table.proofs.Counts.{bit, count-cons, found-entries, found-absent, found-at, with_value-held}
 use Rattle.ex_table.proofs.Probing.{sound-set, held-set, empty-set, values-set, values-gone}
 use Rattle.ex_table.proofs.Scanned.{slot-read}
@@ -17,6 +18,13 @@ use Rattle.ex_table.proofs.Scanned.{slot-read}
 module _ {V : Type 0} where
   abbrev pub map_in : List (Slot V) → FinMap nat_cmp V
   map_in ss = from_entries (entries_of ss)
+
+  abbrev pub filled_in : List (Slot V) → Filled V
+  filled_in ss = record { map = map_in ss; room = room_of ss }
+
+  -- the key has another value
+  abbrev pub put : ℕ → V → Filled V → Filled V
+  put k v f = record { map = insert f.map k v; room = f.room }
 
   pub get-map : (ss : List (Slot V)) (k : ℕ) → get (map_in ss) k ≡ found ss k
   get-map ss k = get-from_entries nat_cmp_total (entries_of ss) k ∙ found-entries ss k
@@ -66,6 +74,9 @@ module _ {V : Type 0} where
     pub empty : count_by is_empty new ≡ count_by is_empty ss
     pub values : (q : ℕ) → found new q ≡ cond (q == k) o (found ss q)
 
+  pub room-kept : (ss new : List (Slot V)) (k : ℕ) (o : Option V) → Changes ss new k o → room_of new ≡ room_of ss
+  room-kept ss new k o c = λ i. c.empty i - (c.size i / 8 + 1)
+
   module _ (ss : List (Slot V)) (k i : ℕ) (sound : IsSound ss) (within : i < length ss) (at : is_key k (slot_at ss i) ≡ true) where
     gone : Changes ss (set ss i Gone) k None
     gone =
@@ -98,5 +109,8 @@ module _ {V : Type 0} where
     pub written-value : (s : Slot V) (v : V) → s ≡ get_or ss i s → Changes ss (set ss i (with_value s v)) k (Some v)
     written-value s v is = written-held (with_value s v) v (with_value-held s k v (ap (is_key k) (slot-read ss i s within is) ∙ at))
 
-    pub written-map : (s : Slot V) (v : V) → s ≡ get_or ss i s → map_in (set ss i (with_value s v)) ≡ insert (map_in ss) k v
-    written-map s v is = map-insert ss (set ss i (with_value s v)) k v (written-value s v is).values
+    pub written-filled : (s : Slot V) (v : V) → s ≡ get_or ss i s → filled_in (set ss i (with_value s v)) ≡ put k v (filled_in ss)
+    written-filled s v is =
+        let w = written-value s v is in
+        let new = set ss i (with_value s v) in
+        λ j. record { map = map-insert ss new k v w.values j; room = room-kept ss new k (Some v) w j }

@@ -1,13 +1,13 @@
 -- What a table is inside.
 use Rattle.std.specs.Prelude.{◌≡◌, ◌<◌, length, count_by}
-use Rattle.std.specs.Ordering.{nat_cmp}
-use Rattle.std.specs.FinMap.{FinMap, from_entries}
+use Rattle.std.specs.FinMap.{from_entries}
 use Rattle.ex_table.specs.declared.table.Table.TheInside.{Inside}
-use Rattle.ex_table.specs.Slots.{entries_of, is_empty, is_held, IsSound}
+use Rattle.ex_table.specs.Slots.{entries_of, is_empty, is_held, room_of, IsSound}
+use Rattle.ex_table.specs.Contents.{Filled}
 
 module _ {V A : Type 0} where
-  abbrev pub map_of : Inside V A → FinMap nat_cmp V
-  map_of t = from_entries (entries_of t.slots.items)
+  abbrev pub filled_of : Inside V A → Filled V
+  filled_of t = record { map = from_entries (entries_of t.slots.items); room = room_of t.slots.items }
 
   pub record IsTable (t : Inside V A) : Type 0 where
     pub sound : IsSound t.slots.items

@@ -1,3 +1,4 @@
 pub mod Slots
+pub mod Contents
 pub mod Inside
 pub mod Lends

@@ -1,5 +1,5 @@
 -- What slots hold, where a key is looked for, and what moves leave.
-use Rattle.std.specs.Prelude.{◌≡◌, ℕ, ◌+◌, ◌*◌, ◌/◌, ◌%◌, ◌^◌, ◌<◌, ◌≤◌, ◌==◌, Bool, true, false, cond, List, [], ◌∷◌, length, count_by, slice_index_or, Option, Some, None, ◌⊎◌}
+use Rattle.std.specs.Prelude.{◌≡◌, ℕ, ◌+◌, ◌-◌, ◌*◌, ◌/◌, ◌%◌, ◌^◌, ◌<◌, ◌≤◌, ◌==◌, Bool, true, false, cond, List, [], ◌∷◌, length, count_by, slice_index_or, Option, Some, None, ◌⊎◌}
 use Rattle.ex_table.specs.declared.slots.Slot.{Slot}
 use Rattle.ex_table.specs.declared.slots.Slot.TheVariants.{Empty, Gone, Held}
 
@@ -52,6 +52,10 @@ module _ {V : Type 0} where
   abbrev pub found : List (Slot V) → ℕ → Option V
   found [] k = None
   found (s ∷ ss) k = cond (is_key k s) (value_of s) (found ss k)
+
+  -- how many new keys find a place before the slots become more
+  abbrev pub room_of : List (Slot V) → ℕ
+  room_of ss = count_by is_empty ss - (length ss / 8 + 1)
 
   -- a look-up goes past the slot
   abbrev pub IsPassed : ℕ → Slot V → Type 0

@@ -1,7 +1,7 @@
 //! The slots of a table: where a key is looked for, where it is put, and how the slots become more.
-ghost use Rattle.std.specs.Prelude.{◌≡◌, ℕ, ◌+◌, ◌-◌, ◌*◌, ◌<◌, ◌≤◌, Bool, true, false, length, count_by, replicate, None, Some, IfOk, IfSome, IfNone, OnOk, OnErr, option_copied};
+ghost use Rattle.std.specs.Prelude.{◌≡◌, ℕ, ◌+◌, ◌-◌, ◌*◌, ◌<◌, ◌≤◌, Bool, true, false, length, count_by, replicate, None, Some, IfOk, IfSome, IfNone, OnOk, OnErr, IsOk, option_copied};
 ghost use Rattle.std.specs.Borrow.{sem, Lends};
-ghost use Rattle.ex_table.specs.Slots.{is_key, is_empty, is_held, value_of, with_value, slot_at, home_of, IsPassed, IsSound, Passes, Puts, Keeps, MovesAll};
+ghost use Rattle.ex_table.specs.Slots.{is_key, is_empty, is_held, value_of, with_value, slot_at, home_of, room_of, IsPassed, IsSound, Passes, Puts, Keeps, MovesAll};
 
 use allocator_api2::collections::{TryReserveError, TryReserveErrorKind};
 use allocator_api2::vec::Vec;
@@ -181,41 +181,49 @@ fn move_all<V: Drop, A: Allocator>(old: Vec<Slot<V>, A>, fresh: &mut Vec<Slot<V>
     }
 }
 
-// Makes new slots, more than twice as many as there are keys, and puts the keys there.
+// Makes new slots, more than twice as many as `keys`, and puts the keys there.
 fn rehash<V: Drop, A: Allocator + Copy>(
     slots: &mut Vec<Slot<V>, A>,
-    held: usize,
+    keys: usize,
 ) -> Result<(), TryReserveError>
     requires sound { IsSound slots.old.items }
-    requires count { count_by is_held slots.old.items ≡ held }
-    ensures moved { OnOk result (MovesAll slots.old.items (2 * held + 8) slots.new.items) }
+    requires count { count_by is_held slots.old.items ≤ keys }
+    ensures moved { OnOk result (MovesAll slots.old.items (2 * keys + 6) slots.new.items) }
     ensures refused { OnErr result (slots.new ≡ slots.old) }
 {
-    if held > usize::MAX / 2 - 8 {
+    if keys > usize::MAX / 2 - 6 {
         return Err(TryReserveErrorKind::CapacityOverflow.into());
     }
-    let fresh = empty_slots(2 * held + 8, *slots.allocator())?;
+    let fresh = empty_slots(2 * keys + 6, *slots.allocator())?;
     let old = mem::replace(slots, fresh);
     move_all(old, slots);
     Ok(())
 }
 
-/// Makes room for a new key where few slots are empty, and answers how many are empty then. A refusal changes nothing.
+/// Makes room for `more` new keys where it is less, and answers how many slots are empty then. A refusal changes nothing.
 pub fn make_room<V: Drop, A: Allocator + Copy>(
     slots: &mut Vec<Slot<V>, A>,
     held: usize,
     empty: usize,
+    more: usize,
 ) -> Result<usize, TryReserveError>
     requires sound { IsSound slots.old.items }
     requires held { count_by is_held slots.old.items ≡ held }
     requires empty { count_by is_empty slots.old.items ≡ empty }
-    ensures room { IfOk result (λ e. (1 < e) × (count_by is_empty slots.new.items ≡ e)) }
+    requires some { 0 < length slots.old.items → 0 < empty }
+    ensures fits { more ≤ room_of slots.old.items → IsOk result }
+    ensures room { OnOk result ((more ≤ room_of slots.new.items) × (room_of slots.old.items ≤ room_of slots.new.items)) }
+    ensures empty { IfOk result (λ e. count_by is_empty slots.new.items ≡ e) }
+    ensures some { IfOk result (λ e. 0 < length slots.new.items → 0 < e) }
     ensures kept { OnOk result (Keeps slots.old.items slots.new.items) }
     ensures refused { OnErr result (slots.new ≡ slots.old) }
 {
-    if empty > slots.len() / 8 + 1 {
+    if more <= empty.saturating_sub(slots.len() / 8 + 1) {
         return Ok(empty);
     }
-    rehash(slots, held)?;
+    let Some(keys) = held.checked_add(more) else {
+        return Err(TryReserveErrorKind::CapacityOverflow.into());
+    };
+    rehash(slots, keys)?;
     Ok(slots.len() - held)
 }

@@ -74,3 +74,22 @@ fn values_are_written_and_all_are_seen(rt: HostRuntime) {
     assert_eq!(rt; values, 285);
     assert!(rt; !table.contains_key(10));
 }
+
+#[test]
+fn reserved_room_is_there_when_the_heap_refuses(rt: HostRuntime) {
+    let heap = Faulty::new(rt.alloc());
+    let mut table: Table<u64, &Faulty<_>> = Table::new_in(&heap);
+    for key in 0u64..5 {
+        assert!(rt; table.insert(key, key).is_ok());
+    }
+    assert!(rt; table.reserve(100).is_ok());
+    heap.refuse(0, 1000);
+    assert!(rt; table.reserve(100).is_ok());
+    assert!(rt; table.reserve(1000).is_err());
+    for key in 5u64..105 {
+        assert!(rt; table.insert(key, key).is_ok());
+    }
+    assert_eq!(rt; table.len(), 105);
+    assert_eq!(rt; table.get(104).copied(), Some(104));
+    assert!(rt; table.reserve(usize::MAX).is_err());
+}

@@ -1,54 +1,43 @@
-use Rattle.std.proofs.Common.{◌≡◌, ◌<◌, List, length, true, refl, ap, sym, subst, ◌∙◌, arith}
-use Rattle.std.specs.Prelude.{count_by}
+use Rattle.std.proofs.Common.{refl, ap, sym, ◌∙◌, arith}
 use Rattle.std.proofs.Math.ListN.{set}
 use Rattle.std.specs.FinMap as map
 use Rattle.allocator_api2.specs.Vector.{Vector}
 use Rattle.ex_table.specs.declared.slots.Slot.{Slot}
-use Rattle.ex_table.specs.Slots.{is_key, value_of, slot_at}
-use Rattle.ex_table.proofs.Maps.{map_in, get-absent, map-same, map-insert, value-at, written-held}
+use Rattle.ex_table.specs.Slots.{value_of}
+use Rattle.ex_table.proofs.Maps.{filled_in, get-absent, map-same, map-insert, value-at, written-held}
+use Rattle.ex_table.proofs.Tables.{there, nowhere, changed}
 use Rattle.ex_table.proofs.table.Table.insert.Goals as goal
 
 pub invariant_of-self : goal.invariant_of-self
 invariant_of-self g c =
-    let P : List (Slot g.row.V.Denot) → Type 0 = λ ss. (c.in-Some.at < length ss) × (is_key c.args.key (slot_at ss c.in-Some.at) ≡ true) in
-    let at = subst P c.as_slice.ensures c.in-Some.ensures.found in
+    let at = there c.args.key _ _ c.as_slice.ensures c.in-Some.at c.in-Some.ensures.found in
     let w = written-held c.self.inside.slots.items c.args.key c.in-Some.at c.self.invariant.sound at.0 at.1 c.replace-old.new.dest c.args.value c.replace-old.ensures.after in
-    record {
-      sound = w.sound;
-      len = omega (arith, w.held, c.self.invariant.len);
-      empty = c.self.invariant.empty ∙ sym w.empty;
-      room = λ h. c.self.invariant.room (omega (arith, h, w.size));
-    }
+    changed _ _ _ _ c.self.invariant w (omega arith) refl
 
 pub returns-in-Some-clause-old : goal.returns-in-Some-clause-old
 returns-in-Some-clause-old g c =
-    let P : List (Slot g.row.V.Denot) → Type 0 = λ ss. (c.in-Some.at < length ss) × (is_key c.args.key (slot_at ss c.in-Some.at) ≡ true) in
-    let at = subst P c.as_slice.ensures c.in-Some.ensures.found in
-    c.into_value.ensures ∙ ap value_of c.replace-old.ensures.value ∙ value-at c.self.inside.slots.items c.args.key c.in-Some.at _ c.self.invariant.sound at.0 at.1 c.index_mut.ensures.value ∙ ap (λ m. map.get m c.args.key) c.self.view_is
+    let at = there c.args.key _ _ c.as_slice.ensures c.in-Some.at c.in-Some.ensures.found in
+    c.into_value.ensures ∙ ap value_of c.replace-old.ensures.value ∙ value-at c.self.inside.slots.items c.args.key c.in-Some.at _ c.self.invariant.sound at.0 at.1 c.index_mut.ensures.value ∙ ap (λ f. map.get f.map c.args.key) c.self.view_is
 
 pub returns-in-Some-clause-inserted : goal.returns-in-Some-clause-inserted
 returns-in-Some-clause-inserted g c =
-    let P : List (Slot g.row.V.Denot) → Type 0 = λ ss. (c.in-Some.at < length ss) × (is_key c.args.key (slot_at ss c.in-Some.at) ≡ true) in
-    let at = subst P c.as_slice.ensures c.in-Some.ensures.found in
+    let at = there c.args.key _ _ c.as_slice.ensures c.in-Some.at c.in-Some.ensures.found in
     let w = written-held c.self.inside.slots.items c.args.key c.in-Some.at c.self.invariant.sound at.0 at.1 c.replace-old.new.dest c.args.value c.replace-old.ensures.after in
-    map-insert c.self.inside.slots.items (set c.self.inside.slots.items c.in-Some.at c.replace-old.new.dest) c.args.key c.args.value w.values ∙ ap (λ m. map.insert m c.args.key c.args.value) c.self.view_is
+    map-insert c.self.inside.slots.items (set c.self.inside.slots.items c.in-Some.at c.replace-old.new.dest) c.args.key c.args.value w.values ∙ ap (λ f. map.insert f.map c.args.key c.args.value) c.self.view_is
 
 pub returns-in-Err-clause-refused : goal.returns-in-Err-clause-refused
 returns-in-Err-clause-refused g c =
-    let P : List (Slot g.row.V.Denot) → Type 0 = λ ss. count_by (is_key c.args.key) ss ≡ 0 in
-    (refl, ap (λ m. map.get m c.args.key) (sym c.self.view_is) ∙ get-absent c.self.inside.slots.items c.args.key (subst P c.as_slice.ensures c.in_default.ensures.absent), ap (λ (v : Vector (Slot g.row.V.Denot) g.row.A.Denot). map_in v.items) c.in-Err.ensures.refused ∙ c.self.view_is)
+    (refl, ap (λ f. map.get f.map c.args.key) (sym c.self.view_is) ∙ get-absent c.self.inside.slots.items c.args.key (nowhere c.args.key _ _ c.as_slice.ensures c.in_default.ensures.absent), ap (λ (v : Vector (Slot g.row.V.Denot) g.row.A.Denot). filled_in v.items) c.in-Err.ensures.refused ∙ c.self.view_is)
 
 pub put_new-requires-clause-absent : goal.put_new-requires-clause-absent
 put_new-requires-clause-absent g c =
-    let P : List (Slot g.row.V.Denot) → Type 0 = λ ss. count_by (is_key c.args.key) ss ≡ 0 in
-    c.in-Ok.ensures.kept.keys c.args.key ∙ subst P c.as_slice.ensures c.in_default.ensures.absent
+    c.in-Ok.ensures.kept.keys c.args.key ∙ nowhere c.args.key _ _ c.as_slice.ensures c.in_default.ensures.absent
 
 pub returns-clause-old : goal.returns-clause-old
 returns-clause-old g c =
-    let P : List (Slot g.row.V.Denot) → Type 0 = λ ss. count_by (is_key c.args.key) ss ≡ 0 in
-    sym (ap (λ m. map.get m c.args.key) (sym c.self.view_is) ∙ get-absent c.self.inside.slots.items c.args.key (subst P c.as_slice.ensures c.in_default.ensures.absent))
+    sym (ap (λ f. map.get f.map c.args.key) (sym c.self.view_is) ∙ get-absent c.self.inside.slots.items c.args.key (nowhere c.args.key _ _ c.as_slice.ensures c.in_default.ensures.absent))
 
 pub returns-clause-inserted : goal.returns-clause-inserted
 returns-clause-inserted g c =
     map-insert c.make_room.new.slots.items c.put_new.new.slots.items c.args.key c.args.value c.put_new.ensures.values
-    ∙ ap (λ m. map.insert m c.args.key c.args.value) (map-same c.self.inside.slots.items c.make_room.new.slots.items c.in-Ok.ensures.kept.values ∙ c.self.view_is)
+    ∙ ap (λ m. map.insert m c.args.key c.args.value) (map-same c.self.inside.slots.items c.make_room.new.slots.items c.in-Ok.ensures.kept.values ∙ ap (λ f. f.map) c.self.view_is)

@@ -8,4 +8,4 @@ use Rattle.ex_table.proofs.table.Table.iter.Goals as goal
 pub returns-clause-once : goal.returns-clause-once
 returns-clause-once g c =
     let ss = c.self.inside.slots.items in
-    ap (λ s. length (entries_of s)) c.as_slice.ensures ∙ length-entries ss ∙ sym (len-map ss c.self.invariant.sound.once) ∙ ap map.len c.self.view_is
+    ap (λ s. length (entries_of s)) c.as_slice.ensures ∙ length-entries ss ∙ sym (len-map ss c.self.invariant.sound.once) ∙ ap (λ f. map.len f.map) c.self.view_is

@@ -1,0 +1,58 @@
+//! What the tests of refused calls look at.
+use aa_faulty::Faulty;
+use allocator_api2::boxed::Box;
+use allocator_api2::collections::{TryReserveError, TryReserveErrorKind};
+use allocator_api2::vec::Vec;
+use std::alloc::Global;
+use std::test::Fail;
+
+// How a call ended: done, or refused for want of memory for so many elements, or for a length or a size past the limits.
+#[derive(Clone, Copy, PartialEq, Eq, Debug, Drop)]
+pub(crate) enum End {
+    Done,
+    NoMemory(usize),
+    TooLong,
+}
+
+pub(crate) fn end_of(ended: Result<(), TryReserveError>) -> End {
+    match ended {
+        Ok(()) => End::Done,
+        Err(error) => end_of_kind(error.kind()),
+    }
+}
+
+pub(crate) fn end_of_kind(kind: TryReserveErrorKind) -> End {
+    match kind {
+        TryReserveErrorKind::AllocError { capacity } => End::NoMemory(capacity),
+        TryReserveErrorKind::CapacityOverflow => End::TooLong,
+    }
+}
+
+// A number in memory of its own, whose clone takes memory.
+pub(crate) type Held<'a> = Box<u32, &'a Faulty<Global>>;
+
+pub(crate) type Helds<'a> = Vec<Held<'a>, &'a Faulty<Global>>;
+
+// The numbers, each in memory of its own, with room for `capacity`.
+pub(crate) fn held<'a>(
+    heap: &'a Faulty<Global>,
+    numbers: &[u32],
+    capacity: usize,
+) -> Result<Helds<'a>, Fail> {
+    let mut v = Vec::with_capacity_in(capacity, heap)?;
+    for x in numbers {
+        v.push(Box::new_in(*x, heap)?)?;
+    }
+    Ok(v)
+}
+
+// The numbers as the digits of one.
+pub(crate) fn digits(v: &Helds<'_>) -> u32 {
+    v.iter()
+        .fold(0u32, |all, x| all.wrapping_mul(10).wrapping_add(**x))
+}
+
+// Whether each block was given back once.
+pub(crate) fn is_given_back(heap: &Faulty<Global>) -> bool {
+    heap.outstanding() == 0 && heap.frees().saturating_add(heap.refused()) == heap.requests()
+}
