@@ -9,6 +9,6 @@ pub record Filled (V : Type 0) : Type 0 where
   pub map : FinMap nat_cmp V
   pub room : ℕ
 
--- the code of a pair
+-- what a table holds is coded as the pair of its map and its room
 abbrev pub filled_code : {V : Type 0} → Coded V → Coded (Filled V)
 filled_code {V} v = code_by (FinMap nat_cmp V × ℕ) (coded× (code coded_ℕ v) coded_ℕ) (λ c. (c.map, c.room)) (λ p. record { map = p.0; room = p.1 }) (λ _. refl)
