@@ -29,9 +29,9 @@ fn a_list_of_100_000_nodes_is_taken_down_by_a_loop(rt: HostRuntime) -> Result<()
     let mut count: u32 = 0;
     while let Some(value) = pop(&mut head) {
         count = count.saturating_add(1);
-        assert_eq!(rt; value.saturating_add(count), 100_000);
+        assert!(rt; value.saturating_add(count) == 100_000);
     }
-    assert_eq!(rt; count, 100_000);
+    assert!(rt; count == 100_000);
     Ok(())
 }
 
@@ -43,23 +43,23 @@ fn a_list_of_10_000_nodes_is_dropped_by_itself(rt: HostRuntime) -> Result<(), Fa
     for value in 0..10_000 {
         push(&mut head, value, &heap)?;
     }
-    assert_eq!(rt; heap.frees(), 0);
+    assert!(rt; heap.frees() == 0);
     drop(head);
-    assert_eq!(rt; heap.frees(), 10_000);
-    assert_eq!(rt; heap.outstanding(), 0);
+    assert!(rt; heap.frees() == 10_000);
+    assert!(rt; heap.outstanding() == 0);
     Ok(())
 }
 
 #[test]
 fn a_list_goes_round(rt: HostRuntime) -> Result<(), Fail> {
     let mut round = reversed(numbers(&rt, 4)?);
-    assert_eq!(rt; pop(&mut round), Some(0));
-    assert_eq!(rt; pop(&mut round), Some(1));
+    assert!(rt; pop(&mut round) == Some(0));
+    assert!(rt; pop(&mut round) == Some(1));
     push(&mut round, 9, rt.alloc())?;
-    assert_eq!(rt; pop(&mut round), Some(9));
-    assert_eq!(rt; pop(&mut round), Some(2));
-    assert_eq!(rt; pop(&mut round), Some(3));
-    assert_eq!(rt; pop(&mut round), None);
+    assert!(rt; pop(&mut round) == Some(9));
+    assert!(rt; pop(&mut round) == Some(2));
+    assert!(rt; pop(&mut round) == Some(3));
+    assert!(rt; pop(&mut round) == None);
     Ok(())
 }
 
@@ -67,8 +67,8 @@ fn a_list_goes_round(rt: HostRuntime) -> Result<(), Fail> {
 fn a_list_and_a_tree_add_up(rt: HostRuntime) -> Result<(), Fail> {
     let mut head: List = None;
     push(&mut head, 9, rt.alloc())?;
-    assert_eq!(rt; total_by_loop(&head), 9);
-    assert_eq!(rt; add_up(&leaf(7, rt.alloc())), 7);
+    assert!(rt; total_by_loop(&head) == 9);
+    assert!(rt; add_up(&leaf(7, rt.alloc())) == 7);
     Ok(())
 }
 
@@ -99,19 +99,19 @@ fn three_levels(alloc: &Global) -> Result<Tree<Global>, Fail> {
 #[test]
 fn a_tree_of_three_levels_is_changed_in_place(rt: HostRuntime) -> Result<(), Fail> {
     let mut tree = three_levels(&rt.alloc())?;
-    assert_eq!(rt; levels(&tree), 3);
-    assert_eq!(rt; sum(&tree), 10);
+    assert!(rt; levels(&tree) == 3);
+    assert!(rt; sum(&tree) == 10);
     for child in tree.below.as_mut_slice() {
         for below in child.below.as_mut_slice() {
             below.value = 33;
         }
     }
-    assert_eq!(rt; sum(&tree), 40);
+    assert!(rt; sum(&tree) == 40);
     double(&mut tree);
-    assert_eq!(rt; sum(&tree), 80);
+    assert!(rt; sum(&tree) == 80);
     clear(&mut tree);
-    assert_eq!(rt; sum(&tree), 0);
-    assert_eq!(rt; levels(&tree), 3);
+    assert!(rt; sum(&tree) == 0);
+    assert!(rt; levels(&tree) == 3);
     Ok(())
 }
 
@@ -132,15 +132,15 @@ fn a_refused_push_into_a_child_leaves_the_tree(rt: HostRuntime) -> Result<(), Fa
     let mut tree = leaf(1, &heap);
     assert!(rt; push_child(&mut tree, leaf(2, &heap)).is_ok());
     heap.refuse(0, 1);
-    assert_eq!(rt; grown(&mut tree, &heap), Some(5));
-    assert_eq!(rt; heap.refused(), 1);
-    assert_eq!(rt; levels(&tree), 2);
-    assert_eq!(rt; sum(&tree), 3);
-    assert_eq!(rt; grown(&mut tree, &heap), None);
-    assert_eq!(rt; levels(&tree), 3);
-    assert_eq!(rt; sum(&tree), 8);
+    assert!(rt; grown(&mut tree, &heap) == Some(5));
+    assert!(rt; heap.refused() == 1);
+    assert!(rt; levels(&tree) == 2);
+    assert!(rt; sum(&tree) == 3);
+    assert!(rt; grown(&mut tree, &heap) == None);
+    assert!(rt; levels(&tree) == 3);
+    assert!(rt; sum(&tree) == 8);
     drop(tree);
-    assert_eq!(rt; heap.outstanding(), 0);
+    assert!(rt; heap.outstanding() == 0);
     Ok(())
 }
 
@@ -174,9 +174,9 @@ fn lists_are_compared_and_printed(rt: HostRuntime) -> Result<(), Fail> {
     assert!(rt; low != high);
     assert!(rt; short < low);
     assert!(rt; low < high);
-    assert_eq!(rt;
-        format!(in rt.alloc(); "{low:?}")?.as_str(),
-        "Link { value: 1, next: Some(Link { value: 2, next: None }) }"
+    assert!(rt;
+        format!(in rt.alloc(); "{low:?}")?.as_str()
+            == "Link { value: 1, next: Some(Link { value: 2, next: None }) }"
     );
     Ok(())
 }
@@ -195,9 +195,9 @@ fn trees_are_compared_and_printed(rt: HostRuntime) -> Result<(), Fail> {
     tree.below.push(wood(2, rt.alloc()))?;
     assert!(rt; tree == tree);
     assert!(rt; bare < tree);
-    assert_eq!(rt;
-        format!(in rt.alloc(); "{tree:?}")?.as_str(),
-        "Wood { value: 1, below: [Wood { value: 2, below: [] }] }"
+    assert!(rt;
+        format!(in rt.alloc(); "{tree:?}")?.as_str()
+            == "Wood { value: 1, below: [Wood { value: 2, below: [] }] }"
     );
     let mut items: Vec<Sealed<Global>, Global> = Vec::new_in(rt.alloc());
     let nothing: Vec<Sealed<Global>, Global> = Vec::new_in(rt.alloc());
@@ -210,9 +210,9 @@ fn trees_are_compared_and_printed(rt: HostRuntime) -> Result<(), Fail> {
         below: items.into_boxed_slice()?,
     };
     assert!(rt; sealed == sealed);
-    assert_eq!(rt;
-        format!(in rt.alloc(); "{sealed:?}")?.as_str(),
-        "Sealed { value: 1, below: [Sealed { value: 2, below: [] }] }"
+    assert!(rt;
+        format!(in rt.alloc(); "{sealed:?}")?.as_str()
+            == "Sealed { value: 1, below: [Sealed { value: 2, below: [] }] }"
     );
     Ok(())
 }

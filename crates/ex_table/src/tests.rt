@@ -9,19 +9,19 @@ fn a_thousand_keys_come_and_go(rt: HostRuntime) {
         let done = table.insert(key.wrapping_mul(64), key);
         assert!(rt; done.is_ok());
     }
-    assert_eq!(rt; table.len(), 1000);
+    assert!(rt; table.len() == 1000);
     for key in 0u64..500 {
-        assert_eq!(rt; table.remove(key.wrapping_mul(64)), Some(key));
+        assert!(rt; table.remove(key.wrapping_mul(64)) == Some(key));
     }
-    assert_eq!(rt; table.len(), 500);
-    assert_eq!(rt; table.get(0).copied(), None);
-    assert_eq!(rt; table.get(640 * 64).copied(), Some(640));
+    assert!(rt; table.len() == 500);
+    assert!(rt; table.get(0).copied() == None);
+    assert!(rt; table.get(640 * 64).copied() == Some(640));
     match table.insert(640 * 64, 7) {
-        Ok(old) => assert_eq!(rt; old, Some(640)),
+        Ok(old) => assert!(rt; old == Some(640)),
         Err(_) => assert!(rt; false),
     }
     drop(table);
-    assert_eq!(rt; heap.outstanding(), 0);
+    assert!(rt; heap.outstanding() == 0);
 }
 
 #[test]
@@ -38,14 +38,14 @@ fn a_refused_insert_changes_nothing(rt: HostRuntime) {
         match table.insert(key, key) {
             Ok(_) => {}
             Err(back) => {
-                assert_eq!(rt; back.source, (key, key));
+                assert!(rt; back.source == (key, key));
                 refused = refused.saturating_add(1);
             }
         }
     }
     assert!(rt; refused > 0);
-    assert_eq!(rt; table.get(5).copied(), Some(5));
-    assert_eq!(rt; table.get(19).copied(), None);
+    assert!(rt; table.get(5).copied() == Some(5));
+    assert!(rt; table.get(19).copied() == None);
 }
 
 #[test]
@@ -63,15 +63,15 @@ fn values_are_written_and_all_are_seen(rt: HostRuntime) {
         }
     }
     assert!(rt; table.get_mut(11).is_none());
-    assert_eq!(rt; table.remove(10), Some(100));
+    assert!(rt; table.remove(10) == Some(100));
     let mut keys = 0u64;
     let mut values = 0u64;
     for (key, value) in table.iter() {
         keys = keys.saturating_add(key);
         values = values.saturating_add(*value);
     }
-    assert_eq!(rt; keys, 45);
-    assert_eq!(rt; values, 285);
+    assert!(rt; keys == 45);
+    assert!(rt; values == 285);
     assert!(rt; !table.contains_key(10));
 }
 
@@ -89,7 +89,7 @@ fn reserved_room_is_there_when_the_heap_refuses(rt: HostRuntime) {
     for key in 5u64..105 {
         assert!(rt; table.insert(key, key).is_ok());
     }
-    assert_eq!(rt; table.len(), 105);
-    assert_eq!(rt; table.get(104).copied(), Some(104));
+    assert!(rt; table.len() == 105);
+    assert!(rt; table.get(104).copied() == Some(104));
     assert!(rt; table.reserve(usize::MAX).is_err());
 }

@@ -11,31 +11,31 @@ fn a_line_is_a_task_or_nothing(rt: HostRuntime) -> Result<(), Fail> {
         case,
         count,
     });
-    assert_eq!(rt; task_of("push 10"), timed(1));
-    assert_eq!(rt; task_of("push 10 3"), timed(3));
-    assert_eq!(rt;
-        task_of("check push 10"),
-        Some(Task {
-            mode: Mode::Check,
-            case,
-            count
-        })
+    assert!(rt; task_of("push 10") == timed(1));
+    assert!(rt; task_of("push 10 3") == timed(3));
+    assert!(rt;
+        task_of("check push 10")
+            == Some(Task {
+                mode: Mode::Check,
+                case,
+                count
+            })
     );
-    assert_eq!(rt;
-        task_of("setup push 10"),
-        Some(Task {
-            mode: Mode::Setup,
-            case,
-            count
-        })
+    assert!(rt;
+        task_of("setup push 10")
+            == Some(Task {
+                mode: Mode::Setup,
+                case,
+                count
+            })
     );
-    assert_eq!(rt; task_of("push"), None);
-    assert_eq!(rt; task_of("push 0"), None);
-    assert_eq!(rt; task_of("push 10 0"), None);
-    assert_eq!(rt; task_of("push 10 3 1"), None);
-    assert_eq!(rt; task_of("check push 10 3"), None);
-    assert_eq!(rt; task_of("shove 10"), None);
-    assert_eq!(rt; task_of("push 4294967296"), None);
+    assert!(rt; task_of("push") == None);
+    assert!(rt; task_of("push 0") == None);
+    assert!(rt; task_of("push 10 0") == None);
+    assert!(rt; task_of("push 10 3 1") == None);
+    assert!(rt; task_of("check push 10 3") == None);
+    assert!(rt; task_of("shove 10") == None);
+    assert!(rt; task_of("push 4294967296") == None);
     Ok(())
 }
 
@@ -46,20 +46,13 @@ fn a_name_may_have_a_size(rt: HostRuntime) -> Result<(), Fail> {
         case,
         count: 5,
     });
-    assert_eq!(rt;
-        task_of("check insert_pop_u8 5"),
-        task(Case::Sized(Call::InsertPop, Size::One))
+    assert!(rt; task_of("check insert_pop_u8 5") == task(Case::Sized(Call::InsertPop, Size::One)));
+    assert!(rt;
+        task_of("check remove_push_24 5") == task(Case::Sized(Call::RemovePush, Size::TwentyFour))
     );
-    assert_eq!(rt;
-        task_of("check remove_push_24 5"),
-        task(Case::Sized(Call::RemovePush, Size::TwentyFour))
-    );
-    assert_eq!(rt;
-        task_of("check clone_sizeless 5"),
-        task(Case::Sized(Call::Clone, Size::Zero))
-    );
-    assert_eq!(rt; task_of("check splice_front 5"), task(Case::SpliceFront));
-    assert_eq!(rt; task_of("check push_pop_u8 5"), None);
-    assert_eq!(rt; task_of("check push_ 5"), None);
+    assert!(rt; task_of("check clone_sizeless 5") == task(Case::Sized(Call::Clone, Size::Zero)));
+    assert!(rt; task_of("check splice_front 5") == task(Case::SpliceFront));
+    assert!(rt; task_of("check push_pop_u8 5") == None);
+    assert!(rt; task_of("check push_ 5") == None);
     Ok(())
 }

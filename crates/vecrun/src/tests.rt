@@ -150,7 +150,7 @@ fn answers_good_scripts(rt: HostRuntime) {
     for (mut input, output) in GOOD_SCRIPTS {
         let (mut written, mut told) = (Vec::new(rt.alloc()), Vec::new(rt.alloc()));
         let status = script(rt.alloc(), &mut input, &mut written, &mut told);
-        assert_eq!(rt; (text(&written), text(&told), status), (output, "", 0));
+        assert!(rt; (text(&written), text(&told), status) == (output, "", 0));
     }
 }
 
@@ -160,10 +160,7 @@ fn names_the_first_bad_line(rt: HostRuntime) -> Result<(), Fail> {
         let (mut written, mut told) = (Vec::new(rt.alloc()), Vec::new(rt.alloc()));
         let status = script(rt.alloc(), &mut input, &mut written, &mut told);
         let fault = format!(in rt.alloc(); "bad line {number}\n")?;
-        assert_eq!(rt;
-            (text(&written), text(&told), status),
-            ("", fault.as_str(), 1)
-        );
+        assert!(rt; (text(&written), text(&told), status) == ("", fault.as_str(), 1));
     }
     Ok(())
 }
@@ -253,9 +250,9 @@ fn tells_a_failed_read(rt: HostRuntime) {
         };
         let (mut written, mut told) = (Vec::new(rt.alloc()), Vec::new(rt.alloc()));
         let answer = script(rt.alloc(), &mut input, &mut written, &mut told);
-        assert_eq!(rt; text(&told), faults);
-        assert_eq!(rt; text(&written), output);
-        assert_eq!(rt; answer, status);
+        assert!(rt; text(&told) == faults);
+        assert!(rt; text(&written) == output);
+        assert!(rt; answer == status);
     }
 }
 
@@ -279,13 +276,12 @@ fn tells_a_failed_write(rt: HostRuntime) {
         };
         let (mut input, mut told) = (SCRIPT, Vec::new(rt.alloc()));
         let answer = script(rt.alloc(), &mut input, &mut output, &mut told);
-        assert_eq!(rt;
-            text(&told),
-            "input or output failed\n",
+        assert!(rt;
+            text(&told) == "input or output failed\n",
             "after {calls} calls"
         );
         assert!(rt; ANSWER.starts_with(text(&output.inner)));
-        assert_eq!(rt; answer, 3);
+        assert!(rt; answer == 3);
     }
 }
 
@@ -299,8 +295,8 @@ fn writes_in_parts(rt: HostRuntime) {
         kind: ErrorKind::Interrupted,
     };
     let (mut input, mut told) = (SCRIPT, Vec::new(rt.alloc()));
-    assert_eq!(rt; script(rt.alloc(), &mut input, &mut output, &mut told), 0);
-    assert_eq!(rt; text(&output.inner), ANSWER);
+    assert!(rt; script(rt.alloc(), &mut input, &mut output, &mut told) == 0);
+    assert!(rt; text(&output.inner) == ANSWER);
     assert!(rt; told.is_empty());
 }
 
@@ -322,10 +318,7 @@ fn fails_in_a_long_answer(rt: HostRuntime) -> Result<(), Fail> {
             kind: ErrorKind::Other,
         };
         let (mut input, mut told) = (pops.as_slice(), Vec::new(rt.alloc()));
-        assert_eq!(rt;
-            script(rt.alloc(), &mut input, &mut output, &mut told),
-            status
-        );
+        assert!(rt; script(rt.alloc(), &mut input, &mut output, &mut told) == status);
         assert!(rt; answer.starts_with(&output.inner));
         assert!(rt; status == 3 || answer == output.inner);
     }
@@ -346,7 +339,7 @@ fn runs_a_long_script(rt: HostRuntime) -> Result<(), Fail> {
     let (mut written, mut told) = (Vec::new(rt.alloc()), Vec::new(rt.alloc()));
     let mut input = lines.as_slice();
     let status = script(rt.alloc(), &mut input, &mut written, &mut told);
-    assert_eq!(rt; (text(&told), status), ("", 0));
+    assert!(rt; (text(&told), status) == ("", 0));
     assert!(rt; written == answer);
     Ok(())
 }
@@ -361,10 +354,7 @@ fn names_a_bad_line_of_a_late_piece(rt: HostRuntime) -> Result<(), Fail> {
     let (mut written, mut told) = (Vec::new(rt.alloc()), Vec::new(rt.alloc()));
     let mut input = lines.as_slice();
     let status = script(rt.alloc(), &mut input, &mut written, &mut told);
-    assert_eq!(rt;
-        (text(&written), text(&told), status),
-        ("", "bad line 2001\n", 1)
-    );
+    assert!(rt; (text(&written), text(&told), status) == ("", "bad line 2001\n", 1));
     Ok(())
 }
 
@@ -379,15 +369,12 @@ fn counts_the_lines_of_a_long_sparing_script(rt: HostRuntime) -> Result<(), Fail
     let (mut written, mut told) = (Vec::new(rt.alloc()), Vec::new(rt.alloc()));
     let mut input = lines.as_slice();
     let status = script(rt.alloc(), &mut input, &mut written, &mut told);
-    assert_eq!(rt; (text(&told), status), ("", 0));
+    assert!(rt; (text(&told), status) == ("", 0));
     assert!(rt; text(&written).contains("\nmain len=2000 cap=2775: 7 7"));
     lines.extend_from_slice(b"sparing\n")?;
     let (mut written, mut input) = (Vec::new(rt.alloc()), lines.as_slice());
     let status = script(rt.alloc(), &mut input, &mut written, &mut told);
-    assert_eq!(rt;
-        (text(&written), text(&told), status),
-        ("", "bad line 2003\n", 1)
-    );
+    assert!(rt; (text(&written), text(&told), status) == ("", "bad line 2003\n", 1));
     Ok(())
 }
 
@@ -405,9 +392,9 @@ fn tells_refused_memory(rt: HostRuntime) {
     let (output, faults) = (text(&written), text(&told));
     if status == 0 {
         assert!(rt; output.ends_with("\nside len=0 cap=0:\n"));
-        assert_eq!(rt; faults, "");
+        assert!(rt; faults == "");
     } else {
-        assert_eq!(rt; (status, output, faults), (2, "", "out of memory\n"));
+        assert!(rt; (status, output, faults) == (2, "", "out of memory\n"));
     }
 }
 
@@ -420,6 +407,6 @@ fn keeps_the_status_without_a_text(rt: HostRuntime) {
         calls: 0,
         kind: ErrorKind::Other,
     };
-    assert_eq!(rt; script(rt.alloc(), &mut input, &mut written, &mut told), 1);
+    assert!(rt; script(rt.alloc(), &mut input, &mut written, &mut told) == 1);
     assert!(rt; written.is_empty());
 }
