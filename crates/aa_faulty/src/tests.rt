@@ -1,8 +1,18 @@
 use crate::Faulty;
 use crate::refusing::Refusing;
-use std::alloc::Global;
+use std::alloc::{Allocator, Global};
 use std::mem::forget;
 use std::test::Fail;
+
+// How many requests there were, how many of them were refused, how many blocks came back, and the bytes that are out.
+fn counts<B: Allocator>(heap: &Faulty<B>) -> (u64, u64, u64, u64) {
+    (
+        heap.requests(),
+        heap.refused(),
+        heap.frees(),
+        heap.outstanding(),
+    )
+}
 
 #[test]
 fn a_growing_vector_is_counted(rt: HostRuntime) -> Result<(), Fail> {
@@ -14,13 +24,9 @@ fn a_growing_vector_is_counted(rt: HostRuntime) -> Result<(), Fail> {
             numbers.push(number)?;
         }
         // Blocks for 4, 8, 16 and 32 numbers, of which the last is in use.
-        assert!(rt; heap.requests() == 4);
-        assert!(rt; heap.frees() == 3);
-        assert!(rt; heap.outstanding() == 128);
+        assert!(rt; counts(&heap) == (4, 0, 3, 128));
     }
-    assert!(rt; heap.refused() == 0);
-    assert!(rt; heap.frees() == 4);
-    assert!(rt; heap.outstanding() == 0);
+    assert!(rt; counts(&heap) == (4, 0, 4, 0));
     Ok(())
 }
 
@@ -40,11 +46,8 @@ fn a_refused_push_hands_its_value_back(rt: HostRuntime) -> Result<(), Fail> {
         assert!(rt; numbers.as_slice() == [0, 1, 2, 3].as_slice());
         assert!(rt; heap.outstanding() == 16);
         numbers.push(4)?;
-        assert!(rt; heap.requests() == 3);
-        assert!(rt; heap.refused() == 1);
     }
-    assert!(rt; heap.frees() == 2);
-    assert!(rt; heap.outstanding() == 0);
+    assert!(rt; counts(&heap) == (3, 1, 2, 0));
     Ok(())
 }
 
@@ -64,18 +67,14 @@ fn a_range_refuses_its_requests_alone(rt: HostRuntime) {
             assert!(rt; made.is_err() == want, "after refuse({skip}, {count})");
         }
     }
-    assert!(rt; heap.requests() == 16);
-    assert!(rt; heap.refused() == 5);
-    assert!(rt; heap.frees() == 11);
-    assert!(rt; heap.outstanding() == 0);
+    assert!(rt; counts(&heap) == (16, 5, 11, 0));
 }
 
 #[test]
 fn a_leak_stays_outstanding(rt: HostRuntime) -> Result<(), Fail> {
     let heap = Faulty::new(rt.alloc());
     forget(Vec::<u32, &Faulty<Global>>::with_capacity(&heap, 5)?);
-    assert!(rt; heap.frees() == 0);
-    assert!(rt; heap.outstanding() == 20);
+    assert!(rt; counts(&heap) == (1, 0, 0, 20));
     Ok(())
 }
 
@@ -85,9 +84,7 @@ fn a_request_that_fails_below_is_not_granted(rt: HostRuntime) {
     let heap = Faulty::new(&below);
     below.refuse(0, 1);
     assert!(rt; Vec::<u32, &Faulty<&Faulty<Global>>>::with_capacity(&heap, 5).is_err());
-    assert!(rt; heap.requests() == 1);
-    assert!(rt; heap.refused() == 0);
-    assert!(rt; heap.outstanding() == 0);
+    assert!(rt; counts(&heap) == (1, 0, 0, 0));
     assert!(rt; below.refused() == 1);
 }
 
@@ -103,8 +100,7 @@ fn a_clone_can_be_refused(rt: HostRuntime) -> Result<(), Fail> {
     let twin = heap.clone()?;
     assert!(rt; twin.requests() == 0);
     assert!(rt; Vec::<u32, &Faulty<Global>>::with_capacity(&twin, 1).is_ok());
-    assert!(rt; twin.requests() == 1);
-    assert!(rt; heap.requests() == 1);
+    assert!(rt; (twin.requests(), heap.requests()) == (1, 1));
     Ok(())
 }
 
