@@ -2,6 +2,7 @@
 ghost use Rattle.std.specs.Prelude.{◌≡◌, ◌+◌, ◌-◌, ◌<◌, ◌≤◌, ◌++◌, length, take, drop, slice_range, IfOk};
 ghost use Rattle.aa_vec.specs.Vector.{len, Holds, Writes};
 
+use crate::left_early::Left;
 use crate::lists::{numbers, stands};
 use aa_vec::vec::{Drain, Vec};
 use std::alloc::{AllocError, Allocator, Global};
@@ -88,14 +89,6 @@ fn has_large<A: Allocator>(v: &mut Vec<u32, A>, from: usize, to: usize) -> bool
 {
     let mut range = v.drain(from..to);
     range.any(|x| x > 9)
-}
-
-// How a range is left.
-#[derive(Clone, Copy)]
-enum Left {
-    Ended,
-    Kept,
-    Forgotten,
 }
 
 #[test]

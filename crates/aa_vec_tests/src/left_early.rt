@@ -13,9 +13,9 @@ use std::mem::forget;
 use std::rc::Rc;
 use std::test::Fail;
 
-// How a range is left.
+/// How a range is left.
 #[derive(Clone, Copy)]
-enum Left {
+pub(crate) enum Left {
     Ended,
     Kept,
     Forgotten,
