@@ -6,8 +6,6 @@ mod arrays;
 #[cfg(test)]
 mod boxes;
 #[cfg(test)]
-mod counted;
-#[cfg(test)]
 mod lists;
 #[cfg(test)]
 mod traits;

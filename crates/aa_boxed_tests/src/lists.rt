@@ -10,57 +10,42 @@ use std::test::Fail;
 fn a_slice_is_made_of_another(rt: HostRuntime) -> Result<(), Fail> {
     let mut list: BoxedSlice<u32> = BoxedSlice::from_slice(rt.alloc(), &[1, 2, 3])?;
     list.as_mut_slice()[1] = 5;
-    assert_eq!(rt; list.as_slice(), [1, 5, 3].as_slice());
+    assert!(rt; list.as_slice() == [1, 5, 3].as_slice());
     let _alloc: &Global = list.allocator();
     let (block, len) = list.into_block();
-    assert_eq!(rt; len, 3);
-    assert_eq!(rt; block.capacity(), 3);
+    assert!(rt; (block.capacity(), len) == (3, 3));
     Ok(())
 }
 
 #[test]
-fn a_slice_is_cloned_and_printed(rt: HostRuntime) -> Result<(), Fail> {
+fn a_slice_is_printed(rt: HostRuntime) -> Result<(), Fail> {
     let list: BoxedSlice<u32> = BoxedSlice::from_slice(rt.alloc(), &[1, 5, 3])?;
-    let copy = list.clone()?;
-    assert!(rt; copy == list);
-    assert_eq!(rt; format!(in rt.alloc(); "{copy:?}")?.as_str(), "[1, 5, 3]");
-    Ok(())
-}
-
-#[test]
-fn slices_are_ordered(rt: HostRuntime) -> Result<(), Fail> {
-    let less: BoxedSlice<u32> = BoxedSlice::from_slice(rt.alloc(), &[1, 5])?;
-    let more: BoxedSlice<u32> = BoxedSlice::from_slice(rt.alloc(), &[1, 5, 3])?;
-    assert!(rt; less < more);
-    assert!(rt; less.cmp(&more).is_lt());
+    assert!(rt; format!(in rt.alloc(); "{list:?}")?.as_str() == "[1, 5, 3]");
     Ok(())
 }
 
 #[test]
 fn a_slice_of_items_has_no_more_room(rt: HostRuntime) -> Result<(), Fail> {
     let list: BoxedSlice<u32> = BoxedSlice::from_iter(rt.alloc(), (0..9).filter(|x| *x != 4))?;
-    assert_eq!(rt; list.as_slice(), [0, 1, 2, 3, 5, 6, 7, 8].as_slice());
-    assert_eq!(rt; list.into_block().0.capacity(), 8);
+    assert!(rt; list.as_slice() == [0, 1, 2, 3, 5, 6, 7, 8].as_slice());
+    assert!(rt; list.into_block().0.capacity() == 8);
     Ok(())
 }
 
 #[test]
 fn a_slice_of_items_without_size_has_all_room(rt: HostRuntime) -> Result<(), Fail> {
     let units: BoxedSlice<()> = BoxedSlice::from_iter(rt.alloc(), (0..9).map(|_| ()))?;
-    assert_eq!(rt; units.as_slice().len(), 9);
-    assert_eq!(rt; units.into_block().0.capacity(), usize::MAX);
+    assert!(rt; units.as_slice().len() == 9);
+    assert!(rt; units.into_block().0.capacity() == usize::MAX);
     Ok(())
 }
 
 #[test]
 fn a_text_is_its_bytes(rt: HostRuntime) -> Result<(), Fail> {
     let text = BoxedText::from_text(rt.alloc(), "héllo")?;
-    assert_eq!(rt; text.as_str(), "héllo");
+    assert!(rt; text.as_str() == "héllo");
     let _alloc: &Global = text.allocator();
-    assert_eq!(rt;
-        text.into_bytes().as_slice(),
-        [0x68, 0xc3, 0xa9, 0x6c, 0x6c, 0x6f].as_slice()
-    );
+    assert!(rt; text.into_bytes().as_slice() == [0x68, 0xc3, 0xa9, 0x6c, 0x6c, 0x6f].as_slice());
     Ok(())
 }
 
@@ -68,13 +53,13 @@ fn a_text_is_its_bytes(rt: HostRuntime) -> Result<(), Fail> {
 fn bytes_in_utf8_become_a_text(rt: HostRuntime) -> Result<(), Fail> {
     let bytes = BoxedText::from_text(rt.alloc(), "héllo")?.into_bytes();
     match BoxedText::from_bytes(bytes) {
-        Ok(text) => assert_eq!(rt; text.as_str(), "héllo"),
+        Ok(text) => assert!(rt; text.as_str() == "héllo"),
         Err(_) => assert!(rt; false),
     }
     let cut: BoxedSlice<u8> = BoxedSlice::from_slice(rt.alloc(), &[0x68, 0xc3])?;
     match BoxedText::from_bytes(cut) {
         Ok(_) => assert!(rt; false),
-        Err(back) => assert_eq!(rt; back.as_slice(), [0x68, 0xc3].as_slice()),
+        Err(back) => assert!(rt; back.as_slice() == [0x68, 0xc3].as_slice()),
     }
     Ok(())
 }
@@ -82,21 +67,7 @@ fn bytes_in_utf8_become_a_text(rt: HostRuntime) -> Result<(), Fail> {
 #[test]
 fn a_text_is_printed(rt: HostRuntime) -> Result<(), Fail> {
     let text = BoxedText::from_text(rt.alloc(), "héllo")?;
-    assert_eq!(rt;
-        format!(in rt.alloc(); "{text} {text:?}")?.as_str(),
-        "héllo \"héllo\""
-    );
-    Ok(())
-}
-
-#[test]
-fn texts_are_cloned_and_ordered(rt: HostRuntime) -> Result<(), Fail> {
-    let text = BoxedText::from_text(rt.alloc(), "héllo")?;
-    let copy = text.clone()?;
-    assert!(rt; copy == text);
-    let less = BoxedText::from_text(rt.alloc(), "hé")?;
-    assert!(rt; less < text);
-    assert!(rt; less.cmp(&text).is_lt());
+    assert!(rt; format!(in rt.alloc(); "{text} {text:?}")?.as_str() == "héllo \"héllo\"");
     Ok(())
 }
 
@@ -119,7 +90,7 @@ fn texts_are_appended(rt: HostRuntime) -> Result<(), Fail> {
     let texts = boxed_texts(rt.alloc(), "b", "cccccccccccccccccccccccccccccc")?;
     let mut all = String::from_str(rt.alloc(), "a")?;
     append_texts(&mut all, texts)?;
-    assert_eq!(rt; all.len(), 32);
+    assert!(rt; all.len() == 32);
     assert!(rt; all.as_str().starts_with("abc"));
     Ok(())
 }

@@ -14,19 +14,16 @@ use std::vec::Vec;
 #[test]
 fn an_iterator_is_walked_in_its_box(rt: HostRuntime) -> Result<(), Fail> {
     let mut b = Box::new(rt.alloc(), 0..3u32)?;
-    assert_eq!(rt; b.next_back(), Some(2));
-    assert_eq!(rt; b.len(), 2);
-    assert_eq!(rt; b.size_hint(), (2, Some(2)));
-    assert_eq!(rt; b.next(), Some(0));
-    assert_eq!(rt; b.last(), Some(1));
+    assert!(rt; (b.next_back(), b.len()) == (Some(2), 2));
+    assert!(rt; (b.size_hint(), b.next()) == ((2, Some(2)), Some(0)));
+    assert!(rt; b.last() == Some(1));
     Ok(())
 }
 
 #[test]
 fn items_are_passed_over_in_a_box(rt: HostRuntime) -> Result<(), Fail> {
     let mut b = Box::new(rt.alloc(), 0..9u32)?;
-    assert_eq!(rt; b.nth(2), Some(2));
-    assert_eq!(rt; b.nth_back(2), Some(6));
+    assert!(rt; (b.nth(2), b.nth_back(2)) == (Some(2), Some(6)));
     Ok(())
 }
 
@@ -57,49 +54,59 @@ fn hash_of<T: Hash>(x: &T) -> u64 {
 #[test]
 fn hashes_are_those_of_the_values(rt: HostRuntime) -> Result<(), Fail> {
     let mut boxed = Box::new(rt.alloc(), DefaultHasher::new())?;
-    assert_eq!(rt;
-        hash_of_numbers(&mut boxed),
-        hash_of_numbers(&mut DefaultHasher::new())
-    );
-    assert_eq!(rt; hash_of(&Box::new(rt.alloc(), 7u32)?), hash_of(&7u32));
+    assert!(rt; hash_of_numbers(&mut boxed) == hash_of_numbers(&mut DefaultHasher::new()));
+    assert!(rt; hash_of(&Box::new(rt.alloc(), 7u32)?) == hash_of(&7u32));
     Ok(())
 }
 
 #[test]
 fn hashes_are_those_of_the_elements(rt: HostRuntime) -> Result<(), Fail> {
     let list: BoxedSlice<u32> = BoxedSlice::from_slice(rt.alloc(), &[1, 2])?;
-    assert_eq!(rt; hash_of(&list), hash_of(&[1u32, 2].as_slice()));
+    assert!(rt; hash_of(&list) == hash_of(&[1u32, 2].as_slice()));
     let text = BoxedText::from_text(rt.alloc(), "text")?;
-    assert_eq!(rt; hash_of(&text), hash_of(&"text"));
+    assert!(rt; hash_of(&text) == hash_of(&"text"));
+    Ok(())
+}
+
+// Whether the first is less than the second by each comparison, and a clone of the second equals it.
+fn ordered_and_cloned<T: Ord + Clone + Drop>(less: &T, more: &T) -> Result<bool, AllocError> {
+    let ordered = less != more && less < more && less.partial_cmp(more) == Some(Ordering::Less);
+    Ok(ordered && more.cmp(less) == Ordering::Greater && more.clone()? == *more)
+}
+
+#[test]
+fn comparisons_and_clones_are_those_of_the_values(rt: HostRuntime) -> Result<(), Fail> {
+    let (one, two) = (Box::new(rt.alloc(), 1u32)?, Box::new(rt.alloc(), 2u32)?);
+    assert!(rt; ordered_and_cloned(&one, &two)?);
+    assert!(rt; format!(in rt.alloc(); "{one} {two:?}")?.as_str() == "1 2");
     Ok(())
 }
 
 #[test]
-fn comparisons_are_those_of_the_values(rt: HostRuntime) -> Result<(), Fail> {
-    let one = Box::new(rt.alloc(), 1u32)?;
-    let two = Box::new(rt.alloc(), 2u32)?;
-    assert!(rt; one != two);
-    assert_eq!(rt; one.partial_cmp(&two), Some(Ordering::Less));
-    assert_eq!(rt; two.cmp(&one), Ordering::Greater);
+fn comparisons_and_clones_are_those_of_the_elements(rt: HostRuntime) -> Result<(), Fail> {
+    let less: BoxedSlice<u32> = BoxedSlice::from_slice(rt.alloc(), &[1, 5])?;
+    let more: BoxedSlice<u32> = BoxedSlice::from_slice(rt.alloc(), &[1, 5, 3])?;
+    assert!(rt; ordered_and_cloned(&less, &more)?);
+    let (less, more) = (
+        BoxedText::from_text(rt.alloc(), "hé")?,
+        BoxedText::from_text(rt.alloc(), "héllo")?,
+    );
+    assert!(rt; ordered_and_cloned(&less, &more)?);
     Ok(())
 }
 
-#[test]
-fn texts_are_those_of_the_values(rt: HostRuntime) -> Result<(), Fail> {
-    let one = Box::new(rt.alloc(), 1u32)?;
-    let two = Box::new(rt.alloc(), 2u32)?;
-    assert_eq!(rt; format!(in rt.alloc(); "{one} {two:?}")?.as_str(), "1 2");
-    Ok(())
+// What a reader gives by `read`, and then by `read_exact`.
+fn two_and_two<R: Read>(reader: &mut R) -> io::Result<(usize, [u8; 2], [u8; 2])> {
+    let (mut first, mut second) = ([0; 2], [0; 2]);
+    let count = reader.read(&mut first)?;
+    reader.read_exact(&mut second)?;
+    Ok((count, first, second))
 }
 
 #[test]
 fn a_reader_is_read_in_its_box(rt: HostRuntime) -> Result<(), Fail> {
     let mut b = Box::new(rt.alloc(), Cursor::new(b"one two".as_slice()))?;
-    let mut two = [0; 2];
-    assert_eq!(rt; b.read(&mut two)?, 2);
-    assert_eq!(rt; two, *b"on");
-    b.read_exact(&mut two)?;
-    assert_eq!(rt; two, *b"e ");
+    assert!(rt; two_and_two(&mut b)? == (2, *b"on", *b"e "));
     Ok(())
 }
 
@@ -107,19 +114,41 @@ fn a_reader_is_read_in_its_box(rt: HostRuntime) -> Result<(), Fail> {
 fn a_buffer_is_read_in_its_box(rt: HostRuntime) -> Result<(), Fail> {
     let mut b = Box::new(rt.alloc(), Cursor::new(b"one".as_slice()))?;
     b.consume(1);
-    assert_eq!(rt; b.fill_buf()?, b"ne".as_slice());
+    assert!(rt; b.fill_buf()? == b"ne".as_slice());
     Ok(())
+}
+
+// How a position is sought.
+#[derive(Clone, Copy)]
+enum Sought {
+    Nowhere,
+    At(u64),
+    By(i64),
+    Start,
+}
+
+// The position that is sought, as the value tells it then.
+fn position_after<S: Seek>(value: &mut S, sought: Sought) -> io::Result<u64> {
+    match sought {
+        Sought::Nowhere => {}
+        Sought::At(position) => return value.seek(SeekFrom::Start(position)),
+        Sought::By(count) => value.seek_relative(count)?,
+        Sought::Start => value.rewind()?,
+    }
+    value.stream_position()
 }
 
 #[test]
 fn a_position_is_sought_in_a_box(rt: HostRuntime) -> Result<(), Fail> {
     let mut b = Box::new(rt.alloc(), Cursor::new(b"one".as_slice()))?;
-    assert_eq!(rt; b.seek(SeekFrom::Start(1))?, 1);
-    assert_eq!(rt; b.stream_position()?, 1);
-    b.seek_relative(1)?;
-    assert_eq!(rt; b.stream_position()?, 2);
-    b.rewind()?;
-    assert_eq!(rt; b.stream_position()?, 0);
+    for (sought, position) in [
+        (Sought::At(1), 1),
+        (Sought::Nowhere, 1),
+        (Sought::By(1), 2),
+        (Sought::Start, 0),
+    ] {
+        assert!(rt; position_after(&mut b, sought)? == position);
+    }
     Ok(())
 }
 
@@ -147,12 +176,12 @@ fn write_number<W: Write, A: Allocator>(b: &mut Box<W, A>, number: u32) -> io::R
 #[test]
 fn a_box_is_read_and_written_through_its_value(rt: HostRuntime) -> Result<(), Fail> {
     let mut b = Box::new(rt.alloc(), Cursor::new(b"one".as_slice()))?;
-    assert_eq!(rt; count_shown(&mut b)?, 3);
+    assert!(rt; count_shown(&mut b)? == 3);
     let mut rest = Vec::new(rt.alloc());
-    assert_eq!(rt; read_out(&mut b, &mut rest)?, 3);
+    assert!(rt; read_out(&mut b, &mut rest)? == 3);
     let mut written = Box::new(rt.alloc(), rest)?;
     write_number(&mut written, 2)?;
-    assert_eq!(rt; written.as_slice(), b"one2".as_slice());
+    assert!(rt; written.as_slice() == b"one2".as_slice());
     Ok(())
 }
 
@@ -216,46 +245,45 @@ impl Seek for Own {
 }
 
 #[test]
-fn a_value_reads_and_writes_by_its_own_functions(rt: HostRuntime) -> Result<(), Fail> {
+fn a_value_reads_by_its_own_functions(rt: HostRuntime) -> Result<(), Fail> {
     let mut b = Box::new(rt.alloc(), Own { position: 0 })?;
-    let mut two = [0; 2];
-    assert_eq!(rt; b.read(&mut two)?, 0);
-    b.read_exact(&mut two)?;
-    assert_eq!(rt; two, *b"xx");
-    assert_eq!(rt; b.fill_buf()?, b"own".as_slice());
-    assert_eq!(rt; b.write(b"one")?, 0);
-    b.write_all(b"one")?;
-    b.write_fmt(3)?;
+    assert!(rt; two_and_two(&mut b)? == (0, [0; 2], *b"xx"));
+    assert!(rt; b.fill_buf()? == b"own".as_slice());
+    Ok(())
+}
+
+// How many bytes a writer takes of three, which it then writes all, and a number behind them.
+fn three_written<W: Write>(writer: &mut W) -> io::Result<usize> {
+    let count = writer.write(b"one")?;
+    writer.write_all(b" two")?;
+    writer.write_fmt(3)?;
+    writer.flush()?;
+    Ok(count)
+}
+
+#[test]
+fn a_value_writes_by_its_own_functions(rt: HostRuntime) -> Result<(), Fail> {
+    assert!(rt; three_written(&mut Box::new(rt.alloc(), Own { position: 0 })?)? == 0);
     Ok(())
 }
 
 #[test]
 fn a_value_seeks_by_its_own_functions(rt: HostRuntime) -> Result<(), Fail> {
     let mut b = Box::new(rt.alloc(), Own { position: 7 })?;
-    assert!(rt; b.seek(SeekFrom::Start(0)).is_err());
-    assert_eq!(rt; b.stream_position()?, 7);
-    b.rewind()?;
-    assert_eq!(rt; b.stream_position()?, 1);
-    b.seek_relative(5)?;
-    assert_eq!(rt; b.stream_position()?, 2);
+    assert!(rt; position_after(&mut b, Sought::At(0)).is_err());
+    for (sought, position) in [(Sought::Nowhere, 7), (Sought::Start, 1), (Sought::By(5), 2)] {
+        assert!(rt; position_after(&mut b, sought)? == position);
+    }
     Ok(())
-}
-
-fn clone_of<T: Clone>(x: &T) -> Result<T, AllocError> {
-    x.clone()
 }
 
 #[test]
 fn boxes_are_cloned_through_the_trait(rt: HostRuntime) -> Result<(), Fail> {
-    let list: BoxedSlice<u32> = BoxedSlice::from_slice(rt.alloc(), &[1, 2])?;
-    assert!(rt; clone_of(&list)? == list);
-    let text = BoxedText::from_text(rt.alloc(), "text")?;
-    assert!(rt; clone_of(&text)? == text);
     let mut boxes = Vec::new(rt.alloc());
     boxes.push(Box::new(rt.alloc(), 7u32)?)?;
     let more = boxes.clone()?;
-    assert_eq!(rt; more.len(), 1);
-    assert_eq!(rt; *more[0], 7);
+    assert!(rt; more.len() == 1);
+    assert!(rt; *more[0] == 7);
     Ok(())
 }
 
@@ -263,9 +291,9 @@ fn boxes_are_cloned_through_the_trait(rt: HostRuntime) -> Result<(), Fail> {
 fn the_rest_of_a_reader_is_read_in_its_box(rt: HostRuntime) -> Result<(), Fail> {
     let mut b = Box::new(rt.alloc(), Cursor::new(b"one\ntwo".as_slice()))?;
     let mut rest = Vec::new(rt.alloc());
-    assert_eq!(rt; b.read_until(b'\n', &mut rest)?, 4);
-    assert_eq!(rt; b.read_to_end(&mut rest)?, 3);
-    assert_eq!(rt; rest.as_slice(), b"one\ntwo".as_slice());
+    assert!(rt; b.read_until(b'\n', &mut rest)? == 4);
+    assert!(rt; b.read_to_end(&mut rest)? == 3);
+    assert!(rt; rest.as_slice() == b"one\ntwo".as_slice());
     Ok(())
 }
 
@@ -290,26 +318,15 @@ impl Write for Flushed<'_> {
 fn a_flush_reaches_the_writer(rt: HostRuntime) -> Result<(), Fail> {
     let flushes = Cell::new(0);
     let mut b = Box::new(rt.alloc(), Flushed { flushes: &flushes })?;
-    assert_eq!(rt; b.write(b"two")?, 3);
-    b.flush()?;
-    assert_eq!(rt; flushes.get(), 1);
+    assert!(rt; three_written(&mut b)? == 3);
+    assert!(rt; flushes.get() == 1);
     Ok(())
 }
 
 #[test]
 fn a_writer_is_written_in_its_box(rt: HostRuntime) -> Result<(), Fail> {
     let mut b = Box::new(rt.alloc(), Vec::new(rt.alloc()))?;
-    assert_eq!(rt; b.write(b"one")?, 3);
-    b.write_all(b" two")?;
-    assert_eq!(rt; b.as_slice(), b"one two".as_slice());
-    Ok(())
-}
-
-#[test]
-fn a_text_is_written_in_a_box(rt: HostRuntime) -> Result<(), Fail> {
-    let mut b = Box::new(rt.alloc(), Vec::new(rt.alloc()))?;
-    b.write_fmt(3)?;
-    b.flush()?;
-    assert_eq!(rt; b.as_slice(), b"3".as_slice());
+    assert!(rt; three_written(&mut b)? == 3);
+    assert!(rt; b.as_slice() == b"one two3".as_slice());
     Ok(())
 }

@@ -61,6 +61,21 @@ impl<T, A: Allocator> Stack<T, A> {
         self.len -= 1;
         Some(self.block.take(self.len))
     }
+
+    // The items behind the first move down by one place.
+    #[tactic(auto, using(allocator_api2::proofs::Blocks::at_positions))]
+    pub fn pop_first(&mut self) -> Option<T>
+        ensures { MatchOption result ((self.old.items ≡ []) × (self.new ≡ self.old)) (λ x. self.old.items ≡ x ∷ self.new.items) }
+    {
+        if self.len == 0 {
+            return None;
+        }
+        let last = self.len - 1;
+        let first = self.block.take(0);
+        self.block.move_run(1, 0, last);
+        self.len = last;
+        Some(first)
+    }
 }
 
 impl<T: Drop, A: Allocator> Drop for Stack<T, A> {

@@ -11,3 +11,5 @@ mod many;
 mod refusals;
 #[cfg(test)]
 mod rows;
+#[cfg(test)]
+mod texts;

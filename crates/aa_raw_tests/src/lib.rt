@@ -5,6 +5,5 @@
 mod blocks;
 #[cfg(test)]
 mod items;
-pub mod line;
 #[cfg(test)]
 mod moves;

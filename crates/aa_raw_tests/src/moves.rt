@@ -50,18 +50,10 @@ fn writes_through(block: &mut RawVec<u32, Global>, _a: u32, _b: u32, _c: u32)
 }
 
 #[test]
-fn runs_move_up(rt: HostRuntime) -> Result<(), Fail> {
-    let mut block = row(rt.alloc(), 10, 11, 12)?;
-    moves_up(&mut block, 10, 11, 12);
-    assert_eq!(rt; block.slice(2, 3), [10, 11, 12].as_slice());
-    Ok(())
-}
-
-#[test]
 fn runs_move_there_and_back(rt: HostRuntime) -> Result<(), Fail> {
     let mut block = row(rt.alloc(), 10, 11, 12)?;
     moves_there_and_back(&mut block, 10, 11, 12);
-    assert_eq!(rt; block.slice(0, 3), [10, 11, 12].as_slice());
+    assert!(rt; block.slice(0, 3) == [10, 11, 12].as_slice());
     Ok(())
 }
 
@@ -69,18 +61,9 @@ fn runs_move_there_and_back(rt: HostRuntime) -> Result<(), Fail> {
 fn values_move_within_a_block(rt: HostRuntime) -> Result<(), Fail> {
     let mut block = row(rt.alloc(), 10, 11, 12)?;
     block.move_run(0, 1, 3);
-    assert_eq!(rt; *block.place(1), 10);
+    assert!(rt; *block.place(1) == 10);
     block.move_one(3, 0);
-    assert_eq!(rt; block.slice(0, 3), [12, 10, 11].as_slice());
-    Ok(())
-}
-
-#[test]
-fn moved_values_are_written_to(rt: HostRuntime) -> Result<(), Fail> {
-    let mut block = row(rt.alloc(), 10, 11, 12)?;
-    *block.place_mut(1) = 7;
-    block.slice_mut(0, 3)[0] = 6;
-    assert_eq!(rt; block.slice(0, 3), [6, 7, 12].as_slice());
+    assert!(rt; block.slice(0, 3) == [12, 10, 11].as_slice());
     Ok(())
 }
 
@@ -90,8 +73,8 @@ fn values_go_to_another_block(rt: HostRuntime) -> Result<(), Fail> {
     let mut to: RawVec<u32, Global> = RawVec::with_capacity_in(4, rt.alloc())?;
     to.put(0, 9);
     to.transfer(1, &mut from, 1, 2);
-    assert_eq!(rt; to.slice(0, 3), [9, 11, 12].as_slice());
-    assert_eq!(rt; *from.place(0), 10);
+    assert!(rt; to.slice(0, 3) == [9, 11, 12].as_slice());
+    assert!(rt; *from.place(0) == 10);
     Ok(())
 }
 
@@ -101,8 +84,8 @@ fn arrays_go_in_and_out(rt: HostRuntime) -> Result<(), Fail> {
     block.put_array(0, [1, 2, 3]);
     block.put_array(4, []);
     let two: [u16; 2] = block.take_array();
-    assert_eq!(rt; two, [1, 2]);
-    assert_eq!(rt; *block.place(2), 3);
+    assert!(rt; two == [1, 2]);
+    assert!(rt; *block.place(2) == 3);
     Ok(())
 }
 
@@ -113,10 +96,7 @@ fn two_places_are_lent_at_once(rt: HostRuntime) -> Result<(), Fail> {
         *x = y.wrapping_add(1);
         *y / 2
     };
-    assert_eq!(rt; block.pair_with(2, 0, &mut sum), 5);
-    assert_eq!(rt; block.slice(0, 3), [10, 11, 11].as_slice());
-    let mut block = row(rt.alloc(), 10, 11, 12)?;
-    writes_through(&mut block, 10, 11, 12);
-    assert_eq!(rt; block.slice(0, 3), [12, 11, 12].as_slice());
+    assert!(rt; block.pair_with(2, 0, &mut sum) == 5);
+    assert!(rt; block.slice(0, 3) == [10, 11, 11].as_slice());
     Ok(())
 }

@@ -8,6 +8,7 @@ use aa_faulty::Faulty;
 use aa_raw::collections::TryReserveErrorKind;
 use aa_vec::vec::Vec;
 use std::alloc::{AllocError, Allocator, Global};
+use std::fmt::Debug;
 use std::process::Abort;
 use std::test::Fail;
 
@@ -29,9 +30,9 @@ fn a_list_of_100_000_nodes_is_taken_down_by_a_loop(rt: HostRuntime) -> Result<()
     let mut count: u32 = 0;
     while let Some(value) = pop(&mut head) {
         count = count.saturating_add(1);
-        assert_eq!(rt; value.saturating_add(count), 100_000);
+        assert!(rt; value.saturating_add(count) == 100_000);
     }
-    assert_eq!(rt; count, 100_000);
+    assert!(rt; count == 100_000);
     Ok(())
 }
 
@@ -43,23 +44,29 @@ fn a_list_of_10_000_nodes_is_dropped_by_itself(rt: HostRuntime) -> Result<(), Fa
     for value in 0..10_000 {
         push(&mut head, value, &heap)?;
     }
-    assert_eq!(rt; heap.frees(), 0);
+    assert!(rt; heap.frees() == 0);
     drop(head);
-    assert_eq!(rt; heap.frees(), 10_000);
-    assert_eq!(rt; heap.outstanding(), 0);
+    assert!(rt; heap.frees() == 10_000);
+    assert!(rt; heap.outstanding() == 0);
     Ok(())
+}
+
+// Whether these values come from the front, one after another.
+fn gives(head: &mut List, values: &[u32]) -> bool {
+    let mut all = true;
+    for value in values {
+        all = pop(head) == Some(*value) && all;
+    }
+    all
 }
 
 #[test]
 fn a_list_goes_round(rt: HostRuntime) -> Result<(), Fail> {
     let mut round = reversed(numbers(&rt, 4)?);
-    assert_eq!(rt; pop(&mut round), Some(0));
-    assert_eq!(rt; pop(&mut round), Some(1));
+    assert!(rt; gives(&mut round, &[0, 1]));
     push(&mut round, 9, rt.alloc())?;
-    assert_eq!(rt; pop(&mut round), Some(9));
-    assert_eq!(rt; pop(&mut round), Some(2));
-    assert_eq!(rt; pop(&mut round), Some(3));
-    assert_eq!(rt; pop(&mut round), None);
+    assert!(rt; gives(&mut round, &[9, 2, 3]));
+    assert!(rt; pop(&mut round) == None);
     Ok(())
 }
 
@@ -67,8 +74,8 @@ fn a_list_goes_round(rt: HostRuntime) -> Result<(), Fail> {
 fn a_list_and_a_tree_add_up(rt: HostRuntime) -> Result<(), Fail> {
     let mut head: List = None;
     push(&mut head, 9, rt.alloc())?;
-    assert_eq!(rt; total_by_loop(&head), 9);
-    assert_eq!(rt; add_up(&leaf(7, rt.alloc())), 7);
+    assert!(rt; total_by_loop(&head) == 9);
+    assert!(rt; add_up(&leaf(7, rt.alloc())) == 7);
     Ok(())
 }
 
@@ -79,6 +86,11 @@ fn sum<A: Allocator>(tree: &Tree<A>) -> u64 {
         all = sum(child).saturating_add(all);
     }
     all
+}
+
+// Whether a tree has so many levels, and this sum.
+fn comes_to<A: Allocator>(tree: &Tree<A>, height: u64, all: u64) -> bool {
+    levels(tree) == height && sum(tree) == all
 }
 
 // 1 over 2 and 4, and 2 over 3.
@@ -99,19 +111,17 @@ fn three_levels(alloc: &Global) -> Result<Tree<Global>, Fail> {
 #[test]
 fn a_tree_of_three_levels_is_changed_in_place(rt: HostRuntime) -> Result<(), Fail> {
     let mut tree = three_levels(&rt.alloc())?;
-    assert_eq!(rt; levels(&tree), 3);
-    assert_eq!(rt; sum(&tree), 10);
+    assert!(rt; comes_to(&tree, 3, 10));
     for child in tree.below.as_mut_slice() {
         for below in child.below.as_mut_slice() {
             below.value = 33;
         }
     }
-    assert_eq!(rt; sum(&tree), 40);
+    assert!(rt; comes_to(&tree, 3, 40));
     double(&mut tree);
-    assert_eq!(rt; sum(&tree), 80);
+    assert!(rt; comes_to(&tree, 3, 80));
     clear(&mut tree);
-    assert_eq!(rt; sum(&tree), 0);
-    assert_eq!(rt; levels(&tree), 3);
+    assert!(rt; comes_to(&tree, 3, 0));
     Ok(())
 }
 
@@ -132,15 +142,12 @@ fn a_refused_push_into_a_child_leaves_the_tree(rt: HostRuntime) -> Result<(), Fa
     let mut tree = leaf(1, &heap);
     assert!(rt; push_child(&mut tree, leaf(2, &heap)).is_ok());
     heap.refuse(0, 1);
-    assert_eq!(rt; grown(&mut tree, &heap), Some(5));
-    assert_eq!(rt; heap.refused(), 1);
-    assert_eq!(rt; levels(&tree), 2);
-    assert_eq!(rt; sum(&tree), 3);
-    assert_eq!(rt; grown(&mut tree, &heap), None);
-    assert_eq!(rt; levels(&tree), 3);
-    assert_eq!(rt; sum(&tree), 8);
+    assert!(rt; grown(&mut tree, &heap) == Some(5));
+    assert!(rt; heap.refused() == 1 && comes_to(&tree, 2, 3));
+    assert!(rt; grown(&mut tree, &heap) == None);
+    assert!(rt; comes_to(&tree, 3, 8));
     drop(tree);
-    assert_eq!(rt; heap.outstanding(), 0);
+    assert!(rt; heap.outstanding() == 0);
     Ok(())
 }
 
@@ -160,6 +167,20 @@ fn a_search_tree_has_what_was_put_in(rt: HostRuntime) -> Result<(), Fail> {
     Ok(())
 }
 
+// Whether the first is less than the second, and unlike it.
+fn is_below<T: Ord>(less: &T, more: &T) -> bool {
+    less < more && less != more
+}
+
+// Whether a value is printed so, and equals itself and its clone.
+fn is_itself<T: PartialEq + Debug + Clone + Drop>(
+    alloc: Global,
+    x: &T,
+    text: &str,
+) -> Result<bool, AllocError> {
+    Ok(x == x && x.clone()? == *x && format!(in alloc; "{x:?}")?.as_str() == text)
+}
+
 fn link(value: u32, next: Option<Box<Link<Global>, Global>>) -> Link<Global> {
     Link { value, next }
 }
@@ -169,15 +190,9 @@ fn lists_are_compared_and_printed(rt: HostRuntime) -> Result<(), Fail> {
     let short = link(1, None);
     let low = link(1, Some(Box::new(rt.alloc(), link(2, None))?));
     let high = link(1, Some(Box::new(rt.alloc(), link(3, None))?));
-    assert!(rt; low == low);
-    assert!(rt; low.clone()? == low);
-    assert!(rt; low != high);
-    assert!(rt; short < low);
-    assert!(rt; low < high);
-    assert_eq!(rt;
-        format!(in rt.alloc(); "{low:?}")?.as_str(),
-        "Link { value: 1, next: Some(Link { value: 2, next: None }) }"
-    );
+    assert!(rt; is_below(&short, &low) && is_below(&low, &high));
+    let text = "Link { value: 1, next: Some(Link { value: 2, next: None }) }";
+    assert!(rt; is_itself(rt.alloc(), &low, text)?);
     Ok(())
 }
 
@@ -191,28 +206,26 @@ fn wood(value: u32, alloc: Global) -> Wood<Global> {
 #[test]
 fn trees_are_compared_and_printed(rt: HostRuntime) -> Result<(), Fail> {
     let mut tree = wood(1, rt.alloc());
-    let bare = wood(1, rt.alloc());
     tree.below.push(wood(2, rt.alloc()))?;
-    assert!(rt; tree == tree);
-    assert!(rt; bare < tree);
-    assert_eq!(rt;
-        format!(in rt.alloc(); "{tree:?}")?.as_str(),
-        "Wood { value: 1, below: [Wood { value: 2, below: [] }] }"
-    );
-    let mut items: Vec<Sealed<Global>, Global> = Vec::new_in(rt.alloc());
-    let nothing: Vec<Sealed<Global>, Global> = Vec::new_in(rt.alloc());
-    items.push(Sealed {
-        value: 2,
-        below: nothing.into_boxed_slice()?,
-    })?;
-    let sealed = Sealed {
-        value: 1,
-        below: items.into_boxed_slice()?,
-    };
-    assert!(rt; sealed == sealed);
-    assert_eq!(rt;
-        format!(in rt.alloc(); "{sealed:?}")?.as_str(),
-        "Sealed { value: 1, below: [Sealed { value: 2, below: [] }] }"
-    );
+    assert!(rt; is_below(&wood(1, rt.alloc()), &tree));
+    let text = "Wood { value: 1, below: [Wood { value: 2, below: [] }] }";
+    assert!(rt; is_itself(rt.alloc(), &tree, text)?);
+    Ok(())
+}
+
+// A tree of boxed slices: a value over such trees.
+fn sealed(value: u32, below: Vec<Sealed<Global>>) -> Result<Sealed<Global>, Fail> {
+    Ok(Sealed {
+        value,
+        below: below.into_boxed_slice()?,
+    })
+}
+
+#[test]
+fn sealed_trees_are_compared_and_printed(rt: HostRuntime) -> Result<(), Fail> {
+    let mut items = Vec::new(rt.alloc());
+    items.push(sealed(2, Vec::new(rt.alloc()))?)?;
+    let text = "Sealed { value: 1, below: [Sealed { value: 2, below: [] }] }";
+    assert!(rt; is_itself(rt.alloc(), &sealed(1, items)?, text)?);
     Ok(())
 }

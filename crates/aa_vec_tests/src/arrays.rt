@@ -1,39 +1,35 @@
-//! Arrays that become vectors and come back, and arrays whose elements become one list.
-use crate::counted::counting;
+//! Arrays and boxed slices that become vectors, arrays that come back, and arrays whose elements become one list.
+use crate::lists::{list, stands};
 use aa_boxed::boxed::Box;
+use aa_faulty::counted::Counted;
 use aa_raw::collections::{TryReserveError, TryReserveErrorKind};
-use aa_vec::vec::{ArrayIntoVec, Vec};
+use aa_vec::vec::{ArrayIntoVec, SliceIntoVec, Vec};
 use std::alloc::Global;
 use std::cell::Cell;
 use std::test::Fail;
 
+// A vector of another length is handed back.
 #[test]
 fn an_array_becomes_a_vector_and_comes_back(rt: HostRuntime) -> Result<(), Fail> {
     let v = Vec::from_array(rt.alloc(), [1u32, 2, 3])?;
-    assert_eq!(rt; v.capacity(), 3);
-    match <[u32; 3]>::try_from(v) {
-        Ok(array) => assert_eq!(rt; array, [1, 2, 3]),
+    assert!(rt; v.capacity() == 3);
+    let Err(back) = <[u32; 2]>::try_from(v) else {
+        return Ok(assert!(rt; false));
+    };
+    assert!(rt; back.as_slice() == [1, 2, 3].as_slice());
+    match <[u32; 3]>::try_from(back) {
+        Ok(array) => assert!(rt; array == [1, 2, 3]),
         Err(_) => assert!(rt; false),
     }
     Ok(())
 }
 
 #[test]
-fn a_vector_of_another_length_is_handed_back(rt: HostRuntime) -> Result<(), Fail> {
-    let v = Vec::from_array(rt.alloc(), [1u32, 2, 3])?;
-    match <[u32; 2]>::try_from(v) {
-        Ok(_) => assert!(rt; false),
-        Err(back) => assert_eq!(rt; back.as_slice(), [1, 2, 3].as_slice()),
-    }
-    Ok(())
-}
-
-#[test]
-fn a_boxed_array_becomes_a_vector(rt: HostRuntime) -> Result<(), Fail> {
-    let b = Box::new(rt.alloc(), [4u32, 5])?;
-    let v = b.into_vec()?;
-    assert_eq!(rt; v.as_slice(), [4, 5].as_slice());
-    assert_eq!(rt; v.capacity(), 2);
+fn boxed_arrays_and_slices_become_vectors(rt: HostRuntime) -> Result<(), Fail> {
+    let array = Box::new(rt.alloc(), [4u32, 5])?;
+    assert!(rt; stands(&array.into_vec()?, &[4, 5], 2));
+    let slice = list(rt.alloc(), &[1, 2, 3], 4)?.into_boxed_slice()?;
+    assert!(rt; stands(&slice.into_vec(), &[1, 2, 3], 3));
     Ok(())
 }
 
@@ -50,8 +46,7 @@ fn arrays_are_joined(rt: HostRuntime) -> Result<(), Fail> {
     let flat = pairs(rt.alloc())?
         .into_flattened()
         .map_err(TryReserveError::from)?;
-    assert_eq!(rt; flat.as_slice(), [1, 2, 3, 4].as_slice());
-    assert_eq!(rt; flat.capacity(), 6);
+    assert!(rt; stands(&flat, &[1, 2, 3, 4], 6));
     Ok(())
 }
 
@@ -61,18 +56,27 @@ fn each_joined_element_is_dropped_once(rt: HostRuntime) {
     let Ok(mut v) = Vec::with_capacity(rt.alloc(), 2) else {
         return assert!(rt; false);
     };
-    for _ in 0..2 {
-        let pushed = v.push_within_capacity([counting(&drops), counting(&drops)]);
-        assert!(rt; pushed.is_ok());
+    for value in 0..2 {
+        let both = [
+            Counted {
+                value,
+                drops: &drops,
+            },
+            Counted {
+                value,
+                drops: &drops,
+            },
+        ];
+        assert!(rt; v.push_within_capacity(both).is_ok());
     }
     match v.into_flattened() {
         Ok(flat) => {
-            assert_eq!(rt; drops.get(), 0);
+            assert!(rt; drops.get() == 0);
             drop(flat);
         }
         Err(_) => assert!(rt; false),
     }
-    assert_eq!(rt; drops.get(), 4);
+    assert!(rt; drops.get() == 4);
 }
 
 // Half of what a length can be, and one more.
@@ -86,8 +90,8 @@ fn too_many_elements_overflow(rt: HostRuntime) -> Result<(), Fail> {
     match v.into_flattened() {
         Ok(_) => assert!(rt; false),
         Err(refused) => {
-            assert_eq!(rt; refused.error, TryReserveErrorKind::CapacityOverflow);
-            assert_eq!(rt; refused.source.len(), 2);
+            assert!(rt; refused.error == TryReserveErrorKind::CapacityOverflow);
+            assert!(rt; refused.source.len() == 2);
         }
     }
     Ok(())

@@ -2,6 +2,7 @@
 ghost use Rattle.std.specs.Prelude.{◌≡◌, ◌++◌, OnOk};
 ghost use Rattle.std.specs.Io.KnownBytes.{Appends};
 
+use crate::lists::stands;
 use aa_vec::vec::{Vec, cautious, same};
 use std::alloc::Global;
 use std::cmp::Ordering;
@@ -24,17 +25,9 @@ fn order_of<T: Ord>(x: &T, y: &T) -> Ordering {
 fn vectors_compare_as_their_slices(rt: HostRuntime) -> Result<(), Fail> {
     let short: Vec<u32> = Vec::from_slice(rt.alloc(), &[1, 2])?;
     let long: Vec<u32> = Vec::from_slice(rt.alloc(), &[1, 2, 0])?;
-    assert!(rt; short < long);
-    assert!(rt; short != long);
-    assert_eq!(rt; short.partial_cmp(&long), Some(Ordering::Less));
-    assert_eq!(rt; order_of(&long, &short), Ordering::Greater);
-    Ok(())
-}
-
-#[test]
-fn vectors_are_the_same_as_their_slices(rt: HostRuntime) -> Result<(), Fail> {
-    let short: Vec<u32> = Vec::from_slice(rt.alloc(), &[1, 2])?;
-    let long: Vec<u32> = Vec::from_slice(rt.alloc(), &[1, 2, 0])?;
+    assert!(rt; short < long && short != long);
+    assert!(rt; short.partial_cmp(&long) == Some(Ordering::Less));
+    assert!(rt; order_of(&long, &short) == Ordering::Greater);
     assert!(rt; same(short.as_slice(), [1, 2].as_slice()));
     assert!(rt; !same(short.as_slice(), long.as_slice()));
     Ok(())
@@ -43,8 +36,8 @@ fn vectors_are_the_same_as_their_slices(rt: HostRuntime) -> Result<(), Fail> {
 #[test]
 fn vectors_hash_and_print_as_their_slices(rt: HostRuntime) -> Result<(), Fail> {
     let short: Vec<u32> = Vec::from_slice(rt.alloc(), &[1, 2])?;
-    assert_eq!(rt; hash_of(&short), hash_of(&[1u32, 2].as_slice()));
-    assert_eq!(rt; format!(in rt.alloc(); "{short:?}")?.as_str(), "[1, 2]");
+    assert!(rt; hash_of(&short) == hash_of(&[1u32, 2].as_slice()));
+    assert!(rt; format!(in rt.alloc(); "{short:?}")?.as_str() == "[1, 2]");
     Ok(())
 }
 
@@ -66,34 +59,23 @@ fn put_all_behind(v: &mut Vec<u8, Global>, bytes: &[u8]) -> io::Result<()>
 #[test]
 fn bytes_are_written(rt: HostRuntime) -> Result<(), Fail> {
     let mut v: Vec<u8> = Vec::new(rt.alloc());
-    assert_eq!(rt; v.write(b"ab")?, 2);
-    assert_eq!(rt; v.write(b"ab")?, 2);
-    assert_eq!(rt; v.as_slice(), b"abab".as_slice());
-    assert_eq!(rt; v.capacity(), 8);
-    put_all_behind(&mut v, b"cd")?;
-    assert_eq!(rt; v.as_slice(), b"ababcd".as_slice());
+    assert!(rt; v.write(b"ab")? == 2);
+    put_all_behind(&mut v, b"abcd")?;
+    assert!(rt; stands(&v, b"ababcd", 8));
     Ok(())
 }
 
 #[test]
 fn a_text_is_its_bytes(rt: HostRuntime) -> Result<(), Fail> {
-    let v = Vec::from_text(rt.alloc(), "é")?;
-    assert_eq!(rt; v.as_slice(), [0xc3, 0xa9].as_slice());
-    assert_eq!(rt; v.capacity(), 2);
-    Ok(())
-}
-
-#[test]
-fn an_empty_text_takes_no_room(rt: HostRuntime) -> Result<(), Fail> {
-    let none = Vec::from_text_in("", rt.alloc())?;
-    assert_eq!(rt; none.capacity(), 0);
+    assert!(rt; stands(&Vec::from_text(rt.alloc(), "é")?, &[0xc3, 0xa9], 2));
+    assert!(rt; stands(&Vec::from_text_in("", rt.alloc())?, b"", 0));
     Ok(())
 }
 
 #[test]
 fn a_hint_is_trusted_up_to_4096(rt: HostRuntime) -> Result<(), Fail> {
-    assert_eq!(rt; cautious(None), 0);
-    assert_eq!(rt; cautious(Some(7)), 7);
-    assert_eq!(rt; cautious(Some(5000)), 4096);
+    assert!(rt; cautious(None) == 0);
+    assert!(rt; cautious(Some(7)) == 7);
+    assert!(rt; cautious(Some(5000)) == 4096);
     Ok(())
 }

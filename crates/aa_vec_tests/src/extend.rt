@@ -5,10 +5,11 @@ ghost use Rattle.aa_raw.specs.Growth.{usize_max};
 ghost use Rattle.aa_vec.specs.Vector.{len, HasRoom, MakesRoom, Writes};
 ghost use Rattle.aa_vec.specs.Extending.{ExtendsAll, ExtendsFull, lower_by};
 
+use crate::lists::{list, numbers, stands, units};
 use aa_raw::collections::{TryReserveError, TryReserveErrorKind};
 use aa_vec::vec::Vec;
 use aa_vec::vec::items::{Hinted, Items};
-use std::alloc::{Allocator, Global};
+use std::alloc::Allocator;
 use std::test::Fail;
 
 // An extension by `Items` is one by all of its items, and what its hint tells decides the capacity.
@@ -33,40 +34,12 @@ fn followed_by<A: Allocator>(v: &mut Vec<u32, A>, others: &[u32]) -> Result<(), 
     v.extend_copied(others.iter())
 }
 
-// The numbers from `from` up to `end`, with room for `capacity`.
-fn numbers(alloc: Global, from: u32, end: u32, capacity: usize) -> Result<Vec<u32>, Fail> {
-    let mut v: Vec<u32> = Vec::with_capacity(alloc, capacity)?;
-    for x in from..end {
-        v.push(x)?;
-    }
-    Ok(v)
-}
-
-#[test]
-fn a_full_vector_makes_room_for_what_is_told(rt: HostRuntime) -> Result<(), Fail> {
-    let mut v = numbers(rt.alloc(), 1, 3, 2)?;
-    v.extend(3..5)?;
-    assert_eq!(rt; v.as_slice(), [1, 2, 3, 4].as_slice());
-    assert_eq!(rt; v.capacity(), 4);
-    Ok(())
-}
-
 #[test]
 fn a_vector_is_made_of_items(rt: HostRuntime) -> Result<(), Fail> {
-    let five: Vec<u32> = Vec::from_iter(rt.alloc(), 1..6)?;
-    assert_eq!(rt; five.as_slice(), [1, 2, 3, 4, 5].as_slice());
-    assert_eq!(rt; five.capacity(), 5);
-    let three: Vec<u32> = Vec::from_iter_in(1..4, rt.alloc())?;
-    assert_eq!(rt; three.capacity(), 4);
-    Ok(())
-}
-
-#[test]
-fn copied_items_are_put_behind(rt: HostRuntime) -> Result<(), Fail> {
-    let mut v = numbers(rt.alloc(), 1, 5, 4)?;
-    v.extend_copied([1, 2, 3, 4, 5].iter())?;
-    assert_eq!(rt; v.as_slice(), [1, 2, 3, 4, 1, 2, 3, 4, 5].as_slice());
-    assert_eq!(rt; v.capacity(), 9);
+    assert!(rt; stands(&Vec::from_iter(rt.alloc(), 1u32..6)?, &[1, 2, 3, 4, 5], 5));
+    assert!(rt; stands(&Vec::from_iter_in(1u32..4, rt.alloc())?, &[1, 2, 3], 4));
+    let items = Items::new(list(rt.alloc(), &[5, 6], 2)?, None);
+    assert!(rt; Vec::from_iter(rt.alloc(), items)?.as_slice() == [5, 6].as_slice());
     Ok(())
 }
 
@@ -74,78 +47,45 @@ fn copied_items_are_put_behind(rt: HostRuntime) -> Result<(), Fail> {
 fn a_slice_is_put_behind_twice(rt: HostRuntime) -> Result<(), Fail> {
     let mut twice: Vec<u32> = Vec::new(rt.alloc());
     followed_by(&mut twice, [1, 2, 3].as_slice())?;
-    assert_eq!(rt; twice.as_slice(), [1, 2, 3, 1, 2, 3].as_slice());
-    assert_eq!(rt; twice.capacity(), 8);
-    Ok(())
-}
-
-#[test]
-fn an_untrue_hint_is_asked_for_only_where_the_vector_is_full(rt: HostRuntime) -> Result<(), Fail> {
-    let most = Some(usize::MAX);
-    let mut v = numbers(rt.alloc(), 1, 4, 4)?;
-    let one = Items::new(numbers(rt.alloc(), 9, 10, 1)?, most);
-    assert_eq!(rt; v.extend_hinted(one), Ok(()));
-    assert_eq!(rt; v.as_slice(), [1, 2, 3, 9].as_slice());
-    assert_eq!(rt; v.capacity(), 4);
-    Ok(())
-}
-
-#[test]
-fn an_untrue_hint_of_a_full_vector_overflows(rt: HostRuntime) -> Result<(), Fail> {
-    let mut v = numbers(rt.alloc(), 1, 4, 4)?;
-    let mut items = Items::new(numbers(rt.alloc(), 7, 10, 3)?, Some(usize::MAX));
-    let overflow = Err(TryReserveErrorKind::CapacityOverflow.into());
-    assert_eq!(rt; v.extend_hinted_by(&mut items), overflow);
-    assert_eq!(rt; v.as_slice(), [1, 2, 3, 7].as_slice());
-    assert_eq!(rt; v.capacity(), 4);
-    assert_eq!(rt; items.next(), Some(9));
+    assert!(rt; stands(&twice, &[1, 2, 3, 1, 2, 3], 8));
     Ok(())
 }
 
 #[test]
 fn a_vector_grows_by_its_hint_until_all_fit(rt: HostRuntime) -> Result<(), Fail> {
-    let mut v: Vec<u32> = Vec::new(rt.alloc());
-    v.extend_hinted(Items::new(numbers(rt.alloc(), 0, 17, 17)?, Some(5)))?;
-    assert_eq!(rt; v.len(), 17);
-    assert_eq!(rt; v.capacity(), 24);
+    for (hint, capacity) in [(Some(5), 24), (None, 17)] {
+        let mut v: Vec<u32> = Vec::new(rt.alloc());
+        v.extend_hinted(Items::new(numbers(rt.alloc(), 17)?, hint))?;
+        assert!(rt; (v.len(), v.capacity()) == (17, capacity));
+    }
     Ok(())
 }
 
 #[test]
-fn a_vector_that_is_told_nothing_has_room_for_no_more(rt: HostRuntime) -> Result<(), Fail> {
-    let mut v: Vec<u32> = Vec::new(rt.alloc());
-    v.extend_hinted(Items::new(numbers(rt.alloc(), 0, 17, 17)?, None))?;
-    assert_eq!(rt; v.capacity(), 17);
+fn an_untrue_hint_of_a_full_vector_overflows(rt: HostRuntime) -> Result<(), Fail> {
+    let mut v = list(rt.alloc(), &[1, 2, 3], 4)?;
+    let mut items = Items::new(list(rt.alloc(), &[7, 8, 9], 3)?, Some(usize::MAX));
+    let overflow = Err(TryReserveErrorKind::CapacityOverflow.into());
+    assert!(rt; v.extend_hinted_by(&mut items) == overflow);
+    assert!(rt; stands(&v, &[1, 2, 3, 7], 4));
+    assert!(rt; items.next() == Some(9));
     Ok(())
 }
 
 #[test]
 fn elements_without_size_need_no_hint(rt: HostRuntime) -> Result<(), Fail> {
-    let mut units: Vec<()> = Vec::new(rt.alloc());
-    let mut one: Vec<()> = Vec::new(rt.alloc());
-    one.push(())?;
-    units.extend_hinted(Items::new(one, Some(usize::MAX)))?;
-    assert_eq!(rt; units.len(), 1);
-    assert_eq!(rt; units.capacity(), usize::MAX);
+    let mut v: Vec<()> = Vec::new(rt.alloc());
+    v.extend_hinted(Items::new(units(rt.alloc(), 1)?, Some(usize::MAX)))?;
+    assert!(rt; (v.len(), v.capacity()) == (1, usize::MAX));
     Ok(())
 }
 
 #[test]
 fn items_come_in_order_and_tell_their_hint(rt: HostRuntime) -> Result<(), Fail> {
-    let mut items = Items::new(numbers(rt.alloc(), 4, 7, 3)?, None);
-    assert_eq!(rt; items.lower(), 3);
-    assert_eq!(rt; items.size_hint(), (0, None));
-    assert_eq!(rt; items.next(), Some(4));
-    assert_eq!(rt; items.lower(), 2);
-    Ok(())
-}
-
-#[test]
-fn a_vector_is_made_of_items_that_tell(rt: HostRuntime) -> Result<(), Fail> {
-    let items = Items::new(numbers(rt.alloc(), 5, 7, 2)?, None);
-    let others = Vec::from_iter(rt.alloc(), items)?;
-    assert_eq!(rt; others.as_slice(), [5, 6].as_slice());
-    let told = Items::new(numbers(rt.alloc(), 4, 7, 3)?, Some(1));
-    assert_eq!(rt; told.lower(), 1);
+    let mut items = Items::new(list(rt.alloc(), &[4, 5, 6], 3)?, None);
+    assert!(rt; (items.lower(), items.size_hint()) == (3, (0, None)));
+    assert!(rt; (items.next(), items.lower()) == (Some(4), 2));
+    let told = Items::new(list(rt.alloc(), &[4, 5, 6], 3)?, Some(1));
+    assert!(rt; told.lower() == 1);
     Ok(())
 }

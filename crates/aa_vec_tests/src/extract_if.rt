@@ -1,89 +1,81 @@
-//! What no clause says of elements that a closure takes out of a range: whom it asks and when, drops, a forgotten range.
-use crate::counted::counted_up;
-use aa_vec::vec::Vec;
-use std::alloc::Global;
-use std::cell::Cell;
-use std::mem::forget;
-use std::test::Fail;
+//! What no clause says of elements that a closure takes out of a range: whom it asks and when, and how far it tells.
+ghost use Rattle.std.specs.Prelude.{◌≤◌};
+ghost use Rattle.aa_vec.specs.Vector.{len};
 
-fn list(alloc: Global, items: &[u32]) -> Result<Vec<u32>, Fail> {
-    let mut v: Vec<u32> = Vec::new(alloc);
-    v.extend_from_slice(items)?;
-    Ok(v)
-}
+use crate::lists::{list, numbers, stands};
+use aa_vec::vec::Vec;
+use std::cell::Cell;
+use std::test::Fail;
 
 #[test]
 #[tactic(auto, using(aa_vec::proofs::Callers::callers))]
 fn two_of_three_are_taken(rt: HostRuntime) -> Result<(), Fail> {
-    let mut v = list(rt.alloc(), &[1, 2, 3, 4, 5, 6])?;
+    let mut v = list(rt.alloc(), &[1, 2, 3, 4, 5, 6], 6)?;
     assert!(rt; v.len() == 6);
     let mut even = v.extract_if(1..6, |x| *x % 2 == 0);
-    assert_eq!(rt; even.size_hint(), (0, Some(5)));
-    assert_eq!(rt; even.next(), Some(2));
-    assert_eq!(rt; even.size_hint(), (0, Some(4)));
-    assert_eq!(rt; even.next(), Some(4));
+    assert!(rt; (even.size_hint(), even.next()) == ((0, Some(5)), Some(2)));
+    assert!(rt; (even.size_hint(), even.next()) == ((0, Some(4)), Some(4)));
     drop(even);
-    assert_eq!(rt; v.as_slice(), [1, 3, 5, 6].as_slice());
-    assert_eq!(rt; v.capacity(), 6);
+    assert!(rt; stands(&v, &[1, 3, 5, 6], 6));
     Ok(())
 }
 
+// Numbers, a range of their places, what divides those to be taken, how many they are, and what is left.
+const RANGES: [(&[u32], usize, usize, u32, usize, &[u32]); 4] = [
+    (&[2, 1, 4, 3, 6], 2, 2, 1, 0, &[2, 1, 4, 3, 6]),
+    (&[2, 1, 4, 3, 6], 3, 5, 2, 1, &[2, 1, 4, 3]),
+    (&[2, 1, 4, 3], 0, 2, 2, 1, &[1, 4, 3]),
+    (&[1, 4, 3], 0, 3, 1, 3, &[]),
+];
+
 #[test]
+#[tactic(auto, using(aa_vec::proofs::Callers::callers))]
 fn ranges_at_the_ends(rt: HostRuntime) -> Result<(), Fail> {
-    let mut v = list(rt.alloc(), &[2, 1, 4, 3, 6])?;
-    assert!(rt; v.len() == 5);
-    drop(v.extract_if(2..2, |_| true));
-    assert_eq!(rt; v.as_slice(), [2, 1, 4, 3, 6].as_slice());
-    assert!(rt; v.len() == 5);
-    assert_eq!(rt; v.extract_if(3..5, |x| *x % 2 == 0).count(), 1);
-    assert_eq!(rt; v.as_slice(), [2, 1, 4, 3].as_slice());
-    assert!(rt; v.len() == 4);
-    assert_eq!(rt; v.extract_if(0..2, |x| *x % 2 == 0).count(), 1);
-    assert_eq!(rt; v.as_slice(), [1, 4, 3].as_slice());
-    assert!(rt; v.len() == 3);
-    assert_eq!(rt; v.extract_if(0..3, |_| true).count(), 3);
-    assert!(rt; v.is_empty());
+    for (items, from, to, divisor, count, left) in RANGES {
+        let mut v = list(rt.alloc(), items, 5)?;
+        assert!(rt; from <= to && to <= v.len());
+        let taken = v.extract_if(from..to, |x| x.checked_rem(divisor) == Some(0));
+        assert!(rt; taken.count() == count);
+        assert!(rt; stands(&v, left, 5), "{left:?}");
+    }
     Ok(())
 }
 
-// The closure takes out each third that it is asked of, and adds 10 to each; `calls` counts.
-#[test]
+// Asks `count` times for one of the places 1 to 6, each `turn`th of which is taken, and adds 10 to each that is asked: the digits of
+// those that came, and how many were asked.
 #[tactic(auto, using(aa_vec::proofs::Callers::callers))]
-fn each_is_asked_once(rt: HostRuntime) -> Result<(), Fail> {
-    let mut v = list(rt.alloc(), &[0, 1, 2, 3, 4, 5, 6, 7])?;
-    assert!(rt; v.len() == 8);
-    let calls = Cell::new(0u32);
-    let mut thirds = v.extract_if(1..7, |x| {
-        calls.set(calls.get().wrapping_add(1));
+fn taken_by_turns(v: &mut Vec<u32>, turn: u32, count: u32) -> (u32, u32)
+    requires { 7 ≤ len v.old }
+{
+    let asked = Cell::new(0u32);
+    let mut range = v.extract_if(1..7, |x| {
+        asked.set(asked.get().wrapping_add(1));
         *x = x.wrapping_add(10);
-        calls.get() % 3 == 0
+        asked.get().checked_rem(turn) == Some(0)
     });
-    assert_eq!(rt; thirds.next(), Some(13));
-    assert_eq!(rt; calls.get(), 3);
-    assert_eq!(rt; thirds.next(), Some(16));
-    assert_eq!(rt; thirds.next(), None);
-    assert_eq!(rt; thirds.next(), None);
-    assert_eq!(rt; calls.get(), 6);
-    drop(thirds);
-    assert_eq!(rt; v.as_slice(), [0, 11, 12, 14, 15, 7].as_slice());
-    Ok(())
+    let mut digits = 0u32;
+    for _ in 0..count {
+        if let Some(x) = range.next() {
+            digits = digits.wrapping_mul(100).wrapping_add(x);
+        }
+    }
+    drop(range);
+    (digits, asked.get())
 }
 
-// What was not asked is not asked at the drop, and stays.
+// Each is asked once, and what was not asked is not asked at the drop, and stays.
 #[test]
-#[tactic(auto, using(aa_vec::proofs::Callers::callers))]
-fn the_rest_is_not_asked(rt: HostRuntime) -> Result<(), Fail> {
-    let mut v = list(rt.alloc(), &[0, 1, 2, 3, 4])?;
-    assert!(rt; v.len() == 5);
-    let calls = Cell::new(0u32);
-    let mut all = v.extract_if(1..4, |_| {
-        calls.set(calls.get().wrapping_add(1));
-        true
-    });
-    assert_eq!(rt; all.next(), Some(1));
-    drop(all);
-    assert_eq!(rt; calls.get(), 1);
-    assert_eq!(rt; v.as_slice(), [0, 2, 3, 4].as_slice());
+fn each_is_asked_once(rt: HostRuntime) -> Result<(), Fail> {
+    for (turn, count, taken, left) in [
+        (3, 4, (1316, 6), [0, 11, 12, 14, 15, 7].as_slice()),
+        (3, 1, (13, 3), [0, 11, 12, 4, 5, 6, 7].as_slice()),
+        (1, 1, (11, 1), [0, 2, 3, 4, 5, 6, 7].as_slice()),
+    ] {
+        let mut v = numbers(rt.alloc(), 8)?;
+        assert!(rt; v.len() == 8);
+        assert!(rt; taken_by_turns(&mut v, turn, count) == taken);
+        assert!(rt; stands(&v, left, 8), "{left:?}");
+    }
     Ok(())
 }
 
@@ -91,7 +83,7 @@ fn the_rest_is_not_asked(rt: HostRuntime) -> Result<(), Fail> {
 #[test]
 #[tactic(auto, using(aa_vec::proofs::Callers::callers))]
 fn a_closure_is_lent(rt: HostRuntime) -> Result<(), Fail> {
-    let mut v = list(rt.alloc(), &[5, 6, 7, 8])?;
+    let mut v = list(rt.alloc(), &[5, 6, 7, 8], 4)?;
     assert!(rt; v.len() == 4);
     let mut turn = 0u32;
     let mut every_other = |_x: &mut u32| {
@@ -99,59 +91,11 @@ fn a_closure_is_lent(rt: HostRuntime) -> Result<(), Fail> {
         turn % 2 == 0
     };
     let mut range = v.extract_by(0..4);
-    assert_eq!(rt; range.next_by(&mut every_other), Some(6));
-    assert_eq!(rt; range.left(), 2);
-    assert_eq!(rt; range.next_by(&mut every_other), Some(8));
-    assert_eq!(rt; range.next_by(&mut every_other), None);
+    assert!(rt; (range.next_by(&mut every_other), range.left()) == (Some(6), 2));
+    assert!(rt; range.next_by(&mut every_other) == Some(8));
+    assert!(rt; range.next_by(&mut every_other) == None);
     drop(range);
-    assert_eq!(rt; turn, 4);
-    assert_eq!(rt; v.as_slice(), [5, 7].as_slice());
-    Ok(())
-}
-
-#[test]
-#[tactic(auto, using(aa_vec::proofs::Callers::callers))]
-fn each_element_is_dropped_once(rt: HostRuntime) -> Result<(), Fail> {
-    let drops = Cell::new(0u32);
-    let mut v = counted_up(rt.alloc(), &drops, 6);
-    assert!(rt; v.len() == 6);
-    let mut even = v.extract_if(0..6, |x| x.value % 2 == 0);
-    drop(even.next());
-    assert_eq!(rt; drops.get(), 1);
-    let second = even.next();
-    drop(even);
-    assert_eq!(rt; drops.get(), 1);
-    drop(second);
-    assert_eq!(rt; drops.get(), 2);
-    assert_eq!(rt; v.len(), 4);
-    drop(v);
-    assert_eq!(rt; drops.get(), 6);
-    Ok(())
-}
-
-#[test]
-fn elements_without_size(rt: HostRuntime) -> Result<(), Fail> {
-    let mut v: Vec<()> = Vec::new(rt.alloc());
-    v.resize(5, ())?;
-    assert!(rt; v.len() == 5);
-    let mut turn = 0u32;
-    let taken = v.extract_if(1..5, |_| {
-        turn = turn.wrapping_add(1);
-        turn % 2 == 0
-    });
-    assert_eq!(rt; taken.count(), 2);
-    assert_eq!(rt; v.len(), 3);
-    Ok(())
-}
-
-// A forgotten range leaves what is before it; the others are lost.
-#[test]
-fn a_forgotten_range_leaves_the_head(rt: HostRuntime) -> Result<(), Fail> {
-    let mut v = list(rt.alloc(), &[0, 1, 2, 3, 4])?;
-    assert!(rt; v.len() == 5);
-    let mut odd = v.extract_if(2..4, |x| *x % 2 == 1);
-    assert_eq!(rt; odd.next(), Some(3));
-    forget(odd);
-    assert_eq!(rt; v.as_slice(), [0, 1].as_slice());
+    assert!(rt; turn == 4);
+    assert!(rt; stands(&v, &[5, 7], 4));
     Ok(())
 }

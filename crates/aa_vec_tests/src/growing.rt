@@ -1,4 +1,4 @@
-//! Vectors that grow sparingly, and what becomes of a vector's growth.
+//! How vectors grow, and what becomes of a vector's growth.
 ghost use Rattle.std.specs.Prelude.{◌≡◌, ◌+◌, [], OnOk};
 ghost use Rattle.aa_raw.specs.declared.raw_vec.Growth.TheVariants.{Sparing};
 
@@ -17,64 +17,81 @@ fn next_capacity<T: Copy>(v: &mut Vec<T>, x: T) -> Result<usize, TryReserveError
     Ok(v.capacity())
 }
 
+// Whether a vector, each time that it grows, has these capacities in turn.
+fn grows_to<T: Copy>(mut v: Vec<T>, x: T, capacities: &[usize]) -> Result<bool, TryReserveError> {
+    let mut all = v.capacity() == 0;
+    for capacity in capacities {
+        all = next_capacity(&mut v, x)? == *capacity && all;
+    }
+    Ok(all)
+}
+
 #[test]
 fn sparing_vectors_grow_by_half(rt: HostRuntime) -> Result<(), Fail> {
-    let mut words: Vec<u32> = Vec::new_growing_in(Growth::Sparing, rt.alloc());
-    assert_eq!(rt; words.capacity(), 0);
-    for capacity in [4, 6, 9, 14, 21] {
-        assert_eq!(rt; next_capacity(&mut words, 7)?, capacity);
-    }
-    let mut bytes: Vec<u8> = Vec::new_growing_in(Growth::Sparing, rt.alloc());
-    for capacity in [8, 12, 18, 27, 41] {
-        assert_eq!(rt; next_capacity(&mut bytes, 7)?, capacity);
-    }
-    let mut rows: Vec<[u8; 1025]> = Vec::new_growing_in(Growth::Sparing, rt.alloc());
-    for capacity in [1, 2, 3, 5, 8, 12] {
-        assert_eq!(rt; next_capacity(&mut rows, [7; 1025])?, capacity);
-    }
+    let words = Vec::new_growing_in(Growth::Sparing, rt.alloc());
+    assert!(rt; grows_to(words, 7u32, &[4, 6, 9, 14, 21])?);
+    let bytes = Vec::new_growing_in(Growth::Sparing, rt.alloc());
+    assert!(rt; grows_to(bytes, 7u8, &[8, 12, 18, 27, 41])?);
+    let rows = Vec::new_growing_in(Growth::Sparing, rt.alloc());
+    assert!(rt; grows_to(rows, [7u8; 1025], &[1, 2, 3, 5, 8, 12])?);
+    Ok(())
+}
+
+// The first push makes room by the size.
+#[test]
+fn other_vectors_double(rt: HostRuntime) -> Result<(), Fail> {
+    assert!(rt; grows_to(Vec::new(rt.alloc()), 7u8, &[8, 16])?);
+    assert!(rt; grows_to(Vec::new(rt.alloc()), 7u32, &[4, 8])?);
+    assert!(rt; grows_to(Vec::new(rt.alloc()), [7u8; 1024], &[4])?);
+    assert!(rt; grows_to(Vec::new(rt.alloc()), [7u8; 1025], &[1])?);
     Ok(())
 }
 
 #[test]
 fn a_vector_grows_as_it_was_made_to(rt: HostRuntime) -> Result<(), Fail> {
     let doubling: Vec<u32> = Vec::new_growing_in(Growth::Doubling, rt.alloc());
-    assert_eq!(rt; doubling.growth(), Growth::Doubling);
+    assert!(rt; doubling.growth() == Growth::Doubling);
     let mut nothing: Vec<()> = Vec::new_growing_in(Growth::Sparing, rt.alloc());
-    assert_eq!(rt;
-        (nothing.growth(), nothing.capacity()),
-        (Growth::Sparing, usize::MAX)
-    );
+    assert!(rt; (nothing.growth(), nothing.capacity()) == (Growth::Sparing, usize::MAX));
     nothing.push(())?;
-    assert_eq!(rt; nothing.growth(), Growth::Sparing);
+    assert!(rt; nothing.growth() == Growth::Sparing);
+    Ok(())
+}
+
+// So many pairs in a vector that grows sparingly.
+fn sparing_pairs(alloc: Global, count: u32) -> Result<Vec<[u32; 2]>, Fail> {
+    let mut pairs: Vec<[u32; 2]> = Vec::new_growing_in(Growth::Sparing, alloc);
+    for x in 0..count {
+        pairs.push([x, x])?;
+    }
+    Ok(pairs)
+}
+
+fn is_sparing<T>(v: &Vec<T>) -> bool {
+    v.growth() == Growth::Sparing
+}
+
+#[test]
+fn parts_and_copies_of_a_vector_grow_as_it_does(rt: HostRuntime) -> Result<(), Fail> {
+    for at in [0, 4] {
+        let mut pairs = sparing_pairs(rt.alloc(), 5)?;
+        assert!(rt; is_sparing(&pairs) && pairs.capacity() == 6);
+        let tail = pairs.split_off(pairs.len().min(at))?;
+        assert!(rt; is_sparing(&tail) && is_sparing(&pairs));
+        assert!(rt; is_sparing(&tail.clone()?));
+    }
     Ok(())
 }
 
 #[test]
 fn what_is_made_of_a_vector_grows_as_it_does(rt: HostRuntime) -> Result<(), Fail> {
-    let mut pairs: Vec<[u32; 2]> = Vec::new_growing_in(Growth::Sparing, rt.alloc());
-    for x in 0..5 {
-        pairs.push([x, x])?;
-    }
-    assert_eq!(rt; (pairs.growth(), pairs.capacity()), (Growth::Sparing, 6));
-    let tail = pairs.split_off(pairs.len().min(4))?;
-    assert_eq!(rt;
-        (tail.growth(), pairs.growth()),
-        (Growth::Sparing, Growth::Sparing)
-    );
-    let all = pairs.split_off(0)?;
-    assert_eq!(rt;
-        (all.growth(), pairs.growth()),
-        (Growth::Sparing, Growth::Sparing)
-    );
-    let copy = all.clone()?;
-    assert_eq!(rt; copy.growth(), Growth::Sparing);
-    let boxed: BoxedSlice<[u32; 2]> = copy.into_boxed_slice()?;
+    let boxed: BoxedSlice<[u32; 2]> = sparing_pairs(rt.alloc(), 4)?.into_boxed_slice()?;
     let back = boxed.into_vec();
-    assert_eq!(rt; back.growth(), Growth::Sparing);
+    assert!(rt; is_sparing(&back));
     let mut flat = back.into_flattened()?;
-    assert_eq!(rt; (flat.growth(), flat.capacity()), (Growth::Sparing, 8));
+    assert!(rt; is_sparing(&flat) && flat.capacity() == 8);
     flat.push(9)?;
-    assert_eq!(rt; flat.capacity(), 12);
+    assert!(rt; flat.capacity() == 12);
     Ok(())
 }
 

@@ -2,7 +2,8 @@
 ghost use Rattle.std.specs.Prelude.{◌≤◌};
 ghost use Rattle.aa_vec.specs.Vector.{len};
 
-use crate::counted::{Counted, counted_up};
+use crate::lists::{counted_up, units};
+use aa_faulty::counted::Counted;
 use aa_raw::collections::TryReserveError;
 use aa_vec::vec::items::Items;
 use aa_vec::vec::{Drain, IntoIter, Vec};
@@ -12,9 +13,9 @@ use std::mem::forget;
 use std::rc::Rc;
 use std::test::Fail;
 
-// How a range is left.
+/// How a range is left.
 #[derive(Clone, Copy)]
-enum Left {
+pub(crate) enum Left {
     Ended,
     Kept,
     Forgotten,
@@ -70,22 +71,16 @@ fn what_is_left_of_a_drain_is_dropped_kept_or_lost(rt: HostRuntime) {
         assert!(rt; v.len() == 10);
         let mut range = v.drain(2..8);
         let taken = taken_of_drain(&mut range, first, last);
-        assert_eq!(rt;
-            (taken, drops.get()),
-            (first.saturating_add(last).min(6), taken)
-        );
+        assert!(rt; (taken, drops.get()) == (first.saturating_add(last).min(6), taken));
         match left {
             Left::Ended => drop(range),
             Left::Kept => range.keep_rest(),
             Left::Forgotten => forget(range),
         }
-        assert_eq!(rt; (v.capacity(), drops.get()), (16, dropped));
+        assert!(rt; (v.capacity(), drops.get()) == (16, dropped));
         assert!(rt; has_values(&v, values));
         drop(v);
-        assert_eq!(rt;
-            drops.get() as usize,
-            values.len().saturating_add(dropped as usize)
-        );
+        assert!(rt; drops.get() as usize == values.len().saturating_add(dropped as usize));
     }
 }
 
@@ -101,17 +96,14 @@ fn what_is_left_of_items_is_dropped_or_lost(rt: HostRuntime) {
     ] {
         let drops = Cell::new(0u32);
         let mut items = counted_up(rt.alloc(), &drops, 5).into_iter();
-        assert_eq!(rt; taken_of_items(&mut items, first, last), taken);
-        assert_eq!(rt;
-            (items.len(), drops.get()),
-            (5usize.saturating_sub(taken as usize), taken)
-        );
+        assert!(rt; taken_of_items(&mut items, first, last) == taken);
+        assert!(rt; (items.len(), drops.get()) == (5usize.saturating_sub(taken as usize), taken));
         if matches!(left, Left::Ended) {
             drop(items);
         } else {
             forget(items);
         }
-        assert_eq!(rt; drops.get(), dropped);
+        assert!(rt; drops.get() == dropped);
     }
 }
 
@@ -144,13 +136,10 @@ fn what_is_left_of_an_extraction_stays_or_is_lost(rt: HostRuntime) {
         let mut v = counted_up(rt.alloc(), &drops, 10);
         assert!(rt; v.len() == 10);
         evens_taken(&mut v, count, left);
-        assert_eq!(rt; (v.capacity(), drops.get()), (16, dropped));
+        assert!(rt; (v.capacity(), drops.get()) == (16, dropped));
         assert!(rt; has_values(&v, values));
         drop(v);
-        assert_eq!(rt;
-            drops.get() as usize,
-            values.len().saturating_add(dropped as usize)
-        );
+        assert!(rt; drops.get() as usize == values.len().saturating_add(dropped as usize));
     }
 }
 
@@ -186,20 +175,14 @@ fn what_is_left_of_a_splice_is_dropped(rt: HostRuntime) -> Result<(), Fail> {
         let origin = Rc::new(rt.alloc(), ())?;
         let mut v = sharing(rt.alloc(), &origin, 10)?;
         let items = Items::new(sharing(rt.alloc(), &origin, 2)?, None);
-        assert_eq!(rt; Rc::strong_count(&origin), 13);
-        assert_eq!(rt; spliced(&mut v, (2, 8), items, (first, last)), Ok(taken));
-        assert_eq!(rt; (v.len(), v.capacity()), (6, 16));
-        assert_eq!(rt; Rc::strong_count(&origin), 7);
+        assert!(rt; Rc::strong_count(&origin) == 13);
+        assert!(rt; spliced(&mut v, (2, 8), items, (first, last)) == Ok(taken));
+        assert!(rt; (v.len(), v.capacity()) == (6, 16));
+        assert!(rt; Rc::strong_count(&origin) == 7);
         drop(v);
-        assert_eq!(rt; Rc::strong_count(&origin), 1);
+        assert!(rt; Rc::strong_count(&origin) == 1);
     }
     Ok(())
-}
-
-fn units(alloc: Global, count: usize) -> Result<Vec<()>, Fail> {
-    let mut v: Vec<()> = Vec::new(alloc);
-    v.resize(count, ())?;
-    Ok(v)
 }
 
 #[test]
@@ -214,17 +197,17 @@ fn elements_without_size_are_left_early(rt: HostRuntime) -> Result<(), Fail> {
         let mut v = units(rt.alloc(), 5)?;
         assert!(rt; v.len() == 5);
         let mut range = v.drain(1..4);
-        assert_eq!(rt; taken_of_drain(&mut range, first, last), taken);
+        assert!(rt; taken_of_drain(&mut range, first, last) == taken);
         match left {
             Left::Ended => drop(range),
             Left::Kept => range.keep_rest(),
             Left::Forgotten => forget(range),
         }
-        assert_eq!(rt; (v.len(), v.capacity()), (length, usize::MAX));
+        assert!(rt; (v.len(), v.capacity()) == (length, usize::MAX));
         let mut items = v.into_iter();
         let _taken = taken_of_items(&mut items, first, last);
         let all = first.saturating_add(last) as usize;
-        assert_eq!(rt; items.len(), length.saturating_sub(all));
+        assert!(rt; items.len() == length.saturating_sub(all));
     }
     Ok(())
 }
@@ -234,8 +217,8 @@ fn elements_without_size_are_spliced_early(rt: HostRuntime) -> Result<(), Fail> 
     for (first, last, taken) in [(0, 0, 0), (1, 1, 2), (2, 2, 3), (0, 4, 3)] {
         let mut v = units(rt.alloc(), 5)?;
         let items = Items::new(units(rt.alloc(), 2)?, Some(usize::MAX));
-        assert_eq!(rt; spliced(&mut v, (1, 4), items, (first, last)), Ok(taken));
-        assert_eq!(rt; (v.len(), v.capacity()), (4, usize::MAX));
+        assert!(rt; spliced(&mut v, (1, 4), items, (first, last)) == Ok(taken));
+        assert!(rt; (v.len(), v.capacity()) == (4, usize::MAX));
     }
     Ok(())
 }
@@ -271,7 +254,7 @@ fn elements_without_size_are_extracted_early(rt: HostRuntime) -> Result<(), Fail
         let mut v = units(rt.alloc(), 6)?;
         assert!(rt; v.len() == 6);
         seconds_taken(&mut v, count, left);
-        assert_eq!(rt; (v.len(), v.capacity()), (length, usize::MAX));
+        assert!(rt; (v.len(), v.capacity()) == (length, usize::MAX));
     }
     Ok(())
 }

@@ -3,7 +3,7 @@ ghost use Rattle.std.specs.Prelude.{◌≡◌, ◌-◌, false};
 ghost use Rattle.std.specs.Iterator.{at_most};
 ghost use Rattle.std.proofs.Common.{refl};
 
-use crate::counted::counted_up;
+use crate::lists::{counted_up, list, stands};
 use aa_raw::collections::{TryReserveError, TryReserveErrorKind};
 use aa_vec::vec::items::Hinted;
 use aa_vec::vec::{Vec, same};
@@ -97,17 +97,27 @@ fn untrue_hints_decide_the_room_alone(rt: HostRuntime) -> Result<(), Fail> {
         (0, Manner::TurnsTo(usize::MAX), 0, false, 0, 0),
     ] {
         let mut v: Vec<u32> = Vec::with_capacity(rt.alloc(), room)?;
-        assert_eq!(rt; v.extend_hinted(told(hint, manner)), answer(fits));
-        assert!(rt; v.iter().copied().eq(0..length));
-        assert_eq!(rt; v.capacity(), capacity);
+        assert!(rt; v.extend_hinted(told(hint, manner)) == answer(fits));
+        assert!(rt; v.iter().copied().eq(0..length), "{hint} told");
+        assert!(rt; v.capacity() == capacity, "{hint} told");
     }
     Ok(())
 }
 
-fn list(alloc: Global, items: &[u32]) -> Result<Vec<u32>, Fail> {
-    let mut v: Vec<u32> = Vec::with_capacity(alloc, items.len())?;
-    v.extend_from_slice(items)?;
-    Ok(v)
+// Replaces two places from this one, and says whether the call answers so, and leaves these numbers with this capacity.
+fn splices_to(
+    alloc: Global,
+    from: usize,
+    items: Liar,
+    fits: bool,
+    left: &[u32],
+    capacity: usize,
+) -> Result<bool, Fail> {
+    let mut v = list(alloc, &[1, 2, 3, 4], 4)?;
+    let from = from.min(v.len());
+    let range = v.splice(from..v.len().min(from.saturating_add(2)), items);
+    let answered = range.finish_hinted() == answer(fits);
+    Ok(answered && stands(&v, left, capacity))
 }
 
 #[test]
@@ -128,12 +138,11 @@ fn untrue_hints_of_a_splice_decide_the_room_alone(rt: HostRuntime) -> Result<(),
         (0, Manner::TurnsTo(usize::MAX), false, full, 4),
         (usize::MAX, Manner::TurnsTo(0), false, full, 4),
     ] {
-        let mut v = list(rt.alloc(), &[1, 2, 3, 4])?;
-        assert!(rt; v.len() == 4);
-        let range = v.splice(1..3, told(hint, manner));
-        assert_eq!(rt; range.finish_hinted(), answer(fits));
-        assert_eq!(rt; v.as_slice(), left);
-        assert_eq!(rt; v.capacity(), capacity);
+        let items = told(hint, manner);
+        assert!(rt;
+            splices_to(rt.alloc(), 1, items, fits, left, capacity)?,
+            "{hint} told"
+        );
     }
     Ok(())
 }
@@ -149,12 +158,11 @@ fn untrue_hints_of_a_splice_at_the_end(rt: HostRuntime) -> Result<(), Fail> {
         (9, Manner::TurnsTo(usize::MAX), false, full, 4),
         (usize::MAX, Manner::TurnsTo(9), true, all, 14),
     ] {
-        let mut v = list(rt.alloc(), &[1, 2, 3, 4])?;
-        assert!(rt; v.len() == 4);
-        let range = v.splice(2..4, told(hint, manner));
-        assert_eq!(rt; range.finish_hinted(), answer(fits));
-        assert_eq!(rt; v.as_slice(), left);
-        assert_eq!(rt; v.capacity(), capacity);
+        let items = told(hint, manner);
+        assert!(rt;
+            splices_to(rt.alloc(), 2, items, fits, left, capacity)?,
+            "{hint} told"
+        );
     }
     Ok(())
 }
@@ -197,14 +205,14 @@ fn behind_an_end_nothing_is_asked(rt: HostRuntime) -> Result<(), Fail> {
         let mut v: Vec<u32> = Vec::with_capacity(rt.alloc(), capacity)?;
         let mut items = Pausing { next: 1 };
         v.extend_by(&mut items)?;
-        assert_eq!(rt; v.as_slice(), [1, 2].as_slice());
-        assert_eq!(rt; items.next, 4);
+        assert!(rt; v.as_slice() == [1, 2].as_slice());
+        assert!(rt; items.next == 4);
         v.extend_hinted_by(&mut items)?;
-        assert_eq!(rt; v.as_slice(), [1, 2, 4, 5].as_slice());
-        assert_eq!(rt; items.next, 7);
+        assert!(rt; v.as_slice() == [1, 2, 4, 5].as_slice());
+        assert!(rt; items.next == 7);
         items.next = 6;
         v.extend_by(&mut items)?;
-        assert_eq!(rt; (v.len(), items.next), (4, 7));
+        assert!(rt; (v.len(), items.next) == (4, 7));
     }
     Ok(())
 }
@@ -219,15 +227,15 @@ fn a_splice_asks_nothing_behind_an_end(rt: HostRuntime) -> Result<(), Fail> {
         (1, 2, 1, [7, 1, 2, 7, 7].as_slice()),
         (2, 2, 4, [7, 7, 4, 5, 7, 7].as_slice()),
     ] {
-        let mut v = list(rt.alloc(), &[7, 7, 7, 7])?;
+        let mut v = list(rt.alloc(), &[7, 7, 7, 7], 4)?;
         assert!(rt; from <= to && to <= v.len());
         v.splice(from..to, Pausing { next: first }).finish()?;
-        assert_eq!(rt; v.as_slice(), left);
-        let mut w = list(rt.alloc(), &[7, 7, 7, 7])?;
+        assert!(rt; v.as_slice() == left);
+        let mut w = list(rt.alloc(), &[7, 7, 7, 7], 4)?;
         assert!(rt; to <= w.len());
         let range = w.splice(from..to, Pausing { next: first });
         range.finish_hinted()?;
-        assert_eq!(rt; w.as_slice(), left);
+        assert!(rt; w.as_slice() == left);
     }
     Ok(())
 }
@@ -244,17 +252,19 @@ fn answers_by_turns_keep_and_remove(rt: HostRuntime) -> Result<(), Fail> {
             calls = calls.wrapping_add(1);
             calls.checked_rem(turn) == Some(0)
         });
-        assert_eq!(rt; (v.len(), calls), (kept, 9));
+        assert!(rt; (v.len(), calls) == (kept, 9));
+        assert!(rt; drops.get() as usize == 9usize.saturating_sub(kept));
         drop(v);
-        assert_eq!(rt; drops.get(), 9);
+        assert!(rt; drops.get() == 9);
         let mut w = counted_up(rt.alloc(), &drops, 9);
         w.dedup_within(&mut |_, _| {
             calls = calls.wrapping_add(1);
             calls.wrapping_sub(9).checked_rem(turn) == Some(0)
         });
-        assert_eq!(rt; (w.len(), calls), (distinct, 17));
+        assert!(rt; (w.len(), calls) == (distinct, 17));
+        assert!(rt; drops.get() as usize == 18usize.saturating_sub(distinct));
         drop(w);
-        assert_eq!(rt; drops.get(), 18);
+        assert!(rt; drops.get() == 18);
     }
     Ok(())
 }
@@ -269,14 +279,14 @@ fn keys_by_turns_keep_and_remove(rt: HostRuntime) -> Result<(), Fail> {
         (3, [1, 3, 6].as_slice()),
     ] {
         let calls = Cell::new(0u32);
-        let mut v = list(rt.alloc(), &[1, 2, 3, 4, 5, 6])?;
+        let mut v = list(rt.alloc(), &[1, 2, 3, 4, 5, 6], 6)?;
         v.dedup_by_key(|_| {
             let call = calls.get();
             calls.set(call.wrapping_add(1));
             call.checked_div(turn).unwrap_or(0)
         });
-        assert_eq!(rt; v.as_slice(), left);
-        assert_eq!(rt; calls.get(), 10);
+        assert!(rt; v.as_slice() == left);
+        assert!(rt; calls.get() == 10);
     }
     Ok(())
 }
@@ -307,14 +317,14 @@ fn an_equality_that_never_holds_removes_nothing(rt: HostRuntime) -> Result<(), F
         v.push(Unlike { value: 7 })?;
     }
     v.dedup();
-    assert_eq!(rt; (v.len(), v.capacity()), (3, 4));
+    assert!(rt; (v.len(), v.capacity()) == (3, 4));
     assert!(rt; v.iter().all(|x| x.value == 7));
     assert!(rt; v != v);
     assert!(rt; v != none);
     assert!(rt; !same(v.as_slice(), v.as_slice()));
     assert!(rt; !v.as_slice().contains(&Unlike { value: 7 }));
     v.dedup_by_key(|x| Unlike { value: x.value });
-    assert_eq!(rt; v.len(), 3);
+    assert!(rt; v.len() == 3);
     Ok(())
 }
 

@@ -4,8 +4,6 @@
 #[cfg(test)]
 mod arrays;
 #[cfg(test)]
-mod boxes;
-#[cfg(test)]
 mod callers;
 #[cfg(test)]
 mod calls;
@@ -17,8 +15,6 @@ mod claims;
 mod compared;
 #[cfg(test)]
 mod copies;
-#[cfg(test)]
-mod counted;
 #[cfg(test)]
 mod drain;
 #[cfg(test)]
@@ -33,5 +29,7 @@ mod into;
 mod left_early;
 #[cfg(test)]
 mod liars;
+#[cfg(test)]
+mod lists;
 #[cfg(test)]
 mod splice;

@@ -1,57 +1,67 @@
 use crate::table::Table;
 use aa_faulty::Faulty;
+use std::alloc::Global;
+use std::ops::Range;
+
+// A table over an allocator that may refuse.
+type Small<'a> = Table<u64, &'a Faulty<Global>>;
+
+// The value of a key.
+fn has(table: &Small<'_>, key: u64) -> Option<u64> {
+    table.get(key).copied()
+}
+
+// Whether keys with values of their own number go in.
+fn takes(table: &mut Small<'_>, keys: Range<u64>) -> bool {
+    let mut all = true;
+    for key in keys {
+        all = table.insert(key, key).is_ok() && all;
+    }
+    all
+}
 
 #[test]
 fn a_thousand_keys_come_and_go(rt: HostRuntime) {
     let heap = Faulty::new(rt.alloc());
-    let mut table: Table<u64, &Faulty<_>> = Table::new_in(&heap);
+    let mut table: Small<'_> = Table::new_in(&heap);
     for key in 0u64..1000 {
-        let done = table.insert(key.wrapping_mul(64), key);
-        assert!(rt; done.is_ok());
+        assert!(rt; table.insert(key.wrapping_mul(64), key).is_ok());
     }
-    assert_eq!(rt; table.len(), 1000);
+    assert!(rt; table.len() == 1000);
     for key in 0u64..500 {
-        assert_eq!(rt; table.remove(key.wrapping_mul(64)), Some(key));
+        assert!(rt; table.remove(key.wrapping_mul(64)) == Some(key));
     }
-    assert_eq!(rt; table.len(), 500);
-    assert_eq!(rt; table.get(0).copied(), None);
-    assert_eq!(rt; table.get(640 * 64).copied(), Some(640));
-    match table.insert(640 * 64, 7) {
-        Ok(old) => assert_eq!(rt; old, Some(640)),
-        Err(_) => assert!(rt; false),
-    }
+    assert!(rt; table.len() == 500);
+    assert!(rt; (has(&table, 0), has(&table, 640 * 64)) == (None, Some(640)));
+    assert!(rt; table.insert(640 * 64, 7).ok() == Some(Some(640)));
     drop(table);
-    assert_eq!(rt; heap.outstanding(), 0);
+    assert!(rt; heap.outstanding() == 0);
 }
 
 #[test]
 fn a_refused_insert_changes_nothing(rt: HostRuntime) {
     let heap = Faulty::new(rt.alloc());
-    let mut table: Table<u64, &Faulty<_>> = Table::new_in(&heap);
-    for key in 0u64..6 {
-        let done = table.insert(key, key);
-        assert!(rt; done.is_ok());
-    }
+    let mut table: Small<'_> = Table::new_in(&heap);
+    assert!(rt; takes(&mut table, 0..6));
     heap.refuse(0, 1000);
     let mut refused = 0u64;
     for key in 6u64..20 {
         match table.insert(key, key) {
             Ok(_) => {}
             Err(back) => {
-                assert_eq!(rt; back.source, (key, key));
+                assert!(rt; back.source == (key, key));
                 refused = refused.saturating_add(1);
             }
         }
     }
     assert!(rt; refused > 0);
-    assert_eq!(rt; table.get(5).copied(), Some(5));
-    assert_eq!(rt; table.get(19).copied(), None);
+    assert!(rt; (has(&table, 5), has(&table, 19)) == (Some(5), None));
 }
 
 #[test]
 fn values_are_written_and_all_are_seen(rt: HostRuntime) {
     let heap = Faulty::new(rt.alloc());
-    let mut table: Table<u64, &Faulty<_>> = Table::new_in(&heap);
+    let mut table: Small<'_> = Table::new_in(&heap);
     assert!(rt; table.is_empty());
     for key in 1u64..11 {
         assert!(rt; table.insert(key, 0).is_ok());
@@ -63,33 +73,27 @@ fn values_are_written_and_all_are_seen(rt: HostRuntime) {
         }
     }
     assert!(rt; table.get_mut(11).is_none());
-    assert_eq!(rt; table.remove(10), Some(100));
+    assert!(rt; table.remove(10) == Some(100));
     let mut keys = 0u64;
     let mut values = 0u64;
     for (key, value) in table.iter() {
         keys = keys.saturating_add(key);
         values = values.saturating_add(*value);
     }
-    assert_eq!(rt; keys, 45);
-    assert_eq!(rt; values, 285);
+    assert!(rt; (keys, values) == (45, 285));
     assert!(rt; !table.contains_key(10));
 }
 
 #[test]
 fn reserved_room_is_there_when_the_heap_refuses(rt: HostRuntime) {
     let heap = Faulty::new(rt.alloc());
-    let mut table: Table<u64, &Faulty<_>> = Table::new_in(&heap);
-    for key in 0u64..5 {
-        assert!(rt; table.insert(key, key).is_ok());
-    }
+    let mut table: Small<'_> = Table::new_in(&heap);
+    assert!(rt; takes(&mut table, 0..5));
     assert!(rt; table.reserve(100).is_ok());
     heap.refuse(0, 1000);
     assert!(rt; table.reserve(100).is_ok());
     assert!(rt; table.reserve(1000).is_err());
-    for key in 5u64..105 {
-        assert!(rt; table.insert(key, key).is_ok());
-    }
-    assert_eq!(rt; table.len(), 105);
-    assert_eq!(rt; table.get(104).copied(), Some(104));
+    assert!(rt; takes(&mut table, 5..105));
+    assert!(rt; (table.len(), has(&table, 104)) == (105, Some(104)));
     assert!(rt; table.reserve(usize::MAX).is_err());
 }

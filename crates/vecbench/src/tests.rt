@@ -1,65 +1,55 @@
 //! Which lines are tasks.
 use crate::case::{Call, Case, Size};
 use crate::lines::{Mode, Task, task_of};
-use std::test::Fail;
 
 #[test]
-fn a_line_is_a_task_or_nothing(rt: HostRuntime) -> Result<(), Fail> {
+fn a_line_is_a_task_or_nothing(rt: HostRuntime) {
     let (case, count) = (Case::Sized(Call::Push, Size::Four), 10);
-    let timed = |repeat| Some(Task {
-        mode: Mode::Time(repeat),
-        case,
-        count,
-    });
-    assert_eq!(rt; task_of("push 10"), timed(1));
-    assert_eq!(rt; task_of("push 10 3"), timed(3));
-    assert_eq!(rt;
-        task_of("check push 10"),
-        Some(Task {
-            mode: Mode::Check,
-            case,
-            count
-        })
-    );
-    assert_eq!(rt;
-        task_of("setup push 10"),
-        Some(Task {
-            mode: Mode::Setup,
-            case,
-            count
-        })
-    );
-    assert_eq!(rt; task_of("push"), None);
-    assert_eq!(rt; task_of("push 0"), None);
-    assert_eq!(rt; task_of("push 10 0"), None);
-    assert_eq!(rt; task_of("push 10 3 1"), None);
-    assert_eq!(rt; task_of("check push 10 3"), None);
-    assert_eq!(rt; task_of("shove 10"), None);
-    assert_eq!(rt; task_of("push 4294967296"), None);
-    Ok(())
+    for (line, mode) in [
+        ("push 10", Mode::Time(1)),
+        ("push 10 3", Mode::Time(3)),
+        ("check push 10", Mode::Check),
+        ("setup push 10", Mode::Setup),
+    ] {
+        assert!(rt; task_of(line) == Some(Task { mode, case, count }), "{line}");
+    }
+    for line in [
+        "push",
+        "push 0",
+        "push 10 0",
+        "push 10 3 1",
+        "check push 10 3",
+        "shove 10",
+        "push 4294967296",
+        "check push_pop_u8 5",
+        "check push_ 5",
+    ] {
+        assert!(rt; task_of(line) == None, "{line}");
+    }
 }
 
 #[test]
-fn a_name_may_have_a_size(rt: HostRuntime) -> Result<(), Fail> {
-    let task = |case| Some(Task {
-        mode: Mode::Check,
-        case,
-        count: 5,
-    });
-    assert_eq!(rt;
-        task_of("check insert_pop_u8 5"),
-        task(Case::Sized(Call::InsertPop, Size::One))
-    );
-    assert_eq!(rt;
-        task_of("check remove_push_24 5"),
-        task(Case::Sized(Call::RemovePush, Size::TwentyFour))
-    );
-    assert_eq!(rt;
-        task_of("check clone_sizeless 5"),
-        task(Case::Sized(Call::Clone, Size::Zero))
-    );
-    assert_eq!(rt; task_of("check splice_front 5"), task(Case::SpliceFront));
-    assert_eq!(rt; task_of("check push_pop_u8 5"), None);
-    assert_eq!(rt; task_of("check push_ 5"), None);
-    Ok(())
+fn a_name_may_have_a_size(rt: HostRuntime) {
+    for (line, case) in [
+        (
+            "check insert_pop_u8 5",
+            Case::Sized(Call::InsertPop, Size::One),
+        ),
+        (
+            "check remove_push_24 5",
+            Case::Sized(Call::RemovePush, Size::TwentyFour),
+        ),
+        (
+            "check clone_sizeless 5",
+            Case::Sized(Call::Clone, Size::Zero),
+        ),
+        ("check splice_front 5", Case::SpliceFront),
+    ] {
+        let task = Task {
+            mode: Mode::Check,
+            case,
+            count: 5,
+        };
+        assert!(rt; task_of(line) == Some(task), "{line}");
+    }
 }

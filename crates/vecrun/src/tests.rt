@@ -1,4 +1,5 @@
 use crate::script::script;
+use std::alloc::Global;
 use std::io;
 use std::io::{ErrorKind, Read, Write};
 use std::test::Fail;
@@ -145,24 +146,37 @@ const BAD_SCRIPTS: [(&[u8], u32); 35] = [
     (b"push1\n", 1),
 ];
 
+// What a script tells of faults, and its status.
+fn told_of<R: Read, W: Write>(alloc: Global, input: &mut R, output: &mut W) -> (Vec<u8>, u8) {
+    let mut told = Vec::new(alloc);
+    let status = script(alloc, input, output, &mut told);
+    (told, status)
+}
+
+// Whether a script prints this, tells this of faults, and has this status.
+fn answers(alloc: Global, mut input: &[u8], output: &[u8], faults: &[u8], status: u8) -> bool {
+    let mut written = Vec::new(alloc);
+    let (told, code) = told_of(alloc, &mut input, &mut written);
+    written.as_slice() == output && told.as_slice() == faults && code == status
+}
+
 #[test]
 fn answers_good_scripts(rt: HostRuntime) {
-    for (mut input, output) in GOOD_SCRIPTS {
-        let (mut written, mut told) = (Vec::new(rt.alloc()), Vec::new(rt.alloc()));
-        let status = script(rt.alloc(), &mut input, &mut written, &mut told);
-        assert_eq!(rt; (text(&written), text(&told), status), (output, "", 0));
+    for (input, output) in GOOD_SCRIPTS {
+        assert!(rt;
+            answers(rt.alloc(), input, output.as_bytes(), b"", 0),
+            "{output}"
+        );
     }
 }
 
 #[test]
 fn names_the_first_bad_line(rt: HostRuntime) -> Result<(), Fail> {
-    for (mut input, number) in BAD_SCRIPTS {
-        let (mut written, mut told) = (Vec::new(rt.alloc()), Vec::new(rt.alloc()));
-        let status = script(rt.alloc(), &mut input, &mut written, &mut told);
+    for (input, number) in BAD_SCRIPTS {
         let fault = format!(in rt.alloc(); "bad line {number}\n")?;
-        assert_eq!(rt;
-            (text(&written), text(&told), status),
-            ("", fault.as_str(), 1)
+        assert!(rt;
+            answers(rt.alloc(), input, b"", fault.as_bytes(), 1),
+            "{number}"
         );
     }
     Ok(())
@@ -251,11 +265,9 @@ fn tells_a_failed_read(rt: HostRuntime) {
             calls: 3,
             kind,
         };
-        let (mut written, mut told) = (Vec::new(rt.alloc()), Vec::new(rt.alloc()));
-        let answer = script(rt.alloc(), &mut input, &mut written, &mut told);
-        assert_eq!(rt; text(&told), faults);
-        assert_eq!(rt; text(&written), output);
-        assert_eq!(rt; answer, status);
+        let mut written = Vec::new(rt.alloc());
+        let (told, answer) = told_of(rt.alloc(), &mut input, &mut written);
+        assert!(rt; (text(&told), text(&written), answer) == (faults, output, status));
     }
 }
 
@@ -279,13 +291,12 @@ fn tells_a_failed_write(rt: HostRuntime) {
         };
         let (mut input, mut told) = (SCRIPT, Vec::new(rt.alloc()));
         let answer = script(rt.alloc(), &mut input, &mut output, &mut told);
-        assert_eq!(rt;
-            text(&told),
-            "input or output failed\n",
+        assert!(rt;
+            text(&told) == "input or output failed\n",
             "after {calls} calls"
         );
         assert!(rt; ANSWER.starts_with(text(&output.inner)));
-        assert_eq!(rt; answer, 3);
+        assert!(rt; answer == 3);
     }
 }
 
@@ -298,10 +309,8 @@ fn writes_in_parts(rt: HostRuntime) {
         calls: 7,
         kind: ErrorKind::Interrupted,
     };
-    let (mut input, mut told) = (SCRIPT, Vec::new(rt.alloc()));
-    assert_eq!(rt; script(rt.alloc(), &mut input, &mut output, &mut told), 0);
-    assert_eq!(rt; text(&output.inner), ANSWER);
-    assert!(rt; told.is_empty());
+    let (told, answer) = told_of(rt.alloc(), &mut SCRIPT, &mut output);
+    assert!(rt; (text(&told), text(&output.inner), answer) == ("", ANSWER, 0));
 }
 
 // The answer takes several writes.
@@ -321,11 +330,8 @@ fn fails_in_a_long_answer(rt: HostRuntime) -> Result<(), Fail> {
             calls,
             kind: ErrorKind::Other,
         };
-        let (mut input, mut told) = (pops.as_slice(), Vec::new(rt.alloc()));
-        assert_eq!(rt;
-            script(rt.alloc(), &mut input, &mut output, &mut told),
-            status
-        );
+        let (_told, code) = told_of(rt.alloc(), &mut pops.as_slice(), &mut output);
+        assert!(rt; code == status, "after {calls} calls");
         assert!(rt; answer.starts_with(&output.inner));
         assert!(rt; status == 3 || answer == output.inner);
     }
@@ -343,11 +349,7 @@ fn runs_a_long_script(rt: HostRuntime) -> Result<(), Fail> {
         answer.extend_from_slice(b"done\n")?;
     }
     answer.extend_from_slice(b"main len=0 cap=4:\nside len=1 cap=1: 8\n")?;
-    let (mut written, mut told) = (Vec::new(rt.alloc()), Vec::new(rt.alloc()));
-    let mut input = lines.as_slice();
-    let status = script(rt.alloc(), &mut input, &mut written, &mut told);
-    assert_eq!(rt; (text(&told), status), ("", 0));
-    assert!(rt; written == answer);
+    assert!(rt; answers(rt.alloc(), lines.as_slice(), answer.as_slice(), b"", 0));
     Ok(())
 }
 
@@ -358,13 +360,7 @@ fn names_a_bad_line_of_a_late_piece(rt: HostRuntime) -> Result<(), Fail> {
         lines.extend_from_slice(b"push 7\n")?;
     }
     lines.extend_from_slice(b"pop 7\npush\n")?;
-    let (mut written, mut told) = (Vec::new(rt.alloc()), Vec::new(rt.alloc()));
-    let mut input = lines.as_slice();
-    let status = script(rt.alloc(), &mut input, &mut written, &mut told);
-    assert_eq!(rt;
-        (text(&written), text(&told), status),
-        ("", "bad line 2001\n", 1)
-    );
+    assert!(rt; answers(rt.alloc(), lines.as_slice(), b"", b"bad line 2001\n", 1));
     Ok(())
 }
 
@@ -376,18 +372,12 @@ fn counts_the_lines_of_a_long_sparing_script(rt: HostRuntime) -> Result<(), Fail
     for _ in 0..2000 {
         lines.extend_from_slice(b"push 7\n")?;
     }
-    let (mut written, mut told) = (Vec::new(rt.alloc()), Vec::new(rt.alloc()));
-    let mut input = lines.as_slice();
-    let status = script(rt.alloc(), &mut input, &mut written, &mut told);
-    assert_eq!(rt; (text(&told), status), ("", 0));
+    let mut written = Vec::new(rt.alloc());
+    let (told, status) = told_of(rt.alloc(), &mut lines.as_slice(), &mut written);
+    assert!(rt; (text(&told), status) == ("", 0));
     assert!(rt; text(&written).contains("\nmain len=2000 cap=2775: 7 7"));
     lines.extend_from_slice(b"sparing\n")?;
-    let (mut written, mut input) = (Vec::new(rt.alloc()), lines.as_slice());
-    let status = script(rt.alloc(), &mut input, &mut written, &mut told);
-    assert_eq!(rt;
-        (text(&written), text(&told), status),
-        ("", "bad line 2003\n", 1)
-    );
+    assert!(rt; answers(rt.alloc(), lines.as_slice(), b"", b"bad line 2003\n", 1));
     Ok(())
 }
 
@@ -405,9 +395,9 @@ fn tells_refused_memory(rt: HostRuntime) {
     let (output, faults) = (text(&written), text(&told));
     if status == 0 {
         assert!(rt; output.ends_with("\nside len=0 cap=0:\n"));
-        assert_eq!(rt; faults, "");
+        assert!(rt; faults == "");
     } else {
-        assert_eq!(rt; (status, output, faults), (2, "", "out of memory\n"));
+        assert!(rt; (status, output, faults) == (2, "", "out of memory\n"));
     }
 }
 
@@ -420,6 +410,6 @@ fn keeps_the_status_without_a_text(rt: HostRuntime) {
         calls: 0,
         kind: ErrorKind::Other,
     };
-    assert_eq!(rt; script(rt.alloc(), &mut input, &mut written, &mut told), 1);
+    assert!(rt; script(rt.alloc(), &mut input, &mut written, &mut told) == 1);
     assert!(rt; written.is_empty());
 }
