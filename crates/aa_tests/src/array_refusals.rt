@@ -23,23 +23,20 @@ impl Drop for Counted<'_> {
 fn the_macro_makes_vectors(rt: HostRuntime) -> Result<(), Fail> {
     let heap = Faulty::new(rt.alloc());
     let none: Vec<u32, &Faulty<Global>> = vec_of![in &heap];
-    assert_eq!(rt; none.capacity(), 0);
-    assert_eq!(rt; heap.requests(), 0);
+    assert!(rt; none.capacity() == 0);
+    assert!(rt; heap.requests() == 0);
     let sevens: Vec<u32, &Faulty<Global>> = vec_of![in &heap; 7; 3]?;
-    assert_eq!(rt; sevens.as_slice(), [7, 7, 7].as_slice());
-    assert_eq!(rt; sevens.capacity(), 3);
+    assert!(rt; sevens.as_slice() == [7, 7, 7].as_slice());
+    assert!(rt; sevens.capacity() == 3);
     let two: Vec<u32, &Faulty<Global>> = vec_of![in &heap; 1, 2]?;
-    assert_eq!(rt; two.as_slice(), [1, 2].as_slice());
-    assert_eq!(rt; two.capacity(), 2);
+    assert!(rt; two.as_slice() == [1, 2].as_slice());
+    assert!(rt; two.capacity() == 2);
     heap.refuse(0, 1);
     let Err(refusal) = vec_of![in &heap; 8, 9] else {
         return Ok(assert!(rt; false));
     };
-    assert_eq!(rt; refusal.source, [8, 9]);
-    assert_eq!(rt;
-        refusal.error,
-        TryReserveErrorKind::AllocError { capacity: 2 }
-    );
+    assert!(rt; refusal.source == [8, 9]);
+    assert!(rt; refusal.error == TryReserveErrorKind::AllocError { capacity: 2 });
     Ok(())
 }
 
@@ -51,19 +48,16 @@ fn a_refused_flattening_hands_the_vector_back(rt: HostRuntime) -> Result<(), Fai
     let back = match v.into_flattened() {
         Ok(_) => return Ok(assert!(rt; false)),
         Err(refusal) => {
-            assert_eq!(rt;
-                refusal.error,
-                TryReserveErrorKind::AllocError { capacity: 4 }
-            );
+            assert!(rt; refusal.error == TryReserveErrorKind::AllocError { capacity: 4 });
             refusal.source
         }
     };
-    assert_eq!(rt; back.as_slice(), [[1, 2], [3, 4]].as_slice());
-    assert_eq!(rt; back.capacity(), 2);
+    assert!(rt; back.as_slice() == [[1, 2], [3, 4]].as_slice());
+    assert!(rt; back.capacity() == 2);
     let flat = back.into_flattened().map_err(TryReserveError::from)?;
-    assert_eq!(rt; flat.as_slice(), [1, 2, 3, 4].as_slice());
-    assert_eq!(rt; flat.capacity(), 4);
-    assert_eq!(rt; heap.outstanding(), 16);
+    assert!(rt; flat.as_slice() == [1, 2, 3, 4].as_slice());
+    assert!(rt; flat.capacity() == 4);
+    assert!(rt; heap.outstanding() == 16);
     Ok(())
 }
 
@@ -72,12 +66,12 @@ fn what_has_no_bytes_is_flattened_without_memory(rt: HostRuntime) -> Result<(), 
     let none: [u32; 0] = [];
     let v: Vec<[u32; 0], Refusing> = vec_of![in Refusing; none, none, none]?;
     let flat = v.into_flattened().map_err(TryReserveError::from)?;
-    assert_eq!(rt; flat.len(), 0);
-    assert_eq!(rt; flat.capacity(), 0);
+    assert!(rt; flat.len() == 0);
+    assert!(rt; flat.capacity() == 0);
     let units: Vec<[(); 2], Refusing> = vec_of![in Refusing; [(), ()], [(), ()], [(), ()]]?;
     let flat = units.into_flattened().map_err(TryReserveError::from)?;
-    assert_eq!(rt; flat.len(), 6);
-    assert_eq!(rt; flat.capacity(), usize::MAX);
+    assert!(rt; flat.len() == 6);
+    assert!(rt; flat.capacity() == usize::MAX);
     Ok(())
 }
 
@@ -88,17 +82,14 @@ fn a_refused_clone_of_the_allocator_hands_the_vector_back(rt: HostRuntime) -> Re
     match v.into_flattened() {
         Ok(_) => assert!(rt; false),
         Err(refusal) => {
-            assert_eq!(rt;
-                refusal.error,
-                TryReserveErrorKind::AllocError { capacity: 4 }
-            );
+            assert!(rt; refusal.error == TryReserveErrorKind::AllocError { capacity: 4 });
             refusal.source.allocator().refuse_clones(false);
             let flat = refusal
                 .source
                 .into_flattened()
                 .map_err(TryReserveError::from)?;
-            assert_eq!(rt; flat.as_slice(), [1, 2, 3, 4].as_slice());
-            assert_eq!(rt; flat.allocator().requests(), 1);
+            assert!(rt; flat.as_slice() == [1, 2, 3, 4].as_slice());
+            assert!(rt; flat.allocator().requests() == 1);
         }
     }
     Ok(())
@@ -112,14 +103,14 @@ fn a_vector_of_another_length_is_handed_back(rt: HostRuntime) -> Result<(), Fail
     let Err(back) = <[u32; 2]>::try_from(v) else {
         return Ok(assert!(rt; false));
     };
-    assert_eq!(rt; back.as_slice(), [1, 2, 3].as_slice());
-    assert_eq!(rt; back.capacity(), 3);
+    assert!(rt; back.as_slice() == [1, 2, 3].as_slice());
+    assert!(rt; back.capacity() == 3);
     let Ok(array) = <[u32; 3]>::try_from(back) else {
         return Ok(assert!(rt; false));
     };
-    assert_eq!(rt; array, [1, 2, 3]);
-    assert_eq!(rt; heap.outstanding(), 0);
-    assert_eq!(rt; heap.requests(), 1);
+    assert!(rt; array == [1, 2, 3]);
+    assert!(rt; heap.outstanding() == 0);
+    assert!(rt; heap.requests() == 1);
     Ok(())
 }
 
@@ -133,14 +124,14 @@ fn a_refused_array_is_handed_back(rt: HostRuntime) {
     let Err(refusal) = Vec::from_array_in(array, &heap) else {
         return assert!(rt; false);
     };
-    assert_eq!(rt; refusal.error, refused);
+    assert!(rt; refusal.error == refused);
     let Err(refusal) = BoxedSlice::from_array_in(refusal.source, &heap) else {
         return assert!(rt; false);
     };
-    assert_eq!(rt; refusal.error, refused);
-    assert_eq!(rt; drops.get(), 0);
+    assert!(rt; refusal.error == refused);
+    assert!(rt; drops.get() == 0);
     drop(refusal.source);
-    assert_eq!(rt; (drops.get(), heap.outstanding()), (3, 0));
+    assert!(rt; (drops.get(), heap.outstanding()) == (3, 0));
 }
 
 // Takes three counted elements from an array to a boxed slice, an array in a box, a boxed slice, an array in a box and a vector, while
@@ -172,9 +163,9 @@ fn each_request_of_conversions_is_refused_in_turn(rt: HostRuntime) {
     let drops = Cell::new(0);
     for (refused, done) in [(0, 0), (1, 1), (2, 2), (3, 3), (4, 4), (5, 5)] {
         drops.set(0);
-        assert_eq!(rt; carried(&heap, &drops, refused), done);
-        assert_eq!(rt; drops.get(), 3);
-        assert_eq!(rt; heap.outstanding(), 0);
+        assert!(rt; carried(&heap, &drops, refused) == done);
+        assert!(rt; drops.get() == 3);
+        assert!(rt; heap.outstanding() == 0);
     }
 }
 
@@ -186,7 +177,7 @@ fn refused_boxes_are_handed_back(rt: HostRuntime) -> Result<(), Fail> {
     let Err(list) = list.try_into_array::<3>() else {
         return Ok(assert!(rt; false));
     };
-    assert_eq!(rt; list.as_slice(), [1, 2, 3].as_slice());
+    assert!(rt; list.as_slice() == [1, 2, 3].as_slice());
     let Ok(array) = list.try_into_array::<3>() else {
         return Ok(assert!(rt; false));
     };
@@ -194,16 +185,13 @@ fn refused_boxes_are_handed_back(rt: HostRuntime) -> Result<(), Fail> {
     let Err(refusal) = Box::slice(array) else {
         return Ok(assert!(rt; false));
     };
-    assert_eq!(rt;
-        refusal.error,
-        TryReserveErrorKind::AllocError { capacity: 3 }
-    );
+    assert!(rt; refusal.error == TryReserveErrorKind::AllocError { capacity: 3 });
     let Err(refusal) = refusal.source.into_vec() else {
         return Ok(assert!(rt; false));
     };
     let v = refusal.source.into_vec()?;
-    assert_eq!(rt; v.as_slice(), [1, 2, 3].as_slice());
-    assert_eq!(rt; v.capacity(), 3);
-    assert_eq!(rt; heap.outstanding(), 12);
+    assert!(rt; v.as_slice() == [1, 2, 3].as_slice());
+    assert!(rt; v.capacity() == 3);
+    assert!(rt; heap.outstanding() == 12);
     Ok(())
 }

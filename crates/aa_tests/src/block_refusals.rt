@@ -19,12 +19,12 @@ fn a_refused_exact_reserve_leaves_the_block(rt: HostRuntime) -> Result<(), Fail>
     let mut block: Block<'_> = RawVec::new_growing_in(Growth::Sparing, &heap);
     heap.refuse(0, 1);
     let refused = TryReserveErrorKind::AllocError { capacity: 5 };
-    assert_eq!(rt; block.try_reserve_exact(0, 5), Err(refused.into()));
-    assert_eq!(rt; block.capacity(), 0);
+    assert!(rt; block.try_reserve_exact(0, 5) == Err(refused.into()));
+    assert!(rt; block.capacity() == 0);
     block.reserve_exact(0, 5)?;
-    assert_eq!(rt; block.capacity(), 5);
-    assert_eq!(rt; block.growth(), Growth::Sparing);
-    assert_eq!(rt; heap.requests(), 2);
+    assert!(rt; block.capacity() == 5);
+    assert!(rt; block.growth() == Growth::Sparing);
+    assert!(rt; heap.requests() == 2);
     Ok(())
 }
 
@@ -51,10 +51,10 @@ fn each_reserve_of_a_block_is_refused(rt: HostRuntime) -> Result<(), Fail> {
                 Reserve::Exact => block.reserve_exact(0, 3),
                 Reserve::ForPush => block.reserve_for_push(0),
             };
-            assert_eq!(rt; end_of(ended), end);
-            assert_eq!(rt; block.capacity(), left);
+            assert!(rt; end_of(ended) == end);
+            assert!(rt; block.capacity() == left);
         }
-        assert_eq!(rt; heap.requests(), 2);
+        assert!(rt; heap.requests() == 2);
     }
     Ok(())
 }
@@ -67,18 +67,18 @@ fn a_refused_shrink_leaves_the_block(rt: HostRuntime) -> Result<(), Fail> {
         block.put(0, 10);
         heap.refuse(0, u64::MAX);
         let refused = TryReserveErrorKind::AllocError { capacity: 2 };
-        assert_eq!(rt; block.shrink_to_fit(1, 2), Err(refused.into()));
-        assert_eq!(rt; block.capacity(), 4);
-        assert_eq!(rt; *block.place(0), 10);
-        assert_eq!(rt; block.shrink_to_fit(1, 4), Ok(()));
-        assert_eq!(rt; heap.requests(), 2);
-        assert_eq!(rt; block.take(0), 10);
-        assert_eq!(rt; block.shrink_to_fit(0, 0), Ok(()));
-        assert_eq!(rt; block.capacity(), 0);
-        assert_eq!(rt; heap.requests(), 2);
-        assert_eq!(rt; heap.outstanding(), 0);
+        assert!(rt; block.shrink_to_fit(1, 2) == Err(refused.into()));
+        assert!(rt; block.capacity() == 4);
+        assert!(rt; *block.place(0) == 10);
+        assert!(rt; block.shrink_to_fit(1, 4) == Ok(()));
+        assert!(rt; heap.requests() == 2);
+        assert!(rt; block.take(0) == 10);
+        assert!(rt; block.shrink_to_fit(0, 0) == Ok(()));
+        assert!(rt; block.capacity() == 0);
+        assert!(rt; heap.requests() == 2);
+        assert!(rt; heap.outstanding() == 0);
     }
-    assert_eq!(rt; heap.frees(), 1);
+    assert!(rt; heap.frees() == 1);
     Ok(())
 }
 
@@ -125,17 +125,17 @@ fn every_byte_comes_back(rt: HostRuntime) -> Result<(), Fail> {
         let mut second: Block<'_> = RawVec::with_capacity_in(3, &heap)?;
         two_put(&mut first);
         moved_over(&mut first, 0, 2, &mut second, 1);
-        assert_eq!(rt; second.slice(1, 2), [1, 2].as_slice());
-        assert_eq!(rt; heap.outstanding(), 20);
+        assert!(rt; second.slice(1, 2) == [1, 2].as_slice());
+        assert!(rt; heap.outstanding() == 20);
         first.try_reserve(0, 3)?;
-        assert_eq!(rt; heap.outstanding(), 28);
+        assert!(rt; heap.outstanding() == 28);
         lowered_and_shrunk(&mut second)?;
-        assert_eq!(rt; heap.outstanding(), 24);
+        assert!(rt; heap.outstanding() == 24);
         let mut items = IntoIter::from_block(second, 2);
-        assert_eq!(rt; items.next(), Some(1));
+        assert!(rt; items.next() == Some(1));
     }
-    assert_eq!(rt; heap.outstanding(), 0);
-    assert_eq!(rt; heap.frees(), heap.requests());
+    assert!(rt; heap.outstanding() == 0);
+    assert!(rt; heap.frees() == heap.requests());
     Ok(())
 }
 
@@ -157,12 +157,12 @@ fn elements_without_size_ask_for_nothing(rt: HostRuntime) -> Result<(), Fail> {
         block.try_reserve(0, 5)?;
         block.try_reserve_exact(0, 5)?;
         block.shrink_to_fit(0, 1)?;
-        assert_eq!(rt; block.capacity(), usize::MAX);
+        assert!(rt; block.capacity() == usize::MAX);
         unit_put(&mut block);
         let mut items = IntoIter::from_block(block, 1);
-        assert_eq!(rt; items.next_back(), Some(()));
+        assert!(rt; items.next_back() == Some(()));
     }
-    assert_eq!(rt; heap.requests(), 0);
-    assert_eq!(rt; heap.frees(), 0);
+    assert!(rt; heap.requests() == 0);
+    assert!(rt; heap.frees() == 0);
     Ok(())
 }

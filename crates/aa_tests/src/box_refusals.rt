@@ -29,18 +29,15 @@ fn a_refused_box_drops_its_value(rt: HostRuntime) -> Result<(), Fail> {
     heap.refuse(0, u64::MAX);
     match Box::try_new_in(Counted { drops: &drops }, &heap) {
         Ok(_) => assert!(rt; false),
-        Err(error) => assert_eq!(rt;
-            error.to_string(rt.alloc())?.as_str(),
-            "memory allocation failed"
-        ),
+        Err(error) => assert!(rt; error.to_string(rt.alloc())?.as_str() == "memory allocation failed"),
     }
-    assert_eq!(rt; drops.get(), 1);
+    assert!(rt; drops.get() == 1);
     assert!(rt; Box::new_in(Counted { drops: &drops }, &heap).is_err());
-    assert_eq!(rt; drops.get(), 2);
+    assert!(rt; drops.get() == 2);
     assert!(rt; Box::<u32, &Faulty<Global>>::try_default(&heap).is_err());
     assert!(rt; Box::<u32, &Faulty<Global>>::new_uninit_in(&heap).is_err());
     assert!(rt; Box::<u32, &Faulty<Global>>::try_new_uninit_in(&heap).is_err());
-    assert_eq!(rt; heap.outstanding(), 0);
+    assert!(rt; heap.outstanding() == 0);
     Ok(())
 }
 
@@ -48,17 +45,17 @@ fn a_refused_box_drops_its_value(rt: HostRuntime) -> Result<(), Fail> {
 fn what_a_box_took_comes_back(rt: HostRuntime) -> Result<(), Fail> {
     let heap = Faulty::new(rt.alloc());
     let room: UninitBox<u64, &Faulty<Global>> = Box::new_uninit_in(&heap)?;
-    assert_eq!(rt; heap.outstanding(), 8);
+    assert!(rt; heap.outstanding() == 8);
     drop(room);
-    assert_eq!(rt; heap.outstanding(), 0);
+    assert!(rt; heap.outstanding() == 0);
     let b = Box::new_in(7u64, &heap)?;
-    assert_eq!(rt; Box::into_inner(b), 7);
-    assert_eq!(rt; heap.frees(), 2);
+    assert!(rt; Box::into_inner(b) == 7);
+    assert!(rt; heap.frees() == 2);
     let list = Box::into_boxed_slice(Box::new_in(7u64, &heap)?);
-    assert_eq!(rt; heap.outstanding(), 8);
+    assert!(rt; heap.outstanding() == 8);
     drop(list);
-    assert_eq!(rt; heap.outstanding(), 0);
-    assert_eq!(rt; heap.requests(), 3);
+    assert!(rt; heap.outstanding() == 0);
+    assert!(rt; heap.requests() == 3);
     Ok(())
 }
 
@@ -70,14 +67,14 @@ fn what_has_no_size_needs_no_memory(rt: HostRuntime) -> Result<(), Fail> {
     drop(b.clone()?);
     Box::into_inner(b);
     let units = BoxedSlice::from_slice(&heap, &[(), ()])?;
-    assert_eq!(rt; units.into_vec().capacity(), usize::MAX);
+    assert!(rt; units.into_vec().capacity() == usize::MAX);
     let none: BoxedSlice<u32, Refusing> = BoxedSlice::default();
-    assert_eq!(rt; none.into_vec().capacity(), 0);
+    assert!(rt; none.into_vec().capacity() == 0);
     let empty: BoxedText<Refusing> = BoxedText::default();
-    assert_eq!(rt; empty.as_str(), "");
-    assert_eq!(rt; BoxedText::from_text(&heap, "")?.as_str(), "");
-    assert_eq!(rt; heap.requests(), 0);
-    assert_eq!(rt; heap.frees(), 0);
+    assert!(rt; empty.as_str() == "");
+    assert!(rt; BoxedText::from_text(&heap, "")?.as_str() == "");
+    assert!(rt; heap.requests() == 0);
+    assert!(rt; heap.frees() == 0);
     Ok(())
 }
 
@@ -103,23 +100,20 @@ fn each_request_of_a_clone_is_refused_in_turn(rt: HostRuntime) -> Result<(), Fai
     for refused in 0..2 {
         heap.refuse(refused, 1);
         assert!(rt; b.clone().is_err());
-        assert_eq!(rt; heap.outstanding(), before);
+        assert!(rt; heap.outstanding() == before);
     }
     for refused in 0..4 {
         heap.refuse(refused, 1);
         match list.clone() {
             Ok(_) => assert!(rt; false),
-            Err(error) => assert_eq!(rt;
-                error.kind(),
-                TryReserveErrorKind::AllocError { capacity: 3 }
-            ),
+            Err(error) => assert!(rt; error.kind() == TryReserveErrorKind::AllocError { capacity: 3 }),
         }
-        assert_eq!(rt; heap.outstanding(), before);
+        assert!(rt; heap.outstanding() == before);
     }
     heap.refuse(0, 0);
-    assert_eq!(rt; *Box::into_inner(b.clone()?), 5);
-    assert_eq!(rt; list.clone()?.as_slice().len(), 3);
-    assert_eq!(rt; heap.outstanding(), before);
+    assert!(rt; *Box::into_inner(b.clone()?) == 5);
+    assert!(rt; list.clone()?.as_slice().len() == 3);
+    assert!(rt; heap.outstanding() == before);
     Ok(())
 }
 
@@ -138,26 +132,17 @@ fn each_request_of_a_slice_is_refused_in_turn(rt: HostRuntime) -> Result<(), Fai
     for (refused, capacity) in [(0, 4), (1, 8), (2, 16), (3, 9)] {
         match collected(&heap, refused) {
             Ok(_) => assert!(rt; false),
-            Err(error) => assert_eq!(rt;
-                error.kind(),
-                TryReserveErrorKind::AllocError { capacity }
-            ),
+            Err(error) => assert!(rt; error.kind() == TryReserveErrorKind::AllocError { capacity }),
         }
-        assert_eq!(rt; heap.outstanding(), 0);
+        assert!(rt; heap.outstanding() == 0);
     }
     let list = collected(&heap, 4)?;
-    assert_eq!(rt; list.as_slice(), [0, 1, 2, 3, 4, 5, 6, 7, 8].as_slice());
-    assert_eq!(rt; heap.outstanding(), 36);
+    assert!(rt; list.as_slice() == [0, 1, 2, 3, 4, 5, 6, 7, 8].as_slice());
+    assert!(rt; heap.outstanding() == 36);
     heap.refuse(0, u64::MAX);
     let refused = TryReserveErrorKind::AllocError { capacity: 2 };
-    assert_eq!(rt;
-        BoxedSlice::from_slice(&heap, &[1, 2]).err(),
-        Some(refused.into())
-    );
-    assert_eq!(rt;
-        BoxedText::from_text(&heap, "ab").err(),
-        Some(refused.into())
-    );
+    assert!(rt; BoxedSlice::from_slice(&heap, &[1, 2]).err() == Some(refused.into()));
+    assert!(rt; BoxedText::from_text(&heap, "ab").err() == Some(refused.into()));
     Ok(())
 }
 
@@ -177,23 +162,20 @@ fn a_refused_boxing_hands_the_vector_back(rt: HostRuntime) -> Result<(), Fail> {
     let back = match v.into_boxed_slice() {
         Ok(_) => return Ok(assert!(rt; false)),
         Err(refusal) => {
-            assert_eq!(rt;
-                refusal.error,
-                TryReserveErrorKind::AllocError { capacity: 3 }
-            );
+            assert!(rt; refusal.error == TryReserveErrorKind::AllocError { capacity: 3 });
             refusal.source
         }
     };
-    assert_eq!(rt; back.as_slice(), [1, 2, 3].as_slice());
-    assert_eq!(rt; back.capacity(), 4);
+    assert!(rt; back.as_slice() == [1, 2, 3].as_slice());
+    assert!(rt; back.capacity() == 4);
     let list = boxed(back)?;
-    assert_eq!(rt; heap.outstanding(), 12);
+    assert!(rt; heap.outstanding() == 12);
     heap.refuse(0, u64::MAX);
     let again = list.into_vec();
-    assert_eq!(rt; again.as_slice(), [1, 2, 3].as_slice());
-    assert_eq!(rt; again.capacity(), 3);
+    assert!(rt; again.as_slice() == [1, 2, 3].as_slice());
+    assert!(rt; again.capacity() == 3);
     assert!(rt; again.into_boxed_slice().is_ok());
-    assert_eq!(rt; heap.outstanding(), 0);
+    assert!(rt; heap.outstanding() == 0);
     Ok(())
 }
 
@@ -210,14 +192,11 @@ fn a_refused_text_leaves_those_before_it(rt: HostRuntime) -> Result<(), Fail> {
     heap.refuse(0, 1);
     match append_texts(&mut all, texts.into_iter()) {
         Ok(()) => assert!(rt; false),
-        Err(error) => assert_eq!(rt;
-            error.kind(),
-            TryReserveErrorKind::AllocError { capacity: 42 }
-        ),
+        Err(error) => assert!(rt; error.kind() == TryReserveErrorKind::AllocError { capacity: 42 }),
     }
-    assert_eq!(rt; all.as_str(), "ab");
+    assert!(rt; all.as_str() == "ab");
     let more = [BoxedText::from_text(rt.alloc(), long.as_str())?];
     append_texts(&mut all, more.into_iter())?;
-    assert_eq!(rt; all.len(), 42);
+    assert!(rt; all.len() == 42);
     Ok(())
 }

@@ -117,10 +117,10 @@ fn each_request_of_a_change_is_refused_in_turn(rt: HostRuntime) -> Result<(), Fa
                 (later, grown)
             };
             let left = (End::NoMemory(number), 123, capacity, refused + 1);
-            assert_eq!(rt; seen(rt.alloc(), call, room, refused)?, (left, true));
+            assert!(rt; seen(rt.alloc(), call, room, refused)? == (left, true));
         }
         let left = (End::Done, done, grown, requests);
-        assert_eq!(rt; seen(rt.alloc(), call, room, requests)?, (left, true));
+        assert!(rt; seen(rt.alloc(), call, room, requests)? == (left, true));
     }
     Ok(())
 }
@@ -139,7 +139,7 @@ fn each_request_of_many_items_leaves_a_beginning(rt: HostRuntime) -> Result<(), 
         (Call::AssignFrom, 3, 2, (End::NoMemory(3), 45, 3, 3)),
         (Call::AssignFrom, 3, 3, (End::Done, 456, 3, 3)),
     ] {
-        assert_eq!(rt; seen(rt.alloc(), call, room, refused)?, (left, true));
+        assert!(rt; seen(rt.alloc(), call, room, refused)? == (left, true));
     }
     Ok(())
 }
@@ -159,8 +159,8 @@ fn each_request_of_an_assignment_leaves_a_beginning(rt: HostRuntime) -> Result<(
         heap.refuse(0, 0);
         let mut v = held(&heap, &[1], 1)?;
         heap.refuse(refused, 1);
-        assert_eq!(rt; end_of(v.assign_from(&source)), end);
-        assert_eq!(rt; (digits(&v), v.capacity()), (left, capacity));
+        assert!(rt; end_of(v.assign_from(&source)) == end);
+        assert!(rt; (digits(&v), v.capacity()) == (left, capacity));
     }
     drop(source);
     assert!(rt; is_given_back(&heap));

@@ -50,25 +50,25 @@ fn end<T: Drop>(ended: Result<T, TryReserveError>) -> End {
 #[test]
 fn a_refused_clone_of_the_allocator_leaves_a_vector(rt: HostRuntime) -> Result<(), Fail> {
     let mut v = uncloned(rt.alloc())?;
-    assert_eq!(rt; end(v.clone()), End::NoMemory(3));
-    assert_eq!(rt; end(v.clone_copied()), End::NoMemory(3));
+    assert!(rt; end(v.clone()) == End::NoMemory(3));
+    assert!(rt; end(v.clone_copied()) == End::NoMemory(3));
     assert!(rt; Clone::clone(&v).is_err());
     assert!(rt; v.len() == 3);
-    assert_eq!(rt; end(v.split_off(1)), End::NoMemory(2));
-    assert_eq!(rt; v.as_slice(), [1, 2, 3].as_slice());
-    assert_eq!(rt; v.capacity(), 3);
-    assert_eq!(rt; v.allocator().requests(), 1);
+    assert!(rt; end(v.split_off(1)) == End::NoMemory(2));
+    assert!(rt; v.as_slice() == [1, 2, 3].as_slice());
+    assert!(rt; v.capacity() == 3);
+    assert!(rt; v.allocator().requests() == 1);
     Ok(())
 }
 
 #[test]
 fn a_refused_clone_of_the_allocator_leaves_a_box(rt: HostRuntime) -> Result<(), Fail> {
     let list = uncloned(rt.alloc())?.into_boxed_slice()?;
-    assert_eq!(rt; end(list.clone()), End::NoMemory(3));
+    assert!(rt; end(list.clone()) == End::NoMemory(3));
     let Err(list) = list.try_into_array::<3>() else {
         return Ok(assert!(rt; false));
     };
-    assert_eq!(rt; list.as_slice(), [1, 2, 3].as_slice());
+    assert!(rt; list.as_slice() == [1, 2, 3].as_slice());
     list.allocator().refuse_clones(false);
     let Ok(array) = list.try_into_array::<3>() else {
         return Ok(assert!(rt; false));
@@ -78,11 +78,11 @@ fn a_refused_clone_of_the_allocator_leaves_a_box(rt: HostRuntime) -> Result<(), 
     let Err(refusal) = Box::slice(array) else {
         return Ok(assert!(rt; false));
     };
-    assert_eq!(rt; end_of(Err(refusal.error.into())), End::NoMemory(3));
+    assert!(rt; end_of(Err(refusal.error.into())) == End::NoMemory(3));
     let Err(refusal) = refusal.source.into_vec() else {
         return Ok(assert!(rt; false));
     };
-    assert_eq!(rt; end_of(Err(refusal.error.into())), End::NoMemory(3));
-    assert_eq!(rt; *refusal.source, [1, 2, 3]);
+    assert!(rt; end_of(Err(refusal.error.into())) == End::NoMemory(3));
+    assert!(rt; *refusal.source == [1, 2, 3]);
     Ok(())
 }

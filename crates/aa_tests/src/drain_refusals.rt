@@ -16,19 +16,19 @@ fn a_range_is_taken_without_memory(rt: HostRuntime) -> Result<(), Fail> {
         heap.refuse(0, u64::MAX);
         assert!(rt; v.len() == 6);
         let mut range = v.drain(1..4);
-        assert_eq!(rt; range.next(), Some(1));
-        assert_eq!(rt; range.next_back(), Some(3));
+        assert!(rt; range.next() == Some(1));
+        assert!(rt; range.next_back() == Some(3));
         range.keep_rest();
-        assert_eq!(rt; v.as_slice(), [0, 2, 4, 5].as_slice());
+        assert!(rt; v.as_slice() == [0, 2, 4, 5].as_slice());
         assert!(rt; v.len() == 4);
         drop(v.drain(1..3));
-        assert_eq!(rt; v.as_slice(), [0, 5].as_slice());
-        assert_eq!(rt; v.capacity(), 6);
+        assert!(rt; v.as_slice() == [0, 5].as_slice());
+        assert!(rt; v.capacity() == 6);
         let mut items = v.into_iter();
-        assert_eq!(rt; items.next_back(), Some(5));
+        assert!(rt; items.next_back() == Some(5));
     }
-    assert_eq!(rt; heap.requests(), 1);
-    assert_eq!(rt; heap.outstanding(), 0);
+    assert!(rt; heap.requests() == 1);
+    assert!(rt; heap.outstanding() == 0);
     Ok(())
 }
 
@@ -45,10 +45,10 @@ fn elements_without_size_need_no_memory_for_ranges(rt: HostRuntime) -> Result<()
     let mut one = Vec::new_in(Refusing);
     one.push(())?;
     v.extend_hinted(Items::new(one, Some(usize::MAX)))?;
-    assert_eq!(rt; v.len(), 2);
-    assert_eq!(rt; rest.len(), 1);
-    assert_eq!(rt; v.capacity(), usize::MAX);
-    assert_eq!(rt; rest.capacity(), usize::MAX);
+    assert!(rt; v.len() == 2);
+    assert!(rt; rest.len() == 1);
+    assert!(rt; v.capacity() == usize::MAX);
+    assert!(rt; rest.capacity() == usize::MAX);
     Ok(())
 }
 
@@ -57,22 +57,19 @@ fn a_clone_of_items_is_refused_with_that_of_the_allocator(rt: HostRuntime) -> Re
     let mut v: Vec<u32, Faulty<Global>> = Vec::new_in(Faulty::new(rt.alloc()));
     v.extend_from_slice(&[1, 2, 3])?;
     let mut items = v.into_iter();
-    assert_eq!(rt; items.next(), Some(1));
+    assert!(rt; items.next() == Some(1));
     items.allocator().refuse_clones(true);
     match items.clone() {
         Ok(_) => assert!(rt; false),
         Err(error) => {
-            assert_eq!(rt;
-                error.kind(),
-                TryReserveErrorKind::AllocError { capacity: 2 }
-            )
+            assert!(rt; error.kind() == TryReserveErrorKind::AllocError { capacity: 2 })
         }
     }
-    assert_eq!(rt; items.as_slice(), [2, 3].as_slice());
+    assert!(rt; items.as_slice() == [2, 3].as_slice());
     items.allocator().refuse_clones(false);
     let copy = items.clone()?;
-    assert_eq!(rt; copy.as_slice(), [2, 3].as_slice());
-    assert_eq!(rt; copy.allocator().requests(), 1);
+    assert!(rt; copy.as_slice() == [2, 3].as_slice());
+    assert!(rt; copy.allocator().requests() == 1);
     Ok(())
 }
 
@@ -101,7 +98,7 @@ fn each_request_of_cloned_items_is_refused_in_turn(rt: HostRuntime) -> Result<()
         (2, (false, true)),
         (3, (true, false)),
     ] {
-        assert_eq!(rt; cloned_with_one_refused(rt.alloc(), refused)?, left);
+        assert!(rt; cloned_with_one_refused(rt.alloc(), refused)? == left);
     }
     Ok(())
 }

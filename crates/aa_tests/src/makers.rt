@@ -100,10 +100,10 @@ fn each_request_of_a_making_is_refused_in_turn(rt: HostRuntime) -> Result<(), Fa
         for refused in 0..requests {
             let number = if refused == 0 { first } else { later };
             let came = (End::NoMemory(number), refused + 1, true);
-            assert_eq!(rt; seen(rt.alloc(), call, refused)?, came);
+            assert!(rt; seen(rt.alloc(), call, refused)? == came);
         }
         let came = (End::Done, requests, true);
-        assert_eq!(rt; seen(rt.alloc(), call, requests)?, came);
+        assert!(rt; seen(rt.alloc(), call, requests)? == came);
     }
     Ok(())
 }

@@ -28,13 +28,13 @@ fn a_refused_append_leaves_both(rt: HostRuntime) -> Result<(), Fail> {
     let mut other = numbers(&heap, &[3], 4)?;
     heap.refuse(0, 1);
     assert!(rt; v.append(&mut other).is_err());
-    assert_eq!(rt; v.as_slice(), [1, 2].as_slice());
-    assert_eq!(rt; v.capacity(), 2);
-    assert_eq!(rt; other.as_slice(), [3].as_slice());
-    assert_eq!(rt; other.capacity(), 4);
+    assert!(rt; v.as_slice() == [1, 2].as_slice());
+    assert!(rt; v.capacity() == 2);
+    assert!(rt; other.as_slice() == [3].as_slice());
+    assert!(rt; other.capacity() == 4);
     v.append(&mut other)?;
-    assert_eq!(rt; v.as_slice(), [1, 2, 3].as_slice());
-    assert_eq!(rt; v.capacity(), 4);
+    assert!(rt; v.as_slice() == [1, 2, 3].as_slice());
+    assert!(rt; v.capacity() == 4);
     Ok(())
 }
 
@@ -46,12 +46,12 @@ fn a_refused_split_leaves_the_vector(rt: HostRuntime) -> Result<(), Fail> {
     assert!(rt; v.split_off(0).is_err());
     assert!(rt; v.len() == 3);
     assert!(rt; v.split_off(1).is_err());
-    assert_eq!(rt; v.as_slice(), [1, 2, 3].as_slice());
-    assert_eq!(rt; v.capacity(), 4);
+    assert!(rt; v.as_slice() == [1, 2, 3].as_slice());
+    assert!(rt; v.capacity() == 4);
     assert!(rt; v.len() == 3);
     let tail = v.split_off(1)?;
-    assert_eq!(rt; tail.as_slice(), [2, 3].as_slice());
-    assert_eq!(rt; heap.outstanding(), 24);
+    assert!(rt; tail.as_slice() == [2, 3].as_slice());
+    assert!(rt; heap.outstanding() == 24);
     Ok(())
 }
 
@@ -62,14 +62,14 @@ fn a_refused_extension_keeps_what_fits(rt: HostRuntime) -> Result<(), Fail> {
     heap.refuse(0, 1);
     let items = Items::new(numbers_of(rt.alloc(), &[3, 4, 5])?, None);
     assert!(rt; v.extend_hinted(items).is_err());
-    assert_eq!(rt; v.as_slice(), [1, 2, 3].as_slice());
-    assert_eq!(rt; v.capacity(), 3);
+    assert!(rt; v.as_slice() == [1, 2, 3].as_slice());
+    assert!(rt; v.capacity() == 3);
     heap.refuse(0, 1);
     assert!(rt; v.extend_copied([4, 5].iter()).is_err());
-    assert_eq!(rt; v.as_slice(), [1, 2, 3].as_slice());
+    assert!(rt; v.as_slice() == [1, 2, 3].as_slice());
     v.extend(4..6)?;
-    assert_eq!(rt; v.as_slice(), [1, 2, 3, 4, 5].as_slice());
-    assert_eq!(rt; v.capacity(), 6);
+    assert!(rt; v.as_slice() == [1, 2, 3, 4, 5].as_slice());
+    assert!(rt; v.capacity() == 6);
     Ok(())
 }
 
@@ -80,11 +80,11 @@ fn a_refused_extension_takes_one_item_more(rt: HostRuntime) -> Result<(), Fail> 
     let mut more = 3..6;
     heap.refuse(0, 1);
     assert!(rt; v.extend_by(&mut more).is_err());
-    assert_eq!(rt; v.as_slice(), [1, 2].as_slice());
-    assert_eq!(rt; more.next(), Some(4));
+    assert!(rt; v.as_slice() == [1, 2].as_slice());
+    assert!(rt; more.next() == Some(4));
     v.extend_by(&mut more)?;
-    assert_eq!(rt; v.as_slice(), [1, 2, 5].as_slice());
-    assert_eq!(rt; more.next(), None);
+    assert!(rt; v.as_slice() == [1, 2, 5].as_slice());
+    assert!(rt; more.next() == None);
     Ok(())
 }
 
@@ -98,21 +98,21 @@ fn refused_copies_change_nothing(rt: HostRuntime) -> Result<(), Fail> {
     let mut v = numbers(&heap, &[1, 2], 2)?;
     heap.refuse(0, u64::MAX);
     let refused = TryReserveErrorKind::AllocError { capacity: 4 };
-    assert_eq!(rt; v.extend_from_slice(&[3]), Err(refused.into()));
+    assert!(rt; v.extend_from_slice(&[3]) == Err(refused.into()));
     assert!(rt; v.extend_from_slice_copied(&[3]).is_err());
     assert!(rt; v.len() == 2);
     assert!(rt; v.extend_from_within(0..2).is_err());
     assert!(rt; v.resize(3, 7).is_err());
     assert!(rt; v.clone().is_err());
     assert!(rt; v.clone_copied().is_err());
-    assert_eq!(rt; v.as_slice(), [1, 2].as_slice());
-    assert_eq!(rt; v.capacity(), 2);
+    assert!(rt; v.as_slice() == [1, 2].as_slice());
+    assert!(rt; v.capacity() == 2);
     assert!(rt; Numbers::from_slice_in(&[1], &heap).is_err());
     assert!(rt; Numbers::from_slice_copied_in(&[1], &heap).is_err());
     assert!(rt; Numbers::from_elem_in(1, 1, &heap).is_err());
     assert!(rt; Numbers::from_iter_in(0..1, &heap).is_err());
-    assert_eq!(rt; v.resize(1, 7), Ok(()));
-    assert_eq!(rt; heap.outstanding(), 8);
+    assert!(rt; v.resize(1, 7) == Ok(()));
+    assert!(rt; heap.outstanding() == 8);
     Ok(())
 }
 
@@ -121,8 +121,8 @@ fn elements_without_size_need_no_memory_for_many(rt: HostRuntime) -> Result<(), 
     let mut v: Vec<(), Refusing> = Vec::new_in(Refusing);
     v.resize(3, ())?;
     v.extend_from_slice(&[(), ()])?;
-    assert_eq!(rt; v.len(), 5);
-    assert_eq!(rt; v.capacity(), usize::MAX);
+    assert!(rt; v.len() == 5);
+    assert!(rt; v.capacity() == usize::MAX);
     Ok(())
 }
 
@@ -160,7 +160,7 @@ fn each_request_of_the_clones_is_refused_in_turn(rt: HostRuntime) -> Result<(), 
         (2, (false, 2, 4)),
         (3, (true, 4, 4)),
     ] {
-        assert_eq!(rt; extended_with_one_refused(rt.alloc(), refused)?, left);
+        assert!(rt; extended_with_one_refused(rt.alloc(), refused)? == left);
     }
     Ok(())
 }
@@ -179,6 +179,6 @@ fn the_memory_of_refused_clones_comes_back(rt: HostRuntime) -> Result<(), Fail> 
         heap.refuse(1, 1);
         assert!(rt; Vec::from_slice_in(source.as_slice(), &heap).is_err());
     }
-    assert_eq!(rt; heap.outstanding(), 0);
+    assert!(rt; heap.outstanding() == 0);
     Ok(())
 }

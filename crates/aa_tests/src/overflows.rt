@@ -29,25 +29,19 @@ fn no_block_is_made_past_the_limits(rt: HostRuntime) {
     let (fitting, most) = (told((1 << 61) - 1), told(usize::MAX));
     for many in [told(1 << 61), most] {
         let block = RawVec::<u32, Refusing>::with_capacity_in(many, Refusing);
-        assert_eq!(rt; end(block), End::TooLong);
+        assert!(rt; end(block) == End::TooLong);
         let text = GapBuffer::<u32, Refusing>::with_capacity_in(many, Refusing);
-        assert_eq!(rt; end(text), End::TooLong);
+        assert!(rt; end(text) == End::TooLong);
         let v = Vec::<u32, Refusing>::with_capacity_in(many, Refusing);
-        assert_eq!(rt; end(v), End::TooLong);
-        assert_eq!(rt;
-            end(Vec::<u32>::with_capacity(rt.alloc(), many)),
-            End::TooLong
-        );
-        assert_eq!(rt; end(Vec::from_elem_in(7u32, many, Refusing)), End::TooLong);
-        assert_eq!(rt; end(Vec::from_elem(rt.alloc(), 7u32, many)), End::TooLong);
-        assert_eq!(rt;
-            end(u32::repeated(&[1, 2], many / 2, Refusing)),
-            End::TooLong
-        );
+        assert!(rt; end(v) == End::TooLong);
+        assert!(rt; end(Vec::<u32>::with_capacity(rt.alloc(), many)) == End::TooLong);
+        assert!(rt; end(Vec::from_elem_in(7u32, many, Refusing)) == End::TooLong);
+        assert!(rt; end(Vec::from_elem(rt.alloc(), 7u32, many)) == End::TooLong);
+        assert!(rt; end(u32::repeated(&[1, 2], many / 2, Refusing)) == End::TooLong);
     }
-    assert_eq!(rt; end(u8::repeated(&[1, 2], most, Refusing)), End::TooLong);
+    assert!(rt; end(u8::repeated(&[1, 2], most, Refusing)) == End::TooLong);
     let v = Vec::<u32, Refusing>::with_capacity_in(fitting, Refusing);
-    assert_eq!(rt; end(v), End::NoMemory(fitting));
+    assert!(rt; end(v) == End::NoMemory(fitting));
 }
 
 #[test]
@@ -67,10 +61,10 @@ fn no_room_is_made_past_the_limits(rt: HostRuntime) -> Result<(), Fail> {
             v.extend_hinted(Items::new(Vec::from_slice(rt.alloc(), &[8])?, Some(many))),
             text.reserve(many),
         ] {
-            assert_eq!(rt; end_of(ended), End::TooLong);
+            assert!(rt; end_of(ended) == End::TooLong);
         }
-        assert_eq!(rt; v.as_slice(), [7].as_slice());
-        assert_eq!(rt; v.capacity(), 1);
+        assert!(rt; v.as_slice() == [7].as_slice());
+        assert!(rt; v.capacity() == 1);
     }
     Ok(())
 }
@@ -79,17 +73,14 @@ fn no_room_is_made_past_the_limits(rt: HostRuntime) -> Result<(), Fail> {
 fn no_item_is_put_past_the_limits(rt: HostRuntime) -> Result<(), Fail> {
     let mut v = Vec::from_slice(rt.alloc(), &[7usize])?;
     for many in [told(1 << 60), told(usize::MAX)] {
-        assert_eq!(rt; end_of(v.extend(0..many)), End::TooLong);
-        assert_eq!(rt; end_of(v.extend_by(&mut (0..many))), End::TooLong);
-        assert_eq!(rt; end(Vec::from_iter_in(0..many, rt.alloc())), End::TooLong);
-        assert_eq!(rt;
-            end(BoxedSlice::from_iter_in(0..many, rt.alloc())),
-            End::TooLong
-        );
+        assert!(rt; end_of(v.extend(0..many)) == End::TooLong);
+        assert!(rt; end_of(v.extend_by(&mut (0..many))) == End::TooLong);
+        assert!(rt; end(Vec::from_iter_in(0..many, rt.alloc())) == End::TooLong);
+        assert!(rt; end(BoxedSlice::from_iter_in(0..many, rt.alloc())) == End::TooLong);
         assert!(rt; v.len() == 1);
-        assert_eq!(rt; end_of(v.splice(1..1, 0..many).finish()), End::TooLong);
-        assert_eq!(rt; v.as_slice(), [7].as_slice());
-        assert_eq!(rt; v.capacity(), 1);
+        assert!(rt; end_of(v.splice(1..1, 0..many).finish()) == End::TooLong);
+        assert!(rt; v.as_slice() == [7].as_slice());
+        assert!(rt; v.capacity() == 1);
     }
     Ok(())
 }
@@ -110,10 +101,10 @@ fn no_unit_is_put_behind_as_many_as_can_be_counted(rt: HostRuntime) -> Result<()
         v.extend([()].into_iter()),
         v.extend_by(&mut [()].into_iter()),
     ] {
-        assert_eq!(rt; end_of(ended), End::TooLong);
+        assert!(rt; end_of(ended) == End::TooLong);
     }
-    assert_eq!(rt; v.push_within_capacity(()), Err(()));
-    assert_eq!(rt; (v.len(), one.len()), (usize::MAX, 1));
+    assert!(rt; v.push_within_capacity(()) == Err(()));
+    assert!(rt; (v.len(), one.len()) == (usize::MAX, 1));
     forget(v);
     Ok(())
 }

@@ -15,15 +15,12 @@ fn a_refused_block_is_told_with_its_capacity(rt: HostRuntime) {
     heap.refuse(0, 1);
     match RawVec::<u32, &Faulty<Global>>::with_capacity_in(5, &heap) {
         Ok(_) => assert!(rt; false),
-        Err(error) => assert_eq!(rt;
-            error.kind(),
-            TryReserveErrorKind::AllocError { capacity: 5 }
-        ),
+        Err(error) => assert!(rt; error.kind() == TryReserveErrorKind::AllocError { capacity: 5 }),
     }
     assert!(rt; RawVec::<u32, &Faulty<Global>>::with_capacity_in(0, &heap).is_ok());
     assert!(rt; RawVec::<(), &Faulty<Global>>::with_capacity_in(5, &heap).is_ok());
-    assert_eq!(rt; heap.requests(), 1);
-    assert_eq!(rt; heap.outstanding(), 0);
+    assert!(rt; heap.requests() == 1);
+    assert!(rt; heap.outstanding() == 0);
 }
 
 #[test]
@@ -37,22 +34,19 @@ fn a_refused_growth_leaves_the_block(rt: HostRuntime) -> Result<(), Fail> {
         match block.try_reserve(2, 1) {
             Ok(()) => assert!(rt; false),
             Err(error) => {
-                assert_eq!(rt;
-                    error.kind(),
-                    TryReserveErrorKind::AllocError { capacity: 4 }
-                );
+                assert!(rt; error.kind() == TryReserveErrorKind::AllocError { capacity: 4 });
             }
         }
-        assert_eq!(rt; block.capacity(), 2);
-        assert_eq!(rt; block.slice(0, 2), [10, 11].as_slice());
-        assert_eq!(rt; heap.outstanding(), 8);
+        assert!(rt; block.capacity() == 2);
+        assert!(rt; block.slice(0, 2) == [10, 11].as_slice());
+        assert!(rt; heap.outstanding() == 8);
         block.try_reserve(2, 1)?;
-        assert_eq!(rt; block.capacity(), 4);
-        assert_eq!(rt; block.slice(0, 2), [10, 11].as_slice());
-        assert_eq!(rt; heap.outstanding(), 16);
+        assert!(rt; block.capacity() == 4);
+        assert!(rt; block.slice(0, 2) == [10, 11].as_slice());
+        assert!(rt; heap.outstanding() == 16);
     }
-    assert_eq!(rt; heap.outstanding(), 0);
-    assert_eq!(rt; heap.frees(), 2);
+    assert!(rt; heap.outstanding() == 0);
+    assert!(rt; heap.frees() == 2);
     Ok(())
 }
 
@@ -66,12 +60,12 @@ fn pushes_with_one_refused(rt: &impl Abort, alloc: Global, refused: u64) -> u64 
             let before = v.len();
             let capacity = v.capacity();
             match v.push(x) {
-                Ok(()) => assert_eq!(rt; v.len(), before.saturating_add(1)),
+                Ok(()) => assert!(rt; v.len() == before.saturating_add(1)),
                 Err(refusal) => {
-                    assert_eq!(rt; before, capacity);
-                    assert_eq!(rt; refusal.source, x);
-                    assert_eq!(rt; v.len(), before);
-                    assert_eq!(rt; v.capacity(), capacity);
+                    assert!(rt; before == capacity);
+                    assert!(rt; refusal.source == x);
+                    assert!(rt; v.len() == before);
+                    assert!(rt; v.capacity() == capacity);
                     match refusal.error {
                         TryReserveErrorKind::AllocError { capacity } => {
                             assert!(rt; before < capacity);
@@ -82,20 +76,20 @@ fn pushes_with_one_refused(rt: &impl Abort, alloc: Global, refused: u64) -> u64 
                 }
             }
         }
-        assert_eq!(rt; v.len(), 20);
-        assert_eq!(rt; v.capacity(), 32);
-        assert_eq!(rt; heap.outstanding(), 128);
+        assert!(rt; v.len() == 20);
+        assert!(rt; v.capacity() == 32);
+        assert!(rt; heap.outstanding() == 128);
     }
-    assert_eq!(rt; heap.outstanding(), 0);
+    assert!(rt; heap.outstanding() == 0);
     heap.requests()
 }
 
 #[test]
 fn each_request_of_the_pushes_is_refused_in_turn(rt: HostRuntime) {
     for refused in 0..4 {
-        assert_eq!(rt; pushes_with_one_refused(&rt, rt.alloc(), refused), 5);
+        assert!(rt; pushes_with_one_refused(&rt, rt.alloc(), refused) == 5);
     }
-    assert_eq!(rt; pushes_with_one_refused(&rt, rt.alloc(), 4), 4);
+    assert!(rt; pushes_with_one_refused(&rt, rt.alloc(), 4) == 4);
 }
 
 #[test]
@@ -109,15 +103,12 @@ fn pushes_that_fit_need_no_memory(rt: HostRuntime) -> Result<(), Fail> {
     match v.push(4) {
         Ok(()) => assert!(rt; false),
         Err(refusal) => {
-            assert_eq!(rt; refusal.source, 4);
-            assert_eq!(rt;
-                refusal.error,
-                TryReserveErrorKind::AllocError { capacity: 8 }
-            );
+            assert!(rt; refusal.source == 4);
+            assert!(rt; refusal.error == TryReserveErrorKind::AllocError { capacity: 8 });
         }
     }
-    assert_eq!(rt; v.as_slice(), [0, 1, 2, 3].as_slice());
-    assert_eq!(rt; v.capacity(), 4);
+    assert!(rt; v.as_slice() == [0, 1, 2, 3].as_slice());
+    assert!(rt; v.capacity() == 4);
     Ok(())
 }
 
@@ -126,9 +117,9 @@ fn elements_without_size_ask_for_nothing(rt: HostRuntime) -> Result<(), Fail> {
     let mut v: Vec<(), Refusing> = Vec::with_capacity_in(5, Refusing)?;
     v.push(())?;
     v.push(())?;
-    assert_eq!(rt; v.len(), 2);
-    assert_eq!(rt; v.capacity(), usize::MAX);
-    assert_eq!(rt; v.pop(), Some(()));
+    assert!(rt; v.len() == 2);
+    assert!(rt; v.capacity() == usize::MAX);
+    assert!(rt; v.pop() == Some(()));
     Ok(())
 }
 
@@ -136,7 +127,7 @@ fn elements_without_size_ask_for_nothing(rt: HostRuntime) -> Result<(), Fail> {
 fn a_default_vector_is_empty(rt: HostRuntime) {
     let mut v: Vec<u32, Refusing> = Vec::default();
     assert!(rt; v.is_empty());
-    assert_eq!(rt; v.capacity(), 0);
-    assert_eq!(rt; *v.allocator(), Refusing);
+    assert!(rt; v.capacity() == 0);
+    assert!(rt; *v.allocator() == Refusing);
     assert!(rt; v.push(1).is_err());
 }

@@ -258,7 +258,7 @@ fn runs_one<'a, T: Element<'a> + Drop>(
     );
     assert!(rt; is_list(&main, &machine.main), "{told:?} {case:?}: main");
     assert!(rt; is_list(&side, &machine.side), "{told:?} {case:?}: side");
-    assert_eq!(rt; requests, machine.memory.requests, "{told:?} {case:?}");
+    assert!(rt; requests == machine.memory.requests, "{told:?} {case:?}");
     Ok(())
 }
 
@@ -277,7 +277,7 @@ fn refuses_each<'a, T: Element<'a> + Drop>(
             let case = Case { len, free, refused };
             let mut machine = machine_of(alloc, case, T::CLONED)?;
             runs_one::<T>(rt, heap, &mut machine, told, case)?;
-            assert_eq!(rt; heap.outstanding(), 0);
+            assert!(rt; heap.outstanding() == 0);
             if machine.memory.requests <= refused {
                 break;
             }

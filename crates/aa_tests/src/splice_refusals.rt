@@ -43,15 +43,12 @@ fn each_request_of_a_splice_is_refused_in_turn(rt: HostRuntime) -> Result<(), Fa
             let items = Items::new(numbers(&heap, &[7, 8, 9, 10])?, Some(1));
             let before = heap.requests();
             heap.refuse(refused, 1);
-            assert_eq!(rt; spliced(&mut v, 1, 3, items), end);
-            assert_eq!(rt; v.as_slice(), left);
-            assert_eq!(rt; v.capacity(), capacity);
-            assert_eq!(rt;
-                heap.requests(),
-                before.saturating_add((refused + 1).min(2))
-            );
+            assert!(rt; spliced(&mut v, 1, 3, items) == end);
+            assert!(rt; v.as_slice() == left);
+            assert!(rt; v.capacity() == capacity);
+            assert!(rt; heap.requests() == before.saturating_add((refused + 1).min(2)));
         }
-        assert_eq!(rt; heap.outstanding(), 0);
+        assert!(rt; heap.outstanding() == 0);
     }
     Ok(())
 }
@@ -95,10 +92,10 @@ fn each_element_of_a_refused_splice_is_dropped_once(rt: HostRuntime) -> Result<(
             None => middle_spliced(&mut v, items),
             _ => spliced(&mut v, 1, 3, Items::new(items, told)),
         };
-        assert_eq!(rt; (ended, v.len()), (end, left));
-        assert_eq!(rt; Rc::strong_count(&origin), left + 1);
+        assert!(rt; (ended, v.len()) == (end, left));
+        assert!(rt; Rc::strong_count(&origin) == left + 1);
         drop(v);
-        assert_eq!(rt; (Rc::strong_count(&origin), heap.outstanding()), (1, 0));
+        assert!(rt; (Rc::strong_count(&origin), heap.outstanding()) == (1, 0));
     }
     Ok(())
 }
@@ -139,9 +136,9 @@ fn room_is_made_at_once_for_what_size_hint_tells(rt: HostRuntime) -> Result<(), 
         ),
     ] {
         let (ended, list, places, asked) = middle_replaced(rt.alloc(), first, 10, granted)?;
-        assert_eq!(rt; ended, end);
-        assert_eq!(rt; list.as_slice(), left);
-        assert_eq!(rt; (places, asked), (capacity, requests));
+        assert!(rt; ended == end);
+        assert!(rt; list.as_slice() == left);
+        assert!(rt; (places, asked) == (capacity, requests));
     }
     Ok(())
 }
@@ -151,12 +148,9 @@ fn a_clone_of_the_allocator_is_refused_like_the_first_growth(rt: HostRuntime) ->
     let mut v = numbers(Faulty::new(rt.alloc()), &[1, 2, 3, 4])?;
     v.allocator().refuse_clones(true);
     let others = numbers(Faulty::new(rt.alloc()), &[7, 8, 9, 10])?;
-    assert_eq!(rt;
-        spliced(&mut v, 1, 3, Items::new(others, Some(1))),
-        End::NoMemory(4)
-    );
-    assert_eq!(rt; v.as_slice(), [1, 7, 8, 9, 4].as_slice());
-    assert_eq!(rt; v.capacity(), 8);
+    assert!(rt; spliced(&mut v, 1, 3, Items::new(others, Some(1))) == End::NoMemory(4));
+    assert!(rt; v.as_slice() == [1, 7, 8, 9, 4].as_slice());
+    assert!(rt; v.capacity() == 8);
     Ok(())
 }
 
@@ -190,8 +184,8 @@ fn what_fits_is_put_without_memory(rt: HostRuntime) -> Result<(), Fail> {
         let mut v: Vec<u32, &Faulty<Global>> = numbers(&heap, old)?;
         let items = Items::new(numbers(&heap, new)?, hint);
         heap.refuse(0, u64::MAX);
-        assert_eq!(rt; spliced(&mut v, range.0, range.1, items), End::Done);
-        assert_eq!(rt; v.as_slice(), left);
+        assert!(rt; spliced(&mut v, range.0, range.1, items) == End::Done);
+        assert!(rt; v.as_slice() == left);
     }
     Ok(())
 }
@@ -200,9 +194,9 @@ fn what_fits_is_put_without_memory(rt: HostRuntime) -> Result<(), Fail> {
 fn a_hint_that_can_not_be_is_refused_where_the_range_is_full(rt: HostRuntime) -> Result<(), Fail> {
     let mut v = numbers(rt.alloc(), &[1, 2, 3])?;
     let items = Items::new(numbers(rt.alloc(), &[8, 9])?, Some(usize::MAX));
-    assert_eq!(rt; spliced(&mut v, 1, 2, items), End::TooLong);
-    assert_eq!(rt; v.as_slice(), [1, 8, 3].as_slice());
-    assert_eq!(rt; v.capacity(), 3);
+    assert!(rt; spliced(&mut v, 1, 2, items) == End::TooLong);
+    assert!(rt; v.as_slice() == [1, 8, 3].as_slice());
+    assert!(rt; v.capacity() == 3);
     Ok(())
 }
 
@@ -218,7 +212,7 @@ fn elements_without_size_are_spliced(rt: HostRuntime) -> Result<(), Fail> {
     assert!(rt; v.len() == 3);
     let range = v.splice(1..2, Items::new(more, Some(1)));
     range.finish_hinted()?;
-    assert_eq!(rt; v.len(), 5);
-    assert_eq!(rt; v.capacity(), usize::MAX);
+    assert!(rt; v.len() == 5);
+    assert!(rt; v.capacity() == usize::MAX);
     Ok(())
 }

@@ -24,29 +24,26 @@ fn a_refused_insert_hands_its_element_back(rt: HostRuntime) -> Result<(), Fail> 
     let heap = Faulty::new(rt.alloc());
     let mut v = three_of(&heap, 3)?;
     heap.refuse(0, 1);
-    assert_eq!(rt; v.len(), 3);
+    assert!(rt; v.len() == 3);
     match v.insert(1, 9) {
         Ok(()) => assert!(rt; false),
         Err(refusal) => {
-            assert_eq!(rt; refusal.source, 9);
-            assert_eq!(rt;
-                refusal.error,
-                TryReserveErrorKind::AllocError { capacity: 6 }
-            );
+            assert!(rt; refusal.source == 9);
+            assert!(rt; refusal.error == TryReserveErrorKind::AllocError { capacity: 6 });
         }
     }
-    assert_eq!(rt; v.as_slice(), [1, 2, 3].as_slice());
-    assert_eq!(rt; v.capacity(), 3);
-    assert_eq!(rt; v.len(), 3);
+    assert!(rt; v.as_slice() == [1, 2, 3].as_slice());
+    assert!(rt; v.capacity() == 3);
+    assert!(rt; v.len() == 3);
     v.insert(1, 9)?;
-    assert_eq!(rt; v.as_slice(), [1, 9, 2, 3].as_slice());
+    assert!(rt; v.as_slice() == [1, 9, 2, 3].as_slice());
     Ok(())
 }
 
 // What a reserve or a shrink leaves of three numbers in ten places, where its one request is refused.
 fn leaves_all(rt: &impl Abort, v: &Vec<u32, &Faulty<Global>>) {
-    assert_eq!(rt; v.as_slice(), [1, 2, 3].as_slice());
-    assert_eq!(rt; v.capacity(), 10);
+    assert!(rt; v.as_slice() == [1, 2, 3].as_slice());
+    assert!(rt; v.capacity() == 10);
 }
 
 #[test]
@@ -66,14 +63,14 @@ fn refused_reserves_and_shrinks_change_nothing(rt: HostRuntime) -> Result<(), Fa
     leaves_all(&rt, &v);
     assert!(rt; v.shrink_to_fit().is_err());
     leaves_all(&rt, &v);
-    assert_eq!(rt; heap.refused(), 6);
-    assert_eq!(rt; v.reserve(7), Ok(()));
-    assert_eq!(rt; v.shrink_to(10), Ok(()));
+    assert!(rt; heap.refused() == 6);
+    assert!(rt; v.reserve(7) == Ok(()));
+    assert!(rt; v.shrink_to(10) == Ok(()));
     v.clear();
-    assert_eq!(rt; v.shrink_to_fit(), Ok(()));
-    assert_eq!(rt; v.capacity(), 0);
-    assert_eq!(rt; heap.refused(), 6);
-    assert_eq!(rt; heap.outstanding(), 0);
+    assert!(rt; v.shrink_to_fit() == Ok(()));
+    assert!(rt; v.capacity() == 0);
+    assert!(rt; heap.refused() == 6);
+    assert!(rt; heap.outstanding() == 0);
     Ok(())
 }
 
@@ -86,8 +83,8 @@ fn elements_without_size_need_no_memory_for_edits(rt: HostRuntime) -> Result<(),
     v.reserve_exact(5)?;
     v.shrink_to(1)?;
     v.shrink_to_fit()?;
-    assert_eq!(rt; v.capacity(), usize::MAX);
-    assert_eq!(rt; v.len(), 2);
+    assert!(rt; v.capacity() == usize::MAX);
+    assert!(rt; v.len() == 2);
     v.remove(0);
     v.truncate(0);
     assert!(rt; v.is_empty());
