@@ -4,7 +4,7 @@ ghost use Rattle.aa_raw.specs.Places.{IsRun};
 
 use crate::seen::{End, end_of};
 use aa_faulty::Faulty;
-use allocator_api2::collections::{TryReserveError, TryReserveErrorKind};
+use allocator_api2::collections::TryReserveError;
 use allocator_api2::raw_vec::{Growth, RawVec};
 use allocator_api2::vec::into_iter::IntoIter;
 use std::alloc::{Allocator, Global};
@@ -18,8 +18,7 @@ fn a_refused_exact_reserve_leaves_the_block(rt: HostRuntime) -> Result<(), Fail>
     let heap = Faulty::new(rt.alloc());
     let mut block: Block<'_> = RawVec::new_growing_in(Growth::Sparing, &heap);
     heap.refuse(0, 1);
-    let refused = TryReserveErrorKind::AllocError { capacity: 5 };
-    assert!(rt; block.try_reserve_exact(0, 5) == Err(refused.into()));
+    assert!(rt; end_of(block.try_reserve_exact(0, 5)) == End::NoMemory(5));
     assert!(rt; block.capacity() == 0);
     block.reserve_exact(0, 5)?;
     assert!(rt; block.capacity() == 5);
@@ -31,32 +30,68 @@ fn a_refused_exact_reserve_leaves_the_block(rt: HostRuntime) -> Result<(), Fail>
 #[derive(Clone, Copy)]
 enum Reserve {
     Amortized,
+    Tried,
     Exact,
+    TriedExact,
     ForPush,
+}
+
+// How a call ends that makes room for three in an empty block, or for one.
+fn reserved(call: Reserve, block: &mut Block<'_>) -> End {
+    end_of(match call {
+        Reserve::Amortized => block.reserve(0, 3),
+        Reserve::Tried => block.try_reserve(0, 3),
+        Reserve::Exact => block.reserve_exact(0, 3),
+        Reserve::TriedExact => block.try_reserve_exact(0, 3),
+        Reserve::ForPush => block.reserve_for_push(0),
+    })
 }
 
 #[test]
 fn each_reserve_of_a_block_is_refused(rt: HostRuntime) -> Result<(), Fail> {
     for (call, capacity) in [
         (Reserve::Amortized, 4),
+        (Reserve::Tried, 4),
         (Reserve::Exact, 3),
+        (Reserve::TriedExact, 3),
         (Reserve::ForPush, 4),
     ] {
         let heap = Faulty::new(rt.alloc());
         let mut block: Block<'_> = RawVec::new_in(&heap);
         heap.refuse(0, 1);
         for (end, left) in [(End::NoMemory(capacity), 0), (End::Done, capacity)] {
-            let ended = match call {
-                Reserve::Amortized => block.reserve(0, 3),
-                Reserve::Exact => block.reserve_exact(0, 3),
-                Reserve::ForPush => block.reserve_for_push(0),
-            };
-            assert!(rt; end_of(ended) == end);
+            assert!(rt; reserved(call, &mut block) == end);
             assert!(rt; block.capacity() == left);
         }
         assert!(rt; heap.requests() == 2);
     }
     Ok(())
+}
+
+#[test]
+fn a_refused_growth_leaves_the_block(rt: HostRuntime) -> Result<(), Fail> {
+    let heap = Faulty::new(rt.alloc());
+    {
+        let mut block: Block<'_> = RawVec::with_capacity_in(2, &heap)?;
+        two_put(&mut block);
+        heap.refuse(0, 1);
+        assert!(rt; grown(&mut block) == End::NoMemory(4));
+        assert!(rt; (block.capacity(), heap.outstanding()) == (2, 8));
+        assert!(rt; block.slice(0, 2) == [1, 2].as_slice());
+        assert!(rt; grown(&mut block) == End::Done);
+        assert!(rt; (block.capacity(), heap.outstanding()) == (4, 16));
+        assert!(rt; block.slice(0, 2) == [1, 2].as_slice());
+    }
+    assert!(rt; (heap.outstanding(), heap.frees()) == (0, 2));
+    Ok(())
+}
+
+// How a call ends that makes room for one more than two.
+fn grown(block: &mut Block<'_>) -> End
+    requires { IsRun block.old.places 0 2 }
+    ensures { IsRun block.new.places 0 2 }
+{
+    end_of(block.try_reserve(2, 1))
 }
 
 #[test]
@@ -66,17 +101,15 @@ fn a_refused_shrink_leaves_the_block(rt: HostRuntime) -> Result<(), Fail> {
         let mut block: Block<'_> = RawVec::with_capacity_in(4, &heap)?;
         block.put(0, 10);
         heap.refuse(0, u64::MAX);
-        let refused = TryReserveErrorKind::AllocError { capacity: 2 };
-        assert!(rt; block.shrink_to_fit(1, 2) == Err(refused.into()));
+        assert!(rt; end_of(block.shrink_to_fit(1, 2)) == End::NoMemory(2));
         assert!(rt; block.capacity() == 4);
         assert!(rt; *block.place(0) == 10);
-        assert!(rt; block.shrink_to_fit(1, 4) == Ok(()));
+        assert!(rt; end_of(block.shrink_to_fit(1, 4)) == End::Done);
         assert!(rt; heap.requests() == 2);
         assert!(rt; block.take(0) == 10);
-        assert!(rt; block.shrink_to_fit(0, 0) == Ok(()));
+        assert!(rt; end_of(block.shrink_to_fit(0, 0)) == End::Done);
         assert!(rt; block.capacity() == 0);
-        assert!(rt; heap.requests() == 2);
-        assert!(rt; heap.outstanding() == 0);
+        assert!(rt; (heap.requests(), heap.outstanding()) == (2, 0));
     }
     assert!(rt; heap.frees() == 1);
     Ok(())

@@ -13,6 +13,7 @@ use std::test::Fail;
 
 #[derive(Clone, Copy)]
 enum Call {
+    EmptyBlock,
     BlockWithCapacityIn,
     TextWithCapacityIn,
     WithCapacityIn,
@@ -26,7 +27,7 @@ enum Call {
     SliceFromIterIn,
     SliceClone,
     FromSliceCopiedIn,
-    Repeated,
+    Repeated(usize),
     FromTextIn,
     SliceFromSlice,
     TextFromText,
@@ -40,6 +41,7 @@ fn called<'a>(
     given: Helds<'a>,
 ) -> Result<(), TryReserveError> {
     match call {
+        Call::EmptyBlock => drop(RawVec::<u32, _>::with_capacity_in(0, heap)?),
         Call::BlockWithCapacityIn => drop(RawVec::<u32, _>::with_capacity_in(5, heap)?),
         Call::TextWithCapacityIn => drop(GapBuffer::<u32, _>::with_capacity_in(5, heap)?),
         Call::WithCapacityIn => drop(Vec::<u32, _>::with_capacity_in(5, heap)?),
@@ -53,8 +55,8 @@ fn called<'a>(
         Call::SliceFromIterIn => drop(BoxedSlice::from_iter_in(given.into_iter(), heap)?),
         Call::SliceClone => drop(given.into_boxed_slice()?.clone()?),
         Call::FromSliceCopiedIn => drop(Vec::from_slice_copied_in(&[1u32, 2, 3], heap)?),
-        Call::Repeated => drop(u32::repeated(&[1, 2, 3], 2, heap)?),
-        Call::FromTextIn => drop(Vec::from_text_in("abc", heap)?),
+        Call::Repeated(times) => drop(u32::repeated(&[1, 2, 3], times, heap)?),
+        Call::FromTextIn => drop(Vec::from_text_in("aé", heap)?),
         Call::SliceFromSlice => drop(BoxedSlice::from_slice(heap, &[1u32, 2, 3])?),
         Call::TextFromText => drop(BoxedText::from_text(heap, "abc")?),
     }
@@ -79,6 +81,7 @@ fn seen(alloc: Global, call: Call, refused: u64) -> Result<(End, u64, bool), Fai
 #[test]
 fn each_request_of_a_making_is_refused_in_turn(rt: HostRuntime) -> Result<(), Fail> {
     for (call, requests, (first, later)) in [
+        (Call::EmptyBlock, 0, (0, 0)),
         (Call::BlockWithCapacityIn, 1, (5, 0)),
         (Call::TextWithCapacityIn, 1, (5, 0)),
         (Call::WithCapacityIn, 1, (5, 0)),
@@ -92,7 +95,8 @@ fn each_request_of_a_making_is_refused_in_turn(rt: HostRuntime) -> Result<(), Fa
         (Call::SliceFromIterIn, 2, (4, 3)),
         (Call::SliceClone, 4, (3, 3)),
         (Call::FromSliceCopiedIn, 1, (3, 0)),
-        (Call::Repeated, 1, (6, 0)),
+        (Call::Repeated(2), 1, (6, 0)),
+        (Call::Repeated(0), 0, (0, 0)),
         (Call::FromTextIn, 1, (3, 0)),
         (Call::SliceFromSlice, 1, (3, 0)),
         (Call::TextFromText, 1, (3, 0)),
