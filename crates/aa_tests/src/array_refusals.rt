@@ -30,6 +30,11 @@ fn the_macro_makes_vectors(rt: HostRuntime) -> Result<(), Fail> {
     Ok(())
 }
 
+// Two pairs.
+fn pairs<A: Allocator>(alloc: A) -> Result<Vec<[u32; 2], A>, TryReserveError> {
+    Ok(vec_of![in alloc; [1, 2], [3, 4]]?)
+}
+
 // The vector of two pairs that a flattening hands back for want of memory.
 fn handed_back<A: Allocator + Clone>(v: Vec<[u32; 2], A>) -> Option<Vec<[u32; 2], A>> {
     match v.into_flattened() {
@@ -48,7 +53,7 @@ fn flattened<T: Drop, const N: usize, A: Allocator + Clone>(
 #[test]
 fn a_refused_flattening_hands_the_vector_back(rt: HostRuntime) -> Result<(), Fail> {
     let heap = Faulty::new(rt.alloc());
-    let v: Vec<[u32; 2], &Faulty<Global>> = vec_of![in &heap; [1, 2], [3, 4]]?;
+    let v = pairs(&heap)?;
     heap.refuse(0, 1);
     let Some(back) = handed_back(v) else {
         return Ok(assert!(rt; false));
@@ -72,7 +77,7 @@ fn what_has_no_bytes_is_flattened_without_memory(rt: HostRuntime) -> Result<(), 
 
 #[test]
 fn a_refused_clone_of_the_allocator_hands_the_vector_back(rt: HostRuntime) -> Result<(), Fail> {
-    let v: Vec<[u32; 2], Faulty<Global>> = vec_of![in Faulty::new(rt.alloc()); [1, 2], [3, 4]]?;
+    let v = pairs(Faulty::new(rt.alloc()))?;
     v.allocator().refuse_clones(true);
     let Some(back) = handed_back(v) else {
         return Ok(assert!(rt; false));

@@ -26,9 +26,20 @@ fn each_request_of_a_clone_of_the_trait_is_refused_in_turn(rt: HostRuntime) -> R
     let heap = Faulty::new(rt.alloc());
     let list = held(&heap, &[1, 2, 3], 5)?;
     assert!(rt; refuses_each(&heap, &list, 4));
-    assert!(rt; refuses_each(&heap, &list.clone()?.into_iter(), 4));
-    assert!(rt; refuses_each(&heap, &list.clone()?.into_boxed_slice()?, 4));
-    let in_box = Box::new_in(list, &heap)?;
+    let items = list.into_iter();
+    assert!(rt; refuses_each(&heap, &items, 4));
+    drop(items);
+    assert!(rt; is_given_back(&heap));
+    Ok(())
+}
+
+#[test]
+fn each_request_of_a_clone_of_a_box_is_refused_in_turn(rt: HostRuntime) -> Result<(), Fail> {
+    let heap = Faulty::new(rt.alloc());
+    let list = held(&heap, &[1, 2, 3], 3)?.into_boxed_slice()?;
+    assert!(rt; refuses_each(&heap, &list, 4));
+    drop(list);
+    let in_box = Box::new_in(held(&heap, &[1, 2, 3], 5)?, &heap)?;
     assert!(rt; refuses_each(&heap, &in_box, 5));
     drop(in_box);
     assert!(rt; is_given_back(&heap));
