@@ -1,154 +1,148 @@
 //! Arrays that become vectors and boxed slices and come back, and the macro, over an allocator that refuses.
+use crate::seen::{End, end_of_kind, numbers, stands};
 use aa_faulty::Faulty;
+use aa_faulty::counted::Counted;
 use aa_faulty::refusing::Refusing;
 use allocator_api2::boxed::{Box, BoxedSlice};
-use allocator_api2::collections::{TryReserveError, TryReserveErrorKind};
+use allocator_api2::collections::TryReserveError;
 use allocator_api2::vec::{ArrayIntoVec, Vec};
 use allocator_api2::vec_of;
-use std::alloc::Global;
+use std::alloc::{Allocator, Global};
 use std::cell::Cell;
 use std::test::Fail;
-
-// An element that counts how often such an element is dropped.
-struct Counted<'a>(&'a Cell<u32>);
-
-impl Drop for Counted<'_> {
-    fn drop(self) {
-        let Counted(drops) = self;
-        drops.set(drops.get().saturating_add(1));
-    }
-}
 
 #[test]
 fn the_macro_makes_vectors(rt: HostRuntime) -> Result<(), Fail> {
     let heap = Faulty::new(rt.alloc());
     let none: Vec<u32, &Faulty<Global>> = vec_of![in &heap];
-    assert_eq!(rt; none.capacity(), 0);
-    assert_eq!(rt; heap.requests(), 0);
+    assert!(rt; none.capacity() == 0);
+    assert!(rt; heap.requests() == 0);
     let sevens: Vec<u32, &Faulty<Global>> = vec_of![in &heap; 7; 3]?;
-    assert_eq!(rt; sevens.as_slice(), [7, 7, 7].as_slice());
-    assert_eq!(rt; sevens.capacity(), 3);
+    assert!(rt; stands(&sevens, &[7, 7, 7], 3));
     let two: Vec<u32, &Faulty<Global>> = vec_of![in &heap; 1, 2]?;
-    assert_eq!(rt; two.as_slice(), [1, 2].as_slice());
-    assert_eq!(rt; two.capacity(), 2);
+    assert!(rt; stands(&two, &[1, 2], 2));
     heap.refuse(0, 1);
     let Err(refusal) = vec_of![in &heap; 8, 9] else {
         return Ok(assert!(rt; false));
     };
-    assert_eq!(rt; refusal.source, [8, 9]);
-    assert_eq!(rt;
-        refusal.error,
-        TryReserveErrorKind::AllocError { capacity: 2 }
-    );
+    assert!(rt; refusal.source == [8, 9]);
+    assert!(rt; end_of_kind(refusal.error) == End::NoMemory(2));
     Ok(())
+}
+
+// Two pairs.
+fn pairs<A: Allocator>(alloc: A) -> Result<Vec<[u32; 2], A>, TryReserveError> {
+    Ok(vec_of![in alloc; [1, 2], [3, 4]]?)
+}
+
+// The vector of two pairs that a flattening hands back for want of memory.
+fn handed_back<A: Allocator + Clone>(v: Vec<[u32; 2], A>) -> Option<Vec<[u32; 2], A>> {
+    match v.into_flattened() {
+        Err(refusal) if end_of_kind(refusal.error) == End::NoMemory(4) => Some(refusal.source),
+        _ => None,
+    }
+}
+
+// The elements of arrays. Of a refusal the error is kept.
+fn flattened<T: Drop, const N: usize, A: Allocator + Clone>(
+    v: Vec<[T; N], A>,
+) -> Result<Vec<T, A>, TryReserveError> {
+    Ok(v.into_flattened()?)
 }
 
 #[test]
 fn a_refused_flattening_hands_the_vector_back(rt: HostRuntime) -> Result<(), Fail> {
     let heap = Faulty::new(rt.alloc());
-    let v: Vec<[u32; 2], &Faulty<Global>> = vec_of![in &heap; [1, 2], [3, 4]]?;
+    let v = pairs(&heap)?;
     heap.refuse(0, 1);
-    let back = match v.into_flattened() {
-        Ok(_) => return Ok(assert!(rt; false)),
-        Err(refusal) => {
-            assert_eq!(rt;
-                refusal.error,
-                TryReserveErrorKind::AllocError { capacity: 4 }
-            );
-            refusal.source
-        }
+    let Some(back) = handed_back(v) else {
+        return Ok(assert!(rt; false));
     };
-    assert_eq!(rt; back.as_slice(), [[1, 2], [3, 4]].as_slice());
-    assert_eq!(rt; back.capacity(), 2);
-    let flat = back.into_flattened().map_err(TryReserveError::from)?;
-    assert_eq!(rt; flat.as_slice(), [1, 2, 3, 4].as_slice());
-    assert_eq!(rt; flat.capacity(), 4);
-    assert_eq!(rt; heap.outstanding(), 16);
+    assert!(rt; stands(&back, &[[1, 2], [3, 4]], 2));
+    let flat = flattened(back)?;
+    assert!(rt; stands(&flat, &[1, 2, 3, 4], 4));
+    assert!(rt; heap.outstanding() == 16);
     Ok(())
 }
 
 #[test]
 fn what_has_no_bytes_is_flattened_without_memory(rt: HostRuntime) -> Result<(), Fail> {
     let none: [u32; 0] = [];
-    let v: Vec<[u32; 0], Refusing> = vec_of![in Refusing; none, none, none]?;
-    let flat = v.into_flattened().map_err(TryReserveError::from)?;
-    assert_eq!(rt; flat.len(), 0);
-    assert_eq!(rt; flat.capacity(), 0);
-    let units: Vec<[(); 2], Refusing> = vec_of![in Refusing; [(), ()], [(), ()], [(), ()]]?;
-    let flat = units.into_flattened().map_err(TryReserveError::from)?;
-    assert_eq!(rt; flat.len(), 6);
-    assert_eq!(rt; flat.capacity(), usize::MAX);
+    let flat = flattened(vec_of![in Refusing; none, none, none]?)?;
+    assert!(rt; (flat.len(), flat.capacity()) == (0, 0));
+    let flat = flattened(vec_of![in Refusing; [(), ()], [(), ()], [(), ()]]?)?;
+    assert!(rt; (flat.len(), flat.capacity()) == (6, usize::MAX));
     Ok(())
 }
 
 #[test]
 fn a_refused_clone_of_the_allocator_hands_the_vector_back(rt: HostRuntime) -> Result<(), Fail> {
-    let v: Vec<[u32; 2], Faulty<Global>> = vec_of![in Faulty::new(rt.alloc()); [1, 2], [3, 4]]?;
+    let v = pairs(Faulty::new(rt.alloc()))?;
     v.allocator().refuse_clones(true);
-    match v.into_flattened() {
-        Ok(_) => assert!(rt; false),
-        Err(refusal) => {
-            assert_eq!(rt;
-                refusal.error,
-                TryReserveErrorKind::AllocError { capacity: 4 }
-            );
-            refusal.source.allocator().refuse_clones(false);
-            let flat = refusal
-                .source
-                .into_flattened()
-                .map_err(TryReserveError::from)?;
-            assert_eq!(rt; flat.as_slice(), [1, 2, 3, 4].as_slice());
-            assert_eq!(rt; flat.allocator().requests(), 1);
-        }
-    }
+    let Some(back) = handed_back(v) else {
+        return Ok(assert!(rt; false));
+    };
+    back.allocator().refuse_clones(false);
+    let flat = flattened(back)?;
+    assert!(rt; stands(&flat, &[1, 2, 3, 4], 4));
+    assert!(rt; flat.allocator().requests() == 1);
     Ok(())
 }
 
 #[test]
 fn a_vector_of_another_length_is_handed_back(rt: HostRuntime) -> Result<(), Fail> {
     let heap = Faulty::new(rt.alloc());
-    let v: Vec<u32, &Faulty<Global>> = vec_of![in &heap; 1, 2, 3]?;
+    let v = numbers(&heap, &[1, 2, 3], 3)?;
     heap.refuse(0, u64::MAX);
     let Err(back) = <[u32; 2]>::try_from(v) else {
         return Ok(assert!(rt; false));
     };
-    assert_eq!(rt; back.as_slice(), [1, 2, 3].as_slice());
-    assert_eq!(rt; back.capacity(), 3);
+    assert!(rt; stands(&back, &[1, 2, 3], 3));
     let Ok(array) = <[u32; 3]>::try_from(back) else {
         return Ok(assert!(rt; false));
     };
-    assert_eq!(rt; array, [1, 2, 3]);
-    assert_eq!(rt; heap.outstanding(), 0);
-    assert_eq!(rt; heap.requests(), 1);
+    assert!(rt; array == [1, 2, 3]);
+    assert!(rt; (heap.outstanding(), heap.requests()) == (0, 1));
     Ok(())
+}
+
+// Three elements that are counted.
+fn three(drops: &Cell<u32>) -> [Counted<'_>; 3] {
+    [
+        Counted { value: 1, drops },
+        Counted { value: 2, drops },
+        Counted { value: 3, drops },
+    ]
+}
+
+// Three counted elements, of which an array is handed back by a vector and then by a boxed slice: whether both are refused for want
+// of memory.
+fn is_handed_back_twice(heap: &Faulty<Global>, drops: &Cell<u32>) -> bool {
+    let Err(refusal) = Vec::from_array_in(three(drops), heap) else {
+        return false;
+    };
+    let first = end_of_kind(refusal.error);
+    let Err(refusal) = BoxedSlice::from_array_in(refusal.source, heap) else {
+        return false;
+    };
+    let second = end_of_kind(refusal.error);
+    first == End::NoMemory(3) && second == first && drops.get() == 0
 }
 
 #[test]
 fn a_refused_array_is_handed_back(rt: HostRuntime) {
     let heap = Faulty::new(rt.alloc());
     let drops = Cell::new(0);
-    let refused = TryReserveErrorKind::AllocError { capacity: 3 };
-    let array = [Counted(&drops), Counted(&drops), Counted(&drops)];
     heap.refuse(0, 2);
-    let Err(refusal) = Vec::from_array_in(array, &heap) else {
-        return assert!(rt; false);
-    };
-    assert_eq!(rt; refusal.error, refused);
-    let Err(refusal) = BoxedSlice::from_array_in(refusal.source, &heap) else {
-        return assert!(rt; false);
-    };
-    assert_eq!(rt; refusal.error, refused);
-    assert_eq!(rt; drops.get(), 0);
-    drop(refusal.source);
-    assert_eq!(rt; (drops.get(), heap.outstanding()), (3, 0));
+    assert!(rt; is_handed_back_twice(&heap, &drops));
+    assert!(rt; (drops.get(), heap.outstanding()) == (3, 0));
 }
 
 // Takes three counted elements from an array to a boxed slice, an array in a box, a boxed slice, an array in a box and a vector, while
 // the request numbered `refused` fails: how many of the five were done.
 fn carried(heap: &Faulty<Global>, drops: &Cell<u32>, refused: u64) -> u32 {
     heap.refuse(refused, 1);
-    let Ok(list) = BoxedSlice::from_array_in([Counted(drops), Counted(drops), Counted(drops)], heap)
-    else {
+    let Ok(list) = BoxedSlice::from_array_in(three(drops), heap) else {
         return 0;
     };
     let Ok(array) = list.try_into_array::<3>() else {
@@ -172,38 +166,38 @@ fn each_request_of_conversions_is_refused_in_turn(rt: HostRuntime) {
     let drops = Cell::new(0);
     for (refused, done) in [(0, 0), (1, 1), (2, 2), (3, 3), (4, 4), (5, 5)] {
         drops.set(0);
-        assert_eq!(rt; carried(&heap, &drops, refused), done);
-        assert_eq!(rt; drops.get(), 3);
-        assert_eq!(rt; heap.outstanding(), 0);
+        assert!(rt; carried(&heap, &drops, refused) == done);
+        assert!(rt; (drops.get(), heap.outstanding()) == (3, 0));
     }
 }
 
 #[test]
-fn refused_boxes_are_handed_back(rt: HostRuntime) -> Result<(), Fail> {
+fn a_refused_boxed_slice_is_handed_back(rt: HostRuntime) -> Result<(), Fail> {
     let heap = Faulty::new(rt.alloc());
     let list = BoxedSlice::from_array_in([1u32, 2, 3], &heap).map_err(TryReserveError::from)?;
     heap.refuse(0, 1);
     let Err(list) = list.try_into_array::<3>() else {
         return Ok(assert!(rt; false));
     };
-    assert_eq!(rt; list.as_slice(), [1, 2, 3].as_slice());
-    let Ok(array) = list.try_into_array::<3>() else {
-        return Ok(assert!(rt; false));
-    };
+    assert!(rt; list.as_slice() == [1, 2, 3].as_slice());
+    assert!(rt; list.try_into_array::<3>().is_ok());
+    Ok(())
+}
+
+#[test]
+fn a_refused_array_in_a_box_is_handed_back(rt: HostRuntime) -> Result<(), Fail> {
+    let heap = Faulty::new(rt.alloc());
+    let array = Box::new_in([1u32, 2, 3], &heap)?;
     heap.refuse(0, 2);
     let Err(refusal) = Box::slice(array) else {
         return Ok(assert!(rt; false));
     };
-    assert_eq!(rt;
-        refusal.error,
-        TryReserveErrorKind::AllocError { capacity: 3 }
-    );
+    assert!(rt; end_of_kind(refusal.error) == End::NoMemory(3));
     let Err(refusal) = refusal.source.into_vec() else {
         return Ok(assert!(rt; false));
     };
     let v = refusal.source.into_vec()?;
-    assert_eq!(rt; v.as_slice(), [1, 2, 3].as_slice());
-    assert_eq!(rt; v.capacity(), 3);
-    assert_eq!(rt; heap.outstanding(), 12);
+    assert!(rt; stands(&v, &[1, 2, 3], 3));
+    assert!(rt; heap.outstanding() == 12);
     Ok(())
 }

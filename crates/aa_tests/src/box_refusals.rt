@@ -1,125 +1,94 @@
 //! Boxes, boxed slices and boxed texts over an allocator that refuses.
+use crate::seen::{End, end_of, end_of_kind, end_of_made, numbers, stands};
 use aa_faulty::Faulty;
-use aa_faulty::refusing::Refusing;
+use aa_faulty::counted::Counted;
 use allocator_api2::boxed::{Box, BoxedSlice, BoxedText, UninitBox, append_texts};
-use allocator_api2::collections::{TryReserveError, TryReserveErrorKind};
+use allocator_api2::collections::TryReserveError;
 use allocator_api2::vec::{SliceIntoVec, Vec};
 use std::alloc::{AllocError, Global};
 use std::cell::Cell;
-use std::default::Default;
 use std::string::String;
 use std::test::Fail;
 
-// An element that counts how often such an element is dropped.
-struct Counted<'a> {
-    drops: &'a Cell<u32>,
-}
-
-impl Drop for Counted<'_> {
-    fn drop(self) {
-        let Counted { drops } = self;
-        drops.set(drops.get().wrapping_add(1));
+#[test]
+fn a_refused_box_drops_its_value(rt: HostRuntime) -> Result<(), Fail> {
+    let heap = Faulty::new(rt.alloc());
+    let drops = Cell::new(0);
+    let (value, drops) = (1, &drops);
+    heap.refuse(0, u64::MAX);
+    match Box::try_new_in(Counted { value, drops }, &heap) {
+        Ok(_) => assert!(rt; false),
+        Err(error) => assert!(rt;
+            error.to_string(rt.alloc())?.as_str() == "memory allocation failed"
+        ),
     }
+    assert!(rt; drops.get() == 1);
+    assert!(rt; Box::new_in(Counted { value, drops }, &heap).is_err());
+    assert!(rt; drops.get() == 2);
+    Ok(())
 }
 
 #[test]
-fn a_refused_box_drops_its_value(rt: HostRuntime) -> Result<(), Fail> {
-    let drops = Cell::new(0);
+fn a_refused_box_is_not_made(rt: HostRuntime) {
     let heap = Faulty::new(rt.alloc());
     heap.refuse(0, u64::MAX);
-    match Box::try_new_in(Counted { drops: &drops }, &heap) {
-        Ok(_) => assert!(rt; false),
-        Err(error) => assert_eq!(rt;
-            error.to_string(rt.alloc())?.as_str(),
-            "memory allocation failed"
-        ),
-    }
-    assert_eq!(rt; drops.get(), 1);
-    assert!(rt; Box::new_in(Counted { drops: &drops }, &heap).is_err());
-    assert_eq!(rt; drops.get(), 2);
     assert!(rt; Box::<u32, &Faulty<Global>>::try_default(&heap).is_err());
     assert!(rt; Box::<u32, &Faulty<Global>>::new_uninit_in(&heap).is_err());
     assert!(rt; Box::<u32, &Faulty<Global>>::try_new_uninit_in(&heap).is_err());
-    assert_eq!(rt; heap.outstanding(), 0);
-    Ok(())
+    assert!(rt; heap.outstanding() == 0);
 }
 
 #[test]
 fn what_a_box_took_comes_back(rt: HostRuntime) -> Result<(), Fail> {
     let heap = Faulty::new(rt.alloc());
     let room: UninitBox<u64, &Faulty<Global>> = Box::new_uninit_in(&heap)?;
-    assert_eq!(rt; heap.outstanding(), 8);
+    assert!(rt; heap.outstanding() == 8);
     drop(room);
-    assert_eq!(rt; heap.outstanding(), 0);
-    let b = Box::new_in(7u64, &heap)?;
-    assert_eq!(rt; Box::into_inner(b), 7);
-    assert_eq!(rt; heap.frees(), 2);
+    assert!(rt; heap.outstanding() == 0);
+    assert!(rt; Box::into_inner(Box::new_in(7u64, &heap)?) == 7);
+    assert!(rt; heap.frees() == 2);
     let list = Box::into_boxed_slice(Box::new_in(7u64, &heap)?);
-    assert_eq!(rt; heap.outstanding(), 8);
+    assert!(rt; heap.outstanding() == 8);
     drop(list);
-    assert_eq!(rt; heap.outstanding(), 0);
-    assert_eq!(rt; heap.requests(), 3);
+    assert!(rt; (heap.outstanding(), heap.requests()) == (0, 3));
     Ok(())
 }
 
 #[test]
-fn what_has_no_size_needs_no_memory(rt: HostRuntime) -> Result<(), Fail> {
+fn a_box_of_a_unit_needs_no_memory(rt: HostRuntime) -> Result<(), Fail> {
     let heap = Faulty::new(rt.alloc());
     heap.refuse(0, u64::MAX);
     let b = Box::new_in((), &heap)?;
     drop(b.clone()?);
     Box::into_inner(b);
-    let units = BoxedSlice::from_slice(&heap, &[(), ()])?;
-    assert_eq!(rt; units.into_vec().capacity(), usize::MAX);
-    let none: BoxedSlice<u32, Refusing> = BoxedSlice::default();
-    assert_eq!(rt; none.into_vec().capacity(), 0);
-    let empty: BoxedText<Refusing> = BoxedText::default();
-    assert_eq!(rt; empty.as_str(), "");
-    assert_eq!(rt; BoxedText::from_text(&heap, "")?.as_str(), "");
-    assert_eq!(rt; heap.requests(), 0);
-    assert_eq!(rt; heap.frees(), 0);
+    assert!(rt; (heap.requests(), heap.frees()) == (0, 0));
     Ok(())
 }
 
-// A number in a box, whose clone takes memory.
-type Held<'a> = Box<u32, &'a Faulty<Global>>;
-
-fn held_number<'a>(heap: &'a Faulty<Global>, number: u32) -> Result<Held<'a>, AllocError> {
-    Box::new_in(number, heap)
+#[test]
+fn a_slice_of_units_and_an_empty_text_need_no_memory(rt: HostRuntime) -> Result<(), Fail> {
+    let heap = Faulty::new(rt.alloc());
+    heap.refuse(0, u64::MAX);
+    let units = BoxedSlice::from_slice(&heap, &[(), ()])?;
+    assert!(rt; units.into_vec().capacity() == usize::MAX);
+    assert!(rt; BoxedText::from_text(&heap, "")?.as_str() == "");
+    assert!(rt; (heap.requests(), heap.frees()) == (0, 0));
+    Ok(())
 }
 
 #[test]
 fn each_request_of_a_clone_is_refused_in_turn(rt: HostRuntime) -> Result<(), Fail> {
     let heap = Faulty::new(rt.alloc());
-    let b = Box::new_in(held_number(&heap, 5)?, &heap)?;
-    let made = [
-        held_number(&heap, 1)?,
-        held_number(&heap, 2)?,
-        held_number(&heap, 3)?,
-    ]
-    .into_iter();
-    let list = BoxedSlice::from_iter_in(made, &heap)?;
+    let b = Box::new_in(Box::new_in(5u32, &heap)?, &heap)?;
     let before = heap.outstanding();
     for refused in 0..2 {
         heap.refuse(refused, 1);
         assert!(rt; b.clone().is_err());
-        assert_eq!(rt; heap.outstanding(), before);
+        assert!(rt; heap.outstanding() == before);
     }
-    for refused in 0..4 {
-        heap.refuse(refused, 1);
-        match list.clone() {
-            Ok(_) => assert!(rt; false),
-            Err(error) => assert_eq!(rt;
-                error.kind(),
-                TryReserveErrorKind::AllocError { capacity: 3 }
-            ),
-        }
-        assert_eq!(rt; heap.outstanding(), before);
-    }
-    heap.refuse(0, 0);
-    assert_eq!(rt; *Box::into_inner(b.clone()?), 5);
-    assert_eq!(rt; list.clone()?.as_slice().len(), 3);
-    assert_eq!(rt; heap.outstanding(), before);
+    heap.refuse(2, 1);
+    assert!(rt; *Box::into_inner(b.clone()?) == 5);
+    assert!(rt; heap.outstanding() == before);
     Ok(())
 }
 
@@ -136,28 +105,12 @@ fn collected(
 fn each_request_of_a_slice_is_refused_in_turn(rt: HostRuntime) -> Result<(), Fail> {
     let heap = Faulty::new(rt.alloc());
     for (refused, capacity) in [(0, 4), (1, 8), (2, 16), (3, 9)] {
-        match collected(&heap, refused) {
-            Ok(_) => assert!(rt; false),
-            Err(error) => assert_eq!(rt;
-                error.kind(),
-                TryReserveErrorKind::AllocError { capacity }
-            ),
-        }
-        assert_eq!(rt; heap.outstanding(), 0);
+        assert!(rt; end_of_made(collected(&heap, refused)) == End::NoMemory(capacity));
+        assert!(rt; heap.outstanding() == 0);
     }
     let list = collected(&heap, 4)?;
-    assert_eq!(rt; list.as_slice(), [0, 1, 2, 3, 4, 5, 6, 7, 8].as_slice());
-    assert_eq!(rt; heap.outstanding(), 36);
-    heap.refuse(0, u64::MAX);
-    let refused = TryReserveErrorKind::AllocError { capacity: 2 };
-    assert_eq!(rt;
-        BoxedSlice::from_slice(&heap, &[1, 2]).err(),
-        Some(refused.into())
-    );
-    assert_eq!(rt;
-        BoxedText::from_text(&heap, "ab").err(),
-        Some(refused.into())
-    );
+    assert!(rt; list.as_slice() == [0, 1, 2, 3, 4, 5, 6, 7, 8].as_slice());
+    assert!(rt; heap.outstanding() == 36);
     Ok(())
 }
 
@@ -171,29 +124,28 @@ fn boxed<'a>(
 #[test]
 fn a_refused_boxing_hands_the_vector_back(rt: HostRuntime) -> Result<(), Fail> {
     let heap = Faulty::new(rt.alloc());
-    let mut v: Vec<u32, &Faulty<Global>> = Vec::with_capacity_in(4, &heap)?;
-    v.extend_from_slice(&[1, 2, 3])?;
+    let v = numbers(&heap, &[1, 2, 3], 4)?;
     heap.refuse(0, 1);
-    let back = match v.into_boxed_slice() {
-        Ok(_) => return Ok(assert!(rt; false)),
-        Err(refusal) => {
-            assert_eq!(rt;
-                refusal.error,
-                TryReserveErrorKind::AllocError { capacity: 3 }
-            );
-            refusal.source
-        }
+    let Err(refusal) = v.into_boxed_slice() else {
+        return Ok(assert!(rt; false));
     };
-    assert_eq!(rt; back.as_slice(), [1, 2, 3].as_slice());
-    assert_eq!(rt; back.capacity(), 4);
-    let list = boxed(back)?;
-    assert_eq!(rt; heap.outstanding(), 12);
+    assert!(rt; end_of_kind(refusal.error) == End::NoMemory(3));
+    assert!(rt; stands(&refusal.source, &[1, 2, 3], 4));
+    drop(boxed(refusal.source)?);
+    assert!(rt; (heap.requests(), heap.outstanding()) == (3, 0));
+    Ok(())
+}
+
+#[test]
+fn a_full_vector_goes_to_a_slice_and_back_without_memory(rt: HostRuntime) -> Result<(), Fail> {
+    let heap = Faulty::new(rt.alloc());
+    let list = boxed(numbers(&heap, &[1, 2, 3], 4)?)?;
+    assert!(rt; heap.outstanding() == 12);
     heap.refuse(0, u64::MAX);
     let again = list.into_vec();
-    assert_eq!(rt; again.as_slice(), [1, 2, 3].as_slice());
-    assert_eq!(rt; again.capacity(), 3);
+    assert!(rt; stands(&again, &[1, 2, 3], 3));
     assert!(rt; again.into_boxed_slice().is_ok());
-    assert_eq!(rt; heap.outstanding(), 0);
+    assert!(rt; heap.outstanding() == 0);
     Ok(())
 }
 
@@ -208,16 +160,10 @@ fn a_refused_text_leaves_those_before_it(rt: HostRuntime) -> Result<(), Fail> {
         BoxedText::from_text(rt.alloc(), long.as_str())?,
     ];
     heap.refuse(0, 1);
-    match append_texts(&mut all, texts.into_iter()) {
-        Ok(()) => assert!(rt; false),
-        Err(error) => assert_eq!(rt;
-            error.kind(),
-            TryReserveErrorKind::AllocError { capacity: 42 }
-        ),
-    }
-    assert_eq!(rt; all.as_str(), "ab");
+    assert!(rt; end_of(append_texts(&mut all, texts.into_iter())) == End::NoMemory(42));
+    assert!(rt; all.as_str() == "ab");
     let more = [BoxedText::from_text(rt.alloc(), long.as_str())?];
     append_texts(&mut all, more.into_iter())?;
-    assert_eq!(rt; all.len(), 42);
+    assert!(rt; all.len() == 42);
     Ok(())
 }

@@ -1,107 +1,76 @@
 //! Ranges and items by value, over an allocator that refuses.
-use crate::many_refusals::held_numbers;
+use crate::seen::{End, end_of_made, numbers, stands};
 use aa_faulty::Faulty;
 use aa_faulty::refusing::Refusing;
-use allocator_api2::collections::{TryReserveError, TryReserveErrorKind};
+use allocator_api2::collections::TryReserveError;
 use allocator_api2::vec::Vec;
-use allocator_api2::vec::items::Items;
-use std::alloc::Global;
+use allocator_api2::vec::into_iter::IntoIter;
+use std::alloc::{Allocator, Global};
 use std::test::Fail;
+
+// Takes the first and the last of a range, which keeps the others: the sum of both.
+fn both_ends_taken<A: Allocator>(v: &mut Vec<u32, A>, start: usize, end: usize) -> Option<u32> {
+    if start > end || end > v.len() {
+        return None;
+    }
+    let mut range = v.drain(start..end);
+    let first = range.next()?;
+    let last = range.next_back()?;
+    range.keep_rest();
+    first.checked_mul(10)?.checked_add(last)
+}
+
+// Drops a range, if it lies within.
+fn dropped<T: Drop, A: Allocator>(v: &mut Vec<T, A>, start: usize, end: usize) {
+    if start <= end && end <= v.len() {
+        drop(v.drain(start..end));
+    }
+}
 
 #[test]
 fn a_range_is_taken_without_memory(rt: HostRuntime) -> Result<(), Fail> {
     let heap = Faulty::new(rt.alloc());
     {
-        let mut v: Vec<u32, &Faulty<Global>> = Vec::from_slice_in(&[0, 1, 2, 3, 4, 5], &heap)?;
+        let mut v = numbers(&heap, &[0, 1, 2, 3, 4, 5], 6)?;
         heap.refuse(0, u64::MAX);
-        assert!(rt; v.len() == 6);
-        let mut range = v.drain(1..4);
-        assert_eq!(rt; range.next(), Some(1));
-        assert_eq!(rt; range.next_back(), Some(3));
-        range.keep_rest();
-        assert_eq!(rt; v.as_slice(), [0, 2, 4, 5].as_slice());
-        assert!(rt; v.len() == 4);
-        drop(v.drain(1..3));
-        assert_eq!(rt; v.as_slice(), [0, 5].as_slice());
-        assert_eq!(rt; v.capacity(), 6);
-        let mut items = v.into_iter();
-        assert_eq!(rt; items.next_back(), Some(5));
+        assert!(rt; both_ends_taken(&mut v, 1, 4) == Some(13));
+        assert!(rt; stands(&v, &[0, 2, 4, 5], 6));
+        dropped(&mut v, 1, 3);
+        assert!(rt; stands(&v, &[0, 5], 6));
+        assert!(rt; v.into_iter().next_back() == Some(5));
     }
-    assert_eq!(rt; heap.requests(), 1);
-    assert_eq!(rt; heap.outstanding(), 0);
+    assert!(rt; (heap.requests(), heap.outstanding()) == (1, 0));
     Ok(())
 }
 
 #[test]
-fn elements_without_size_need_no_memory_for_ranges(rt: HostRuntime) -> Result<(), Fail> {
-    let mut v: Vec<(), Refusing> = Vec::with_capacity_in(5, Refusing)?;
-    for _ in 0..3 {
-        v.push(())?;
-    }
-    assert!(rt; v.len() == 3);
-    drop(v.drain(1..2));
-    assert!(rt; v.len() == 2);
-    let rest = v.split_off(1)?;
-    let mut one = Vec::new_in(Refusing);
-    one.push(())?;
-    v.extend_hinted(Items::new(one, Some(usize::MAX)))?;
-    assert_eq!(rt; v.len(), 2);
-    assert_eq!(rt; rest.len(), 1);
-    assert_eq!(rt; v.capacity(), usize::MAX);
-    assert_eq!(rt; rest.capacity(), usize::MAX);
+fn a_range_of_units_is_taken_without_memory(rt: HostRuntime) -> Result<(), Fail> {
+    let mut v: Vec<(), Refusing> = Vec::new_in(Refusing);
+    v.resize(3, ())?;
+    dropped(&mut v, 1, 2);
+    assert!(rt; (v.len(), v.capacity()) == (2, usize::MAX));
+    assert!(rt; v.pop() == Some(()));
+    v.truncate(0);
+    assert!(rt; v.is_empty());
     Ok(())
+}
+
+// The number 1 is taken from the items 1 to 3, on an allocator of their own.
+fn two_left(alloc: Global) -> Result<IntoIter<u32, Faulty<Global>>, TryReserveError> {
+    let mut items = numbers(Faulty::new(alloc), &[1, 2, 3], 3)?.into_iter();
+    let _first = items.next();
+    Ok(items)
 }
 
 #[test]
 fn a_clone_of_items_is_refused_with_that_of_the_allocator(rt: HostRuntime) -> Result<(), Fail> {
-    let mut v: Vec<u32, Faulty<Global>> = Vec::new_in(Faulty::new(rt.alloc()));
-    v.extend_from_slice(&[1, 2, 3])?;
-    let mut items = v.into_iter();
-    assert_eq!(rt; items.next(), Some(1));
+    let items = two_left(rt.alloc())?;
     items.allocator().refuse_clones(true);
-    match items.clone() {
-        Ok(_) => assert!(rt; false),
-        Err(error) => {
-            assert_eq!(rt;
-                error.kind(),
-                TryReserveErrorKind::AllocError { capacity: 2 }
-            )
-        }
-    }
-    assert_eq!(rt; items.as_slice(), [2, 3].as_slice());
+    assert!(rt; end_of_made(items.clone()) == End::NoMemory(2));
+    assert!(rt; items.as_slice() == [2, 3].as_slice());
     items.allocator().refuse_clones(false);
     let copy = items.clone()?;
-    assert_eq!(rt; copy.as_slice(), [2, 3].as_slice());
-    assert_eq!(rt; copy.allocator().requests(), 1);
-    Ok(())
-}
-
-// Clones two items, each in memory of its own, while the request numbered `refused` fails: whether it was done, or was refused with
-// their number and gave all of its memory back.
-fn cloned_with_one_refused(alloc: Global, refused: u64) -> Result<(bool, bool), TryReserveError> {
-    let heap = Faulty::new(alloc);
-    let items = held_numbers(&heap, &[1, 2])?.into_iter();
-    let before = heap.outstanding();
-    heap.refuse(refused, 1);
-    let cloned = match items.clone() {
-        Ok(copy) => (copy.len() == 2, false),
-        Err(error) => (
-            false,
-            error.kind() == TryReserveErrorKind::AllocError { capacity: 2 },
-        ),
-    };
-    Ok((cloned.0, cloned.1 && heap.outstanding() == before))
-}
-
-#[test]
-fn each_request_of_cloned_items_is_refused_in_turn(rt: HostRuntime) -> Result<(), Fail> {
-    for (refused, left) in [
-        (0, (false, true)),
-        (1, (false, true)),
-        (2, (false, true)),
-        (3, (true, false)),
-    ] {
-        assert_eq!(rt; cloned_with_one_refused(rt.alloc(), refused)?, left);
-    }
+    assert!(rt; copy.as_slice() == [2, 3].as_slice());
+    assert!(rt; copy.allocator().requests() == 1);
     Ok(())
 }

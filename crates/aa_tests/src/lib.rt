@@ -6,46 +6,48 @@
 //!
 //! | Call | Requests | Refused in |
 //! |---|---|---|
-//! | `RawVec::with_capacity_in` | 1 | `makers`, `refusals` |
+//! | `RawVec::with_capacity_in` | 1 | `makers` |
 //! | `RawVec::reserve`, `reserve_exact`, `reserve_for_push` | 1 | `block_refusals` |
-//! | `RawVec::try_reserve`, `try_reserve_exact`, `shrink_to_fit` | 1 | `refusals`, `block_refusals` |
+//! | `RawVec::try_reserve`, `try_reserve_exact`, `shrink_to_fit` | 1 | `block_refusals` |
 //! | `IntoIter::clone` | 1, and 3 of the elements | `makers`, `drain_refusals`, `clones` |
 //! | `Box::new_in`, `try_new_in`, `try_default`, `new_uninit_in`, `try_new_uninit_in` | 1 | `box_refusals` |
 //! | `Box::clone` | 1, and 1 of the value | `box_refusals`, `clones` |
 //! | `BoxedSlice::from_array_in` | 1 | `array_refusals` |
-//! | `BoxedSlice::from_slice` | 1 | `makers`, `box_refusals` |
+//! | `BoxedSlice::from_slice` | 1 | `makers` |
 //! | `BoxedSlice::from_iter_in` | 2; 4 for nine items that nothing is told of | `makers`, `box_refusals` |
-//! | `BoxedSlice::clone` | 1, and 3 of the elements | `makers`, `box_refusals`, `clones` |
+//! | `BoxedSlice::clone` | 1, and 3 of the elements | `makers`, `clones` |
 //! | `BoxedSlice::try_into_array`, `Box::slice`, `into_vec` of an array in a box | 1 | `array_refusals`, `clones` |
-//! | `BoxedText::from_text` | 1 | `makers`, `box_refusals` |
+//! | `BoxedText::from_text` | 1 | `makers` |
 //! | `append_texts` | 1 | `box_refusals` |
 //! | `Vec::with_capacity_in` | 1 | `makers` |
-//! | `Vec::push`, `insert` | 1 | `changes`, `refusals`, `vec_refusals` |
-//! | `Vec::try_reserve`, `reserve`, `try_reserve_exact`, `reserve_exact` | 1 | `changes`, `vec_refusals` |
-//! | `Vec::shrink_to`, `shrink_to_fit` | 1 | `changes`, `vec_refusals` |
-//! | `Vec::append`, `split_off` | 1 | `changes`, `many_refusals`, `clones` |
-//! | `Vec::extend_from_slice` | 1, and 3 of the elements | `changes`, `many_refusals` |
+//! | `Vec::push` | 1 | `changes`, `refusals` |
+//! | `Vec::insert` | 1 | `changes` |
+//! | `Vec::try_reserve`, `reserve`, `try_reserve_exact`, `reserve_exact` | 1 | `changes` |
+//! | `Vec::shrink_to`, `shrink_to_fit` | 1 | `changes` |
+//! | `Vec::append` | 1 | `changes` |
+//! | `Vec::split_off` | 1 | `changes`, `clones` |
+//! | `Vec::extend_from_slice` | 1, and 3 of the elements | `changes` |
 //! | `Vec::extend_from_within` | 1, and 2 of the elements | `changes` |
 //! | `Vec::resize` | 1, and 1 of the elements | `changes` |
-//! | `Vec::assign_from` | 1, and 3 of the elements | `changes`, `many_refusals` |
-//! | `Vec::extend`, `extend_by`, `extend_hinted`, `extend_hinted_by` | 1 | `changes`, `many_refusals` |
+//! | `Vec::assign_from` | 1, and 3 of the elements | `changes` |
+//! | `Vec::extend`, `extend_by`, `extend_hinted`, `extend_hinted_by` | 1 | `changes` |
 //! | `Splice::finish` | 1 | `splice_refusals` |
 //! | `Splice::finish_hinted` | 2 | `splice_refusals` |
 //! | `Vec::extend_copied`, `extend_from_slice_copied`, `extend_from_within_copied`, `resize_with` | 1 | `plain_changes` |
-//! | `Vec::write`, `write_all` | 1 | `plain_changes`, `slices` |
+//! | `Vec::write`, `write_all` | 1 | `plain_changes` |
 //! | `Vec::clone` | 1, and 3 of the elements | `makers`, `clones` |
 //! | `Vec::clone_copied` | 1 | `plain_changes`, `clones` |
-//! | `Vec::from_slice_in`, `SliceExt::to_vec_in`, `to_vec_in2` | 1, and 3 of the elements | `makers`, `slices` |
+//! | `Vec::from_slice_in`, `SliceExt::to_vec_in`, `to_vec_in2` | 1, and 3 of the elements | `makers` |
 //! | `Vec::from_elem_in` | 1, and 4 for each clone but the last | `makers` |
 //! | `Vec::from_iter_in` | 1 | `makers` |
-//! | `Vec::from_slice_copied_in`, `from_text_in`, `Repeat::repeated` | 1 | `makers`, `slices` |
+//! | `Vec::from_slice_copied_in`, `from_text_in`, `Repeat::repeated` | 1 | `makers` |
 //! | `Vec::from_array_in`, `vec_of!` | 1 | `array_refusals` |
 //! | `Vec::into_boxed_slice` | 1 | `box_refusals` |
 //! | `Vec::into_flattened` | 1 | `array_refusals` |
 //! | `GapBuffer::with_capacity_in` | 1 | `makers` |
 //! | `GapBuffer::insert`, `reserve`, `edit_all` | 1 | `aa_gap_tests` |
-//! | `run`: `Push`, `Insert`, `Reserve`, `ReserveExact`, `ShrinkTo`, `SplitOff`, `Append`, `Resize`, `Drain` | 1 | `command_refusals` |
-//! | `run`: `Extend`, `ExtendFromWithin`, `ExtractIf`, `Splice` | 1; 4 for ten items of which four are told | `command_refusals`, `runs` |
+//! | `run`: `Push`, `Insert`, `Reserve`, `ReserveExact`, `ShrinkTo`, `SplitOff`, `Append`, `Resize`, `Drain` | 1 | `run_commands` |
+//! | `run`: `Extend`, `ExtendFromWithin`, `ExtractIf`, `Splice` | 1; 4 for ten items of which four are told | `run_commands`, `runs` |
 //!
 //! `run_commands` runs every command on lists of 0 to 100 numbers, and of 0 to 8 whose clones take memory, with each request refused in turn,
 //! beside `plain_machine`, which says in plain words what is left.
@@ -71,8 +73,6 @@ mod drain_refusals;
 #[cfg(test)]
 mod makers;
 #[cfg(test)]
-mod many_refusals;
-#[cfg(test)]
 mod overflows;
 #[cfg(test)]
 mod plain_changes;
@@ -90,5 +90,3 @@ mod seen;
 mod slices;
 #[cfg(test)]
 mod splice_refusals;
-#[cfg(test)]
-mod vec_refusals;

@@ -23,10 +23,11 @@ enum Call {
     WriteAll,
 }
 
-// A refused write tells its kind alone.
-fn end_of_write<T: Drop>(written: Written<T>) -> End {
+// How a write of two bytes ends, which tells how many it wrote. A refused one tells its kind alone.
+fn end_of_write(written: Written<usize>) -> End {
     match written {
-        Ok(_) => End::Done,
+        Ok(2) => End::Done,
+        Ok(_) => End::TooLong,
         Err(error) if error.kind() == ErrorKind::OutOfMemory => End::NoMemory(0),
         Err(_) => End::TooLong,
     }
@@ -43,7 +44,7 @@ fn called(call: Call, v: &mut Bytes<'_>) -> End
         Call::ResizeWith => v.resize_with(5, || b'd'),
         Call::CloneCopied => v.clone_copied().map(drop),
         Call::Write => return end_of_write(v.write(b"de")),
-        Call::WriteAll => return end_of_write(v.write_all(b"de")),
+        Call::WriteAll => return end_of_write(v.write_all(b"de").map(|()| 2)),
     })
 }
 
@@ -80,9 +81,9 @@ fn refused_copies_leave_the_bytes(rt: HostRuntime) -> Result<(), Fail> {
         (Call::WriteAll, 0, b"abcde".as_slice(), 8),
     ] {
         let left = (End::NoMemory(number), true, 3, true);
-        assert_eq!(rt; seen(rt.alloc(), call, 0, b"abc")?, left);
+        assert!(rt; seen(rt.alloc(), call, 0, b"abc")? == left);
         let left = (End::Done, true, grown, true);
-        assert_eq!(rt; seen(rt.alloc(), call, 1, done)?, left);
+        assert!(rt; seen(rt.alloc(), call, 1, done)? == left);
     }
     Ok(())
 }

@@ -1,142 +1,61 @@
-//! Memory refused: each request in turn, and all of it.
+//! Pushes with each request refused in turn, and what is empty by default.
+use crate::seen::{End, end_of_kind};
 use aa_faulty::Faulty;
 use aa_faulty::refusing::Refusing;
-use allocator_api2::collections::TryReserveErrorKind;
-use allocator_api2::raw_vec::RawVec;
-use allocator_api2::vec::Vec;
+use allocator_api2::boxed::{BoxedSlice, BoxedText};
+use allocator_api2::vec::{SliceIntoVec, Vec};
 use std::alloc::Global;
 use std::default::Default;
-use std::process::Abort;
-use std::test::Fail;
 
-#[test]
-fn a_refused_block_is_told_with_its_capacity(rt: HostRuntime) {
-    let heap = Faulty::new(rt.alloc());
-    heap.refuse(0, 1);
-    match RawVec::<u32, &Faulty<Global>>::with_capacity_in(5, &heap) {
-        Ok(_) => assert!(rt; false),
-        Err(error) => assert_eq!(rt;
-            error.kind(),
-            TryReserveErrorKind::AllocError { capacity: 5 }
-        ),
-    }
-    assert!(rt; RawVec::<u32, &Faulty<Global>>::with_capacity_in(0, &heap).is_ok());
-    assert!(rt; RawVec::<(), &Faulty<Global>>::with_capacity_in(5, &heap).is_ok());
-    assert_eq!(rt; heap.requests(), 1);
-    assert_eq!(rt; heap.outstanding(), 0);
+// Pushes a number, again where it is refused: whether a refusal hands it back, leaves the full vector, and the number is then put.
+fn is_pushed(v: &mut Vec<u32, &Faulty<Global>>, x: u32) -> bool {
+    let (len, capacity) = (v.len(), v.capacity());
+    let Err(refusal) = v.push(x) else {
+        return v.len() == len.saturating_add(1);
+    };
+    let told = match end_of_kind(refusal.error) {
+        End::NoMemory(most) => len < most,
+        _ => false,
+    };
+    let stays = len == capacity && v.len() == len && v.capacity() == capacity;
+    told && stays && refusal.source == x && v.push(x).is_ok()
 }
 
-#[test]
-fn a_refused_growth_leaves_the_block(rt: HostRuntime) -> Result<(), Fail> {
-    let heap = Faulty::new(rt.alloc());
-    {
-        let mut block: RawVec<u32, &Faulty<Global>> = RawVec::with_capacity_in(2, &heap)?;
-        block.put(0, 10);
-        block.put(1, 11);
-        heap.refuse(0, 1);
-        match block.try_reserve(2, 1) {
-            Ok(()) => assert!(rt; false),
-            Err(error) => {
-                assert_eq!(rt;
-                    error.kind(),
-                    TryReserveErrorKind::AllocError { capacity: 4 }
-                );
-            }
-        }
-        assert_eq!(rt; block.capacity(), 2);
-        assert_eq!(rt; block.slice(0, 2), [10, 11].as_slice());
-        assert_eq!(rt; heap.outstanding(), 8);
-        block.try_reserve(2, 1)?;
-        assert_eq!(rt; block.capacity(), 4);
-        assert_eq!(rt; block.slice(0, 2), [10, 11].as_slice());
-        assert_eq!(rt; heap.outstanding(), 16);
-    }
-    assert_eq!(rt; heap.outstanding(), 0);
-    assert_eq!(rt; heap.frees(), 2);
-    Ok(())
-}
-
-// Pushes twenty numbers while the request numbered `refused` fails, and says how many requests there were.
-fn pushes_with_one_refused(rt: &impl Abort, alloc: Global, refused: u64) -> u64 {
+// Pushes twenty numbers while the request numbered `refused` fails: whether all of them are put and the memory comes back, and how
+// many requests there were.
+fn pushes_with_one_refused(alloc: Global, refused: u64) -> (bool, u64) {
     let heap = Faulty::new(alloc);
     heap.refuse(refused, 1);
-    {
-        let mut v: Vec<u32, &Faulty<Global>> = Vec::new_in(&heap);
-        for x in 0..20 {
-            let before = v.len();
-            let capacity = v.capacity();
-            match v.push(x) {
-                Ok(()) => assert_eq!(rt; v.len(), before.saturating_add(1)),
-                Err(refusal) => {
-                    assert_eq!(rt; before, capacity);
-                    assert_eq!(rt; refusal.source, x);
-                    assert_eq!(rt; v.len(), before);
-                    assert_eq!(rt; v.capacity(), capacity);
-                    match refusal.error {
-                        TryReserveErrorKind::AllocError { capacity } => {
-                            assert!(rt; before < capacity);
-                        }
-                        TryReserveErrorKind::CapacityOverflow => assert!(rt; false),
-                    }
-                    assert!(rt; v.push(x).is_ok());
-                }
-            }
-        }
-        assert_eq!(rt; v.len(), 20);
-        assert_eq!(rt; v.capacity(), 32);
-        assert_eq!(rt; heap.outstanding(), 128);
+    let mut v: Vec<u32, &Faulty<Global>> = Vec::new_in(&heap);
+    let mut pushed = true;
+    for x in 0..20 {
+        pushed = is_pushed(&mut v, x) && pushed;
     }
-    assert_eq!(rt; heap.outstanding(), 0);
-    heap.requests()
+    let all = (v.len(), v.capacity(), heap.outstanding()) == (20, 32, 128);
+    drop(v);
+    (pushed && all && heap.outstanding() == 0, heap.requests())
 }
 
 #[test]
 fn each_request_of_the_pushes_is_refused_in_turn(rt: HostRuntime) {
-    for refused in 0..4 {
-        assert_eq!(rt; pushes_with_one_refused(&rt, rt.alloc(), refused), 5);
+    for (refused, requests) in [(0, 5), (1, 5), (2, 5), (3, 5), (4, 4)] {
+        assert!(rt; pushes_with_one_refused(rt.alloc(), refused) == (true, requests));
     }
-    assert_eq!(rt; pushes_with_one_refused(&rt, rt.alloc(), 4), 4);
-}
-
-#[test]
-fn pushes_that_fit_need_no_memory(rt: HostRuntime) -> Result<(), Fail> {
-    let heap = Faulty::new(rt.alloc());
-    let mut v: Vec<u32, &Faulty<Global>> = Vec::with_capacity_in(4, &heap)?;
-    heap.refuse(0, u64::MAX);
-    for x in 0..4 {
-        v.push(x)?;
-    }
-    match v.push(4) {
-        Ok(()) => assert!(rt; false),
-        Err(refusal) => {
-            assert_eq!(rt; refusal.source, 4);
-            assert_eq!(rt;
-                refusal.error,
-                TryReserveErrorKind::AllocError { capacity: 8 }
-            );
-        }
-    }
-    assert_eq!(rt; v.as_slice(), [0, 1, 2, 3].as_slice());
-    assert_eq!(rt; v.capacity(), 4);
-    Ok(())
-}
-
-#[test]
-fn elements_without_size_ask_for_nothing(rt: HostRuntime) -> Result<(), Fail> {
-    let mut v: Vec<(), Refusing> = Vec::with_capacity_in(5, Refusing)?;
-    v.push(())?;
-    v.push(())?;
-    assert_eq!(rt; v.len(), 2);
-    assert_eq!(rt; v.capacity(), usize::MAX);
-    assert_eq!(rt; v.pop(), Some(()));
-    Ok(())
 }
 
 #[test]
 fn a_default_vector_is_empty(rt: HostRuntime) {
     let mut v: Vec<u32, Refusing> = Vec::default();
     assert!(rt; v.is_empty());
-    assert_eq!(rt; v.capacity(), 0);
-    assert_eq!(rt; *v.allocator(), Refusing);
+    assert!(rt; v.capacity() == 0);
+    assert!(rt; *v.allocator() == Refusing);
     assert!(rt; v.push(1).is_err());
+}
+
+#[test]
+fn a_default_slice_and_text_are_empty(rt: HostRuntime) {
+    let none: BoxedSlice<u32, Refusing> = BoxedSlice::default();
+    assert!(rt; none.into_vec().capacity() == 0);
+    let empty: BoxedText<Refusing> = BoxedText::default();
+    assert!(rt; empty.as_str() == "");
 }

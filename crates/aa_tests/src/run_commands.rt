@@ -12,10 +12,10 @@ use std::process::Abort;
 use std::test::Fail;
 
 // A list on the allocator of a test.
-type List<'a, T> = vec::Vec<T, &'a Faulty<Global>>;
+pub(crate) type List<'a, T> = vec::Vec<T, &'a Faulty<Global>>;
 
 // What stands for a number in the lists.
-trait Number: Clone {
+pub(crate) trait Number: Clone {
     fn number(&self) -> u32;
 }
 
@@ -33,7 +33,7 @@ impl Number for Box<u32, &Faulty<Global>> {
 }
 
 // How an element of a number is made.
-trait Element<'a>: Number {
+pub(crate) trait Element<'a>: Number {
     // Whether its clone takes memory.
     const CLONED: bool;
 
@@ -60,7 +60,7 @@ impl<'a> Element<'a> for Box<u32, &'a Faulty<Global>> {
 }
 
 // The elements of these numbers, with so many places.
-fn list_of<'a, T: Element<'a> + Drop>(
+pub(crate) fn list_of<'a, T: Element<'a> + Drop>(
     heap: &'a Faulty<Global>,
     numbers: &[u32],
     places: usize,
@@ -139,21 +139,28 @@ fn ranged<'a, T: Element<'a> + Drop>(
     })
 }
 
-// The list of that command alone.
-fn only<'a, T: Element<'a> + Drop>(
+// The list of those commands.
+pub(crate) fn commands_of<'a, T: Element<'a> + Drop>(
     heap: &'a Faulty<Global>,
-    told: Told,
+    all: &[Told],
 ) -> Result<List<'a, Command<T, &'a Faulty<Global>>>, TryReserveError> {
-    let mut commands = vec::Vec::with_capacity_in(1, heap)?;
-    commands.push(command_of(heap, told)?)?;
+    let mut commands = vec::Vec::with_capacity_in(all.len(), heap)?;
+    for told in all {
+        commands.push(command_of(heap, *told)?)?;
+    }
     Ok(commands)
 }
 
 // Whether there is one reply, and it is as it must be.
-fn is_answer<T: Number>(replies: &[Reply<T>], answer: Answer) -> bool {
-    let [reply] = replies else {
-        return false;
-    };
+pub(crate) fn is_answer<T: Number>(replies: &[Reply<T>], answer: Answer) -> bool {
+    match replies {
+        [reply] => is_reply(reply, answer),
+        _ => false,
+    }
+}
+
+// Whether a reply is as it must be.
+pub(crate) fn is_reply<T: Number>(reply: &Reply<T>, answer: Answer) -> bool {
     match (reply, answer) {
         (Reply::Done, Answer::Done)
         | (Reply::Nothing, Answer::Nothing)
@@ -213,7 +220,7 @@ fn machine_of(alloc: Global, case: Case, cloned: bool) -> Result<Machine, Fail> 
 }
 
 // Runs commands while the request numbered `refused` of the run fails: the replies, and how many requests there were.
-fn ran<'a, T: Number + Drop>(
+pub(crate) fn ran<'a, T: Number + Drop>(
     heap: &'a Faulty<Global>,
     main: &mut List<'a, T>,
     side: &mut List<'a, T>,
@@ -249,7 +256,7 @@ fn runs_one<'a, T: Element<'a> + Drop>(
 {
     let mut main: List<'a, T> = list_of(heap, &machine.main.items, machine.main.places)?;
     let mut side: List<'a, T> = list_of(heap, &machine.side.items, machine.side.places)?;
-    let commands = only(heap, told)?;
+    let commands = commands_of(heap, &[told])?;
     let (replies, requests) = ran(heap, &mut main, &mut side, commands, machine.memory.refused)?;
     let answer = machine.does(told)?;
     assert!(rt;
@@ -258,7 +265,7 @@ fn runs_one<'a, T: Element<'a> + Drop>(
     );
     assert!(rt; is_list(&main, &machine.main), "{told:?} {case:?}: main");
     assert!(rt; is_list(&side, &machine.side), "{told:?} {case:?}: side");
-    assert_eq!(rt; requests, machine.memory.requests, "{told:?} {case:?}");
+    assert!(rt; requests == machine.memory.requests, "{told:?} {case:?}");
     Ok(())
 }
 
@@ -277,7 +284,7 @@ fn refuses_each<'a, T: Element<'a> + Drop>(
             let case = Case { len, free, refused };
             let mut machine = machine_of(alloc, case, T::CLONED)?;
             runs_one::<T>(rt, heap, &mut machine, told, case)?;
-            assert_eq!(rt; heap.outstanding(), 0);
+            assert!(rt; heap.outstanding() == 0);
             if machine.memory.requests <= refused {
                 break;
             }

@@ -3,7 +3,7 @@ use aa_faulty::Faulty;
 use allocator_api2::boxed::Box;
 use allocator_api2::collections::{TryReserveError, TryReserveErrorKind};
 use allocator_api2::vec::Vec;
-use std::alloc::Global;
+use std::alloc::{Allocator, Global};
 use std::test::Fail;
 
 // How a call ended: done, or refused for want of memory for so many elements, or for a length or a size past the limits.
@@ -26,6 +26,31 @@ pub(crate) fn end_of_kind(kind: TryReserveErrorKind) -> End {
         TryReserveErrorKind::AllocError { capacity } => End::NoMemory(capacity),
         TryReserveErrorKind::CapacityOverflow => End::TooLong,
     }
+}
+
+// How a call ended that makes something, which is dropped.
+pub(crate) fn end_of_made<T: Drop>(ended: Result<T, TryReserveError>) -> End {
+    end_of(ended.map(drop))
+}
+
+// The numbers, with room for `capacity`.
+pub(crate) fn numbers<A: Allocator>(
+    alloc: A,
+    items: &[u32],
+    capacity: usize,
+) -> Result<Vec<u32, A>, TryReserveError> {
+    let mut v = Vec::with_capacity_in(capacity, alloc)?;
+    v.extend_from_slice(items)?;
+    Ok(v)
+}
+
+// Whether a vector has these elements, and room for `capacity`.
+pub(crate) fn stands<T: PartialEq, A: Allocator>(
+    v: &Vec<T, A>,
+    items: &[T],
+    capacity: usize,
+) -> bool {
+    v.as_slice() == items && v.capacity() == capacity
 }
 
 // A number in memory of its own, whose clone takes memory.
@@ -56,3 +81,14 @@ pub(crate) fn digits(v: &Helds<'_>) -> u32 {
 pub(crate) fn is_given_back(heap: &Faulty<Global>) -> bool {
     heap.outstanding() == 0 && heap.frees().saturating_add(heap.refused()) == heap.requests()
 }
+
+// Units that are as many as can be counted.
+pub(crate) fn most_units<'a>(
+    heap: &'a Faulty<Global>,
+) -> Result<Vec<(), &'a Faulty<Global>>, TryReserveError> {
+    let mut v: Vec<[(); MOST], &Faulty<Global>> = Vec::new_in(heap);
+    v.push([(); MOST])?;
+    v.into_flattened().map_err(TryReserveError::from)
+}
+
+const MOST: usize = 18446744073709551615;

@@ -1,12 +1,8 @@
-//! Vectors of a slice's elements, and bytes, also over an allocator that refuses.
-use aa_faulty::Faulty;
+//! Vectors of a slice's elements.
+use crate::seen::stands;
 use aa_faulty::refusing::Refusing;
 use allocator_api2::SliceExt;
-use allocator_api2::collections::TryReserveErrorKind;
-use allocator_api2::slice::Repeat;
 use allocator_api2::vec::Vec;
-use std::alloc::Global;
-use std::io::{ErrorKind, Write};
 use std::test::Fail;
 
 #[test]
@@ -14,30 +10,8 @@ fn a_slice_is_repeated(rt: HostRuntime) -> Result<(), Fail> {
     let pair = [1u32, 2];
     let s = pair.as_slice();
     let three = SliceExt::repeat(&s, rt.alloc(), 3)?;
-    assert_eq!(rt; three.as_slice(), [1, 2, 1, 2, 1, 2].as_slice());
-    assert_eq!(rt; three.capacity(), 6);
-    let none = s.repeat2(rt.alloc(), 0)?;
-    assert!(rt; none.is_empty());
-    assert_eq!(rt; none.capacity(), 0);
-    let units = [(), ()];
-    let many = SliceExt::repeat(&units.as_slice(), rt.alloc(), 3)?;
-    assert_eq!(rt; many.len(), 6);
-    assert_eq!(rt; many.capacity(), usize::MAX);
-    Ok(())
-}
-
-// The greatest number, of which its callers know nothing.
-fn most() -> usize {
-    usize::MAX
-}
-
-#[test]
-fn too_many_copies_overflow(rt: HostRuntime) -> Result<(), Fail> {
-    let s = b"ab".as_slice();
-    match s.repeat2(rt.alloc(), most()) {
-        Ok(_) => assert!(rt; false),
-        Err(error) => assert_eq!(rt; error.kind(), TryReserveErrorKind::CapacityOverflow),
-    }
+    assert!(rt; stands(&three, &[1, 2, 1, 2, 1, 2], 6));
+    assert!(rt; stands(&s.repeat2(rt.alloc(), 0)?, &[], 0));
     Ok(())
 }
 
@@ -45,102 +19,20 @@ fn too_many_copies_overflow(rt: HostRuntime) -> Result<(), Fail> {
 fn a_slice_becomes_a_vector(rt: HostRuntime) -> Result<(), Fail> {
     let three = [1u32, 2, 3];
     let s = three.as_slice();
-    let v = SliceExt::to_vec(&s, rt.alloc())?;
-    assert_eq!(rt; v.as_slice(), s);
-    assert_eq!(rt; v.capacity(), 3);
-    assert!(rt; s.to_vec2(rt.alloc())? == v);
-    assert!(rt; s.to_vec_in(rt.alloc())? == v);
-    assert!(rt; s.to_vec_in2(rt.alloc())? == v);
+    assert!(rt; stands(&SliceExt::to_vec(&s, rt.alloc())?, s, 3));
+    assert!(rt; stands(&s.to_vec2(rt.alloc())?, s, 3));
+    assert!(rt; stands(&s.to_vec_in(rt.alloc())?, s, 3));
+    assert!(rt; stands(&s.to_vec_in2(rt.alloc())?, s, 3));
+    Ok(())
+}
+
+#[test]
+fn units_of_a_slice_need_no_memory(rt: HostRuntime) -> Result<(), Fail> {
     let units = [(), ()];
-    let none: Vec<(), Refusing> = units.as_slice().to_vec_in2(Refusing)?;
-    assert_eq!(rt; none.len(), 2);
-    Ok(())
-}
-
-#[test]
-fn refused_copies_are_not_made(rt: HostRuntime) -> Result<(), Fail> {
-    let heap = Faulty::new(rt.alloc());
-    heap.refuse(0, 1);
-    match u32::repeated([1, 2].as_slice(), 3, &heap) {
-        Ok(_) => assert!(rt; false),
-        Err(error) => assert_eq!(rt;
-            error.kind(),
-            TryReserveErrorKind::AllocError { capacity: 6 }
-        ),
-    }
-    let none = u32::repeated([1, 2].as_slice(), 0, &heap)?;
-    assert!(rt; none.is_empty());
-    assert_eq!(rt; heap.requests(), 1);
-    Ok(())
-}
-
-#[test]
-fn a_refused_slice_is_not_made(rt: HostRuntime) -> Result<(), Fail> {
-    let heap = Faulty::new(rt.alloc());
-    heap.refuse(0, 1);
-    let pair = [1u32, 2];
-    match pair.as_slice().to_vec_in2(&heap) {
-        Ok(_) => assert!(rt; false),
-        Err(error) => assert_eq!(rt;
-            error.kind(),
-            TryReserveErrorKind::AllocError { capacity: 2 }
-        ),
-    }
-    assert_eq!(rt; heap.outstanding(), 0);
-    Ok(())
-}
-
-#[test]
-fn a_slice_whose_element_refuses_a_clone_makes_no_vector(rt: HostRuntime) -> Result<(), Fail> {
-    let heap = Faulty::new(rt.alloc());
-    let pair = [Faulty::new(rt.alloc()), Faulty::new(rt.alloc())];
-    pair[1].refuse_clones(true);
-    match pair.as_slice().to_vec_in2(&heap) {
-        Ok(_) => assert!(rt; false),
-        Err(error) => assert_eq!(rt;
-            error.kind(),
-            TryReserveErrorKind::AllocError { capacity: 2 }
-        ),
-    }
-    assert_eq!(rt; heap.requests(), 1);
-    assert_eq!(rt; heap.outstanding(), 0);
-    pair[1].refuse_clones(false);
-    assert_eq!(rt; pair.as_slice().to_vec_in2(&heap)?.len(), 2);
-    Ok(())
-}
-
-#[test]
-fn a_refused_text_is_not_made(rt: HostRuntime) -> Result<(), Fail> {
-    let heap = Faulty::new(rt.alloc());
-    heap.refuse(0, 1);
-    match Vec::from_text_in("é", &heap) {
-        Ok(_) => assert!(rt; false),
-        Err(error) => assert_eq!(rt;
-            error.kind(),
-            TryReserveErrorKind::AllocError { capacity: 2 }
-        ),
-    }
-    assert_eq!(rt; heap.outstanding(), 0);
-    Ok(())
-}
-
-#[test]
-fn a_refused_write_changes_nothing(rt: HostRuntime) -> Result<(), Fail> {
-    let heap = Faulty::new(rt.alloc());
-    let mut v: Vec<u8, &Faulty<Global>> = Vec::with_capacity_in(2, &heap)?;
-    assert_eq!(rt; v.write(b"ab")?, 2);
-    heap.refuse(0, 2);
-    match v.write(b"c") {
-        Ok(_) => assert!(rt; false),
-        Err(error) => assert_eq!(rt; error.kind(), ErrorKind::OutOfMemory),
-    }
-    match v.write_all(b"c") {
-        Ok(()) => assert!(rt; false),
-        Err(error) => assert_eq!(rt; error.kind(), ErrorKind::OutOfMemory),
-    }
-    assert_eq!(rt; v.as_slice(), b"ab".as_slice());
-    assert_eq!(rt; v.capacity(), 2);
-    assert_eq!(rt; v.write(b"cd")?, 2);
-    assert_eq!(rt; v.as_slice(), b"abcd".as_slice());
+    let s = units.as_slice();
+    let many = SliceExt::repeat(&s, rt.alloc(), 3)?;
+    assert!(rt; (many.len(), many.capacity()) == (6, usize::MAX));
+    let none: Vec<(), Refusing> = s.to_vec_in2(Refusing)?;
+    assert!(rt; none.len() == 2);
     Ok(())
 }
