@@ -1,8 +1,0 @@
-use Rattle.vecrun.proofs.Read.{HasRead}
-use Rattle.vecrun.proofs.lines.commands.Given as goal
-
-abbrev pub invariant-loop-index : goal.invariant-loop-index
-invariant-loop-index l =
-    (goal.iterator-loop-index).can_next l.index-iterator ×
-    (goal.iterator-loop-index).is_finite l.index-iterator ×
-    HasRead l.text l.index-iterator.iter.rest.now l.index-iterator.count l.commands.items

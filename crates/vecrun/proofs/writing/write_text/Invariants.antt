@@ -1,5 +1,0 @@
-use Rattle.vecrun.proofs.Beginnings.{HasWritten}
-use Rattle.vecrun.proofs.writing.write_text.Given as goal
-
-abbrev pub invariant-tries : goal.invariant-tries
-invariant-tries g l = HasWritten (g.W.Write.contents l.initial.output) (g.W.Write.contents l.output) l.text l.rest

@@ -1,0 +1,415 @@
+use std::alloc::Global;
+use std::io;
+use std::io::{ErrorKind, Read, Write};
+use std::test::Fail;
+use vecscript::script::script;
+
+const EMPTY_LISTS: &str = "main len=0 cap=0:\nside len=0 cap=0:\n";
+
+const PUSHED_SEVEN: &str = "done\nmain len=1 cap=4: 7\nside len=0 cap=0:\n";
+
+// Scripts, and what they print.
+const GOOD_SCRIPTS: [(&[u8], &str); 29] = [
+    (
+        b"push 1\npush 2\npop\npop\npop\n",
+        "done\ndone\nitem 2\nitem 1\nnone\nmain len=0 cap=4:\nside len=0 cap=0:\n",
+    ),
+    (
+        b"push 1\npush 2\npush 3\npush 4\npush 5\n",
+        "done\ndone\ndone\ndone\ndone\nmain len=5 cap=8: 1 2 3 4 5\nside len=0 cap=0:\n",
+    ),
+    (
+        b"push 4294967295\n",
+        "done\nmain len=1 cap=4: 4294967295\nside len=0 cap=0:\n",
+    ),
+    (b"", EMPTY_LISTS),
+    (b"\n \t\r\n\n", EMPTY_LISTS),
+    (b"push 007\n", PUSHED_SEVEN),
+    (b"push 007", PUSHED_SEVEN),
+    (b"\t push \t 7  \n", PUSHED_SEVEN),
+    (b"\r\npush 7\r\n", PUSHED_SEVEN),
+    (
+        b"push 1\npush 2\npush 3\ninsert 1 9\nswap_remove 0\nwithin 7\npop\n",
+        "done\ndone\ndone\ndone\nitem 1\ndone\nitem 7\nmain len=3 cap=4: 3 9 2\nside len=0 cap=0:\n",
+    ),
+    (
+        b"push 3\npush 9\npush 2\nwithin 4\ninsert 0 5\n",
+        "done\ndone\ndone\ndone\ndone\nmain len=5 cap=8: 5 3 9 2 4\nside len=0 cap=0:\n",
+    ),
+    (
+        b"reserve 5\npush 1\nshrink_to 3\nreserve_exact 3\nwithin 9\nclear\nshrink_to 0\nremove 0\n",
+        "done\ndone\ndone\ndone\ndone\ndone\ndone\nrange\nmain len=0 cap=0:\nside len=0 cap=0:\n",
+    ),
+    (
+        b"push 1\nreserve 18446744073709551615\n",
+        "done\nrefused capacity\nmain len=1 cap=4: 1\nside len=0 cap=0:\n",
+    ),
+    (
+        b"within 1\ninsert 1 2\ntruncate 0\nswap_remove 0\n",
+        "back 1\nrange\ndone\nrange\nmain len=0 cap=0:\nside len=0 cap=0:\n",
+    ),
+    (
+        b"reserve_exact 3\ninsert 0 1\ninsert 0 2\nremove 1\ntruncate 1\nshrink_to 2\n",
+        "done\ndone\ndone\nitem 1\ndone\ndone\nmain len=1 cap=2: 2\nside len=0 cap=0:\n",
+    ),
+    (
+        b"extend 0 1 2\nappend\nsplit_off 1\nappend\nresize 4 7\nextend_from_within 1 3\n",
+        "done\ndone\ndone\ndone\ndone\ndone\nmain len=6 cap=8: 1 2 7 7 2 7\nside len=0 cap=1:\n",
+    ),
+    (
+        b"extend 18446744073709551615 5\n",
+        "refused capacity\nmain len=0 cap=0:\nside len=0 cap=0:\n",
+    ),
+    (
+        b"extend -\nextend - 1 2 3 4 5\nextend 0 007\n",
+        "done\ndone\ndone\nmain len=6 cap=10: 1 2 3 4 5 7\nside len=0 cap=0:\n",
+    ),
+    (
+        b"split_off 1\nextend_from_within 0 1\nextend_from_within 1 0\nappend\n",
+        "range\nrange\nrange\ndone\nmain len=0 cap=0:\nside len=0 cap=0:\n",
+    ),
+    (
+        b"extend - 2 4 4 5 4 4\ndedup\nretain\n",
+        "done\ndone\ndone\nmain len=3 cap=6: 2 4 4\nside len=0 cap=0:\n",
+    ),
+    (
+        b"extend - 0 1 2 3 4 5\ndrain 1 4 1 1 keep\ndrain 0 2 0 1 drop\n",
+        "done\ndone\ndone\nmain len=2 cap=6: 4 5\nside len=3 cap=4: 1 3 2\n",
+    ),
+    (
+        b"extend - 0 1 2 3 4 5\ndrain 1 4 1 1 keep\ndrain 0 2 0 1 drop\ndrain 0 2 9 9 drop\ndrain 3 2 0 0 keep\n",
+        "done\ndone\ndone\ndone\nrange\nmain len=0 cap=6:\nside len=5 cap=8: 1 3 2 4 5\n",
+    ),
+    (
+        b"extend - 1 2 3 4 5 6\nextract 1 6 2\nextract 4 9 1\n",
+        "done\ndone\nrange\nmain len=4 cap=6: 1 3 5 6\nside len=2 cap=4: 2 4\n",
+    ),
+    (
+        b"sparing\nextend 0 1 2 3 4 5\n",
+        "done\nmain len=5 cap=6: 1 2 3 4 5\nside len=0 cap=0:\n",
+    ),
+    (
+        b"\n\t\r\n  sparing\t\r\nextend 0 1 2 3 4 5\nsplit_off 5\nextend 0 1 2\nappend\npush 9\n",
+        "done\ndone\ndone\ndone\ndone\nmain len=8 cap=9: 1 2 3 4 5 1 2 9\nside len=0 cap=0:\n",
+    ),
+    (b"\nsparing", EMPTY_LISTS),
+    (
+        b"extend - 1 2 3\nsplice 1 2 18446744073709551615 8 9\n",
+        "done\nrefused capacity\nmain len=3 cap=4: 1 8 3\nside len=0 cap=0:\n",
+    ),
+    (
+        b"extend - 0 1 2 3 4 5\ndrain 1 4 1 1 keep\nsplice 1 2 - 7 8 9\nremove 9\nappend\nretain\nshrink_to 1\n",
+        "done\ndone\ndone\nrange\ndone\ndone\ndone\nmain len=3 cap=3: 0 8 4\nside len=0 cap=4:\n",
+    ),
+    (
+        b"extend - 0 1 2 3 4 5\ndrain 1 4 1 1 keep\nsplice 1 2 - 7 8 9\nremove 9\nappend\nretain\nshrink_to 1\nsplit_off 1\n",
+        "done\ndone\ndone\nrange\ndone\ndone\ndone\ndone\nmain len=1 cap=3: 0\nside len=2 cap=2: 8 4\n",
+    ),
+];
+
+// Scripts, and the number of the first bad line.
+const BAD_SCRIPTS: [(&[u8], u32); 35] = [
+    (b"sparing\nsparing\n", 2),
+    (b"push 1\nsparing\n", 2),
+    (b"\nsparing 1\n", 2),
+    (b"sparing\n\npush\n", 3),
+    (b"Sparing\n", 1),
+    (b"extract 0 1\n", 1),
+    (b"splice 0 0\n", 1),
+    (b"splice 0 - 1\n", 1),
+    (b"splice 0 0 - x\n", 1),
+    (b"extend\n", 1),
+    (b"extend 1 -\n", 1),
+    (b"extend -1 2\n", 1),
+    (b"extend - 1 2 x 3\n", 1),
+    (b"push 1\ninsert 0\n", 2),
+    (b"insert 0 1 2\n", 1),
+    (b"insert 0 4294967296\n", 1),
+    (b"remove 18446744073709551616\n", 1),
+    (b"clear 1\n", 1),
+    (b"push 1\npush\n", 2),
+    (b"\npop x\n", 2),
+    (b"pop x\npush\n", 1),
+    (b"push 1 2\n", 1),
+    (b"push 7\r\r\n", 1),
+    (b"push 7\r", 1),
+    (b"pop\n\r", 2),
+    (b"\xff", 1),
+    (b"pop\npo\xffp\n", 2),
+    (b"push \xff\n", 1),
+    (b"push 4294967296\n", 1),
+    (b"PUSH 1\n", 1),
+    (b"push -1\n", 1),
+    (b"push +1\n", 1),
+    (b"push 0x1\n", 1),
+    (b"push\x0b1\n", 1),
+    (b"push1\n", 1),
+];
+
+// What a script tells of faults, and its status.
+fn told_of<R: Read, W: Write>(alloc: Global, input: &mut R, output: &mut W) -> (Vec<u8>, u8) {
+    let mut told = Vec::new(alloc);
+    let status = script(alloc, input, output, &mut told);
+    (told, status)
+}
+
+// Whether a script prints this, tells this of faults, and has this status.
+fn answers(alloc: Global, mut input: &[u8], output: &[u8], faults: &[u8], status: u8) -> bool {
+    let mut written = Vec::new(alloc);
+    let (told, code) = told_of(alloc, &mut input, &mut written);
+    written.as_slice() == output && told.as_slice() == faults && code == status
+}
+
+#[test]
+fn answers_good_scripts(rt: HostRuntime) {
+    for (input, output) in GOOD_SCRIPTS {
+        assert!(rt;
+            answers(rt.alloc(), input, output.as_bytes(), b"", 0),
+            "{output}"
+        );
+    }
+}
+
+#[test]
+fn names_the_first_bad_line(rt: HostRuntime) -> Result<(), Fail> {
+    for (input, number) in BAD_SCRIPTS {
+        let fault = format!(in rt.alloc(); "bad line {number}\n")?;
+        assert!(rt;
+            answers(rt.alloc(), input, b"", fault.as_bytes(), 1),
+            "{number}"
+        );
+    }
+    Ok(())
+}
+
+fn text(bytes: &[u8]) -> &str {
+    std::str::from_utf8(bytes).unwrap_or("no text")
+}
+
+// A reader or writer that moves at most `most` bytes a call, and fails once, after `calls` calls.
+#[derive(Drop)]
+struct Faulty<T> {
+    inner: T,
+    most: usize,
+    calls: u64,
+    kind: ErrorKind,
+}
+
+impl<T> Faulty<T> {
+    fn count_call(&mut self) -> io::Result<()> {
+        let calls = self.calls;
+        self.calls = calls.wrapping_sub(1);
+        if calls == 0 {
+            return Err(self.kind.into());
+        }
+        Ok(())
+    }
+}
+
+impl<T: Read> Read for Faulty<T> {
+    fn read(&mut self, buf: &mut [u8]) -> io::Result<usize> {
+        self.count_call()?;
+        let most = self.most.min(buf.len());
+        self.inner.read(&mut buf[..most])
+    }
+}
+
+impl<T: Write> Write for Faulty<T> {
+    fn write(&mut self, buf: &[u8]) -> io::Result<usize> {
+        self.count_call()?;
+        let most = self.most.min(buf.len());
+        self.inner.write(&buf[..most])
+    }
+
+    fn flush(&mut self) -> io::Result<()> {
+        self.count_call()?;
+        self.inner.flush()
+    }
+}
+
+const SCRIPT: &[u8] = b"push 1\npush 2\npop\n";
+
+const ANSWER: &str = "done\ndone\nitem 2\nmain len=1 cap=4: 1\nside len=0 cap=0:\n";
+
+#[test]
+fn tells_a_failed_read(rt: HostRuntime) {
+    let rows: [(&[u8], ErrorKind, &str, &str, u8); 5] = [
+        (SCRIPT, ErrorKind::Interrupted, ANSWER, "", 0),
+        (
+            SCRIPT,
+            ErrorKind::OutOfMemory,
+            "",
+            "input or output failed\n",
+            3,
+        ),
+        (SCRIPT, ErrorKind::Other, "", "input or output failed\n", 3),
+        (
+            SCRIPT,
+            ErrorKind::UnexpectedEof,
+            "",
+            "input or output failed\n",
+            3,
+        ),
+        (
+            b"push\npush 1\npop\n",
+            ErrorKind::Other,
+            "",
+            "input or output failed\n",
+            3,
+        ),
+    ];
+    for (bytes, kind, output, faults, status) in rows {
+        let mut input = Faulty {
+            inner: bytes,
+            most: 4,
+            calls: 3,
+            kind,
+        };
+        let mut written = Vec::new(rt.alloc());
+        let (told, answer) = told_of(rt.alloc(), &mut input, &mut written);
+        assert!(rt; (text(&told), text(&written), answer) == (faults, output, status));
+    }
+}
+
+#[test]
+fn tells_a_failed_write(rt: HostRuntime) {
+    for (most, calls) in [
+        (1, 0),
+        (1, 20),
+        (1, 54),
+        (10, 0),
+        (10, 3),
+        (10, 5),
+        (100, 1),
+    ] {
+        let inner = Vec::new(rt.alloc());
+        let mut output = Faulty {
+            inner,
+            most,
+            calls,
+            kind: ErrorKind::Other,
+        };
+        let (mut input, mut told) = (SCRIPT, Vec::new(rt.alloc()));
+        let answer = script(rt.alloc(), &mut input, &mut output, &mut told);
+        assert!(rt;
+            text(&told) == "input or output failed\n",
+            "after {calls} calls"
+        );
+        assert!(rt; ANSWER.starts_with(text(&output.inner)));
+        assert!(rt; answer == 3);
+    }
+}
+
+#[test]
+fn writes_in_parts(rt: HostRuntime) {
+    let inner = Vec::new(rt.alloc());
+    let mut output = Faulty {
+        inner,
+        most: 1,
+        calls: 7,
+        kind: ErrorKind::Interrupted,
+    };
+    let (told, answer) = told_of(rt.alloc(), &mut SCRIPT, &mut output);
+    assert!(rt; (text(&told), text(&output.inner), answer) == ("", ANSWER, 0));
+}
+
+// The answer takes several writes.
+#[test]
+fn fails_in_a_long_answer(rt: HostRuntime) -> Result<(), Fail> {
+    let (mut pops, mut answer) = (Vec::new(rt.alloc()), Vec::new(rt.alloc()));
+    for _ in 0..4000 {
+        pops.extend_from_slice(b"pop\n")?;
+        answer.extend_from_slice(b"none\n")?;
+    }
+    answer.extend_from_slice(EMPTY_LISTS.as_bytes())?;
+    for (calls, status) in [(0, 3), (1, 3), (4, 3), (9, 0)] {
+        let inner = Vec::new(rt.alloc());
+        let mut output = Faulty {
+            inner,
+            most: 4096,
+            calls,
+            kind: ErrorKind::Other,
+        };
+        let (_told, code) = told_of(rt.alloc(), &mut pops.as_slice(), &mut output);
+        assert!(rt; code == status, "after {calls} calls");
+        assert!(rt; answer.starts_with(&output.inner));
+        assert!(rt; status == 3 || answer == output.inner);
+    }
+    Ok(())
+}
+
+// It is run in several pieces.
+#[test]
+fn runs_a_long_script(rt: HostRuntime) -> Result<(), Fail> {
+    let (mut lines, mut answer) = (Vec::new(rt.alloc()), Vec::new(rt.alloc()));
+    for _ in 0..1000 {
+        lines.extend_from_slice(b"push 7\r\n\nextend - 8 9\npop\nsplit_off 1\n")?;
+        answer.extend_from_slice(b"done\ndone\nitem 9\ndone\n")?;
+        lines.extend_from_slice(b"clear\n")?;
+        answer.extend_from_slice(b"done\n")?;
+    }
+    answer.extend_from_slice(b"main len=0 cap=4:\nside len=1 cap=1: 8\n")?;
+    assert!(rt; answers(rt.alloc(), lines.as_slice(), answer.as_slice(), b"", 0));
+    Ok(())
+}
+
+#[test]
+fn names_a_bad_line_of_a_late_piece(rt: HostRuntime) -> Result<(), Fail> {
+    let mut lines = Vec::new(rt.alloc());
+    for _ in 0..2000 {
+        lines.extend_from_slice(b"push 7\n")?;
+    }
+    lines.extend_from_slice(b"pop 7\npush\n")?;
+    assert!(rt; answers(rt.alloc(), lines.as_slice(), b"", b"bad line 2001\n", 1));
+    Ok(())
+}
+
+// Its first line chooses sparing growth, and lines of all its pieces count on from there.
+#[test]
+fn counts_the_lines_of_a_long_sparing_script(rt: HostRuntime) -> Result<(), Fail> {
+    let mut lines = Vec::new(rt.alloc());
+    lines.extend_from_slice(b"\nsparing\n")?;
+    for _ in 0..2000 {
+        lines.extend_from_slice(b"push 7\n")?;
+    }
+    let mut written = Vec::new(rt.alloc());
+    let (told, status) = told_of(rt.alloc(), &mut lines.as_slice(), &mut written);
+    assert!(rt; (text(&told), status) == ("", 0));
+    assert!(rt; text(&written).contains("\nmain len=2000 cap=2775: 7 7"));
+    lines.extend_from_slice(b"sparing\n")?;
+    assert!(rt; answers(rt.alloc(), lines.as_slice(), b"", b"bad line 2003\n", 1));
+    Ok(())
+}
+
+// Holds too where an allocation is refused, as `rt try --test --fail-alloc N` has it.
+#[test]
+fn tells_refused_memory(rt: HostRuntime) {
+    let (Ok(mut written), Ok(mut told)) = (
+        Vec::with_capacity(rt.alloc(), 256),
+        Vec::with_capacity(rt.alloc(), 64),
+    ) else {
+        return;
+    };
+    let mut input = SCRIPT;
+    let status = script(rt.alloc(), &mut input, &mut written, &mut told);
+    let (output, faults) = (text(&written), text(&told));
+    if status == 0 {
+        assert!(rt; output.ends_with("\nside len=0 cap=0:\n"));
+        assert!(rt; faults == "");
+    } else {
+        assert!(rt; (status, output, faults) == (2, "", "out of memory\n"));
+    }
+}
+
+#[test]
+fn keeps_the_status_without_a_text(rt: HostRuntime) {
+    let (mut input, mut written) = (b"push\n".as_slice(), Vec::new(rt.alloc()));
+    let mut told = Faulty {
+        inner: Vec::new(rt.alloc()),
+        most: 1,
+        calls: 0,
+        kind: ErrorKind::Other,
+    };
+    assert!(rt; script(rt.alloc(), &mut input, &mut written, &mut told) == 1);
+    assert!(rt; written.is_empty());
+}

@@ -1,0 +1,60 @@
+-- A text of which a beginning is written.
+use Rattle.std.proofs.Common.{◌≡◌, ◌∙◌, refl, inl, inr, ℕ, Bool, true, false, true≢false, sym, List, [], ◌∷◌, ◌++◌, take, drop, length, arith}
+use Rattle.std.proofs.KnownBytes.{Appends-trans}
+use Rattle.std.proofs.lemmas.List.{append_assoc, append-nil, take-append-drop}
+use Rattle.std.specs.Fmt.Cut.{IsTextOrCut}
+use Rattle.std.specs.Cmp.Lexicographic.{pointwise}
+use Rattle.std.specs.List.{ends_with}
+use Rattle.std.specs.Prelude.{Option, None, Some, IfSome, Result, Ok, Err, OnOk, codes}
+use Rattle.std.specs.Result.{is_ok}
+use Rattle.std.specs.Io.KnownBytes.{Appends}
+use Rattle.vecscript.specs.Print.{AppendsBeginning}
+
+-- known bytes grew by what of the text is not left
+pub record HasWritten (old new : Option (List ℕ)) (text rest : List ℕ) : Type 0 where
+  pub front : List ℕ
+  pub place : text ≡ front ++ rest
+  pub grew : Appends old new front
+
+-- more of the rest is written
+pub HasWritten-next : (old mid new : Option (List ℕ)) (text rest : List ℕ) (n : ℕ) → HasWritten old mid text rest → Appends mid new (take n rest)
+    → HasWritten old new text (drop n rest)
+HasWritten-next old mid new text rest n had more =
+    record {
+      front = had.front ++ take n rest;
+      place = rw (append_assoc had.front (take n rest) (drop n rest), take-append-drop n rest) had.place;
+      grew = Appends-trans old mid new had.front (take n rest) had.grew more;
+    }
+
+-- nothing is left
+pub HasWritten-all : (old new : Option (List ℕ)) (text rest : List ℕ) → HasWritten old new text rest → length rest ≡ 0 → Appends old new text
+HasWritten-all old new text [] had none = rw (had.place, append-nil had.front) had.grew
+HasWritten-all old new text (x ∷ xs) had none = absurd (omega arith)
+
+-- a beginning of what a known text leads to
+pub IfSome-begun : {X : Type 0} (Means : X → Type 0) (Leads : X → List ℕ → Type 0) (known : Option X) (answer : List ℕ) (old new : Option (List ℕ))
+    → IfSome known Means → ((x : X) → Means x → Leads x answer) → AppendsBeginning old new answer
+    → IfSome known (λ x. (answer : List ℕ) × Leads x answer × AppendsBeginning old new answer)
+IfSome-begun Means Leads None answer old new means leads begun = tt
+IfSome-begun Means Leads (Some x) answer old new means leads begun = (answer, leads x means, begun)
+
+-- a text that does not end in dots was not cut
+pub whole-text : (E : ℕ → ℕ → Bool) (known kept : List ℕ) → pointwise E (codes "...") (codes "...") ≡ true → IsTextOrCut 64 known kept
+    → false ≡ ends_with E kept (codes "...") → kept ≡ known
+whole-text E known kept same (inl whole) ends = whole
+whole-text E known kept same (inr dots) ends =
+    absurd (true≢false (sym (rw dots at ends ∙ same)))
+
+-- a beginning of a line's text is one of the line, and so is all of the text and a beginning of its end
+pub AppendsBeginning-within : (old new : Option (List ℕ)) (text more : List ℕ) → AppendsBeginning old new text → AppendsBeginning old new (text ++ more)
+AppendsBeginning-within old new text more begun =
+    (begun.0, begun.1 ++ more, rw (begun.2, append_assoc begun.0 begun.1 more) refl, begun.3)
+
+pub AppendsBeginning-on : (old mid new : Option (List ℕ)) (text more : List ℕ) → Appends old mid text → AppendsBeginning mid new more
+    → AppendsBeginning old new (text ++ more)
+AppendsBeginning-on old mid new text more whole begun =
+    (text ++ begun.0, begun.1, rw (append_assoc text begun.0 begun.1, ← begun.2) refl, Appends-trans old mid new text begun.0 whole begun.3)
+
+pub OnOk-holds : {X Y : Type 0} (P : Type 0) (r : Result X Y) → true ≡ is_ok r → OnOk r P → P
+OnOk-holds P (Ok x) ok p = p
+OnOk-holds P (Err e) ok p = absurd (true≢false ok)

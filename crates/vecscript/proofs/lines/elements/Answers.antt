@@ -1,0 +1,19 @@
+use Rattle.std.proofs.Common.{◌^◌, inr, refl}
+use Rattle.vecscript.specs.Lines.{Writes}
+use Rattle.vecscript.proofs.Taken.{HasTaken-next, HasTaken-stuck}
+use Rattle.vecscript.proofs.lines.elements.Goals as goal
+
+-- the word that was taken is read
+pub each-preserved : goal.each-preserved
+each-preserved c =
+    let (word, next, written) = c.in-Some.ensures.some in
+    rw c.in_ok-push-in-Some.ensures.pushed.items (HasTaken-next (Writes (2 ^ 32)) _ _ _ word _ _ c.each.invariant next written)
+
+-- or it is no element, and then the line says none
+pub returns-in-None : goal.returns-in-None
+returns-in-None c =
+    inr (
+      refl,
+      λ v. HasTaken-stuck (Writes (2 ^ 32)) _ _ _ c.each.invariant c.each-test.ensures
+          (λ word more x e. c.in-None.ensures.none word more x e) v.items,
+    )

@@ -1,0 +1,7 @@
+use Rattle.std.proofs.Common.{◌≡◌, ◌<◌, ◌^◌, take}
+use Rattle.std.specs.Str.Parse.{AllDigits, digits_value}
+use Rattle.vecscript.proofs.lines.first_number.Given as goal
+
+abbrev pub invariant-digits : goal.invariant-digits
+invariant-digits l =
+    AllDigits 10 (take l.index l.line) × (l.value ≡ digits_value 10 (take l.index l.line)) × (l.value < 2 ^ 64)

@@ -1,0 +1,536 @@
+//! From the bytes of a script to its commands.
+ghost use Rattle.std.specs.Prelude.{◌≡◌, ◌≢◌, ℕ, ◌+◌, ◌++◌, ◌^◌, ◌<◌, ◌≤◌, ◌==◌, [], length, IfSome, IfNone, Option, MatchOption, Bool, true, false, ◌⊎◌, IfOk, IfErr, OnOk, OnSome, MatchBool, List, ◌∷◌, take, drop};
+ghost use Rattle.std.specs.Iterator.{YieldsFirstRef, item_count};
+ghost use Rattle.std.specs.List.{AllZip, prefix_len, position_or_len};
+ghost use Rattle.std.specs.Option.{SomeIff};
+ghost use Rattle.std.specs.Str.Lines.{lines, strip_carriage_return};
+ghost use Rattle.std.specs.Str.Parse.{IsNumeral, AllDigits, digits_value};
+ghost use Rattle.vecscript.specs.Faults.{IsFoundAmong, ReadsAs, ReadsOrLacks};
+ghost use Rattle.vecscript.specs.Lines.{is_blank, words_of, IsElement, IsNumber, AreNumberAndElement, AreNumbers, AreThreeNumbers, AreDrain, SaysKept, Writes, IsHint, SaysExtend, SaysSplice, SayAfter, Say, are_sparing, growth_in, command_lines, AreBehind, Mean, IsBad, HasNoBad};
+
+use crate::script::Fault;
+use allocator_api2::raw_vec::Growth;
+use allocator_api2::runner::Command;
+use allocator_api2::vec::Vec;
+use std::alloc::Global;
+
+/// How the two lists of a script grow, how many of its lines say that, and the text behind these: where the first line that has
+/// words is `sparing` alone, the lists grow sparingly, and commands stand behind it; else in all of the text.
+pub fn chosen_growth(text: &[u8]) -> (Growth, usize, &[u8])
+    ensures growth { result.0 ≡ growth_in (lines text.now) }
+    ensures behind { AreBehind result.1 (lines result.2.now) (command_lines (lines text.now)) }
+{
+    let mut rest = Lines { rest: text };
+    let mut count = 0;
+    'blank: while let Some(line) = rest.next() {
+        count += 1;
+        match is_sparing(line) {
+            None => {}
+            Some(true) => return (Growth::Sparing, count, rest.rest),
+            Some(false) => return (Growth::Doubling, 0, text),
+        }
+    }
+    (Growth::Doubling, 0, text)
+}
+
+// Whether the line's words are `sparing` alone, where it has some.
+fn is_sparing(line: &[u8]) -> Option<bool>
+    ensures { MatchOption result (words_of line.now ≡ []) (λ b. (words_of line.now ≢ []) × (b ≡ are_sparing (words_of line.now))) }
+{
+    let mut words = Words { rest: line };
+    match (words.next()?, words.next()) {
+        (b"sparing", None) => Some(true),
+        _ => Some(false),
+    }
+}
+
+/// Looks at the lines, and keeps no command.
+///
+/// It takes memory for the elements of one line at a time. The first line that is no known form is
+/// `Fault::BadLine`, and refused memory is `Fault::OutOfMemory`.
+pub fn check(alloc: Global, text: &[u8]) -> Result<(), Fault>
+    ensures ok { OnOk result (HasNoBad (lines text.now)) }
+    ensures err { IfErr result
+        (λ fault. IsFoundAmong (lines text.now) fault × (fault ≢ Fault.InputOutput)) }
+{
+    for (index, line) in (Lines { rest: text }).enumerate() {
+        check_line(alloc, index + 1, line)?;
+    }
+    Ok(())
+}
+
+// Looks at one line.
+fn check_line(alloc: Global, number: usize, line: &[u8]) -> Result<(), Fault>
+    ensures ok { OnOk result (¬ (IsBad line.now)) }
+    ensures err { IfErr result
+        (λ fault. (fault ≡ Fault.OutOfMemory) ⊎ ((fault ≡ Fault.BadLine number) × IsBad line.now)) }
+{
+    match command_of_line(alloc, number, line) {
+        Ok(_) => Ok(()),
+        Err(fault) => Err(fault),
+    }
+}
+
+// How many bytes of a script are run at a time, with the rest of the last line: few enough for the nearest cache to hold their commands.
+const PIECE: usize = 4096;
+
+// A guess at how many bytes a line has. The commands of a piece get room for as many lines at first.
+const SHORT_LINE: usize = 8;
+
+/// The commands of the lines, in order. A line without words is no command, but counts.
+///
+/// It takes memory for the commands. The first line that is no known form is `Fault::BadLine`, and
+/// refused memory is `Fault::OutOfMemory`.
+pub fn commands(alloc: Global, text: &[u8]) -> Result<Vec<Command<u32>, Global>, Fault>
+    ensures items { IfOk result (λ commands. Mean (lines text.now) commands.items) }
+    ensures ok { OnOk result (HasNoBad (lines text.now)) }
+    ensures err { IfErr result
+        (λ fault. IsFoundAmong (lines text.now) fault × (fault ≢ Fault.InputOutput)) }
+{
+    let mut commands = Vec::with_capacity_in(text.len().min(PIECE) / SHORT_LINE, alloc)?;
+    for (index, line) in (Lines { rest: text }).enumerate() {
+        if let Some(command) = command_of_line(alloc, index + 1, line)? {
+            commands.push(command)?;
+        }
+    }
+    Ok(commands)
+}
+
+/// Cuts a text between two lines, behind the first one that ends past a piece's length, or at its end.
+pub fn first_lines(text: &[u8]) -> (&[u8], &[u8])
+    ensures lines { lines text.now ≡ lines result.0.now ++ lines result.1.now }
+    ensures fewer { 0 < length text.now → length result.1.now < length text.now }
+{
+    let least = text.len().min(PIECE);
+    let (_, rest) = text.split_at(least);
+    let end = least + line_length(rest);
+    if end < text.len() {
+        text.split_at(end + 1)
+    } else {
+        text.split_at(end)
+    }
+}
+
+// The lines of a text, as `str::lines` gives them: one carriage return before a line feed goes too.
+#[derive(Drop)]
+struct Lines<'a> {
+    rest: &'a [u8],
+}
+
+impl<'a> Iterator for Lines<'a> {
+    type Item = &'a [u8];
+
+    ghost next_gives = { YieldsFirstRef (λ text. lines text.rest.now) };
+
+    ghost remaining = { item_count (λ text. lines text.rest.now) };
+
+    fn next(&mut self) -> Option<&'a [u8]> {
+        if self.rest.is_empty() {
+            return None;
+        }
+        let (line, end) = self.rest.split_at(line_length(self.rest));
+        match end {
+            [] => {
+                self.rest = end;
+                Some(line)
+            }
+            [_line_feed, rest @ ..] => {
+                self.rest = rest;
+                Some(without_carriage_return(line))
+            }
+        }
+    }
+}
+
+// How many bytes stand before the text's first line feed.
+fn line_length(text: &[u8]) -> usize
+    ensures length { result ≡ position_or_len (λ b. b == 10) text.now }
+    ensures bound { result ≤ length text.now }
+{
+    text.iter().take_while(|byte| **byte != b'\n').count()
+}
+
+// The line without the one carriage return at its end, if it has one.
+fn without_carriage_return(line: &[u8]) -> &[u8]
+    ensures { result.now ≡ strip_carriage_return line.now }
+{
+    line.strip_suffix(b"\r").unwrap_or(line)
+}
+
+// The command that the line says, or `None` where it has no words. Most lines are pushes, and are known by their bytes.
+#[inline(always)]
+fn command_of_line(alloc: Global, number: usize, line: &[u8]) -> Result<Option<Command<u32>>, Fault>
+    ensures ok { IfOk result
+        (λ command. MatchOption command (words_of line.now ≡ []) (Say (words_of line.now))) }
+    ensures err { IfErr result
+        (λ fault. (fault ≡ Fault.OutOfMemory) ⊎ ((fault ≡ Fault.BadLine number) × IsBad line.now)) }
+{
+    let mut words = Words { rest: line };
+    let Some(name) = words.next() else {
+        return Ok(None);
+    };
+    let line = Line { number, words };
+    match name {
+        b"push" => Ok(Some(Command::Push(line.element()?))),
+        _ => Ok(Some(named_command(alloc, name, line)?)),
+    }
+}
+
+// The command of a line that begins with this word. It stands apart, so that the code above it stays short.
+#[inline(never)]
+fn named_command(alloc: Global, name: &[u8], line: Line<'_>) -> Result<Command<u32>, Fault>
+    ensures { ReadsOrLacks line.entry.number
+        (Say (name.now ∷ words_of line.entry.words.rest.now)) result }
+{
+    match std::str::from_utf8(name) {
+        Ok("extend") => extension(alloc, line),
+        Ok("splice") => replacement(alloc, line),
+        Ok(name) => command(name, line),
+        Err(_) => Err(line.bad()),
+    }
+}
+
+// The command of this name, where the rest of the line is what it takes.
+fn command(name: &str, line: Line<'_>) -> Result<Command<u32>, Fault>
+    ensures { ReadsAs line.entry.number
+        (SayAfter name.now (words_of line.entry.words.rest.now)) result }
+{
+    match name {
+        "push" => line.element().map(|x| Command::Push(x)),
+        "within" => line.element().map(|x| Command::Within(x)),
+        "pop" => line.end().map(|()| Command::Pop),
+        "insert" => line
+            .number_and_element()
+            .map(|(index, x)| Command::Insert(index, x)),
+        "remove" => line.number().map(|n| Command::Remove(n)),
+        "swap_remove" => line.number().map(|n| Command::SwapRemove(n)),
+        "truncate" => line.number().map(|n| Command::Truncate(n)),
+        "clear" => line.end().map(|()| Command::Clear),
+        "reserve" => line.number().map(|n| Command::Reserve(n)),
+        "reserve_exact" => line.number().map(|n| Command::ReserveExact(n)),
+        "shrink_to" => line.number().map(|n| Command::ShrinkTo(n)),
+        "split_off" => line.number().map(|n| Command::SplitOff(n)),
+        "append" => line.end().map(|()| Command::Append),
+        "extend_from_within" => line
+            .numbers()
+            .map(|(from, to)| Command::ExtendFromWithin(from, to)),
+        "resize" => line
+            .number_and_element()
+            .map(|(len, x)| Command::Resize(len, x)),
+        "retain" => line.end().map(|()| Command::Retain),
+        "dedup" => line.end().map(|()| Command::Dedup),
+        "drain" => line.drain().map(|(start, end, front, back, keep)| Command::Drain {
+            start,
+            end,
+            front,
+            back,
+            keep,
+        }),
+        "extract" => line.three_numbers().map(|(start, end, take)| Command::ExtractIf {
+            start,
+            end,
+            take,
+        }),
+        _ => Err(line.bad()),
+    }
+}
+
+// The extension by the elements of the rest of the line, before which the hint stands. It takes memory for the elements.
+fn extension(alloc: Global, mut line: Line<'_>) -> Result<Command<u32>, Fault>
+    ensures { ReadsOrLacks line.entry.number
+        (SaysExtend (words_of line.entry.words.rest.now)) result }
+{
+    let Some(hint) = line.words.next().and_then(hint) else {
+        return Err(line.bad());
+    };
+    let items = elements(alloc, line)?;
+    Ok(Command::Extend { items, hint })
+}
+
+// The splice by the elements of the rest of the line, before which the range and the hint stand. It takes memory for the elements.
+fn replacement(alloc: Global, mut line: Line<'_>) -> Result<Command<u32>, Fault>
+    ensures { ReadsOrLacks line.entry.number
+        (SaysSplice (words_of line.entry.words.rest.now)) result }
+{
+    let start = line.words.number();
+    let end = line.words.number();
+    let hint = line.words.next().and_then(hint);
+    let (Some(start), Some(end), Some(hint)) = (start, end, hint) else {
+        return Err(line.bad());
+    };
+    let items = elements(alloc, line)?;
+    Ok(Command::Splice {
+        start,
+        end,
+        items,
+        hint,
+    })
+}
+
+// The elements that the words of the rest of the line write, all of them. It takes memory for them.
+fn elements(alloc: Global, line: Line<'_>) -> Result<Vec<u32>, Fault>
+    ensures { ReadsOrLacks line.entry.number
+        (λ v. AllZip (Writes (2 ^ 32)) (words_of line.entry.words.rest.now) v.items) result }
+{
+    let Line { number, mut words } = line;
+    let mut items = Vec::new_in(alloc);
+    'each: while !words.is_empty() {
+        match words.element() {
+            Some(x) => items.push(x)?,
+            None => return Err(Fault::BadLine(number)),
+        }
+    }
+    Ok(items)
+}
+
+// What is left of a line after its first word.
+#[derive(Drop)]
+struct Line<'a> {
+    number: usize,
+    words: Words<'a>,
+}
+
+impl Line<'_> {
+    fn bad(&self) -> Fault
+        ensures { result ≡ Fault.BadLine self.now.number }
+    {
+        Fault::BadLine(self.number)
+    }
+
+    // No word.
+    fn end(mut self) -> Result<(), Fault>
+        ensures ok { OnOk result (words_of self.entry.words.rest.now ≡ []) }
+        ensures err { IfErr result (λ fault. (fault ≡ Fault.BadLine self.entry.number)
+            × (words_of self.entry.words.rest.now ≢ [])) }
+    {
+        match self.words.next() {
+            None => Ok(()),
+            Some(_) => Err(self.bad()),
+        }
+    }
+
+    // One word, which is an element.
+    #[inline]
+    fn element(mut self) -> Result<u32, Fault>
+        ensures { ReadsAs self.entry.number
+            (IsElement (words_of self.entry.words.rest.now)) result }
+    {
+        match (self.words.element(), self.words.next()) {
+            (Some(x), None) => Ok(x),
+            _ => Err(self.bad()),
+        }
+    }
+
+    // One word, which is a number.
+    fn number(mut self) -> Result<usize, Fault>
+        ensures { ReadsAs self.entry.number (IsNumber (words_of self.entry.words.rest.now)) result }
+    {
+        match (self.words.number(), self.words.next()) {
+            (Some(n), None) => Ok(n),
+            _ => Err(self.bad()),
+        }
+    }
+
+    // Two words, which are numbers.
+    fn numbers(mut self) -> Result<(usize, usize), Fault>
+        ensures { ReadsAs self.entry.number
+            (AreNumbers (words_of self.entry.words.rest.now)) result }
+    {
+        let first = self.words.number();
+        let second = self.words.number();
+        match (first, second, self.words.next()) {
+            (Some(m), Some(n), None) => Ok((m, n)),
+            _ => Err(self.bad()),
+        }
+    }
+
+    // Three words, which are numbers.
+    fn three_numbers(mut self) -> Result<(usize, usize, usize), Fault>
+        ensures { ReadsAs self.entry.number
+            (AreThreeNumbers (words_of self.entry.words.rest.now)) result }
+    {
+        let first = self.words.number();
+        let second = self.words.number();
+        let third = self.words.number();
+        match (first, second, third, self.words.next()) {
+            (Some(l), Some(m), Some(n), None) => Ok((l, m, n)),
+            _ => Err(self.bad()),
+        }
+    }
+
+    // Two words, a number and an element.
+    fn number_and_element(mut self) -> Result<(usize, u32), Fault>
+        ensures { ReadsAs self.entry.number
+            (AreNumberAndElement (words_of self.entry.words.rest.now)) result }
+    {
+        let number = self.words.number();
+        let element = self.words.element();
+        match (number, element, self.words.next()) {
+            (Some(n), Some(x), None) => Ok((n, x)),
+            _ => Err(self.bad()),
+        }
+    }
+
+    // Five words, four numbers and whether what is left stays.
+    fn drain(mut self) -> Result<(usize, usize, usize, usize, bool), Fault>
+        ensures { ReadsAs self.entry.number (AreDrain (words_of self.entry.words.rest.now)) result }
+    {
+        let start = self.words.number();
+        let end = self.words.number();
+        let front = self.words.number();
+        let back = self.words.number();
+        let keep = self.words.next().and_then(kept);
+        match (start, end, front, back, keep, self.words.next()) {
+            (Some(start), Some(end), Some(front), Some(back), Some(keep), None) => {
+                Ok((start, end, front, back, keep))
+            }
+            _ => Err(self.bad()),
+        }
+    }
+}
+
+// Whether what is left of a range stays, if the word says so.
+fn kept(word: &[u8]) -> Option<bool>
+    ensures some { IfSome result (SaysKept word.now) }
+    ensures none { IfNone result ((b : Bool) → ¬ (SaysKept word.now b)) }
+{
+    match word {
+        b"keep" => Some(true),
+        b"drop" => Some(false),
+        _ => None,
+    }
+}
+
+// The hint that the word is: a number, or none where it is a hyphen.
+fn hint(word: &[u8]) -> Option<Option<usize>>
+    ensures { MatchOption result ((h : Option ℕ) → ¬ (IsHint word.now h)) (IsHint word.now) }
+{
+    if word == b"-".as_slice() {
+        return Some(None);
+    }
+    number(word).map(|n| Some(n))
+}
+
+// The number that the word writes in decimal digits, if it fits.
+fn number(word: &[u8]) -> Option<usize>
+    ensures { SomeIff result (IsNumeral 10 word.now × (digits_value 10 word.now < 2 ^ 64))
+        (digits_value 10 word.now) }
+{
+    if word.is_empty() {
+        return None;
+    }
+    let (value, rest) = first_number(word)?;
+    if rest.is_empty() {
+        Some(value as usize)
+    } else {
+        None
+    }
+}
+
+// The number that the bytes before the line's first blank write, and what follows them, if each is a decimal digit and the
+// number fits. No digits write 0.
+fn first_number(line: &[u8]) -> Option<(u64, &[u8])>
+    ensures some { IfSome result (λ r. let word = take (position_or_len is_blank line.now) line.now in
+        AllDigits 10 word × (r.0 ≡ digits_value 10 word) × (r.1.now ≡ drop (position_or_len is_blank line.now) line.now)
+        × (r.0 < 2 ^ 64)) }
+    ensures none { IfNone result (let word = take (position_or_len is_blank line.now) line.now in
+        ¬ (AllDigits 10 word × (digits_value 10 word < 2 ^ 64))) }
+{
+    let mut value: u64 = 0;
+    'digits: for (index, byte) in line.iter().enumerate() {
+        if !byte.is_ascii_digit() {
+            return if is_blank(*byte) {
+                Some((value, &line[index..]))
+            } else {
+                None
+            };
+        }
+        value = value.checked_mul(10)?.checked_add((*byte - b'0') as u64)?;
+    }
+    Some((value, &line[line.len()..]))
+}
+
+// The words of a line, which spaces and tabs separate.
+#[derive(Drop)]
+struct Words<'a> {
+    rest: &'a [u8],
+}
+
+impl<'a> Iterator for Words<'a> {
+    type Item = &'a [u8];
+
+    ghost next_gives = { YieldsFirstRef (λ words. words_of words.rest.now) };
+
+    ghost remaining = { item_count (λ words. words_of words.rest.now) };
+
+    fn next(&mut self) -> Option<&'a [u8]> {
+        let (_, line) = self.rest.split_at(blank_count(self.rest));
+        let (word, rest) = line.split_at(word_length(line));
+        self.rest = rest;
+        if word.is_empty() { None } else { Some(word) }
+    }
+}
+
+impl Words<'_> {
+    // Whether no word is left.
+    fn is_empty(&self) -> bool
+        ensures { MatchBool result (words_of self.now.rest.now ≡ []) (words_of self.now.rest.now ≢ []) }
+    {
+        blank_count(self.rest) == self.rest.len()
+    }
+
+    // The element that the next word writes, if there is one and it writes one.
+    fn element(&mut self) -> Option<u32>
+        ensures some { IfSome result (λ x. (word : List ℕ) × (words_of self.old.rest.now ≡ word ∷ words_of self.new.rest.now)
+            × Writes (2 ^ 32) word x) }
+        ensures none { IfNone result ((word : List ℕ) (rest : List (List ℕ)) (x : ℕ)
+            → words_of self.old.rest.now ≡ word ∷ rest → ¬ (Writes (2 ^ 32) word x)) }
+        ensures fewer { OnSome result (length self.new.rest.now < length self.old.rest.now) }
+    {
+        let x = self.number()?;
+        if x <= u32::MAX as usize {
+            Some(x as u32)
+        } else {
+            None
+        }
+    }
+
+    // The number that the next word writes, if there is one and it writes one.
+    fn number(&mut self) -> Option<usize>
+        ensures some { IfSome result (λ n. (word : List ℕ) × (words_of self.old.rest.now ≡ word ∷ words_of self.new.rest.now)
+            × Writes (2 ^ 64) word n) }
+        ensures none { IfNone result ((word : List ℕ) (rest : List (List ℕ)) (n : ℕ)
+            → words_of self.old.rest.now ≡ word ∷ rest → ¬ (Writes (2 ^ 64) word n)) }
+        ensures fewer { OnSome result (length self.new.rest.now < length self.old.rest.now) }
+    {
+        let (_, line) = self.rest.split_at(blank_count(self.rest));
+        if line.is_empty() {
+            return None;
+        }
+        let (value, rest) = first_number(line)?;
+        self.rest = rest;
+        Some(value as usize)
+    }
+}
+
+// How many blanks the line begins with.
+fn blank_count(line: &[u8]) -> usize
+    ensures count { result ≡ prefix_len is_blank line.now }
+    ensures bound { result ≤ length line.now }
+{
+    line.iter().take_while(|byte| is_blank(**byte)).count()
+}
+
+// How many bytes stand before the line's first blank.
+fn word_length(line: &[u8]) -> usize
+    ensures length { result ≡ position_or_len is_blank line.now }
+    ensures bound { result ≤ length line.now }
+{
+    line.iter().take_while(|byte| !is_blank(**byte)).count()
+}
+
+fn is_blank(byte: u8) -> bool
+    ensures { result ≡ is_blank byte }
+{
+    byte == b' ' || byte == b'\t'
+}

@@ -1,0 +1,33 @@
+//! Writing a text, of which a beginning stands where a write fails.
+ghost use Rattle.std.specs.Prelude.{◌≡◌, OnOk, IfErr};
+ghost use Rattle.std.specs.Io.KnownBytes.{Appends};
+ghost use Rattle.vecscript.specs.Print.{AppendsBeginning};
+ghost use Rattle.vecscript.specs.declared.script.Fault.TheVariants.{InputOutput};
+
+use crate::script::Fault;
+use std::io::{ErrorKind, Write};
+
+/// Writes the text. A write that is interrupted is tried again; where another fails, or takes nothing, a beginning of the text
+/// was written.
+pub fn write_text<W: Write>(text: &[u8], output: &mut W) -> Result<(), Fault>
+    ensures ok { OnOk result (Appends (W.contents output.old) (W.contents output.new) text.now) }
+    ensures part { AppendsBeginning (W.contents output.old) (W.contents output.new) text.now }
+    ensures err { IfErr result (λ fault. fault ≡ InputOutput) }
+{
+    let mut rest = text;
+    'tries: for _ in 0..u64::MAX {
+        if rest.is_empty() {
+            return Ok(());
+        }
+        match output.write(rest) {
+            Ok(0) => return Err(Fault::InputOutput),
+            Ok(count) => rest = &rest[count..],
+            Err(error) => {
+                if error.kind() != ErrorKind::Interrupted {
+                    return Err(Fault::InputOutput);
+                }
+            }
+        }
+    }
+    Err(Fault::InputOutput)
+}
