@@ -1,28 +1,24 @@
 -- Items that come of an iterator, and are put into a block.
 use Rattle.std.proofs.Common.{◌≡◌, ℕ, ◌+◌, ◌<◌, ◌≤◌, List, [], ◌∷◌, ◌++◌, length, Option, Some, None, refl, sym, ap, ◌∙◌, subst, arith, length-append, inl, inr}
 use Rattle.std.specs.Prelude.{Result, Ok, Err, IfOk, IfErr, if◌then◌else◌, ◌==◌}
-use Rattle.std.specs.Iterator.{Yields, Drains}
+use Rattle.std.specs.Iterator.{Yields, YieldsThen}
 use Rattle.std.specs.Iterator.Runs.{WholeRun}
 use Rattle.std.proofs.iter.runs.Consumers.{total_runs}
 use Rattle.std.proofs.lemmas.Bool.Decides.{eqb_tells}
-use Rattle.aa_raw.specs.Growth.{usize_max, sized}
-use Rattle.aa_raw.specs.Refusals.{IsRefused}
-use Rattle.aa_raw.specs.declared.collections.TryReserveErrorKind.{TryReserveErrorKind}
-use Rattle.aa_raw.specs.declared.collections.TryReserveErrorKind.TheVariants.{CapacityOverflow, AllocError}
+use Rattle.aa_raw.specs.Growth.{amortized, least_of, usize_max, sized}
+use Rattle.aa_raw.specs.Room.{LacksRoom}
+use Rattle.aa_raw.specs.declared.collections.TryReserveError.{TryReserveError}
+use Rattle.aa_raw.specs.declared.collections.TryReserveErrorKind.TheVariants.{AllocError}
 use Rattle.aa_raw.specs.declared.raw_vec.Growth.TheVariants.{Doubling}
 use Rattle.aa_boxed.specs.Slice.{Begun, Slice, ended, with_next, Stops}
+use Rattle.aa_boxed.specs.Telling.{asked_with}
 use Rattle.aa_boxed.proofs.Fillings.{none-chosen, some-chosen}
 
--- a refusal of more is one of less
-pub IsRefused-less : (e : TryReserveErrorKind) (m n : ℕ) → n ≤ m → IsRefused e m → IsRefused e n
-IsRefused-less CapacityOverflow m n h r = tt
-IsRefused-less (AllocError capacity) m n h r = omega (arith, h, r)
-
--- more than a new block has places for
-over_start : (size n : ℕ) → 0 < n → (size ≡ 0 → usize_max < n) → n ≤ sized size 0 → ⊥
-over_start size n some many h = elim (eqb_tells size 0) [
+-- n items that filled their room are no fewer than a new block has places for
+over_start : (size n : ℕ) → (size ≡ 0 → usize_max ≤ n) → n < sized size 0 → ⊥
+over_start size n many h = elim (eqb_tells size 0) [
   | inl e ↦ absurd (omega (arith, many e.1, h, none-chosen size usize_max 0 e.1))
-  | inr e ↦ absurd (omega (arith, some, h, some-chosen size 0 usize_max 0 e.1))
+  | inr e ↦ absurd (omega (arith, h, some-chosen size 0 usize_max 0 e.1))
 ]
 
 -- w is f, or f with more room
@@ -37,19 +33,19 @@ module _ {S T : Type 0} (steps : S → Option T → S → Type 0) where
   Yields-next s [] t x u y p = (u, subst (λ k. steps k (Some x) u) (sym y) p, refl)
   Yields-next s (z ∷ xs) t x u y p = (y.0, y.1, Yields-next y.0 xs t x u y.2 p)
 
-  -- the items that came, as one run
-  whole_run : (s : S) (ys : List T) → Drains steps s ys → WholeRun steps s (λ p. ys ≡ p.items)
-  whole_run s ys d = total_runs steps s (Unit {0}) (λ xs. ys ≡ xs) (ys, λ _. d, refl) tt
+  -- all the items came, and s is what is left
+  module _ {A : Type 0} (f : Begun T A) (iter s : S) (d : YieldsThen steps iter f.items None s) where
+    pub whole_run_of : {E : Type 0} (r : Result (Slice T A) E) → IfOk r (λ b. b ≡ ended f) → IfOk r (λ b. WholeRun steps iter (λ p. b.items ≡ p.items))
+    whole_run_of (Ok b) e =
+        let W : List T → Type 0 = λ ys. WholeRun steps iter (λ p. ys ≡ p.items) in
+        subst W (sym (ap (λ y. y.items) e)) (total_runs steps iter (Unit {0}) (λ xs. f.items ≡ xs) (f.items, λ _. (s, d), refl) tt)
+    whole_run_of (Err error) e = tt
 
-  pub whole_run_of : {A E : Type 0} (f : Begun T A) (s : S) (r : Result (Slice T A) E) → IfOk r (λ b. b ≡ ended f) → Drains steps s f.items → IfOk r (λ b. WholeRun steps s (λ p. b.items ≡ p.items))
-  whole_run_of f s (Ok b) e d = subst (λ ys. WholeRun steps s (λ p. ys ≡ p.items)) (sym (ap (λ y. y.items) e)) (whole_run s f.items d)
-  whole_run_of f s (Err error) e d = tt
-
-  -- at the end a block of just their number was refused
-  pub stops_at_end : {A : Type 0} (f : Begun T A) (s : S) (size : ℕ) (r : Result (Slice T A) TryReserveErrorKind)
-      → IfErr r (λ e. (0 < length f.items) × (0 < size) × (e ≡ AllocError (length f.items))) → Drains steps s f.items → IfErr r (Stops steps size s)
-  stops_at_end f s size (Ok b) e d = tt
-  stops_at_end f s size (Err error) e d = inr (record { taken = f.items; came = d; some = e.0; has_size = e.1; number = e.2 })
+    -- at the end a block of just their number was refused
+    pub stops_at_end : (Tells : S → ℕ → Type 0) (size : ℕ) (r : Result (Slice T A) TryReserveError)
+        → IfErr r (λ e. (0 < length f.items) × (0 < size) × (e.kind ≡ AllocError (length f.items))) → IfErr r (λ e. Stops steps Tells size iter e s)
+    stops_at_end Tells size (Ok b) e = tt
+    stops_at_end Tells size (Err error) e = inr (record { taken = f.items; came = d; some = e.0; has_size = e.1; number = e.2 })
 
   module _ {A : Type 0} (left : S → ℕ) (size : ℕ) (iter : S) (alloc : A) where
     -- what came from iter, which is now s, was put into f
@@ -70,8 +66,8 @@ module _ {S T : Type 0} (steps : S → Option T → S → Type 0) where
     })
 
     module _ (s : S) (f : Begun T A) (p : Coming s f) where
-      pub Coming-drains : (u : S) → steps s None u → Drains steps iter f.items
-      Coming-drains u h = (u, (s, p.came, h))
+      pub Coming-ends : (u : S) → steps s None u → YieldsThen steps iter f.items None u
+      Coming-ends u h = (s, p.came, h)
 
       -- one more item came
       module _ (x : T) (t : S) (step : steps s (Some x) t) (on : left t < left s) where
@@ -90,19 +86,20 @@ module _ {S T : Type 0} (steps : S → Option T → S → Type 0) where
 
         -- or room for it was refused
         module _ (full : length f.items ≡ f.capacity) where
-          many : size ≡ 0 → usize_max < length (f.items ++ x ∷ [])
-          many z = omega (arith, p.sizeless z, full, longer)
+          many : size ≡ 0 → usize_max ≤ length f.items
+          many z = omega (arith, p.sizeless z, full)
 
-          pub Coming-refused : (k : ℕ) → 0 < k → (e : TryReserveErrorKind) → IsRefused e (length f.items + k) → (usize_max < length f.items + k → e ≡ CapacityOverflow) → Stops steps size iter e
-          Coming-refused k h e r o = inl (record {
-            taken = f.items ++ x ∷ [];
-            last = t;
+          pub Coming-refused : (Tells : S → ℕ → Type 0) (told : ℕ) → Tells t told → (k : ℕ) → k ≡ asked_with told → (e : TryReserveError)
+              → LacksRoom f.capacity (length f.items) k (amortized f.growth f.capacity (length f.items + k) (least_of size)) e → Stops steps Tells size iter e t
+          Coming-refused Tells told tells k asked e lacks = inl (record {
+            placed = f.items;
+            item = x;
+            told = told;
             came = Yields-next iter f.items s x t p.came step;
-            some = omega (arith, longer);
-            number = IsRefused-less e (length f.items + k) (length (f.items ++ x ∷ [])) (omega (arith, h, longer)) r;
-            overflow = λ over. o (omega (arith, over, h, longer));
+            tells = tells;
+            lacks = rw (sym full, p.grows, asked) at lacks;
             sizeless = many;
           })
 
           pub Coming-over : left iter ≤ sized size 0 → ⊥
-          Coming-over few = over_start size (length (f.items ++ x ∷ [])) (omega (arith, longer)) many (omega (arith, few, p.fewer, on, longer))
+          Coming-over few = over_start size (length f.items) many (omega (arith, few, p.fewer, on))

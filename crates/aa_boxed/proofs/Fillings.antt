@@ -7,10 +7,8 @@ use Rattle.std.proofs.lemmas.Bool.Decides.{eqb_tells}
 use Rattle.aa_raw.specs.Block.{Block, Reserves, wrote, fresh, shrunk_to}
 use Rattle.aa_raw.specs.Places.{run}
 use Rattle.aa_raw.specs.Growth.{usize_max, sized}
-use Rattle.aa_raw.specs.Refusals.{IsRefused}
 use Rattle.aa_raw.specs.Room.{LacksRoom}
-use Rattle.aa_raw.specs.declared.collections.TryReserveErrorKind.{TryReserveErrorKind}
-use Rattle.aa_raw.specs.declared.collections.TryReserveErrorKind.TheVariants.{CapacityOverflow}
+use Rattle.aa_raw.specs.declared.collections.TryReserveError.{TryReserveError}
 use Rattle.aa_raw.specs.declared.raw_vec.Growth.{Growth}
 use Rattle.aa_raw.proofs.Places.{length-empty_places}
 use Rattle.aa_raw.proofs.Runs.{run-below, run-push, run-zero, length-run}
@@ -41,12 +39,12 @@ module _ {T A : Type 0} (v : Inside T A) (front : IsFront v) where
 
   module _ (size k wanted : ℕ) (b : Block T A) where
     -- room that the block was asked for leaves the items
-    pub items-kept : (r : Result Unit TryReserveErrorKind) → OnOk r (Reserves size v.block v.len k wanted b) → IfErr r (λ e. (b ≡ v.block) × LacksRoom (length v.block.places) v.len k e) → run b.places 0 v.len ≡ run v.block.places 0 v.len
+    pub items-kept : (r : Result Unit TryReserveError) → OnOk r (Reserves size v.block v.len k wanted b) → IfErr r (λ e. (b ≡ v.block) × LacksRoom (length v.block.places) v.len k wanted e) → run b.places 0 v.len ≡ run v.block.places 0 v.len
     items-kept (Ok x) made refused = run-below v.block.places b.places v.len 0 v.len made.kept (omega arith)
     items-kept (Err e) made refused = ap (λ (x : Block T A). run x.places 0 v.len) refused.0
 
     -- and there are no fewer places
-    pub places-kept : (r : Result Unit TryReserveErrorKind) → OnOk r (Reserves size v.block v.len k wanted b) → IfErr r (λ e. (b ≡ v.block) × LacksRoom (length v.block.places) v.len k e) → length v.block.places ≤ length b.places
+    pub places-kept : (r : Result Unit TryReserveError) → OnOk r (Reserves size v.block v.len k wanted b) → IfErr r (λ e. (b ≡ v.block) × LacksRoom (length v.block.places) v.len k wanted e) → length v.block.places ≤ length b.places
     places-kept (Ok x) made refused = elim (cases_lt (length v.block.places) (v.len + k)) [
       | inl lt ↦ omega (arith, lt, made.room)
       | inr le ↦ omega (arith, ap (λ (x : Block T A). length x.places) (made.fits le))
@@ -54,21 +52,16 @@ module _ {T A : Type 0} (v : Inside T A) (front : IsFront v) where
     places-kept (Err e) made refused = omega (arith, ap (λ (x : Block T A). length x.places) refused.0)
 
     -- there is room
-    pub room-made : (r : Result Unit TryReserveErrorKind) → OnOk r (Reserves size v.block v.len k wanted b) → OnOk r (length (begun_of v).items + k ≤ length b.places)
+    pub room-made : (r : Result Unit TryReserveError) → OnOk r (Reserves size v.block v.len k wanted b) → OnOk r (length (begun_of v).items + k ≤ length b.places)
     room-made (Ok x) made = omega (arith, items-long, made.room)
     room-made (Err e) made = tt
 
   -- or it was refused, for want of it
-  module _ (k : ℕ) (b : Block T A) where
-    pub room-refused : (r : Result Unit TryReserveErrorKind) → IfErr r (λ e. (b ≡ v.block) × LacksRoom (length v.block.places) v.len k e)
-        → IfErr r (λ e. (length v.block.places < length (begun_of v).items + k) × IsRefused e (length (begun_of v).items + k))
-    room-refused (Ok x) refused = tt
-    room-refused (Err e) refused = (omega (arith, items-long, refused.1.full), rw items-long (refused.1.number))
-
-    pub room-overflow : (r : Result Unit TryReserveErrorKind) → IfErr r (λ e. (b ≡ v.block) × LacksRoom (length v.block.places) v.len k e)
-        → IfErr r (λ e. usize_max < length (begun_of v).items + k → e ≡ CapacityOverflow)
-    room-overflow (Ok x) refused = tt
-    room-overflow (Err e) refused = rw items-long (refused.1.overflow)
+  pub room-refused : (k : ℕ) (wanted : ℕ → ℕ) (b : Block T A) (r : Result Unit TryReserveError)
+      → IfErr r (λ e. (b ≡ v.block) × LacksRoom (length v.block.places) v.len k (wanted (v.len + k)) e)
+      → IfErr r (LacksRoom (length v.block.places) (length (begun_of v).items) k (wanted (length (begun_of v).items + k)))
+  room-refused k wanted b (Ok x) refused = tt
+  room-refused k wanted b (Err e) refused = rw items-long (refused.1)
 
 -- a choice by whether a number is 0
 pub none-chosen : {X : Type 0} (n : ℕ) (x y : X) → n ≡ 0 → (if n == 0 then x else y) ≡ x

@@ -1,5 +1,5 @@
 -- A block of which all but the first places are forgotten, as it becomes a boxed slice.
-use Rattle.std.proofs.Common.{◌≡◌, ℕ, ◌-◌, length, replicate, None, refl, sym, ap, ◌∙◌, subst, arith}
+use Rattle.std.proofs.Common.{◌≡◌, ℕ, ◌-◌, length, replicate, None, sym, ap, ◌∙◌, subst, arith}
 use Rattle.std.proofs.lemmas.List.{length-replicate}
 use Rattle.aa_raw.specs.Block.{Block, with_places}
 use Rattle.aa_raw.specs.Places.{IsRun, run, with_run}

@@ -1,10 +1,11 @@
 -- Texts that come of an iterator, and are put behind a text.
 use Rattle.std.proofs.Common.{◌≡◌, ℕ, ◌+◌, ◌<◌, List, [], ◌∷◌, ◌++◌, length, Option, Some, None, refl, sym, ap, ◌∙◌, subst, append_assoc, append-nil}
-use Rattle.std.specs.Prelude.{flat_map}
-use Rattle.std.specs.Iterator.{Yields, Drains}
+use Rattle.std.specs.Prelude.{flat_map, String}
+use Rattle.std.specs.Iterator.{Yields, YieldsThen}
+use Rattle.std.specs.String.{string_bytes, string_capacity}
 use Rattle.aa_raw.specs.Growth.{usize_max}
-use Rattle.aa_raw.specs.Refusals.{IsRefused}
-use Rattle.aa_raw.specs.declared.collections.TryReserveErrorKind.{TryReserveErrorKind}
+use Rattle.aa_raw.specs.Refusals.{IsRefusedAt}
+use Rattle.aa_raw.specs.declared.collections.TryReserveError.{TryReserveError}
 use Rattle.aa_raw.specs.declared.collections.TryReserveErrorKind.TheVariants.{CapacityOverflow}
 use Rattle.aa_boxed.specs.Text.{Text, StopsAtText}
 use Rattle.aa_boxed.proofs.Coming.{Yields-next}
@@ -35,17 +36,20 @@ module _ {A : Type 0} where
         is = e ∙ ap (λ bs. bs ++ t.bytes) p.is ∙ append_assoc old (joined p.placed) t.bytes ∙ ap (λ bs. old ++ bs) (sym (joined-next p.placed t));
       }
 
-      pub Joining-end : (u : S) → steps s None u → (ts : List (Text A)) × Drains steps iter ts × (text ≡ old ++ joined ts)
-      Joining-end u step = (p.placed, (u, (s, p.came, step)), p.is)
+      pub Joining-end : (u : S) → steps s None u → (ts : List (Text A)) × YieldsThen steps iter ts None u × (text ≡ old ++ joined ts)
+      Joining-end u step = (p.placed, (s, p.came, step), p.is)
 
-      pub Joining-stopped : (t : Text A) (u : S) → steps s (Some t) u → (e : TryReserveErrorKind) (new : List ℕ) → new ≡ text
-          → IsRefused e (length text + length t.bytes) → (usize_max < length text + length t.bytes → e ≡ CapacityOverflow) → StopsAtText steps iter old e new
-      Joining-stopped t u step e new same number overflow = record {
+    -- room for one more text t was refused, and the string is as it was
+    module _ (s : S) (was : List ℕ) (p : Joining s was) (t : Text A) (u : S) (step : steps s (Some t) u) where
+      pub Joining-stopped : {Z : Type 0} (first new : String Z) → string_bytes first ≡ old → string_bytes new ≡ was → (e : TryReserveError)
+          → string_capacity new < length was + length t.bytes → IsRefusedAt e (length was + length t.bytes)
+          → (usize_max < length was + length t.bytes → e.kind ≡ CapacityOverflow) → StopsAtText steps iter first e new u
+      Joining-stopped first new from same e lacks number overflow = record {
         placed = p.placed;
         refused = t;
-        last = u;
         came = Yields-next steps iter p.placed s t u p.came step;
-        text = same ∙ p.is;
-        number = subst (λ bs. IsRefused e (length bs + length t.bytes)) (sym same) number;
-        overflow = subst (λ bs. usize_max < length bs + length t.bytes → e ≡ CapacityOverflow) (sym same) overflow;
+        text = same ∙ p.is ∙ ap (λ bs. bs ++ joined p.placed) (sym from);
+        lacks = subst (λ bs. string_capacity new < length bs + length t.bytes) (sym same) lacks;
+        number = subst (λ bs. IsRefusedAt e (length bs + length t.bytes)) (sym same) number;
+        overflow = subst (λ bs. usize_max < length bs + length t.bytes → e.kind ≡ CapacityOverflow) (sym same) overflow;
       }

@@ -1,12 +1,12 @@
 -- Arrays that become boxed slices, and boxed slices that become boxes of arrays.
 use Rattle.std.specs.Prelude.{◌≡◌, ℕ, ◌<◌, List, length}
 use Rattle.aa_raw.specs.Refusals.{IsRefusedAt}
-use Rattle.aa_raw.specs.declared.collections.TryReserveErrorKind.{TryReserveErrorKind}
+use Rattle.aa_raw.specs.declared.collections.TryReserveError.{TryReserveError}
 use Rattle.aa_boxed.specs.Boxed.{Boxed}
 use Rattle.aa_boxed.specs.Slice.{Slice}
 
 -- new room for n elements of `size` bytes takes memory, and was refused with this error
-pub record LacksRoomFor (n size : ℕ) (error : TryReserveErrorKind) : Type 0 where
+pub record LacksRoomFor (n size : ℕ) (error : TryReserveError) : Type 0 where
   pub some : 0 < n
   pub has_size : 0 < size
   pub number : IsRefusedAt error n

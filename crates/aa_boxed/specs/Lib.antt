@@ -2,6 +2,7 @@ pub mod Boxed
 pub mod Room
 pub mod Inner
 pub mod Lends
+pub mod Telling
 pub mod Slice
 pub mod SliceInner
 pub mod SliceLends

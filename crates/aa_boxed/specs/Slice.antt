@@ -1,13 +1,15 @@
 -- What a contract sees of a `BoxedSlice`, and of a block that is being filled to become one.
-use Rattle.std.specs.Prelude.{◌≡◌, ℕ, ◌<◌, List, [], ◌∷◌, ◌++◌, length, Option, ◌⊎◌}
-use Rattle.std.specs.Iterator.{Yields, Drains}
-use Rattle.aa_raw.specs.Growth.{usize_max}
-use Rattle.aa_raw.specs.Refusals.{IsRefused}
-use Rattle.aa_raw.specs.declared.collections.TryReserveErrorKind.{TryReserveErrorKind}
-use Rattle.aa_raw.specs.declared.collections.TryReserveErrorKind.TheVariants.{CapacityOverflow, AllocError}
+use Rattle.std.specs.Prelude.{◌≡◌, ℕ, ◌+◌, ◌<◌, ◌≤◌, List, [], ◌∷◌, ◌++◌, length, Option, None, ◌⊎◌}
+use Rattle.std.specs.Iterator.{Yields, YieldsThen}
+use Rattle.aa_raw.specs.Growth.{amortized, least_of, usize_max}
+use Rattle.aa_raw.specs.Room.{LacksRoom}
+use Rattle.aa_raw.specs.declared.collections.TryReserveError.{TryReserveError}
+use Rattle.aa_raw.specs.declared.collections.TryReserveErrorKind.TheVariants.{AllocError}
 use Rattle.aa_raw.specs.declared.raw_vec.Growth.{Growth}
+use Rattle.aa_raw.specs.declared.raw_vec.Growth.TheVariants.{Doubling}
 use Rattle.aa_raw.specs.Block.{Block}
 use Rattle.aa_raw.specs.Places.{run}
+use Rattle.aa_boxed.specs.Telling.{asked_with}
 
 -- a list in a block that has room for it and no more; the block keeps how it grows for the vector that the list may become
 pub record Slice (T A : Type 0) : Type 0 where
@@ -35,24 +37,27 @@ module _ {T A : Type 0} where
   abbrev pub with_next : Begun T A → T → Begun T A
   with_next b x = record { items = b.items ++ x ∷ []; capacity = b.capacity; growth = b.growth; alloc = b.alloc }
 
-module _ {S T : Type 0} (steps : S → Option T → S → Type 0) (size : ℕ) (iter : S) (error : TryReserveErrorKind) where
-  -- of an iterator's items some were taken, one or more, and then room for so many elements of `size` bytes was refused
+-- `after` is what is left of the iterator, and Tells says what it may tell of how many items are to come
+module _ {S T : Type 0} (steps : S → Option T → S → Type 0) (Tells : S → ℕ → Type 0) (size : ℕ) (iter : S) (error : TryReserveError)
+    (after : S) where
+  -- of an iterator's items, of `size` bytes, all that came but the last were placed; room for it and those that were told then was refused
   pub record StopsAfter : Type 0 where
-    pub taken : List T
-    pub last : S
-    pub came : Yields steps iter taken last
-    pub some : 0 < length taken
-    pub number : IsRefused error (length taken)
-    pub overflow : usize_max < length taken → error ≡ CapacityOverflow
-    pub sizeless : size ≡ 0 → usize_max < length taken
+    pub placed : List T
+    pub item : T
+    pub told : ℕ
+    pub came : Yields steps iter (placed ++ item ∷ []) after
+    pub tells : Tells after told
+    pub lacks : let more = asked_with told in
+        LacksRoom (length placed) (length placed) more (amortized Doubling (length placed) (length placed + more) (least_of size)) error
+    pub sizeless : size ≡ 0 → usize_max ≤ length placed
 
   -- all items of an iterator came, one or more of `size` bytes, and then a block for just so many was refused
   pub record StopsAtEnd : Type 0 where
     pub taken : List T
-    pub came : Drains steps iter taken
+    pub came : YieldsThen steps iter taken None after
     pub some : 0 < length taken
     pub has_size : 0 < size
-    pub number : error ≡ AllocError (length taken)
+    pub number : error.kind ≡ AllocError (length taken)
 
   -- room for an iterator's items was refused, while they came or at their end
   abbrev pub Stops : Type 0

@@ -1,9 +1,10 @@
 -- What a contract sees of a `BoxedText`, and of texts that are put behind one another.
-use Rattle.std.specs.Prelude.{◌≡◌, ℕ, ◌+◌, ◌<◌, List, [], ◌∷◌, ◌++◌, length, flat_map, Option}
+use Rattle.std.specs.Prelude.{◌≡◌, ℕ, ◌+◌, ◌<◌, List, [], ◌∷◌, ◌++◌, length, flat_map, Option, String}
 use Rattle.std.specs.Iterator.{Yields}
+use Rattle.std.specs.String.{string_bytes, string_capacity}
 use Rattle.aa_raw.specs.Growth.{usize_max}
-use Rattle.aa_raw.specs.Refusals.{IsRefused}
-use Rattle.aa_raw.specs.declared.collections.TryReserveErrorKind.{TryReserveErrorKind}
+use Rattle.aa_raw.specs.Refusals.{IsRefusedAt}
+use Rattle.aa_raw.specs.declared.collections.TryReserveError.{TryReserveError}
 use Rattle.aa_raw.specs.declared.collections.TryReserveErrorKind.TheVariants.{CapacityOverflow}
 use Rattle.aa_raw.specs.declared.raw_vec.Growth.{Growth}
 use Rattle.aa_boxed.specs.Slice.{Slice}
@@ -19,13 +20,14 @@ module _ {A : Type 0} where
   abbrev pub bytes_of : Text A → Slice ℕ A
   bytes_of t = record { items = t.bytes; growth = t.growth; alloc = t.alloc }
 
--- of an iterator's texts all that came but the last stand behind old, which is new; room for the last was refused
-pub record StopsAtText {S A : Type 0} (steps : S → Option (Text A) → S → Type 0) (iter : S) (old : List ℕ) (error : TryReserveErrorKind)
-    (new : List ℕ) : Type 0 where
+-- of an iterator's texts all that came but the last stand behind those bytes of old, which is new; room for the last was refused, and the
+-- string has fewer places than were needed; `after` is what is left of the iterator
+pub record StopsAtText {S A Z : Type 0} (steps : S → Option (Text A) → S → Type 0) (iter : S) (old : String Z) (error : TryReserveError)
+    (new : String Z) (after : S) : Type 0 where
   pub placed : List (Text A)
   pub refused : Text A
-  pub last : S
-  pub came : Yields steps iter (placed ++ refused ∷ []) last
-  pub text : new ≡ old ++ flat_map (λ t. t.bytes) placed
-  pub number : IsRefused error (length new + length refused.bytes)
-  pub overflow : usize_max < length new + length refused.bytes → error ≡ CapacityOverflow
+  pub came : Yields steps iter (placed ++ refused ∷ []) after
+  pub text : string_bytes new ≡ string_bytes old ++ flat_map (λ t. t.bytes) placed
+  pub lacks : string_capacity new < length (string_bytes new) + length refused.bytes
+  pub number : IsRefusedAt error (length (string_bytes new) + length refused.bytes)
+  pub overflow : usize_max < length (string_bytes new) + length refused.bytes → error.kind ≡ CapacityOverflow

@@ -24,7 +24,7 @@ mod text_compared;
 mod uninit;
 
 pub use slice::BoxedSlice;
-pub use text::{BoxedText, append_texts};
+pub use text::{BoxedText, append_texts, append_texts_by};
 pub use uninit::UninitBox;
 
 /// A value in memory of the allocator `A`. A value without size takes no memory. Its drop drops the value and gives the memory

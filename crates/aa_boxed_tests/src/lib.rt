@@ -8,4 +8,6 @@ mod boxes;
 #[cfg(test)]
 mod lists;
 #[cfg(test)]
+mod taken;
+#[cfg(test)]
 mod traits;

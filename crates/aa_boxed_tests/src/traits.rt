@@ -8,6 +8,7 @@ use std::cmp::Ordering;
 use std::hash::{DefaultHasher, Hash, Hasher};
 use std::io;
 use std::io::{BufRead, Cursor, Read, Seek, SeekFrom, Write};
+use std::string::String;
 use std::test::Fail;
 use std::vec::Vec;
 
@@ -294,6 +295,18 @@ fn the_rest_of_a_reader_is_read_in_its_box(rt: HostRuntime) -> Result<(), Fail> 
     assert!(rt; b.read_until(b'\n', &mut rest)? == 4);
     assert!(rt; b.read_to_end(&mut rest)? == 3);
     assert!(rt; rest.as_slice() == b"one\ntwo".as_slice());
+    Ok(())
+}
+
+#[test]
+fn lines_and_the_rest_are_read_as_text_in_a_box(rt: HostRuntime) -> Result<(), Fail> {
+    let mut b = Box::new(rt.alloc(), Cursor::new("eins\nzwölf\ndrei".as_bytes()))?;
+    let mut text = String::new(rt.alloc());
+    assert!(rt; b.read_line(&mut text)? == 5);
+    assert!(rt; text.as_str() == "eins\n");
+    assert!(rt; b.read_to_string(&mut text)? == 11);
+    assert!(rt; text.as_str() == "eins\nzwölf\ndrei");
+    assert!(rt; b.read_line(&mut text)? == 0);
     Ok(())
 }
 

@@ -44,7 +44,7 @@ impl<T, A: Allocator> Stack<T, A> {
         if let Err(error) = self.block.try_reserve(self.len, 1) {
             return Err(Refused {
                 source: item,
-                error: error.kind(),
+                error,
             });
         }
         self.block.put(self.len, item);

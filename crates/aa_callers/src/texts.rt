@@ -1,8 +1,9 @@
 //! Bytes and texts.
-ghost use Rattle.std.specs.Prelude.{◌≡◌, ◌++◌, codes, decimal, IfOk, OnErr, OnOk};
+ghost use Rattle.std.specs.Prelude.{◌≡◌, ◌+◌, ◌++◌, length, codes, decimal, IfOk, IfErr, OnErr, OnOk};
+ghost use Rattle.allocator_api2.specs.Refusals.{IsRefused};
 
 use allocator_api2::boxed::BoxedText;
-use allocator_api2::collections::TryReserveError;
+use allocator_api2::collections::{Refused, TryReserveError};
 use allocator_api2::vec::Vec;
 use std::alloc::Allocator;
 use std::io::{Result as Written, Write};
@@ -27,4 +28,26 @@ pub fn text_in<A: Allocator>(alloc: A, text: &str) -> Result<BoxedText<A>, TryRe
     ensures { IfOk result (λ t. t.bytes ≡ text.now) }
 {
     BoxedText::from_text(alloc, text)
+}
+
+/// Puts a piece behind the others. A refusal hands it back.
+pub fn add_piece<'a, A: Allocator>(
+    v: &mut Vec<&'a [u8], A>,
+    piece: &'a [u8],
+) -> Result<(), Refused<&'a [u8]>>
+    ensures { OnErr result (v.new ≡ v.old) }
+{
+    v.push(piece)?;
+    Ok(())
+}
+
+/// The same, but a refusal is the error alone.
+pub fn add_piece_or_fail<'a, A: Allocator>(
+    v: &mut Vec<&'a [u8], A>,
+    piece: &'a [u8],
+) -> Result<(), TryReserveError>
+    ensures { IfErr result (λ e. IsRefused e (length v.old.items + 1) × (v.new ≡ v.old)) }
+{
+    v.push(piece)?;
+    Ok(())
 }

@@ -1,8 +1,8 @@
 -- A gap buffer as contracts see it: a text in two parts, and a block that counts what it does.
-use Rattle.std.specs.Prelude.{◌≡◌, ℕ, ◌+◌, ◌-◌, ◌*◌, ◌≤◌, max, List, [], ◌++◌, length, take, drop, nat_le, ◌==◌, if◌then◌else◌}
+use Rattle.std.specs.Prelude.{ℕ, ◌+◌, ◌-◌, ◌*◌, ◌≤◌, max, List, [], ◌∷◌, ◌++◌, length, take, drop, nat_le, ◌==◌, if◌then◌else◌}
 use Rattle.aa_raw.specs.declared.raw_vec.Growth.{Growth}
 use Rattle.aa_raw.specs.declared.raw_vec.Growth.TheVariants.{Doubling, Sparing}
-use Rattle.aa_raw.specs.declared.collections.TryReserveErrorKind.{TryReserveErrorKind}
+use Rattle.aa_raw.specs.declared.collections.TryReserveError.{TryReserveError}
 use Rattle.aa_raw.specs.Growth.{amortized, least_of}
 use Rattle.aa_raw.specs.Room as Room
 
@@ -63,9 +63,13 @@ module _ {T A : Type 0} where
   abbrev pub HasRoom : Buffer T A → ℕ → Type 0
   HasRoom b k = Room.HasRoom b.capacity (len b) k
 
+  -- how many places a growth of b asks for, of `size` bytes each, that needs n
+  abbrev pub wanted : (size : ℕ) → Buffer T A → (n : ℕ) → ℕ
+  wanted size b n = amortized b.growth b.capacity n (least_of size)
+
   -- how many places b has, of `size` bytes each, once it has room for k more elements: those that it has where they fit
   abbrev pub room : (size : ℕ) → Buffer T A → (k : ℕ) → ℕ
-  room size b k = if nat_le k (gap b) then b.capacity else amortized b.growth b.capacity (len b + k) (least_of size)
+  room size b k = if nat_le k (gap b) then b.capacity else wanted size b (len b + k)
 
   -- b with room for k more elements
   abbrev pub with_room : (size : ℕ) → Buffer T A → (k : ℕ) → Buffer T A
@@ -75,17 +79,21 @@ module _ {T A : Type 0} where
   abbrev pub behind : Buffer T A → (k : ℕ) → ℕ
   behind b k = if nat_le k (gap b) then 0 else length b.after
 
-  -- the two differ in what they have written at most
-  abbrev pub SameButWrites : Buffer T A → Buffer T A → Type 0
-  SameButWrites old new = new ≡ record old { written = new.written; runs = new.runs }
+  -- b after a reserve of room for k more. Where they do not fit, what is behind the gap is written
+  -- to close it, and again to open it
+  abbrev pub reserved : (size : ℕ) → Buffer T A → (k : ℕ) → Buffer T A
+  reserved size b k = wrote (wrote (with_room size b k) (travel b (behind b k))) (behind b k)
 
-  -- n elements were written at most, by k calls of the block at most
-  pub record WritesAtMost (old : Buffer T A) (n k : ℕ) (new : Buffer T A) : Type 0 where
-    pub written : new.written ≤ old.written + n
-    pub runs : new.runs ≤ old.runs + k
+  -- b with x put into the first free place
+  abbrev pub put : Buffer T A → (x : T) → Buffer T A
+  put b x = wrote (with_parts b (b.before ++ x ∷ []) b.after) 1
 
-  -- growth has moved no more elements than the new places pay for, and no more than the first text and n further elements pay for:
-  -- each of them is moved twice, or three times where growth is sparing, less what the first places would have moved
+  -- b with x inserted, before which it grows where no place is free
+  abbrev pub inserted : (size : ℕ) → Buffer T A → (x : T) → Buffer T A
+  inserted size b x = put (reserved size b 1) x
+
+  -- while n elements were put into old, growth moved at most one element for each place that was added, or two where it is sparing.
+  -- From a buffer of no places that is at most two moves for each of the n, or three
   abbrev pub GrowsWithin : Growth → Buffer T A → (n : ℕ) → Buffer T A → Type 0
   GrowsWithin Doubling old n new =
       (new.grown + old.capacity ≤ old.grown + new.capacity)
@@ -94,18 +102,6 @@ module _ {T A : Type 0} where
       (new.grown + 2 * old.capacity ≤ old.grown + 2 * new.capacity)
       × (new.grown + 2 * old.capacity ≤ old.grown + max (2 * old.capacity) (3 * (len old + n)))
 
-  -- room for k more than old has was asked for, and refused with this error
-  abbrev pub LacksRoom : Buffer T A → (k : ℕ) → TryReserveErrorKind → Type 0
-  LacksRoom old k error = Room.LacksRoom old.capacity (len old) k error
-
-  -- b in a new block with room for k more elements of `size` bytes
-  abbrev pub grown : (size : ℕ) → Buffer T A → (k : ℕ) → Buffer T A
-  grown size b k = record b { capacity = amortized b.growth b.capacity (len b + k) (least_of size); grown = b.grown + len b }
-
-  -- the same, where the gap was closed before and opened after
-  abbrev pub reopened : (size : ℕ) → Buffer T A → (k : ℕ) → Buffer T A
-  reopened size b k = wrote (wrote (grown size b k) (travel b (length b.after))) (length b.after)
-
-  -- b, whose gap was closed and opened
-  abbrev pub closed_and_opened : Buffer T A → Buffer T A
-  closed_and_opened b = wrote (wrote b (travel b (length b.after))) (travel b (length b.after))
+  -- k more than old has did not fit, and a growth with room to spare was refused with this error
+  abbrev pub LacksRoom : (size : ℕ) → Buffer T A → (k : ℕ) → TryReserveError → Type 0
+  LacksRoom size old k error = Room.LacksRoom old.capacity (len old) k (wanted size old (len old + k)) error

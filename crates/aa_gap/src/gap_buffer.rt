@@ -5,7 +5,7 @@ ghost use Rattle.std.specs.Iterator.{IsFinite};
 ghost use Rattle.aa_raw.specs.Growth.{sized, usize_max};
 ghost use Rattle.aa_raw.specs.Places.{IsCapacity};
 ghost use Rattle.aa_raw.specs.Refusals.{IsRefusedAt};
-ghost use Rattle.aa_gap.specs.Buffer.{empty, text, cursor, len, gap, travel, run_count, with_parts, wrote, moved_to, behind, grown, with_room, reopened, closed_and_opened, SameButWrites, WritesAtMost, HasRoom, LacksRoom};
+ghost use Rattle.aa_gap.specs.Buffer.{empty, text, cursor, len, gap, travel, with_parts, wrote, moved_to, with_room, reserved, put, inserted, HasRoom, LacksRoom};
 ghost use Rattle.aa_gap.specs.Taken.{IsPartedIn};
 
 use aa_raw::collections::{Refused, TryReserveError};
@@ -161,9 +161,10 @@ impl<T, A: Allocator> GapBuffer<T, A> {
     }
 
     // Puts `item` before the cursor.
+    #[inline(always)]
     fn put(&mut self, item: T)
         requires { HasRoom self.old 1 }
-        ensures { self.new ≡ wrote (with_parts self.old (self.old.before ++ item ∷ []) self.old.after) 1 }
+        ensures { self.new ≡ put self.old item }
     {
         let start = self.start;
         let _within = self.block.capacity();
@@ -173,7 +174,7 @@ impl<T, A: Allocator> GapBuffer<T, A> {
 
     /// Puts `item` before the cursor where there is a place, and hands it back where there is none. It takes no memory.
     pub fn insert_within(&mut self, item: T) -> Result<(), T>
-        ensures inserted { OnOk result (HasRoom self.old 1 × (self.new ≡ wrote (with_parts self.old (self.old.before ++ item ∷ []) self.old.after) 1)) }
+        ensures inserted { OnOk result (HasRoom self.old 1 × (self.new ≡ put self.old item)) }
         ensures full { IfErr result (λ x. (len self.old ≡ self.old.capacity) × (x ≡ item) × (self.new ≡ self.old)) }
     {
         if self.len() == self.capacity() {
@@ -185,18 +186,18 @@ impl<T, A: Allocator> GapBuffer<T, A> {
 
     /// Puts `item` before the cursor. It takes memory only where there is no free place, and grows then with room to spare. A
     /// refusal hands the item back and changes nothing: `CapacityOverflow` where the length passes `usize::MAX` or the bytes
-    /// pass `isize::MAX`, else `AllocError` with a capacity of at least one more than the length.
+    /// pass `isize::MAX`, else `AllocError` with the capacity asked for.
+    #[inline(always)]
     pub fn insert(&mut self, item: T) -> Result<(), Refused<T>>
         ensures fits { HasRoom self.old 1 → IsOk result }
         ensures sizeless { type_size T.row ≡ 0 → len self.old < usize_max → HasRoom self.old 1 }
-        ensures inserted { OnOk result (SameButWrites (with_parts (with_room (type_size T.row) self.old 1) (self.old.before ++ item ∷ []) self.old.after) self.new) }
-        ensures writes { OnOk result (WritesAtMost self.old (1 + behind self.old 1) (1 + run_count (behind self.old 1)) self.new) }
-        ensures refused { IfErr result (λ r. (r.source ≡ item) × LacksRoom self.old 1 r.error × (self.new ≡ self.old)) }
+        ensures inserted { OnOk result (self.new ≡ inserted (type_size T.row) self.old item) }
+        ensures refused { IfErr result (λ r. (r.source ≡ item) × LacksRoom (type_size T.row) self.old 1 r.error × (self.new ≡ self.old)) }
     {
         if let Err(error) = self.reserve(1) {
             return Err(Refused {
                 source: item,
-                error: error.kind(),
+                error,
             });
         }
         self.put(item);
@@ -206,13 +207,14 @@ impl<T, A: Allocator> GapBuffer<T, A> {
     /// Makes room for `additional` more elements. Where they fit it does nothing; else it closes the gap, grows with room to
     /// spare, and opens the gap again, where it was refused too. It is refused as `insert` is. Elements without size need no
     /// memory: all that `usize` counts fit.
+    #[inline(always)]
     pub fn reserve(&mut self, additional: usize) -> Result<(), TryReserveError>
         ensures fits { HasRoom self.old additional → IsOk result }
         ensures sizeless { type_size T.row ≡ 0 → len self.old + additional ≤ usize_max → HasRoom self.old additional }
         ensures room { OnOk result (HasRoom self.new additional) }
-        ensures made { OnOk result (SameButWrites (with_room (type_size T.row) self.old additional) self.new) }
-        ensures writes { let n = behind self.old additional in WritesAtMost self.old (travel self.old n + n) (run_count (travel self.old n) + run_count n) self.new }
-        ensures refused { IfErr result (λ e. LacksRoom self.old additional e × SameButWrites self.old self.new) }
+        ensures made { OnOk result (self.new ≡ reserved (type_size T.row) self.old additional) }
+        ensures refused { IfErr result (λ e. LacksRoom (type_size T.row) self.old additional e
+            × (let n = travel self.old (length self.old.after) in self.new ≡ wrote (wrote self.old n) n)) }
         ensures full { gap self.old ≡ 0 → OnErr result (self.new ≡ self.old) }
     {
         // It tells the prover how many places elements without size have.
@@ -224,10 +226,13 @@ impl<T, A: Allocator> GapBuffer<T, A> {
     }
 
     // The same where they do not fit.
+    #[cold]
+    #[inline(never)]
     fn make_room(&mut self, additional: usize) -> Result<(), TryReserveError>
         requires { gap self.old < additional }
-        ensures made { OnOk result (self.new ≡ reopened (type_size T.row) self.old additional) }
-        ensures refused { IfErr result (λ e. LacksRoom self.old additional e × (self.new ≡ closed_and_opened self.old)) }
+        ensures made { OnOk result (self.new ≡ reserved (type_size T.row) self.old additional) }
+        ensures refused { IfErr result (λ e. LacksRoom (type_size T.row) self.old additional e
+            × (let n = travel self.old (length self.old.after) in self.new ≡ wrote (wrote self.old n) n)) }
     {
         let cursor = self.cursor();
         let len = self.len();
@@ -242,8 +247,8 @@ impl<T, A: Allocator> GapBuffer<T, A> {
     fn grow(&mut self, additional: usize) -> Result<(), TryReserveError>
         requires at_end { self.old.after ≡ [] }
         requires needed { gap self.old < additional }
-        ensures made { OnOk result (self.new ≡ grown (type_size T.row) self.old additional) }
-        ensures refused { IfErr result (λ e. LacksRoom self.old additional e × (self.new ≡ self.old)) }
+        ensures made { OnOk result (self.new ≡ with_room (type_size T.row) self.old additional) }
+        ensures refused { IfErr result (λ e. LacksRoom (type_size T.row) self.old additional e × (self.new ≡ self.old)) }
     {
         let len = self.start;
         self.block.try_reserve(len, additional)?;
@@ -346,10 +351,11 @@ impl<T, A: Allocator> GapBuffer<T, A> {
 }
 
 impl<T, A: Allocator> GapBuffer<T, A> {
-    ghost use Rattle.aa_gap.specs.Editing.{Edits, Costs, EditsAll, EditsUpTo};
+    ghost use Rattle.aa_gap.specs.Editing.{with_edit, EditsAll, EditsUpTo};
 
     /// Does the edits of an iterator that ends, one after another. A refusal is that of an `Insert` which found no free place; its
     /// element is dropped, the edits before it are done, and those after it are left in the iterator.
+    #[tactic(auto, using(crate::proofs::Pages::one_by_one))]
     pub fn edit_all<I: Iterator<Item = Edit<T>>>(
         &mut self,
         edits: &mut I,
@@ -358,10 +364,14 @@ impl<T, A: Allocator> GapBuffer<T, A> {
         T: Drop,
         requires may_ask { I.can_next edits.old }
         requires ends { IsFinite (I.remaining edits.old) }
-        ensures done { OnOk result (EditsAll I.next_gives edits.old self.old edits.new self.new) }
-        ensures refused { IfErr result (λ e. EditsUpTo I.next_gives edits.old self.old e edits.new self.new) }
+        ensures done { let size = type_size T.row in
+            OnOk result (EditsAll I.next_gives edits.old size self.old edits.new self.new) }
+        ensures refused { let size = type_size T.row in
+            IfErr result (λ e. EditsUpTo I.next_gives edits.old size self.old e edits.new self.new) }
         ensures goes_on { OnErr result (I.can_next edits.new × IsFinite (I.remaining edits.new)) }
     {
+        // It tells the prover that there are as many places as elements.
+        let _within = self.len();
         while let Some(edit) = edits.next() {
             self.edit(edit)?;
         }
@@ -372,12 +382,9 @@ impl<T, A: Allocator> GapBuffer<T, A> {
     fn edit(&mut self, edit: Edit<T>) -> Result<(), TryReserveError>
     where
         T: Drop,
-        ensures done { OnOk result (Edits self.old (edit ∷ []) self.new) }
-        ensures costs { OnOk result (Costs self.old (edit ∷ []) self.new) }
-        ensures refused { IfErr result (λ e. LacksRoom self.old 1 e × (self.new ≡ self.old) × (x : T) × (edit ≡ Edit.Insert x)) }
+        ensures done { OnOk result (self.new ≡ with_edit (type_size T.row) self.old edit) }
+        ensures refused { IfErr result (λ e. LacksRoom (type_size T.row) self.old 1 e × (self.new ≡ self.old) × (x : T) × (edit ≡ Edit.Insert x)) }
     {
-        // It tells the prover that there are as many places as elements.
-        let _within = self.len();
         match edit {
             Edit::Insert(item) => {
                 self.insert(item)?;

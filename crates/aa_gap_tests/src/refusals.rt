@@ -15,7 +15,7 @@ fn a_refused_insert_hands_its_value_back(rt: HostRuntime) -> Result<(), Fail> {
         Ok(()) => assert!(rt; false, "the request was granted"),
         Err(refused) => {
             assert!(rt; refused.source == 8);
-            assert!(rt; refused.error == TryReserveErrorKind::AllocError { capacity: 8 });
+            assert!(rt; refused.error.kind() == TryReserveErrorKind::AllocError { capacity: 8 });
         }
     }
     assert!(rt; reads(&text, &[1, 9], &[2, 3], 4));

@@ -142,3 +142,44 @@ fn edits_come_from_an_iterator(rt: HostRuntime) -> Result<(), Fail> {
     assert!(rt; text.before() == [1].as_slice() && text.after().is_empty());
     Ok(())
 }
+
+// So many inserts of a number, so many deletions before the cursor, a move to the start, and so many inserts there.
+fn script(alloc: Global, counts: [u32; 3]) -> Result<Vec<Edit<u32>>, Fail> {
+    let [first, deleted, second] = counts;
+    let mut edits: Vec<Edit<u32>> = Vec::new(alloc);
+    for x in 0..first {
+        edits.push(Edit::Insert(x))?;
+    }
+    for _ in 0..deleted {
+        edits.push(Edit::DeleteBack)?;
+    }
+    edits.push(Edit::MoveTo(0))?;
+    for x in 0..second {
+        edits.push(Edit::Insert(x))?;
+    }
+    Ok(edits)
+}
+
+// The capacity of a text of numbers after a script, where it doubles and where it is sparing: 4, 8 and 16 places, or 4, 6, 9 and 14. A
+// deletion gives none back, and an insert that finds one free takes no more.
+const CAPACITIES: [([u32; 3], usize, usize); 6] = [
+    ([0, 3, 0], 0, 0),
+    ([4, 0, 0], 4, 4),
+    ([5, 0, 0], 8, 6),
+    ([5, 5, 6], 8, 6),
+    ([8, 4, 5], 16, 9),
+    ([8, 4, 6], 16, 14),
+];
+
+#[test]
+fn a_text_grows_where_an_insert_finds_no_place(rt: HostRuntime) -> Result<(), Fail> {
+    for (counts, doubling, sparing) in CAPACITIES {
+        for (growth, capacity) in [(Growth::Doubling, doubling), (Growth::Sparing, sparing)] {
+            let mut text: GapBuffer<u32> = GapBuffer::new_growing_in(growth, rt.alloc());
+            let edits = script(rt.alloc(), counts)?;
+            assert!(rt; edited_twice(&mut text, edits) == (None, true));
+            assert!(rt; text.capacity() == capacity, "{counts:?} {growth:?}");
+        }
+    }
+    Ok(())
+}

@@ -3,7 +3,6 @@ use Rattle.std.proofs.Common.{◌≡◌, ℕ, ◌-◌, length, replicate, None, 
 use Rattle.std.proofs.lemmas.List.{length-replicate}
 use Rattle.aa_raw.specs.Block.{Block, with_places}
 use Rattle.aa_raw.specs.LeftFields.{left_of, IsBetween}
-use Rattle.aa_raw.specs.Left.{Left}
 use Rattle.aa_raw.specs.Places.{IsRun, run, with_run}
 use Rattle.aa_raw.proofs.Beyond.{none-forgotten}
 use Rattle.aa_raw.proofs.Places.{length-with_run}

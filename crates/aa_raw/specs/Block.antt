@@ -3,7 +3,7 @@ use Rattle.std.specs.Prelude.{◌≡◌, ℕ, ◌+◌, ◌-◌, ◌<◌, ◌≤�
 use Rattle.aa_raw.specs.Growth.{amortized, least_of, usize_max}
 use Rattle.aa_raw.specs.Places.{empty_places}
 use Rattle.aa_raw.specs.Room.{HasRoom, LacksRoom}
-use Rattle.aa_raw.specs.declared.collections.TryReserveErrorKind.{TryReserveErrorKind}
+use Rattle.aa_raw.specs.declared.collections.TryReserveError.{TryReserveError}
 use Rattle.aa_raw.specs.declared.raw_vec.Growth.{Growth}
 use Rattle.aa_raw.specs.declared.raw_vec.Room.{Room}
 use Rattle.aa_raw.specs.declared.raw_vec.Room.TheVariants.{Amortized, Exact}
@@ -77,7 +77,7 @@ module _ {X A : Type 0} where
 
   -- room for k more than its first n places was asked for in old, which is new, with this result: where they fit it was granted, and a
   -- refusal changed nothing
-  pub record Reserved (size : ℕ) (old : Block X A) (n k wanted : ℕ) (result : Result Unit TryReserveErrorKind) (new : Block X A) : Type 0 where
+  pub record Reserved (size : ℕ) (old : Block X A) (n k wanted : ℕ) (result : Result Unit TryReserveError) (new : Block X A) : Type 0 where
     pub fits : HasRoom (length old.places) n k → IsOk result
     pub made : OnOk result (Reserves size old n k wanted new)
-    pub refused : IfErr result (λ e. (new ≡ old) × LacksRoom (length old.places) n k e)
+    pub refused : IfErr result (λ e. (new ≡ old) × LacksRoom (length old.places) n k wanted e)

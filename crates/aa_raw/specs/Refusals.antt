@@ -1,19 +1,26 @@
 -- What the errors say and print.
 use Rattle.std.specs.Prelude.{◌≡◌, ℕ, ◌≤◌, List, codes, ⊤}
+use Rattle.aa_raw.specs.declared.collections.TryReserveError.{TryReserveError}
 use Rattle.aa_raw.specs.declared.collections.TryReserveErrorKind.{TryReserveErrorKind}
 use Rattle.aa_raw.specs.declared.collections.TryReserveErrorKind.TheVariants.{CapacityOverflow, AllocError}
 
--- the kind of a refusal of n places: an allocator's has a number of at least n
-abbrev pub IsRefused : TryReserveErrorKind → (n : ℕ) → Type 0
-IsRefused CapacityOverflow n = ⊤
-IsRefused (AllocError capacity) n = n ≤ capacity
+-- an allocator's refusal is of this many elements; a number that is too large has none
+abbrev pub Counts : TryReserveErrorKind → (of : ℕ → Type 0) → Type 0
+Counts CapacityOverflow of = ⊤
+Counts (AllocError capacity) of = of capacity
+
+-- the refusal of n places: an allocator's has a number of at least n
+abbrev pub IsRefused : TryReserveError → (n : ℕ) → Type 0
+IsRefused e n = Counts e.kind (λ capacity. n ≤ capacity)
 
 -- the same, where the number is exactly n
-abbrev pub IsRefusedAt : TryReserveErrorKind → (n : ℕ) → Type 0
-IsRefusedAt CapacityOverflow n = ⊤
-IsRefusedAt (AllocError capacity) n = capacity ≡ n
+abbrev pub IsRefusedAt : TryReserveError → (n : ℕ) → Type 0
+IsRefusedAt e n = Counts e.kind (λ capacity. capacity ≡ n)
 
 -- what an error of this kind prints
-abbrev pub text_of : TryReserveErrorKind → List ℕ
-text_of CapacityOverflow = codes "memory allocation failed because the computed capacity exceeded the collection's maximum"
-text_of (AllocError capacity) = codes "memory allocation failed because the memory allocator returned an error"
+abbrev pub text_of_kind : TryReserveErrorKind → List ℕ
+text_of_kind CapacityOverflow = codes "memory allocation failed because the computed capacity exceeded the collection's maximum"
+text_of_kind (AllocError capacity) = codes "memory allocation failed because the memory allocator returned an error"
+
+abbrev pub text_of : TryReserveError → List ℕ
+text_of e = text_of_kind e.kind

@@ -2,10 +2,10 @@
 ghost use Rattle.std.specs.Prelude.{◌≡◌, Some};
 ghost use Rattle.aa_raw.specs.Refusals.{text_of};
 
+use std::alloc::AllocError;
 use std::convert::From;
 use std::error::Error;
 use std::fmt;
-use std::marker::Model;
 
 /// Why a reserve was refused. It stands for `allocator_api2::collections::TryReserveErrorKind`.
 #[derive(Clone, Copy, PartialEq, Eq, Debug, Drop)]
@@ -16,37 +16,38 @@ pub enum TryReserveErrorKind {
     AllocError { capacity: usize },
 }
 
-/// The error of a refused reserve. It stands for `allocator_api2::collections::TryReserveError`. A contract sees it as its kind.
+/// The error of a refused reserve. It stands for `allocator_api2::collections::TryReserveError`.
 #[derive(Clone, Copy, PartialEq, Eq, Debug, Drop)]
 pub struct TryReserveError {
     kind: TryReserveErrorKind,
 }
 
-impl Model for TryReserveError {
-    ghost use Rattle.aa_raw.specs.declared.collections.TryReserveErrorKind.{TryReserveErrorKind};
-
-    ghost Value = { TryReserveErrorKind };
-
-    ghost view = { λ e. e.kind };
-
-    ghost inverse = { λ kind. record { kind = kind } };
-}
-
 impl TryReserveError {
     /// The details: which of the two refusals it was.
     pub fn kind(&self) -> TryReserveErrorKind
-        ensures { result ≡ self.now }
+        ensures { result ≡ self.now.kind }
     {
         self.kind
     }
 }
 
 impl From<TryReserveErrorKind> for TryReserveError {
-    ghost from_gives = { λ kind error. error ≡ kind };
+    ghost from_gives = { λ kind error. error.kind ≡ kind };
 
     /// The error of this kind.
     fn from(kind: TryReserveErrorKind) -> TryReserveError {
         TryReserveError { kind }
+    }
+}
+
+impl From<AllocError> for TryReserveError {
+    ghost use Rattle.aa_raw.specs.declared.collections.TryReserveErrorKind.{TryReserveErrorKind};
+
+    ghost from_gives = { λ _ error. error.kind ≡ TryReserveErrorKind.AllocError 1 };
+
+    /// A refusal of room for one element, so that `?` works for who makes a box and a vector in one function. The original has none.
+    fn from(_: AllocError) -> TryReserveError {
+        TryReserveErrorKind::AllocError { capacity: 1 }.into()
     }
 }
 
@@ -76,7 +77,7 @@ pub struct Refused<S> {
     /// What the call was given.
     pub source: S,
     /// Why it was refused.
-    pub error: TryReserveErrorKind,
+    pub error: TryReserveError,
 }
 
 impl<S: Drop> From<Refused<S>> for TryReserveError {
@@ -84,6 +85,6 @@ impl<S: Drop> From<Refused<S>> for TryReserveError {
 
     /// Drops the source and keeps the error, so that `?` works.
     fn from(refused: Refused<S>) -> TryReserveError {
-        refused.error.into()
+        refused.error
     }
 }

@@ -28,6 +28,22 @@ pub enum Growth {
     Sparing,
 }
 
+impl Growth {
+    /// The capacity that a growth with room to spare asks for, from `capacity` elements of type `T` to at least `required`; none
+    /// where its bytes pass `isize::MAX`. It takes no memory. The original has no such call.
+    pub fn capacity_for<T>(self, capacity: usize, required: usize) -> Option<usize>
+        requires { capacity < 2 ^ 63 }
+        ensures some { IfSome result (λ c. (c ≡ amortized self capacity required (least_of (type_size T.row))) × (c * type_size T.row < 2 ^ 63)) }
+        ensures none { IfNone result (2 ^ 63 ≤ amortized self capacity required (least_of (type_size T.row)) * type_size T.row) }
+    {
+        let next = match self {
+            Growth::Doubling => 2 * capacity,
+            Growth::Sparing => capacity + (capacity + 1) / 2,
+        };
+        block_capacity::<T>(next.max(required).max(least_capacity::<T>()))
+    }
+}
+
 // What a reserve asks for: room to spare by the block's growth, so that moves are few over many calls, or no more than is needed.
 #[derive(Clone, Copy, Drop)]
 enum Room {
@@ -35,8 +51,8 @@ enum Room {
     Exact,
 }
 
-/// A block of places over the allocator `A`. Elements without size take no memory and have `usize::MAX` places. Its drop gives
-/// the memory back and drops no element. It stands for the original's `RawVec`, which is private there.
+/// A block of places over the allocator `A`. Elements without size take no memory and have `usize::MAX` places. A block that
+/// is dropped frees its memory; what stands in its places is not dropped. It stands for the original's `RawVec`, which is private there.
 pub struct RawVec<T, A: Allocator = Global> {
     row: Row<T>,
     capacity: usize,
@@ -351,8 +367,7 @@ impl<T, A: Allocator> RawVec<T, A> {
         additional: usize,
     ) -> Result<(), TryReserveError>
         requires { IsRun self.old.places 0 len }
-        ensures reserved { Reserved (type_size T.row) self.old len additional (len + additional) result self.new }
-        ensures number { IfErr result (λ e. IsRefusedAt e (len + additional)) }
+        ensures { Reserved (type_size T.row) self.old len additional (len + additional) result self.new }
     {
         if additional <= self.capacity - len || self.grow_for(Room::Exact, len, additional) {
             return Ok(());
@@ -363,8 +378,7 @@ impl<T, A: Allocator> RawVec<T, A> {
     /// The same as `try_reserve_exact`. It stands for `RawVec::reserve_exact`, which aborts on a refusal.
     pub fn reserve_exact(&mut self, len: usize, additional: usize) -> Result<(), TryReserveError>
         requires { IsRun self.old.places 0 len }
-        ensures reserved { Reserved (type_size T.row) self.old len additional (len + additional) result self.new }
-        ensures number { IfErr result (λ e. IsRefusedAt e (len + additional)) }
+        ensures { Reserved (type_size T.row) self.old len additional (len + additional) result self.new }
     {
         self.try_reserve_exact(len, additional)
     }
@@ -387,7 +401,7 @@ impl<T, A: Allocator> RawVec<T, A> {
     pub fn shrink_to_fit(&mut self, len: usize, capacity: usize) -> Result<(), TryReserveError>
         requires { IsRun self.old.places 0 len × (len ≤ capacity) × (capacity ≤ length self.old.places) }
         ensures shrunk { OnOk result (self.new ≡ (if type_size T.row == 0 then self.old else (if capacity == length self.old.places then self.old else shrunk_to self.old len capacity))) }
-        ensures refused { IfErr result (λ e. (self.new ≡ self.old) × (0 < capacity) × (capacity < length self.old.places) × (0 < type_size T.row) × (e ≡ TryReserveErrorKind.AllocError capacity)) }
+        ensures refused { IfErr result (λ e. (self.new ≡ self.old) × (0 < capacity) × (capacity < length self.old.places) × (0 < type_size T.row) × (e.kind ≡ TryReserveErrorKind.AllocError capacity)) }
     {
         if capacity == self.capacity || is_sizeless::<T>() {
             return Ok(());
@@ -418,8 +432,7 @@ impl<T, A: Allocator> RawVec<T, A> {
     #[inline(never)]
     fn refusal(&self, room: Room, len: usize, additional: usize) -> TryReserveError
         requires { (len ≤ length self.now.places) × (length self.now.places < len + additional) }
-        ensures refused { LacksRoom (length self.now.places) len additional result }
-        ensures number { IsRefusedAt result (wanted room (type_size T.row) self.now (len + additional)) }
+        ensures { LacksRoom (length self.now.places) len additional (wanted room (type_size T.row) self.now (len + additional)) result }
     {
         match self.capacity_for(room, len, additional) {
             Some(capacity) => TryReserveErrorKind::AllocError { capacity }.into(),
@@ -435,16 +448,9 @@ impl<T, A: Allocator> RawVec<T, A> {
     {
         self.claim.known();
         let required = len.checked_add(additional)?;
-        let wanted = match room {
-            Room::Exact => required,
-            Room::Amortized => {
-                amortized_capacity(self.growth, self.capacity, required, least_capacity::<T>())
-            }
-        };
-        if fits_in_block::<T>(wanted) {
-            Some(wanted)
-        } else {
-            None
+        match room {
+            Room::Exact => block_capacity::<T>(required),
+            Room::Amortized => self.growth.capacity_for::<T>(self.capacity, required),
         }
     }
 
@@ -524,24 +530,22 @@ fn made<T, A: Allocator>(
 pub fn first_refusal<T>(required: usize) -> TryReserveError
     ensures { IsRefusedAt result (amortized Growth.Doubling 0 required (least_of (type_size T.row))) }
 {
-    let capacity = amortized_capacity(Growth::Doubling, 0, required, least_capacity::<T>());
-    if fits_in_block::<T>(capacity) {
-        TryReserveErrorKind::AllocError { capacity }.into()
-    } else {
-        TryReserveErrorKind::CapacityOverflow.into()
+    match Growth::Doubling.capacity_for::<T>(0, required) {
+        Some(capacity) => TryReserveErrorKind::AllocError { capacity }.into(),
+        None => TryReserveErrorKind::CapacityOverflow.into(),
     }
 }
 
-// The capacity that a growth with room to spare asks for, from `capacity` to at least `required`.
-fn amortized_capacity(growth: Growth, capacity: usize, required: usize, least: usize) -> usize
-    requires { capacity < 2 ^ 63 }
-    ensures { result ≡ amortized growth capacity required least }
+// `capacity` elements, unless their bytes pass what a block may have.
+fn block_capacity<T>(capacity: usize) -> Option<usize>
+    ensures some { IfSome result (λ c. (c ≡ capacity) × (capacity * type_size T.row < 2 ^ 63)) }
+    ensures none { IfNone result (2 ^ 63 ≤ capacity * type_size T.row) }
 {
-    let next = match growth {
-        Growth::Doubling => 2 * capacity,
-        Growth::Sparing => capacity + (capacity + 1) / 2,
-    };
-    next.max(required).max(least)
+    if fits_in_block::<T>(capacity) {
+        Some(capacity)
+    } else {
+        None
+    }
 }
 
 // A row of `capacity` empty places. For none no memory is asked.

@@ -3,7 +3,7 @@ ghost use Rattle.std.specs.Prelude.{◌≡◌, [], ◌∷◌, Some, None, IfOk};
 
 use aa_raw::collections::{Refused, TryReserveError, TryReserveErrorKind};
 use aa_raw::raw_vec::{Growth, RawVec};
-use std::alloc::Global;
+use std::alloc::{AllocError, Global};
 use std::mem::size_of;
 use std::test::Fail;
 
@@ -110,11 +110,29 @@ fn a_capacity_past_the_limits_is_an_overflow(rt: HostRuntime) {
 fn errors_tell_their_kind(rt: HostRuntime) -> Result<(), Fail> {
     let refused = Refused {
         source: 7,
-        error: TryReserveErrorKind::AllocError { capacity: 5 },
+        error: TryReserveErrorKind::AllocError { capacity: 5 }.into(),
     };
     let error: TryReserveError = refused.into();
     assert!(rt; error.kind() == TryReserveErrorKind::AllocError { capacity: 5 });
+    let error: TryReserveError = AllocError.into();
+    assert!(rt; error.kind() == TryReserveErrorKind::AllocError { capacity: 1 });
     Ok(())
+}
+
+// Of a block of 2^62 bytes, twice as many are too many, though one more would do.
+#[test]
+fn a_growth_past_the_limits_is_no_capacity(rt: HostRuntime) {
+    let many = 1 << 62;
+    for (growth, capacity, required, told) in [
+        (Growth::Doubling, many, many + 1, None),
+        (Growth::Sparing, many, many + 1, Some(many + many / 2)),
+        (Growth::Doubling, 3, 4, Some(8)),
+        (Growth::Doubling, 8, 9, Some(16)),
+        (Growth::Sparing, 8, 9, Some(12)),
+        (Growth::Sparing, 8, 1 << 63, None),
+    ] {
+        assert!(rt; growth.capacity_for::<u8>(capacity, required) == told);
+    }
 }
 
 #[test]

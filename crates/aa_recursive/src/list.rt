@@ -6,10 +6,32 @@ use aa_boxed::boxed::{Box, UninitBox};
 use std::alloc::{AllocError, Allocator};
 
 /// A value, and the rest of the list.
-#[derive(Drop)]
 pub struct Node<A: Allocator> {
     pub next: Option<Box<Node<A>, A>>,
     pub value: u32,
+}
+
+// A derived drop would go one call deeper for each node. This one is a loop: a list of any length needs no deep stack.
+impl<A: Allocator> Drop for Node<A> {
+    fn drop(mut self) {
+        loop {
+            let Node { next, value: _ } = self;
+            match next {
+                None => return,
+                Some(node) => self = Box::into_inner(node),
+            }
+        }
+    }
+}
+
+impl<A: Allocator> Node<A> {
+    /// The value, and the rest of the list.
+    pub fn into_parts(self) -> (u32, Option<Box<Node<A>, A>>)
+        ensures { values self ≡ result.0 ∷ values_of result.1 }
+    {
+        let Node { next, value } = self;
+        (value, next)
+    }
 }
 
 /// A list with a value before those of `head`. A refusal drops the list; `push` keeps it.
@@ -27,8 +49,7 @@ pub fn push_front<A: Allocator>(
 pub fn pop_front<A: Allocator>(head: Box<Node<A>, A>) -> (u32, Option<Box<Node<A>, A>>)
     ensures { values head.value ≡ result.0 ∷ values_of result.1 }
 {
-    let Node { next, value } = Box::into_inner(head);
-    (value, next)
+    Box::into_inner(head).into_parts()
 }
 
 /// Puts a value before the others. A refusal leaves the list as it was.
@@ -59,6 +80,27 @@ pub fn pop<A: Allocator>(head: &mut Option<Box<Node<A>, A>>) -> Option<u32>
             Some(value)
         }
     }
+}
+
+/// A list of these numbers, in order. A refusal drops those that are there by then, in a loop.
+pub fn list_of<A: Allocator + Clone>(
+    numbers: &[u32],
+    alloc: &A,
+) -> Result<Option<Box<Node<A>, A>>, AllocError>
+    ensures { IfOk result (λ head. values_of head ≡ numbers.now) }
+{
+    let mut turned: Option<Box<Node<A>, A>> = None;
+    'each: for number in numbers {
+        push(&mut turned, *number, alloc.clone()?)?;
+    }
+    Ok(reversed(turned))
+}
+
+/// Drops all values, in a loop.
+pub fn clear<A: Allocator>(head: &mut Option<Box<Node<A>, A>>)
+    ensures { head.new ≡ None }
+{
+    *head = None;
 }
 
 /// The sum of the values, by recursion.

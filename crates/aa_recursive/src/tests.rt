@@ -1,6 +1,6 @@
 //! Lists and trees that are built, changed and dropped.
 use crate::derived::{Link, Sealed, Wood};
-use crate::list::{Node, pop, push, reversed, total_by_loop};
+use crate::list::{Node, list_of, pop, push, reversed, total_by_loop};
 use crate::search::{Search, holds, insert};
 use crate::tree::{Tree, add_up, clear, double, leaf, levels, push_child};
 use aa_boxed::boxed::Box;
@@ -23,9 +23,8 @@ fn numbers(rt: &HostRuntime, count: u32) -> Result<List, Fail> {
     Ok(head)
 }
 
-// It is taken down by a loop, so that its drop needs no deep stack.
 #[test]
-fn a_list_of_100_000_nodes_is_taken_down_by_a_loop(rt: HostRuntime) -> Result<(), Fail> {
+fn a_list_of_100_000_nodes_is_taken_down_by_pops(rt: HostRuntime) -> Result<(), Fail> {
     let mut head = numbers(&rt, 100_000)?;
     let mut count: u32 = 0;
     while let Some(value) = pop(&mut head) {
@@ -36,18 +35,37 @@ fn a_list_of_100_000_nodes_is_taken_down_by_a_loop(rt: HostRuntime) -> Result<()
     Ok(())
 }
 
-// The drop goes one call deeper for each node.
-#[test]
-fn a_list_of_10_000_nodes_is_dropped_by_itself(rt: HostRuntime) -> Result<(), Fail> {
-    let heap = Faulty::new(rt.alloc());
-    let mut head: Option<Box<Node<&Faulty<Global>>, &Faulty<Global>>> = None;
-    for value in 0..10_000 {
-        push(&mut head, value, &heap)?;
+type ListIn<'a> = Option<Box<Node<&'a Faulty<Global>>, &'a Faulty<Global>>>;
+
+// A list of the numbers from `count - 1` down to 0, over `heap`.
+fn numbers_in<'a>(heap: &'a Faulty<Global>, count: u32) -> Result<ListIn<'a>, AllocError> {
+    let mut head: ListIn<'a> = None;
+    for value in 0..count {
+        push(&mut head, value, heap)?;
     }
-    assert!(rt; heap.frees() == 0);
+    Ok(head)
+}
+
+// A drop that goes one call deeper for each node has no stack for so many.
+#[test]
+fn a_list_of_100_000_nodes_is_dropped_by_itself(rt: HostRuntime) -> Result<(), Fail> {
+    let heap = Faulty::new(rt.alloc());
+    let mut head = numbers_in(&heap, 100_000)?;
+    crate::list::clear(&mut head);
+    assert!(rt; heap.frees() == 100_000 && heap.outstanding() == 0);
+    head = numbers_in(&heap, 100_000)?;
     drop(head);
-    assert!(rt; heap.frees() == 10_000);
-    assert!(rt; heap.outstanding() == 0);
+    assert!(rt; heap.frees() == 200_000 && heap.outstanding() == 0);
+    Ok(())
+}
+
+#[test]
+fn a_refusal_in_the_middle_drops_what_is_there(rt: HostRuntime) -> Result<(), Fail> {
+    let heap = Faulty::new(rt.alloc());
+    heap.refuse(49_999, 1);
+    assert!(rt; numbers_in(&heap, 100_000).is_err());
+    assert!(rt; heap.refused() == 1);
+    assert!(rt; heap.frees() == 49_999 && heap.outstanding() == 0);
     Ok(())
 }
 
@@ -67,6 +85,18 @@ fn a_list_goes_round(rt: HostRuntime) -> Result<(), Fail> {
     push(&mut round, 9, rt.alloc())?;
     assert!(rt; gives(&mut round, &[9, 2, 3]));
     assert!(rt; pop(&mut round) == None);
+    Ok(())
+}
+
+#[test]
+fn a_list_of_numbers_is_made_whole_or_not(rt: HostRuntime) -> Result<(), Fail> {
+    let mut head = list_of(&[7, 8, 9], &rt.alloc())?;
+    assert!(rt; gives(&mut head, &[7, 8, 9]));
+    assert!(rt; pop(&mut head) == None);
+    let heap = Faulty::new(rt.alloc());
+    heap.refuse(2, 1);
+    assert!(rt; list_of(&[7, 8, 9], &&heap).is_err());
+    assert!(rt; heap.frees() == 2 && heap.outstanding() == 0);
     Ok(())
 }
 

@@ -1,5 +1,5 @@
 //! Arrays that become vectors and boxed slices and come back, and the macro, over an allocator that refuses.
-use crate::seen::{End, end_of_kind, numbers, stands};
+use crate::seen::{End, end_by, numbers, stands};
 use aa_faulty::Faulty;
 use aa_faulty::counted::Counted;
 use aa_faulty::refusing::Refusing;
@@ -26,7 +26,7 @@ fn the_macro_makes_vectors(rt: HostRuntime) -> Result<(), Fail> {
         return Ok(assert!(rt; false));
     };
     assert!(rt; refusal.source == [8, 9]);
-    assert!(rt; end_of_kind(refusal.error) == End::NoMemory(2));
+    assert!(rt; end_by(refusal.error) == End::NoMemory(2));
     Ok(())
 }
 
@@ -38,7 +38,7 @@ fn pairs<A: Allocator>(alloc: A) -> Result<Vec<[u32; 2], A>, TryReserveError> {
 // The vector of two pairs that a flattening hands back for want of memory.
 fn handed_back<A: Allocator + Clone>(v: Vec<[u32; 2], A>) -> Option<Vec<[u32; 2], A>> {
     match v.into_flattened() {
-        Err(refusal) if end_of_kind(refusal.error) == End::NoMemory(4) => Some(refusal.source),
+        Err(refusal) if end_by(refusal.error) == End::NoMemory(4) => Some(refusal.source),
         _ => None,
     }
 }
@@ -121,11 +121,11 @@ fn is_handed_back_twice(heap: &Faulty<Global>, drops: &Cell<u32>) -> bool {
     let Err(refusal) = Vec::from_array_in(three(drops), heap) else {
         return false;
     };
-    let first = end_of_kind(refusal.error);
+    let first = end_by(refusal.error);
     let Err(refusal) = BoxedSlice::from_array_in(refusal.source, heap) else {
         return false;
     };
-    let second = end_of_kind(refusal.error);
+    let second = end_by(refusal.error);
     first == End::NoMemory(3) && second == first && drops.get() == 0
 }
 
@@ -192,7 +192,7 @@ fn a_refused_array_in_a_box_is_handed_back(rt: HostRuntime) -> Result<(), Fail> 
     let Err(refusal) = Box::slice(array) else {
         return Ok(assert!(rt; false));
     };
-    assert!(rt; end_of_kind(refusal.error) == End::NoMemory(3));
+    assert!(rt; end_by(refusal.error) == End::NoMemory(3));
     let Err(refusal) = refusal.source.into_vec() else {
         return Ok(assert!(rt; false));
     };

@@ -1,5 +1,5 @@
 //! Boxes, boxed slices and boxed texts over an allocator that refuses.
-use crate::seen::{End, end_of, end_of_kind, end_of_made, numbers, stands};
+use crate::seen::{End, end_by, end_of, end_of_made, numbers, stands};
 use aa_faulty::Faulty;
 use aa_faulty::counted::Counted;
 use allocator_api2::boxed::{Box, BoxedSlice, BoxedText, UninitBox, append_texts};
@@ -129,7 +129,7 @@ fn a_refused_boxing_hands_the_vector_back(rt: HostRuntime) -> Result<(), Fail> {
     let Err(refusal) = v.into_boxed_slice() else {
         return Ok(assert!(rt; false));
     };
-    assert!(rt; end_of_kind(refusal.error) == End::NoMemory(3));
+    assert!(rt; end_by(refusal.error) == End::NoMemory(3));
     assert!(rt; stands(&refusal.source, &[1, 2, 3], 4));
     drop(boxed(refusal.source)?);
     assert!(rt; (heap.requests(), heap.outstanding()) == (3, 0));

@@ -1,13 +1,10 @@
 //! Calls that change a vector: each request in turn is refused, those of the elements' clones too.
-use crate::seen::{
-    End, Held, Helds, digits, end_of, end_of_kind, held, is_given_back, numbers, stands,
-};
+use crate::seen::{End, Held, Helds, digits, end_by, end_of, held, is_given_back, numbers, stands};
 use aa_faulty::Faulty;
 use aa_faulty::refusing::Refusing;
 use allocator_api2::boxed::Box;
 use allocator_api2::collections::{Refused, TryReserveError};
-use allocator_api2::vec::Vec;
-use allocator_api2::vec::items::Items;
+use allocator_api2::vec::{Items, Vec};
 use std::alloc::{Allocator, Global};
 use std::clone::Clone;
 use std::test::Fail;
@@ -55,7 +52,7 @@ pub(crate) fn called<T: Clone + Drop, A: Allocator + Clone>(
 fn handed<T: Drop>(ended: Result<(), Refused<T>>) -> (End, Option<T>) {
     match ended {
         Ok(()) => (End::Done, None),
-        Err(refusal) => (end_of_kind(refusal.error), Some(refusal.source)),
+        Err(refusal) => (end_by(refusal.error), Some(refusal.source)),
     }
 }
 

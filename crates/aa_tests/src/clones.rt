@@ -1,5 +1,5 @@
 //! Clones of the trait, and calls that clone the allocator: each refused, with the number where one is told.
-use crate::seen::{End, end_of_kind, end_of_made, held, is_given_back, numbers, stands};
+use crate::seen::{End, end_by, end_of_made, held, is_given_back, numbers, stands};
 use aa_faulty::Faulty;
 use allocator_api2::boxed::{Box, BoxedSlice};
 use allocator_api2::collections::TryReserveError;
@@ -85,11 +85,11 @@ fn a_refused_clone_of_the_allocator_leaves_an_array_in_a_box(rt: HostRuntime) ->
     let Err(refusal) = Box::slice(array) else {
         return Ok(assert!(rt; false));
     };
-    assert!(rt; end_of_kind(refusal.error) == End::NoMemory(3));
+    assert!(rt; end_by(refusal.error) == End::NoMemory(3));
     let Err(refusal) = refusal.source.into_vec() else {
         return Ok(assert!(rt; false));
     };
-    assert!(rt; end_of_kind(refusal.error) == End::NoMemory(3));
+    assert!(rt; end_by(refusal.error) == End::NoMemory(3));
     assert!(rt; *refusal.source == [1, 2, 3]);
     Ok(())
 }

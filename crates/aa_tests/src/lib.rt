@@ -14,11 +14,11 @@
 //! | `Box::clone` | 1, and 1 of the value | `box_refusals`, `clones` |
 //! | `BoxedSlice::from_array_in` | 1 | `array_refusals` |
 //! | `BoxedSlice::from_slice` | 1 | `makers` |
-//! | `BoxedSlice::from_iter_in` | 2; 4 for nine items that nothing is told of | `makers`, `box_refusals` |
+//! | `BoxedSlice::from_iter_in`, `from_iter_in_by` | 2; 4 for nine items that nothing is told of | `makers`, `box_refusals`, `aa_boxed_tests` |
 //! | `BoxedSlice::clone` | 1, and 3 of the elements | `makers`, `clones` |
 //! | `BoxedSlice::try_into_array`, `Box::slice`, `into_vec` of an array in a box | 1 | `array_refusals`, `clones` |
 //! | `BoxedText::from_text` | 1 | `makers` |
-//! | `append_texts` | 1 | `box_refusals` |
+//! | `append_texts`, `append_texts_by` | 1 | `box_refusals`, `aa_boxed_tests` |
 //! | `Vec::with_capacity_in` | 1 | `makers` |
 //! | `Vec::push` | 1 | `changes`, `refusals` |
 //! | `Vec::insert` | 1 | `changes` |
@@ -33,13 +33,14 @@
 //! | `Vec::extend`, `extend_by`, `extend_hinted`, `extend_hinted_by` | 1 | `changes` |
 //! | `Splice::finish` | 1 | `splice_refusals` |
 //! | `Splice::finish_hinted` | 2 | `splice_refusals` |
-//! | `Vec::extend_copied`, `extend_from_slice_copied`, `extend_from_within_copied`, `resize_with` | 1 | `plain_changes` |
+//! | `Vec::extend_copied`, `extend_copied_by`, `extend_from_slice_copied`, `extend_from_within_copied` | 1 | `plain_changes` |
+//! | `Vec::resize_with`, `resize_by` | 1 | `plain_changes` |
 //! | `Vec::write`, `write_all` | 1 | `plain_changes` |
 //! | `Vec::clone` | 1, and 3 of the elements | `makers`, `clones` |
 //! | `Vec::clone_copied` | 1 | `plain_changes`, `clones` |
 //! | `Vec::from_slice_in`, `SliceExt::to_vec_in`, `to_vec_in2` | 1, and 3 of the elements | `makers` |
 //! | `Vec::from_elem_in` | 1, and 4 for each clone but the last | `makers` |
-//! | `Vec::from_iter_in` | 1 | `makers` |
+//! | `Vec::from_iter_in`, `from_iter_in_by` | 1 | `makers` |
 //! | `Vec::from_slice_copied_in`, `from_text_in`, `Repeat::repeated` | 1 | `makers` |
 //! | `Vec::from_array_in`, `vec_of!` | 1 | `array_refusals` |
 //! | `Vec::into_boxed_slice` | 1 | `box_refusals` |
@@ -51,6 +52,8 @@
 //!
 //! `run_commands` runs every command on lists of 0 to 100 numbers, and of 0 to 8 whose clones take memory, with each request refused in turn,
 //! beside `plain_machine`, which says in plain words what is left.
+//!
+//! `taken` counts what the calls take of an iterator that they are given, and `hints` what they ask for where its `size_hint` is exact.
 //!
 //! The calls of the same names on the global allocator hand on to these; nothing here refuses what that grants, but lengths and bytes
 //! past the limits.
@@ -71,6 +74,8 @@ mod command_refusals;
 #[cfg(test)]
 mod drain_refusals;
 #[cfg(test)]
+mod hints;
+#[cfg(test)]
 mod makers;
 #[cfg(test)]
 mod overflows;
@@ -90,3 +95,5 @@ mod seen;
 mod slices;
 #[cfg(test)]
 mod splice_refusals;
+#[cfg(test)]
+mod taken;

@@ -17,6 +17,7 @@ enum Call {
     TextWithCapacityIn,
     WithCapacityIn,
     FromIterIn,
+    FromIterByIn,
     FromSliceIn,
     FromElemIn,
     ToVecIn,
@@ -36,6 +37,7 @@ enum Call {
 fn called<'a>(call: Call, heap: &'a Faulty<Global>, lent: &Helds<'a>, given: Helds<'a>) -> End {
     match call {
         Call::FromIterIn => end_of_made(Vec::from_iter_in(given.into_iter(), heap)),
+        Call::FromIterByIn => end_of_made(Vec::from_iter_in_by(&mut given.into_iter(), heap)),
         Call::FromElemIn => end_of_made(Vec::from_elem_in(given, 3, heap)),
         Call::ItemsClone => end_of_made(given.into_iter().clone()),
         Call::SliceFromIterIn => end_of_made(BoxedSlice::from_iter_in(given.into_iter(), heap)),
@@ -101,6 +103,7 @@ fn each_request_of_a_making_is_refused_in_turn(rt: HostRuntime) -> Result<(), Fa
         (Call::TextWithCapacityIn, 1, (5, 0)),
         (Call::WithCapacityIn, 1, (5, 0)),
         (Call::FromIterIn, 1, (4, 0)),
+        (Call::FromIterByIn, 1, (4, 0)),
         (Call::FromSliceIn, 4, (3, 3)),
         (Call::FromElemIn, 9, (3, 3)),
         (Call::ToVecIn, 4, (3, 3)),

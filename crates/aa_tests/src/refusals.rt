@@ -1,5 +1,5 @@
 //! Pushes with each request refused in turn, and what is empty by default.
-use crate::seen::{End, end_of_kind};
+use crate::seen::{End, end_by};
 use aa_faulty::Faulty;
 use aa_faulty::refusing::Refusing;
 use allocator_api2::boxed::{BoxedSlice, BoxedText};
@@ -13,7 +13,7 @@ fn is_pushed(v: &mut Vec<u32, &Faulty<Global>>, x: u32) -> bool {
     let Err(refusal) = v.push(x) else {
         return v.len() == len.saturating_add(1);
     };
-    let told = match end_of_kind(refusal.error) {
+    let told = match end_by(refusal.error) {
         End::NoMemory(most) => len < most,
         _ => false,
     };

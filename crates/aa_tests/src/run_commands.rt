@@ -164,13 +164,20 @@ pub(crate) fn is_reply<T: Number>(reply: &Reply<T>, answer: Answer) -> bool {
     match (reply, answer) {
         (Reply::Done, Answer::Done)
         | (Reply::Nothing, Answer::Nothing)
-        | (Reply::Range, Answer::Range)
-        | (Reply::Refused(TryReserveErrorKind::CapacityOverflow), Answer::Overflow) => true,
+        | (Reply::Range, Answer::Range) => true,
         (Reply::Item(x), Answer::Item(y)) | (Reply::Back(x), Answer::Back(y)) => x.number() == y,
-        (
-            Reply::Refused(TryReserveErrorKind::AllocError { capacity }),
-            Answer::Refused(least, most),
-        ) => least <= *capacity && *capacity <= most,
+        (Reply::Refused(error), answer) => is_refusal(error.kind(), answer),
+        _ => false,
+    }
+}
+
+// Whether a refusal is as it must be.
+fn is_refusal(kind: TryReserveErrorKind, answer: Answer) -> bool {
+    match (kind, answer) {
+        (TryReserveErrorKind::CapacityOverflow, Answer::Overflow) => true,
+        (TryReserveErrorKind::AllocError { capacity }, Answer::Refused(least, most)) => {
+            least <= capacity && capacity <= most
+        }
         _ => false,
     }
 }

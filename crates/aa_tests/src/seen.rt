@@ -17,12 +17,12 @@ pub(crate) enum End {
 pub(crate) fn end_of(ended: Result<(), TryReserveError>) -> End {
     match ended {
         Ok(()) => End::Done,
-        Err(error) => end_of_kind(error.kind()),
+        Err(error) => end_by(error),
     }
 }
 
-pub(crate) fn end_of_kind(kind: TryReserveErrorKind) -> End {
-    match kind {
+pub(crate) fn end_by(error: TryReserveError) -> End {
+    match error.kind() {
         TryReserveErrorKind::AllocError { capacity } => End::NoMemory(capacity),
         TryReserveErrorKind::CapacityOverflow => End::TooLong,
     }

@@ -2,8 +2,7 @@
 use crate::seen::{End, end_of, numbers, stands};
 use aa_faulty::Faulty;
 use allocator_api2::collections::TryReserveError;
-use allocator_api2::vec::Vec;
-use allocator_api2::vec::items::Items;
+use allocator_api2::vec::{Items, Vec};
 use std::alloc::{Allocator, Global};
 use std::rc::Rc;
 use std::test::Fail;

@@ -40,15 +40,15 @@ module _ {F T : Type 0} (step : F → T → F → Type 0) where
   all_same x f (y ∷ ys) last is h = λ i. is f y h.0 h.1 i ∷ all_same x h.0 ys last is h.2 i
 
   -- one that always answers x
-  pub LengthensBy_same : {A : Type 0} (size k : ℕ) (x : T) (f : F) (old new : Vector T A) → LengthensBy step size old k f new → ((f : F) (y : T) (g : F) → step f y g → y ≡ x) → new.items ≡ old.items ++ replicate k x
-  LengthensBy_same size k x f old new made is = made.grows.items ∙ ap (λ ys. old.items ++ ys) (all_same x f made.answers made.last is made.calls ∙ ap (λ n. replicate n x) made.count)
+  pub LengthensBy_same : {A : Type 0} (size k : ℕ) (x : T) (f g : F) (old new : Vector T A) → LengthensBy step size old k f g new → ((f : F) (y : T) (g : F) → step f y g → y ≡ x) → new.items ≡ old.items ++ replicate k x
+  LengthensBy_same size k x f g old new made is = made.grows.items ∙ ap (λ ys. old.items ++ ys) (all_same x f made.answers g is made.calls ∙ ap (λ n. replicate n x) made.count)
 
   -- and where a vector is filled up with it, that is the rest
-  pub filled_same : {A E : Type 0} (r : Result Unit E) (size n : ℕ) (x : T) (f : F) (old new : Vector T A) → OnOk r (len old < n → LengthensBy step size old (n - len old) f new) → (n ≤ len old → IsOk r × Holds old (take n old.items) new)
+  pub filled_same : {A E : Type 0} (r : Result Unit E) (size n : ℕ) (x : T) (f : F) (old new : Vector T A) → OnOk r (len old < n → (last : F) × LengthensBy step size old (n - len old) f last new) → (n ≤ len old → IsOk r × Holds old (take n old.items) new)
       → ((f : F) (y : T) (g : F) → step f y g → y ≡ x) → OnOk r (new.items ≡ take n old.items ++ replicate (n - len old) x)
   filled_same (Err e) size n x f old new fills cut is = tt
   filled_same (Ok u) size n x f old new fills cut is = elim (cases_lt (len old) n) [
-    | inl l ↦ LengthensBy_same size (n - len old) x f old new (fills l) is ∙ ap (λ ys. ys ++ replicate (n - len old) x) (sym (take_all n old.items (omega (arith, l))))
+    | inl l ↦ LengthensBy_same size (n - len old) x f (fills l).0 old new (fills l).1 is ∙ ap (λ ys. ys ++ replicate (n - len old) x) (sym (take_all n old.items (omega (arith, l))))
     | inr l ↦ (cut l).1.items ∙ sym (append-nil (take n old.items)) ∙ ap (λ k. take n old.items ++ replicate k x) (let z : 0 ≡ n - len old = omega (arith, l) in z)
   ]
 

@@ -4,7 +4,7 @@ use Rattle.std.specs.Prelude.{All}
 use Rattle.std.specs.List.{AllZip}
 use Rattle.std.proofs.lemmas.List.{length-replicate, replicate_more, take_all, take_at, get_or-replicate, get_or_append_left, get_or-drop, get_or-take}
 use Rattle.std.proofs.lemmas.List.Elements.{all_zip_more, same_from_all_zip}
-use Rattle.aa_raw.specs.declared.collections.TryReserveErrorKind.{TryReserveErrorKind}
+use Rattle.aa_raw.specs.declared.collections.TryReserveError.{TryReserveError}
 use Rattle.aa_raw.specs.declared.collections.TryReserveErrorKind.TheVariants.{AllocError}
 use Rattle.aa_vec.specs.Copies.{Copies, Adds, Begins, Undone, Fills}
 use Rattle.aa_vec.specs.Vector.{Vector, len, GrowsTo, Holds, MakesRoom, SameBlock, Writes, with_items}
@@ -79,8 +79,8 @@ module _ {T A : Type 0} (size : ℕ) (old cleared : Vector T A) (none : Holds ol
       let same : SameBlock (with_items old []) cleared = record { capacity = none.block.capacity; growth = none.block.growth; grown = none.block.grown; alloc = none.block.alloc } in
       record { items = p.items; room = subst (λ n. MakesRoom size (with_items old []) n k new) (ap length none.items) (MakesRoom-same size (len cleared) k same p.room) }
 
-  pub Begins-made : (mid new : Vector T A) (clones : T → T → Type 0) (failure : Type 0) (xs : List T) (n : ℕ) (error : TryReserveErrorKind) → Writes old 0 0 cleared → GrowsTo size cleared (length xs) cleared.items mid → Writes cleared 0 0 mid
-      → n < length xs → Adds clones mid (take n xs) new → failure → error ≡ AllocError (length xs) → Begins clones failure size old xs error new
+  pub Begins-made : (mid new : Vector T A) (clones : T → T → Type 0) (failure : Type 0) (xs : List T) (n : ℕ) (error : TryReserveError) → Writes old 0 0 cleared → GrowsTo size cleared (length xs) cleared.items mid → Writes cleared 0 0 mid
+      → n < length xs → Adds clones mid (take n xs) new → failure → error.kind ≡ AllocError (length xs) → Begins clones failure size old xs error new
   Begins-made mid new clones failure xs n error w made v less p cause number = record {
     cause = cause;
     number = number;

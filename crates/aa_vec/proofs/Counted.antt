@@ -3,7 +3,7 @@ use Rattle.std.proofs.Common.{◌≡◌, ℕ, ◌+◌, ◌-◌, ◌<◌, ◌≤�
 use Rattle.std.specs.Prelude.{min}
 use Rattle.std.proofs.lemmas.Bool.{cases_lt}
 use Rattle.std.proofs.lemmas.List.{append-nil}
-use Rattle.aa_raw.specs.declared.collections.TryReserveErrorKind.{TryReserveErrorKind}
+use Rattle.aa_raw.specs.declared.collections.TryReserveError.{TryReserveError}
 use Rattle.aa_raw.specs.Growth.{usize_max}
 use Rattle.aa_vec.specs.Vector.{Vector, len, SameBlock, LacksRoom, MakesRoom}
 use Rattle.aa_vec.specs.Extending.{Climbs, asked_for, YieldsTelling, ExtendsAll, ExtendsFull, ExtendsByAll, ExtendsByFront, ItemsLeft, gives_item, lower_by, TellsExactly}
@@ -18,7 +18,7 @@ module _ {T A : Type 0} (size : ℕ) (lower by : ℕ → ℕ) {u v : Vector T A}
   pub ExtendsAll-told : (new : Vector T A) → more ≡ [] → ExtendsAll size lower v head taken new → ExtendsAll size by u head taken new
   ExtendsAll-told new none x = record { climbs = climbs-told (length head + length taken) new (omega (arith, ap length none)) x.climbs; enough = x.enough; items = x.items }
 
-  pub ExtendsFull-told : (all : List T) → all ≡ taken ++ more → (error : TryReserveErrorKind) (new : Vector T A) → ExtendsFull size lower v head taken error new → ExtendsFull size by u head all error new
+  pub ExtendsFull-told : (all : List T) → all ≡ taken ++ more → (error : TryReserveError) (new : Vector T A) → ExtendsFull size lower v head taken error new → ExtendsFull size by u head all error new
   ExtendsFull-told all e error new x =
       let others : List T = x.others ++ more in
       let taken_is : length taken ≡ length x.front + length x.others = ap length x.begins ∙ length-append x.front x.others in
@@ -34,7 +34,7 @@ module _ {T A : Type 0} (size : ℕ) (lower by : ℕ → ℕ) {u v : Vector T A}
         short = omega (arith, x.short, all_is);
         items = x.items;
         full = x.full;
-        lacks = subst (λ k. LacksRoom new k error) asked x.lacks;
+        lacks = subst (λ k. LacksRoom size new k error) asked x.lacks;
       }
 
 -- what an `Items` tells
@@ -76,7 +76,7 @@ module _ {T A : Type 0} (size : ℕ) (iter : ItemsLeft T) (old : Vector T A) whe
       subst (λ xs. ExtendsAll size (lower_by iter.hint) old old.items xs new) (items-all e.lower iter e.added e.last e.told e.ends.1.0.0)
       (ExtendsAll-told size e.lower (lower_by iter.hint) (SameBlock-refl old) old.items e.added e.last.items (λ k h. same k (h e.within)) new e.ends.1.0.0 e.extends)
 
-  pub ExtendsFull-items : (error : TryReserveErrorKind) (new : Vector T A) → ExtendsByFront gives_item (TellsExactly items_lower) size iter old error new → ExtendsFull size (lower_by iter.hint) old old.items iter.items error new
+  pub ExtendsFull-items : (error : TryReserveError) (new : Vector T A) → ExtendsByFront gives_item (TellsExactly items_lower) size iter old error new → ExtendsFull size (lower_by iter.hint) old old.items iter.items error new
   ExtendsFull-items error new e =
       let r = items-rest e.lower iter e.taken e.last e.told in
       ExtendsFull-told size e.lower (lower_by iter.hint) (SameBlock-refl old) old.items e.taken e.last.items (λ k h. r.1 k (h e.within)) iter.items r.0 error new e.extends

@@ -6,7 +6,7 @@ use Rattle.std.specs.Iterator.Runs.{WholeRun}
 use Rattle.std.proofs.iter.runs.Consumers.{total_runs}
 use Rattle.std.specs.Iterator.{Count, Yields, Drains}
 use Rattle.std.proofs.lemmas.List.{append-nil}
-use Rattle.aa_raw.specs.declared.collections.TryReserveErrorKind.{TryReserveErrorKind}
+use Rattle.aa_raw.specs.declared.collections.TryReserveError.{TryReserveError}
 use Rattle.aa_raw.specs.Growth.{usize_max}
 use Rattle.aa_vec.specs.Vector.{Vector, len, HasRoom, LacksRoom, GrowsTo, Holds, Writes, MakesRoom}
 use Rattle.aa_vec.specs.Filling.{Placed, FillsGap}
@@ -178,7 +178,7 @@ module _ {S T : Type 0} (steps : S → Option T → S → Type 0) (Tells : S →
             }
 
         -- or room for it was refused
-        pub Placing-refused : (k : ℕ) → k ≡ min (n + 1) usize_max → (error : TryReserveErrorKind) → LacksRoom v k error → (front : ExtendsByFront steps Tells size iter old error v) × (front.last ≡ t)
+        pub Placing-refused : (k : ℕ) → k ≡ min (n + 1) usize_max → (error : TryReserveError) → LacksRoom size v k error → (front : ExtendsByFront steps Tells size iter old error v) × (front.last ≡ t)
         Placing-refused k e error lacks = (
           record {
             taken = next_front;
@@ -194,7 +194,7 @@ module _ {S T : Type 0} (steps : S → Option T → S → Type 0) (Tells : S →
               short = omega (arith, full, count, longer);
               items = p.items;
               full = omega (arith, full, count);
-              lacks = subst (λ j. LacksRoom v j error) e lacks;
+              lacks = subst (λ j. LacksRoom size v j error) e lacks;
             };
             one = refl;
           },

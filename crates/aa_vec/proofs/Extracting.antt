@@ -1,9 +1,10 @@
 -- Elements that a closure takes out of a range.
-use Rattle.std.proofs.Common.{◌≡◌, ℕ, zero, suc, ◌+◌, ◌-◌, ◌<◌, ◌≤◌, Bool, List, [], ◌∷◌, ◌++◌, length, map, take, drop, Option, Some, None, refl, sym, ap, ◌∙◌, subst, arith, append_assoc, length-append, length-drop}
+use Rattle.std.proofs.Common.{◌≡◌, ℕ, zero, suc, ◌+◌, ◌-◌, ◌<◌, ◌≤◌, Bool, true, false, List, [], ◌∷◌, ◌++◌, length, map, take, drop, Option, Some, None, refl, sym, ap, ◌∙◌, subst, arith, inr, append_assoc, length-append, length-drop}
 use Rattle.std.specs.Prelude.{slice_set, MatchOption}
 use Rattle.std.proofs.lemmas.List.{drop-append-le, drop-drop, drop-map, drop-set-lt, drop_all, drop_at, length-map, length-take-le, take-append-drop, take_at}
 use Rattle.aa_vec.specs.Behind.{StandsBehind, SetsBack, ClosesGap, behind_items, with_behind}
-use Rattle.aa_vec.specs.Until.{AsksUntil, AsksBehind, KeepsDown, Picks}
+use Rattle.aa_vec.specs.Choosing.{Asked, AskedInOrder, EndsTrue, kept, passed_over}
+use Rattle.aa_vec.specs.Until.{StaysAt, AsksUntil, AsksBehind, KeepsDown, Picks}
 use Rattle.aa_vec.specs.Vector.{Vector, len}
 use Rattle.aa_vec.proofs.Climbing.{SameBlock-trans}
 use Rattle.aa_vec.proofs.Drained.{still_stand, still_are, later_part, same_holds}
@@ -31,27 +32,88 @@ module _ {F T : Type 0} (Asks : F → T → Bool → F → T → Type 0) where
   pub later_others : (f h : F) (xs : List T) (k : ℕ) (left : List T) → AsksUntil Asks f xs k h left → (n : ℕ) → k < n → drop n left ≡ drop n xs
   later_others f h xs k left u n more = further left xs (suc k) (suc k) n n (omega (arith, more)) refl (until-others f h xs k left u)
 
-  module _ {A : Type 0} (f : F) (old : Vector T A) (kept front end : ℕ) (ordered : (kept ≤ front) × (front ≤ end)) (before : StandsBehind old 0 kept) (stands : StandsBehind old front (end - front)) (joined : Vector T A) (joins : ClosesGap old 0 kept joined) where
+first_or : {T : Type 0} → T → List T → T
+first_or d [] = d
+first_or d (x ∷ xs) = x
+
+module _ {F T : Type 0} (Keeps : F → T → Bool → F → T → Type 0) where
+  abbrev Asks : F → T → Bool → F → T → Type 0
+  Asks = StaysAt false Keeps
+
+  -- what those were told that were asked in one call, up to the one that was taken out
+  pub record ToldTo (f : F) (xs : List T) (stay : ℕ) (left : List T) (taken : List T) (g : F) : Type 0 where
+    pub told : List (Asked T)
+    pub asked : AskedInOrder Keeps f (take (length told) xs) told g
+    pub count : length told ≡ stay + length taken
+    pub items : kept told ≡ taken
+    pub stays : passed_over told ≡ take stay left
+    pub few : length (passed_over told) ≡ stay
+    pub ends : (x : T) → taken ≡ x ∷ [] → (front : List (Asked T)) × (told ≡ front ++ record { answer = true; left = x } ∷ [])
+
+  pub told_some : (f g : F) (xs : List T) (stay : ℕ) (left : List T) (x : T) (rest : List T) → AsksUntil Asks f xs stay g left → drop stay left ≡ x ∷ rest → ToldTo f xs stay left (x ∷ []) g
+  unfolding first_or
+  told_some f g [] zero left x rest u e = absurd (omega (arith, ap length e, ap length u.1))
+  told_some f g [] (suc stay) left x rest u e = absurd u
+  told_some f g (z ∷ xs) zero left x rest u e =
+      let same : u.0 ≡ x = ap (λ l. first_or x l) (sym u.2 ∙ e) in
+      record {
+        told = record { answer = true; left = x } ∷ [];
+        asked = (g, subst (λ y. Keeps f z true g y) same u.1, refl);
+        count = refl;
+        items = refl;
+        stays = refl;
+        few = refl;
+        ends = λ y same. ([], ap (λ l. record { answer = true; left = l } ∷ []) (ap (λ l. first_or x l) same));
+      }
+  told_some f g (z ∷ xs) (suc stay) left x rest u e =
+      let r : ToldTo u.0 xs stay u.2 (x ∷ []) g = told_some u.0 g xs stay u.2 x rest u.4 (ap (drop (suc stay)) (sym u.5) ∙ e) in
+      record {
+        told = record { answer = false; left = u.1 } ∷ r.told;
+        asked = (u.0, u.3, r.asked);
+        count = omega (arith, r.count);
+        items = r.items;
+        stays = ap (λ l. u.1 ∷ l) r.stays ∙ ap (take (suc stay)) (sym u.5);
+        few = omega (arith, r.few);
+        ends = λ y same. let e = r.ends y same in (record { answer = false; left = u.1 } ∷ e.0, ap (λ l. record { answer = false; left = u.1 } ∷ l) e.1);
+      }
+
+  pub told_none : (f g : F) (xs : List T) (stay : ℕ) (left : List T) → AsksUntil Asks f xs stay g left → stay ≡ length xs → ToldTo f xs stay left [] g
+  told_none f g [] zero left u e = record { told = []; asked = u.0; count = refl; items = refl; stays = refl; few = refl; ends = λ y none. absurd (omega (arith, ap length none)) }
+  told_none f g [] (suc stay) left u e = absurd u
+  told_none f g (z ∷ xs) zero left u e = absurd (omega (arith, e))
+  told_none f g (z ∷ xs) (suc stay) left u e =
+      let r : ToldTo u.0 xs stay u.2 [] g = told_none u.0 g xs stay u.2 u.4 (omega (arith, e)) in
+      record {
+        told = record { answer = false; left = u.1 } ∷ r.told;
+        asked = (u.0, u.3, r.asked);
+        count = omega (arith, r.count);
+        items = r.items;
+        stays = ap (λ l. u.1 ∷ l) r.stays ∙ ap (take (suc stay)) (sym u.5);
+        few = omega (arith, r.few);
+        ends = λ y same. let e = r.ends y same in (record { answer = false; left = u.1 } ∷ e.0, ap (λ l. record { answer = false; left = u.1 } ∷ l) e.1);
+      }
+
+  module _ {A : Type 0} (f : F) (old : Vector T A) (low front end : ℕ) (ordered : (low ≤ front) × (front ≤ end)) (before : StandsBehind old 0 low) (stands : StandsBehind old front (end - front)) (joined : Vector T A) (joins : ClosesGap old 0 low joined) where
     abbrev gap : ℕ
-    gap = front - kept
+    gap = front - low
 
     abbrev n : ℕ
     n = end - front
 
-    joined_len : len joined ≡ len old + kept
-    joined_len = omega (arith, ap length joins.holds.items, length-append old.items (behind_items old 0 kept), count old 0 kept before)
+    joined_len : len joined ≡ len old + low
+    joined_len = omega (arith, ap length joins.holds.items, length-append old.items (behind_items old 0 low), count old 0 low before)
 
     apart : drop gap joined.behind ≡ drop front old.behind
-    apart = ap (drop gap) joins.behind ∙ drop-drop gap kept old.behind ∙ ap (λ i. drop i old.behind) (omega (arith, ordered.0))
+    apart = ap (drop gap) joins.behind ∙ drop-drop gap low old.behind ∙ ap (λ i. drop i old.behind) (omega (arith, ordered.0))
 
-    -- the kept ones are items, and the next may be asked
-    pub joined_stand : StandsBehind joined (front - kept) (end - front)
+    -- the first are items, and the next may be asked
+    pub joined_stand : StandsBehind joined (front - low) (end - front)
     joined_stand = still_stand old joined front gap n stands (omega (arith, stands.0, joined_len, joins.holds.block.capacity, ordered.0)) apart
 
-    pub joined_are : behind_items joined (front - kept) (end - front) ≡ behind_items old front (end - front)
+    pub joined_are : behind_items joined (front - low) (end - front) ≡ behind_items old front (end - front)
     joined_are = still_are old joined front gap n apart
 
-    module _ (stay : ℕ) (g : F) (down : Vector T A) (keeps : KeepsDown Asks f joined (front - kept) (end - front) stay g down) where
+    module _ (stay : ℕ) (g : F) (down : Vector T A) (keeps : KeepsDown Asks f joined (front - low) (end - front) stay g down) where
       abbrev left : List T
       left = keeps.asks.left
 
@@ -59,13 +121,13 @@ module _ {F T : Type 0} (Asks : F → T → Bool → F → T → Type 0) where
       until = subst (λ xs. AsksUntil Asks f xs stay g left) joined_are keeps.asks.until
 
       long : length left ≡ n
-      long = until-length f g (behind_items old front n) stay left until ∙ count old front n stands
+      long = until-length Asks f g (behind_items old front n) stay left until ∙ count old front n stands
 
       pub asked_few : stay ≤ n
-      asked_few = asked_within f joined gap n joined_stand stay g keeps.left keeps.asks
+      asked_few = asked_within Asks f joined gap n joined_stand stay g keeps.left keeps.asks
 
       now_stand : StandsBehind keeps.left gap n
-      now_stand = asked_stand f joined gap n joined_stand stay g keeps.left keeps.asks
+      now_stand = asked_stand Asks f joined gap n joined_stand stay g keeps.left keeps.asks
 
       now_are : behind_items keeps.left gap n ≡ left
       now_are = left_are joined gap n joined_stand keeps.left left long keeps.asks.leaves
@@ -79,9 +141,9 @@ module _ {F T : Type 0} (Asks : F → T → Bool → F → T → Type 0) where
       abbrev stays : List T
       stays = take stay left
 
-      down_items : down.items ≡ old.items ++ (behind_items old 0 kept ++ stays)
+      down_items : down.items ≡ old.items ++ (behind_items old 0 low ++ stays)
       down_items = moved_items keeps.left gap n now_stand stay asked_few down keeps.closes ∙ ap (λ v. v.items ++ take stay (behind_items keeps.left gap n)) keeps.asks.leaves.same
-          ∙ ap (λ l. joined.items ++ take stay l) now_are ∙ ap (λ l. l ++ stays) joins.holds.items ∙ append_assoc old.items (behind_items old 0 kept) stays
+          ∙ ap (λ l. joined.items ++ take stay l) now_are ∙ ap (λ l. l ++ stays) joins.holds.items ∙ append_assoc old.items (behind_items old 0 low) stays
 
       -- what stands behind those that stay, and behind those that were there
       rest : drop gap down.behind ≡ drop stay (map Some left ++ drop n (drop front old.behind))
@@ -93,7 +155,7 @@ module _ {F T : Type 0} (Asks : F → T → Bool → F → T → Type 0) where
       same_rest : (k : ℕ) → (stay < k) → k ≤ n → drop k (map Some left ++ drop n (drop front old.behind)) ≡ drop (front + k) old.behind
       same_rest k more h =
           let R : List T = behind_items old front n in
-          others_in left long k h ∙ ap (λ l. map Some l ++ drop n (drop front old.behind)) (later_others f g R stay left until k more) ∙ sym (others_in R (count old front n stands) k h) ∙ ap (drop k) (sym (parts old front n stands)) ∙ drop-drop k front old.behind
+          others_in left long k h ∙ ap (λ l. map Some l ++ drop n (drop front old.behind)) (later_others Asks f g R stay left until k more) ∙ sym (others_in R (count old front n stands) k h) ∙ ap (drop k) (sym (parts old front n stands)) ∙ drop-drop k front old.behind
 
       -- none is left to be asked
       none_rest : stay ≡ n → drop gap down.behind ≡ drop end old.behind
@@ -113,60 +175,64 @@ module _ {F T : Type 0} (Asks : F → T → Bool → F → T → Type 0) where
         taken_are =
             let one : take 1 (drop stay left) ≡ x ∷ [] = ap (take 1) (sym next_are) ∙ sym (first_are down gap (n - stay) next_stand 1 (omega (arith, less))) ∙ value in
             let all : List T = drop stay left in
-            sym (take-append-drop 1 all) ∙ ap (λ l. l ++ drop 1 all) one ∙ ap (λ l. x ∷ l) (drop-drop 1 stay left ∙ later_others f g (behind_items old front n) stay left until (stay + 1) (omega arith)
+            sym (take-append-drop 1 all) ∙ ap (λ l. l ++ drop 1 all) one ∙ ap (λ l. x ∷ l) (drop-drop 1 stay left ∙ later_others Asks f g (behind_items old front n) stay left until (stay + 1) (omega arith)
             ∙ sym (later_part old front (stay + 1) n (end - (front + (stay + 1))) (omega (arith, less, ordered.1)) stands))
 
       -- and the items are set back
       module _ (w : Vector T A) (places : List (Option T)) (differs : w ≡ with_behind down places) (new : Vector T A) (set : SetsBack w (len old) new) where
-        w_items : w.items ≡ old.items ++ (behind_items old 0 kept ++ stays)
+        w_items : w.items ≡ old.items ++ (behind_items old 0 low ++ stays)
         w_items = ap (λ v. v.items) differs ∙ down_items
 
-        back : drop (len old) w.items ≡ behind_items old 0 kept ++ stays
-        back = ap (drop (len old)) w_items ∙ drop_at old.items (behind_items old 0 kept ++ stays) (len old) refl
+        back : drop (len old) w.items ≡ behind_items old 0 low ++ stays
+        back = ap (drop (len old)) w_items ∙ drop_at old.items (behind_items old 0 low ++ stays) (len old) refl
 
-        back_long : length (behind_items old 0 kept ++ stays) ≡ kept + stay
-        back_long = omega (arith, length-append (behind_items old 0 kept) stays, count old 0 kept before, length-take-le stay left (omega (arith, asked_few, long)))
+        back_long : length (behind_items old 0 low ++ stays) ≡ low + stay
+        back_long = omega (arith, length-append (behind_items old 0 low) stays, count old 0 low before, length-take-le stay left (omega (arith, asked_few, long)))
 
-        set_count : len w - len old ≡ kept + stay
+        set_count : len w - len old ≡ low + stay
         set_count = omega (arith, ap length back, back_long, length-drop (len old) w.items)
 
-        above : (j : ℕ) → drop (kept + stay + j) new.behind ≡ drop j w.behind
+        above : (j : ℕ) → drop (low + stay + j) new.behind ≡ drop j w.behind
         above j =
             let some : T → Option T = λ x. Some x in
-            sym (drop-drop j (kept + stay) new.behind) ∙ ap (drop j) (ap (drop (kept + stay)) (set.behind ∙ ap (λ l. map some l ++ w.behind) back)
-            ∙ drop_at (map some (behind_items old 0 kept ++ stays)) w.behind (kept + stay) (length-map (behind_items old 0 kept ++ stays) some ∙ back_long))
+            sym (drop-drop j (low + stay) new.behind) ∙ ap (drop j) (ap (drop (low + stay)) (set.behind ∙ ap (λ l. map some l ++ w.behind) back)
+            ∙ drop_at (map some (behind_items old 0 low ++ stays)) w.behind (low + stay) (length-map (behind_items old 0 low ++ stays) some ∙ back_long))
 
-        picked : (next : ℕ) (item : Option T) → (kept + stay ≤ next) × (front ≤ next) × (next ≤ end) → drop next new.behind ≡ drop next old.behind
-            → MatchOption item ((stay ≡ end - front) × (next ≡ end)) (λ x. (next ≡ front + stay + 1) × (drop stay left ≡ x ∷ behind_items old next (end - next))) → Picks Asks f old kept front end stay next item g new
-        picked next item inside same cases = record {
-          left = left;
-          until = until;
+        picked : (next : ℕ) (item : Option T) (taken : List T) (r : ToldTo f (behind_items old front n) stay left taken g) → next ≡ front + (stay + length taken) → (low + stay ≤ next) × (front ≤ next) × (next ≤ end) → drop next new.behind ≡ drop next old.behind
+            → MatchOption item ((kept r.told ≡ []) × (next ≡ end)) (λ x. (kept r.told ≡ x ∷ []) × EndsTrue r.told) → Picks Keeps f old low front end stay next item g new
+        picked next item taken r e inside same cases = record {
+          told = r.told;
+          asked = r.asked;
+          cases = cases;
+          counts = (sym r.few, omega (arith, e, r.count));
           holds = record {
-            items = set.holds.items ∙ ap (take (len old)) w_items ∙ take_at old.items (behind_items old 0 kept ++ stays) (len old) refl;
+            items = set.holds.items ∙ ap (take (len old)) w_items ∙ take_at old.items (behind_items old 0 low ++ stays) (len old) refl;
             block = SameBlock-trans joins.holds.block (SameBlock-trans (same_holds joined keeps.left _ keeps.asks.leaves.same).block (SameBlock-trans keeps.closes.holds.block (SameBlock-trans (same_holds down w places differs).block set.holds.block)));
           };
           stands = subst (StandsBehind new 0) set_count set.stands;
-          stayed = ap (behind_items new 0) (sym set_count) ∙ set.elements ∙ back;
+          stayed = ap (behind_items new 0) (sym set_count) ∙ set.elements ∙ back ∙ ap (λ l. behind_items old 0 low ++ l) (sym r.stays);
           within = inside;
           above = same;
-          cases = cases;
           writes = record {
             written = omega (arith, joins.writes.written, ap (λ v. v.written) keeps.asks.leaves.same, keeps.closes.writes.written, ap (λ v. v.written) differs, set.writes.written);
             runs = omega (arith, joins.writes.runs, ap (λ v. v.runs) keeps.asks.leaves.same, keeps.closes.writes.runs, ap (λ v. v.runs) differs, set.writes.runs);
           };
         }
 
-      pub Picks-none : stay ≡ n → (new : Vector T A) → SetsBack down (len old) new → Picks Asks f old kept front end stay end None g new
+      pub Picks-none : stay ≡ n → (new : Vector T A) → SetsBack down (len old) new → Picks Keeps f old low front end stay end None g new
       Picks-none e new set =
-          let all : kept + stay + gap ≡ end = omega (arith, e, ordered.0, ordered.1) in
-          picked down down.behind refl new set end None (omega (arith, all), ordered.1, omega arith) (ap (λ i. drop i new.behind) (sym all) ∙ above down down.behind refl new set gap ∙ none_rest e) (e, refl)
+          let all : low + stay + gap ≡ end = omega (arith, e, ordered.0, ordered.1) in
+          let r = told_none f g (behind_items old front n) stay left until (e ∙ sym (count old front n stands)) in
+          picked down down.behind refl new set end None [] r (omega (arith, e, ordered.1)) (omega (arith, all), ordered.1, omega arith) (ap (λ i. drop i new.behind) (sym all) ∙ above down down.behind refl new set gap ∙ none_rest e) (r.items, refl)
 
-      pub Picks-taken : stay < n → (x : T) → behind_items down (front - kept) 1 ≡ x ∷ [] → (w : Vector T A) → w ≡ with_behind down (slice_set down.behind (front - kept) None) → (new : Vector T A) → SetsBack w (len old) new
-          → Picks Asks f old kept front end stay (front + stay + 1) (Some x) g new
+      pub Picks-taken : stay < n → (x : T) → behind_items down (front - low) 1 ≡ x ∷ [] → (w : Vector T A) → w ≡ with_behind down (slice_set down.behind (front - low) None) → (new : Vector T A) → SetsBack w (len old) new
+          → Picks Keeps f old low front end stay (front + stay + 1) (Some x) g new
       Picks-taken less x value w taken new set =
           let next : ℕ = front + stay + 1 in
           let e : front + (stay + 1) ≡ next = omega arith in
-          let there : kept + stay + (gap + 1) ≡ next = omega (arith, ordered.0) in
-          picked w (slice_set down.behind gap None) taken new set next (Some x) (omega (arith, there), omega arith, omega (arith, less))
+          let there : low + stay + (gap + 1) ≡ next = omega (arith, ordered.0) in
+          let r = told_some f g (behind_items old front n) stay left x (behind_items old (front + (stay + 1)) (end - (front + (stay + 1)))) until (taken_are less x value) in
+          let last = r.ends x refl in
+          picked w (slice_set down.behind gap None) taken new set next (Some x) (x ∷ []) r (omega arith) (omega (arith, there), omega arith, omega (arith, less))
           (ap (λ i. drop i new.behind) (sym there) ∙ above w (slice_set down.behind gap None) taken new set (gap + 1) ∙ ap (λ v. drop (gap + 1) v.behind) taken ∙ taken_rest less x value ∙ ap (λ i. drop i old.behind) e)
-          (refl, taken_are less x value ∙ ap (λ i. x ∷ behind_items old i (end - i)) e)
+          (r.items, inr (last.0, x, last.1))

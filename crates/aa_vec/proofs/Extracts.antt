@@ -1,11 +1,11 @@
 -- Calls that take elements out of a range.
 use borrow.Rule.Reborrow.{re_v}
-use Rattle.std.proofs.Common.{◌≡◌, ℕ, ◌+◌, ◌-◌, ◌≤◌, Bool, false, not, List, [], ◌∷◌, ◌++◌, length, drop, Option, Some, None, refl, sym, ap, ◌∙◌, subst, arith, length-append, MutBor}
-use Rattle.std.specs.Prelude.{MatchOption, if◌then◌else◌, ◌==◌}
+use Rattle.std.proofs.Common.{◌≡◌, ℕ, suc, ◌+◌, ◌-◌, ◌≤◌, Bool, true, false, not, List, [], ◌∷◌, ◌++◌, length, map, drop, Option, Some, None, refl, sym, ap, ◌∙◌, subst, arith, length-append, MutBor}
+use Rattle.std.specs.Prelude.{cond, filter, MatchOption, if◌then◌else◌, ◌==◌}
 use Rattle.std.proofs.lemmas.List.{take-append-drop}
 use Rattle.aa_raw.proofs.Runs.{run-zero}
 use Rattle.aa_vec.specs.Behind.{StandsBehind, SetsBack, ClosesTwice, behind_items}
-use Rattle.aa_vec.specs.Choosing.{MayAskInOrder}
+use Rattle.aa_vec.specs.Choosing.{Asked, EndsTrue, MayAskInOrder, kept, passed_over}
 use Rattle.aa_vec.specs.Draining.{drain_rest, drain_tail}
 use Rattle.aa_vec.specs.Extracting.{ClosesExtract, ExtractsRange, Extracts, extract_kept, extract_rest, extract_tail}
 use Rattle.aa_vec.specs.Until.{StaysAt, Picks}
@@ -15,6 +15,15 @@ use Rattle.aa_vec.proofs.Drained.{still_stand, still_are, part_stand, later_part
 use Rattle.aa_vec.proofs.Drains.{range_held, range_drains}
 use Rattle.aa_vec.proofs.Gaps.{further}
 use Rattle.aa_vec.proofs.Stands.{count, first_are}
+
+one_part : {T : Type 0} (b : Bool) (y : Asked T) (ys zs : List (Asked T)) → length (map (λ t. t.left) (cond (not b) (y ∷ ys) ys)) + length (map (λ t. t.left) (cond b (y ∷ zs) zs)) ≡ suc (length (map (λ t. t.left) ys) + length (map (λ t. t.left) zs))
+one_part true y ys zs = omega arith
+one_part false y ys zs = omega arith
+
+-- of those that were asked, some stay, and the others were taken out
+asked_parts : {T : Type 0} (told : List (Asked T)) → length told ≡ length (passed_over told) + length (kept told)
+asked_parts [] = refl
+asked_parts (y ∷ told) = omega (arith, one_part y.answer y (filter (λ t. not t.answer) told) (filter (λ t. t.answer) told), asked_parts told)
 
 module _ {F T : Type 0} (Asks : F → T → Bool → F → T → Type 0) (Takes : F → T → Type 0) where
   -- who may be asked may be asked for either answer
@@ -47,7 +56,7 @@ module _ {T A : Type 0} (e : ExtractBy T A) where
   unfolding extract_rest
   rest_count = count e.vec.now e.front (e.end - e.front) rest_stand
 
-  module _ {F : Type 0} (Asks : F → T → Bool → F → T → Type 0) (f : F) (stay next : ℕ) (item : Option T) (g : F) (new : Vector T A) (picks : Picks (StaysAt false Asks) f e.vec.now e.kept e.front e.end stay next item g new) where
+  module _ {F : Type 0} (Asks : F → T → Bool → F → T → Type 0) (f : F) (stay next : ℕ) (item : Option T) (g : F) (new : Vector T A) (picks : Picks Asks f e.vec.now e.kept e.front e.end stay next item g new) where
     pub picked_ordered : (e.kept + stay ≤ next) × (next ≤ e.end) × (e.end ≤ e.total)
     picked_ordered = (picks.within.0, picks.within.2, e.ordered.2)
 
@@ -58,31 +67,35 @@ module _ {T A : Type 0} (e : ExtractBy T A) where
           (omega (arith, e.held.1.0, ap length picks.holds.items, picks.holds.block.capacity, picks.within, e.ordered)) picks.above,
     )
 
-    -- what was taken, and what is left of the range
-    picked_cases : (r : Option T) → MatchOption r ((stay ≡ e.end - e.front) × (next ≡ e.end)) (λ x. (next ≡ e.front + stay + 1) × (drop stay picks.left ≡ x ∷ behind_items e.vec.now next (e.end - next)))
-        → MatchOption r ((stay ≡ length (behind_items e.vec.now e.front (e.end - e.front))) × (behind_items new next (e.end - next) ≡ []) × (next - (e.kept + stay) ≡ e.front - e.kept))
-        (λ x. (drop stay picks.left ≡ x ∷ behind_items new next (e.end - next)) × (next - (e.kept + stay) ≡ e.front - e.kept + 1))
-    picked_cases None c = (
-      c.0 ∙ sym (count e.vec.now e.front (e.end - e.front) rest_stand),
-      ap (behind_items new next) (omega (arith, c.1)) ∙ run-zero (drop next new.behind) 0,
-      omega (arith, c.0, c.1, e.ordered),
-    )
-    picked_cases (Some x) c = (c.1 ∙ ap (λ l. x ∷ l) (sym (still_are e.vec.now new next next (e.end - next) picks.above)), omega (arith, c.0, e.ordered))
+    -- what is left of the range
+    picked_cases : (r : Option T) → MatchOption r ((kept picks.told ≡ []) × (next ≡ e.end)) (λ x. (kept picks.told ≡ x ∷ []) × EndsTrue picks.told)
+        → MatchOption r ((kept picks.told ≡ []) × (behind_items new next (e.end - next) ≡ [])) (λ x. (kept picks.told ≡ x ∷ []) × EndsTrue picks.told)
+    picked_cases None c = (c.0, ap (behind_items new next) (omega (arith, c.1)) ∙ run-zero (drop next new.behind) 0)
+    picked_cases (Some x) c = c
+
+    picked_rest : behind_items new next (e.end - next) ≡ drop (length picks.told) (behind_items e.vec.now e.front (e.end - e.front))
+    picked_rest =
+        let many : next ≡ e.front + length picks.told = picks.counts.1 in
+        still_are e.vec.now new next next (e.end - next) picks.above ∙ ap (λ i. behind_items e.vec.now i (e.end - next)) many
+        ∙ later_part e.vec.now e.front (length picks.told) (e.end - e.front) (e.end - next) (omega (arith, many, picks.within)) rest_stand
 
     pub picked_extracts : (ordered : (e.kept + stay ≤ next) × (next ≤ e.end) × (e.end ≤ e.total)) (held : StandsBehind new 0 (e.kept + stay) × StandsBehind new next (e.total - next))
         → Extracts Asks f e item g (record { vec = re_v new e.vec; kept = e.kept + stay; front = next; end = e.end; total = e.total; ordered = ordered; held = held })
     unfolding extract_kept extract_rest extract_tail
-    picked_extracts ordered held = record {
-      stay = stay;
-      left = picks.left;
-      until = picks.until;
-      lender = refl;
-      head = picks.holds;
-      kept = picks.stayed;
-      tail = still_are e.vec.now new e.end e.end (e.total - e.end) (further new.behind e.vec.now.behind next next e.end e.end (omega (arith, picks.within)) refl picks.above);
-      cases = picked_cases item picks.cases;
-      writes = picks.writes;
-    }
+    picked_extracts ordered held =
+        let Says : ℕ → Type 0 = λ m. let moved = if e.front - e.kept == 0 then 0 else m in Writes e.vec.now moved (run_count moved) new in
+        record {
+          told = picks.told;
+          asked = picks.asked;
+          cases = picked_cases item picks.cases;
+          count = omega (arith, picks.counts, asked_parts picks.told, e.ordered);
+          kept = picks.stayed;
+          rest = picked_rest;
+          lender = refl;
+          head = picks.holds;
+          tail = still_are e.vec.now new e.end e.end (e.total - e.end) (further new.behind e.vec.now.behind next next e.end e.end (omega (arith, picks.within)) refl picks.above);
+          writes = subst Says picks.counts.0 picks.writes;
+        }
 
   -- what was not asked and what is behind the range stand side by side
   closed_parts : behind_items e.vec.now e.front (e.total - e.front) ≡ extract_rest e ++ extract_tail e

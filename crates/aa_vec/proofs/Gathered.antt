@@ -3,7 +3,7 @@ use Rattle.std.proofs.Common.{◌≡◌, ℕ, ◌+◌, ◌-◌, ◌<◌, ◌≤�
 use Rattle.std.specs.Prelude.{min}
 use Rattle.std.proofs.lemmas.Bool.Decides.{eqb_tells}
 use Rattle.std.proofs.lemmas.List.{append-nil}
-use Rattle.aa_raw.specs.declared.collections.TryReserveErrorKind.{TryReserveErrorKind}
+use Rattle.aa_raw.specs.declared.collections.TryReserveError.{TryReserveError}
 use Rattle.aa_raw.specs.declared.raw_vec.Growth.TheVariants.{Doubling}
 use Rattle.aa_raw.specs.Growth.{amortized, least_of, usize_max}
 use Rattle.aa_raw.specs.Refusals.{IsRefusedAt}
@@ -18,7 +18,7 @@ use Rattle.aa_vec.proofs.Telling.{told_first}
 
 -- another function tells the same of the items, behind which `more` is to come
 module _ {T A : Type 0} (size : ℕ) (lower by : ℕ → ℕ) (items : List T) (some : 0 < length items) where
-  module _ (more : List T) (same : (k : ℕ) → k < length items → lower k ≡ by (k + length more)) (error : TryReserveErrorKind) where
+  module _ (more : List T) (same : (k : ℕ) → k < length items → lower k ≡ by (k + length more)) (error : TryReserveError) where
     LacksVector-told : (fails fails' : Type 0) → (fails → fails') → LacksVector A fails size lower items error → LacksVector A fails' size by (items ++ more) error
     LacksVector-told fails fails' f l =
         let asked : asked_for lower (length items) ≡ asked_for by (length (items ++ more)) =
@@ -32,10 +32,10 @@ module _ {T A : Type 0} (size : ℕ) (lower by : ℕ → ℕ) (items : List T) (
         → LacksOthers fails' whole' size by v (items ++ more) error
     LacksOthers-told fails fails' whole whole' f w none v l = elim l [
       | inl h ↦ inl (LacksVector-told fails fails' f h)
-      | inr h ↦ inr (w h.0, subst (λ k. LacksRoom v k error) (omega (arith, length-append items more, ap length (none h.0))) h.1)
+      | inr h ↦ inr (w h.0, subst (λ k. LacksRoom size v k error) (omega (arith, length-append items more, ap length (none h.0))) h.1)
     ]
 
-  pub LacksOthers-same : ((k : ℕ) → k < length items → lower k ≡ by k) → (fails fails' whole : Type 0) → (fails → fails') → (v : Vector T A) (error : TryReserveErrorKind) → LacksOthers fails whole size lower v items error
+  pub LacksOthers-same : ((k : ℕ) → k < length items → lower k ≡ by k) → (fails fails' whole : Type 0) → (fails → fails') → (v : Vector T A) (error : TryReserveError) → LacksOthers fails whole size lower v items error
       → LacksOthers fails' whole size by v items error
   LacksOthers-same same fails fails' whole f v error l =
       let nil : List T = [] in
@@ -47,7 +47,7 @@ module _ {S T A : Type 0} (steps : S → Option T → S → Type 0) (Tells : S �
   none_taken = record { lower = λ _. n; last = s; first = tells; each = refl }
 
   -- the clone of the allocator was refused
-  pub GathersShort-clone : (error : TryReserveErrorKind) → IsRefusedAt error (amortized Doubling 0 wanted (least_of size)) → fails → GathersShort steps Tells size s first fails old error s
+  pub GathersShort-clone : (error : TryReserveError) → IsRefusedAt error (amortized Doubling 0 wanted (least_of size)) → fails → GathersShort steps Tells size s first fails old error s
   GathersShort-clone error r f = record { rest = []; told = none_taken; stops = refl; lacks = inl (f, subst (λ k. IsRefusedAt error (amortized Doubling 0 k (least_of size))) is r) }
 
   module _ (a : A) (made : Vector T A) (new : IsNew size 0 a made) where
@@ -55,7 +55,7 @@ module _ {S T A : Type 0} (steps : S → Option T → S → Type 0) (Tells : S �
     made_new = record { items = new.items; capacity = new.capacity; growth = new.growth; grown = new.grown; written = new.written; runs = new.runs; alloc = refl }
 
     -- its first growth was
-    pub GathersShort-first : (error : TryReserveErrorKind) → LacksRoom made wanted error → GathersShort steps Tells size s first fails old error s
+    pub GathersShort-first : (error : TryReserveError) → LacksRoom size made wanted error → GathersShort steps Tells size s first fails old error s
     GathersShort-first error lacks =
         let no_places : made.capacity ≡ 0 = elim (eqb_tells size 0) [
           | inl h ↦ absurd (omega (arith, lacks.full, ap length new.items, is, new.capacity, equal size 0 usize_max 0 h.1))
@@ -77,7 +77,7 @@ module _ {S T A : Type 0} (steps : S → Option T → S → Type 0) (Tells : S �
               short = omega (arith, no_places);
               items = new.items;
               full = omega (arith, no_places);
-              lacks = subst (λ k. LacksRoom made k error) is lacks;
+              lacks = subst (λ k. LacksRoom size made k error) is lacks;
             },
           );
         }
@@ -94,7 +94,7 @@ module _ {S T A : Type 0} (steps : S → Option T → S → Type 0) (Tells : S �
           let P : S → Type 0 = λ k. steps e.last None k in
           record { rest = e.added; told = record { lower = f.0; last = e.last; first = f.4; each = f.2 }; ends = subst P by.1 e.ends.1; items = e.extends.items ∙ ap (λ ys. ys ++ e.added) one }
 
-      pub GathersShort-more : (x : Vector T A) (error : TryReserveErrorKind) (t : S) → (e : ExtendsByFront steps Tells size s w error x) × (e.last ≡ t) → GathersShort steps Tells size s first fails old error t
+      pub GathersShort-more : (x : Vector T A) (error : TryReserveError) (t : S) → (e : ExtendsByFront steps Tells size s w error x) × (e.last ≡ t) → GathersShort steps Tells size s first fails old error t
       GathersShort-more x error t by =
           let e = by.0 in
           let nil : List T = [] in

@@ -1,5 +1,5 @@
 -- Closures that hand their arguments on to another: what is said of the one holds of the other.
-use Rattle.std.proofs.Common.{Bool, true, false, List, [], ◌∷◌, ap}
+use Rattle.std.proofs.Common.{◌≡◌, Bool, true, false, List, [], ◌∷◌, ap, sym, subst, ◌∙◌}
 use Rattle.aa_vec.specs.Choosing.{Asked, AskedInOrder, MayAskInOrder, IsCallableInOrder, Retains, ChainsFrom, Deduplicated, MayChainFrom, MayDeduplicate, IsCallableAlong, Deduplicates}
 use Rattle.aa_vec.specs.Vector.{Vector}
 
@@ -39,6 +39,24 @@ module _ {Q F T : Type 0} (inner : Q → F) (Outer : Q → T → T → Bool → 
 
   pub Deduplicates-on : {A : Type 0} (q : Q) (old : Vector T A) (r : Q) (new : Vector T A) → Deduplicates Outer q old r new → Deduplicates Inner (inner q) old (inner r) new
   Deduplicates-on q old r new h = record { answers = h.answers; left = h.left; asked = deduplicated_on q old.items h.answers r h.left h.asked; holds = h.holds; written = h.written; runs = h.runs }
+
+  -- where the other is lent under a name, that each call keeps, x is what is behind that name in the end
+  module _ {N : Type 0} (name : Q → N) (keeps : (q : Q) (x l : T) (answer : Bool) (r : Q) (y k : T) → Outer q x l answer r y k → name r ≡ name q) where
+    chain_keeps : (q : Q) (l : T) (xs : List T) (answers : List Bool) (r : Q) (ys : List T) → ChainsFrom Outer q l xs answers r ys → name r ≡ name q
+    chain_keeps q l [] [] r ys c = ap name c.0
+    chain_keeps q l [] (a ∷ answers) r ys c = absurd c
+    chain_keeps q l (x ∷ xs) [] r ys c = absurd c
+    chain_keeps q l (x ∷ xs) (true ∷ answers) r ys c = chain_keeps c.0 c.2 xs answers r ys c.4 ∙ keeps q x l true c.0 c.1 c.2 c.3
+    chain_keeps q l (x ∷ xs) (false ∷ answers) r ys c = chain_keeps c.0 c.1 xs answers r c.3 c.5 ∙ keeps q x l false c.0 c.1 c.2 c.4
+
+    all_keep : (q : Q) (xs : List T) (answers : List Bool) (r : Q) (ys : List T) → Deduplicated Outer q xs answers r ys → name r ≡ name q
+    all_keep q [] answers r ys d = ap name d.1
+    all_keep q (x ∷ xs) answers r ys d = chain_keeps q x xs answers r ys d
+
+    pub Deduplicates-lent : {A : Type 0} (q : Q) (old : Vector T A) (r : Q) (new : Vector T A) (x : F) → Deduplicates Outer q old r new → (name q ≡ name r → x ≡ inner r) → Deduplicates Inner (inner q) old x new
+    Deduplicates-lent q old r new x h ends =
+        let P : F → Type 0 = λ z. Deduplicates Inner (inner q) old z new in
+        subst P (sym (ends (sym (all_keep q old.items h.answers r h.left h.asked)))) (Deduplicates-on q old r new h)
 
   module _ (TakesOuter : Q → T → T → Type 0) (TakesInner : F → T → T → Type 0) (takes : (q : Q) (x l : T) → TakesInner (inner q) x l → TakesOuter q x l) where
     may_chain_on : (q : Q) (l : T) (xs : List T) → MayChainFrom Inner TakesInner (inner q) l xs → MayChainFrom Outer TakesOuter q l xs

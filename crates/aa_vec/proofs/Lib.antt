@@ -32,6 +32,7 @@ pub mod HandedOn
 pub mod Telling
 pub mod Gathered
 pub mod Filling
+pub mod Reading
 pub mod Replacing
 pub mod Splicing
 pub mod SplicedOn

@@ -5,7 +5,7 @@ use Rattle.std.specs.Iterator.{Count, Yields, size as count_of}
 use Rattle.std.proofs.lemmas.List.{take-append-drop, take_at, drop_at}
 use Rattle.std.proofs.lemmas.Bool.Decides.{eqb_tells}
 use Rattle.std.proofs.Math.Nat.{add-mul}
-use Rattle.aa_raw.specs.declared.collections.TryReserveErrorKind.{TryReserveErrorKind}
+use Rattle.aa_raw.specs.declared.collections.TryReserveError.{TryReserveError}
 use Rattle.aa_vec.specs.Vector.{Vector, len, Holds, Writes, MakesRoom, LacksRoom, run_count}
 use Rattle.aa_vec.specs.Behind.{ClosesGap, behind_items}
 use Rattle.aa_vec.specs.Splicing.{tail_moves}
@@ -79,7 +79,7 @@ moves_rest told r n h = omega (arith, moves_times told (told + r) n, over_some (
 
 module _ {S T A : Type 0} (steps : S → Option T → S → Type 0) (Tells : S → ℕ → Type 0) (remaining : S → Count) (size : ℕ) (s : S) (old : Vector T A) where
   -- room for as many as were told was refused
-  pub Puts-none : {fails : Type 0} (told n : ℕ) (error : TryReserveErrorKind) → LacksRoom old told error → Puts steps Tells fails size s old told n remaining (Err error) old s
+  pub Puts-none : {fails : Type 0} (told n : ℕ) (error : TryReserveError) → LacksRoom size old told error → Puts steps Tells fails size s old told n remaining (Err error) old s
   Puts-none told n error lacks = record {
     all = tt;
     writes = record { longer = omega arith; written = omega arith; runs = omega arith };
@@ -110,12 +110,12 @@ module _ {S T A : Type 0} (steps : S → Option T → S → Type 0) (Tells : S �
       }
 
   -- they could not be gathered, or there was no room for them
-  pub LacksRest-gathered : {fails : Type 0} (n : ℕ) (first : T) (error : TryReserveErrorKind) (u : S) → GathersShort steps Tells size s first fails old error u → LacksRest steps Tells fails size s old n first error u
+  pub LacksRest-gathered : {fails : Type 0} (n : ℕ) (first : T) (error : TryReserveError) (u : S) → GathersShort steps Tells size s first fails old error u → LacksRest steps Tells fails size s old n first error u
   LacksRest-gathered n first error u g = record { rest = g.rest; told = g.told; stops = inl g.stops; lacks = inl g.lacks }
 
-  pub LacksRest-room : {fails : Type 0} (n : ℕ) (first : T) (more : Vector T A) (u : S) → Gathers steps Tells size s first more u → (k : ℕ) → k ≡ len more → (error : TryReserveErrorKind) → LacksRoom old k error
+  pub LacksRest-room : {fails : Type 0} (n : ℕ) (first : T) (more : Vector T A) (u : S) → Gathers steps Tells size s first more u → (k : ℕ) → k ≡ len more → (error : TryReserveError) → LacksRoom size old k error
       → LacksRest steps Tells fails size s old n first error u
-  LacksRest-room n first more u g k e error lacks = record { rest = g.rest; told = g.told; stops = inr g.ends; lacks = inr ((u, g.ends), subst (λ j. LacksRoom old j error) (e ∙ ap length g.items) lacks) }
+  LacksRest-room n first more u g k e error lacks = record { rest = g.rest; told = g.told; stops = inr g.ends; lacks = inr ((u, g.ends), subst (λ j. LacksRoom size old j error) (e ∙ ap length g.items) lacks) }
 
   -- room was made for as many as were told, and `comes.added` was put there
   module _ (told n : ℕ) (few : n ≤ len old) (y : Vector T A) (wid : Widens size old told n y) (left : ℕ) (t : S) (z : Vector T A) (f : FillsAndCloses steps s y told n left t z) where
@@ -221,7 +221,7 @@ module _ {S T A : Type 0} (steps : S → Option T → S → Type 0) (Tells : S �
               runs = omega (arith, r.writes.runs, f.writes.runs, wid.writes.runs, longer, z_len, some, one_at_most (over told n), ap run_count (over_none left n full), one_at_most n);
             }
 
-      pub Puts-rest : (P : A → Type 0) → ((k : S) → (m : ℕ) × Tells k m) → (result : Result Unit TryReserveErrorKind) (new : Vector T A) (after : S) → OnOk result (PutsRest steps size u z n first new after) → IfErr result (λ e. LacksRest steps Tells (P z.alloc) size u z n first e after × (new ≡ z)) → told < count_of (remaining s)
+      pub Puts-rest : (P : A → Type 0) → ((k : S) → (m : ℕ) × Tells k m) → (result : Result Unit TryReserveError) (new : Vector T A) (after : S) → OnOk result (PutsRest steps size u z n first new after) → IfErr result (λ e. LacksRest steps Tells (P z.alloc) size u z n first e after × (new ≡ z)) → told < count_of (remaining s)
           → Puts steps Tells (P old.alloc) size s old told n remaining result new after
       Puts-rest P tell (Ok x) new after r _ more = record { all = all_put new after r; writes = rest_within new after r; refused = tt; few = tt }
       Puts-rest P tell (Err e) new after _ l more =

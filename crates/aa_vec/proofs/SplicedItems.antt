@@ -1,7 +1,7 @@
 -- Splices by an `Items`, which tells a function of how many items are left, and splices of a vector in the same block.
 use Rattle.std.proofs.Common.{◌≡◌, ℕ, ◌+◌, ◌-◌, ◌*◌, ◌≤◌, List, [], ◌++◌, length, append_assoc, refl, sym, ap, ◌∙◌, subst, arith, inl, inr, length-append}
 use Rattle.std.proofs.lemmas.List.{append-nil}
-use Rattle.aa_raw.specs.declared.collections.TryReserveErrorKind.{TryReserveErrorKind}
+use Rattle.aa_raw.specs.declared.collections.TryReserveError.{TryReserveError}
 use Rattle.aa_vec.specs.Vector.{Vector, SameBlock, MakesRoom, LacksRoom}
 use Rattle.aa_vec.specs.Extending.{ItemsLeft, gives_item, lower_by, TellsExactly}
 use Rattle.aa_vec.specs.Splicing.{MakesRoomTwice, SplicesAll, SplicesFront, SplicesShort, SplicesByAll, SplicesByFront, tail_moves}
@@ -27,7 +27,7 @@ module _ {T A : Type 0} (size : ℕ) (lower by : ℕ → ℕ) {u v : Vector T A}
       }
 
   -- of what was taken a beginning was placed
-  module _ (all : List T) (e : all ≡ taken ++ more) (error : TryReserveErrorKind) {fails fails' whole whole' : Type 0} (f : fails → fails') (w : whole → whole') (none : whole → more ≡ []) where
+  module _ (all : List T) (e : all ≡ taken ++ more) (error : TryReserveError) {fails fails' whole whole' : Type 0} (f : fails → fails') (w : whole → whole') (none : whole → more ≡ []) where
     front_told : SplicesFront size lower v head gap tail taken fails whole error new → SplicesFront size by u head gap tail all fails' whole' error new
     front_told s =
         let count : length taken ≡ length s.front + length s.others = ap length s.begins ∙ length-append s.front s.others in
@@ -40,7 +40,7 @@ module _ {T A : Type 0} (size : ℕ) (lower by : ℕ → ℕ) {u v : Vector T A}
           begins = e ∙ ap (λ ys. ys ++ more) s.begins ∙ append_assoc s.front s.others more;
           items = s.items;
           why = elim s.why [
-            | inl h ↦ inl (record { fills = h.fills; block = SameBlock-trans b h.block; lacks = subst (λ k. LacksRoom new k error) (told (omega (arith, h.fills, count))) h.lacks })
+            | inl h ↦ inl (record { fills = h.fills; block = SameBlock-trans b h.block; lacks = subst (λ k. LacksRoom size new k error) (told (omega (arith, h.fills, count))) h.lacks })
             | inr h ↦
                 let is = told (omega (arith, h.fills, count)) in
                 inr (record {
@@ -80,7 +80,7 @@ module _ {T : Type 0} (iter : ItemsLeft T) {A : Type 0} (size : ℕ) (old : Vect
         (items-told s.lower iter s.added s.last s.told s.first (length s.added - gap) (omega arith) ∙ ap (lower_by iter.hint) (omega (arith, ap length none)))
         ∙ ap (λ xs. old.written + (length xs + tail_moves gap (lower_by iter.hint (length xs - gap)) (length xs) * length tail)) whole
 
-  pub SplicesShort-items : {fails : Type 0} → length head ≤ old.capacity → (error : TryReserveErrorKind) (new : Vector T A) → SplicesByFront gives_item (TellsExactly items_lower) size iter old head gap tail fails error new
+  pub SplicesShort-items : {fails : Type 0} → length head ≤ old.capacity → (error : TryReserveError) (new : Vector T A) → SplicesByFront gives_item (TellsExactly items_lower) size iter old head gap tail fails error new
       → SplicesShort size (lower_by iter.hint) old head gap tail iter.items ⊤ ⊤ error new
   SplicesShort-items within error new s =
       SplicesShort-told size s.lower (lower_by iter.hint) (SameBlock-refl old) head gap tail s.taken s.last.items (λ k h. items-told s.lower iter s.taken s.last s.told s.first k (h within)) new iter.items
@@ -91,5 +91,5 @@ module _ {T A : Type 0} (size : ℕ) (lower : ℕ → ℕ) {u v : Vector T A} (b
   pub SplicesAll-from : (new : Vector T A) → SplicesAll size lower v head gap tail added new → SplicesAll size lower u head gap tail added new
   SplicesAll-from new = SplicesAll-told size lower lower b head gap tail added [] (λ k _. ap lower (omega arith)) new refl
 
-  pub SplicesShort-from : {fails whole : Type 0} → (error : TryReserveErrorKind) (new : Vector T A) → SplicesShort size lower v head gap tail added fails whole error new → SplicesShort size lower u head gap tail added fails whole error new
+  pub SplicesShort-from : {fails whole : Type 0} → (error : TryReserveError) (new : Vector T A) → SplicesShort size lower v head gap tail added fails whole error new → SplicesShort size lower u head gap tail added fails whole error new
   SplicesShort-from error new = SplicesShort-told size lower lower b head gap tail added [] (λ k _. ap lower (omega arith)) new added (sym (append-nil added)) error (λ f. f) (λ w. w) (λ _. refl)

@@ -3,7 +3,7 @@ use Rattle.std.proofs.Common.{◌≡◌, ℕ, ◌+◌, ◌-◌, ◌*◌, ◌<◌
 use Rattle.std.specs.Prelude.{Result, Ok, OnOk}
 use Rattle.std.specs.Iterator.{Count, Yields, Drains, size as count_of}
 use Rattle.std.proofs.lemmas.List.{append-nil}
-use Rattle.aa_raw.specs.declared.collections.TryReserveErrorKind.{TryReserveErrorKind}
+use Rattle.aa_raw.specs.declared.collections.TryReserveError.{TryReserveError}
 use Rattle.aa_raw.proofs.Runs.{length-run, run-zero}
 use Rattle.aa_vec.specs.Vector.{Vector, len, SameBlock, Writes, run_count}
 use Rattle.aa_vec.specs.Behind.{StandsBehind, DropsBehind, behind_items}
@@ -76,14 +76,14 @@ module _ {S T : Type 0} (steps : S → Option T → S → Type 0) (Tells : S →
               refl,
             )
 
-        front_extended : (error : TryReserveErrorKind) (new : Vector T A) → (x : ExtendsByFront steps Tells size iter w error new) → (front : SplicesByFront steps Tells size iter old old.items gap tail (P old.alloc) error new) × (front.last ≡ x.last)
+        front_extended : (error : TryReserveError) (new : Vector T A) → (x : ExtendsByFront steps Tells size iter w error new) → (front : SplicesByFront steps Tells size iter old old.items gap tail (P old.alloc) error new) × (front.last ≡ x.last)
         front_extended error new x =
             let nil : List T = [] in
             let f = told_first steps Tells x.lower iter x.taken x.last x.told (tell iter).0 (tell iter).1 in
             let full = ExtendsFull-told size x.lower f.0 block w.items x.taken nil (same_told x.lower f.0 x.taken f.1 x.within) x.taken (sym (append-nil x.taken)) error new x.extends in
             (record { taken = x.taken; lower = f.0; last = x.last; first = f.4; told = f.2; splices = inl (no_tail, subst (λ h. ExtendsFull size f.0 old h x.taken error new) same_head full) }, refl)
 
-        pub Replaced-extended : (r : Result Unit TryReserveErrorKind) (new : Vector T A) → Extended steps Tells left_of size iter w r new → Replaced steps Tells left_of (P old.alloc) size iter old old.items gap tail r new
+        pub Replaced-extended : (r : Result Unit TryReserveError) (new : Vector T A) → Extended steps Tells left_of size iter w r new → Replaced steps Tells left_of (P old.alloc) size iter old old.items gap tail r new
         Replaced-extended r new e =
             let z = e.writes in
             let spliced = on_ok r e.extended (λ x. (all_extended new z x).0) in
@@ -102,7 +102,7 @@ module _ {S T : Type 0} (steps : S → Option T → S → Type 0) (Tells : S →
               refused = if_err r e.refused (λ error x. (front_extended error new x).0);
             }
 
-        pub SplicesIter-extended : (r : Result Unit TryReserveErrorKind) (new : Vector T A) (after : S) → Writes w (len new - len w) (len new - len w) new → LeavesIter steps Tells size iter w after r new
+        pub SplicesIter-extended : (r : Result Unit TryReserveError) (new : Vector T A) (after : S) → Writes w (len new - len w) (len new - len w) new → LeavesIter steps Tells size iter w after r new
             → SplicesIter steps Tells (P old.alloc) size iter old old.items gap tail after r new
         SplicesIter-extended r new after z l = record {
           ended = on_ok r l.ended (λ x. let s = all_extended new z x.0 in (s.0, s.1 ∙ x.1));
@@ -221,7 +221,7 @@ module _ {S T : Type 0} (steps : S → Option T → S → Type 0) (Tells : S →
                 refl,
               )
 
-          more_refused : (error : TryReserveErrorKind) (new : Vector T A) (after : S) → (p : PutsFront steps Tells (P x.alloc) size t x told n error new after) → (front : SplicesByFront steps Tells size iter old old.items gap tail (P old.alloc) error new) × (front.last ≡ p.last)
+          more_refused : (error : TryReserveError) (new : Vector T A) (after : S) → (p : PutsFront steps Tells (P x.alloc) size t x told n error new after) → (front : SplicesByFront steps Tells size iter old old.items gap tail (P old.alloc) error new) × (front.last ≡ p.last)
           more_refused error new after p =
               let put : List T = p.front ++ p.others in
               let r = tell_between steps Tells tell iter came t given told tells p.lower put p.last p.given in
@@ -256,7 +256,7 @@ module _ {S T : Type 0} (steps : S → Option T → S → Type 0) (Tells : S →
                 refl,
               )
 
-          pub Replaced-more : (r : Result Unit TryReserveErrorKind) (new : Vector T A) (after : S) → Puts steps Tells (P x.alloc) size t x told n left_of r new after → gap + count_of (left_of t) ≤ count_of (left_of iter) → Replaced steps Tells left_of (P old.alloc) size iter old old.items gap tail r new
+          pub Replaced-more : (r : Result Unit TryReserveError) (new : Vector T A) (after : S) → Puts steps Tells (P x.alloc) size t x told n left_of r new after → gap + count_of (left_of t) ≤ count_of (left_of iter) → Replaced steps Tells left_of (P old.alloc) size iter old old.items gap tail r new
           Replaced-more r new after p goes =
               let spliced = on_ok r p.all (λ all. (more_spliced new after all).0) in
               let ran = on_ok r spliced (drains new) in
@@ -276,7 +276,7 @@ module _ {S T : Type 0} (steps : S → Option T → S → Type 0) (Tells : S →
                 refused = if_err r p.refused (λ e front. (more_refused e new after front).0);
               }
 
-          pub SplicesIter-more : (r : Result Unit TryReserveErrorKind) (new : Vector T A) (after : S) → Puts steps Tells (P x.alloc) size t x told n left_of r new after → SplicesIter steps Tells (P old.alloc) size iter old old.items gap tail after r new
+          pub SplicesIter-more : (r : Result Unit TryReserveError) (new : Vector T A) (after : S) → Puts steps Tells (P x.alloc) size t x told n left_of r new after → SplicesIter steps Tells (P old.alloc) size iter old old.items gap tail after r new
           SplicesIter-more r new after p = record {
             ended = on_ok r p.all (more_spliced new after);
             stopped = if_err r p.refused (λ e front. let s = more_refused e new after front in (s.0, subst (λ k. StopsAt steps k after) (sym s.1) front.stops));

@@ -1,5 +1,6 @@
 -- A closure that is called once for each new place.
 use Rattle.std.proofs.Common.{◌≡◌, ℕ, suc, ◌+◌, ◌-◌, ◌<◌, List, [], ◌∷◌, ◌++◌, length, refl, sym, ap, ◌∙◌, subst, arith, append-nil, length-append}
+use Rattle.std.specs.Prelude.{Result, Ok, Err, OnOk}
 use Rattle.std.specs.List.{FoldsTo}
 use Rattle.std.proofs.lemmas.Fn.{FoldsTo-push}
 use Rattle.aa_vec.specs.Copies.{AddsAnswers, LengthensBy, MayCallTimes}
@@ -47,10 +48,9 @@ module _ {T A F : Type 0} (takes : F → Type 0) (step : F → T → F → Type 
     pub Turns-room : k < total → HasRoom old total → len now < now.capacity
     Turns-room h room = omega (arith, h, room, ap length t.holds.items, length-append old.items t.answers, t.count, t.holds.block.capacity)
 
-    pub AddsAnswers-turns : k ≡ total → AddsAnswers step old total f now
+    pub AddsAnswers-turns : k ≡ total → AddsAnswers step old total f g now
     AddsAnswers-turns e = record {
       answers = t.answers;
-      last = g;
       calls = t.calls;
       count = t.count ∙ e;
       holds = t.holds;
@@ -58,8 +58,13 @@ module _ {T A F : Type 0} (takes : F → Type 0) (step : F → T → F → Type 
     }
 
   -- in a vector that has just made room for all of them
-  pub LengthensBy-answers : (size : ℕ) (first old new : Vector T A) (k : ℕ) (f : F) → GrowsTo size first k first.items old → AddsAnswers step old k f new → LengthensBy step size first k f new
-  LengthensBy-answers size first old new k f made adds =
-      record { answers = adds.answers; last = adds.last; calls = adds.calls; count = adds.count; grows = grown-to size first old new k made adds.answers adds.holds }
+  pub LengthensBy-answers : (size : ℕ) (first old new : Vector T A) (k : ℕ) (f g : F) → GrowsTo size first k first.items old → AddsAnswers step old k f g new → LengthensBy step size first k f g new
+  LengthensBy-answers size first old new k f g made adds =
+      record { answers = adds.answers; calls = adds.calls; count = adds.count; grows = grown-to size first old new k made adds.answers adds.holds }
 
-pub ruleset turns = (Turns-none, Turns-may, Turns-next, Turns-room, AddsAnswers-turns, LengthensBy-answers, room-there)
+-- by a closure whose last state is not named
+pub LengthensBy-some_last : {T A F E : Type 0} (step : F → T → F → Type 0) (r : Result Unit E) (size n k : ℕ) (old new : Vector T A) (f g : F) → OnOk r (len old < n → LengthensBy step size old k f g new) → OnOk r (len old < n → (last : F) × LengthensBy step size old k f last new)
+LengthensBy-some_last step (Ok u) size n k old new f g fills = λ l. (g, fills l)
+LengthensBy-some_last step (Err e) size n k old new f g fills = tt
+
+pub ruleset turns = (Turns-none, Turns-may, Turns-next, Turns-room, AddsAnswers-turns, LengthensBy-answers, LengthensBy-some_last, room-there)

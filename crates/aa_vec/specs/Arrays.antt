@@ -4,7 +4,7 @@ use Rattle.std.specs.List.{flat_map}
 use Rattle.aa_raw.specs.Growth.{usize_max}
 use Rattle.aa_raw.specs.Refusals.{IsRefusedAt}
 use Rattle.aa_raw.specs.declared.collections.Refused.{Refused}
-use Rattle.aa_raw.specs.declared.collections.TryReserveErrorKind.{TryReserveErrorKind}
+use Rattle.aa_raw.specs.declared.collections.TryReserveError.{TryReserveError}
 use Rattle.aa_raw.specs.declared.collections.TryReserveErrorKind.TheVariants.{CapacityOverflow}
 use Rattle.aa_raw.specs.declared.raw_vec.Growth.TheVariants.{Doubling}
 use Rattle.aa_boxed.specs.Boxed.{Boxed}
@@ -17,8 +17,8 @@ flattened xss = flat_map (λ xs. xs) xss
 module _ {T A : Type 0} where
   -- room for all elements of v, whose arrays have n elements of `size` bytes each, was refused with this error, or the allocator's
   -- clone was, which succeeds where it is sure to
-  pub record LacksRoomForAll (sure : Type 0) (n size : ℕ) (v : Vector (List T) A) (error : TryReserveErrorKind) : Type 0 where
-    pub overflow : usize_max < len v * n → error ≡ CapacityOverflow
+  pub record LacksRoomForAll (sure : Type 0) (n size : ℕ) (v : Vector (List T) A) (error : TryReserveError) : Type 0 where
+    pub overflow : usize_max < len v * n → error.kind ≡ CapacityOverflow
     pub cause : len v * n ≤ usize_max → sure → (0 < v.capacity * n) × (0 < size)
     pub number : IsRefusedAt error (sized size (v.capacity * n))
 

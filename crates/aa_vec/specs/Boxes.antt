@@ -18,7 +18,7 @@ module _ {T A : Type 0} where
     pub spare : len v < v.capacity
     pub bounded : v.capacity < usize_max
     pub has_size : 0 < size
-    pub number : r.error ≡ AllocError (len v)
+    pub number : r.error.kind ≡ AllocError (len v)
 
   -- v has the list of a boxed slice, of elements of `size` bytes, and no room for more
   pub record IsUnboxed (size : ℕ) (s : Slice T A) (v : Vector T A) : Type 0 where

@@ -2,7 +2,7 @@
 use Rattle.std.specs.Prelude.{◌≡◌, ℕ, zero, suc, ◌+◌, ◌-◌, ◌<◌, ◌≤◌, List, [], ◌∷◌, ◌++◌, length, take, replicate, ◌⊎◌, ⊤, if◌then◌else◌, ◌==◌}
 use Rattle.std.specs.List.{AllZip, FoldsTo}
 pub use Rattle.aa_raw.specs.Clones.{Copies}
-use Rattle.aa_raw.specs.declared.collections.TryReserveErrorKind.{TryReserveErrorKind}
+use Rattle.aa_raw.specs.declared.collections.TryReserveError.{TryReserveError}
 use Rattle.aa_raw.specs.declared.collections.TryReserveErrorKind.TheVariants.{AllocError}
 use Rattle.aa_raw.specs.declared.raw_vec.Growth.{Growth}
 use Rattle.aa_raw.specs.declared.raw_vec.Growth.TheVariants.{Doubling}
@@ -83,43 +83,43 @@ module _ {T A : Type 0} where
     pub each : AllZip clones (replicate (k - 1) x) added
     pub grows : GrowsTo size old k (old.items ++ (added ++ x ∷ [])) new
 
-  -- new has the block of old, and behind old's items k others, written one by one: what f answered, called once for each, in order
-  pub record AddsAnswers {F : Type 0} (step : F → T → F → Type 0) (old : Vector T A) (k : ℕ) (f : F) (new : Vector T A) : Type 0 where
+  -- new has the block of old, and behind old's items k others, written one by one: what f answered, called once for each, in order.
+  -- The closure is then g
+  pub record AddsAnswers {F : Type 0} (step : F → T → F → Type 0) (old : Vector T A) (k : ℕ) (f g : F) (new : Vector T A) : Type 0 where
     pub answers : List T
-    pub last : F  -- the closure's state after the last call
-    pub calls : FoldsTo step f answers last
+    pub calls : FoldsTo step f answers g
     pub count : length answers ≡ k
     pub holds : Holds old (old.items ++ answers) new
     pub writes : Writes old k k new
 
-  -- new has k more items than old, in room that was made for all of them at once: what f answered, called once for each, in order
-  pub record LengthensBy {F : Type 0} (step : F → T → F → Type 0) (size : ℕ) (old : Vector T A) (k : ℕ) (f : F)
+  -- new has k more items than old, in room that was made for all of them at once: what f answered, called once for each, in order.
+  -- The closure is then g
+  pub record LengthensBy {F : Type 0} (step : F → T → F → Type 0) (size : ℕ) (old : Vector T A) (k : ℕ) (f g : F)
       (new : Vector T A) : Type 0 where
     pub answers : List T
-    pub last : F  -- the closure's state after the last call
-    pub calls : FoldsTo step f answers last
+    pub calls : FoldsTo step f answers g
     pub count : length answers ≡ k
     pub grows : GrowsTo size old k (old.items ++ answers) new
 
   -- k more than old has were to be put behind its items, in room for all of them. There was a failure: they are gone, and the room stays
-  pub record Stopped (failure : Type 0) (size : ℕ) (old : Vector T A) (k : ℕ) (error : TryReserveErrorKind)
+  pub record Stopped (failure : Type 0) (size : ℕ) (old : Vector T A) (k : ℕ) (error : TryReserveError)
       (new : Vector T A) : Type 0 where
     pub cause : failure
-    pub number : error ≡ AllocError (len old + k)
+    pub number : error.kind ≡ AllocError (len old + k)
     pub left : GrowsTo size old k old.items new
     pub done : ℕ
     pub fewer : done < k
     pub writes : Writes old done done new
 
   -- or there was no room for them, and nothing has changed
-  abbrev pub Refuses : (failure : Type 0) (size : ℕ) → Vector T A → (k : ℕ) → TryReserveErrorKind → Vector T A → Type 0
-  Refuses failure size old k error new = (LacksRoom old k error × (new ≡ old)) ⊎ Stopped failure size old k error new
+  abbrev pub Refuses : (failure : Type 0) (size : ℕ) → Vector T A → (k : ℕ) → TryReserveError → Vector T A → Type 0
+  Refuses failure size old k error new = (LacksRoom size old k error × (new ≡ old)) ⊎ Stopped failure size old k error new
 
   -- clones of xs were to take the place of old's items, in room for all of them. There was a failure: those of a beginning of xs are there
   pub record Begins (clones : T → T → Type 0) (failure : Type 0) (size : ℕ) (old : Vector T A) (xs : List T)
-      (error : TryReserveErrorKind) (new : Vector T A) : Type 0 where
+      (error : TryReserveError) (new : Vector T A) : Type 0 where
     pub cause : failure
-    pub number : error ≡ AllocError (length xs)
+    pub number : error.kind ≡ AllocError (length xs)
     pub done : ℕ
     pub fewer : done < length xs
     pub added : List T
@@ -128,11 +128,11 @@ module _ {T A : Type 0} where
     pub writes : Writes old done done new
 
   -- there was no room for k items, where those of old were dropped. None is left
-  pub record LeavesNone (old : Vector T A) (k : ℕ) (error : TryReserveErrorKind) (new : Vector T A) : Type 0 where
-    pub lacks : LacksRoom (with_items old []) k error
+  pub record LeavesNone (size : ℕ) (old : Vector T A) (k : ℕ) (error : TryReserveError) (new : Vector T A) : Type 0 where
+    pub lacks : LacksRoom size (with_items old []) k error
     pub holds : Holds old [] new
     pub writes : Writes old 0 0 new
 
-  abbrev pub StopsAssigning : (clones : T → T → Type 0) (failure : Type 0) (size : ℕ) → Vector T A → (xs : List T) → TryReserveErrorKind
+  abbrev pub StopsAssigning : (clones : T → T → Type 0) (failure : Type 0) (size : ℕ) → Vector T A → (xs : List T) → TryReserveError
       → Vector T A → Type 0
-  StopsAssigning clones failure size old xs error new = LeavesNone old (length xs) error new ⊎ Begins clones failure size old xs error new
+  StopsAssigning clones failure size old xs error new = LeavesNone size old (length xs) error new ⊎ Begins clones failure size old xs error new

@@ -1,11 +1,11 @@
 -- A vector that items are put behind, one by one, as an iterator gives them, and what the iterator tells of how many are to come.
-use Rattle.std.specs.Prelude.{◌≡◌, ℕ, ◌+◌, ◌-◌, ◌<◌, ◌≤◌, min, List, [], ◌∷◌, ◌++◌, length, Option, Some, None, ◌⊎◌, Result, IfErr, OnOk, IsOk}
+use Rattle.std.specs.Prelude.{◌≡◌, ℕ, ◌+◌, ◌-◌, ◌<◌, ◌≤◌, List, [], ◌∷◌, ◌++◌, length, Option, Some, None, ◌⊎◌, Result, IfOk, IfErr, OnOk, IsOk}
 use Rattle.std.specs.Borrow.{Bor}
 use Rattle.std.specs.Iterator.{Count, YieldsFirst, Drains, size as count}
 use Rattle.std.specs.Iterator.Runs.{WholeRun}
-use Rattle.std.specs.Iterator.SizeHint.{IsWithinCount}
-use Rattle.aa_raw.specs.declared.collections.TryReserveErrorKind.{TryReserveErrorKind}
-use Rattle.aa_raw.specs.Growth.{usize_max}
+use Rattle.aa_raw.specs.declared.collections.TryReserveError.{TryReserveError}
+use Rattle.aa_boxed.specs.Telling.{asked_with}
+pub use Rattle.aa_boxed.specs.Telling.{TellsAtMost}
 use Rattle.aa_vec.specs.Vector.{Vector, len, HasRoom, IsNew, LacksRoom, SameBlock, MakesRoom, Writes}
 
 -- what an `Items` has: the items that are to come, in order, and the number that it tells of them
@@ -24,7 +24,7 @@ lower_by (Some hint) left = hint
 
 -- what a full vector asks room for: `left` items find no place, the first of them is taken, and `lower` of the others is told
 abbrev pub asked_for : (lower : ℕ → ℕ) → (left : ℕ) → ℕ
-asked_for lower left = min (lower (left - 1) + 1) usize_max
+asked_for lower left = asked_with (lower (left - 1))
 
 module _ {T A : Type 0} where
   -- old, of elements of `size` bytes, grew while it was full and had not room for `needed`, any number of times, and is new
@@ -42,7 +42,7 @@ module _ {T A : Type 0} where
 
   -- new has xs and `front`, a beginning of `added` that fills the places; the first of the others found none, and the room asked for
   -- then was refused
-  pub record ExtendsFull (size : ℕ) (lower : ℕ → ℕ) (old : Vector T A) (xs added : List T) (error : TryReserveErrorKind)
+  pub record ExtendsFull (size : ℕ) (lower : ℕ → ℕ) (old : Vector T A) (xs added : List T) (error : TryReserveError)
       (new : Vector T A) : Type 0 where
     pub front : List T
     pub others : List T
@@ -51,7 +51,7 @@ module _ {T A : Type 0} where
     pub short : new.capacity < length xs + length added
     pub items : new.items ≡ xs ++ front
     pub full : length xs + length front ≡ new.capacity
-    pub lacks : LacksRoom new (asked_for lower (length others)) error
+    pub lacks : LacksRoom size new (asked_for lower (length others)) error
 
 -- a call that gave a `&` gave a value equal to what stands there
 abbrev pub CopiesOf : {S T : Type 0} → (S → Option (Bor T) → S → Type 0) → S → Option T → S → Type 0
@@ -65,10 +65,6 @@ StopsAt steps last after = (last ≡ after) ⊎ steps last None after
 -- in this state an iterator tells the number that `lower_of` has for it
 abbrev pub TellsExactly : {S : Type 0} → (S → ℕ) → S → ℕ → Type 0
 TellsExactly lower_of s n = n ≡ lower_of s
-
--- in this state it may tell n, as a lower bound of what remains
-abbrev pub TellsAtMost : {S : Type 0} → (S → Count) → S → ℕ → Type 0
-TellsAtMost remaining s n = IsWithinCount n (remaining s)
 
 module _ {S T : Type 0} (steps : S → Option T → S → Type 0) (Tells : S → ℕ → Type 0) where
   -- calls from s gave xs and led to t, and after each, with k of xs still to come, the state may tell `lower k`
@@ -88,7 +84,7 @@ module _ {S T : Type 0} (steps : S → Option T → S → Type 0) (Tells : S →
       pub extends : ExtendsAll size lower old old.items added new
 
     -- new is old with a beginning of what was taken from `iter`, all but one item, behind its items; room for the one was refused
-    pub record ExtendsByFront (error : TryReserveErrorKind) (new : Vector T A) : Type 0 where
+    pub record ExtendsByFront (error : TryReserveError) (new : Vector T A) : Type 0 where
       pub taken : List T
       pub lower : ℕ → ℕ
       pub last : S
@@ -103,19 +99,26 @@ module _ {S T : Type 0} (steps : S → Option T → S → Type 0) (Tells : S →
     MadeByAll v = (new : Vector T A) × IsNew size 0 alloc new × ExtendsByAll size iter new v
 
     -- a new vector was extended by a beginning, and then room was refused
-    abbrev pub StopsAtFront : TryReserveErrorKind → Type 0
+    abbrev pub StopsAtFront : TryReserveError → Type 0
     StopsAtFront error = (new : Vector T A) × (full : Vector T A) × IsNew size 0 alloc new × ExtendsByFront size iter new error full
 
 -- items of `iter` were put behind those of old, which is new, with this result, and `after` is what is left of it: nothing was taken but
 -- what was placed and, where room was refused, one item more
 module _ {S T A : Type 0} (steps : S → Option T → S → Type 0) (Tells : S → ℕ → Type 0) (size : ℕ) (iter : S) (old : Vector T A) where
-  pub record LeavesIter (after : S) (result : Result Unit TryReserveErrorKind) (new : Vector T A) : Type 0 where
+  pub record LeavesIter (after : S) (result : Result Unit TryReserveError) (new : Vector T A) : Type 0 where
     pub ended : OnOk result ((all : ExtendsByAll steps Tells size iter old new) × (all.ends.0 ≡ after))
     pub stopped : IfErr result (λ e. (front : ExtendsByFront steps Tells size iter old e new) × (front.last ≡ after))
 
+-- items of `iter` were put into a new vector over `alloc`, and with this result it is answered, or gone where room was refused; and `after` is
+-- what is left of `iter`, as above
+module _ {S T A : Type 0} (steps : S → Option T → S → Type 0) (Tells : S → ℕ → Type 0) (size : ℕ) (iter : S) (alloc : A) where
+  pub record LeavesIterMaking (after : S) (result : Result (Vector T A) TryReserveError) : Type 0 where
+    pub ended : IfOk result (λ v. (made : MadeByAll steps Tells size iter alloc v) × (made.2.ends.0 ≡ after))
+    pub stopped : IfErr result (λ e. (stop : StopsAtFront steps Tells size iter alloc e) × (stop.3.last ≡ after))
+
 -- items of `iter`, of which `left` bounds how many are to come, were put behind those of old, which is new, with this result
 module _ {S T A : Type 0} (steps : S → Option T → S → Type 0) (Tells : S → ℕ → Type 0) (left : S → Count) (size : ℕ) (iter : S)
-    (old : Vector T A) (result : Result Unit TryReserveErrorKind) (new : Vector T A) where
+    (old : Vector T A) (result : Result Unit TryReserveError) (new : Vector T A) where
   pub record Extended : Type 0 where
     pub fits : HasRoom old (count (left iter)) → IsOk result
     pub ran : OnOk result ((xs : List T) × Drains steps iter xs × (new.items ≡ old.items ++ xs))

@@ -1,11 +1,10 @@
 -- What a contract sees of elements that a closure takes out of a range: the vector as it is lent, the elements that stay, those that
 -- were not asked yet, and what is behind the range.
-use Rattle.std.specs.Prelude.{◌≡◌, ℕ, ◌+◌, ◌-◌, ◌≤◌, Bool, false, List, [], ◌∷◌, ◌++◌, length, take, drop, slice_range, Option, MatchOption, if◌then◌else◌, ◌==◌}
+use Rattle.std.specs.Prelude.{◌≡◌, ℕ, ◌+◌, ◌-◌, ◌≤◌, Bool, List, [], ◌∷◌, ◌++◌, length, take, drop, slice_range, Option, MatchOption, if◌then◌else◌, ◌==◌}
 use Rattle.std.specs.Borrow.{GName}
 use Rattle.std.specs.Iterator.{Yields}
 use Rattle.aa_vec.specs.Behind.{behind_items}
 use Rattle.aa_vec.specs.Choosing.{Asked, AskedInOrder, EndsTrue, kept, passed_over}
-use Rattle.aa_vec.specs.Until.{AsksUntil, StaysAt}
 use Rattle.aa_vec.specs.Vector.{Vector, Holds, Writes, run_count}
 use Rattle.aa_vec.specs.declared.vec.extract_if.ExtractBy.{ExtractBy}
 use Rattle.aa_vec.specs.declared.vec.extract_if.ExtractIf.{ExtractIf}
@@ -56,20 +55,20 @@ module _ {T A : Type 0} where
         Writes (extract_vec e) moved (run_count moved) new
 
 module _ {F T : Type 0} (Asks : F → T → Bool → F → T → Type 0) where
-  -- one call from s: the first so many of the elements that were not asked were asked and stay, and the one behind them, if there is one,
-  -- was asked and taken out; nothing else was asked. The others of the range, and what is before and behind it, are as they were
+  -- one call from s: the closure was asked of elements that were not asked before, in order, up to the first at which it answered true,
+  -- which is taken out as it left it. Those at which it answered false stay, as it left them. All else is as it was
   pub record Extracts {A : Type 0} (f : F) (s : ExtractBy T A) (r : Option T) (g : F) (t : ExtractBy T A) : Type 0 where
-    pub stay : ℕ
-    pub left : List T
-    pub until : AsksUntil (StaysAt false Asks) f (extract_rest s) stay g left
+    pub told : List (Asked T)
+    pub asked : AskedInOrder Asks f (take (length told) (extract_rest s)) told g
+    pub cases : MatchOption r ((kept told ≡ []) × (extract_rest t ≡ [])) (λ x. (kept told ≡ x ∷ []) × EndsTrue told)
+    pub count : extract_count t ≡ extract_count s + length (kept told)
+    pub kept : extract_kept t ≡ extract_kept s ++ passed_over told
+    pub rest : extract_rest t ≡ drop (length told) (extract_rest s)
     pub lender : extract_lender t ≡ extract_lender s
     pub head : Holds (extract_vec s) (extract_head s) (extract_vec t)
-    pub kept : extract_kept t ≡ extract_kept s ++ take stay left
     pub tail : extract_tail t ≡ extract_tail s
-    pub cases : MatchOption r
-        ((stay ≡ length (extract_rest s)) × (extract_rest t ≡ []) × (extract_count t ≡ extract_count s))
-        (λ x. (drop stay left ≡ x ∷ extract_rest t) × (extract_count t ≡ extract_count s + 1))
-    pub writes : let moved = if extract_count s == 0 then 0 else stay in Writes (extract_vec s) moved (run_count moved) (extract_vec t)
+    pub writes : let moved = if extract_count s == 0 then 0 else length (passed_over told) in
+        Writes (extract_vec s) moved (run_count moved) (extract_vec t)
 
   -- from s on, the closure was asked of elements that were not asked before, in order: xs are those at which it answered true, as it left
   -- them, and those at which it answered false stay, as it left them. All else is as it was, and what stays was written at most once

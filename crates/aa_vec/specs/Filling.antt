@@ -1,7 +1,7 @@
 -- A gap before the elements behind the items of a vector, as items of an iterator are put into it, and as it is made.
 use Rattle.std.specs.Prelude.{◌≡◌, ℕ, ◌+◌, ◌-◌, ◌*◌, ◌<◌, ◌≤◌, List, ◌∷◌, ◌++◌, take, drop, length, Option, None, if◌then◌else◌, ◌==◌, ◌⊎◌, Result, IfErr, OnOk}
 use Rattle.std.specs.Iterator.{Count, Yields, size as count_of}
-use Rattle.aa_raw.specs.declared.collections.TryReserveErrorKind.{TryReserveErrorKind}
+use Rattle.aa_raw.specs.declared.collections.TryReserveError.{TryReserveError}
 use Rattle.aa_vec.specs.Vector.{Vector, len, HasRoom, SameBlock, LacksRoom, Holds, Writes, MakesRoom, run_count}
 use Rattle.aa_vec.specs.Behind.{StandsBehind, behind_items}
 use Rattle.aa_vec.specs.Extending.{YieldsTelling, StopsAt}
@@ -81,7 +81,7 @@ module _ {S T A : Type 0} (steps : S → Option T → S → Type 0) (Tells : S �
     pub items : v.items ≡ first ∷ rest
 
   -- no vector over a clone of the allocator of old could be made of `first` and what was taken from s, of which `after` is left
-  pub record GathersShort (fails : Type 0) (old : Vector T A) (error : TryReserveErrorKind) (after : S) : Type 0 where
+  pub record GathersShort (fails : Type 0) (old : Vector T A) (error : TryReserveError) (after : S) : Type 0 where
     pub rest : List T
     pub told : Told steps Tells s rest
     pub stops : told.last ≡ after
@@ -111,7 +111,7 @@ module _ {S T A : Type 0} (steps : S → Option T → S → Type 0) (size : ℕ)
 module _ {S T A : Type 0} (steps : S → Option T → S → Type 0) (Tells : S → ℕ → Type 0) (fails : Type 0) (size : ℕ) (s : S)
     (old : Vector T A) where
   -- no vector could be made of `first` and what was taken from s, of which `after` is left, or there was no room for them
-  pub record LacksRest (n : ℕ) (first : T) (error : TryReserveErrorKind) (after : S) : Type 0 where
+  pub record LacksRest (n : ℕ) (first : T) (error : TryReserveError) (after : S) : Type 0 where
     pub rest : List T
     pub told : Told steps Tells s rest
     pub stops : StopsAt steps told.last after
@@ -120,7 +120,7 @@ module _ {S T A : Type 0} (steps : S → Option T → S → Type 0) (Tells : S �
   module _ (told n : ℕ) where
     -- a beginning of what was taken from s, of which `after` is left, was put there; there was no room for as many as were told, or for
     -- the others
-    pub record PutsFront (error : TryReserveErrorKind) (new : Vector T A) (after : S) : Type 0 where
+    pub record PutsFront (error : TryReserveError) (new : Vector T A) (after : S) : Type 0 where
       pub front : List T
       pub others : List T
       pub lower : ℕ → ℕ
@@ -129,12 +129,12 @@ module _ {S T A : Type 0} (steps : S → Option T → S → Type 0) (Tells : S �
       pub stops : StopsAt steps last after
       pub items : new.items ≡ take (len old - n) old.items ++ (front ++ drop (len old - n) old.items)
       pub why :
-          ((length (front ++ others) ≡ 0) × SameBlock old new × LacksRoom new told error)
+          ((length (front ++ others) ≡ 0) × SameBlock old new × LacksRoom size new told error)
           ⊎ ((length front ≡ told) × (0 < length others) × MakesRoom size old (len old) told new
           × LacksOthers fails ((end : S) × steps last None end) size lower new others error)
 
     -- all that comes from s, of which `remaining` bounds how many and `after` is left, was put there, with this result
-    pub record Puts (remaining : S → Count) (result : Result Unit TryReserveErrorKind) (new : Vector T A) (after : S) : Type 0 where
+    pub record Puts (remaining : S → Count) (result : Result Unit TryReserveError) (new : Vector T A) (after : S) : Type 0 where
       pub all : OnOk result (PutsAll steps size s old told n new after)
       pub writes : PutsWithin old n new
       pub refused : IfErr result (λ e. PutsFront e new after)

@@ -3,7 +3,7 @@ use Rattle.std.specs.Prelude.{◌≡◌, ℕ, List, Option, Result}
 use Rattle.std.specs.Borrow.{GName}
 use Rattle.std.specs.Iterator.{Count}
 use Rattle.std.specs.declared.iter.Iterator.{Ghosts}
-use Rattle.aa_raw.specs.declared.collections.TryReserveErrorKind.{TryReserveErrorKind}
+use Rattle.aa_raw.specs.declared.collections.TryReserveError.{TryReserveError}
 use Rattle.aa_vec.specs.Draining.{drain_lender, drain_vec, drain_head, drain_rest, drain_tail, range_len, drains_first, drains_last}
 use Rattle.aa_vec.specs.Splicing.{Replaced}
 use Rattle.aa_vec.specs.Vector.{Vector}
@@ -52,6 +52,6 @@ module _ {I A T : Type 0} {g : Ghosts I T} where
 
   -- s was ended with this result, and its vector is new
   abbrev pub SpliceEnds : (steps : I → Option T → I → Type 0) (Tells : I → ℕ → Type 0) (left : I → Count) (fails : Type 0) (size : ℕ)
-      → Splice I A T g → Result Unit TryReserveErrorKind → Vector T A → Type 0
+      → Splice I A T g → Result Unit TryReserveError → Vector T A → Type 0
   SpliceEnds steps Tells left fails size s result new =
       Replaced steps Tells left fails size (splice_iter s) (splice_vec s) (splice_head s) (splice_gap s) (splice_tail s) result new

@@ -3,7 +3,7 @@
 use Rattle.std.specs.Prelude.{◌≡◌, ℕ, ◌+◌, ◌-◌, ◌*◌, ◌<◌, ◌≤◌, List, [], ◌++◌, length, Option, None, if◌then◌else◌, ◌==◌, ◌⊎◌, Result, IfErr, OnOk, IsOk}
 use Rattle.std.specs.Iterator.{Count, Yields, Drains, size as count}
 use Rattle.std.specs.Iterator.Runs.{WholeRun}
-use Rattle.aa_raw.specs.declared.collections.TryReserveErrorKind.{TryReserveErrorKind}
+use Rattle.aa_raw.specs.declared.collections.TryReserveError.{TryReserveError}
 use Rattle.aa_raw.specs.declared.raw_vec.Growth.TheVariants.{Doubling}
 use Rattle.aa_raw.specs.Growth.{amortized, least_of}
 use Rattle.aa_raw.specs.Refusals.{IsRefusedAt}
@@ -21,7 +21,7 @@ tail_moves gap h n =
 -- items were to be gathered in a vector of their own, over a clone of the allocator, as an extension of a new vector takes them: the clone
 -- was refused, with the number that the first growth of that vector would have asked for, or that growth was, or a further one. `fails`
 -- says that the clone may be refused
-abbrev pub LacksVector : {T : Type 0} (A fails : Type 0) (size : ℕ) (lower : ℕ → ℕ) → List T → TryReserveErrorKind → Type 0
+abbrev pub LacksVector : {T : Type 0} (A fails : Type 0) (size : ℕ) (lower : ℕ → ℕ) → List T → TryReserveError → Type 0
 LacksVector {T = T} A fails size lower items error =
     (fails × IsRefusedAt error (amortized Doubling 0 (asked_for lower (length items)) (least_of size)))
     ⊎ ((made : Vector T A) × (full : Vector T A) × IsNew size 0 made.alloc made × ExtendsFull size lower made [] items error full)
@@ -32,9 +32,9 @@ module _ {T A : Type 0} where
   MakesRoomTwice size old n h r new = (mid : Vector T A) × MakesRoom size old n h mid × MakesRoom size mid (n + h) r new
 
   -- no vector could be made of the others, or, where they are all that is to come, there was no room for just them in v
-  abbrev pub LacksOthers : (fails whole : Type 0) (size : ℕ) (lower : ℕ → ℕ) → Vector T A → List T → TryReserveErrorKind → Type 0
+  abbrev pub LacksOthers : (fails whole : Type 0) (size : ℕ) (lower : ℕ → ℕ) → Vector T A → List T → TryReserveError → Type 0
   LacksOthers fails whole size lower v others error =
-      LacksVector A fails size lower others error ⊎ (whole × LacksRoom v (length others) error)
+      LacksVector A fails size lower others error ⊎ (whole × LacksRoom size v (length others) error)
 
   module _ (size : ℕ) (lower : ℕ → ℕ) (old : Vector T A) (head : List T) (gap : ℕ) (tail added : List T) where
     -- how many items find no place in the gap, and how many of them are told
@@ -54,20 +54,20 @@ module _ {T A : Type 0} where
           → MakesRoomTwice size old (length head + gap + length tail) told_over (left_over - told_over) new
 
     -- `front` fills the gap, and there was no room for those that were told then
-    pub record StopsAtGap (front : List T) (error : TryReserveErrorKind) (new : Vector T A) : Type 0 where
+    pub record StopsAtGap (front : List T) (error : TryReserveError) (new : Vector T A) : Type 0 where
       pub fills : length front ≡ gap
       pub block : SameBlock old new
-      pub lacks : LacksRoom new told_over error
+      pub lacks : LacksRoom size new told_over error
 
     -- it fills the room made for those too, and the others found none
-    pub record StopsBeyond (fails whole : Type 0) (front others : List T) (error : TryReserveErrorKind) (new : Vector T A) : Type 0 where
+    pub record StopsBeyond (fails whole : Type 0) (front others : List T) (error : TryReserveError) (new : Vector T A) : Type 0 where
       pub fills : length front ≡ gap + told_over
       pub room : MakesRoom size old (length head + gap + length tail) told_over new
       pub more : 0 < length others
       pub lacks : LacksOthers fails whole size lower new others error
 
     -- with a tail, new has `front`, a beginning of `added`, in place of the range: room for the others was refused
-    pub record SplicesFront (fails whole : Type 0) (error : TryReserveErrorKind) (new : Vector T A) : Type 0 where
+    pub record SplicesFront (fails whole : Type 0) (error : TryReserveError) (new : Vector T A) : Type 0 where
       pub front : List T
       pub others : List T
       pub begins : added ≡ front ++ others
@@ -75,7 +75,7 @@ module _ {T A : Type 0} where
       pub why : StopsAtGap front error new ⊎ StopsBeyond fails whole front others error new
 
     -- new has a beginning of `added` in place of the range, and room for the others was refused
-    abbrev pub SplicesShort : (fails whole : Type 0) → TryReserveErrorKind → Vector T A → Type 0
+    abbrev pub SplicesShort : (fails whole : Type 0) → TryReserveError → Vector T A → Type 0
     SplicesShort fails whole error new =
         ((tail ≡ []) × ExtendsFull size lower old head added error new) ⊎ ((0 < length tail) × SplicesFront fails whole error new)
 
@@ -98,7 +98,7 @@ module _ {S T : Type 0} (steps : S → Option T → S → Type 0) (Tells : S →
     pub written : new.written ≡ old.written + (length added + tail_moves gap (lower (length added - gap)) (length added) * length tail)
 
   -- new has a beginning of what was taken from `iter` in place of the range; room for more was refused
-  pub record SplicesByFront (fails : Type 0) (error : TryReserveErrorKind) (new : Vector T A) : Type 0 where
+  pub record SplicesByFront (fails : Type 0) (error : TryReserveError) (new : Vector T A) : Type 0 where
     pub taken : List T
     pub lower : ℕ → ℕ
     pub last : S
@@ -110,7 +110,7 @@ module _ {S T : Type 0} (steps : S → Option T → S → Type 0) (Tells : S →
 -- place, and what was gathered where others found none
 module _ {S T A : Type 0} (steps : S → Option T → S → Type 0) (Tells : S → ℕ → Type 0) (fails : Type 0) (size : ℕ) (iter : S)
     (old : Vector T A) (head : List T) (gap : ℕ) (tail : List T) where
-  pub record SplicesIter (after : S) (result : Result Unit TryReserveErrorKind) (new : Vector T A) : Type 0 where
+  pub record SplicesIter (after : S) (result : Result Unit TryReserveError) (new : Vector T A) : Type 0 where
     pub ended : OnOk result ((all : SplicesByAll steps Tells size iter old head gap tail new) × (all.ends.0 ≡ after))
     pub stopped : IfErr result (λ e. (front : SplicesByFront steps Tells size iter old head gap tail fails e new) × StopsAt steps front.last after)
 
@@ -122,7 +122,7 @@ TellsOnceFull {S = S} {T = T} steps Tells s gap h =
 module _ {S T A : Type 0} (steps : S → Option T → S → Type 0) (Tells : S → ℕ → Type 0) (left : S → Count) (fails : Type 0) (size : ℕ)
     (iter : S) (old : Vector T A) (head : List T) (gap : ℕ) (tail : List T) where
   -- items of `iter`, of which `left` bounds how many are to come, were put in place of the range of old, which is new, with this result
-  pub record Replaced (result : Result Unit TryReserveErrorKind) (new : Vector T A) : Type 0 where
+  pub record Replaced (result : Result Unit TryReserveError) (new : Vector T A) : Type 0 where
     pub fits_gap : count (left iter) < gap → IsOk result
     pub fits_end : tail ≡ [] → HasRoom old (count (left iter)) → IsOk result
     pub fits_told : (h : ℕ) → TellsOnceFull steps Tells iter gap h → count (left iter) ≤ gap + h

@@ -1,6 +1,7 @@
 -- Calls of a closure along a list, up to the first element that does not stay.
-use Rattle.std.specs.Prelude.{◌≡◌, ℕ, zero, suc, ◌≤◌, Bool, true, false, not, List, [], ◌∷◌, ◌++◌, map, take, drop, Option, Some, ◌+◌, ◌-◌, ◌<◌, slice_set, None, MatchOption, if◌then◌else◌, ◌==◌}
+use Rattle.std.specs.Prelude.{◌≡◌, ℕ, zero, suc, ◌≤◌, Bool, true, false, not, List, [], ◌∷◌, ◌++◌, length, map, take, drop, Option, Some, ◌+◌, ◌-◌, ◌<◌, slice_set, None, MatchOption, if◌then◌else◌, ◌==◌}
 use Rattle.aa_vec.specs.Behind.{StandsBehind, ClosesGap, LeavesBehind, behind_items, with_behind}
+use Rattle.aa_vec.specs.Choosing.{Asked, AskedInOrder, EndsTrue, kept, passed_over}
 use Rattle.aa_vec.specs.Vector.{Vector, Holds, SameBlock, Writes, run_count}
 
 -- of the elements of old behind the gap, which are in the places from `at` up to `end`, the first `kept` were moved down; one behind
@@ -35,20 +36,20 @@ module _ {F T : Type 0} (Asks : F → T → Bool → F → T → Type 0) where
     pub asks : AsksBehind f old gap n k g left
     pub closes : ClosesGap left gap k new
 
-  -- of the elements in the places from `front` up to `end` the first so many were asked and stay, and were moved down to the `kept` ones;
-  -- one behind them, if there is one, was asked and taken out. `next` is the first place that was not asked
-  pub record Picks {A : Type 0} (f : F) (old : Vector T A) (kept front end : ℕ) (stay next : ℕ) (item : Option T) (g : F)
+  -- the elements in the places from `front` up to `end` were asked in order, up to the first at which the answer was true, which was
+  -- taken out. The others that were asked, `stay` of them, were moved down to the first `low` places. `next` is the first that was not asked
+  pub record Picks {A : Type 0} (f : F) (old : Vector T A) (low front end : ℕ) (stay next : ℕ) (item : Option T) (g : F)
       (new : Vector T A) : Type 0 where
-    pub left : List T
-    pub until : AsksUntil f (behind_items old front (end - front)) stay g left
+    pub told : List (Asked T)
+    pub asked : AskedInOrder Asks f (take (length told) (behind_items old front (end - front))) told g
+    pub cases : MatchOption item ((kept told ≡ []) × (next ≡ end)) (λ x. (kept told ≡ x ∷ []) × EndsTrue told)
+    pub counts : (stay ≡ length (passed_over told)) × (next ≡ front + length told)
     pub holds : Holds old old.items new
-    pub stands : StandsBehind new 0 (kept + stay)
-    pub stayed : behind_items new 0 (kept + stay) ≡ behind_items old 0 kept ++ take stay left
-    pub within : (kept + stay ≤ next) × (front ≤ next) × (next ≤ end)
+    pub stands : StandsBehind new 0 (low + stay)
+    pub stayed : behind_items new 0 (low + stay) ≡ behind_items old 0 low ++ passed_over told
+    pub within : (low + stay ≤ next) × (front ≤ next) × (next ≤ end)
     pub above : drop next new.behind ≡ drop next old.behind
-    pub cases : MatchOption item ((stay ≡ end - front) × (next ≡ end))
-        (λ x. (next ≡ front + stay + 1) × (drop stay left ≡ x ∷ behind_items old next (end - next)))
-    pub writes : let moved = if front - kept == 0 then 0 else stay in Writes old moved (run_count moved) new
+    pub writes : let moved = if front - low == 0 then 0 else stay in Writes old moved (run_count moved) new
 
 module _ {F T : Type 0} (Asks : F → T → T → Bool → F → T → T → Type 0) where
   -- from f on, the first k of xs were asked, each beside the one before it, the first beside l, and stay; one behind them, if there

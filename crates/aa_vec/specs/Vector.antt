@@ -2,7 +2,7 @@
 use Rattle.std.specs.Prelude.{◌≡◌, ℕ, ◌+◌, ◌-◌, ◌<◌, ◌≤◌, List, [], length, Option, ◌⊎◌, ◌==◌, if◌then◌else◌, Result, IfErr, OnOk, IsOk}
 use Rattle.aa_raw.specs.declared.raw_vec.Growth.{Growth}
 use Rattle.aa_raw.specs.declared.raw_vec.Growth.TheVariants.{Doubling}
-use Rattle.aa_raw.specs.declared.collections.TryReserveErrorKind.{TryReserveErrorKind}
+use Rattle.aa_raw.specs.declared.collections.TryReserveError.{TryReserveError}
 pub use Rattle.aa_raw.specs.Growth.{sized}
 use Rattle.aa_raw.specs.Growth.{amortized, least_of}
 use Rattle.aa_raw.specs.Room as Room
@@ -30,9 +30,17 @@ module _ {T A : Type 0} where
   abbrev pub HasRoom : Vector T A → ℕ → Type 0
   HasRoom v k = Room.HasRoom v.capacity (len v) k
 
-  -- room for k more than old has was asked for, and refused with this error
-  abbrev pub LacksRoom : Vector T A → ℕ → TryReserveErrorKind → Type 0
-  LacksRoom old k error = Room.LacksRoom old.capacity (len old) k error
+  -- how many places a growth of v with room to spare asks for, of `size` bytes each, that needs n
+  abbrev pub wanted : (size : ℕ) → Vector T A → (n : ℕ) → ℕ
+  wanted size v n = amortized v.growth v.capacity n (least_of size)
+
+  -- k more than old has did not fit, and a growth with room to spare was refused with this error
+  abbrev pub LacksRoom : (size : ℕ) → Vector T A → (k : ℕ) → TryReserveError → Type 0
+  LacksRoom size old k error = Room.LacksRoom old.capacity (len old) k (wanted size old (len old + k)) error
+
+  -- the same of a growth to just as many places as are needed
+  abbrev pub LacksExactRoom : Vector T A → (k : ℕ) → TryReserveError → Type 0
+  LacksExactRoom old k error = Room.LacksRoom old.capacity (len old) k (len old + k) error
 
   -- v is empty and was just made, with room for n elements of `size` bytes over the allocator a
   pub record IsNew (size n : ℕ) (a : A) (v : Vector T A) : Type 0 where
@@ -66,7 +74,7 @@ module _ {T A : Type 0} where
 
   -- a growth asks for room to spare
   abbrev pub MakesRoom : (size : ℕ) → Vector T A → (n k : ℕ) → Vector T A → Type 0
-  MakesRoom size old n k new = HasRoomBy size (amortized old.growth old.capacity (n + k) (least_of size)) old n k new
+  MakesRoom size old n k new = HasRoomBy size (wanted size old (n + k)) old n k new
 
   -- a growth asks for room for k more and no others
   abbrev pub MakesExactRoom : (size : ℕ) → Vector T A → (n k : ℕ) → Vector T A → Type 0
@@ -101,12 +109,13 @@ module _ {T A : Type 0} where
     pub runs : new.runs ≡ old.runs + k
 
   -- room for k more was asked for in old, which is new, with this result: where they fit it was granted, and then `Grown` holds; a refusal
-  -- changed nothing
-  pub record Reserved (old : Vector T A) (k : ℕ) (Grown : Type 0) (result : Result Unit TryReserveErrorKind) (new : Vector T A) : Type 0 where
+  -- has an error of which `Lacks` holds, and changed nothing
+  pub record Reserved (old : Vector T A) (k : ℕ) (Grown : Type 0) (Lacks : TryReserveError → Type 0) (result : Result Unit TryReserveError)
+      (new : Vector T A) : Type 0 where
     pub fits : HasRoom old k → IsOk result
     pub made : OnOk result Grown
     pub writes : Writes old 0 0 new
-    pub refused : IfErr result (λ e. LacksRoom old k e × (new ≡ old))
+    pub refused : IfErr result (λ e. Lacks e × (new ≡ old))
 
   -- v with other items as many as it had
   abbrev pub with_items : Vector T A → List T → Vector T A

@@ -17,6 +17,7 @@ pub use boxes::SliceIntoVec;
 pub use drain::Drain;
 pub use extract_if::{ExtractBy, ExtractIf};
 pub use hints::cautious;
+pub use items::{Hinted, Items};
 pub use splice::Splice;
 use std::alloc::{Allocator, Global};
 use std::default::Default;
@@ -182,20 +183,20 @@ impl<T, A: Allocator> Vec<T, A> {
 
     /// Puts `value` behind the last element. It takes memory only where the vector is full, and grows then with room to spare.
     /// A refusal hands the value back and changes nothing: `CapacityOverflow` where the length passes `usize::MAX` or the bytes
-    /// pass `isize::MAX`, else `AllocError` with a capacity of at least one more than the length. It stands for `Vec::push`.
+    /// pass `isize::MAX`, else `AllocError` with the capacity asked for. It stands for `Vec::push`.
     #[inline]
     #[tactic(auto, using(aa_raw::proofs::Calls::with_room))]
     pub fn push(&mut self, value: T) -> Result<(), Refused<T>>
         ensures fits { HasRoom self.old 1 → IsOk result }
         ensures pushed { OnOk result (GrowsTo (type_size T.row) self.old 1 (self.old.items ++ value ∷ []) self.new) }
         ensures writes { OnOk result (Writes self.old 1 1 self.new) }
-        ensures refused { IfErr result (λ r. (r.source ≡ value) × LacksRoom self.old 1 r.error × (self.new ≡ self.old)) }
+        ensures refused { IfErr result (λ r. (r.source ≡ value) × LacksRoom (type_size T.row) self.old 1 r.error × (self.new ≡ self.old)) }
     {
         let len = self.len;
         if let Err(error) = self.block.reserve_for_push(len) {
             return Err(Refused {
                 source: value,
-                error: error.kind(),
+                error,
             });
         }
         self.block.put(len, value);

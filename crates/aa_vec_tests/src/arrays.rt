@@ -90,7 +90,7 @@ fn too_many_elements_overflow(rt: HostRuntime) -> Result<(), Fail> {
     match v.into_flattened() {
         Ok(_) => assert!(rt; false),
         Err(refused) => {
-            assert!(rt; refused.error == TryReserveErrorKind::CapacityOverflow);
+            assert!(rt; refused.error.kind() == TryReserveErrorKind::CapacityOverflow);
             assert!(rt; refused.source.len() == 2);
         }
     }

@@ -54,6 +54,7 @@ enum Choice {
     Dedup,
     DedupBy,
     DedupByKey,
+    DedupWithinKey,
 }
 
 // Notes that a closure was asked of this number.
@@ -87,10 +88,14 @@ fn chosen(choice: Choice, v: &mut Vec<u32>, asked: &mut Vec<u32>) {
             note(asked, *x);
             *x / 10
         }),
+        Choice::DedupWithinKey => v.dedup_within_key(&mut |x: &mut u32| {
+            note(asked, *x);
+            *x / 10
+        }),
     }
 }
 
-const CHOICES: [(Choice, &[u32], &[u32], &[u32]); 7] = [
+const CHOICES: [(Choice, &[u32], &[u32], &[u32]); 9] = [
     (Choice::Doubled, &[1, 2, 3, 4], &[1, 2, 3, 4], &[2, 6, 8]),
     (
         Choice::Retain,
@@ -113,6 +118,13 @@ const CHOICES: [(Choice, &[u32], &[u32], &[u32]); 7] = [
         &[10, 20, 30, 20],
     ),
     (Choice::DedupByKey, &[10, 21], &[21, 10], &[10, 21]),
+    (
+        Choice::DedupWithinKey,
+        &[10, 11, 20, 12],
+        &[11, 10, 20, 10, 12, 20],
+        &[10, 20, 12],
+    ),
+    (Choice::DedupWithinKey, &[10], &[], &[10]),
 ];
 
 #[test]

@@ -4,8 +4,7 @@ ghost use Rattle.aa_raw.specs.declared.raw_vec.Growth.TheVariants.{Doubling};
 ghost use Rattle.aa_vec.specs.Vector.{Holds};
 
 use aa_raw::collections::TryReserveError;
-use aa_vec::vec::Vec;
-use aa_vec::vec::items::Items;
+use aa_vec::vec::{Items, Vec};
 use std::alloc::Allocator;
 
 // Two of four are replaced by three. Where these tell their number, or that none comes, the one behind is written once; where they

@@ -1,5 +1,6 @@
 //! What no clause says of the calls that join, split and copy: each once, and clones that are refused.
 use crate::lists::{list, numbers, stands};
+use aa_faulty::refusing::Refusing;
 use aa_raw::collections::TryReserveErrorKind;
 use aa_vec::vec::Vec;
 use std::alloc::{AllocError, Global};
@@ -57,6 +58,39 @@ fn a_vector_is_resized_by_a_closure(rt: HostRuntime) -> Result<(), Fail> {
     })?;
     assert!(rt; stands(&v, &[1, 2, 3, 1, 2], 5));
     Ok(())
+}
+
+// It is cut by the second call, and filled up by the third.
+#[test]
+fn a_lent_closure_is_asked_for_the_new_places_alone(rt: HostRuntime) -> Result<(), Fail> {
+    let mut v = list(rt.alloc(), &[7, 8], 4)?;
+    assert!(rt; v.len() == 2);
+    let mut calls: u32 = 0;
+    let mut answer = || {
+        calls = calls.wrapping_add(1);
+        calls
+    };
+    v.resize_by(4, &mut answer)?;
+    assert!(rt; stands(&v, &[7, 8, 1, 2], 4));
+    v.resize_by(1, &mut answer)?;
+    v.resize_by(3, &mut answer)?;
+    assert!(rt; stands(&v, &[7, 3, 4], 4));
+    assert!(rt; calls == 4);
+    Ok(())
+}
+
+#[test]
+fn a_closure_is_not_asked_where_memory_is_refused(rt: HostRuntime) {
+    let mut calls: u32 = 0;
+    let mut answer = || {
+        calls = calls.wrapping_add(1);
+        calls
+    };
+    let mut v: Vec<u32, Refusing> = Vec::new_in(Refusing);
+    let lent = v.resize_by(5, &mut answer).is_err();
+    let given = v.resize_with(5, answer).is_err();
+    assert!(rt; lent && given);
+    assert!(rt; v.is_empty() && calls == 0);
 }
 
 #[test]

@@ -1,14 +1,15 @@
 //! What no clause says of extensions: capacities as hints lead to them, and each public call once.
 ghost use Rattle.std.specs.Prelude.{◌≡◌, ◌+◌, ◌-◌, ◌≤◌, ◌++◌, None, length, IfErr, OnOk, IsOk};
+ghost use Rattle.std.specs.Iterator.{IsFinite, IsNearerEnd};
 ghost use Rattle.std.specs.Mem.{type_size};
 ghost use Rattle.aa_raw.specs.Growth.{usize_max};
 ghost use Rattle.aa_vec.specs.Vector.{len, HasRoom, MakesRoom, Writes};
 ghost use Rattle.aa_vec.specs.Extending.{ExtendsAll, ExtendsFull, lower_by};
 
 use crate::lists::{list, numbers, stands, units};
+use aa_faulty::refusing::Refusing;
 use aa_raw::collections::{TryReserveError, TryReserveErrorKind};
-use aa_vec::vec::Vec;
-use aa_vec::vec::items::{Hinted, Items};
+use aa_vec::vec::{Hinted, Items, Vec};
 use std::alloc::Allocator;
 use std::test::Fail;
 
@@ -32,6 +33,48 @@ fn followed_by<A: Allocator>(v: &mut Vec<u32, A>, others: &[u32]) -> Result<(), 
 {
     v.extend(others.iter().copied())?;
     v.extend_copied(others.iter())
+}
+
+// What is left where one vector has no room goes on into another; whoever is refused there too may go on again.
+fn split_over<I: Iterator<Item = T>, T: Drop, A: Allocator, B: Allocator>(
+    first: &mut Vec<T, A>,
+    other: &mut Vec<T, B>,
+    iter: &mut I,
+) -> Result<(), TryReserveError>
+    requires may_ask { I.can_next iter.old }
+    requires ends { IsFinite (I.remaining iter.old) }
+    ensures { IfErr result (λ _. IsNearerEnd I.can_next I.remaining iter.old iter.new) }
+{
+    match first.extend_by(iter) {
+        Ok(()) => Ok(()),
+        Err(_) => other.extend_by(iter),
+    }
+}
+
+// The items that find a place, until they end: each refusal drops one, so there is an end.
+fn extend_by_what_fits<I: Hinted<Item = T>, T: Drop, A: Allocator>(v: &mut Vec<T, A>, iter: &mut I)
+    requires may_ask { I.can_next iter.old }
+    requires ends { IsFinite (I.remaining iter.old) }
+{
+    'again: loop {
+        if v.extend_hinted_by(iter).is_ok() {
+            return;
+        }
+    }
+}
+
+#[test]
+fn what_is_left_of_an_iterator_goes_on(rt: HostRuntime) -> Result<(), Fail> {
+    let mut items = 1u32..6;
+    let mut full: Vec<u32, Refusing> = Vec::new_in(Refusing);
+    let mut v: Vec<u32> = Vec::new(rt.alloc());
+    split_over(&mut full, &mut v, &mut items)?;
+    assert!(rt; full.is_empty());
+    assert!(rt; stands(&v, &[2, 3, 4, 5], 4));
+    let mut items = Items::new(numbers(rt.alloc(), 5)?, None);
+    extend_by_what_fits(&mut full, &mut items);
+    assert!(rt; full.is_empty() && items.next() == None);
+    Ok(())
 }
 
 #[test]

@@ -5,8 +5,7 @@ ghost use Rattle.std.proofs.Common.{refl};
 
 use crate::lists::{counted_up, list, stands};
 use aa_raw::collections::{TryReserveError, TryReserveErrorKind};
-use aa_vec::vec::items::Hinted;
-use aa_vec::vec::{Vec, same};
+use aa_vec::vec::{Hinted, Vec, same};
 use std::alloc::{AllocError, Global};
 use std::cell::Cell;
 use std::clone::Clone;

@@ -7,7 +7,7 @@ use Rattle.aa_raw.specs.declared.raw_vec.Growth.{Growth}
 use Rattle.aa_raw.specs.declared.raw_vec.Growth.TheVariants.{Doubling, Sparing}
 use Rattle.aa_vec.specs.Vector.{Vector}
 use Rattle.allocator_api2.specs.declared.runner.Command.{Command}
-use Rattle.allocator_api2.specs.declared.runner.Command.TheVariants.{Push, Within, Pop, Insert, Remove, SwapRemove, Truncate, Clear, Retain, Dedup, Drain, ExtractIf}
+use Rattle.allocator_api2.specs.declared.runner.Command.TheVariants.{Push, Within, Pop, Insert, Remove, SwapRemove, Truncate, Clear, Append, Extend, Retain, Dedup, Drain, ExtractIf}
 use Rattle.allocator_api2.specs.declared.runner.Reply.{Reply}
 use Rattle.allocator_api2.specs.declared.runner.Reply.TheVariants.{Done}
 use Rattle.allocator_api2.specs.Machine.{State, Calls}
@@ -23,19 +23,9 @@ moves_each-le Sparing grown paid n k le h = omega arith
 
 module _ {T A : Type 0} where
   adds_or_removes : (command : Command T A) → AddsOneAtMost command → AddsOrRemoves command
-  adds_or_removes (Push x) a = tt
-  adds_or_removes (Within x) a = tt
-  adds_or_removes Pop a = tt
-  adds_or_removes (Insert i x) a = tt
-  adds_or_removes (Remove i) a = tt
-  adds_or_removes (SwapRemove i) a = tt
-  adds_or_removes (Truncate n) a = tt
-  adds_or_removes Clear a = tt
-  adds_or_removes Retain a = tt
-  adds_or_removes Dedup a = tt
-  adds_or_removes (Drain start end front back keep) a = tt
-  adds_or_removes (ExtractIf start end count) a = tt
-  adds_or_removes command a = absurd a
+  adds_or_removes Append a = absurd a
+  adds_or_removes (Extend items hint) a = absurd a
+  adds_or_removes command a = a
 
   pub all_add_or_remove : (commands : List (Command T A)) → AllByRecursion AddsOneAtMost commands → AllByRecursion AddsOrRemoves commands
   all_add_or_remove [] a = tt

@@ -27,7 +27,7 @@ module _ {T A K S : Type 0} (size : ℕ) (calls : Calls T A K S) where
     pub MayRun-later : (reply : Reply T) (next : State T A K S) → TakesStep size calls s command reply next → IsPossible next.main next.side → MayRun size calls next (reverse later)
     MayRun-later reply next step possible = next_first.1 step.answers reply next step.step possible
 
-  -- closures that may be called in every state that they reach, on every element
+  -- closures whose good states take every element, and lead to good states alone
   module _ (good_keep : K → Type 0) (good_same : S → Type 0)
       (keep_takes : (k : K) (x : T) → good_keep k → calls.takes_keep k x)
       (keep_stays : (k next : K) (x y : T) (answer : Bool) → good_keep k → calls.keeps k x answer next y → good_keep next)

@@ -7,7 +7,7 @@ use Rattle.aa_vec.specs.Extracting.{ClosesExtract, ExtractedTo, Extracts, Extrac
 use Rattle.aa_vec.specs.Vector.{Vector, len, HasRoom, Holds}
 use Rattle.aa_vec.specs.declared.vec.extract_if.ExtractBy.{ExtractBy}
 use Rattle.aa_vec.proofs.Climbing.{SameBlock-refl, SameBlock-trans}
-use Rattle.aa_vec.proofs.Extracted.{ExtractedTo-none, Extracted-more, Extracted-end, extracts_may}
+use Rattle.aa_vec.proofs.Extracted.{ExtractedTo-none, Extracted-more, Extracted-end, asked_count, extracts_may}
 use Rattle.allocator_api2.specs.Drained.{Chosen, TakesUpTo}
 use Rattle.allocator_api2.specs.Machine.{TakesOut}
 
@@ -24,12 +24,6 @@ passed_few [] = omega arith
 passed_few (y ∷ told) = omega (arith, one_passed (not y.answer) y (filter (λ t. not t.answer) told), passed_few told)
 
 module _ {K T : Type 0} (Keeps : K → T → Bool → K → T → Type 0) where
-  asked_count : (k g : K) (xs : List T) (told : List (Asked T)) → AskedInOrder Keeps k xs told g → length told ≡ length xs
-  asked_count k g [] [] a = refl
-  asked_count k g [] (y ∷ told) a = absurd a
-  asked_count k g (x ∷ xs) [] a = absurd a
-  asked_count k g (x ∷ xs) (y ∷ told) a = ap suc (asked_count a.0 g xs told a.2)
-
   module _ {A : Type 0} where
     pub length-taken_out : (size : ℕ) (main side : Vector T A) (start end count : ℕ) (k : K) (main' side' : Vector T A) (k' : K) → start ≤ end → end ≤ len main → (t : TakesOut Keeps size main side start end count k main' side' k')
         → length (take start main.items ++ (passed_over t.told ++ drop (start + length t.told) main.items)) ≤ len main
@@ -42,7 +36,7 @@ module _ {K T : Type 0} (Keeps : K → T → Bool → K → T → Type 0) where
           length-take start main.items,
           length-drop (start + q) main.items,
           passed_few t.told,
-          asked_count k k' (take q middle) t.told t.asked,
+          asked_count Keeps k k' (take q middle) t.told t.asked,
           length-take q middle,
           length-take (end - start) (drop start main.items),
           length-drop start main.items,
@@ -99,7 +93,7 @@ module _ {K T : Type 0} (Keeps : K → T → Bool → K → T → Type 0) where
       asked = subst (λ l. AskedInOrder Keeps k (take q l) told k') takes.rest up.extracted.asked
 
       few : q ≤ end - start
-      few = omega (arith, asked_count k k' (take q middle) told asked, length-take q middle, middle_long)
+      few = omega (arith, asked_count Keeps k k' (take q middle) told asked, length-take q middle, middle_long)
 
       rest_are : extract_rest later ++ extract_tail later ≡ drop (start + q) main.items
       rest_are =

@@ -1,13 +1,13 @@
 -- A splice that was refused did not fit.
 use Rattle.std.proofs.Common.{◌≡◌, ℕ, ◌+◌, ◌-◌, ◌<◌, ◌≤◌, List, ◌++◌, length, take, drop, ap, ◌∙◌, arith, ◌⊎◌, inl, inr, length-append, length-take, length-drop}
 use Rattle.std.specs.Prelude.{⊤}
-use Rattle.aa_raw.specs.declared.collections.TryReserveErrorKind.{TryReserveErrorKind}
+use Rattle.aa_raw.specs.declared.collections.TryReserveError.{TryReserveError}
 use Rattle.aa_vec.specs.Vector.{Vector, len}
 use Rattle.aa_vec.specs.Splicing.{SplicesFront, SplicesShort}
 use Rattle.allocator_api2.specs.Machine.{FitsRange}
 use Rattle.allocator_api2.proofs.Stops.{stops-full}
 
-module _ {T A : Type 0} (size : ℕ) (lower : ℕ → ℕ) (old : Vector T A) (start end : ℕ) (ordered : start ≤ end) (within : end ≤ len old) (added : List T) (error : TryReserveErrorKind) (new : Vector T A) where
+module _ {T A : Type 0} (size : ℕ) (lower : ℕ → ℕ) (old : Vector T A) (start end : ℕ) (ordered : start ≤ end) (within : end ≤ len old) (added : List T) (error : TryReserveError) (new : Vector T A) where
   abbrev head : List T
   head = take start old.items
 

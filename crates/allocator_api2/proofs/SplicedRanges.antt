@@ -1,7 +1,7 @@
 -- A range that was taken out of a vector and replaced by an `Items`.
 use Rattle.std.proofs.Common.{◌≡◌, ℕ, ◌+◌, ◌*◌, ◌-◌, ◌≤◌, List, length, take, drop, Option, refl, ap, subst, arith, length-take, length-drop}
 use Rattle.std.specs.Prelude.{⊤}
-use Rattle.aa_raw.specs.declared.collections.TryReserveErrorKind.{TryReserveErrorKind}
+use Rattle.aa_raw.specs.declared.collections.TryReserveError.{TryReserveError}
 use Rattle.aa_vec.specs.Vector.{Vector, len}
 use Rattle.aa_vec.specs.Draining.{TakesRange, drain_vec, drain_head, drain_tail, range_len}
 use Rattle.aa_vec.specs.Extending.{ItemsLeft, gives_item, lower_by, TellsExactly}
@@ -52,7 +52,7 @@ module _ {T A : Type 0} (size : ℕ) (old : Vector T A) (start end : ℕ) (order
         writes = few w;
       }
 
-  pub Spliced-refused : {fails : Type 0} (kind : TryReserveErrorKind) → SplicesByFront gives_item (TellsExactly items_lower) size iter (drain_vec d) (drain_head d) (range_len d) (drain_tail d) fails kind new
+  pub Spliced-refused : {fails : Type 0} (kind : TryReserveError) → SplicesByFront gives_item (TellsExactly items_lower) size iter (drain_vec d) (drain_head d) (range_len d) (drain_tail d) fails kind new
       → SplicesWithin (drain_vec d) (drain_head d) (drain_tail d) new → TakesAlone size old (Splice start end items hint) (Refused kind) new
   Spliced-refused {fails = fails} kind s w side =
       let xs : List T = items.items in

@@ -8,7 +8,7 @@ use Rattle.allocator_api2.specs.declared.runner.Command.TheVariants.{SplitOff, P
 use Rattle.allocator_api2.specs.declared.runner.Reply.{Reply}
 use Rattle.allocator_api2.specs.declared.runner.Reply.TheVariants.{Done, Item, Nothing, Back, Refused, Range}
 use Rattle.aa_vec.specs.Extending.{Climbs, ExtendsAll, ExtendsFull, lower_by}
-use Rattle.aa_raw.specs.declared.collections.TryReserveErrorKind.{TryReserveErrorKind}
+use Rattle.aa_raw.specs.declared.collections.TryReserveError.{TryReserveError}
 use Rattle.aa_vec.proofs.Kept.{length-kept, length-deduplicated}
 use Rattle.allocator_api2.proofs.Extracting.{length-taken_out}
 use Rattle.allocator_api2.proofs.Ranges.{length-left_of}
@@ -65,7 +65,7 @@ module _ {T A : Type 0} (size : ℕ) where
       let l : len new ≡ len old + length added = ap length e.items ∙ length-append old.items added in
       inr (inr (record { needed = len old + length added; climbs = e.climbs; count = omega (arith, l); fits = omega (arith, l, e.enough); full = omega (arith, l) }))
 
-  stops : (hint : Option ℕ) (old : Vector T A) (added : List T) (error : TryReserveErrorKind) (new : Vector T A) → ExtendsFull size (lower_by hint) old old.items added error new → Change hint old (len new - len old) new
+  stops : (hint : Option ℕ) (old : Vector T A) (added : List T) (error : TryReserveError) (new : Vector T A) → ExtendsFull size (lower_by hint) old old.items added error new → Change hint old (len new - len old) new
   stops hint old added error new e =
       let l : len new ≡ len old + length e.front = ap length e.items ∙ length-append old.items e.front in
       let full = e.full in
@@ -111,7 +111,7 @@ module _ {T A : Type 0} (size : ℕ) where
   change_done main side command reply main' side' a r m = absurd a
 
   -- what one that was refused has left of it
-  change_refused : (main side : Vector T A) (command : Command T A) (kind : TryReserveErrorKind) (main' side' : Vector T A) → AddsOrRemoves command → AnswersRefused size main side command kind main' side' → Change (hint_of command) main (added_by main side command (Refused kind) main') main'
+  change_refused : (main side : Vector T A) (command : Command T A) (kind : TryReserveError) (main' side' : Vector T A) → AddsOrRemoves command → AnswersRefused size main side command kind main' side' → Change (hint_of command) main (added_by main side command (Refused kind) main') main'
   change_refused main side (Push x) kind main' side' a s = same main main' s.leaves.main_does.1
   change_refused main side (Insert i x) kind main' side' a s = same main main' s.leaves.main_does.1
   change_refused main side Append kind main' side' a s = same main main' s.leaves.1.main_same

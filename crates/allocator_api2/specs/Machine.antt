@@ -4,11 +4,11 @@ use denote.Param.Members.{Mut}
 use Rattle.std.specs.Prelude.{◌≡◌, ℕ, ◌+◌, ◌-◌, ◌<◌, ◌≤◌, min, max, Bool, ◌==◌, List, [], ◌∷◌, ◌++◌, length, take, drop, replicate, insert, remove, swap_remove, slice_get, slice_range, reverse, if◌then◌else◌, Some, ◌⊎◌, ⊤}
 use Rattle.std.specs.Fn.{CalledAtMut, CalledAtPairMut}
 use Rattle.aa_raw.specs.Closures.{TakesPairMut}
-use Rattle.aa_raw.specs.declared.collections.TryReserveErrorKind.{TryReserveErrorKind}
+use Rattle.aa_raw.specs.declared.collections.TryReserveError.{TryReserveError}
 use Rattle.aa_raw.specs.declared.collections.TryReserveErrorKind.TheVariants.{AllocError}
 use Rattle.aa_raw.specs.Refusals.{IsRefusedAt}
 use Rattle.aa_raw.specs.Growth.{usize_max}
-use Rattle.aa_vec.specs.Vector.{Vector, len, sized, HasRoom, LacksRoom, GrowsTo, GrowsExactly, Shrinks, SameBlock, Holds, Writes, run_count}
+use Rattle.aa_vec.specs.Vector.{Vector, len, sized, HasRoom, LacksRoom, LacksExactRoom, GrowsTo, GrowsExactly, Shrinks, SameBlock, Holds, Writes, run_count}
 use Rattle.aa_vec.specs.Choosing.{Asked, AskedInOrder, EndsTrue, TakesMut, Retains, Deduplicates, answers_of, kept, passed_over}
 use Rattle.aa_vec.specs.Copies.{IsMade}
 use Rattle.aa_vec.specs.Extending.{ExtendsAll, ExtendsFull, lower_by}
@@ -144,9 +144,9 @@ module _ {T A : Type 0} where
     pub gives : GrowsTo size side (min count (end - start)) (side.items ++ kept told) side'
 
   -- there was no room for k copies, and nothing has changed; or a clone of an element was refused, and the room for all stays
-  abbrev pub LacksCopies : (size : ℕ) → Vector T A → (k : ℕ) → TryReserveErrorKind → Vector T A → Type 0
-  LacksCopies size old k kind new =
-      (LacksRoom old k kind × (new ≡ old)) ⊎ ((kind ≡ AllocError (len old + k)) × GrowsTo size old k old.items new)
+  abbrev pub LacksCopies : (size : ℕ) → Vector T A → (k : ℕ) → TryReserveError → Vector T A → Type 0
+  LacksCopies size old k error new =
+      (LacksRoom size old k error × (new ≡ old)) ⊎ ((error.kind ≡ AllocError (len old + k)) × GrowsTo size old k old.items new)
 
 -- elements have `size` bytes
 module _ {T A : Type 0} (size : ℕ) where
@@ -183,32 +183,32 @@ module _ {T A : Type 0} (size : ℕ) where
       MovesRange size main side start end (ends_of (end - start) front back) keep main' side'
   Makes main side command reply main' side' = OnMain side side' (MakesOfMain main command reply main')
 
-  -- the kind of a refusal, and what it leaves of main, where the command touches main alone
-  abbrev pub LeavesOfMain : (main : Vector T A) → Command T A → TryReserveErrorKind → (main' : Vector T A) → Type 0
-  LeavesOfMain main (Push x) kind main' = LacksRoom main 1 kind × (main' ≡ main)
-  LeavesOfMain main (Insert i x) kind main' = LacksRoom main 1 kind × (main' ≡ main)
-  LeavesOfMain main (Reserve k) kind main' = LacksRoom main k kind × (main' ≡ main)
-  LeavesOfMain main (ReserveExact k) kind main' = LacksRoom main k kind × (main' ≡ main)
-  LeavesOfMain main (ShrinkTo k) kind main' = (kind ≡ AllocError (max (len main) k)) × (main' ≡ main)
-  LeavesOfMain main (Extend items hint) kind main' = ExtendsFull size (lower_by hint) main main.items items.items kind main'
-  LeavesOfMain main (ExtendFromWithin from to) kind main' = LacksCopies size main (to - from) kind main'
-  LeavesOfMain main (Resize n x) kind main' = LacksCopies size main (n - len main) kind main'
-  LeavesOfMain main (Splice start end items hint) kind main' =
+  -- the error of a refusal, and what it leaves of main, where the command touches main alone
+  abbrev pub LeavesOfMain : (main : Vector T A) → Command T A → TryReserveError → (main' : Vector T A) → Type 0
+  LeavesOfMain main (Push x) error main' = LacksRoom size main 1 error × (main' ≡ main)
+  LeavesOfMain main (Insert i x) error main' = LacksRoom size main 1 error × (main' ≡ main)
+  LeavesOfMain main (Reserve k) error main' = LacksRoom size main k error × (main' ≡ main)
+  LeavesOfMain main (ReserveExact k) error main' = LacksExactRoom main k error × (main' ≡ main)
+  LeavesOfMain main (ShrinkTo k) error main' = (error.kind ≡ AllocError (max (len main) k)) × (main' ≡ main)
+  LeavesOfMain main (Extend items hint) error main' = ExtendsFull size (lower_by hint) main main.items items.items error main'
+  LeavesOfMain main (ExtendFromWithin from to) error main' = LacksCopies size main (to - from) error main'
+  LeavesOfMain main (Resize n x) error main' = LacksCopies size main (n - len main) error main'
+  LeavesOfMain main (Splice start end items hint) error main' =
       -- a clone of the allocator may be refused, and no other item is to come
-      SplicesShort size (lower_by hint) main (take start main.items) (end - start) (drop end main.items) items.items ⊤ ⊤ kind main'
+      SplicesShort size (lower_by hint) main (take start main.items) (end - start) (drop end main.items) items.items ⊤ ⊤ error main'
   -- no other command is refused
-  LeavesOfMain main command kind main' = ⊥
+  LeavesOfMain main command error main' = ⊥
 
-  -- the kind of a refusal, and what it leaves of main and side
-  abbrev pub Leaves : (main side : Vector T A) → Command T A → TryReserveErrorKind → (main' side' : Vector T A) → Type 0
-  Leaves main side (SplitOff at) kind main' side' =
-      IsRefusedAt kind (if at == 0 then main.capacity else len main - at) × Unchanged main side main' side'
-  Leaves main side Append kind main' side' = LacksRoom main (len side) kind × Unchanged main side main' side'
-  Leaves main side (Drain start end front back keep) kind main' side' =
-      let taken = ends_of (end - start) front back in LacksRoom side (taken.0 + taken.1) kind × Unchanged main side main' side'
-  Leaves main side (ExtractIf start end count) kind main' side' =
-      LacksRoom side (min count (end - start)) kind × Unchanged main side main' side'
-  Leaves main side command kind main' side' = OnMain side side' (LeavesOfMain main command kind main')
+  -- the error of a refusal, and what it leaves of main and side
+  abbrev pub Leaves : (main side : Vector T A) → Command T A → TryReserveError → (main' side' : Vector T A) → Type 0
+  Leaves main side (SplitOff at) error main' side' =
+      IsRefusedAt error (if at == 0 then main.capacity else len main - at) × Unchanged main side main' side'
+  Leaves main side Append error main' side' = LacksRoom size main (len side) error × Unchanged main side main' side'
+  Leaves main side (Drain start end front back keep) error main' side' =
+      let taken = ends_of (end - start) front back in LacksRoom size side (taken.0 + taken.1) error × Unchanged main side main' side'
+  Leaves main side (ExtractIf start end count) error main' side' =
+      LacksRoom size side (min count (end - start)) error × Unchanged main side main' side'
+  Leaves main side command error main' side' = OnMain side side' (LeavesOfMain main command error main')
 
   -- an index lies outside
   pub record AnswersRange (main side : Vector T A) (command : Command T A) (main' side' : Vector T A) : Type 0 where
@@ -216,11 +216,11 @@ module _ {T A : Type 0} (size : ℕ) where
     pub stays : Unchanged main side main' side'
 
   -- memory or a clone was refused
-  pub record AnswersRefused (main side : Vector T A) (command : Command T A) (kind : TryReserveErrorKind)
+  pub record AnswersRefused (main side : Vector T A) (command : Command T A) (error : TryReserveError)
       (main' side' : Vector T A) : Type 0 where
     pub in_range : InRange main command
     pub misfits : ¬ Fits main side command
-    pub leaves : Leaves main side command kind main' side'
+    pub leaves : Leaves main side command error main' side'
 
   -- the command was done
   pub record AnswersDone (main side : Vector T A) (command : Command T A) (reply : Reply T) (main' side' : Vector T A) : Type 0 where
@@ -230,7 +230,7 @@ module _ {T A : Type 0} (size : ℕ) where
   -- a command that calls no closure may be answered so, and leave this
   abbrev pub Answers : (main side : Vector T A) → Command T A → Reply T → (main' side' : Vector T A) → Type 0
   Answers main side command Range main' side' = AnswersRange main side command main' side'
-  Answers main side command (Refused kind) main' side' = AnswersRefused main side command kind main' side'
+  Answers main side command (Refused error) main' side' = AnswersRefused main side command error main' side'
   Answers main side command reply main' side' = AnswersDone main side command reply main' side'
 
 -- v has no more elements than places, and no more places than can be counted

@@ -51,29 +51,11 @@ module _ {T A : Type 0} where
   abbrev pub IsUnhinted : Command T A → Type 0
   IsUnhinted command = AddsOrRemoves command × (hint_of command ≡ None)
 
-  -- those of them that add at most one element
+  -- those of them that add at most one element: all but the two that add a list
   abbrev pub AddsOneAtMost : Command T A → Type 0
-  AddsOneAtMost (Push x) = ⊤
-  AddsOneAtMost (Within x) = ⊤
-  AddsOneAtMost Pop = ⊤
-  AddsOneAtMost (Insert i x) = ⊤
-  AddsOneAtMost (Remove i) = ⊤
-  AddsOneAtMost (SwapRemove i) = ⊤
-  AddsOneAtMost (Truncate n) = ⊤
-  AddsOneAtMost Clear = ⊤
-  AddsOneAtMost Retain = ⊤
-  AddsOneAtMost Dedup = ⊤
-  AddsOneAtMost (Drain start end front back keep) = ⊤
-  AddsOneAtMost (ExtractIf start end count) = ⊤
-  AddsOneAtMost (Reserve k) = ⊥
-  AddsOneAtMost (ReserveExact k) = ⊥
-  AddsOneAtMost (ShrinkTo k) = ⊥
-  AddsOneAtMost (SplitOff at) = ⊥
   AddsOneAtMost Append = ⊥
   AddsOneAtMost (Extend items hint) = ⊥
-  AddsOneAtMost (ExtendFromWithin from to) = ⊥
-  AddsOneAtMost (Resize n x) = ⊥
-  AddsOneAtMost (Splice start end items hint) = ⊥
+  AddsOneAtMost command = AddsOrRemoves command
 
   -- how many elements a command added to main. A command that may make room for more than it adds counts for nothing
   abbrev pub added_by : (main side : Vector T A) → Command T A → Reply T → (main' : Vector T A) → ℕ
@@ -177,7 +159,8 @@ moves_each Doubling = 2
 moves_each Sparing = 3
 
 module _ {T A K S : Type 0} (old : State T A K S) (commands : List (Command T A)) (turns : List (Turn T A K S)) (new : State T A K S) where
-  -- from an empty vector, adding n elements, whatever is removed between, moves at most 2n elements by growth, or 3n if sparing
+  -- where main began empty and the commands only add or remove, growth moved two elements at most for each one added, or three if
+  -- sparing
   abbrev pub GrowthBound : Type 0
   GrowthBound =
       old.main.items ≡ [] → AllByRecursion AddsOrRemoves commands
@@ -211,7 +194,7 @@ module _ {T A K S : Type 0} (size : ℕ) (calls : Calls T A K S) where
   MayCall s (ExtractIf start end count) = IsCallableInOrder calls.keeps calls.takes_keep s.keep (slice_range s.main.items start end)
   MayCall s command = ⊤
 
-  -- and so along every run: in every state that they reach, on everything that main then holds
+  -- and after whatever step the machine takes, as the commands behind it call them
   abbrev pub MayRun : State T A K S → List (Command T A) → Type 0
   MayRun s [] = ⊤
   MayRun s (command ∷ commands) =

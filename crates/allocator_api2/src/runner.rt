@@ -7,7 +7,7 @@ ghost use Rattle.allocator_api2.specs.Commands.{TakesStep};
 ghost use Rattle.allocator_api2.specs.Machine.{state_of, calls_of, IsPossible};
 ghost use Rattle.allocator_api2.specs.Run.{RunsWithin, MayCall, IsCallableOnRuns};
 
-use aa_raw::collections::TryReserveErrorKind;
+use aa_raw::collections::TryReserveError;
 use aa_vec::vec::Vec;
 use std::alloc::{Allocator, Global};
 
@@ -107,8 +107,8 @@ pub enum Reply<T> {
     Nothing,
     /// The element comes back, since there was no room within the capacity.
     Back(T),
-    /// Memory was refused, for this reason.
-    Refused(TryReserveErrorKind),
+    /// Memory or a clone was refused, with this error.
+    Refused(TryReserveError),
     /// An index or a range lies outside the list; nothing was done.
     Range,
 }

@@ -12,8 +12,8 @@ use aa_raw::collections::{TryReserveError, TryReserveErrorKind};
 use aa_vec::vec::Vec;
 use std::alloc::{Allocator, Global};
 
-/// Vectors of this library made of a slice. It stands for the original's `SliceExt`, for `&[T]`. Where a call by dot reaches the
-/// toolchain's own function of the name, the names that end in 2 are there for the same calls.
+/// Vectors of this library made of a slice. It stands for the original's `SliceExt`, for `&[T]`. Each call has a second name, with
+/// a 2 at its end, for where a call by dot would be one of the toolchain's.
 pub trait SliceExt<T> {
     /// The elements of the slice.
     ghost elements: { Self → List T };

@@ -93,7 +93,7 @@ pub fn decode<'a, A: Allocator>(
             return Ok(None);
         };
         if let Err(refused) = records.push(entry) {
-            return Err(refused.error.into());
+            return Err(refused.error);
         }
         rest = behind;
     }

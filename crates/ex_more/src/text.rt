@@ -89,7 +89,7 @@ impl<A: Allocator> TextBuilder<A> {
             Ok(text) => Ok(text),
             Err(error) => Err(Refused {
                 source: self,
-                error: error.kind(),
+                error,
             }),
         }
     }

@@ -120,7 +120,7 @@ impl<V: Drop, A: Allocator + Copy> Table<V, A> {
             Err(error) => {
                 return Err(Refused {
                     source: (key, value),
-                    error: error.kind(),
+                    error,
                 });
             }
         }

@@ -2,6 +2,7 @@
 use Rattle.std.specs.Prelude.{◌≡◌, ℕ, List, [], ◌∷◌, ◌++◌, length, Option, codes, decimal}
 use Rattle.std.specs.Io.KnownBytes.{Appends}
 use Rattle.std.specs.List.{flat_map}
+use Rattle.allocator_api2.specs.declared.collections.TryReserveErrorKind.{TryReserveErrorKind}
 use Rattle.allocator_api2.specs.declared.collections.TryReserveErrorKind.TheVariants.{CapacityOverflow, AllocError}
 use Rattle.allocator_api2.specs.declared.runner.Reply.{Reply}
 use Rattle.allocator_api2.specs.declared.runner.Reply.TheVariants.{Done, Item, Nothing, Back, Refused, Range}
@@ -10,14 +11,18 @@ use Rattle.allocator_api2.specs.declared.runner.Reply.TheVariants.{Done, Item, N
 abbrev pub line_of : List ℕ → List ℕ
 line_of text = text ++ 10 ∷ []
 
+-- what a refusal is printed as
+abbrev pub refusal_text : TryReserveErrorKind → List ℕ
+refusal_text CapacityOverflow = codes "refused capacity"
+refusal_text (AllocError capacity) = codes "refused memory"
+
 -- what a reply is printed as
 abbrev pub reply_text : Reply ℕ → List ℕ
 reply_text Done = codes "done"
 reply_text (Item x) = codes "item " ++ decimal x
 reply_text Nothing = codes "none"
 reply_text (Back x) = codes "back " ++ decimal x
-reply_text (Refused CapacityOverflow) = codes "refused capacity"
-reply_text (Refused (AllocError capacity)) = codes "refused memory"
+reply_text (Refused error) = refusal_text error.kind
 reply_text Range = codes "range"
 
 -- the replies, a line each

@@ -46,12 +46,10 @@ fn print_reply<W: Write>(output: &mut W, reply: &Reply<u32>) -> io::Result<()>
         Reply::Item(x) => writeln!(output, "item {x}"),
         Reply::Nothing => writeln!(output, "none"),
         Reply::Back(x) => writeln!(output, "back {x}"),
-        Reply::Refused(TryReserveErrorKind::CapacityOverflow) => {
-            writeln!(output, "refused capacity")
-        }
-        Reply::Refused(TryReserveErrorKind::AllocError { .. }) => {
-            writeln!(output, "refused memory")
-        }
+        Reply::Refused(error) => match error.kind() {
+            TryReserveErrorKind::CapacityOverflow => writeln!(output, "refused capacity"),
+            TryReserveErrorKind::AllocError { .. } => writeln!(output, "refused memory"),
+        },
         Reply::Range => writeln!(output, "range"),
     }
 }

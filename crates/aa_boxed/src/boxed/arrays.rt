@@ -33,7 +33,7 @@ impl<T, A: Allocator> BoxedSlice<T, A> {
             Ok(block) => Ok(filled(block, items)),
             Err(error) => Err(Refused {
                 source: items,
-                error: error.kind(),
+                error,
             }),
         }
     }
@@ -83,15 +83,12 @@ impl<T, A: Allocator, const N: usize> Box<[T; N], A> {
         ensures refused { IfErr result (λ r. (r.source ≡ b) × (A.is_infallible b.alloc → LacksRoomFor N (type_size T.row) r.error) × IsRefusedAt r.error N) }
     {
         let Ok(alloc) = Box::allocator(&b).clone() else {
-            let error = TryReserveErrorKind::AllocError { capacity: N };
+            let error = TryReserveErrorKind::AllocError { capacity: N }.into();
             return Err(Refused { source: b, error });
         };
         match RawVec::with_capacity_in(N, alloc) {
             Ok(block) => Ok(filled(block, Box::into_inner(b))),
-            Err(error) => Err(Refused {
-                source: b,
-                error: error.kind(),
-            }),
+            Err(error) => Err(Refused { source: b, error }),
         }
     }
 }

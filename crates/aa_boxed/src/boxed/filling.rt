@@ -4,9 +4,9 @@ ghost use Rattle.std.specs.Bool.{OnTrue, OnFalse};
 ghost use Rattle.std.specs.List.{AllZip};
 ghost use Rattle.std.specs.Mem.{type_size};
 ghost use Rattle.aa_raw.specs.Block.{fresh};
-ghost use Rattle.aa_raw.specs.Growth.{sized, usize_max};
-ghost use Rattle.aa_raw.specs.Refusals.{IsRefused, IsRefusedAt};
-ghost use Rattle.aa_raw.specs.declared.collections.TryReserveErrorKind.TheVariants.{CapacityOverflow};
+ghost use Rattle.aa_raw.specs.Growth.{amortized, least_of, sized, usize_max};
+ghost use Rattle.aa_raw.specs.Refusals.{IsRefusedAt};
+ghost use Rattle.aa_raw.specs.Room.{LacksRoom};
 ghost use Rattle.aa_boxed.specs.Slice.{with_next, ended};
 
 use crate::boxed::slice::BoxedSlice;
@@ -74,8 +74,7 @@ impl<T, A: Allocator> Filling<T, A> {
         ensures alloc { self.new.alloc ≡ self.old.alloc }
         ensures capacity { self.old.capacity ≤ self.new.capacity }
         ensures made { OnOk result (length self.old.items + additional ≤ self.new.capacity) }
-        ensures refused { IfErr result (λ e. (self.old.capacity < length self.old.items + additional) × IsRefused e (length self.old.items + additional)) }
-        ensures overflow { IfErr result (λ e. usize_max < length self.old.items + additional → e ≡ CapacityOverflow) }
+        ensures refused { IfErr result (LacksRoom self.old.capacity (length self.old.items) additional (amortized self.old.growth self.old.capacity (length self.old.items + additional) (least_of (type_size T.row)))) }
     {
         self.block.try_reserve(self.len, additional)
     }
@@ -94,7 +93,7 @@ impl<T, A: Allocator> Filling<T, A> {
     where
         T: Drop,
         ensures made { IfOk result (λ b. b ≡ ended self) }
-        ensures refused { IfErr result (λ e. (0 < length self.items) × (0 < type_size T.row) × (e ≡ TryReserveErrorKind.AllocError (length self.items))) }
+        ensures refused { IfErr result (λ e. (0 < length self.items) × (0 < type_size T.row) × (e.kind ≡ TryReserveErrorKind.AllocError (length self.items))) }
     {
         let mut filling = self;
         let len = filling.len;

@@ -1,9 +1,9 @@
 //! `BoxedSlice`: a list in a block that has room for it and no more.
-ghost use Rattle.std.specs.Prelude.{◌≡◌, ◌<◌, ◌≤◌, [], length, All, IfOk, IfErr, IsOk};
+ghost use Rattle.std.specs.Prelude.{◌≡◌, ◌<◌, ◌≤◌, [], None, length, All, IfOk, IfErr, IsOk};
 ghost use Rattle.std.specs.List.{AllZip};
 ghost use Rattle.std.specs.Mem.{type_size};
 ghost use Rattle.std.specs.Borrow.{sem};
-ghost use Rattle.std.specs.Iterator.{IsFinite, Drains, size};
+ghost use Rattle.std.specs.Iterator.{IsFinite, Drains, YieldsThen, size};
 ghost use Rattle.std.specs.Iterator.Runs.{WholeRun};
 ghost use Rattle.aa_raw.specs.Growth.{sized};
 ghost use Rattle.aa_raw.specs.Places.{IsRun};
@@ -11,6 +11,7 @@ ghost use Rattle.aa_raw.specs.Refusals.{IsRefusedAt};
 ghost use Rattle.aa_raw.specs.declared.raw_vec.Growth.TheVariants.{Doubling};
 ghost use Rattle.aa_boxed.specs.Room.{IsJustFor};
 ghost use Rattle.aa_boxed.specs.Slice.{slice_of, Stops};
+ghost use Rattle.aa_boxed.specs.Telling.{TellsAtMost};
 
 use crate::boxed::filling::Filling;
 use aa_raw::collections::{TryReserveError, TryReserveErrorKind};
@@ -19,7 +20,7 @@ use std::alloc::{Allocator, Global};
 use std::default::Default;
 use std::marker::Model;
 
-/// A list whose capacity is its length, or `usize::MAX` where elements have no size; these take no memory. It stands for
+/// A list in a block without a free place. Elements without size take no memory and have `usize::MAX` places. It stands for
 /// `allocator_api2::boxed::Box<[T], A>`.
 pub struct BoxedSlice<T, A: Allocator = Global> {
     block: RawVec<T, A>,
@@ -50,7 +51,7 @@ impl<T> BoxedSlice<T, Global> {
         ensures ran { IfOk result (λ b. Drains I.next_gives iter b.items) }
         ensures runs { IfOk result (λ b. WholeRun I.next_gives iter (λ p. b.items ≡ p.items)) }
         ensures made { IfOk result (λ b. (b.growth ≡ Doubling) × (b.alloc ≡ alloc)) }
-        ensures refused { IfErr result (λ e. Stops I.next_gives (type_size T.row) iter e) }
+        ensures refused { IfErr result (λ e. (after : I) × Stops I.next_gives (TellsAtMost I.remaining) (type_size T.row) iter e after) }
     {
         BoxedSlice::from_iter_in(iter, alloc)
     }
@@ -78,8 +79,8 @@ impl<T, A: Allocator> BoxedSlice<T, A> {
     /// The items of `iter`, which ends. It takes each item first, and memory where there is no room for it, with room to spare
     /// for it and the lower bound that `size_hint` then has; at the end it gives back what is not needed. Where memory is
     /// refused, the items that came are dropped. While items come, that is `CapacityOverflow` where the length asked for passes
-    /// `usize::MAX` or its bytes `isize::MAX`, or `AllocError` with at least the number of those that came; at the end
-    /// `AllocError` with the length. The original has no such call.
+    /// `usize::MAX` or its bytes `isize::MAX`, or `AllocError` with the capacity asked for; at the end `AllocError` with
+    /// the length. The original has no such call.
     pub fn from_iter_in<I: Iterator<Item = T>>(iter: I, alloc: A) -> Result<Self, TryReserveError>
     where
         T: Drop,
@@ -89,13 +90,32 @@ impl<T, A: Allocator> BoxedSlice<T, A> {
         ensures ran { IfOk result (λ b. Drains I.next_gives iter b.items) }
         ensures runs { IfOk result (λ b. WholeRun I.next_gives iter (λ p. b.items ≡ p.items)) }
         ensures made { IfOk result (λ b. (b.growth ≡ Doubling) × (b.alloc ≡ alloc)) }
-        ensures refused { IfErr result (λ e. Stops I.next_gives (type_size T.row) iter e) }
+        ensures refused { IfErr result (λ e. (after : I) × Stops I.next_gives (TellsAtMost I.remaining) (type_size T.row) iter e after) }
     {
         let mut rest = iter;
+        BoxedSlice::from_iter_in_by(&mut rest, alloc)
+    }
+
+    /// `from_iter_in` by an iterator that is lent: where memory is refused while items come, the one that found no place is the
+    /// last that was taken. The original has no such call.
+    pub fn from_iter_in_by<I: Iterator<Item = T>>(
+        iter: &mut I,
+        alloc: A,
+    ) -> Result<Self, TryReserveError>
+    where
+        T: Drop,
+        requires may_ask { I.can_next iter.old }
+        requires ends { IsFinite (I.remaining iter.old) }
+        ensures fits { size (I.remaining iter.old) ≤ sized (type_size T.row) 0 → IsOk result }
+        ensures ran { IfOk result (λ b. YieldsThen I.next_gives iter.old b.items None iter.new) }
+        ensures runs { IfOk result (λ b. WholeRun I.next_gives iter.old (λ p. b.items ≡ p.items)) }
+        ensures made { IfOk result (λ b. (b.growth ≡ Doubling) × (b.alloc ≡ alloc)) }
+        ensures refused { IfErr result (λ e. Stops I.next_gives (TellsAtMost I.remaining) (type_size T.row) iter.old e iter.new) }
+    {
         let mut filling = Filling::with_room(Growth::Doubling, 0, alloc)?;
-        while let Some(x) = rest.next() {
+        while let Some(x) = iter.next() {
             if filling.is_full() {
-                filling.reserve(rest.size_hint().0.saturating_add(1))?;
+                filling.reserve(iter.size_hint().0.saturating_add(1))?;
             }
             filling.put(x);
         }

@@ -1,9 +1,9 @@
 //! `BoxedText`: text in a block that has room for it and no more.
-ghost use Rattle.std.specs.Prelude.{◌≡◌, ◌+◌, ◌<◌, ◌++◌, List, [], length, flat_map, IfOk, IfErr, OnOk, MatchResult, IsUtf8};
-ghost use Rattle.std.specs.Iterator.{IsFinite, Drains};
-ghost use Rattle.std.specs.String.{string_bytes};
+ghost use Rattle.std.specs.Prelude.{◌≡◌, ◌+◌, ◌<◌, ◌≤◌, ◌++◌, List, [], length, flat_map, None, IfOk, IfErr, OnOk, MatchResult, IsUtf8};
+ghost use Rattle.std.specs.Iterator.{IsFinite, Drains, YieldsThen};
+ghost use Rattle.std.specs.String.{string_bytes, string_capacity};
 ghost use Rattle.aa_raw.specs.Growth.{usize_max};
-ghost use Rattle.aa_raw.specs.Refusals.{IsRefused, IsRefusedAt};
+ghost use Rattle.aa_raw.specs.Refusals.{IsRefusedAt};
 ghost use Rattle.aa_raw.specs.declared.raw_vec.Growth.TheVariants.{Doubling};
 ghost use Rattle.aa_raw.specs.declared.collections.TryReserveErrorKind.TheVariants.{CapacityOverflow};
 ghost use Rattle.aa_boxed.specs.Text.{Text, bytes_of, StopsAtText};
@@ -104,9 +104,9 @@ impl<A: Allocator> Drop for BoxedText<A> {
     }
 }
 
-/// Puts the texts of `iter`, which ends, behind `text`, each of them whole. Where room for one is refused, those before it stay,
-/// and it is dropped: `CapacityOverflow` where the length passes `usize::MAX`, else `AllocError` with the length that was asked
-/// for. It stands for `String`'s `Extend<Box<str, A>>`, which aborts on a refusal.
+/// Puts the texts of `iter`, which ends, behind `text`, each of them whole. It takes memory where one does not fit. Where that is
+/// refused, those before it stay, and it is dropped: `CapacityOverflow` where the length passes `usize::MAX`, else `AllocError`
+/// with the length that was asked for. It stands for `String`'s `Extend<Box<str, A>>`, which aborts on a refusal.
 pub fn append_texts<S: Allocator, A: Allocator, I: Iterator<Item = BoxedText<A>>>(
     text: &mut String<S>,
     iter: I,
@@ -114,10 +114,26 @@ pub fn append_texts<S: Allocator, A: Allocator, I: Iterator<Item = BoxedText<A>>
     requires may_ask { I.can_next iter }
     requires ends { IsFinite (I.remaining iter) }
     ensures appended { OnOk result ((ts : List (Text A)) × Drains I.next_gives iter ts × (string_bytes text.new ≡ string_bytes text.old ++ flat_map (λ t. t.bytes) ts)) }
-    ensures refused { IfErr result (λ e. StopsAtText I.next_gives iter (string_bytes text.old) e (string_bytes text.new)) }
+    ensures refused { IfErr result (λ e. (after : I) × StopsAtText I.next_gives iter text.old e text.new after) }
+    ensures rises { string_capacity text.old ≤ string_capacity text.new }
 {
     let mut rest = iter;
-    while let Some(next) = rest.next() {
+    append_texts_by(text, &mut rest)
+}
+
+/// `append_texts` by an iterator that is lent: no text is taken from it but those that were put and, on a refusal, one, which is
+/// dropped. It stands for `String`'s `Extend<Box<str, A>>` with `by_ref`.
+pub fn append_texts_by<S: Allocator, A: Allocator, I: Iterator<Item = BoxedText<A>>>(
+    text: &mut String<S>,
+    iter: &mut I,
+) -> Result<(), TryReserveError>
+    requires may_ask { I.can_next iter.old }
+    requires ends { IsFinite (I.remaining iter.old) }
+    ensures appended { OnOk result ((ts : List (Text A)) × YieldsThen I.next_gives iter.old ts None iter.new × (string_bytes text.new ≡ string_bytes text.old ++ flat_map (λ t. t.bytes) ts)) }
+    ensures refused { IfErr result (λ e. StopsAtText I.next_gives iter.old text.old e text.new iter.new) }
+    ensures rises { string_capacity text.old ≤ string_capacity text.new }
+{
+    while let Some(next) = iter.next() {
         match append_text(text, next.as_str()) {
             Ok(()) => {}
             Err(error) => return Err(error),
@@ -130,14 +146,19 @@ pub fn append_texts<S: Allocator, A: Allocator, I: Iterator<Item = BoxedText<A>>
 fn append_text<S: Allocator>(text: &mut String<S>, more: &str) -> Result<(), TryReserveError>
     ensures appended { OnOk result (string_bytes text.new ≡ string_bytes text.old ++ more.now) }
     ensures kept { IfErr result (λ e. string_bytes text.new ≡ string_bytes text.old) }
-    ensures number { IfErr result (λ e. IsRefused e (length (string_bytes text.old) + length more.now)) }
-    ensures overflow { IfErr result (λ e. usize_max < length (string_bytes text.old) + length more.now → e ≡ CapacityOverflow) }
+    ensures lacks { IfErr result (λ e. string_capacity text.new < length (string_bytes text.old) + length more.now) }
+    ensures number { IfErr result (λ e. IsRefusedAt e (length (string_bytes text.old) + length more.now)) }
+    ensures overflow { IfErr result (λ e. usize_max < length (string_bytes text.old) + length more.now → e.kind ≡ CapacityOverflow) }
+    ensures rises { string_capacity text.old ≤ string_capacity text.new }
 {
-    let Some(capacity) = text.as_str().len().checked_add(more.len()) else {
-        return Err(TryReserveErrorKind::CapacityOverflow.into());
-    };
+    if text.try_reserve(more.len()).is_err() {
+        return match text.as_bytes().len().checked_add(more.len()) {
+            Some(capacity) => Err(TryReserveErrorKind::AllocError { capacity }.into()),
+            None => Err(TryReserveErrorKind::CapacityOverflow.into()),
+        };
+    }
     match text.push_str(more) {
         Ok(()) => Ok(()),
-        Err(_) => Err(TryReserveErrorKind::AllocError { capacity }.into()),
+        Err(_) => unreachable!(),
     }
 }

@@ -44,7 +44,7 @@ impl<T, A: Allocator> Vec<T, A> {
             }
             Err(error) => Err(Refused {
                 source: items,
-                error: error.kind(),
+                error,
             }),
         }
     }
@@ -93,11 +93,11 @@ impl<T, A: Allocator, const N: usize> TryFrom<Vec<T, A>> for [T; N] {
 }
 
 impl<T, A: Allocator, const N: usize> Vec<[T; N], A> {
-    /// The elements of all arrays, in order, in a new block over a clone of the allocator, which has room for as many as the
-    /// vector's own and grows as it does; the vector's own is given back. It takes memory where the vector has room for any and
-    /// they have a size. A refusal hands the vector back as it was: `CapacityOverflow` where the number of elements passes
-    /// `usize::MAX`, else `AllocError` with the capacity asked for, also where the allocator's clone is refused. It stands for
-    /// `Vec::into_flattened`, which keeps the block and panics where the number passes `usize::MAX`.
+    /// The elements of all arrays, in order. The allocator is cloned, and they move to a block over the clone, which has room for
+    /// as many as the vector's own and grows as it does; the vector's own is given back. It takes memory where the vector has room
+    /// for any and they have a size. A refusal hands the vector back as it was: `CapacityOverflow` where the number of elements
+    /// passes `usize::MAX`, else `AllocError` with the capacity asked for, also where the allocator's clone is refused. It stands
+    /// for `Vec::into_flattened`, which keeps the block and panics where the number passes `usize::MAX`.
     pub fn into_flattened(self) -> Result<Vec<T, A>, Refused<Self>>
     where
         A: Clone,
@@ -108,7 +108,7 @@ impl<T, A: Allocator, const N: usize> Vec<[T; N], A> {
             Ok(flat) => Ok(self.poured_into(flat)),
             Err(error) => Err(Refused {
                 source: self,
-                error: error.kind(),
+                error,
             }),
         }
     }
@@ -132,7 +132,7 @@ impl<T, A: Allocator, const N: usize> Vec<[T; N], A> {
     #[tactic(auto, using(aa_raw::proofs::Calls::at_ends))]
     fn check_number(&self) -> Result<(), TryReserveError>
         ensures few { OnOk result (len self.now * N ≤ usize_max) }
-        ensures over { IfErr result (λ e. (e ≡ CapacityOverflow) × (usize_max < len self.now * N)) }
+        ensures over { IfErr result (λ e. (e.kind ≡ CapacityOverflow) × (usize_max < len self.now * N)) }
     {
         if self.len.checked_mul(N).is_none() {
             return Err(TryReserveErrorKind::CapacityOverflow.into());

@@ -24,10 +24,7 @@ impl<T, A: Allocator> Vec<T, A> {
         let _within = vec.block.capacity();
         match vec.shrink_to_fit() {
             Ok(()) => Ok(vec.whole()),
-            Err(error) => Err(Refused {
-                source: vec,
-                error: error.kind(),
-            }),
+            Err(error) => Err(Refused { source: vec, error }),
         }
     }
 

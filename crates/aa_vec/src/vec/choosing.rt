@@ -44,12 +44,7 @@ impl<T: Drop, A: Allocator> Vec<T, A> {
         requires { IsCallableAlong (ComparesKeys F.FnMut K.eq) (TakesForKeys F.FnMut) key self.old.items }
         ensures { (last : F) × Deduplicates (ComparesKeys F.FnMut K.eq) key self.old last self.new }
     {
-        self.dedup_within(
-            &mut move |element: &mut T, last: &mut T|
-                requires { TakesForKeys F.FnMut key element.old last.old }
-                ensures { ComparesKeys F.FnMut K.eq key.entry element.old last.old result key.exit element.new last.new }
-            { same_keys(&mut key, element, last) },
-        );
+        self.dedup_within_key(&mut key);
     }
 
     /// Asks `same_bucket` of each element but the first, in order, beside the last one that was kept before it, and drops it
@@ -80,6 +75,22 @@ impl<T: Drop, A: Allocator> Vec<T, A> {
         ensures { Deduplicates (CalledAtPairMut F.FnMut) same.old self.old same.new self.new }
     {
         let _same = replace_with(self, same, deduplicated);
+    }
+
+    /// Drops each element but the first whose key equals that of the last one that was kept before it. `key` is asked anew for
+    /// both elements of each comparison, first for the one under test. The order and the capacity stay; it takes no memory. This
+    /// is `dedup_by_key` by a closure that is lent, so that the caller knows what becomes of it.
+    pub fn dedup_within_key<K: PartialEq + Drop, F: FnMut(&mut T) -> K>(&mut self, key: &mut F)
+        requires { IsCallableAlong (ComparesKeys F.FnMut K.eq) (TakesForKeys F.FnMut) key.old self.old.items }
+        ensures { Deduplicates (ComparesKeys F.FnMut K.eq) key.old self.old key.new self.new }
+    {
+        self.dedup_within(
+            &mut move |element: &mut T, last: &mut T|
+                requires { TakesForKeys F.FnMut key.now element.old last.old }
+                ensures same_reference { key.exit.ghost_name ≡ key.entry.ghost_name }
+                ensures asked { ComparesKeys F.FnMut K.eq key.entry.now element.old last.old result key.exit.now element.new last.new }
+            { same_keys(key, element, last) },
+        );
     }
 }
 

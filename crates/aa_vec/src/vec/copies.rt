@@ -192,27 +192,55 @@ impl<T, A: Allocator> Vec<T, A> {
     pub fn resize_with<F: FnMut() -> T>(
         &mut self,
         new_len: usize,
-        f: F,
+        mut f: F,
     ) -> Result<(), TryReserveError>
     where
         T: Drop,
         requires callable { MayCallTimes (λ g. F.pre g) F.step (new_len - len self.old) f }
         ensures fits { HasRoom self.old (new_len - len self.old) → IsOk result }
         ensures cut { new_len ≤ len self.old → IsOk result × Holds self.old (take new_len self.old.items) self.new }
-        ensures filled { OnOk result (len self.old < new_len → LengthensBy F.step (type_size T.row) self.old (new_len - len self.old) f self.new) }
+        ensures filled { OnOk result (len self.old < new_len → (last : F) × LengthensBy F.step (type_size T.row) self.old (new_len - len self.old) f last self.new) }
         ensures writes { OnOk result (Writes self.old (new_len - len self.old) (new_len - len self.old) self.new) }
-        ensures refused { IfErr result (λ e. LacksRoom self.old (new_len - len self.old) e × (self.new ≡ self.old)) }
+        ensures refused { IfErr result (λ e. LacksRoom (type_size T.row) self.old (new_len - len self.old) e × (self.new ≡ self.old)) }
+    {
+        self.resize_by(new_len, &mut f)
+    }
+
+    /// Cuts the vector to `new_len` elements, or fills it up to that many with what `f` answers, called once for each new place,
+    /// in order. This is `resize_with` by a closure that is lent, so that the caller knows what becomes of it: where the vector
+    /// is cut, or no room is made, `f` is not called.
+    #[tactic(auto, using(crate::proofs::Turns::turns))]
+    pub fn resize_by<F: FnMut() -> T>(
+        &mut self,
+        new_len: usize,
+        f: &mut F,
+    ) -> Result<(), TryReserveError>
+    where
+        T: Drop,
+        requires callable { MayCallTimes (λ g. F.pre g) F.step (new_len - len self.old) f.old }
+        ensures fits { HasRoom self.old (new_len - len self.old) → IsOk result }
+        ensures cut { new_len ≤ len self.old → IsOk result × Holds self.old (take new_len self.old.items) self.new × (f.new ≡ f.old) }
+        ensures filled { OnOk result (len self.old < new_len → LengthensBy F.step (type_size T.row) self.old (new_len - len self.old) f.old f.new self.new) }
+        ensures writes { OnOk result (Writes self.old (new_len - len self.old) (new_len - len self.old) self.new) }
+        ensures refused { IfErr result (λ e. LacksRoom (type_size T.row) self.old (new_len - len self.old) e × (self.new ≡ self.old) × (f.new ≡ f.old)) }
     {
         let len = self.len();
-        if new_len <= len {
-            self.truncate(new_len);
+        if len < new_len {
+            self.try_reserve(new_len - len)?;
+            self.push_answers(new_len - len, f);
             return Ok(());
         }
-        if let Err(error) = self.try_reserve(new_len - len) {
-            return Err(error);
-        }
-        replace_with(self, (new_len - len, f), with_answers);
+        self.truncate(new_len);
         Ok(())
+    }
+
+    // Puts `count` elements behind the last one, of which each is what `f` answers.
+    fn push_answers<F: FnMut() -> T>(&mut self, count: usize, f: &mut F)
+        requires room { HasRoom self.old count }
+        requires callable { MayCallTimes (λ g. F.pre g) F.step count f.old }
+        ensures { AddsAnswers F.step self.old count f.old f.new self.new }
+    {
+        let _f = replace_with(self, (f, count), with_answers);
     }
 
     // Puts `value` behind the last element of a vector that is not full.
@@ -292,23 +320,24 @@ fn with_same<T: Clone, A: Allocator>(mut list: Vec<T, A>, same: (&T, usize)) -> 
     (list, count)
 }
 
-// As many values as the number says, of which each is what the closure answers.
+// As many values as the number says, of which each is what the closure answers. It hands the closure back.
 #[tactic(auto, using(crate::proofs::Turns::turns))]
-fn with_answers<T, A: Allocator, F: FnMut() -> T>(
+fn with_answers<'a, T, A: Allocator, F: FnMut() -> T>(
     mut list: Vec<T, A>,
-    calls: (usize, F),
-) -> (Vec<T, A>, ())
-    requires room { HasRoom list calls.0 }
-    requires callable { MayCallTimes (λ g. F.pre g) F.step calls.0 calls.1 }
-    ensures { AddsAnswers F.step list calls.0 calls.1 result.0 }
+    calls: (&'a mut F, usize),
+) -> (Vec<T, A>, &'a mut F)
+    requires room { HasRoom list calls.1 }
+    requires callable { MayCallTimes (λ g. F.pre g) F.step calls.1 calls.0.now }
+    ensures same_reference { result.1.ghost_name ≡ calls.entry.0.ghost_name }
+    ensures added { AddsAnswers F.step list calls.entry.1 calls.entry.0.now result.1.now result.0 }
 {
-    let (count, mut f) = calls;
+    let (f, count) = calls;
     let _within = list.capacity();
     'each: for _filled in 0..count {
-        let value = answer_of(&mut f);
+        let value = answer_of(f);
         list.put_next(value);
     }
-    (list, ())
+    (list, f)
 }
 
 // One call of a closure that makes values.

@@ -35,13 +35,13 @@ impl<T, A: Allocator> Vec<T, A> {
         ensures fits { HasRoom self.old 1 → IsOk result }
         ensures inserted { OnOk result (GrowsTo (type_size T.row) self.old 1 (insert self.old.items index element) self.new) }
         ensures writes { OnOk result (Writes self.old (len self.old - index + 1) (run_count (len self.old - index) + 1) self.new) }
-        ensures refused { IfErr result (λ r. (r.source ≡ element) × LacksRoom self.old 1 r.error × (self.new ≡ self.old)) }
+        ensures refused { IfErr result (λ r. (r.source ≡ element) × LacksRoom (type_size T.row) self.old 1 r.error × (self.new ≡ self.old)) }
     {
         let len = self.len;
         if let Err(error) = self.block.reserve_for_push(len) {
             return Err(Refused {
                 source: element,
-                error: error.kind(),
+                error,
             });
         }
         self.block.move_run(index, index + 1, len - index);

@@ -1,12 +1,12 @@
 //! Items of an iterator, put behind the elements.
 ghost use Rattle.std.specs.Prelude.{◌≡◌, ◌+◌, ◌-◌, ◌≤◌, ◌++◌, List, map, IfOk, IfErr, OnOk, IsOk};
 ghost use Rattle.std.specs.Mem.{type_size};
-ghost use Rattle.std.specs.Iterator.{IsFinite, Drains, size};
+ghost use Rattle.std.specs.Iterator.{IsFinite, IsNearerEnd, Drains, size};
 ghost use Rattle.std.specs.Iterator.Runs.{WholeRun};
 ghost use Rattle.std.specs.Borrow.{Bor};
 ghost use Rattle.aa_vec.specs.Vector.{len, sized, HasRoom, Writes};
 ghost use Rattle.aa_vec.specs.Filling.{FillsGap};
-ghost use Rattle.aa_vec.specs.Extending.{Extended, LeavesIter, ExtendsByAll, ExtendsByFront, MadeByAll, StopsAtFront, CopiesOf, TellsAtMost, TellsExactly};
+ghost use Rattle.aa_vec.specs.Extending.{Extended, LeavesIter, LeavesIterMaking, ExtendsByAll, ExtendsByFront, MadeByAll, StopsAtFront, CopiesOf, TellsAtMost, TellsExactly};
 
 use crate::vec::Vec;
 use crate::vec::items::Hinted;
@@ -49,6 +49,7 @@ impl<T, A: Allocator> Vec<T, A> {
         requires ends { IsFinite (I.remaining iter.old) }
         ensures extends { Extended I.next_gives W.tells I.remaining (type_size T.row) iter.old self.old result self.new }
         ensures leaves { LeavesIter I.next_gives W.tells (type_size T.row) iter.old self.old iter.new result self.new }
+        ensures goes { IfErr result (λ _. IsNearerEnd I.can_next I.remaining iter.old iter.new) }
     {
         // It does nothing but tell the prover that no more elements are there than places.
         let _within = self.free();
@@ -67,8 +68,8 @@ impl<T, A: Allocator> Vec<T, A> {
     /// Puts the items of `iter`, which ends, behind the last element; it takes each of them first, and memory only where the
     /// vector is full then, with room to spare for that item and as many as `lower` now tells. A refusal keeps what was placed,
     /// drops the item that found no place and takes no other: `CapacityOverflow` where the length asked for passes `usize::MAX`
-    /// or its bytes pass `isize::MAX`, else `AllocError` with at least that length. It stands for `Vec::extend`, with `lower` in
-    /// place of `size_hint`.
+    /// or its bytes pass `isize::MAX`, else `AllocError` with the capacity asked for. It stands for `Vec::extend`, with `lower`
+    /// in place of `size_hint`.
     pub fn extend_hinted<I: Hinted<Item = T>>(&mut self, iter: I) -> Result<(), TryReserveError>
     where
         T: Drop,
@@ -93,6 +94,7 @@ impl<T, A: Allocator> Vec<T, A> {
         requires ends { IsFinite (I.remaining iter.old) }
         ensures extends { Extended I.next_gives (TellsExactly I.lower_of) I.remaining (type_size T.row) iter.old self.old result self.new }
         ensures leaves { LeavesIter I.next_gives (TellsExactly I.lower_of) (type_size T.row) iter.old self.old iter.new result self.new }
+        ensures goes { IfErr result (λ _. IsNearerEnd I.can_next I.remaining iter.old iter.new) }
     {
         self.extend_telling::<ByLower, I>(iter)
     }
@@ -121,6 +123,7 @@ impl<T, A: Allocator> Vec<T, A> {
         requires ends { IsFinite (I.remaining iter.old) }
         ensures extends { Extended I.next_gives (TellsAtMost I.remaining) I.remaining (type_size T.row) iter.old self.old result self.new }
         ensures leaves { LeavesIter I.next_gives (TellsAtMost I.remaining) (type_size T.row) iter.old self.old iter.new result self.new }
+        ensures goes { IfErr result (λ _. IsNearerEnd I.can_next I.remaining iter.old iter.new) }
     {
         self.extend_telling::<ByHint, I>(iter)
     }
@@ -139,13 +142,33 @@ impl<T, A: Allocator> Vec<T, A> {
         ensures ran { OnOk result ((rs : List (Bor T)) × Drains I.next_gives iter rs × (self.new.items ≡ self.old.items ++ map (λ r. r.now) rs)) }
         ensures runs { OnOk result (WholeRun I.next_gives iter (λ p. self.new.items ≡ self.old.items ++ map (λ r. r.now) p.items)) }
     {
-        let mut copies = Reading::new(iter);
+        let mut rest = iter;
+        self.extend_copied_by(&mut rest)
+    }
+
+    /// `extend_copied` by an iterator that is lent: no reference is taken from it but those whose copies found a place and, on a
+    /// refusal, one. It stands for `Vec::extend` over references with `by_ref`.
+    #[inline]
+    pub fn extend_copied_by<'a, I: Iterator<Item = &'a T>>(
+        &mut self,
+        iter: &mut I,
+    ) -> Result<(), TryReserveError>
+    where
+        T: Copy + 'a,
+        requires may_ask { I.can_next iter.old }
+        requires ends { IsFinite (I.remaining iter.old) }
+        ensures copied { Extended (CopiesOf I.next_gives) (TellsAtMost I.remaining) I.remaining (type_size T.row) iter.old self.old result self.new }
+        ensures ran { OnOk result ((rs : List (Bor T)) × Drains I.next_gives iter.old rs × (self.new.items ≡ self.old.items ++ map (λ r. r.now) rs)) }
+        ensures runs { OnOk result (WholeRun I.next_gives iter.old (λ p. self.new.items ≡ self.old.items ++ map (λ r. r.now) p.items)) }
+        ensures leaves { LeavesIter (CopiesOf I.next_gives) (TellsAtMost I.remaining) (type_size T.row) iter.old self.old iter.new result self.new }
+        ensures goes { IfErr result (λ _. IsNearerEnd I.can_next I.remaining iter.old iter.new) }
+    {
+        let mut copies = Reading { iter };
         self.extend_by(&mut copies)
     }
 
     /// A vector of the items of `iter`, which ends: a new one, extended as `extend` does, so it takes no memory where no item comes
     /// or elements have no size. It is refused as `extend` is, and then drops what came. The original has no such call.
-    #[tactic(auto, using(crate::proofs::Extending::extended))]
     pub fn from_iter_in<I: Iterator<Item = T>>(iter: I, alloc: A) -> Result<Self, TryReserveError>
     where
         T: Drop,
@@ -159,8 +182,34 @@ impl<T, A: Allocator> Vec<T, A> {
         ensures writes { IfOk result (λ v. (v.written ≡ len v) × (v.runs ≡ len v)) }
         ensures refused { IfErr result (λ e. StopsAtFront I.next_gives (TellsAtMost I.remaining) (type_size T.row) iter alloc e) }
     {
+        let mut rest = iter;
+        Vec::from_iter_in_by(&mut rest, alloc)
+    }
+
+    /// `from_iter_in` by an iterator that is lent: no item is taken from it but those that found a place and, on a refusal, one.
+    /// The original has no such call.
+    #[inline]
+    #[tactic(auto, using(crate::proofs::Extending::extended))]
+    pub fn from_iter_in_by<I: Iterator<Item = T>>(
+        iter: &mut I,
+        alloc: A,
+    ) -> Result<Self, TryReserveError>
+    where
+        T: Drop,
+        requires may_ask { I.can_next iter.old }
+        requires ends { IsFinite (I.remaining iter.old) }
+        ensures fits { size (I.remaining iter.old) ≤ sized (type_size T.row) 0 → IsOk result }
+        ensures ran { IfOk result (λ v. Drains I.next_gives iter.old v.items) }
+        ensures runs { IfOk result (λ v. WholeRun I.next_gives iter.old (λ p. v.items ≡ p.items)) }
+        ensures made { IfOk result (λ v. MadeByAll I.next_gives (TellsAtMost I.remaining) (type_size T.row) iter.old alloc v) }
+        ensures growth { IfOk result (λ v. (v.growth ≡ Growth.Doubling) × (v.alloc ≡ alloc)) }
+        ensures writes { IfOk result (λ v. (v.written ≡ len v) × (v.runs ≡ len v)) }
+        ensures refused { IfErr result (λ e. StopsAtFront I.next_gives (TellsAtMost I.remaining) (type_size T.row) iter.old alloc e) }
+        ensures leaves { LeavesIterMaking I.next_gives (TellsAtMost I.remaining) (type_size T.row) iter.old alloc iter.new result }
+        ensures goes { IfErr result (λ _. IsNearerEnd I.can_next I.remaining iter.old iter.new) }
+    {
         let mut v = Vec::new_in(alloc);
-        match v.extend(iter) {
+        match v.extend_by(iter) {
             Ok(()) => Ok(v),
             Err(error) => Err(error),
         }

@@ -41,7 +41,7 @@ impl<T, A: Allocator> Vec<T, A> {
         requires ordered { (kept ≤ front) × (front ≤ end) }
         requires stands { StandsBehind self.old 0 kept × StandsBehind self.old front (end - front) }
         requires callable { MayAskInOrder (StaysAt false (CalledAtMut F.FnMut)) (TakesMut F.FnMut) f.old (behind_items self.old front (end - front)) }
-        ensures { Picks (StaysAt false (CalledAtMut F.FnMut)) f.old self.old kept front end result.0 result.1 result.2 f.new self.new }
+        ensures { Picks (CalledAtMut F.FnMut) f.old self.old kept front end result.0 result.1 result.2 f.new self.new }
     {
         let len = self.len();
         let gap = front - kept;

@@ -72,7 +72,7 @@ impl<T, A: Allocator> Vec<T, A> {
         requires { count ≤ len self.old }
         ensures fits { HasRoom self.old gap → IsOk result }
         ensures widened { OnOk result (Widens (type_size T.row) self.old gap count self.new) }
-        ensures refused { IfErr result (λ e. LacksRoom self.old gap e × (self.new ≡ self.old)) }
+        ensures refused { IfErr result (λ e. LacksRoom (type_size T.row) self.old gap e × (self.new ≡ self.old)) }
     {
         self.try_reserve(gap)?;
         let at = self.len() - count;

@@ -22,7 +22,7 @@ impl<T, A: Allocator> Vec<T, A> {
         ensures emptied { OnOk result (Holds other.old [] other.new) }
         ensures writes { OnOk result (Writes self.old (len other.old) (run_count (len other.old)) self.new) }
         ensures takes { Writes other.old 0 0 other.new }
-        ensures refused { IfErr result (λ e. LacksRoom self.old (len other.old) e × (self.new ≡ self.old) × (other.new ≡ other.old)) }
+        ensures refused { IfErr result (λ e. LacksRoom (type_size T.row) self.old (len other.old) e × (self.new ≡ self.old) × (other.new ≡ other.old)) }
     {
         if let Err(error) = self.try_reserve(other.len()) {
             return Err(error);

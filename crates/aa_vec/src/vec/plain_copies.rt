@@ -57,7 +57,7 @@ impl<T: Copy, A: Allocator> Vec<T, A> {
         ensures fits { HasRoom self.old (length other.now) → IsOk result }
         ensures extended { OnOk result (GrowsTo (type_size T.row) self.old (length other.now) (self.old.items ++ other.now) self.new) }
         ensures writes { OnOk result (WritesAtMost self.old (length other.now) self.new) }
-        ensures refused { IfErr result (λ e. LacksRoom self.old (length other.now) e × (self.new ≡ self.old)) }
+        ensures refused { IfErr result (λ e. LacksRoom (type_size T.row) self.old (length other.now) e × (self.new ≡ self.old)) }
     {
         let _within = self.capacity();
         if let Err(error) = self.try_reserve(other.len()) {
@@ -74,7 +74,7 @@ impl<T: Copy, A: Allocator> Vec<T, A> {
         ensures fits { HasRoom self.old (range.end - range.start) → IsOk result }
         ensures extended { OnOk result (GrowsTo (type_size T.row) self.old (range.end - range.start) (self.old.items ++ take (range.end - range.start) (drop range.start self.old.items)) self.new) }
         ensures writes { OnOk result (WritesAtMost self.old (range.end - range.start) self.new) }
-        ensures refused { IfErr result (λ e. LacksRoom self.old (range.end - range.start) e × (self.new ≡ self.old)) }
+        ensures refused { IfErr result (λ e. LacksRoom (type_size T.row) self.old (range.end - range.start) e × (self.new ≡ self.old)) }
     {
         let _within = self.capacity();
         let count = range.end - range.start;

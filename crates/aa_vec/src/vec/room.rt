@@ -2,7 +2,7 @@
 ghost use Rattle.std.specs.Prelude.{◌≡◌, ◌<◌, min, max, IfErr, OnOk, IsOk};
 ghost use Rattle.std.specs.Mem.{type_size};
 ghost use Rattle.aa_raw.specs.Growth.{usize_max};
-ghost use Rattle.aa_vec.specs.Vector.{len, sized, Reserved, GrowsTo, GrowsExactly, Shrinks, Writes};
+ghost use Rattle.aa_vec.specs.Vector.{len, sized, Reserved, GrowsTo, GrowsExactly, LacksRoom, LacksExactRoom, Shrinks, Writes};
 ghost use Rattle.aa_raw.specs.declared.collections.TryReserveErrorKind.TheVariants.{AllocError};
 
 use crate::vec::Vec;
@@ -13,9 +13,9 @@ use std::alloc::Allocator;
 impl<T, A: Allocator> Vec<T, A> {
     /// Makes room for `additional` more elements. Where they fit, it does nothing; else it takes memory and grows with room to
     /// spare. A refusal changes nothing: `CapacityOverflow` where the length would pass `usize::MAX` or the bytes pass
-    /// `isize::MAX`, else `AllocError` with a capacity of at least the length asked for. It stands for `Vec::try_reserve`.
+    /// `isize::MAX`, else `AllocError` with the capacity asked for. It stands for `Vec::try_reserve`.
     pub fn try_reserve(&mut self, additional: usize) -> Result<(), TryReserveError>
-        ensures { Reserved self.old additional (GrowsTo (type_size T.row) self.old additional self.old.items self.new) result self.new }
+        ensures { Reserved self.old additional (GrowsTo (type_size T.row) self.old additional self.old.items self.new) (LacksRoom (type_size T.row) self.old additional) result self.new }
     {
         self.block.try_reserve(self.len, additional)
     }
@@ -23,21 +23,21 @@ impl<T, A: Allocator> Vec<T, A> {
     /// Makes room for exactly `additional` more elements where they do not fit; else it is as `try_reserve`. It stands for
     /// `Vec::try_reserve_exact`.
     pub fn try_reserve_exact(&mut self, additional: usize) -> Result<(), TryReserveError>
-        ensures { Reserved self.old additional (GrowsExactly (type_size T.row) self.old additional self.old.items self.new) result self.new }
+        ensures { Reserved self.old additional (GrowsExactly (type_size T.row) self.old additional self.old.items self.new) (LacksExactRoom self.old additional) result self.new }
     {
         self.block.try_reserve_exact(self.len, additional)
     }
 
     /// The same as `try_reserve`. It stands for `Vec::reserve`, which aborts on a refusal.
     pub fn reserve(&mut self, additional: usize) -> Result<(), TryReserveError>
-        ensures { Reserved self.old additional (GrowsTo (type_size T.row) self.old additional self.old.items self.new) result self.new }
+        ensures { Reserved self.old additional (GrowsTo (type_size T.row) self.old additional self.old.items self.new) (LacksRoom (type_size T.row) self.old additional) result self.new }
     {
         self.try_reserve(additional)
     }
 
     /// The same as `try_reserve_exact`. It stands for `Vec::reserve_exact`, which aborts on a refusal.
     pub fn reserve_exact(&mut self, additional: usize) -> Result<(), TryReserveError>
-        ensures { Reserved self.old additional (GrowsExactly (type_size T.row) self.old additional self.old.items self.new) result self.new }
+        ensures { Reserved self.old additional (GrowsExactly (type_size T.row) self.old additional self.old.items self.new) (LacksExactRoom self.old additional) result self.new }
     {
         self.try_reserve_exact(additional)
     }
@@ -48,7 +48,7 @@ impl<T, A: Allocator> Vec<T, A> {
     pub fn shrink_to(&mut self, capacity: usize) -> Result<(), TryReserveError>
         ensures shrunk { OnOk result (Shrinks self.old (min self.old.capacity (sized (type_size T.row) (max (len self.old) capacity))) self.new) }
         ensures writes { Writes self.old 0 0 self.new }
-        ensures refused { IfErr result (λ e. (0 < max (len self.old) capacity) × (max (len self.old) capacity < self.old.capacity) × (self.old.capacity < usize_max) × (0 < type_size T.row) × (e ≡ AllocError (max (len self.old) capacity)) × (self.new ≡ self.old)) }
+        ensures refused { IfErr result (λ e. (0 < max (len self.old) capacity) × (max (len self.old) capacity < self.old.capacity) × (self.old.capacity < usize_max) × (0 < type_size T.row) × (e.kind ≡ AllocError (max (len self.old) capacity)) × (self.new ≡ self.old)) }
     {
         let wanted = self.len.max(capacity).min(self.block.capacity());
         self.block.shrink_to_fit(self.len, wanted)
@@ -59,7 +59,7 @@ impl<T, A: Allocator> Vec<T, A> {
     pub fn shrink_to_fit(&mut self) -> Result<(), TryReserveError>
         ensures shrunk { OnOk result (Shrinks self.old (min self.old.capacity (sized (type_size T.row) (len self.old))) self.new) }
         ensures writes { Writes self.old 0 0 self.new }
-        ensures refused { IfErr result (λ e. (0 < len self.old) × (len self.old < self.old.capacity) × (self.old.capacity < usize_max) × (0 < type_size T.row) × (e ≡ AllocError (len self.old)) × (self.new ≡ self.old)) }
+        ensures refused { IfErr result (λ e. (0 < len self.old) × (len self.old < self.old.capacity) × (self.old.capacity < usize_max) × (0 < type_size T.row) × (e.kind ≡ AllocError (len self.old)) × (self.new ≡ self.old)) }
     {
         self.shrink_to(0)
     }

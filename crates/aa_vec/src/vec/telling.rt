@@ -4,7 +4,6 @@ ghost use Rattle.std.proofs.Common.{refl, zero-le};
 ghost use Rattle.aa_vec.specs.Extending.{CopiesOf, TellsAtMost, TellsExactly};
 
 use crate::vec::items::Hinted;
-use std::marker::Model;
 
 // A way to be told how many items of an iterator are to come, true or not, and perhaps another number in the same state.
 pub(crate) trait Telling<I: Iterator> {
@@ -47,34 +46,20 @@ impl<I: Iterator> Telling<I> for ByHint {
     }
 }
 
-// Copies of what the items of an iterator refer to.
+// Copies of what the items of an iterator that is lent refer to.
 #[derive(Drop)]
-pub(crate) struct Reading<I> {
-    iter: I,
+pub(crate) struct Reading<'b, I> {
+    pub(crate) iter: &'b mut I,
 }
 
-impl<I> Model for Reading<I> {
-    ghost Value = { I };
-
-    ghost view = { λ s. s.iter };
-}
-
-impl<I> Reading<I> {
-    pub(crate) fn new(iter: I) -> Self
-        ensures { result ≡ iter }
-    {
-        Reading { iter }
-    }
-}
-
-impl<'a, T: Copy + 'a, I: Iterator<Item = &'a T>> Iterator for Reading<I> {
+impl<'b, 'a, T: Copy + 'a, I: Iterator<Item = &'a T>> Iterator for Reading<'b, I> {
     type Item = T;
 
-    ghost can_next = { I.can_next };
+    ghost can_next = { λ s. I.can_next s.iter.now };
 
-    ghost next_gives = { CopiesOf I.next_gives };
+    ghost next_gives = { λ s r t. (t.iter.ghost_name ≡ s.iter.ghost_name) × CopiesOf I.next_gives s.iter.now r t.iter.now };
 
-    ghost remaining = { I.remaining };
+    ghost remaining = { λ s. I.remaining s.iter.now };
 
     #[inline(always)]
     fn next(&mut self) -> Option<T> {

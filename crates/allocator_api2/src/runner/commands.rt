@@ -96,7 +96,7 @@ pub(crate) fn reserve<T, A: Allocator>(main: &mut Vec<T, A>, additional: usize) 
 {
     match main.try_reserve(additional) {
         Ok(()) => Reply::Done,
-        Err(error) => Reply::Refused(error.kind()),
+        Err(error) => Reply::Refused(error),
     }
 }
 
@@ -105,7 +105,7 @@ pub(crate) fn reserve_exact<T, A: Allocator>(main: &mut Vec<T, A>, additional: u
 {
     match main.try_reserve_exact(additional) {
         Ok(()) => Reply::Done,
-        Err(error) => Reply::Refused(error.kind()),
+        Err(error) => Reply::Refused(error),
     }
 }
 
@@ -114,7 +114,7 @@ pub(crate) fn shrink_to<T, A: Allocator>(main: &mut Vec<T, A>, capacity: usize) 
 {
     match main.shrink_to(capacity) {
         Ok(()) => Reply::Done,
-        Err(error) => Reply::Refused(error.kind()),
+        Err(error) => Reply::Refused(error),
     }
 }
 
@@ -135,7 +135,7 @@ pub(crate) fn split_off<T: Drop, A: Allocator + Clone + Drop>(
             *side = tail;
             Reply::Done
         }
-        Err(error) => Reply::Refused(error.kind()),
+        Err(error) => Reply::Refused(error),
     }
 }
 
@@ -144,7 +144,7 @@ pub(crate) fn append<T, A: Allocator>(main: &mut Vec<T, A>, side: &mut Vec<T, A>
 {
     match main.append(side) {
         Ok(()) => Reply::Done,
-        Err(error) => Reply::Refused(error.kind()),
+        Err(error) => Reply::Refused(error),
     }
 }
 
@@ -157,7 +157,7 @@ pub(crate) fn extend<T: Drop, A: Allocator + Drop>(
 {
     match main.extend_hinted(Items::new(items, hint)) {
         Ok(()) => Reply::Done,
-        Err(error) => Reply::Refused(error.kind()),
+        Err(error) => Reply::Refused(error),
     }
 }
 
@@ -174,7 +174,7 @@ pub(crate) fn extend_from_within<T: Clone + Drop, A: Allocator>(
     }
     match main.extend_from_within(from..to) {
         Ok(()) => Reply::Done,
-        Err(error) => Reply::Refused(error.kind()),
+        Err(error) => Reply::Refused(error),
     }
 }
 
@@ -188,7 +188,7 @@ pub(crate) fn resize<T: Clone + Drop, A: Allocator>(
 {
     match main.resize(len, value) {
         Ok(()) => Reply::Done,
-        Err(error) => Reply::Refused(error.kind()),
+        Err(error) => Reply::Refused(error),
     }
 }
 
@@ -233,6 +233,6 @@ pub(crate) fn splice<T: Drop, A: Allocator + Clone + Drop>(
     let range = main.splice(start..end, Items::new(items, hint));
     match range.finish_hinted() {
         Ok(()) => Reply::Done,
-        Err(error) => Reply::Refused(error.kind()),
+        Err(error) => Reply::Refused(error),
     }
 }

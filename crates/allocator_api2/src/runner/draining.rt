@@ -29,7 +29,7 @@ pub(crate) fn drain<T: Drop, A: Allocator>(
     let first = front.min(end - start);
     let last = back.min(end - start - first);
     if let Err(error) = side.try_reserve(first + last) {
-        return Reply::Refused(error.kind());
+        return Reply::Refused(error);
     }
     if keep {
         drain_and_keep(main, side, start, end, first, last);

@@ -33,7 +33,7 @@ where
     }
     let most = take.min(end - start);
     if let Err(error) = side.try_reserve(most) {
-        return Reply::Refused(error.kind());
+        return Reply::Refused(error);
     }
     extract_into(main, side, start, end, most, keep);
     Reply::Done

@@ -1,16 +1,13 @@
 -- `Vec` as a type that may hold the type that holds it: its items and what stands in the places behind them are what it holds.
-use Rattle.std.specs.Prelude.{◌≡◌, ℕ, zero, suc, ◌+◌, ◌≤◌, true, List, [], ◌∷◌, ◌++◌, map, take, drop, Option, Some, None, is_some}
+use Rattle.std.specs.Prelude.{◌≡◌, ℕ, zero, suc, true, List, [], ◌∷◌, ◌++◌, map, take, drop, Option, Some, None, is_some}
 use Rattle.std.specs.List.{list_all}
 use Rattle.std.specs.Option.{option_map}
-use Rattle.std.specs.List.{take-map, drop-map}
+use Rattle.std.specs.List.{drop-map}
 use Rattle.std.proofs.Common.{true≢false}
-use mathlib.Core.Path.{refl, sym, ap, subst, ◌∙◌}
-use mathlib.Core.Bool.{Bool-set}
-use mathlib.Core.HLevel.{×_prop}
+use mathlib.Core.Path.{refl, sym, ap}
 use mathlib.Core.Former.{Former, one_more, this, const, pair, list, via, children}
-use native.Mathlib.Bridge.{le_prop}
 use lib.ListN.{length-map}
-use base.Stored.{Gv, gcons, code_map}
+use base.Stored.{code_map}
 use denote.RattleType.{RattleType}
 use denote.HoleLaws.{Alike}
 use denote.HolePlaces.{Recodes, struct_places, laid}

@@ -1,14 +1,11 @@
 -- `BoxedSlice` as a type that may hold the type that holds it: its items are what it holds.
-use Rattle.std.specs.Prelude.{◌≡◌, ℕ, zero, suc, ◌+◌, ◌≤◌, true, List, [], ◌∷◌, map, length, take, drop, Option, Some, None, is_some, is_none}
-use Rattle.std.specs.List.{list_all, take-map, drop-map}
+use Rattle.std.specs.Prelude.{◌≡◌, ℕ, List, [], map, length, Option}
 use Rattle.std.specs.Option.{option_map}
 use Rattle.std.proofs.Common.{arith}
-use mathlib.Core.Path.{refl, sym, ap, subst, ◌∙◌}
+use mathlib.Core.Path.{refl, sym, ◌∙◌}
 use mathlib.Core.Bool.{Bool-set}
-use mathlib.Core.HLevel.{×_prop}
-use mathlib.Core.Former.{Former, none_left, one_more, this, const, pair, list, via, children}
+use mathlib.Core.Former.{Former, this, const, pair, list, via, children}
 use native.Mathlib.Nat.{ℕ_set}
-use native.Mathlib.Bridge.{le_prop}
 use lib.ListN.{length-map}
 use base.Stored.{code_map}
 use denote.RattleType.{RattleType}
@@ -21,7 +18,7 @@ use denote.Model.Placed as placed
 use Rattle.std.specs.declared.alloc.Allocator.{Ghosts}
 use Rattle.aa_raw.specs.Held.{slots, pair_recoded}
 use Rattle.aa_raw.specs.Mapped.{others_over, run_over, IsRun-over, IsRun-under, IsRun-once, run_held}
-use Rattle.aa_raw.specs.Places.{run, somes, IsRun}
+use Rattle.aa_raw.specs.Places.{run}
 use Rattle.aa_raw.specs.declared.raw_vec.Growth.{Growth}
 use Rattle.aa_raw.specs.declared.raw_vec.Growth.TheVariants.{Doubling}
 use Rattle.aa_raw.specs.formers.raw_vec.RawVec as raw

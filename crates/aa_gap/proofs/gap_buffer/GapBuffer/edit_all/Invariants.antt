@@ -1,10 +1,11 @@
-use Rattle.aa_gap.specs.Editing.{Edits, Costs}
+use Rattle.std.specs.Prelude.{◌≡◌}
+use Rattle.std.specs.Mem.{type_size}
+use Rattle.aa_gap.specs.Editing.{with_edits}
 use Rattle.aa_gap.proofs.gap_buffer.GapBuffer.edit_all.Given as goal
 
 abbrev pub invariant-loop-edit : goal.invariant-loop-edit
 invariant-loop-edit g l = record {
   can : (goal.iterator-loop-edit g).can_next l.edits;
   finite : (goal.iterator-loop-edit g).is_finite l.edits;
-  done : Edits l.fn.self l.yielded l.self;
-  costs : Costs l.fn.self l.yielded l.self;
+  done : l.self ≡ with_edits (type_size g.row.T) l.fn.self l.yielded;
 }

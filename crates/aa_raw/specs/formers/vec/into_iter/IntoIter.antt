@@ -1,5 +1,5 @@
 -- `IntoIter` as a type that may hold the type that holds it: the items that are left are what it holds.
-use Rattle.std.specs.Prelude.{◌≡◌, ℕ, ◌+◌, ◌-◌, [], List}
+use Rattle.std.specs.Prelude.{◌≡◌, ℕ, ◌-◌, [], List}
 use Rattle.std.proofs.Common.{arith}
 use mathlib.Core.Path.{refl, sym, ◌∙◌}
 use mathlib.Core.Bool.{Bool-set}

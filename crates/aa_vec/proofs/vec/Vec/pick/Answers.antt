@@ -1,7 +1,7 @@
-use Rattle.std.proofs.Common.{ℕ, ◌-◌, false, Option, sym, ◌∙◌, subst, arith}
+use Rattle.std.proofs.Common.{ℕ, ◌-◌, Option, sym, ◌∙◌, subst, arith}
 use Rattle.std.specs.Fn.{CalledAtMut}
 use Rattle.aa_vec.specs.Behind.{SetsBack}
-use Rattle.aa_vec.specs.Until.{StaysAt, Picks}
+use Rattle.aa_vec.specs.Until.{Picks}
 use Rattle.aa_vec.specs.Vector.{len}
 use Rattle.aa_vec.proofs.Extracting.{joined_stand, next_stand, asked_few, Picks-none, Picks-taken}
 use Rattle.aa_vec.proofs.Stands.{first_stand}
@@ -10,19 +10,19 @@ use Rattle.aa_vec.proofs.vec.Vec.pick.Goals as goal
 
 pub pass_over-stay-requires-clause-stands : goal.pass_over-stay-requires-clause-stands
 pass_over-stay-requires-clause-stands g c =
-    joined_stand (StaysAt false (CalledAtMut g.F.FnMut)) c.args.f.now c.args.self.now c.args.kept c.args.front c.args.end c.requires.ordered c.requires.stands.0 c.requires.stands.1 c.close_gap.new.self c.close_gap.ensures
+    joined_stand (CalledAtMut g.F.FnMut) c.args.f.now c.args.self.now c.args.kept c.args.front c.args.end c.requires.ordered c.requires.stands.0 c.requires.stands.1 c.close_gap.new.self c.close_gap.ensures
 
 pub take_behind-requires : goal.take_behind-requires
 take_behind-requires g c =
     let now = c.pass_over-stay in
     first_stand now.new.self (c.args.front - c.args.kept) (c.args.end - c.args.front - now.result)
-    (next_stand (StaysAt false (CalledAtMut g.F.FnMut)) c.args.f.now c.args.self.now c.args.kept c.args.front c.args.end c.requires.ordered c.requires.stands.0 c.requires.stands.1 c.close_gap.new.self c.close_gap.ensures now.result now.new.f now.new.self now.ensures)
+    (next_stand (CalledAtMut g.F.FnMut) c.args.f.now c.args.self.now c.args.kept c.args.front c.args.end c.requires.ordered c.requires.stands.0 c.requires.stands.1 c.close_gap.new.self c.close_gap.ensures now.result now.new.f now.new.self now.ensures)
     1 (omega (arith, c.if-stay-count.true))
 
 pub returns : goal.returns
 returns g c =
     let old = c.args.self.now in let now = c.pass_over-stay in let last = c.if-stay-count.self in let new = c.set_back.new.self in
-    let Asks = StaysAt false (CalledAtMut g.F.FnMut) in
+    let Asks = CalledAtMut g.F.FnMut in
     let Is : (ℕ × Option g.row.T.Denot) → Type 0 = λ r. Picks Asks c.args.f.now old c.args.kept c.args.front c.args.end now.result r.0 r.1 now.new.f new in
     let set : SetsBack last (len old) new = subst (λ i. SetsBack last i new) c.len-len.ensures.count c.set_back.ensures.set_back in
     elim c.if-stay-count.branch [

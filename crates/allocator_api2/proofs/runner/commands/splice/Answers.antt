@@ -20,6 +20,6 @@ pub returns-in-Err : goal.returns-in-Err
 returns-in-Err g c = λ side.
     let s = c.splice-range.result in
     let new = c.finish_hinted.new.self.0 in
-    let refused : Takes (type_size (param 0 g.row.T)) c.args.main.now side (Splice c.args.start c.args.end c.args.items c.args.hint) (Refused c.kind.result) new side =
-    Spliced-refused _ c.args.main.now c.args.start c.args.end (search rules) (search rules) c.len.ensures.within c.args.items c.args.hint (splice_range s) c.splice-range.ensures.drains (splice_iter s) (search rules) new {fails = ¬ (g.A.Clone.is_infallible (splice_vec s).alloc)} c.kind.result (rw c.kind.ensures c.in-Err.ensures.refused) c.finish_hinted.ensures.writes side in
+    let refused : Takes (type_size (param 0 g.row.T)) c.args.main.now side (Splice c.args.start c.args.end c.args.items c.args.hint) (Refused c.in-Err.error) new side =
+    Spliced-refused _ c.args.main.now c.args.start c.args.end (search rules) (search rules) c.len.ensures.within c.args.items c.args.hint (splice_range s) c.splice-range.ensures.drains (splice_iter s) (search rules) new {fails = ¬ (g.A.Clone.is_infallible (splice_vec s).alloc)} c.in-Err.error c.in-Err.ensures.refused c.finish_hinted.ensures.writes side in
     search rules

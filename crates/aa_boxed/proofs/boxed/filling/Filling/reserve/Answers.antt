@@ -1,10 +1,10 @@
-use Rattle.std.proofs.Common.{◌≡◌, ◌+◌, ◌<◌, ◌≤◌, ◌∙◌, length, ap, subst, arith}
+use Rattle.std.proofs.Common.{ℕ, ◌+◌, ◌≤◌, ◌∙◌, length, ap, subst, arith}
 use Rattle.std.specs.Prelude.{OnOk, IfErr}
-use Rattle.aa_raw.specs.Growth.{usize_max}
-use Rattle.aa_raw.specs.Refusals.{IsRefused}
-use Rattle.aa_raw.specs.declared.collections.TryReserveErrorKind.TheVariants.{CapacityOverflow}
+use Rattle.std.specs.Mem.{type_size}
+use Rattle.aa_raw.specs.Growth.{amortized, least_of}
+use Rattle.aa_raw.specs.Room.{LacksRoom}
 use Rattle.aa_boxed.specs.Slice.{Begun}
-use Rattle.aa_boxed.proofs.Fillings.{items-kept, places-kept, room-made, room-refused, room-overflow}
+use Rattle.aa_boxed.proofs.Fillings.{items-kept, places-kept, room-made, room-refused}
 use Rattle.aa_boxed.proofs.boxed.filling.Filling.reserve.Goals as goal
 
 pub returns-clause-items : goal.returns-clause-items
@@ -26,11 +26,7 @@ returns-clause-made g c =
 pub returns-clause-refused : goal.returns-clause-refused
 returns-clause-refused g c =
     let r = c.try_reserve in
-    let P : Begun g.row.T.Denot g.row.A.Denot → Type 0 = λ w. IfErr r.result (λ e. (w.capacity < length w.items + c.args.additional) × IsRefused e (length w.items + c.args.additional)) in
-    subst P c.self.view_is (room-refused c.self.inside c.self.invariant c.args.additional r.new.self r.result r.ensures.refused)
-
-pub returns-clause-overflow : goal.returns-clause-overflow
-returns-clause-overflow g c =
-    let r = c.try_reserve in
-    let P : Begun g.row.T.Denot g.row.A.Denot → Type 0 = λ w. IfErr r.result (λ e. usize_max < length w.items + c.args.additional → e ≡ CapacityOverflow) in
-    subst P c.self.view_is (room-overflow c.self.inside c.self.invariant c.args.additional r.new.self r.result r.ensures.refused)
+    let P : Begun g.row.T.Denot g.row.A.Denot → Type 0 = λ w. IfErr r.result (LacksRoom w.capacity (length w.items) c.args.additional (amortized w.growth w.capacity (length w.items + c.args.additional) (least_of (type_size g.row.T)))) in
+    let b = c.self.inside.block in
+    let wanted : ℕ → ℕ = λ n. amortized b.growth (length b.places) n (least_of (type_size g.row.T)) in
+    subst P c.self.view_is (room-refused c.self.inside c.self.invariant c.args.additional wanted r.new.self r.result r.ensures.refused)

@@ -1,0 +1,12 @@
+use Rattle.std.specs.Prelude.{◌≤◌}
+use Rattle.std.specs.String.{string_bytes, string_capacity}
+use Rattle.aa_boxed.proofs.Texts.{Joining}
+use Rattle.aa_boxed.proofs.boxed.text.append_texts_by.Given as goal
+
+abbrev pub invariant-loop-next : goal.invariant-loop-next
+invariant-loop-next g l = record {
+  can : (goal.iterator-loop-next g).can_next l.iter;
+  finite : (goal.iterator-loop-next g).is_finite l.iter;
+  joining : Joining g.I.Iterator.next_gives l.fn.iter (string_bytes l.fn.text) l.iter (string_bytes l.text);
+  rises : string_capacity l.fn.text ≤ string_capacity l.text;
+}

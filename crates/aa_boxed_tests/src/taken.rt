@@ -1,0 +1,114 @@
+//! How many items are taken of an iterator where memory is refused.
+use aa_boxed::boxed::{BoxedSlice, BoxedText, append_texts, append_texts_by};
+use aa_faulty::Faulty;
+use aa_raw::collections::{TryReserveError, TryReserveErrorKind};
+use std::alloc::Global;
+use std::cell::Cell;
+use std::string::String;
+use std::test::Fail;
+
+// An iterator whose calls of `next` are counted, and that tells nothing of how many items are to come.
+#[derive(Drop)]
+struct Asked<'a, I> {
+    iter: I,
+    calls: &'a Cell<u32>,
+}
+
+impl<I: Iterator> Iterator for Asked<'_, I> {
+    type Item = I::Item;
+
+    ghost can_next = { λ s. I.can_next s.iter };
+
+    ghost next_gives = { λ s r t. I.next_gives s.iter r t.iter };
+
+    ghost remaining = { λ s. I.remaining s.iter };
+
+    fn next(&mut self) -> Option<I::Item> {
+        self.calls.set(self.calls.get().saturating_add(1));
+        self.iter.next()
+    }
+}
+
+// Nine numbers of which nothing is told find no place at the first, the fifth and the ninth; at the end the room behind them is
+// given back. The number of the request that is refused, of the items that were taken, and of the places that were asked for.
+const REFUSED: [(u64, u32, usize); 4] = [(0, 1, 4), (1, 5, 8), (2, 9, 16), (3, 10, 9)];
+
+#[test]
+fn a_refused_slice_takes_no_further_item(rt: HostRuntime) {
+    let heap = Faulty::new(rt.alloc());
+    for (refused, taken, capacity) in REFUSED {
+        let calls = Cell::new(0);
+        let iter = Asked {
+            iter: 0..9u32,
+            calls: &calls,
+        };
+        heap.refuse(refused, 1);
+        let error = BoxedSlice::from_iter_in(iter, &heap).err();
+        assert!(rt; error == Some(TryReserveErrorKind::AllocError { capacity }.into()));
+        assert!(rt; calls.get() == taken);
+    }
+}
+
+#[test]
+fn a_refused_slice_leaves_the_other_items(rt: HostRuntime) {
+    let heap = Faulty::new(rt.alloc());
+    for (refused, taken, capacity) in REFUSED {
+        let calls = Cell::new(0);
+        let mut iter = Asked {
+            iter: 0..9u32,
+            calls: &calls,
+        };
+        heap.refuse(refused, 1);
+        let error = BoxedSlice::from_iter_in_by(&mut iter, &heap).err();
+        assert!(rt; error == Some(TryReserveErrorKind::AllocError { capacity }.into()));
+        assert!(rt; (calls.get(), iter.iter.start) == (taken, taken.min(9)));
+    }
+}
+
+#[test]
+fn a_refused_slice_tells_the_hint_with_the_item(rt: HostRuntime) {
+    let heap = Faulty::new(rt.alloc());
+    heap.refuse(0, 1);
+    let mut iter = 0..9u32;
+    let error = BoxedSlice::from_iter_in_by(&mut iter, &heap).err();
+    assert!(rt; error == Some(TryReserveErrorKind::AllocError { capacity: 9 }.into()));
+    assert!(rt; iter.start == 1);
+}
+
+// Three texts, of which the first fits where the second does not.
+fn texts(alloc: Global) -> Result<[BoxedText; 3], TryReserveError> {
+    Ok([
+        BoxedText::from_text(alloc, "b")?,
+        BoxedText::from_text(alloc, "ccc")?,
+        BoxedText::from_text(alloc, "d")?,
+    ])
+}
+
+#[test]
+fn refused_texts_take_no_further_one(rt: HostRuntime) -> Result<(), Fail> {
+    let heap = Faulty::new(rt.alloc());
+    let mut all: String<&Faulty<Global>> = String::with_capacity(&heap, 2)?;
+    all.push_str("a")?;
+    let calls = Cell::new(0);
+    let iter = Asked {
+        iter: texts(rt.alloc())?.into_iter(),
+        calls: &calls,
+    };
+    heap.refuse(0, 1);
+    assert!(rt; append_texts(&mut all, iter).is_err());
+    assert!(rt; (all.as_str(), calls.get()) == ("ab", 2));
+    Ok(())
+}
+
+#[test]
+fn refused_texts_leave_the_others(rt: HostRuntime) -> Result<(), Fail> {
+    let heap = Faulty::new(rt.alloc());
+    let mut all: String<&Faulty<Global>> = String::with_capacity(&heap, 2)?;
+    all.push_str("a")?;
+    let mut iter = texts(rt.alloc())?.into_iter();
+    heap.refuse(0, 1);
+    assert!(rt; append_texts_by(&mut all, &mut iter).is_err());
+    append_texts_by(&mut all, &mut iter)?;
+    assert!(rt; all.as_str() == "abd");
+    Ok(())
+}
