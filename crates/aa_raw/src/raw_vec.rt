@@ -296,6 +296,24 @@ impl<T, A: Allocator> RawVec<T, A> {
         }
     }
 
+    /// Moves the `count` values from place `from` on down to the places from `to` on, as `move_run` does, with far less work where
+    /// they are few.
+    #[inline(always)]
+    pub fn move_down(&mut self, from: usize, to: usize, count: usize)
+        requires { IsRun self.old.places from count × (to ≤ from) }
+        ensures { self.new ≡ wrote self.old (moved self.old.places from to count) (if from == to then 0 else count) }
+    {
+        if from == to {
+            return;
+        }
+        let _capacity = self.capacity;
+        self.row.lower_run(from, to, count);
+        self.written.add(count);
+        if count != 0 {
+            self.runs.add(1);
+        }
+    }
+
     /// Moves the `count` values from place `from` on of the block `other` to the places from `to` on of this one. Values that
     /// stood there are forgotten.
     #[inline]

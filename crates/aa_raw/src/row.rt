@@ -131,6 +131,17 @@ impl<T> Row<T> {
         }
     }
 
+    /// The same, to places that begin before them. A few values are moved in line.
+    #[inline(always)]
+    #[tactic(auto, using(crate::proofs::Places::cut_moves))]
+    pub(crate) fn lower_run(&mut self, from: usize, to: usize, count: usize)
+        requires { IsRun self.old.places from count × (to < from) × (length self.old.places < 2 ^ 64) }
+        ensures { (self.new.ptr ≡ self.old.ptr) × (self.new.places ≡ moved self.old.places from to count) }
+    {
+        let run = self.cut(to);
+        self.join(lower_any(run, from - to, count));
+    }
+
     /// Moves the `count` values from `from` on of `other` to the places from `to` on.
     #[inline]
     pub(crate) fn take_run(&mut self, to: usize, other: &mut Row<T>, from: usize, count: usize)
@@ -175,6 +186,9 @@ impl<T> Row<T> {
 // constant, it makes one copy of memory of the loop, before it puts the function in line. So the places that move are cut off
 // as a row, and a move by one place has a function of its own; elements of several words need both that one and its caller.
 
+// How many values are worth a call.
+const FEW: usize = 8;
+
 // Moves the first `count` values up by `by` places.
 fn raise<T>(row: Row<T>, by: usize, count: usize) -> Row<T>
     requires { (0 < by) × IsRun row.places 0 count × (by + count ≤ length row.places) × (length row.places < 2 ^ 64) }
@@ -193,6 +207,28 @@ fn raise_by_one<T>(row: Row<T>, count: usize) -> Row<T>
     ensures { (result.ptr ≡ row.ptr) × (result.places ≡ moved row.places 0 1 count) }
 {
     move_up(row, 1, count)
+}
+
+// `lower`, in line where the values are few.
+#[inline(always)]
+fn lower_any<T>(row: Row<T>, by: usize, count: usize) -> Row<T>
+    requires { (0 < by) × IsRun row.places by count × (length row.places < 2 ^ 64) }
+    ensures { (result.ptr ≡ row.ptr) × (result.places ≡ moved row.places by 0 count) }
+{
+    if FEW <= count {
+        lower_many(row, by, count)
+    } else {
+        move_down(row, by, count)
+    }
+}
+
+// `lower`, out of line.
+#[inline(never)]
+fn lower_many<T>(row: Row<T>, by: usize, count: usize) -> Row<T>
+    requires { (0 < by) × IsRun row.places by count × (length row.places < 2 ^ 64) }
+    ensures { (result.ptr ≡ row.ptr) × (result.places ≡ moved row.places by 0 count) }
+{
+    lower(row, by, count)
 }
 
 // Moves the `count` values from place `by` on down to the first place.

@@ -41,6 +41,16 @@ fn moves_there_and_back(block: &mut RawVec<u32, Global>, _a: u32, _b: u32, _c: u
     block.move_run(2, 0, 3);
 }
 
+// The values of a block `_ _ a b c` are moved down by one place.
+fn moves_down(block: &mut RawVec<u32, Global>, _a: u32, _b: u32, _c: u32)
+    requires { block.old.places ≡ None ∷ None ∷ Some _a ∷ Some _b ∷ Some _c ∷ [] }
+    ensures places { block.new.places ≡ None ∷ Some _a ∷ Some _b ∷ Some _c ∷ None ∷ [] }
+    ensures written { block.new.written ≡ block.old.written + 3 }
+    ensures runs { block.new.runs ≡ block.old.runs + 1 }
+{
+    block.move_down(2, 1, 3);
+}
+
 // A closure that is lent the places 0 and 2 writes to the first of them.
 fn writes_through(block: &mut RawVec<u32, Global>, _a: u32, _b: u32, _c: u32)
     requires { block.old.places ≡ Some _a ∷ Some _b ∷ Some _c ∷ None ∷ None ∷ [] }
@@ -64,6 +74,25 @@ fn values_move_within_a_block(rt: HostRuntime) -> Result<(), Fail> {
     assert!(rt; *block.place(1) == 10);
     block.move_one(3, 0);
     assert!(rt; block.slice(0, 3) == [12, 10, 11].as_slice());
+    Ok(())
+}
+
+#[test]
+fn short_runs_move_down(rt: HostRuntime) -> Result<(), Fail> {
+    let mut block = row(rt.alloc(), 10, 11, 12)?;
+    moves_up(&mut block, 10, 11, 12);
+    moves_down(&mut block, 10, 11, 12);
+    block.move_down(1, 1, 3);
+    assert!(rt; block.slice(1, 3) == [10, 11, 12].as_slice());
+    Ok(())
+}
+
+#[test]
+fn long_runs_move_down(rt: HostRuntime) -> Result<(), Fail> {
+    let mut block: RawVec<u16, Global> = RawVec::with_capacity_in(12, rt.alloc())?;
+    block.put_array(2, [0, 1, 2, 3, 4, 5, 6, 7, 8, 9]);
+    block.move_down(2, 1, 10);
+    assert!(rt; block.slice(1, 10) == [0, 1, 2, 3, 4, 5, 6, 7, 8, 9].as_slice());
     Ok(())
 }
 

@@ -31,7 +31,7 @@ impl<T, A: Allocator> Vec<T, A> {
         // It does nothing but tell the prover that places are at most `usize::MAX`.
         let _within = self.block.capacity();
         self.len = len + count;
-        self.block.move_run(len + gap, len, count);
+        self.block.move_down(len + gap, len, count);
     }
 
     // The same with one element over a gap of some places, which is far less work than a run.

@@ -5,4 +5,4 @@ pub invariant_of-self : goal.invariant_of-self
 invariant_of-self g c =
     let v = c.self.inside in
     let stands = seen v c.args.self.now c.self.view_is c.args.gap c.args.count c.requires in
-    rw c.move_run.ensures (IsRun-closed v.block.places v.len c.args.gap c.args.count stands.1 (within v c.self.invariant c.args.gap c.args.count stands) c.self.invariant)
+    rw c.move_down.ensures (IsRun-closed v.block.places v.len c.args.gap c.args.count stands.1 (within v c.self.invariant c.args.gap c.args.count stands) c.self.invariant)
