@@ -1,18 +1,19 @@
 -- A block that is being filled.
-use Rattle.std.proofs.Common.{◌≡◌, ◌≢◌, ℕ, ◌+◌, ◌<◌, ◌≤◌, List, [], ◌∷◌, ◌++◌, Option, None, Some, length, take, refl, sym, ap, ◌∙◌, arith, inl, inr, ◌⊎◌, ◌-◌, replicate, eq-eqb, length-append}
+use Rattle.std.proofs.Common.{◌≡◌, ◌≢◌, ℕ, ◌+◌, ◌<◌, ◌≤◌, List, [], ◌∷◌, ◌++◌, Option, None, Some, length, map, take, refl, sym, ap, ◌∙◌, arith, inl, inr, ◌⊎◌, ◌-◌, replicate, eq-eqb, length-append}
 use Rattle.std.specs.Prelude.{slice_set, Result, Ok, Err, OnOk, IfErr, if◌then◌else◌, ◌==◌}
-use Rattle.std.proofs.lemmas.List.{length-set, length-replicate, take_at, length-take-le}
+use Rattle.std.proofs.lemmas.List.{length-map, length-set, length-replicate, take_at, length-take-le}
 use Rattle.std.proofs.lemmas.Bool.{cases_lt}
 use Rattle.std.proofs.lemmas.Bool.Decides.{eqb_tells}
 use Rattle.aa_raw.specs.Block.{Block, Reserves, wrote, fresh, shrunk_to}
-use Rattle.aa_raw.specs.Places.{run}
+use Rattle.aa_raw.specs.Places.{run, with_run}
 use Rattle.aa_raw.specs.Growth.{usize_max, sized}
 use Rattle.aa_raw.specs.Room.{LacksRoom}
 use Rattle.aa_raw.specs.declared.collections.TryReserveError.{TryReserveError}
 use Rattle.aa_raw.specs.declared.raw_vec.Growth.{Growth}
-use Rattle.aa_raw.proofs.Places.{length-empty_places}
+use Rattle.aa_raw.proofs.Calls.{run-put_all}
+use Rattle.aa_raw.proofs.Places.{length-empty_places, length-with_run}
 use Rattle.aa_raw.proofs.Runs.{run-below, run-push, run-zero, length-run}
-use Rattle.aa_boxed.specs.Slice.{with_next, slice_of}
+use Rattle.aa_boxed.specs.Slice.{with_all, with_next, slice_of}
 use Rattle.aa_boxed.specs.SliceInner.{begun_of, IsFront}
 use Rattle.aa_boxed.specs.declared.boxed.filling.Filling.TheInside.{Inside}
 
@@ -35,6 +36,15 @@ module _ {T A : Type 0} (v : Inside T A) (front : IsFront v) where
       let cs = v.block.places in
       let items : run (slice_set cs v.len (Some x)) 0 (v.len + 1) ≡ run cs 0 v.len ++ x ∷ [] = run-push cs 0 v.len x v.len (v.len + 1) (omega arith) refl room in
       let long : length (slice_set cs v.len (Some x)) ≡ length cs = length-set cs v.len (Some x) in
+      λ i. record { items = items i; capacity = long i; growth = v.block.growth; alloc = v.block.alloc }
+
+  -- and more of them, all at once
+  pub begun-put_all : (xs : List T) → v.len + length xs ≤ length v.block.places
+      → begun_of (record { block = wrote v.block (with_run v.block.places v.len (length xs) (map Some xs)) (length xs); len = v.len + length xs }) ≡ with_all (begun_of v) xs
+  begun-put_all xs room =
+      let cs = v.block.places in
+      let items : run (with_run cs v.len (length xs) (map Some xs)) 0 (v.len + length xs) ≡ run cs 0 v.len ++ xs = run-put_all cs v.len (length xs) xs room refl in
+      let long : length (with_run cs v.len (length xs) (map Some xs)) ≡ length cs = length-with_run cs v.len (length xs) (map Some xs) room (length-map xs (λ (x : T). Some x)) in
       λ i. record { items = items i; capacity = long i; growth = v.block.growth; alloc = v.block.alloc }
 
   module _ (size k wanted : ℕ) (b : Block T A) where

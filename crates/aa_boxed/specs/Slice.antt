@@ -37,6 +37,10 @@ module _ {T A : Type 0} where
   abbrev pub with_next : Begun T A → T → Begun T A
   with_next b x = record { items = b.items ++ x ∷ []; capacity = b.capacity; growth = b.growth; alloc = b.alloc }
 
+  -- more items behind the others
+  abbrev pub with_all : Begun T A → List T → Begun T A
+  with_all b xs = record { items = b.items ++ xs; capacity = b.capacity; growth = b.growth; alloc = b.alloc }
+
 -- `after` is what is left of the iterator, and Tells says what it may tell of how many items are to come
 module _ {S T : Type 0} (steps : S → Option T → S → Type 0) (Tells : S → ℕ → Type 0) (size : ℕ) (iter : S) (error : TryReserveError)
     (after : S) where

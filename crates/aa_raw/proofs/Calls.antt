@@ -3,7 +3,7 @@
 --     at_ends     put, take, place, place_mut at the first places or the last, and the tests of numbers beside them
 --     with_room     the constructors, the reserves and the shrinks
 --     shown     slice, slice_mut, and what a loan wrote back
---     in_runs     move_one, move_run, move_down, transfer, drop_run, put_array, take_array
+--     in_runs     move_one, move_run, move_down, transfer, drop_run, put_array, take_array, put_copies
 use Rattle.std.proofs.Common.{◌≡◌, ℕ, suc, ◌+◌, ◌-◌, ◌<◌, ◌≤◌, List, [], ◌∷◌, ◌++◌, length, map, take, drop, get_or, replicate, Option, Some, None, refl, sym, ap, ◌∙◌, subst, arith, zero-add, length-append, length-take, length-drop, length-set}
 use Rattle.std.specs.Prelude.{slice_set, slice_get}
 use Rattle.std.specs.List.{length_refill}

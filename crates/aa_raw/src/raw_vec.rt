@@ -343,6 +343,22 @@ impl<T, A: Allocator> RawVec<T, A> {
         }
     }
 
+    /// Puts copies of all of `source` into the places from `at` on, each as by `put`: with one copy of memory.
+    #[inline(always)]
+    pub fn put_copies(&mut self, at: usize, source: &[T])
+    where
+        T: Copy,
+        requires { at + length source.now ≤ length self.old.places }
+        ensures { self.new ≡ wrote self.old (with_run self.old.places at (length source.now) (map Some source.now)) (length source.now) }
+    {
+        let count = source.len();
+        self.row.write_copies(at, source);
+        self.written.add(count);
+        if count != 0 {
+            self.runs.add(1);
+        }
+    }
+
     /// Moves the values out of the first `N` places, which are empty afterwards.
     #[inline]
     pub fn take_array<const N: usize>(&mut self) -> [T; N]

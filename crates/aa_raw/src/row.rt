@@ -1,12 +1,14 @@
 //! The raw layer: a row of places in memory, and the right to give that memory back.
 ghost use Rattle.std.specs.Prelude.{◌≡◌, ℕ, ◌+◌, ◌*◌, ◌^◌, ◌<◌, ◌≤◌, List, ◌++◌, Option, Some, None, map, length, take, drop, replicate, get_or, slice_set, IfOk};
 ghost use Rattle.core.specs.Ptr.{ptr_add};
+ghost use Rattle.core.specs.Mem.Slots.{slots_items, slots_len, slots_ptr, IsFull};
 ghost use Rattle.std.specs.Mem.{type_size};
 ghost use Rattle.std.specs.Borrow.{sem};
 ghost use denote.RawPtr.{Ptr};
 ghost use Rattle.aa_raw.specs.Places.{IsRun, IsFilled, IsCapacity, moved, with_run};
 ghost use Rattle.aa_raw.specs.Holding.{row_owns, row_lends, claim_owns, roomy};
 
+use core::slots::Slots;
 use std::alloc::{AllocError, Allocator};
 use std::marker::{Model, PhantomData};
 use std::mem::{align_of, size_of};
@@ -97,6 +99,22 @@ impl<T> Row<T> {
         ensures { (self.new.ptr ≡ self.old.ptr) × (self.new.places ≡ with_run self.old.places index N (map Some items)) }
     {
         unsafe { self.ptr.add(index).cast::<[T; N]>().write(items) }
+    }
+
+    /// Puts copies of all of `source` into the places from `index` on. Values that stood there are forgotten.
+    #[inline(always)]
+    #[tactic(auto, using(crate::proofs::Places::put_runs))]
+    pub(crate) fn write_copies(&mut self, index: usize, source: &[T])
+    where
+        T: Copy,
+        requires { index + length source.now ≤ length self.old.places }
+        ensures { (self.new.ptr ≡ self.old.ptr) × (self.new.places ≡ with_run self.old.places index (length source.now) (map Some source.now)) }
+    {
+        let mut row = self.cut(index);
+        let behind = row.cut(source.len());
+        let mut row = copied(row, source);
+        row.join(behind);
+        self.join(row);
     }
 
     /// Moves the first `N` values out.
@@ -300,6 +318,38 @@ fn move_across<T>(
         row.write(to + i, item);
     }
     (row, source)
+}
+
+// Puts copies of all of `source` into as many places. The toolchain's `Slots` does it by one copy of memory.
+#[inline(always)]
+fn copied<T: Copy>(row: Row<T>, source: &[T]) -> Row<T>
+    requires { length row.places ≡ length source.now }
+    ensures { (result.ptr ≡ row.ptr) × (result.places ≡ map Some source.now) }
+{
+    let mut slots = emptied(row, source);
+    slots.copy_in(0, source);
+    filled(slots)
+}
+
+// The places of a row as slots, which copy from a loan. What stood there is forgotten. A slot has a value even while it is empty:
+// here one of `like`.
+#[inline(always)]
+fn emptied<T>(row: Row<T>, like: &[T]) -> Slots<T>
+    requires { length row.places ≡ length like.now }
+    ensures { (slots_ptr result ≡ row.ptr) × (slots_len result ≡ length like.now) × (slots_items result ≡ like.now) }
+{
+    let Row { ptr } = row;
+    unsafe { Slots::from_raw_parts(ptr, like.len()) }
+}
+
+// Slots that all hold their values, as places.
+#[inline(always)]
+fn filled<T>(slots: Slots<T>) -> Row<T>
+    requires { IsFull slots }
+    ensures { (result.ptr ≡ slots_ptr slots) × (result.places ≡ map Some (slots_items slots)) }
+{
+    let parts = unsafe { slots.into_raw_parts() };
+    Row { ptr: parts.0 }
 }
 
 /// Places that take no bytes, with no call to an allocator.

@@ -119,6 +119,18 @@ fn arrays_go_in_and_out(rt: HostRuntime) -> Result<(), Fail> {
 }
 
 #[test]
+fn copies_are_put(rt: HostRuntime) -> Result<(), Fail> {
+    let mut block: RawVec<u16, Global> = RawVec::with_capacity_in(12, rt.alloc())?;
+    block.put_copies(0, &[7, 8]);
+    block.put_copies(2, &[0, 1, 2, 3, 4, 5, 6, 7, 8, 9]);
+    block.put_copies(1, &[5, 6]);
+    block.put_copies(12, &[]);
+    assert!(rt; block.slice(0, 4) == [7, 5, 6, 1].as_slice());
+    assert!(rt; *block.place(11) == 9);
+    Ok(())
+}
+
+#[test]
 fn two_places_are_lent_at_once(rt: HostRuntime) -> Result<(), Fail> {
     let mut block = row(rt.alloc(), 10, 11, 12)?;
     let mut sum = |x: &mut u32, y: &mut u32| {

@@ -7,7 +7,7 @@ ghost use Rattle.aa_raw.specs.Block.{fresh};
 ghost use Rattle.aa_raw.specs.Growth.{amortized, least_of, sized, usize_max};
 ghost use Rattle.aa_raw.specs.Refusals.{IsRefusedAt};
 ghost use Rattle.aa_raw.specs.Room.{LacksRoom};
-ghost use Rattle.aa_boxed.specs.Slice.{with_next, ended};
+ghost use Rattle.aa_boxed.specs.Slice.{with_all, with_next, ended};
 
 use crate::boxed::slice::BoxedSlice;
 use aa_raw::collections::{TryReserveError, TryReserveErrorKind};
@@ -102,6 +102,20 @@ impl<T, A: Allocator> Filling<T, A> {
             Ok(()) => Ok(filling.whole()),
             Err(error) => Err(error),
         }
+    }
+
+    // Puts copies of all of `source` behind the items.
+    pub(crate) fn put_copies(&mut self, source: &[T])
+    where
+        T: Copy,
+        requires { length self.old.items + length source.now ≤ self.old.capacity }
+        ensures { self.new ≡ with_all self.old source.now }
+    {
+        let len = self.len;
+        // It does nothing but tell the prover that places are at most `usize::MAX`.
+        let _within = self.block.capacity();
+        self.block.put_copies(len, source);
+        self.len = len + source.len();
     }
 
     // Puts a clone of each element of `source` where there are no items yet, up to the first clone that is refused, and says

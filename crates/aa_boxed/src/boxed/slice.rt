@@ -70,9 +70,7 @@ impl<T, A: Allocator> BoxedSlice<T, A> {
     {
         let count = source.len();
         let mut filling = Filling::with_room(Growth::Doubling, count, alloc)?;
-        'each: for i in 0..count {
-            filling.put(source[i]);
-        }
+        filling.put_copies(source);
         Ok(filling.whole())
     }
 

@@ -86,12 +86,18 @@ impl<T: Copy, A: Allocator> Vec<T, A> {
     }
 
     // Puts copies of all of `source` behind the last element of a vector that has room for them.
+    #[inline]
+    #[tactic(auto, using(aa_raw::proofs::Calls::in_runs))]
     fn put_copies(&mut self, source: &[T])
         requires room { HasRoom self.old (length source.now) }
         ensures items { Holds self.old (self.old.items ++ source.now) self.new }
         ensures writes { WritesAtMost self.old (length source.now) self.new }
     {
-        replace_with(self, source, with_copies)
+        let len = self.len;
+        // It does nothing but tell the prover that places are at most `usize::MAX`.
+        let _within = self.block.capacity();
+        self.block.put_copies(len, source);
+        self.len = len + source.len();
     }
 
     // Puts copies of `count` of its own elements, from the index `from` on, behind the last one of a vector that has room for them.
@@ -105,22 +111,8 @@ impl<T: Copy, A: Allocator> Vec<T, A> {
     }
 }
 
-// The loops own the vector that they fill: nothing that is stored in its places can then change its fields, which stay in
-// registers, and each compiles to copies of many elements at once.
-
-// `put_copies`.
-fn with_copies<T: Copy, A: Allocator>(mut list: Vec<T, A>, source: &[T]) -> (Vec<T, A>, ())
-    requires room { HasRoom list (length source.now) }
-    ensures items { Holds list (list.items ++ source.now) result.0 }
-    ensures writes { WritesAtMost list (length source.now) result.0 }
-{
-    let _within = list.capacity();
-    let count = source.len();
-    'each: for at in 0..count {
-        list.put_next(source[at]);
-    }
-    (list, ())
-}
+// The loop owns the vector that it fills: nothing that is stored in its places can then change its fields, which stay in
+// registers, and it compiles to copies of many elements at once.
 
 // `put_own_copies`, from the first number on, and as many as the second says.
 fn with_own_copies<T: Copy, A: Allocator>(
