@@ -87,7 +87,7 @@ fn is_so(alloc: Global, (items, room, call, given, left, capacity): Row<'_>) -> 
     Ok(called(call, &mut v)? == given && stands(&v, left, capacity))
 }
 
-const EDITS: [Row<'_>; 13] = [
+const EDITS: [Row<'_>; 14] = [
     (&[1, 9, 3, 4, 5], 8, Call::Pop, Some(5), &[1, 9, 3, 4], 8),
     (&[], 7, Call::Pop, None, &[], 7),
     (&[1, 2, 3], 4, Call::Insert(1, 9), None, &[1, 9, 2, 3], 4),
@@ -109,6 +109,14 @@ const EDITS: [Row<'_>; 13] = [
         4,
     ),
     (&[1, 2, 3], 4, Call::SwapRemove(0), Some(1), &[3, 2], 4),
+    (
+        &[1, 2, 3, 4],
+        4,
+        Call::SwapRemove(1),
+        Some(2),
+        &[1, 4, 3],
+        4,
+    ),
     (&[3, 2], 4, Call::SwapRemove(1), Some(2), &[3], 4),
     (&[1, 2, 3], 4, Call::Truncate(5), None, &[1, 2, 3], 4),
     (&[1, 2, 3], 4, Call::Truncate(1), None, &[1], 4),

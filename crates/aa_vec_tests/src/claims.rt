@@ -104,3 +104,16 @@ fn middle_kept<A: Allocator>(v: &mut Vec<u32, A>) -> (Option<u32>, Option<u32>)
     range.keep_rest();
     (first, last)
 }
+
+// Of the second to the fifth of six the even ones are taken out: three are written.
+fn evens_taken<A: Allocator>(v: &mut Vec<u32, A>) -> (Option<u32>, Option<u32>)
+    requires { v.old.items ≡ 1 ∷ 2 ∷ 3 ∷ 4 ∷ 5 ∷ 6 ∷ [] }
+    ensures taken { result ≡ (Some 2, Some 4) }
+    ensures left { Holds v.old (1 ∷ 3 ∷ 5 ∷ 6 ∷ []) v.new × (v.new.written ≡ v.old.written + 3) }
+{
+    let mut is_even = |x: &mut u32| *x % 2 == 0;
+    let mut range = v.extract_by(1..5);
+    let first = range.next_by(&mut is_even);
+    let second = range.next_by(&mut is_even);
+    (first, second)
+}
