@@ -44,6 +44,16 @@ fn is_sparing(line: &[u8]) -> Option<bool>
     }
 }
 
+/// Why lines could not be run: the first of them that is no known form, or else that memory was refused.
+pub fn fault(alloc: Global, text: &[u8]) -> Fault
+    ensures { IsFoundAmong (lines text.now) result × (result ≢ Fault.InputOutput) }
+{
+    match check(alloc, text) {
+        Ok(()) => Fault::OutOfMemory,
+        Err(fault) => fault,
+    }
+}
+
 /// Looks at the lines, and keeps no command.
 ///
 /// It takes memory for the elements of one line at a time. The first line that is no known form is
