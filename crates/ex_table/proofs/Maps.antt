@@ -75,7 +75,7 @@ module _ {V : Type 0} where
     pub values : (q : ℕ) → found new q ≡ cond (q == k) o (found ss q)
 
   pub room-kept : (ss new : List (Slot V)) (k : ℕ) (o : Option V) → Changes ss new k o → room_of new ≡ room_of ss
-  room-kept ss new k o c = λ i. c.empty i - (c.size i / 8 + 1)
+  room-kept ss new k o c = λ i. c.empty i - (c.size i / 4 + 1)
 
   module _ (ss : List (Slot V)) (k i : ℕ) (sound : IsSound ss) (within : i < length ss) (at : is_key k (slot_at ss i) ≡ true) where
     gone : Changes ss (set ss i Gone) k None

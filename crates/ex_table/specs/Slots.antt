@@ -3,9 +3,9 @@ use Rattle.std.specs.Prelude.{◌≡◌, ℕ, ◌+◌, ◌-◌, ◌*◌, ◌/◌
 use Rattle.ex_table.specs.declared.slots.Slot.{Slot}
 use Rattle.ex_table.specs.declared.slots.Slot.TheVariants.{Empty, Gone, Held}
 
--- the first slot of a key, of n
+-- the first slot of a key, of n: the key times a constant, in 64 bits, is a part of 2 ^ 64, and the slot is at that part of n
 abbrev pub home_of : (n key : ℕ) → ℕ
-home_of n key = key * 11400714819323198485 % 2 ^ 64 / 2 ^ 32 % n
+home_of n key = key * 11400714819323198485 % 2 ^ 64 * n / 2 ^ 64
 
 -- j is before i on the way from h round n slots
 abbrev pub IsBefore : (h n i j : ℕ) → Type 0
@@ -55,7 +55,7 @@ module _ {V : Type 0} where
 
   -- how many new keys find a place before the slots become more
   abbrev pub room_of : List (Slot V) → ℕ
-  room_of ss = count_by is_empty ss - (length ss / 8 + 1)
+  room_of ss = count_by is_empty ss - (length ss / 4 + 1)
 
   -- a look-up goes past the slot
   abbrev pub IsPassed : ℕ → Slot V → Type 0

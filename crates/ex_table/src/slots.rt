@@ -87,7 +87,8 @@ fn home(key: u64, count: usize) -> usize
     ensures value { result ≡ home_of count key }
     ensures within { result < count }
 {
-    (key.wrapping_mul(FACTOR) >> 32) as usize % count
+    let spread = u128::from(key.wrapping_mul(FACTOR));
+    ((spread * count as u128) >> 64) as usize
 }
 
 // The first slot from `from` on, and before `to`, that is empty or has the key.
@@ -218,7 +219,7 @@ pub fn make_room<V: Drop, A: Allocator + Copy>(
     ensures kept { OnOk result (Keeps slots.old.items slots.new.items) }
     ensures refused { OnErr result (slots.new ≡ slots.old) }
 {
-    if more <= empty.saturating_sub(slots.len() / 8 + 1) {
+    if more <= empty.saturating_sub(slots.len() / 4 + 1) {
         return Ok(empty);
     }
     let Some(keys) = held.checked_add(more) else {

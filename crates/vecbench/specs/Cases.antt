@@ -1,9 +1,13 @@
 -- What the cases are called.
 use Rattle.std.specs.Prelude.{ℕ, List, codes, ◌++◌}
 use Rattle.vecbench.specs.declared.case.Case.{Case}
-use Rattle.vecbench.specs.declared.case.Case.TheVariants.{Sized, PushPop, PushReserved, PushFull, InsertFront, RemoveFront, RetainHalf, RetainMost, Dedup, ExtendFromSlice, Extend, ExtendUnhinted, Append, DrainTaken, DrainDropped, DrainFront, IntoIter, SpliceGrowing, SpliceInPlace, SpliceFront, InsertMiddle, GapInsert}
+use Rattle.vecbench.specs.declared.case.Case.TheVariants.{Sized, Chosen, Pieces as PiecesCase, PushPop, PushReserved, PushFull, InsertFront, RemoveFront, SwapRemove, ExtendFromSlice, Extend, ExtendUnhinted, ExtendThrice, Append, SplitJoin, DrainTaken, DrainDropped, DrainFront, DrainBack, IntoIter, SpliceGrowing, SpliceInPlace, SpliceFront, InsertMiddle, GapInsert}
 use Rattle.vecbench.specs.declared.case.Call.{Call}
 use Rattle.vecbench.specs.declared.case.Call.TheVariants.{Push, InsertPop, RemovePush, Clone}
+use Rattle.vecbench.specs.declared.case.Choice.{Choice}
+use Rattle.vecbench.specs.declared.case.Choice.TheVariants.{RetainHalf, RetainMost, RetainRandom, RetainNone, ExtractHalf, Dedup, DedupByKey}
+use Rattle.vecbench.specs.declared.case.Pieces.{Pieces}
+use Rattle.vecbench.specs.declared.case.Pieces.TheVariants.{OfFour, OfTwenty, Mixed, Written}
 use Rattle.vecbench.specs.declared.case.Size.{Size}
 use Rattle.vecbench.specs.declared.case.Size.TheVariants.{Four, One, TwentyFour, Zero}
 
@@ -20,23 +24,41 @@ suffix_of One = codes "_u8"
 suffix_of TwentyFour = codes "_24"
 suffix_of Zero = codes "_sizeless"
 
+abbrev pub name_of_choice : Choice → List ℕ
+name_of_choice RetainHalf = codes "retain_half"
+name_of_choice RetainMost = codes "retain_most"
+name_of_choice RetainRandom = codes "retain_random"
+name_of_choice RetainNone = codes "retain_none"
+name_of_choice ExtractHalf = codes "extract_half"
+name_of_choice Dedup = codes "dedup"
+name_of_choice DedupByKey = codes "dedup_by_key"
+
+abbrev pub name_of_pieces : Pieces → List ℕ
+name_of_pieces OfFour = codes "pieces_of_4"
+name_of_pieces OfTwenty = codes "pieces_of_20"
+name_of_pieces Mixed = codes "pieces_mixed"
+name_of_pieces Written = codes "write_pieces"
+
 abbrev pub name_of : Case → List ℕ
 name_of (Sized call size) = name_of_call call ++ suffix_of size
+name_of (Chosen choice) = name_of_choice choice
+name_of (PiecesCase pieces) = name_of_pieces pieces
 name_of PushPop = codes "push_pop"
 name_of PushReserved = codes "push_reserved"
 name_of PushFull = codes "push_full"
 name_of InsertFront = codes "insert_front"
 name_of RemoveFront = codes "remove_front"
-name_of RetainHalf = codes "retain_half"
-name_of RetainMost = codes "retain_most"
-name_of Dedup = codes "dedup"
+name_of SwapRemove = codes "swap_remove"
 name_of ExtendFromSlice = codes "extend_from_slice"
 name_of Extend = codes "extend"
 name_of ExtendUnhinted = codes "extend_unhinted"
+name_of ExtendThrice = codes "extend_thrice"
 name_of Append = codes "append"
+name_of SplitJoin = codes "split_join"
 name_of DrainTaken = codes "drain_taken"
 name_of DrainDropped = codes "drain_dropped"
 name_of DrainFront = codes "drain_front"
+name_of DrainBack = codes "drain_back"
 name_of IntoIter = codes "into_iter"
 name_of SpliceGrowing = codes "splice_growing"
 name_of SpliceInPlace = codes "splice_in_place"

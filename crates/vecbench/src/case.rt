@@ -1,6 +1,6 @@
 //! The cases, by their names.
 ghost use Rattle.std.specs.Prelude.{◌≡◌, ◌≢◌, ◌++◌, Some, IfSome, IfNone};
-ghost use Rattle.vecbench.specs.Cases.{name_of, name_of_call, suffix_of};
+ghost use Rattle.vecbench.specs.Cases.{name_of, name_of_call, suffix_of, name_of_choice, name_of_pieces};
 
 use std::fmt;
 
@@ -9,6 +9,10 @@ use std::fmt;
 pub enum Case {
     /// The call over elements of the size.
     Sized(Call, Size),
+    /// A call that chooses which elements stay.
+    Chosen(Choice),
+    /// Pieces of bytes put behind the others, COUNT of them.
+    Pieces(Pieces),
     /// Pushes a number and pops it.
     PushPop,
     /// Reserves room for numbers and pushes them.
@@ -19,26 +23,28 @@ pub enum Case {
     InsertFront,
     /// Removes the first `u64` and pushes, a hundred times.
     RemoveFront,
-    /// Keeps every other element.
-    RetainHalf,
-    /// Keeps 99 of 100 elements.
-    RetainMost,
-    /// Drops repeats, in runs of three equal elements.
-    Dedup,
+    /// Takes the middle element out, the last one in its place, until none is left.
+    SwapRemove,
     /// Extends an empty vector by a slice of bytes.
     ExtendFromSlice,
     /// Extends an empty vector by a range, which knows its length.
     Extend,
     /// Extends an empty vector by an iterator that does not tell how many items come.
     ExtendUnhinted,
+    /// Extends an empty vector of `u64` by three ranges, by a call for each.
+    ExtendThrice,
     /// Appends a vector to an empty one.
     Append,
+    /// Splits a hundred `u64` in the middle and joins them, so often that COUNT come to be joined.
+    SplitJoin,
     /// Drains the middle half of a vector twice as long, and takes each item.
     DrainTaken,
     /// Drains the middle half of a vector twice as long, and drops the drain.
     DrainDropped,
     /// Drains the first `u64` and pushes, a hundred times.
     DrainFront,
+    /// Drains ten from the middle of 1,000 `u16` into another vector and appends that, so often that COUNT come to be drained.
+    DrainBack,
     /// Takes each item out of a vector given up.
     IntoIter,
     /// Splices a hundred items at a time into the middle of a vector, empty at first.
@@ -66,6 +72,38 @@ pub enum Call {
     Clone,
 }
 
+/// What is timed of calls that choose which elements stay.
+#[derive(Clone, Copy, PartialEq, Debug, Drop)]
+pub enum Choice {
+    /// Keeps every other element.
+    RetainHalf,
+    /// Keeps 99 of 100 elements.
+    RetainMost,
+    /// Keeps about half of the elements, in no regular order.
+    RetainRandom,
+    /// Keeps no element.
+    RetainNone,
+    /// Takes every other element out.
+    ExtractHalf,
+    /// Drops repeats, in runs of three equal elements.
+    Dedup,
+    /// Drops repeats, in runs of three elements with equal keys.
+    DedupByKey,
+}
+
+/// Which pieces of bytes are put behind.
+#[derive(Clone, Copy, PartialEq, Debug, Drop)]
+pub enum Pieces {
+    /// Pieces of 4 bytes.
+    OfFour,
+    /// Pieces of 20 bytes.
+    OfTwenty,
+    /// Pieces of 1 to 24 bytes, in no regular order.
+    Mixed,
+    /// Pieces of 7 bytes, each written by `write_all`.
+    Written,
+}
+
 /// How large an element is.
 #[derive(Clone, Copy, PartialEq, Debug, Drop)]
 pub enum Size {
@@ -91,16 +129,17 @@ impl Case {
             "push_full" => Case::PushFull,
             "insert_front" => Case::InsertFront,
             "remove_front" => Case::RemoveFront,
-            "retain_half" => Case::RetainHalf,
-            "retain_most" => Case::RetainMost,
-            "dedup" => Case::Dedup,
+            "swap_remove" => Case::SwapRemove,
             "extend_from_slice" => Case::ExtendFromSlice,
             "extend" => Case::Extend,
             "extend_unhinted" => Case::ExtendUnhinted,
+            "extend_thrice" => Case::ExtendThrice,
             "append" => Case::Append,
+            "split_join" => Case::SplitJoin,
             "drain_taken" => Case::DrainTaken,
             "drain_dropped" => Case::DrainDropped,
             "drain_front" => Case::DrainFront,
+            "drain_back" => Case::DrainBack,
             "into_iter" => Case::IntoIter,
             "splice_growing" => Case::SpliceGrowing,
             "splice_in_place" => Case::SpliceInPlace,
@@ -108,6 +147,12 @@ impl Case {
             "insert_middle" => Case::InsertMiddle,
             "gap_insert" => Case::GapInsert,
             _ => {
+                if let Some(choice) = chosen(name) {
+                    return Some(Case::Chosen(choice));
+                }
+                if let Some(pieces) = pieced(name) {
+                    return Some(Case::Pieces(pieces));
+                }
                 let (call, size) = sized(name)?;
                 Case::Sized(call, size)
             }
@@ -143,27 +188,63 @@ fn sized(name: &str) -> Option<(Call, Size)>
     Some(case)
 }
 
+// The choice of this name.
+fn chosen(name: &str) -> Option<Choice>
+    ensures some { IfSome result (λ choice. name.now ≡ name_of_choice choice) }
+    ensures none { IfNone result ((choice : Choice) → name.now ≢ name_of_choice choice) }
+{
+    let choice = match name {
+        "retain_half" => Choice::RetainHalf,
+        "retain_most" => Choice::RetainMost,
+        "retain_random" => Choice::RetainRandom,
+        "retain_none" => Choice::RetainNone,
+        "extract_half" => Choice::ExtractHalf,
+        "dedup" => Choice::Dedup,
+        "dedup_by_key" => Choice::DedupByKey,
+        _ => return None,
+    };
+    Some(choice)
+}
+
+// The pieces of this name.
+fn pieced(name: &str) -> Option<Pieces>
+    ensures some { IfSome result (λ pieces. name.now ≡ name_of_pieces pieces) }
+    ensures none { IfNone result ((pieces : Pieces) → name.now ≢ name_of_pieces pieces) }
+{
+    let pieces = match name {
+        "pieces_of_4" => Pieces::OfFour,
+        "pieces_of_20" => Pieces::OfTwenty,
+        "pieces_mixed" => Pieces::Mixed,
+        "write_pieces" => Pieces::Written,
+        _ => return None,
+    };
+    Some(pieces)
+}
+
 impl fmt::Display for Case {
     ghost output = { λ case. Some (name_of case) };
 
     fn fmt<W: fmt::Write>(&self, f: &mut fmt::Formatter<W>) -> fmt::Result {
         match self {
             Case::Sized(call, size) => write!(f, "{call}{size}"),
+            Case::Chosen(choice) => write!(f, "{choice}"),
+            Case::Pieces(pieces) => write!(f, "{pieces}"),
             Case::PushPop => write!(f, "push_pop"),
             Case::PushReserved => write!(f, "push_reserved"),
             Case::PushFull => write!(f, "push_full"),
             Case::InsertFront => write!(f, "insert_front"),
             Case::RemoveFront => write!(f, "remove_front"),
-            Case::RetainHalf => write!(f, "retain_half"),
-            Case::RetainMost => write!(f, "retain_most"),
-            Case::Dedup => write!(f, "dedup"),
+            Case::SwapRemove => write!(f, "swap_remove"),
             Case::ExtendFromSlice => write!(f, "extend_from_slice"),
             Case::Extend => write!(f, "extend"),
             Case::ExtendUnhinted => write!(f, "extend_unhinted"),
+            Case::ExtendThrice => write!(f, "extend_thrice"),
             Case::Append => write!(f, "append"),
+            Case::SplitJoin => write!(f, "split_join"),
             Case::DrainTaken => write!(f, "drain_taken"),
             Case::DrainDropped => write!(f, "drain_dropped"),
             Case::DrainFront => write!(f, "drain_front"),
+            Case::DrainBack => write!(f, "drain_back"),
             Case::IntoIter => write!(f, "into_iter"),
             Case::SpliceGrowing => write!(f, "splice_growing"),
             Case::SpliceInPlace => write!(f, "splice_in_place"),
@@ -183,6 +264,35 @@ impl fmt::Display for Call {
             Call::InsertPop => write!(f, "insert_pop"),
             Call::RemovePush => write!(f, "remove_push"),
             Call::Clone => write!(f, "clone"),
+        }
+    }
+}
+
+impl fmt::Display for Choice {
+    ghost output = { λ choice. Some (name_of_choice choice) };
+
+    fn fmt<W: fmt::Write>(&self, f: &mut fmt::Formatter<W>) -> fmt::Result {
+        match self {
+            Choice::RetainHalf => write!(f, "retain_half"),
+            Choice::RetainMost => write!(f, "retain_most"),
+            Choice::RetainRandom => write!(f, "retain_random"),
+            Choice::RetainNone => write!(f, "retain_none"),
+            Choice::ExtractHalf => write!(f, "extract_half"),
+            Choice::Dedup => write!(f, "dedup"),
+            Choice::DedupByKey => write!(f, "dedup_by_key"),
+        }
+    }
+}
+
+impl fmt::Display for Pieces {
+    ghost output = { λ pieces. Some (name_of_pieces pieces) };
+
+    fn fmt<W: fmt::Write>(&self, f: &mut fmt::Formatter<W>) -> fmt::Result {
+        match self {
+            Pieces::OfFour => write!(f, "pieces_of_4"),
+            Pieces::OfTwenty => write!(f, "pieces_of_20"),
+            Pieces::Mixed => write!(f, "pieces_mixed"),
+            Pieces::Written => write!(f, "write_pieces"),
         }
     }
 }

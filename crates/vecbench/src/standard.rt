@@ -1,12 +1,13 @@
 //! The cases over the toolchain's own vector.
-ghost use Rattle.std.specs.Prelude.{◌<◌};
+ghost use Rattle.std.specs.Prelude.{◌<◌, ◌≤◌};
 
 use crate::bench::Lists;
-use crate::case::{Call, Case, Size};
+use crate::case::{Call, Case, Choice, Pieces, Size};
 use crate::checksum::checksum_from;
 use crate::element::{Element, Wide};
 use crate::lines::Task;
 use std::alloc::Global;
+use std::io::Write;
 use std::mem::replace;
 
 /// The vectors that a case finds and leaves.
@@ -14,7 +15,7 @@ use std::mem::replace;
 pub struct Vectors {
     alloc: Global,
     numbers: Pair<u32>,
-    // For the cases at the front, so that other cases share no code with them: that would change what the compiler inlines.
+    // For the cases at the front and others, so that they share no code: that would change what the compiler inlines.
     longs: Pair<u64>,
     bytes: Pair<u8>,
     wides: Pair<Wide>,
@@ -58,23 +59,28 @@ impl Lists for Vectors {
             Case::Sized(call, Size::One) => self.bytes.run(call, count),
             Case::Sized(call, Size::TwentyFour) => self.wides.run(call, count),
             Case::Sized(call, Size::Zero) => self.units.run(call, count),
+            Case::Chosen(choice) => choose(numbers, choice),
+            Case::Pieces(pieces) => {
+                put_pieces(&mut self.bytes.list, self.source.as_slice(), pieces, count)
+            }
             Case::PushPop => push_pop(numbers, count),
             Case::PushReserved => push_reserved(numbers, count),
             Case::PushFull => push_full(numbers),
             Case::InsertFront => insert_front(&mut self.longs.list),
             Case::RemoveFront => remove_front(&mut self.longs.list),
-            Case::RetainHalf => retain_half(numbers),
-            Case::RetainMost => retain_most(numbers),
-            Case::Dedup => dedup(numbers),
+            Case::SwapRemove => swap_remove(numbers, count),
             Case::ExtendFromSlice => {
                 extend_from_slice(&mut self.bytes.list, self.source.as_slice())
             }
             Case::Extend => extend(numbers, count),
             Case::ExtendUnhinted => extend_unhinted(numbers, count),
+            Case::ExtendThrice => extend_thrice(&mut self.longs.list, count),
             Case::Append => append(numbers, &mut self.numbers.other),
+            Case::SplitJoin => split_join(&mut self.longs.list, count),
             Case::DrainTaken => drain_taken(numbers),
             Case::DrainDropped => drain_dropped(numbers),
             Case::DrainFront => drain_front(&mut self.longs.list),
+            Case::DrainBack => drain_back(&mut self.shorts.list, &mut self.shorts.other, count),
             Case::IntoIter => {
                 let list = replace(numbers, Vec::new(self.alloc));
                 numbers.push(into_iter(list)).is_ok()
@@ -106,7 +112,10 @@ impl Vectors {
             Case::Sized(call, Size::One) => self.bytes.prepare(call, count),
             Case::Sized(call, Size::TwentyFour) => self.wides.prepare(call, count),
             Case::Sized(call, Size::Zero) => self.units.prepare(call, count),
-            Case::PushReserved | Case::Extend | Case::ExtendUnhinted | Case::SpliceGrowing => true,
+            Case::PushReserved | Case::Extend | Case::ExtendUnhinted => true,
+            Case::ExtendThrice | Case::SpliceGrowing => true,
+            Case::Chosen(choice) => fill_for(numbers, choice, count),
+            Case::Pieces(_) => fill_at_random(&mut self.source, count.max(24), 24),
             Case::PushPop => fill(numbers, 3, 1),
             Case::PushFull => {
                 numbers.reserve_exact(count as usize).is_ok() && fill(numbers, count, 1)
@@ -114,12 +123,11 @@ impl Vectors {
             Case::InsertFront | Case::RemoveFront | Case::DrainFront | Case::SpliceFront => {
                 fill(&mut self.longs.list, count, 1)
             }
-            Case::RetainHalf | Case::RetainMost | Case::IntoIter | Case::SpliceInPlace => {
-                fill(numbers, count, 1)
-            }
+            Case::SwapRemove | Case::IntoIter | Case::SpliceInPlace => fill(numbers, count, 1),
+            Case::SplitJoin => fill(&mut self.longs.list, 100, 1),
+            Case::DrainBack => fill(&mut self.shorts.list, 1000, 1),
             Case::InsertMiddle | Case::GapInsert => fill(&mut self.shorts.list, count, 1),
             Case::DrainTaken | Case::DrainDropped => fill(numbers, count.saturating_mul(2), 1),
-            Case::Dedup => fill(numbers, count, 3),
             Case::ExtendFromSlice => fill(&mut self.source, count, 1),
             Case::Append => fill(&mut self.numbers.other, count, 1),
         }
@@ -167,6 +175,50 @@ fn fill<E: Element>(list: &mut Vec<E>, count: u32, runs: u32) -> bool
         }
     }
     true
+}
+
+// The elements of `count` numbers from 1 to `greatest`, in no regular order.
+fn fill_at_random<E: Element>(list: &mut Vec<E>, count: u32, greatest: u32) -> bool
+    requires { (0 < greatest) × (greatest ≤ 65536) }
+{
+    let mut state: u32 = 1;
+    for _ in 0..count {
+        state = state.wrapping_mul(1_664_525).wrapping_add(1_013_904_223);
+        if list.push(E::of((state >> 16) % greatest + 1)).is_err() {
+            return false;
+        }
+    }
+    true
+}
+
+// What the choice is made from.
+fn fill_for(list: &mut Vec<u32>, choice: Choice, count: u32) -> bool {
+    match choice {
+        Choice::Dedup => fill(list, count, 3),
+        Choice::RetainRandom => fill_at_random(list, count, 65_536),
+        _ => fill(list, count, 1),
+    }
+}
+
+fn choose(list: &mut Vec<u32>, choice: Choice) -> bool {
+    match choice {
+        Choice::RetainHalf => retain_half(list),
+        Choice::RetainMost => retain_most(list),
+        Choice::RetainRandom => retain_random(list),
+        Choice::RetainNone => retain_none(list),
+        Choice::ExtractHalf => extract_half(list),
+        Choice::Dedup => dedup(list),
+        Choice::DedupByKey => dedup_by_key(list),
+    }
+}
+
+fn put_pieces(list: &mut Vec<u8>, source: &[u8], pieces: Pieces, count: u32) -> bool {
+    match pieces {
+        Pieces::OfFour => pieces_of_4(list, source, count),
+        Pieces::OfTwenty => pieces_of_20(list, source, count),
+        Pieces::Mixed => pieces_mixed(list, source),
+        Pieces::Written => write_pieces(list, source, count),
+    }
 }
 
 #[inline(never)]
@@ -295,8 +347,102 @@ fn retain_most(list: &mut Vec<u32>) -> bool {
 }
 
 #[inline(never)]
+fn retain_random(list: &mut Vec<u32>) -> bool {
+    list.retain(|x| *x > 32_768);
+    true
+}
+
+#[inline(never)]
+fn retain_none(list: &mut Vec<u32>) -> bool {
+    list.retain(|x| *x == u32::MAX);
+    true
+}
+
+#[inline(never)]
+fn extract_half(list: &mut Vec<u32>) -> bool {
+    let mut sum: u32 = 0;
+    let len = list.len();
+    for x in list.extract_if(0..len, |x| *x % 2 == 0) {
+        sum = sum.wrapping_add(x);
+    }
+    list.push(sum).is_ok()
+}
+
+#[inline(never)]
 fn dedup(list: &mut Vec<u32>) -> bool {
     list.dedup();
+    true
+}
+
+#[inline(never)]
+fn dedup_by_key(list: &mut Vec<u32>) -> bool {
+    list.dedup_by_key(|x| *x / 3);
+    true
+}
+
+#[inline(never)]
+fn swap_remove(list: &mut Vec<u32>, count: u32) -> bool {
+    let mut sum: u32 = 0;
+    for _ in 0..count {
+        if list.is_empty() {
+            return false;
+        }
+        let middle = list.len() / 2;
+        sum = sum.wrapping_add(list.swap_remove(middle));
+    }
+    list.push(sum).is_ok()
+}
+
+#[inline(never)]
+fn pieces_of_4(list: &mut Vec<u8>, source: &[u8], count: u32) -> bool {
+    let Some(piece) = source.get(0..4) else {
+        return false;
+    };
+    for _ in 0..count {
+        if list.extend_from_slice(piece).is_err() {
+            return false;
+        }
+    }
+    true
+}
+
+#[inline(never)]
+fn pieces_of_20(list: &mut Vec<u8>, source: &[u8], count: u32) -> bool {
+    let Some(piece) = source.get(0..20) else {
+        return false;
+    };
+    for _ in 0..count {
+        if list.extend_from_slice(piece).is_err() {
+            return false;
+        }
+    }
+    true
+}
+
+// The bytes of `source` are the lengths.
+#[inline(never)]
+fn pieces_mixed(list: &mut Vec<u8>, source: &[u8]) -> bool {
+    for length in source {
+        let Some(piece) = source.get(0..usize::from(*length)) else {
+            return false;
+        };
+        if list.extend_from_slice(piece).is_err() {
+            return false;
+        }
+    }
+    true
+}
+
+#[inline(never)]
+fn write_pieces(list: &mut Vec<u8>, source: &[u8], count: u32) -> bool {
+    let Some(piece) = source.get(0..7) else {
+        return false;
+    };
+    for _ in 0..count {
+        if list.write_all(piece).is_err() {
+            return false;
+        }
+    }
     true
 }
 
@@ -316,8 +462,30 @@ fn extend_unhinted(list: &mut Vec<u32>, count: u32) -> bool {
 }
 
 #[inline(never)]
+fn extend_thrice(list: &mut Vec<u64>, count: u32) -> bool {
+    let third = u64::from(count / 3);
+    list.extend(0..third).is_ok()
+        && list.extend(third..2 * third).is_ok()
+        && list.extend(2 * third..3 * third).is_ok()
+}
+
+#[inline(never)]
 fn append(list: &mut Vec<u32>, other: &mut Vec<u32>) -> bool {
     list.append(other).is_ok()
+}
+
+#[inline(never)]
+fn split_join(list: &mut Vec<u64>, count: u32) -> bool {
+    for _ in 0..count / 100 {
+        let middle = list.len() / 2;
+        let Ok(mut tail) = list.split_off(middle) else {
+            return false;
+        };
+        if list.append(&mut tail).is_err() {
+            return false;
+        }
+    }
+    true
 }
 
 #[inline(never)]
@@ -347,6 +515,21 @@ fn drain_front(list: &mut Vec<u64>) -> bool {
         }
         drop(list.drain(0..1));
         if list.push(i).is_err() {
+            return false;
+        }
+    }
+    true
+}
+
+#[inline(never)]
+fn drain_back(list: &mut Vec<u16>, taken: &mut Vec<u16>, count: u32) -> bool {
+    for _ in 0..count / 10 {
+        let middle = list.len() / 2;
+        let end = middle.saturating_add(10).min(list.len());
+        if taken.extend(list.drain(middle..end)).is_err() {
+            return false;
+        }
+        if list.append(taken).is_err() {
             return false;
         }
     }

@@ -1,19 +1,15 @@
 -- A text of which some lines are read.
-use Rattle.std.proofs.Common.{◌≡◌, ◌≢◌, ℕ, Bool, true, ◌+◌, ◌≤◌, List, [], ◌∷◌, ◌++◌, length, map, filter, nat_lt, Option, None, Some, MatchOption, refl, subst, ap, rules, arith}
+use Rattle.std.proofs.Common.{◌≡◌, ℕ, Bool, true, ◌+◌, ◌≤◌, List, [], ◌∷◌, ◌++◌, length, map, filter, nat_lt, Option, None, Some, MatchOption, refl, ap, rules, arith}
 use Rattle.std.proofs.lemmas.Bool.Decides.{nat_tests}
 use Rattle.std.proofs.lemmas.List.{append_assoc, append-nil, length-append, map-append}
-use Rattle.std.proofs.lemmas.List.Elements.{All-append, All-take, All-drop, filter-append}
-use Rattle.std.proofs.Math.Seq.{take-append_seam, drop-append_seam}
-use Rattle.std.specs.List.{All, AllZip}
+use Rattle.std.proofs.lemmas.List.Elements.{All-append, filter-append}
+use Rattle.std.specs.List.{AllZip}
 use Rattle.std.specs.Global.{Global}
 use Rattle.std.specs.Str.Lines.{lines}
 use Rattle.allocator_api2.specs.declared.runner.Command.{Command}
 use Rattle.vecscript.proofs.TextLines.{length-lines}
 use Rattle.vecscript.proofs.Taken.{AllZip-more, AllZip-append}
-use Rattle.vecscript.specs.declared.script.Fault.{Fault}
-use Rattle.vecscript.specs.declared.script.Fault.TheVariants.{BadLine, OutOfMemory, InputOutput}
-use Rattle.vecscript.specs.Faults.{IsFoundAmong}
-use Rattle.vecscript.specs.Lines.{HasNoBad, IsBad, IsFirstBad, words_of, Say, said_in, Mean}
+use Rattle.vecscript.specs.Lines.{HasNoBad, IsBad, words_of, Say, said_in, Mean}
 
 -- the first lines of the text, as many as count, are not bad and mean the commands, and rest has the others
 pub record HasRead (text rest : List ℕ) (count : ℕ) (commands : List (Command ℕ Global)) : Type 0 where
@@ -121,27 +117,8 @@ pub HasSeen-bound : (text rest : List ℕ) (count : ℕ) → HasSeen text rest c
 HasSeen-bound text rest count had = lines-bound text rest had.before count had.place had.counted
 
 -- the lines of two texts, one behind the other
-pub HasNoBad-parts : (ls ms : List (List ℕ)) → HasNoBad (ls ++ ms) → HasNoBad ls × HasNoBad ms
-HasNoBad-parts ls ms good =
-    let Good : List (List ℕ) → Type 0 = All (λ line. ¬ (IsBad line)) in (
-      record { all_good = subst Good (take-append_seam ls ms) (All-take (λ line. ¬ (IsBad line)) (length ls) (ls ++ ms) good.all_good) },
-      record { all_good = subst Good (drop-append_seam ls ms) (All-drop (λ line. ¬ (IsBad line)) (length ls) (ls ++ ms) good.all_good) },
-    )
-
 pub Mean-append : (ls ms : List (List ℕ)) (commands more : List (Command ℕ Global)) → Mean ls commands → Mean ms more
     → Mean (ls ++ ms) (commands ++ more)
 Mean-append ls ms commands more meant later =
     rw (map-append words_of ls ms, filter-append is_said (map words_of ls) (map words_of ms))
     (AllZip-append Say (said_in ls) (said_in ms) commands more meant later)
-
--- of lines none of which is bad no fault but refused memory is found
-pub found-refused : (text : List ℕ) (fault : Fault) → HasNoBad (lines text) → IsFoundAmong (lines text) fault × (fault ≢ InputOutput)
-    → fault ≡ OutOfMemory
-found-refused text OutOfMemory good found = refl
-found-refused text InputOutput good found = absurd (found.1 refl)
-found-refused text (BadLine number) good found = absurd (bad_among found.0)
-  where
-    bad_among : IsFirstBad (lines text) number → ⊥
-    bad_among first =
-        let among : HasNoBad (first.before ++ first.line ∷ first.after) = rw first.place at good in
-        (HasNoBad-parts first.before (first.line ∷ first.after) among).1.all_good 0 first.line (omega arith) first.bad

@@ -140,7 +140,7 @@ Mean-blank : (before : List (List ℕ)) → AllBlank before → Mean before []
 Mean-blank [] blank = tt
 Mean-blank (line ∷ before) blank = rw blank.0 (Mean-blank before blank.1)
 
-HasNoBad-append : (ls ms : List (List ℕ)) → HasNoBad ls → HasNoBad ms → HasNoBad (ls ++ ms)
+pub HasNoBad-append : (ls ms : List (List ℕ)) → HasNoBad ls → HasNoBad ms → HasNoBad (ls ++ ms)
 HasNoBad-append ls ms good more = record { all_good = All-append (λ l. ¬ (IsBad l)) ls ms good.all_good more.all_good }
 
 -- what is known of the lines behind blank ones is known of all

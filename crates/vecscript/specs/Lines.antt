@@ -103,6 +103,10 @@ Say (name ∷ rest) command =
     × MatchBool (bytes_eq name (codes "extend")) (SaysExtend rest command)
     (MatchBool (bytes_eq name (codes "splice")) (SaysSplice rest command) (SayAfter name rest command))
 
+-- the word alone says the command, and with words behind it none
+abbrev pub SaysAlone : List ℕ → Command ℕ Global → Type 0
+SaysAlone name command = Say (name ∷ []) command × ((rest : List (List ℕ)) (c : Command ℕ Global) → Say (name ∷ rest) c → rest ≡ [])
+
 -- the words of each line that has some, in order
 abbrev pub said_in : List (List ℕ) → List (List (List ℕ))
 said_in lines = filter (λ words. nat_lt 0 (length words)) (map words_of lines)

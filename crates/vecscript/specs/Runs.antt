@@ -1,5 +1,5 @@
 -- What the run of a script prints.
-use Rattle.std.specs.Prelude.{◌≡◌, ℕ, ◌%◌, Bool, ◌==◌, List, [], ⊤}
+use Rattle.std.specs.Prelude.{◌≡◌, ℕ, ◌%◌, Bool, ◌==◌, List, [], ◌++◌, ⊤}
 use Rattle.std.specs.Global.{Global}
 use Rattle.aa_vec.specs.Choosing.{Equals}
 use Rattle.aa_vec.specs.Copies.{IsMade}
@@ -9,8 +9,8 @@ use Rattle.allocator_api2.specs.declared.runner.Command.{Command}
 use Rattle.allocator_api2.specs.declared.runner.Reply.{Reply}
 use Rattle.allocator_api2.specs.Machine.{State, Calls, state_of}
 use Rattle.allocator_api2.specs.Run.{RunsTo}
-use Rattle.vecscript.specs.Lines.{Mean, growth_in, command_lines}
-use Rattle.vecscript.specs.Print.{printed}
+use Rattle.vecscript.specs.Lines.{HasNoBad, Mean, growth_in, command_lines}
+use Rattle.vecscript.specs.Print.{replies_text, printed}
 
 -- the size of an element in bytes
 abbrev pub element_size : ℕ
@@ -28,6 +28,16 @@ module _ {K S : Type 0} (calls : Calls ℕ Global K S) where
     pub side_new : IsMade element_size 0 growth [] 0 side × (side.alloc ≡ alloc)
     pub run : RunsTo element_size calls (state_of main side keep same) commands replies last
     pub is_text : text ≡ printed replies last.main.items last.main.capacity last.side.items last.side.capacity
+
+  -- none of the lines is bad, and they mean commands that may lead from the one state to the other, and whose replies are printed
+  -- behind the text
+  pub record Answers (old : State ℕ Global K S) (lines : List (List ℕ)) (text text' : List ℕ) (new : State ℕ Global K S) : Type 0 where
+    pub good : HasNoBad lines
+    pub commands : List (Command ℕ Global)
+    pub meant : Mean lines commands
+    pub replies : List (Reply ℕ)
+    pub run : RunsTo element_size calls old commands replies new
+    pub shown : text' ≡ text ++ replies_text replies
 
   -- the script's lines say how the two lists grow, and mean commands that may print the text
   pub record MayAnswer (alloc : Global) (keep : K) (same : S) (lines : List (List ℕ)) (text : List ℕ) : Type 0 where

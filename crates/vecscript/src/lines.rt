@@ -6,7 +6,7 @@ ghost use Rattle.std.specs.Option.{SomeIff};
 ghost use Rattle.std.specs.Str.Lines.{lines, strip_carriage_return};
 ghost use Rattle.std.specs.Str.Parse.{IsNumeral, AllDigits, digits_value};
 ghost use Rattle.vecscript.specs.Faults.{IsFoundAmong, ReadsAs, ReadsOrLacks};
-ghost use Rattle.vecscript.specs.Lines.{is_blank, words_of, IsElement, IsNumber, AreNumberAndElement, AreNumbers, AreThreeNumbers, AreDrain, SaysKept, Writes, IsHint, SaysExtend, SaysSplice, SayAfter, Say, are_sparing, growth_in, command_lines, AreBehind, Mean, IsBad, HasNoBad};
+ghost use Rattle.vecscript.specs.Lines.{is_blank, words_of, IsElement, IsNumber, AreNumberAndElement, AreNumbers, AreThreeNumbers, AreDrain, SaysKept, Writes, IsHint, SaysExtend, SaysSplice, SayAfter, Say, are_sparing, growth_in, command_lines, AreBehind, Mean, SaysAlone, IsBad, HasNoBad};
 
 use crate::script::Fault;
 use allocator_api2::raw_vec::Growth;
@@ -41,6 +41,16 @@ fn is_sparing(line: &[u8]) -> Option<bool>
     match (words.next()?, words.next()) {
         (b"sparing", None) => Some(true),
         _ => Some(false),
+    }
+}
+
+/// Why lines could not be run: the first of them that is no known form, or else that memory was refused.
+pub fn fault(alloc: Global, text: &[u8]) -> Fault
+    ensures { IsFoundAmong (lines text.now) result × (result ≢ Fault.InputOutput) }
+{
+    match check(alloc, text) {
+        Ok(()) => Fault::OutOfMemory,
+        Err(fault) => fault,
     }
 }
 
@@ -169,7 +179,7 @@ fn command_of_line(alloc: Global, number: usize, line: &[u8]) -> Result<Option<C
     let Some(name) = words.next() else {
         return Ok(None);
     };
-    let line = Line { number, words };
+    let mut line = Line { number, words };
     match name {
         b"push" => Ok(Some(Command::Push(line.element()?))),
         _ => Ok(Some(named_command(alloc, name, line)?)),
@@ -178,10 +188,14 @@ fn command_of_line(alloc: Global, number: usize, line: &[u8]) -> Result<Option<C
 
 // The command of a line that begins with this word. It stands apart, so that the code above it stays short.
 #[inline(never)]
-fn named_command(alloc: Global, name: &[u8], line: Line<'_>) -> Result<Command<u32>, Fault>
+fn named_command(alloc: Global, name: &[u8], mut line: Line<'_>) -> Result<Command<u32>, Fault>
     ensures { ReadsOrLacks line.entry.number
         (Say (name.now ∷ words_of line.entry.words.rest.now)) result }
 {
+    if let Some(command) = lone_command(name) {
+        line.end()?;
+        return Ok(command);
+    }
     match std::str::from_utf8(name) {
         Ok("extend") => extension(alloc, line),
         Ok("splice") => replacement(alloc, line),
@@ -190,8 +204,23 @@ fn named_command(alloc: Global, name: &[u8], line: Line<'_>) -> Result<Command<u
     }
 }
 
+// The command of this name, if it is one that takes no further words. It is known by its bytes: read as text, and
+// found among the others, the name would take as long as all else of its line.
+fn lone_command(name: &[u8]) -> Option<Command<u32>>
+    ensures { IfSome result (SaysAlone name.now) }
+{
+    match name {
+        b"pop" => Some(Command::Pop),
+        b"clear" => Some(Command::Clear),
+        b"append" => Some(Command::Append),
+        b"retain" => Some(Command::Retain),
+        b"dedup" => Some(Command::Dedup),
+        _ => None,
+    }
+}
+
 // The command of this name, where the rest of the line is what it takes.
-fn command(name: &str, line: Line<'_>) -> Result<Command<u32>, Fault>
+fn command(name: &str, mut line: Line<'_>) -> Result<Command<u32>, Fault>
     ensures { ReadsAs line.entry.number
         (SayAfter name.now (words_of line.entry.words.rest.now)) result }
 {
@@ -298,10 +327,10 @@ impl Line<'_> {
     }
 
     // No word.
-    fn end(mut self) -> Result<(), Fault>
-        ensures ok { OnOk result (words_of self.entry.words.rest.now ≡ []) }
-        ensures err { IfErr result (λ fault. (fault ≡ Fault.BadLine self.entry.number)
-            × (words_of self.entry.words.rest.now ≢ [])) }
+    fn end(&mut self) -> Result<(), Fault>
+        ensures ok { OnOk result (words_of self.old.words.rest.now ≡ []) }
+        ensures err { IfErr result (λ fault. (fault ≡ Fault.BadLine self.old.number)
+            × (words_of self.old.words.rest.now ≢ [])) }
     {
         match self.words.next() {
             None => Ok(()),
@@ -311,9 +340,9 @@ impl Line<'_> {
 
     // One word, which is an element.
     #[inline]
-    fn element(mut self) -> Result<u32, Fault>
-        ensures { ReadsAs self.entry.number
-            (IsElement (words_of self.entry.words.rest.now)) result }
+    fn element(&mut self) -> Result<u32, Fault>
+        ensures { ReadsAs self.old.number
+            (IsElement (words_of self.old.words.rest.now)) result }
     {
         match (self.words.element(), self.words.next()) {
             (Some(x), None) => Ok(x),
@@ -322,8 +351,8 @@ impl Line<'_> {
     }
 
     // One word, which is a number.
-    fn number(mut self) -> Result<usize, Fault>
-        ensures { ReadsAs self.entry.number (IsNumber (words_of self.entry.words.rest.now)) result }
+    fn number(&mut self) -> Result<usize, Fault>
+        ensures { ReadsAs self.old.number (IsNumber (words_of self.old.words.rest.now)) result }
     {
         match (self.words.number(), self.words.next()) {
             (Some(n), None) => Ok(n),
@@ -332,9 +361,9 @@ impl Line<'_> {
     }
 
     // Two words, which are numbers.
-    fn numbers(mut self) -> Result<(usize, usize), Fault>
-        ensures { ReadsAs self.entry.number
-            (AreNumbers (words_of self.entry.words.rest.now)) result }
+    fn numbers(&mut self) -> Result<(usize, usize), Fault>
+        ensures { ReadsAs self.old.number
+            (AreNumbers (words_of self.old.words.rest.now)) result }
     {
         let first = self.words.number();
         let second = self.words.number();
@@ -345,9 +374,9 @@ impl Line<'_> {
     }
 
     // Three words, which are numbers.
-    fn three_numbers(mut self) -> Result<(usize, usize, usize), Fault>
-        ensures { ReadsAs self.entry.number
-            (AreThreeNumbers (words_of self.entry.words.rest.now)) result }
+    fn three_numbers(&mut self) -> Result<(usize, usize, usize), Fault>
+        ensures { ReadsAs self.old.number
+            (AreThreeNumbers (words_of self.old.words.rest.now)) result }
     {
         let first = self.words.number();
         let second = self.words.number();
@@ -359,9 +388,9 @@ impl Line<'_> {
     }
 
     // Two words, a number and an element.
-    fn number_and_element(mut self) -> Result<(usize, u32), Fault>
-        ensures { ReadsAs self.entry.number
-            (AreNumberAndElement (words_of self.entry.words.rest.now)) result }
+    fn number_and_element(&mut self) -> Result<(usize, u32), Fault>
+        ensures { ReadsAs self.old.number
+            (AreNumberAndElement (words_of self.old.words.rest.now)) result }
     {
         let number = self.words.number();
         let element = self.words.element();
@@ -372,8 +401,8 @@ impl Line<'_> {
     }
 
     // Five words, four numbers and whether what is left stays.
-    fn drain(mut self) -> Result<(usize, usize, usize, usize, bool), Fault>
-        ensures { ReadsAs self.entry.number (AreDrain (words_of self.entry.words.rest.now)) result }
+    fn drain(&mut self) -> Result<(usize, usize, usize, usize, bool), Fault>
+        ensures { ReadsAs self.old.number (AreDrain (words_of self.old.words.rest.now)) result }
     {
         let start = self.words.number();
         let end = self.words.number();

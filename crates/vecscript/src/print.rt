@@ -1,7 +1,6 @@
 //! What a script prints: a line for each reply, and a line for each list.
-ghost use Rattle.std.specs.Prelude.{◌≡◌, ◌≤◌, ◌∷◌, drop, decimal, OnOk};
-ghost use Rattle.std.specs.Io.KnownBytes.{Appends};
-ghost use Rattle.vecscript.specs.Print.{line_of, reply_text, replies_text, elements_text, list_text, printed};
+ghost use Rattle.std.specs.Prelude.{◌≡◌, ◌+◌, ◌≤◌, ◌++◌, ◌∷◌, codes, drop, length, decimal, OnOk};
+ghost use Rattle.vecscript.specs.Print.{line_of, reply_text, replies_text, elements_text, list_text};
 
 use allocator_api2::collections::TryReserveErrorKind;
 use allocator_api2::runner::Reply;
@@ -10,26 +9,12 @@ use std::alloc::Global;
 use std::io;
 use std::io::Write;
 
-/// Writes a line for each reply and one for each list. It takes no memory, and an error is the
-/// writer's.
-pub fn print_all<W: Write>(
-    output: &mut W,
-    replies: &[Reply<u32>],
-    main: &Vec<u32, Global>,
-    side: &Vec<u32, Global>,
-) -> io::Result<()>
-    ensures { OnOk result (Appends (W.contents output.old) (W.contents output.new)
-        (printed replies.now main.now.items main.now.capacity side.now.items side.now.capacity)) }
-{
-    print_replies(output, replies)?;
-    print_list(output, "main", main)?;
-    print_list(output, "side", side)
-}
+/// What is printed, as it is made in memory.
+type Text = std::vec::Vec<u8>;
 
-/// Writes a line for each reply. It takes no memory, and an error is the writer's.
-pub fn print_replies<W: Write>(output: &mut W, replies: &[Reply<u32>]) -> io::Result<()>
-    ensures { OnOk result
-        (Appends (W.contents output.old) (W.contents output.new) (replies_text replies.now)) }
+/// Puts a line for each reply behind the text. It takes memory for them, and an error is a refusal.
+pub fn print_replies(output: &mut Text, replies: &[Reply<u32>]) -> io::Result<()>
+    ensures { OnOk result (output.new.items ≡ output.old.items ++ replies_text replies.now) }
 {
     for reply in replies {
         print_reply(output, reply)?;
@@ -37,67 +22,95 @@ pub fn print_replies<W: Write>(output: &mut W, replies: &[Reply<u32>]) -> io::Re
     Ok(())
 }
 
-fn print_reply<W: Write>(output: &mut W, reply: &Reply<u32>) -> io::Result<()>
-    ensures { OnOk result
-        (Appends (W.contents output.old) (W.contents output.new) (line_of (reply_text reply.now))) }
+fn print_reply(output: &mut Text, reply: &Reply<u32>) -> io::Result<()>
+    ensures { OnOk result (output.new.items ≡ output.old.items ++ line_of (reply_text reply.now)) }
 {
     match reply {
-        Reply::Done => output.write_all(b"done\n"),
-        Reply::Item(x) => writeln!(output, "item {x}"),
-        Reply::Nothing => writeln!(output, "none"),
-        Reply::Back(x) => writeln!(output, "back {x}"),
+        Reply::Done => print_bytes(output, b"done\n"),
+        Reply::Item(x) => print_numbered(output, b"item", *x),
+        Reply::Nothing => print_bytes(output, b"none\n"),
+        Reply::Back(x) => print_numbered(output, b"back", *x),
         Reply::Refused(error) => match error.kind() {
-            TryReserveErrorKind::CapacityOverflow => writeln!(output, "refused capacity"),
-            TryReserveErrorKind::AllocError { .. } => writeln!(output, "refused memory"),
+            TryReserveErrorKind::CapacityOverflow => print_bytes(output, b"refused capacity\n"),
+            TryReserveErrorKind::AllocError { .. } => print_bytes(output, b"refused memory\n"),
         },
-        Reply::Range => writeln!(output, "range"),
+        Reply::Range => print_bytes(output, b"range\n"),
     }
 }
 
-// The list's name, length, capacity and elements.
-fn print_list<W: Write>(output: &mut W, name: &str, list: &Vec<u32, Global>) -> io::Result<()>
-    ensures { OnOk result (Appends (W.contents output.old) (W.contents output.new)
-        (line_of (list_text name.now list.now.capacity list.now.items))) }
+// The word and the number in a line.
+fn print_numbered(output: &mut Text, word: &[u8], x: u32) -> io::Result<()>
+    ensures { OnOk result
+        (output.new.items ≡ output.old.items ++ line_of (word.now ++ 32 ∷ decimal x)) }
+{
+    let mut buffer = [b'\n'; WIDTH + 1];
+    let start = lay_out(x, &mut buffer, WIDTH);
+    print_bytes(output, word)?;
+    print_bytes(output, &buffer[start..])
+}
+
+/// Puts a line for each list behind the text: its name, length, capacity and elements. It takes memory for them,
+/// and an error is a refusal.
+pub fn print_lists(
+    output: &mut Text,
+    main: &Vec<u32, Global>,
+    side: &Vec<u32, Global>,
+) -> io::Result<()>
+    ensures { OnOk result (output.new.items ≡ output.old.items
+        ++ (line_of (list_text (codes "main") main.now.capacity main.now.items)
+        ++ line_of (list_text (codes "side") side.now.capacity side.now.items))) }
+{
+    print_list(output, "main", main)?;
+    print_list(output, "side", side)
+}
+
+fn print_list(output: &mut Text, name: &str, list: &Vec<u32, Global>) -> io::Result<()>
+    ensures { OnOk result (output.new.items ≡ output.old.items
+        ++ line_of (list_text name.now list.now.capacity list.now.items)) }
 {
     print_line(output, name, list.capacity(), list.as_slice())
 }
 
-fn print_line<W: Write>(
-    output: &mut W,
-    name: &str,
-    capacity: usize,
-    elements: &[u32],
-) -> io::Result<()>
-    ensures { OnOk result (Appends (W.contents output.old) (W.contents output.new)
-        (line_of (list_text name.now capacity elements.now))) }
+fn print_line(output: &mut Text, name: &str, capacity: usize, elements: &[u32]) -> io::Result<()>
+    ensures { OnOk result (output.new.items ≡ output.old.items
+        ++ line_of (list_text name.now capacity elements.now)) }
 {
     let length = elements.len();
     write!(output, "{name} len={length} cap={capacity}:")?;
     print_elements(output, elements)?;
-    writeln!(output)
+    print_bytes(output, b"\n")
 }
 
-fn print_elements<W: Write>(output: &mut W, elements: &[u32]) -> io::Result<()>
+fn print_elements(output: &mut Text, elements: &[u32]) -> io::Result<()>
     ensures { OnOk result
-        (Appends (W.contents output.old) (W.contents output.new) (elements_text elements.now)) }
+        (output.new.items ≡ output.old.items ++ elements_text elements.now) }
 {
     let mut buffer = [b' '; WIDTH];
     for x in elements {
-        let start = lay_out(*x, &mut buffer);
-        output.write_all(&buffer[start..])?;
+        let start = lay_out(*x, &mut buffer, WIDTH);
+        print_bytes(output, &buffer[start..])?;
     }
+    Ok(())
+}
+
+// Puts the bytes behind the text. Where memory is refused, the text stays.
+fn print_bytes(output: &mut Text, bytes: &[u8]) -> io::Result<()>
+    ensures { OnOk result (output.new.items ≡ output.old.items ++ bytes.now) }
+{
+    output.extend_from_slice(bytes)?;
     Ok(())
 }
 
 // As many bytes as a space and the longest element take.
 const WIDTH: usize = 11;
 
-// Puts the element behind a space at the buffer's end, and tells where they begin.
-fn lay_out(x: u32, buffer: &mut [u8; WIDTH]) -> usize
-    ensures start { result ≤ WIDTH }
-    ensures text { drop result buffer.new ≡ 32 ∷ decimal x }
+// Puts the element behind a space in front of the bytes from an index on, and tells where they begin.
+fn lay_out(x: u32, buffer: &mut [u8], end: usize) -> usize
+    requires { (WIDTH ≤ end) × (end ≤ length buffer.old) }
+    ensures start { result ≤ end }
+    ensures text { drop result buffer.new ≡ 32 ∷ decimal x ++ drop end buffer.old }
 {
-    let (mut at, mut rest) = (WIDTH, x);
+    let (mut at, mut rest) = (end, x);
     'digits: while 10 <= rest {
         at -= 1;
         buffer[at] = b'0' + (rest % 10) as u8;

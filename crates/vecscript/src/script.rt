@@ -9,12 +9,12 @@ ghost use Rattle.allocator_api2.specs.Run.{RunsTo};
 ghost use Rattle.vecscript.specs.Faults.{IsFoundIn, IsFoundAmong, behind, NamesNoLine, IsFaultOf, status_of, fault_text};
 ghost use Rattle.vecscript.specs.Lines.{HasNoBad, IsFirstBad, command_lines};
 ghost use Rattle.vecscript.specs.Print.{AppendsBeginning, line_of};
-ghost use Rattle.vecscript.specs.Runs.{element_size, MayAnswer, script_calls};
+ghost use Rattle.vecscript.specs.Runs.{element_size, Answers, MayAnswer, script_calls};
 ghost use Rattle.vecscript.specs.declared.script.Fault.{Fault};
 ghost use Rattle.vecscript.specs.declared.script.Fault.TheVariants.{OutOfMemory, InputOutput};
 
 use crate::lines;
-use crate::print::{print_all, print_replies};
+use crate::print::{print_lists, print_replies};
 use crate::reading::Reading;
 use crate::writing::write_text;
 use allocator_api2::collections::{Refused, TryReserveError};
@@ -204,8 +204,9 @@ fn read_text<R: Read>(alloc: Global, input: &mut R) -> Result<std::vec::Vec<u8>,
     Ok(text)
 }
 
-// Looks at all lines, and then runs their commands on two empty lists, which grow as the script says, a piece of the text at a time: the text of the replies and
-// of the lists, which is all made before any of it is printed. What is but one piece is looked at as it is read.
+// Runs the commands of the lines on two empty lists, which grow as the script says, a piece of the text at a
+// time: the text of the replies and of the lists, which is all made before any of it is printed. Where a piece
+// can't be run, all lines are looked at, so that a bad one counts before refused memory.
 fn answer<K, S>(
     alloc: Global,
     text: std::vec::Vec<u8>,
@@ -222,34 +223,48 @@ where
         alloc keep.old same.old (lines text.items) answer.items) }
     ensures err { IfErr result (λ fault. IsFoundIn (Some text.items) fault × (fault ≢ InputOutput)) }
 {
-    let (growth, before, rest) = lines::chosen_growth(&text);
-    let (mut piece, mut others) = lines::first_lines(rest);
-    if !others.is_empty() {
-        if let Err(fault) = lines::check(alloc, rest) {
-            return Err(fault.behind(before));
-        }
-    }
+    let (growth, before, commands) = lines::chosen_growth(&text);
     let mut main = Vec::new_growing_in(growth, alloc);
     let mut side = Vec::new_growing_in(growth, alloc);
     let mut answer = std::vec::Vec::new(alloc);
-    'pieces: while !others.is_empty() {
-        let commands = lines::commands(alloc, piece)?;
-        let replies = run_all(alloc, commands, &mut main, &mut side, keep, same)?;
-        let Ok(()) = print_replies(&mut answer, replies.as_slice()) else {
-            return Err(Fault::OutOfMemory);
+    let mut rest = commands;
+    'pieces: while !rest.is_empty() {
+        let (piece, others) = lines::first_lines(rest);
+        let Ok(()) = run_piece(alloc, piece, &mut main, &mut side, keep, same, &mut answer) else {
+            return Err(lines::fault(alloc, commands).behind(before));
         };
-        (piece, others) = lines::first_lines(others);
+        rest = others;
     }
-    let last = match lines::commands(alloc, piece) {
-        Ok(last) => last,
-        Err(fault) => return Err(fault.behind(before)),
-    };
     drop(text);
-    let replies = run_all(alloc, last, &mut main, &mut side, keep, same)?;
-    match print_all(&mut answer, replies.as_slice(), &main, &side) {
+    match print_lists(&mut answer, &main, &side) {
         Ok(()) => Ok(answer),
         Err(_) => Err(Fault::OutOfMemory),
     }
+}
+
+// Runs the commands of the lines, and puts the text of the replies behind the answer.
+fn run_piece<K, S>(
+    alloc: Global,
+    piece: &[u8],
+    main: &mut Vec<u32, Global>,
+    side: &mut Vec<u32, Global>,
+    keep: &mut K,
+    same: &mut S,
+    answer: &mut std::vec::Vec<u8>,
+) -> Result<(), Fault>
+where
+    K: FnMut(&mut u32) -> bool,
+    S: FnMut(&mut u32, &mut u32) -> bool,
+    requires keep { (k : K) (x : ℕ) → TakesMut K.FnMut k x }
+    requires same { (s : S) (x y : ℕ) → TakesPairMut S.FnMut s x y }
+    ensures { OnOk result (Answers (calls_of ⟦<Global as Clone>⟧.is_clone K.FnMut S.FnMut)
+        (state_of main.old side.old keep.old same.old) (lines piece.now)
+        answer.old.items answer.new.items (state_of main.new side.new keep.new same.new)) }
+{
+    let commands = lines::commands(alloc, piece)?;
+    let replies = run_all(alloc, commands, main, side, keep, same)?;
+    print_replies(answer, replies.as_slice())?;
+    Ok(())
 }
 
 // Runs the commands: the replies.

@@ -10,3 +10,7 @@ returns-in-Ok c =
     rw (← same)
     (ReadsOrLacks-named c.args.line.number c.in-Ok.name.now (words_of c.args.line.words.rest.now) c.command.result text c.in-Ok.not-extend
     c.in-Ok.not-splice c.command.ensures)
+
+-- the line has no further words
+pub returns-in-Some : goal.returns-in-Some
+returns-in-Some c = rw c.in_ok-end.ensures.ok c.in-Some.ensures.0

@@ -1,7 +1,7 @@
-use Rattle.std.proofs.Common.{◌≡◌, ◌∙◌, ℕ, ◌+◌, ◌-◌, ◌/◌, ◌%◌, ◌<◌, ◌≤◌, ◌^◌, List, [], ◌∷◌, ◌++◌, length, drop, append_assoc, refl, sym, ap, arith, length-append}
+use Rattle.std.proofs.Common.{◌≡◌, ◌∙◌, ℕ, ◌+◌, ◌-◌, ◌/◌, ◌%◌, ◌<◌, ◌≤◌, ◌^◌, List, [], ◌∷◌, ◌++◌, length, drop, append_assoc, refl, ap, arith, length-append}
 use Rattle.std.specs.Prelude.{decimal, slice_set}
 use Rattle.std.proofs.lemmas.Fmt.{decimal_digit, decimal_step, length-decimal-le}
-use Rattle.std.proofs.lemmas.List.{append-nil, drop_all, drop-set, length-set}
+use Rattle.std.proofs.lemmas.List.{drop-set, length-set}
 use Rattle.vecscript.proofs.print.lay_out.Goals as goal
 
 -- an element put before an index stands in front of what is from there on
@@ -31,8 +31,7 @@ digits-init c =
     let x = c.args.x in
     let fits = c.ranges.x.fits in
     let most = length-decimal-le 10 x (omega arith) (omega arith) (omega arith) in (
-      rw (drop_all 11 c.args.buffer.now (omega arith)) (sym (append-nil (decimal x))),
-      omega arith,
+      refl,
       omega arith,
       omega arith,
       omega arith,
@@ -40,16 +39,16 @@ digits-init c =
 
 pub digits-preserved : goal.digits-preserved
 digits-preserved c =
-    let (was, room, within, below, long) = c.digits.invariant in
+    let (was, room, within, below) = c.digits.invariant in
     let fits = c.ranges.x.fits in
     let more = c.digits-test.true in
     let small : c.digits.rest < 2 ^ 64 = omega arith in
     let fewer = shorter c.digits.rest more small in (
-      digits_step (decimal c.args.x) c.digits.buffer c.digits.rest c.digits.at more small (omega arith) (omega arith) was,
+      digits_step (decimal c.args.x ++ drop c.args.end c.args.buffer.now) c.digits.buffer c.digits.rest c.digits.at more small (omega arith)
+          (omega arith) was,
       omega arith,
       omega arith,
       omega arith,
-      rw length-set long,
     )
 
 pub overflow_sub-buffer-2 : goal.overflow_sub-buffer-2
@@ -60,11 +59,11 @@ overflow_sub-result c = let one = one_digit c.digits.rest c.digits-test.false in
 
 pub returns-clause-text : goal.returns-clause-text
 returns-clause-text c =
-    let (was, room, within, below, long) = c.digits.invariant in
+    let (was, room, within, below) = c.digits.invariant in
     let one = one_digit c.digits.rest c.digits-test.false in
     let digit = decimal_digit c.digits.rest c.digits-test.false in
     let first = put_before c.digits.buffer c.digits.at (48 + c.digits.rest) (omega arith) (omega arith) in
-    let kept : length (slice_set c.digits.buffer (c.digits.at - 1) (48 + c.digits.rest)) ≡ 11 = rw length-set long in
+    let kept : length (slice_set c.digits.buffer (c.digits.at - 1) (48 + c.digits.rest)) ≡ length c.digits.buffer = length-set _ _ _ in
     let back : c.digits.at - 2 + 1 ≡ c.digits.at - 1 = omega arith in
     let space = drop-set (slice_set c.digits.buffer (c.digits.at - 1) (48 + c.digits.rest)) (c.digits.at - 2) 32 (omega arith) in
     let placed = rw back at space in

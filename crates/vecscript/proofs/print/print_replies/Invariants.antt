@@ -1,8 +1,6 @@
-use Rattle.std.proofs.Common.{take}
-use Rattle.std.specs.Io.KnownBytes.{Appends}
+use Rattle.std.proofs.Common.{◌≡◌, ◌++◌, take}
 use Rattle.vecscript.specs.Print.{replies_text}
 use Rattle.vecscript.proofs.print.print_replies.Given as goal
 
 abbrev pub invariant-loop-reply : goal.invariant-loop-reply
-invariant-loop-reply g l =
-    Appends (g.W.Write.contents l.initial.output) (g.W.Write.contents l.output) (replies_text (take l.reply-index l.replies))
+invariant-loop-reply l = l.output.items ≡ l.initial.output.items ++ replies_text (take l.reply-index l.replies)

@@ -7,8 +7,8 @@ use Rattle.vecscript.proofs.script.answer.Given as goal
 abbrev pub invariant-pieces : goal.invariant-pieces
 invariant-pieces g l =
     HasAnswered (calls_of (λ a b. b ≡ a) g.K.FnMut g.S.FnMut)
-    (state_of l.initial.main l.initial.side l.initial.keep l.initial.same) (lines l.fn.text.items) l.before l.piece l.others l.answer.items
+    (state_of l.initial.main l.initial.side l.initial.keep l.initial.same) (lines l.commands) l.rest l.answer.items
     (state_of l.main l.side l.keep l.same)
 
 abbrev pub decreases-pieces : goal.decreases-pieces
-decreases-pieces g l = length l.others
+decreases-pieces g l = length l.rest
