@@ -1,5 +1,5 @@
 -- A block that is being filled.
-use Rattle.std.proofs.Common.{◌≡◌, ◌≢◌, ℕ, ◌+◌, ◌<◌, ◌≤◌, List, [], ◌∷◌, ◌++◌, Option, None, Some, length, map, take, refl, sym, ap, ◌∙◌, arith, inl, inr, ◌⊎◌, ◌-◌, replicate, eq-eqb, length-append}
+use Rattle.std.proofs.Common.{◌≡◌, ◌≢◌, ℕ, ◌+◌, ◌<◌, ◌≤◌, List, [], ◌∷◌, ◌++◌, Option, None, Some, length, map, take, refl, ap, ◌∙◌, arith, inl, inr, ◌⊎◌, ◌-◌, replicate, eq-eqb, length-append}
 use Rattle.std.specs.Prelude.{slice_set, Result, Ok, Err, OnOk, IfErr, if◌then◌else◌, ◌==◌}
 use Rattle.std.proofs.lemmas.List.{length-map, length-set, length-replicate, take_at, length-take-le}
 use Rattle.std.proofs.lemmas.Bool.{cases_lt}
@@ -79,10 +79,6 @@ none-chosen n x y e = ap (λ t. if t then x else y) (eq-eqb n 0 e)
 
 pub some-chosen : {X : Type 0} (m n : ℕ) (x y : X) → m ≢ n → (if m == n then x else y) ≡ y
 some-chosen m n x y ne = elim (eqb_tells m n) [ inl h ↦ absurd (ne h.1) | inr h ↦ ap (λ t. if t then x else y) h.0 ]
-
--- and for no more
-pub room-whole : (size n m : ℕ) → m ≡ n → m ≢ sized size n → sized size n ≡ usize_max
-room-whole size n m e ne = elim (eqb_tells size 0) [ inl h ↦ none-chosen size usize_max n h.1 | inr h ↦ absurd (ne (e ∙ sym (some-chosen size 0 usize_max n h.1))) ]
 
 -- the block gave back the room behind the items
 module _ {T A : Type 0} (v : Inside T A) (front : IsFront v) (size : ℕ) (b : Block T A)

@@ -1,7 +1,7 @@
 -- Texts that come of an iterator, and are put behind a text.
-use Rattle.std.proofs.Common.{◌≡◌, ℕ, ◌+◌, ◌<◌, List, [], ◌∷◌, ◌++◌, length, Option, Some, None, refl, sym, ap, ◌∙◌, subst, append_assoc, append-nil}
+use Rattle.std.proofs.Common.{◌≡◌, ℕ, ◌+◌, ◌<◌, List, [], ◌∷◌, ◌++◌, length, Option, Some, sym, ap, ◌∙◌, subst, append_assoc, append-nil}
 use Rattle.std.specs.Prelude.{flat_map, String}
-use Rattle.std.specs.Iterator.{Yields, YieldsThen}
+use Rattle.std.specs.Iterator.{Yields}
 use Rattle.std.specs.String.{string_bytes, string_capacity}
 use Rattle.aa_raw.specs.Growth.{usize_max}
 use Rattle.aa_raw.specs.Refusals.{IsRefusedAt}
@@ -25,9 +25,6 @@ module _ {A : Type 0} where
       pub came : Yields steps iter placed s
       pub is : text ≡ old ++ joined placed
 
-    pub Joining-start : Joining iter old
-    Joining-start = record { placed = []; came = refl; is = sym (append-nil old) }
-
     module _ (s : S) (text : List ℕ) (p : Joining s text) where
       pub Joining-next : (t : Text A) (u : S) → steps s (Some t) u → (new : List ℕ) → new ≡ text ++ t.bytes → Joining u new
       Joining-next t u step new e = record {
@@ -35,9 +32,6 @@ module _ {A : Type 0} where
         came = Yields-next steps iter p.placed s t u p.came step;
         is = e ∙ ap (λ bs. bs ++ t.bytes) p.is ∙ append_assoc old (joined p.placed) t.bytes ∙ ap (λ bs. old ++ bs) (sym (joined-next p.placed t));
       }
-
-      pub Joining-end : (u : S) → steps s None u → (ts : List (Text A)) × YieldsThen steps iter ts None u × (text ≡ old ++ joined ts)
-      Joining-end u step = (p.placed, (s, p.came, step), p.is)
 
     -- room for one more text t was refused, and the string is as it was
     module _ (s : S) (was : List ℕ) (p : Joining s was) (t : Text A) (u : S) (step : steps s (Some t) u) where

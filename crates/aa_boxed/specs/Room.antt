@@ -14,11 +14,13 @@ module _ {T : Type 0} where
   abbrev pub IsEndless : List (Option T) → Type 0
   IsEndless cs = HasPlaces usize_max cs
 
-  -- one of the two. It is said as "if not the one, then the other", since a field of a type may hold no choice
+  -- one of the two. It is said as "if not the one, then the other", since a field of a type may
+  -- hold no choice
   abbrev pub IsJustFor : ℕ → List (Option T) → Type 0
   IsJustFor n cs = ¬ HasPlaces n cs → IsEndless cs
 
--- the block of a box: it has one place, or `usize::MAX`, of which no other holds a value, and grows as blocks do that are not told otherwise
+-- the block of a box: it has one place, or `usize::MAX`, of which no other holds a value, and grows
+-- as blocks do that are not told otherwise
 pub record IsForOne {T A : Type 0} (b : Block T A) : Type 0 where
   pub capacity : IsJustFor 1 b.places
   pub growth : b.growth ≡ Doubling

@@ -11,7 +11,8 @@ use Rattle.aa_raw.specs.Block.{Block}
 use Rattle.aa_raw.specs.Places.{run}
 use Rattle.aa_boxed.specs.Telling.{asked_with}
 
--- a list in a block that has room for it and no more; the block keeps how it grows for the vector that the list may become
+-- a list in a block that has room for it and no more; the block keeps how it grows for the vector
+-- that the list may become
 pub record Slice (T A : Type 0) : Type 0 where
   pub items : List T
   pub growth : Growth
@@ -25,6 +26,14 @@ pub record Begun (T A : Type 0) : Type 0 where
   pub alloc : A
 
 module _ {T A : Type 0} where
+  -- these items in a new block
+  abbrev pub new_slice : List T → A → Slice T A
+  new_slice xs a = record { items = xs; growth = Doubling; alloc = a }
+
+  -- no items yet, in a block with room for `capacity`
+  abbrev pub none_begun : (capacity : ℕ) → Growth → A → Begun T A
+  none_begun capacity g a = record { items = []; capacity = capacity; growth = g; alloc = a }
+
   -- what a block holds in its first n places, as a boxed slice
   abbrev pub slice_of : Block T A → ℕ → Slice T A
   slice_of b n = record { items = run b.places 0 n; growth = b.growth; alloc = b.alloc }
@@ -35,16 +44,18 @@ module _ {T A : Type 0} where
 
   -- one more item behind the others
   abbrev pub with_next : Begun T A → T → Begun T A
-  with_next b x = record { items = b.items ++ x ∷ []; capacity = b.capacity; growth = b.growth; alloc = b.alloc }
+  with_next b x = record b { items = b.items ++ x ∷ [] }
 
   -- more items behind the others
   abbrev pub with_all : Begun T A → List T → Begun T A
-  with_all b xs = record { items = b.items ++ xs; capacity = b.capacity; growth = b.growth; alloc = b.alloc }
+  with_all b xs = record b { items = b.items ++ xs }
 
--- `after` is what is left of the iterator, and Tells says what it may tell of how many items are to come
-module _ {S T : Type 0} (steps : S → Option T → S → Type 0) (Tells : S → ℕ → Type 0) (size : ℕ) (iter : S) (error : TryReserveError)
-    (after : S) where
-  -- of an iterator's items, of `size` bytes, all that came but the last were placed; room for it and those that were told then was refused
+-- `after` is what is left of the iterator, and Tells says what it may tell of how many items are to
+-- come
+module _ {S T : Type 0} (steps : S → Option T → S → Type 0) (Tells : S → ℕ → Type 0) (size : ℕ)
+    (iter : S) (error : TryReserveError) (after : S) where
+  -- of an iterator's items, of `size` bytes, all that came but the last were placed; room for it
+  -- and those that were told then was refused
   pub record StopsAfter : Type 0 where
     pub placed : List T
     pub item : T
@@ -52,10 +63,12 @@ module _ {S T : Type 0} (steps : S → Option T → S → Type 0) (Tells : S →
     pub came : Yields steps iter (placed ++ item ∷ []) after
     pub tells : Tells after told
     pub lacks : let more = asked_with told in
-        LacksRoom (length placed) (length placed) more (amortized Doubling (length placed) (length placed + more) (least_of size)) error
+        LacksRoom (length placed) (length placed) more
+        (amortized Doubling (length placed) (length placed + more) (least_of size)) error
     pub sizeless : size ≡ 0 → usize_max ≤ length placed
 
-  -- all items of an iterator came, one or more of `size` bytes, and then a block for just so many was refused
+  -- all items of an iterator came, one or more of `size` bytes, and then a block for just so many
+  -- was refused
   pub record StopsAtEnd : Type 0 where
     pub taken : List T
     pub came : YieldsThen steps iter taken None after

@@ -12,7 +12,8 @@ module _ {T A : Type 0} where
   abbrev pub view_of : InsideSlice T A → Slice T A
   view_of v = slice_of v.block v.len
 
-  -- the first places are filled, as many as the slice is long, and there are no others that could be, or none of them is
+  -- the first places are filled, as many as the slice is long, and there are no others that could
+  -- be, or none of them is
   pub record IsWhole (v : InsideSlice T A) : Type 0 where
     pub filled : IsRun v.block.places 0 v.len
     pub room : IsJustFor v.len v.block.places
@@ -21,7 +22,12 @@ module _ {T A : Type 0} where
   -- the values in the first places, and room for as many as there are places
   abbrev pub begun_of : InsideFilling T A → Begun T A
   begun_of v =
-      record { items = run v.block.places 0 v.len; capacity = length v.block.places; growth = v.block.growth; alloc = v.block.alloc }
+      record {
+        items = run v.block.places 0 v.len;
+        capacity = length v.block.places;
+        growth = v.block.growth;
+        alloc = v.block.alloc;
+      }
 
   -- the first places are filled, as many as there are items so far
   abbrev pub IsFront : InsideFilling T A → Type 0

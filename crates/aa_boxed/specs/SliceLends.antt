@@ -11,4 +11,8 @@ module _ (R A : RattleType) (g : Ghosts A.Denot) (s : MutBor (Slice R.Denot A.De
   abbrev pub lends_items : MutBor (List R.Denot) → Fml
   lends_items r =
       Lends (the_row R A g) (Array R 0) s r
-      (λ ws. record { items = refill (length s.now.items) r.now ws; growth = s.now.growth; alloc = s.now.alloc })
+      (λ ws. record {
+        items = refill (length s.now.items) r.now ws;
+        growth = s.now.growth;
+        alloc = s.now.alloc;
+      })

@@ -4,6 +4,7 @@ ghost use Rattle.std.specs.Mem.{type_size};
 ghost use Rattle.std.specs.Borrow.{sem};
 ghost use Rattle.aa_raw.specs.Places.{IsFilled};
 ghost use Rattle.aa_boxed.specs.Room.{IsForOne};
+ghost use Rattle.aa_boxed.specs.Slice.{new_slice};
 
 use aa_raw::raw_vec::{Growth, RawVec};
 use std::alloc::{AllocError, Allocator, Global};
@@ -27,8 +28,9 @@ pub use slice::BoxedSlice;
 pub use text::{BoxedText, append_texts, append_texts_by};
 pub use uninit::UninitBox;
 
-/// A value in memory of the allocator `A`. A value without size takes no memory. Its drop drops the value and gives the memory
-/// back. It stands for `allocator_api2::boxed::Box`, for values with a size that the compiler knows.
+/// A value in memory of the allocator `A`. A value without size takes no memory. Its drop drops the
+/// value and gives the memory back. It stands for `allocator_api2::boxed::Box`, for values with a
+/// size that the compiler knows.
 pub struct Box<T, A: Allocator = Global> {
     block: RawVec<T, A>,
     ghost filled: { IsFilled block.places 0 },
@@ -46,7 +48,8 @@ impl<T, A: Allocator> Model for Box<T, A> {
 }
 
 impl<T> Box<T, Global> {
-    /// A box of `x` on the global allocator; it is refused as `new_in` is. It stands for `Box::new`, which aborts on a refusal.
+    /// A box of `x` on the global allocator; it is refused as `new_in` is. It stands for
+    /// `Box::new`, which aborts on a refusal.
     pub fn new(alloc: Global, x: T) -> Result<Self, AllocError>
     where
         T: Drop,
@@ -56,8 +59,8 @@ impl<T> Box<T, Global> {
         Box::new_in(x, alloc)
     }
 
-    /// Room for a value on the global allocator, that is to be written; it is refused as `new_uninit_in` is. It stands for
-    /// `Box::new_uninit`, which aborts on a refusal.
+    /// Room for a value on the global allocator, that is to be written; it is refused as
+    /// `new_uninit_in` is. It stands for `Box::new_uninit`, which aborts on a refusal.
     pub fn new_uninit(alloc: Global) -> Result<UninitBox<T, Global>, AllocError>
         ensures made { IfOk result (λ b. b ≡ alloc) }
         ensures refused { IfErr result (λ _. 0 < type_size T.row) }
@@ -85,8 +88,8 @@ impl<T> Box<T, Global> {
 }
 
 impl<T, A: Allocator> Box<T, A> {
-    /// A box of `x`. It takes memory where `x` has a size. Where that is refused, the value is dropped. It stands for
-    /// `Box::new_in`, which aborts on a refusal.
+    /// A box of `x`. It takes memory where `x` has a size. Where that is refused, the value is
+    /// dropped. It stands for `Box::new_in`, which aborts on a refusal.
     pub fn new_in(x: T, alloc: A) -> Result<Self, AllocError>
     where
         T: Drop,
@@ -107,8 +110,8 @@ impl<T, A: Allocator> Box<T, A> {
         Self::new_in(x, alloc)
     }
 
-    /// Room for a value, that is to be written. It takes memory where such a value has a size. It stands for
-    /// `Box::new_uninit_in`, which aborts on a refusal.
+    /// Room for a value, that is to be written. It takes memory where such a value has a size. It
+    /// stands for `Box::new_uninit_in`, which aborts on a refusal.
     pub fn new_uninit_in(alloc: A) -> Result<UninitBox<T, A>, AllocError>
         ensures made { IfOk result (λ b. b ≡ alloc) }
         ensures refused { IfErr result (λ _. 0 < type_size T.row) }
@@ -126,13 +129,14 @@ impl<T, A: Allocator> Box<T, A> {
 
     /// The value as a list of one. It takes no memory. It stands for `Box::into_boxed_slice`.
     pub fn into_boxed_slice(b: Box<T, A>) -> BoxedSlice<T, A>
-        ensures { result ≡ record { items = b.value ∷ []; growth = Growth.Doubling; alloc = b.alloc } }
+        ensures { result ≡ new_slice (b.value ∷ []) b.alloc }
     {
         let Box { block } = b;
         BoxedSlice::from_block(block, 1)
     }
 
-    /// The value, moved out of the box, whose memory is given back. It stands for `Box::into_inner`.
+    /// The value, moved out of the box, whose memory is given back. It stands for
+    /// `Box::into_inner`.
     pub fn into_inner(b: Box<T, A>) -> T
         ensures { result ≡ b.value }
     {
@@ -147,24 +151,29 @@ impl<T, A: Allocator> Box<T, A> {
         b.block.allocator()
     }
 
-    /// A box of the default value; it is refused as `new_in` is. It stands for `Box`'s `Default`, which aborts on a refusal.
+    /// A box of the default value; it is refused as `new_in` is. It stands for `Box`'s `Default`,
+    /// which aborts on a refusal.
     pub fn try_default(alloc: A) -> Result<Self, AllocError>
     where
         T: Default + Drop,
-        ensures made { IfOk result (λ b. T.is_default b.value × (b.alloc ≡ alloc)) }
+        ensures made { IfOk result (λ b. T.is_default b.value) }
+        ensures alloc { IfOk result (λ b. b.alloc ≡ alloc) }
         ensures refused { IfErr result (λ _. 0 < type_size T.row) }
     {
         Box::new_in(T::default(), alloc)
     }
 
-    /// A box of a clone of the value, over a clone of the allocator. It is refused where a clone is, or as `new_in`. It stands
-    /// for `Box`'s `Clone`, which aborts on a refusal.
+    /// A box of a clone of the value, over a clone of the allocator. It is refused where a clone
+    /// is, or as `new_in`. It stands for `Box`'s `Clone`, which aborts on a refusal.
     pub fn clone(&self) -> Result<Self, AllocError>
     where
         T: Clone + Drop,
         A: Clone,
-        ensures made { IfOk result (λ b. T.is_clone self.now.value b.value × A.is_clone self.now.alloc b.alloc) }
-        ensures refused { IfErr result (λ _. T.is_infallible self.now.value → A.is_infallible self.now.alloc → 0 < type_size T.row) }
+        ensures made { IfOk result (λ b. T.is_clone self.now.value b.value) }
+        ensures alloc { IfOk result (λ b. A.is_clone self.now.alloc b.alloc) }
+        ensures refused { let sure = T.is_infallible self.now.value
+            × A.is_infallible self.now.alloc in
+            IfErr result (λ _. sure → 0 < type_size T.row) }
     {
         let alloc = self.block.allocator().clone()?;
         Box::new_in((**self).clone()?, alloc)

@@ -11,9 +11,12 @@ ghost use Rattle.allocator_api2.specs.declared.raw_vec.Growth.TheVariants.{Doubl
 
 pub mod boxes;
 pub mod chosen;
+pub mod moved;
 pub mod positions;
 pub mod ranges;
 pub mod room;
+pub mod rows;
+pub mod sorted;
 pub mod stack;
 pub mod texts;
 

@@ -42,6 +42,20 @@ pub fn replace<A: Allocator + Clone>(
     Ok(())
 }
 
+/// Puts the numbers of a slice in the place of a range, by a copy of them.
+pub fn put_over<A: Allocator + Clone>(
+    v: &mut Vec<u32, A>,
+    start: usize,
+    end: usize,
+    with: &[u32],
+) -> Result<(), TryReserveError>
+    requires { (start ≤ end) × (end ≤ length v.old.items) }
+    ensures { OnOk result (v.new.items ≡ take start v.old.items ++ (with.now ++ drop end v.old.items)) }
+{
+    let copy = Vec::from_slice_copied_in(with, v.allocator().clone()?)?;
+    v.splice(start..end, copy.into_iter()).finish()
+}
+
 /// Puts half of each number behind the others.
 pub fn add_halves<A: Allocator>(v: &mut Vec<u32, A>, numbers: &[u32]) -> Result<(), TryReserveError>
     ensures { OnOk result (v.new.items ≡ v.old.items ++ map (λ x. x / 2) numbers.now) }

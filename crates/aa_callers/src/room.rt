@@ -1,5 +1,6 @@
 //! Room that is made first, and what is pushed into it.
-ghost use Rattle.std.specs.Prelude.{◌≡◌, [], ◌∷◌, ◌++◌, replicate, IfErr, IfOk, OnErr, OnOk, IsOk};
+ghost use Rattle.std.specs.Prelude.{◌≡◌, ◌+◌, ◌≤◌, [], ◌∷◌, ◌++◌, length, replicate, IfErr, IfOk, OnErr, OnOk, IsOk};
+ghost use Rattle.allocator_api2.specs.Refusals.{IsRefusedAt};
 ghost use Rattle.allocator_api2.specs.Vector.{HasRoom, Holds};
 
 use allocator_api2::collections::{Refused, TryReserveError};
@@ -22,6 +23,21 @@ pub fn add_two<A: Allocator>(v: &mut Vec<u64, A>, a: u64, b: u64) -> Result<(), 
     ensures neither { OnErr result (v.new ≡ v.old) }
 {
     v.try_reserve(2)?;
+    push_within(v, a);
+    push_within(v, b);
+    Ok(())
+}
+
+/// Puts a pair behind the others, or neither. A new block is asked for only where two places are not free, and for just these.
+/// It moves each element there once; a refusal tells how many places were asked for.
+pub fn add_pair<A: Allocator>(v: &mut Vec<u64, A>, a: u64, b: u64) -> Result<(), TryReserveError>
+    ensures fits { HasRoom v.old 2 → IsOk result }
+    ensures both { OnOk result (v.new.items ≡ v.old.items ++ a ∷ b ∷ []) }
+    ensures moved { OnOk result (v.new.grown ≤ v.old.grown + length v.old.items) }
+    ensures neither { OnErr result (v.new ≡ v.old) }
+    ensures asked { IfErr result (λ e. IsRefusedAt e (length v.old.items + 2)) }
+{
+    v.try_reserve_exact(2)?;
     push_within(v, a);
     push_within(v, b);
     Ok(())

@@ -4,8 +4,11 @@ use Rattle.aa_raw.specs.declared.raw_vec.Growth.{Growth}
 use Rattle.aa_raw.specs.declared.raw_vec.Growth.TheVariants.{Doubling, Sparing}
 use Rattle.aa_raw.specs.declared.collections.TryReserveError.{TryReserveError}
 use Rattle.aa_raw.specs.Growth.{amortized, least_of}
+pub use Rattle.aa_raw.specs.Room.{run_count}
+use Rattle.aa_raw.specs.Room.{moved_over}
 use Rattle.aa_raw.specs.Room as Room
 
+-- a text in two parts beside a capacity, in a block that counts what it does
 pub record Buffer (T A : Type 0) : Type 0 where
   pub before : List T
   pub after : List T
@@ -20,18 +23,26 @@ pub record Buffer (T A : Type 0) : Type 0 where
 abbrev pub distance : ℕ → ℕ → ℕ
 distance m n = (m - n) + (n - m)
 
--- how many calls of the block move a run of n elements
-abbrev pub run_count : (n : ℕ) → ℕ
-run_count n = if n == 0 then 0 else 1
-
 module _ {T A : Type 0} where
   -- no text, in a new block of c places
   abbrev pub empty : (c : ℕ) → Growth → A → Buffer T A
-  empty c g a = record { before = []; after = []; capacity = c; growth = g; grown = 0; written = 0; runs = 0; alloc = a }
+  empty c g a =
+      record {
+        before = [];
+        after = [];
+        capacity = c;
+        growth = g;
+        grown = 0;
+        written = 0;
+        runs = 0;
+        alloc = a;
+      }
 
+  -- the whole text
   abbrev pub text : Buffer T A → List T
   text b = b.before ++ b.after
 
+  -- how many elements stand before the cursor
   abbrev pub cursor : Buffer T A → ℕ
   cursor b = length b.before
 
@@ -45,7 +56,7 @@ module _ {T A : Type 0} where
 
   -- how many elements are written where n pass the gap: none where there is no gap
   abbrev pub travel : Buffer T A → ℕ → ℕ
-  travel b n = if gap b == 0 then 0 else n
+  travel b n = moved_over (gap b) n
 
   -- b with other parts
   abbrev pub with_parts : Buffer T A → (before after : List T) → Buffer T A
@@ -57,7 +68,9 @@ module _ {T A : Type 0} where
 
   -- b with the cursor at a position of its text
   abbrev pub moved_to : Buffer T A → (position : ℕ) → Buffer T A
-  moved_to b position = wrote (with_parts b (take position (text b)) (drop position (text b))) (travel b (distance (cursor b) position))
+  moved_to b position =
+      let before = take position (text b) in let after = drop position (text b) in
+      wrote (with_parts b before after) (travel b (distance (cursor b) position))
 
   -- k more elements fit
   abbrev pub HasRoom : Buffer T A → ℕ → Type 0
@@ -67,17 +80,26 @@ module _ {T A : Type 0} where
   abbrev pub wanted : (size : ℕ) → Buffer T A → (n : ℕ) → ℕ
   wanted size b n = amortized b.growth b.capacity n (least_of size)
 
-  -- how many places b has, of `size` bytes each, once it has room for k more elements: those that it has where they fit
+  -- how many places b has, of `size` bytes each, once it has room for k more elements: those that
+  -- it has where they fit
   abbrev pub room : (size : ℕ) → Buffer T A → (k : ℕ) → ℕ
   room size b k = if nat_le k (gap b) then b.capacity else wanted size b (len b + k)
 
   -- b with room for k more elements
   abbrev pub with_room : (size : ℕ) → Buffer T A → (k : ℕ) → Buffer T A
-  with_room size b k = record b { capacity = room size b k; grown = if nat_le k (gap b) then b.grown else b.grown + len b }
+  with_room size b k =
+      record b {
+        capacity = room size b k;
+        grown = if nat_le k (gap b) then b.grown else b.grown + len b;
+      }
 
   -- how many elements stand behind the gap, where it is opened anew for k more
   abbrev pub behind : Buffer T A → (k : ℕ) → ℕ
   behind b k = if nat_le k (gap b) then 0 else length b.after
+
+  -- b after the cursor went to the end and back
+  abbrev pub went_back : Buffer T A → Buffer T A
+  went_back b = let n = travel b (length b.after) in wrote (wrote b n) n
 
   -- b after a reserve of room for k more. Where they do not fit, what is behind the gap is written
   -- to close it, and again to open it
@@ -92,8 +114,9 @@ module _ {T A : Type 0} where
   abbrev pub inserted : (size : ℕ) → Buffer T A → (x : T) → Buffer T A
   inserted size b x = put (reserved size b 1) x
 
-  -- while n elements were put into old, growth moved at most one element for each place that was added, or two where it is sparing.
-  -- From a buffer of no places that is at most two moves for each of the n, or three
+  -- while n elements were put into old, growth moved at most one element for each place that was
+  -- added, or two where it is sparing. From a buffer of no places that is at most two moves for
+  -- each of the n, or three
   abbrev pub GrowsWithin : Growth → Buffer T A → (n : ℕ) → Buffer T A → Type 0
   GrowsWithin Doubling old n new =
       (new.grown + old.capacity ≤ old.grown + new.capacity)
@@ -104,4 +127,5 @@ module _ {T A : Type 0} where
 
   -- k more than old has did not fit, and a growth with room to spare was refused with this error
   abbrev pub LacksRoom : (size : ℕ) → Buffer T A → (k : ℕ) → TryReserveError → Type 0
-  LacksRoom size old k error = Room.LacksRoom old.capacity (len old) k (wanted size old (len old + k)) error
+  LacksRoom size old k error =
+      Room.LacksRoom old.capacity (len old) k (wanted size old (len old + k)) error

@@ -30,10 +30,12 @@ module _ {T A : Type 0} (size : ℕ) where
     pub room : old.capacity ≤ new.capacity
 
 module _ {T A : Type 0} where
-  -- what these edits took at most: an element more for each insert, what they write themselves, and what growth moved, written once more
+  -- what these edits took at most: an element more for each insert, what they write themselves, and
+  -- what growth moved, written once more
   pub record Costs (old : Buffer T A) (edits : List (Edit T)) (new : Buffer T A) : Type 0 where
     pub longer : len new ≤ len old + inserts edits
-    pub writes : new.written + old.grown ≤ old.written + new.grown + total written_by edits (page old)
+    pub writes : new.written + old.grown
+        ≤ old.written + new.grown + total written_by edits (page old)
     pub runs : new.runs ≤ old.runs + total runs_by edits (page old)
     pub grown : GrowsWithin old.growth old (inserts edits) new
 

@@ -4,6 +4,7 @@ use Rattle.aa_gap.specs.declared.gap_buffer.Edit.{Edit}
 use Rattle.aa_gap.specs.declared.gap_buffer.Edit.TheVariants.{Insert, DeleteBack, DeleteForward, MoveTo}
 use Rattle.aa_gap.specs.Buffer.{Buffer, text, cursor, distance, run_count}
 
+-- a text and a position in it
 pub record Page (T : Type 0) : Type 0 where
   pub text : List T
   pub position : ℕ
@@ -16,7 +17,9 @@ module _ {T : Type 0} where
   -- the page after an edit
   abbrev pub edited : Edit T → Page T → Page T
   edited (Insert x) p = record { text = insert p.text p.position x; position = p.position + 1 }
-  edited DeleteBack p = record { text = take (p.position - 1) p.text ++ drop p.position p.text; position = p.position - 1 }
+  edited DeleteBack p =
+      let before = p.position - 1 in
+      record { text = take before p.text ++ drop p.position p.text; position = before }
   edited DeleteForward p = record { text = remove p.text p.position; position = p.position }
   edited (MoveTo q) p = record { text = p.text; position = min q (length p.text) }
 
@@ -25,7 +28,8 @@ module _ {T : Type 0} where
   all_edited [] p = p
   all_edited (e ∷ es) p = all_edited es (edited e p)
 
-  -- how many elements an edit writes, but for what growth moves: those that the cursor passes, and one that is put
+  -- how many elements an edit writes, but for what growth moves: those that the cursor passes, and
+  -- one that is put
   abbrev pub written_by : Edit T → Page T → ℕ
   written_by (Insert x) p = 1
   written_by DeleteBack p = 0

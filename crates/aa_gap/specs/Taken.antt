@@ -8,7 +8,8 @@ module _ {T A : Type 0} where
   -- the block of b, with m values at its first places and n at its last
   pub record IsPartedIn (b : Buffer T A) (block : Block T A) (m n : ℕ) : Type 0 where
     pub before : IsRun block.places 0 m × (run block.places 0 m ≡ b.before)
-    pub after : IsRun block.places (length block.places - n) n × (run block.places (length block.places - n) n ≡ b.after)
+    pub after : IsRun block.places (length block.places - n) n
+        × (run block.places (length block.places - n) n ≡ b.after)
     pub capacity : length block.places ≡ b.capacity
     pub growth : block.growth ≡ b.growth
     pub grown : block.grown ≡ b.grown

@@ -4,8 +4,8 @@ ghost use Rattle.std.specs.Mem.{type_size};
 ghost use Rattle.std.specs.Iterator.{IsFinite};
 ghost use Rattle.aa_raw.specs.Growth.{sized, usize_max};
 ghost use Rattle.aa_raw.specs.Places.{IsCapacity};
-ghost use Rattle.aa_raw.specs.Refusals.{IsRefusedAt};
-ghost use Rattle.aa_gap.specs.Buffer.{empty, text, cursor, len, gap, travel, with_parts, wrote, moved_to, with_room, reserved, put, inserted, HasRoom, LacksRoom};
+ghost use Rattle.aa_raw.specs.Refusals.{RefusesBlock};
+ghost use Rattle.aa_gap.specs.Buffer.{empty, text, cursor, len, gap, travel, with_parts, wrote, moved_to, with_room, went_back, reserved, put, inserted, HasRoom, LacksRoom};
 ghost use Rattle.aa_gap.specs.Taken.{IsPartedIn};
 
 use aa_raw::collections::{Refused, TryReserveError};
@@ -29,8 +29,8 @@ pub enum Edit<T> {
     MoveTo(usize),
 }
 
-/// A text in two parts, before and after a cursor, over the allocator `A`. Its free places stand between the two parts, so that
-/// an edit at the cursor moves nothing.
+/// A text in two parts, before and after a cursor, over the allocator `A`. Its free places stand
+/// between the two parts, so that an edit at the cursor moves nothing.
 pub struct GapBuffer<T, A: Allocator = Global> {
     block: RawVec<T, A>,
     // the gap: the first of its places, and the first one behind it
@@ -66,11 +66,13 @@ impl<T, A: Allocator> GapBuffer<T, A> {
         GapBuffer::over(RawVec::new_growing_in(growth, alloc))
     }
 
-    /// An empty text with room for exactly `capacity` elements. It takes memory where `capacity` is above 0 and elements have a
-    /// size. A refusal is `CapacityOverflow` where the bytes pass `isize::MAX`, and else `AllocError` with this capacity.
+    /// An empty text with room for exactly `capacity` elements. It takes memory where `capacity` is
+    /// above 0 and elements have a size. A refusal is `CapacityOverflow` where the bytes pass
+    /// `isize::MAX`, and else `AllocError` with this capacity.
     pub fn with_capacity_in(capacity: usize, alloc: A) -> Result<Self, TryReserveError>
-        ensures made { IfOk result (λ v. v ≡ empty (sized (type_size T.row) capacity) Growth.Doubling alloc) }
-        ensures refused { IfErr result (λ e. (0 < capacity) × (0 < type_size T.row) × IsRefusedAt e capacity) }
+        ensures made { IfOk result
+            (λ v. v ≡ empty (sized (type_size T.row) capacity) Growth.Doubling alloc) }
+        ensures refused { IfErr result (RefusesBlock capacity (type_size T.row)) }
     {
         let block = RawVec::with_capacity_in(capacity, alloc)?;
         Ok(GapBuffer::over(block))
@@ -78,7 +80,16 @@ impl<T, A: Allocator> GapBuffer<T, A> {
 
     // A text of none of the places of a block.
     fn over(block: RawVec<T, A>) -> Self
-        ensures { result ≡ record { before = []; after = []; capacity = length block.places; growth = block.growth; grown = block.grown; written = block.written; runs = block.runs; alloc = block.alloc } }
+        ensures { result ≡ record {
+          before = [];
+          after = [];
+          capacity = length block.places;
+          growth = block.growth;
+          grown = block.grown;
+          written = block.written;
+          runs = block.runs;
+          alloc = block.alloc;
+        } }
     {
         let end = block.capacity();
         GapBuffer {
@@ -103,7 +114,8 @@ impl<T, A: Allocator> GapBuffer<T, A> {
         self.start
     }
 
-    /// How many elements there may be before the block grows; `usize::MAX` for elements without size.
+    /// How many elements there may be before the block grows; `usize::MAX` for elements without
+    /// size.
     pub fn capacity(&self) -> usize
         ensures count { result ≡ self.now.capacity }
         ensures may_be { IsCapacity T.row result }
@@ -172,10 +184,14 @@ impl<T, A: Allocator> GapBuffer<T, A> {
         self.start = start + 1;
     }
 
-    /// Puts `item` before the cursor where there is a place, and hands it back where there is none. It takes no memory.
+    /// Puts `item` before the cursor where there is a place, and hands it back where there is none.
+    /// It takes no memory.
     pub fn insert_within(&mut self, item: T) -> Result<(), T>
-        ensures inserted { OnOk result (HasRoom self.old 1 × (self.new ≡ put self.old item)) }
-        ensures full { IfErr result (λ x. (len self.old ≡ self.old.capacity) × (x ≡ item) × (self.new ≡ self.old)) }
+        ensures fitted { OnOk result (HasRoom self.old 1) }
+        ensures inserted { OnOk result (self.new ≡ put self.old item) }
+        ensures full { OnErr result (len self.old ≡ self.old.capacity) }
+        ensures handed_back { IfErr result (λ x. x ≡ item) }
+        ensures unchanged { OnErr result (self.new ≡ self.old) }
     {
         if self.len() == self.capacity() {
             return Err(item);
@@ -184,15 +200,18 @@ impl<T, A: Allocator> GapBuffer<T, A> {
         Ok(())
     }
 
-    /// Puts `item` before the cursor. It takes memory only where there is no free place, and grows then with room to spare. A
-    /// refusal hands the item back and changes nothing: `CapacityOverflow` where the length passes `usize::MAX` or the bytes
-    /// pass `isize::MAX`, else `AllocError` with the capacity asked for.
+    /// Puts `item` before the cursor. It takes memory only where there is no free place, and grows
+    /// then with room to spare. A refusal hands the item back and changes nothing:
+    /// `CapacityOverflow` where the length passes `usize::MAX` or the bytes pass `isize::MAX`, else
+    /// `AllocError` with the capacity asked for.
     #[inline(always)]
     pub fn insert(&mut self, item: T) -> Result<(), Refused<T>>
         ensures fits { HasRoom self.old 1 → IsOk result }
         ensures sizeless { type_size T.row ≡ 0 → len self.old < usize_max → HasRoom self.old 1 }
         ensures inserted { OnOk result (self.new ≡ inserted (type_size T.row) self.old item) }
-        ensures refused { IfErr result (λ r. (r.source ≡ item) × LacksRoom (type_size T.row) self.old 1 r.error × (self.new ≡ self.old)) }
+        ensures handed_back { IfErr result (λ r. r.source ≡ item) }
+        ensures refused { IfErr result (λ r. LacksRoom (type_size T.row) self.old 1 r.error) }
+        ensures unchanged { OnErr result (self.new ≡ self.old) }
     {
         if let Err(error) = self.reserve(1) {
             return Err(Refused {
@@ -204,17 +223,18 @@ impl<T, A: Allocator> GapBuffer<T, A> {
         Ok(())
     }
 
-    /// Makes room for `additional` more elements. Where they fit it does nothing; else it closes the gap, grows with room to
-    /// spare, and opens the gap again, where it was refused too. It is refused as `insert` is. Elements without size need no
-    /// memory: all that `usize` counts fit.
+    /// Makes room for `additional` more elements. Where they fit it does nothing; else it closes
+    /// the gap, grows with room to spare, and opens the gap again, where it was refused too. It is
+    /// refused as `insert` is. Elements without size need no memory: all that `usize` counts fit.
     #[inline(always)]
     pub fn reserve(&mut self, additional: usize) -> Result<(), TryReserveError>
         ensures fits { HasRoom self.old additional → IsOk result }
-        ensures sizeless { type_size T.row ≡ 0 → len self.old + additional ≤ usize_max → HasRoom self.old additional }
+        ensures sizeless { type_size T.row ≡ 0 → len self.old + additional ≤ usize_max
+            → HasRoom self.old additional }
         ensures room { OnOk result (HasRoom self.new additional) }
         ensures made { OnOk result (self.new ≡ reserved (type_size T.row) self.old additional) }
-        ensures refused { IfErr result (λ e. LacksRoom (type_size T.row) self.old additional e
-            × (let n = travel self.old (length self.old.after) in self.new ≡ wrote (wrote self.old n) n)) }
+        ensures refused { IfErr result (LacksRoom (type_size T.row) self.old additional) }
+        ensures leaves { OnErr result (self.new ≡ went_back self.old) }
         ensures full { gap self.old ≡ 0 → OnErr result (self.new ≡ self.old) }
     {
         // It tells the prover how many places elements without size have.
@@ -231,8 +251,8 @@ impl<T, A: Allocator> GapBuffer<T, A> {
     fn make_room(&mut self, additional: usize) -> Result<(), TryReserveError>
         requires { gap self.old < additional }
         ensures made { OnOk result (self.new ≡ reserved (type_size T.row) self.old additional) }
-        ensures refused { IfErr result (λ e. LacksRoom (type_size T.row) self.old additional e
-            × (let n = travel self.old (length self.old.after) in self.new ≡ wrote (wrote self.old n) n)) }
+        ensures refused { IfErr result (LacksRoom (type_size T.row) self.old additional) }
+        ensures leaves { OnErr result (self.new ≡ went_back self.old) }
     {
         let cursor = self.cursor();
         let len = self.len();
@@ -248,7 +268,8 @@ impl<T, A: Allocator> GapBuffer<T, A> {
         requires at_end { self.old.after ≡ [] }
         requires needed { gap self.old < additional }
         ensures made { OnOk result (self.new ≡ with_room (type_size T.row) self.old additional) }
-        ensures refused { IfErr result (λ e. LacksRoom (type_size T.row) self.old additional e × (self.new ≡ self.old)) }
+        ensures refused { IfErr result (LacksRoom (type_size T.row) self.old additional) }
+        ensures unchanged { OnErr result (self.new ≡ self.old) }
     {
         let len = self.start;
         self.block.try_reserve(len, additional)?;
@@ -258,7 +279,8 @@ impl<T, A: Allocator> GapBuffer<T, A> {
 
     /// Takes the element before the cursor, if there is one.
     pub fn delete_back(&mut self) -> Option<T>
-        ensures taken { MatchOption result ((self.old.before ≡ []) × (self.new.before ≡ [])) (λ x. self.old.before ≡ self.new.before ++ x ∷ []) }
+        ensures taken { MatchOption result ((self.old.before ≡ []) × (self.new.before ≡ []))
+            (λ x. self.old.before ≡ self.new.before ++ x ∷ []) }
         ensures rest { self.new ≡ with_parts self.old self.new.before self.old.after }
     {
         if self.start == 0 {
@@ -273,7 +295,8 @@ impl<T, A: Allocator> GapBuffer<T, A> {
     /// Takes the element after the cursor, if there is one.
     #[tactic(auto, using(crate::proofs::Taking::from_behind))]
     pub fn delete_forward(&mut self) -> Option<T>
-        ensures taken { MatchOption result ((self.old.after ≡ []) × (self.new.after ≡ [])) (λ x. self.old.after ≡ x ∷ self.new.after) }
+        ensures taken { MatchOption result ((self.old.after ≡ []) × (self.new.after ≡ []))
+            (λ x. self.old.after ≡ x ∷ self.new.after) }
         ensures rest { self.new ≡ with_parts self.old self.old.before self.new.after }
     {
         if self.end == self.block.capacity() {
@@ -288,7 +311,10 @@ impl<T, A: Allocator> GapBuffer<T, A> {
     #[tactic(auto, using(crate::proofs::Moves::across))]
     fn go_back(&mut self, by: usize)
         requires { by ≤ cursor self.old }
-        ensures { let at = cursor self.old - by in self.new ≡ wrote (with_parts self.old (take at self.old.before) (drop at self.old.before ++ self.old.after)) (travel self.old by) }
+        ensures { let at = cursor self.old - by in
+            let before = take at self.old.before in
+            let after = drop at self.old.before ++ self.old.after in
+            self.new ≡ wrote (with_parts self.old before after) (travel self.old by) }
     {
         let start = self.start - by;
         let end = self.end - by;
@@ -302,7 +328,9 @@ impl<T, A: Allocator> GapBuffer<T, A> {
     #[tactic(auto, using(crate::proofs::Moves::across))]
     fn go_forward(&mut self, by: usize)
         requires { by ≤ length self.old.after }
-        ensures { self.new ≡ wrote (with_parts self.old (self.old.before ++ take by self.old.after) (drop by self.old.after)) (travel self.old by) }
+        ensures { let before = self.old.before ++ take by self.old.after in
+            let after = drop by self.old.after in
+            self.new ≡ wrote (with_parts self.old before after) (travel self.old by) }
     {
         let _within = self.block.capacity();
         self.block.move_run(self.end, self.start, by);
@@ -325,7 +353,8 @@ impl<T, A: Allocator> GapBuffer<T, A> {
         self.end = capacity;
     }
 
-    /// The block, and how many elements stand at its first places and how many at its last. It takes no memory.
+    /// The block, and how many elements stand at its first places and how many at its last. It
+    /// takes no memory.
     #[tactic(auto, using(crate::proofs::Taking::apart))]
     pub fn into_parts(self) -> (RawVec<T, A>, usize, usize)
         ensures { IsPartedIn self result.0 result.1 result.2 }
@@ -335,7 +364,8 @@ impl<T, A: Allocator> GapBuffer<T, A> {
         (block, start, behind)
     }
 
-    /// Moves the cursor to `position`. Each element that passes the gap is written once, and none where there is no gap.
+    /// Moves the cursor to `position`. Each element that passes the gap is written once, and none
+    /// where there is no gap.
     #[tactic(auto, using(crate::proofs::Texts::cut_behind))]
     pub fn move_to(&mut self, position: usize)
         requires { position ≤ len self.old }
@@ -353,8 +383,9 @@ impl<T, A: Allocator> GapBuffer<T, A> {
 impl<T, A: Allocator> GapBuffer<T, A> {
     ghost use Rattle.aa_gap.specs.Editing.{with_edit, EditsAll, EditsUpTo};
 
-    /// Does the edits of an iterator that ends, one after another. A refusal is that of an `Insert` which found no free place; its
-    /// element is dropped, the edits before it are done, and those after it are left in the iterator.
+    /// Does the edits of an iterator that ends, one after another. A refusal is that of an `Insert`
+    /// which found no free place; its element is dropped, the edits before it are done, and those
+    /// after it are left in the iterator.
     #[tactic(auto, using(crate::proofs::Pages::one_by_one))]
     pub fn edit_all<I: Iterator<Item = Edit<T>>>(
         &mut self,
@@ -367,7 +398,8 @@ impl<T, A: Allocator> GapBuffer<T, A> {
         ensures done { let size = type_size T.row in
             OnOk result (EditsAll I.next_gives edits.old size self.old edits.new self.new) }
         ensures refused { let size = type_size T.row in
-            IfErr result (λ e. EditsUpTo I.next_gives edits.old size self.old e edits.new self.new) }
+            IfErr result
+            (λ e. EditsUpTo I.next_gives edits.old size self.old e edits.new self.new) }
         ensures goes_on { OnErr result (I.can_next edits.new × IsFinite (I.remaining edits.new)) }
     {
         // It tells the prover that there are as many places as elements.
@@ -383,7 +415,9 @@ impl<T, A: Allocator> GapBuffer<T, A> {
     where
         T: Drop,
         ensures done { OnOk result (self.new ≡ with_edit (type_size T.row) self.old edit) }
-        ensures refused { IfErr result (λ e. LacksRoom (type_size T.row) self.old 1 e × (self.new ≡ self.old) × (x : T) × (edit ≡ Edit.Insert x)) }
+        ensures refused { IfErr result (LacksRoom (type_size T.row) self.old 1) }
+        ensures unchanged { OnErr result (self.new ≡ self.old) }
+        ensures inserts { OnErr result ((x : T) × (edit ≡ Edit.Insert x)) }
     {
         match edit {
             Edit::Insert(item) => {

@@ -1,5 +1,5 @@
 -- Clones of elements put into the first places of a block, one after another.
-use Rattle.std.proofs.Common.{◌≡◌, ℕ, ◌+◌, ◌<◌, ◌≤◌, List, [], ◌∷◌, ◌++◌, length, take, get_or, Option, Some, sym, ap, ◌∙◌, subst, arith, length-append}
+use Rattle.std.proofs.Common.{◌≡◌, ℕ, ◌+◌, ◌<◌, List, [], ◌∷◌, ◌++◌, length, take, get_or, Option, Some, sym, ap, ◌∙◌, subst, arith, length-append}
 use Rattle.std.specs.Prelude.{slice_set}
 use Rattle.std.specs.List.{AllZip}
 use Rattle.std.proofs.lemmas.List.{length-take-le}
@@ -26,9 +26,3 @@ module _ {X : Type 0} (clones : X → X → Type 0) where
         filled = IsRun-push places 0 (length zs) y i (length (zs ++ x ∷ [])) (omega (arith, long)) more room p.filled;
         each = subst (λ ys. AllZip clones (zs ++ x ∷ []) ys) (sym (run-push places 0 (length zs) y i (length (zs ++ x ∷ [])) (omega (arith, long)) more room)) (AllZip-push clones zs (run places 0 (length zs)) x y p.each c);
       })
-
-  -- a beginning of as many as were put
-  pub beginning-cloned : (xs : List X) (places : List (Option X)) (n : ℕ) → n ≤ length xs → HoldsClones clones (take n xs) places → IsRun places 0 n × AllZip clones (take n xs) (run places 0 n)
-  beginning-cloned xs places n h p =
-      let long : length (take n xs) ≡ n = length-take-le n xs h in
-      (subst (λ k. IsRun places 0 k) long p.filled, subst (λ k. AllZip clones (take n xs) (run places 0 k)) long p.each)

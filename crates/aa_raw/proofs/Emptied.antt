@@ -3,15 +3,12 @@ use Rattle.std.proofs.Common.{◌≡◌, ℕ, ◌+◌, ◌<◌, ◌≤◌, List,
 use Rattle.std.specs.Prelude.{slice_set, is_some}
 use Rattle.std.proofs.lemmas.List.{length-replicate, replicate_more}
 use Rattle.aa_raw.specs.Places.{IsRun, IsFilled, with_run}
-use Rattle.aa_raw.proofs.Places.{with_run_more, outside, run_filled, length-with_run}
+use Rattle.aa_raw.proofs.Places.{with_run_more, outside, run_filled}
 
 module _ {X : Type 0} where
   -- the n places from the index on, emptied
   abbrev pub emptied : List (Option X) → (from n : ℕ) → List (Option X)
   emptied cs from n = with_run cs from n (replicate n None)
-
-  pub length-emptied : (cs : List (Option X)) (from n : ℕ) → from + n ≤ length cs → length (emptied cs from n) ≡ length cs
-  length-emptied cs from n h = length-with_run cs from n (replicate n None) h (length-replicate n None)
 
   -- the next place is still filled
   pub emptied-next : (cs : List (Option X)) (from n k at : ℕ) → from + k ≡ at → IsRun cs from n → k < n → IsFilled (emptied cs from k) at

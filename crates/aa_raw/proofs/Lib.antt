@@ -18,4 +18,6 @@ mod Spots
 mod Walk
 pub mod Cloned
 pub mod Beyond
+pub mod BothEnds
 mod LeftOver
+pub mod TwoRuns

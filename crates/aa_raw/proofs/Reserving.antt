@@ -1,11 +1,10 @@
 -- What a reserve leaves, and how many places there are after the calls of a block.
-use Rattle.std.proofs.Common.{◌≡◌, ℕ, ◌+◌, ◌-◌, ◌<◌, ◌≤◌, List, ◌++◌, length, take, replicate, Option, None, refl, sym, ap, ◌∙◌, arith, inl, inr, length-append}
+use Rattle.std.proofs.Common.{◌≡◌, ℕ, ◌+◌, ◌-◌, ◌<◌, ◌≤◌, List, length, replicate, Option, None, refl, sym, ap, ◌∙◌, arith, inl, inr}
 use Rattle.std.specs.Prelude.{Bool, if◌then◌else◌}
 use Rattle.std.proofs.lemmas.Bool.{cases_lt}
 use Rattle.std.proofs.lemmas.Bool.Decides.{eqb_tells, nat_tests}
-use Rattle.std.proofs.lemmas.List.{take_at, length-take-le, length-replicate}
 use Rattle.aa_raw.specs.Growth.{usize_max, sized}
-use Rattle.aa_raw.specs.Block.{Block, Reserves, fresh, grown_to}
+use Rattle.aa_raw.specs.Block.{Block, Reserves, fresh}
 use Rattle.aa_raw.specs.Places.{empty_places, endless_places}
 use Rattle.aa_raw.specs.declared.raw_vec.Growth.{Growth}
 use Rattle.std.specs.List.{length_refill}
@@ -27,27 +26,6 @@ module _ {X A : Type 0} (size : ℕ) (old : Block X A) (n k wanted : ℕ) where
     runs = refl;
     alloc = refl;
   }
-
-  -- where they don't, it has grown
-  pub Reserves-grows : length old.places < n + k → n ≤ length old.places → n + k ≤ wanted → wanted ≤ usize_max → 0 < size → Reserves size old n k wanted (grown_to old n wanted)
-  Reserves-grows short front enough few has_size =
-      let kept : List (Option X) = take n old.places in
-      let rest : List (Option X) = replicate (wanted - n) None in
-      let cut : length kept ≡ n = length-take-le n old.places front in
-      let long : length (kept ++ rest) ≡ wanted = omega (arith, length-append kept rest, cut, length-replicate {A = Option X} (wanted - n) None) in
-      record {
-        fits = λ h. absurd (omega arith);
-        grows = λ h. (has_size, refl);
-        room = omega arith;
-        within = omega arith;
-        capacity = grind (arith, nat_tests);
-        kept = take_at kept rest n cut;
-        growth = refl;
-        grown = grind (arith, nat_tests);
-        written = refl;
-        runs = refl;
-        alloc = refl;
-      }
 
 -- a new block of no places that has made room for n and no more is a new block of n
 pub fresh-reserved : {X A : Type 0} (size n : ℕ) (g : Growth) (a : A) (b : Block X A) → Reserves size (fresh size 0 g a) 0 n (0 + n) b → b ≡ fresh size n g a

@@ -12,31 +12,41 @@ use denote.Param.Nested.{deepest}
 use denote.Param.Weighed.{Weighed, none_max, w_list}
 
 module _ (g : Former {0}) where
+  -- how many values an option has in a row, behind which n others stand
   abbrev pub option_count : Option g.Shape → Count → Count
   option_count None n = n
   option_count (Some a) n = g.count a n
 
-  abbrev pub option_put : (X : Type 0) (o : Option (g.Of X)) (n : Count) → Row X n → Row X (option_count (option_map (g.shape X) o) n)
+  abbrev pub option_put : (X : Type 0) (o : Option (g.Of X)) (n : Count) → Row X n
+      → Row X (option_count (option_map (g.shape X) o) n)
   option_put X None n t = t
   option_put X (Some y) n t = g.put X y n t
 
-  abbrev pub option_get : (X : Type 0) (a : Option g.Shape) (n : Count) → Row X (option_count a n) → Option (g.Of X) × Row X n
+  abbrev pub option_get : (X : Type 0) (a : Option g.Shape) (n : Count) → Row X (option_count a n)
+      → Option (g.Of X) × Row X n
   option_get X None n v = (None, v)
   option_get X (Some a) n v = let r : g.Of X × Row X n = g.get X a n v in (Some r.0, r.1)
 
-  pub option_get-put : (X : Type 0) (o : Option (g.Of X)) (n : Count) (t : Row X n) → option_get X (option_map (g.shape X) o) n (option_put X o n t) ≡ (o, t)
+  pub option_get-put : (X : Type 0) (o : Option (g.Of X)) (n : Count) (t : Row X n)
+      → option_get X (option_map (g.shape X) o) n (option_put X o n t) ≡ (o, t)
   option_get-put X None n t = refl
   option_get-put X (Some y) n t = λ i. (Some (g.get-put X y n t i).0, (g.get-put X y n t i).1)
 
   pub option_put-get : (X : Type 0) (a : Option g.Shape) (n : Count) (v : Row X (option_count a n))
-      → ◌≡◌ {A = (b : Option g.Shape) × Row X (option_count b n)} (option_map (g.shape X) (option_get X a n v).0, option_put X (option_get X a n v).0 n (option_get X a n v).1) (a, v)
+      → ◌≡◌ {A = (b : Option g.Shape) × Row X (option_count b n)} (
+        option_map (g.shape X) (option_get X a n v).0,
+        option_put X (option_get X a n v).0 n (option_get X a n v).1,
+      ) (a, v)
   option_put-get X None n v = refl
   option_put-get X (Some a) n v = λ i. (Some (g.put-get X a n v i).0, (g.put-get X a n v i).1)
 
-  pub option_get-map : (X Y : Type 0) (h : X → Y) (a : Option g.Shape) (n : Count) (v : Row X (option_count a n))
-      → option_get Y a n (over h (option_count a n) v) ≡ (option_map (g.map X Y h) (option_get X a n v).0, over h n (option_get X a n v).1)
+  pub option_get-map : (X Y : Type 0) (h : X → Y) (a : Option g.Shape) (n : Count)
+      (v : Row X (option_count a n))
+      → option_get Y a n (over h (option_count a n) v)
+      ≡ (option_map (g.map X Y h) (option_get X a n v).0, over h n (option_get X a n v).1)
   option_get-map X Y h None n v = refl
-  option_get-map X Y h (Some a) n v = λ i. (Some (g.get-map X Y h a n v i).0, (g.get-map X Y h a n v i).1)
+  option_get-map X Y h (Some a) n v =
+      λ i. (Some (g.get-map X Y h a n v i).0, (g.get-map X Y h a n v i).1)
 
   abbrev pub option : Former {0}
   option = record {
@@ -61,7 +71,8 @@ module _ {g : Former {0}} (w : Weighed g) where
   option_weight X μ (Some y) = w.weight X μ y
 
   pub option_puts : (X : Type 0) (μ : X → ℕ) (o : Option (g.Of X)) (n : Count) (t : Row X n)
-      → deepest μ ((option g).count ((option g).shape X o) n) ((option g).put X o n t) ≡ max (option_weight X μ o) (deepest μ n t)
+      → deepest μ ((option g).count ((option g).shape X o) n) ((option g).put X o n t)
+      ≡ max (option_weight X μ o) (deepest μ n t)
   option_puts X μ None n t = none_max (deepest μ n t)
   option_puts X μ (Some y) n t = w.puts X μ y n t
 
@@ -71,7 +82,8 @@ module _ {g : Former {0}} (w : Weighed g) where
   abbrev pub w_slots : Weighed (slots g)
   w_slots = w_list w_option
 
-module _ {X Y : Type 0} (c : Option X → Gv) (c' : Option Y → Gv) (h : X → Y) (none : c None ≡ c' None) (some : (x : X) → c (Some x) ≡ c' (Some (h x))) where
+module _ {X Y : Type 0} (c : Option X → Gv) (c' : Option Y → Gv) (h : X → Y)
+    (none : c None ≡ c' None) (some : (x : X) → c (Some x) ≡ c' (Some (h x))) where
   one_recoded : (o : Option X) → c o ≡ c' (option_map h o)
   one_recoded None = none
   one_recoded (Some x) = some x

@@ -6,8 +6,10 @@ use Rattle.aa_raw.specs.Left.{Left}
 use Rattle.aa_raw.specs.declared.vec.into_iter.IntoIter.TheInside.{Inside}
 
 module _ {X A : Type 0} where
+  -- what a contract sees of an iterator with these fields
   abbrev pub left_of : Inside X A → Left X A
-  left_of v = record { items = run v.block.places v.front (v.back - v.front); alloc = v.block.alloc }
+  left_of v =
+      record { items = run v.block.places v.front (v.back - v.front); alloc = v.block.alloc }
 
   -- the places from the front up to the back hold values, and no others do
   pub record IsBetween (v : Inside X A) : Type 0 where

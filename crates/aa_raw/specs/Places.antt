@@ -5,8 +5,8 @@ use Rattle.aa_raw.specs.Growth.{usize_max}
 use denote.RattleType.{RattleType}
 use Rattle.std.specs.Mem.{type_size}
 
--- a block may have c places: they take fewer than 2 ^ 63 bytes, and where they take none for want of an element's size there are as
--- many as can be
+-- a block may have c places: they take fewer than 2 ^ 63 bytes, and where they take none for want
+-- of an element's size there are as many as can be
 abbrev pub IsCapacity : RattleType → ℕ → Type 0
 IsCapacity R c = (c * type_size R < 2 ^ 63) × (type_size R ≡ 0 → usize_max ≤ c)
 

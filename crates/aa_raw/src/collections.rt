@@ -45,7 +45,8 @@ impl From<AllocError> for TryReserveError {
 
     ghost from_gives = { λ _ error. error.kind ≡ TryReserveErrorKind.AllocError 1 };
 
-    /// A refusal of room for one element, so that `?` works for who makes a box and a vector in one function. The original has none.
+    /// A refusal of room for one element, so that `?` works for who makes a box and a vector in one
+    /// function. The original has none.
     fn from(_: AllocError) -> TryReserveError {
         TryReserveErrorKind::AllocError { capacity: 1 }.into()
     }
@@ -70,8 +71,9 @@ impl fmt::Display for TryReserveError {
 
 impl Error for TryReserveError {}
 
-/// What a refused call that took a value answers: the value comes back in `source`. It passes through `?` as it is, and as the
-/// error alone where that is what the function answers. The original has none, since its calls abort.
+/// What a refused call that took a value answers: the value comes back in `source`. It passes
+/// through `?` as it is, and as the error alone where that is what the function answers. The
+/// original has none, since its calls abort.
 #[derive(Debug, Drop)]
 pub struct Refused<S> {
     /// What the call was given.

@@ -1,15 +1,16 @@
-//! `RawVec`: a block of places over an allocator. Each place is empty or filled; which ones are filled is known to the caller
-//! and to contracts, and not to the running block.
+//! `RawVec`: a block of places over an allocator. Each place is empty or filled; which ones are
+//! filled is known to the caller and to contracts, and not to the running block.
 ghost use Rattle.std.specs.Prelude.{◌≡◌, ◌≢◌, ◌+◌, ◌-◌, ◌*◌, ◌^◌, ◌<◌, ◌≤◌, length, map, take, drop, replicate, get_or, slice_set, Some, None, IfOk, IfErr, IfSome, IfNone, OnOk, OnErr, IsOk, IsTrue, false, if◌then◌else◌, ◌==◌};
 ghost use Rattle.std.specs.Mem.{type_size};
 ghost use Rattle.std.specs.Borrow.{sem};
 ghost use Rattle.std.specs.Fn.{CalledAtPairMut};
 ghost use Rattle.aa_raw.specs.Places.{IsCapacity, IsFilled, IsRun, moved, with_run};
-ghost use Rattle.aa_raw.specs.Block.{fresh, with_places, wrote, grown_to, shrunk_to, wanted, Reserves, Reserved};
+ghost use Rattle.aa_raw.specs.Block.{fresh, with_places, without, with_moved, wrote, grown_to, shrunk_to, cut_to, wanted, wanted_by, Reserves, Reserved};
 ghost use Rattle.aa_raw.specs.Closures.{TakesPairMut, CalledAtPlaces};
 ghost use Rattle.aa_raw.specs.Growth.{amortized, least_of, usize_max};
-ghost use Rattle.aa_raw.specs.Refusals.{IsRefusedAt};
-ghost use Rattle.aa_raw.specs.Room.{LacksRoom};
+ghost use Rattle.aa_raw.specs.Refusals.{IsRefusedAt, RefusesBlock};
+ghost use Rattle.aa_raw.specs.Room.{LacksRoom, NeedsBlock};
+ghost use Rattle.aa_raw.specs.TwoRuns.{AreApart, AreJoined, AreParted, IsFull, ReservedRuns, ReservesRuns, asked_for, both, grown_with};
 
 use crate::collections::{TryReserveError, TryReserveErrorKind};
 use crate::row::{Claim, Row, allocate, dangle, deallocate, forget_row};
@@ -29,12 +30,16 @@ pub enum Growth {
 }
 
 impl Growth {
-    /// The capacity that a growth with room to spare asks for, from `capacity` elements of type `T` to at least `required`; none
-    /// where its bytes pass `isize::MAX`. It takes no memory. The original has no such call.
+    /// The capacity that a growth with room to spare asks for, from `capacity` elements of type `T`
+    /// to at least `required`; none where its bytes pass `isize::MAX`. It takes no memory. The
+    /// original has no such call.
     pub fn capacity_for<T>(self, capacity: usize, required: usize) -> Option<usize>
         requires { capacity < 2 ^ 63 }
-        ensures some { IfSome result (λ c. (c ≡ amortized self capacity required (least_of (type_size T.row))) × (c * type_size T.row < 2 ^ 63)) }
-        ensures none { IfNone result (2 ^ 63 ≤ amortized self capacity required (least_of (type_size T.row)) * type_size T.row) }
+        ensures some { IfSome result
+            (λ c. c ≡ amortized self capacity required (least_of (type_size T.row))) }
+        ensures fits { IfSome result (λ c. c * type_size T.row < 2 ^ 63) }
+        ensures none { let c = amortized self capacity required (least_of (type_size T.row)) in
+            IfNone result (2 ^ 63 ≤ c * type_size T.row) }
     {
         let next = match self {
             Growth::Doubling => 2 * capacity,
@@ -44,15 +49,17 @@ impl Growth {
     }
 }
 
-// What a reserve asks for: room to spare by the block's growth, so that moves are few over many calls, or no more than is needed.
+// What a reserve asks for: room to spare by the block's growth, so that moves are few over many
+// calls, or no more than is needed.
 #[derive(Clone, Copy, Drop)]
 enum Room {
     Amortized,
     Exact,
 }
 
-/// A block of places over the allocator `A`. Elements without size take no memory and have `usize::MAX` places. A block that
-/// is dropped frees its memory; what stands in its places is not dropped. It stands for the original's `RawVec`, which is private there.
+/// A block of places over the allocator `A`. Elements without size take no memory and have
+/// `usize::MAX` places. A block that is dropped frees its memory; what stands in its places is not
+/// dropped. It stands for the original's `RawVec`, which is private there.
 pub struct RawVec<T, A: Allocator = Global> {
     row: Row<T>,
     capacity: usize,
@@ -84,11 +91,13 @@ impl<T> RawVec<T, Global> {
         RawVec::new_in(alloc)
     }
 
-    /// A block of `capacity` empty places on the global allocator. Where elements have a size and `capacity` is above 0 it takes
-    /// memory, and is refused as `with_capacity_in` is. It stands for `RawVec::with_capacity`.
+    /// A block of `capacity` empty places on the global allocator. Where elements have a size and
+    /// `capacity` is above 0 it takes memory, and is refused as `with_capacity_in` is. It stands
+    /// for `RawVec::with_capacity`.
     pub fn with_capacity(alloc: Global, capacity: usize) -> Result<Self, TryReserveError>
-        ensures made { IfOk result (λ v. v ≡ fresh (type_size T.row) capacity Growth.Doubling alloc) }
-        ensures refused { IfErr result (λ e. (0 < capacity) × (0 < type_size T.row) × IsRefusedAt e capacity) }
+        ensures made { IfOk result
+            (λ v. v ≡ fresh (type_size T.row) capacity Growth.Doubling alloc) }
+        ensures refused { IfErr result (RefusesBlock capacity (type_size T.row)) }
     {
         RawVec::with_capacity_in(capacity, alloc)
     }
@@ -105,7 +114,8 @@ impl<T, A: Allocator> RawVec<T, A> {
         RawVec::new_growing_in(Growth::Doubling, alloc)
     }
 
-    /// An empty block that will grow as `growth` says. It takes no memory. The original has no such choice.
+    /// An empty block that will grow as `growth` says. It takes no memory. The original has no such
+    /// choice.
     #[tactic(auto, using(crate::proofs::Reserving::made_empty))]
     pub fn new_growing_in(growth: Growth, alloc: A) -> Self
         ensures { result ≡ fresh (type_size T.row) 0 growth alloc }
@@ -115,13 +125,14 @@ impl<T, A: Allocator> RawVec<T, A> {
         made(alloc, growth, capacity, row)
     }
 
-    /// A block of `capacity` empty places. Where elements have a size and `capacity` is above 0 it takes memory; a refusal is
-    /// `CapacityOverflow` where the bytes pass `isize::MAX`, and else `AllocError` with this capacity. It stands for
-    /// `RawVec::with_capacity_in`.
+    /// A block of `capacity` empty places. Where elements have a size and `capacity` is above 0 it
+    /// takes memory; a refusal is `CapacityOverflow` where the bytes pass `isize::MAX`, and else
+    /// `AllocError` with this capacity. It stands for `RawVec::with_capacity_in`.
     #[tactic(auto, using(crate::proofs::Reserving::made_empty))]
     pub fn with_capacity_in(capacity: usize, alloc: A) -> Result<Self, TryReserveError>
-        ensures made { IfOk result (λ v. v ≡ fresh (type_size T.row) capacity Growth.Doubling alloc) }
-        ensures refused { IfErr result (λ e. (0 < capacity) × (0 < type_size T.row) × IsRefusedAt e capacity) }
+        ensures made { IfOk result
+            (λ v. v ≡ fresh (type_size T.row) capacity Growth.Doubling alloc) }
+        ensures refused { IfErr result (RefusesBlock capacity (type_size T.row)) }
     {
         if capacity == 0 || is_sizeless::<T>() {
             return Ok(RawVec::new_in(alloc));
@@ -135,7 +146,8 @@ impl<T, A: Allocator> RawVec<T, A> {
         }
     }
 
-    /// How many places there are; `usize::MAX` for elements without size. It stands for `RawVec::capacity`.
+    /// How many places there are; `usize::MAX` for elements without size. It stands for
+    /// `RawVec::capacity`.
     #[inline]
     pub fn capacity(&self) -> usize
         ensures count { result ≡ length self.now.places }
@@ -143,7 +155,8 @@ impl<T, A: Allocator> RawVec<T, A> {
     {
         self.claim.known();
         let capacity = self.capacity;
-        // Elements without size have `usize::MAX` places. Said so, the compiler knows it and reads no field.
+        // Elements without size have `usize::MAX` places. Said so, the compiler knows it and reads
+        // no field.
         if is_sizeless::<T>() {
             return capacity.max(usize::MAX);
         }
@@ -189,7 +202,7 @@ impl<T, A: Allocator> RawVec<T, A> {
     #[inline(always)]
     pub fn forget_from(&mut self, from: usize)
         requires { from ≤ length self.old.places }
-        ensures { self.new ≡ with_places self.old (with_run self.old.places from (length self.old.places - from) (replicate (length self.old.places - from) None)) }
+        ensures { self.new ≡ without self.old from (length self.old.places - from) }
     {
         let count = self.capacity - from;
         self.row.forget(from, count);
@@ -201,7 +214,7 @@ impl<T, A: Allocator> RawVec<T, A> {
     where
         T: Drop,
         requires { IsRun self.old.places from count }
-        ensures { self.new ≡ with_places self.old (with_run self.old.places from count (replicate count None)) }
+        ensures { self.new ≡ without self.old from count }
     {
         // It does nothing but tell the prover that places are at most `usize::MAX`.
         let _within = self.capacity;
@@ -227,8 +240,8 @@ impl<T, A: Allocator> RawVec<T, A> {
         self.row.get_mut(at)
     }
 
-    /// Lends the values in two different filled places to `f`, once, and puts back what it leaves of them. Nothing is counted as
-    /// written. The original has no such call.
+    /// Lends the values in two different filled places to `f`, once, and puts back what it leaves
+    /// of them. Nothing is counted as written. The original has no such call.
     #[inline(always)]
     pub fn pair_with<R, F: FnMut(&mut T, &mut T) -> R>(
         &mut self,
@@ -237,8 +250,10 @@ impl<T, A: Allocator> RawVec<T, A> {
         f: &mut F,
     ) -> R
         requires filled { IsFilled self.old.places i × IsFilled self.old.places j × (i ≢ j) }
-        requires callable { (x y : T) → get_or self.old.places i None ≡ Some x → get_or self.old.places j None ≡ Some y → TakesPairMut F.FnMut f.old x y }
-        ensures { CalledAtPlaces (CalledAtPairMut F.FnMut) f.old self.old i j result f.new self.new }
+        requires callable { (x y : T) → get_or self.old.places i None ≡ Some x
+            → get_or self.old.places j None ≡ Some y → TakesPairMut F.FnMut f.old x y }
+        ensures { CalledAtPlaces (CalledAtPairMut F.FnMut)
+            f.old self.old i j result f.new self.new }
     {
         let mut x = self.row.read(i);
         let mut y = self.row.read(j);
@@ -248,7 +263,8 @@ impl<T, A: Allocator> RawVec<T, A> {
         answer
     }
 
-    /// The `count` values from place `from` on. Where `count` is 0, `from` is still at most the capacity.
+    /// The `count` values from place `from` on. Where `count` is 0, `from` is still at most the
+    /// capacity.
     pub fn slice(&self, from: usize, count: usize) -> &[T]
         requires { IsRun self.now.places from count }
         ensures { take count (drop from self.now.places) ≡ map Some result.now }
@@ -256,20 +272,23 @@ impl<T, A: Allocator> RawVec<T, A> {
         self.row.slice(from, count)
     }
 
-    /// The `count` values from place `from` on, to write to. Where `count` is 0, `from` is still at most the capacity.
+    /// The `count` values from place `from` on, to write to. Where `count` is 0, `from` is still at
+    /// most the capacity.
     pub fn slice_mut(&mut self, from: usize, count: usize) -> &mut [T]
         requires { IsRun self.old.places from count }
-        ensures* writes_back { sem 𝓛 (lends_places T.row A.row A.Allocator self.entry from count result) }
+        ensures* writes_back { sem 𝓛
+            (lends_places T.row A.row A.Allocator self.entry from count result) }
         ensures value { take count (drop from self.old.places) ≡ map Some result.now }
     {
         self.row.slice_mut(from, count)
     }
 
-    /// Moves the value in the filled place `from` to the place `to`. A value that stood there is forgotten.
+    /// Moves the value in the filled place `from` to the place `to`. A value that stood there is
+    /// forgotten.
     #[inline(always)]
     pub fn move_one(&mut self, from: usize, to: usize)
         requires { IsFilled self.old.places from × (to < length self.old.places) }
-        ensures { self.new ≡ wrote self.old (moved self.old.places from to 1) (if from == to then 0 else 1) }
+        ensures { self.new ≡ with_moved self.old from to 1 }
     {
         if from == to {
             return;
@@ -278,12 +297,12 @@ impl<T, A: Allocator> RawVec<T, A> {
         self.put(to, item);
     }
 
-    /// Moves the `count` values from place `from` on to the places from `to` on, which may overlap them. Other values that
-    /// stood there are forgotten.
+    /// Moves the `count` values from place `from` on to the places from `to` on, which may overlap
+    /// them. Other values that stood there are forgotten.
     #[inline]
     pub fn move_run(&mut self, from: usize, to: usize, count: usize)
         requires { IsRun self.old.places from count × (to + count ≤ length self.old.places) }
-        ensures { self.new ≡ wrote self.old (moved self.old.places from to count) (if from == to then 0 else count) }
+        ensures { self.new ≡ with_moved self.old from to count }
     {
         if from == to {
             return;
@@ -296,12 +315,12 @@ impl<T, A: Allocator> RawVec<T, A> {
         }
     }
 
-    /// Moves the `count` values from place `from` on down to the places from `to` on, as `move_run` does, with far less work where
-    /// they are few.
+    /// Moves the `count` values from place `from` on down to the places from `to` on, as `move_run`
+    /// does, with far less work where they are few.
     #[inline(always)]
     pub fn move_down(&mut self, from: usize, to: usize, count: usize)
         requires { IsRun self.old.places from count × (to ≤ from) }
-        ensures { self.new ≡ wrote self.old (moved self.old.places from to count) (if from == to then 0 else count) }
+        ensures { self.new ≡ with_moved self.old from to count }
     {
         if from == to {
             return;
@@ -314,13 +333,14 @@ impl<T, A: Allocator> RawVec<T, A> {
         }
     }
 
-    /// Moves the `count` values from place `from` on of the block `other` to the places from `to` on of this one. Values that
-    /// stood there are forgotten.
+    /// Moves the `count` values from place `from` on of the block `other` to the places from `to`
+    /// on of this one. Values that stood there are forgotten.
     #[inline]
     pub fn transfer(&mut self, to: usize, other: &mut RawVec<T, A>, from: usize, count: usize)
         requires { IsRun other.old.places from count × (to + count ≤ length self.old.places) }
-        ensures here { self.new ≡ wrote self.old (with_run self.old.places to count (take count (drop from other.old.places))) count }
-        ensures there { other.new ≡ with_places other.old (with_run other.old.places from count (replicate count None)) }
+        ensures here { let values = take count (drop from other.old.places) in
+            self.new ≡ wrote self.old (with_run self.old.places to count values) count }
+        ensures there { other.new ≡ without other.old from count }
     {
         let _capacities = (self.capacity, other.capacity);
         self.row.take_run(to, &mut other.row, from, count);
@@ -343,13 +363,16 @@ impl<T, A: Allocator> RawVec<T, A> {
         }
     }
 
-    /// Puts copies of all of `source` into the places from `at` on, each as by `put`: with one copy of memory.
+    /// Puts copies of all of `source` into the places from `at` on, each as by `put`: with one copy
+    /// of memory.
     #[inline(always)]
     pub fn put_copies(&mut self, at: usize, source: &[T])
     where
         T: Copy,
         requires { at + length source.now ≤ length self.old.places }
-        ensures { self.new ≡ wrote self.old (with_run self.old.places at (length source.now) (map Some source.now)) (length source.now) }
+        ensures { let count = length source.now in
+            let places = with_run self.old.places at count (map Some source.now) in
+            self.new ≡ wrote self.old places count }
     {
         let count = source.len();
         self.row.write_copies(at, source);
@@ -364,19 +387,21 @@ impl<T, A: Allocator> RawVec<T, A> {
     pub fn take_array<const N: usize>(&mut self) -> [T; N]
         requires { IsRun self.old.places 0 N }
         ensures value { take N self.old.places ≡ map Some result }
-        ensures after { self.new ≡ with_places self.old (with_run self.old.places 0 N (replicate N None)) }
+        ensures after { self.new ≡ without self.old 0 N }
     {
         self.row.read_array()
     }
 
-    /// Makes room for `additional` more than the first `len` places, which are filled. Where they fit, it does nothing; else it
-    /// takes a new block with room to spare, moves the `len` values there and gives the old block back. A refusal changes
-    /// nothing: `CapacityOverflow` where `len + additional` passes `usize::MAX` or the bytes pass `isize::MAX`, else
-    /// `AllocError` with the capacity asked for. It stands for `RawVec::try_reserve`.
+    /// Makes room for `additional` more than the first `len` places, which are filled. Where they
+    /// fit, it does nothing; else it takes a new block with room to spare, moves the `len` values
+    /// there and gives the old block back. A refusal changes nothing: `CapacityOverflow` where
+    /// `len + additional` passes `usize::MAX` or the bytes pass `isize::MAX`, else `AllocError`
+    /// with the capacity asked for. It stands for `RawVec::try_reserve`.
     #[inline(always)]
     pub fn try_reserve(&mut self, len: usize, additional: usize) -> Result<(), TryReserveError>
         requires { IsRun self.old.places 0 len }
-        ensures { Reserved (type_size T.row) self.old len additional (amortized self.old.growth (length self.old.places) (len + additional) (least_of (type_size T.row))) result self.new }
+        ensures { Reserved (type_size T.row) self.old len additional
+            (wanted (type_size T.row) self.old (len + additional)) result self.new }
     {
         if additional <= self.capacity - len || self.grow_for(Room::Amortized, len, additional) {
             return Ok(());
@@ -387,13 +412,15 @@ impl<T, A: Allocator> RawVec<T, A> {
     /// The same as `try_reserve`. It stands for `RawVec::reserve`, which aborts on a refusal.
     pub fn reserve(&mut self, len: usize, additional: usize) -> Result<(), TryReserveError>
         requires { IsRun self.old.places 0 len }
-        ensures { Reserved (type_size T.row) self.old len additional (amortized self.old.growth (length self.old.places) (len + additional) (least_of (type_size T.row))) result self.new }
+        ensures { Reserved (type_size T.row) self.old len additional
+            (wanted (type_size T.row) self.old (len + additional)) result self.new }
     {
         self.try_reserve(len, additional)
     }
 
-    /// Makes room for `additional` more than the first `len` places, which are filled, as `try_reserve` does and refused as it
-    /// is, but takes a block of no more places than needed. It stands for `RawVec::try_reserve_exact`.
+    /// Makes room for `additional` more than the first `len` places, which are filled, as
+    /// `try_reserve` does and refused as it is, but takes a block of no more places than needed. It
+    /// stands for `RawVec::try_reserve_exact`.
     #[inline(always)]
     pub fn try_reserve_exact(
         &mut self,
@@ -401,7 +428,8 @@ impl<T, A: Allocator> RawVec<T, A> {
         additional: usize,
     ) -> Result<(), TryReserveError>
         requires { IsRun self.old.places 0 len }
-        ensures { Reserved (type_size T.row) self.old len additional (len + additional) result self.new }
+        ensures { Reserved (type_size T.row) self.old len additional (len + additional)
+            result self.new }
     {
         if additional <= self.capacity - len || self.grow_for(Room::Exact, len, additional) {
             return Ok(());
@@ -409,20 +437,23 @@ impl<T, A: Allocator> RawVec<T, A> {
         Err(self.refusal(Room::Exact, len, additional))
     }
 
-    /// The same as `try_reserve_exact`. It stands for `RawVec::reserve_exact`, which aborts on a refusal.
+    /// The same as `try_reserve_exact`. It stands for `RawVec::reserve_exact`, which aborts on a
+    /// refusal.
     pub fn reserve_exact(&mut self, len: usize, additional: usize) -> Result<(), TryReserveError>
         requires { IsRun self.old.places 0 len }
-        ensures { Reserved (type_size T.row) self.old len additional (len + additional) result self.new }
+        ensures { Reserved (type_size T.row) self.old len additional (len + additional)
+            result self.new }
     {
         self.try_reserve_exact(len, additional)
     }
 
-    /// `try_reserve` for one more than the first `len` places; it tests for room itself. It stands for
-    /// `RawVec::reserve_for_push`, whose caller has found the block full.
+    /// `try_reserve` for one more than the first `len` places; it tests for room itself. It stands
+    /// for `RawVec::reserve_for_push`, whose caller has found the block full.
     #[inline(always)]
     pub fn reserve_for_push(&mut self, len: usize) -> Result<(), TryReserveError>
         requires { IsRun self.old.places 0 len }
-        ensures { Reserved (type_size T.row) self.old len 1 (amortized self.old.growth (length self.old.places) (len + 1) (least_of (type_size T.row))) result self.new }
+        ensures { Reserved (type_size T.row) self.old len 1
+            (wanted (type_size T.row) self.old (len + 1)) result self.new }
     {
         if len < self.capacity() || self.grow_for(Room::Amortized, len, 1) {
             return Ok(());
@@ -430,12 +461,17 @@ impl<T, A: Allocator> RawVec<T, A> {
         Err(self.refusal(Room::Amortized, len, 1))
     }
 
-    /// Cuts the block to `capacity` places, of which the first `len` are filled, in a new block; the old one is given back. To no
-    /// places it takes no memory. A refusal changes nothing. It stands for `RawVec::shrink_to_fit`, which aborts on a refusal.
+    /// Cuts the block to `capacity` places, of which the first `len` are filled, in a new block;
+    /// the old one is given back. To no places it takes no memory. A refusal changes nothing. It
+    /// stands for `RawVec::shrink_to_fit`, which aborts on a refusal.
     pub fn shrink_to_fit(&mut self, len: usize, capacity: usize) -> Result<(), TryReserveError>
-        requires { IsRun self.old.places 0 len × (len ≤ capacity) × (capacity ≤ length self.old.places) }
-        ensures shrunk { OnOk result (self.new ≡ (if type_size T.row == 0 then self.old else (if capacity == length self.old.places then self.old else shrunk_to self.old len capacity))) }
-        ensures refused { IfErr result (λ e. (self.new ≡ self.old) × (0 < capacity) × (capacity < length self.old.places) × (0 < type_size T.row) × (e.kind ≡ TryReserveErrorKind.AllocError capacity)) }
+        requires { IsRun self.old.places 0 len × (len ≤ capacity)
+            × (capacity ≤ length self.old.places) }
+        ensures shrunk { OnOk result (self.new ≡ cut_to (type_size T.row) self.old len capacity) }
+        ensures only_for_memory { let size = type_size T.row in
+            OnErr result (NeedsBlock size (length self.old.places) capacity) }
+        ensures number { IfErr result (λ e. e.kind ≡ TryReserveErrorKind.AllocError capacity) }
+        ensures unchanged { OnErr result (self.new ≡ self.old) }
     {
         if capacity == self.capacity || is_sizeless::<T>() {
             return Ok(());
@@ -447,12 +483,14 @@ impl<T, A: Allocator> RawVec<T, A> {
         Err(TryReserveErrorKind::AllocError { capacity }.into())
     }
 
-    // The growth of a reserve, out of line. It answers in a register, so that the test for room costs no stack.
+    // The growth of a reserve, out of line. It answers in a register, so that the test for room
+    // costs no stack.
     #[cold]
     #[inline(never)]
     fn grow_for(&mut self, room: Room, len: usize, additional: usize) -> bool
         requires { IsRun self.old.places 0 len × (length self.old.places < len + additional) }
-        ensures grown { IsTrue result → Reserves (type_size T.row) self.old len additional (wanted room (type_size T.row) self.old (len + additional)) self.new }
+        ensures grown { IsTrue result → Reserves (type_size T.row) self.old len additional
+            (wanted_by room (type_size T.row) self.old (len + additional)) self.new }
         ensures kept { result ≡ false → self.new ≡ self.old }
     {
         match self.capacity_for(room, len, additional) {
@@ -466,7 +504,8 @@ impl<T, A: Allocator> RawVec<T, A> {
     #[inline(never)]
     fn refusal(&self, room: Room, len: usize, additional: usize) -> TryReserveError
         requires { (len ≤ length self.now.places) × (length self.now.places < len + additional) }
-        ensures { LacksRoom (length self.now.places) len additional (wanted room (type_size T.row) self.now (len + additional)) result }
+        ensures { LacksRoom (length self.now.places) len additional
+            (wanted_by room (type_size T.row) self.now (len + additional)) result }
     {
         match self.capacity_for(room, len, additional) {
             Some(capacity) => TryReserveErrorKind::AllocError { capacity }.into(),
@@ -477,7 +516,11 @@ impl<T, A: Allocator> RawVec<T, A> {
     // The capacity that a growth asks for, unless a number passes what it may be.
     fn capacity_for(&self, room: Room, len: usize, additional: usize) -> Option<usize>
         requires { (len ≤ length self.now.places) × (length self.now.places < len + additional) }
-        ensures some { IfSome result (λ c. (c ≡ wanted room (type_size T.row) self.now (len + additional)) × (len + additional ≤ c) × (0 < type_size T.row) × IsCapacity T.row c) }
+        ensures some { IfSome result
+            (λ c. c ≡ wanted_by room (type_size T.row) self.now (len + additional)) }
+        ensures enough { IfSome result (λ c. len + additional ≤ c) }
+        ensures has_size { IfSome result (λ _. 0 < type_size T.row) }
+        ensures may_be { IfSome result (IsCapacity T.row) }
         ensures none { usize_max < len + additional → result ≡ None }
     {
         self.claim.known();
@@ -488,9 +531,11 @@ impl<T, A: Allocator> RawVec<T, A> {
         }
     }
 
-    // Moves the first `len` values to a new block of `capacity` places, by a growth, unless it is refused.
+    // Moves the first `len` values to a new block of `capacity` places, by a growth, unless it is
+    // refused.
     fn grow_to(&mut self, len: usize, capacity: usize) -> bool
-        requires { IsRun self.old.places 0 len × (len ≤ capacity) × (0 < type_size T.row) × IsCapacity T.row capacity }
+        requires { IsRun self.old.places 0 len × (len ≤ capacity) × (0 < type_size T.row)
+            × IsCapacity T.row capacity }
         ensures grown { IsTrue result → self.new ≡ grown_to self.old len capacity }
         ensures kept { result ≡ false → self.new ≡ self.old }
     {
@@ -520,6 +565,144 @@ impl<T, A: Allocator> RawVec<T, A> {
             Err(_) => false,
         }
     }
+
+    /// Makes room for `additional` more values than two runs have. Each is told by its first place
+    /// and how many values it has. Where they fit, it does nothing. Else it takes a new block with
+    /// room to spare, at whose beginning the runs stand in line, and gives the old one back. Each
+    /// value is moved once; others are forgotten. A refusal changes nothing, and says what one of
+    /// `try_reserve` does. The original has no such call.
+    #[tactic(auto, using(crate::proofs::TwoRuns::kept_runs))]
+    pub fn try_reserve_joined(
+        &mut self,
+        first: (usize, usize),
+        second: (usize, usize),
+        additional: usize,
+    ) -> Result<(), TryReserveError>
+        requires one { IsRun self.old.places first.0 first.1 }
+        requires two { IsRun self.old.places second.0 second.1 }
+        requires apart { AreApart first second }
+        ensures reserved { let wanted =
+            asked_for (type_size T.row) self.old (both first second + additional) in
+            ReservedRuns (type_size T.row) self.old first second additional wanted first.1 result
+            self.new }
+        ensures joined { IsFull self.old first second additional
+            → OnOk result (AreJoined self.old self.new first second) }
+    {
+        let len = self.count_both(first, second);
+        if additional <= self.capacity - len {
+            return Ok(());
+        }
+        if self.grow_runs(first, second, false, additional) {
+            return Ok(());
+        }
+        Err(self.refusal(Room::Amortized, len, additional))
+    }
+
+    /// The same, but the second run stands at the end of the new block, and the free places
+    /// between the two.
+    #[tactic(auto, using(crate::proofs::TwoRuns::kept_runs))]
+    pub fn try_reserve_parted(
+        &mut self,
+        first: (usize, usize),
+        second: (usize, usize),
+        additional: usize,
+    ) -> Result<(), TryReserveError>
+        requires one { IsRun self.old.places first.0 first.1 }
+        requires two { IsRun self.old.places second.0 second.1 }
+        requires apart { AreApart first second }
+        ensures reserved { let wanted =
+            asked_for (type_size T.row) self.old (both first second + additional) in
+            ReservedRuns (type_size T.row) self.old first second additional wanted
+            (wanted - second.1) result self.new }
+        ensures parted { IsFull self.old first second additional
+            → OnOk result (AreParted self.old self.new first second) }
+    {
+        let len = self.count_both(first, second);
+        if additional <= self.capacity - len {
+            return Ok(());
+        }
+        if self.grow_runs(first, second, true, additional) {
+            return Ok(());
+        }
+        Err(self.refusal(Room::Amortized, len, additional))
+    }
+
+    // How many values two runs have.
+    fn count_both(&self, first: (usize, usize), second: (usize, usize)) -> usize
+        requires one { IsRun self.now.places first.0 first.1 }
+        requires two { IsRun self.now.places second.0 second.1 }
+        requires apart { AreApart first second }
+        ensures count { result ≡ both first second }
+        ensures within { result ≤ length self.now.places }
+    {
+        let _places = self.capacity();
+        first.1 + second.1
+    }
+
+    // The growth of both, out of line.
+    #[cold]
+    #[inline(never)]
+    #[tactic(auto, using(crate::proofs::TwoRuns::kept_runs))]
+    fn grow_runs(
+        &mut self,
+        first: (usize, usize),
+        second: (usize, usize),
+        at_end: bool,
+        additional: usize,
+    ) -> bool
+        requires one { IsRun self.old.places first.0 first.1 }
+        requires two { IsRun self.old.places second.0 second.1 }
+        requires apart { AreApart first second }
+        requires full { IsFull self.old first second additional }
+        ensures grown { let wanted =
+            asked_for (type_size T.row) self.old (both first second + additional) in
+            IsTrue result → ReservesRuns (type_size T.row) self.old first second additional wanted
+            (if at_end then wanted - second.1 else first.1) self.new }
+        ensures kept { result ≡ false → self.new ≡ self.old }
+    {
+        let len = self.count_both(first, second);
+        match self.capacity_for(Room::Amortized, len, additional) {
+            Some(capacity) => {
+                let to = if at_end { capacity - second.1 } else { first.1 };
+                self.grow_with(first, second, to, capacity)
+            }
+            None => false,
+        }
+    }
+
+    // Moves the first run to the beginning of a new block of `capacity` places and the second to
+    // the places from `to` on, by a growth, unless it is refused.
+    #[tactic(auto, using(crate::proofs::TwoRuns::kept_runs))]
+    fn grow_with(
+        &mut self,
+        first: (usize, usize),
+        second: (usize, usize),
+        to: usize,
+        capacity: usize,
+    ) -> bool
+        requires one { IsRun self.old.places first.0 first.1 }
+        requires two { IsRun self.old.places second.0 second.1 }
+        requires apart { AreApart first second }
+        requires places { (first.1 ≤ to) × (to + second.1 ≤ capacity) × (0 < capacity)
+            × (0 < type_size T.row) × IsCapacity T.row capacity }
+        ensures grown { IsTrue result → self.new ≡ grown_with self.old first second to capacity }
+        ensures kept { result ≡ false → self.new ≡ self.old }
+    {
+        let _capacity = self.capacity;
+        match row_of(&self.alloc, capacity) {
+            Ok((mut row, claim)) => {
+                row.take_run(0, &mut self.row, first.0, first.1);
+                row.take_run(to, &mut self.row, second.0, second.1);
+                let old_row = replace(&mut self.row, row);
+                let old_claim = replace(&mut self.claim, claim);
+                give_back(&self.alloc, self.capacity, old_row, old_claim);
+                self.capacity = capacity;
+                self.grown.add(first.1 + second.1);
+                true
+            }
+            Err(_) => false,
+        }
+    }
 }
 
 // Both references have one lifetime, which the borrow checker's proof needs.
@@ -542,8 +725,16 @@ fn made<T, A: Allocator>(
     capacity: usize,
     row: (Row<T>, Claim<T, A>),
 ) -> RawVec<T, A>
-    requires { (row.1.ptr ≡ row.0.ptr) × (row.1.len ≡ capacity) × (row.1.alloc ≡ alloc) × (length row.0.places ≡ capacity) }
-    ensures { result ≡ record { places = row.0.places; growth = growth; grown = 0; written = 0; runs = 0; alloc = alloc } }
+    requires { (row.1.ptr ≡ row.0.ptr) × (row.1.len ≡ capacity) × (row.1.alloc ≡ alloc)
+        × (length row.0.places ≡ capacity) }
+    ensures { result ≡ record {
+      places = row.0.places;
+      growth = growth;
+      grown = 0;
+      written = 0;
+      runs = 0;
+      alloc = alloc;
+    } }
 {
     let (row, claim) = row;
     RawVec {
@@ -558,11 +749,13 @@ fn made<T, A: Allocator>(
     }
 }
 
-/// The refusal of a first growth to `required` elements, by a block that doubles: for who could not make that block, since the clone
-/// of its allocator was refused. `CapacityOverflow` where the bytes pass `isize::MAX`, else `AllocError` with the capacity that the
-/// growth would have asked for. It takes no memory. The original has no such call.
+/// The refusal of a first growth to `required` elements, by a block that doubles: for who could not
+/// make that block, since the clone of its allocator was refused. `CapacityOverflow` where the
+/// bytes pass `isize::MAX`, else `AllocError` with the capacity that the growth would have asked
+/// for. It takes no memory. The original has no such call.
 pub fn first_refusal<T>(required: usize) -> TryReserveError
-    ensures { IsRefusedAt result (amortized Growth.Doubling 0 required (least_of (type_size T.row))) }
+    ensures { IsRefusedAt result
+        (amortized Growth.Doubling 0 required (least_of (type_size T.row))) }
 {
     match Growth::Doubling.capacity_for::<T>(0, required) {
         Some(capacity) => TryReserveErrorKind::AllocError { capacity }.into(),
@@ -572,7 +765,8 @@ pub fn first_refusal<T>(required: usize) -> TryReserveError
 
 // `capacity` elements, unless their bytes pass what a block may have.
 fn block_capacity<T>(capacity: usize) -> Option<usize>
-    ensures some { IfSome result (λ c. (c ≡ capacity) × (capacity * type_size T.row < 2 ^ 63)) }
+    ensures some { IfSome result (λ c. c ≡ capacity) }
+    ensures fits { IfSome result (λ c. c * type_size T.row < 2 ^ 63) }
     ensures none { IfNone result (2 ^ 63 ≤ capacity * type_size T.row) }
 {
     if fits_in_block::<T>(capacity) {
@@ -585,7 +779,8 @@ fn block_capacity<T>(capacity: usize) -> Option<usize>
 // A row of `capacity` empty places. For none no memory is asked.
 fn row_of<T, A: Allocator>(alloc: &A, capacity: usize) -> Result<(Row<T>, Claim<T, A>), AllocError>
     requires { IsCapacity T.row capacity }
-    ensures row { IfOk result (λ r. (r.0.places ≡ replicate capacity None) × (r.1.ptr ≡ r.0.ptr) × (r.1.len ≡ capacity) × (r.1.alloc ≡ alloc.now)) }
+    ensures row { IfOk result (λ r. (r.0.places ≡ replicate capacity None) × (r.1.ptr ≡ r.0.ptr)
+        × (r.1.len ≡ capacity) × (r.1.alloc ≡ alloc.now)) }
     ensures refused { OnErr result (0 < capacity) }
 {
     if capacity == 0 {
@@ -597,7 +792,8 @@ fn row_of<T, A: Allocator>(alloc: &A, capacity: usize) -> Result<(Row<T>, Claim<
 
 // Gives the memory of a row back, where it takes any, and forgets what stands in its places.
 fn give_back<T, A: Allocator>(alloc: &A, capacity: usize, row: Row<T>, claim: Claim<T, A>)
-    requires { (length row.places ≡ capacity) × (claim.ptr ≡ row.ptr) × (claim.len ≡ capacity) × (claim.alloc ≡ alloc.now) }
+    requires { (length row.places ≡ capacity) × (claim.ptr ≡ row.ptr) × (claim.len ≡ capacity)
+        × (claim.alloc ≡ alloc.now) }
 {
     if capacity == 0 {
         forget_row(row, claim);

@@ -8,13 +8,15 @@ ghost use denote.RawPtr.{Ptr};
 ghost use Rattle.aa_raw.specs.Places.{IsRun, IsFilled, IsCapacity, moved, with_run};
 ghost use Rattle.aa_raw.specs.Holding.{row_owns, row_lends, claim_owns, roomy};
 
+use crate::size::element_size;
 use core::slots::Slots;
 use std::alloc::{AllocError, Allocator};
 use std::marker::{Model, PhantomData};
 use std::mem::{align_of, size_of};
 use std::slice;
 
-/// Places side by side in memory from `ptr` on, each empty or holding a value. It owns them, and not the right to free them.
+/// Places side by side in memory from `ptr` on, each empty or holding a value. It owns them, and
+/// not the right to free them.
 pub struct Row<T> {
     ptr: *mut T,
     ghost places: { List (Option T) },
@@ -26,7 +28,8 @@ impl<T> Model for Row<T> {
     ghost also_shares = { λ r _ κ. row_lends T.row r.ptr r.places κ };
 }
 
-/// The right to give the memory of `len` places at `ptr` back to `alloc`. It takes no bytes, and says how many places there may be.
+/// The right to give the memory of `len` places at `ptr` back to `alloc`. It takes no bytes, and
+/// says how many places there may be.
 pub struct Claim<T, A: Allocator> {
     mark: PhantomData<*const (T, A)>,
     ghost ptr: { Ptr },
@@ -54,7 +57,8 @@ impl<T> Row<T> {
     #[inline(always)]
     pub(crate) fn write(&mut self, index: usize, item: T)
         requires { index < length self.old.places }
-        ensures { (self.new.ptr ≡ self.old.ptr) × (self.new.places ≡ slice_set self.old.places index (Some item)) }
+        ensures { (self.new.ptr ≡ self.old.ptr)
+            × (self.new.places ≡ slice_set self.old.places index (Some item)) }
     {
         unsafe { self.ptr.add(index).write(item) }
     }
@@ -64,7 +68,8 @@ impl<T> Row<T> {
     pub(crate) fn read(&mut self, index: usize) -> T
         requires { IsFilled self.old.places index }
         ensures value { get_or self.old.places index None ≡ Some result }
-        ensures places { (self.new.ptr ≡ self.old.ptr) × (self.new.places ≡ slice_set self.old.places index None) }
+        ensures places { (self.new.ptr ≡ self.old.ptr)
+            × (self.new.places ≡ slice_set self.old.places index None) }
     {
         unsafe { self.ptr.add(index).read() }
     }
@@ -94,21 +99,26 @@ impl<T> Row<T> {
     }
 
     /// Puts `items` into the places from `index` on. Values that stood there are forgotten.
+    #[inline(always)]
     pub(crate) fn write_array<const N: usize>(&mut self, index: usize, items: [T; N])
         requires { index + N ≤ length self.old.places }
-        ensures { (self.new.ptr ≡ self.old.ptr) × (self.new.places ≡ with_run self.old.places index N (map Some items)) }
+        ensures { (self.new.ptr ≡ self.old.ptr)
+            × (self.new.places ≡ with_run self.old.places index N (map Some items)) }
     {
         unsafe { self.ptr.add(index).cast::<[T; N]>().write(items) }
     }
 
-    /// Puts copies of all of `source` into the places from `index` on. Values that stood there are forgotten.
+    /// Puts copies of all of `source` into the places from `index` on. Values that stood there are
+    /// forgotten.
     #[inline(always)]
     #[tactic(auto, using(crate::proofs::Places::put_runs))]
     pub(crate) fn write_copies(&mut self, index: usize, source: &[T])
     where
         T: Copy,
         requires { index + length source.now ≤ length self.old.places }
-        ensures { (self.new.ptr ≡ self.old.ptr) × (self.new.places ≡ with_run self.old.places index (length source.now) (map Some source.now)) }
+        ensures { (self.new.ptr ≡ self.old.ptr)
+            × (self.new.places
+            ≡ with_run self.old.places index (length source.now) (map Some source.now)) }
     {
         let mut row = self.cut(index);
         let behind = row.cut(source.len());
@@ -121,24 +131,29 @@ impl<T> Row<T> {
     pub(crate) fn read_array<const N: usize>(&mut self) -> [T; N]
         requires { IsRun self.old.places 0 N }
         ensures value { take N self.old.places ≡ map Some result }
-        ensures places { (self.new.ptr ≡ self.old.ptr) × (self.new.places ≡ with_run self.old.places 0 N (replicate N None)) }
+        ensures places { (self.new.ptr ≡ self.old.ptr)
+            × (self.new.places ≡ with_run self.old.places 0 N (replicate N None)) }
     {
         unsafe { self.ptr.cast::<[T; N]>().read() }
     }
 
-    /// Does nothing when the program runs: what stands in the `_count` places from `_from` on is forgotten.
+    /// Does nothing when the program runs: what stands in the `_count` places from `_from` on is
+    /// forgotten.
     #[inline(always)]
     pub(crate) fn forget(&mut self, _from: usize, _count: usize)
         requires { _from + _count ≤ length self.old.places }
-        ensures { (self.new.ptr ≡ self.old.ptr) × (self.new.places ≡ with_run self.old.places _from _count (replicate _count None)) }
+        ensures { (self.new.ptr ≡ self.old.ptr)
+            × (self.new.places ≡ with_run self.old.places _from _count (replicate _count None)) }
     {}
 
     /// Moves the `count` values from `from` on to the places from `to` on, which may overlap them.
     #[inline]
     #[tactic(auto, using(crate::proofs::Places::cut_moves))]
     pub(crate) fn move_run(&mut self, from: usize, to: usize, count: usize)
-        requires { IsRun self.old.places from count × (to + count ≤ length self.old.places) × (length self.old.places < 2 ^ 64) }
-        ensures { (self.new.ptr ≡ self.old.ptr) × (self.new.places ≡ moved self.old.places from to count) }
+        requires { IsRun self.old.places from count × (to + count ≤ length self.old.places)
+            × (length self.old.places < 2 ^ 64) }
+        ensures { (self.new.ptr ≡ self.old.ptr)
+            × (self.new.places ≡ moved self.old.places from to count) }
     {
         if from < to {
             let run = self.cut(from);
@@ -153,8 +168,10 @@ impl<T> Row<T> {
     #[inline(always)]
     #[tactic(auto, using(crate::proofs::Places::cut_moves))]
     pub(crate) fn lower_run(&mut self, from: usize, to: usize, count: usize)
-        requires { IsRun self.old.places from count × (to < from) × (length self.old.places < 2 ^ 64) }
-        ensures { (self.new.ptr ≡ self.old.ptr) × (self.new.places ≡ moved self.old.places from to count) }
+        requires { IsRun self.old.places from count × (to < from)
+            × (length self.old.places < 2 ^ 64) }
+        ensures { (self.new.ptr ≡ self.old.ptr)
+            × (self.new.places ≡ moved self.old.places from to count) }
     {
         let run = self.cut(to);
         self.join(lower_any(run, from - to, count));
@@ -165,8 +182,11 @@ impl<T> Row<T> {
     pub(crate) fn take_run(&mut self, to: usize, other: &mut Row<T>, from: usize, count: usize)
         requires here { (to + count ≤ length self.old.places) × (length self.old.places < 2 ^ 64) }
         requires there { IsRun other.old.places from count × (length other.old.places < 2 ^ 64) }
-        ensures here { (self.new.ptr ≡ self.old.ptr) × (self.new.places ≡ with_run self.old.places to count (take count (drop from other.old.places))) }
-        ensures there { (other.new.ptr ≡ other.old.ptr) × (other.new.places ≡ with_run other.old.places from count (replicate count None)) }
+        ensures here { (self.new.ptr ≡ self.old.ptr)
+            × (self.new.places
+            ≡ with_run self.old.places to count (take count (drop from other.old.places))) }
+        ensures there { (other.new.ptr ≡ other.old.ptr)
+            × (other.new.places ≡ with_run other.old.places from count (replicate count None)) }
     {
         let row = self.cut(0);
         let source = other.cut(0);
@@ -179,8 +199,10 @@ impl<T> Row<T> {
     #[inline(always)]
     fn cut(&mut self, at: usize) -> Row<T>
         requires { at ≤ length self.old.places }
-        ensures before { (self.new.ptr ≡ self.old.ptr) × (self.new.places ≡ take at self.old.places) }
-        ensures behind { (result.ptr ≡ ptr_add T.row at self.old.ptr) × (result.places ≡ drop at self.old.places) }
+        ensures before { (self.new.ptr ≡ self.old.ptr)
+            × (self.new.places ≡ take at self.old.places) }
+        ensures behind { (result.ptr ≡ ptr_add T.row at self.old.ptr)
+            × (result.places ≡ drop at self.old.places) }
         ensures few { length self.old.places * type_size T.row < 2 ^ 63 }
     {
         Row {
@@ -193,23 +215,30 @@ impl<T> Row<T> {
     fn join(&mut self, behind: Row<T>)
         requires begins { behind.ptr ≡ ptr_add T.row (length self.old.places) self.old.ptr }
         requires few { (length self.old.places + length behind.places) * type_size T.row < 2 ^ 63 }
-        ensures { (self.new.ptr ≡ self.old.ptr) × (self.new.places ≡ self.old.places ++ behind.places) }
+        ensures { (self.new.ptr ≡ self.old.ptr)
+            × (self.new.places ≡ self.old.places ++ behind.places) }
     {
         let Row { ptr: _ } = behind;
     }
 }
 
-// The loops own the rows that they move within: the bases then stay in registers, and a move is one pass that the compiler
-// can vectorise. Behind a `&mut` each store would make it load the base again. Where both addresses are a parameter's and a
-// constant, it makes one copy of memory of the loop, before it puts the function in line. So the places that move are cut off
-// as a row, and a move by one place has a function of its own; elements of several words need both that one and its caller.
+// The loops own the rows that they move within: the bases then stay in registers, and a move is one
+// pass that the compiler can vectorise. Behind a `&mut` each store would make it load the base
+// again. Where both addresses are a parameter's and a constant, it makes one copy of memory of the
+// loop, before it puts the function in line. So the places that move are cut off as a row, and a
+// move by one place has a function of its own; elements of several words need both that one and its
+// caller.
 
 // How many values are worth a call.
 const FEW: usize = 8;
 
+// How many bytes an element may have of which few are copied in line.
+const SMALL: usize = 8;
+
 // Moves the first `count` values up by `by` places.
 fn raise<T>(row: Row<T>, by: usize, count: usize) -> Row<T>
-    requires { (0 < by) × IsRun row.places 0 count × (by + count ≤ length row.places) × (length row.places < 2 ^ 64) }
+    requires { (0 < by) × IsRun row.places 0 count × (by + count ≤ length row.places)
+        × (length row.places < 2 ^ 64) }
     ensures { (result.ptr ≡ row.ptr) × (result.places ≡ moved row.places 0 by count) }
 {
     if by == 1 {
@@ -221,7 +250,8 @@ fn raise<T>(row: Row<T>, by: usize, count: usize) -> Row<T>
 
 // The same by one place.
 fn raise_by_one<T>(row: Row<T>, count: usize) -> Row<T>
-    requires { IsRun row.places 0 count × (1 + count ≤ length row.places) × (length row.places < 2 ^ 64) }
+    requires { IsRun row.places 0 count × (1 + count ≤ length row.places)
+        × (length row.places < 2 ^ 64) }
     ensures { (result.ptr ≡ row.ptr) × (result.places ≡ moved row.places 0 1 count) }
 {
     move_up(row, 1, count)
@@ -273,7 +303,8 @@ fn lower_by_one<T>(row: Row<T>, count: usize) -> Row<T>
 #[inline(always)]
 #[tactic(auto, using(crate::proofs::Places::begun_moves))]
 fn move_up<T>(mut row: Row<T>, by: usize, count: usize) -> Row<T>
-    requires { (0 < by) × IsRun row.places 0 count × (by + count ≤ length row.places) × (length row.places < 2 ^ 64) }
+    requires { (0 < by) × IsRun row.places 0 count × (by + count ≤ length row.places)
+        × (length row.places < 2 ^ 64) }
     ensures { (result.ptr ≡ row.ptr) × (result.places ≡ moved row.places 0 by count) }
 {
     'up: for i in 0..count {
@@ -310,8 +341,10 @@ fn move_across<T>(
 ) -> (Row<T>, Row<T>)
     requires here { (to + count ≤ length row.places) × (length row.places < 2 ^ 64) }
     requires there { IsRun source.places from count × (length source.places < 2 ^ 64) }
-    ensures here { (result.0.ptr ≡ row.ptr) × (result.0.places ≡ with_run row.places to count (take count (drop from source.places))) }
-    ensures there { (result.1.ptr ≡ source.ptr) × (result.1.places ≡ with_run source.places from count (replicate count None)) }
+    ensures here { (result.0.ptr ≡ row.ptr)
+        × (result.0.places ≡ with_run row.places to count (take count (drop from source.places))) }
+    ensures there { (result.1.ptr ≡ source.ptr)
+        × (result.1.places ≡ with_run source.places from count (replicate count None)) }
 {
     'each: for i in 0..count {
         let item = source.read(from + i);
@@ -320,9 +353,47 @@ fn move_across<T>(
     (row, source)
 }
 
-// Puts copies of all of `source` into as many places. The toolchain's `Slots` does it by one copy of memory.
+// Puts copies of all of `source` into as many places. A short run of small elements is two arrays,
+// one at each end, which may overlap: that is far less work than a call.
 #[inline(always)]
 fn copied<T: Copy>(row: Row<T>, source: &[T]) -> Row<T>
+    requires { length row.places ≡ length source.now }
+    ensures { (result.ptr ≡ row.ptr) × (result.places ≡ map Some source.now) }
+{
+    let count = source.len();
+    if SMALL < element_size::<T>() || count < 4 || 32 < count {
+        copied_at_once(row, source)
+    } else if count <= 8 {
+        copied_from_ends::<T, 4>(row, source)
+    } else if count <= 16 {
+        copied_from_ends::<T, 8>(row, source)
+    } else {
+        copied_from_ends::<T, 16>(row, source)
+    }
+}
+
+// `copied` of at least `N` and at most twice as many.
+#[inline(always)]
+#[tactic(auto, using(crate::proofs::Places::lengths))]
+fn copied_from_ends<T: Copy, const N: usize>(mut row: Row<T>, source: &[T]) -> Row<T>
+    requires places { length row.places ≡ length source.now }
+    requires within { (N ≤ length source.now) × (length source.now ≤ N + N) }
+    ensures { (result.ptr ≡ row.ptr) × (result.places ≡ map Some source.now) }
+{
+    let Some(front) = source.first_chunk::<N>() else {
+        unreachable!()
+    };
+    let Some(back) = source.last_chunk::<N>() else {
+        unreachable!()
+    };
+    row.write_array(0, *front);
+    row.write_array(source.len() - N, *back);
+    row
+}
+
+// `copied` of any number. The toolchain's `Slots` does it by one copy of memory.
+#[inline(always)]
+fn copied_at_once<T: Copy>(row: Row<T>, source: &[T]) -> Row<T>
     requires { length row.places ≡ length source.now }
     ensures { (result.ptr ≡ row.ptr) × (result.places ≡ map Some source.now) }
 {
@@ -331,12 +402,13 @@ fn copied<T: Copy>(row: Row<T>, source: &[T]) -> Row<T>
     filled(slots)
 }
 
-// The places of a row as slots, which copy from a loan. What stood there is forgotten. A slot has a value even while it is empty:
-// here one of `like`.
+// The places of a row as slots, which copy from a loan. What stood there is forgotten. A slot has a
+// value even while it is empty: here one of `like`.
 #[inline(always)]
 fn emptied<T>(row: Row<T>, like: &[T]) -> Slots<T>
     requires { length row.places ≡ length like.now }
-    ensures { (slots_ptr result ≡ row.ptr) × (slots_len result ≡ length like.now) × (slots_items result ≡ like.now) }
+    ensures { (slots_ptr result ≡ row.ptr) × (slots_len result ≡ length like.now)
+        × (slots_items result ≡ like.now) }
 {
     let Row { ptr } = row;
     unsafe { Slots::from_raw_parts(ptr, like.len()) }
@@ -355,7 +427,8 @@ fn filled<T>(slots: Slots<T>) -> Row<T>
 /// Places that take no bytes, with no call to an allocator.
 pub(crate) fn dangle<T, A: Allocator>(_alloc: &A, _len: usize) -> (Row<T>, Claim<T, A>)
     requires { IsCapacity T.row _len × (_len * type_size T.row ≡ 0) }
-    ensures { (result.0.places ≡ replicate _len None) × (result.1.ptr ≡ result.0.ptr) × (result.1.len ≡ _len) × (result.1.alloc ≡ _alloc.now) }
+    ensures { (result.0.places ≡ replicate _len None) × (result.1.ptr ≡ result.0.ptr)
+        × (result.1.len ≡ _len) × (result.1.alloc ≡ _alloc.now) }
 {
     let none: [T; 0] = [];
     let row = Row {
@@ -370,7 +443,8 @@ pub(crate) fn allocate<T, A: Allocator>(
     len: usize,
 ) -> Result<(Row<T>, Claim<T, A>), AllocError>
     requires { IsCapacity T.row len }
-    ensures { IfOk result (λ r. (r.0.places ≡ replicate len None) × (r.1.ptr ≡ r.0.ptr) × (r.1.len ≡ len) × (r.1.alloc ≡ alloc.now)) }
+    ensures { IfOk result (λ r. (r.0.places ≡ replicate len None) × (r.1.ptr ≡ r.0.ptr)
+        × (r.1.len ≡ len) × (r.1.alloc ≡ alloc.now)) }
 {
     match alloc.allocate(len * size_of::<T>(), align_of::<T>()) {
         Ok(block) => {
@@ -385,7 +459,8 @@ pub(crate) fn allocate<T, A: Allocator>(
 
 /// Gives the memory back. What stands in the places is forgotten.
 pub(crate) fn deallocate<T, A: Allocator>(alloc: &A, len: usize, row: Row<T>, claim: Claim<T, A>)
-    requires { (length row.places ≡ len) × (claim.ptr ≡ row.ptr) × (claim.len ≡ len) × (claim.alloc ≡ alloc.now) × (0 < len * type_size T.row) }
+    requires { (length row.places ≡ len) × (claim.ptr ≡ row.ptr) × (claim.len ≡ len)
+        × (claim.alloc ≡ alloc.now) × (0 < len * type_size T.row) }
 {
     let Row { ptr } = row;
     let Claim { mark: _ } = claim;

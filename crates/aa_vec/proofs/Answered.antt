@@ -10,10 +10,6 @@ pub if_err : {X E : Type 0} {P Q : E → Type 0} → (r : Result X E) → IfErr 
 if_err (Ok x) p f = tt
 if_err (Err e) p f = f e p
 
-pub either_way : {X E P Q : Type 0} {R : E → Type 0} → (r : Result X E) → OnOk r P → IfErr r R → (P → Q) → ((e : E) → R e → Q) → Q
-either_way (Ok x) p q f h = f p
-either_way (Err e) p q f h = h e q
-
 pub done_unless : {X E : Type 0} → (r : Result X E) → IfErr r (λ _. ⊥) → IsOk r
 done_unless (Ok x) h = refl
 done_unless (Err e) h = absurd h

@@ -21,6 +21,12 @@ module _ {T : Type 0} (ys : List T) (i : ℕ) (d : T) (h : i < length ys) where
   whole_set y = sym (take-append-drop i (slice_set ys i y)) ∙ ap (λ l. l ++ drop i (slice_set ys i y)) (take-set ys i y) ∙ ap (λ l. take i ys ++ l) (drop-set ys i y h)
 
 -- an answer that is not that of those that stay, and one that is
+pub answer_is : (answer stays : Bool) → answer ≡ (if stays then beq answer stays else not (beq answer stays))
+answer_is true true = refl
+answer_is true false = refl
+answer_is false true = refl
+answer_is false false = refl
+
 pub goes_where : (answer stays : Bool) → not (beq answer stays) ≡ true → answer ≡ (if stays then false else not false)
 goes_where true true differs = sym differs
 goes_where true false differs = refl

@@ -1,7 +1,7 @@
 -- What a caller of the vector closes its goals by: the room there is, calls in one block one after another, and closures whose
 -- answers hang on the elements alone.
 use Rattle.std.proofs.Common.{◌≡◌, ℕ, zero, suc, ◌-◌, ◌<◌, ◌≤◌, Bool, true, false, List, [], ◌∷◌, ◌++◌, length, take, replicate, refl, sym, ap, ◌∙◌, arith, inl, inr}
-use Rattle.std.specs.Prelude.{filter, ◌==◌, if◌then◌else◌, Result, Ok, Err, IsOk, OnOk}
+use Rattle.std.specs.Prelude.{filter, ◌==◌, if◌then◌else◌, Result, Ok, Err, OnOk}
 use Rattle.std.specs.List.{FoldsTo}
 use Rattle.aa_raw.specs.Growth.{usize_max}
 use Rattle.aa_vec.specs.Choosing.{Retains, kept}
@@ -44,12 +44,12 @@ module _ {F T : Type 0} (step : F → T → F → Type 0) where
   LengthensBy_same size k x f g old new made is = made.grows.items ∙ ap (λ ys. old.items ++ ys) (all_same x f made.answers g is made.calls ∙ ap (λ n. replicate n x) made.count)
 
   -- and where a vector is filled up with it, that is the rest
-  pub filled_same : {A E : Type 0} (r : Result Unit E) (size n : ℕ) (x : T) (f : F) (old new : Vector T A) → OnOk r (len old < n → (last : F) × LengthensBy step size old (n - len old) f last new) → (n ≤ len old → IsOk r × Holds old (take n old.items) new)
+  pub filled_same : {A E : Type 0} (r : Result Unit E) (size n : ℕ) (x : T) (f : F) (old new : Vector T A) → OnOk r (len old < n → (last : F) × LengthensBy step size old (n - len old) f last new) → (n ≤ len old → Holds old (take n old.items) new)
       → ((f : F) (y : T) (g : F) → step f y g → y ≡ x) → OnOk r (new.items ≡ take n old.items ++ replicate (n - len old) x)
   filled_same (Err e) size n x f old new fills cut is = tt
   filled_same (Ok u) size n x f old new fills cut is = elim (cases_lt (len old) n) [
     | inl l ↦ LengthensBy_same size (n - len old) x f (fills l).0 old new (fills l).1 is ∙ ap (λ ys. ys ++ replicate (n - len old) x) (sym (take_all n old.items (omega (arith, l))))
-    | inr l ↦ (cut l).1.items ∙ sym (append-nil (take n old.items)) ∙ ap (λ k. take n old.items ++ replicate k x) (let z : 0 ≡ n - len old = omega (arith, l) in z)
+    | inr l ↦ (cut l).items ∙ sym (append-nil (take n old.items)) ∙ ap (λ k. take n old.items ++ replicate k x) (let z : 0 ≡ n - len old = omega (arith, l) in z)
   ]
 
 -- a test that leaves each element as it was

@@ -1,9 +1,9 @@
 -- What is written where gaps are closed: all that stay behind the first that goes, in one run for each that goes.
 use Rattle.std.proofs.Common.{◌≡◌, ℕ, zero, suc, ◌+◌, ◌-◌, ◌<◌, ◌≤◌, Bool, true, false, not, List, [], ◌∷◌, refl, sym, ap, ◌∙◌, subst, arith}
-use Rattle.std.specs.Prelude.{cond, count_by, min, if◌then◌else◌, ◌==◌}
+use Rattle.std.specs.Prelude.{cond, count_by, min}
 use Rattle.std.proofs.lemmas.List.Sums.{sum_by-cons}
 use Rattle.aa_vec.specs.Choosing.{kept_behind_removed, removed_count}
-use Rattle.aa_vec.specs.Vector.{run_count}
+use Rattle.aa_vec.specs.Vector.{run_count, moved_over}
 
 -- how many of those yet to be told will be written: all that stay, once there is a gap
 abbrev pub still : (gap : ℕ) → List Bool → ℕ
@@ -18,25 +18,32 @@ still-none (suc gap) = refl
 pub counted : (p : Bool → Bool) (a : Bool) (stays : List Bool) → count_by p (a ∷ stays) ≡ cond (p a) 1 0 + count_by p stays
 counted p a stays = sum_by-cons (λ x. cond (p x) 1 0) a stays
 
--- once there is a gap, all that come down over it are written
-pub over : (gap k : ℕ) → 0 < gap → (if gap == 0 then 0 else k) ≡ k
-over gap k some = grind (arith, some)
+-- once there is a gap, all that are moved over it are written
+pub moved_some : (gap k : ℕ) → 0 < gap → moved_over gap k ≡ k
+moved_some gap k some = grind (arith, some)
+
+-- and none where there is no gap
+pub moved_none : (gap k : ℕ) → gap ≡ 0 → moved_over gap k ≡ 0
+moved_none gap k none = grind (arith, none)
+
+pub moved_most : (gap k : ℕ) → moved_over gap k ≤ k
+moved_most gap k = grind arith
 
 -- elements are moved in one run, if there are any
-one_run : (n : ℕ) → run_count n ≤ 1
+pub one_run : (n : ℕ) → run_count n ≤ 1
 one_run n = grind arith
 
 -- a gap is closed in one run, and none where there is no gap
-pub few_runs : (gap k : ℕ) → run_count (if gap == 0 then 0 else k) + (gap - 1) ≤ gap
+pub few_runs : (gap k : ℕ) → run_count (moved_over gap k) + (gap - 1) ≤ gap
 few_runs gap k = grind (arith, one_run)
 
 some_run : (n : ℕ) → run_count n ≤ n
 some_run n = grind arith
 
 -- and in none where none is moved
-pub no_run : (gap k : ℕ) → run_count (if gap == 0 then 0 else k) ≤ k
+pub no_run : (gap k : ℕ) → run_count (moved_over gap k) ≤ k
 no_run zero k = omega arith
-no_run (suc gap) k = subst (λ i. run_count i ≤ k) (sym (over (suc gap) k (omega arith))) (some_run k)
+no_run (suc gap) k = subst (λ i. run_count i ≤ k) (sym (moved_some (suc gap) k (omega arith))) (some_run k)
 
 -- of n elements the first k stay, and the next, if there is one, goes; behind it so many stay
 abbrev pub marks : (k n : ℕ) → List Bool → List Bool
@@ -65,6 +72,6 @@ marks-behind (suc k) zero h told = absurd (omega (arith, h))
 marks-behind (suc k) (suc n) h told = marks-behind k n (omega (arith, h)) told ∙ ap (λ i. still i told) {x = min (n - k) 1} {y = min (suc n - suc k) 1} (omega arith)
 
 -- those k are written, once there is a gap, and all that stay behind one that goes
-pub marks-written : (gap k n : ℕ) → k ≤ n → (told : List Bool) → still gap (marks k n told) ≡ (if gap == 0 then 0 else k) + still (gap + min (n - k) 1) told
+pub marks-written : (gap k n : ℕ) → k ≤ n → (told : List Bool) → still gap (marks k n told) ≡ moved_over gap k + still (gap + min (n - k) 1) told
 marks-written zero k n h told = omega (arith, marks-behind k n h told, ap (λ i. still i told) {x = min (n - k) 1} {y = 0 + min (n - k) 1} (omega arith))
-marks-written (suc gap) k n h told = marks-stay k n h told ∙ ap (λ i. i + count_by (λ s. s) told) (sym (over (suc gap) k (omega arith))) ∙ ap (λ i. (if suc gap == 0 then 0 else k) + still i told) {x = suc (gap + min (n - k) 1)} {y = suc gap + min (n - k) 1} (omega arith)
+marks-written (suc gap) k n h told = marks-stay k n h told ∙ ap (λ i. i + count_by (λ s. s) told) (sym (moved_some (suc gap) k (omega arith))) ∙ ap (λ i. moved_over (suc gap) k + still i told) {x = suc (gap + min (n - k) 1)} {y = suc gap + min (n - k) 1} (omega arith)

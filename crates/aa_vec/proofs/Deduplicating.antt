@@ -1,5 +1,5 @@
 -- Elements asked beside the last one kept, of which those that stay were moved down.
-use Rattle.std.proofs.Common.{◌≡◌, ℕ, zero, suc, ◌+◌, ◌≤◌, ◌<◌, Bool, true, false, not, List, [], ◌∷◌, ◌++◌, length, map, take, drop, refl, sym, ap, ◌∙◌, subst, arith, append_assoc, length-append}
+use Rattle.std.proofs.Common.{◌≡◌, ℕ, zero, suc, ◌+◌, ◌-◌, ◌≤◌, ◌<◌, Bool, true, false, not, List, [], ◌∷◌, ◌++◌, length, map, take, drop, refl, sym, ap, ◌∙◌, subst, arith, append_assoc, length-append}
 use Rattle.std.proofs.lemmas.List.{same_from_push}
 use Rattle.aa_vec.specs.Behind.{StandsBehind, SetsBack, behind_items}
 use Rattle.aa_vec.specs.Choosing.{kept_behind_removed, removed_count, ChainsFrom, Deduplicated, MayChainFrom, MayDeduplicate, Deduplicates}
@@ -7,7 +7,7 @@ use Rattle.aa_vec.specs.Until.{ChainsUntil, ChainsBehind}
 use Rattle.aa_vec.specs.Vector.{Vector, len}
 use Rattle.aa_vec.proofs.Chains.{same_end, split_last}
 use Rattle.aa_vec.proofs.Closed.{marks}
-use Rattle.aa_vec.proofs.Stages.{Turn, Stage, start-len, stage-start, stage-ended}
+use Rattle.aa_vec.proofs.Stages.{Turn, Stage, Turned, turned, start-len, stage-start, stage-ended}
 use Rattle.aa_vec.proofs.Stands.{count, replaced_are, replaced_stand}
 
 module _ {F T : Type 0} (Asks : F → T → T → Bool → F → T → T → Type 0) where
@@ -110,6 +110,10 @@ module _ {F T : Type 0} (Asks : F → T → T → Bool → F → T → T → Typ
                   all = e.all ∙ ap (λ l. l ++ e.left) s.0 ∙ append_assoc asked.front r.before e.left;
                 };
           }
+
+      pub chained-turn : {f h g : F} {old v w : Vector T A} {at end k : ℕ} (s : Stage Told (May Takes) f (take 1 old.items) (drop 1 old.items) old h v at end) (gap : ℕ) → gap + len v ≡ at → ChainsBehind Asks h v gap (end - at) k g w
+          → Turned Told (May Takes) f (take 1 old.items) (drop 1 old.items) old at end gap k g w
+      chained-turn {h = h} {g = g} {v = v} {w = w} {at = at} {end = end} {k = k} s gap e asked = turned Told (May Takes) s gap e (λ stands. turn-chained h v gap (end - at) stands k g w asked)
 
       pub chained-start : (f : F) (old v : Vector T A) (end : ℕ) → SetsBack old 1 v → 1 ≤ end → end ≡ len old → MayDeduplicate Asks Takes f old.items → Stage Told (May Takes) f (take 1 old.items) (drop 1 old.items) old f v 1 end × (0 + len v ≡ 1)
       chained-start f old v end set within all may =

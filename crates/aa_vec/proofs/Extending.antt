@@ -101,10 +101,10 @@ module _ {S T : Type 0} (steps : S → Option T → S → Type 0) (Tells : S →
       Placing-extended left u h =
           let ran = Placing-drains u h in
           record {
-            fits = λ _. refl;
-            ran = ran;
+            items = ran;
             runs = whole_run steps iter (λ xs. v.items ≡ old.items ++ xs) ran;
-            extended = (Placing-end u h).0;
+            fits = λ _. refl;
+            room = (Placing-end u h).0;
             writes = Placing-writes (len v - len old) refl;
             refused = tt;
           }

@@ -1,15 +1,15 @@
 -- What calls that take elements out of a range leave, one after the other.
 use Rattle.std.proofs.Common.{◌≡◌, ℕ, suc, ◌+◌, ◌-◌, ◌<◌, ◌≤◌, Bool, true, not, List, [], ◌∷◌, ◌++◌, length, map, take, drop, Option, Some, None, refl, sym, ap, ◌∙◌, subst, arith, inl, inr, append_assoc, length-append, length-drop, length-take}
-use Rattle.std.specs.Prelude.{filter, if◌then◌else◌, ◌==◌}
+use Rattle.std.specs.Prelude.{filter}
 use Rattle.std.specs.Iterator.{Yields, MakesProgress, at_most}
 use Rattle.std.proofs.lemmas.List.{append-nil, drop-drop, map-append, take-append-drop, take-take, drop-take}
 use Rattle.std.proofs.lemmas.List.Elements.{filter-append}
 use Rattle.aa_vec.specs.Choosing.{Asked, AskedInOrder, MayAskInOrder, IsCallableInOrder, kept, passed_over}
 use Rattle.aa_vec.specs.Extracting.{Extracts, Extracted, ExtractedTo, ExtractsAlong, extract_count, extract_kept, extract_rest, extract_vec}
-use Rattle.aa_vec.specs.Vector.{run_count}
 use Rattle.aa_vec.specs.declared.vec.extract_if.ExtractBy.{ExtractBy}
 use Rattle.aa_vec.specs.declared.vec.extract_if.ExtractIf.{ExtractIf}
 use Rattle.aa_vec.proofs.Climbing.{SameBlock-refl, SameBlock-trans}
+use Rattle.aa_vec.proofs.Closed.{few_runs, moved_most}
 
 pub kept-append : {T : Type 0} (told more : List (Asked T)) → kept (told ++ more) ≡ kept told ++ kept more
 kept-append told more = ap (map (λ t. t.left)) (filter-append (λ t. t.answer) told more) ∙ map-append (λ t. t.left) (filter (λ t. t.answer) told) (filter (λ t. t.answer) more)
@@ -21,12 +21,6 @@ take-both : {T : Type 0} (n m : ℕ) (xs : List T) → take (n + m) xs ≡ take 
 take-both n m xs =
     let all : List _ = take (n + m) xs in
     sym (take-append-drop n all) ∙ ap (λ l. l ++ drop n all) (take-take n (n + m) xs (omega arith)) ∙ ap (λ l. take n xs ++ l) (drop-take n m xs)
-
-at_most_moved : (c n : ℕ) → (if c == 0 then 0 else n) ≤ n
-at_most_moved c n = grind arith
-
-few_moves : (c n : ℕ) → run_count (if c == 0 then 0 else n) + (c - 1) ≤ c
-few_moves c n = grind arith
 
 module _ {F T : Type 0} (Asks : F → T → Bool → F → T → Type 0) where
   -- as many were asked as were told
@@ -96,7 +90,7 @@ module _ {F T : Type 0} (Asks : F → T → Bool → F → T → Type 0) where
             arith,
             now.written,
             next.writes.written,
-            at_most_moved (extract_count t) (length (passed_over next.told)),
+            moved_most (extract_count t) (length (passed_over next.told)),
             ap length (passed-append now.told next.told),
             length-append (passed_over now.told) (passed_over next.told),
           );
@@ -145,7 +139,7 @@ module _ {F T : Type 0} (Asks : F → T → Bool → F → T → Type 0) where
 
     runs_along : (s : ExtractIf T F A) (xs : List T) (later : ExtractIf T F A) → Yields Steps s xs later → (extract_vec later.by).runs + (extract_count s.by - 1) ≤ (extract_vec s.by).runs + (extract_count later.by - 1)
     runs_along s [] later y = subst (λ u. (extract_vec u.by).runs + (extract_count s.by - 1) ≤ (extract_vec s.by).runs + (extract_count u.by - 1)) y (omega arith)
-    runs_along s (x ∷ xs) later y = omega (arith, runs_along y.0 xs later y.2, y.1.writes.runs, few_moves (extract_count s.by) (length (passed_over y.1.told)), y.1.count, ap length y.1.cases.0)
+    runs_along s (x ∷ xs) later y = omega (arith, runs_along y.0 xs later y.2, y.1.writes.runs, few_runs (extract_count s.by) (length (passed_over y.1.told)), y.1.count, ap length y.1.cases.0)
 
     pub extracts_along : (s : ExtractIf T F A) → ExtractsAlong Asks s
     extracts_along s xs later y = (along s s [] xs later (ExtractedTo-none s.f s.by) y, runs_along s xs later y)

@@ -1,7 +1,7 @@
 -- Calls that take elements out of a range.
 use borrow.Rule.Reborrow.{re_v}
 use Rattle.std.proofs.Common.{◌≡◌, ℕ, suc, ◌+◌, ◌-◌, ◌≤◌, Bool, true, false, not, List, [], ◌∷◌, ◌++◌, length, map, drop, Option, Some, None, refl, sym, ap, ◌∙◌, subst, arith, length-append, MutBor}
-use Rattle.std.specs.Prelude.{cond, filter, MatchOption, if◌then◌else◌, ◌==◌}
+use Rattle.std.specs.Prelude.{cond, filter, MatchOption}
 use Rattle.std.proofs.lemmas.List.{take-append-drop}
 use Rattle.aa_raw.proofs.Runs.{run-zero}
 use Rattle.aa_vec.specs.Behind.{StandsBehind, SetsBack, ClosesTwice, behind_items}
@@ -9,7 +9,7 @@ use Rattle.aa_vec.specs.Choosing.{Asked, EndsTrue, MayAskInOrder, kept, passed_o
 use Rattle.aa_vec.specs.Draining.{drain_rest, drain_tail}
 use Rattle.aa_vec.specs.Extracting.{ClosesExtract, ExtractsRange, Extracts, extract_kept, extract_rest, extract_tail}
 use Rattle.aa_vec.specs.Until.{StaysAt, Picks}
-use Rattle.aa_vec.specs.Vector.{Vector, len, Holds, Writes, run_count}
+use Rattle.aa_vec.specs.Vector.{Vector, len, Holds, Moves}
 use Rattle.aa_vec.specs.declared.vec.extract_if.ExtractBy.{ExtractBy}
 use Rattle.aa_vec.proofs.Drained.{still_stand, still_are, part_stand, later_part}
 use Rattle.aa_vec.proofs.Drains.{range_held, range_drains}
@@ -83,7 +83,6 @@ module _ {T A : Type 0} (e : ExtractBy T A) where
         → Extracts Asks f e item g (record { vec = re_v new e.vec; kept = e.kept + stay; front = next; end = e.end; total = e.total; ordered = ordered; held = held })
     unfolding extract_kept extract_rest extract_tail
     picked_extracts ordered held =
-        let Says : ℕ → Type 0 = λ m. let moved = if e.front - e.kept == 0 then 0 else m in Writes e.vec.now moved (run_count moved) new in
         record {
           told = picks.told;
           asked = picks.asked;
@@ -94,7 +93,7 @@ module _ {T A : Type 0} (e : ExtractBy T A) where
           lender = refl;
           head = picks.holds;
           tail = still_are e.vec.now new e.end e.end (e.total - e.end) (further new.behind e.vec.now.behind next next e.end e.end (omega (arith, picks.within)) refl picks.above);
-          writes = subst Says picks.counts.0 picks.writes;
+          writes = subst (λ m. Moves e.vec.now (e.front - e.kept) m new) picks.counts.0 picks.writes;
         }
 
   -- what was not asked and what is behind the range stand side by side
@@ -110,8 +109,7 @@ module _ {T A : Type 0} (e : ExtractBy T A) where
   closes_extract w closes =
       let moved : length (behind_items e.vec.now e.front (e.end - e.front)) + length (behind_items e.vec.now e.end (e.total - e.end)) ≡ e.total - e.front =
       sym (ap length closed_parts ∙ length-append (behind_items e.vec.now e.front (e.end - e.front)) (behind_items e.vec.now e.end (e.total - e.end))) ∙ count e.vec.now e.front (e.total - e.front) e.held.1 in
-      let Says : ℕ → Type 0 = λ m. let n = if e.front - e.kept == 0 then 0 else m in Writes e.vec.now n (run_count n) w in
       record {
         holds = subst (λ l. Holds e.vec.now (e.vec.now.items ++ (behind_items e.vec.now 0 e.kept ++ l)) w) closed_parts closes.holds;
-        writes = subst Says (sym moved) (record { written = omega (arith, closes.writes.written); runs = omega (arith, closes.writes.runs) });
+        writes = subst (λ m. Moves e.vec.now (e.front - e.kept) m w) (sym moved) (record { written = omega (arith, closes.writes.written); runs = omega (arith, closes.writes.runs) });
       }

@@ -3,7 +3,6 @@ use Rattle.std.proofs.Common.{◌≡◌, ℕ, ◌+◌, ◌-◌, ◌<◌, ◌≤�
 use Rattle.std.specs.Prelude.{if◌then◌else◌, ◌==◌}
 use Rattle.std.specs.Iterator.{Yields}
 use Rattle.std.proofs.lemmas.List.{append-nil, drop-drop}
-use Rattle.std.proofs.lemmas.Bool.Decides.{eqb_tells}
 use Rattle.aa_raw.specs.Block.{wrote}
 use Rattle.aa_raw.specs.Places.{IsRun, run, moved}
 use Rattle.aa_raw.proofs.Places.{length-moved}
@@ -16,7 +15,6 @@ use Rattle.aa_vec.specs.declared.vec.Vec.TheInside.{Inside}
 use Rattle.aa_vec.proofs.Climbing.{SameBlock-refl, SameBlock-trans, MakesRoom-into, MakesRoom-fits}
 use Rattle.aa_vec.proofs.Drained.{still_stand, still_are}
 use Rattle.aa_vec.proofs.Gaps.{run-of_drop, IsRun-to_drop, there, elements}
-use Rattle.aa_vec.proofs.Lists.{equal, unequal}
 
 -- items that came after others
 module _ {S T : Type 0} (steps : S → Option T → S → Type 0) where
@@ -76,11 +74,7 @@ module _ {S T : Type 0} (steps : S → Option T → S → Type 0) where
 
 -- a move over a gap writes nothing where there is no gap
 over_gap_up : (l gap n : ℕ) → (if l == l + gap then 0 else n) ≡ (if gap == 0 then 0 else n)
-over_gap_up l gap n =
-    elim (eqb_tells gap 0) [
-      | inl h ↦ equal l (l + gap) 0 n (omega (arith, h.1)) ∙ sym (equal gap 0 0 n h.1)
-      | inr h ↦ unequal l (l + gap) 0 n (λ e. h.1 (omega (arith, e))) ∙ sym (unequal gap 0 0 n h.1)
-    ]
+over_gap_up l gap n = grind arith
 
 -- the places of a block whose elements behind the items were moved up
 module _ {T A : Type 0} (v : Inside T A) (front : IsFront v) {self : Vector T A} (is : view_of v ≡ self) (gap n : ℕ) (asked : StandsBehind self 0 n) (room : len self + gap + n ≤ self.capacity) where

@@ -1,13 +1,13 @@
 -- Elements behind the items of a vector, and the gap before them, as the places of its block.
 use Rattle.std.proofs.Common.{◌≡◌, ℕ, ◌+◌, ◌-◌, ◌<◌, ◌≤◌, List, [], ◌∷◌, ◌++◌, length, map, take, drop, replicate, get_or, Option, Some, None, refl, sym, ap, ◌∙◌, subst, arith, inl, inr, length-append, length-drop, length-set, length-take}
 use Rattle.std.specs.Prelude.{slice_set, if◌then◌else◌, ◌==◌}
-use Rattle.std.proofs.lemmas.List.{append-nil, drop-append-le, drop-drop, drop-map, drop-take, drop-set, drop-set-add, drop-set-lt, length-map, length-replicate, length-take-le, take-append-drop, take_at, drop_at}
+use Rattle.std.proofs.lemmas.List.{drop-append-le, drop-drop, drop-map, drop-take, drop-set, drop-set-add, drop-set-lt, length-map, length-replicate, length-take-le, take-append-drop, take_at, drop_at}
 use Rattle.std.specs.List.{refill, length_refill}
 use Rattle.aa_raw.specs.Block.{with_places}
 use Rattle.aa_raw.specs.Places.{IsRun, IsFilled, run, moved, with_run}
 use Rattle.aa_raw.proofs.Calls.{IsRun-with-below}
 use Rattle.aa_raw.proofs.Places.{length-moved, length-with_run}
-use Rattle.aa_raw.proofs.Runs.{length-run, first-filled, IsRun-long, IsRun-part, IsRun-same, drop-with, run-drop, run-one, run-filled, run-moved, run-moved-below, run-split, run-take, run-is, run-push, run-set-above, IsRun-set-above, run-with-below, run-zero, cut-long}
+use Rattle.aa_raw.proofs.Runs.{length-run, first-filled, IsRun-long, IsRun-part, IsRun-same, drop-with, run-drop, run-one, run-filled, run-moved, run-moved-below, run-split, run-take, run-is, run-push, run-set-above, IsRun-set-above, run-with-below, cut-long}
 use Rattle.aa_vec.specs.Behind.{StandsBehind, LeavesBehind, behind_items}
 use Rattle.aa_vec.specs.Vector.{Vector, len}
 use Rattle.aa_vec.specs.Inner.{view_of, IsFront}
@@ -193,9 +193,6 @@ module _ {T A : Type 0} (v : Inside T A) (front : IsFront v) (gap n : ℕ) (stan
 
 -- places behind the items, as those of the block
 pub ruleset behind = (run-of_drop, IsRun-to_drop, drop-moved, over_gap, drop-drop, drop-set-lt)
-
--- a gap that no element is behind
-pub ruleset no_gap = (append-nil, run-zero)
 
 -- a gap that was closed
 pub ruleset closed = (run-closed, drop-closed, IsRun-closed, over_gap, length-moved, length-run, drop-drop)

@@ -1,11 +1,12 @@
 -- What an extension by an iterator says of another one, which it reads and gives back.
 use Rattle.std.proofs.Common.{◌≡◌, ℕ, List, [], ◌∷◌, ◌++◌, Option, Some, None, Result, Ok, Err, IfErr, refl, sym, ap, ◌∙◌, subst}
-use Rattle.std.specs.Iterator.{Count, Drains, size as count}
+use Rattle.std.specs.Prelude.{OnOk}
+use Rattle.std.specs.Iterator.{Drains}
 use Rattle.aa_raw.specs.declared.collections.TryReserveError.{TryReserveError}
-use Rattle.aa_vec.specs.Vector.{Vector, HasRoom}
-use Rattle.aa_vec.specs.Extending.{YieldsTelling, ExtendsByAll, ExtendsByFront, LeavesIter, Extended}
+use Rattle.aa_vec.specs.Vector.{Vector}
+use Rattle.aa_vec.specs.Extending.{YieldsTelling, ExtendsByAll, ExtendsByFront, LeavesIter}
 use Rattle.aa_vec.proofs.Answered.{on_ok, if_err}
-use Rattle.aa_vec.proofs.Extending.{Yields-told, whole_run}
+use Rattle.aa_vec.proofs.Extending.{Yields-told}
 
 -- each call of the one is one of the other, in the state that it holds, under a name that stays
 pub record Reads {S U N T : Type 0} (steps : S → Option T → S → Type 0) (seen : U → Option T → U → Type 0) (Tells : S → ℕ → Type 0) (Told : U → ℕ → Type 0)
@@ -56,22 +57,15 @@ module _ {S U N T : Type 0} (steps : S → Option T → S → Type 0) (seen : U 
           told.0,
         )
 
-    came : (e : ExtendsByAll seen Told size (held iter) old new) → (xs : List T) × Drains seen (held iter) xs × (new.items ≡ old.items ++ xs)
-    came e = (e.added, (e.ends.0, (e.last, Yields-told seen Told e.lower (held iter) e.added e.last e.told, e.ends.1)), e.extends.items)
+    module _ (result : Result Unit TryReserveError) where
+      pub room_read : OnOk result (ExtendsByAll steps Tells size iter old new) → OnOk result (ExtendsByAll seen Told size (held iter) old new)
+      room_read e = on_ok result e (λ x. (all_read x).0)
 
-    pub Extended-read : (left : S → Count) (beyond : U → Count) → count (left iter) ≡ count (beyond (held iter)) → (result : Result Unit TryReserveError)
-        → Extended steps Tells left size iter old result new → Extended seen Told beyond size (held iter) old result new
-    Extended-read left beyond same result e =
-        let all = on_ok result e.extended (λ x. (all_read x).0) in
-        let ran = on_ok result all came in
-        record {
-          fits = λ h. e.fits (subst (HasRoom old) (sym same) h);
-          ran = ran;
-          runs = on_ok result ran (whole_run seen (held iter) (λ xs. new.items ≡ old.items ++ xs));
-          extended = all;
-          writes = e.writes;
-          refused = if_err result e.refused (λ error x. (front_read error x).0);
-        }
+      pub items_read : OnOk result (ExtendsByAll steps Tells size iter old new) → OnOk result ((xs : List T) × Drains seen (held iter) xs × (new.items ≡ old.items ++ xs))
+      items_read e = on_ok result (room_read e) (λ x. (x.added, (x.ends.0, (x.last, Yields-told seen Told x.lower (held iter) x.added x.last x.told, x.ends.1)), x.extends.items))
+
+      pub refused_read : IfErr result (λ e. ExtendsByFront steps Tells size iter old e new) → IfErr result (λ e. ExtendsByFront seen Told size (held iter) old e new)
+      refused_read e = if_err result e (λ error x. (front_read error x).0)
 
     -- the other one is left as `end`, which is what the first still holds, if that is known by the same name
     module _ (after : S) (end : U) (tied : name after ≡ name iter → end ≡ held after) where

@@ -6,10 +6,11 @@ use Rattle.std.proofs.lemmas.List.{take-append-drop, take_at, drop_at}
 use Rattle.std.proofs.lemmas.Bool.Decides.{eqb_tells}
 use Rattle.std.proofs.Math.Nat.{add-mul}
 use Rattle.aa_raw.specs.declared.collections.TryReserveError.{TryReserveError}
-use Rattle.aa_vec.specs.Vector.{Vector, len, Holds, Writes, MakesRoom, LacksRoom, run_count}
+use Rattle.aa_vec.specs.Vector.{Vector, len, Holds, Writes, MakesRoom, LacksRoom, run_count, moved_over}
 use Rattle.aa_vec.specs.Behind.{ClosesGap, behind_items}
 use Rattle.aa_vec.specs.Splicing.{tail_moves}
 use Rattle.aa_vec.specs.Filling.{Widens, FillsAndCloses, Gathers, GathersShort, PutsRest, LacksRest, PutsAll, PutsWithin, Puts}
+use Rattle.aa_vec.proofs.Closed.{moved_none, moved_some, moved_most, one_run}
 use Rattle.aa_vec.proofs.Climbing.{SameBlock-refl, SameBlock-trans, MakesRoom-into}
 use Rattle.aa_vec.proofs.Drained.{still_are, still_stand}
 use Rattle.aa_vec.proofs.Filling.{Yields-join}
@@ -28,22 +29,6 @@ put_between {X} head mid tail ys zs n e l =
     ap (λ us. take k us ++ (ys ++ drop k us)) halves ∙ ap (λ us. us ++ (ys ++ drop k (xs ++ tail))) (take_at xs tail k cut) ∙ ap (λ us. xs ++ (ys ++ us)) (drop_at xs tail k cut)
     ∙ append_assoc head mid (ys ++ tail) ∙ ap (λ us. head ++ us) (sym (append_assoc mid ys tail))
 
--- how many elements of n a move over a gap writes, and in how many runs
-abbrev pub over : (gap n : ℕ) → ℕ
-over gap n = if gap == 0 then 0 else n
-
-pub over_none : (gap n : ℕ) → gap ≡ 0 → over gap n ≡ 0
-over_none gap n e = equal gap 0 0 n e
-
-pub over_some : (gap n : ℕ) → 0 < gap → over gap n ≡ n
-over_some gap n h = unequal gap 0 0 n (λ e. absurd (omega (arith, h, e)))
-
-pub at_most : (gap n : ℕ) → over gap n ≤ n
-at_most gap n = elim (eqb_tells gap 0) [ inl h ↦ omega (arith, over_none gap n h.1) | inr h ↦ omega (arith, over_some gap n (omega (arith, h.1))) ]
-
-pub one_at_most : (n : ℕ) → run_count n ≤ 1
-one_at_most n = at_most n 1
-
 -- how often the tail is moved where n items fill the gap and m more come
 moves_full : (gap h n m : ℕ) → n ≡ gap + m → tail_moves gap h n ≡ run_count h + run_count (m - h) + run_count (h - m)
 moves_full gap h n m e =
@@ -57,25 +42,25 @@ pub moves_few : (gap h n : ℕ) → n < gap → tail_moves gap h n ≡ 1
 moves_few gap h n l = unequal (gap - n) 0 (run_count h + run_count (n - gap - h) + run_count (h - (n - gap))) 1 (λ e. absurd (omega (arith, l, e)))
 
 -- the elements that are written where a tail of m is moved so often
-run_times : (n m : ℕ) → run_count n * m ≡ over n m
+run_times : (n m : ℕ) → run_count n * m ≡ moved_over n m
 run_times n m =
     elim (eqb_tells n 0) [
-      | inl h ↦ ap (λ k. k * m) (over_none n 1 h.1) ∙ omega arith ∙ sym (over_none n m h.1)
-      | inr h ↦ ap (λ k. k * m) (over_some n 1 (omega (arith, h.1))) ∙ omega arith ∙ sym (over_some n m (omega (arith, h.1)))
+      | inl h ↦ ap (λ k. k * m) (moved_none n 1 h.1) ∙ omega arith ∙ sym (moved_none n m h.1)
+      | inr h ↦ ap (λ k. k * m) (moved_some n 1 (omega (arith, h.1))) ∙ omega arith ∙ sym (moved_some n m (omega (arith, h.1)))
     ]
 
-moves_times : (h k n : ℕ) → tail_moves 0 h k * n ≡ over h n + over (k - h) n + over (h - k) n
+moves_times : (h k n : ℕ) → tail_moves 0 h k * n ≡ moved_over h n + moved_over (k - h) n + moved_over (h - k) n
 moves_times h k n =
     ap (λ j. j * n) (moves_full 0 h k k (omega arith)) ∙ add-mul (run_count h + run_count (k - h)) (run_count (h - k)) n ∙ ap (λ j. j + run_count (h - k) * n) (add-mul (run_count h) (run_count (k - h)) n)
     ∙ omega (arith, run_times h n, run_times (k - h) n, run_times (h - k) n)
 
 -- where no more come than were told
-pub moves_told : (told left k n : ℕ) → k + left ≡ told → over told n + (k + over left n) ≡ k + tail_moves 0 told k * n
-moves_told told left k n e = omega (arith, moves_times told k n, over_none (k - told) n (omega (arith, e)), ap (λ j. over j n) {x = told - k} {y = left} (omega (arith, e)))
+pub moves_told : (told left k n : ℕ) → k + left ≡ told → moved_over told n + (k + moved_over left n) ≡ k + tail_moves 0 told k * n
+moves_told told left k n e = omega (arith, moves_times told k n, moved_none (k - told) n (omega (arith, e)), ap (λ j. moved_over j n) {x = told - k} {y = left} (omega (arith, e)))
 
 -- where r more come
-pub moves_rest : (told r n : ℕ) → 0 < r → over told n + told + (r + n) ≡ told + r + tail_moves 0 told (told + r) * n
-moves_rest told r n h = omega (arith, moves_times told (told + r) n, over_some (told + r - told) n (omega (arith, h)), over_none (told - (told + r)) n (omega arith))
+pub moves_rest : (told r n : ℕ) → 0 < r → moved_over told n + told + (r + n) ≡ told + r + tail_moves 0 told (told + r) * n
+moves_rest told r n h = omega (arith, moves_times told (told + r) n, moved_some (told + r - told) n (omega (arith, h)), moved_none (told - (told + r)) n (omega arith))
 
 module _ {S T A : Type 0} (steps : S → Option T → S → Type 0) (Tells : S → ℕ → Type 0) (remaining : S → Count) (size : ℕ) (s : S) (old : Vector T A) where
   -- room for as many as were told was refused
@@ -104,8 +89,8 @@ module _ {S T A : Type 0} (steps : S → Option T → S → Type 0) (Tells : S �
             ∙ ap (λ ys. head ++ (new ++ ys)) (still_are v w (length new) 0 n behind ∙ wid.elements);
         room = MakesRoom-into size (len old) (length new) wid.room (SameBlock-trans holds.block closes.holds.block);
         writes = record {
-          written = omega (arith, closes.writes.written, writes.written, wid.writes.written, over_some (length new) n some);
-          runs = omega (arith, closes.writes.runs, writes.runs, wid.writes.runs, over_some (length new) 1 some, ap run_count (over_some (length new) n some));
+          written = omega (arith, closes.writes.written, writes.written, wid.writes.written, moved_some (length new) n some);
+          runs = omega (arith, closes.writes.runs, writes.runs, wid.writes.runs, moved_some (length new) 1 some, ap run_count (moved_some (length new) n some));
         };
       }
 
@@ -143,14 +128,14 @@ module _ {S T A : Type 0} (steps : S → Option T → S → Type 0) (Tells : S �
     z_room : MakesRoom size old (len old) told z
     z_room = MakesRoom-into size (len old) told wid.room f.holds.block
 
-    z_written : z.written ≡ old.written + (over told n + (length came + over left n))
+    z_written : z.written ≡ old.written + (moved_over told n + (length came + moved_over left n))
     z_written = omega (arith, f.writes.written, wid.writes.written)
 
     within : PutsWithin old n z
     within = record {
       longer = omega (arith, z_len);
-      written = omega (arith, z_written, z_len, at_most told n, at_most left n);
-      runs = omega (arith, f.writes.runs, wid.writes.runs, z_len, one_at_most (over told n), one_at_most (over left n));
+      written = omega (arith, z_written, z_len, moved_most told n, moved_most left n);
+      runs = omega (arith, f.writes.runs, wid.writes.runs, z_len, one_run (moved_over told n), one_run (moved_over left n));
     }
 
     -- no further item is to come
@@ -207,7 +192,7 @@ module _ {S T A : Type 0} (steps : S → Option T → S → Type 0) (Tells : S �
               items = new_items;
               room = (z, z_room, subst P (omega (arith, z_len, told_came)) (subst Q (omega (arith, all_count)) r.room));
               written =
-                  omega (arith, r.writes.written, z_written, told_came, over_none left n full, moves_rest told (length others) n some)
+                  omega (arith, r.writes.written, z_written, told_came, moved_none left n full, moves_rest told (length others) n some)
                   ∙ ap R (sym all_count);
             }
 
@@ -217,8 +202,8 @@ module _ {S T A : Type 0} (steps : S → Option T → S → Type 0) (Tells : S �
             ap length new_items ∙ length-append head ((came ++ others) ++ tail) ∙ omega (arith, length-append (came ++ others) tail, length-append came others, z_len, head_count, tail_count, few) in
             record {
               longer = omega (arith, longer, z_len);
-              written = omega (arith, r.writes.written, z_written, longer, z_len, at_most told n, over_none left n full);
-              runs = omega (arith, r.writes.runs, f.writes.runs, wid.writes.runs, longer, z_len, some, one_at_most (over told n), ap run_count (over_none left n full), one_at_most n);
+              written = omega (arith, r.writes.written, z_written, longer, z_len, moved_most told n, moved_none left n full);
+              runs = omega (arith, r.writes.runs, f.writes.runs, wid.writes.runs, longer, z_len, some, one_run (moved_over told n), ap run_count (moved_none left n full), one_run n);
             }
 
       pub Puts-rest : (P : A → Type 0) → ((k : S) → (m : ℕ) × Tells k m) → (result : Result Unit TryReserveError) (new : Vector T A) (after : S) → OnOk result (PutsRest steps size u z n first new after) → IfErr result (λ e. LacksRest steps Tells (P z.alloc) size u z n first e after × (new ≡ z)) → told < count_of (remaining s)

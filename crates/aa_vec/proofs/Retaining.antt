@@ -1,12 +1,12 @@
 -- Elements asked in order, of which those that stay were moved down.
-use Rattle.std.proofs.Common.{◌≡◌, ℕ, zero, suc, ◌+◌, ◌≤◌, Bool, true, false, List, [], ◌∷◌, ◌++◌, length, take, drop, refl, sym, ap, ◌∙◌, subst, arith, append_assoc}
+use Rattle.std.proofs.Common.{◌≡◌, ℕ, zero, suc, ◌+◌, ◌-◌, ◌≤◌, Bool, true, false, List, [], ◌∷◌, ◌++◌, length, take, drop, refl, sym, ap, ◌∙◌, subst, arith, append_assoc}
 use Rattle.std.proofs.lemmas.List.{append-nil}
 use Rattle.aa_vec.specs.Behind.{StandsBehind, behind_items}
 use Rattle.aa_vec.specs.Choosing.{Asked, answers_of, kept, kept_behind_removed, removed_count, AskedInOrder, MayAskInOrder, Retains}
 use Rattle.aa_vec.specs.Until.{AsksUntil, AsksBehind}
-use Rattle.aa_vec.specs.Vector.{Vector}
+use Rattle.aa_vec.specs.Vector.{Vector, len}
 use Rattle.aa_vec.proofs.Closed.{marks}
-use Rattle.aa_vec.proofs.Stages.{Turn, Stage, stage-ended}
+use Rattle.aa_vec.proofs.Stages.{Turn, Stage, Turned, turned, stage-ended}
 use Rattle.aa_vec.proofs.Stands.{count, left_are, left_stand}
 
 module _ {F T : Type 0} (Asks : F → T → Bool → F → T → Type 0) where
@@ -72,6 +72,9 @@ module _ {F T : Type 0} (Asks : F → T → Bool → F → T → Type 0) where
                   all = e.all ∙ append_assoc w.items (take k asked.left) (kept e.told) ∙ ap (λ s. s.items ++ (take k asked.left ++ kept e.told)) same ∙ ap (λ l. v.items ++ l) (sym q.3);
                 };
           }
+
+      pub asked-turn : {f h g : F} {old v w : Vector T A} {at end k : ℕ} (s : Stage Told May f [] old.items old h v at end) (gap : ℕ) → gap + len v ≡ at → AsksBehind Asks h v gap (end - at) k g w → Turned Told May f [] old.items old at end gap k g w
+      asked-turn {h = h} {g = g} {v = v} {w = w} {at = at} {end = end} {k = k} s gap e asked = turned Told May s gap e (λ stands. turn-asked h v gap (end - at) stands k g w asked)
 
       -- all were asked
       pub Retains-ended : (f : F) (old : Vector T A) (g : F) (z : Vector T A) (at end : ℕ) → Stage Told May f [] old.items old g z at end → at ≡ end → Retains Asks f old g z

@@ -2,7 +2,7 @@
 use Rattle.std.proofs.Common.{◌≡◌, ℕ, ◌+◌, ◌-◌, ◌*◌, ◌≤◌, List, [], ◌++◌, length, append_assoc, refl, sym, ap, ◌∙◌, subst, arith, inl, inr, length-append}
 use Rattle.std.proofs.lemmas.List.{append-nil}
 use Rattle.aa_raw.specs.declared.collections.TryReserveError.{TryReserveError}
-use Rattle.aa_vec.specs.Vector.{Vector, SameBlock, MakesRoom, LacksRoom}
+use Rattle.aa_vec.specs.Vector.{Vector, len, SameBlock, MakesRoom, LacksRoom}
 use Rattle.aa_vec.specs.Extending.{ItemsLeft, gives_item, lower_by, TellsExactly}
 use Rattle.aa_vec.specs.Splicing.{MakesRoomTwice, SplicesAll, SplicesFront, SplicesShort, SplicesByAll, SplicesByFront, tail_moves}
 use Rattle.std.specs.Prelude.{⊤}
@@ -60,18 +60,18 @@ module _ {T A : Type 0} (size : ℕ) (lower by : ℕ → ℕ) {u v : Vector T A}
         ]
 
 -- splices by an `Items`
-module _ {T : Type 0} (iter : ItemsLeft T) {A : Type 0} (size : ℕ) (old : Vector T A) (head : List T) (gap : ℕ) (tail : List T) where
-  module _ (new : Vector T A) (s : SplicesByAll gives_item (TellsExactly items_lower) size iter old head gap tail new) where
+module _ {T : Type 0} (iter : ItemsLeft T) {A : Type 0} (size : ℕ) (old : Vector T A) (gap : ℕ) (tail : List T) where
+  module _ (new : Vector T A) (s : SplicesByAll gives_item (TellsExactly items_lower) size iter old gap tail new) where
     none : s.last.items ≡ []
     none = s.ends.1.0.0
 
     whole : s.added ≡ iter.items
     whole = items-all s.lower iter s.added s.last s.told none
 
-    pub SplicesAll-items : length head ≤ old.capacity → SplicesAll size (lower_by iter.hint) old head gap tail iter.items new
+    pub SplicesAll-items : len old ≤ old.capacity → SplicesAll size (lower_by iter.hint) old old.items gap tail iter.items new
     SplicesAll-items within =
-        subst (λ xs. SplicesAll size (lower_by iter.hint) old head gap tail xs new) whole
-        (SplicesAll-told size s.lower (lower_by iter.hint) (SameBlock-refl old) head gap tail s.added s.last.items (λ k h. items-told s.lower iter s.added s.last s.told s.first k (h within)) new none s.splices)
+        subst (λ xs. SplicesAll size (lower_by iter.hint) old old.items gap tail xs new) whole
+        (SplicesAll-told size s.lower (lower_by iter.hint) (SameBlock-refl old) old.items gap tail s.added s.last.items (λ k h. items-told s.lower iter s.added s.last s.told s.first k (h within)) new none s.splices)
 
     pub items-written : new.written ≡ old.written + (length iter.items + tail_moves gap (lower_by iter.hint (length iter.items - gap)) (length iter.items) * length tail)
     items-written =
@@ -80,10 +80,10 @@ module _ {T : Type 0} (iter : ItemsLeft T) {A : Type 0} (size : ℕ) (old : Vect
         (items-told s.lower iter s.added s.last s.told s.first (length s.added - gap) (omega arith) ∙ ap (lower_by iter.hint) (omega (arith, ap length none)))
         ∙ ap (λ xs. old.written + (length xs + tail_moves gap (lower_by iter.hint (length xs - gap)) (length xs) * length tail)) whole
 
-  pub SplicesShort-items : {fails : Type 0} → length head ≤ old.capacity → (error : TryReserveError) (new : Vector T A) → SplicesByFront gives_item (TellsExactly items_lower) size iter old head gap tail fails error new
-      → SplicesShort size (lower_by iter.hint) old head gap tail iter.items ⊤ ⊤ error new
+  pub SplicesShort-items : {fails : Type 0} → len old ≤ old.capacity → (error : TryReserveError) (new : Vector T A) → SplicesByFront gives_item (TellsExactly items_lower) size iter old gap tail fails error new
+      → SplicesShort size (lower_by iter.hint) old old.items gap tail iter.items ⊤ ⊤ error new
   SplicesShort-items within error new s =
-      SplicesShort-told size s.lower (lower_by iter.hint) (SameBlock-refl old) head gap tail s.taken s.last.items (λ k h. items-told s.lower iter s.taken s.last s.told s.first k (h within)) new iter.items
+      SplicesShort-told size s.lower (lower_by iter.hint) (SameBlock-refl old) old.items gap tail s.taken s.last.items (λ k h. items-told s.lower iter s.taken s.last s.told s.first k (h within)) new iter.items
       (items-rest s.lower iter s.taken s.last s.told).0 error (λ _. tt) (λ _. tt) (λ h. h.1.0.0) s.splices
 
 -- a splice of v is one of u, in the same block

@@ -114,10 +114,22 @@ module _ (I A X : RattleType) (gI : It.Ghosts I.Denot X.Denot) (gA : Ghosts A.De
         subst (λ ws. ent 𝓤 (sem 𝓛 (owns Rs a ws)) (ex 𝓤 Φ)) (sym w.1.0)
         (via 𝓤 (Φ w.0) (via 𝓤 (sep 𝓤 (emp 𝓤) P) (emp∗ 𝓤 P) (mono∗ 𝓤 (fact_i 𝓤 _ (emp 𝓤) (e ∙ ap (λ (ws : Valss Rs). vstruct (of_list (flat Rs ws)) ∷ []) w.1.0, w.1.1)) (id⊢ 𝓤 P))) (ex_i 𝓤 Φ w.0))))))
 
+-- a fact beside what is there
+with_fact : {M : Type 1} (𝓤 : Ura M) {P Q : SProp 𝓤} {φ : Type 0} → φ → ent 𝓤 P Q → ent 𝓤 P (sep 𝓤 (fact 𝓤 φ) Q)
+with_fact 𝓤 {P = P} x rest = via 𝓤 (sep 𝓤 (emp 𝓤) P) (emp∗ 𝓤 P) (mono∗ 𝓤 (fact_i 𝓤 _ (emp 𝓤) x) rest)
+
+-- a fact that says eight others
+pub eight : {M : Type 1} (𝓤 : Ura M) {φ a b c d e f g h : Type 0} → (φ → a × b × c × d × e × f × g × h)
+    → ent 𝓤 (fact 𝓤 φ) (sep 𝓤 (fact 𝓤 a) (sep 𝓤 (fact 𝓤 b) (sep 𝓤 (fact 𝓤 c) (sep 𝓤 (fact 𝓤 d) (sep 𝓤 (fact 𝓤 e) (sep 𝓤 (fact 𝓤 f) (sep 𝓤 (fact 𝓤 g) (fact 𝓤 h))))))))
+eight 𝓤 {φ = φ} says =
+    fact_use 𝓤 φ (id⊢ 𝓤 (fact 𝓤 φ)) (λ x.
+    let y = says x in
+    with_fact 𝓤 y.0 (with_fact 𝓤 y.1 (with_fact 𝓤 y.2 (with_fact 𝓤 y.3 (with_fact 𝓤 y.4 (with_fact 𝓤 y.5 (with_fact 𝓤 y.6 (fact_i 𝓤 _ (fact 𝓤 φ) y.7))))))))
+
 -- the bounds on the three type parameters and what else the caller asked, and two facts before that
 pub asks : {M : Type 1} (𝓤 : Ura M) (I A X : RattleType) (κs : Lfts 4) (Can : SProp 𝓤) {φ ψ : Type 0} → φ → ψ
     → ent 𝓤 (sep 𝓤 (fact 𝓤 (κs.1.0 ⊑ I.lives)) (sep 𝓤 (fact 𝓤 (κs.1.1.0 ⊑ A.lives)) (sep 𝓤 (fact 𝓤 (κs.1.1.1.0 ⊑ X.lives)) Can)))
     (sep 𝓤 (fact 𝓤 (κs.1.0 ⊑ I.lives)) (sep 𝓤 (fact 𝓤 (κs.1.1.0 ⊑ A.lives)) (sep 𝓤 (fact 𝓤 (κs.1.1.1.0 ⊑ X.lives)) (sep 𝓤 (fact 𝓤 φ) (sep 𝓤 (fact 𝓤 ψ) Can)))))
 asks 𝓤 I A X κs Can x y =
     mono∗ 𝓤 (id⊢ 𝓤 (fact 𝓤 (κs.1.0 ⊑ I.lives))) (mono∗ 𝓤 (id⊢ 𝓤 (fact 𝓤 (κs.1.1.0 ⊑ A.lives))) (mono∗ 𝓤 (id⊢ 𝓤 (fact 𝓤 (κs.1.1.1.0 ⊑ X.lives)))
-    (via 𝓤 (sep 𝓤 (emp 𝓤) Can) (emp∗ 𝓤 Can) (mono∗ 𝓤 (fact_i 𝓤 _ (emp 𝓤) x) (via 𝓤 (sep 𝓤 (emp 𝓤) Can) (emp∗ 𝓤 Can) (mono∗ 𝓤 (fact_i 𝓤 _ (emp 𝓤) y) (id⊢ 𝓤 Can)))))))
+    (with_fact 𝓤 x (with_fact 𝓤 y (id⊢ 𝓤 Can)))))

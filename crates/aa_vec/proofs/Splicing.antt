@@ -5,19 +5,20 @@ use Rattle.std.specs.Iterator.{Count, Yields, Drains, size as count_of}
 use Rattle.std.proofs.lemmas.List.{append-nil}
 use Rattle.aa_raw.specs.declared.collections.TryReserveError.{TryReserveError}
 use Rattle.aa_raw.proofs.Runs.{length-run, run-zero}
-use Rattle.aa_vec.specs.Vector.{Vector, len, SameBlock, Writes, run_count}
+use Rattle.aa_vec.specs.Vector.{Vector, len, SameBlock, Writes, run_count, moved_over}
 use Rattle.aa_vec.specs.Behind.{StandsBehind, DropsBehind, behind_items}
 use Rattle.aa_vec.specs.Extending.{ExtendsAll, ExtendsFull, ExtendsByAll, ExtendsByFront, Extended, LeavesIter, StopsAt}
 use Rattle.aa_vec.specs.Splicing.{MakesRoomTwice, SplicesByAll, SplicesByFront, Replaced, SplicesIter, tail_moves}
 use Rattle.aa_vec.specs.Filling.{FillsAndCloses, PutsAll, PutsFront, Puts}
 use Rattle.aa_vec.proofs.Answered.{on_ok, if_err, done_unless}
+use Rattle.aa_vec.proofs.Closed.{moved_none, moved_some, moved_most, one_run}
 use Rattle.aa_vec.proofs.Climbing.{SameBlock-trans, MakesRoom-same}
 use Rattle.aa_vec.proofs.Counted.{ExtendsAll-told, ExtendsFull-told}
 use Rattle.aa_vec.proofs.Drained.{dropped_are}
 use Rattle.aa_vec.proofs.Extending.{Yields-told, whole_run}
 use Rattle.aa_vec.proofs.Gathered.{LacksOthers-same}
 use Rattle.aa_vec.proofs.Telling.{told_first, tells_each, tell_between}
-use Rattle.aa_vec.proofs.Replacing.{over, over_none, at_most, over_some, one_at_most, moves_few, moves_beyond, put_between}
+use Rattle.aa_vec.proofs.Replacing.{moves_few, moves_beyond, put_between}
 
 module _ {S T : Type 0} (steps : S → Option T → S → Type 0) (Tells : S → ℕ → Type 0) where
   -- in each state something may be told
@@ -37,7 +38,7 @@ module _ {S T : Type 0} (steps : S → Option T → S → Type 0) (Tells : S →
       same_len = ap len drops.same
 
       -- what was spliced was given
-      drains : (new : Vector T A) → SplicesByAll steps Tells size iter old old.items gap tail new → (xs : List T) × Drains steps iter xs × (new.items ≡ old.items ++ (xs ++ tail))
+      drains : (new : Vector T A) → SplicesByAll steps Tells size iter old gap tail new → (xs : List T) × Drains steps iter xs × (new.items ≡ old.items ++ (xs ++ tail))
       drains new s = (s.added, (s.ends.0, (s.last, Yields-told steps Tells s.lower iter s.added s.last s.told, s.ends.1)), s.splices.items)
 
       -- nothing stands behind the range, and the vector was extended
@@ -51,7 +52,7 @@ module _ {S T : Type 0} (steps : S → Option T → S → Type 0) (Tells : S →
         same_told : (lower low : ℕ → ℕ) (xs : List T) → ((k : ℕ) → k < length xs → lower k ≡ low k) → len w ≤ w.capacity → (k : ℕ) → (len w ≤ old.capacity → k < length xs) → lower k ≡ low (k + 0)
         same_told lower low xs same within k h = same k (h (omega (arith, within, block.capacity))) ∙ ap low (omega arith)
 
-        all_extended : (new : Vector T A) → Writes w (len new - len w) (len new - len w) new → (x : ExtendsByAll steps Tells size iter w new) → (all : SplicesByAll steps Tells size iter old old.items gap tail new) × (all.ends.0 ≡ x.ends.0)
+        all_extended : (new : Vector T A) → Writes w (len new - len w) (len new - len w) new → (x : ExtendsByAll steps Tells size iter w new) → (all : SplicesByAll steps Tells size iter old gap tail new) × (all.ends.0 ≡ x.ends.0)
         all_extended new z x =
             let nil : List T = [] in
             let f = told_first steps Tells x.lower iter x.added x.last x.told (tell iter).0 (tell iter).1 in
@@ -76,25 +77,25 @@ module _ {S T : Type 0} (steps : S → Option T → S → Type 0) (Tells : S →
               refl,
             )
 
-        front_extended : (error : TryReserveError) (new : Vector T A) → (x : ExtendsByFront steps Tells size iter w error new) → (front : SplicesByFront steps Tells size iter old old.items gap tail (P old.alloc) error new) × (front.last ≡ x.last)
+        front_extended : (error : TryReserveError) (new : Vector T A) → (x : ExtendsByFront steps Tells size iter w error new) → (front : SplicesByFront steps Tells size iter old gap tail (P old.alloc) error new) × (front.last ≡ x.last)
         front_extended error new x =
             let nil : List T = [] in
             let f = told_first steps Tells x.lower iter x.taken x.last x.told (tell iter).0 (tell iter).1 in
             let full = ExtendsFull-told size x.lower f.0 block w.items x.taken nil (same_told x.lower f.0 x.taken f.1 x.within) x.taken (sym (append-nil x.taken)) error new x.extends in
             (record { taken = x.taken; lower = f.0; last = x.last; first = f.4; told = f.2; splices = inl (no_tail, subst (λ h. ExtendsFull size f.0 old h x.taken error new) same_head full) }, refl)
 
-        pub Replaced-extended : (r : Result Unit TryReserveError) (new : Vector T A) → Extended steps Tells left_of size iter w r new → Replaced steps Tells left_of (P old.alloc) size iter old old.items gap tail r new
+        pub Replaced-extended : (r : Result Unit TryReserveError) (new : Vector T A) → Extended steps Tells left_of size iter w r new → Replaced steps Tells left_of (P old.alloc) size iter old gap tail r new
         Replaced-extended r new e =
             let z = e.writes in
-            let spliced = on_ok r e.extended (λ x. (all_extended new z x).0) in
+            let spliced = on_ok r e.room (λ x. (all_extended new z x).0) in
             let ran : OnOk r ((xs : List T) × Drains steps iter xs × (new.items ≡ old.items ++ (xs ++ tail))) = on_ok r spliced (drains new) in
             record {
               fits_gap = λ few. e.fits (omega (arith, few, stands.0, same_len, block.capacity));
               fits_end = λ _ room. e.fits (omega (arith, room, same_len, block.capacity));
               fits_told = λ h _ few room. e.fits (omega (arith, few, room, same_len, block.capacity));
-              ran = ran;
+              items = ran;
               runs = on_ok r ran (whole_run steps iter (λ xs. new.items ≡ old.items ++ (xs ++ tail)));
-              spliced = spliced;
+              room = spliced;
               writes = record {
                 written = omega (arith, z.written, same_len, ap (λ u. u.written) drops.same, tail_count, none);
                 runs = omega (arith, z.runs, same_len, ap (λ u. u.runs) drops.same, tail_count, none);
@@ -103,7 +104,7 @@ module _ {S T : Type 0} (steps : S → Option T → S → Type 0) (Tells : S →
             }
 
         pub SplicesIter-extended : (r : Result Unit TryReserveError) (new : Vector T A) (after : S) → Writes w (len new - len w) (len new - len w) new → LeavesIter steps Tells size iter w after r new
-            → SplicesIter steps Tells (P old.alloc) size iter old old.items gap tail after r new
+            → SplicesIter steps Tells size iter old gap tail (P old.alloc) after r new
         SplicesIter-extended r new after z l = record {
           ended = on_ok r l.ended (λ x. let s = all_extended new z x.0 in (s.0, s.1 ∙ x.1));
           stopped = if_err r l.stopped (λ error x. let s = front_extended error new x.0 in (s.0, inl (s.1 ∙ x.1)));
@@ -126,10 +127,10 @@ module _ {S T : Type 0} (steps : S → Option T → S → Type 0) (Tells : S →
         pub filled_len : n ≤ len x
         filled_len = omega (arith, x_len)
 
-        x_written : x.written ≡ old.written + (length came + over left n)
+        x_written : x.written ≡ old.written + (length came + moved_over left n)
         x_written = omega (arith, f.writes.written, ap (λ u. u.written) drops.same)
 
-        ended_spliced : 0 < left → (all : SplicesByAll steps Tells size iter old old.items gap tail x) × (all.ends.0 ≡ t)
+        ended_spliced : 0 < left → (all : SplicesByAll steps Tells size iter old gap tail x) × (all.ends.0 ≡ t)
         ended_spliced h =
             let few : length came < gap = omega (arith, f.comes.count, h) in
             let r = tells_each steps Tells tell iter came f.last f.comes.given in
@@ -147,12 +148,12 @@ module _ {S T : Type 0} (steps : S → Option T → S → Type 0) (Tells : S →
                   in_gap = λ _ _. x_block;
                   beyond = λ _ l. absurd (omega (arith, l, few));
                 };
-                written = omega (arith, x_written, tail_count, over_some left n h, ap (λ k. k * length tail) (moves_few gap (b.0 (length came - gap)) (length came) few));
+                written = omega (arith, x_written, tail_count, moved_some left n h, ap (λ k. k * length tail) (moves_few gap (b.0 (length came - gap)) (length came) few));
               },
               refl,
             )
 
-        pub Replaced-ended : 0 < left → Replaced steps Tells left_of (P old.alloc) size iter old old.items gap tail (Ok tt) x
+        pub Replaced-ended : 0 < left → Replaced steps Tells left_of (P old.alloc) size iter old gap tail (Ok tt) x
         Replaced-ended h =
             let few : length came < gap = omega (arith, f.comes.count, h) in
             let spliced = (ended_spliced h).0 in
@@ -160,17 +161,17 @@ module _ {S T : Type 0} (steps : S → Option T → S → Type 0) (Tells : S →
               fits_gap = λ _. refl;
               fits_end = λ _ _. refl;
               fits_told = λ _ _ _ _. refl;
-              ran = drains x spliced;
+              items = drains x spliced;
               runs = whole_run steps iter (λ xs. x.items ≡ old.items ++ (xs ++ tail)) (drains x spliced);
-              spliced = spliced;
+              room = spliced;
               writes = record {
-                written = omega (arith, x_written, x_len, tail_count, at_most left n);
-                runs = omega (arith, f.writes.runs, ap (λ u. u.runs) drops.same, x_len, tail_count, one_at_most (over left n));
+                written = omega (arith, x_written, x_len, tail_count, moved_most left n);
+                runs = omega (arith, f.writes.runs, ap (λ u. u.runs) drops.same, x_len, tail_count, one_run (moved_over left n));
               };
               refused = tt;
             }
 
-        pub SplicesIter-ended : 0 < left → SplicesIter steps Tells (P old.alloc) size iter old old.items gap tail t (Ok tt) x
+        pub SplicesIter-ended : 0 < left → SplicesIter steps Tells size iter old gap tail (P old.alloc) t (Ok tt) x
         SplicesIter-ended h = record { ended = ended_spliced h; stopped = tt }
 
         -- the gap is full, `told` is told then, and the others were put behind
@@ -190,7 +191,7 @@ module _ {S T : Type 0} (steps : S → Option T → S → Type 0) (Tells : S →
           whole : len x ≡ len old + gap + length tail
           whole = omega (arith, x_len, gap_came, tail_count)
 
-          more_spliced : (new : Vector T A) (after : S) → PutsAll steps size t x told n new after → (all : SplicesByAll steps Tells size iter old old.items gap tail new) × (all.ends.0 ≡ after)
+          more_spliced : (new : Vector T A) (after : S) → PutsAll steps size t x told n new after → (all : SplicesByAll steps Tells size iter old gap tail new) × (all.ends.0 ≡ after)
           more_spliced new after p =
               let all : List T = came ++ p.added in
               let e = tells_each steps Tells tell t p.added p.last p.given in
@@ -213,7 +214,7 @@ module _ {S T : Type 0} (steps : S → Option T → S → Type 0) (Tells : S →
                     beyond = λ _ _. rw (told_is, over_is, ← whole) m;
                   };
                   written =
-                      omega (arith, p.written, x_written, over_none left n full, length-append came p.added)
+                      omega (arith, p.written, x_written, moved_none left n full, length-append came p.added)
                       ∙ ap (λ k. old.written + (length all + k * n)) (sym (moves_beyond gap told (length all) (length p.added) (omega (arith, length-append came p.added, gap_came))))
                       ∙ ap (λ k. old.written + (length all + tail_moves gap k (length all) * n)) (sym told_is)
                       ∙ ap (λ k. old.written + (length all + tail_moves gap (low (length all - gap)) (length all) * k)) (sym tail_count);
@@ -221,7 +222,7 @@ module _ {S T : Type 0} (steps : S → Option T → S → Type 0) (Tells : S →
                 refl,
               )
 
-          more_refused : (error : TryReserveError) (new : Vector T A) (after : S) → (p : PutsFront steps Tells (P x.alloc) size t x told n error new after) → (front : SplicesByFront steps Tells size iter old old.items gap tail (P old.alloc) error new) × (front.last ≡ p.last)
+          more_refused : (error : TryReserveError) (new : Vector T A) (after : S) → (p : PutsFront steps Tells (P x.alloc) size t x told n error new after) → (front : SplicesByFront steps Tells size iter old gap tail (P old.alloc) error new) × (front.last ≡ p.last)
           more_refused error new after p =
               let put : List T = p.front ++ p.others in
               let r = tell_between steps Tells tell iter came t given told tells p.lower put p.last p.given in
@@ -256,7 +257,7 @@ module _ {S T : Type 0} (steps : S → Option T → S → Type 0) (Tells : S →
                 refl,
               )
 
-          pub Replaced-more : (r : Result Unit TryReserveError) (new : Vector T A) (after : S) → Puts steps Tells (P x.alloc) size t x told n left_of r new after → gap + count_of (left_of t) ≤ count_of (left_of iter) → Replaced steps Tells left_of (P old.alloc) size iter old old.items gap tail r new
+          pub Replaced-more : (r : Result Unit TryReserveError) (new : Vector T A) (after : S) → Puts steps Tells (P x.alloc) size t x told n left_of r new after → gap + count_of (left_of t) ≤ count_of (left_of iter) → Replaced steps Tells left_of (P old.alloc) size iter old gap tail r new
           Replaced-more r new after p goes =
               let spliced = on_ok r p.all (λ all. (more_spliced new after all).0) in
               let ran = on_ok r spliced (drains new) in
@@ -266,17 +267,17 @@ module _ {S T : Type 0} (steps : S → Option T → S → Type 0) (Tells : S →
                 fits_told = λ h once few room.
                     let is : told ≡ h = once came t told given gap_came tells in
                     done_unless r (if_err r p.few (λ e less. absurd (omega (arith, less (omega (arith, is, room, whole, x_block.capacity)), is, few, goes))));
-                ran = ran;
+                items = ran;
                 runs = on_ok r ran (whole_run steps iter (λ xs. new.items ≡ old.items ++ (xs ++ tail)));
-                spliced = spliced;
+                room = spliced;
                 writes = record {
-                  written = omega (arith, p.writes.written, p.writes.longer, x_written, x_len, tail_count, over_none left n full);
-                  runs = omega (arith, p.writes.runs, p.writes.longer, f.writes.runs, ap (λ u. u.runs) drops.same, x_len, tail_count, ap run_count (over_none left n full));
+                  written = omega (arith, p.writes.written, p.writes.longer, x_written, x_len, tail_count, moved_none left n full);
+                  runs = omega (arith, p.writes.runs, p.writes.longer, f.writes.runs, ap (λ u. u.runs) drops.same, x_len, tail_count, ap run_count (moved_none left n full));
                 };
                 refused = if_err r p.refused (λ e front. (more_refused e new after front).0);
               }
 
-          pub SplicesIter-more : (r : Result Unit TryReserveError) (new : Vector T A) (after : S) → Puts steps Tells (P x.alloc) size t x told n left_of r new after → SplicesIter steps Tells (P old.alloc) size iter old old.items gap tail after r new
+          pub SplicesIter-more : (r : Result Unit TryReserveError) (new : Vector T A) (after : S) → Puts steps Tells (P x.alloc) size t x told n left_of r new after → SplicesIter steps Tells size iter old gap tail (P old.alloc) after r new
           SplicesIter-more r new after p = record {
             ended = on_ok r p.all (more_spliced new after);
             stopped = if_err r p.refused (λ e front. let s = more_refused e new after front in (s.0, subst (λ k. StopsAt steps k after) (sym s.1) front.stops));

@@ -2,14 +2,14 @@
 -- says of all that are yet to be asked, where these items stay so far: the answers, which are true where an element stays, and then
 -- the closure's state and all the items. `May` is that they may be asked.
 use Rattle.std.proofs.Common.{◌≡◌, ℕ, ◌+◌, ◌-◌, ◌<◌, ◌≤◌, Bool, List, [], ◌++◌, length, take, drop, refl, sym, ap, ◌∙◌, subst, arith, inl, inr}
-use Rattle.std.specs.Prelude.{min, slice_set, None, if◌then◌else◌, ◌==◌}
+use Rattle.std.specs.Prelude.{min, slice_set, None}
 use Rattle.std.proofs.lemmas.List.{drop_all, length-take-le}
 use Rattle.aa_raw.proofs.Places.{below_or_not}
 use Rattle.aa_raw.proofs.Runs.{run-zero}
 use Rattle.aa_vec.specs.Behind.{StandsBehind, SetsBack, ClosesGap, behind_items, with_behind}
 use Rattle.aa_vec.specs.Choosing.{kept_behind_removed, removed_count}
 use Rattle.aa_vec.specs.Until.{TakesNext}
-use Rattle.aa_vec.specs.Vector.{Vector, len, SameBlock, Writes}
+use Rattle.aa_vec.specs.Vector.{Vector, len, SameBlock, Writes, moved_over}
 use Rattle.aa_vec.proofs.Climbing.{SameBlock-trans}
 use Rattle.aa_vec.proofs.Closed.{still, still-none, few_runs, no_run, marks, marks-gone, marks-written}
 use Rattle.aa_vec.proofs.Stands.{count, first_stand, moved_items, moved_len, others_are, others_stand, later_are, later_stand}
@@ -47,7 +47,7 @@ module _ {F T A : Type 0} (Ends : F → (items yet : List T) → List Bool → F
       more : (u z : Vector T A) (i m : ℕ) → ClosesGap w gap k u → z ≡ with_behind u z.behind → StandsBehind z i m → behind_items z i m ≡ drop 1 (drop k t.left) → i ≡ gap + min (n - k) 1 → m ≡ n - (k + 1) → On g z i m
       more u z i m closes same stands are e l =
           let items : z.items ≡ w.items ++ take k t.left = ap (λ s. s.items) same ∙ moved_items w gap n t.stands k t.within u closes ∙ ap (λ xs. w.items ++ take k xs) t.are in
-          let wrote : z.written ≡ v.written + (if gap == 0 then 0 else k) = omega (arith, ap (λ s. s.written) same, closes.writes.written, t.writes.written) in
+          let wrote : z.written ≡ v.written + moved_over gap k = omega (arith, ap (λ s. s.written) same, closes.writes.written, t.writes.written) in
           record {
             stands = stands;
             may = rw (items, are) (t.may now.may);
@@ -150,11 +150,16 @@ module _ {F T A : Type 0} (Ends : F → (items yet : List T) → List Bool → F
         });
       }
 
--- where a call says so much of a turn, what may come next, and what has then come
-module _ {F T A : Type 0} (Ends : F → (items yet : List T) → List Bool → F → List T → Type 0) (May : F → (items yet : List T) → Type 0) (Asked : F → Vector T A → (gap n k : ℕ) → F → Vector T A → Type 0)
-    (turns : (h : F) (v : Vector T A) (gap n : ℕ) → StandsBehind v gap n → (k : ℕ) (g : F) (w : Vector T A) → Asked h v gap n k g w → Turn Ends May h v gap n k g w)
-    (f : F) (first yet : List T) (old : Vector T A) (h : F) (v : Vector T A) (at end : ℕ) (s : Stage Ends May f first yet old h v at end) (gap : ℕ) (e : gap + len v ≡ at) (k : ℕ) (g : F) (w : Vector T A) (asked : Asked h v gap (end - at) k g w) where
-  pub turned : (at + k ≤ end) × StandsBehind w gap (end - at) × ((z : Vector T A) (next : ℕ) → TakesNext w gap at end k z next → Stage Ends May f first yet old g z next end × (at < end → at < next) × (next < end → len z < next))
-  turned =
-      let t = turns h v gap (end - at) (stage-on Ends May f first yet old h v at end s gap e).stands k g w asked in
+module _ {F T A : Type 0} (Ends : F → (items yet : List T) → List Bool → F → List T → Type 0) (May : F → (items yet : List T) → Type 0) where
+  -- k more stay of the elements in the places from `at` up to `end`, which stand in w behind the gap: what may come next, and what has then come
+  abbrev pub Turned : F → (first yet : List T) → (old : Vector T A) → (at end gap k : ℕ) → F → (w : Vector T A) → Type 0
+  Turned f first yet old at end gap k g w =
+      (at + k ≤ end) × StandsBehind w gap (end - at)
+      × ((z : Vector T A) (next : ℕ) → TakesNext w gap at end k z next → Stage Ends May f first yet old g z next end × (at < end → at < next) × (next < end → len z < next))
+
+  -- where a call says so much of a turn
+  pub turned : {f h g : F} {first yet : List T} {old v w : Vector T A} {at end k : ℕ} (s : Stage Ends May f first yet old h v at end) (gap : ℕ) (e : gap + len v ≡ at)
+      → (StandsBehind v gap (end - at) → Turn Ends May h v gap (end - at) k g w) → Turned f first yet old at end gap k g w
+  turned {f = f} {h = h} {g = g} {first = first} {yet = yet} {old = old} {v = v} {w = w} {at = at} {end = end} {k = k} s gap e turn =
+      let t = turn (stage-on Ends May f first yet old h v at end s gap e).stands in
       (turn-within Ends May f first yet old h v at end s gap e k g w t, t.stands, λ z next p. (stage-next Ends May f first yet old h v at end s gap e k g w t z next p, stage-further Ends May f first yet old h v at end s gap e k g w t z next p, stage-gone Ends May f first yet old h v at end s gap e k g w t z next p))

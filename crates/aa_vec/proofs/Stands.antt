@@ -1,12 +1,12 @@
 -- What stands behind the items of a vector, after each of the calls that work on it.
 use Rattle.std.proofs.Common.{◌≡◌, ℕ, ◌+◌, ◌-◌, ◌<◌, ◌≤◌, List, [], ◌∷◌, ◌++◌, length, map, take, drop, Option, Some, None, sym, ap, ◌∙◌, arith, length-append}
-use Rattle.std.specs.Prelude.{slice_set, if◌then◌else◌, ◌==◌}
+use Rattle.std.specs.Prelude.{slice_set}
 use Rattle.std.proofs.lemmas.List.{append-nil, drop-drop, drop-set-lt, length-map, take_at, take-append-drop}
 use Rattle.aa_raw.proofs.Runs.{length-run, run-is, run-take, run-filled, run-zero, IsRun-long}
 use Rattle.aa_vec.specs.Behind.{StandsBehind, ClosesGap, LeavesBehind, behind_items, with_behind}
-use Rattle.aa_vec.specs.Vector.{Vector, len, Holds, Writes, run_count}
+use Rattle.aa_vec.specs.Vector.{Vector, len, Holds, Writes, run_count, moved_over}
 use Rattle.aa_vec.proofs.Climbing.{SameBlock-refl, SameBlock-trans}
-use Rattle.aa_vec.proofs.Closed.{over}
+use Rattle.aa_vec.proofs.Closed.{moved_some}
 use Rattle.aa_vec.proofs.Drained.{same_holds, still_stand, still_are, part_stand, later_part, above_stand, above_are}
 
 module _ {T A : Type 0} (v : Vector T A) (gap n : ℕ) (stands : StandsBehind v gap n) where
@@ -73,7 +73,7 @@ module _ {T A : Type 0} (v : Vector T A) (gap n : ℕ) (stands : StandsBehind v 
     pub later_stand : StandsBehind w (gap + 1) (n - 1)
     later_stand = above_stand v w gap taken (gap + 1) (omega arith) (n - 1) (part_stand v gap n stands (gap + 1) (n - 1) (omega arith) (omega (arith, some)))
 
-no_moves : (gap n : ℕ) → n ≡ 0 → (if gap == 0 then 0 else n) ≡ 0
+no_moves : (gap n : ℕ) → n ≡ 0 → moved_over gap n ≡ 0
 no_moves gap n e = grind (arith, e)
 
 -- a gap is closed by none, and by one that was taken and put
@@ -88,7 +88,7 @@ module _ {T A : Type 0} where
   pub closes_by_one : (old mid new : Vector T A) (gap : ℕ) (x : T) → 0 < gap → behind_items old gap 1 ≡ x ∷ [] → mid ≡ with_behind old (slice_set old.behind gap None) → Holds mid (mid.items ++ x ∷ []) new → Writes mid 1 1 new
       → new.behind ≡ drop 1 mid.behind → ClosesGap old gap 1 new
   closes_by_one old mid new gap x some e taken put wrote behind =
-      let one = over gap 1 some in
+      let one = moved_some gap 1 some in
       record {
         holds = record { items = put.items ∙ ap (λ v. v.items ++ x ∷ []) taken ∙ ap (λ l. old.items ++ l) (sym e); block = SameBlock-trans (same_holds old mid (slice_set old.behind gap None) taken).block put.block };
         behind = ap (drop gap) behind ∙ drop-drop gap 1 mid.behind ∙ ap (λ i. drop i mid.behind) (omega arith) ∙ ap (λ v. drop (gap + 1) v.behind) taken ∙ drop-set-lt (gap + 1) old.behind gap None (omega arith) ∙ sym (drop-drop 1 gap old.behind);

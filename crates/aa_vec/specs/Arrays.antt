@@ -15,20 +15,23 @@ abbrev pub flattened : {T : Type 0} → List (List T) → List T
 flattened xss = flat_map (λ xs. xs) xss
 
 module _ {T A : Type 0} where
-  -- room for all elements of v, whose arrays have n elements of `size` bytes each, was refused with this error, or the allocator's
-  -- clone was, which succeeds where it is sure to
-  pub record LacksRoomForAll (sure : Type 0) (n size : ℕ) (v : Vector (List T) A) (error : TryReserveError) : Type 0 where
+  -- room for all elements of v, whose arrays have n elements of `size` bytes each, was refused with
+  -- this error, or the allocator's clone was, which succeeds where it is sure to
+  pub record LacksRoomForAll (sure : Type 0) (n size : ℕ) (v : Vector (List T) A)
+      (error : TryReserveError) : Type 0 where
     pub overflow : usize_max < len v * n → error.kind ≡ CapacityOverflow
     pub cause : len v * n ≤ usize_max → sure → (0 < v.capacity * n) × (0 < size)
     pub number : IsRefusedAt error (sized size (v.capacity * n))
 
   -- such a v was handed back, with this error
-  pub record StaysNested (sure : Type 0) (n size : ℕ) (v : Vector (List T) A) (r : Refused (Vector (List T) A)) : Type 0 where
+  pub record StaysNested (sure : Type 0) (n size : ℕ) (v : Vector (List T) A)
+      (r : Refused (Vector (List T) A)) : Type 0 where
     pub source : r.source ≡ v
     pub lacks : LacksRoomForAll sure n size v r.error
 
   -- v has the elements, of `size` bytes, of the array in b, and no room for more
-  pub record IsUnboxedArray (clones : A → A → Type 0) (size : ℕ) (b : Boxed (List T) A) (v : Vector T A) : Type 0 where
+  pub record IsUnboxedArray (clones : A → A → Type 0) (size : ℕ) (b : Boxed (List T) A)
+      (v : Vector T A) : Type 0 where
     pub items : v.items ≡ b.value
     pub capacity : v.capacity ≡ sized size (length b.value)
     pub growth : v.growth ≡ Doubling

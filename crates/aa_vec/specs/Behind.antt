@@ -1,7 +1,8 @@
--- A vector with elements in the places behind its items, as a call has it that takes them out of a range and closes the gap.
-use Rattle.std.specs.Prelude.{◌≡◌, ℕ, ◌+◌, ◌-◌, ◌≤◌, List, ◌++◌, take, drop, replicate, map, Option, Some, None, if◌then◌else◌, ◌==◌}
+-- A vector with elements in the places behind its items, as a call has it that takes them out of a
+-- range and closes the gap.
+use Rattle.std.specs.Prelude.{◌≡◌, ℕ, ◌+◌, ◌-◌, ◌≤◌, List, ◌++◌, take, drop, replicate, map, Option, Some, None}
 use Rattle.aa_raw.specs.Places.{IsRun, run}
-use Rattle.aa_vec.specs.Vector.{Vector, len, Holds, Writes, run_count}
+use Rattle.aa_vec.specs.Vector.{Vector, len, Holds, Writes, Moves, run_count, moved_over}
 
 module _ {T A : Type 0} where
   -- n elements stand behind the items of v, after a gap of so many places
@@ -12,6 +13,7 @@ module _ {T A : Type 0} where
   abbrev pub behind_items : Vector T A → (gap n : ℕ) → List T
   behind_items v gap n = run (drop gap v.behind) 0 n
 
+  -- v with other places behind its items
   abbrev pub with_behind : Vector T A → List (Option T) → Vector T A
   with_behind v places = record v { behind = places }
 
@@ -23,14 +25,16 @@ module _ {T A : Type 0} where
     pub behind : new.behind ≡ map Some (drop at old.items) ++ old.behind
     pub writes : Writes old 0 0 new
 
-  -- the n elements after the gap were moved down to the items, of which they are the last now; the gap is before what stood behind them
+  -- the n elements after the gap were moved down to the items, of which they are the last now; the
+  -- gap is before what stood behind them
   pub record ClosesGap (old : Vector T A) (gap n : ℕ) (new : Vector T A) : Type 0 where
     pub holds : Holds old (old.items ++ behind_items old gap n) new
     pub behind : drop gap new.behind ≡ drop n (drop gap old.behind)
-    pub writes : let moved = if gap == 0 then 0 else n in Writes old moved (run_count moved) new
+    pub writes : Moves old gap n new
 
   -- of the n elements after the gap these are left, and all else is as it was
-  pub record LeavesBehind (old : Vector T A) (gap n : ℕ) (left : List T) (new : Vector T A) : Type 0 where
+  pub record LeavesBehind (old : Vector T A) (gap n : ℕ) (left : List T)
+      (new : Vector T A) : Type 0 where
     pub same : new ≡ with_behind old new.behind
     pub below : take gap new.behind ≡ take gap old.behind
     pub behind : drop gap new.behind ≡ map Some left ++ drop n (drop gap old.behind)
@@ -43,10 +47,12 @@ module _ {T A : Type 0} where
   -- the n elements after the gap were moved down to the items, of which they are the last now
   pub record DropsAndCloses (old : Vector T A) (gap n : ℕ) (new : Vector T A) : Type 0 where
     pub holds : Holds old (old.items ++ behind_items old gap n) new
-    pub writes : let moved = if gap == 0 then 0 else n in Writes old moved (run_count moved) new
+    pub writes : Moves old gap n new
 
-  -- the n elements after the gap and then the m from the place `end` on were moved down to the items, of which they are the last now
+  -- the n elements after the gap and then the m from the place `end` on were moved down to the
+  -- items, of which they are the last now
   pub record ClosesTwice (old : Vector T A) (gap n end m : ℕ) (new : Vector T A) : Type 0 where
     pub holds : Holds old (old.items ++ (behind_items old gap n ++ behind_items old end m)) new
-    pub writes : let first = if gap == 0 then 0 else n in let second = if end - n == 0 then 0 else m in
+    pub writes : let first = moved_over gap n in
+        let second = moved_over (end - n) m in
         Writes old (first + second) (run_count first + run_count second) new

@@ -1,6 +1,6 @@
 -- A vector that becomes a boxed slice, and a boxed slice that becomes a vector.
-use Rattle.std.specs.Prelude.{◌≡◌, ℕ, ◌<◌, length}
-use Rattle.aa_raw.specs.Growth.{usize_max}
+use Rattle.std.specs.Prelude.{◌≡◌, ℕ, length}
+use Rattle.aa_raw.specs.Room.{NeedsBlock}
 use Rattle.aa_raw.specs.declared.collections.Refused.{Refused}
 use Rattle.aa_raw.specs.declared.collections.TryReserveErrorKind.TheVariants.{AllocError}
 use Rattle.aa_boxed.specs.Slice.{Slice}
@@ -11,13 +11,11 @@ module _ {T A : Type 0} where
   abbrev pub boxed : Vector T A → Slice T A
   boxed v = record { items = v.items; growth = v.growth; alloc = v.alloc }
 
-  -- the vector v, of elements of `size` bytes, could not become a boxed slice for want of a block of its length, and is handed back
+  -- the vector v, of elements of `size` bytes, could not become a boxed slice for want of a block
+  -- of its length, and is handed back
   pub record HandsBack (size : ℕ) (v : Vector T A) (r : Refused (Vector T A)) : Type 0 where
     pub source : r.source ≡ v
-    pub some : 0 < len v
-    pub spare : len v < v.capacity
-    pub bounded : v.capacity < usize_max
-    pub has_size : 0 < size
+    pub only_for_memory : NeedsBlock size v.capacity (len v)
     pub number : r.error.kind ≡ AllocError (len v)
 
   -- v has the list of a boxed slice, of elements of `size` bytes, and no room for more

@@ -13,13 +13,17 @@ abbrev pub IsBeginning : {T : Type 0} → (xs ys : List T) → Type 0
 IsBeginning xs ys = ys ≡ take (length ys) xs
 
 -- f may be called, and again in each state that a call leaves, k times in all
-abbrev pub MayCallTimes : {F T : Type 0} → (F → Type 0) → (F → T → F → Type 0) → (k : ℕ) → F → Type 0
+abbrev pub MayCallTimes : {F T : Type 0} → (F → Type 0) → (F → T → F → Type 0) → (k : ℕ) → F
+    → Type 0
 MayCallTimes takes step zero f = ⊤
-MayCallTimes {F} {T} takes step (suc k) f = takes f × ((y : T) (g : F) → step f y g → MayCallTimes takes step k g)
+MayCallTimes {F} {T} takes step (suc k) f =
+    takes f × ((y : T) (g : F) → step f y g → MayCallTimes takes step k g)
 
 module _ {T A : Type 0} where
-  -- v was just made with the items xs, in room for n elements of `size` bytes that grows so. k calls of the block wrote them
-  pub record IsMade (size n : ℕ) (growth : Growth) (xs : List T) (k : ℕ) (v : Vector T A) : Type 0 where
+  -- v was just made with the items xs, in room for n elements of `size` bytes that grows so. k
+  -- calls of the block wrote them
+  pub record IsMade (size n : ℕ) (growth : Growth) (xs : List T) (k : ℕ)
+      (v : Vector T A) : Type 0 where
     pub items : v.items ≡ xs
     pub capacity : v.capacity ≡ sized size n
     pub grows : v.growth ≡ growth
@@ -32,33 +36,39 @@ module _ {T A : Type 0} where
     pub written : new.written ≡ old.written + n
     pub runs : new.runs ≤ old.runs + n
 
-  -- v was just made with the items xs, in room for no more that grows so. At most as many calls of the block wrote them
+  -- v was just made with the items xs, in room for no more that grows so. At most as many calls of
+  -- the block wrote them
   pub record IsMadeWithin (size : ℕ) (growth : Growth) (xs : List T) (v : Vector T A) : Type 0 where
     pub calls : ℕ
     pub few : calls ≤ length xs
     pub made : IsMade size (length xs) growth xs calls v
 
   -- v was just made, with a clone of each of xs in room for no more
-  pub record IsMadeOf (clones : T → T → Type 0) (size : ℕ) (growth : Growth) (xs : List T) (v : Vector T A) : Type 0 where
+  pub record IsMadeOf (clones : T → T → Type 0) (size : ℕ) (growth : Growth) (xs : List T)
+      (v : Vector T A) : Type 0 where
     pub added : List T
     pub each : AllZip clones xs added
     pub made : IsMade size (length xs) growth added (length xs) v
 
   -- v was just made, with n items in room for no more: clones of x, and x itself last
-  pub record IsMadeOfOne (clones : T → T → Type 0) (size : ℕ) (x : T) (n : ℕ) (v : Vector T A) : Type 0 where
+  pub record IsMadeOfOne (clones : T → T → Type 0) (size : ℕ) (x : T) (n : ℕ)
+      (v : Vector T A) : Type 0 where
     pub added : List T
     pub each : AllZip clones (replicate (n - 1) x) added
     pub made : IsMade size n Doubling (if n == 0 then [] else added ++ x ∷ []) n v
 
   -- new has the block of old, and behind old's items a clone of each of xs, written one by one
-  pub record Adds (clones : T → T → Type 0) (old : Vector T A) (xs : List T) (new : Vector T A) : Type 0 where
+  pub record Adds (clones : T → T → Type 0) (old : Vector T A) (xs : List T)
+      (new : Vector T A) : Type 0 where
     pub added : List T
     pub each : AllZip clones xs added
     pub holds : Holds old (old.items ++ added) new
     pub writes : Writes old (length xs) (length xs) new
 
-  -- new has the block of old, and behind old's items k others, written one by one: clones of x, and x itself last
-  pub record Fills (clones : T → T → Type 0) (old : Vector T A) (k : ℕ) (x : T) (new : Vector T A) : Type 0 where
+  -- new has the block of old, and behind old's items k others, written one by one: clones of x, and
+  -- x itself last
+  pub record Fills (clones : T → T → Type 0) (old : Vector T A) (k : ℕ) (x : T)
+      (new : Vector T A) : Type 0 where
     pub added : List T
     pub each : AllZip clones (replicate (k - 1) x) added
     pub holds : Holds old (old.items ++ (added ++ x ∷ [])) new
@@ -72,38 +82,43 @@ module _ {T A : Type 0} where
     pub writes : Writes old done done new
 
   -- new has a clone of each of xs behind old's items, in room that was made for all of them at once
-  pub record Extends (clones : T → T → Type 0) (size : ℕ) (old : Vector T A) (xs : List T) (new : Vector T A) : Type 0 where
+  pub record Extends (clones : T → T → Type 0) (size : ℕ) (old : Vector T A) (xs : List T)
+      (new : Vector T A) : Type 0 where
     pub added : List T
     pub each : AllZip clones xs added
     pub grows : GrowsTo size old (length xs) (old.items ++ added) new
 
-  -- new has k more items than old, in room that was made for all of them at once: clones of x, and x itself last
-  pub record Lengthens (clones : T → T → Type 0) (size : ℕ) (old : Vector T A) (k : ℕ) (x : T) (new : Vector T A) : Type 0 where
+  -- new has k more items than old, in room that was made for all of them at once: clones of x, and
+  -- x itself last
+  pub record Lengthens (clones : T → T → Type 0) (size : ℕ) (old : Vector T A) (k : ℕ) (x : T)
+      (new : Vector T A) : Type 0 where
     pub added : List T
     pub each : AllZip clones (replicate (k - 1) x) added
     pub grows : GrowsTo size old k (old.items ++ (added ++ x ∷ [])) new
 
-  -- new has the block of old, and behind old's items k others, written one by one: what f answered, called once for each, in order.
-  -- The closure is then g
-  pub record AddsAnswers {F : Type 0} (step : F → T → F → Type 0) (old : Vector T A) (k : ℕ) (f g : F) (new : Vector T A) : Type 0 where
+  -- new has the block of old, and behind old's items k others, written one by one: what f answered,
+  -- called once for each, in order. The closure is then g
+  pub record AddsAnswers {F : Type 0} (step : F → T → F → Type 0) (old : Vector T A) (k : ℕ)
+      (f g : F) (new : Vector T A) : Type 0 where
     pub answers : List T
     pub calls : FoldsTo step f answers g
     pub count : length answers ≡ k
     pub holds : Holds old (old.items ++ answers) new
     pub writes : Writes old k k new
 
-  -- new has k more items than old, in room that was made for all of them at once: what f answered, called once for each, in order.
-  -- The closure is then g
-  pub record LengthensBy {F : Type 0} (step : F → T → F → Type 0) (size : ℕ) (old : Vector T A) (k : ℕ) (f g : F)
-      (new : Vector T A) : Type 0 where
+  -- new has k more items than old, in room that was made for all of them at once: what f answered,
+  -- called once for each, in order. The closure is then g
+  pub record LengthensBy {F : Type 0} (step : F → T → F → Type 0) (size : ℕ) (old : Vector T A)
+      (k : ℕ) (f g : F) (new : Vector T A) : Type 0 where
     pub answers : List T
     pub calls : FoldsTo step f answers g
     pub count : length answers ≡ k
     pub grows : GrowsTo size old k (old.items ++ answers) new
 
-  -- k more than old has were to be put behind its items, in room for all of them. There was a failure: they are gone, and the room stays
-  pub record Stopped (failure : Type 0) (size : ℕ) (old : Vector T A) (k : ℕ) (error : TryReserveError)
-      (new : Vector T A) : Type 0 where
+  -- k more than old has were to be put behind its items, in room for all of them. There was a
+  -- failure: they are gone, and the room stays
+  pub record Stopped (failure : Type 0) (size : ℕ) (old : Vector T A) (k : ℕ)
+      (error : TryReserveError) (new : Vector T A) : Type 0 where
     pub cause : failure
     pub number : error.kind ≡ AllocError (len old + k)
     pub left : GrowsTo size old k old.items new
@@ -112,12 +127,15 @@ module _ {T A : Type 0} where
     pub writes : Writes old done done new
 
   -- or there was no room for them, and nothing has changed
-  abbrev pub Refuses : (failure : Type 0) (size : ℕ) → Vector T A → (k : ℕ) → TryReserveError → Vector T A → Type 0
-  Refuses failure size old k error new = (LacksRoom size old k error × (new ≡ old)) ⊎ Stopped failure size old k error new
+  abbrev pub Refuses : (failure : Type 0) (size : ℕ) → Vector T A → (k : ℕ) → TryReserveError
+      → Vector T A → Type 0
+  Refuses failure size old k error new =
+      (LacksRoom size old k error × (new ≡ old)) ⊎ Stopped failure size old k error new
 
-  -- clones of xs were to take the place of old's items, in room for all of them. There was a failure: those of a beginning of xs are there
-  pub record Begins (clones : T → T → Type 0) (failure : Type 0) (size : ℕ) (old : Vector T A) (xs : List T)
-      (error : TryReserveError) (new : Vector T A) : Type 0 where
+  -- clones of xs were to take the place of old's items, in room for all of them. There was a
+  -- failure: those of a beginning of xs are there
+  pub record Begins (clones : T → T → Type 0) (failure : Type 0) (size : ℕ) (old : Vector T A)
+      (xs : List T) (error : TryReserveError) (new : Vector T A) : Type 0 where
     pub cause : failure
     pub number : error.kind ≡ AllocError (length xs)
     pub done : ℕ
@@ -128,11 +146,14 @@ module _ {T A : Type 0} where
     pub writes : Writes old done done new
 
   -- there was no room for k items, where those of old were dropped. None is left
-  pub record LeavesNone (size : ℕ) (old : Vector T A) (k : ℕ) (error : TryReserveError) (new : Vector T A) : Type 0 where
+  pub record LeavesNone (size : ℕ) (old : Vector T A) (k : ℕ) (error : TryReserveError)
+      (new : Vector T A) : Type 0 where
     pub lacks : LacksRoom size (with_items old []) k error
     pub holds : Holds old [] new
     pub writes : Writes old 0 0 new
 
-  abbrev pub StopsAssigning : (clones : T → T → Type 0) (failure : Type 0) (size : ℕ) → Vector T A → (xs : List T) → TryReserveError
-      → Vector T A → Type 0
-  StopsAssigning clones failure size old xs error new = LeavesNone size old (length xs) error new ⊎ Begins clones failure size old xs error new
+  -- either of the two, where clones of xs were to take the place of old's items
+  abbrev pub StopsAssigning : (clones : T → T → Type 0) (failure : Type 0) (size : ℕ) → Vector T A
+      → (xs : List T) → TryReserveError → Vector T A → Type 0
+  StopsAssigning clones failure size old xs error new =
+      LeavesNone size old (length xs) error new ⊎ Begins clones failure size old xs error new

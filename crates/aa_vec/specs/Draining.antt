@@ -1,9 +1,9 @@
 -- What a contract sees of a `Drain`: the vector as it is lent, and what is left of the range.
-use Rattle.std.specs.Prelude.{◌≡◌, ℕ, ◌+◌, ◌-◌, List, [], ◌∷◌, ◌++◌, length, take, drop, slice_range, Option, MatchOption, if◌then◌else◌, ◌==◌}
+use Rattle.std.specs.Prelude.{◌≡◌, ℕ, ◌+◌, ◌-◌, List, [], ◌∷◌, ◌++◌, length, take, drop, slice_range, Option, MatchOption}
 use Rattle.std.specs.Borrow.{GName}
 use Rattle.std.specs.Iterator.{Yields}
 use Rattle.aa_vec.specs.Behind.{behind_items}
-use Rattle.aa_vec.specs.Vector.{Vector, Holds, Writes, run_count}
+use Rattle.aa_vec.specs.Vector.{Vector, Holds, Writes, Moves, run_count, moved_over}
 use Rattle.aa_vec.specs.declared.vec.drain.Drain.{Drain}
 
 module _ {T A : Type 0} where
@@ -62,28 +62,33 @@ module _ {T A : Type 0} where
   drains_first s r t =
       DrainKeeps s t
       × MatchOption r ((drain_rest s ≡ []) × (t ≡ s))
-      (λ x. (drain_rest s ≡ x ∷ drain_rest t) × (taken_front t ≡ taken_front s + 1) × (taken_back t ≡ taken_back s))
+      (λ x. (drain_rest s ≡ x ∷ drain_rest t) × (taken_front t ≡ taken_front s + 1)
+      × (taken_back t ≡ taken_back s))
 
   -- the same from the back
   abbrev pub drains_last : Drain T A → Option T → Drain T A → Type 0
   drains_last s r t =
       DrainKeeps s t
       × MatchOption r ((drain_rest s ≡ []) × (t ≡ s))
-      (λ x. (drain_rest s ≡ drain_rest t ++ x ∷ []) × (taken_front t ≡ taken_front s) × (taken_back t ≡ taken_back s + 1))
+      (λ x. (drain_rest s ≡ drain_rest t ++ x ∷ []) × (taken_front t ≡ taken_front s)
+      × (taken_back t ≡ taken_back s + 1))
 
-  -- each state that calls of `next` lead to keeps the range and the vector of d, but for what is left of the range
+  -- each state that calls of `next` lead to keeps the range and the vector of d, but for what is
+  -- left of the range
   abbrev pub DrainKeepsAlong : Drain T A → Type 0
-  DrainKeepsAlong d = (xs : List T) (later : Drain T A) → Yields drains_first d xs later → DrainKeeps d later
+  DrainKeepsAlong d =
+      (xs : List T) (later : Drain T A) → Yields drains_first d xs later → DrainKeeps d later
 
-  -- new has what is before the range and what is behind it, which was moved, in one run, if the range had any element
+  -- new has what is before the range and what is behind it, which was moved, in one run, if the
+  -- range had any element
   pub record Closes (d : Drain T A) (new : Vector T A) : Type 0 where
     pub holds : Holds (drain_vec d) (drain_head d ++ drain_tail d) new
-    pub writes : let moved = if range_len d == 0 then 0 else length (drain_tail d) in Writes (drain_vec d) moved (run_count moved) new
+    pub writes : Moves (drain_vec d) (range_len d) (length (drain_tail d)) new
 
-  -- new has what is before the range, what is left of it, and what is behind it. The second was moved, in one run, if an item was taken
-  -- from the front, and the third if any was taken
+  -- new has what is before the range, what is left of it, and what is behind it. The second was
+  -- moved, in one run, if an item was taken from the front, and the third if any was taken
   pub record KeepsRest (d : Drain T A) (new : Vector T A) : Type 0 where
     pub holds : Holds (drain_vec d) (drain_head d ++ (drain_rest d ++ drain_tail d)) new
-    pub writes : let rest = if taken_front d == 0 then 0 else length (drain_rest d) in
-        let tail = if taken_front d + taken_back d == 0 then 0 else length (drain_tail d) in
+    pub writes : let rest = moved_over (taken_front d) (length (drain_rest d)) in
+        let tail = moved_over (taken_front d + taken_back d) (length (drain_tail d)) in
         Writes (drain_vec d) (rest + tail) (run_count rest + run_count tail) new

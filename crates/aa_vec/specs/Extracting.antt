@@ -1,11 +1,11 @@
--- What a contract sees of elements that a closure takes out of a range: the vector as it is lent, the elements that stay, those that
--- were not asked yet, and what is behind the range.
-use Rattle.std.specs.Prelude.{◌≡◌, ℕ, ◌+◌, ◌-◌, ◌≤◌, Bool, List, [], ◌∷◌, ◌++◌, length, take, drop, slice_range, Option, MatchOption, if◌then◌else◌, ◌==◌}
+-- What a contract sees of elements that a closure takes out of a range: the vector as it is lent,
+-- the elements that stay, those that were not asked yet, and what is behind the range.
+use Rattle.std.specs.Prelude.{◌≡◌, ℕ, ◌+◌, ◌-◌, ◌≤◌, Bool, List, [], ◌∷◌, ◌++◌, length, take, drop, slice_range, Option, MatchOption}
 use Rattle.std.specs.Borrow.{GName}
 use Rattle.std.specs.Iterator.{Yields}
 use Rattle.aa_vec.specs.Behind.{behind_items}
 use Rattle.aa_vec.specs.Choosing.{Asked, AskedInOrder, EndsTrue, kept, passed_over}
-use Rattle.aa_vec.specs.Vector.{Vector, Holds, Writes, run_count}
+use Rattle.aa_vec.specs.Vector.{Vector, Holds, Writes, Moves}
 use Rattle.aa_vec.specs.declared.vec.extract_if.ExtractBy.{ExtractBy}
 use Rattle.aa_vec.specs.declared.vec.extract_if.ExtractIf.{ExtractIf}
 
@@ -47,32 +47,37 @@ module _ {T A : Type 0} where
     pub tail : extract_tail e ≡ drop b old.items
     pub none : extract_count e ≡ 0
 
-  -- new has what is before the range, what stays of it, what was not asked, and what is behind it. The last two were moved, in one run,
-  -- if an element was taken out
+  -- new has what is before the range, what stays of it, what was not asked, and what is behind it.
+  -- The last two were moved, in one run, if an element was taken out
   pub record ClosesExtract (e : ExtractBy T A) (new : Vector T A) : Type 0 where
-    pub holds : Holds (extract_vec e) (extract_head e ++ (extract_kept e ++ (extract_rest e ++ extract_tail e))) new
-    pub writes : let moved = if extract_count e == 0 then 0 else length (extract_rest e) + length (extract_tail e) in
-        Writes (extract_vec e) moved (run_count moved) new
+    pub holds : Holds (extract_vec e)
+        (extract_head e ++ (extract_kept e ++ (extract_rest e ++ extract_tail e))) new
+    pub writes : Moves (extract_vec e) (extract_count e)
+        (length (extract_rest e) + length (extract_tail e)) new
 
 module _ {F T : Type 0} (Asks : F → T → Bool → F → T → Type 0) where
-  -- one call from s: the closure was asked of elements that were not asked before, in order, up to the first at which it answered true,
-  -- which is taken out as it left it. Those at which it answered false stay, as it left them. All else is as it was
-  pub record Extracts {A : Type 0} (f : F) (s : ExtractBy T A) (r : Option T) (g : F) (t : ExtractBy T A) : Type 0 where
+  -- one call from s: the closure was asked of elements that were not asked before, in order, up to
+  -- the first at which it answered true, which is taken out as it left it. Those at which it
+  -- answered false stay, as it left them. All else is as it was
+  pub record Extracts {A : Type 0} (f : F) (s : ExtractBy T A) (r : Option T) (g : F)
+      (t : ExtractBy T A) : Type 0 where
     pub told : List (Asked T)
     pub asked : AskedInOrder Asks f (take (length told) (extract_rest s)) told g
-    pub cases : MatchOption r ((kept told ≡ []) × (extract_rest t ≡ [])) (λ x. (kept told ≡ x ∷ []) × EndsTrue told)
+    pub cases : MatchOption r ((kept told ≡ []) × (extract_rest t ≡ []))
+        (λ x. (kept told ≡ x ∷ []) × EndsTrue told)
     pub count : extract_count t ≡ extract_count s + length (kept told)
     pub kept : extract_kept t ≡ extract_kept s ++ passed_over told
     pub rest : extract_rest t ≡ drop (length told) (extract_rest s)
     pub lender : extract_lender t ≡ extract_lender s
     pub head : Holds (extract_vec s) (extract_head s) (extract_vec t)
     pub tail : extract_tail t ≡ extract_tail s
-    pub writes : let moved = if extract_count s == 0 then 0 else length (passed_over told) in
-        Writes (extract_vec s) moved (run_count moved) (extract_vec t)
+    pub writes : Moves (extract_vec s) (extract_count s) (length (passed_over told)) (extract_vec t)
 
-  -- from s on, the closure was asked of elements that were not asked before, in order: xs are those at which it answered true, as it left
-  -- them, and those at which it answered false stay, as it left them. All else is as it was, and what stays was written at most once
-  pub record Extracted {A : Type 0} (f : F) (s : ExtractBy T A) (xs : List T) (g : F) (t : ExtractBy T A) : Type 0 where
+  -- from s on, the closure was asked of elements that were not asked before, in order: xs are those
+  -- at which it answered true, as it left them, and those at which it answered false stay, as it
+  -- left them. All else is as it was, and what stays was written at most once
+  pub record Extracted {A : Type 0} (f : F) (s : ExtractBy T A) (xs : List T) (g : F)
+      (t : ExtractBy T A) : Type 0 where
     pub told : List (Asked T)
     pub asked : AskedInOrder Asks f (take (length told) (extract_rest s)) told g
     pub items : xs ≡ kept told
@@ -85,13 +90,17 @@ module _ {F T : Type 0} (Asks : F → T → Bool → F → T → Type 0) where
     pub written : (extract_vec t).written ≤ (extract_vec s).written + length (passed_over told)
 
   -- and no other was asked after the last that was taken out
-  pub record ExtractedTo {A : Type 0} (f : F) (s : ExtractBy T A) (xs : List T) (g : F) (t : ExtractBy T A) : Type 0 where
+  pub record ExtractedTo {A : Type 0} (f : F) (s : ExtractBy T A) (xs : List T) (g : F)
+      (t : ExtractBy T A) : Type 0 where
     pub extracted : Extracted f s xs g t
     pub ends : EndsTrue extracted.told
 
-  -- so was each state reached that calls of `next` lead to, as long as they give items; each but the first of these moved one run at most
+  -- so was each state reached that calls of `next` lead to, as long as they give items; each but
+  -- the first of these moved one run at most
   abbrev pub ExtractsAlong : {A : Type 0} → ExtractIf T F A → Type 0
   ExtractsAlong {A} s =
-      (xs : List T) (later : ExtractIf T F A) → Yields (λ u r t. Extracts u.f u.by r t.f t.by) s xs later
+      (xs : List T) (later : ExtractIf T F A)
+      → Yields (λ u r t. Extracts u.f u.by r t.f t.by) s xs later
       → ExtractedTo s.f s.by xs later.f later.by
-      × ((extract_vec later.by).runs + (extract_count s.by - 1) ≤ (extract_vec s.by).runs + (extract_count later.by - 1))
+      × (let was = extract_vec s.by in let is = extract_vec later.by in
+      is.runs + (extract_count s.by - 1) ≤ was.runs + (extract_count later.by - 1))

@@ -1,8 +1,10 @@
--- A gap before the elements behind the items of a vector, as items of an iterator are put into it, and as it is made.
-use Rattle.std.specs.Prelude.{◌≡◌, ℕ, ◌+◌, ◌-◌, ◌*◌, ◌<◌, ◌≤◌, List, ◌∷◌, ◌++◌, take, drop, length, Option, None, if◌then◌else◌, ◌==◌, ◌⊎◌, Result, IfErr, OnOk}
-use Rattle.std.specs.Iterator.{Count, Yields, size as count_of}
+-- A gap before the elements behind the items of a vector, as items of an iterator are put into it,
+-- and as it is made.
+use Rattle.std.specs.Prelude.{◌≡◌, ℕ, ◌+◌, ◌-◌, ◌*◌, ◌<◌, ◌≤◌, List, ◌∷◌, ◌++◌, take, drop, length, Option, None, ◌⊎◌, Result, IfErr, OnOk}
+use Rattle.std.specs.Iterator.{Count, Yields, IsFinite, size as count_of}
+use Rattle.std.specs.declared.iter.Iterator.{Ghosts}
 use Rattle.aa_raw.specs.declared.collections.TryReserveError.{TryReserveError}
-use Rattle.aa_vec.specs.Vector.{Vector, len, HasRoom, SameBlock, LacksRoom, Holds, Writes, MakesRoom, run_count}
+use Rattle.aa_vec.specs.Vector.{Vector, len, HasRoom, SameBlock, LacksRoom, Holds, Writes, Moves, MakesRoom, run_count, moved_over}
 use Rattle.aa_vec.specs.Behind.{StandsBehind, behind_items}
 use Rattle.aa_vec.specs.Extending.{YieldsTelling, StopsAt}
 use Rattle.aa_vec.specs.Splicing.{MakesRoomTwice, LacksVector, LacksOthers, tail_moves}
@@ -13,32 +15,41 @@ module _ {T A : Type 0} where
     pub holds : Holds old old.items new
     pub stands : StandsBehind new gap n
     pub elements : behind_items new gap n ≡ behind_items old 0 n
-    pub writes : let moved = if gap == 0 then 0 else n in Writes old moved (run_count moved) new
+    pub writes : Moves old gap n new
 
-  -- room for as many more items as the gap has places was made, and the last n items were moved up behind it
+  -- room for as many more items as the gap has places was made, and the last n items were moved up
+  -- behind it
   pub record Widens (size : ℕ) (old : Vector T A) (gap n : ℕ) (new : Vector T A) : Type 0 where
     pub items : new.items ≡ take (len old - n) old.items
     pub room : MakesRoom size old (len old) gap new
     pub stands : StandsBehind new gap n
     pub elements : behind_items new gap n ≡ drop (len old - n) old.items
-    pub writes : let moved = if gap == 0 then 0 else n in Writes old moved (run_count moved) new
+    pub writes : Moves old gap n new
 
-module _ {S T : Type 0} (steps : S → Option T → S → Type 0) (s : S) (gap left : ℕ) (last : S) where
+-- an iterator that gave n items from s on, and is t, may be asked for more, which end
+abbrev pub GoesOn : {S T : Type 0} → Ghosts S T → S → (n : ℕ) → S → Type 0
+GoesOn g s n t =
+    g.can_next t × IsFinite (g.remaining t)
+    × (n + count_of (g.remaining t) ≤ count_of (g.remaining s))
+
+module _ {S T : Type 0} (next_gives : S → Option T → S → Type 0) (s : S)
+    (gap left : ℕ) (last : S) where
   -- calls from s gave `added` and led to `last`, and `left` places of the gap are left
   pub record Comes : Type 0 where
     pub added : List T
-    pub given : Yields steps s added last
+    pub given : Yields next_gives s added last
     pub count : length added + left ≡ gap
 
   -- no other call was made where no place is left; else the next one, that led to t, gave none
   pub record Stops (t : S) : Type 0 where
     pub full : left ≡ 0 → t ≡ last
-    pub ended : 0 < left → steps last None t
+    pub ended : 0 < left → next_gives last None t
 
-module _ {S T A : Type 0} (steps : S → Option T → S → Type 0) (s : S) (old : Vector T A) (gap n : ℕ) where
+module _ {S T A : Type 0} (next_gives : S → Option T → S → Type 0) (s : S) (old : Vector T A)
+    (gap n : ℕ) where
   -- what came was put into the gap, of which `left` places are left before the n elements behind it
   pub record Placed (left : ℕ) (last : S) (new : Vector T A) : Type 0 where
-    pub comes : Comes steps s gap left last
+    pub comes : Comes next_gives s gap left last
     pub holds : Holds old (old.items ++ comes.added) new
     pub stands : StandsBehind new left n
     pub elements : behind_items new left n ≡ behind_items old gap n
@@ -48,15 +59,15 @@ module _ {S T A : Type 0} (steps : S → Option T → S → Type 0) (s : S) (old
   pub record FillsGap (left : ℕ) (t : S) (new : Vector T A) : Type 0 where
     pub last : S
     pub placed : Placed left last new
-    pub stops : Stops steps s gap left last t
+    pub stops : Stops next_gives s gap left last t
 
   -- and then those were moved down
   pub record FillsAndCloses (left : ℕ) (t : S) (new : Vector T A) : Type 0 where
     pub last : S
-    pub comes : Comes steps s gap left last
-    pub stops : Stops steps s gap left last t
+    pub comes : Comes next_gives s gap left last
+    pub stops : Stops next_gives s gap left last t
     pub holds : Holds old (old.items ++ (comes.added ++ behind_items old gap n)) new
-    pub writes : let moved = if left == 0 then 0 else n in
+    pub writes : let moved = moved_over left n in
         Writes old (length comes.added + moved) (length comes.added + run_count moved) new
 
 -- each of the items that were put was written once, and each of n others at most twice
@@ -66,76 +77,88 @@ pub record PutsWithin {T A : Type 0} (old : Vector T A) (n : ℕ) (new : Vector 
   pub runs : let placed = len new - len old in new.runs ≤ old.runs + (placed + 2)
 
 -- `rest` came from s, which told the number of it, and so did each state that followed
-pub record Told {S T : Type 0} (steps : S → Option T → S → Type 0) (Tells : S → ℕ → Type 0) (s : S) (rest : List T) : Type 0 where
+pub record Told {S T : Type 0} (next_gives : S → Option T → S → Type 0)
+    (Tells : S → ℕ → Type 0) (s : S) (rest : List T) : Type 0 where
   pub lower : ℕ → ℕ
   pub last : S
   pub first : Tells s (lower (length rest))
-  pub each : YieldsTelling steps Tells lower s rest last
+  pub each : YieldsTelling next_gives Tells lower s rest last
 
-module _ {S T A : Type 0} (steps : S → Option T → S → Type 0) (Tells : S → ℕ → Type 0) (size : ℕ) (s : S) (first : T) where
+module _ {S T A : Type 0} (next_gives : S → Option T → S → Type 0)
+    (Tells : S → ℕ → Type 0) (size : ℕ) (s : S) (first : T) where
   -- `first` and all that came from s, of which `after` is left, were gathered in a vector
   pub record Gathers (v : Vector T A) (after : S) : Type 0 where
     pub rest : List T
-    pub told : Told steps Tells s rest
-    pub ends : steps told.last None after
+    pub told : Told next_gives Tells s rest
+    pub ends : next_gives told.last None after
     pub items : v.items ≡ first ∷ rest
 
-  -- no vector over a clone of the allocator of old could be made of `first` and what was taken from s, of which `after` is left
-  pub record GathersShort (fails : Type 0) (old : Vector T A) (error : TryReserveError) (after : S) : Type 0 where
+  -- no vector over a clone of the allocator of old could be made of `first` and what was taken from
+  -- s, of which `after` is left
+  pub record GathersShort (fails : Type 0) (old : Vector T A) (error : TryReserveError)
+      (after : S) : Type 0 where
     pub rest : List T
-    pub told : Told steps Tells s rest
+    pub told : Told next_gives Tells s rest
     pub stops : told.last ≡ after
     pub lacks : LacksVector A fails size told.lower (first ∷ rest) error
 
-module _ {S T A : Type 0} (steps : S → Option T → S → Type 0) (size : ℕ) (s : S) (old : Vector T A) where
-  -- `added`, that is `first` and all that came from s, of which `after` is left, was put before the last n items of old, in room made for
-  -- just them
+module _ {S T A : Type 0} (next_gives : S → Option T → S → Type 0) (size : ℕ) (s : S)
+    (old : Vector T A) where
+  -- `added`, that is `first` and all that came from s, of which `after` is left, was put before the
+  -- last n items of old, in room made for just them
   pub record PutsRest (n : ℕ) (first : T) (new : Vector T A) (after : S) : Type 0 where
     pub added : List T
-    pub comes : (rest : List T) × (last : S) × Yields steps s rest last × steps last None after × (added ≡ first ∷ rest)
+    pub comes : (rest : List T) × (last : S) × Yields next_gives s rest last
+        × next_gives last None after
+        × (added ≡ first ∷ rest)
     pub items : new.items ≡ take (len old - n) old.items ++ (added ++ drop (len old - n) old.items)
     pub room : MakesRoom size old (len old) (length added) new
     pub writes : Writes old (length added + n) (1 + run_count n) new
 
-  -- all that came from s, of which `after` is left, was put before the last n items of old, in room made for as many as were told and
-  -- then for the others
+  -- all that came from s, of which `after` is left, was put before the last n items of old, in room
+  -- made for as many as were told and then for the others
   pub record PutsAll (told n : ℕ) (new : Vector T A) (after : S) : Type 0 where
     pub added : List T
     pub last : S
-    pub given : Yields steps s added last
-    pub ends : steps last None after
+    pub given : Yields next_gives s added last
+    pub ends : next_gives last None after
     pub items : new.items ≡ take (len old - n) old.items ++ (added ++ drop (len old - n) old.items)
     pub room : MakesRoomTwice size old (len old) told (length added - told) new
     pub written : new.written ≡ old.written + (length added + tail_moves 0 told (length added) * n)
 
-module _ {S T A : Type 0} (steps : S → Option T → S → Type 0) (Tells : S → ℕ → Type 0) (fails : Type 0) (size : ℕ) (s : S)
-    (old : Vector T A) where
-  -- no vector could be made of `first` and what was taken from s, of which `after` is left, or there was no room for them
+module _ {S T A : Type 0} (next_gives : S → Option T → S → Type 0) (Tells : S → ℕ → Type 0)
+    (fails : Type 0) (size : ℕ) (s : S) (old : Vector T A) where
+  -- no vector could be made of `first` and what was taken from s, of which `after` is left, or
+  -- there was no room for them
   pub record LacksRest (n : ℕ) (first : T) (error : TryReserveError) (after : S) : Type 0 where
     pub rest : List T
-    pub told : Told steps Tells s rest
-    pub stops : StopsAt steps told.last after
-    pub lacks : LacksOthers fails ((end : S) × steps told.last None end) size told.lower old (first ∷ rest) error
+    pub told : Told next_gives Tells s rest
+    pub stops : StopsAt next_gives told.last after
+    pub lacks : LacksOthers fails ((end : S) × next_gives told.last None end) size told.lower old
+        (first ∷ rest) error
 
   module _ (told n : ℕ) where
-    -- a beginning of what was taken from s, of which `after` is left, was put there; there was no room for as many as were told, or for
-    -- the others
+    -- a beginning of what was taken from s, of which `after` is left, was put there; there was no
+    -- room for as many as were told, or for the others
     pub record PutsFront (error : TryReserveError) (new : Vector T A) (after : S) : Type 0 where
       pub front : List T
       pub others : List T
       pub lower : ℕ → ℕ
       pub last : S
-      pub given : YieldsTelling steps Tells lower s (front ++ others) last
-      pub stops : StopsAt steps last after
-      pub items : new.items ≡ take (len old - n) old.items ++ (front ++ drop (len old - n) old.items)
+      pub given : YieldsTelling next_gives Tells lower s (front ++ others) last
+      pub stops : StopsAt next_gives last after
+      pub items : new.items
+          ≡ take (len old - n) old.items ++ (front ++ drop (len old - n) old.items)
       pub why :
           ((length (front ++ others) ≡ 0) × SameBlock old new × LacksRoom size new told error)
           ⊎ ((length front ≡ told) × (0 < length others) × MakesRoom size old (len old) told new
-          × LacksOthers fails ((end : S) × steps last None end) size lower new others error)
+          × LacksOthers fails ((end : S) × next_gives last None end) size lower new others error)
 
-    -- all that comes from s, of which `remaining` bounds how many and `after` is left, was put there, with this result
-    pub record Puts (remaining : S → Count) (result : Result Unit TryReserveError) (new : Vector T A) (after : S) : Type 0 where
-      pub all : OnOk result (PutsAll steps size s old told n new after)
+    -- all that comes from s, of which `remaining` bounds how many and `after` is left, was put
+    -- there, with this result
+    pub record Puts (remaining : S → Count) (result : Result Unit TryReserveError)
+        (new : Vector T A) (after : S) : Type 0 where
+      pub all : OnOk result (PutsAll next_gives size s old told n new after)
       pub writes : PutsWithin old n new
       pub refused : IfErr result (λ e. PutsFront e new after)
       pub few : IfErr result (λ e. HasRoom old told → told < count_of (remaining s))

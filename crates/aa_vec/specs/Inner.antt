@@ -5,6 +5,7 @@ use Rattle.aa_vec.specs.Vector.{Vector}
 use Rattle.aa_vec.specs.declared.vec.Vec.TheInside.{Inside}
 
 module _ {T A : Type 0} where
+  -- the vector that is seen of the fields: its items stand in the first places
   abbrev pub view_of : Inside T A → Vector T A
   view_of v = record {
     items = run v.block.places 0 v.len;

@@ -11,7 +11,9 @@ use Rattle.aa_vec.specs.contracts.vec.Vec.{the_row}
 module _ (R A : RattleType) (g : Ghosts A.Denot) (v : MutBor (Vector R.Denot A.Denot)) where
   -- the items are the last values written through r
   abbrev pub lends_items : MutBor (List R.Denot) → Fml
-  lends_items r = Lends (the_row R A g) (Array R 0) v r (λ ws. with_items v.now (refill (length v.now.items) r.now ws))
+  lends_items r =
+      Lends (the_row R A g) (Array R 0) v r
+      (λ ws. with_items v.now (refill (length v.now.items) r.now ws))
 
   -- the item at the index is the last value written through r
   abbrev pub lends_item : ℕ → MutBor R.Denot → Fml

@@ -6,6 +6,7 @@ pub mod Vector
 pub mod Inner
 pub mod Lends
 pub mod Copies
+pub mod Splits
 pub mod Extending
 pub mod Extracting
 pub mod Behind

@@ -1,5 +1,6 @@
--- A range of a vector that is replaced by items, one by one, as an iterator gives them, in the room that it tells. Its elements before
--- the range are `head`, those behind it `tail`, and the range had `gap` elements.
+-- A range of a vector that is replaced by items, one by one, as an iterator gives them, in the room
+-- that it tells. Its elements before the range are `head`, those behind it `tail`, and the range
+-- had `gap` elements.
 use Rattle.std.specs.Prelude.{◌≡◌, ℕ, ◌+◌, ◌-◌, ◌*◌, ◌<◌, ◌≤◌, List, [], ◌++◌, length, Option, None, if◌then◌else◌, ◌==◌, ◌⊎◌, Result, IfErr, OnOk, IsOk}
 use Rattle.std.specs.Iterator.{Count, Yields, Drains, size as count}
 use Rattle.std.specs.Iterator.Runs.{WholeRun}
@@ -10,64 +11,76 @@ use Rattle.aa_raw.specs.Refusals.{IsRefusedAt}
 use Rattle.aa_vec.specs.Vector.{Vector, len, HasRoom, IsNew, SameBlock, MakesRoom, LacksRoom, run_count}
 use Rattle.aa_vec.specs.Extending.{ExtendsAll, ExtendsFull, StopsAt, YieldsTelling, asked_for}
 
--- how often the tail is moved where n items come, and h more are told once they fill the gap: up, where room is made for those that
--- are told, and where more than those come; and down, where a gap is left in the end
+-- how often the tail is moved where n items come, and h more are told once they fill the gap: up,
+-- where room is made for those that are told, and where more than those come; and down, where a gap
+-- is left in the end
 abbrev pub tail_moves : (gap h n : ℕ) → ℕ
 tail_moves gap h n =
     if gap - n == 0
     then run_count h + run_count (n - gap - h) + run_count (h - (n - gap))
     else 1
 
--- items were to be gathered in a vector of their own, over a clone of the allocator, as an extension of a new vector takes them: the clone
--- was refused, with the number that the first growth of that vector would have asked for, or that growth was, or a further one. `fails`
--- says that the clone may be refused
-abbrev pub LacksVector : {T : Type 0} (A fails : Type 0) (size : ℕ) (lower : ℕ → ℕ) → List T → TryReserveError → Type 0
+-- items were to be gathered in a vector of their own, over a clone of the allocator, as an
+-- extension of a new vector takes them: the clone was refused, with the number that the first
+-- growth of that vector would have asked for, or that growth was, or a further one. `fails` says
+-- that the clone may be refused
+abbrev pub LacksVector : {T : Type 0} (A fails : Type 0) (size : ℕ) (lower : ℕ → ℕ) → List T
+    → TryReserveError → Type 0
 LacksVector {T = T} A fails size lower items error =
-    (fails × IsRefusedAt error (amortized Doubling 0 (asked_for lower (length items)) (least_of size)))
-    ⊎ ((made : Vector T A) × (full : Vector T A) × IsNew size 0 made.alloc made × ExtendsFull size lower made [] items error full)
+    (fails × IsRefusedAt error
+    (amortized Doubling 0 (asked_for lower (length items)) (least_of size)))
+    ⊎ ((made : Vector T A) × (full : Vector T A) × IsNew size 0 made.alloc made
+    × ExtendsFull size lower made [] items error full)
 
 module _ {T A : Type 0} where
   -- room was made for h more than n elements, and then for r more
   abbrev pub MakesRoomTwice : (size : ℕ) → Vector T A → (n h r : ℕ) → Vector T A → Type 0
-  MakesRoomTwice size old n h r new = (mid : Vector T A) × MakesRoom size old n h mid × MakesRoom size mid (n + h) r new
+  MakesRoomTwice size old n h r new =
+      (mid : Vector T A) × MakesRoom size old n h mid × MakesRoom size mid (n + h) r new
 
-  -- no vector could be made of the others, or, where they are all that is to come, there was no room for just them in v
-  abbrev pub LacksOthers : (fails whole : Type 0) (size : ℕ) (lower : ℕ → ℕ) → Vector T A → List T → TryReserveError → Type 0
+  -- no vector could be made of the others, or, where they are all that is to come, there was no
+  -- room for just them in v
+  abbrev pub LacksOthers : (fails whole : Type 0) (size : ℕ) (lower : ℕ → ℕ) → Vector T A → List T
+      → TryReserveError → Type 0
   LacksOthers fails whole size lower v others error =
       LacksVector A fails size lower others error ⊎ (whole × LacksRoom size v (length others) error)
 
-  module _ (size : ℕ) (lower : ℕ → ℕ) (old : Vector T A) (head : List T) (gap : ℕ) (tail added : List T) where
-    -- how many items find no place in the gap, and how many of them are told
-    abbrev pub left_over : ℕ
-    left_over = length added - gap
-
+  module _ (size : ℕ) (lower : ℕ → ℕ) (old : Vector T A) (head : List T) (gap : ℕ)
+      (tail added : List T) where
+    -- of the items that find no place in the gap, how many are told
     abbrev pub told_over : ℕ
-    told_over = lower left_over
+    told_over = lower (length added - gap)
 
-    -- new has all of `added` in place of the range. With no tail they were put behind the head, as an extension does. With one, fewer
-    -- items than the range had take no room; else room was made for those that were told once the gap was full, and then for the others
+    -- new has all of `added` in place of the range. With no tail they were put behind the head, as
+    -- an extension does. With one, fewer items than the range had take no room; else room was made
+    -- for those that were told once the gap was full, and then for the others
     pub record SplicesAll (new : Vector T A) : Type 0 where
       pub items : new.items ≡ head ++ (added ++ tail)
       pub at_end : tail ≡ [] → ExtendsAll size lower old head added new
       pub in_gap : 0 < length tail → length added < gap → SameBlock old new
       pub beyond : 0 < length tail → gap ≤ length added
-          → MakesRoomTwice size old (length head + gap + length tail) told_over (left_over - told_over) new
+          → MakesRoomTwice size old (length head + gap + length tail)
+          told_over (length added - gap - told_over) new
 
     -- `front` fills the gap, and there was no room for those that were told then
-    pub record StopsAtGap (front : List T) (error : TryReserveError) (new : Vector T A) : Type 0 where
+    pub record StopsAtGap (front : List T) (error : TryReserveError)
+        (new : Vector T A) : Type 0 where
       pub fills : length front ≡ gap
       pub block : SameBlock old new
       pub lacks : LacksRoom size new told_over error
 
     -- it fills the room made for those too, and the others found none
-    pub record StopsBeyond (fails whole : Type 0) (front others : List T) (error : TryReserveError) (new : Vector T A) : Type 0 where
+    pub record StopsBeyond (fails whole : Type 0) (front others : List T) (error : TryReserveError)
+        (new : Vector T A) : Type 0 where
       pub fills : length front ≡ gap + told_over
       pub room : MakesRoom size old (length head + gap + length tail) told_over new
       pub more : 0 < length others
       pub lacks : LacksOthers fails whole size lower new others error
 
-    -- with a tail, new has `front`, a beginning of `added`, in place of the range: room for the others was refused
-    pub record SplicesFront (fails whole : Type 0) (error : TryReserveError) (new : Vector T A) : Type 0 where
+    -- with a tail, new has `front`, a beginning of `added`, in place of the range: room for the
+    -- others was refused
+    pub record SplicesFront (fails whole : Type 0) (error : TryReserveError)
+        (new : Vector T A) : Type 0 where
       pub front : List T
       pub others : List T
       pub begins : added ≡ front ++ others
@@ -77,58 +90,70 @@ module _ {T A : Type 0} where
     -- new has a beginning of `added` in place of the range, and room for the others was refused
     abbrev pub SplicesShort : (fails whole : Type 0) → TryReserveError → Vector T A → Type 0
     SplicesShort fails whole error new =
-        ((tail ≡ []) × ExtendsFull size lower old head added error new) ⊎ ((0 < length tail) × SplicesFront fails whole error new)
+        ((tail ≡ []) × ExtendsFull size lower old head added error new)
+        ⊎ ((0 < length tail) × SplicesFront fails whole error new)
 
   -- each of the items that were placed was written once, and the tail at most twice
-  pub record SplicesWithin (old : Vector T A) (head tail : List T) (new : Vector T A) : Type 0 where
-    pub written : let placed = len new - (length head + length tail) in new.written ≤ old.written + (placed + 2 * length tail)
-    pub runs : let placed = len new - (length head + length tail) in new.runs ≤ old.runs + (placed + 2)
+  pub record SplicesWithin (old : Vector T A) (tail : List T) (new : Vector T A) : Type 0 where
+    pub written : let placed = len new - (len old + length tail) in
+        new.written ≤ old.written + (placed + 2 * length tail)
+    pub runs : let placed = len new - (len old + length tail) in new.runs ≤ old.runs + (placed + 2)
 
-module _ {S T : Type 0} (steps : S → Option T → S → Type 0) (Tells : S → ℕ → Type 0) {A : Type 0} (size : ℕ) (iter : S)
-    (old : Vector T A) (head : List T) (gap : ℕ) (tail : List T) where
+module _ {S T : Type 0} (next_gives : S → Option T → S → Type 0) (Tells : S → ℕ → Type 0)
+    {A : Type 0} (size : ℕ) (iter : S) (old : Vector T A) (gap : ℕ) (tail : List T) where
   -- new has all that came from `iter` in place of the range, in room asked for as the iterator told
   pub record SplicesByAll (new : Vector T A) : Type 0 where
     pub added : List T
     pub lower : ℕ → ℕ
     pub last : S
     pub first : Tells iter (lower (length added))
-    pub told : YieldsTelling steps Tells lower iter added last
-    pub ends : (end : S) × steps last None end
-    pub splices : SplicesAll size lower old head gap tail added new
-    pub written : new.written ≡ old.written + (length added + tail_moves gap (lower (length added - gap)) (length added) * length tail)
+    pub told : YieldsTelling next_gives Tells lower iter added last
+    pub ends : (end : S) × next_gives last None end
+    pub splices : SplicesAll size lower old old.items gap tail added new
+    pub written : let moves = tail_moves gap (lower (length added - gap)) (length added) in
+        new.written ≡ old.written + (length added + moves * length tail)
 
-  -- new has a beginning of what was taken from `iter` in place of the range; room for more was refused
-  pub record SplicesByFront (fails : Type 0) (error : TryReserveError) (new : Vector T A) : Type 0 where
+  -- new has a beginning of what was taken from `iter` in place of the range; more had no room
+  pub record SplicesByFront (fails : Type 0) (error : TryReserveError)
+      (new : Vector T A) : Type 0 where
     pub taken : List T
     pub lower : ℕ → ℕ
     pub last : S
     pub first : Tells iter (lower (length taken))
-    pub told : YieldsTelling steps Tells lower iter taken last
-    pub splices : SplicesShort size lower old head gap tail taken fails ((end : S) × steps last None end) error new
+    pub told : YieldsTelling next_gives Tells lower iter taken last
+    pub splices : SplicesShort size lower old old.items gap tail taken
+        fails ((end : S) × next_gives last None end) error new
 
--- items were put in place of the range with this result, and `after` is what is left of `iter`: nothing was taken from it but what found a
--- place, and what was gathered where others found none
-module _ {S T A : Type 0} (steps : S → Option T → S → Type 0) (Tells : S → ℕ → Type 0) (fails : Type 0) (size : ℕ) (iter : S)
-    (old : Vector T A) (head : List T) (gap : ℕ) (tail : List T) where
-  pub record SplicesIter (after : S) (result : Result Unit TryReserveError) (new : Vector T A) : Type 0 where
-    pub ended : OnOk result ((all : SplicesByAll steps Tells size iter old head gap tail new) × (all.ends.0 ≡ after))
-    pub stopped : IfErr result (λ e. (front : SplicesByFront steps Tells size iter old head gap tail fails e new) × StopsAt steps front.last after)
+  -- items were put in place of the range with this result, and `after` is what is left of `iter`:
+  -- nothing was taken but what found a place, and what was gathered where others found none
+  pub record SplicesIter (fails : Type 0) (after : S) (result : Result Unit TryReserveError)
+      (new : Vector T A) : Type 0 where
+    pub ended : OnOk result ((all : SplicesByAll new) × (all.ends.0 ≡ after))
+    pub stopped : IfErr result
+        (λ e. (front : SplicesByFront fails e new) × StopsAt next_gives front.last after)
 
 -- once the range is full, the iterator tells h
-abbrev pub TellsOnceFull : {S T : Type 0} → (S → Option T → S → Type 0) → (S → ℕ → Type 0) → S → (gap h : ℕ) → Type 0
-TellsOnceFull {S = S} {T = T} steps Tells s gap h =
-    (xs : List T) (t : S) (n : ℕ) → Yields steps s xs t → length xs ≡ gap → Tells t n → n ≡ h
+abbrev pub TellsOnceFull : {S T : Type 0} → (S → Option T → S → Type 0) → (S → ℕ → Type 0) → S
+    → (gap h : ℕ) → Type 0
+TellsOnceFull {S = S} {T = T} next_gives Tells s gap h =
+    (xs : List T) (t : S) (n : ℕ) → Yields next_gives s xs t → length xs ≡ gap → Tells t n → n ≡ h
 
-module _ {S T A : Type 0} (steps : S → Option T → S → Type 0) (Tells : S → ℕ → Type 0) (left : S → Count) (fails : Type 0) (size : ℕ)
-    (iter : S) (old : Vector T A) (head : List T) (gap : ℕ) (tail : List T) where
-  -- items of `iter`, of which `left` bounds how many are to come, were put in place of the range of old, which is new, with this result
-  pub record Replaced (result : Result Unit TryReserveError) (new : Vector T A) : Type 0 where
-    pub fits_gap : count (left iter) < gap → IsOk result
-    pub fits_end : tail ≡ [] → HasRoom old (count (left iter)) → IsOk result
-    pub fits_told : (h : ℕ) → TellsOnceFull steps Tells iter gap h → count (left iter) ≤ gap + h
-        → len old + gap + length tail + h ≤ old.capacity → IsOk result
-    pub ran : OnOk result ((xs : List T) × Drains steps iter xs × (new.items ≡ head ++ (xs ++ tail)))
-    pub runs : OnOk result (WholeRun steps iter (λ p. new.items ≡ head ++ (p.items ++ tail)))
-    pub spliced : OnOk result (SplicesByAll steps Tells size iter old head gap tail new)
-    pub writes : SplicesWithin old head tail new
-    pub refused : IfErr result (λ e. SplicesByFront steps Tells size iter old head gap tail fails e new)
+-- items of `iter`, of which `remaining` bounds how many are to come, were put in place of the range
+-- of old, which is new, with this result
+pub record Replaced {S T A : Type 0} (next_gives : S → Option T → S → Type 0)
+    (Tells : S → ℕ → Type 0) (remaining : S → Count) (fails : Type 0) (size : ℕ) (iter : S)
+    (old : Vector T A) (gap : ℕ) (tail : List T) (result : Result Unit TryReserveError)
+    (new : Vector T A) : Type 0 where
+  pub items : OnOk result
+      ((xs : List T) × Drains next_gives iter xs × (new.items ≡ old.items ++ (xs ++ tail)))
+  pub runs : OnOk result
+      (WholeRun next_gives iter (λ p. new.items ≡ old.items ++ (p.items ++ tail)))
+  pub fits_gap : count (remaining iter) < gap → IsOk result
+  pub fits_end : tail ≡ [] → HasRoom old (count (remaining iter)) → IsOk result
+  pub fits_told : (h : ℕ) → TellsOnceFull next_gives Tells iter gap h
+      → count (remaining iter) ≤ gap + h
+      → len old + gap + length tail + h ≤ old.capacity → IsOk result
+  pub room : OnOk result (SplicesByAll next_gives Tells size iter old gap tail new)
+  pub writes : SplicesWithin old tail new
+  pub refused : IfErr result
+      (λ e. SplicesByFront next_gives Tells size iter old gap tail fails e new)

@@ -1,10 +1,11 @@
 -- A vector as contracts see it, and how it makes room.
-use Rattle.std.specs.Prelude.{◌≡◌, ℕ, ◌+◌, ◌-◌, ◌<◌, ◌≤◌, List, [], length, Option, ◌⊎◌, ◌==◌, if◌then◌else◌, Result, IfErr, OnOk, IsOk}
+use Rattle.std.specs.Prelude.{◌≡◌, ℕ, ◌+◌, ◌-◌, ◌<◌, ◌≤◌, min, List, [], length, Option, ◌⊎◌}
 use Rattle.aa_raw.specs.declared.raw_vec.Growth.{Growth}
 use Rattle.aa_raw.specs.declared.raw_vec.Growth.TheVariants.{Doubling}
 use Rattle.aa_raw.specs.declared.collections.TryReserveError.{TryReserveError}
 pub use Rattle.aa_raw.specs.Growth.{sized}
 use Rattle.aa_raw.specs.Growth.{amortized, least_of}
+pub use Rattle.aa_raw.specs.Room.{moved_over, run_count}
 use Rattle.aa_raw.specs.Room as Room
 
 -- a list beside a capacity, in a block that counts what it does
@@ -16,13 +17,11 @@ pub record Vector (T A : Type 0) : Type 0 where
   pub written : ℕ  -- elements written into places so far
   pub runs : ℕ  -- calls that wrote any
   pub alloc : A
-  pub behind : List (Option T)  -- the places behind the items; only a call that has taken a range out speaks of them
-
--- how many calls of the block move a run of n elements
-abbrev pub run_count : (n : ℕ) → ℕ
-run_count n = if n == 0 then 0 else 1
+  -- the places behind the items, of which only a call speaks that has taken a range out
+  pub behind : List (Option T)
 
 module _ {T A : Type 0} where
+  -- how many items v has
   abbrev pub len : Vector T A → ℕ
   len v = length v.items
 
@@ -36,7 +35,8 @@ module _ {T A : Type 0} where
 
   -- k more than old has did not fit, and a growth with room to spare was refused with this error
   abbrev pub LacksRoom : (size : ℕ) → Vector T A → (k : ℕ) → TryReserveError → Type 0
-  LacksRoom size old k error = Room.LacksRoom old.capacity (len old) k (wanted size old (len old + k)) error
+  LacksRoom size old k error =
+      Room.LacksRoom old.capacity (len old) k (wanted size old (len old + k)) error
 
   -- the same of a growth to just as many places as are needed
   abbrev pub LacksExactRoom : Vector T A → (k : ℕ) → TryReserveError → Type 0
@@ -59,7 +59,8 @@ module _ {T A : Type 0} where
     pub grown : new.grown ≡ old.grown
     pub alloc : new.alloc ≡ old.alloc
 
-  -- new has a new block of c places for elements of `size` bytes, into which n elements of old's were moved
+  -- new has a new block of c places for elements of `size` bytes, into which n elements of old's
+  -- were moved
   pub record NewBlock (size : ℕ) (old : Vector T A) (n c : ℕ) (new : Vector T A) : Type 0 where
     pub has_size : 0 < size
     pub capacity : new.capacity ≡ c
@@ -67,10 +68,12 @@ module _ {T A : Type 0} where
     pub grown : new.grown ≡ old.grown + n
     pub alloc : new.alloc ≡ old.alloc
 
-  -- old, with n elements of `size` bytes in it, has room for k more and is new: its own block, or one of `wanted` places
+  -- old, with n elements of `size` bytes in it, has room for k more and is new: its own block, or
+  -- one of `wanted` places
   abbrev pub HasRoomBy : (size wanted : ℕ) → Vector T A → (n k : ℕ) → Vector T A → Type 0
   HasRoomBy size wanted old n k new =
-      ((k ≤ old.capacity - n) × SameBlock old new) ⊎ ((old.capacity - n < k) × NewBlock size old n wanted new)
+      ((k ≤ old.capacity - n) × SameBlock old new)
+      ⊎ ((old.capacity - n < k) × NewBlock size old n wanted new)
 
   -- a growth asks for room to spare
   abbrev pub MakesRoom : (size : ℕ) → Vector T A → (n k : ℕ) → Vector T A → Type 0
@@ -81,12 +84,14 @@ module _ {T A : Type 0} where
   MakesExactRoom size old n k new = HasRoomBy size (n + k) old n k new
 
   -- new has the items xs, and made room for k more than old has
-  pub record GrowsTo (size : ℕ) (old : Vector T A) (k : ℕ) (xs : List T) (new : Vector T A) : Type 0 where
+  pub record GrowsTo (size : ℕ) (old : Vector T A) (k : ℕ) (xs : List T)
+      (new : Vector T A) : Type 0 where
     pub items : new.items ≡ xs
     pub room : MakesRoom size old (len old) k new
 
   -- the same, with room for k more and no others
-  pub record GrowsExactly (size : ℕ) (old : Vector T A) (k : ℕ) (xs : List T) (new : Vector T A) : Type 0 where
+  pub record GrowsExactly (size : ℕ) (old : Vector T A) (k : ℕ) (xs : List T)
+      (new : Vector T A) : Type 0 where
     pub items : new.items ≡ xs
     pub room : MakesExactRoom size old (len old) k new
 
@@ -103,19 +108,19 @@ module _ {T A : Type 0} where
     pub grown : new.grown ≡ old.grown
     pub alloc : new.alloc ≡ old.alloc
 
+  -- new has the items of old, in room for n elements of `size` bytes, or in as many places as
+  -- before if those are fewer
+  abbrev pub ShrinksTo : (size : ℕ) → Vector T A → (n : ℕ) → Vector T A → Type 0
+  ShrinksTo size old n new = Shrinks old (min old.capacity (sized size n)) new
+
   -- n elements were written into places, by k calls of the block
   pub record Writes (old : Vector T A) (n k : ℕ) (new : Vector T A) : Type 0 where
     pub written : new.written ≡ old.written + n
     pub runs : new.runs ≡ old.runs + k
 
-  -- room for k more was asked for in old, which is new, with this result: where they fit it was granted, and then `Grown` holds; a refusal
-  -- has an error of which `Lacks` holds, and changed nothing
-  pub record Reserved (old : Vector T A) (k : ℕ) (Grown : Type 0) (Lacks : TryReserveError → Type 0) (result : Result Unit TryReserveError)
-      (new : Vector T A) : Type 0 where
-    pub fits : HasRoom old k → IsOk result
-    pub made : OnOk result Grown
-    pub writes : Writes old 0 0 new
-    pub refused : IfErr result (λ e. Lacks e × (new ≡ old))
+  -- n elements were moved over a gap by one call of the block, or by none where there is no gap
+  abbrev pub Moves : Vector T A → (gap n : ℕ) → Vector T A → Type 0
+  Moves old gap n new = Writes old (moved_over gap n) (run_count (moved_over gap n)) new
 
   -- v with other items as many as it had
   abbrev pub with_items : Vector T A → List T → Vector T A

@@ -1,9 +1,9 @@
 //! `Vec`: a growable list over an allocator. It stands for `allocator_api2::vec`.
-ghost use Rattle.std.specs.Prelude.{◌≡◌, ◌+◌, ◌-◌, ◌*◌, ◌^◌, ◌<◌, ◌≤◌, [], ◌∷◌, ◌++◌, length, IfOk, IfErr, IfNone, OnOk, IsOk, IsTrue, ◌↔◌, MatchOption};
+ghost use Rattle.std.specs.Prelude.{◌≡◌, ◌+◌, ◌*◌, ◌^◌, ◌<◌, ◌≤◌, [], ◌∷◌, ◌++◌, length, IfOk, IfErr, IfNone, OnOk, OnErr, IsOk, IsTrue, ◌↔◌, MatchOption};
 ghost use Rattle.std.specs.Mem.{type_size};
 ghost use Rattle.std.specs.Borrow.{sem};
 ghost use Rattle.aa_raw.specs.Places.{IsCapacity};
-ghost use Rattle.aa_raw.specs.Refusals.{IsRefusedAt};
+ghost use Rattle.aa_raw.specs.Refusals.{RefusesBlock};
 ghost use Rattle.aa_vec.specs.Copies.{IsMade};
 ghost use Rattle.aa_vec.specs.Vector.{len, HasRoom, LacksRoom, IsNew, SameBlock, GrowsTo, Holds, Writes};
 
@@ -47,8 +47,9 @@ mod room;
 pub mod splice;
 mod telling;
 
-/// A growable list over the allocator `A`. It stands for `allocator_api2::vec::Vec`; a call that takes memory answers a `Result`
-/// in place of aborting. Elements without size take no memory and have the capacity `usize::MAX`.
+/// A growable list over the allocator `A`. It stands for `allocator_api2::vec::Vec`; a call that
+/// takes memory answers a `Result` in place of aborting. Elements without size take no memory and
+/// have the capacity `usize::MAX`.
 pub struct Vec<T, A: Allocator = Global> {
     block: RawVec<T, A>,
     len: usize,
@@ -74,11 +75,11 @@ impl<T> Vec<T, Global> {
         Vec::new_in(alloc)
     }
 
-    /// An empty vector with room for `capacity` elements on the global allocator; it is refused as `with_capacity_in` is. It
-    /// stands for `Vec::with_capacity`.
+    /// An empty vector with room for `capacity` elements on the global allocator; it is refused as
+    /// `with_capacity_in` is. It stands for `Vec::with_capacity`.
     pub fn with_capacity(alloc: Global, capacity: usize) -> Result<Self, TryReserveError>
         ensures made { IfOk result (λ v. IsNew (type_size T.row) capacity alloc v) }
-        ensures refused { IfErr result (λ e. (0 < capacity) × (0 < type_size T.row) × IsRefusedAt e capacity) }
+        ensures refused { IfErr result (RefusesBlock capacity (type_size T.row)) }
     {
         Vec::with_capacity_in(capacity, alloc)
     }
@@ -95,8 +96,9 @@ impl<T, A: Allocator> Vec<T, A> {
         Vec::new_growing_in(Growth::Doubling, alloc)
     }
 
-    /// An empty vector that will grow as `growth` says: one that doubles moves fewer elements, and one that spares keeps less room
-    /// that it does not use. It takes no memory. The original has no such choice.
+    /// An empty vector that will grow as `growth` says: one that doubles moves fewer elements, and
+    /// one that spares keeps less room that it does not use. It takes no memory. The original has
+    /// no such choice.
     #[tactic(auto, using(aa_raw::proofs::Calls::with_room))]
     pub fn new_growing_in(growth: Growth, alloc: A) -> Self
         ensures made { IsMade (type_size T.row) 0 growth [] 0 result }
@@ -108,13 +110,14 @@ impl<T, A: Allocator> Vec<T, A> {
         }
     }
 
-    /// An empty vector with room for exactly `capacity` elements. It takes memory where `capacity` is above 0 and elements have
-    /// a size. A refusal is `CapacityOverflow` where the bytes pass `isize::MAX`, and else `AllocError` with this capacity. It
-    /// stands for `Vec::with_capacity_in`.
+    /// An empty vector with room for exactly `capacity` elements. It takes memory where `capacity`
+    /// is above 0 and elements have a size. A refusal is `CapacityOverflow` where the bytes pass
+    /// `isize::MAX`, and else `AllocError` with this capacity. It stands for
+    /// `Vec::with_capacity_in`.
     #[tactic(auto, using(aa_raw::proofs::Calls::with_room))]
     pub fn with_capacity_in(capacity: usize, alloc: A) -> Result<Self, TryReserveError>
         ensures made { IfOk result (λ v. IsNew (type_size T.row) capacity alloc v) }
-        ensures refused { IfErr result (λ e. (0 < capacity) × (0 < type_size T.row) × IsRefusedAt e capacity) }
+        ensures refused { IfErr result (RefusesBlock capacity (type_size T.row)) }
     {
         let block = RawVec::with_capacity_in(capacity, alloc)?;
         Ok(Vec { block, len: 0 })
@@ -139,8 +142,8 @@ impl<T, A: Allocator> Vec<T, A> {
         self.len == 0
     }
 
-    /// How many elements there may be before the vector grows; `usize::MAX` for elements without size. It stands for
-    /// `Vec::capacity`.
+    /// How many elements there may be before the vector grows; `usize::MAX` for elements without
+    /// size. It stands for `Vec::capacity`.
     #[inline]
     pub fn capacity(&self) -> usize
         ensures count { result ≡ self.now.capacity }
@@ -181,16 +184,20 @@ impl<T, A: Allocator> Vec<T, A> {
         self.block.slice_mut(0, self.len)
     }
 
-    /// Puts `value` behind the last element. It takes memory only where the vector is full, and grows then with room to spare.
-    /// A refusal hands the value back and changes nothing: `CapacityOverflow` where the length passes `usize::MAX` or the bytes
-    /// pass `isize::MAX`, else `AllocError` with the capacity asked for. It stands for `Vec::push`.
+    /// Puts `value` behind the last element. It takes memory only where the vector is full, and
+    /// grows then with room to spare. A refusal hands the value back and changes nothing:
+    /// `CapacityOverflow` where the length passes `usize::MAX` or the bytes pass `isize::MAX`, else
+    /// `AllocError` with the capacity asked for. It stands for `Vec::push`.
     #[inline]
     #[tactic(auto, using(aa_raw::proofs::Calls::with_room))]
     pub fn push(&mut self, value: T) -> Result<(), Refused<T>>
         ensures fits { HasRoom self.old 1 → IsOk result }
-        ensures pushed { OnOk result (GrowsTo (type_size T.row) self.old 1 (self.old.items ++ value ∷ []) self.new) }
+        ensures pushed { OnOk result
+            (GrowsTo (type_size T.row) self.old 1 (self.old.items ++ value ∷ []) self.new) }
         ensures writes { OnOk result (Writes self.old 1 1 self.new) }
-        ensures refused { IfErr result (λ r. (r.source ≡ value) × LacksRoom (type_size T.row) self.old 1 r.error × (self.new ≡ self.old)) }
+        ensures refused { IfErr result (λ r. LacksRoom (type_size T.row) self.old 1 r.error) }
+        ensures handed_back { IfErr result (λ r. r.source ≡ value) }
+        ensures unchanged { OnErr result (self.new ≡ self.old) }
     {
         let len = self.len;
         if let Err(error) = self.block.reserve_for_push(len) {
@@ -207,7 +214,8 @@ impl<T, A: Allocator> Vec<T, A> {
     /// Takes the last element, if there is one. The capacity stays. It stands for `Vec::pop`.
     #[inline]
     pub fn pop(&mut self) -> Option<T>
-        ensures cases { MatchOption result (self.old.items ≡ []) (λ y. self.old.items ≡ self.new.items ++ y ∷ []) }
+        ensures cases { MatchOption result (self.old.items ≡ [])
+            (λ y. self.old.items ≡ self.new.items ++ y ∷ []) }
         ensures empty { IfNone result (self.new ≡ self.old) }
         ensures block { SameBlock self.old self.new }
         ensures writes { Writes self.old 0 0 self.new }

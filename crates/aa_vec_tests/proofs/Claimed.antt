@@ -33,7 +33,7 @@ module _ {T A : Type 0} {g : Growth} (v w : Vector T A) (c n k : ℕ) (places : 
 
 -- the two in the middle of four, in four places, are replaced by three, of which h are told once two are placed
 module _ {A : Type 0} {old : Vector ℕ A} {iter given : ItemsLeft ℕ} {d : Drain ℕ A} {new : Vector ℕ A} (drains : TakesRange old 1 3 d)
-    (s : SplicesByAll gives_item (TellsExactly items_lower) 4 iter (drain_vec d) (drain_head d) (range_len d) (drain_tail d) new) (same : iter ≡ given)
+    (s : SplicesByAll gives_item (TellsExactly items_lower) 4 iter (drain_vec d) (range_len d) (drain_tail d) new) (same : iter ≡ given)
     (was : (old.items ≡ 1 ∷ 2 ∷ 3 ∷ 4 ∷ []) × (old.capacity ≡ 4) × (old.growth ≡ Doubling)) (new_items : given.items ≡ 7 ∷ 8 ∷ 9 ∷ []) where
   come : iter.items ≡ 7 ∷ 8 ∷ 9 ∷ []
   come = ap (λ i. i.items) same ∙ new_items
@@ -45,7 +45,7 @@ module _ {A : Type 0} {old : Vector ℕ A} {iter given : ItemsLeft ℕ} {d : Dra
   behind = drains.tail ∙ ap (drop 3) was.0
 
   spliced : SplicesAll 4 (lower_by iter.hint) (drain_vec d) (drain_head d) (range_len d) (drain_tail d) iter.items new
-  spliced = SplicesAll-items iter 4 (drain_vec d) (drain_head d) (range_len d) (drain_tail d) new s (omega (arith, ap length before, drains.head.block.capacity, was.1))
+  spliced = SplicesAll-items iter 4 (drain_vec d) (range_len d) (drain_tail d) new s (omega (arith, ap length before, drains.head.block.capacity, was.1))
 
   pub five_there : new.items ≡ 1 ∷ 7 ∷ 8 ∷ 9 ∷ 4 ∷ []
   five_there =
@@ -66,7 +66,7 @@ module _ {A : Type 0} {old : Vector ℕ A} {iter given : ItemsLeft ℕ} {d : Dra
     five_written =
         let P : ℕ → Type 0 = λ n. new.written ≡ (drain_vec d).written + (n + tail_moves 2 h n * 1) in
         let moved : ℕ → ℕ → ℕ → Type 0 = λ g k t. new.written ≡ (drain_vec d).written + (length iter.items + tail_moves g k (length iter.items) * t) in
-        let first : moved (range_len d) h (length (drain_tail d)) = subst (λ k. moved (range_len d) k (length (drain_tail d))) tells (items-written iter 4 (drain_vec d) (drain_head d) (range_len d) (drain_tail d) new s) in
+        let first : moved (range_len d) h (length (drain_tail d)) = subst (λ k. moved (range_len d) k (length (drain_tail d))) tells (items-written iter 4 (drain_vec d) (range_len d) (drain_tail d) new s) in
         let second : moved 2 h (length (drain_tail d)) = subst (λ g. moved g h (length (drain_tail d))) drains.range first in
         let third : moved 2 h 1 = subst (λ t. moved 2 h t) (ap length behind) second in
         let fourth : P 3 = subst P three third in

@@ -8,7 +8,7 @@ use Rattle.allocator_api2.specs.declared.runner.Command.TheVariants.{SplitOff, R
 use Rattle.allocator_api2.specs.declared.runner.Reply.{Reply}
 use Rattle.allocator_api2.specs.declared.runner.Reply.TheVariants.{Done, Item, Nothing, Back, Refused, Range}
 use Rattle.allocator_api2.specs.Machine.{State, Calls, IsPossible, Step}
-use Rattle.allocator_api2.specs.Commands.{TakesStep}
+use Rattle.allocator_api2.specs.Commands.{DoesStep}
 use Rattle.allocator_api2.specs.Run.{MayCall, MayRun, IsCallableOnRuns}
 
 module _ {T A K S : Type 0} (size : ℕ) (calls : Calls T A K S) where
@@ -24,7 +24,7 @@ module _ {T A K S : Type 0} (size : ℕ) (calls : Calls T A K S) where
     pub MayCall-next : MayCall size calls s command
     MayCall-next = next_first.0
 
-    pub MayRun-later : (reply : Reply T) (next : State T A K S) → TakesStep size calls s command reply next → IsPossible next.main next.side → MayRun size calls next (reverse later)
+    pub MayRun-later : (reply : Reply T) (next : State T A K S) → DoesStep size calls s command reply next → IsPossible next.main next.side → MayRun size calls next (reverse later)
     MayRun-later reply next step possible = next_first.1 step.answers reply next step.step possible
 
   -- closures whose good states take every element, and lead to good states alone

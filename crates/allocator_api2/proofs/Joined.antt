@@ -3,7 +3,7 @@ use Rattle.std.proofs.Common.{◌≡◌, ℕ, zero, suc, ◌<◌, take, drop, re
 use Rattle.std.proofs.lemmas.List.{take-append-drop}
 use Rattle.aa_vec.specs.Vector.{Vector}
 use Rattle.allocator_api2.specs.Laws.{CutIsJoined}
-use Rattle.allocator_api2.specs.Machine.{Splits}
+use Rattle.aa_vec.specs.Splits.{Splits}
 
 module _ {T A : Type 0} (size : ℕ) (old head tail : Vector T A) where
   parts_are : (at : ℕ) → Splits size old at head tail → (head.items ≡ take at old.items) × (tail.items ≡ drop at old.items)

@@ -5,7 +5,7 @@ use Rattle.std.proofs.lemmas.List.{map-append, reverse-append, append-nil, rever
 use Rattle.allocator_api2.specs.declared.runner.Command.{Command}
 use Rattle.allocator_api2.specs.declared.runner.Reply.{Reply}
 use Rattle.allocator_api2.specs.Machine.{State, Calls, IsPossible}
-use Rattle.allocator_api2.specs.Commands.{TakesStep}
+use Rattle.allocator_api2.specs.Commands.{DoesStep}
 use Rattle.allocator_api2.specs.Run.{Turn, IsRun, RunsWithin, AddsOrRemoves, IsUnhinted}
 use Rattle.allocator_api2.proofs.WholeRuns.{moves_law, places_law, writes_law}
 
@@ -27,7 +27,7 @@ module _ {T A K S : Type 0} (size : ℕ) (calls : Calls T A K S) where
   HasRun-start old all before rest e possible =
       record { turns = []; run = refl; commands_are = ap reverse e ∙ reverse-reverse all; replies_are = sym (append-nil before); began = possible }
 
-  pub HasRun-more : {old : State T A K S} {all : List (Command T A)} {before replies replies' : List (Reply T)} {rest rest' : List (Command T A)} {now new : State T A K S} {command : Command T A} {reply : Reply T} → HasRun old all before rest replies now → rest ≡ rest' ++ command ∷ [] → TakesStep size calls now command reply new → IsPossible new.main new.side → replies' ≡ replies ++ reply ∷ [] → HasRun old all before rest' replies' new
+  pub HasRun-more : {old : State T A K S} {all : List (Command T A)} {before replies replies' : List (Reply T)} {rest rest' : List (Command T A)} {now new : State T A K S} {command : Command T A} {reply : Reply T} → HasRun old all before rest replies now → rest ≡ rest' ++ command ∷ [] → DoesStep size calls now command reply new → IsPossible new.main new.side → replies' ≡ replies ++ reply ∷ [] → HasRun old all before rest' replies' new
   HasRun-more {old = old} {before = before} {rest = rest} {rest' = rest'} {now = now} {new} {command} {reply} h e s possible e' =
       let t : Turn T A K S = record { before = now; command = command; answers = s.answers; reply = reply; after = new } in
       record {

@@ -9,7 +9,7 @@ use Rattle.aa_vec.specs.Splicing.{SplicesAll, SplicesShort, SplicesByAll, Splice
 use Rattle.aa_vec.specs.declared.vec.drain.Drain.{Drain}
 use Rattle.aa_vec.proofs.Counted.{items_lower}
 use Rattle.aa_vec.proofs.SplicedItems.{SplicesAll-items, SplicesShort-items, SplicesAll-from, SplicesShort-from}
-use Rattle.allocator_api2.specs.Commands.{TakesAlone}
+use Rattle.allocator_api2.specs.Commands.{DoesOnMain}
 use Rattle.allocator_api2.specs.declared.runner.Command.TheVariants.{Splice}
 use Rattle.allocator_api2.specs.declared.runner.Reply.TheVariants.{Done, Refused}
 use Rattle.allocator_api2.proofs.Spliced.{short-full}
@@ -26,7 +26,7 @@ module _ {T A : Type 0} (size : ℕ) (old : Vector T A) (start end : ℕ) (order
       subst (λ h. P h (end - start) (drop end old.items)) drains.head.items
       (subst (λ g. P (drain_head d) g (drop end old.items)) drains.range (subst (λ t. P (drain_head d) (range_len d) t) drains.tail p))
 
-  few : SplicesWithin (drain_vec d) (drain_head d) (drain_tail d) new → new.written ≤ old.written + (len new - (start + (len old - end)) + 2 * (len old - end))
+  few : SplicesWithin (drain_vec d) (drain_tail d) new → new.written ≤ old.written + (len new - (start + (len old - end)) + 2 * (len old - end))
   few w =
       omega (
         arith,
@@ -40,24 +40,24 @@ module _ {T A : Type 0} (size : ℕ) (old : Vector T A) (start end : ℕ) (order
         within,
       )
 
-  pub Spliced-done : SplicesByAll gives_item (TellsExactly items_lower) size iter (drain_vec d) (drain_head d) (range_len d) (drain_tail d) new
-      → SplicesWithin (drain_vec d) (drain_head d) (drain_tail d) new → TakesAlone size old (Splice start end items hint) Done new
+  pub Spliced-done : SplicesByAll gives_item (TellsExactly items_lower) size iter (drain_vec d) (range_len d) (drain_tail d) new
+      → SplicesWithin (drain_vec d) (drain_tail d) new → DoesOnMain size old (Splice start end items hint) Done new
   Spliced-done s w side =
       let xs : List T = items.items in
-      let by_items = subst (λ j. SplicesByAll gives_item (TellsExactly items_lower) size j (drain_vec d) (drain_head d) (range_len d) (drain_tail d) new) all s in
-      let lent = SplicesAll-items (record { items = xs; hint = hint }) size (drain_vec d) (drain_head d) (range_len d) (drain_tail d) new by_items places in
+      let by_items = subst (λ j. SplicesByAll gives_item (TellsExactly items_lower) size j (drain_vec d) (range_len d) (drain_tail d) new) all s in
+      let lent = SplicesAll-items (record { items = xs; hint = hint }) size (drain_vec d) (range_len d) (drain_tail d) new by_items places in
       let spliced = SplicesAll-from size (lower_by hint) drains.head.block (drain_head d) (range_len d) (drain_tail d) xs new lent in
       record {
         answers = record { in_range = (ordered, within); makes = record { side_stays = refl; main_does = of_range (λ h g t. SplicesAll size (lower_by hint) old h g t xs new) spliced } };
         writes = few w;
       }
 
-  pub Spliced-refused : {fails : Type 0} (kind : TryReserveError) → SplicesByFront gives_item (TellsExactly items_lower) size iter (drain_vec d) (drain_head d) (range_len d) (drain_tail d) fails kind new
-      → SplicesWithin (drain_vec d) (drain_head d) (drain_tail d) new → TakesAlone size old (Splice start end items hint) (Refused kind) new
+  pub Spliced-refused : {fails : Type 0} (kind : TryReserveError) → SplicesByFront gives_item (TellsExactly items_lower) size iter (drain_vec d) (range_len d) (drain_tail d) fails kind new
+      → SplicesWithin (drain_vec d) (drain_tail d) new → DoesOnMain size old (Splice start end items hint) (Refused kind) new
   Spliced-refused {fails = fails} kind s w side =
       let xs : List T = items.items in
-      let by_items = subst (λ j. SplicesByFront gives_item (TellsExactly items_lower) size j (drain_vec d) (drain_head d) (range_len d) (drain_tail d) fails kind new) all s in
-      let lent = SplicesShort-items (record { items = xs; hint = hint }) size (drain_vec d) (drain_head d) (range_len d) (drain_tail d) places kind new by_items in
+      let by_items = subst (λ j. SplicesByFront gives_item (TellsExactly items_lower) size j (drain_vec d) (range_len d) (drain_tail d) fails kind new) all s in
+      let lent = SplicesShort-items (record { items = xs; hint = hint }) size (drain_vec d) (range_len d) (drain_tail d) places kind new by_items in
       let spliced = SplicesShort-from size (lower_by hint) drains.head.block (drain_head d) (range_len d) (drain_tail d) xs kind new lent in
       let short = of_range (λ h g t. SplicesShort size (lower_by hint) old h g t xs ⊤ ⊤ kind new) spliced in
       record {

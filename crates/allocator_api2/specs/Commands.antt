@@ -9,28 +9,36 @@ use Rattle.allocator_api2.specs.Machine.{State, Calls, Answers, InRange, Step, T
 use Rattle.allocator_api2.specs.Run.{cost_by}
 
 module _ {T A : Type 0} (size : ℕ) where
-  -- a command that calls no closure is answered as the machine may answer it, and writes no more than it costs
-  pub record Takes (main side : Vector T A) (command : Command T A) (reply : Reply T) (main' side' : Vector T A) : Type 0 where
+  -- a command that calls no closure is answered as the machine may answer it, and writes no more
+  -- than it costs
+  pub record Does (main side : Vector T A) (command : Command T A) (reply : Reply T)
+      (main' side' : Vector T A) : Type 0 where
     pub answers : Answers size main side command reply main' side'
     pub writes : main'.written ≤ main.written + cost_by main side command [] reply main'
 
   -- the same of a command that touches main alone, whatever side is
-  abbrev pub TakesAlone : (main : Vector T A) → Command T A → Reply T → (main' : Vector T A) → Type 0
-  TakesAlone main command reply main' = (side : Vector T A) → Takes main side command reply main' side
+  abbrev pub DoesOnMain : (main : Vector T A) → Command T A → Reply T
+      → (main' : Vector T A) → Type 0
+  DoesOnMain main command reply main' =
+      (side : Vector T A) → Does main side command reply main' side
 
 module _ {T A K S : Type 0} (size : ℕ) (calls : Calls T A K S) where
   -- the machine may answer a command by this reply and become new, writing no more than it costs
-  pub record TakesStep (old : State T A K S) (command : Command T A) (reply : Reply T) (new : State T A K S) : Type 0 where
+  pub record DoesStep (old : State T A K S) (command : Command T A) (reply : Reply T)
+      (new : State T A K S) : Type 0 where
     pub answers : List Bool
     pub step : Step size calls old command answers reply new
-    pub writes : new.main.written ≤ old.main.written + cost_by old.main old.side command answers reply new.main
+    pub writes : new.main.written
+        ≤ old.main.written + cost_by old.main old.side command answers reply new.main
 
 module _ {T A K : Type 0} (size : ℕ) (Keeps : K → T → Bool → K → T → Type 0) where
-  -- elements of the range were taken out, and no more of main was written than stands behind the range's start then; or the closure was
-  -- not called
-  abbrev pub TakesChosen : (main side : Vector T A) → K → (start end count : ℕ) → Reply T → (main' side' : Vector T A) → K → Type 0
+  -- elements of the range were taken out, and no more of main was written than stands behind the
+  -- range's start then; or the closure was not called
+  abbrev pub TakesChosen : (main side : Vector T A) → K → (start end count : ℕ) → Reply T
+      → (main' side' : Vector T A) → K → Type 0
   TakesChosen main side keep start end count Done main' side' keep' =
-      InRange main (ExtractIf start end count) × TakesOut Keeps size main side start end count keep main' side' keep'
+      InRange main (ExtractIf start end count)
+      × TakesOut Keeps size main side start end count keep main' side' keep'
       × (main'.written ≤ main.written + (len main' - start))
   TakesChosen main side keep start end count reply main' side' keep' =
-      (keep' ≡ keep) × Takes size main side (ExtractIf start end count) reply main' side'
+      (keep' ≡ keep) × Does size main side (ExtractIf start end count) reply main' side'

@@ -8,12 +8,15 @@ use Rattle.aa_vec.specs.Vector.{Vector}
 module _ {T A X : Type 0} where
   -- of a vector is found what is found of the slice of its elements
   abbrev pub IsThatOfTheSlice : (Vector T A → X) → (Bor (List T) → X) → Type 0
-  IsThatOfTheSlice of_vector of_slice = (v : Vector T A) (s : Bor (List T)) → s.now ≡ v.items → of_vector v ≡ of_slice s
+  IsThatOfTheSlice of_vector of_slice =
+      (v : Vector T A) (s : Bor (List T)) → s.now ≡ v.items → of_vector v ≡ of_slice s
 
   -- of two vectors is found what is found of the slices of their elements
-  abbrev pub IsThatOfTheSlices : (Vector T A → Vector T A → X) → (Bor (List T) → Bor (List T) → X) → Type 0
+  abbrev pub IsThatOfTheSlices : (Vector T A → Vector T A → X) → (Bor (List T) → Bor (List T) → X)
+      → Type 0
   IsThatOfTheSlices of_vectors of_slices =
-      (v w : Vector T A) (s t : Bor (List T)) → s.now ≡ v.items → t.now ≡ w.items → of_vectors v w ≡ of_slices s t
+      (v w : Vector T A) (s t : Bor (List T)) → s.now ≡ v.items → t.now ≡ w.items
+      → of_vectors v w ≡ of_slices s t
 
 -- those are equal that are equal in order, and no others
 abbrev pub OrderAgrees : {X : Type 0} → (X → X → Bool) → (X → X → Ordering) → Type 0

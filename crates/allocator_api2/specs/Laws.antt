@@ -1,4 +1,5 @@
--- Laws that users of the vector rely on, over the steps of the list machine and over what the calls leave.
+-- Laws that users of the vector rely on, over the steps of the list machine and over what the calls
+-- leave.
 use Rattle.std.specs.Prelude.{◌≡◌, ℕ, ◌≤◌, Bool, false, List, [], ◌∷◌, length, ⊤}
 use Rattle.std.specs.List.{AllByRecursion}
 use Rattle.aa_raw.specs.declared.collections.Refused.{Refused}
@@ -10,20 +11,24 @@ use Rattle.allocator_api2.specs.declared.runner.Reply.{Reply}
 use Rattle.allocator_api2.specs.declared.runner.Reply.TheVariants.{Done}
 use Rattle.allocator_api2.specs.Machine.{Answers}
 
+-- the command was done
 abbrev pub IsDone : {T : Type 0} → Reply T → Type 0
 IsDone Done = ⊤
 IsDone reply = ⊥
 
 -- the elements are pushed within the capacity of main, one after the other, with these replies
-abbrev pub PushesWithin : {T A : Type 0} (size : ℕ) (main side : Vector T A) → List T → List (Reply T) → Type 0
+abbrev pub PushesWithin : {T A : Type 0} (size : ℕ) (main side : Vector T A) → List T
+    → List (Reply T) → Type 0
 PushesWithin size main side [] [] = ⊤
 PushesWithin {T} {A} size main side (x ∷ xs) (reply ∷ replies) =
-    (main' : Vector T A) × (side' : Vector T A) × Answers size main side (Within x) reply main' side'
+    (main' : Vector T A) × (side' : Vector T A)
+    × Answers size main side (Within x) reply main' side'
     × PushesWithin size main' side' xs replies
 PushesWithin size main side [] (reply ∷ replies) = ⊥
 PushesWithin size main side (x ∷ xs) [] = ⊥
 
--- after a reserve of k more that was done, the next k commands, all of them pushes within the capacity, are done
+-- after a reserve of k more that was done, the next k commands, all of them pushes within the
+-- capacity, are done
 abbrev pub ReserveHolds : (T A : Type 0) (size : ℕ) → Type 0
 ReserveHolds T A size =
     (k : ℕ) (main side main' side' : Vector T A) (xs : List T) (replies : List (Reply T))
@@ -44,21 +49,29 @@ CutIsJoined T A size =
 abbrev pub NeighboursDiffer : {T : Type 0} → (T → T → Bool) → List T → Type 0
 NeighboursDiffer eq [] = ⊤
 NeighboursDiffer eq (x ∷ []) = ⊤
-NeighboursDiffer eq (x ∷ y ∷ xs) = (eq x y ≡ false) × (eq y x ≡ false) × NeighboursDiffer eq (y ∷ xs)
+NeighboursDiffer eq (x ∷ y ∷ xs) =
+    (eq x y ≡ false) × (eq y x ≡ false) × NeighboursDiffer eq (y ∷ xs)
 
 -- each call of the closure tests for equality, and leaves both elements as they were
-abbrev pub TestsEquality : {T S : Type 0} → (T → T → Bool) → (S → T → T → Bool → S → T → T → Type 0) → Type 0
-TestsEquality {T} {S} eq Repeats = (s t : S) (x l y k : T) (answer : Bool) → Repeats s x l answer t y k → Equals eq tt x l answer tt y k
+abbrev pub TestsEquality : {T S : Type 0} → (T → T → Bool) → (S → T → T → Bool → S → T → T → Type 0)
+    → Type 0
+TestsEquality {T} {S} eq Repeats =
+    (s t : S) (x l y k : T) (answer : Bool) → Repeats s x l answer t y k
+    → Equals eq tt x l answer tt y k
 
 -- what is left without repeats, by a closure that tests for equality, has no two equal neighbours
-abbrev pub LeavesNoRepeats : {T S : Type 0} → (T → T → Bool) → (S → T → T → Bool → S → T → T → Type 0) → Type 0
+abbrev pub LeavesNoRepeats : {T S : Type 0} → (T → T → Bool)
+    → (S → T → T → Bool → S → T → T → Type 0) → Type 0
 LeavesNoRepeats {T} {S} eq Repeats =
     TestsEquality eq Repeats
-    → (s t : S) (xs left : List T) (answers : List Bool) → Deduplicated Repeats s xs answers t left → NeighboursDiffer eq left
+    → (s t : S) (xs left : List T) (answers : List Bool) → Deduplicated Repeats s xs answers t left
+    → NeighboursDiffer eq left
 
--- a list that becomes a boxed slice, and then a vector, is as it was; a vector that could not become one is handed back
+-- a list that becomes a boxed slice, and then a vector, is as it was; a vector that could not
+-- become one is handed back
 abbrev pub BoxingKeeps : (T A : Type 0) (size : ℕ) → Type 0
 BoxingKeeps T A size =
     (v : Vector T A)
-    → ((w : Vector T A) → IsUnboxed size (boxed v) w → (w.items ≡ v.items) × (w.capacity ≡ sized size (len v)))
+    → ((w : Vector T A) → IsUnboxed size (boxed v) w
+    → (w.items ≡ v.items) × (w.capacity ≡ sized size (len v)))
     × ((r : Refused (Vector T A)) → HandsBack size v r → r.source ≡ v)

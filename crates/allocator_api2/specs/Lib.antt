@@ -9,6 +9,8 @@ pub use Rattle.aa_raw.specs.Growth
 pub use Rattle.aa_raw.specs.Left
 pub use Rattle.aa_raw.specs.Places
 pub use Rattle.aa_raw.specs.Refusals
+pub use Rattle.aa_raw.specs.Room
+pub use Rattle.aa_raw.specs.TwoRuns
 pub use Rattle.aa_vec.specs.Arrays
 pub use Rattle.aa_vec.specs.Boxes
 pub use Rattle.aa_vec.specs.Choosing

@@ -8,7 +8,8 @@ use Rattle.aa_raw.specs.declared.collections.TryReserveError.{TryReserveError}
 use Rattle.aa_raw.specs.declared.collections.TryReserveErrorKind.TheVariants.{AllocError}
 use Rattle.aa_raw.specs.Refusals.{IsRefusedAt}
 use Rattle.aa_raw.specs.Growth.{usize_max}
-use Rattle.aa_vec.specs.Vector.{Vector, len, sized, HasRoom, LacksRoom, LacksExactRoom, GrowsTo, GrowsExactly, Shrinks, SameBlock, Holds, Writes, run_count}
+use Rattle.aa_vec.specs.Vector.{Vector, len, sized, HasRoom, LacksRoom, LacksExactRoom, GrowsTo, GrowsExactly, ShrinksTo, SameBlock, Holds, Writes, run_count}
+use Rattle.aa_vec.specs.Splits.{Splits}
 use Rattle.aa_vec.specs.Choosing.{Asked, AskedInOrder, EndsTrue, TakesMut, Retains, Deduplicates, answers_of, kept, passed_over}
 use Rattle.aa_vec.specs.Copies.{IsMade}
 use Rattle.aa_vec.specs.Extending.{ExtendsAll, ExtendsFull, lower_by}
@@ -25,6 +26,7 @@ pub record State (T A K S : Type 0) : Type 0 where
   pub keep : K
   pub same : S
 
+-- the state of these two vectors and closures
 abbrev pub state_of : {T A K S : Type 0} → Vector T A → Vector T A → K → S → State T A K S
 state_of main side keep same = record { main = main; side = side; keep = keep; same = same }
 
@@ -32,28 +34,24 @@ state_of main side keep same = record { main = main; side = side; keep = keep; s
 abbrev pub ends_of : (m front back : ℕ) → ℕ × ℕ
 ends_of m front back = let f = min front m in (f, min back (m - f))
 
--- what is given where so many are taken from the ends of a range: those from the front in order, and those from the back, the last first
+-- what is given where so many are taken from the ends of a range: those from the front in order,
+-- and those from the back, the last first
 abbrev pub given_of : {T : Type 0} → List T → (start end : ℕ) → (taken : ℕ × ℕ) → List T
 given_of xs start end taken =
-    let middle = slice_range xs start end in take taken.0 middle ++ reverse (drop (end - start - taken.1) middle)
+    let middle = slice_range xs start end in
+    take taken.0 middle ++ reverse (drop (end - start - taken.1) middle)
 
 -- and what is left of the list, where the others of the range stay or go
-abbrev pub left_of : {T : Type 0} → List T → (start end : ℕ) → (taken : ℕ × ℕ) → (keep : Bool) → List T
+abbrev pub left_of : {T : Type 0}
+    → List T → (start end : ℕ) → (taken : ℕ × ℕ) → (keep : Bool) → List T
 left_of xs start end taken keep =
     let middle = slice_range xs start end in
-    take start xs ++ ((if keep then slice_range middle taken.0 (end - start - taken.1) else []) ++ drop end xs)
+    let others = if keep then slice_range middle taken.0 (end - start - taken.1) else [] in
+    take start xs ++ (others ++ drop end xs)
 
--- a vector was cut. The first `at` elements stay in its block, and the others were moved into one with room for no more. Cut at 0 it
--- goes away with its block, and a new one of the same capacity stands in its place
-pub record Splits {T A : Type 0} (size : ℕ) (old : Vector T A) (at : ℕ) (head tail : Vector T A) : Type 0 where
-  pub head_stays : 0 < at → Holds old (take at old.items) head × Writes old 0 0 head
-  pub tail_made : 0 < at → IsMade size (len old - at) old.growth (drop at old.items) (run_count (len old - at)) tail
-  pub tail_all : at ≡ 0 → tail ≡ old
-  pub head_made : at ≡ 0 → IsMade size old.capacity old.growth [] 0 head
-
--- n items in place of the range of v, of which `lower` tells how many are to come, need no memory: nothing is behind the range, and they
--- fit behind what is before it; or fewer come than the range has; or no more are left, once they fill the gap, than are told, and what
--- is told fits
+-- n items in place of the range of v, of which `lower` tells how many are to come, need no memory:
+-- nothing is behind the range, and they fit behind what is before it; or fewer come than the range
+-- has; or no more are left, once they fill the gap, than are told, and what is told fits
 abbrev pub FitsRange : {T A : Type 0} → Vector T A → (start end n : ℕ) → (lower : ℕ → ℕ) → Type 0
 FitsRange v start end n lower =
     let left = n - (end - start) in
@@ -98,7 +96,8 @@ module _ {T A : Type 0} where
   Fits main side Clear = ⊤
   Fits main side (Reserve k) = HasRoom main k
   Fits main side (ReserveExact k) = HasRoom main k
-  Fits main side (ShrinkTo k) = (main.capacity ≤ max (len main) k) ⊎ (max (len main) k ≡ 0) ⊎ (main.capacity ≡ usize_max)
+  Fits main side (ShrinkTo k) =
+      (main.capacity ≤ max (len main) k) ⊎ (max (len main) k ≡ 0) ⊎ (main.capacity ≡ usize_max)
   Fits main side (SplitOff at) = ⊥
   Fits main side Append = HasRoom main (len side)
   Fits main side (Extend items hint) = HasRoom main (len items)
@@ -109,12 +108,13 @@ module _ {T A : Type 0} where
   Fits main side (Drain start end front back keep) =
       let taken = ends_of (end - start) front back in HasRoom side (taken.0 + taken.1)
   Fits main side (ExtractIf start end count) = HasRoom side (min count (end - start))
-  Fits main side (Splice start end items hint) = FitsRange main start end (len items) (lower_by hint)
+  Fits main side (Splice start end items hint) =
+      FitsRange main start end (len items) (lower_by hint)
 
   -- what a command does to main alone; side stays
-  pub record OnMain (side side' : Vector T A) (Does : Type 0) : Type 0 where
+  pub record OnMain (side side' : Vector T A) (Effect : Type 0) : Type 0 where
     pub side_stays : side' ≡ side
-    pub main_does : Does
+    pub main_does : Effect
 
   -- neither changes
   pub record Unchanged (main side main' side' : Vector T A) : Type 0 where
@@ -127,110 +127,139 @@ module _ {T A : Type 0} where
     pub emptied : Holds side [] side'
 
   -- what was taken out of the range of main is behind the elements of side
-  pub record MovesRange (size : ℕ) (main side : Vector T A) (start end : ℕ) (taken : ℕ × ℕ) (keep : Bool)
-      (main' side' : Vector T A) : Type 0 where
+  pub record MovesRange (size : ℕ) (main side : Vector T A) (start end : ℕ) (taken : ℕ × ℕ)
+      (keep : Bool) (main' side' : Vector T A) : Type 0 where
     pub leaves : Holds main (left_of main.items start end taken keep) main'
-    pub gives : GrowsTo size side (taken.0 + taken.1) (side.items ++ given_of main.items start end taken) side'
+    pub gives : GrowsTo size side (taken.0 + taken.1)
+        (side.items ++ given_of main.items start end taken) side'
 
-  -- of the range of main the first elements were asked of `keep`, in order. Those at which it answered true, so many at most, are behind
-  -- the elements of side; no other was asked after the last of them, and the others stay
-  pub record TakesOut {K : Type 0} (Keeps : K → T → Bool → K → T → Type 0) (size : ℕ) (main side : Vector T A) (start end count : ℕ)
-      (keep : K) (main' side' : Vector T A) (keep' : K) : Type 0 where
+  -- of the range of main the first elements were asked of `keep`, in order. Those at which it
+  -- answered true, so many at most, are behind the elements of side; no other was asked after the
+  -- last of them, and the others stay
+  pub record TakesOut {K : Type 0} (Keeps : K → T → Bool → K → T → Type 0) (size : ℕ)
+      (main side : Vector T A) (start end count : ℕ) (keep : K)
+      (main' side' : Vector T A) (keep' : K) : Type 0 where
     pub told : List (Asked T)
-    pub asked : AskedInOrder Keeps keep (take (length told) (slice_range main.items start end)) told keep'
+    pub asked : let first = take (length told) (slice_range main.items start end) in
+        AskedInOrder Keeps keep first told keep'
     pub enough : (length (kept told) ≡ min count (end - start)) × EndsTrue told
         ⊎ (length (kept told) < min count (end - start)) × (length told ≡ end - start)
-    pub leaves : Holds main (take start main.items ++ (passed_over told ++ drop (start + length told) main.items)) main'
+    pub leaves : let rest = drop (start + length told) main.items in
+        Holds main (take start main.items ++ (passed_over told ++ rest)) main'
     pub gives : GrowsTo size side (min count (end - start)) (side.items ++ kept told) side'
 
-  -- there was no room for k copies, and nothing has changed; or a clone of an element was refused, and the room for all stays
+  -- there was no room for k copies, and nothing has changed; or a clone of an element was refused,
+  -- and the room for all stays
   abbrev pub LacksCopies : (size : ℕ) → Vector T A → (k : ℕ) → TryReserveError → Vector T A → Type 0
   LacksCopies size old k error new =
-      (LacksRoom size old k error × (new ≡ old)) ⊎ ((error.kind ≡ AllocError (len old + k)) × GrowsTo size old k old.items new)
+      (LacksRoom size old k error × (new ≡ old))
+      ⊎ ((error.kind ≡ AllocError (len old + k)) × GrowsTo size old k old.items new)
 
 -- elements have `size` bytes
 module _ {T A : Type 0} (size : ℕ) where
   -- what a command that is done makes of main, where it touches main alone, and its reply
-  abbrev pub MakesOfMain : (main : Vector T A) → Command T A → Reply T → (main' : Vector T A) → Type 0
+  abbrev pub MakesOfMain : (main : Vector T A) → Command T A → Reply T → (main' : Vector T A)
+      → Type 0
   MakesOfMain main (Push x) Done main' = GrowsTo size main 1 (main.items ++ x ∷ []) main'
-  MakesOfMain main (Within x) Done main' = (len main < main.capacity) × Holds main (main.items ++ x ∷ []) main'
+  MakesOfMain main (Within x) Done main' =
+      (len main < main.capacity) × Holds main (main.items ++ x ∷ []) main'
   MakesOfMain main (Within x) (Back y) main' = (len main ≡ main.capacity) × (y ≡ x) × (main' ≡ main)
   MakesOfMain main Pop (Item y) main' = (main.items ≡ main'.items ++ y ∷ []) × SameBlock main main'
   MakesOfMain main Pop Nothing main' = (main.items ≡ []) × (main' ≡ main)
   MakesOfMain main (Insert i x) Done main' = GrowsTo size main 1 (insert main.items i x) main'
-  MakesOfMain main (Remove i) (Item y) main' = (slice_get main.items i ≡ Some y) × Holds main (remove main.items i) main'
-  MakesOfMain main (SwapRemove i) (Item y) main' = (slice_get main.items i ≡ Some y) × Holds main (swap_remove main.items i y) main'
+  MakesOfMain main (Remove i) (Item y) main' =
+      (slice_get main.items i ≡ Some y) × Holds main (remove main.items i) main'
+  MakesOfMain main (SwapRemove i) (Item y) main' =
+      (slice_get main.items i ≡ Some y) × Holds main (swap_remove main.items i y) main'
   MakesOfMain main (Truncate n) Done main' = Holds main (take n main.items) main'
   MakesOfMain main Clear Done main' = Holds main [] main'
   MakesOfMain main (Reserve k) Done main' = GrowsTo size main k main.items main'
   MakesOfMain main (ReserveExact k) Done main' = GrowsExactly size main k main.items main'
-  MakesOfMain main (ShrinkTo k) Done main' = Shrinks main (min main.capacity (sized size (max (len main) k))) main'
-  MakesOfMain main (Extend items hint) Done main' = ExtendsAll size (lower_by hint) main main.items items.items main'
+  MakesOfMain main (ShrinkTo k) Done main' = ShrinksTo size main (max (len main) k) main'
+  MakesOfMain main (Extend items hint) Done main' =
+      ExtendsAll size (lower_by hint) main main.items items.items main'
   MakesOfMain main (ExtendFromWithin from to) Done main' =
       GrowsTo size main (to - from) (main.items ++ take (to - from) (drop from main.items)) main'
   MakesOfMain main (Resize n x) Done main' =
       GrowsTo size main (n - len main) (take n main.items ++ replicate (n - len main) x) main'
   MakesOfMain main (Splice start end items hint) Done main' =
-      SplicesAll size (lower_by hint) main (take start main.items) (end - start) (drop end main.items) items.items main'
+      SplicesAll size (lower_by hint) main (take start main.items) (end - start)
+      (drop end main.items) items.items main'
   -- no other reply is given
   MakesOfMain main command reply main' = ⊥
 
   -- what a command that is done makes of main and side, and its reply
-  abbrev pub Makes : (main side : Vector T A) → Command T A → Reply T → (main' side' : Vector T A) → Type 0
+  abbrev pub Makes : (main side : Vector T A) → Command T A → Reply T → (main' side' : Vector T A)
+      → Type 0
   Makes main side (SplitOff at) Done main' side' = Splits size main at main' side'
   Makes main side Append Done main' side' = Joins size main side main' side'
   Makes main side (Drain start end front back keep) Done main' side' =
       MovesRange size main side start end (ends_of (end - start) front back) keep main' side'
-  Makes main side command reply main' side' = OnMain side side' (MakesOfMain main command reply main')
+  Makes main side command reply main' side' =
+      OnMain side side' (MakesOfMain main command reply main')
 
   -- the error of a refusal, and what it leaves of main, where the command touches main alone
-  abbrev pub LeavesOfMain : (main : Vector T A) → Command T A → TryReserveError → (main' : Vector T A) → Type 0
+  abbrev pub LeavesOfMain : (main : Vector T A) → Command T A → TryReserveError
+      → (main' : Vector T A) → Type 0
   LeavesOfMain main (Push x) error main' = LacksRoom size main 1 error × (main' ≡ main)
   LeavesOfMain main (Insert i x) error main' = LacksRoom size main 1 error × (main' ≡ main)
   LeavesOfMain main (Reserve k) error main' = LacksRoom size main k error × (main' ≡ main)
   LeavesOfMain main (ReserveExact k) error main' = LacksExactRoom main k error × (main' ≡ main)
-  LeavesOfMain main (ShrinkTo k) error main' = (error.kind ≡ AllocError (max (len main) k)) × (main' ≡ main)
-  LeavesOfMain main (Extend items hint) error main' = ExtendsFull size (lower_by hint) main main.items items.items error main'
-  LeavesOfMain main (ExtendFromWithin from to) error main' = LacksCopies size main (to - from) error main'
+  LeavesOfMain main (ShrinkTo k) error main' =
+      (error.kind ≡ AllocError (max (len main) k)) × (main' ≡ main)
+  LeavesOfMain main (Extend items hint) error main' =
+      ExtendsFull size (lower_by hint) main main.items items.items error main'
+  LeavesOfMain main (ExtendFromWithin from to) error main' =
+      LacksCopies size main (to - from) error main'
   LeavesOfMain main (Resize n x) error main' = LacksCopies size main (n - len main) error main'
   LeavesOfMain main (Splice start end items hint) error main' =
       -- a clone of the allocator may be refused, and no other item is to come
-      SplicesShort size (lower_by hint) main (take start main.items) (end - start) (drop end main.items) items.items ⊤ ⊤ error main'
+      SplicesShort size (lower_by hint) main (take start main.items) (end - start)
+      (drop end main.items) items.items ⊤ ⊤ error main'
   -- no other command is refused
   LeavesOfMain main command error main' = ⊥
 
   -- the error of a refusal, and what it leaves of main and side
-  abbrev pub Leaves : (main side : Vector T A) → Command T A → TryReserveError → (main' side' : Vector T A) → Type 0
+  abbrev pub Leaves : (main side : Vector T A) → Command T A → TryReserveError
+      → (main' side' : Vector T A) → Type 0
   Leaves main side (SplitOff at) error main' side' =
-      IsRefusedAt error (if at == 0 then main.capacity else len main - at) × Unchanged main side main' side'
-  Leaves main side Append error main' side' = LacksRoom size main (len side) error × Unchanged main side main' side'
+      IsRefusedAt error (if at == 0 then main.capacity else len main - at)
+      × Unchanged main side main' side'
+  Leaves main side Append error main' side' =
+      LacksRoom size main (len side) error × Unchanged main side main' side'
   Leaves main side (Drain start end front back keep) error main' side' =
-      let taken = ends_of (end - start) front back in LacksRoom size side (taken.0 + taken.1) error × Unchanged main side main' side'
+      let taken = ends_of (end - start) front back in
+      LacksRoom size side (taken.0 + taken.1) error × Unchanged main side main' side'
   Leaves main side (ExtractIf start end count) error main' side' =
       LacksRoom size side (min count (end - start)) error × Unchanged main side main' side'
-  Leaves main side command error main' side' = OnMain side side' (LeavesOfMain main command error main')
+  Leaves main side command error main' side' =
+      OnMain side side' (LeavesOfMain main command error main')
 
   -- an index lies outside
-  pub record AnswersRange (main side : Vector T A) (command : Command T A) (main' side' : Vector T A) : Type 0 where
+  pub record AnswersRange (main side : Vector T A) (command : Command T A)
+      (main' side' : Vector T A) : Type 0 where
     pub outside : ¬ InRange main command
     pub stays : Unchanged main side main' side'
 
   -- memory or a clone was refused
-  pub record AnswersRefused (main side : Vector T A) (command : Command T A) (error : TryReserveError)
-      (main' side' : Vector T A) : Type 0 where
+  pub record AnswersRefused (main side : Vector T A) (command : Command T A)
+      (error : TryReserveError) (main' side' : Vector T A) : Type 0 where
     pub in_range : InRange main command
     pub misfits : ¬ Fits main side command
     pub leaves : Leaves main side command error main' side'
 
   -- the command was done
-  pub record AnswersDone (main side : Vector T A) (command : Command T A) (reply : Reply T) (main' side' : Vector T A) : Type 0 where
+  pub record AnswersDone (main side : Vector T A) (command : Command T A) (reply : Reply T)
+      (main' side' : Vector T A) : Type 0 where
     pub in_range : InRange main command
     pub makes : Makes main side command reply main' side'
 
   -- a command that calls no closure may be answered so, and leave this
-  abbrev pub Answers : (main side : Vector T A) → Command T A → Reply T → (main' side' : Vector T A) → Type 0
+  abbrev pub Answers : (main side : Vector T A) → Command T A → Reply T → (main' side' : Vector T A)
+      → Type 0
   Answers main side command Range main' side' = AnswersRange main side command main' side'
-  Answers main side command (Refused error) main' side' = AnswersRefused main side command error main' side'
+  Answers main side command (Refused error) main' side' =
+      AnswersRefused main side command error main' side'
   Answers main side command reply main' side' = AnswersDone main side command reply main' side'
 
 -- v has no more elements than places, and no more places than can be counted
@@ -243,9 +272,11 @@ pub record IsPossible {T A : Type 0} (main side : Vector T A) : Type 0 where
   pub main_possible : IsVector main
   pub side_possible : IsVector side
 
--- what the calls may do that a run makes of other code: of the two closures, and of the allocator's clone
+-- what the calls may do that a run makes of other code: of the two closures, and of the allocator's
+-- clone
 pub record Calls (T A K S : Type 0) : Type 1 where
-  -- one call of `keep`, from its state and an element: the answer, the next state, and the element as it was left
+  -- one call of `keep`, from its state and an element: the answer, the next state, and the element
+  -- as it was left
   pub keeps : K → T → Bool → K → T → Type 0
   -- one call of `same`, from its state and two elements
   pub repeats : S → T → T → Bool → S → T → T → Type 0
@@ -255,6 +286,7 @@ pub record Calls (T A K S : Type 0) : Type 1 where
   -- a clone of the allocator
   pub clones : A → A → Type 0
 
+-- the calls that these closures and this clone may make
 abbrev pub calls_of : {T A K S : Type 0} → (A → A → Type 0)
     → Mut K (MutBor T × Unit {0}) (Bool × (MutBor T × Unit {0}))
     → Mut S (MutBor T × (MutBor T × Unit {0})) (Bool × (MutBor T × (MutBor T × Unit {0})))
@@ -270,21 +302,23 @@ calls_of clones keep same =
 
 module _ {T A K S : Type 0} (size : ℕ) (calls : Calls T A K S) where
   -- no closure is called
-  pub record CallsNone (old : State T A K S) (command : Command T A) (answers : List Bool) (reply : Reply T)
-      (new : State T A K S) : Type 0 where
+  pub record CallsNone (old : State T A K S) (command : Command T A) (answers : List Bool)
+      (reply : Reply T) (new : State T A K S) : Type 0 where
     pub none : answers ≡ []
     pub keep : new.keep ≡ old.keep
     pub same : new.same ≡ old.same
     pub lists : Answers size old.main old.side command reply new.main new.side
 
   -- and the allocator is cloned for the new block, where main is cut
-  pub record CallsClone (old : State T A K S) (at : ℕ) (answers : List Bool) (reply : Reply T) (new : State T A K S) : Type 0 where
+  pub record CallsClone (old : State T A K S) (at : ℕ) (answers : List Bool) (reply : Reply T)
+      (new : State T A K S) : Type 0 where
     pub cut : CallsNone old (SplitOff at) answers reply new
     pub tail_clone : reply ≡ Done → 0 < at → calls.clones old.main.alloc new.side.alloc
     pub head_clone : reply ≡ Done → at ≡ 0 → calls.clones old.main.alloc new.main.alloc
 
   -- `keep` is asked of the elements of main
-  pub record CallsKeep (old : State T A K S) (answers : List Bool) (reply : Reply T) (new : State T A K S) : Type 0 where
+  pub record CallsKeep (old : State T A K S) (answers : List Bool) (reply : Reply T)
+      (new : State T A K S) : Type 0 where
     pub done : reply ≡ Done
     pub side : new.side ≡ old.side
     pub same : new.same ≡ old.same
@@ -292,28 +326,37 @@ module _ {T A K S : Type 0} (size : ℕ) (calls : Calls T A K S) where
     pub asked : answers ≡ answers_of retains.told
 
   -- `same` is asked of them
-  pub record CallsSame (old : State T A K S) (answers : List Bool) (reply : Reply T) (new : State T A K S) : Type 0 where
+  pub record CallsSame (old : State T A K S) (answers : List Bool) (reply : Reply T)
+      (new : State T A K S) : Type 0 where
     pub done : reply ≡ Done
     pub side : new.side ≡ old.side
     pub keep : new.keep ≡ old.keep
     pub removes : Deduplicates calls.repeats old.same old.main new.same new.main
     pub asked : answers ≡ removes.answers
 
-  -- `keep` is asked of elements of a range, and no closure is called where the reply is another
-  pub record CallsExtract (old : State T A K S) (start end count : ℕ) (answers : List Bool) (new : State T A K S) : Type 0 where
+  -- `keep` is asked of elements of a range
+  pub record CallsExtract (old : State T A K S) (start end count : ℕ) (answers : List Bool)
+      (new : State T A K S) : Type 0 where
     pub in_range : InRange old.main (ExtractIf start end count)
     pub same : new.same ≡ old.same
-    pub takes : TakesOut calls.keeps size old.main old.side start end count old.keep new.main new.side new.keep
+    pub takes : TakesOut calls.keeps size old.main old.side start end count
+        old.keep new.main new.side new.keep
     pub asked : answers ≡ answers_of takes.told
 
-  abbrev pub CallsChosen : State T A K S → (start end count : ℕ) → (answers : List Bool) → Reply T → State T A K S → Type 0
+  -- `ExtractIf` asks `keep` where it is done, and else no closure
+  abbrev pub CallsChosen : State T A K S → (start end count : ℕ) → (answers : List Bool) → Reply T
+      → State T A K S → Type 0
   CallsChosen old start end count answers Done new = CallsExtract old start end count answers new
-  CallsChosen old start end count answers reply new = CallsNone old (ExtractIf start end count) answers reply new
+  CallsChosen old start end count answers reply new =
+      CallsNone old (ExtractIf start end count) answers reply new
 
-  -- old may answer the command by this reply, where closures that it calls answer so, and become new
-  abbrev pub Step : State T A K S → Command T A → (answers : List Bool) → Reply T → State T A K S → Type 0
+  -- old may answer the command by this reply, where closures that it calls answer so, and become
+  -- new
+  abbrev pub Step : State T A K S → Command T A → (answers : List Bool) → Reply T → State T A K S
+      → Type 0
   Step old (SplitOff at) answers reply new = CallsClone old at answers reply new
   Step old Retain answers reply new = CallsKeep old answers reply new
   Step old Dedup answers reply new = CallsSame old answers reply new
-  Step old (ExtractIf start end count) answers reply new = CallsChosen old start end count answers reply new
+  Step old (ExtractIf start end count) answers reply new =
+      CallsChosen old start end count answers reply new
   Step old command answers reply new = CallsNone old command answers reply new

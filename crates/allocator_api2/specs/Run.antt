@@ -57,7 +57,8 @@ module _ {T A : Type 0} where
   AddsOneAtMost (Extend items hint) = ⊥
   AddsOneAtMost command = AddsOrRemoves command
 
-  -- how many elements a command added to main. A command that may make room for more than it adds counts for nothing
+  -- how many elements a command added to main. A command that may make room for more than it adds
+  -- counts for nothing
   abbrev pub added_by : (main side : Vector T A) → Command T A → Reply T → (main' : Vector T A) → ℕ
   added_by main side (Push x) reply main' = if_done reply 1
   added_by main side (Within x) reply main' = if_done reply 1
@@ -102,11 +103,15 @@ module _ {T A : Type 0} where
   cost_of main side Retain answers main' = kept_behind_removed answers
   cost_of main side Dedup answers main' = kept_behind_removed (map not answers)
   cost_of main side (Drain start end front back keep) answers main' =
-      let taken = ends_of (end - start) front back in len main - end + (if keep then end - start - taken.0 - taken.1 else 0)
+      let taken = ends_of (end - start) front back in
+      len main - end + (if keep then end - start - taken.0 - taken.1 else 0)
   cost_of main side (ExtractIf start end count) answers main' = len main' - start
-  cost_of main side (Splice start end items hint) answers main' = len main' - (start + (len main - end)) + 2 * (len main - end)
+  cost_of main side (Splice start end items hint) answers main' =
+      len main' - (start + (len main - end)) + 2 * (len main - end)
 
-  abbrev pub cost_by : (main side : Vector T A) → Command T A → List Bool → Reply T → (main' : Vector T A) → ℕ
+  -- the same, by its reply: none where it was not done
+  abbrev pub cost_by : (main side : Vector T A) → Command T A → List Bool → Reply T
+      → (main' : Vector T A) → ℕ
   cost_by main side command answers Range main' = 0
   cost_by main side command answers (Back x) main' = 0
   cost_by main side command answers reply main' = cost_of main side command answers main'
@@ -120,9 +125,11 @@ pub record Turn (T A K S : Type 0) : Type 0 where
   pub after : State T A K S
 
 module _ {T A K S : Type 0} where
+  -- how many elements the turn added to main
   abbrev pub added : Turn T A K S → ℕ
   added t = added_by t.before.main t.before.side t.command t.reply t.after.main
 
+  -- how many elements of main the turn may write
   abbrev pub cost : Turn T A K S → ℕ
   cost t = cost_by t.before.main t.before.side t.command t.answers t.reply t.after.main
 
@@ -144,7 +151,8 @@ module _ {T A K S : Type 0} (size : ℕ) (calls : Calls T A K S) where
   IsRun old (t ∷ ts) new = (t.before ≡ old) × IsTurn t × IsRun t.after ts new
 
   -- from old, the machine may give these replies to these commands, and then is new
-  pub record RunsTo (old : State T A K S) (commands : List (Command T A)) (replies : List (Reply T)) (new : State T A K S) : Type 0 where
+  pub record RunsTo (old : State T A K S) (commands : List (Command T A)) (replies : List (Reply T))
+      (new : State T A K S) : Type 0 where
     pub possible : IsPossible old.main old.side
     pub turns : List (Turn T A K S)
     pub run : IsRun old turns new
@@ -158,16 +166,17 @@ abbrev pub moves_each : Growth → ℕ
 moves_each Doubling = 2
 moves_each Sparing = 3
 
-module _ {T A K S : Type 0} (old : State T A K S) (commands : List (Command T A)) (turns : List (Turn T A K S)) (new : State T A K S) where
-  -- where main began empty and the commands only add or remove, growth moved two elements at most for each one added, or three if
-  -- sparing
+module _ {T A K S : Type 0} (old : State T A K S) (commands : List (Command T A))
+    (turns : List (Turn T A K S)) (new : State T A K S) where
+  -- where main began empty and the commands only add or remove, growth moved two elements at most
+  -- for each one added, or three if sparing
   abbrev pub GrowthBound : Type 0
   GrowthBound =
       old.main.items ≡ [] → AllByRecursion AddsOrRemoves commands
       → new.main.grown ≤ old.main.grown + moves_each old.main.growth * sum_by added turns
 
-  -- from a vector without places, where the commands tell no hint, main has at most 8 places or twice its greatest length at the end,
-  -- whichever way it grows
+  -- from a vector without places, where the commands tell no hint, main has at most 8 places or
+  -- twice its greatest length at the end, whichever way it grows
   abbrev pub CapacityBound : Type 0
   CapacityBound =
       old.main.items ≡ [] → old.main.capacity ≡ 0 → AllByRecursion IsUnhinted commands
@@ -177,7 +186,8 @@ module _ {T A K S : Type 0} (old : State T A K S) (commands : List (Command T A)
   abbrev pub WriteBound : Type 0
   WriteBound = new.main.written ≤ old.main.written + sum_by cost turns
 
-module _ {T A K S : Type 0} (size : ℕ) (calls : Calls T A K S) (old : State T A K S) (commands : List (Command T A)) where
+module _ {T A K S : Type 0} (size : ℕ) (calls : Calls T A K S) (old : State T A K S)
+    (commands : List (Command T A)) where
   -- a run, and what is proved of it
   pub record RunsWithin (replies : List (Reply T)) (new : State T A K S) : Type 0 where
     pub run : RunsTo size calls old commands replies new
@@ -191,7 +201,8 @@ module _ {T A K S : Type 0} (size : ℕ) (calls : Calls T A K S) where
   abbrev pub MayCall : State T A K S → Command T A → Type 0
   MayCall s Retain = IsCallableInOrder calls.keeps calls.takes_keep s.keep s.main.items
   MayCall s Dedup = IsCallableAlong calls.repeats calls.takes_same s.same s.main.items
-  MayCall s (ExtractIf start end count) = IsCallableInOrder calls.keeps calls.takes_keep s.keep (slice_range s.main.items start end)
+  MayCall s (ExtractIf start end count) =
+      IsCallableInOrder calls.keeps calls.takes_keep s.keep (slice_range s.main.items start end)
   MayCall s command = ⊤
 
   -- and after whatever step the machine takes, as the commands behind it call them
@@ -200,7 +211,9 @@ module _ {T A K S : Type 0} (size : ℕ) (calls : Calls T A K S) where
   MayRun s (command ∷ commands) =
       MayCall s command
       × ((answers : List Bool) (reply : Reply T) (next : State T A K S)
-      → Step size calls s command answers reply next → IsPossible next.main next.side → MayRun next commands)
+      → Step size calls s command answers reply next → IsPossible next.main next.side
+      → MayRun next commands)
 
+  -- the closures may be called as these commands call them, from a possible state on
   pub record IsCallableOnRuns (s : State T A K S) (commands : List (Command T A)) : Type 0 where
     pub along : IsPossible s.main s.side → MayRun s commands

@@ -5,7 +5,8 @@ use Rattle.aa_raw.specs.declared.collections.TryReserveErrorKind.TheVariants.{Ca
 use Rattle.aa_raw.specs.Growth.{usize_max}
 use Rattle.aa_raw.specs.Refusals.{IsRefusedAt}
 
--- a new vector of `count` elements of `size` bytes was refused: there are some, and they have a size or are too many to count
+-- a new vector of `count` elements of `size` bytes was refused: there are some, and they have a
+-- size or are too many to count
 pub record RefusesCopies (size count : ℕ) (error : TryReserveError) : Type 0 where
   pub some : 0 < count
   pub number : IsRefusedAt error count

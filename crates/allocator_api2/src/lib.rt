@@ -1,5 +1,6 @@
-//! allocator-api2 in Rattle: the vector and the box that take an allocator, proved. The modules have the original's paths; `gap_buffer` is this
-//! project's own; `runner` runs lists of commands on two vectors, and its contract is the library's main theorem.
+//! allocator-api2 in Rattle: the vector and the box that take an allocator, proved. The modules
+//! have the original's paths; `gap_buffer` is this project's own; `runner` runs lists of commands
+//! on two vectors, and its contract is the library's main theorem.
 #![tactic(auto)]
 
 pub use aa_boxed::boxed;

@@ -3,7 +3,7 @@ ghost use Rattle.std.specs.Prelude.{reverse, ◌≡◌, List, [], ◌∷◌, ◌
 ghost use Rattle.std.specs.Mem.{type_size};
 ghost use Rattle.aa_vec.specs.Copies.{Copies};
 ghost use Rattle.aa_vec.specs.Vector.{HasRoom, Holds, SameBlock};
-ghost use Rattle.allocator_api2.specs.Commands.{TakesStep};
+ghost use Rattle.allocator_api2.specs.Commands.{DoesStep};
 ghost use Rattle.allocator_api2.specs.Machine.{state_of, calls_of, IsPossible};
 ghost use Rattle.allocator_api2.specs.Run.{RunsWithin, MayCall, IsCallableOnRuns};
 
@@ -40,11 +40,13 @@ pub enum Command<T, A: Allocator = Global> {
     ReserveExact(usize),
     /// Gives back all but so many places, or as many as there are elements.
     ShrinkTo(usize),
-    /// Cuts the list at an index, which is at most the length; the elements from there on replace those of side.
+    /// Cuts the list at an index, which is at most the length; the elements from there on replace
+    /// those of side.
     SplitOff(usize),
     /// Moves all elements of side behind the last one.
     Append,
-    /// Puts items behind the last one, which are told to be so many, true or not, or as many as they are.
+    /// Puts items behind the last one, which are told to be so many, true or not, or as many as
+    /// they are.
     Extend {
         /// The items, in order.
         items: Vec<T, A>,
@@ -53,14 +55,16 @@ pub enum Command<T, A: Allocator = Global> {
     },
     /// Puts clones of the elements from one index to before another behind the last one.
     ExtendFromWithin(usize, usize),
-    /// Cuts the list to so many elements, or fills it up to that many with clones of an element, and it last.
+    /// Cuts the list to so many elements, or fills it up to that many with clones of an element,
+    /// and it last.
     Resize(usize, T),
     /// Asks `keep` of each element once, in order, and drops those at which it answers false.
     Retain,
-    /// Asks `same` of each element but the first beside the last one kept before it, and drops it where the answer is true.
+    /// Asks `same` of each element but the first beside the last one kept before it, and drops it
+    /// where the answer is true.
     Dedup,
-    /// Takes items out of a range, so many from the front and then so many from the back, and puts them behind the last element of
-    /// side, in the order in which they came.
+    /// Takes items out of a range, so many from the front and then so many from the back, and puts
+    /// them behind the last element of side, in the order in which they came.
     Drain {
         /// The index of the range's first element.
         start: usize,
@@ -73,8 +77,8 @@ pub enum Command<T, A: Allocator = Global> {
         /// Whether what is left of the range stays in main.
         keep: bool,
     },
-    /// Takes out of a range the elements at which `keep` answers true, so many at most, and puts them behind the last element of
-    /// side. No other is asked after the last of them.
+    /// Takes out of a range the elements at which `keep` answers true, so many at most, and puts
+    /// them behind the last element of side. No other is asked after the last of them.
     ExtractIf {
         /// The index of the range's first element.
         start: usize,
@@ -83,7 +87,8 @@ pub enum Command<T, A: Allocator = Global> {
         /// How many elements are taken at most.
         take: usize,
     },
-    /// Puts items in place of a range, which are told to be so many, true or not, or as many as they are.
+    /// Puts items in place of a range, which are told to be so many, true or not, or as many as
+    /// they are.
     Splice {
         /// The index of the range's first element.
         start: usize,
@@ -113,14 +118,16 @@ pub enum Reply<T> {
     Range,
 }
 
-/// Runs the commands in order on the two vectors, and puts a reply for each behind those in `replies`, which has room for them.
-/// `keep` is asked by `Retain` and `ExtractIf`, and `same` by `Dedup`; each goes on from the state that its last call left. It takes memory where a
-/// vector grows; a refused growth is the command's reply, and the next command goes on.
+/// Runs the commands in order on the two vectors, and puts a reply for each behind those in
+/// `replies`, which has room for them. `keep` is asked by `Retain` and `ExtractIf`, and `same` by
+/// `Dedup`; each goes on from the state that its last call left. It takes memory where a vector
+/// grows; a refused growth is the command's reply, and the next command goes on.
 ///
-/// **For every element type, allocator, pair of closures and list of commands, `run` leaves the two lists, capacities and replies
-/// of a run of the list machine, in which only a command that does not fit may be refused; and from an empty vector, adding n
-/// elements by pushes, inserts, appends and extensions, under any size hints, whatever is removed between, moves at most 2n
-/// elements by growth, or 3n if sparing.**
+/// **For every element type, allocator, pair of closures and list of commands, `run` leaves the two
+/// lists, capacities and replies of a run of the list machine, in which only a command that does
+/// not fit may be refused; and from an empty vector, adding n elements by pushes, inserts, appends
+/// and extensions, under any size hints, whatever is removed between, moves at most 2n elements by
+/// growth, or 3n if sparing.**
 pub fn run<T, A, K, S>(
     main: &mut Vec<T, A>,
     side: &mut Vec<T, A>,
@@ -197,7 +204,7 @@ where
     requires copies { Copies T.is_clone }
     requires callable { MayCall (type_size T.row) (calls_of A.is_clone K.FnMut S.FnMut)
         (state_of main.old side.old keep.old same.old) command }
-    ensures { TakesStep (type_size T.row) (calls_of A.is_clone K.FnMut S.FnMut)
+    ensures { DoesStep (type_size T.row) (calls_of A.is_clone K.FnMut S.FnMut)
         (state_of main.old side.old keep.old same.old) command result
         (state_of main.new side.new keep.new same.new) }
 {

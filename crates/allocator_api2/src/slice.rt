@@ -2,7 +2,7 @@
 ghost use Rattle.std.specs.Prelude.{◌≡◌, ◌*◌, ◌<◌, ◌≤◌, ◌++◌, List, [], length, take, All, IfOk, IfErr};
 ghost use Rattle.std.specs.List.{repeat};
 ghost use Rattle.std.specs.Mem.{type_size};
-ghost use Rattle.aa_raw.specs.Refusals.{IsRefusedAt};
+ghost use Rattle.aa_raw.specs.Refusals.{RefusesClones};
 ghost use Rattle.aa_raw.specs.declared.raw_vec.Growth.TheVariants.{Doubling};
 ghost use Rattle.aa_vec.specs.Vector.{len, sized, HasRoom, Holds};
 ghost use Rattle.aa_vec.specs.Copies.{Copies, IsMade, IsMadeOf, IsMadeWithin, WritesAtMost};
@@ -12,65 +12,96 @@ use aa_raw::collections::{TryReserveError, TryReserveErrorKind};
 use aa_vec::vec::Vec;
 use std::alloc::{Allocator, Global};
 
-/// Vectors of this library made of a slice. It stands for the original's `SliceExt`, for `&[T]`. Each call has a second name, with
-/// a 2 at its end, for where a call by dot would be one of the toolchain's.
+/// Vectors of this library made of a slice. It stands for the original's `SliceExt`, for `&[T]`.
+/// Each call has a second name, with a 2 at its end, for where a call by dot would be one of the
+/// toolchain's.
 pub trait SliceExt<T> {
     /// The elements of the slice.
     ghost elements: { Self → List T };
 
-    /// A vector of a clone of each element on the global allocator, with room for no more; it is refused as `to_vec_in2` is. It
-    /// stands for `SliceExt::to_vec`, which aborts on a refusal.
+    /// A vector of a clone of each element on the global allocator, with room for no more; it is
+    /// refused as `to_vec_in2` is. It stands for `SliceExt::to_vec`, which aborts on a refusal.
     fn to_vec(&self, alloc: Global) -> Result<Vec<T, Global>, TryReserveError>
     where
         T: Clone,
-        ensures made { IfOk result (λ v. IsMadeOf T.is_clone (type_size T.row) Doubling (elements self.now) v × (v.alloc ≡ alloc)) }
-        ensures copied { Copies T.is_clone → IfOk result (λ v. IsMade (type_size T.row) (length (elements self.now)) Doubling (elements self.now) (length (elements self.now)) v) }
-        ensures refused { IfErr result (λ e. (All T.is_infallible (elements self.now) → (0 < length (elements self.now)) × (0 < type_size T.row)) × IsRefusedAt e (length (elements self.now))) };
+        ensures made { let xs = elements self.now in
+            IfOk result (λ v. IsMadeOf T.is_clone (type_size T.row) Doubling xs v) }
+        ensures alloc { IfOk result (λ v. v.alloc ≡ alloc) }
+        ensures copied { let xs = elements self.now in
+            Copies T.is_clone
+            → IfOk result (IsMade (type_size T.row) (length xs) Doubling xs (length xs)) }
+        ensures refused { let xs = elements self.now in
+            IfErr result (RefusesClones (All T.is_infallible xs) (length xs) (type_size T.row)) };
 
     /// The same as `to_vec`. It stands for `SliceExt::to_vec2`.
     fn to_vec2(&self, alloc: Global) -> Result<Vec<T, Global>, TryReserveError>
     where
         T: Clone,
-        ensures made { IfOk result (λ v. IsMadeOf T.is_clone (type_size T.row) Doubling (elements self.now) v × (v.alloc ≡ alloc)) }
-        ensures copied { Copies T.is_clone → IfOk result (λ v. IsMade (type_size T.row) (length (elements self.now)) Doubling (elements self.now) (length (elements self.now)) v) }
-        ensures refused { IfErr result (λ e. (All T.is_infallible (elements self.now) → (0 < length (elements self.now)) × (0 < type_size T.row)) × IsRefusedAt e (length (elements self.now))) };
+        ensures made { let xs = elements self.now in
+            IfOk result (λ v. IsMadeOf T.is_clone (type_size T.row) Doubling xs v) }
+        ensures alloc { IfOk result (λ v. v.alloc ≡ alloc) }
+        ensures copied { let xs = elements self.now in
+            Copies T.is_clone
+            → IfOk result (IsMade (type_size T.row) (length xs) Doubling xs (length xs)) }
+        ensures refused { let xs = elements self.now in
+            IfErr result (RefusesClones (All T.is_infallible xs) (length xs) (type_size T.row)) };
 
     /// The same as `to_vec_in2`. It stands for `SliceExt::to_vec_in`, which aborts on a refusal.
     fn to_vec_in<A: Allocator>(&self, alloc: A) -> Result<Vec<T, A>, TryReserveError>
     where
         T: Clone,
-        ensures made { IfOk result (λ v. IsMadeOf T.is_clone (type_size T.row) Doubling (elements self.now) v × (v.alloc ≡ alloc)) }
-        ensures copied { Copies T.is_clone → IfOk result (λ v. IsMade (type_size T.row) (length (elements self.now)) Doubling (elements self.now) (length (elements self.now)) v) }
-        ensures refused { IfErr result (λ e. (All T.is_infallible (elements self.now) → (0 < length (elements self.now)) × (0 < type_size T.row)) × IsRefusedAt e (length (elements self.now))) };
+        ensures made { let xs = elements self.now in
+            IfOk result (λ v. IsMadeOf T.is_clone (type_size T.row) Doubling xs v) }
+        ensures alloc { IfOk result (λ v. v.alloc ≡ alloc) }
+        ensures copied { let xs = elements self.now in
+            Copies T.is_clone
+            → IfOk result (IsMade (type_size T.row) (length xs) Doubling xs (length xs)) }
+        ensures refused { let xs = elements self.now in
+            IfErr result (RefusesClones (All T.is_infallible xs) (length xs) (type_size T.row)) };
 
-    /// A vector of a clone of each element, with room for no more. It takes memory before the first clone, where there are
-    /// elements and they have a size. Where that or a clone is refused, nothing is made: `AllocError` with the number of
-    /// elements, or `CapacityOverflow`. It stands for `SliceExt::to_vec_in2`, which aborts on a refusal.
+    /// A vector of a clone of each element, with room for no more. It takes memory before the first
+    /// clone, where there are elements and they have a size. Where that or a clone is refused,
+    /// nothing is made: `AllocError` with the number of elements, or `CapacityOverflow`. It stands
+    /// for `SliceExt::to_vec_in2`, which aborts on a refusal.
     fn to_vec_in2<A: Allocator>(&self, alloc: A) -> Result<Vec<T, A>, TryReserveError>
     where
         T: Clone,
-        ensures made { IfOk result (λ v. IsMadeOf T.is_clone (type_size T.row) Doubling (elements self.now) v × (v.alloc ≡ alloc)) }
-        ensures copied { Copies T.is_clone → IfOk result (λ v. IsMade (type_size T.row) (length (elements self.now)) Doubling (elements self.now) (length (elements self.now)) v) }
-        ensures refused { IfErr result (λ e. (All T.is_infallible (elements self.now) → (0 < length (elements self.now)) × (0 < type_size T.row)) × IsRefusedAt e (length (elements self.now))) };
+        ensures made { let xs = elements self.now in
+            IfOk result (λ v. IsMadeOf T.is_clone (type_size T.row) Doubling xs v) }
+        ensures alloc { IfOk result (λ v. v.alloc ≡ alloc) }
+        ensures copied { let xs = elements self.now in
+            Copies T.is_clone
+            → IfOk result (IsMade (type_size T.row) (length xs) Doubling xs (length xs)) }
+        ensures refused { let xs = elements self.now in
+            IfErr result (RefusesClones (All T.is_infallible xs) (length xs) (type_size T.row)) };
 
-    /// A vector of the elements `n` times over on the global allocator, in order, with room for no more. It takes memory where
-    /// there are elements to put and they have a size. A refusal is `CapacityOverflow` where their number passes `usize::MAX`
-    /// or their bytes pass `isize::MAX`, and else `AllocError` with their number. It stands for `SliceExt::repeat`, which aborts
-    /// on a refusal.
+    /// A vector of the elements `n` times over on the global allocator, in order, with room for no
+    /// more. It takes memory where there are elements to put and they have a size. A refusal is
+    /// `CapacityOverflow` where their number passes `usize::MAX` or their bytes pass `isize::MAX`,
+    /// and else `AllocError` with their number. It stands for `SliceExt::repeat`, which aborts on a
+    /// refusal.
     fn repeat(&self, alloc: Global, n: usize) -> Result<Vec<T, Global>, TryReserveError>
     where
         T: Repeat,
-        ensures made { IfOk result (λ v. IsMadeWithin (type_size T.row) Doubling (repeat n (elements self.now)) v × (v.alloc ≡ alloc)) }
-        ensures capacity { IfOk result (λ v. v.capacity ≡ sized (type_size T.row) (n * length (elements self.now))) }
-        ensures refused { IfErr result (λ e. RefusesCopies (type_size T.row) (n * length (elements self.now)) e) };
+        ensures made { IfOk result
+            (λ v. IsMadeWithin (type_size T.row) Doubling (repeat n (elements self.now)) v) }
+        ensures alloc { IfOk result (λ v. v.alloc ≡ alloc) }
+        ensures capacity { IfOk result
+            (λ v. v.capacity ≡ sized (type_size T.row) (n * length (elements self.now))) }
+        ensures refused { IfErr result
+            (RefusesCopies (type_size T.row) (n * length (elements self.now))) };
 
     /// The same as `repeat`. It stands for `SliceExt::repeat2`.
     fn repeat2(&self, alloc: Global, n: usize) -> Result<Vec<T, Global>, TryReserveError>
     where
         T: Repeat,
-        ensures made { IfOk result (λ v. IsMadeWithin (type_size T.row) Doubling (repeat n (elements self.now)) v × (v.alloc ≡ alloc)) }
-        ensures capacity { IfOk result (λ v. v.capacity ≡ sized (type_size T.row) (n * length (elements self.now))) }
-        ensures refused { IfErr result (λ e. RefusesCopies (type_size T.row) (n * length (elements self.now)) e) };
+        ensures made { IfOk result
+            (λ v. IsMadeWithin (type_size T.row) Doubling (repeat n (elements self.now)) v) }
+        ensures alloc { IfOk result (λ v. v.alloc ≡ alloc) }
+        ensures capacity { IfOk result
+            (λ v. v.capacity ≡ sized (type_size T.row) (n * length (elements self.now))) }
+        ensures refused { IfErr result
+            (RefusesCopies (type_size T.row) (n * length (elements self.now))) };
 }
 
 impl<T> SliceExt<T> for &[T] {
@@ -119,18 +150,23 @@ impl<T> SliceExt<T> for &[T] {
     }
 }
 
-/// What elements can be put into a vector many times over: all that are `Copy`. The original asks `Copy` itself.
+/// What elements can be put into a vector many times over: all that are `Copy`. The original asks
+/// `Copy` itself.
 pub trait Repeat: Sized {
-    /// A vector of the elements of `source` `n` times over, over any allocator; it is refused as `SliceExt::repeat` is. The
-    /// original has no such call.
+    /// A vector of the elements of `source` `n` times over, over any allocator; it is refused as
+    /// `SliceExt::repeat` is. The original has no such call.
     fn repeated<A: Allocator>(
         source: &[Self],
         n: usize,
         alloc: A,
     ) -> Result<Vec<Self, A>, TryReserveError>
-        ensures made { IfOk result (λ v. IsMadeWithin (type_size Self.row) Doubling (repeat n source.now) v × (v.alloc ≡ alloc)) }
-        ensures capacity { IfOk result (λ v. v.capacity ≡ sized (type_size Self.row) (n * length source.now)) }
-        ensures refused { IfErr result (λ e. RefusesCopies (type_size Self.row) (n * length source.now) e) };
+        ensures made { IfOk result
+            (λ v. IsMadeWithin (type_size Self.row) Doubling (repeat n source.now) v) }
+        ensures alloc { IfOk result (λ v. v.alloc ≡ alloc) }
+        ensures capacity { IfOk result
+            (λ v. v.capacity ≡ sized (type_size Self.row) (n * length source.now)) }
+        ensures refused { let count = n * length source.now in
+            IfErr result (RefusesCopies (type_size Self.row) count) };
 }
 
 impl<T: Copy> Repeat for T {
@@ -149,9 +185,12 @@ fn repeated<T: Copy, A: Allocator>(
     n: usize,
     alloc: A,
 ) -> Result<Vec<T, A>, TryReserveError>
-    ensures made { IfOk result (λ v. IsMadeWithin (type_size T.row) Doubling (repeat n source.now) v × (v.alloc ≡ alloc)) }
-    ensures capacity { IfOk result (λ v. v.capacity ≡ sized (type_size T.row) (n * length source.now)) }
-    ensures refused { IfErr result (λ e. RefusesCopies (type_size T.row) (n * length source.now) e) }
+    ensures made { IfOk result
+        (λ v. IsMadeWithin (type_size T.row) Doubling (repeat n source.now) v) }
+    ensures alloc { IfOk result (λ v. v.alloc ≡ alloc) }
+    ensures capacity { IfOk result
+        (λ v. v.capacity ≡ sized (type_size T.row) (n * length source.now)) }
+    ensures refused { IfErr result (RefusesCopies (type_size T.row) (n * length source.now)) }
 {
     let Some(count) = n.checked_mul(source.len()) else {
         return Err(TryReserveErrorKind::CapacityOverflow.into());
@@ -163,7 +202,8 @@ fn repeated<T: Copy, A: Allocator>(
     Ok(made)
 }
 
-// Puts the elements of `source` `n` times over into an empty vector that has room for them: once, and then what is there again.
+// Puts the elements of `source` `n` times over into an empty vector that has room for them: once,
+// and then what is there again.
 fn put_repeated<T: Copy, A: Allocator>(made: &mut Vec<T, A>, source: &[T], n: usize)
     requires some { 0 < n }
     requires empty { made.old.items ≡ [] }
@@ -204,7 +244,8 @@ fn put_copies<T: Copy, A: Allocator>(made: &mut Vec<T, A>, source: &[T])
     }
 }
 
-// Puts copies of its own first `count` elements behind the last one of a vector that has room for them.
+// Puts copies of its own first `count` elements behind the last one of a vector that has room for
+// them.
 fn put_again<T: Copy, A: Allocator>(made: &mut Vec<T, A>, count: usize)
     requires within { count ≤ len made.old }
     requires room { HasRoom made.old count }

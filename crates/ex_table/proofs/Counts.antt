@@ -1,12 +1,12 @@
 -- What slots hold, by counts: no look-ups yet.
 use Rattle.std.proofs.Common.{◌≡◌, ℕ, zero, suc, ◌+◌, ◌<◌, ◌≤◌, Bool, true, false, cond, List, [], ◌∷◌, ◌++◌, length, get_or, Some, None, refl, sym, ◌∙◌, ap, arith, inl, inr}
-use Rattle.std.specs.Prelude.{count_by, ◌==◌}
+use Rattle.std.specs.Prelude.{count_by}
 use Rattle.std.proofs.Math.ListN.{set}
 use Rattle.std.proofs.lemmas.List.Sums.{sum_by-cons, sum_by-set, sum_by-append, get_or-le-sum_by}
-use Rattle.std.proofs.lemmas.Bool.{both_ways, eqb-true, cases_Bool}
-use Rattle.std.specs.Ordering.{nat_cmp}
-use Rattle.std.specs.Cmp.{unsigned_tied}
-use Rattle.std.specs.FinMap.{find}
+use Rattle.std.proofs.lemmas.Bool.{both_ways, cases_Bool}
+use Rattle.std.specs.Cmp.{IsEquivalence}
+use Rattle.std.specs.Map.{set_value}
+use Rattle.ex_table.specs.Contents.{value, keys_like}
 use Rattle.ex_table.specs.declared.slots.Slot.{Slot}
 use Rattle.ex_table.specs.declared.slots.Slot.TheVariants.{Empty, Gone, Held}
 use Rattle.ex_table.specs.Slots.{is_key, is_empty, is_held, value_of, with_value, slot_at, entries_of, found}
@@ -36,74 +36,117 @@ module _ {X : Type 0} (p : X → Bool) where
       let one : bit (p (get_or xs i d)) ≡ 1 = ap bit e in
       omega (arith, one, get_or-le-sum_by (λ z. cond (p z) 1 0) xs i d h)
 
-module _ {V : Type 0} where
-  pub found-entries : (ss : List (Slot V)) (k : ℕ) → find nat_cmp k (entries_of ss) ≡ found ss k
+module _ {K V : Type 0} (eq : K → K → Bool) where
+  pub found-entries : (ss : List (Slot K V)) (k : K) → value eq (entries_of ss) k ≡ found eq ss k
   found-entries [] k = refl
   found-entries (Empty ∷ ss) k = found-entries ss k
   found-entries (Gone ∷ ss) k = found-entries ss k
-  found-entries (Held q v ∷ ss) k =
-      ap (λ b. cond b (Some v) (find nat_cmp k (entries_of ss))) (unsigned_tied k q) ∙ ap (cond (k == q) (Some v)) (found-entries ss k)
+  found-entries (Held q v ∷ ss) k = ap (cond (eq k q) (Some v)) (found-entries ss k)
 
-  pub length-entries : (ss : List (Slot V)) → length (entries_of ss) ≡ count_by is_held ss
+  pub keys-entries : (ss : List (Slot K V)) (k : K) → keys_like eq k (entries_of ss) ≡ count_by (is_key eq k) ss
+  keys-entries [] k = refl
+  keys-entries (Empty ∷ ss) k = omega (arith, keys-entries ss k, count-cons (is_key eq k) Empty ss)
+  keys-entries (Gone ∷ ss) k = omega (arith, keys-entries ss k, count-cons (is_key eq k) Gone ss)
+  keys-entries (Held q v ∷ ss) k = omega (arith, keys-entries ss k, count-cons (is_key eq k) (Held q v) ss, count-cons (λ (e : K × V). eq k e.0) (q, v) (entries_of ss))
+
+  pub length-entries : (ss : List (Slot K V)) → length (entries_of ss) ≡ count_by is_held ss
   length-entries [] = refl
   length-entries (Empty ∷ ss) = omega (arith, length-entries ss, count-cons is_held Empty ss)
   length-entries (Gone ∷ ss) = omega (arith, length-entries ss, count-cons is_held Gone ss)
   length-entries (Held q v ∷ ss) = omega (arith, length-entries ss, count-cons is_held (Held q v) ss)
 
-  pub found-absent : (ss : List (Slot V)) (k : ℕ) → count_by (is_key k) ss ≡ 0 → found ss k ≡ None
+  pub found-absent : (ss : List (Slot K V)) (k : K) → count_by (is_key eq k) ss ≡ 0 → found eq ss k ≡ None
   found-absent [] k e = refl
   found-absent (s ∷ ss) k e =
-      elim (is_key k s) as (λ b. cond b 1 0 + count_by (is_key k) ss ≡ 0 → cond b (value_of s) (found ss k) ≡ None) [
+      elim (is_key eq k s) as (λ b. cond b 1 0 + count_by (is_key eq k) ss ≡ 0 → cond b (value_of s) (found eq ss k) ≡ None) [
         | true ↦ λ h. absurd (omega (arith, h))
         | false ↦ λ h. found-absent ss k (omega (arith, h))
-      ] (sym (count-cons (is_key k) s ss) ∙ e)
+      ] (sym (count-cons (is_key eq k) s ss) ∙ e)
 
-  pub found-at : (ss : List (Slot V)) (k i : ℕ) → i < length ss → is_key k (slot_at ss i) ≡ true → count_by (is_key k) ss ≤ 1 → found ss k ≡ value_of (slot_at ss i)
+  pub found-at : (ss : List (Slot K V)) (k : K) (i : ℕ) → i < length ss → is_key eq k (slot_at ss i) ≡ true → count_by (is_key eq k) ss ≤ 1 → found eq ss k ≡ value_of (slot_at ss i)
   found-at [] k i h e c = absurd (omega arith)
-  found-at (s ∷ ss) k zero h e c = ap (λ b. cond b (value_of s) (found ss k)) e
+  found-at (s ∷ ss) k zero h e c = ap (λ b. cond b (value_of s) (found eq ss k)) e
   found-at (s ∷ ss) k (suc i) h e c =
       let lt : i < length ss = omega arith in
-      elim (is_key k s) as (λ b. cond b 1 0 + count_by (is_key k) ss ≤ 1 → cond b (value_of s) (found ss k) ≡ value_of (slot_at ss i)) [
-        | true ↦ λ g. absurd (omega (arith, g, count-some (is_key k) Empty ss i lt e))
+      elim (is_key eq k s) as (λ b. cond b 1 0 + count_by (is_key eq k) ss ≤ 1 → cond b (value_of s) (found eq ss k) ≡ value_of (slot_at ss i)) [
+        | true ↦ λ g. absurd (omega (arith, g, count-some (is_key eq k) Empty ss i lt e))
         | false ↦ λ g. found-at ss k i lt e (omega (arith, g))
-      ] (omega (arith, c, count-cons (is_key k) s ss))
+      ] (omega (arith, c, count-cons (is_key eq k) s ss))
 
-  pub found-set_other : (ss : List (Slot V)) (i : ℕ) (s : Slot V) (k : ℕ) → i < length ss → is_key k (slot_at ss i) ≡ false → is_key k s ≡ false → found (set ss i s) k ≡ found ss k
+  pub found-set_other : (ss : List (Slot K V)) (i : ℕ) (s : Slot K V) (k : K) → i < length ss → is_key eq k (slot_at ss i) ≡ false → is_key eq k s ≡ false → found eq (set ss i s) k ≡ found eq ss k
   found-set_other [] i s k h e f = absurd (omega arith)
-  found-set_other (t ∷ ss) zero s k h e f = ap (λ b. cond b (value_of s) (found ss k)) f ∙ sym (ap (λ b. cond b (value_of t) (found ss k)) e)
-  found-set_other (t ∷ ss) (suc i) s k h e f = ap (cond (is_key k t) (value_of t)) (found-set_other ss i s k (omega arith) e f)
+  found-set_other (t ∷ ss) zero s k h e f = ap (λ b. cond b (value_of s) (found eq ss k)) f ∙ sym (ap (λ b. cond b (value_of t) (found eq ss k)) e)
+  found-set_other (t ∷ ss) (suc i) s k h e f = ap (cond (is_key eq k t) (value_of t)) (found-set_other ss i s k (omega arith) e f)
 
-  pub found-append : (xs ys zs : List (Slot V)) (k : ℕ) → found ys k ≡ found zs k → found (xs ++ ys) k ≡ found (xs ++ zs) k
+  pub found-append : (xs ys zs : List (Slot K V)) (k : K) → found eq ys k ≡ found eq zs k → found eq (xs ++ ys) k ≡ found eq (xs ++ zs) k
   found-append [] ys zs k e = e
-  found-append (s ∷ xs) ys zs k e = ap (cond (is_key k s) (value_of s)) (found-append xs ys zs k e)
+  found-append (s ∷ xs) ys zs k e = ap (cond (is_key eq k s) (value_of s)) (found-append xs ys zs k e)
 
   -- an empty slot has no key and no value
-  pub empty-key : (s : Slot V) (k : ℕ) → is_empty s ≡ true → is_key k s ≡ false
+  pub empty-key : (s : Slot K V) (k : K) → is_empty s ≡ true → is_key eq k s ≡ false
   empty-key Empty k e = refl
   empty-key Gone k e = refl
   empty-key (Held q v) k e = cc
 
-  pub empty-held : (s : Slot V) → is_empty s ≡ true → is_held s ≡ false
+  pub empty-held : (s : Slot K V) → is_empty s ≡ true → is_held s ≡ false
   empty-held Empty e = refl
   empty-held Gone e = refl
   empty-held (Held q v) e = cc
 
-  pub key-held : (s : Slot V) (k : ℕ) → is_key k s ≡ true → (is_held s ≡ true) × (is_empty s ≡ false)
+  pub key-held : (s : Slot K V) (k : K) → is_key eq k s ≡ true → (is_held s ≡ true) × (is_empty s ≡ false)
   key-held Empty k e = absurd (let bad : false ≡ true = e in cc)
   key-held Gone k e = absurd (let bad : false ≡ true = e in cc)
   key-held (Held q v) k e = (refl, refl)
 
-  pub one-key : (s : Slot V) (q k : ℕ) → is_key q s ≡ true → is_key k s ≡ true → q ≡ k
-  one-key Empty q k e f = absurd (both_ways (is_key {V = V} q Empty) refl e)
-  one-key Gone q k e f = absurd (both_ways (is_key {V = V} q Gone) refl e)
-  one-key (Held p v) q k e f = eqb-true q p e ∙ sym (eqb-true k p f)
+  -- the slot of a key with another value still has it
+  pub record Rewritten (k : K) (w : V) (s : Slot K V) : Type 0 where
+    pub key : is_key eq k s ≡ true
+    pub full : is_empty s ≡ false
+    pub held : is_held s ≡ true
+    pub value : value_of s ≡ Some w
+
+  pub with_value-held : (s : Slot K V) (k : K) (w : V) → is_key eq k s ≡ true → Rewritten k w (with_value s w)
+  with_value-held Empty k w e = absurd (let bad : false ≡ true = e in cc)
+  with_value-held Gone k w e = absurd (let bad : false ≡ true = e in cc)
+  with_value-held (Held q v) k w e = record { key = e; full = refl; held = refl; value = refl }
+
+  -- the entries with another value for a key
+  pub entries-written : (ss : List (Slot K V)) (k : K) (i : ℕ) (s : Slot K V) (v : V) → i < length ss → is_key eq k (slot_at ss i) ≡ true → count_by (is_key eq k) ss ≤ 1 → s ≡ slot_at ss i
+      → entries_of (set ss i (with_value s v)) ≡ set_value (eq k) (entries_of ss) v
+  entries-written [] k i s v h e c is = absurd (omega arith)
+  entries-written (Empty ∷ ss) k zero s v h e c is = absurd (let bad : false ≡ true = e in cc)
+  entries-written (Gone ∷ ss) k zero s v h e c is = absurd (let bad : false ≡ true = e in cc)
+  entries-written (Held q w ∷ ss) k zero s v h e c is =
+      ap (λ t. entries_of (with_value t v ∷ ss)) is ∙ sym (ap (λ b. cond b ((q, v) ∷ entries_of ss) ((q, w) ∷ set_value (eq k) (entries_of ss) v)) e)
+  entries-written (Empty ∷ ss) k (suc i) s v h e c is = entries-written ss k i s v (omega arith) e (omega (arith, c, count-cons (is_key eq k) Empty ss)) is
+  entries-written (Gone ∷ ss) k (suc i) s v h e c is = entries-written ss k i s v (omega arith) e (omega (arith, c, count-cons (is_key eq k) Gone ss)) is
+  entries-written (Held q w ∷ ss) k (suc i) s v h e c is =
+      let lt : i < length ss = omega arith in
+      elim (eq k q) as (λ b. cond b 1 0 + count_by (is_key eq k) ss ≤ 1 → (q, w) ∷ entries_of (set ss i (with_value s v)) ≡ cond b ((q, v) ∷ entries_of ss) ((q, w) ∷ set_value (eq k) (entries_of ss) v)) [
+        | true ↦ λ g. absurd (omega (arith, g, count-some (is_key eq k) Empty ss i lt e))
+        | false ↦ λ g. ap (λ es. (q, w) ∷ es) (entries-written ss k i s v lt e (omega (arith, g)) is)
+      ] (omega (arith, c, count-cons (is_key eq k) (Held q w) ss))
 
   -- a key that is nowhere is not in this slot
-  pub key_unseen : (ss : List (Slot V)) (k i : ℕ) → i < length ss → count_by (is_key k) ss ≡ 0 → is_key k (slot_at ss i) ≡ false
-  key_unseen ss k i h none = elim (cases_Bool (is_key k (slot_at ss i))) [ inl t ↦ absurd (omega (arith, none, count-some (is_key k) Empty ss i h t)) | inr f ↦ f ]
+  pub key_unseen : (ss : List (Slot K V)) (k : K) (i : ℕ) → i < length ss → count_by (is_key eq k) ss ≡ 0 → is_key eq k (slot_at ss i) ≡ false
+  key_unseen ss k i h none = elim (cases_Bool (is_key eq k (slot_at ss i))) [ inl t ↦ absurd (omega (arith, none, count-some (is_key eq k) Empty ss i h t)) | inr f ↦ f ]
 
-  -- the slot of a key with another value
-  pub with_value-held : (s : Slot V) (k : ℕ) (w : V) → is_key k s ≡ true → with_value s w ≡ Held k w
-  with_value-held Empty k w e = absurd (both_ways (is_key {V = V} k Empty) refl e)
-  with_value-held Gone k w e = absurd (both_ways (is_key {V = V} k Gone) refl e)
-  with_value-held (Held q v) k w e = ap (λ m. Held m w) (sym (eqb-true k q e))
+  module _ (E : IsEquivalence eq) where
+    -- keys that are equal are in the same slots
+    pub alike : (q k : K) (s : Slot K V) → eq q k ≡ true → is_key eq q s ≡ is_key eq k s
+    alike q k Empty e = refl
+    alike q k Gone e = refl
+    alike q k (Held p v) e = E.congr q k p e
+
+    pub alike-count : (q k : K) (ss : List (Slot K V)) → eq q k ≡ true → count_by (is_key eq q) ss ≡ count_by (is_key eq k) ss
+    alike-count q k [] e = refl
+    alike-count q k (s ∷ ss) e = omega (arith, count-cons (is_key eq q) s ss, count-cons (is_key eq k) s ss, alike-count q k ss e, ap bit (alike q k s e))
+
+    pub alike-found : (q k : K) (ss : List (Slot K V)) → eq q k ≡ true → found eq ss q ≡ found eq ss k
+    alike-found q k [] e = refl
+    alike-found q k (s ∷ ss) e = ap (λ b. cond b (value_of s) (found eq ss q)) (alike q k s e) ∙ ap (cond (is_key eq k s) (value_of s)) (alike-found q k ss e)
+
+    pub one-key : (s : Slot K V) (q k : K) → is_key eq q s ≡ true → is_key eq k s ≡ true → eq q k ≡ true
+    one-key Empty q k e f = absurd (both_ways (is_key {K = K} {V = V} eq q Empty) refl e)
+    one-key Gone q k e f = absurd (both_ways (is_key {K = K} {V = V} eq q Gone) refl e)
+    one-key (Held p v) q k e f = let g : eq p k ≡ true = E.symm p k ∙ f in E.congr q p k e ∙ g

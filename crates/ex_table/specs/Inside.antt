@@ -1,16 +1,16 @@
 -- What a table is inside.
-use Rattle.std.specs.Prelude.{◌≡◌, ◌<◌, length, count_by}
-use Rattle.std.specs.FinMap.{from_entries}
-use Rattle.ex_table.specs.declared.table.Table.TheInside.{Inside}
+use Rattle.std.specs.Prelude.{◌≡◌, ℕ, ◌<◌, Bool, List, length, count_by}
+use Rattle.ex_table.specs.declared.slots.Slot.{Slot}
 use Rattle.ex_table.specs.Slots.{entries_of, is_empty, is_held, room_of, IsSound}
 use Rattle.ex_table.specs.Contents.{Filled}
 
-module _ {V A : Type 0} where
-  abbrev pub filled_of : Inside V A → Filled V
-  filled_of t = record { map = from_entries (entries_of t.slots.items); room = room_of t.slots.items }
+-- what the slots are to the table's users
+abbrev pub filled_in : {K V S : Type 0} → S → List (Slot K V) → Filled K V S
+filled_in b ss = record { entries = entries_of ss; room = room_of ss; builder = b }
 
-  pub record IsTable (t : Inside V A) : Type 0 where
-    pub sound : IsSound t.slots.items
-    pub len : t.len ≡ count_by is_held t.slots.items
-    pub empty : t.empty ≡ count_by is_empty t.slots.items
-    pub room : 0 < length t.slots.items → 0 < t.empty
+-- the slots are sound, and the table knows how many hold a key and how many are empty
+pub record IsTable {K V : Type 0} (eq : K → K → Bool) (h : K → ℕ) (ss : List (Slot K V)) (len empty : ℕ) : Type 0 where
+  pub sound : IsSound eq h ss
+  pub held : len ≡ count_by is_held ss
+  pub free : empty ≡ count_by is_empty ss
+  pub room : 0 < length ss → 0 < empty

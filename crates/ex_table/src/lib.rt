@@ -1,4 +1,4 @@
-//! A hash table over any allocator, on the vector of the library.
+//! A hash table generic in its keys, over any allocator that can be cloned, on the vector of the library.
 #![tactic(auto)]
 
 pub mod iter;

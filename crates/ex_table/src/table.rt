@@ -1,130 +1,167 @@
-//! The table: a finite map from numbers to values.
-ghost use Rattle.std.specs.Prelude.{◌≡◌, ◌+◌, ◌<◌, ◌≤◌, ℕ, None, Some, IfOk, IfErr, OnOk, OnErr, IsOk, option_copied, is_some, true, length, ◌==◌};
-ghost use Rattle.std.specs.FinMap as map;
+//! The table: a finite map from keys to values, by the keys' own equality.
+ghost use Rattle.std.specs.Prelude.{◌≡◌, ◌+◌, ◌<◌, ◌≤◌, [], None, Some, IfOk, IfErr, OnOk, OnErr, IsOk, option_copied, is_some, true, length, ◌==◌};
 ghost use Rattle.std.specs.Borrow.{sem};
 ghost use Rattle.std.specs.Option.{option_copied_mut};
-ghost use Rattle.ex_table.specs.Contents.{Filled};
+ghost use Rattle.ex_table.specs.Contents.{value, Sets, SameMap, IsMap};
 
 use crate::iter::Iter;
-use crate::slots::{Slot, find, make_room, put_new};
+use crate::slots::{Slot, clear_all, find, make_room, put_new};
 use allocator_api2::collections::{Refused, TryReserveError};
 use allocator_api2::vec::Vec;
 use std::alloc::Allocator;
+use std::hash::{BuildHasher, BuildHasherDefault, FoldHasher, Hash};
 use std::marker::Model;
 use std::mem;
 
-/// A hash table with numbers for keys. A contract sees it as a finite map, with the room for new keys.
-#[derive(Drop)]
-pub struct Table<V, A: Allocator> {
-    slots: Vec<Slot<V>, A>,
+/// A hash table. A contract sees its keys with their values, the room for new keys, and what makes the hashers.
+pub struct Table<K: Eq + Hash, V, S: BuildHasher, A: Allocator> {
+    slots: Vec<Slot<K, V>, A>,
+    builder: S,
     len: usize,
     empty: usize,
 }
 
-impl<V, A: Allocator> Model for Table<V, A> {
-    ghost use Rattle.ex_table.specs.Contents.{Filled, filled_code};
+impl<K: Eq + Hash, V, S: BuildHasher, A: Allocator> Model for Table<K, V, S, A> {
+    ghost use Rattle.ex_table.specs.Contents.{Filled};
 
-    ghost Value = { Filled V };
+    ghost Value = { Filled K V S };
 
-    ghost coded = { filled_code V.code };
+    ghost use Rattle.ex_table.specs.Slots.{hashes};
+    ghost use Rattle.ex_table.specs.Inside.{filled_in, IsTable};
 
-    ghost use Rattle.ex_table.specs.Inside.{filled_of, IsTable};
+    ghost view = { λ t. filled_in t.builder t.slots.items };
 
-    ghost view = { filled_of };
-
-    ghost invariant = { IsTable };
+    ghost invariant = { λ t. IsTable K.eq (hashes S.BuildHasher S.Hasher.Hasher K.hash_input t.builder)
+        t.slots.items t.len t.empty };
 }
 
-impl<V: Drop, A: Allocator + Copy> Table<V, A> {
+impl<K: Eq + Hash + Drop, V: Drop, S: BuildHasher + Drop, A: Allocator> Drop for Table<K, V, S, A> {
+    fn drop(self) {
+        let Table {
+            slots,
+            builder,
+            len: _,
+            empty: _,
+        } = self;
+        drop(slots);
+        drop(builder);
+    }
+}
+
+impl<K: Eq + Hash + Drop, V: Drop, A: Allocator + Clone> Table<
+    K,
+    V,
+    BuildHasherDefault<FoldHasher>,
+    A,
+> {
+    /// A table with no keys, by the toolchain's hasher. It takes no memory.
+    pub fn new_in(alloc: A) -> Self
+        ensures entries { result.entries ≡ [] }
+        ensures room { result.room ≡ 0 }
+    {
+        Table::with_hasher_in(BuildHasherDefault::new(), alloc)
+    }
+}
+
+impl<K: Eq + Hash + Drop, V: Drop, S: BuildHasher, A: Allocator + Clone> Table<K, V, S, A> {
     ghost use Rattle.ex_table.specs.Lends.{lends_value};
 
-    /// A table with no keys. It takes no memory.
-    pub fn new_in(alloc: A) -> Self
-        ensures { result ≡ record { map = map.empty; room = 0 } }
+    /// A table with no keys, whose hashers this builder makes. It takes no memory.
+    pub fn with_hasher_in(builder: S, alloc: A) -> Self
+        ensures { result ≡ record { entries = []; room = 0; builder = builder } }
     {
         Table {
             slots: Vec::new_in(alloc),
+            builder,
             len: 0,
             empty: 0,
         }
     }
 
-    /// How many keys there are.
+    /// How many keys there are. No key is there twice.
     pub fn len(&self) -> usize
-        ensures { result ≡ map.len self.now.map }
+        ensures len { result ≡ length self.now.entries }
+        ensures once { IsMap K.eq self.now.entries }
     {
         self.len
     }
 
     /// Whether there are no keys.
     pub fn is_empty(&self) -> bool
-        ensures { result ≡ (map.len self.now.map == 0) }
+        ensures { result ≡ (length self.now.entries == 0) }
     {
         self.len() == 0
     }
 
     /// The value of a key.
-    pub fn get(&self, key: u64) -> Option<&V>
-        ensures { option_copied result ≡ map.get self.now.map key }
+    #[inline]
+    pub fn get(&self, key: &K) -> Option<&V>
+        ensures { option_copied result ≡ value K.eq self.now.entries key.now }
     {
-        match find(self.slots.as_slice(), key) {
+        match find(self.slots.as_slice(), &self.builder, key) {
             Some(at) => self.slots[at].value(),
             None => None,
         }
     }
 
     /// Whether the key has a value.
-    pub fn contains_key(&self, key: u64) -> bool
-        ensures { result ≡ map.contains_key self.now.map key }
+    #[inline]
+    pub fn contains_key(&self, key: &K) -> bool
+        ensures { result ≡ is_some (value K.eq self.now.entries key.now) }
     {
         self.get(key).is_some()
     }
 
-    /// The value of a key, to write to.
-    pub fn get_mut(&mut self, key: u64) -> Option<&mut V>
-        ensures* writes_back { sem 𝓛 (lends_value V.row A.row A.Allocator self.entry key result) }
-        ensures value { option_copied_mut result ≡ map.get self.old.map key }
+    /// The value of a key, to write to. The keys and their order stay.
+    #[inline]
+    pub fn get_mut(&mut self, key: &K) -> Option<&mut V>
+        ensures* writes_back { sem 𝓛 (lends_value K.row V.row S.row A.row S.Hasher.row
+            K.Hash S.BuildHasher S.Hasher.Hasher A.Allocator self.entry key.now result) }
+        ensures value { option_copied_mut result ≡ value K.eq self.old.entries key.now }
     {
-        match find(self.slots.as_slice(), key) {
+        match find(self.slots.as_slice(), &self.builder, key) {
             Some(at) => Some(self.slots[at].value_mut()),
             None => None,
         }
     }
 
     /// The keys with their values, each key once, in no order that is promised.
-    pub fn iter(&self) -> Iter<'_, V>
-        ensures whole { map.from_entries result ≡ self.now.map }
-        ensures once { length result ≡ map.len self.now.map }
+    pub fn iter(&self) -> Iter<'_, K, V>
+        ensures { result ≡ self.now.entries }
     {
         Iter {
             slots: self.slots.as_slice(),
         }
     }
 
-    /// Gives the key this value, and answers the one that it had. It takes memory only for a new key; a refusal hands key and
-    /// value back and changes nothing.
-    pub fn insert(&mut self, key: u64, value: V) -> Result<Option<V>, Refused<(u64, V)>>
+    /// Gives the key this value, and answers the one that it had. A key that is there gives way to its equal. It takes memory
+    /// only for a new key; a refusal hands key and value back and changes nothing.
+    #[inline]
+    pub fn insert(&mut self, key: K, item: V) -> Result<Option<V>, Refused<(K, V)>>
         ensures fits { 0 < self.old.room → IsOk result }
-        ensures old { IfOk result (λ old. old ≡ map.get self.old.map key) }
-        ensures inserted { OnOk result (self.new.map ≡ map.insert self.old.map key value) }
+        ensures old { IfOk result (λ old. old ≡ value K.eq self.old.entries key) }
+        ensures inserted { OnOk result (Sets K.eq self.old.entries key (Some item) self.new.entries) }
         ensures room { OnOk result (self.old.room ≤ self.new.room + 1) }
         ensures replaced { IfOk result (λ old. is_some old ≡ true → self.new.room ≡ self.old.room) }
-        ensures refused { IfErr result (λ r. (r.source ≡ (key, value)) × (map.get self.old.map key ≡ None) × (self.new ≡ self.old)) }
+        ensures builder { self.new.builder ≡ self.old.builder }
+        ensures back { IfErr result (λ r. r.source ≡ (key, item)) }
+        ensures new { OnErr result (value K.eq self.old.entries key ≡ None) }
+        ensures refused { OnErr result (self.new ≡ self.old) }
     {
-        if let Some(at) = find(self.slots.as_slice(), key) {
-            let old = mem::replace(&mut self.slots[at], Slot::Held(key, value));
+        if let Some(at) = find(self.slots.as_slice(), &self.builder, &key) {
+            let old = mem::replace(&mut self.slots[at], Slot::Held(key, item));
             return Ok(old.into_value());
         }
-        match make_room(&mut self.slots, self.len, self.empty, 1) {
+        match make_room(&mut self.slots, &self.builder, self.len, self.empty, 1) {
             Ok(empty) => self.empty = empty,
             Err(error) => {
                 return Err(Refused {
-                    source: (key, value),
+                    source: (key, item),
                     error,
                 });
             }
         }
-        put_new(&mut self.slots, key, value);
+        put_new(&mut self.slots, &self.builder, key, item);
         self.len += 1;
         self.empty -= 1;
         Ok(None)
@@ -133,21 +170,31 @@ impl<V: Drop, A: Allocator + Copy> Table<V, A> {
     /// Makes room for this many new keys, where there is less. A refusal changes nothing.
     pub fn reserve(&mut self, additional: usize) -> Result<(), TryReserveError>
         ensures fits { additional ≤ self.old.room → IsOk result }
-        ensures room { OnOk result ((additional ≤ self.new.room) × (self.old.room ≤ self.new.room)) }
-        ensures same { self.new.map ≡ self.old.map }
+        ensures room { OnOk result (additional ≤ self.new.room) }
+        ensures more { self.old.room ≤ self.new.room }
+        ensures same { SameMap K.eq self.old.entries self.new.entries }
+        ensures builder { self.new.builder ≡ self.old.builder }
         ensures refused { OnErr result (self.new ≡ self.old) }
     {
-        self.empty = make_room(&mut self.slots, self.len, self.empty, additional)?;
+        self.empty = make_room(
+            &mut self.slots,
+            &self.builder,
+            self.len,
+            self.empty,
+            additional,
+        )?;
         Ok(())
     }
 
     /// Takes the key away, and answers the value that it had. It takes no memory.
-    pub fn remove(&mut self, key: u64) -> Option<V>
-        ensures old { result ≡ map.get self.old.map key }
-        ensures removed { self.new.map ≡ map.remove self.old.map key }
+    #[inline]
+    pub fn remove(&mut self, key: &K) -> Option<V>
+        ensures old { result ≡ value K.eq self.old.entries key.now }
+        ensures removed { Sets K.eq self.old.entries key.now None self.new.entries }
         ensures room { self.new.room ≡ self.old.room }
+        ensures builder { self.new.builder ≡ self.old.builder }
     {
-        match find(self.slots.as_slice(), key) {
+        match find(self.slots.as_slice(), &self.builder, key) {
             Some(at) => {
                 let old = mem::replace(&mut self.slots[at], Slot::Gone);
                 self.len -= 1;
@@ -155,5 +202,16 @@ impl<V: Drop, A: Allocator + Copy> Table<V, A> {
             }
             None => None,
         }
+    }
+
+    /// Takes all keys away. The slots stay, so that there is no less room. It takes no memory.
+    pub fn clear(&mut self)
+        ensures entries { self.new.entries ≡ [] }
+        ensures room { self.old.room ≤ self.new.room }
+        ensures builder { self.new.builder ≡ self.old.builder }
+    {
+        clear_all(self.slots.as_mut_slice());
+        self.len = 0;
+        self.empty = self.slots.len();
     }
 }

@@ -1,14 +1,16 @@
 use crate::table::Table;
 use aa_faulty::Faulty;
+use allocator_api2::boxed::BoxedText;
 use std::alloc::Global;
+use std::hash::{BuildHasher, BuildHasherDefault, FoldHasher, Hasher};
 use std::ops::Range;
 
 // A table over an allocator that may refuse.
-type Small<'a> = Table<u64, &'a Faulty<Global>>;
+type Small<'a> = Table<u64, u64, BuildHasherDefault<FoldHasher>, &'a Faulty<Global>>;
 
 // The value of a key.
 fn has(table: &Small<'_>, key: u64) -> Option<u64> {
-    table.get(key).copied()
+    table.get(&key).copied()
 }
 
 // Whether keys with values of their own number go in.
@@ -29,11 +31,13 @@ fn a_thousand_keys_come_and_go(rt: HostRuntime) {
     }
     assert!(rt; table.len() == 1000);
     for key in 0u64..500 {
-        assert!(rt; table.remove(key.wrapping_mul(64)) == Some(key));
+        assert!(rt; table.remove(&key.wrapping_mul(64)) == Some(key));
     }
     assert!(rt; table.len() == 500);
     assert!(rt; (has(&table, 0), has(&table, 640 * 64)) == (None, Some(640)));
     assert!(rt; table.insert(640 * 64, 7).ok() == Some(Some(640)));
+    table.clear();
+    assert!(rt; (table.len(), has(&table, 640 * 64)) == (0, None));
     drop(table);
     assert!(rt; heap.outstanding() == 0);
 }
@@ -67,21 +71,21 @@ fn values_are_written_and_all_are_seen(rt: HostRuntime) {
         assert!(rt; table.insert(key, 0).is_ok());
     }
     for key in 1u64..11 {
-        match table.get_mut(key) {
+        match table.get_mut(&key) {
             Some(value) => *value = key.wrapping_mul(key),
             None => assert!(rt; false),
         }
     }
-    assert!(rt; table.get_mut(11).is_none());
-    assert!(rt; table.remove(10) == Some(100));
+    assert!(rt; table.get_mut(&11).is_none());
+    assert!(rt; table.remove(&10) == Some(100));
     let mut keys = 0u64;
     let mut values = 0u64;
     for (key, value) in table.iter() {
-        keys = keys.saturating_add(key);
+        keys = keys.saturating_add(*key);
         values = values.saturating_add(*value);
     }
     assert!(rt; (keys, values) == (45, 285));
-    assert!(rt; !table.contains_key(10));
+    assert!(rt; !table.contains_key(&10));
 }
 
 #[test]
@@ -96,4 +100,61 @@ fn reserved_room_is_there_when_the_heap_refuses(rt: HostRuntime) {
     assert!(rt; takes(&mut table, 5..105));
     assert!(rt; (table.len(), has(&table, 104)) == (105, Some(104)));
     assert!(rt; table.reserve(usize::MAX).is_err());
+}
+
+// Hashers that make one number of all keys.
+#[derive(Clone, Copy, Drop)]
+struct Same;
+
+impl Hasher for Same {
+    ghost write = { λ s _. s };
+
+    ghost finish = { λ _. 7 };
+
+    fn finish(&self) -> u64 {
+        7
+    }
+
+    fn write(&mut self, _bytes: &[u8]) {}
+}
+
+impl BuildHasher for Same {
+    type Hasher = Same;
+
+    ghost build_hasher = { λ s. s };
+
+    fn build_hasher(&self) -> Same {
+        *self
+    }
+}
+
+// A table whose keys are texts in boxes, which all have one hash.
+type Texts = Table<BoxedText<Global>, u64, Same, Global>;
+
+// Whether the text goes in with the number.
+fn put(table: &mut Texts, word: &str, number: u64, heap: Global) -> bool {
+    match BoxedText::from_text(heap, word) {
+        Ok(key) => table.insert(key, number).is_ok(),
+        Err(_) => false,
+    }
+}
+
+#[test]
+fn texts_are_keys_by_any_hasher(rt: HostRuntime) {
+    let heap = rt.alloc();
+    let mut table: Texts = Table::with_hasher_in(Same, heap);
+    for (word, number) in [("plum", 1u64), ("pear", 2), ("fig", 3), ("plum", 4)] {
+        assert!(rt; put(&mut table, word, number, heap));
+    }
+    for (word, value) in [("plum", Some(4u64)), ("pear", Some(2)), ("quince", None)] {
+        match BoxedText::from_text(heap, word) {
+            Ok(key) => assert!(rt; table.get(&key).copied() == value, "{word}"),
+            Err(_) => assert!(rt; false),
+        }
+    }
+    match BoxedText::from_text(heap, "pear") {
+        Ok(key) => assert!(rt; table.remove(&key) == Some(2)),
+        Err(_) => assert!(rt; false),
+    }
+    assert!(rt; table.len() == 2);
 }

@@ -332,9 +332,10 @@ impl Line<'_> {
         ensures err { IfErr result (λ fault. (fault ≡ Fault.BadLine self.old.number)
             × (words_of self.old.words.rest.now ≢ [])) }
     {
-        match self.words.next() {
-            None => Ok(()),
-            Some(_) => Err(self.bad()),
+        if self.words.is_empty() {
+            Ok(())
+        } else {
+            Err(self.bad())
         }
     }
 
@@ -344,8 +345,8 @@ impl Line<'_> {
         ensures { ReadsAs self.old.number
             (IsElement (words_of self.old.words.rest.now)) result }
     {
-        match (self.words.element(), self.words.next()) {
-            (Some(x), None) => Ok(x),
+        match (self.words.element(), self.words.is_empty()) {
+            (Some(x), true) => Ok(x),
             _ => Err(self.bad()),
         }
     }
@@ -354,8 +355,8 @@ impl Line<'_> {
     fn number(&mut self) -> Result<usize, Fault>
         ensures { ReadsAs self.old.number (IsNumber (words_of self.old.words.rest.now)) result }
     {
-        match (self.words.number(), self.words.next()) {
-            (Some(n), None) => Ok(n),
+        match (self.words.number(), self.words.is_empty()) {
+            (Some(n), true) => Ok(n),
             _ => Err(self.bad()),
         }
     }
@@ -367,8 +368,8 @@ impl Line<'_> {
     {
         let first = self.words.number();
         let second = self.words.number();
-        match (first, second, self.words.next()) {
-            (Some(m), Some(n), None) => Ok((m, n)),
+        match (first, second, self.words.is_empty()) {
+            (Some(m), Some(n), true) => Ok((m, n)),
             _ => Err(self.bad()),
         }
     }
@@ -381,8 +382,8 @@ impl Line<'_> {
         let first = self.words.number();
         let second = self.words.number();
         let third = self.words.number();
-        match (first, second, third, self.words.next()) {
-            (Some(l), Some(m), Some(n), None) => Ok((l, m, n)),
+        match (first, second, third, self.words.is_empty()) {
+            (Some(l), Some(m), Some(n), true) => Ok((l, m, n)),
             _ => Err(self.bad()),
         }
     }
@@ -394,8 +395,8 @@ impl Line<'_> {
     {
         let number = self.words.number();
         let element = self.words.element();
-        match (number, element, self.words.next()) {
-            (Some(n), Some(x), None) => Ok((n, x)),
+        match (number, element, self.words.is_empty()) {
+            (Some(n), Some(x), true) => Ok((n, x)),
             _ => Err(self.bad()),
         }
     }
@@ -409,8 +410,8 @@ impl Line<'_> {
         let front = self.words.number();
         let back = self.words.number();
         let keep = self.words.next().and_then(kept);
-        match (start, end, front, back, keep, self.words.next()) {
-            (Some(start), Some(end), Some(front), Some(back), Some(keep), None) => {
+        match (start, end, front, back, keep, self.words.is_empty()) {
+            (Some(start), Some(end), Some(front), Some(back), Some(keep), true) => {
                 Ok((start, end, front, back, keep))
             }
             _ => Err(self.bad()),

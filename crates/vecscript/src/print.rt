@@ -93,7 +93,8 @@ fn print_elements(output: &mut Text, elements: &[u32]) -> io::Result<()>
     Ok(())
 }
 
-// Puts the bytes behind the text. Where memory is refused, the text stays.
+// Puts the bytes behind the text. Where memory is refused, the text stays. Inlined, so that a few known bytes are stored without a call.
+#[inline(always)]
 fn print_bytes(output: &mut Text, bytes: &[u8]) -> io::Result<()>
     ensures { OnOk result (output.new.items ≡ output.old.items ++ bytes.now) }
 {

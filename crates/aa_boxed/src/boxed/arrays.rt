@@ -1,10 +1,11 @@
 //! Arrays that become boxed slices, and boxed slices that become boxes of arrays.
 ghost use Rattle.std.specs.Prelude.{◌≡◌, ◌≤◌, length, MatchResult, IfOk, IfErr};
 ghost use Rattle.std.specs.Mem.{type_size};
-ghost use Rattle.aa_raw.specs.Refusals.{IsRefusedAt};
+ghost use Rattle.aa_raw.specs.Refusals.{RefusesBlock, RefusesClones};
 ghost use Rattle.aa_raw.specs.declared.raw_vec.Growth.TheVariants.{Doubling};
 ghost use Rattle.aa_boxed.specs.Room.{IsJustFor};
-ghost use Rattle.aa_boxed.specs.Arrays.{LacksRoomFor, Unboxes, StaysBoxed};
+ghost use Rattle.aa_boxed.specs.Arrays.{Unboxes, StaysBoxed};
+ghost use Rattle.aa_boxed.specs.Slice.{new_slice};
 
 use crate::boxed::{Box, BoxedSlice, UninitBox};
 use aa_raw::collections::{Refused, TryReserveErrorKind};
@@ -12,22 +13,25 @@ use aa_raw::raw_vec::RawVec;
 use std::alloc::{Allocator, Global};
 
 impl<T> BoxedSlice<T, Global> {
-    /// The elements of an array, on the global allocator; it is refused as `from_array_in` is. It stands for `Box<[T]>`'s
-    /// `From<[T; N]>`, which aborts on a refusal.
+    /// The elements of an array, on the global allocator; it is refused as `from_array_in` is. It
+    /// stands for `Box<[T]>`'s `From<[T; N]>`, which aborts on a refusal.
     pub fn from_array<const N: usize>(alloc: Global, items: [T; N]) -> Result<Self, Refused<[T; N]>>
-        ensures made { IfOk result (λ b. b ≡ record { items = items; growth = Doubling; alloc = alloc }) }
-        ensures refused { IfErr result (λ r. (r.source ≡ items) × LacksRoomFor N (type_size T.row) r.error) }
+        ensures made { IfOk result (λ b. b ≡ new_slice items alloc) }
+        ensures handed_back { IfErr result (λ r. r.source ≡ items) }
+        ensures refused { IfErr result (λ r. RefusesBlock N (type_size T.row) r.error) }
     {
         BoxedSlice::from_array_in(items, alloc)
     }
 }
 
 impl<T, A: Allocator> BoxedSlice<T, A> {
-    /// The elements of an array. It takes memory where there are any and they have a size. A refusal hands the array back:
-    /// `CapacityOverflow`, or `AllocError` with its length. The original has no such call.
+    /// The elements of an array. It takes memory where there are any and they have a size. A
+    /// refusal hands the array back: `CapacityOverflow`, or `AllocError` with its length. The
+    /// original has no such call.
     pub fn from_array_in<const N: usize>(items: [T; N], alloc: A) -> Result<Self, Refused<[T; N]>>
-        ensures made { IfOk result (λ b. b ≡ record { items = items; growth = Doubling; alloc = alloc }) }
-        ensures refused { IfErr result (λ r. (r.source ≡ items) × LacksRoomFor N (type_size T.row) r.error) }
+        ensures made { IfOk result (λ b. b ≡ new_slice items alloc) }
+        ensures handed_back { IfErr result (λ r. r.source ≡ items) }
+        ensures refused { IfErr result (λ r. RefusesBlock N (type_size T.row) r.error) }
     {
         match RawVec::with_capacity_in(N, alloc) {
             Ok(block) => Ok(filled(block, items)),
@@ -38,14 +42,16 @@ impl<T, A: Allocator> BoxedSlice<T, A> {
         }
     }
 
-    /// The elements as an array in a box of its own, over a clone of the allocator, where there are `N` of them; the block that
-    /// they stood in is given back. It takes memory where there are any and they have a size. The boxed slice is handed back as it
-    /// was where its length is another, and where the memory or the clone is refused. It stands for the original's
+    /// The elements as an array in a box of its own, over a clone of the allocator, where there are
+    /// `N` of them; the block that they stood in is given back. It takes memory where there are any
+    /// and they have a size. The boxed slice is handed back as it was where its length is another,
+    /// and where the memory or the clone is refused. It stands for the original's
     /// `TryFrom<Box<[T], A>>` for `Box<[T; N], A>`, which keeps the block.
     pub fn try_into_array<const N: usize>(self) -> Result<Box<[T; N], A>, Self>
     where
         A: Clone,
-        ensures { MatchResult result (λ b. Unboxes A.is_clone N self b) (λ s. StaysBoxed (A.is_infallible self.alloc) N (type_size T.row) self s) }
+        ensures { MatchResult result (λ b. Unboxes A.is_clone N self b)
+            (λ s. StaysBoxed (A.is_infallible self.alloc) N (type_size T.row) self s) }
     {
         if self.as_slice().len() != N {
             return Err(self);
@@ -72,15 +78,20 @@ impl<T, A: Allocator> BoxedSlice<T, A> {
 }
 
 impl<T, A: Allocator, const N: usize> Box<[T; N], A> {
-    /// The elements of the array as a boxed slice, in a block of their own over a clone of the allocator; that of the box is given
-    /// back. It takes memory where there are elements and they have a size. Where that or the clone is refused, the box is handed
-    /// back as it was: `CapacityOverflow`, or `AllocError` with the number of elements. It stands for `Box::slice`, which keeps the
-    /// block.
+    /// The elements of the array as a boxed slice, in a block of their own over a clone of the
+    /// allocator; that of the box is given back. It takes memory where there are elements and they
+    /// have a size. Where that or the clone is refused, the box is handed back as it was:
+    /// `CapacityOverflow`, or `AllocError` with the number of elements. It stands for `Box::slice`,
+    /// which keeps the block.
     pub fn slice(b: Self) -> Result<BoxedSlice<T, A>, Refused<Self>>
     where
         A: Clone,
-        ensures made { IfOk result (λ s. (s.items ≡ b.value) × (s.growth ≡ Doubling) × A.is_clone b.alloc s.alloc) }
-        ensures refused { IfErr result (λ r. (r.source ≡ b) × (A.is_infallible b.alloc → LacksRoomFor N (type_size T.row) r.error) × IsRefusedAt r.error N) }
+        ensures made { IfOk result (λ s. s.items ≡ b.value) }
+        ensures growth { IfOk result (λ s. s.growth ≡ Doubling) }
+        ensures alloc { IfOk result (λ s. A.is_clone b.alloc s.alloc) }
+        ensures handed_back { IfErr result (λ r. r.source ≡ b) }
+        ensures refused { IfErr result
+            (λ r. RefusesClones (A.is_infallible b.alloc) N (type_size T.row) r.error) }
     {
         let Ok(alloc) = Box::allocator(&b).clone() else {
             let error = TryReserveErrorKind::AllocError { capacity: N }.into();

@@ -5,9 +5,9 @@ ghost use Rattle.std.specs.List.{AllZip};
 ghost use Rattle.std.specs.Mem.{type_size};
 ghost use Rattle.aa_raw.specs.Block.{fresh};
 ghost use Rattle.aa_raw.specs.Growth.{amortized, least_of, sized, usize_max};
-ghost use Rattle.aa_raw.specs.Refusals.{IsRefusedAt};
+ghost use Rattle.aa_raw.specs.Refusals.{RefusesBlock};
 ghost use Rattle.aa_raw.specs.Room.{LacksRoom};
-ghost use Rattle.aa_boxed.specs.Slice.{with_all, with_next, ended};
+ghost use Rattle.aa_boxed.specs.Slice.{none_begun, with_all, with_next, ended};
 
 use crate::boxed::slice::BoxedSlice;
 use aa_raw::collections::{TryReserveError, TryReserveErrorKind};
@@ -40,8 +40,9 @@ impl<T, A: Allocator> Filling<T, A> {
         capacity: usize,
         alloc: A,
     ) -> Result<Self, TryReserveError>
-        ensures made { IfOk result (λ f. f ≡ record { items = []; capacity = sized (type_size T.row) capacity; growth = growth; alloc = alloc }) }
-        ensures refused { IfErr result (λ e. (0 < capacity) × (0 < type_size T.row) × IsRefusedAt e capacity) }
+        ensures made { IfOk result
+            (λ f. f ≡ none_begun (sized (type_size T.row) capacity) growth alloc) }
+        ensures refused { IfErr result (RefusesBlock capacity (type_size T.row)) }
     {
         let block = block_for(growth, capacity, alloc)?;
         Ok(Filling { block, len: 0 })
@@ -74,7 +75,10 @@ impl<T, A: Allocator> Filling<T, A> {
         ensures alloc { self.new.alloc ≡ self.old.alloc }
         ensures capacity { self.old.capacity ≤ self.new.capacity }
         ensures made { OnOk result (length self.old.items + additional ≤ self.new.capacity) }
-        ensures refused { IfErr result (LacksRoom self.old.capacity (length self.old.items) additional (amortized self.old.growth self.old.capacity (length self.old.items + additional) (least_of (type_size T.row)))) }
+        ensures refused { let items = length self.old.items in let capacity = self.old.capacity in
+            let least = least_of (type_size T.row) in
+            let wanted = amortized self.old.growth capacity (items + additional) least in
+            IfErr result (LacksRoom capacity items additional wanted) }
     {
         self.block.try_reserve(self.len, additional)
     }
@@ -93,7 +97,9 @@ impl<T, A: Allocator> Filling<T, A> {
     where
         T: Drop,
         ensures made { IfOk result (λ b. b ≡ ended self) }
-        ensures refused { IfErr result (λ e. (0 < length self.items) × (0 < type_size T.row) × (e.kind ≡ TryReserveErrorKind.AllocError (length self.items))) }
+        ensures refused { IfErr result
+            (λ e. (0 < length self.items) × (0 < type_size T.row)
+            × (e.kind ≡ TryReserveErrorKind.AllocError (length self.items))) }
     {
         let mut filling = self;
         let len = filling.len;
@@ -118,8 +124,8 @@ impl<T, A: Allocator> Filling<T, A> {
         self.len = len + source.len();
     }
 
-    // Puts a clone of each element of `source` where there are no items yet, up to the first clone that is refused, and says
-    // whether none was.
+    // Puts a clone of each element of `source` where there are no items yet, up to the first clone
+    // that is refused, and says whether none was.
     pub(crate) fn put_clones(&mut self, source: &[T]) -> bool
     where
         T: Clone,
@@ -156,7 +162,7 @@ fn block_for<T, A: Allocator>(
     alloc: A,
 ) -> Result<RawVec<T, A>, TryReserveError>
     ensures made { IfOk result (λ b. b ≡ fresh (type_size T.row) capacity growth alloc) }
-    ensures refused { IfErr result (λ e. (0 < capacity) × (0 < type_size T.row) × IsRefusedAt e capacity) }
+    ensures refused { IfErr result (RefusesBlock capacity (type_size T.row)) }
 {
     let mut block = RawVec::new_growing_in(growth, alloc);
     match block.try_reserve_exact(0, capacity) {

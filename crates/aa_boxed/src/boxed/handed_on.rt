@@ -28,7 +28,8 @@ impl<I: Iterator, A: Allocator> Iterator for Box<I, A> {
 impl<I: DoubleEndedIterator, A: Allocator> DoubleEndedIterator for Box<I, A> {
     ghost can_next_back = { λ b. I.can_next_back b.value };
 
-    ghost next_back_gives = { λ b r c. I.next_back_gives b.value r c.value × (c ≡ with_value b c.value) };
+    ghost next_back_gives = { λ b r c. I.next_back_gives b.value r c.value
+        × (c ≡ with_value b c.value) };
 
     fn next_back(&mut self) -> Option<I::Item> {
         (**self).next_back()

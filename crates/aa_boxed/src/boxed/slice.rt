@@ -5,12 +5,13 @@ ghost use Rattle.std.specs.Mem.{type_size};
 ghost use Rattle.std.specs.Borrow.{sem};
 ghost use Rattle.std.specs.Iterator.{IsFinite, Drains, YieldsThen, size};
 ghost use Rattle.std.specs.Iterator.Runs.{WholeRun};
+ghost use Rattle.aa_raw.specs.Clones.{Copies};
 ghost use Rattle.aa_raw.specs.Growth.{sized};
 ghost use Rattle.aa_raw.specs.Places.{IsRun};
-ghost use Rattle.aa_raw.specs.Refusals.{IsRefusedAt};
+ghost use Rattle.aa_raw.specs.Refusals.{RefusesBlock, RefusesClones};
 ghost use Rattle.aa_raw.specs.declared.raw_vec.Growth.TheVariants.{Doubling};
 ghost use Rattle.aa_boxed.specs.Room.{IsJustFor};
-ghost use Rattle.aa_boxed.specs.Slice.{slice_of, Stops};
+ghost use Rattle.aa_boxed.specs.Slice.{new_slice, slice_of, Stops};
 ghost use Rattle.aa_boxed.specs.Telling.{TellsAtMost};
 
 use crate::boxed::filling::Filling;
@@ -20,8 +21,8 @@ use std::alloc::{Allocator, Global};
 use std::default::Default;
 use std::marker::Model;
 
-/// A list in a block without a free place. Elements without size take no memory and have `usize::MAX` places. It stands for
-/// `allocator_api2::boxed::Box<[T], A>`.
+/// A list in a block without a free place. Elements without size take no memory and have
+/// `usize::MAX` places. It stands for `allocator_api2::boxed::Box<[T], A>`.
 pub struct BoxedSlice<T, A: Allocator = Global> {
     block: RawVec<T, A>,
     len: usize,
@@ -40,8 +41,8 @@ impl<T, A: Allocator> Model for BoxedSlice<T, A> {
 }
 
 impl<T> BoxedSlice<T, Global> {
-    /// The items of `iter`, which ends, on the global allocator; it is refused as `from_iter_in` is. It stands for `Box<[T]>`'s
-    /// `FromIterator`, which aborts on a refusal.
+    /// The items of `iter`, which ends, on the global allocator; it is refused as `from_iter_in`
+    /// is. It stands for `Box<[T]>`'s `FromIterator`, which aborts on a refusal.
     pub fn from_iter<I: Iterator<Item = T>>(alloc: Global, iter: I) -> Result<Self, TryReserveError>
     where
         T: Drop,
@@ -50,8 +51,11 @@ impl<T> BoxedSlice<T, Global> {
         ensures fits { size (I.remaining iter) ≤ sized (type_size T.row) 0 → IsOk result }
         ensures ran { IfOk result (λ b. Drains I.next_gives iter b.items) }
         ensures runs { IfOk result (λ b. WholeRun I.next_gives iter (λ p. b.items ≡ p.items)) }
-        ensures made { IfOk result (λ b. (b.growth ≡ Doubling) × (b.alloc ≡ alloc)) }
-        ensures refused { IfErr result (λ e. (after : I) × Stops I.next_gives (TellsAtMost I.remaining) (type_size T.row) iter e after) }
+        ensures growth { IfOk result (λ b. b.growth ≡ Doubling) }
+        ensures alloc { IfOk result (λ b. b.alloc ≡ alloc) }
+        ensures refused { IfErr result
+            (λ e. (after : I)
+            × Stops I.next_gives (TellsAtMost I.remaining) (type_size T.row) iter e after) }
     {
         BoxedSlice::from_iter_in(iter, alloc)
     }
@@ -60,13 +64,14 @@ impl<T> BoxedSlice<T, Global> {
 impl<T, A: Allocator> BoxedSlice<T, A> {
     ghost use Rattle.aa_boxed.specs.SliceLends.{lends_items};
 
-    /// A copy of `source`. It takes memory where there are elements and they have a size. A refusal is `CapacityOverflow`, or
-    /// `AllocError` with the length of `source`. It stands for `Box<[T], A>`'s `From<&[T]>`, which aborts on a refusal.
+    /// A copy of `source`. It takes memory where there are elements and they have a size. A refusal
+    /// is `CapacityOverflow`, or `AllocError` with the length of `source`. It stands for
+    /// `Box<[T], A>`'s `From<&[T]>`, which aborts on a refusal.
     pub fn from_slice(alloc: A, source: &[T]) -> Result<Self, TryReserveError>
     where
         T: Copy,
-        ensures made { IfOk result (λ b. b ≡ record { items = source.now; growth = Doubling; alloc = alloc }) }
-        ensures refused { IfErr result (λ e. (0 < length source.now) × (0 < type_size T.row) × IsRefusedAt e (length source.now)) }
+        ensures made { IfOk result (λ b. b ≡ new_slice source.now alloc) }
+        ensures refused { IfErr result (RefusesBlock (length source.now) (type_size T.row)) }
     {
         let count = source.len();
         let mut filling = Filling::with_room(Growth::Doubling, count, alloc)?;
@@ -74,11 +79,12 @@ impl<T, A: Allocator> BoxedSlice<T, A> {
         Ok(filling.whole())
     }
 
-    /// The items of `iter`, which ends. It takes each item first, and memory where there is no room for it, with room to spare
-    /// for it and the lower bound that `size_hint` then has; at the end it gives back what is not needed. Where memory is
-    /// refused, the items that came are dropped. While items come, that is `CapacityOverflow` where the length asked for passes
-    /// `usize::MAX` or its bytes `isize::MAX`, or `AllocError` with the capacity asked for; at the end `AllocError` with
-    /// the length. The original has no such call.
+    /// The items of `iter`, which ends. It takes each item first, and memory where there is no room
+    /// for it, with room to spare for it and the lower bound that `size_hint` then has; at the end
+    /// it gives back what is not needed. Where memory is refused, the items that came are dropped.
+    /// While items come, that is `CapacityOverflow` where the length asked for passes `usize::MAX`
+    /// or its bytes `isize::MAX`, or `AllocError` with the capacity asked for; at the end
+    /// `AllocError` with the length. The original has no such call.
     pub fn from_iter_in<I: Iterator<Item = T>>(iter: I, alloc: A) -> Result<Self, TryReserveError>
     where
         T: Drop,
@@ -87,15 +93,18 @@ impl<T, A: Allocator> BoxedSlice<T, A> {
         ensures fits { size (I.remaining iter) ≤ sized (type_size T.row) 0 → IsOk result }
         ensures ran { IfOk result (λ b. Drains I.next_gives iter b.items) }
         ensures runs { IfOk result (λ b. WholeRun I.next_gives iter (λ p. b.items ≡ p.items)) }
-        ensures made { IfOk result (λ b. (b.growth ≡ Doubling) × (b.alloc ≡ alloc)) }
-        ensures refused { IfErr result (λ e. (after : I) × Stops I.next_gives (TellsAtMost I.remaining) (type_size T.row) iter e after) }
+        ensures growth { IfOk result (λ b. b.growth ≡ Doubling) }
+        ensures alloc { IfOk result (λ b. b.alloc ≡ alloc) }
+        ensures refused { IfErr result
+            (λ e. (after : I)
+            × Stops I.next_gives (TellsAtMost I.remaining) (type_size T.row) iter e after) }
     {
         let mut rest = iter;
         BoxedSlice::from_iter_in_by(&mut rest, alloc)
     }
 
-    /// `from_iter_in` by an iterator that is lent: where memory is refused while items come, the one that found no place is the
-    /// last that was taken. The original has no such call.
+    /// `from_iter_in` by an iterator that is lent: where memory is refused while items come, the
+    /// one that found no place is the last that was taken. The original has no such call.
     pub fn from_iter_in_by<I: Iterator<Item = T>>(
         iter: &mut I,
         alloc: A,
@@ -107,8 +116,11 @@ impl<T, A: Allocator> BoxedSlice<T, A> {
         ensures fits { size (I.remaining iter.old) ≤ sized (type_size T.row) 0 → IsOk result }
         ensures ran { IfOk result (λ b. YieldsThen I.next_gives iter.old b.items None iter.new) }
         ensures runs { IfOk result (λ b. WholeRun I.next_gives iter.old (λ p. b.items ≡ p.items)) }
-        ensures made { IfOk result (λ b. (b.growth ≡ Doubling) × (b.alloc ≡ alloc)) }
-        ensures refused { IfErr result (λ e. Stops I.next_gives (TellsAtMost I.remaining) (type_size T.row) iter.old e iter.new) }
+        ensures growth { IfOk result (λ b. b.growth ≡ Doubling) }
+        ensures alloc { IfOk result (λ b. b.alloc ≡ alloc) }
+        ensures refused { IfErr result
+            (λ e. Stops I.next_gives (TellsAtMost I.remaining) (type_size T.row)
+            iter.old e iter.new) }
     {
         let mut filling = Filling::with_room(Growth::Doubling, 0, alloc)?;
         while let Some(x) = iter.next() {
@@ -120,16 +132,21 @@ impl<T, A: Allocator> BoxedSlice<T, A> {
         filling.shrunk()
     }
 
-    /// A clone of each element, over a clone of the allocator. It takes memory before the first clone. Where that or a clone is
-    /// refused, nothing is made: `CapacityOverflow`, or `AllocError` with the length. It stands for `Box<[T], A>`'s `Clone`,
-    /// which aborts on a refusal.
+    /// A clone of each element, over a clone of the allocator. It takes memory before the first
+    /// clone. Where that or a clone is refused, nothing is made: `CapacityOverflow`, or
+    /// `AllocError` with the length. It stands for `Box<[T], A>`'s `Clone`, which aborts on a
+    /// refusal.
     pub fn clone(&self) -> Result<Self, TryReserveError>
     where
         T: Clone + Drop,
         A: Clone,
-        ensures made { IfOk result (λ b. AllZip T.is_clone self.now.items b.items × (b.growth ≡ self.now.growth) × A.is_clone self.now.alloc b.alloc) }
-        ensures copied { ((x y : T) → T.is_clone x y → y ≡ x) → IfOk result (λ b. b.items ≡ self.now.items) }
-        ensures refused { IfErr result (λ e. (All T.is_infallible self.now.items → A.is_infallible self.now.alloc → (0 < length self.now.items) × (0 < type_size T.row)) × IsRefusedAt e (length self.now.items)) }
+        ensures made { IfOk result (λ b. AllZip T.is_clone self.now.items b.items) }
+        ensures growth { IfOk result (λ b. b.growth ≡ self.now.growth) }
+        ensures alloc { IfOk result (λ b. A.is_clone self.now.alloc b.alloc) }
+        ensures copied { Copies T.is_clone → IfOk result (λ b. b.items ≡ self.now.items) }
+        ensures refused { let sure = All T.is_infallible self.now.items
+            × A.is_infallible self.now.alloc in
+            IfErr result (RefusesClones sure (length self.now.items) (type_size T.row)) }
     {
         let source = self.as_slice();
         let capacity = source.len();
@@ -143,8 +160,8 @@ impl<T, A: Allocator> BoxedSlice<T, A> {
         Err(TryReserveErrorKind::AllocError { capacity }.into())
     }
 
-    /// The values in the first `len` places of `block`, which takes over the block. It takes no memory. The original has no such
-    /// call: a vector there takes itself apart.
+    /// The values in the first `len` places of `block`, which takes over the block. It takes no
+    /// memory. The original has no such call: a vector there takes itself apart.
     pub fn from_block(block: RawVec<T, A>, len: usize) -> Self
         requires filled { IsRun block.places 0 len }
         requires room { IsJustFor len block.places }
@@ -155,7 +172,8 @@ impl<T, A: Allocator> BoxedSlice<T, A> {
         BoxedSlice { block, len }
     }
 
-    /// The block, and how many of its places are filled, from the first on. It takes no memory. The original has no such call.
+    /// The block, and how many of its places are filled, from the first on. It takes no memory. The
+    /// original has no such call.
     pub fn into_block(self) -> (RawVec<T, A>, usize)
         ensures filled { IsRun result.0.places 0 result.1 }
         ensures room { IsJustFor result.1 result.0.places }

@@ -8,8 +8,8 @@ use aa_raw::raw_vec::RawVec;
 use std::alloc::{AllocError, Allocator, Global};
 use std::marker::Model;
 
-/// A box that is to be written once. A contract sees it as its allocator. Its drop gives the memory back. It stands for
-/// `allocator_api2::boxed::Box<MaybeUninit<T>, A>`.
+/// A box that is to be written once. A contract sees it as its allocator. Its drop gives the memory
+/// back. It stands for `allocator_api2::boxed::Box<MaybeUninit<T>, A>`.
 pub struct UninitBox<T, A: Allocator = Global> {
     block: RawVec<T, A>,
     ghost room: { 0 < length block.places },

@@ -9,7 +9,8 @@ use std::alloc::Allocator;
 use std::fmt;
 use std::marker::Model;
 
-/// The elements that are left of a text, lent in order, those before the cursor first. A contract sees them as a list.
+/// The elements that are left of a text, lent in order, those before the cursor first. A contract
+/// sees them as a list.
 #[derive(Drop)]
 pub struct Iter<'a, T> {
     before: &'a [T],

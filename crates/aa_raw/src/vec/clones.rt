@@ -3,7 +3,7 @@ ghost use Rattle.std.specs.Prelude.{◌≡◌, ◌<◌, ◌≤◌, length, take,
 ghost use Rattle.std.specs.List.{AllZip};
 ghost use Rattle.std.specs.Mem.{type_size};
 ghost use Rattle.aa_raw.specs.Clones.{ClonesFreely, Copies, HoldsClones};
-ghost use Rattle.aa_raw.specs.Refusals.{IsRefusedAt};
+ghost use Rattle.aa_raw.specs.Refusals.{RefusesClones};
 
 use crate::collections::{TryReserveError, TryReserveErrorKind};
 use crate::raw_vec::RawVec;
@@ -11,13 +11,17 @@ use crate::vec::into_iter::IntoIter;
 use std::alloc::{AllocError, Allocator};
 
 impl<T: Clone, A: Allocator + Clone> IntoIter<T, A> {
-    /// A clone of each item that is left, in order, over a clone of the allocator, in room for no more. It takes memory before
-    /// the first clone of an item. Where memory or a clone is refused, nothing is made: `AllocError` with the number of items,
-    /// or `CapacityOverflow`. It stands for the original's `Clone`, which can't be refused.
+    /// A clone of each item that is left, in order, over a clone of the allocator, in room for no
+    /// more. It takes memory before the first clone of an item. Where memory or a clone is refused,
+    /// nothing is made: `AllocError` with the number of items, or `CapacityOverflow`. It stands for
+    /// the original's `Clone`, which can't be refused.
     pub fn clone(&self) -> Result<Self, TryReserveError>
-        ensures made { IfOk result (λ copy. AllZip T.is_clone self.now.items copy.items × A.is_clone self.now.alloc copy.alloc) }
+        ensures made { IfOk result (λ copy. AllZip T.is_clone self.now.items copy.items) }
+        ensures alloc { IfOk result (λ copy. A.is_clone self.now.alloc copy.alloc) }
         ensures copied { Copies T.is_clone → IfOk result (λ copy. copy.items ≡ self.now.items) }
-        ensures refused { IfErr result (λ e. (All T.is_infallible self.now.items → A.is_infallible self.now.alloc → (0 < length self.now.items) × (0 < type_size T.row)) × IsRefusedAt e (length self.now.items)) }
+        ensures refused { let sure = All T.is_infallible self.now.items
+            × A.is_infallible self.now.alloc in
+            IfErr result (RefusesClones sure (length self.now.items) (type_size T.row)) }
     {
         let items = self.as_slice();
         let capacity = items.len();
@@ -37,9 +41,11 @@ impl<T: Clone, A: Allocator + Clone> IntoIter<T, A> {
 }
 
 impl<T: Clone, A: Allocator + Clone> Clone for IntoIter<T, A> {
-    ghost is_clone = { λ left copy. AllZip T.is_clone left.items copy.items × A.is_clone left.alloc copy.alloc };
+    ghost is_clone = { λ left copy. AllZip T.is_clone left.items copy.items
+        × A.is_clone left.alloc copy.alloc };
 
-    ghost is_infallible = { λ left. ClonesFreely T.is_infallible (type_size T.row) left.items × A.is_infallible left.alloc };
+    ghost is_infallible = { λ left. ClonesFreely T.is_infallible (type_size T.row) left.items
+        × A.is_infallible left.alloc };
 
     /// The same as the inherent `clone`, whose error also tells the number.
     fn clone(&self) -> Result<Self, AllocError> {
@@ -47,7 +53,8 @@ impl<T: Clone, A: Allocator + Clone> Clone for IntoIter<T, A> {
     }
 }
 
-// Puts clones of the elements of `source` into the first places, up to the first clone that is refused. It answers how many.
+// Puts clones of the elements of `source` into the first places, up to the first clone that is
+// refused. It answers how many.
 fn put_clones<T: Clone, A: Allocator>(block: &mut RawVec<T, A>, source: &[T]) -> usize
     requires room { length source.now ≤ length block.old.places }
     ensures within { result ≤ length source.now }

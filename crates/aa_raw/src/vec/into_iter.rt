@@ -13,8 +13,8 @@ use std::fmt;
 use std::iter::FusedIterator;
 use std::marker::Model;
 
-/// The items that are left of a block, from either end. Its drop drops them in order and gives the memory back. It stands for
-/// `allocator_api2::vec::IntoIter`.
+/// The items that are left of a block, from either end. Its drop drops them in order and gives the
+/// memory back. It stands for `allocator_api2::vec::IntoIter`.
 pub struct IntoIter<T, A: Allocator = Global> {
     block: RawVec<T, A>,
     front: usize,
@@ -36,8 +36,8 @@ impl<T, A: Allocator> Model for IntoIter<T, A> {
 impl<T, A: Allocator> IntoIter<T, A> {
     ghost use Rattle.aa_raw.specs.LeftLends.{lends_left};
 
-    /// The values in the first `len` places of `block`, which takes over the block. The original has no such call: a vector
-    /// there takes itself apart.
+    /// The values in the first `len` places of `block`, which takes over the block. The original
+    /// has no such call: a vector there takes itself apart.
     pub fn from_block(block: RawVec<T, A>, len: usize) -> Self
         requires { IsRun block.places 0 len }
         ensures { result ≡ record { items = run block.places 0 len; alloc = block.alloc } }
@@ -74,7 +74,8 @@ impl<T, A: Allocator> IntoIter<T, A> {
         self.block.allocator()
     }
 
-    /// How many items are left. It stands for `IntoIter::len`, and is right for elements without size too.
+    /// How many items are left. It stands for `IntoIter::len`, and is right for elements without
+    /// size too.
     #[inline]
     #[tactic(auto, using(crate::proofs::Calls::shown))]
     pub fn len(&self) -> usize
@@ -92,7 +93,8 @@ impl<T, A: Allocator> IntoIter<T, A> {
         self.len()
     }
 
-    /// Takes the first item. At the end it answers `None`, and so for good. It stands for `IntoIter::next`.
+    /// Takes the first item. At the end it answers `None`, and so for good. It stands for
+    /// `IntoIter::next`.
     #[inline(always)]
     #[tactic(auto, using(crate::proofs::Calls::at_ends, crate::proofs::Beyond::at_sides))]
     pub fn next(&mut self) -> Option<T>
@@ -106,8 +108,8 @@ impl<T, A: Allocator> IntoIter<T, A> {
         Some(self.block.take(front))
     }
 
-    /// Takes the last item. At the end it answers `None`, and so for good. It stands for `IntoIter::next_back`, which lets the
-    /// length grow for elements without size.
+    /// Takes the last item. At the end it answers `None`, and so for good. It stands for
+    /// `IntoIter::next_back`, which lets the length grow for elements without size.
     #[inline(always)]
     #[tactic(auto, using(crate::proofs::Calls::at_ends, crate::proofs::Beyond::at_sides))]
     pub fn next_back(&mut self) -> Option<T>

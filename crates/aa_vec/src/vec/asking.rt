@@ -5,39 +5,48 @@ ghost use Rattle.aa_raw.specs.Closures.{TakesPairMut};
 ghost use Rattle.aa_vec.specs.Choosing.{TakesMut, TakesForKeys, MayAskInOrder, MayDeduplicate};
 ghost use Rattle.aa_vec.specs.Until.{StaysAt, AsksUntil, AsksNeighbours, ChainsAlong};
 
-// Asks the elements in order, up to the first that is not kept. It answers how many are kept before it. The first two are asked one
-// by one: where one of them goes, that is far less work than a run.
+// Asks the elements in order, up to the first at which the answer is not `stays`. It answers how
+// many are kept before it. The first two are asked one by one: where one of them goes, that is far
+// less work than a run.
 #[inline(always)]
-pub(crate) fn count_kept<T, F: FnMut(&mut T) -> bool>(elements: &mut [T], keep: &mut F) -> usize
-    requires { MayAskInOrder (CalledAtMut F.FnMut) (TakesMut F.FnMut) keep.old elements.old }
-    ensures { AsksUntil (CalledAtMut F.FnMut) keep.old elements.old result keep.new elements.new }
+pub(crate) fn count_kept<T, F: FnMut(&mut T) -> bool>(
+    elements: &mut [T],
+    stays: bool,
+    keep: &mut F,
+) -> usize
+    requires { MayAskInOrder (StaysAt stays (CalledAtMut F.FnMut))
+        (TakesMut F.FnMut) keep.old elements.old }
+    ensures { AsksUntil (StaysAt stays (CalledAtMut F.FnMut))
+        keep.old elements.old result keep.new elements.new }
 {
     // It does nothing but tell the prover that a slice has at most `usize::MAX` elements.
     let _count = count_of(elements);
     let Some((first, others)) = elements.split_first_mut() else {
         return 0;
     };
-    if !ask(keep, first) {
+    if !ask_stays(keep, first, stays) {
         return 0;
     }
     let Some((second, others)) = others.split_first_mut() else {
         return 1;
     };
-    if !ask(keep, second) {
+    if !ask_stays(keep, second, stays) {
         return 1;
     }
-    2 + kept_run(others, true, keep)
+    2 + kept_run(others, stays, keep)
 }
 
-// The same in one run, up to the first at which the answer is not `stays`.
+// The same in one run.
 #[inline]
 pub(crate) fn kept_run<T, F: FnMut(&mut T) -> bool>(
     elements: &mut [T],
     stays: bool,
     keep: &mut F,
 ) -> usize
-    requires { MayAskInOrder (StaysAt stays (CalledAtMut F.FnMut)) (TakesMut F.FnMut) keep.old elements.old }
-    ensures { AsksUntil (StaysAt stays (CalledAtMut F.FnMut)) keep.old elements.old result keep.new elements.new }
+    requires { MayAskInOrder (StaysAt stays (CalledAtMut F.FnMut))
+        (TakesMut F.FnMut) keep.old elements.old }
+    ensures { AsksUntil (StaysAt stays (CalledAtMut F.FnMut)) keep.old elements.old
+        result keep.new elements.new }
 {
     let count = elements.len();
     let mut kept = 0;
@@ -67,17 +76,28 @@ fn ask<T, R, F: FnMut(&mut T) -> R>(f: &mut F, element: &mut T) -> R
     f(element)
 }
 
-// Asks the elements behind the first in order, each beside the one before it, up to the first repeat. It answers how many are
-// kept before it. The second is asked by itself, as above.
+// One call. It answers whether the answer was `stays`.
+#[inline(always)]
+fn ask_stays<T, F: FnMut(&mut T) -> bool>(f: &mut F, element: &mut T, stays: bool) -> bool
+    requires { TakesMut F.FnMut f.old element.old }
+    ensures { StaysAt stays (CalledAtMut F.FnMut) f.old element.old result f.new element.new }
+{
+    ask(f, element) == stays
+}
+
+// Asks the elements behind the first in order, each beside the one before it, up to the first
+// repeat. It answers how many are kept before it. The second is asked by itself, as above.
 #[inline]
 pub(crate) fn distinct_run<T, F: FnMut(&mut T, &mut T) -> bool>(
     elements: &mut [T],
     same: &mut F,
 ) -> usize
     requires some { 0 < length elements.old }
-    requires callable { MayDeduplicate (CalledAtPairMut F.FnMut) (TakesPairMut F.FnMut) same.old elements.old }
+    requires callable { MayDeduplicate (CalledAtPairMut F.FnMut)
+        (TakesPairMut F.FnMut) same.old elements.old }
     ensures within { result < length elements.old }
-    ensures asked { ChainsAlong (CalledAtPairMut F.FnMut) same.old elements.old result same.new elements.new }
+    ensures asked { ChainsAlong (CalledAtPairMut F.FnMut) same.old elements.old
+        result same.new elements.new }
 {
     let last = elements.len() - 1;
     if last == 0 {
@@ -104,8 +124,10 @@ fn ask_neighbours<T, F: FnMut(&mut T, &mut T) -> bool>(
     at: usize,
 ) -> bool
     requires within { at + 1 < length elements.old }
-    requires callable { (l x : T) (xs : List T) → drop at elements.old ≡ l ∷ x ∷ xs → TakesPairMut F.FnMut same.old x l }
-    ensures { AsksNeighbours (CalledAtPairMut F.FnMut) same.old elements.old at result same.new elements.new }
+    requires callable { (l x : T) (xs : List T) → drop at elements.old ≡ l ∷ x ∷ xs
+        → TakesPairMut F.FnMut same.old x l }
+    ensures { AsksNeighbours (CalledAtPairMut F.FnMut) same.old elements.old at
+        result same.new elements.new }
 {
     let (before, behind) = elements.split_at_mut(at + 1);
     ask_pair(same, &mut behind[0], &mut before[at])
@@ -119,7 +141,8 @@ fn ask_pair<'a, T, F: FnMut(&mut T, &mut T) -> bool>(
     last: &'a mut T,
 ) -> bool
     requires { TakesPairMut F.FnMut same.old element.old last.old }
-    ensures { CalledAtPairMut F.FnMut same.old element.old last.old result same.new element.new last.new }
+    ensures { CalledAtPairMut F.FnMut same.old element.old last.old result
+        same.new element.new last.new }
 {
     same(element, last)
 }
@@ -132,7 +155,8 @@ pub(crate) fn same_keys<T, K: PartialEq + Drop, F: FnMut(&mut T) -> K>(
     last: &mut T,
 ) -> bool
     requires { TakesForKeys F.FnMut key.old element.old last.old }
-    ensures { ComparesKeys F.FnMut K.eq key.old element.old last.old result key.new element.new last.new }
+    ensures { ComparesKeys F.FnMut K.eq key.old element.old last.old result
+        key.new element.new last.new }
 {
     let first = ask(key, element);
     let second = ask(key, last);

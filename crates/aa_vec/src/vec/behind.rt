@@ -1,5 +1,5 @@
-//! Elements in the places behind the last one: a call sets its elements back there, and closes the gaps that it makes. Places
-//! are counted from the last element on.
+//! Elements in the places behind the last one: a call sets its elements back there, and closes the
+//! gaps that it makes. Places are counted from the last element on.
 ghost use Rattle.std.specs.Prelude.{◌≡◌, ◌+◌, ◌-◌, ◌<◌, ◌≤◌, [], ◌∷◌, slice_set, None};
 ghost use Rattle.aa_vec.specs.Vector.{len};
 ghost use Rattle.aa_vec.specs.Behind.{StandsBehind, SetsBack, ClosesGap, DropsBehind, DropsAndCloses, ClosesTwice, behind_items, with_behind};
@@ -81,24 +81,28 @@ impl<T, A: Allocator> Vec<T, A> {
         self.block.drop_run(len + gap, count);
     }
 
-    // Drops the elements from place `front` up to `back` behind the others, and moves those from `end` up to `total` down.
+    // Drops the elements from place `front` up to `back` behind the others, and moves those from
+    // `end` up to `total` down.
     #[tactic(auto, using(crate::proofs::Drained::closing))]
     pub(crate) fn drop_and_close(&mut self, front: usize, back: usize, end: usize, total: usize)
     where
         T: Drop,
         requires ordered { (front ≤ back) × (back ≤ end) × (end ≤ total) }
-        requires held { StandsBehind self.old front (back - front) × StandsBehind self.old end (total - end) }
+        requires held { StandsBehind self.old front (back - front)
+            × StandsBehind self.old end (total - end) }
         ensures { DropsAndCloses self.old end (total - end) self.new }
     {
         self.drop_behind(front, back - front);
         self.close_gap(end, total - end);
     }
 
-    // Moves the elements from place `front` up to `back` behind the others down, and then those from `end` up to `total`.
+    // Moves the elements from place `front` up to `back` behind the others down, and then those
+    // from `end` up to `total`.
     #[tactic(auto, using(crate::proofs::Drained::closing))]
     pub(crate) fn close_gaps(&mut self, front: usize, back: usize, end: usize, total: usize)
         requires ordered { (front ≤ back) × (back ≤ end) × (end ≤ total) }
-        requires held { StandsBehind self.old front (back - front) × StandsBehind self.old end (total - end) }
+        requires held { StandsBehind self.old front (back - front)
+            × StandsBehind self.old end (total - end) }
         ensures { ClosesTwice self.old front (back - front) end (total - end) self.new }
     {
         let kept = back - front;
@@ -106,7 +110,8 @@ impl<T, A: Allocator> Vec<T, A> {
         self.close_gap(end - kept, total - end);
     }
 
-    // Moves the `kept` elements behind the others down, and then those from place `front` up to `total`.
+    // Moves the `kept` elements behind the others down, and then those from place `front` up to
+    // `total`.
     #[tactic(auto, using(crate::proofs::Drained::closing))]
     pub(crate) fn close_kept(&mut self, kept: usize, front: usize, end: usize, total: usize)
         requires ordered { (kept ≤ front) × (front ≤ end) × (end ≤ total) }

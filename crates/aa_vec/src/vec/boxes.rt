@@ -11,9 +11,10 @@ use aa_raw::collections::Refused;
 use std::alloc::Allocator;
 
 impl<T, A: Allocator> Vec<T, A> {
-    /// The elements as a boxed slice. Where there is room for more, it is given back as by `shrink_to_fit`; so it takes memory
-    /// only where the length is neither 0 nor the capacity, and elements have a size. A refusal hands the vector back as it was:
-    /// `AllocError` with the length. It stands for `Vec::into_boxed_slice`, which aborts on a refusal.
+    /// The elements as a boxed slice. Where there is room for more, it is given back as by
+    /// `shrink_to_fit`; so it takes memory only where the length is neither 0 nor the capacity, and
+    /// elements have a size. A refusal hands the vector back as it was: `AllocError` with the
+    /// length. It stands for `Vec::into_boxed_slice`, which aborts on a refusal.
     #[tactic(auto, using(aa_raw::proofs::Calls::at_ends))]
     pub fn into_boxed_slice(self) -> Result<BoxedSlice<T, A>, Refused<Self>>
         ensures made { IfOk result (λ b. b ≡ boxed self) }
@@ -39,15 +40,16 @@ impl<T, A: Allocator> Vec<T, A> {
     }
 }
 
-/// What can give its list up as a vector. The original has `into_vec` as a call of the boxed slice itself; here the boxed slice
-/// stands below the vector.
+/// What can give its list up as a vector. The original has `into_vec` as a call of the boxed slice
+/// itself; here the boxed slice stands below the vector.
 pub trait SliceIntoVec<T, A: Allocator> {
     ghost use Rattle.aa_boxed.specs.Slice.{Slice};
 
     /// The list as a boxed slice.
     ghost as_slice: { Self → Slice T A };
 
-    /// The list as a vector with room for no more. It takes no memory. It stands for `Box<[T], A>::into_vec`.
+    /// The list as a vector with room for no more. It takes no memory. It stands for `Box<[T],
+    /// A>::into_vec`.
     fn into_vec(self) -> Vec<T, A>
         ensures { IsUnboxed (type_size T.row) (as_slice self) result };
 }

@@ -14,8 +14,9 @@ use core::mem::replace_with;
 use std::alloc::Allocator;
 
 impl<T: Drop, A: Allocator> Vec<T, A> {
-    /// Asks `f` of each element once, in order, and keeps those at which it answers true. The others are dropped. The order and
-    /// the capacity stay; it takes no memory. It stands for `Vec::retain`.
+    /// Asks `f` of each element once, in order, and keeps those at which it answers true. The
+    /// others are dropped. The order and the capacity stay; it takes no memory. It stands for
+    /// `Vec::retain`.
     pub fn retain<F: FnMut(&T) -> bool + Drop>(&mut self, mut f: F)
         requires { IsCallableInOrder (Reads F.FnMut) (TakesAt F.FnMut) f self.old.items }
         ensures { (last : F) × Retains (Reads F.FnMut) f self.old last self.new }
@@ -28,8 +29,9 @@ impl<T: Drop, A: Allocator> Vec<T, A> {
         );
     }
 
-    /// Asks `f` of each element once, in order, and keeps those at which it answers true, as it leaves them. The others are
-    /// dropped as it leaves them. The order and the capacity stay; it takes no memory. It stands for `Vec::retain_mut`.
+    /// Asks `f` of each element once, in order, and keeps those at which it answers true, as it
+    /// leaves them. The others are dropped as it leaves them. The order and the capacity stay; it
+    /// takes no memory. It stands for `Vec::retain_mut`.
     pub fn retain_mut<F: FnMut(&mut T) -> bool + Drop>(&mut self, mut f: F)
         requires { IsCallableInOrder (CalledAtMut F.FnMut) (TakesMut F.FnMut) f self.old.items }
         ensures { (last : F) × Retains (CalledAtMut F.FnMut) f self.old last self.new }
@@ -37,80 +39,92 @@ impl<T: Drop, A: Allocator> Vec<T, A> {
         self.retain_by(&mut f);
     }
 
-    /// Drops each element but the first whose key equals that of the last one that was kept before it. `key` is asked anew for
-    /// both elements of each comparison, first for the one under test. The order and the capacity stay; it takes no memory. It
-    /// stands for `Vec::dedup_by_key`.
+    /// Drops each element but the first whose key equals that of the last one that was kept before
+    /// it. `key` is asked anew for both elements of each comparison, first for the one under test.
+    /// The order and the capacity stay; it takes no memory. It stands for `Vec::dedup_by_key`.
     pub fn dedup_by_key<K: PartialEq + Drop, F: FnMut(&mut T) -> K + Drop>(&mut self, mut key: F)
-        requires { IsCallableAlong (ComparesKeys F.FnMut K.eq) (TakesForKeys F.FnMut) key self.old.items }
+        requires { IsCallableAlong (ComparesKeys F.FnMut K.eq)
+            (TakesForKeys F.FnMut) key self.old.items }
         ensures { (last : F) × Deduplicates (ComparesKeys F.FnMut K.eq) key self.old last self.new }
     {
         self.dedup_within_key(&mut key);
     }
 
-    /// Asks `same_bucket` of each element but the first, in order, beside the last one that was kept before it, and drops it
-    /// where the answer is true. Both stay as `same_bucket` leaves them. The order and the capacity stay; it takes no memory. It
-    /// stands for `Vec::dedup_by`.
+    /// Asks `same_bucket` of each element but the first, in order, beside the last one that was
+    /// kept before it, and drops it where the answer is true. Both stay as `same_bucket` leaves
+    /// them. The order and the capacity stay; it takes no memory. It stands for `Vec::dedup_by`.
     pub fn dedup_by<F: FnMut(&mut T, &mut T) -> bool + Drop>(&mut self, mut same_bucket: F)
-        requires { IsCallableAlong (CalledAtPairMut F.FnMut) (TakesPairMut F.FnMut) same_bucket self.old.items }
-        ensures { (last : F) × Deduplicates (CalledAtPairMut F.FnMut) same_bucket self.old last self.new }
+        requires { IsCallableAlong (CalledAtPairMut F.FnMut) (TakesPairMut F.FnMut)
+            same_bucket self.old.items }
+        ensures { (last : F)
+            × Deduplicates (CalledAtPairMut F.FnMut) same_bucket self.old last self.new }
     {
         self.dedup_within(&mut same_bucket);
     }
 
-    /// Asks `keep` of each element once, in order, and keeps those at which it answers true, as it leaves them. The others are
-    /// dropped as it leaves them. The order and the capacity stay; it takes no memory. This is `retain_mut` by a closure that is
-    /// lent, so that the caller knows what becomes of it.
+    /// Asks `keep` of each element once, in order, and keeps those at which it answers true, as it
+    /// leaves them. The others are dropped as it leaves them. The order and the capacity stay; it
+    /// takes no memory. This is `retain_mut` by a closure that is lent, so that the caller knows
+    /// what becomes of it.
     pub fn retain_by<F: FnMut(&mut T) -> bool>(&mut self, keep: &mut F)
-        requires { IsCallableInOrder (CalledAtMut F.FnMut) (TakesMut F.FnMut) keep.old self.old.items }
+        requires { IsCallableInOrder (CalledAtMut F.FnMut)
+            (TakesMut F.FnMut) keep.old self.old.items }
         ensures { Retains (CalledAtMut F.FnMut) keep.old self.old keep.new self.new }
     {
         let _keep = replace_with(self, keep, retained);
     }
 
-    /// Asks `same` of each element but the first, in order, beside the last one that was kept before it, and drops it where the
-    /// answer is true. Both stay as `same` leaves them. The order and the capacity stay; it takes no memory. This is `dedup_by`
-    /// by a closure that is lent, so that the caller knows what becomes of it.
+    /// Asks `same` of each element but the first, in order, beside the last one that was kept
+    /// before it, and drops it where the answer is true. Both stay as `same` leaves them. The order
+    /// and the capacity stay; it takes no memory. This is `dedup_by` by a closure that is lent, so
+    /// that the caller knows what becomes of it.
     pub fn dedup_within<F: FnMut(&mut T, &mut T) -> bool>(&mut self, same: &mut F)
-        requires { IsCallableAlong (CalledAtPairMut F.FnMut) (TakesPairMut F.FnMut) same.old self.old.items }
+        requires { IsCallableAlong (CalledAtPairMut F.FnMut) (TakesPairMut F.FnMut)
+            same.old self.old.items }
         ensures { Deduplicates (CalledAtPairMut F.FnMut) same.old self.old same.new self.new }
     {
         let _same = replace_with(self, same, deduplicated);
     }
 
-    /// Drops each element but the first whose key equals that of the last one that was kept before it. `key` is asked anew for
-    /// both elements of each comparison, first for the one under test. The order and the capacity stay; it takes no memory. This
-    /// is `dedup_by_key` by a closure that is lent, so that the caller knows what becomes of it.
+    /// Drops each element but the first whose key equals that of the last one that was kept before
+    /// it. `key` is asked anew for both elements of each comparison, first for the one under test.
+    /// The order and the capacity stay; it takes no memory. This is `dedup_by_key` by a closure
+    /// that is lent, so that the caller knows what becomes of it.
     pub fn dedup_within_key<K: PartialEq + Drop, F: FnMut(&mut T) -> K>(&mut self, key: &mut F)
-        requires { IsCallableAlong (ComparesKeys F.FnMut K.eq) (TakesForKeys F.FnMut) key.old self.old.items }
+        requires { IsCallableAlong (ComparesKeys F.FnMut K.eq) (TakesForKeys F.FnMut)
+            key.old self.old.items }
         ensures { Deduplicates (ComparesKeys F.FnMut K.eq) key.old self.old key.new self.new }
     {
         self.dedup_within(
             &mut move |element: &mut T, last: &mut T|
                 requires { TakesForKeys F.FnMut key.now element.old last.old }
                 ensures same_reference { key.exit.ghost_name ≡ key.entry.ghost_name }
-                ensures asked { ComparesKeys F.FnMut K.eq key.entry.now element.old last.old result key.exit.now element.new last.new }
+                ensures asked { ComparesKeys F.FnMut K.eq key.entry.now element.old last.old result
+                    key.exit.now element.new last.new }
             { same_keys(key, element, last) },
         );
     }
 }
 
 impl<T: PartialEq + Drop, A: Allocator> Vec<T, A> {
-    /// Drops each element that equals the last one that was kept before it. The order and the capacity stay; it takes no memory.
-    /// It stands for `Vec::dedup`.
+    /// Drops each element that equals the last one that was kept before it. The order and the
+    /// capacity stay; it takes no memory. It stands for `Vec::dedup`.
     pub fn dedup(&mut self)
         ensures items { self.new.items ≡ dedup T.eq self.old.items }
         ensures removed { Deduplicates (Equals T.eq) tt self.old tt self.new }
     {
         self.dedup_within(
             &mut |element: &mut T, last: &mut T|
-                ensures { (result ≡ T.eq element.old last.old) × (element.new ≡ element.old) × (last.new ≡ last.old) }
+                ensures { (result ≡ T.eq element.old last.old) × (element.new ≡ element.old)
+                    × (last.new ≡ last.old) }
             { *element == *last },
         );
     }
 }
 
 impl<T, A: Allocator> Vec<T, A> {
-    // Asks the `count` elements after the gap in order, up to the first that is not kept. It answers how many are kept before it.
+    // Asks the `count` elements after the gap in order, up to the first that is not kept. It
+    // answers how many are kept before it.
     #[inline(always)]
     #[tactic(auto, using(crate::proofs::Chains::lents))]
     fn keep_behind<F: FnMut(&mut T) -> bool>(
@@ -120,16 +134,18 @@ impl<T, A: Allocator> Vec<T, A> {
         keep: &mut F,
     ) -> usize
         requires stands { StandsBehind self.old gap count }
-        requires callable { MayAskInOrder (CalledAtMut F.FnMut) (TakesMut F.FnMut) keep.old (behind_items self.old gap count) }
-        ensures { AsksBehind (CalledAtMut F.FnMut) keep.old self.old gap count result keep.new self.new }
+        requires callable { MayAskInOrder (CalledAtMut F.FnMut) (TakesMut F.FnMut) keep.old
+            (behind_items self.old gap count) }
+        ensures { AsksBehind (CalledAtMut F.FnMut) keep.old self.old gap count
+            result keep.new self.new }
     {
         // It does nothing but tell the prover that places are at most `usize::MAX`.
         let _within = self.block.capacity();
-        count_kept(self.block.slice_mut(self.len + gap, count), keep)
+        count_kept(self.block.slice_mut(self.len + gap, count), true, keep)
     }
 
-    // Asks the `count` elements after the gap in order, each beside the last one kept before it, up to the first repeat. It
-    // answers how many are kept before it.
+    // Asks the `count` elements after the gap in order, each beside the last one kept before it, up
+    // to the first repeat. It answers how many are kept before it.
     #[inline(always)]
     #[tactic(auto, using(crate::proofs::Chains::chains))]
     fn chain_behind<F: FnMut(&mut T, &mut T) -> bool>(
@@ -140,8 +156,11 @@ impl<T, A: Allocator> Vec<T, A> {
     ) -> usize
         requires some { 0 < len self.old }
         requires stands { StandsBehind self.old gap count }
-        requires callable { (front : List T) (last : T) → self.old.items ≡ front ++ last ∷ [] → MayChainFrom (CalledAtPairMut F.FnMut) (TakesPairMut F.FnMut) same.old last (behind_items self.old gap count) }
-        ensures { ChainsBehind (CalledAtPairMut F.FnMut) same.old self.old gap count result same.new self.new }
+        requires callable { (front : List T) (last : T) → self.old.items ≡ front ++ last ∷ []
+            → MayChainFrom (CalledAtPairMut F.FnMut) (TakesPairMut F.FnMut) same.old last
+            (behind_items self.old gap count) }
+        ensures { ChainsBehind (CalledAtPairMut F.FnMut) same.old self.old gap count
+            result same.new self.new }
     {
         if count == 0 {
             return 0;
@@ -152,8 +171,8 @@ impl<T, A: Allocator> Vec<T, A> {
         1 + self.chain_on(gap, count, same)
     }
 
-    // Asks the `count` elements after the gap behind the first of them in order, each beside the one before it, up to the first
-    // repeat. It answers how many are kept before it.
+    // Asks the `count` elements after the gap behind the first of them in order, each beside the
+    // one before it, up to the first repeat. It answers how many are kept before it.
     #[inline(always)]
     #[tactic(auto, using(crate::proofs::Chains::lents))]
     fn chain_on<F: FnMut(&mut T, &mut T) -> bool>(
@@ -164,9 +183,11 @@ impl<T, A: Allocator> Vec<T, A> {
     ) -> usize
         requires some { 0 < count }
         requires stands { StandsBehind self.old gap count }
-        requires callable { MayDeduplicate (CalledAtPairMut F.FnMut) (TakesPairMut F.FnMut) same.old (behind_items self.old gap count) }
+        requires callable { MayDeduplicate (CalledAtPairMut F.FnMut) (TakesPairMut F.FnMut) same.old
+            (behind_items self.old gap count) }
         ensures within { result < count }
-        ensures asked { ChainsOn (CalledAtPairMut F.FnMut) same.old self.old gap count result same.new self.new }
+        ensures asked { ChainsOn (CalledAtPairMut F.FnMut) same.old self.old gap count
+            result same.new self.new }
     {
         let _within = self.block.capacity();
         distinct_run(self.block.slice_mut(self.len + gap, count), same)
@@ -177,8 +198,10 @@ impl<T, A: Allocator> Vec<T, A> {
     fn ask_last<F: FnMut(&mut T, &mut T) -> bool>(&mut self, gap: usize, same: &mut F) -> bool
         requires some { 0 < len self.old }
         requires stands { StandsBehind self.old gap 1 }
-        requires callable { (front : List T) (last x : T) → self.old.items ≡ front ++ last ∷ [] → behind_items self.old gap 1 ≡ x ∷ [] → TakesPairMut F.FnMut same.old x last }
-        ensures { AsksLast (CalledAtPairMut F.FnMut) same.old self.old gap result same.new self.new }
+        requires callable { (front : List T) (last x : T) → self.old.items ≡ front ++ last ∷ []
+            → behind_items self.old gap 1 ≡ x ∷ [] → TakesPairMut F.FnMut same.old x last }
+        ensures { AsksLast (CalledAtPairMut F.FnMut) same.old self.old gap
+            result same.new self.new }
     {
         let len = self.len;
         let _within = self.block.capacity();
@@ -186,8 +209,8 @@ impl<T, A: Allocator> Vec<T, A> {
     }
 }
 
-// The loops own the vector, so that its fields stay in registers, and hand the closure back. Before the first element that goes
-// none is moved.
+// The loops own the vector, so that its fields stay in registers, and hand the closure back. Before
+// the first element that goes none is moved.
 
 // `retain_by`.
 fn retained<'a, T: Drop, A: Allocator, F: FnMut(&mut T) -> bool>(
@@ -215,7 +238,8 @@ fn deduplicated<'a, T: Drop, A: Allocator, F: FnMut(&mut T, &mut T) -> bool>(
     mut list: Vec<T, A>,
     same: &'a mut F,
 ) -> (Vec<T, A>, &'a mut F)
-    requires { IsCallableAlong (CalledAtPairMut F.FnMut) (TakesPairMut F.FnMut) same.old list.items }
+    requires { IsCallableAlong (CalledAtPairMut F.FnMut)
+        (TakesPairMut F.FnMut) same.old list.items }
     ensures same_reference { result.1.ghost_name ≡ same.entry.ghost_name }
     ensures removes { Deduplicates (CalledAtPairMut F.FnMut) same.old list result.1.now result.0 }
 {
@@ -235,8 +259,9 @@ fn deduplicated<'a, T: Drop, A: Allocator, F: FnMut(&mut T, &mut T) -> bool>(
     (list, same)
 }
 
-// Of the elements after the gap, which are those in the places from `at` up to `end`, moves the first `kept` down to the last item,
-// and drops the one behind them, if there is one. It answers the next place. None and one are far less work than a run.
+// Of the elements after the gap, which are those in the places from `at` up to `end`, moves the
+// first `kept` down to the last item, and drops the one behind them, if there is one. It answers
+// the next place. None, one and two are far less work than a run.
 #[inline(always)]
 fn passed<T: Drop, A: Allocator>(
     mut list: Vec<T, A>,
@@ -251,6 +276,9 @@ fn passed<T: Drop, A: Allocator>(
     requires stands { StandsBehind list gap (end - at) }
     ensures { TakesNext list gap at end kept result.0 result.1 }
 {
+    if 2 < kept {
+        return first_passed(list, gap, at, end, kept);
+    }
     let left = end - at;
     if kept == 0 {
         drop(list.take_behind(gap));
@@ -264,7 +292,7 @@ fn passed<T: Drop, A: Allocator>(
         }
         return (list, end);
     }
-    first_passed(list, gap, at, end, kept)
+    first_passed(list, gap, at, end, 2)
 }
 
 // The same of any number, and after any gap.

@@ -25,7 +25,8 @@ impl<T: Debug, A: Allocator> Debug for Vec<T, A> {
 impl<T: Hash, A: Allocator> Hash for Vec<T, A> {
     ghost hash_input = { λ v. fed.slice T.hash_input v.items };
 
-    ghost respects_eq = { (on_Alike (λ v. v.items) (items_Alike (record { fed = T.respects_eq }))).fed };
+    ghost respects_eq = { (on_Alike (λ v. v.items)
+        (items_Alike (record { fed = T.respects_eq }))).fed };
 
     /// Hashes the length, and then the elements in order.
     fn hash<H: Hasher>(&self, state: &mut H) {
@@ -53,7 +54,8 @@ impl<T: PartialOrd, A: Allocator> PartialOrd for Vec<T, A> {
 
     ghost laws = { on_po (λ v. v.items) (lists_po T.PartialOrd.laws) };
 
-    /// The order of the first elements that are not equal, or of the lengths where one list begins the other.
+    /// The order of the first elements that are not equal, or of the lengths where one list begins
+    /// the other.
     fn partial_cmp(&self, other: &Self) -> Option<Ordering> {
         compared_in_part(self.as_slice(), other.as_slice())
     }
@@ -66,9 +68,11 @@ impl<T: Ord, A: Allocator> Ord for Vec<T, A> {
 
     ghost matches_eq = { λ left right. lists_ties T.cmp T.matches_eq left.items right.items };
 
-    ghost matches_partial_cmp = { λ left right. lists_agrees T.matches_partial_cmp left.items right.items };
+    ghost matches_partial_cmp = { λ left right.
+        lists_agrees T.matches_partial_cmp left.items right.items };
 
-    /// The order of the first elements that are not equal, or of the lengths where one list begins the other.
+    /// The order of the first elements that are not equal, or of the lengths where one list begins
+    /// the other.
     fn cmp(&self, other: &Self) -> Ordering {
         compared(self.as_slice(), other.as_slice())
     }

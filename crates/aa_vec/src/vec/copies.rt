@@ -1,5 +1,5 @@
 //! Clones of elements, put behind the last one.
-ghost use Rattle.std.specs.Prelude.{◌≡◌, ◌+◌, ◌-◌, ◌<◌, ◌≤◌, [], ◌∷◌, ◌++◌, false, length, take, drop, replicate, All, IsTrue, IfErr, OnOk, OnErr, IsOk};
+ghost use Rattle.std.specs.Prelude.{◌≡◌, ◌+◌, ◌-◌, ◌<◌, ◌≤◌, [], ◌∷◌, ◌++◌, false, length, take, drop, slice_range, replicate, All, IsTrue, IfErr, OnOk, OnErr, IsOk};
 ghost use Rattle.std.specs.Mem.{type_size};
 ghost use Rattle.aa_vec.specs.Vector.{len, HasRoom, LacksRoom, GrowsTo, Holds, Writes, with_items};
 ghost use Rattle.aa_vec.specs.Copies.{Copies, IsBeginning, Adds, AddsAnswers, Fills, Undone, Extends, Lengthens, LengthensBy, MayCallTimes, Refuses, StopsAssigning};
@@ -11,15 +11,21 @@ use std::alloc::Allocator;
 use std::ops::Range;
 
 impl<T: Clone, A: Allocator> Vec<T, A> {
-    /// Puts a clone of each element of `other` behind the last one. It makes room for all of them before the first clone, as
-    /// `try_reserve` does and refused as that is. Where a clone is refused, the clones made so far are dropped, the capacity
-    /// stays as it is then, and the error is `AllocError` with the length asked for. It stands for `Vec::extend_from_slice`.
+    /// Puts a clone of each element of `other` behind the last one. It makes room for all of them
+    /// before the first clone, as `try_reserve` does and refused as that is. Where a clone is
+    /// refused, the clones made so far are dropped, the capacity stays as it is then, and the error
+    /// is `AllocError` with the length asked for. It stands for `Vec::extend_from_slice`.
     pub fn extend_from_slice(&mut self, other: &[T]) -> Result<(), TryReserveError>
-        ensures fits { HasRoom self.old (length other.now) → All T.is_infallible other.now → IsOk result }
-        ensures extended { OnOk result (Extends T.is_clone (type_size T.row) self.old other.now self.new) }
-        ensures copied { Copies T.is_clone → OnOk result (GrowsTo (type_size T.row) self.old (length other.now) (self.old.items ++ other.now) self.new) }
-        ensures writes { OnOk result (Writes self.old (length other.now) (length other.now) self.new) }
-        ensures refused { IfErr result (λ e. Refuses (¬ (All T.is_infallible other.now)) (type_size T.row) self.old (length other.now) e self.new) }
+        ensures fits { HasRoom self.old (length other.now)
+            → All T.is_infallible other.now → IsOk result }
+        ensures extended { OnOk result
+            (Extends T.is_clone (type_size T.row) self.old other.now self.new) }
+        ensures copied { Copies T.is_clone → OnOk result (GrowsTo (type_size T.row) self.old
+            (length other.now) (self.old.items ++ other.now) self.new) }
+        ensures writes { OnOk result
+            (Writes self.old (length other.now) (length other.now) self.new) }
+        ensures refused { IfErr result (λ e. Refuses (¬ (All T.is_infallible other.now))
+            (type_size T.row) self.old (length other.now) e self.new) }
     {
         let len = self.len();
         let count = other.len();
@@ -37,16 +43,23 @@ impl<T: Clone, A: Allocator> Vec<T, A> {
         .into())
     }
 
-    /// Puts a clone of each element of the range behind the last one; it is refused as `extend_from_slice` is. It stands for
-    /// `Vec::extend_from_within`.
+    /// Puts a clone of each element of the range behind the last one; it is refused as
+    /// `extend_from_slice` is. It stands for `Vec::extend_from_within`.
     #[tactic(auto, using(crate::proofs::Copied::copied))]
     pub fn extend_from_within(&mut self, range: Range<usize>) -> Result<(), TryReserveError>
         requires { (range.start ≤ range.end) × (range.end ≤ len self.old) }
-        ensures fits { HasRoom self.old (range.end - range.start) → All T.is_infallible (take (range.end - range.start) (drop range.start self.old.items)) → IsOk result }
-        ensures extended { OnOk result (Extends T.is_clone (type_size T.row) self.old (take (range.end - range.start) (drop range.start self.old.items)) self.new) }
-        ensures copied { Copies T.is_clone → OnOk result (GrowsTo (type_size T.row) self.old (range.end - range.start) (self.old.items ++ take (range.end - range.start) (drop range.start self.old.items)) self.new) }
-        ensures writes { OnOk result (Writes self.old (range.end - range.start) (range.end - range.start) self.new) }
-        ensures refused { IfErr result (λ e. Refuses (¬ (All T.is_infallible (take (range.end - range.start) (drop range.start self.old.items)))) (type_size T.row) self.old (range.end - range.start) e self.new) }
+        ensures fits { HasRoom self.old (range.end - range.start)
+            → All T.is_infallible (slice_range self.old.items range.start range.end) → IsOk result }
+        ensures extended { OnOk result (Extends T.is_clone (type_size T.row) self.old
+            (slice_range self.old.items range.start range.end) self.new) }
+        ensures copied { Copies T.is_clone
+            → OnOk result (GrowsTo (type_size T.row) self.old (range.end - range.start)
+            (self.old.items ++ slice_range self.old.items range.start range.end) self.new) }
+        ensures writes { OnOk result
+            (Writes self.old (range.end - range.start) (range.end - range.start) self.new) }
+        ensures refused { let own = slice_range self.old.items range.start range.end in
+            IfErr result (λ e. Refuses (¬ (All T.is_infallible own))
+            (type_size T.row) self.old (range.end - range.start) e self.new) }
     {
         let len = self.len();
         let count = range.end - range.start;
@@ -63,17 +76,28 @@ impl<T: Clone, A: Allocator> Vec<T, A> {
         .into())
     }
 
-    /// Cuts the vector to `new_len` elements as `truncate` does, or fills it up to that many: with clones of `value`, and with
-    /// `value` itself in the last place. It makes room for all of them before the first clone, and is refused as
-    /// `extend_from_slice` is. It stands for `Vec::resize`.
+    /// Cuts the vector to `new_len` elements as `truncate` does, or fills it up to that many: with
+    /// clones of `value`, and with `value` itself in the last place. It makes room for all of them
+    /// before the first clone, and is refused as `extend_from_slice` is. It stands for
+    /// `Vec::resize`.
     #[tactic(auto, using(crate::proofs::Copied::copied))]
     pub fn resize(&mut self, new_len: usize, value: T) -> Result<(), TryReserveError>
-        ensures fits { HasRoom self.old (new_len - len self.old) → (len self.old + 1 < new_len → T.is_infallible value) → IsOk result }
-        ensures cut { new_len ≤ len self.old → IsOk result × Holds self.old (take new_len self.old.items) self.new }
-        ensures filled { OnOk result (len self.old < new_len → Lengthens T.is_clone (type_size T.row) self.old (new_len - len self.old) value self.new) }
-        ensures copied { Copies T.is_clone → OnOk result (GrowsTo (type_size T.row) self.old (new_len - len self.old) (take new_len self.old.items ++ replicate (new_len - len self.old) value) self.new) }
-        ensures writes { OnOk result (Writes self.old (new_len - len self.old) (new_len - len self.old) self.new) }
-        ensures refused { IfErr result (λ e. (len self.old < new_len) × Refuses ((len self.old + 1 < new_len) × (¬ (T.is_infallible value))) (type_size T.row) self.old (new_len - len self.old) e self.new) }
+        ensures fits { HasRoom self.old (new_len - len self.old)
+            → (len self.old + 1 < new_len → T.is_infallible value) → IsOk result }
+        ensures cut { new_len ≤ len self.old
+            → Holds self.old (take new_len self.old.items) self.new }
+        ensures cut_done { new_len ≤ len self.old → IsOk result }
+        ensures filled { OnOk result (len self.old < new_len → Lengthens T.is_clone
+            (type_size T.row) self.old (new_len - len self.old) value self.new) }
+        ensures copied { let more = new_len - len self.old in
+            Copies T.is_clone → OnOk result (GrowsTo (type_size T.row) self.old more
+            (take new_len self.old.items ++ replicate more value) self.new) }
+        ensures writes { OnOk result
+            (Writes self.old (new_len - len self.old) (new_len - len self.old) self.new) }
+        ensures only_longer { OnErr result (len self.old < new_len) }
+        ensures refused { IfErr result
+            (λ e. Refuses ((len self.old + 1 < new_len) × (¬ (T.is_infallible value)))
+            (type_size T.row) self.old (new_len - len self.old) e self.new) }
     {
         let len = self.len();
         if new_len <= len {
@@ -89,17 +113,24 @@ impl<T: Clone, A: Allocator> Vec<T, A> {
         Err(TryReserveErrorKind::AllocError { capacity: new_len }.into())
     }
 
-    /// Drops all elements, and puts a clone of each element of `other` in their place. It makes room for all of them before the
-    /// first clone; a refusal leaves clones of a beginning of `other`, or nothing, and is `CapacityOverflow`, or `AllocError`
-    /// with a capacity of at least the length of `other`. It stands for the original's `Clone::clone_from`.
+    /// Drops all elements, and puts a clone of each element of `other` in their place. It makes
+    /// room for all of them before the first clone; a refusal leaves clones of a beginning of
+    /// `other`, or nothing, and is `CapacityOverflow`, or `AllocError` with a capacity of at least
+    /// the length of `other`. It stands for the original's `Clone::clone_from`.
     #[tactic(auto, using(crate::proofs::Copied::copied))]
     pub fn assign_from(&mut self, other: &Self) -> Result<(), TryReserveError>
-        ensures fits { len other.now ≤ self.old.capacity → All T.is_infallible other.now.items → IsOk result }
-        ensures assigned { OnOk result (Extends T.is_clone (type_size T.row) (with_items self.old []) other.now.items self.new) }
-        ensures copied { Copies T.is_clone → OnOk result (GrowsTo (type_size T.row) (with_items self.old []) (len other.now) other.now.items self.new) }
+        ensures fits { len other.now ≤ self.old.capacity
+            → All T.is_infallible other.now.items → IsOk result }
+        ensures assigned { OnOk result (Extends T.is_clone (type_size T.row)
+            (with_items self.old []) other.now.items self.new) }
+        ensures copied { Copies T.is_clone → OnOk result (GrowsTo (type_size T.row)
+            (with_items self.old []) (len other.now) other.now.items self.new) }
         ensures writes { OnOk result (Writes self.old (len other.now) (len other.now) self.new) }
-        ensures begun { Copies T.is_clone → OnErr result (IsBeginning other.now.items self.new.items) }
-        ensures refused { IfErr result (λ e. StopsAssigning T.is_clone (¬ (All T.is_infallible other.now.items)) (type_size T.row) self.old other.now.items e self.new) }
+        ensures begun { Copies T.is_clone
+            → OnErr result (IsBeginning other.now.items self.new.items) }
+        ensures refused { IfErr result (λ e. StopsAssigning T.is_clone
+            (¬ (All T.is_infallible other.now.items))
+            (type_size T.row) self.old other.now.items e self.new) }
     {
         self.clear();
         let source = other.as_slice();
@@ -113,7 +144,8 @@ impl<T: Clone, A: Allocator> Vec<T, A> {
         Err(TryReserveErrorKind::AllocError { capacity: count }.into())
     }
 
-    // Puts clones of the elements of `source` behind the last one, up to the first clone that is refused. It answers how many.
+    // Puts clones of the elements of `source` behind the last one, up to the first clone that is
+    // refused. It answers how many.
     pub(crate) fn push_beginning(&mut self, source: &[T]) -> usize
         requires room { HasRoom self.old (length source.now) }
         ensures within { result ≤ length source.now }
@@ -123,11 +155,13 @@ impl<T: Clone, A: Allocator> Vec<T, A> {
         replace_with(self, source, with_beginning)
     }
 
-    // Puts a clone of each element of `source` behind the last one, or of none where a clone is refused.
+    // Puts a clone of each element of `source` behind the last one, or of none where a clone is
+    // refused.
     pub(crate) fn push_clones(&mut self, source: &[T]) -> bool
         requires room { HasRoom self.old (length source.now) }
         ensures pushed { IsTrue result → Adds T.is_clone self.old source.now self.new }
-        ensures refused { result ≡ false → (¬ (All T.is_infallible source.now)) × Undone self.old (length source.now) self.new }
+        ensures refused { result ≡ false → ¬ (All T.is_infallible source.now) }
+        ensures undone { result ≡ false → Undone self.old (length source.now) self.new }
     {
         let len = self.len();
         if self.push_beginning(source) == source.len() {
@@ -142,8 +176,10 @@ impl<T: Clone, A: Allocator> Vec<T, A> {
     fn push_own(&mut self, from: usize, count: usize) -> bool
         requires range { from + count ≤ len self.old }
         requires room { HasRoom self.old count }
-        ensures pushed { IsTrue result → Adds T.is_clone self.old (take count (drop from self.old.items)) self.new }
-        ensures refused { result ≡ false → ¬ (All T.is_infallible (take count (drop from self.old.items))) }
+        ensures pushed { IsTrue result
+            → Adds T.is_clone self.old (take count (drop from self.old.items)) self.new }
+        ensures refused { result ≡ false
+            → ¬ (All T.is_infallible (take count (drop from self.old.items))) }
         ensures undone { result ≡ false → Undone self.old count self.new }
     {
         let len = self.len();
@@ -158,8 +194,10 @@ impl<T: Clone, A: Allocator> Vec<T, A> {
     #[tactic(auto, using(crate::proofs::Copied::copied))]
     fn push_same(&mut self, value: &T, count: usize) -> bool
         requires room { HasRoom self.old count }
-        ensures pushed { IsTrue result → Adds T.is_clone self.old (replicate count value.now) self.new }
-        ensures refused { result ≡ false → (¬ (T.is_infallible value.now)) × Undone self.old count self.new }
+        ensures pushed { IsTrue result
+            → Adds T.is_clone self.old (replicate count value.now) self.new }
+        ensures refused { result ≡ false → ¬ (T.is_infallible value.now) }
+        ensures undone { result ≡ false → Undone self.old count self.new }
     {
         let len = self.len();
         if replace_with(self, (value, count), with_same) == count {
@@ -169,12 +207,14 @@ impl<T: Clone, A: Allocator> Vec<T, A> {
         false
     }
 
-    // Puts `count` elements behind the last one, clones of `value` and then `value` itself, or none where a clone is refused.
+    // Puts `count` elements behind the last one, clones of `value` and then `value` itself, or none
+    // where a clone is refused.
     pub(crate) fn fill(&mut self, count: usize, value: T) -> bool
         requires some { 0 < count }
         requires room { HasRoom self.old count }
         ensures filled { IsTrue result → Fills T.is_clone self.old count value self.new }
-        ensures refused { result ≡ false → (1 < count) × (¬ (T.is_infallible value)) × Undone self.old count self.new }
+        ensures refused { result ≡ false → (1 < count) × (¬ (T.is_infallible value)) }
+        ensures undone { result ≡ false → Undone self.old count self.new }
     {
         if !self.push_same(&value, count - 1) {
             return false;
@@ -185,9 +225,10 @@ impl<T: Clone, A: Allocator> Vec<T, A> {
 }
 
 impl<T, A: Allocator> Vec<T, A> {
-    /// Cuts the vector to `new_len` elements as `truncate` does, or fills it up to that many with what `f` answers, called once
-    /// for each new place, in order. It makes room for all of them before the first call, as `try_reserve` does and refused as
-    /// that is; then `f` is not called. It stands for `Vec::resize_with`.
+    /// Cuts the vector to `new_len` elements as `truncate` does, or fills it up to that many with
+    /// what `f` answers, called once for each new place, in order. It makes room for all of them
+    /// before the first call, as `try_reserve` does and refused as that is; then `f` is not called.
+    /// It stands for `Vec::resize_with`.
     #[tactic(auto, using(crate::proofs::Turns::turns))]
     pub fn resize_with<F: FnMut() -> T>(
         &mut self,
@@ -198,17 +239,24 @@ impl<T, A: Allocator> Vec<T, A> {
         T: Drop,
         requires callable { MayCallTimes (λ g. F.pre g) F.step (new_len - len self.old) f }
         ensures fits { HasRoom self.old (new_len - len self.old) → IsOk result }
-        ensures cut { new_len ≤ len self.old → IsOk result × Holds self.old (take new_len self.old.items) self.new }
-        ensures filled { OnOk result (len self.old < new_len → (last : F) × LengthensBy F.step (type_size T.row) self.old (new_len - len self.old) f last self.new) }
-        ensures writes { OnOk result (Writes self.old (new_len - len self.old) (new_len - len self.old) self.new) }
-        ensures refused { IfErr result (λ e. LacksRoom (type_size T.row) self.old (new_len - len self.old) e × (self.new ≡ self.old)) }
+        ensures cut { new_len ≤ len self.old
+            → Holds self.old (take new_len self.old.items) self.new }
+        ensures cut_done { new_len ≤ len self.old → IsOk result }
+        ensures filled { OnOk result (len self.old < new_len → (last : F) × LengthensBy F.step
+            (type_size T.row) self.old (new_len - len self.old) f last self.new) }
+        ensures writes { OnOk result
+            (Writes self.old (new_len - len self.old) (new_len - len self.old) self.new) }
+        ensures refused { IfErr result
+            (LacksRoom (type_size T.row) self.old (new_len - len self.old)) }
+        ensures unchanged { OnErr result (self.new ≡ self.old) }
     {
         self.resize_by(new_len, &mut f)
     }
 
-    /// Cuts the vector to `new_len` elements, or fills it up to that many with what `f` answers, called once for each new place,
-    /// in order. This is `resize_with` by a closure that is lent, so that the caller knows what becomes of it: where the vector
-    /// is cut, or no room is made, `f` is not called.
+    /// Cuts the vector to `new_len` elements, or fills it up to that many with what `f` answers,
+    /// called once for each new place, in order. This is `resize_with` by a closure that is lent,
+    /// so that the caller knows what becomes of it: where the vector is cut, or no room is made,
+    /// `f` is not called.
     #[tactic(auto, using(crate::proofs::Turns::turns))]
     pub fn resize_by<F: FnMut() -> T>(
         &mut self,
@@ -219,10 +267,18 @@ impl<T, A: Allocator> Vec<T, A> {
         T: Drop,
         requires callable { MayCallTimes (λ g. F.pre g) F.step (new_len - len self.old) f.old }
         ensures fits { HasRoom self.old (new_len - len self.old) → IsOk result }
-        ensures cut { new_len ≤ len self.old → IsOk result × Holds self.old (take new_len self.old.items) self.new × (f.new ≡ f.old) }
-        ensures filled { OnOk result (len self.old < new_len → LengthensBy F.step (type_size T.row) self.old (new_len - len self.old) f.old f.new self.new) }
-        ensures writes { OnOk result (Writes self.old (new_len - len self.old) (new_len - len self.old) self.new) }
-        ensures refused { IfErr result (λ e. LacksRoom (type_size T.row) self.old (new_len - len self.old) e × (self.new ≡ self.old) × (f.new ≡ f.old)) }
+        ensures cut { new_len ≤ len self.old
+            → Holds self.old (take new_len self.old.items) self.new }
+        ensures cut_done { new_len ≤ len self.old → IsOk result }
+        ensures cut_alone { new_len ≤ len self.old → f.new ≡ f.old }
+        ensures filled { OnOk result (len self.old < new_len → LengthensBy F.step
+            (type_size T.row) self.old (new_len - len self.old) f.old f.new self.new) }
+        ensures writes { OnOk result
+            (Writes self.old (new_len - len self.old) (new_len - len self.old) self.new) }
+        ensures refused { IfErr result
+            (LacksRoom (type_size T.row) self.old (new_len - len self.old)) }
+        ensures unchanged { OnErr result (self.new ≡ self.old) }
+        ensures not_called { OnErr result (f.new ≡ f.old) }
     {
         let len = self.len();
         if len < new_len {
@@ -259,8 +315,9 @@ impl<T, A: Allocator> Vec<T, A> {
     }
 }
 
-// The loops own the vector that they fill: nothing that is stored in its places can then change its fields, which stay in
-// registers. Each puts clones behind the last element, up to the first that is refused, and answers how many.
+// The loops own the vector that they fill: nothing that is stored in its places can then change its
+// fields, which stay in registers. Each puts clones behind the last element, up to the first that
+// is refused, and answers how many.
 
 // Clones of the elements of `source`.
 #[tactic(auto, using(crate::proofs::Copied::copied))]
@@ -281,14 +338,16 @@ fn with_beginning<T: Clone, A: Allocator>(mut list: Vec<T, A>, source: &[T]) -> 
     (list, count)
 }
 
-// Clones of as many of its own elements as the second number says, from the index on that the first is.
+// Clones of as many of its own elements as the second number says, from the index on that the first
+// is.
 #[tactic(auto, using(crate::proofs::Copied::copied))]
 fn with_own<T: Clone, A: Allocator>(mut list: Vec<T, A>, own: (usize, usize)) -> (Vec<T, A>, usize)
     requires range { own.0 + own.1 ≤ len list }
     requires room { HasRoom list own.1 }
     ensures within { result.1 ≤ own.1 }
     ensures pushed { Adds T.is_clone list (take result.1 (drop own.0 list.items)) result.0 }
-    ensures refused { result.1 < own.1 → ¬ (All T.is_infallible (take own.1 (drop own.0 list.items))) }
+    ensures refused { result.1 < own.1
+        → ¬ (All T.is_infallible (take own.1 (drop own.0 list.items))) }
 {
     let (from, count) = own;
     let _within = list.capacity();
@@ -306,7 +365,8 @@ fn with_own<T: Clone, A: Allocator>(mut list: Vec<T, A>, own: (usize, usize)) ->
 fn with_same<T: Clone, A: Allocator>(mut list: Vec<T, A>, same: (&T, usize)) -> (Vec<T, A>, usize)
     requires room { HasRoom list same.1 }
     ensures within { result.1 ≤ same.entry.1 }
-    ensures pushed { Adds T.is_clone list (take result.1 (replicate same.entry.1 same.entry.0.now)) result.0 }
+    ensures pushed { Adds T.is_clone list
+        (take result.1 (replicate same.entry.1 same.entry.0.now)) result.0 }
     ensures refused { result.1 < same.entry.1 → ¬ (T.is_infallible same.entry.0.now) }
 {
     let (value, count) = same;
@@ -320,7 +380,8 @@ fn with_same<T: Clone, A: Allocator>(mut list: Vec<T, A>, same: (&T, usize)) -> 
     (list, count)
 }
 
-// As many values as the number says, of which each is what the closure answers. It hands the closure back.
+// As many values as the number says, of which each is what the closure answers. It hands the
+// closure back.
 #[tactic(auto, using(crate::proofs::Turns::turns))]
 fn with_answers<'a, T, A: Allocator, F: FnMut() -> T>(
     mut list: Vec<T, A>,

@@ -11,27 +11,30 @@ use std::fmt;
 use std::iter::FusedIterator;
 use std::ops::Range;
 
-/// A range of a vector, whose items are taken from either end. While it lives the vector ends before the range. Dropped, it drops
-/// the items still to come and leaves the vector what is before the range and what is behind it; forgotten, it leaves what is
-/// before the range. It takes no memory. It stands for `allocator_api2::vec::Drain`.
+/// A range of a vector, whose items are taken from either end. While it lives the vector ends
+/// before the range. Dropped, it drops the items still to come and leaves the vector what is before
+/// the range and what is behind it; forgotten, it leaves what is before the range. It takes no
+/// memory. It stands for `allocator_api2::vec::Drain`.
 pub struct Drain<'a, T, A: Allocator = Global> {
     vec: &'a mut Vec<T, A>,
-    // Places behind the vector's last element: the items still to come stand from `front` up to `back`, and the elements behind
-    // the range from `end` up to `total`.
+    // Places behind the vector's last element: the items still to come stand from `front` up to
+    // `back`, and the elements behind the range from `end` up to `total`.
     front: usize,
     back: usize,
     end: usize,
     total: usize,
     ghost ordered: { (front ≤ back) × (back ≤ end) × (end ≤ total) },
-    ghost held: { StandsBehind vec.now front (back - front) × StandsBehind vec.now end (total - end) },
+    ghost held: { StandsBehind vec.now front (back - front)
+        × StandsBehind vec.now end (total - end) },
 }
 
 impl<T, A: Allocator> Vec<T, A> {
     ghost use Rattle.std.specs.Iterator.Runs.{YieldsInOrder, YieldsInReverse};
     ghost use Rattle.aa_vec.specs.Draining.{drain_lender, drain_rest, TakesRange, DrainKeepsAlong, drains_first, drains_last};
 
-    /// Takes the elements of the range out of the vector, which ends before them at once. They come from either end of what this
-    /// answers; its drop closes the gap. The capacity stays; it takes no memory. It stands for `Vec::drain`.
+    /// Takes the elements of the range out of the vector, which ends before them at once. They come
+    /// from either end of what this answers; its drop closes the gap. The capacity stays; it takes
+    /// no memory. It stands for `Vec::drain`.
     pub fn drain(&mut self, range: Range<usize>) -> Drain<'_, T, A>
         requires { (range.start ≤ range.end) × (range.end ≤ len self.old) }
         ensures lender { drain_lender result ≡ self.entry.ghost_name }
@@ -70,8 +73,8 @@ impl<'a, T, A: Allocator> Drain<'a, T, A> {
         self.vec.allocator()
     }
 
-    /// Leaves the vector what is before the range, the items still to come, and what is behind the range. The capacity stays; it
-    /// takes no memory. It stands for `Drain::keep_rest`.
+    /// Leaves the vector what is before the range, the items still to come, and what is behind the
+    /// range. The capacity stays; it takes no memory. It stands for `Drain::keep_rest`.
     pub fn keep_rest(self)
         ensures { KeepsRest self.entry self.exit.0.now }
     {
@@ -111,7 +114,10 @@ impl<'a, T: Drop, A: Allocator> Iterator for Drain<'a, T, A> {
     fn size_hint(&self) -> (usize, Option<usize>)
         ensures lower { IsWithinCount result.0 (item_count drain_rest self.now) }
         ensures upper { IfSome result.1 (UpTo (item_count drain_rest self.now)) }
-        ensures exact { result ≡ (length (drain_rest self.now), Some (length (drain_rest self.now))) }
+        ensures exact { result ≡ (
+          length (drain_rest self.now),
+          Some (length (drain_rest self.now)),
+        ) }
     {
         let left = self.back - self.front;
         (left, Some(left))

@@ -1,5 +1,5 @@
 //! Edits at a position, and elements taken away.
-ghost use Rattle.std.specs.Prelude.{◌≡◌, ◌+◌, ◌-◌, ◌<◌, ◌≤◌, [], ◌∷◌, ◌++◌, take, insert, remove, swap_remove, slice_get, Some, IfErr, OnOk, IsOk, if◌then◌else◌, ◌==◌};
+ghost use Rattle.std.specs.Prelude.{◌≡◌, ◌+◌, ◌-◌, ◌<◌, ◌≤◌, [], ◌∷◌, ◌++◌, take, insert, remove, swap_remove, slice_get, Some, IfErr, OnOk, OnErr, IsOk, if◌then◌else◌, ◌==◌};
 ghost use Rattle.std.specs.Mem.{type_size};
 ghost use Rattle.aa_vec.specs.Vector.{len, HasRoom, LacksRoom, GrowsTo, Holds, Writes, run_count};
 
@@ -8,14 +8,17 @@ use aa_raw::collections::Refused;
 use std::alloc::Allocator;
 
 impl<T, A: Allocator> Vec<T, A> {
-    /// Puts `value` behind the last element where the vector is not full, and hands it back where it is. It takes no memory. It
-    /// stands for `Vec::push_within_capacity`.
+    /// Puts `value` behind the last element where the vector is not full, and hands it back where
+    /// it is. It takes no memory. It stands for `Vec::push_within_capacity`.
     #[inline]
     #[tactic(auto, using(aa_raw::proofs::Calls::at_ends))]
     pub fn push_within_capacity(&mut self, value: T) -> Result<(), T>
-        ensures pushed { OnOk result ((len self.old < self.old.capacity) × Holds self.old (self.old.items ++ value ∷ []) self.new) }
+        ensures fits { OnOk result (len self.old < self.old.capacity) }
+        ensures pushed { OnOk result (Holds self.old (self.old.items ++ value ∷ []) self.new) }
         ensures writes { OnOk result (Writes self.old 1 1 self.new) }
-        ensures full { IfErr result (λ x. (len self.old ≡ self.old.capacity) × (x ≡ value) × (self.new ≡ self.old)) }
+        ensures full { OnErr result (len self.old ≡ self.old.capacity) }
+        ensures handed_back { IfErr result (λ x. x ≡ value) }
+        ensures unchanged { OnErr result (self.new ≡ self.old) }
     {
         let len = self.len;
         if len == self.block.capacity() {
@@ -26,16 +29,21 @@ impl<T, A: Allocator> Vec<T, A> {
         Ok(())
     }
 
-    /// Puts `element` at `index`, which is at most the length, and moves those from there on up by one. It takes memory only where
-    /// the vector is full, and grows then with room to spare. A refusal hands the element back and changes nothing, as that of
-    /// `push`. It stands for `Vec::insert`.
+    /// Puts `element` at `index`, which is at most the length, and moves those from there on up by
+    /// one. It takes memory only where the vector is full, and grows then with room to spare. A
+    /// refusal hands the element back and changes nothing, as that of `push`. It stands for
+    /// `Vec::insert`.
     #[tactic(auto, using(aa_raw::proofs::Positions::at_positions))]
     pub fn insert(&mut self, index: usize, element: T) -> Result<(), Refused<T>>
         requires { index ≤ len self.old }
         ensures fits { HasRoom self.old 1 → IsOk result }
-        ensures inserted { OnOk result (GrowsTo (type_size T.row) self.old 1 (insert self.old.items index element) self.new) }
-        ensures writes { OnOk result (Writes self.old (len self.old - index + 1) (run_count (len self.old - index) + 1) self.new) }
-        ensures refused { IfErr result (λ r. (r.source ≡ element) × LacksRoom (type_size T.row) self.old 1 r.error × (self.new ≡ self.old)) }
+        ensures inserted { OnOk result
+            (GrowsTo (type_size T.row) self.old 1 (insert self.old.items index element) self.new) }
+        ensures writes { let moved = len self.old - index in
+            OnOk result (Writes self.old (moved + 1) (run_count moved + 1) self.new) }
+        ensures refused { IfErr result (λ r. LacksRoom (type_size T.row) self.old 1 r.error) }
+        ensures handed_back { IfErr result (λ r. r.source ≡ element) }
+        ensures unchanged { OnErr result (self.new ≡ self.old) }
     {
         let len = self.len;
         if let Err(error) = self.block.reserve_for_push(len) {
@@ -50,14 +58,15 @@ impl<T, A: Allocator> Vec<T, A> {
         Ok(())
     }
 
-    /// Takes the element at `index`, which is below the length, and moves those behind it down by one. The capacity stays. It
-    /// stands for `Vec::remove`.
+    /// Takes the element at `index`, which is below the length, and moves those behind it down by
+    /// one. The capacity stays. It stands for `Vec::remove`.
     #[tactic(auto, using(aa_raw::proofs::Positions::at_positions))]
     pub fn remove(&mut self, index: usize) -> T
         requires { index < len self.old }
         ensures value { slice_get self.old.items index ≡ Some result }
         ensures items { Holds self.old (remove self.old.items index) self.new }
-        ensures writes { Writes self.old (len self.old - index - 1) (run_count (len self.old - index - 1)) self.new }
+        ensures writes { let moved = len self.old - index - 1 in
+            Writes self.old moved (run_count moved) self.new }
     {
         let last = self.len - 1;
         let value = self.block.take(index);
@@ -66,14 +75,15 @@ impl<T, A: Allocator> Vec<T, A> {
         value
     }
 
-    /// Takes the element at `index`, which is below the length, and puts the last element there. The capacity stays. It stands
-    /// for `Vec::swap_remove`.
+    /// Takes the element at `index`, which is below the length, and puts the last element there.
+    /// The capacity stays. It stands for `Vec::swap_remove`.
     #[tactic(auto, using(aa_raw::proofs::Positions::at_positions))]
     pub fn swap_remove(&mut self, index: usize) -> T
         requires { index < len self.old }
         ensures value { slice_get self.old.items index ≡ Some result }
         ensures items { Holds self.old (swap_remove self.old.items index result) self.new }
-        ensures writes { let moved = run_count (len self.old - index - 1) in Writes self.old moved moved self.new }
+        ensures writes { let moved = run_count (len self.old - index - 1) in
+            Writes self.old moved moved self.new }
     {
         let last = self.len - 1;
         let value = self.block.take(index);
@@ -84,8 +94,8 @@ impl<T, A: Allocator> Vec<T, A> {
         value
     }
 
-    /// Drops all but the first `len` elements; where there are no more than that, it does nothing. The capacity stays. It stands
-    /// for `Vec::truncate`.
+    /// Drops all but the first `len` elements; where there are no more than that, it does nothing.
+    /// The capacity stays. It stands for `Vec::truncate`.
     #[tactic(auto, using(aa_raw::proofs::Calls::in_runs))]
     pub fn truncate(&mut self, len: usize)
     where

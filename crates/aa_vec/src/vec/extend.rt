@@ -5,8 +5,10 @@ ghost use Rattle.std.specs.Iterator.{IsFinite, IsNearerEnd, Drains, size};
 ghost use Rattle.std.specs.Iterator.Runs.{WholeRun};
 ghost use Rattle.std.specs.Borrow.{Bor};
 ghost use Rattle.aa_vec.specs.Vector.{len, sized, HasRoom, Writes};
-ghost use Rattle.aa_vec.specs.Filling.{FillsGap};
-ghost use Rattle.aa_vec.specs.Extending.{Extended, LeavesIter, LeavesIterMaking, ExtendsByAll, ExtendsByFront, MadeByAll, StopsAtFront, CopiesOf, TellsAtMost, TellsExactly};
+ghost use Rattle.aa_vec.specs.Filling.{FillsGap, GoesOn};
+ghost use Rattle.aa_vec.specs.Extending.{Extended, ExtendsByAll, ExtendsByFront, LeavesIter};
+ghost use Rattle.aa_vec.specs.Extending.{MadeByAll, StopsAtFront, LeavesIterMaking, CopiesOf};
+ghost use Rattle.aa_vec.specs.Extending.{TellsAtMost, TellsExactly};
 
 use crate::vec::Vec;
 use crate::vec::items::Hinted;
@@ -24,20 +26,23 @@ impl<T, A: Allocator> Vec<T, A> {
         self.capacity() - self.len()
     }
 
-    // Puts items of `iter` behind the last element, until no place is left or they end. It answers how many places are left.
+    // Puts items of `iter` behind the last element, until no place is left or they end. It answers
+    // how many places are left.
     #[inline(always)]
     fn fill_up<I: Iterator<Item = T>>(&mut self, iter: &mut I) -> usize
         requires may_ask { I.can_next iter.old }
         requires ends { IsFinite (I.remaining iter.old) }
-        ensures fills { FillsGap I.next_gives iter.old self.old (self.old.capacity - len self.old) 0 result iter.new self.new }
-        ensures goes { result ≡ 0 → I.can_next iter.new × IsFinite (I.remaining iter.new) × (self.old.capacity - len self.old + size (I.remaining iter.new) ≤ size (I.remaining iter.old)) }
+        ensures fills { FillsGap I.next_gives iter.old
+            self.old (self.old.capacity - len self.old) 0 result iter.new self.new }
+        ensures goes { result ≡ 0
+            → GoesOn I.Iterator iter.old (self.old.capacity - len self.old) iter.new }
         ensures within { self.old.capacity - len self.old - result ≤ size (I.remaining iter.old) }
     {
         self.fill_gap(self.free(), 0, iter)
     }
 
-    // Puts the items of `iter` behind the last element: each is taken first, and where the vector is full then, room is made for it
-    // and as many more as are told. The calls below stand on it.
+    // Puts the items of `iter` behind the last element: each is taken first, and where the vector
+    // is full then, room is made for it and as many more as are told. The calls below stand on it.
     #[inline]
     pub(crate) fn extend_telling<W: Telling<I>, I: Iterator<Item = T>>(
         &mut self,
@@ -47,8 +52,10 @@ impl<T, A: Allocator> Vec<T, A> {
         T: Drop,
         requires may_ask { I.can_next iter.old }
         requires ends { IsFinite (I.remaining iter.old) }
-        ensures extends { Extended I.next_gives W.tells I.remaining (type_size T.row) iter.old self.old result self.new }
-        ensures leaves { LeavesIter I.next_gives W.tells (type_size T.row) iter.old self.old iter.new result self.new }
+        ensures extends { Extended I.next_gives W.tells I.remaining (type_size T.row)
+            iter.old self.old result self.new }
+        ensures leaves { LeavesIter I.next_gives W.tells (type_size T.row)
+            iter.old self.old iter.new result self.new }
         ensures goes { IfErr result (λ _. IsNearerEnd I.can_next I.remaining iter.old iter.new) }
     {
         // It does nothing but tell the prover that no more elements are there than places.
@@ -65,24 +72,34 @@ impl<T, A: Allocator> Vec<T, A> {
         }
     }
 
-    /// Puts the items of `iter`, which ends, behind the last element; it takes each of them first, and memory only where the
-    /// vector is full then, with room to spare for that item and as many as `lower` now tells. A refusal keeps what was placed,
-    /// drops the item that found no place and takes no other: `CapacityOverflow` where the length asked for passes `usize::MAX`
-    /// or its bytes pass `isize::MAX`, else `AllocError` with the capacity asked for. It stands for `Vec::extend`, with `lower`
-    /// in place of `size_hint`.
+    /// Puts the items of `iter`, which ends, behind the last element; it takes each of them first,
+    /// and memory only where the vector is full then, with room to spare for that item and as many
+    /// as `lower` now tells. A refusal keeps what was placed, drops the item that found no place
+    /// and takes no other: `CapacityOverflow` where the length asked for passes `usize::MAX` or its
+    /// bytes pass `isize::MAX`, else `AllocError` with the capacity asked for. It stands for
+    /// `Vec::extend`, with `lower` in place of `size_hint`.
     pub fn extend_hinted<I: Hinted<Item = T>>(&mut self, iter: I) -> Result<(), TryReserveError>
     where
         T: Drop,
         requires may_ask { I.can_next iter }
         requires ends { IsFinite (I.remaining iter) }
-        ensures { Extended I.next_gives (TellsExactly I.lower_of) I.remaining (type_size T.row) iter self.old result self.new }
+        ensures items { OnOk result ((xs : List T) × Drains I.next_gives iter xs
+            × (self.new.items ≡ self.old.items ++ xs)) }
+        ensures runs { OnOk result
+            (WholeRun I.next_gives iter (λ p. self.new.items ≡ self.old.items ++ p.items)) }
+        ensures fits { HasRoom self.old (size (I.remaining iter)) → IsOk result }
+        ensures room { OnOk result (ExtendsByAll I.next_gives (TellsExactly I.lower_of)
+            (type_size T.row) iter self.old self.new) }
+        ensures writes { let n = len self.new - len self.old in Writes self.old n n self.new }
+        ensures refused { IfErr result (λ e. ExtendsByFront I.next_gives (TellsExactly I.lower_of)
+            (type_size T.row) iter self.old e self.new) }
     {
         let mut rest = iter;
         self.extend_hinted_by(&mut rest)
     }
 
-    /// `extend_hinted` by an iterator that is lent: no item is taken from it but those that found a place and, on a refusal, one,
-    /// which is dropped. The original has no such call.
+    /// `extend_hinted` by an iterator that is lent: no item is taken from it but those that found a
+    /// place and, on a refusal, one, which is dropped. The original has no such call.
     #[inline]
     pub fn extend_hinted_by<I: Hinted<Item = T>>(
         &mut self,
@@ -92,44 +109,74 @@ impl<T, A: Allocator> Vec<T, A> {
         T: Drop,
         requires may_ask { I.can_next iter.old }
         requires ends { IsFinite (I.remaining iter.old) }
-        ensures extends { Extended I.next_gives (TellsExactly I.lower_of) I.remaining (type_size T.row) iter.old self.old result self.new }
-        ensures leaves { LeavesIter I.next_gives (TellsExactly I.lower_of) (type_size T.row) iter.old self.old iter.new result self.new }
+        ensures items { OnOk result ((xs : List T) × Drains I.next_gives iter.old xs
+            × (self.new.items ≡ self.old.items ++ xs)) }
+        ensures runs { OnOk result
+            (WholeRun I.next_gives iter.old (λ p. self.new.items ≡ self.old.items ++ p.items)) }
+        ensures fits { HasRoom self.old (size (I.remaining iter.old)) → IsOk result }
+        ensures room { OnOk result (ExtendsByAll I.next_gives (TellsExactly I.lower_of)
+            (type_size T.row) iter.old self.old self.new) }
+        ensures writes { let n = len self.new - len self.old in Writes self.old n n self.new }
+        ensures refused { IfErr result (λ e. ExtendsByFront I.next_gives (TellsExactly I.lower_of)
+            (type_size T.row) iter.old self.old e self.new) }
+        ensures leaves { LeavesIter I.next_gives (TellsExactly I.lower_of)
+            (type_size T.row) iter.old self.old iter.new result self.new }
         ensures goes { IfErr result (λ _. IsNearerEnd I.can_next I.remaining iter.old iter.new) }
     {
         self.extend_telling::<ByLower, I>(iter)
     }
 
-    /// Puts the items of `iter`, which ends, behind the last element; it takes each of them first, and memory only where the
-    /// vector is full then, with room to spare for that item and the lower bound that `size_hint` now has. It is refused as
-    /// `extend_hinted` is. It stands for `Vec::extend`, which aborts on a refusal.
+    /// Puts the items of `iter`, which ends, behind the last element; it takes each of them first,
+    /// and memory only where the vector is full then, with room to spare for that item and the
+    /// lower bound that `size_hint` now has. It is refused as `extend_hinted` is. It stands for
+    /// `Vec::extend`, which aborts on a refusal.
     pub fn extend<I: Iterator<Item = T>>(&mut self, iter: I) -> Result<(), TryReserveError>
     where
         T: Drop,
         requires may_ask { I.can_next iter }
         requires ends { IsFinite (I.remaining iter) }
-        ensures { Extended I.next_gives (TellsAtMost I.remaining) I.remaining (type_size T.row) iter self.old result self.new }
+        ensures items { OnOk result ((xs : List T) × Drains I.next_gives iter xs
+            × (self.new.items ≡ self.old.items ++ xs)) }
+        ensures runs { OnOk result
+            (WholeRun I.next_gives iter (λ p. self.new.items ≡ self.old.items ++ p.items)) }
+        ensures fits { HasRoom self.old (size (I.remaining iter)) → IsOk result }
+        ensures room { OnOk result (ExtendsByAll I.next_gives (TellsAtMost I.remaining)
+            (type_size T.row) iter self.old self.new) }
+        ensures writes { let n = len self.new - len self.old in Writes self.old n n self.new }
+        ensures refused { IfErr result (λ e. ExtendsByFront I.next_gives (TellsAtMost I.remaining)
+            (type_size T.row) iter self.old e self.new) }
     {
         let mut rest = iter;
         self.extend_by(&mut rest)
     }
 
-    /// `extend` by an iterator that is lent: no item is taken from it but those that found a place and, on a refusal, one, which
-    /// is dropped. It stands for `Vec::extend` with `by_ref`.
+    /// `extend` by an iterator that is lent: no item is taken from it but those that found a place
+    /// and, on a refusal, one, which is dropped. It stands for `Vec::extend` with `by_ref`.
     #[inline]
     pub fn extend_by<I: Iterator<Item = T>>(&mut self, iter: &mut I) -> Result<(), TryReserveError>
     where
         T: Drop,
         requires may_ask { I.can_next iter.old }
         requires ends { IsFinite (I.remaining iter.old) }
-        ensures extends { Extended I.next_gives (TellsAtMost I.remaining) I.remaining (type_size T.row) iter.old self.old result self.new }
-        ensures leaves { LeavesIter I.next_gives (TellsAtMost I.remaining) (type_size T.row) iter.old self.old iter.new result self.new }
+        ensures items { OnOk result ((xs : List T) × Drains I.next_gives iter.old xs
+            × (self.new.items ≡ self.old.items ++ xs)) }
+        ensures runs { OnOk result
+            (WholeRun I.next_gives iter.old (λ p. self.new.items ≡ self.old.items ++ p.items)) }
+        ensures fits { HasRoom self.old (size (I.remaining iter.old)) → IsOk result }
+        ensures room { OnOk result (ExtendsByAll I.next_gives (TellsAtMost I.remaining)
+            (type_size T.row) iter.old self.old self.new) }
+        ensures writes { let n = len self.new - len self.old in Writes self.old n n self.new }
+        ensures refused { IfErr result (λ e. ExtendsByFront I.next_gives (TellsAtMost I.remaining)
+            (type_size T.row) iter.old self.old e self.new) }
+        ensures leaves { LeavesIter I.next_gives (TellsAtMost I.remaining)
+            (type_size T.row) iter.old self.old iter.new result self.new }
         ensures goes { IfErr result (λ _. IsNearerEnd I.can_next I.remaining iter.old iter.new) }
     {
         self.extend_telling::<ByHint, I>(iter)
     }
 
-    /// Puts copies of what the items of `iter`, which ends, refer to behind the last element; else it is as `extend`. It stands
-    /// for `Vec::extend` over references, which aborts on a refusal.
+    /// Puts copies of what the items of `iter`, which ends, refer to behind the last element; else
+    /// it is as `extend`. It stands for `Vec::extend` over references, which aborts on a refusal.
     pub fn extend_copied<'a, I: Iterator<Item = &'a T>>(
         &mut self,
         iter: I,
@@ -138,16 +185,25 @@ impl<T, A: Allocator> Vec<T, A> {
         T: Copy + 'a,
         requires may_ask { I.can_next iter }
         requires ends { IsFinite (I.remaining iter) }
-        ensures copied { Extended (CopiesOf I.next_gives) (TellsAtMost I.remaining) I.remaining (type_size T.row) iter self.old result self.new }
-        ensures ran { OnOk result ((rs : List (Bor T)) × Drains I.next_gives iter rs × (self.new.items ≡ self.old.items ++ map (λ r. r.now) rs)) }
-        ensures runs { OnOk result (WholeRun I.next_gives iter (λ p. self.new.items ≡ self.old.items ++ map (λ r. r.now) p.items)) }
+        ensures items { OnOk result ((rs : List (Bor T)) × Drains I.next_gives iter rs
+            × (self.new.items ≡ self.old.items ++ map (λ r. r.now) rs)) }
+        ensures runs { OnOk result (WholeRun I.next_gives iter
+            (λ p. self.new.items ≡ self.old.items ++ map (λ r. r.now) p.items)) }
+        ensures fits { HasRoom self.old (size (I.remaining iter)) → IsOk result }
+        ensures room { OnOk result (ExtendsByAll (CopiesOf I.next_gives) (TellsAtMost I.remaining)
+            (type_size T.row) iter self.old self.new) }
+        ensures writes { let n = len self.new - len self.old in Writes self.old n n self.new }
+        ensures refused { IfErr result
+            (λ e. ExtendsByFront (CopiesOf I.next_gives) (TellsAtMost I.remaining)
+            (type_size T.row) iter self.old e self.new) }
     {
         let mut rest = iter;
         self.extend_copied_by(&mut rest)
     }
 
-    /// `extend_copied` by an iterator that is lent: no reference is taken from it but those whose copies found a place and, on a
-    /// refusal, one. It stands for `Vec::extend` over references with `by_ref`.
+    /// `extend_copied` by an iterator that is lent: no reference is taken from it but those whose
+    /// copies found a place and, on a refusal, one. It stands for `Vec::extend` over references
+    /// with `by_ref`.
     #[inline]
     pub fn extend_copied_by<'a, I: Iterator<Item = &'a T>>(
         &mut self,
@@ -157,37 +213,50 @@ impl<T, A: Allocator> Vec<T, A> {
         T: Copy + 'a,
         requires may_ask { I.can_next iter.old }
         requires ends { IsFinite (I.remaining iter.old) }
-        ensures copied { Extended (CopiesOf I.next_gives) (TellsAtMost I.remaining) I.remaining (type_size T.row) iter.old self.old result self.new }
-        ensures ran { OnOk result ((rs : List (Bor T)) × Drains I.next_gives iter.old rs × (self.new.items ≡ self.old.items ++ map (λ r. r.now) rs)) }
-        ensures runs { OnOk result (WholeRun I.next_gives iter.old (λ p. self.new.items ≡ self.old.items ++ map (λ r. r.now) p.items)) }
-        ensures leaves { LeavesIter (CopiesOf I.next_gives) (TellsAtMost I.remaining) (type_size T.row) iter.old self.old iter.new result self.new }
+        ensures items { OnOk result ((rs : List (Bor T)) × Drains I.next_gives iter.old rs
+            × (self.new.items ≡ self.old.items ++ map (λ r. r.now) rs)) }
+        ensures runs { OnOk result (WholeRun I.next_gives iter.old
+            (λ p. self.new.items ≡ self.old.items ++ map (λ r. r.now) p.items)) }
+        ensures fits { HasRoom self.old (size (I.remaining iter.old)) → IsOk result }
+        ensures room { OnOk result (ExtendsByAll (CopiesOf I.next_gives) (TellsAtMost I.remaining)
+            (type_size T.row) iter.old self.old self.new) }
+        ensures writes { let n = len self.new - len self.old in Writes self.old n n self.new }
+        ensures refused { IfErr result
+            (λ e. ExtendsByFront (CopiesOf I.next_gives) (TellsAtMost I.remaining)
+            (type_size T.row) iter.old self.old e self.new) }
+        ensures leaves { LeavesIter (CopiesOf I.next_gives) (TellsAtMost I.remaining)
+            (type_size T.row) iter.old self.old iter.new result self.new }
         ensures goes { IfErr result (λ _. IsNearerEnd I.can_next I.remaining iter.old iter.new) }
     {
         let mut copies = Reading { iter };
         self.extend_by(&mut copies)
     }
 
-    /// A vector of the items of `iter`, which ends: a new one, extended as `extend` does, so it takes no memory where no item comes
-    /// or elements have no size. It is refused as `extend` is, and then drops what came. The original has no such call.
+    /// A vector of the items of `iter`, which ends: a new one, extended as `extend` does, so it
+    /// takes no memory where no item comes or elements have no size. It is refused as `extend` is,
+    /// and then drops what came. The original has no such call.
     pub fn from_iter_in<I: Iterator<Item = T>>(iter: I, alloc: A) -> Result<Self, TryReserveError>
     where
         T: Drop,
         requires may_ask { I.can_next iter }
         requires ends { IsFinite (I.remaining iter) }
-        ensures fits { size (I.remaining iter) ≤ sized (type_size T.row) 0 → IsOk result }
-        ensures ran { IfOk result (λ v. Drains I.next_gives iter v.items) }
+        ensures items { IfOk result (λ v. Drains I.next_gives iter v.items) }
         ensures runs { IfOk result (λ v. WholeRun I.next_gives iter (λ p. v.items ≡ p.items)) }
-        ensures made { IfOk result (λ v. MadeByAll I.next_gives (TellsAtMost I.remaining) (type_size T.row) iter alloc v) }
-        ensures growth { IfOk result (λ v. (v.growth ≡ Growth.Doubling) × (v.alloc ≡ alloc)) }
+        ensures fits { size (I.remaining iter) ≤ sized (type_size T.row) 0 → IsOk result }
+        ensures made { IfOk result (λ v. MadeByAll I.next_gives (TellsAtMost I.remaining)
+            (type_size T.row) iter alloc v) }
+        ensures growth { IfOk result (λ v. v.growth ≡ Growth.Doubling) }
+        ensures alloc { IfOk result (λ v. v.alloc ≡ alloc) }
         ensures writes { IfOk result (λ v. (v.written ≡ len v) × (v.runs ≡ len v)) }
-        ensures refused { IfErr result (λ e. StopsAtFront I.next_gives (TellsAtMost I.remaining) (type_size T.row) iter alloc e) }
+        ensures refused { IfErr result (λ e. StopsAtFront I.next_gives (TellsAtMost I.remaining)
+            (type_size T.row) iter alloc e) }
     {
         let mut rest = iter;
         Vec::from_iter_in_by(&mut rest, alloc)
     }
 
-    /// `from_iter_in` by an iterator that is lent: no item is taken from it but those that found a place and, on a refusal, one.
-    /// The original has no such call.
+    /// `from_iter_in` by an iterator that is lent: no item is taken from it but those that found a
+    /// place and, on a refusal, one. The original has no such call.
     #[inline]
     #[tactic(auto, using(crate::proofs::Extending::extended))]
     pub fn from_iter_in_by<I: Iterator<Item = T>>(
@@ -198,14 +267,18 @@ impl<T, A: Allocator> Vec<T, A> {
         T: Drop,
         requires may_ask { I.can_next iter.old }
         requires ends { IsFinite (I.remaining iter.old) }
-        ensures fits { size (I.remaining iter.old) ≤ sized (type_size T.row) 0 → IsOk result }
-        ensures ran { IfOk result (λ v. Drains I.next_gives iter.old v.items) }
+        ensures items { IfOk result (λ v. Drains I.next_gives iter.old v.items) }
         ensures runs { IfOk result (λ v. WholeRun I.next_gives iter.old (λ p. v.items ≡ p.items)) }
-        ensures made { IfOk result (λ v. MadeByAll I.next_gives (TellsAtMost I.remaining) (type_size T.row) iter.old alloc v) }
-        ensures growth { IfOk result (λ v. (v.growth ≡ Growth.Doubling) × (v.alloc ≡ alloc)) }
+        ensures fits { size (I.remaining iter.old) ≤ sized (type_size T.row) 0 → IsOk result }
+        ensures made { IfOk result (λ v. MadeByAll I.next_gives (TellsAtMost I.remaining)
+            (type_size T.row) iter.old alloc v) }
+        ensures growth { IfOk result (λ v. v.growth ≡ Growth.Doubling) }
+        ensures alloc { IfOk result (λ v. v.alloc ≡ alloc) }
         ensures writes { IfOk result (λ v. (v.written ≡ len v) × (v.runs ≡ len v)) }
-        ensures refused { IfErr result (λ e. StopsAtFront I.next_gives (TellsAtMost I.remaining) (type_size T.row) iter.old alloc e) }
-        ensures leaves { LeavesIterMaking I.next_gives (TellsAtMost I.remaining) (type_size T.row) iter.old alloc iter.new result }
+        ensures refused { IfErr result (λ e. StopsAtFront I.next_gives (TellsAtMost I.remaining)
+            (type_size T.row) iter.old alloc e) }
+        ensures leaves { LeavesIterMaking I.next_gives (TellsAtMost I.remaining) (type_size T.row)
+            iter.old alloc iter.new result }
         ensures goes { IfErr result (λ _. IsNearerEnd I.can_next I.remaining iter.old iter.new) }
     {
         let mut v = Vec::new_in(alloc);
@@ -217,20 +290,23 @@ impl<T, A: Allocator> Vec<T, A> {
 }
 
 impl<T> Vec<T, Global> {
-    /// A vector of the items of `iter` on the global allocator; it is refused as `from_iter_in` is. It stands for
-    /// `Vec::from_iter`, which aborts on a refusal.
+    /// A vector of the items of `iter` on the global allocator; it is refused as `from_iter_in` is.
+    /// It stands for `Vec::from_iter`, which aborts on a refusal.
     pub fn from_iter<I: Iterator<Item = T>>(alloc: Global, iter: I) -> Result<Self, TryReserveError>
     where
         T: Drop,
         requires may_ask { I.can_next iter }
         requires ends { IsFinite (I.remaining iter) }
-        ensures fits { size (I.remaining iter) ≤ sized (type_size T.row) 0 → IsOk result }
-        ensures ran { IfOk result (λ v. Drains I.next_gives iter v.items) }
+        ensures items { IfOk result (λ v. Drains I.next_gives iter v.items) }
         ensures runs { IfOk result (λ v. WholeRun I.next_gives iter (λ p. v.items ≡ p.items)) }
-        ensures made { IfOk result (λ v. MadeByAll I.next_gives (TellsAtMost I.remaining) (type_size T.row) iter alloc v) }
-        ensures growth { IfOk result (λ v. (v.growth ≡ Growth.Doubling) × (v.alloc ≡ alloc)) }
+        ensures fits { size (I.remaining iter) ≤ sized (type_size T.row) 0 → IsOk result }
+        ensures made { IfOk result (λ v. MadeByAll I.next_gives (TellsAtMost I.remaining)
+            (type_size T.row) iter alloc v) }
+        ensures growth { IfOk result (λ v. v.growth ≡ Growth.Doubling) }
+        ensures alloc { IfOk result (λ v. v.alloc ≡ alloc) }
         ensures writes { IfOk result (λ v. (v.written ≡ len v) × (v.runs ≡ len v)) }
-        ensures refused { IfErr result (λ e. StopsAtFront I.next_gives (TellsAtMost I.remaining) (type_size T.row) iter alloc e) }
+        ensures refused { IfErr result (λ e. StopsAtFront I.next_gives (TellsAtMost I.remaining)
+            (type_size T.row) iter alloc e) }
     {
         Vec::from_iter_in(iter, alloc)
     }

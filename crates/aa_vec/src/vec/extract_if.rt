@@ -7,18 +7,20 @@ ghost use Rattle.aa_vec.specs.Until.{StaysAt, AsksBehind, KeepsDown, Picks};
 ghost use Rattle.aa_vec.specs.Vector.{len};
 
 use crate::vec::Vec;
-use crate::vec::asking::kept_run;
+use crate::vec::asking::count_kept;
 use std::alloc::{Allocator, Global};
 use std::iter::FusedIterator;
 use std::ops::Range;
 
-/// A range of a vector, out of which elements are taken by a closure that is lent at each call. While it lives the vector ends
-/// before the range. Dropped, it leaves the vector what is before the range, what stays of it, and what is behind it; forgotten, it
-/// leaves what is before the range. It takes no memory. This is `ExtractIf` whose caller knows what becomes of the closure.
+/// A range of a vector, out of which elements are taken by a closure that is lent at each call.
+/// While it lives the vector ends before the range. Dropped, it leaves the vector what is before
+/// the range, what stays of it, and what is behind it; forgotten, it leaves what is before the
+/// range. It takes no memory. This is `ExtractIf` whose caller knows what becomes of the closure.
 pub struct ExtractBy<'a, T, A: Allocator = Global> {
     vec: &'a mut Vec<T, A>,
-    // Places behind the vector's last element: those that stay stand up to `kept`, those that were not asked yet from `front` up to
-    // `end`, and the elements behind the range from there up to `total`.
+    // Places behind the vector's last element: those that stay stand up to `kept`, those that were
+    // not asked yet from `front` up to `end`, and the elements behind the range from there up to
+    // `total`.
     kept: usize,
     front: usize,
     end: usize,
@@ -28,9 +30,9 @@ pub struct ExtractBy<'a, T, A: Allocator = Global> {
 }
 
 impl<T, A: Allocator> Vec<T, A> {
-    // Asks the elements in the places from `front` up to `end` in order, up to the first at which `f` answers true, and takes that
-    // one out. Those before it are moved down to the `kept` ones. It answers how many they are, and
-    // the first place that was not asked.
+    // Asks the elements in the places from `front` up to `end` in order, up to the first at which
+    // `f` answers true, and takes that one out. Those before it are moved down to the `kept` ones.
+    // It answers how many they are, and the first place that was not asked.
     fn pick<F: FnMut(&mut T) -> bool>(
         &mut self,
         kept: usize,
@@ -40,8 +42,10 @@ impl<T, A: Allocator> Vec<T, A> {
     ) -> (usize, usize, Option<T>)
         requires ordered { (kept ≤ front) × (front ≤ end) }
         requires stands { StandsBehind self.old 0 kept × StandsBehind self.old front (end - front) }
-        requires callable { MayAskInOrder (StaysAt false (CalledAtMut F.FnMut)) (TakesMut F.FnMut) f.old (behind_items self.old front (end - front)) }
-        ensures { Picks (CalledAtMut F.FnMut) f.old self.old kept front end result.0 result.1 result.2 f.new self.new }
+        requires callable { MayAskInOrder (StaysAt false (CalledAtMut F.FnMut))
+            (TakesMut F.FnMut) f.old (behind_items self.old front (end - front)) }
+        ensures { Picks (CalledAtMut F.FnMut) f.old self.old kept front end result.0 result.1
+            result.2 f.new self.new }
     {
         let len = self.len();
         let gap = front - kept;
@@ -57,14 +61,24 @@ impl<T, A: Allocator> Vec<T, A> {
         (stay, next, item)
     }
 
-    // Asks the `count` elements after the gap in order, up to the first at which `f` answers true, and moves those before it down. It
-    // answers how many they are.
+    // Asks the `count` elements after the gap in order, up to the first at which `f` answers true,
+    // and moves those before it down. It answers how many they are. None and one are far less work
+    // than a run.
     fn pass_over<F: FnMut(&mut T) -> bool>(&mut self, gap: usize, count: usize, f: &mut F) -> usize
         requires stands { StandsBehind self.old gap count }
-        requires callable { MayAskInOrder (StaysAt false (CalledAtMut F.FnMut)) (TakesMut F.FnMut) f.old (behind_items self.old gap count) }
-        ensures { KeepsDown (StaysAt false (CalledAtMut F.FnMut)) f.old self.old gap count result f.new self.new }
+        requires callable { MayAskInOrder (StaysAt false (CalledAtMut F.FnMut))
+            (TakesMut F.FnMut) f.old (behind_items self.old gap count) }
+        ensures { KeepsDown (StaysAt false (CalledAtMut F.FnMut)) f.old self.old gap
+            count result f.new self.new }
     {
         let stay = self.spare_behind(gap, count, f);
+        if stay == 0 {
+            return 0;
+        }
+        if stay == 1 && 0 < gap {
+            self.close_gap_by_one(gap);
+            return 1;
+        }
         self.close_gap(gap, stay);
         stay
     }
@@ -79,12 +93,14 @@ impl<T, A: Allocator> Vec<T, A> {
         f: &mut F,
     ) -> usize
         requires stands { StandsBehind self.old gap count }
-        requires callable { MayAskInOrder (StaysAt false (CalledAtMut F.FnMut)) (TakesMut F.FnMut) f.old (behind_items self.old gap count) }
-        ensures { AsksBehind (StaysAt false (CalledAtMut F.FnMut)) f.old self.old gap count result f.new self.new }
+        requires callable { MayAskInOrder (StaysAt false (CalledAtMut F.FnMut))
+            (TakesMut F.FnMut) f.old (behind_items self.old gap count) }
+        ensures { AsksBehind (StaysAt false (CalledAtMut F.FnMut)) f.old self.old gap
+            count result f.new self.new }
     {
         // It does nothing but tell the prover that places are at most `usize::MAX`.
         let _within = self.block.capacity();
-        kept_run(self.block.slice_mut(self.len + gap, count), false, f)
+        count_kept(self.block.slice_mut(self.len + gap, count), false, f)
     }
 }
 
@@ -92,10 +108,12 @@ impl<'a, T, A: Allocator> ExtractBy<'a, T, A> {
     ghost use Rattle.std.specs.Prelude.{◌≡◌, length};
     ghost use Rattle.aa_vec.specs.Extracting.{extract_rest, Extracts};
 
-    /// Asks `f` of the elements that were not asked yet, in order, up to the first at which it answers true, and takes that one out.
-    /// At the end it answers `None`, and so for good, and asks nothing.
+    /// Asks `f` of the elements that were not asked yet, in order, up to the first at which it
+    /// answers true, and takes that one out. At the end it answers `None`, and so for good, and
+    /// asks nothing.
     pub fn next_by<F: FnMut(&mut T) -> bool>(&mut self, f: &mut F) -> Option<T>
-        requires { IsCallableInOrder (CalledAtMut F.FnMut) (TakesMut F.FnMut) f.old (extract_rest self.old) }
+        requires { IsCallableInOrder (CalledAtMut F.FnMut) (TakesMut F.FnMut) f.old
+            (extract_rest self.old) }
         ensures { Extracts (CalledAtMut F.FnMut) f.old self.old result f.new self.new }
     {
         let (stay, next, item) = self.vec.pick(self.kept, self.front, self.end, f);
@@ -131,9 +149,10 @@ impl<'a, T, A: Allocator> Drop for ExtractBy<'a, T, A> {
     }
 }
 
-/// Elements of a range at which a closure answers true, taken out one by one. While it lives the vector ends before the range.
-/// Dropped, it leaves the vector what is before the range, what stays of it, what was not asked, and what is behind it; forgotten, it
-/// leaves what is before the range. It takes no memory. It stands for `ExtractIf` of Rust's library, which the original lacks.
+/// Elements of a range at which a closure answers true, taken out one by one. While it lives the
+/// vector ends before the range. Dropped, it leaves the vector what is before the range, what stays
+/// of it, what was not asked, and what is behind it; forgotten, it leaves what is before the range.
+/// It takes no memory. It stands for `ExtractIf` of Rust's library, which the original lacks.
 #[derive(Drop)]
 pub struct ExtractIf<'a, T, F, A: Allocator = Global> {
     by: ExtractBy<'a, T, A>,
@@ -144,8 +163,9 @@ impl<T, A: Allocator> Vec<T, A> {
     ghost use Rattle.std.specs.Prelude.{◌≡◌};
     ghost use Rattle.aa_vec.specs.Extracting.{ExtractsRange, ExtractsAlong, extract_lender};
 
-    /// Takes the elements of the range out of the vector at which `f` answers true. `f` is asked of each in order, as it is taken,
-    /// and what it leaves of the others stays. The capacity stays; it takes no memory. It stands for `Vec::extract_if`.
+    /// Takes the elements of the range out of the vector at which `f` answers true. `f` is asked of
+    /// each in order, as it is taken, and what it leaves of the others stays. The capacity stays;
+    /// it takes no memory. It stands for `Vec::extract_if`.
     pub fn extract_if<F: FnMut(&mut T) -> bool>(
         &mut self,
         range: Range<usize>,
@@ -163,7 +183,8 @@ impl<T, A: Allocator> Vec<T, A> {
         }
     }
 
-    /// The same by a closure that is lent at each call, so that the caller knows what becomes of it.
+    /// The same by a closure that is lent at each call, so that the caller knows what becomes of
+    /// it.
     pub fn extract_by(&mut self, range: Range<usize>) -> ExtractBy<'_, T, A>
         requires { (range.start ≤ range.end) × (range.end ≤ len self.old) }
         ensures lender { extract_lender result ≡ self.entry.ghost_name }
@@ -188,14 +209,16 @@ impl<'a, T, F: FnMut(&mut T) -> bool + Drop, A: Allocator> Iterator for ExtractI
 
     type Item = T;
 
-    ghost can_next = { λ s. IsCallableInOrder (CalledAtMut F.FnMut) (TakesMut F.FnMut) s.f (extract_rest s.by) };
+    ghost can_next = { λ s. IsCallableInOrder (CalledAtMut F.FnMut)
+        (TakesMut F.FnMut) s.f (extract_rest s.by) };
 
     ghost next_gives = { λ s r t. Extracts (CalledAtMut F.FnMut) s.f s.by r t.f t.by };
 
     ghost remaining = { λ s. at_most (length (extract_rest s.by)) };
 
-    /// Asks the elements in order, from where it stopped, up to the first at which the closure answers true, and takes that one out.
-    /// At the end it answers `None`, and so for good, and asks nothing.
+    /// Asks the elements in order, from where it stopped, up to the first at which the closure
+    /// answers true, and takes that one out. At the end it answers `None`, and so for good, and
+    /// asks nothing.
     fn next(&mut self) -> Option<T> {
         let ExtractIf { by, f } = self;
         by.next_by(f)

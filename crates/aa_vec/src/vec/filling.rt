@@ -1,10 +1,11 @@
-//! A gap before the elements behind the items, as items of an iterator are put into it, and as it is made.
+//! A gap before the elements behind the items, as items of an iterator are put into it, and as it
+//! is made.
 ghost use Rattle.std.specs.Prelude.{◌≡◌, ◌+◌, ◌-◌, ◌<◌, ◌≤◌, List, ◌∷◌, ◌++◌, drop, IfOk, IfErr, OnOk, IsOk, if◌then◌else◌};
 ghost use Rattle.std.specs.Mem.{type_size};
 ghost use Rattle.std.specs.Iterator.{IsFinite, Drains, Yields, size};
 ghost use Rattle.aa_vec.specs.Vector.{len, HasRoom, LacksRoom, Holds, Writes, run_count};
 ghost use Rattle.aa_vec.specs.Behind.{StandsBehind};
-ghost use Rattle.aa_vec.specs.Filling.{OpensGap, Widens, FillsGap, FillsAndCloses, Gathers, GathersShort, PutsRest, LacksRest, Puts};
+ghost use Rattle.aa_vec.specs.Filling.{OpensGap, Widens, FillsGap, GoesOn, FillsAndCloses, Gathers, GathersShort, PutsRest, LacksRest, Puts};
 
 use crate::vec::Vec;
 use crate::vec::telling::Telling;
@@ -14,8 +15,8 @@ use core::mem::replace_with;
 use std::alloc::Allocator;
 
 impl<T, A: Allocator> Vec<T, A> {
-    // Puts items of `iter` into the gap before the `count` elements behind the others, until it is full or they end. It answers
-    // how many places of the gap are left.
+    // Puts items of `iter` into the gap before the `count` elements behind the others, until it is
+    // full or they end. It answers how many places of the gap are left.
     #[inline(always)]
     pub(crate) fn fill_gap<I: Iterator<Item = T>>(
         &mut self,
@@ -27,14 +28,15 @@ impl<T, A: Allocator> Vec<T, A> {
         requires may_ask { I.can_next iter.old }
         requires ends { IsFinite (I.remaining iter.old) }
         ensures fills { FillsGap I.next_gives iter.old self.old gap count result iter.new self.new }
-        ensures goes { result ≡ 0 → I.can_next iter.new × IsFinite (I.remaining iter.new) × (gap + size (I.remaining iter.new) ≤ size (I.remaining iter.old)) }
+        ensures goes { result ≡ 0 → GoesOn I.Iterator iter.old gap iter.new }
         ensures within { gap - result ≤ size (I.remaining iter.old) }
     {
         let (left, _iter) = replace_with(self, (iter, gap, count), with_gap_filled);
         left
     }
 
-    // The same, and then moves the `count` elements down. It answers how many places of the gap were left.
+    // The same, and then moves the `count` elements down. It answers how many places of the gap
+    // were left.
     pub(crate) fn fill_and_close<I: Iterator<Item = T>>(
         &mut self,
         gap: usize,
@@ -44,8 +46,9 @@ impl<T, A: Allocator> Vec<T, A> {
         requires stands { StandsBehind self.old gap count }
         requires may_ask { I.can_next iter.old }
         requires ends { IsFinite (I.remaining iter.old) }
-        ensures fills { FillsAndCloses I.next_gives iter.old self.old gap count result iter.new self.new }
-        ensures goes { result ≡ 0 → I.can_next iter.new × IsFinite (I.remaining iter.new) × (gap + size (I.remaining iter.new) ≤ size (I.remaining iter.old)) }
+        ensures fills { FillsAndCloses I.next_gives iter.old self.old gap count
+            result iter.new self.new }
+        ensures goes { result ≡ 0 → GoesOn I.Iterator iter.old gap iter.new }
         ensures within { gap - result ≤ size (I.remaining iter.old) }
     {
         let left = self.fill_gap(gap, count, iter);
@@ -66,13 +69,15 @@ impl<T, A: Allocator> Vec<T, A> {
         self.block.move_run(len, len + gap, count);
     }
 
-    // Makes room for as many more elements as the gap has places, and moves the last `count` elements up behind it.
+    // Makes room for as many more elements as the gap has places, and moves the last `count`
+    // elements up behind it.
     #[tactic(auto, using(crate::proofs::Filling::gaps))]
     fn widen(&mut self, gap: usize, count: usize) -> Result<(), TryReserveError>
         requires { count ≤ len self.old }
         ensures fits { HasRoom self.old gap → IsOk result }
         ensures widened { OnOk result (Widens (type_size T.row) self.old gap count self.new) }
-        ensures refused { IfErr result (λ e. LacksRoom (type_size T.row) self.old gap e × (self.new ≡ self.old)) }
+        ensures refused { IfErr result (λ e. LacksRoom (type_size T.row) self.old gap e
+            × (self.new ≡ self.old)) }
     {
         self.try_reserve(gap)?;
         let at = self.len() - count;
@@ -81,7 +86,8 @@ impl<T, A: Allocator> Vec<T, A> {
         Ok(())
     }
 
-    // A vector of `first` and the items of `iter`, over a clone of the allocator: a new one, extended as is told of them.
+    // A vector of `first` and the items of `iter`, over a clone of the allocator: a new one,
+    // extended as is told of them.
     #[tactic(auto, using(crate::proofs::Gathered::gathered))]
     fn gathered<W: Telling<I>, I: Iterator<Item = T>>(
         &self,
@@ -93,8 +99,11 @@ impl<T, A: Allocator> Vec<T, A> {
         A: Clone,
         requires may_ask { I.can_next iter.old }
         requires ends { IsFinite (I.remaining iter.old) }
-        ensures all { IfOk result (λ v. Gathers I.next_gives W.tells (type_size T.row) iter.old first v iter.new) }
-        ensures refused { IfErr result (λ e. GathersShort I.next_gives W.tells (type_size T.row) iter.old first (¬ (A.is_infallible self.now.alloc)) self.now e iter.new) }
+        ensures all { IfOk result
+            (λ v. Gathers I.next_gives W.tells (type_size T.row) iter.old first v iter.new) }
+        ensures refused { IfErr result
+            (λ e. GathersShort I.next_gives W.tells (type_size T.row) iter.old first
+            (¬ (A.is_infallible self.now.alloc)) self.now e iter.new) }
     {
         let wanted = W::told(iter).saturating_add(1);
         let Ok(alloc) = self.allocator().clone() else {
@@ -125,8 +134,12 @@ impl<T, A: Allocator> Vec<T, A> {
         requires count { count ≤ len self.old }
         requires may_ask { I.can_next iter.old }
         requires ends { IsFinite (I.remaining iter.old) }
-        ensures all { OnOk result (PutsRest I.next_gives (type_size T.row) iter.old self.old count first self.new iter.new) }
-        ensures refused { IfErr result (λ e. LacksRest I.next_gives W.tells (¬ (A.is_infallible self.old.alloc)) (type_size T.row) iter.old self.old count first e iter.new × (self.new ≡ self.old)) }
+        ensures all { OnOk result
+            (PutsRest I.next_gives (type_size T.row) iter.old self.old count
+            first self.new iter.new) }
+        ensures refused { IfErr result
+            (λ e. LacksRest I.next_gives W.tells (¬ (A.is_infallible self.old.alloc))
+            (type_size T.row) iter.old self.old count first e iter.new × (self.new ≡ self.old)) }
     {
         let mut more = self.gathered::<W, I>(first, iter)?;
         self.widen(more.len(), count)?;
@@ -135,7 +148,8 @@ impl<T, A: Allocator> Vec<T, A> {
         Ok(())
     }
 
-    // Puts the items of `iter` before the last `count` elements: first as many as were told, in room made for them.
+    // Puts the items of `iter` before the last `count` elements: first as many as were told, in
+    // room made for them.
     pub(crate) fn put_more<W: Telling<I>, I: Iterator<Item = T>>(
         &mut self,
         told: usize,
@@ -148,7 +162,8 @@ impl<T, A: Allocator> Vec<T, A> {
         requires count { (0 < count) × (count ≤ len self.old) }
         requires may_ask { I.can_next iter.old }
         requires ends { IsFinite (I.remaining iter.old) }
-        ensures { Puts I.next_gives W.tells (¬ (A.is_infallible self.old.alloc)) (type_size T.row) iter.old self.old told count I.remaining result self.new iter.new }
+        ensures { Puts I.next_gives W.tells (¬ (A.is_infallible self.old.alloc))
+            (type_size T.row) iter.old self.old told count I.remaining result self.new iter.new }
     {
         self.widen(told, count)?;
         if self.fill_and_close(told, count, iter) != 0 {
@@ -161,8 +176,9 @@ impl<T, A: Allocator> Vec<T, A> {
     }
 }
 
-// `fill_gap` over a vector that it owns: nothing that is stored in its places can then change its fields, which stay in registers.
-// It is given the iterator, the places of the gap, and how many elements stand behind it, and hands the iterator back.
+// `fill_gap` over a vector that it owns: nothing that is stored in its places can then change its
+// fields, which stay in registers. It is given the iterator, the places of the gap, and how many
+// elements stand behind it, and hands the iterator back.
 #[inline(always)]
 #[tactic(auto, using(crate::proofs::Filling::gaps))]
 fn with_gap_filled<'a, T, A: Allocator, I: Iterator<Item = T>>(
@@ -173,8 +189,10 @@ fn with_gap_filled<'a, T, A: Allocator, I: Iterator<Item = T>>(
     requires may_ask { I.can_next from.0.now }
     requires ends { IsFinite (I.remaining from.0.now) }
     ensures same_reference { result.1.1.ghost_name ≡ from.entry.0.ghost_name }
-    ensures fills { FillsGap I.next_gives from.entry.0.now list from.entry.1 from.entry.2 result.1.0 result.1.1.now result.0 }
-    ensures goes { result.1.0 ≡ 0 → I.can_next result.1.1.now × IsFinite (I.remaining result.1.1.now) × (from.entry.1 + size (I.remaining result.1.1.now) ≤ size (I.remaining from.entry.0.now)) }
+    ensures fills { FillsGap I.next_gives from.entry.0.now list from.entry.1 from.entry.2 result.1.0
+        result.1.1.now result.0 }
+    ensures goes { result.1.0 ≡ 0
+        → GoesOn I.Iterator from.entry.0.now from.entry.1 result.1.1.now }
     ensures within { from.entry.1 - result.1.0 ≤ size (I.remaining from.entry.0.now) }
 {
     let (iter, gap, _count) = from;

@@ -5,8 +5,8 @@ use crate::vec::{IntoIter, Vec};
 use std::alloc::Allocator;
 
 impl<T, A: Allocator> Vec<T, A> {
-    /// The elements, which come from either end of what this answers. It takes over the block and takes no memory. It stands for
-    /// the original's `IntoIterator`.
+    /// The elements, which come from either end of what this answers. It takes over the block and
+    /// takes no memory. It stands for the original's `IntoIterator`.
     pub fn into_iter(self) -> IntoIter<T, A>
         ensures { result ≡ record { items = self.items; alloc = self.alloc } }
     {

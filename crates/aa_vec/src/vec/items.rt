@@ -8,8 +8,8 @@ use crate::vec::Vec;
 use std::alloc::{Allocator, Global};
 use std::marker::Model;
 
-/// An iterator with a number that it tells of how many items are to come, true or not. The original has no such trait: it asks
-/// `size_hint`.
+/// An iterator with a number that it tells of how many items are to come, true or not. The original
+/// has no such trait: it asks `size_hint`.
 pub trait Hinted: Iterator {
     /// The number, as a function of what the iterator holds.
     ghost lower_of: { Self → ℕ };
@@ -19,7 +19,8 @@ pub trait Hinted: Iterator {
         ensures { result ≡ lower_of self.now };
 }
 
-/// The elements of a vector, given in order, with a hint of their number that need not be true. The original has no such type.
+/// The elements of a vector, given in order, with a hint of their number that need not be true. The
+/// original has no such type.
 #[derive(Drop)]
 pub struct Items<T, A: Allocator = Global> {
     rest: Vec<T, A>,
@@ -36,8 +37,8 @@ impl<T, A: Allocator> Model for Items<T, A> {
 }
 
 impl<T, A: Allocator> Items<T, A> {
-    /// The elements of `items`, in order, with `hint` as what they tell of their number; where it is `None`, they tell how many are
-    /// left. It takes no memory.
+    /// The elements of `items`, in order, with `hint` as what they tell of their number; where it
+    /// is `None`, they tell how many are left. It takes no memory.
     pub fn new(items: Vec<T, A>, hint: Option<usize>) -> Self
         ensures { result ≡ record { items = items.items; hint = hint } }
     {

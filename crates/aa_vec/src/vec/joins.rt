@@ -1,10 +1,11 @@
 //! Whole runs of elements that pass from one vector to another.
-ghost use Rattle.std.specs.Prelude.{◌≡◌, ◌+◌, ◌-◌, ◌<◌, ◌≤◌, [], ◌++◌, take, drop, IfOk, IfErr, OnOk, IsOk, if◌then◌else◌, ◌==◌};
+ghost use Rattle.std.specs.Prelude.{◌≡◌, ◌-◌, ◌<◌, ◌≤◌, [], ◌++◌, take, drop, IfOk, IfErr, OnOk, OnErr, IsOk};
 ghost use Rattle.std.specs.Mem.{type_size};
 ghost use Rattle.aa_raw.specs.Block.{fresh};
-ghost use Rattle.aa_raw.specs.Refusals.{IsRefusedAt};
+ghost use Rattle.aa_raw.specs.Refusals.{RefusesClones};
 ghost use Rattle.aa_vec.specs.Vector.{len, HasRoom, LacksRoom, GrowsTo, Holds, Writes, run_count};
 ghost use Rattle.aa_vec.specs.Copies.{IsMade};
+ghost use Rattle.aa_vec.specs.Splits.{Splits, split_room};
 
 use crate::vec::Vec;
 use aa_raw::collections::{TryReserveError, TryReserveErrorKind};
@@ -13,16 +14,21 @@ use std::alloc::Allocator;
 use std::mem::replace;
 
 impl<T, A: Allocator> Vec<T, A> {
-    /// Moves all elements of `other` behind those of this vector; `other` is empty afterwards and keeps its capacity. It takes
-    /// memory only where they do not fit, and grows then with room to spare. A refusal is as that of `try_reserve`, and changes
-    /// neither vector. It stands for `Vec::append`.
+    /// Moves all elements of `other` behind those of this vector; `other` is empty afterwards and
+    /// keeps its capacity. It takes memory only where they do not fit, and grows then with room to
+    /// spare. A refusal is as that of `try_reserve`, and changes neither vector. It stands for
+    /// `Vec::append`.
     pub fn append(&mut self, other: &mut Self) -> Result<(), TryReserveError>
         ensures fits { HasRoom self.old (len other.old) → IsOk result }
-        ensures joined { OnOk result (GrowsTo (type_size T.row) self.old (len other.old) (self.old.items ++ other.old.items) self.new) }
+        ensures joined { OnOk result (GrowsTo (type_size T.row) self.old
+            (len other.old) (self.old.items ++ other.old.items) self.new) }
         ensures emptied { OnOk result (Holds other.old [] other.new) }
-        ensures writes { OnOk result (Writes self.old (len other.old) (run_count (len other.old)) self.new) }
+        ensures writes { OnOk result
+            (Writes self.old (len other.old) (run_count (len other.old)) self.new) }
         ensures takes { Writes other.old 0 0 other.new }
-        ensures refused { IfErr result (λ e. LacksRoom (type_size T.row) self.old (len other.old) e × (self.new ≡ self.old) × (other.new ≡ other.old)) }
+        ensures refused { IfErr result (LacksRoom (type_size T.row) self.old (len other.old)) }
+        ensures unchanged { OnErr result (self.new ≡ self.old) }
+        ensures stays { OnErr result (other.new ≡ other.old) }
     {
         if let Err(error) = self.try_reserve(other.len()) {
             return Err(error);
@@ -51,7 +57,8 @@ impl<T, A: Allocator> Vec<T, A> {
         requires room { HasRoom self.old (len other.old - at) }
         ensures holds { Holds self.old (self.old.items ++ drop at other.old.items) self.new }
         ensures behind { self.new.behind ≡ drop (len other.old - at) self.old.behind }
-        ensures writes { Writes self.old (len other.old - at) (run_count (len other.old - at)) self.new }
+        ensures writes { Writes self.old (len other.old - at)
+            (run_count (len other.old - at)) self.new }
         ensures left { Holds other.old (take at other.old.items) other.new }
         ensures takes { Writes other.old 0 0 other.new }
     {
@@ -64,20 +71,22 @@ impl<T, A: Allocator> Vec<T, A> {
         self.len = len + count;
     }
 
-    /// Takes the elements from `at`, which is at most the length, into a vector of their own, over a clone of the allocator and
-    /// with room for no more than them. `split_off(0)` hands over the old block, and this vector takes a new one of the same
-    /// capacity. A refusal changes nothing: `AllocError` with the capacity asked for, also where the allocator's clone is
-    /// refused, or `CapacityOverflow`. It stands for `Vec::split_off`.
+    /// Takes the elements from `at`, which is at most the length, into a vector of their own, over
+    /// a clone of the allocator and with room for no more than them. `split_off(0)` hands over the
+    /// old block, and this vector takes a new one of the same capacity. A refusal changes nothing:
+    /// `AllocError` with the capacity asked for, also where the allocator's clone is refused, or
+    /// `CapacityOverflow`. It stands for `Vec::split_off`.
     #[tactic(auto, using(aa_raw::proofs::Calls::with_room))]
     pub fn split_off(&mut self, at: usize) -> Result<Self, TryReserveError>
     where
         A: Clone,
         requires { at ≤ len self.old }
-        ensures tail { IfOk result (λ v. 0 < at → IsMade (type_size T.row) (len self.old - at) self.old.growth (drop at self.old.items) (run_count (len self.old - at)) v × A.is_clone self.old.alloc v.alloc) }
-        ensures head { OnOk result (0 < at → Holds self.old (take at self.old.items) self.new × Writes self.old 0 0 self.new) }
-        ensures all { IfOk result (λ v. at ≡ 0 → v ≡ self.old) }
-        ensures anew { OnOk result (at ≡ 0 → IsMade (type_size T.row) self.old.capacity self.old.growth [] 0 self.new × A.is_clone self.old.alloc self.new.alloc) }
-        ensures refused { IfErr result (λ e. let wanted = if at == 0 then self.old.capacity else len self.old - at in (A.is_infallible self.old.alloc → (0 < wanted) × (0 < type_size T.row)) × IsRefusedAt e wanted × (self.new ≡ self.old)) }
+        ensures splits { IfOk result (λ v. Splits (type_size T.row) self.old at self.new v) }
+        ensures tail_alloc { IfOk result (λ v. 0 < at → A.is_clone self.old.alloc v.alloc) }
+        ensures head_alloc { OnOk result (at ≡ 0 → A.is_clone self.old.alloc self.new.alloc) }
+        ensures refused { IfErr result (RefusesClones (A.is_infallible self.old.alloc)
+            (split_room self.old at) (type_size T.row)) }
+        ensures unchanged { OnErr result (self.new ≡ self.old) }
     {
         let len = self.len;
         if at == 0 {
@@ -94,12 +103,15 @@ impl<T, A: Allocator> Vec<T, A> {
         Ok(tail)
     }
 
-    // An empty vector that grows as this one, with room for `capacity` elements, over a clone of its allocator.
+    // An empty vector that grows as this one, with room for `capacity` elements, over a clone of
+    // its allocator.
     pub(crate) fn empty_like(&self, capacity: usize) -> Result<Self, TryReserveError>
     where
         A: Clone,
-        ensures made { IfOk result (λ v. IsMade (type_size T.row) capacity self.now.growth [] 0 v × A.is_clone self.now.alloc v.alloc) }
-        ensures refused { IfErr result (λ e. (A.is_infallible self.now.alloc → (0 < capacity) × (0 < type_size T.row)) × IsRefusedAt e capacity) }
+        ensures made { IfOk result (IsMade (type_size T.row) capacity self.now.growth [] 0) }
+        ensures alloc { IfOk result (λ v. A.is_clone self.now.alloc v.alloc) }
+        ensures refused { IfErr result
+            (RefusesClones (A.is_infallible self.now.alloc) capacity (type_size T.row)) }
     {
         empty_over(self.allocator(), self.growth(), capacity)
     }
@@ -108,8 +120,11 @@ impl<T, A: Allocator> Vec<T, A> {
     fn block_like(&self, capacity: usize) -> Result<RawVec<T, A>, TryReserveError>
     where
         A: Clone,
-        ensures made { IfOk result (λ b. (b ≡ fresh (type_size T.row) capacity self.now.growth b.alloc) × A.is_clone self.now.alloc b.alloc) }
-        ensures refused { IfErr result (λ e. (A.is_infallible self.now.alloc → (0 < capacity) × (0 < type_size T.row)) × IsRefusedAt e capacity) }
+        ensures made { IfOk result
+            (λ b. b ≡ fresh (type_size T.row) capacity self.now.growth b.alloc) }
+        ensures alloc { IfOk result (λ b. A.is_clone self.now.alloc b.alloc) }
+        ensures refused { IfErr result
+            (RefusesClones (A.is_infallible self.now.alloc) capacity (type_size T.row)) }
     {
         block_over(self.block.allocator(), self.block.growth(), capacity)
     }
@@ -122,8 +137,10 @@ pub(crate) fn empty_over<T, A: Allocator + Clone>(
     growth: Growth,
     capacity: usize,
 ) -> Result<Vec<T, A>, TryReserveError>
-    ensures made { IfOk result (λ v. IsMade (type_size T.row) capacity growth [] 0 v × A.is_clone alloc.now v.alloc) }
-    ensures refused { IfErr result (λ e. (A.is_infallible alloc.now → (0 < capacity) × (0 < type_size T.row)) × IsRefusedAt e capacity) }
+    ensures made { IfOk result (IsMade (type_size T.row) capacity growth [] 0) }
+    ensures alloc { IfOk result (λ v. A.is_clone alloc.now v.alloc) }
+    ensures refused { IfErr result
+        (RefusesClones (A.is_infallible alloc.now) capacity (type_size T.row)) }
 {
     let block = block_over(alloc, growth, capacity)?;
     Ok(Vec { block, len: 0 })
@@ -135,8 +152,10 @@ fn block_over<T, A: Allocator + Clone>(
     growth: Growth,
     capacity: usize,
 ) -> Result<RawVec<T, A>, TryReserveError>
-    ensures made { IfOk result (λ b. (b ≡ fresh (type_size T.row) capacity growth b.alloc) × A.is_clone alloc.now b.alloc) }
-    ensures refused { IfErr result (λ e. (A.is_infallible alloc.now → (0 < capacity) × (0 < type_size T.row)) × IsRefusedAt e capacity) }
+    ensures made { IfOk result (λ b. b ≡ fresh (type_size T.row) capacity growth b.alloc) }
+    ensures alloc { IfOk result (λ b. A.is_clone alloc.now b.alloc) }
+    ensures refused { IfErr result
+        (RefusesClones (A.is_infallible alloc.now) capacity (type_size T.row)) }
 {
     let Ok(alloc) = alloc.clone() else {
         return Err(TryReserveErrorKind::AllocError { capacity }.into());

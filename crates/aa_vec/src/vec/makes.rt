@@ -1,8 +1,8 @@
 //! New vectors of copies.
-ghost use Rattle.std.specs.Prelude.{◌≡◌, ◌-◌, ◌<◌, length, replicate, All, IfOk, IfErr};
+ghost use Rattle.std.specs.Prelude.{◌≡◌, ◌<◌, length, replicate, All, IfOk, IfErr};
 ghost use Rattle.std.specs.Mem.{type_size};
 ghost use Rattle.aa_raw.specs.Clones.{ClonesFreely};
-ghost use Rattle.aa_raw.specs.Refusals.{IsRefusedAt};
+ghost use Rattle.aa_raw.specs.Refusals.{RefusesClones};
 ghost use Rattle.aa_raw.specs.declared.raw_vec.Growth.TheVariants.{Doubling};
 ghost use Rattle.aa_vec.specs.Vector.{len};
 ghost use Rattle.aa_vec.specs.Copies.{Copies, IsMade, IsMadeOf, IsMadeOfOne};
@@ -12,35 +12,44 @@ use aa_raw::collections::{TryReserveError, TryReserveErrorKind};
 use std::alloc::{AllocError, Allocator, Global};
 
 impl<T: Clone> Vec<T, Global> {
-    /// A vector of a clone of each element of `slice` on the global allocator, with room for no more; it is refused as
-    /// `from_slice_in` is. It stands for the original's `From<&[T]>`.
+    /// A vector of a clone of each element of `slice` on the global allocator, with room for no
+    /// more; it is refused as `from_slice_in` is. It stands for the original's `From<&[T]>`.
     pub fn from_slice(alloc: Global, slice: &[T]) -> Result<Self, TryReserveError>
-        ensures made { IfOk result (λ v. IsMadeOf T.is_clone (type_size T.row) Doubling slice.now v × (v.alloc ≡ alloc)) }
-        ensures copied { Copies T.is_clone → IfOk result (λ v. IsMade (type_size T.row) (length slice.now) Doubling slice.now (length slice.now) v) }
-        ensures refused { IfErr result (λ e. (All T.is_infallible slice.now → (0 < length slice.now) × (0 < type_size T.row)) × IsRefusedAt e (length slice.now)) }
+        ensures made { IfOk result (IsMadeOf T.is_clone (type_size T.row) Doubling slice.now) }
+        ensures alloc { IfOk result (λ v. v.alloc ≡ alloc) }
+        ensures copied { Copies T.is_clone → IfOk result
+            (IsMade (type_size T.row) (length slice.now) Doubling slice.now (length slice.now)) }
+        ensures refused { IfErr result
+            (RefusesClones (All T.is_infallible slice.now) (length slice.now) (type_size T.row)) }
     {
         Vec::from_slice_in(slice, alloc)
     }
 
-    /// A vector of `n` elements on the global allocator, clones of `element` and `element` itself last; it is refused as
-    /// `from_elem_in` is. It stands for the original's `from_elem`.
+    /// A vector of `n` elements on the global allocator, clones of `element` and `element` itself
+    /// last; it is refused as `from_elem_in` is. It stands for the original's `from_elem`.
     pub fn from_elem(alloc: Global, element: T, n: usize) -> Result<Self, TryReserveError>
-        ensures made { IfOk result (λ v. IsMadeOfOne T.is_clone (type_size T.row) element n v × (v.alloc ≡ alloc)) }
-        ensures copied { Copies T.is_clone → IfOk result (λ v. IsMade (type_size T.row) n Doubling (replicate n element) n v) }
-        ensures refused { IfErr result (λ e. ((1 < n → T.is_infallible element) → (0 < n) × (0 < type_size T.row)) × IsRefusedAt e n) }
+        ensures made { IfOk result (IsMadeOfOne T.is_clone (type_size T.row) element n) }
+        ensures alloc { IfOk result (λ v. v.alloc ≡ alloc) }
+        ensures copied { Copies T.is_clone → IfOk result
+            (IsMade (type_size T.row) n Doubling (replicate n element) n) }
+        ensures refused { IfErr result
+            (RefusesClones (1 < n → T.is_infallible element) n (type_size T.row)) }
     {
         Vec::from_elem_in(element, n, alloc)
     }
 }
 
 impl<T: Clone, A: Allocator> Vec<T, A> {
-    /// A vector of a clone of each element of `slice`, with room for no more. It takes memory before the first clone. Where that
-    /// or a clone is refused, nothing is made: `AllocError` with the length of `slice`, or `CapacityOverflow`. The original has
-    /// no such call.
+    /// A vector of a clone of each element of `slice`, with room for no more. It takes memory
+    /// before the first clone. Where that or a clone is refused, nothing is made: `AllocError` with
+    /// the length of `slice`, or `CapacityOverflow`. The original has no such call.
     pub fn from_slice_in(slice: &[T], alloc: A) -> Result<Self, TryReserveError>
-        ensures made { IfOk result (λ v. IsMadeOf T.is_clone (type_size T.row) Doubling slice.now v × (v.alloc ≡ alloc)) }
-        ensures copied { Copies T.is_clone → IfOk result (λ v. IsMade (type_size T.row) (length slice.now) Doubling slice.now (length slice.now) v) }
-        ensures refused { IfErr result (λ e. (All T.is_infallible slice.now → (0 < length slice.now) × (0 < type_size T.row)) × IsRefusedAt e (length slice.now)) }
+        ensures made { IfOk result (IsMadeOf T.is_clone (type_size T.row) Doubling slice.now) }
+        ensures alloc { IfOk result (λ v. v.alloc ≡ alloc) }
+        ensures copied { Copies T.is_clone → IfOk result
+            (IsMade (type_size T.row) (length slice.now) Doubling slice.now (length slice.now)) }
+        ensures refused { IfErr result
+            (RefusesClones (All T.is_infallible slice.now) (length slice.now) (type_size T.row)) }
     {
         let capacity = slice.len();
         let mut made = Vec::with_capacity_in(capacity, alloc)?;
@@ -52,13 +61,17 @@ impl<T: Clone, A: Allocator> Vec<T, A> {
         Err(TryReserveErrorKind::AllocError { capacity }.into())
     }
 
-    /// A vector of `n` elements, clones of `element` and `element` itself last, with room for no more. It takes memory before the
-    /// first clone. Where that or a clone is refused, nothing is made: `AllocError` with the number `n`, or `CapacityOverflow`.
-    /// It stands for the original's `from_elem_in`.
+    /// A vector of `n` elements, clones of `element` and `element` itself last, with room for no
+    /// more. It takes memory before the first clone. Where that or a clone is refused, nothing is
+    /// made: `AllocError` with the number `n`, or `CapacityOverflow`. It stands for the original's
+    /// `from_elem_in`.
     pub fn from_elem_in(element: T, n: usize, alloc: A) -> Result<Self, TryReserveError>
-        ensures made { IfOk result (λ v. IsMadeOfOne T.is_clone (type_size T.row) element n v × (v.alloc ≡ alloc)) }
-        ensures copied { Copies T.is_clone → IfOk result (λ v. IsMade (type_size T.row) n Doubling (replicate n element) n v) }
-        ensures refused { IfErr result (λ e. ((1 < n → T.is_infallible element) → (0 < n) × (0 < type_size T.row)) × IsRefusedAt e n) }
+        ensures made { IfOk result (IsMadeOfOne T.is_clone (type_size T.row) element n) }
+        ensures alloc { IfOk result (λ v. v.alloc ≡ alloc) }
+        ensures copied { Copies T.is_clone → IfOk result
+            (IsMade (type_size T.row) n Doubling (replicate n element) n) }
+        ensures refused { IfErr result
+            (RefusesClones (1 < n → T.is_infallible element) n (type_size T.row)) }
     {
         let mut made = Vec::with_capacity_in(n, alloc)?;
         let _within = made.capacity();
@@ -71,15 +84,21 @@ impl<T: Clone, A: Allocator> Vec<T, A> {
         Err(TryReserveErrorKind::AllocError { capacity: n }.into())
     }
 
-    /// A vector of a clone of each element, over a clone of the allocator, that grows as this one does, with room for no more
-    /// than the elements. Where memory or a clone is refused, nothing is made: `AllocError` with the length, or
-    /// `CapacityOverflow`. It stands for the original's `Clone`, which can't be refused.
+    /// A vector of a clone of each element, over a clone of the allocator, that grows as this one
+    /// does, with room for no more than the elements. Where memory or a clone is refused, nothing
+    /// is made: `AllocError` with the length, or `CapacityOverflow`. It stands for the original's
+    /// `Clone`, which can't be refused.
     pub fn clone(&self) -> Result<Self, TryReserveError>
     where
         A: Clone,
-        ensures made { IfOk result (λ v. IsMadeOf T.is_clone (type_size T.row) self.now.growth self.now.items v × A.is_clone self.now.alloc v.alloc) }
-        ensures copied { Copies T.is_clone → IfOk result (λ v. IsMade (type_size T.row) (len self.now) self.now.growth self.now.items (len self.now) v) }
-        ensures refused { IfErr result (λ e. (All T.is_infallible self.now.items → A.is_infallible self.now.alloc → (0 < len self.now) × (0 < type_size T.row)) × IsRefusedAt e (len self.now)) }
+        ensures made { IfOk result
+            (IsMadeOf T.is_clone (type_size T.row) self.now.growth self.now.items) }
+        ensures alloc { IfOk result (λ v. A.is_clone self.now.alloc v.alloc) }
+        ensures copied { Copies T.is_clone → IfOk result (IsMade (type_size T.row)
+            (len self.now) self.now.growth self.now.items (len self.now)) }
+        ensures refused { IfErr result
+            (RefusesClones (All T.is_infallible self.now.items × A.is_infallible self.now.alloc)
+            (len self.now) (type_size T.row)) }
     {
         let capacity = self.len();
         let mut made = self.empty_like(capacity)?;
@@ -92,9 +111,11 @@ impl<T: Clone, A: Allocator> Vec<T, A> {
 }
 
 impl<T: Clone, A: Allocator + Clone> Clone for Vec<T, A> {
-    ghost is_clone = { λ v copy. IsMadeOf T.is_clone (type_size T.row) v.growth v.items copy × A.is_clone v.alloc copy.alloc };
+    ghost is_clone = { λ v copy. IsMadeOf T.is_clone (type_size T.row) v.growth v.items copy
+        × A.is_clone v.alloc copy.alloc };
 
-    ghost is_infallible = { λ v. ClonesFreely T.is_infallible (type_size T.row) v.items × A.is_infallible v.alloc };
+    ghost is_infallible = { λ v. ClonesFreely T.is_infallible (type_size T.row) v.items
+        × A.is_infallible v.alloc };
 
     /// The same as the inherent `clone`, whose error also tells the number.
     fn clone(&self) -> Result<Self, AllocError> {

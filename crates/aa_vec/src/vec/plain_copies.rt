@@ -1,10 +1,11 @@
-//! Copies of elements that are `Copy`. Each call is a second one beside that for `Clone`, since a call can't tell the two apart: it
-//! can't be refused for a clone. Where a clone is a plain copy it is no faster.
-ghost use Rattle.std.specs.Prelude.{◌≡◌, ◌+◌, ◌-◌, ◌*◌, ◌^◌, ◌<◌, ◌≤◌, ◌++◌, length, take, drop, IfOk, IfErr, OnOk, IsOk};
+//! Copies of elements that are `Copy`. Each call is a second one beside that for `Clone`, since a
+//! call can't tell the two apart: it can't be refused for a clone. Where a clone is a plain copy it
+//! is no faster.
+ghost use Rattle.std.specs.Prelude.{◌≡◌, ◌+◌, ◌-◌, ◌<◌, ◌≤◌, ◌++◌, length, take, drop, slice_range, IfOk, IfErr, OnOk, OnErr, IsOk};
 ghost use Rattle.std.specs.Mem.{type_size};
-ghost use Rattle.aa_raw.specs.Refusals.{IsRefusedAt};
+ghost use Rattle.aa_raw.specs.Refusals.{RefusesBlock, RefusesClones};
 ghost use Rattle.aa_raw.specs.declared.raw_vec.Growth.TheVariants.{Doubling};
-ghost use Rattle.aa_vec.specs.Vector.{len, HasRoom, LacksRoom, GrowsTo, Holds, Writes, run_count};
+ghost use Rattle.aa_vec.specs.Vector.{len, HasRoom, LacksRoom, GrowsTo, Holds};
 ghost use Rattle.aa_vec.specs.Copies.{WritesAtMost, IsMadeWithin};
 
 use crate::vec::Vec;
@@ -14,21 +15,24 @@ use std::alloc::{Allocator, Global};
 use std::ops::Range;
 
 impl<T: Copy> Vec<T, Global> {
-    /// `from_slice` for elements that are `Copy`, which is refused only where memory is. It stands for what the original's
-    /// `From<&[T]>` compiles to for such elements.
+    /// `from_slice` for elements that are `Copy`, which is refused only where memory is. It stands
+    /// for what the original's `From<&[T]>` compiles to for such elements.
     pub fn from_slice_copied(alloc: Global, slice: &[T]) -> Result<Self, TryReserveError>
-        ensures made { IfOk result (λ v. IsMadeWithin (type_size T.row) Doubling slice.now v × (v.alloc ≡ alloc)) }
-        ensures refused { IfErr result (λ e. (0 < length slice.now) × (0 < type_size T.row) × IsRefusedAt e (length slice.now)) }
+        ensures made { IfOk result (IsMadeWithin (type_size T.row) Doubling slice.now) }
+        ensures alloc { IfOk result (λ v. v.alloc ≡ alloc) }
+        ensures refused { IfErr result (RefusesBlock (length slice.now) (type_size T.row)) }
     {
         Vec::from_slice_copied_in(slice, alloc)
     }
 }
 
 impl<T: Copy, A: Allocator> Vec<T, A> {
-    /// `from_slice_in` for elements that are `Copy`, which is refused only where memory is. The original has no such call.
+    /// `from_slice_in` for elements that are `Copy`, which is refused only where memory is. The
+    /// original has no such call.
     pub fn from_slice_copied_in(slice: &[T], alloc: A) -> Result<Self, TryReserveError>
-        ensures made { IfOk result (λ v. IsMadeWithin (type_size T.row) Doubling slice.now v × (v.alloc ≡ alloc)) }
-        ensures refused { IfErr result (λ e. (0 < length slice.now) × (0 < type_size T.row) × IsRefusedAt e (length slice.now)) }
+        ensures made { IfOk result (IsMadeWithin (type_size T.row) Doubling slice.now) }
+        ensures alloc { IfOk result (λ v. v.alloc ≡ alloc) }
+        ensures refused { IfErr result (RefusesBlock (length slice.now) (type_size T.row)) }
     {
         let mut made = Vec::with_capacity_in(slice.len(), alloc)?;
         // It does nothing but tell the prover that places are at most `usize::MAX`.
@@ -37,13 +41,15 @@ impl<T: Copy, A: Allocator> Vec<T, A> {
         Ok(made)
     }
 
-    /// `clone` for elements that are `Copy`, which is refused only where memory or the allocator's clone is. It stands for what
-    /// the original's `Clone` compiles to for such elements.
+    /// `clone` for elements that are `Copy`, which is refused only where memory or the allocator's
+    /// clone is. It stands for what the original's `Clone` compiles to for such elements.
     pub fn clone_copied(&self) -> Result<Self, TryReserveError>
     where
         A: Clone,
-        ensures made { IfOk result (λ v. IsMadeWithin (type_size T.row) self.now.growth self.now.items v × A.is_clone self.now.alloc v.alloc) }
-        ensures refused { IfErr result (λ e. (A.is_infallible self.now.alloc → (0 < len self.now) × (0 < type_size T.row)) × IsRefusedAt e (len self.now)) }
+        ensures made { IfOk result (IsMadeWithin (type_size T.row) self.now.growth self.now.items) }
+        ensures alloc { IfOk result (λ v. A.is_clone self.now.alloc v.alloc) }
+        ensures refused { IfErr result
+            (RefusesClones (A.is_infallible self.now.alloc) (len self.now) (type_size T.row)) }
     {
         let mut made = self.empty_like(self.len())?;
         let _within = made.capacity();
@@ -51,13 +57,17 @@ impl<T: Copy, A: Allocator> Vec<T, A> {
         Ok(made)
     }
 
-    /// `extend_from_slice` for elements that are `Copy`, which is refused only as `try_reserve` is, and then changes nothing. It
-    /// stands for what the original's `extend_from_slice` compiles to for such elements.
+    /// `extend_from_slice` for elements that are `Copy`, which is refused only as `try_reserve` is,
+    /// and then changes nothing. It stands for what the original's `extend_from_slice` compiles to
+    /// for such elements.
+    #[inline(always)]
     pub fn extend_from_slice_copied(&mut self, other: &[T]) -> Result<(), TryReserveError>
         ensures fits { HasRoom self.old (length other.now) → IsOk result }
-        ensures extended { OnOk result (GrowsTo (type_size T.row) self.old (length other.now) (self.old.items ++ other.now) self.new) }
+        ensures extended { OnOk result (GrowsTo (type_size T.row) self.old
+            (length other.now) (self.old.items ++ other.now) self.new) }
         ensures writes { OnOk result (WritesAtMost self.old (length other.now) self.new) }
-        ensures refused { IfErr result (λ e. LacksRoom (type_size T.row) self.old (length other.now) e × (self.new ≡ self.old)) }
+        ensures refused { IfErr result (LacksRoom (type_size T.row) self.old (length other.now)) }
+        ensures unchanged { OnErr result (self.new ≡ self.old) }
     {
         let _within = self.capacity();
         if let Err(error) = self.try_reserve(other.len()) {
@@ -67,14 +77,18 @@ impl<T: Copy, A: Allocator> Vec<T, A> {
         Ok(())
     }
 
-    /// `extend_from_within` for elements that are `Copy`, which is refused only as `try_reserve` is, and then changes nothing. It
-    /// stands for what the original's `extend_from_within` compiles to for such elements.
+    /// `extend_from_within` for elements that are `Copy`, which is refused only as `try_reserve`
+    /// is, and then changes nothing. It stands for what the original's `extend_from_within`
+    /// compiles to for such elements.
     pub fn extend_from_within_copied(&mut self, range: Range<usize>) -> Result<(), TryReserveError>
         requires { (range.start ≤ range.end) × (range.end ≤ len self.old) }
         ensures fits { HasRoom self.old (range.end - range.start) → IsOk result }
-        ensures extended { OnOk result (GrowsTo (type_size T.row) self.old (range.end - range.start) (self.old.items ++ take (range.end - range.start) (drop range.start self.old.items)) self.new) }
+        ensures extended { OnOk result (GrowsTo (type_size T.row) self.old (range.end - range.start)
+            (self.old.items ++ slice_range self.old.items range.start range.end) self.new) }
         ensures writes { OnOk result (WritesAtMost self.old (range.end - range.start) self.new) }
-        ensures refused { IfErr result (λ e. LacksRoom (type_size T.row) self.old (range.end - range.start) e × (self.new ≡ self.old)) }
+        ensures refused { IfErr result
+            (LacksRoom (type_size T.row) self.old (range.end - range.start)) }
+        ensures unchanged { OnErr result (self.new ≡ self.old) }
     {
         let _within = self.capacity();
         let count = range.end - range.start;
@@ -86,7 +100,7 @@ impl<T: Copy, A: Allocator> Vec<T, A> {
     }
 
     // Puts copies of all of `source` behind the last element of a vector that has room for them.
-    #[inline]
+    #[inline(always)]
     #[tactic(auto, using(aa_raw::proofs::Calls::in_runs))]
     fn put_copies(&mut self, source: &[T])
         requires room { HasRoom self.old (length source.now) }
@@ -100,19 +114,21 @@ impl<T: Copy, A: Allocator> Vec<T, A> {
         self.len = len + source.len();
     }
 
-    // Puts copies of `count` of its own elements, from the index `from` on, behind the last one of a vector that has room for them.
+    // Puts copies of `count` of its own elements, from the index `from` on, behind the last one of
+    // a vector that has room for them.
     fn put_own_copies(&mut self, from: usize, count: usize)
         requires range { from + count ≤ len self.old }
         requires room { HasRoom self.old count }
-        ensures items { Holds self.old (self.old.items ++ take count (drop from self.old.items)) self.new }
+        ensures items { Holds self.old
+            (self.old.items ++ take count (drop from self.old.items)) self.new }
         ensures writes { WritesAtMost self.old count self.new }
     {
         replace_with(self, (from, count), with_own_copies)
     }
 }
 
-// The loop owns the vector that it fills: nothing that is stored in its places can then change its fields, which stay in
-// registers, and it compiles to copies of many elements at once.
+// The loop owns the vector that it fills: nothing that is stored in its places can then change its
+// fields, which stay in registers, and it compiles to copies of many elements at once.
 
 // `put_own_copies`, from the first number on, and as many as the second says.
 fn with_own_copies<T: Copy, A: Allocator>(

@@ -1,8 +1,8 @@
 //! Room for more elements, and giving room back.
-ghost use Rattle.std.specs.Prelude.{◌≡◌, ◌<◌, min, max, IfErr, OnOk, IsOk};
+ghost use Rattle.std.specs.Prelude.{◌≡◌, max, IfErr, OnOk, OnErr, IsOk};
 ghost use Rattle.std.specs.Mem.{type_size};
-ghost use Rattle.aa_raw.specs.Growth.{usize_max};
-ghost use Rattle.aa_vec.specs.Vector.{len, sized, Reserved, GrowsTo, GrowsExactly, LacksRoom, LacksExactRoom, Shrinks, Writes};
+ghost use Rattle.aa_raw.specs.Room.{NeedsBlock};
+ghost use Rattle.aa_vec.specs.Vector.{len, HasRoom, GrowsTo, GrowsExactly, LacksRoom, LacksExactRoom, ShrinksTo, Writes};
 ghost use Rattle.aa_raw.specs.declared.collections.TryReserveErrorKind.TheVariants.{AllocError};
 
 use crate::vec::Vec;
@@ -11,55 +11,86 @@ use std::alloc::Allocator;
 
 #[tactic(auto, using(aa_raw::proofs::Calls::with_room))]
 impl<T, A: Allocator> Vec<T, A> {
-    /// Makes room for `additional` more elements. Where they fit, it does nothing; else it takes memory and grows with room to
-    /// spare. A refusal changes nothing: `CapacityOverflow` where the length would pass `usize::MAX` or the bytes pass
-    /// `isize::MAX`, else `AllocError` with the capacity asked for. It stands for `Vec::try_reserve`.
+    /// Makes room for `additional` more elements. Where they fit, it does nothing; else it takes
+    /// memory and grows with room to spare. A refusal changes nothing: `CapacityOverflow` where the
+    /// length would pass `usize::MAX` or the bytes pass `isize::MAX`, else `AllocError` with the
+    /// capacity asked for. It stands for `Vec::try_reserve`.
     pub fn try_reserve(&mut self, additional: usize) -> Result<(), TryReserveError>
-        ensures { Reserved self.old additional (GrowsTo (type_size T.row) self.old additional self.old.items self.new) (LacksRoom (type_size T.row) self.old additional) result self.new }
+        ensures fits { HasRoom self.old additional → IsOk result }
+        ensures made { OnOk result
+            (GrowsTo (type_size T.row) self.old additional self.old.items self.new) }
+        ensures writes { Writes self.old 0 0 self.new }
+        ensures refused { IfErr result (LacksRoom (type_size T.row) self.old additional) }
+        ensures unchanged { OnErr result (self.new ≡ self.old) }
     {
         self.block.try_reserve(self.len, additional)
     }
 
-    /// Makes room for exactly `additional` more elements where they do not fit; else it is as `try_reserve`. It stands for
-    /// `Vec::try_reserve_exact`.
+    /// Makes room for exactly `additional` more elements where they do not fit; else it is as
+    /// `try_reserve`. It stands for `Vec::try_reserve_exact`.
     pub fn try_reserve_exact(&mut self, additional: usize) -> Result<(), TryReserveError>
-        ensures { Reserved self.old additional (GrowsExactly (type_size T.row) self.old additional self.old.items self.new) (LacksExactRoom self.old additional) result self.new }
+        ensures fits { HasRoom self.old additional → IsOk result }
+        ensures made { OnOk result
+            (GrowsExactly (type_size T.row) self.old additional self.old.items self.new) }
+        ensures writes { Writes self.old 0 0 self.new }
+        ensures refused { IfErr result (LacksExactRoom self.old additional) }
+        ensures unchanged { OnErr result (self.new ≡ self.old) }
     {
         self.block.try_reserve_exact(self.len, additional)
     }
 
     /// The same as `try_reserve`. It stands for `Vec::reserve`, which aborts on a refusal.
     pub fn reserve(&mut self, additional: usize) -> Result<(), TryReserveError>
-        ensures { Reserved self.old additional (GrowsTo (type_size T.row) self.old additional self.old.items self.new) (LacksRoom (type_size T.row) self.old additional) result self.new }
+        ensures fits { HasRoom self.old additional → IsOk result }
+        ensures made { OnOk result
+            (GrowsTo (type_size T.row) self.old additional self.old.items self.new) }
+        ensures writes { Writes self.old 0 0 self.new }
+        ensures refused { IfErr result (LacksRoom (type_size T.row) self.old additional) }
+        ensures unchanged { OnErr result (self.new ≡ self.old) }
     {
         self.try_reserve(additional)
     }
 
-    /// The same as `try_reserve_exact`. It stands for `Vec::reserve_exact`, which aborts on a refusal.
+    /// The same as `try_reserve_exact`. It stands for `Vec::reserve_exact`, which aborts on a
+    /// refusal.
     pub fn reserve_exact(&mut self, additional: usize) -> Result<(), TryReserveError>
-        ensures { Reserved self.old additional (GrowsExactly (type_size T.row) self.old additional self.old.items self.new) (LacksExactRoom self.old additional) result self.new }
+        ensures fits { HasRoom self.old additional → IsOk result }
+        ensures made { OnOk result
+            (GrowsExactly (type_size T.row) self.old additional self.old.items self.new) }
+        ensures writes { Writes self.old 0 0 self.new }
+        ensures refused { IfErr result (LacksExactRoom self.old additional) }
+        ensures unchanged { OnErr result (self.new ≡ self.old) }
     {
         self.try_reserve_exact(additional)
     }
 
-    /// Gives back all but the places of `capacity` elements, or of as many as there are. Where the capacity is no greater, or the
-    /// elements have no size, it does nothing. It takes a new block of that many places, and none for 0. A refusal changes
-    /// nothing: `AllocError` with the capacity asked for. It stands for `Vec::shrink_to`, which aborts on a refusal.
+    /// Gives back all but the places of `capacity` elements, or of as many as there are. Where the
+    /// capacity is no greater, or the elements have no size, it does nothing. It takes a new block
+    /// of that many places, and none for 0. A refusal changes nothing: `AllocError` with the
+    /// capacity asked for. It stands for `Vec::shrink_to`, which aborts on a refusal.
     pub fn shrink_to(&mut self, capacity: usize) -> Result<(), TryReserveError>
-        ensures shrunk { OnOk result (Shrinks self.old (min self.old.capacity (sized (type_size T.row) (max (len self.old) capacity))) self.new) }
+        ensures shrunk { OnOk result
+            (ShrinksTo (type_size T.row) self.old (max (len self.old) capacity) self.new) }
         ensures writes { Writes self.old 0 0 self.new }
-        ensures refused { IfErr result (λ e. (0 < max (len self.old) capacity) × (max (len self.old) capacity < self.old.capacity) × (self.old.capacity < usize_max) × (0 < type_size T.row) × (e.kind ≡ AllocError (max (len self.old) capacity)) × (self.new ≡ self.old)) }
+        ensures only_for_memory { OnErr result
+            (NeedsBlock (type_size T.row) self.old.capacity (max (len self.old) capacity)) }
+        ensures number { IfErr result (λ e. e.kind ≡ AllocError (max (len self.old) capacity)) }
+        ensures unchanged { OnErr result (self.new ≡ self.old) }
     {
         let wanted = self.len.max(capacity).min(self.block.capacity());
         self.block.shrink_to_fit(self.len, wanted)
     }
 
-    /// Gives back the places behind the elements, as `shrink_to(0)`. It stands for `Vec::shrink_to_fit`, which aborts on a
-    /// refusal.
+    /// Gives back the places behind the elements, as `shrink_to(0)`. It stands for
+    /// `Vec::shrink_to_fit`, which aborts on a refusal.
     pub fn shrink_to_fit(&mut self) -> Result<(), TryReserveError>
-        ensures shrunk { OnOk result (Shrinks self.old (min self.old.capacity (sized (type_size T.row) (len self.old))) self.new) }
+        ensures shrunk { OnOk result
+            (ShrinksTo (type_size T.row) self.old (len self.old) self.new) }
         ensures writes { Writes self.old 0 0 self.new }
-        ensures refused { IfErr result (λ e. (0 < len self.old) × (len self.old < self.old.capacity) × (self.old.capacity < usize_max) × (0 < type_size T.row) × (e.kind ≡ AllocError (len self.old)) × (self.new ≡ self.old)) }
+        ensures only_for_memory { OnErr result
+            (NeedsBlock (type_size T.row) self.old.capacity (len self.old)) }
+        ensures number { IfErr result (λ e. e.kind ≡ AllocError (len self.old)) }
+        ensures unchanged { OnErr result (self.new ≡ self.old) }
     {
         self.shrink_to(0)
     }

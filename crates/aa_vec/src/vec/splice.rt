@@ -1,8 +1,7 @@
 //! `Splice`: a range of a vector, replaced by items.
 ghost use Rattle.std.specs.Prelude.{◌≡◌, ℕ, ◌+◌, ◌-◌, ◌<◌, ◌≤◌, ◌++◌, List, [], length, Some, IfErr, OnOk, IsOk};
 ghost use Rattle.std.specs.Mem.{type_size};
-ghost use Rattle.std.specs.Iterator.{IsFinite, Drains, size};
-ghost use Rattle.std.specs.Iterator.Runs.{WholeRun};
+ghost use Rattle.std.specs.Iterator.{IsFinite};
 ghost use Rattle.aa_vec.specs.Vector.{len, HasRoom};
 ghost use Rattle.aa_vec.specs.Behind.{StandsBehind, behind_items};
 ghost use Rattle.aa_vec.specs.Extending.{TellsAtMost, TellsExactly};
@@ -16,29 +15,31 @@ use std::alloc::{Allocator, Global};
 use std::fmt;
 use std::ops::Range;
 
-/// A range of a vector that is replaced by items. The elements of the range are taken from either end; `finish` or
-/// `finish_hinted` drops the others and puts the items in their place. It must be spent by one of the two: the original ends it
-/// by its drop, which could answer no refusal. It stands for `allocator_api2::vec::Splice`.
+/// A range of a vector that is replaced by items. The elements of the range are taken from either
+/// end; `finish` or `finish_hinted` drops the others and puts the items in their place. It must be
+/// spent by one of the two: the original ends it by its drop, which could answer no refusal. It
+/// stands for `allocator_api2::vec::Splice`.
 pub struct Splice<'a, I: Iterator, A: Allocator = Global> {
     vec: &'a mut Vec<I::Item, A>,
-    // Places behind the vector's last element: the elements of the range not taken yet stand from `front` up to `back`, and the
-    // elements behind the range from `end` up to `total`.
+    // Places behind the vector's last element: the elements of the range not taken yet stand from
+    // `front` up to `back`, and the elements behind the range from `end` up to `total`.
     front: usize,
     back: usize,
     end: usize,
     total: usize,
     iter: I,
     ghost ordered: { (front ≤ back) × (back ≤ end) × (end ≤ total) },
-    ghost held: { StandsBehind vec.now front (back - front) × StandsBehind vec.now end (total - end) },
+    ghost held: { StandsBehind vec.now front (back - front)
+        × StandsBehind vec.now end (total - end) },
 }
 
 impl<T, A: Allocator> Vec<T, A> {
-    ghost use Rattle.aa_vec.specs.Draining.{TakesRange};
-    ghost use Rattle.aa_vec.specs.Splices.{splice_lender, splice_range, splice_iter};
+    ghost use Rattle.aa_vec.specs.Draining.{TakesRange, drain_lender};
+    ghost use Rattle.aa_vec.specs.Splices.{splice_range, splice_iter};
 
-    /// Takes the elements of the range out of the vector, which ends before them at once. They come from either end of what this
-    /// answers; its `finish` puts the items of `iter` in their place. The capacity stays; it takes no memory. It stands for
-    /// `Vec::splice`.
+    /// Takes the elements of the range out of the vector, which ends before them at once. They come
+    /// from either end of what this answers; its `finish` puts the items of `iter` in their place.
+    /// The capacity stays; it takes no memory. It stands for `Vec::splice`.
     pub fn splice<I: Iterator<Item = T>>(
         &mut self,
         range: Range<usize>,
@@ -47,7 +48,7 @@ impl<T, A: Allocator> Vec<T, A> {
     where
         A: Clone,
         requires { (range.start ≤ range.end) × (range.end ≤ len self.old) }
-        ensures lender { splice_lender result ≡ self.entry.ghost_name }
+        ensures lender { drain_lender (splice_range result) ≡ self.entry.ghost_name }
         ensures drains { TakesRange self.old range.start range.end (splice_range result) }
         ensures items { splice_iter result ≡ iter }
     {
@@ -65,7 +66,8 @@ impl<T, A: Allocator> Vec<T, A> {
 }
 
 impl<'a, I: Iterator, A: Allocator> Splice<'a, I, A> {
-    ghost use Rattle.aa_vec.specs.Splices.{splice_rest, splices_first, splices_last};
+    ghost use Rattle.aa_vec.specs.Draining.{drain_rest};
+    ghost use Rattle.aa_vec.specs.Splices.{splice_range, splices_first, splices_last};
 
     /// Takes the first element of the range. At the end it answers `None`.
     #[tactic(auto, using(crate::proofs::Drains::from_ends), unfolding(crate::specs::Draining::drain_rest, crate::specs::Draining::drain_tail))]
@@ -96,14 +98,14 @@ impl<'a, I: Iterator, A: Allocator> Splice<'a, I, A> {
     /// How many elements of the range are left.
     #[tactic(auto, using(crate::proofs::Drains::count_left))]
     pub fn len(&self) -> usize
-        ensures { result ≡ length (splice_rest self.now) }
+        ensures { result ≡ length (drain_rest (splice_range self.now)) }
     {
         self.back - self.front
     }
 
     /// The same, exactly, as an iterator tells it.
     pub fn size_hint(&self) -> (usize, Option<usize>)
-        ensures { result ≡ (length (splice_rest self.now), Some (length (splice_rest self.now))) }
+        ensures { let n = length (drain_rest (splice_range self.now)) in result ≡ (n, Some n) }
     {
         let left = self.len();
         (left, Some(left))
@@ -120,8 +122,8 @@ where
     }
 }
 
-// Ends a splice: drops what was not taken of the range, and puts the items of `iter` in its place, as it tells of them. The two
-// below stand on it.
+// Ends a splice: drops what was not taken of the range, and puts the items of `iter` in its place,
+// as it tells of them. The two below stand on it.
 fn end_telling<W: Telling<I>, I: Iterator, A: Allocator + Clone>(
     vec: &mut Vec<I::Item, A>,
     front: usize,
@@ -133,11 +135,16 @@ fn end_telling<W: Telling<I>, I: Iterator, A: Allocator + Clone>(
 where
     I::Item: Drop,
     requires ordered { (front ≤ back) × (back ≤ end) × (end ≤ total) }
-    requires held { StandsBehind vec.old front (back - front) × StandsBehind vec.old end (total - end) }
+    requires held { StandsBehind vec.old front (back - front)
+        × StandsBehind vec.old end (total - end) }
     requires may_ask { I.can_next iter.old }
     requires ends { IsFinite (I.remaining iter.old) }
-    ensures replaces { Replaced I.next_gives W.tells I.remaining (¬ (A.is_infallible vec.old.alloc)) (type_size I.Item.row) iter.old vec.old vec.old.items end (behind_items vec.old end (total - end)) result vec.new }
-    ensures leaves { SplicesIter I.next_gives W.tells (¬ (A.is_infallible vec.old.alloc)) (type_size I.Item.row) iter.old vec.old vec.old.items end (behind_items vec.old end (total - end)) iter.new result vec.new }
+    ensures replaces { Replaced I.next_gives W.tells I.remaining (¬ (A.is_infallible vec.old.alloc))
+        (type_size I.Item.row) iter.old vec.old end (behind_items vec.old end (total - end))
+        result vec.new }
+    ensures leaves { SplicesIter I.next_gives W.tells (type_size I.Item.row)
+        iter.old vec.old end (behind_items vec.old end (total - end))
+        (¬ (A.is_infallible vec.old.alloc)) iter.new result vec.new }
 {
     let count = total - end;
     vec.drop_behind(front, back - front);
@@ -163,10 +170,13 @@ fn end_hinted<I: Hinted, A: Allocator + Clone>(
 where
     I::Item: Drop,
     requires ordered { (front ≤ back) × (back ≤ end) × (end ≤ total) }
-    requires held { StandsBehind vec.old front (back - front) × StandsBehind vec.old end (total - end) }
+    requires held { StandsBehind vec.old front (back - front)
+        × StandsBehind vec.old end (total - end) }
     requires may_ask { I.can_next iter }
     requires ends { IsFinite (I.remaining iter) }
-    ensures { Replaced I.next_gives (TellsExactly I.lower_of) I.remaining (¬ (A.is_infallible vec.old.alloc)) (type_size I.Item.row) iter vec.old vec.old.items end (behind_items vec.old end (total - end)) result vec.new }
+    ensures { Replaced I.next_gives (TellsExactly I.lower_of) I.remaining
+        (¬ (A.is_infallible vec.old.alloc)) (type_size I.Item.row) iter vec.old end
+        (behind_items vec.old end (total - end)) result vec.new }
 {
     let mut items = iter;
     end_telling::<ByLower, I, A>(vec, front, back, end, total, &mut items)
@@ -184,10 +194,13 @@ fn end_bounded<I: Iterator, A: Allocator + Clone>(
 where
     I::Item: Drop,
     requires ordered { (front ≤ back) × (back ≤ end) × (end ≤ total) }
-    requires held { StandsBehind vec.old front (back - front) × StandsBehind vec.old end (total - end) }
+    requires held { StandsBehind vec.old front (back - front)
+        × StandsBehind vec.old end (total - end) }
     requires may_ask { I.can_next iter }
     requires ends { IsFinite (I.remaining iter) }
-    ensures { Replaced I.next_gives (TellsAtMost I.remaining) I.remaining (¬ (A.is_infallible vec.old.alloc)) (type_size I.Item.row) iter vec.old vec.old.items end (behind_items vec.old end (total - end)) result vec.new }
+    ensures { Replaced I.next_gives (TellsAtMost I.remaining) I.remaining
+        (¬ (A.is_infallible vec.old.alloc)) (type_size I.Item.row) iter vec.old end
+        (behind_items vec.old end (total - end)) result vec.new }
 {
     let mut items = iter;
     end_telling::<ByHint, I, A>(vec, front, back, end, total, &mut items)
@@ -197,23 +210,49 @@ impl<'a, I: Hinted, A: Allocator + Clone> Splice<'a, I, A>
 where
     I::Item: Drop,
 {
-    ghost use Rattle.aa_vec.specs.Splices.{splice_iter, splice_vec, SpliceEnds};
+    ghost use Rattle.std.specs.Iterator.{Drains, size};
+    ghost use Rattle.std.specs.Iterator.Runs.{WholeRun};
+    ghost use Rattle.aa_vec.specs.Draining.{drain_vec, drain_tail, range_len};
+    ghost use Rattle.aa_vec.specs.Splicing.{SplicesWithin};
+    ghost use Rattle.aa_vec.specs.Splices.{splice_range, splice_iter, spliced_with};
+    ghost use Rattle.aa_vec.specs.Splices.{FitsTold, SpliceDone, SpliceRefused};
 
-    /// Drops what was not taken of the range, and leaves the vector what is before the range, the items, which end, and what is
-    /// behind it. With nothing behind the range the items are put there as by `extend_hinted`. Else they fill the places of the
-    /// range. Once these are full, room is made for as many as `lower` then tells, with room to spare, and filled; and only where
-    /// a further item comes, it and the others are gathered in a new vector over a clone of the allocator, as by `extend_hinted`,
-    /// and room is made for just them. It takes no memory where fewer items come than the range had, nor where all fit behind
-    /// what is before the range and nothing is behind it, nor where no more are left, once the range is full, than are told, and
-    /// these fit, nor for elements without size. A refusal leaves what is before the range, a beginning of the items that fills
-    /// the room there was, and what is behind the range, and drops the other items: `CapacityOverflow` where the length asked for
-    /// passes `usize::MAX` or its bytes pass `isize::MAX`, else `AllocError` with the capacity asked for, which while items are
-    /// gathered is that of the new vector. A refused clone of the allocator is answered as the first growth of the new vector
-    /// would be. It stands for the drop of `Splice`, with `lower` in place of `size_hint`.
+    /// Drops what was not taken of the range, and leaves the vector what is before the range, the
+    /// items, which end, and what is behind it. With nothing behind the range the items are put
+    /// there as by `extend_hinted`. Else they fill the places of the range. Once these are full,
+    /// room is made for as many as `lower` then tells, with room to spare, and filled; and only
+    /// where a further item comes, it and the others are gathered in a new vector over a clone of
+    /// the allocator, as by `extend_hinted`, and room is made for just them. It takes no memory
+    /// where fewer items come than the range had, nor where all fit behind what is before the range
+    /// and nothing is behind it, nor where no more are left, once the range is full, than are told,
+    /// and these fit, nor for elements without size. A refusal leaves what is before the range, a
+    /// beginning of the items that fills the room there was, and what is behind the range, and
+    /// drops the other items: `CapacityOverflow` where the length asked for passes `usize::MAX` or
+    /// its bytes pass `isize::MAX`, else `AllocError` with the capacity asked for, which while
+    /// items are gathered is that of the new vector. A refused clone of the allocator is answered
+    /// as the first growth of the new vector would be. It stands for the drop of `Splice`, with
+    /// `lower` in place of `size_hint`.
     pub fn finish_hinted(self) -> Result<(), TryReserveError>
         requires may_ask { I.can_next (splice_iter self) }
         requires ends { IsFinite (I.remaining (splice_iter self)) }
-        ensures { SpliceEnds I.next_gives (TellsExactly I.lower_of) I.remaining (¬ (A.is_infallible (splice_vec self.entry).alloc)) (type_size I.Item.row) self.entry result self.exit.0.now }
+        ensures items { OnOk result ((xs : List I.Item)
+            × Drains I.next_gives (splice_iter self.entry) xs
+            × (self.exit.0.now.items ≡ spliced_with self.entry xs)) }
+        ensures runs { OnOk result (WholeRun I.next_gives (splice_iter self.entry)
+            (λ p. self.exit.0.now.items ≡ spliced_with self.entry p.items)) }
+        ensures fits_gap { size (I.remaining (splice_iter self.entry))
+            < range_len (splice_range self.entry) → IsOk result }
+        ensures fits_end { let d = splice_range self.entry in drain_tail d ≡ []
+            → HasRoom (drain_vec d) (size (I.remaining (splice_iter self.entry))) → IsOk result }
+        ensures fits_told { (h : ℕ) → FitsTold (TellsExactly I.lower_of) self.entry h result }
+        ensures room { OnOk result (SpliceDone (TellsExactly I.lower_of) (type_size I.Item.row)
+            self.entry self.exit.0.now) }
+        ensures writes { let d = splice_range self.entry in
+            SplicesWithin (drain_vec d) (drain_tail d) self.exit.0.now }
+        ensures refused { let d = splice_range self.entry in
+            let fails = ¬ (A.is_infallible (drain_vec d).alloc) in
+            IfErr result (λ e. SpliceRefused (TellsExactly I.lower_of) fails
+            (type_size I.Item.row) self.entry e self.exit.0.now) }
     {
         let Splice {
             vec,
@@ -231,14 +270,36 @@ impl<'a, I: Iterator, A: Allocator + Clone> Splice<'a, I, A>
 where
     I::Item: Drop,
 {
-    ghost use Rattle.aa_vec.specs.Splices.{splice_iter, splice_vec, SpliceEnds};
+    ghost use Rattle.std.specs.Iterator.{Drains, size};
+    ghost use Rattle.std.specs.Iterator.Runs.{WholeRun};
+    ghost use Rattle.aa_vec.specs.Draining.{drain_vec, drain_tail, range_len};
+    ghost use Rattle.aa_vec.specs.Splicing.{SplicesWithin};
+    ghost use Rattle.aa_vec.specs.Splices.{splice_range, splice_iter, spliced_with};
+    ghost use Rattle.aa_vec.specs.Splices.{FitsTold, SpliceDone, SpliceRefused};
 
-    /// The same, with the lower bound of `size_hint` in place of `lower`, and with nothing behind the range as by `extend`. It
-    /// stands for the drop of `Splice`.
+    /// The same, with the lower bound of `size_hint` in place of `lower`, and with nothing behind
+    /// the range as by `extend`. It stands for the drop of `Splice`.
     pub fn finish(self) -> Result<(), TryReserveError>
         requires may_ask { I.can_next (splice_iter self) }
         requires ends { IsFinite (I.remaining (splice_iter self)) }
-        ensures { SpliceEnds I.next_gives (TellsAtMost I.remaining) I.remaining (¬ (A.is_infallible (splice_vec self.entry).alloc)) (type_size I.Item.row) self.entry result self.exit.0.now }
+        ensures items { OnOk result ((xs : List I.Item)
+            × Drains I.next_gives (splice_iter self.entry) xs
+            × (self.exit.0.now.items ≡ spliced_with self.entry xs)) }
+        ensures runs { OnOk result (WholeRun I.next_gives (splice_iter self.entry)
+            (λ p. self.exit.0.now.items ≡ spliced_with self.entry p.items)) }
+        ensures fits_gap { size (I.remaining (splice_iter self.entry))
+            < range_len (splice_range self.entry) → IsOk result }
+        ensures fits_end { let d = splice_range self.entry in drain_tail d ≡ []
+            → HasRoom (drain_vec d) (size (I.remaining (splice_iter self.entry))) → IsOk result }
+        ensures fits_told { (h : ℕ) → FitsTold (TellsAtMost I.remaining) self.entry h result }
+        ensures room { OnOk result (SpliceDone (TellsAtMost I.remaining) (type_size I.Item.row)
+            self.entry self.exit.0.now) }
+        ensures writes { let d = splice_range self.entry in
+            SplicesWithin (drain_vec d) (drain_tail d) self.exit.0.now }
+        ensures refused { let d = splice_range self.entry in
+            let fails = ¬ (A.is_infallible (drain_vec d).alloc) in
+            IfErr result (λ e. SpliceRefused (TellsAtMost I.remaining) fails
+            (type_size I.Item.row) self.entry e self.exit.0.now) }
     {
         let Splice {
             vec,

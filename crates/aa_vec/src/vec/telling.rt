@@ -5,7 +5,8 @@ ghost use Rattle.aa_vec.specs.Extending.{CopiesOf, TellsAtMost, TellsExactly};
 
 use crate::vec::items::Hinted;
 
-// A way to be told how many items of an iterator are to come, true or not, and perhaps another number in the same state.
+// A way to be told how many items of an iterator are to come, true or not, and perhaps another
+// number in the same state.
 pub(crate) trait Telling<I: Iterator> {
     // The numbers that may be told in a state.
     ghost tells: { I → ℕ → Type 0 };
@@ -57,7 +58,8 @@ impl<'b, 'a, T: Copy + 'a, I: Iterator<Item = &'a T>> Iterator for Reading<'b, I
 
     ghost can_next = { λ s. I.can_next s.iter.now };
 
-    ghost next_gives = { λ s r t. (t.iter.ghost_name ≡ s.iter.ghost_name) × CopiesOf I.next_gives s.iter.now r t.iter.now };
+    ghost next_gives = { λ s r t. (t.iter.ghost_name ≡ s.iter.ghost_name)
+        × CopiesOf I.next_gives s.iter.now r t.iter.now };
 
     ghost remaining = { λ s. I.remaining s.iter.now };
 

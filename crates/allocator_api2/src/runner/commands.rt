@@ -1,11 +1,12 @@
-//! What `run` does at each command: the call of the vector that stands for it, after the test of its indices, and the reply.
+//! What `run` does at each command: the call of the vector that stands for it, after the test of
+//! its indices, and the reply.
 ghost use Rattle.std.specs.Prelude.{◌≡◌, ◌<◌};
 ghost use Rattle.std.specs.Fn.{CalledAtMut, CalledAtPairMut};
 ghost use Rattle.std.specs.Mem.{type_size};
 ghost use Rattle.aa_raw.specs.Closures.{TakesPairMut};
 ghost use Rattle.aa_vec.specs.Choosing.{TakesMut, IsCallableInOrder, IsCallableAlong, Retains, Deduplicates};
 ghost use Rattle.aa_vec.specs.Copies.{Copies};
-ghost use Rattle.allocator_api2.specs.Commands.{Takes, TakesAlone};
+ghost use Rattle.allocator_api2.specs.Commands.{Does, DoesOnMain};
 ghost use Rattle.allocator_api2.specs.declared.runner.Command.TheVariants.{Push, Within, Pop, Insert, Remove, SwapRemove, Truncate, Clear, Reserve, ReserveExact, ShrinkTo, SplitOff, Append, Extend, ExtendFromWithin, Resize, Splice};
 ghost use Rattle.allocator_api2.specs.declared.runner.Reply.{Reply};
 
@@ -17,7 +18,7 @@ use std::alloc::Allocator;
 pub(crate) fn push<T, A: Allocator>(main: &mut Vec<T, A>, value: T) -> Reply<T>
 where
     T: Drop,
-    ensures { TakesAlone (type_size T.row) main.old (Push value) result main.new }
+    ensures { DoesOnMain (type_size T.row) main.old (Push value) result main.new }
 {
     match main.push(value) {
         Ok(()) => Reply::Done,
@@ -26,7 +27,7 @@ where
 }
 
 pub(crate) fn within<T, A: Allocator>(main: &mut Vec<T, A>, value: T) -> Reply<T>
-    ensures { TakesAlone (type_size T.row) main.old (Within value) result main.new }
+    ensures { DoesOnMain (type_size T.row) main.old (Within value) result main.new }
 {
     match main.push_within_capacity(value) {
         Ok(()) => Reply::Done,
@@ -35,7 +36,7 @@ pub(crate) fn within<T, A: Allocator>(main: &mut Vec<T, A>, value: T) -> Reply<T
 }
 
 pub(crate) fn pop<T, A: Allocator>(main: &mut Vec<T, A>) -> Reply<T>
-    ensures { TakesAlone (type_size T.row) main.old Pop result main.new }
+    ensures { DoesOnMain (type_size T.row) main.old Pop result main.new }
 {
     match main.pop() {
         Some(value) => Reply::Item(value),
@@ -48,7 +49,7 @@ pub(crate) fn insert<T: Drop, A: Allocator>(
     index: usize,
     value: T,
 ) -> Reply<T>
-    ensures { TakesAlone (type_size T.row) main.old (Insert index value) result main.new }
+    ensures { DoesOnMain (type_size T.row) main.old (Insert index value) result main.new }
 {
     if index > main.len() {
         return Reply::Range;
@@ -60,7 +61,7 @@ pub(crate) fn insert<T: Drop, A: Allocator>(
 }
 
 pub(crate) fn remove<T, A: Allocator>(main: &mut Vec<T, A>, index: usize) -> Reply<T>
-    ensures { TakesAlone (type_size T.row) main.old (Remove index) result main.new }
+    ensures { DoesOnMain (type_size T.row) main.old (Remove index) result main.new }
 {
     if index >= main.len() {
         return Reply::Range;
@@ -69,7 +70,7 @@ pub(crate) fn remove<T, A: Allocator>(main: &mut Vec<T, A>, index: usize) -> Rep
 }
 
 pub(crate) fn swap_remove<T, A: Allocator>(main: &mut Vec<T, A>, index: usize) -> Reply<T>
-    ensures { TakesAlone (type_size T.row) main.old (SwapRemove index) result main.new }
+    ensures { DoesOnMain (type_size T.row) main.old (SwapRemove index) result main.new }
 {
     if index >= main.len() {
         return Reply::Range;
@@ -78,21 +79,21 @@ pub(crate) fn swap_remove<T, A: Allocator>(main: &mut Vec<T, A>, index: usize) -
 }
 
 pub(crate) fn truncate<T: Drop, A: Allocator>(main: &mut Vec<T, A>, len: usize) -> Reply<T>
-    ensures { TakesAlone (type_size T.row) main.old (Truncate len) result main.new }
+    ensures { DoesOnMain (type_size T.row) main.old (Truncate len) result main.new }
 {
     main.truncate(len);
     Reply::Done
 }
 
 pub(crate) fn clear<T: Drop, A: Allocator>(main: &mut Vec<T, A>) -> Reply<T>
-    ensures { TakesAlone (type_size T.row) main.old Clear result main.new }
+    ensures { DoesOnMain (type_size T.row) main.old Clear result main.new }
 {
     main.clear();
     Reply::Done
 }
 
 pub(crate) fn reserve<T, A: Allocator>(main: &mut Vec<T, A>, additional: usize) -> Reply<T>
-    ensures { TakesAlone (type_size T.row) main.old (Reserve additional) result main.new }
+    ensures { DoesOnMain (type_size T.row) main.old (Reserve additional) result main.new }
 {
     match main.try_reserve(additional) {
         Ok(()) => Reply::Done,
@@ -101,7 +102,7 @@ pub(crate) fn reserve<T, A: Allocator>(main: &mut Vec<T, A>, additional: usize) 
 }
 
 pub(crate) fn reserve_exact<T, A: Allocator>(main: &mut Vec<T, A>, additional: usize) -> Reply<T>
-    ensures { TakesAlone (type_size T.row) main.old (ReserveExact additional) result main.new }
+    ensures { DoesOnMain (type_size T.row) main.old (ReserveExact additional) result main.new }
 {
     match main.try_reserve_exact(additional) {
         Ok(()) => Reply::Done,
@@ -110,7 +111,7 @@ pub(crate) fn reserve_exact<T, A: Allocator>(main: &mut Vec<T, A>, additional: u
 }
 
 pub(crate) fn shrink_to<T, A: Allocator>(main: &mut Vec<T, A>, capacity: usize) -> Reply<T>
-    ensures { TakesAlone (type_size T.row) main.old (ShrinkTo capacity) result main.new }
+    ensures { DoesOnMain (type_size T.row) main.old (ShrinkTo capacity) result main.new }
 {
     match main.shrink_to(capacity) {
         Ok(()) => Reply::Done,
@@ -123,7 +124,7 @@ pub(crate) fn split_off<T: Drop, A: Allocator + Clone + Drop>(
     side: &mut Vec<T, A>,
     at: usize,
 ) -> Reply<T>
-    ensures takes { Takes (type_size T.row) main.old side.old (SplitOff at) result main.new side.new }
+    ensures does { Does (type_size T.row) main.old side.old (SplitOff at) result main.new side.new }
     ensures tail_clone { result ≡ Reply.Done → 0 < at → A.is_clone main.old.alloc side.new.alloc }
     ensures head_clone { result ≡ Reply.Done → at ≡ 0 → A.is_clone main.old.alloc main.new.alloc }
 {
@@ -140,7 +141,7 @@ pub(crate) fn split_off<T: Drop, A: Allocator + Clone + Drop>(
 }
 
 pub(crate) fn append<T, A: Allocator>(main: &mut Vec<T, A>, side: &mut Vec<T, A>) -> Reply<T>
-    ensures { Takes (type_size T.row) main.old side.old Append result main.new side.new }
+    ensures { Does (type_size T.row) main.old side.old Append result main.new side.new }
 {
     match main.append(side) {
         Ok(()) => Reply::Done,
@@ -153,7 +154,7 @@ pub(crate) fn extend<T: Drop, A: Allocator + Drop>(
     items: Vec<T, A>,
     hint: Option<usize>,
 ) -> Reply<T>
-    ensures { TakesAlone (type_size T.row) main.old (Extend items hint) result main.new }
+    ensures { DoesOnMain (type_size T.row) main.old (Extend items hint) result main.new }
 {
     match main.extend_hinted(Items::new(items, hint)) {
         Ok(()) => Reply::Done,
@@ -167,7 +168,7 @@ pub(crate) fn extend_from_within<T: Clone + Drop, A: Allocator>(
     to: usize,
 ) -> Reply<T>
     requires copies { Copies T.is_clone }
-    ensures { TakesAlone (type_size T.row) main.old (ExtendFromWithin from to) result main.new }
+    ensures { DoesOnMain (type_size T.row) main.old (ExtendFromWithin from to) result main.new }
 {
     if from > to || to > main.len() {
         return Reply::Range;
@@ -184,7 +185,7 @@ pub(crate) fn resize<T: Clone + Drop, A: Allocator>(
     value: T,
 ) -> Reply<T>
     requires copies { Copies T.is_clone }
-    ensures { TakesAlone (type_size T.row) main.old (Resize len value) result main.new }
+    ensures { DoesOnMain (type_size T.row) main.old (Resize len value) result main.new }
 {
     match main.resize(len, value) {
         Ok(()) => Reply::Done,
@@ -210,9 +211,11 @@ where
     T: Drop,
     A: Allocator,
     S: FnMut(&mut T, &mut T) -> bool,
-    requires { IsCallableAlong (CalledAtPairMut S.FnMut) (TakesPairMut S.FnMut) same.old main.old.items }
+    requires { IsCallableAlong (CalledAtPairMut S.FnMut) (TakesPairMut S.FnMut)
+        same.old main.old.items }
     ensures done { result ≡ Reply.Done }
-    ensures deduplicates { Deduplicates (CalledAtPairMut S.FnMut) same.old main.old same.new main.new }
+    ensures deduplicates { Deduplicates (CalledAtPairMut S.FnMut)
+        same.old main.old same.new main.new }
 {
     main.dedup_within(same);
     Reply::Done
@@ -225,7 +228,7 @@ pub(crate) fn splice<T: Drop, A: Allocator + Clone + Drop>(
     items: Vec<T, A>,
     hint: Option<usize>,
 ) -> Reply<T>
-    ensures { TakesAlone (type_size T.row) main.old (Splice start end items hint) result main.new }
+    ensures { DoesOnMain (type_size T.row) main.old (Splice start end items hint) result main.new }
 {
     if start > end || end > main.len() {
         return Reply::Range;

@@ -3,7 +3,7 @@ ghost use Rattle.std.specs.Prelude.{◌+◌, ◌-◌, ◌≤◌, true, false, le
 ghost use Rattle.std.specs.Mem.{type_size};
 ghost use Rattle.aa_vec.specs.Draining.{drain_rest};
 ghost use Rattle.aa_vec.specs.Vector.{len, HasRoom};
-ghost use Rattle.allocator_api2.specs.Commands.{Takes};
+ghost use Rattle.allocator_api2.specs.Commands.{Does};
 ghost use Rattle.allocator_api2.specs.Drained.{Drained, TakesFront, TakesBack};
 ghost use Rattle.allocator_api2.specs.declared.runner.Command.{Command};
 
@@ -21,7 +21,8 @@ pub(crate) fn drain<T: Drop, A: Allocator>(
     back: usize,
     keep: bool,
 ) -> Reply<T>
-    ensures { Takes (type_size T.row) main.old side.old (Command.Drain start end front back keep) result main.new side.new }
+    ensures { Does (type_size T.row) main.old side.old
+        (Command.Drain start end front back keep) result main.new side.new }
 {
     if start > end || end > main.len() {
         return Reply::Range;
@@ -76,7 +77,8 @@ fn drain_and_drop<T: Drop, A: Allocator>(
     take_back(&mut items, side, last);
 }
 
-// Takes so many items from the front, and puts them behind the last element of a vector that has room for them.
+// Takes so many items from the front, and puts them behind the last element of a vector that has
+// room for them.
 fn take_front<T: Drop, A: Allocator>(
     items: &mut Drain<'_, T, A>,
     side: &mut Vec<T, A>,

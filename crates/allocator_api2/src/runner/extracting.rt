@@ -25,8 +25,10 @@ where
     T: Drop,
     A: Allocator,
     K: FnMut(&mut T) -> bool,
-    requires { IsCallableInOrder (CalledAtMut K.FnMut) (TakesMut K.FnMut) keep.old (slice_range main.old.items start end) }
-    ensures { TakesChosen (type_size T.row) (CalledAtMut K.FnMut) main.old side.old keep.old start end take result main.new side.new keep.new }
+    requires { IsCallableInOrder (CalledAtMut K.FnMut) (TakesMut K.FnMut)
+        keep.old (slice_range main.old.items start end) }
+    ensures { TakesChosen (type_size T.row) (CalledAtMut K.FnMut)
+        main.old side.old keep.old start end take result main.new side.new keep.new }
 {
     if start > end || end > main.len() {
         return Reply::Range;
@@ -39,7 +41,8 @@ where
     Reply::Done
 }
 
-// Takes at most so many elements out of a range, and puts them behind the last element of a vector that has room for them.
+// Takes at most so many elements out of a range, and puts them behind the last element of a vector
+// that has room for them.
 fn extract_into<T, A, K>(
     main: &mut Vec<T, A>,
     side: &mut Vec<T, A>,
@@ -54,8 +57,10 @@ where
     K: FnMut(&mut T) -> bool,
     requires range { (start ≤ end) × (end ≤ len main.old) }
     requires room { HasRoom side.old most }
-    requires callable { IsCallableInOrder (CalledAtMut K.FnMut) (TakesMut K.FnMut) keep.old (slice_range main.old.items start end) }
-    ensures { Chosen (CalledAtMut K.FnMut) main.old side.old keep.old start end most main.new side.new keep.new }
+    requires callable { IsCallableInOrder (CalledAtMut K.FnMut) (TakesMut K.FnMut)
+        keep.old (slice_range main.old.items start end) }
+    ensures { Chosen (CalledAtMut K.FnMut)
+        main.old side.old keep.old start end most main.new side.new keep.new }
 {
     let mut range = main.extract_by(start..end);
     take_chosen(&mut range, side, most, keep);
@@ -73,8 +78,10 @@ where
     A: Allocator,
     K: FnMut(&mut T) -> bool,
     requires room { HasRoom side.old most }
-    requires callable { IsCallableInOrder (CalledAtMut K.FnMut) (TakesMut K.FnMut) keep.old (extract_rest range.old) }
-    ensures { TakesUpTo (CalledAtMut K.FnMut) keep.old range.old side.old most keep.new range.new side.new }
+    requires callable { IsCallableInOrder (CalledAtMut K.FnMut) (TakesMut K.FnMut)
+        keep.old (extract_rest range.old) }
+    ensures { TakesUpTo (CalledAtMut K.FnMut)
+        keep.old range.old side.old most keep.new range.new side.new }
 {
     'each: for _taken in 0..most {
         match range.next_by(keep) {

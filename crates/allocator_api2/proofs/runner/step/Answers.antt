@@ -41,8 +41,8 @@ returns-in-SplitOff g c =
     let t = c.split_off.ensures in
     rw c.in-SplitOff.is (record {
       answers = [];
-      step = record { cut = record { none = refl; keep = refl; same = refl; lists = t.takes.answers }; tail_clone = t.tail_clone; head_clone = t.head_clone };
-      writes = t.takes.writes;
+      step = record { cut = record { none = refl; keep = refl; same = refl; lists = t.does.answers }; tail_clone = t.tail_clone; head_clone = t.head_clone };
+      writes = t.does.writes;
     })
 
 pub returns-in-Append : goal.returns-in-Append

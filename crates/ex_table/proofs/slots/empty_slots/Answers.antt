@@ -6,4 +6,4 @@ pub resize_with-requires : goal.resize_with-requires
 resize_with-requires g c = record { callable = may_call _ _ (λ f. tt) _ _ }
 
 pub returns : goal.returns
-returns g c = filled _ _ (λ f y h s. search rules) _ _ _ _ _ c.in_ok-made.ensures.made.items (λ l. (c.in_ok-resize_with.ensures.cut l).1) c.in_ok-resize_with.ensures.filled
+returns g c = filled _ _ (λ f y h s. search rules) _ _ _ _ _ c.in_ok-made.ensures.made.items c.in_ok-resize_with.ensures.cut c.in_ok-resize_with.ensures.filled

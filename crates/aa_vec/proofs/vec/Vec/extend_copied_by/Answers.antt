@@ -3,17 +3,22 @@ use Rattle.std.specs.Iterator.{IsNearerEnd}
 use Rattle.aa_vec.specs.Extending.{CopiesOf, TellsAtMost}
 use Rattle.aa_vec.proofs.Answered.{on_ok}
 use Rattle.aa_vec.proofs.Extending.{Drains-read, whole_run}
-use Rattle.aa_vec.proofs.Reading.{Extended-read, LeavesIter-read, stopped_read}
+use Rattle.aa_vec.proofs.Reading.{items_read, room_read, refused_read, LeavesIter-read, stopped_read}
 use Rattle.aa_vec.proofs.vec.Vec.extend_copied_by.Goals as goal
 
-pub returns-clause-copied : goal.returns-clause-copied
-returns-clause-copied g c = Extended-read _ _ _ _ (λ s. s.iter.now) (λ s. s.iter.ghost_name) (record { step = λ s r t p. p; tell = λ s n h. h }) _ _ _ _ _ _ refl _ c.extend_by.ensures.extends
+pub returns-clause-room : goal.returns-clause-room
+returns-clause-room g c = room_read _ _ _ _ (λ s. s.iter.now) (λ s. s.iter.ghost_name) (record { step = λ s r t p. p; tell = λ s n h. h }) _ _ _ _ _ c.extend_by.ensures.room
 
-pub returns-clause-ran : goal.returns-clause-ran
-returns-clause-ran g c = on_ok _ (returns-clause-copied g c).ran (Drains-read g.I.Iterator.next_gives _ _ _)
+pub returns-clause-refused : goal.returns-clause-refused
+returns-clause-refused g c = refused_read _ _ _ _ (λ s. s.iter.now) (λ s. s.iter.ghost_name) (record { step = λ s r t p. p; tell = λ s n h. h }) _ _ _ _ _ c.extend_by.ensures.refused
+
+pub returns-clause-items : goal.returns-clause-items
+returns-clause-items g c =
+    on_ok _ (items_read _ (CopiesOf g.I.Iterator.next_gives) _ (TellsAtMost g.I.Iterator.remaining) (λ s. s.iter.now) (λ s. s.iter.ghost_name) (record { step = λ s r t p. p; tell = λ s n h. h }) _ _ _ _ _ c.extend_by.ensures.room)
+    (Drains-read g.I.Iterator.next_gives _ _ _)
 
 pub returns-clause-runs : goal.returns-clause-runs
-returns-clause-runs g c = on_ok _ (returns-clause-ran g c) (whole_run _ _ _)
+returns-clause-runs g c = on_ok _ (returns-clause-items g c) (whole_run _ _ _)
 
 pub returns-clause-leaves : goal.returns-clause-leaves
 returns-clause-leaves g c =

@@ -26,26 +26,26 @@ pub returns-in_err-try_reserve-clause-extends : goal.returns-in_err-try_reserve-
 returns-in_err-try_reserve-clause-extends g c =
     let i = c.full.invariant in let gone = c.fill_up.ensures.goes c.if-fill_up-ne0.false in let on = c.in-Some.ensures.goes.on gone.1 in
     let p = Placing-full _ _ _ _ _ c.full.iter c.full.self i.placing g.W.Telling.some _ _ _ c.if-fill_up-ne0.false c.fill_up.ensures.fills in
-    let r = c.in_err-try_reserve.ensures.refused in
+    let r = c.in_err-try_reserve.ensures in
     let e = err_from_is_err_and c.from_residual.result c.from_residual.ensures.1 in
-    rw (e.1, e.2, r.1) (record {
+    rw (e.1, e.2, r.unchanged) (record {
       fits = λ h. absurd (Placing-over _ _ _ _ _ _ _ p.0 p.1 (size (g.I.Iterator.remaining c.fill_up.new.iter)) (size (g.I.Iterator.remaining c.args.iter.now))
           (omega (arith, on.2)) (omega (arith, i.fewer, gone.2, p.2, i.placing.fits)) h);
-      ran = tt;
+      items = tt;
       runs = tt;
-      extended = tt;
+      room = tt;
       writes = Placing-writes _ _ _ _ _ _ _ p.0 _ refl;
-      refused = (Placing-refused _ _ _ _ _ _ _ p.0 p.1 c.in-Some.x _ c.in-Some.ensures.steps c.told.result c.told.ensures c.saturating_add.result c.saturating_add.ensures _ r.0).0;
+      refused = (Placing-refused _ _ _ _ _ _ _ p.0 p.1 c.in-Some.x _ c.in-Some.ensures.steps c.told.result c.told.ensures c.saturating_add.result c.saturating_add.ensures _ r.refused).0;
     })
 
 pub returns-in_err-try_reserve-clause-leaves : goal.returns-in_err-try_reserve-clause-leaves
 returns-in_err-try_reserve-clause-leaves g c =
     let p = Placing-full _ _ _ _ _ c.full.iter c.full.self c.full.invariant.placing g.W.Telling.some _ _ _ c.if-fill_up-ne0.false c.fill_up.ensures.fills in
-    let r = c.in_err-try_reserve.ensures.refused in
+    let r = c.in_err-try_reserve.ensures in
     let e = err_from_is_err_and c.from_residual.result c.from_residual.ensures.1 in
-    rw (e.1, e.2, r.1) (record {
+    rw (e.1, e.2, r.unchanged) (record {
       ended = tt;
-      stopped = Placing-refused _ _ _ _ _ _ _ p.0 p.1 c.in-Some.x _ c.in-Some.ensures.steps c.told.result c.told.ensures c.saturating_add.result c.saturating_add.ensures _ r.0;
+      stopped = Placing-refused _ _ _ _ _ _ _ p.0 p.1 c.in-Some.x _ c.in-Some.ensures.steps c.told.result c.told.ensures c.saturating_add.result c.saturating_add.ensures _ r.refused;
     })
 
 pub returns-in_default-clause-extends : goal.returns-in_default-clause-extends

@@ -1,5 +1,8 @@
-use Rattle.std.proofs.Common.{rules, ◌+◌, ◌<◌, ◌^◌, arith}
-use Rattle.aa_vec.proofs.Gaps.{seen, there, within, IsFront-relent}
+use Rattle.std.proofs.Common.{rules, ◌+◌, ◌<◌, ◌^◌, sym, ap, ◌∙◌, subst, arith}
+use Rattle.std.specs.Fn.{CalledAtMut}
+use Rattle.aa_vec.specs.Behind.{behind_items}
+use Rattle.aa_vec.specs.Choosing.{TakesMut, MayAskInOrder}
+use Rattle.aa_vec.proofs.Gaps.{seen, there, within, lent-is, IsFront-relent}
 use Rattle.aa_vec.proofs.vec.Vec.keep_behind.Goals as goal
 
 pub overflow_add-self-inside : goal.overflow_add-self-inside
@@ -13,3 +16,9 @@ slice_mut-requires g c = there c.self.inside c.self.invariant c.args.gap c.args.
 
 pub invariant_of-self : goal.invariant_of-self
 invariant_of-self g c = IsFront-relent c.self.inside c.self.invariant c.args.gap c.args.count (seen c.self.inside c.args.self.now c.self.view_is c.args.gap c.args.count c.requires.stands) c.slice_mut.result.now c.count_kept.new.elements c.slice_mut.ensures.value
+
+pub count_kept-requires : goal.count_kept-requires
+count_kept-requires g c =
+    let stands = seen c.self.inside c.args.self.now c.self.view_is c.args.gap c.args.count c.requires.stands in
+    let lent = lent-is c.self.inside c.self.invariant c.args.gap c.args.count stands c.slice_mut.result.now c.slice_mut.result.now c.slice_mut.ensures.value in
+    subst (MayAskInOrder (CalledAtMut g.F.FnMut) (TakesMut g.F.FnMut) c.args.keep.now) (ap (λ v. behind_items v c.args.gap c.args.count) (sym c.self.view_is) ∙ lent) c.requires.callable

@@ -12,4 +12,4 @@ pub slice_mut-requires : goal.slice_mut-requires
 slice_mut-requires g c = there c.self.inside c.self.invariant c.args.gap c.args.count (seen c.self.inside c.args.self.now c.self.view_is c.args.gap c.args.count c.requires.stands)
 
 pub invariant_of-self : goal.invariant_of-self
-invariant_of-self g c = IsFront-relent c.self.inside c.self.invariant c.args.gap c.args.count (seen c.self.inside c.args.self.now c.self.view_is c.args.gap c.args.count c.requires.stands) c.slice_mut.result.now c.kept_run.new.elements c.slice_mut.ensures.value
+invariant_of-self g c = IsFront-relent c.self.inside c.self.invariant c.args.gap c.args.count (seen c.self.inside c.args.self.now c.self.view_is c.args.gap c.args.count c.requires.stands) c.slice_mut.result.now c.count_kept.new.elements c.slice_mut.ensures.value

@@ -1,21 +1,22 @@
 use Rattle.std.proofs.Common.{rules, ◌+◌, ◌<◌, ◌^◌, subst, arith}
 use Rattle.std.specs.Fn.{CalledAtMut}
 use Rattle.aa_vec.specs.Choosing.{TakesMut, MayAskInOrder}
+use Rattle.aa_vec.specs.Until.{StaysAt}
 use Rattle.aa_vec.proofs.Retaining.{follows}
 use Rattle.aa_vec.proofs.vec.asking.count_kept.Goals as goal
 
-pub ask-requires-2 : goal.ask-requires-2
-ask-requires-2 g c =
-    let may = subst (MayAskInOrder (CalledAtMut g.F.FnMut) (TakesMut g.F.FnMut) c.args.keep.now) c.in-Some.ensures.cases.0 c.requires in
-    (subst (MayAskInOrder (CalledAtMut g.F.FnMut) (TakesMut g.F.FnMut) c.ask.new.f) c.in-Some-split_first_mut.ensures.cases.0 (may.1 _ _ _ c.ask.ensures)).0
+pub ask_stays-requires-2 : goal.ask_stays-requires-2
+ask_stays-requires-2 g c =
+    let may = subst (MayAskInOrder (StaysAt c.args.stays (CalledAtMut g.F.FnMut)) (TakesMut g.F.FnMut) c.args.keep.now) c.in-Some.ensures.cases.0 c.requires in
+    (subst (MayAskInOrder (StaysAt c.args.stays (CalledAtMut g.F.FnMut)) (TakesMut g.F.FnMut) c.ask_stays.new.f) c.in-Some-split_first_mut.ensures.cases.0 (may.1 c.ask_stays.result _ _ c.ask_stays.ensures)).0
 
 pub kept_run-requires : goal.kept_run-requires
 kept_run-requires g c =
-    let may = subst (MayAskInOrder (CalledAtMut g.F.FnMut) (TakesMut g.F.FnMut) c.args.keep.now) c.in-Some.ensures.cases.0 c.requires in
-    (subst (MayAskInOrder (CalledAtMut g.F.FnMut) (TakesMut g.F.FnMut) c.ask.new.f) c.in-Some-split_first_mut.ensures.cases.0 (may.1 _ _ _ c.ask.ensures)).1 _ _ _ c.ask-2.ensures
+    let may = subst (MayAskInOrder (StaysAt c.args.stays (CalledAtMut g.F.FnMut)) (TakesMut g.F.FnMut) c.args.keep.now) c.in-Some.ensures.cases.0 c.requires in
+    (subst (MayAskInOrder (StaysAt c.args.stays (CalledAtMut g.F.FnMut)) (TakesMut g.F.FnMut) c.ask_stays.new.f) c.in-Some-split_first_mut.ensures.cases.0 (may.1 c.ask_stays.result _ _ c.ask_stays.ensures)).1 c.ask_stays-2.result _ _ c.ask_stays-2.ensures
 
 pub overflow_add-result : goal.overflow_add-result
 overflow_add-result g c =
-    let within = (follows (CalledAtMut g.F.FnMut) (TakesMut g.F.FnMut) _ _ c.in-Some-split_first_mut.others.now c.kept_run.result _ c.kept_run.ensures).within in
+    let within = (follows (StaysAt c.args.stays (CalledAtMut g.F.FnMut)) (TakesMut g.F.FnMut) _ _ c.in-Some-split_first_mut.others.now c.kept_run.result _ c.kept_run.ensures).within in
     let fits : 2 + c.kept_run.result < 2 ^ 64 = omega (arith, within, c.in-Some.ensures.cases.1, c.in-Some-split_first_mut.ensures.cases.1, c.count_of-count.ensures, c.count_of-count.type_inv) in
     search rules

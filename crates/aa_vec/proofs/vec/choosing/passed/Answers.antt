@@ -1,5 +1,6 @@
-use Rattle.std.proofs.Common.{◌-◌, refl, sym, subst, arith}
+use Rattle.std.proofs.Common.{◌≡◌, ◌-◌, refl, sym, subst, arith}
 use Rattle.aa_vec.specs.Behind.{ClosesGap}
+use Rattle.aa_vec.specs.Until.{TakesNext}
 use Rattle.aa_vec.proofs.Stands.{first_stand, others_stand, closes_none}
 use Rattle.aa_vec.proofs.vec.choosing.passed.Goals as goal
 
@@ -36,3 +37,8 @@ returns-then-kept-eq1 g c = record {
   goes = λ h. absurd (omega (arith, h, c.if-kept-eq1.true, c.if-left-gt1.false));
   none = λ e. (refl, refl);
 }
+
+pub returns : goal.returns
+returns g c =
+    let two : 2 ≡ c.args.kept = omega (arith, c.if-kept-gt2.false, c.if-kept-eq0.false, c.if-kept-eq1.false) in
+    subst (λ k. TakesNext c.args.list c.args.gap c.args.at c.args.end k c.first_passed-2.result.0 c.first_passed-2.result.1) two c.first_passed-2.ensures

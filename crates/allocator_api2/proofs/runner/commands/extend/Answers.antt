@@ -5,7 +5,7 @@ use Rattle.allocator_api2.proofs.runner.commands.extend.Goals as goal
 
 pub returns-in-Ok : goal.returns-in-Ok
 returns-in-Ok g c =
-    let extended = rw c.new.ensures at (ExtendsAll-items _ _ _ _ c.in-Ok.ensures.extended) in
+    let extended = rw c.new.ensures at (ExtendsAll-items _ _ _ _ c.in-Ok.ensures.room) in
     search (rules, extended)
 
 pub returns-in-Err : goal.returns-in-Err

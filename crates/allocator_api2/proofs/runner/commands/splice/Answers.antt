@@ -1,8 +1,9 @@
 use Rattle.std.proofs.Common.{rules}
 use Rattle.std.specs.Mem.{type_size}
 use denote.Param.{param}
-use Rattle.aa_vec.specs.Splices.{splice_range, splice_iter, splice_vec}
-use Rattle.allocator_api2.specs.Commands.{Takes}
+use Rattle.aa_vec.specs.Draining.{drain_vec}
+use Rattle.aa_vec.specs.Splices.{splice_range, splice_iter}
+use Rattle.allocator_api2.specs.Commands.{Does}
 use Rattle.allocator_api2.specs.declared.runner.Command.TheVariants.{Splice}
 use Rattle.allocator_api2.specs.declared.runner.Reply.TheVariants.{Done, Refused}
 use Rattle.allocator_api2.proofs.SplicedRanges.{Spliced-done, Spliced-refused}
@@ -12,14 +13,14 @@ pub returns-in-Ok : goal.returns-in-Ok
 returns-in-Ok g c = λ side.
     let s = c.splice-range.result in
     let new = c.finish_hinted.new.self.0 in
-    let done : Takes (type_size (param 0 g.row.T)) c.args.main.now side (Splice c.args.start c.args.end c.args.items c.args.hint) Done new side =
-    Spliced-done _ c.args.main.now c.args.start c.args.end (search rules) (search rules) c.len.ensures.within c.args.items c.args.hint (splice_range s) c.splice-range.ensures.drains (splice_iter s) (search rules) new c.in-Ok.ensures.spliced c.finish_hinted.ensures.writes side in
+    let done : Does (type_size (param 0 g.row.T)) c.args.main.now side (Splice c.args.start c.args.end c.args.items c.args.hint) Done new side =
+    Spliced-done _ c.args.main.now c.args.start c.args.end (search rules) (search rules) c.len.ensures.within c.args.items c.args.hint (splice_range s) c.splice-range.ensures.drains (splice_iter s) (search rules) new c.in-Ok.ensures.room c.finish_hinted.ensures.writes side in
     search rules
 
 pub returns-in-Err : goal.returns-in-Err
 returns-in-Err g c = λ side.
     let s = c.splice-range.result in
     let new = c.finish_hinted.new.self.0 in
-    let refused : Takes (type_size (param 0 g.row.T)) c.args.main.now side (Splice c.args.start c.args.end c.args.items c.args.hint) (Refused c.in-Err.error) new side =
-    Spliced-refused _ c.args.main.now c.args.start c.args.end (search rules) (search rules) c.len.ensures.within c.args.items c.args.hint (splice_range s) c.splice-range.ensures.drains (splice_iter s) (search rules) new {fails = ¬ (g.A.Clone.is_infallible (splice_vec s).alloc)} c.in-Err.error c.in-Err.ensures.refused c.finish_hinted.ensures.writes side in
+    let refused : Does (type_size (param 0 g.row.T)) c.args.main.now side (Splice c.args.start c.args.end c.args.items c.args.hint) (Refused c.in-Err.error) new side =
+    Spliced-refused _ c.args.main.now c.args.start c.args.end (search rules) (search rules) c.len.ensures.within c.args.items c.args.hint (splice_range s) c.splice-range.ensures.drains (splice_iter s) (search rules) new {fails = ¬ (g.A.Clone.is_infallible (drain_vec (splice_range s)).alloc)} c.in-Err.error c.in-Err.ensures.refused c.finish_hinted.ensures.writes side in
     search rules

@@ -18,6 +18,6 @@ returns-in-Ok-clause-made g c = c.whole.ensures ∙ shrunk-ended c.filling.insid
 
 pub returns-in-Err-clause-refused : goal.returns-in-Err-clause-refused
 returns-in-Err-clause-refused g c =
-    let e = c.in-Err.ensures.refused in let long = items-long c.filling.inside c.filling.invariant in
+    let e = c.in-Err.ensures in let long = items-long c.filling.inside c.filling.invariant in
     let same = ap (λ s. length s.items) c.filling.view_is in
-    (omega (arith, e.1, long, same), e.3, e.4 ∙ ap AllocError (sym long ∙ same))
+    (omega (arith, e.only_for_memory.0, long, same), e.only_for_memory.3, e.number ∙ ap AllocError (sym long ∙ same))

@@ -2,12 +2,11 @@
 use Rattle.aa_vec.proofs.Walks.{ℕ, ◌-◌, sym, subst, [], ◌∷◌, List, Args, dcons, dnil, a_type, inst_fn, Val, vunit, id⊢, ftrue, ‵, raw, ◌⊛◌, some, later, ◌$◌, ◌∵◌, !, qed, move, keep, use0, use1, group, split, join, fsplit, fjoin, feq_l, feq_i, pick, await, suffices, done, whole, sub, enter, stop, fld, of_opd, addr, unit_lit, and_then, no_more, returns, alloc_all, pass_all, free_all, look_at, get, get_in, through, sets, lands_as, fact, tables, unit, yes, bounded, owns, nothing, heard, only, fields, vals, tells, lawful, calls_at, Ended, lasts, alive, triple_of, framed, Stays, walk_of, ends_at, proved, refl, ap}
 use contract.Monad.{fact_i}
 use base.Logic.{emp}
-use Rattle.std.specs.Prelude.{if◌then◌else◌, ◌==◌}
 use Rattle.aa_vec.proofs.GivenUp.{words, only_said, goes, opened}
 use Rattle.aa_vec.proofs.HandedOn.{Decl, Row, Lws, asks}
 use Rattle.aa_vec.proofs.Drains.{count_behind}
 use Rattle.aa_vec.specs.Behind.{DropsAndCloses}
-use Rattle.aa_vec.specs.Vector.{Vector, Writes, run_count}
+use Rattle.aa_vec.specs.Vector.{Vector, Moves}
 use Rattle.aa_vec.specs.Draining.{Closes, drain_tail}
 use Rattle.aa_vec.specs.declared.vec.drain.Drain.{Drain}
 use Rattle.aa_vec.specs.contracts.vec.drain.Drain.drop as f
@@ -19,9 +18,7 @@ use Rattle.aa_vec.proofs.vec.Vec.drop_and_close.Met.{met}
 -- what `drop_and_close` says, and what `drop` says
 closes : {X Y : Type 0} (d : Drain X Y) (w : Vector X Y) → DropsAndCloses d.vec.now d.end (d.total - d.end) w → Closes d w
 unfolding drain_tail
-closes d w h =
-    let P : ℕ → Type 0 = λ n. let moved = if d.end == 0 then 0 else n in Writes d.vec.now moved (run_count moved) w in
-    record { holds = h.holds; writes = subst P (sym (count_behind d)) h.writes }
+closes d w h = record { holds = h.holds; writes = subst (λ n. Moves d.vec.now d.end n w) (sym (count_behind d)) h.writes }
 
 pub drop_spec : {M : Type 1} → statement M
 drop_spec 𝓤 𝓛 𝓜 𝓡 wired T A LT LA G-A dA dT dD metA metT metD =

@@ -1,7 +1,8 @@
 -- `finish` hands the reference and the iterator on to `end_bounded`, for good: so it owes no splice at the return.
 use Rattle.aa_vec.proofs.Walks.{refl, List, [], ◌∷◌, ◌++◌, Args, dcons, dnil, a_type, inst_fn, Val, sep, id⊢, ftrue, ‵, raw, ◌⊛◌, some, later, ◌$◌, ◌∵◌, !, qed, move, keep, use1, group, split, join, fjoin, pick, await, suffices, done, whole, sub, enter, stop, fld, of_opd, addr, and_then, no_more, returns, alloc_all, pass_all, free_all, look_at, get, get_in, through, sets, lands_as, fact, tables, bounded, owns, nothing, heard, fields, calls_at, Ended, lasts, alive, triple_of, framed, Stays, walk_of, ends_at, ◌≡◌}
-use Rattle.aa_vec.proofs.SplicedOn.{SProp, regoal, prop, at, Is, shows, peeks, at_exit, WpFn, proved_at, only_said, goes, IsFinite, Vector, Decl, Row, words, word, Fits, opened, asks, Answer, answer_laws}
+use Rattle.aa_vec.proofs.SplicedOn.{SProp, regoal, prop, at, Is, shows, peeks, at_exit, WpFn, proved_at, only_said, goes, IsFinite, Vector, Decl, Row, words, word, Fits, opened, asks, eight, Answer, answer_laws}
 use Rattle.aa_vec.specs.Draining.{drain_tail}
+use Rattle.aa_vec.specs.Splicing.{Replaced}
 use Rattle.aa_vec.specs.contracts.vec.splice.Splice.finish as f
 use Rattle.aa_vec.proofs.vec.splice.Splice.finish.Statement.{statement}
 use Rattle.aa_vec.proofs.vec.splice.Splice.finish.Code as code
@@ -50,5 +51,7 @@ finish_spec 𝓤 𝓛 𝓜 𝓡 wired I A X LI LA LX gI dI gA dA gC dC dropI dro
     pick ! (λ r. split ! $ split ! $ move ! (1 ∷ []) $ peeks ! Answer (Is Answer) (shows 𝓛 Answer) r (v ∷ []) (λ is.
     lands_as ! refl refl ((answer_laws.lawful 𝓛).typed r (v ∷ []) is).0 $ returns ! (look_at ! 0 refl) $ free_all ! refl $
     -- [the result; the tokens; what `end_bounded` ensures]
-    move ! (2 ∷ []) $ pick ! (λ ws. split ! $ nothing ! $ move ! (1 ∷ 0 ∷ []) $ fjoin ! $ move ! (3 ∷ 0 ∷ 2 ∷ []) $ group ! 3 $
+    move ! (2 ∷ []) $ pick ! (λ ws. split ! $ move ! (1 ∷ []) $
+    use1 𝓛 (raw ((c κs a).ensures tt r (at_exit E κs a (ws, tt)))) (eight 𝓤 {φ = Replaced _ _ _ _ _ _ _ _ _ _ _} (λ q. (q.items, q.runs, q.fits_gap, q.fits_end, q.fits_told, q.room, q.writes, q.refused))) $
+    move ! (1 ∷ []) $ nothing ! $ move ! (1 ∷ 0 ∷ []) $ fjoin ! $ move ! (3 ∷ 0 ∷ 2 ∷ []) $ group ! 3 $
     suffices ! _ (ends_at 𝓛 E stayed c y v r (ws, tt) (tt, tt)) $ done !))))))))

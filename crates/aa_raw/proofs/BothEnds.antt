@@ -1,0 +1,119 @@
+-- Lemmas on runs that begin anywhere, in the form that the search applies: values are put and taken at both ends, and read. An
+-- author of a queue names one of these rulesets, and no more than are wanted, since the search proves less with many:
+--     at_both_ends     a run told by its first place and how many values it has
+--     between     one told by its first place and the first place behind it
+--     two_runs     a value of two lists in line, of which the first is a run
+--     by_arithmetic     the same calls at any numbers that arithmetic finds equal
+use Rattle.std.proofs.Common.{◌≡◌, ℕ, zero, suc, ◌+◌, ◌-◌, ◌<◌, ◌≤◌, List, [], ◌∷◌, ◌++◌, length, take, drop, get_or, Option, Some, None, refl, sym, ap, ◌∙◌, subst, arith, length-set}
+use Rattle.std.specs.Prelude.{slice_set, slice_get}
+use Rattle.std.proofs.lemmas.Bool.Decides.{nat_tests}
+use Rattle.std.proofs.lemmas.List.{drop_at, take_at}
+use Rattle.std.proofs.lemmas.Option.{slice_get_past}
+use Rattle.aa_raw.specs.Places.{IsFilled, IsRun, run}
+use Rattle.aa_raw.proofs.Calls.{run-take_first, IsRun-take_first, run-take_back, IsRun-take_back, filled-back}
+use Rattle.aa_raw.proofs.Places.{run_filled}
+use Rattle.aa_raw.proofs.Runs.{IsRun-long, IsRun-part, IsRun-pop, IsRun-push, IsRun-shift, IsRun-set-above, IsRun-set-below, first-filled, last-filled, length-run, run-one, run-pop, run-push, run-set-above, run-set-below, run-set-same, run-shift, run-split}
+
+module _ {X : Type 0} where
+  -- a value of the first of two lists in line, and of the second
+  pub slice_get-front : (xs ys : List X) (i : ℕ) → i < length xs → slice_get (xs ++ ys) i ≡ slice_get xs i
+  slice_get-front [] ys i h = absurd (omega (arith, h))
+  slice_get-front (x ∷ xs) ys zero h = refl
+  slice_get-front (x ∷ xs) ys (suc i) h = slice_get-front xs ys i (omega (arith, h))
+
+  pub slice_get-behind : (xs ys : List X) (i : ℕ) → length xs ≤ i → slice_get (xs ++ ys) i ≡ slice_get ys (i - length xs)
+  slice_get-behind [] ys i h = let z : i ≡ i - 0 = omega arith in ap (slice_get ys) z
+  slice_get-behind (x ∷ xs) ys zero h = absurd (omega (arith, h))
+  slice_get-behind (x ∷ xs) ys (suc i) h = let k : i - length xs ≡ suc i - length (x ∷ xs) = omega arith in slice_get-behind xs ys i (omega (arith, h)) ∙ ap (slice_get ys) k
+
+  -- two lists in line that are rotated by the length of the first
+  pub rotated : (xs ys : List X) (n : ℕ) → length xs ≡ n → drop n (xs ++ ys) ++ take n (xs ++ ys) ≡ ys ++ xs
+  rotated xs ys n e = let front = take_at xs ys n e in let back = drop_at xs ys n e in λ i. back i ++ front i
+
+  -- a value put before a run
+  pub run-unshift : (cs : List (Option X)) (from n : ℕ) (x : X) (i k : ℕ) → i + 1 ≡ from → n + 1 ≡ k → i < length cs → run (slice_set cs i (Some x)) i k ≡ x ∷ run cs from n
+  run-unshift cs from n x i k e l room =
+      run-split (slice_set cs i (Some x)) i from 1 n k e (omega arith) ∙ ap (λ ys. ys ++ run (slice_set cs i (Some x)) from n) (run-set-same cs i x room)
+      ∙ ap (λ ys. x ∷ ys) (run-set-below cs from n i (Some x) (omega arith))
+
+  pub IsRun-unshift : (cs : List (Option X)) (from n : ℕ) (x : X) (i k : ℕ) → i + 1 ≡ from → n + 1 ≡ k → IsRun cs from n → IsRun (slice_set cs i (Some x)) i k
+  IsRun-unshift cs from n x i k e l r =
+      IsRun-long (slice_set cs i (Some x)) i k (ap length (run-unshift cs from n x i k e l (omega (arith, r.0))) ∙ omega (arith, length-run cs from n r)) (omega (arith, r.0, length-set cs i (Some x)))
+
+  pub ruleset by_arithmetic = (run-push, IsRun-push, run-pop, IsRun-pop, run-shift, IsRun-shift, run-unshift, IsRun-unshift, run-split, IsRun-part)
+
+  -- a value put behind the n from a place on, and before them
+  pub run-put_behind : (cs : List (Option X)) (from n : ℕ) (x : X) → from + n < length cs → run (slice_set cs (from + n) (Some x)) from (n + 1) ≡ run cs from n ++ x ∷ []
+  run-put_behind cs from n x room = run-push cs from n x (from + n) (n + 1) refl refl room
+
+  pub IsRun-put_behind : (cs : List (Option X)) (from n : ℕ) (x : X) → from + n < length cs → IsRun cs from n → IsRun (slice_set cs (from + n) (Some x)) from (n + 1)
+  IsRun-put_behind cs from n x room r = IsRun-push cs from n x (from + n) (n + 1) refl refl room r
+
+  pub run-put_before : (cs : List (Option X)) (from n : ℕ) (x : X) → 0 < from → from ≤ length cs → run (slice_set cs (from - 1) (Some x)) (from - 1) (n + 1) ≡ x ∷ run cs from n
+  run-put_before cs from n x some within = run-unshift cs from n x (from - 1) (n + 1) (omega arith) refl (omega arith)
+
+  pub IsRun-put_before : (cs : List (Option X)) (from n : ℕ) (x : X) → 0 < from → IsRun cs from n → IsRun (slice_set cs (from - 1) (Some x)) (from - 1) (n + 1)
+  IsRun-put_before cs from n x some r = IsRun-unshift cs from n x (from - 1) (n + 1) (omega arith) refl r
+
+  -- the first of them taken, and the last
+  pub run-take_front : (cs : List (Option X)) (from n : ℕ) (x : X) → 0 < n → IsRun cs from n → get_or cs from None ≡ Some x → x ∷ run (slice_set cs from None) (from + 1) (n - 1) ≡ run cs from n
+  run-take_front cs from n x some r e = sym (run-shift cs from (n - 1) x (from + 1) n refl (omega arith) r e)
+
+  pub IsRun-take_front : (cs : List (Option X)) (from n : ℕ) → 0 < n → IsRun cs from n → IsRun (slice_set cs from None) (from + 1) (n - 1)
+  IsRun-take_front cs from n some r = IsRun-shift cs from (n - 1) (from + 1) n refl (omega arith) r
+
+  pub run-take_behind : (cs : List (Option X)) (from n : ℕ) (x : X) → 0 < n → IsRun cs from n → get_or cs (from + n - 1) None ≡ Some x → run (slice_set cs (from + n - 1) None) from (n - 1) ++ x ∷ [] ≡ run cs from n
+  run-take_behind cs from n x some r e = sym (run-pop cs from (n - 1) x (from + n - 1) n (omega arith) (omega arith) r e)
+
+  pub IsRun-take_behind : (cs : List (Option X)) (from n : ℕ) → 0 < n → IsRun cs from n → IsRun (slice_set cs (from + n - 1) None) from (n - 1)
+  IsRun-take_behind cs from n some r = IsRun-pop cs from (n - 1) (from + n - 1) n (omega arith) (omega arith) r
+
+  pub filled-behind : (cs : List (Option X)) (from n : ℕ) → 0 < n → IsRun cs from n → IsFilled cs (from + n - 1)
+  filled-behind cs from n some r = last-filled cs from (n - 1) (from + n - 1) n (omega arith) (omega arith) r
+
+  -- a value read among them
+  pub slice_get-run_from : (cs : List (Option X)) (from n i : ℕ) (x : X) → IsRun cs from n → i < n → get_or cs (from + i) None ≡ Some x → slice_get (run cs from n) i ≡ Some x
+  slice_get-run_from cs from n i x r h e =
+      let before : List X = run cs from i in
+      let behind : List X = run cs (from + i + 1) (n - i - 1) in
+      let long : length before ≡ i = length-run cs from i (IsRun-part cs from n from i (omega arith) (omega arith) r) in
+      let here : run cs from n ≡ before ++ (x ∷ behind) =
+      run-split cs from (from + i) i (n - i) n refl (omega arith)
+      ∙ ap (λ ys. before ++ ys) (run-split cs (from + i) (from + i + 1) 1 (n - i - 1) (n - i) refl (omega arith) ∙ ap (λ ys. ys ++ behind) (run-one cs (from + i) x (omega (arith, r.0)) e)) in
+      let z : 0 ≡ i - length before = omega (arith, long) in
+      ap (λ ys. slice_get ys i) here ∙ slice_get-behind before (x ∷ behind) i (omega (arith, long)) ∙ ap (slice_get (x ∷ behind)) (sym z)
+
+  pub filled-in : (cs : List (Option X)) (from n i : ℕ) → IsRun cs from n → i < n → IsFilled cs (from + i)
+  filled-in cs from n i r h = run_filled cs from n i r h
+
+  pub ruleset at_both_ends = (nat_tests, run-put_behind, IsRun-put_behind, run-put_before, IsRun-put_before, run-take_front, IsRun-take_front, run-take_behind, IsRun-take_behind, first-filled, filled-behind, filled-in, run-set-above, IsRun-set-above, run-set-below, IsRun-set-below, length-set, length-run)
+
+  -- the same of a run up to a place
+  pub run-put_back : (cs : List (Option X)) (front back : ℕ) (x : X) → front ≤ back → back < length cs → run (slice_set cs back (Some x)) front (back + 1 - front) ≡ run cs front (back - front) ++ x ∷ []
+  run-put_back cs front back x order room = run-push cs front (back - front) x back (back + 1 - front) (omega arith) (omega arith) room
+
+  pub IsRun-put_back : (cs : List (Option X)) (front back : ℕ) (x : X) → front ≤ back → back < length cs → IsRun cs front (back - front) → IsRun (slice_set cs back (Some x)) front (back + 1 - front)
+  IsRun-put_back cs front back x order room r = IsRun-push cs front (back - front) x back (back + 1 - front) (omega arith) (omega arith) room r
+
+  pub run-put_front : (cs : List (Option X)) (front back : ℕ) (x : X) → 0 < front → front ≤ back → front ≤ length cs → run (slice_set cs (front - 1) (Some x)) (front - 1) (back - (front - 1)) ≡ x ∷ run cs front (back - front)
+  run-put_front cs front back x some order within = run-unshift cs front (back - front) x (front - 1) (back - (front - 1)) (omega arith) (omega arith) (omega arith)
+
+  pub IsRun-put_front : (cs : List (Option X)) (front back : ℕ) (x : X) → 0 < front → front ≤ back → IsRun cs front (back - front) → IsRun (slice_set cs (front - 1) (Some x)) (front - 1) (back - (front - 1))
+  IsRun-put_front cs front back x some order r = IsRun-unshift cs front (back - front) x (front - 1) (back - (front - 1)) (omega arith) (omega arith) r
+
+  pub ruleset between = (nat_tests, run-put_back, IsRun-put_back, run-put_front, IsRun-put_front, run-take_first, IsRun-take_first, run-take_back, IsRun-take_back, first-filled, filled-back, run-set-above, IsRun-set-above, run-set-below, IsRun-set-below, length-set, length-run)
+
+  -- a value of a run with others behind it, and of those
+  pub slice_get-in_first : (cs : List (Option X)) (from n i : ℕ) (ys : List X) (x : X) → IsRun cs from n → i < n → get_or cs (from + i) None ≡ Some x → slice_get (run cs from n ++ ys) i ≡ Some x
+  slice_get-in_first cs from n i ys x r h e = slice_get-front (run cs from n) ys i (omega (arith, h, length-run cs from n r)) ∙ slice_get-run_from cs from n i x r h e
+
+  pub slice_get-in_second : (cs : List (Option X)) (from n i m : ℕ) (x : X) → IsRun cs from n → IsRun cs 0 m → n ≤ i → i - n < m → get_or cs (i - n) None ≡ Some x → slice_get (run cs from n ++ run cs 0 m) i ≡ Some x
+  slice_get-in_second cs from n i m x r s h l e =
+      let k : i - length (run cs from n) ≡ i - n = ap (λ j. i - j) (length-run cs from n r) in
+      let z : 0 + (i - n) ≡ i - n = omega arith in
+      slice_get-behind (run cs from n) (run cs 0 m) i (omega (arith, h, length-run cs from n r)) ∙ ap (slice_get (run cs 0 m)) k ∙ slice_get-run_from cs 0 m (i - n) x s l (ap (λ j. get_or cs j None) z ∙ e)
+
+  pub filled-in_second : (cs : List (Option X)) (m i : ℕ) → IsRun cs 0 m → i < m → IsFilled cs i
+  filled-in_second cs m i r h = let z : 0 + i ≡ i = omega arith in subst (λ j. IsFilled cs j) z (run_filled cs 0 m i r h)
+
+  pub ruleset two_runs = (nat_tests, slice_get-in_first, slice_get-in_second, slice_get_past, filled-in, filled-in_second, length-run)

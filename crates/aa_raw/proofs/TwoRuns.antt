@@ -1,0 +1,154 @@
+-- What growth that keeps two runs leaves.
+use Rattle.std.proofs.Common.{◌≡◌, ℕ, ◌+◌, ◌-◌, ◌<◌, ◌≤◌, List, ◌++◌, length, map, take, drop, replicate, Option, Some, None, refl, sym, ap, subst, ◌∙◌, arith, inl, inr}
+use Rattle.std.proofs.lemmas.Bool.Decides.{nat_tests}
+use Rattle.std.proofs.lemmas.List.{length-replicate}
+use Rattle.std.specs.List.{length_refill}
+use Rattle.aa_raw.specs.Block.{Block}
+use Rattle.aa_raw.specs.Growth.{usize_max}
+use Rattle.aa_raw.specs.Places.{IsRun, run, with_run}
+use Rattle.aa_raw.specs.TwoRuns.{AreApart, AreJoined, AreParted, IsFull, ReservesRuns, both, grown_with}
+use Rattle.aa_raw.proofs.Calls.{run-transferred_there, IsRun-transferred_there, IsRun-with-below}
+use Rattle.aa_raw.proofs.Places.{lengths, length-with_run}
+use Rattle.aa_raw.proofs.Runs.{IsRun-joined, IsRun-same, cut-long, run-filled, run-split, run-with-above, run-with-below}
+
+pub AreApart-before : (a m b n : ℕ) → a + m ≤ b → AreApart (a, m) (b, n)
+AreApart-before a m b n h = inl h
+
+pub AreApart-behind : (a m b n : ℕ) → b + n ≤ a → AreApart (a, m) (b, n)
+AreApart-behind a m b n h = inr h
+
+-- the first run is the one before the second in the block, or behind it
+pub ruleset apart = (AreApart-before, AreApart-behind)
+
+module _ {X : Type 0} (cs : List (Option X)) (first second : ℕ × ℕ) (r : IsRun cs first.0 first.1) (s : IsRun cs second.0 second.1) where
+  module _ (apart : AreApart first second) where
+    pub both-fit : both first second ≤ length cs
+    both-fit = elim apart [ inl h ↦ omega (arith, h, r.0, s.0) | inr h ↦ omega (arith, h, r.0, s.0) ]
+
+    abbrev none : List (Option X)
+    none = replicate first.1 None
+
+    -- the places once the values of the first run are gone: those of the second are there
+    abbrev left : List (Option X)
+    left = with_run cs first.0 first.1 none
+
+    run-left : run left second.0 second.1 ≡ run cs second.0 second.1
+    run-left = elim apart [
+      | inl h ↦ run-with-above cs first.0 first.1 none second.0 second.1 r.0 (length-replicate {A = Option X} first.1 None) h
+      | inr h ↦ run-with-below cs first.0 first.1 none second.0 second.1 r.0 h
+    ]
+
+    pub length-left : length left ≡ length cs
+    length-left = length-with_run cs first.0 first.1 none r.0 (length-replicate {A = Option X} first.1 None)
+
+    pub IsRun-left : IsRun left second.0 second.1
+    IsRun-left = IsRun-same cs left second.0 second.1 length-left run-left s
+
+    pub cut-left : take second.1 (drop second.0 left) ≡ take second.1 (drop second.0 cs)
+    cut-left = run-filled left second.0 second.1 IsRun-left ∙ ap (map Some) run-left ∙ sym (run-filled cs second.0 second.1 s)
+
+  module _ (c to : ℕ) (low : first.1 ≤ to) (high : to + second.1 ≤ c) where
+    abbrev empty : List (Option X)
+    empty = replicate c None
+
+    abbrev one : List (Option X)
+    one = with_run empty 0 first.1 (take first.1 (drop first.0 cs))
+
+    abbrev two : List (Option X)
+    two = with_run one to second.1 (take second.1 (drop second.0 cs))
+
+    long : length empty ≡ c
+    long = length-replicate {A = Option X} c None
+
+    length-one : length one ≡ c
+    length-one = length-with_run empty 0 first.1 (take first.1 (drop first.0 cs)) (omega (arith, long)) (cut-long cs first.0 first.1 r.0) ∙ long
+
+    pub length-two : length two ≡ c
+    length-two = length-with_run one to second.1 (take second.1 (drop second.0 cs)) (omega (arith, length-one)) (cut-long cs second.0 second.1 s.0) ∙ length-one
+
+    pub run-first : run two 0 first.1 ≡ run cs first.0 first.1
+    run-first =
+        run-with-below one to second.1 (take second.1 (drop second.0 cs)) 0 first.1 (omega (arith, length-one)) (omega arith)
+        ∙ run-transferred_there empty cs 0 first.0 first.1 (omega (arith, long)) r
+
+    pub IsRun-first : IsRun two 0 first.1
+    IsRun-first =
+        IsRun-with-below one to second.1 (take second.1 (drop second.0 cs)) 0 first.1 (omega (arith, length-one)) (cut-long cs second.0 second.1 s.0) (omega arith)
+        (IsRun-transferred_there empty cs 0 first.0 first.1 (omega (arith, long)) r)
+
+    pub run-second : run two to second.1 ≡ run cs second.0 second.1
+    run-second = run-transferred_there one cs to second.0 second.1 (omega (arith, length-one)) s
+
+    pub IsRun-second : IsRun two to second.1
+    IsRun-second = IsRun-transferred_there one cs to second.0 second.1 (omega (arith, length-one)) s
+
+module _ {X A : Type 0} (size : ℕ) (old : Block X A) (first second : ℕ × ℕ) (k wanted to : ℕ) where
+  -- where they fit, the block stays
+  pub ReservesRuns-stays : both first second + k ≤ length old.places → length old.places ≤ usize_max → ReservesRuns size old first second k wanted to old
+  ReservesRuns-stays fits within = record {
+    fits = λ h. refl;
+    grows = λ h. absurd (omega arith);
+    room = fits;
+    within = within;
+    capacity = grind (arith, nat_tests);
+    growth = refl;
+    grown = grind (arith, nat_tests);
+    written = refl;
+    runs = refl;
+    alloc = refl;
+  }
+
+  -- where they don't, it has grown
+  pub ReservesRuns-grows : IsFull old first second k → IsRun old.places first.0 first.1 → IsRun old.places second.0 second.1 → first.1 ≤ to → to + second.1 ≤ wanted
+      → both first second + k ≤ wanted → wanted ≤ usize_max → 0 < size → ReservesRuns size old first second k wanted to (grown_with old first second to wanted)
+  ReservesRuns-grows full r s low high enough few has_size =
+      let long = length-two old.places first second r s wanted to low high in
+      record {
+        fits = λ h. absurd (omega arith);
+        grows = λ h. (has_size, refl);
+        room = omega (arith, long);
+        within = omega (arith, long);
+        capacity = long ∙ grind (arith, nat_tests);
+        growth = refl;
+        grown = grind (arith, nat_tests);
+        written = refl;
+        runs = refl;
+        alloc = refl;
+      }
+
+module _ {X A : Type 0} (size : ℕ) (old : Block X A) (first second : ℕ × ℕ) (k wanted : ℕ) (new : Block X A) (full : IsFull old first second k) (r : IsRun old.places first.0 first.1) (s : IsRun old.places second.0 second.1) where
+  enough : (to : ℕ) → ReservesRuns size old first second k wanted to new → both first second ≤ wanted
+  enough to made = let room = made.room in let capacity = made.capacity in grind (arith, nat_tests)
+
+  -- in line
+  pub AreJoined-made : ReservesRuns size old first second k wanted first.1 new → AreJoined old new first second
+  AreJoined-made made =
+      let m : ℕ = first.1 in let n : ℕ = second.1 in
+      let high : m + n ≤ wanted = enough m made in
+      let low : m ≤ m = omega arith in
+      let ds : List (Option X) = two old.places first second r s wanted m low high in
+      let front = run-first old.places first second r s wanted m low high in
+      let back = run-second old.places first second r s wanted m low high in
+      subst (λ b. AreJoined old b first second) (sym (made.grows full).1) (record {
+        there = IsRun-joined ds 0 m m n (m + n) (omega arith) refl (IsRun-first old.places first second r s wanted m low high) (IsRun-second old.places first second r s wanted m low high);
+        same = run-split ds 0 m m n (m + n) (omega arith) refl ∙ (λ i. front i ++ back i);
+      })
+
+  -- at both ends
+  pub AreParted-made : ReservesRuns size old first second k wanted (wanted - second.1) new → AreParted old new first second
+  AreParted-made made =
+      let n : ℕ = second.1 in let to : ℕ = wanted - n in
+      let all : both first second ≤ wanted = enough to made in
+      let low : first.1 ≤ to = omega arith in
+      let high : to + n ≤ wanted = omega arith in
+      let ds : List (Option X) = two old.places first second r s wanted to low high in
+      let long : length ds ≡ wanted = length-two old.places first second r s wanted to low high in
+      let same : to ≡ length ds - n = ap (λ c. c - n) (sym long) in
+      subst (λ b. AreParted old b first second) (sym (made.grows full).1) (record {
+        before = IsRun-first old.places first second r s wanted to low high;
+        front = run-first old.places first second r s wanted to low high;
+        behind = subst (λ i. IsRun ds i n) same (IsRun-second old.places first second r s wanted to low high);
+        back = ap (λ i. run ds i n) (sym same) ∙ run-second old.places first second r s wanted to low high;
+      })
+
+pub ruleset kept_runs = (lengths, nat_tests, length_refill, both-fit, length-left, IsRun-left, cut-left, ReservesRuns-stays, ReservesRuns-grows, AreJoined-made, AreParted-made)

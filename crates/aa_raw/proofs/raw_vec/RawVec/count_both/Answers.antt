@@ -1,0 +1,10 @@
+use Rattle.std.proofs.Common.{rules, ◌≤◌, length}
+use Rattle.aa_raw.specs.TwoRuns.{both}
+use Rattle.aa_raw.proofs.TwoRuns.{both-fit}
+use Rattle.aa_raw.proofs.raw_vec.RawVec.count_both.Goals as goal
+
+pub overflow_add-result : goal.overflow_add-result
+overflow_add-result g c = let fit : both c.args.first c.args.second ≤ length c.args.self.now.places = both-fit c.args.self.now.places c.args.first c.args.second c.requires.one c.requires.two c.requires.apart in search rules
+
+pub returns-clause-within : goal.returns-clause-within
+returns-clause-within g c = both-fit c.args.self.now.places c.args.first c.args.second c.requires.one c.requires.two c.requires.apart

@@ -1,0 +1,116 @@
+ghost use Rattle.std.specs.Prelude.{◌≡◌, ◌<◌, IfSome, length};
+
+/// The number that is written into a block's place, from the block's tag and the place's index.
+pub fn mark(tag: u64, index: usize) -> u64 {
+    let spread = (index as u64).wrapping_mul(0x9E37_79B9_7F4A_7C15);
+    tag.wrapping_mul(0xD134_2543_DE82_EF95).wrapping_add(spread)
+}
+
+/// An element in which a mark can be found again.
+pub trait Pattern: Copy {
+    /// Its size.
+    const BYTES: usize;
+
+    /// The element with this mark.
+    fn marked(mark: u64) -> Self;
+
+    /// Whether each of its bytes is as in the element with this mark.
+    fn has(&self, mark: u64) -> bool;
+}
+
+/// The index of the first element that hasn't the mark of its place. The first is at place `from`
+/// of its block.
+pub fn first_wrong<E: Pattern>(items: &[E], tag: u64, from: usize) -> Option<usize>
+    ensures { IfSome result (λ place. place < length items.now) }
+{
+    for index in 0..items.len() {
+        if !items[index].has(mark(tag, from.wrapping_add(index))) {
+            return Some(index);
+        }
+    }
+    None
+}
+
+impl Pattern for () {
+    const BYTES: usize = 0;
+
+    fn marked(_mark: u64) -> Self {}
+
+    fn has(&self, _mark: u64) -> bool {
+        true
+    }
+}
+
+impl Pattern for u8 {
+    const BYTES: usize = 1;
+
+    fn marked(mark: u64) -> Self {
+        (mark % 256) as u8
+    }
+
+    fn has(&self, mark: u64) -> bool {
+        u64::from(*self) == mark % 256
+    }
+}
+
+impl Pattern for u32 {
+    const BYTES: usize = 4;
+
+    fn marked(mark: u64) -> Self {
+        (mark % 4_294_967_296) as u32
+    }
+
+    fn has(&self, mark: u64) -> bool {
+        u64::from(*self) == mark % 4_294_967_296
+    }
+}
+
+/// An element of 24 bytes.
+#[derive(Clone, Copy)]
+pub struct Wide {
+    first: u64,
+    second: u64,
+    third: u64,
+}
+
+impl Pattern for Wide {
+    const BYTES: usize = 24;
+
+    fn marked(mark: u64) -> Self {
+        Wide {
+            first: mark,
+            second: mark.wrapping_add(1),
+            third: mark.wrapping_add(2),
+        }
+    }
+
+    fn has(&self, mark: u64) -> bool {
+        let Wide {
+            first,
+            second,
+            third,
+        } = *self;
+        first == mark && second == mark.wrapping_add(1) && third == mark.wrapping_add(2)
+    }
+}
+
+/// An element of 1,025 bytes.
+#[derive(Clone, Copy)]
+pub struct Large {
+    bytes: [u8; 1025],
+}
+
+impl Pattern for Large {
+    const BYTES: usize = 1_025;
+
+    fn marked(mark: u64) -> Self {
+        Large {
+            bytes: [u8::marked(mark); 1025],
+        }
+    }
+
+    fn has(&self, mark: u64) -> bool {
+        let byte = u8::marked(mark);
+        self.bytes.iter().all(|it| *it == byte)
+    }
+}

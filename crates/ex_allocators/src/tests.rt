@@ -1,0 +1,140 @@
+use crate::budget::Budget;
+use crate::counting::Counting;
+use crate::exercise::{Report, exercise};
+use allocator_api2::boxed::Box;
+use allocator_api2::vec::Vec;
+use std::alloc::{Allocator, Global};
+use std::test::Fail;
+
+// What is out of a budget, what is left, and the most that ever was out.
+fn purse<B: Allocator>(heap: &Budget<B>) -> (usize, usize, usize) {
+    (
+        heap.watch().granted(),
+        heap.watch().left(),
+        heap.watch().most(),
+    )
+}
+
+#[test]
+fn a_vector_is_refused_sheds_and_goes_on(rt: HostRuntime) -> Result<(), Fail> {
+    let heap = Budget::new(rt.alloc(), 48);
+    {
+        let mut numbers: Vec<u32, &Budget<Global>> = Vec::new_in(&heap);
+        for number in 0..8u32 {
+            numbers.push(number)?;
+        }
+        // Room for 4 was given back once there was room for 8.
+        assert!(rt; purse(&heap) == (32, 16, 48));
+        match numbers.push(8) {
+            Ok(()) => assert!(rt; false, "more than the budget was granted"),
+            Err(refused) => assert!(rt; refused.source == 8),
+        }
+        numbers.truncate(2);
+        numbers.shrink_to_fit()?;
+        assert!(rt; purse(&heap) == (8, 40, 48));
+        numbers.try_reserve_exact(6)?;
+        numbers.push(2)?;
+        assert!(rt; numbers.as_slice() == [0, 1, 2].as_slice());
+    }
+    assert!(rt; purse(&heap) == (0, 48, 48));
+    assert!(rt; heap.watch().limit() == 48);
+    Ok(())
+}
+
+#[test]
+fn boxes_share_a_budget(rt: HostRuntime) -> Result<(), Fail> {
+    let heap = Budget::new(rt.alloc(), 16);
+    let first = Box::new_in(1u64, &heap)?;
+    let second = Box::new_in(2u64, &heap)?;
+    assert!(rt; Box::new_in(3u64, &heap).is_err());
+    drop(first);
+    let third = Box::new_in(3u64, &heap)?;
+    assert!(rt; *second == 2 && *third == 3);
+    Ok(())
+}
+
+#[test]
+fn a_clone_has_a_budget_of_its_own(rt: HostRuntime) -> Result<(), Fail> {
+    let heap = Budget::new(rt.alloc(), 8);
+    let _one = Box::new_in(1u64, &heap)?;
+    let twin = heap.clone()?;
+    let _two = Box::new_in(2u64, &twin)?;
+    assert!(rt; purse(&heap) == (8, 0, 8));
+    assert!(rt; purse(&twin) == (8, 0, 8));
+    Ok(())
+}
+
+#[test]
+fn a_report_says_where_memory_goes(rt: HostRuntime) -> Result<(), Fail> {
+    let heap = Counting::new(Budget::new(rt.alloc(), 500_000));
+    {
+        let mut numbers: Vec<u32, &Counting<Budget<Global>>> = Vec::new_in(&heap);
+        for number in 0..100u32 {
+            numbers.push(number)?;
+        }
+        let _table = Vec::<u64, &Counting<Budget<Global>>>::with_capacity_in(10_000, &heap)?;
+        assert!(rt; Box::new_in([0u8; 70_000], &heap).is_ok());
+        assert!(rt;
+            Vec::<u64, &Counting<Budget<Global>>>::with_capacity_in(100_000, &heap).is_err()
+        );
+    }
+    let report = "\
+9 requests, 1 refused, 8 blocks given back
+151008 bytes granted in all, 0 outstanding, 150512 at most
+the greatest request: 800000 bytes
+up to     16 bytes: 1
+up to     64 bytes: 2
+up to    256 bytes: 2
+up to   1024 bytes: 1
+above  65536 bytes: 3
+";
+    let printed = format!(in rt.alloc(); "{}", heap.counts())?;
+    assert!(rt; printed.as_str() == report, "{printed}");
+    Ok(())
+}
+
+// Whether an exercise is clean, with nothing left out.
+fn is_clean<A: Allocator + Clone>(books: Global, alloc: &A) -> bool {
+    match exercise(books, alloc, 7, 100) {
+        Ok(report) => {
+            report.steps == 200
+                && report.requests > 200
+                && report.refused > 0
+                && report.outstanding == 0
+        }
+        Err(_) => false,
+    }
+}
+
+#[test]
+fn the_global_allocator_is_right(rt: HostRuntime) {
+    assert!(rt; is_clean(rt.alloc(), &rt.alloc()));
+    assert!(rt; is_clean(rt.alloc(), &&rt.alloc()));
+}
+
+#[test]
+fn a_budget_is_right(rt: HostRuntime) {
+    let heap = Budget::new(rt.alloc(), 1_000_000);
+    assert!(rt; is_clean(rt.alloc(), &heap));
+    assert!(rt; is_clean(rt.alloc(), &&heap));
+    assert!(rt; heap.watch().granted() == 0);
+    let tight = Budget::new(rt.alloc(), 5_000);
+    assert!(rt; is_clean(rt.alloc(), &tight));
+    assert!(rt; tight.watch().granted() == 0);
+}
+
+#[test]
+fn a_counting_one_is_right(rt: HostRuntime) {
+    let heap = Counting::new(rt.alloc());
+    assert!(rt; is_clean(rt.alloc(), &heap));
+    assert!(rt; is_clean(rt.alloc(), &&heap));
+    assert!(rt; heap.counts().outstanding == 0);
+    assert!(rt; heap.counts().requests == heap.counts().frees);
+}
+
+#[test]
+fn an_exercise_is_the_same_each_time(rt: HostRuntime) {
+    let one: Option<Report> = exercise(rt.alloc(), &rt.alloc(), 3, 40).ok();
+    assert!(rt; one.is_some());
+    assert!(rt; one == exercise(rt.alloc(), &rt.alloc(), 3, 40).ok());
+}

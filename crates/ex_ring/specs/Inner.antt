@@ -1,0 +1,30 @@
+-- What holds of the fields of a `Ring`, and what is seen of them.
+use Rattle.std.specs.Prelude.{◌≡◌, ℕ, ◌+◌, ◌<◌, ◌≤◌, List, ◌++◌, length, Option}
+use Rattle.allocator_api2.specs.Places.{IsRun, run}
+use Rattle.ex_ring.specs.Ringed.{Ringed}
+use Rattle.ex_ring.specs.declared.ring.Ring.TheInside.{Inside}
+
+-- the first items are the `count` from place `front` on, and others behind them stand at the first
+-- places. Where there are others, the first ones reach to the end
+pub record HasParts {X : Type 0} (places : List (Option X)) (front count wrapped : ℕ) : Type 0 where
+  pub first : IsRun places front count
+  pub others : IsRun places 0 wrapped
+  pub apart : wrapped ≤ front
+  pub ends : 0 < wrapped → front + count ≡ length places
+
+module _ {T A : Type 0} where
+  -- what a contract sees of a ring with these fields
+  abbrev pub view_of : Inside T A → Ringed T A
+  view_of r =
+      record {
+        items = run r.block.places r.front r.count ++ run r.block.places 0 r.wrapped;
+        capacity = length r.block.places;
+        growth = r.block.growth;
+        grown = r.block.grown;
+        written = r.block.written;
+        alloc = r.block.alloc;
+      }
+
+  -- the items stand where these fields say
+  abbrev pub IsRing : Inside T A → Type 0
+  IsRing r = HasParts r.block.places r.front r.count r.wrapped

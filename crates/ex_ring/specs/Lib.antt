@@ -1,0 +1,3 @@
+pub mod Ringed
+pub mod Inner
+pub mod Paid

@@ -1,0 +1,8 @@
+//! A double-ended queue over any allocator, on the block of the library.
+#![tactic(auto)]
+
+pub mod iter;
+pub mod laws;
+pub mod ring;
+#[cfg(test)]
+mod tests;

@@ -1,0 +1,149 @@
+"""Reads the definitions of the crates' specs, and which of them a clause reaches.
+
+`docs/index` writes docs/WORDS.md by it, and `docs/reach` counts by it.
+"""
+import functools
+import pathlib
+import re
+
+TOP = pathlib.Path(__file__).resolve().parent.parent
+# The library's crates, from the ground up.
+CRATES = ["aa_raw", "aa_boxed", "aa_vec", "aa_gap", "allocator_api2"]
+HEAD = re.compile(r"^((?:  )*)(?:(abbrev|unfoldable|opaque|irreducible) )?pub (?:(record|data) )?([^\s.:{}()]+)(?=[\s:(]|$)")
+NAME = re.compile(r"[^\s(){},;.\[\]λ]+")
+USE = re.compile(r"(?:pub |ghost )*use Rattle\.(\w+)\.specs\.([\w.]+?)(?:\.\{(.*?)\}| as (\w+))?;?\s*$")
+
+
+class Word:
+    """A definition of a specs file: its name, comment, head, and all of its text."""
+
+    def __init__(self, file, name, comment, text):
+        self.file, self.name, self.comment, self.text = file, name, comment, text
+
+    def sentence(self):
+        return " ".join(self.comment)
+
+
+class File:
+    """A specs file: its path of names, its first comment, its definitions, and the names that it takes from others."""
+
+    def __init__(self, crate, path):
+        self.crate, self.path = crate, path
+        self.key = (crate, ".".join(path.relative_to(TOP / "crates" / crate / "specs").with_suffix("").parts))
+        lines = path.read_text(encoding="utf-8").split("\n")
+        self.title = " ".join(line[3:] for line in lines[: next((i for i, l in enumerate(lines) if not l.startswith("-- ")), 0)])
+        self.words = dict(self.read(lines))
+        self.scope = uses(lines)
+
+    def read(self, lines):
+        comment, at = [], 0
+        while at < len(lines):
+            line = lines[at]
+            found = HEAD.match(line)
+            if line.strip().startswith("-- "):
+                comment.append(line.strip()[3:])
+            elif found and not line.startswith(("pub use", "pub module")):
+                indent, name, end = found.group(1), found.group(4), at + 1
+                # The body: lines that stand deeper, and the equations that begin with the name.
+                while end < len(lines) and lines[end].strip() and lines[end].startswith((indent + "  ", indent + name)):
+                    end += 1
+                yield name, Word(self, name, comment, "\n".join(lines[at:end]))
+                comment, at = [], end
+                continue
+            else:
+                comment = []
+            at += 1
+
+
+def uses(lines):
+    """What the lines take from specs: each name with the crate, the file and the name there; a module has none."""
+    names, text = {}, []
+    for line in lines:
+        line = line.strip()
+        if text or re.match(r"(pub |ghost )*use ", line):
+            text.append(line)
+            joined = " ".join(text)
+            if joined.count("{") > joined.count("}"):
+                continue
+            found = USE.match(joined)
+            text = []
+            if not found:
+                continue
+            crate, file, inner, alias = found.groups()
+            for part in (inner or "").split(",") if inner else []:
+                there, _, here = part.strip().partition(" as ")
+                names[here.strip() or there] = (crate, file, there)
+            if not inner:
+                names[alias or file.split(".")[-1]] = (crate, file, None)
+    return names
+
+
+@functools.lru_cache(maxsize=None)
+def files():
+    found = {}
+    for crate in sorted(p.name for p in (TOP / "crates").iterdir() if (p / "specs").is_dir()):
+        for path in sorted((TOP / "crates" / crate / "specs").rglob("*.antt")):
+            if not {"declared", "formers", "contracts"} & set(path.parts):
+                file = File(crate, path)
+                found[file.key] = file
+    return found
+
+
+def word_at(crate, file, name):
+    """The definition of this name in a file, or in one that the file passes it on from."""
+    there = files().get((crate, file))
+    if not there:
+        return None
+    if name in there.words:
+        return there.words[name]
+    passed = there.scope.get(name)
+    return word_at(passed[0], passed[1], passed[2]) if passed and passed[2] and passed[:2] != (crate, file) else None
+
+
+def cited(text, scope, own=None):
+    """The definitions that a text cites, where names mean what `scope` and the file `own` say."""
+    text = re.sub(r"--.*", "", text)
+    for module, name in re.findall(r"\b(\w+)\.(\w[^\s(){},;.]*)", text):
+        place = scope.get(module)
+        if place and place[2] is None:
+            word = word_at(place[0], place[1], name)
+            if word:
+                yield word
+    for name in NAME.findall(text):
+        if own and name in own.words:
+            yield own.words[name]
+        elif name in scope and scope[name][2]:
+            word = word_at(*scope[name])
+            if word:
+                yield word
+
+
+def reached(text, scope):
+    """All definitions that a clause reaches, by those that it cites."""
+    seen, left = [], list(cited(text, scope))
+    while left:
+        word = left.pop()
+        if word not in seen:
+            seen.append(word)
+            left += [it for it in cited(word.text, word.file.scope, word.file) if it is not word]
+    return seen
+
+
+def clauses(lines, at):
+    """The clauses from line `at` to the body: word, name and text of each; and the line behind them."""
+    found = []
+    while at < len(lines):
+        line = lines[at].strip()
+        if re.match(r"(requires|ensures)\b", line):
+            text = line
+            while text.count("{") > text.count("}"):
+                at += 1
+                text += " " + lines[at].strip()
+            head = re.match(r"(requires|ensures)\*?\s*([a-z_]\w*)?\s*\{(.*)\}\s*;?\s*\{?$", text, re.S)
+            found.append((head.group(1), head.group(2) or "", head.group(3).strip()))
+            if text.endswith((";", "} {")):
+                break
+        elif line == "{" or line.endswith(";") or line.startswith(("pub ", "fn ", "impl", "}")):
+            break
+        at += 1
+    return found, at
