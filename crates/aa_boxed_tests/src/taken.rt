@@ -7,7 +7,8 @@ use std::cell::Cell;
 use std::string::String;
 use std::test::Fail;
 
-// An iterator whose calls of `next` are counted, and that tells nothing of how many items are to come.
+// An iterator whose calls of `next` are counted, and that tells nothing of how many items are to
+// come.
 #[derive(Drop)]
 struct Asked<'a, I> {
     iter: I,
@@ -29,8 +30,9 @@ impl<I: Iterator> Iterator for Asked<'_, I> {
     }
 }
 
-// Nine numbers of which nothing is told find no place at the first, the fifth and the ninth; at the end the room behind them is
-// given back. The number of the request that is refused, of the items that were taken, and of the places that were asked for.
+// Nine numbers of which nothing is told find no place at the first, the fifth and the ninth; at the
+// end the room behind them is given back. The number of the request that is refused, of the items
+// that were taken, and of the places that were asked for.
 const REFUSED: [(u64, u32, usize); 4] = [(0, 1, 4), (1, 5, 8), (2, 9, 16), (3, 10, 9)];
 
 #[test]

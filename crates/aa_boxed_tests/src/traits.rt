@@ -69,7 +69,8 @@ fn hashes_are_those_of_the_elements(rt: HostRuntime) -> Result<(), Fail> {
     Ok(())
 }
 
-// Whether the first is less than the second by each comparison, and a clone of the second equals it.
+// Whether the first is less than the second by each comparison, and a clone of the second equals
+// it.
 fn ordered_and_cloned<T: Ord + Clone + Drop>(less: &T, more: &T) -> Result<bool, AllocError> {
     let ordered = less != more && less < more && less.partial_cmp(more) == Some(Ordering::Less);
     Ok(ordered && more.cmp(less) == Ordering::Greater && more.clone()? == *more)
@@ -186,7 +187,8 @@ fn a_box_is_read_and_written_through_its_value(rt: HostRuntime) -> Result<(), Fa
     Ok(())
 }
 
-// What it does by its own functions is not what the traits would do by its `read`, `write` and `seek`, which do nothing.
+// What it does by its own functions is not what the traits would do by its `read`, `write` and
+// `seek`, which do nothing.
 #[derive(Drop)]
 struct Own {
     position: u64,

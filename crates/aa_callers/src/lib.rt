@@ -1,5 +1,5 @@
-//! Callers that list `allocator_api2` alone: one for each group of calls, as `docs/CALLING.md` shows them, and one that concludes from `run`'s
-//! contract what it wants to know.
+//! Callers that list `allocator_api2` alone: one for each group of calls, as `docs/CALLING.md`
+//! shows them, and one that concludes from `run`'s contract what it wants to know.
 #![tactic(auto)]
 
 ghost use Rattle.std.specs.Prelude.{◌≡◌, ◌+◌, ◌*◌, ◌≤◌, [], length};
@@ -24,8 +24,8 @@ use allocator_api2::runner::{Command, Reply, run};
 use allocator_api2::vec::Vec;
 use std::alloc::Allocator;
 
-/// Runs commands such as `Push`, `Insert` and `Pop` from an empty list: growth moves at most twice as many elements as there are
-/// commands, and each has one reply.
+/// Runs commands such as `Push`, `Insert` and `Pop` from an empty list: growth moves at most twice
+/// as many elements as there are commands, and each has one reply.
 pub fn grown_by_commands<T, A>(
     main: &mut Vec<T, A>,
     side: &mut Vec<T, A>,

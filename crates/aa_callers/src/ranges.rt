@@ -5,8 +5,8 @@ use allocator_api2::collections::TryReserveError;
 use allocator_api2::vec::Vec;
 use std::alloc::Allocator;
 
-/// Moves the first `count` numbers of `from` behind those of `to`. What `from` holds afterwards is not known: the range goes into the
-/// chain by value.
+/// Moves the first `count` numbers of `from` behind those of `to`. What `from` holds afterwards is
+/// not known: the range goes into the chain by value.
 pub fn move_first<A: Allocator>(
     from: &mut Vec<u32, A>,
     to: &mut Vec<u32, A>,

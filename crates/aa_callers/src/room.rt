@@ -28,8 +28,9 @@ pub fn add_two<A: Allocator>(v: &mut Vec<u64, A>, a: u64, b: u64) -> Result<(), 
     Ok(())
 }
 
-/// Puts a pair behind the others, or neither. A new block is asked for only where two places are not free, and for just these.
-/// It moves each element there once; a refusal tells how many places were asked for.
+/// Puts a pair behind the others, or neither. A new block is asked for only where two places are
+/// not free, and for just these. It moves each element there once; a refusal tells how many places
+/// were asked for.
 pub fn add_pair<A: Allocator>(v: &mut Vec<u64, A>, a: u64, b: u64) -> Result<(), TryReserveError>
     ensures fits { HasRoom v.old 2 → IsOk result }
     ensures both { OnOk result (v.new.items ≡ v.old.items ++ a ∷ b ∷ []) }

@@ -1,6 +1,6 @@
-//! For tests, and no part of the library: an allocator that refuses the requests of a chosen range, passes the others on
-//! to an inner allocator, and counts what it was asked. Beside it is one that refuses every request, and an element that
-//! counts its drops.
+//! For tests, and no part of the library: an allocator that refuses the requests of a chosen range,
+//! passes the others on to an inner allocator, and counts what it was asked. Beside it is one that
+//! refuses every request, and an element that counts its drops.
 #![tactic(auto)]
 
 use std::alloc::{AllocError, Allocator};
@@ -20,21 +20,24 @@ struct Plan {
     refused: Cell<u64>,
     frees: Cell<u64>,
     outstanding: Cell<u64>,
-    // Requests are numbered from 0. Those from the first number up to, but without, the second are refused.
+    // Requests are numbered from 0. Those from the first number up to, but without, the second are
+    // refused.
     refuse_from: Cell<u64>,
     refuse_until: Cell<u64>,
     refuses_clones: Cell<bool>,
 }
 
-/// An allocator that refuses the requests of a chosen range and passes the others on to an inner allocator.
-/// A test gives a collection `&heap`, and keeps `heap` to choose the range and to read the counts.
+/// An allocator that refuses the requests of a chosen range and passes the others on to an inner
+/// allocator. A test gives a collection `&heap`, and keeps `heap` to choose the range and to read
+/// the counts.
 pub struct Faulty<B: Allocator> {
     inner: B,
     plan: Plan,
 }
 
 impl<B: Allocator> Faulty<B> {
-    /// An allocator over `inner` with all counts 0. It refuses nothing until `refuse` or `refuse_clones` is called.
+    /// An allocator over `inner` with all counts 0. It refuses nothing until `refuse` or
+    /// `refuse_clones` is called.
     pub fn new(inner: B) -> Faulty<B> {
         Faulty {
             inner,
@@ -58,27 +61,32 @@ impl<B: Allocator> Faulty<B> {
         self.plan.refuse_until.set(from.saturating_add(count));
     }
 
-    /// With `true`, `clone` answers `Err(AllocError)` from now on. With `false` it clones `inner` again.
+    /// With `true`, `clone` answers `Err(AllocError)` from now on. With `false` it clones `inner`
+    /// again.
     pub fn refuse_clones(&self, refuses: bool) {
         self.plan.refuses_clones.set(refuses);
     }
 
-    /// The number of blocks that were asked for so far, refused ones too. A block that grows or shrinks is asked for anew.
+    /// The number of blocks that were asked for so far, refused ones too. A block that grows or
+    /// shrinks is asked for anew.
     pub fn requests(&self) -> u64 {
         self.plan.requests.get()
     }
 
-    /// The number of requests that were refused so far for the range of `refuse`. Those that `inner` refused are not counted.
+    /// The number of requests that were refused so far for the range of `refuse`. Those that
+    /// `inner` refused are not counted.
     pub fn refused(&self) -> u64 {
         self.plan.refused.get()
     }
 
-    /// The number of blocks that were given back so far. A block that grows or shrinks is given back once the new one is granted.
+    /// The number of blocks that were given back so far. A block that grows or shrinks is given
+    /// back once the new one is granted.
     pub fn frees(&self) -> u64 {
         self.plan.frees.get()
     }
 
-    /// The number of bytes in the blocks that were granted and not yet given back. Once nothing is in use, it is what leaked.
+    /// The number of bytes in the blocks that were granted and not yet given back. Once nothing is
+    /// in use, it is what leaked.
     pub fn outstanding(&self) -> u64 {
         self.plan.outstanding.get()
     }
@@ -90,7 +98,8 @@ impl<B: Allocator> Drop for Faulty<B> {
     }
 }
 
-/// A clone is an allocator of its own over a clone of `inner`. Its counts are 0, and it refuses nothing.
+/// A clone is an allocator of its own over a clone of `inner`. Its counts are 0, and it refuses
+/// nothing.
 impl<B: Allocator + Clone> Clone for Faulty<B> {
     /// Fails after `refuse_clones(true)`, and where `inner` cannot be cloned.
     fn clone(&self) -> Result<Faulty<B>, AllocError> {

@@ -4,7 +4,8 @@ use std::alloc::{Allocator, Global};
 use std::mem::forget;
 use std::test::Fail;
 
-// How many requests there were, how many of them were refused, how many blocks came back, and the bytes that are out.
+// How many requests there were, how many of them were refused, how many blocks came back, and the
+// bytes that are out.
 fn counts<B: Allocator>(heap: &Faulty<B>) -> (u64, u64, u64, u64) {
     (
         heap.requests(),

@@ -45,7 +45,8 @@ fn agree(text: &GapBuffer<char>, plain: &Plain) -> bool {
         && text.iter().eq(plain.text.iter())
 }
 
-// One edit of both, whose kind and place are chosen by two numbers. It answers whether both gave the same.
+// One edit of both, whose kind and place are chosen by two numbers. It answers whether both gave
+// the same.
 fn edited(text: &mut GapBuffer<char>, plain: &mut Plain, kind: usize, place: usize) -> bool {
     match kind % 4 {
         0 => {

@@ -143,7 +143,8 @@ fn edits_come_from_an_iterator(rt: HostRuntime) -> Result<(), Fail> {
     Ok(())
 }
 
-// So many inserts of a number, so many deletions before the cursor, a move to the start, and so many inserts there.
+// So many inserts of a number, so many deletions before the cursor, a move to the start, and so
+// many inserts there.
 fn script(alloc: Global, counts: [u32; 3]) -> Result<Vec<Edit<u32>>, Fail> {
     let [first, deleted, second] = counts;
     let mut edits: Vec<Edit<u32>> = Vec::new(alloc);
@@ -160,8 +161,9 @@ fn script(alloc: Global, counts: [u32; 3]) -> Result<Vec<Edit<u32>>, Fail> {
     Ok(edits)
 }
 
-// The capacity of a text of numbers after a script, where it doubles and where it is sparing: 4, 8 and 16 places, or 4, 6, 9 and 14. A
-// deletion gives none back, and an insert that finds one free takes no more.
+// The capacity of a text of numbers after a script, where it doubles and where it is sparing: 4, 8
+// and 16 places, or 4, 6, 9 and 14. A deletion gives none back, and an insert that finds one free
+// takes no more.
 const CAPACITIES: [([u32; 3], usize, usize); 6] = [
     ([0, 3, 0], 0, 0),
     ([4, 0, 0], 4, 4),

@@ -27,7 +27,8 @@ pub(crate) fn reads<A: Allocator>(
         && text.capacity() == capacity
 }
 
-/// Applies edits, and once more those behind a refused one. It answers how many these were, and whether they went well.
+/// Applies edits, and once more those behind a refused one. It answers how many these were, and
+/// whether they went well.
 pub(crate) fn edited_twice<T: Drop, A: Allocator>(
     text: &mut GapBuffer<T, A>,
     edits: Vec<Edit<T>>,

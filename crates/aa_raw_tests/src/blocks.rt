@@ -1,4 +1,5 @@
-//! What no clause says of a block: sizes, what the tables of capacities give, and each public call once.
+//! What no clause says of a block: sizes, what the tables of capacities give, and each public call
+//! once.
 ghost use Rattle.std.specs.Prelude.{◌≡◌, [], ◌∷◌, Some, None, IfOk};
 
 use aa_raw::collections::{Refused, TryReserveError, TryReserveErrorKind};

@@ -1,4 +1,5 @@
-//! Tests of the block and of its items, and callers of them with contracts of their own; no part of the library.
+//! Tests of the block and of its items, and callers of them with contracts of their own; no part of
+//! the library.
 #![tactic(auto)]
 
 #[cfg(test)]

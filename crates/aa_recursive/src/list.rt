@@ -11,7 +11,8 @@ pub struct Node<A: Allocator> {
     pub value: u32,
 }
 
-// A derived drop would go one call deeper for each node. This one is a loop: a list of any length needs no deep stack.
+// A derived drop would go one call deeper for each node. This one is a loop: a list of any length
+// needs no deep stack.
 impl<A: Allocator> Drop for Node<A> {
     fn drop(mut self) {
         loop {

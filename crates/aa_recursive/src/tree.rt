@@ -84,7 +84,8 @@ pub fn clear<A: Allocator>(tree: &mut Tree<A>)
     }
 }
 
-/// Doubles each value, the children as a slice. A value that would be too great stays at `u64::MAX`.
+/// Doubles each value, the children as a slice. A value that would be too great stays at
+/// `u64::MAX`.
 #[tactic(auto, using(crate::proofs::Nodes::changed))]
 pub fn double<A: Allocator>(tree: &mut Tree<A>)
     ensures { nodes tree.new ≡ with_values (λ n. min (n * 2) (2 ^ 64 - 1)) (nodes tree.old) }

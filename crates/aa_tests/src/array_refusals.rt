@@ -1,4 +1,5 @@
-//! Arrays that become vectors and boxed slices and come back, and the macro, over an allocator that refuses.
+//! Arrays that become vectors and boxed slices and come back, and the macro, over an allocator that
+//! refuses.
 use crate::seen::{End, end_by, numbers, stands};
 use aa_faulty::Faulty;
 use aa_faulty::counted::Counted;
@@ -115,8 +116,8 @@ fn three(drops: &Cell<u32>) -> [Counted<'_>; 3] {
     ]
 }
 
-// Three counted elements, of which an array is handed back by a vector and then by a boxed slice: whether both are refused for want
-// of memory.
+// Three counted elements, of which an array is handed back by a vector and then by a boxed slice:
+// whether both are refused for want of memory.
 fn is_handed_back_twice(heap: &Faulty<Global>, drops: &Cell<u32>) -> bool {
     let Err(refusal) = Vec::from_array_in(three(drops), heap) else {
         return false;
@@ -138,8 +139,9 @@ fn a_refused_array_is_handed_back(rt: HostRuntime) {
     assert!(rt; (drops.get(), heap.outstanding()) == (3, 0));
 }
 
-// Takes three counted elements from an array to a boxed slice, an array in a box, a boxed slice, an array in a box and a vector, while
-// the request numbered `refused` fails: how many of the five were done.
+// Takes three counted elements from an array to a boxed slice, an array in a box, a boxed slice, an
+// array in a box and a vector, while the request numbered `refused` fails: how many of the five
+// were done.
 fn carried(heap: &Faulty<Global>, drops: &Cell<u32>, refused: u64) -> u32 {
     heap.refuse(refused, 1);
     let Ok(list) = BoxedSlice::from_array_in(three(drops), heap) else {

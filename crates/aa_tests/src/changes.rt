@@ -33,7 +33,8 @@ pub(crate) enum Call {
     ExtendHintedBy(usize),
 }
 
-// How a call ends that is given another element and another vector, and the element where it is handed back.
+// How a call ends that is given another element and another vector, and the element where it is
+// handed back.
 pub(crate) fn called<T: Clone + Drop, A: Allocator + Clone>(
     call: Call,
     v: &mut Vec<T, A>,
@@ -95,11 +96,12 @@ fn called_for_room<T: Drop, A: Allocator>(
     }
 }
 
-// How a call ended, the elements as the digits of a number, the capacity, the number of requests, and the number that is handed
-// back, or 0.
+// How a call ended, the elements as the digits of a number, the capacity, the number of requests,
+// and the number that is handed back, or 0.
 type Seen = (End, u32, usize, u64, u32);
 
-// What is seen of a call on the elements 1, 2 and 3 with room for `room`, the element 9, and 4, 5 and 6, where the request numbered
+// What is seen of a call on the elements 1, 2 and 3 with room for `room`, the element 9, and 4, 5
+// and 6, where the request numbered
 // `refused` fails, and whether each block is given back once.
 fn seen(alloc: Global, call: Call, room: usize, refused: u64) -> Result<(Seen, bool), Fail> {
     let heap = Faulty::new(alloc);

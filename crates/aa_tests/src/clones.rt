@@ -1,4 +1,5 @@
-//! Clones of the trait, and calls that clone the allocator: each refused, with the number where one is told.
+//! Clones of the trait, and calls that clone the allocator: each refused, with the number where one
+//! is told.
 use crate::seen::{End, end_by, end_of_made, held, is_given_back, numbers, stands};
 use aa_faulty::Faulty;
 use allocator_api2::boxed::{Box, BoxedSlice};
@@ -8,7 +9,8 @@ use std::alloc::{AllocError, Global};
 use std::clone::Clone;
 use std::test::Fail;
 
-// Asks for one more than `requests` requests of a clone, each but the last refused: whether all were refused and the last was done.
+// Asks for one more than `requests` requests of a clone, each but the last refused: whether all
+// were refused and the last was done.
 fn refuses_each<T: Clone + Drop>(heap: &Faulty<Global>, source: &T, requests: u64) -> bool {
     let mut all = true;
     for refused in 0..requests {

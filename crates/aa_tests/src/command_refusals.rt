@@ -1,4 +1,5 @@
-//! Each command of `run` that can be refused for the bytes or for the length. `run_commands` has those refused for want of memory.
+//! Each command of `run` that can be refused for the bytes or for the length. `run_commands` has
+//! those refused for want of memory.
 use crate::plain_machine::{Answer, Told};
 use crate::run_commands::{Element, List, Number, commands_of, is_answer, list_of, ran};
 use crate::seen::{most_units, stands};
@@ -23,7 +24,8 @@ impl<'a> Element<'a> for () {
     }
 }
 
-// Runs a command on the lists 1, 2 and 3, and 5, in full places: whether it is refused, and whether the lists stay.
+// Runs a command on the lists 1, 2 and 3, and 5, in full places: whether it is refused, and whether
+// the lists stay.
 fn refuses(alloc: Global, told: Told) -> Result<(bool, bool), TryReserveError> {
     let heap = Faulty::new(alloc);
     let mut main: List<'_, u32> = list_of(&heap, &[1, 2, 3], 3)?;
@@ -34,7 +36,8 @@ fn refuses(alloc: Global, told: Told) -> Result<(bool, bool), TryReserveError> {
     Ok((is_answer(replies.as_slice(), Answer::Overflow), stay))
 }
 
-// More than the limit on bytes allows beside three numbers, and more than can be counted. A splice drops its range first.
+// More than the limit on bytes allows beside three numbers, and more than can be counted. A splice
+// drops its range first.
 #[test]
 fn each_command_is_refused_past_the_limits(rt: HostRuntime) -> Result<(), Fail> {
     let (much, most) = ((1 << 61) - 1, usize::MAX);

@@ -1,6 +1,7 @@
-//! That room is made at once for what `size_hint` tells. No contract can say so: the trait bounds what it answers, and
-//! names no number. Each call puts ten numbers where there is no room, so the capacity is then what was asked for at
-//! once, and no power of two. Of a splice before other elements `splice_refusals` shows it.
+//! That room is made at once for what `size_hint` tells. No contract can say so: the trait bounds
+//! what it answers, and names no number. Each call puts ten numbers where there is no room, so the
+//! capacity is then what was asked for at once, and no power of two. Of a splice before other
+//! elements `splice_refusals` shows it.
 use crate::seen::{numbers, stands};
 use aa_faulty::Faulty;
 use allocator_api2::vec::Vec;

@@ -1,8 +1,11 @@
-//! Tests over the whole library, and no part of it: every request for memory refused in turn, what is given back, and runs of commands.
+//! Tests over the whole library, and no part of it: every request for memory refused in turn, what
+//! is given back, and runs of commands.
 //!
-//! Each public call that takes memory or clones, the number of its requests in a worked case, and the module whose test refuses each of
-//! them in turn and looks at the error, at what stands then, and at what comes back. `clones` refuses the clone of an allocator, and
-//! `overflows` and `command_refusals` ask for lengths past `usize::MAX` and for bytes past `isize::MAX`.
+//! Each public call that takes memory or clones, the number of its requests in a worked case, and
+//! the module whose test refuses each of them in turn and looks at the error, at what stands then,
+//! and at what comes back. `clones` refuses the clone of an allocator, and
+//! `overflows` and `command_refusals` ask for lengths past `usize::MAX` and for bytes past
+//! `isize::MAX`.
 //!
 //! | Call | Requests | Refused in |
 //! |---|---|---|
@@ -50,13 +53,15 @@
 //! | `run`: `Push`, `Insert`, `Reserve`, `ReserveExact`, `ShrinkTo`, `SplitOff`, `Append`, `Resize`, `Drain` | 1 | `run_commands` |
 //! | `run`: `Extend`, `ExtendFromWithin`, `ExtractIf`, `Splice` | 1; 4 for ten items of which four are told | `run_commands`, `runs` |
 //!
-//! `run_commands` runs every command on lists of 0 to 100 numbers, and of 0 to 8 whose clones take memory, with each request refused in turn,
-//! beside `plain_machine`, which says in plain words what is left.
+//! `run_commands` runs every command on lists of 0 to 100 numbers, and of 0 to 8 whose clones take
+//! memory, with each request refused in turn, beside `plain_machine`, which says in plain words
+//! what is left.
 //!
-//! `taken` counts what the calls take of an iterator that they are given, and `hints` what they ask for where its `size_hint` is exact.
+//! `taken` counts what the calls take of an iterator that they are given, and `hints` what they ask
+//! for where its `size_hint` is exact.
 //!
-//! The calls of the same names on the global allocator hand on to these; nothing here refuses what that grants, but lengths and bytes
-//! past the limits.
+//! The calls of the same names on the global allocator hand on to these; nothing here refuses what
+//! that grants, but lengths and bytes past the limits.
 #![tactic(auto)]
 
 #[cfg(test)]

@@ -1,4 +1,5 @@
-//! Calls that make something of elements, of bytes or of texts: each request in turn is refused, and nothing is made.
+//! Calls that make something of elements, of bytes or of texts: each request in turn is refused,
+//! and nothing is made.
 use crate::seen::{End, Helds, digits, end_of_made, held, is_given_back};
 use aa_faulty::Faulty;
 use allocator_api2::SliceExt;
@@ -80,8 +81,8 @@ fn called_with_numbers(call: Call, heap: &Faulty<Global>) -> End {
     }
 }
 
-// How a call ends where the request numbered `refused` fails, and how many requests there were; whether what was lent stays, and each
-// block is given back once.
+// How a call ends where the request numbered `refused` fails, and how many requests there were;
+// whether what was lent stays, and each block is given back once.
 fn seen(alloc: Global, call: Call, refused: u64) -> Result<(End, u64, bool), Fail> {
     let heap = Faulty::new(alloc);
     let lent = held(&heap, &[1, 2, 3], 3)?;

@@ -1,4 +1,5 @@
-//! Calls that put copies or answers behind the last element, and writes: each request in turn is refused.
+//! Calls that put copies or answers behind the last element, and writes: each request in turn is
+//! refused.
 ghost use Rattle.std.specs.Prelude.{◌≡◌};
 ghost use Rattle.aa_vec.specs.Vector.{len};
 
@@ -52,7 +53,8 @@ fn called(call: Call, v: &mut Bytes<'_>) -> End
     })
 }
 
-// How a call on the bytes a, b and c in full places ends where its request is refused or granted, whether the bytes are those of
+// How a call on the bytes a, b and c in full places ends where its request is refused or granted,
+// whether the bytes are those of
 // `left`, the capacity, and whether there was one request.
 fn seen(
     alloc: Global,

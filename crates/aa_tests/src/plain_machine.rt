@@ -1,8 +1,10 @@
-//! What a command of `run` leaves of two lists of numbers, in plain words: where all memory is granted, and where one request is refused.
+//! What a command of `run` leaves of two lists of numbers, in plain words: where all memory is
+//! granted, and where one request is refused.
 use std::alloc::Global;
 use std::test::Fail;
 
-/// A command whose element is 7, and whose items are 100, 101 and so on: as many as its first number says.
+/// A command whose element is 7, and whose items are 100, 101 and so on: as many as its first
+/// number says.
 #[derive(Clone, Copy, Debug)]
 pub(crate) enum Told {
     Push,
@@ -99,7 +101,8 @@ impl Memory {
         Ok(())
     }
 
-    // The items one by one behind the last: at a full list there is first made room for the item and those told to come behind it.
+    // The items one by one behind the last: at a full list there is first made room for the item
+    // and those told to come behind it.
     fn extend(
         &mut self,
         list: &mut Plain,
@@ -400,8 +403,9 @@ impl Machine {
         Ok(answer)
     }
 
-    // Where so many stand behind, how many of the items find a place instead of the range: as many as it had, as many as are then
-    // told, and all others, once they were gathered in a list of their own.
+    // Where so many stand behind, how many of the items find a place instead of the range: as many
+    // as it had, as many as are then told, and all others, once they were gathered in a list of
+    // their own.
     fn places_between(
         &mut self,
         items: &[u32],

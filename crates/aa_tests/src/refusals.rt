@@ -7,7 +7,8 @@ use allocator_api2::vec::{SliceIntoVec, Vec};
 use std::alloc::Global;
 use std::default::Default;
 
-// Pushes a number, again where it is refused: whether a refusal hands it back, leaves the full vector, and the number is then put.
+// Pushes a number, again where it is refused: whether a refusal hands it back, leaves the full
+// vector, and the number is then put.
 fn is_pushed(v: &mut Vec<u32, &Faulty<Global>>, x: u32) -> bool {
     let (len, capacity) = (v.len(), v.capacity());
     let Err(refusal) = v.push(x) else {
@@ -21,8 +22,8 @@ fn is_pushed(v: &mut Vec<u32, &Faulty<Global>>, x: u32) -> bool {
     told && stays && refusal.source == x && v.push(x).is_ok()
 }
 
-// Pushes twenty numbers while the request numbered `refused` fails: whether all of them are put and the memory comes back, and how
-// many requests there were.
+// Pushes twenty numbers while the request numbered `refused` fails: whether all of them are put and
+// the memory comes back, and how many requests there were.
 fn pushes_with_one_refused(alloc: Global, refused: u64) -> (bool, u64) {
     let heap = Faulty::new(alloc);
     heap.refuse(refused, 1);

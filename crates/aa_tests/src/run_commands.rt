@@ -1,4 +1,5 @@
-//! `run`, command by command: on lists of many lengths, with all places full, one free and many free, and each request refused in turn.
+//! `run`, command by command: on lists of many lengths, with all places full, one free and many
+//! free, and each request refused in turn.
 ghost use Rattle.aa_vec.specs.Copies.{Copies};
 
 use crate::plain_machine::{Answer, Machine, Memory, Plain, Told, numbers_from};
@@ -25,7 +26,8 @@ impl Number for u32 {
     }
 }
 
-// A number whose clone takes memory: what is outstanding and what was given back count the elements.
+// A number whose clone takes memory: what is outstanding and what was given back count the
+// elements.
 impl Number for Box<u32, &Faulty<Global>> {
     fn number(&self) -> u32 {
         **self
@@ -226,7 +228,8 @@ fn machine_of(alloc: Global, case: Case, cloned: bool) -> Result<Machine, Fail> 
     })
 }
 
-// Runs commands while the request numbered `refused` of the run fails: the replies, and how many requests there were.
+// Runs commands while the request numbered `refused` of the run fails: the replies, and how many
+// requests there were.
 pub(crate) fn ran<'a, T: Number + Drop>(
     heap: &'a Faulty<Global>,
     main: &mut List<'a, T>,

@@ -7,7 +7,8 @@ use allocator_api2::runner::Reply;
 use std::alloc::Global;
 use std::test::Fail;
 
-// What a run came to: the replies done, those refused for want of memory, the requests, and main's length and capacity.
+// What a run came to: the replies done, those refused for want of memory, the requests, and main's
+// length and capacity.
 type Came = (usize, usize, u64, usize, usize);
 
 // Runs the commands on empty lists while the request numbered `refused` of the run fails.
@@ -48,7 +49,8 @@ fn one_refused_request_refuses_one_command(rt: HostRuntime) -> Result<(), Fail> 
         Told::Push,
         Told::Pop,
     ];
-    // Two numbers are put at the end, and ten in place of the first, of which four are told each time.
+    // Two numbers are put at the end, and ten in place of the first, of which four are told each
+    // time.
     let ten_for_one = [Told::Extend(2, None), Told::Splice(10, 0, 1, Some(4))];
     // Six numbers are put at the end, and two even ones of the last five are taken out.
     let two_of_five = [Told::Extend(6, None), Told::ExtractIf(1, 6, 2)];

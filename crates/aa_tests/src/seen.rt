@@ -6,7 +6,8 @@ use allocator_api2::vec::Vec;
 use std::alloc::{Allocator, Global};
 use std::test::Fail;
 
-// How a call ended: done, or refused for want of memory for so many elements, or for a length or a size past the limits.
+// How a call ended: done, or refused for want of memory for so many elements, or for a length or a
+// size past the limits.
 #[derive(Clone, Copy, PartialEq, Eq, Debug, Drop)]
 pub(crate) enum End {
     Done,

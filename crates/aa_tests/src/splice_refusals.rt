@@ -22,8 +22,9 @@ fn spliced<T: Drop, A: Allocator + Clone>(
     end_of(range.finish_hinted())
 }
 
-// Splices the numbers 7 to 10, of which one is told, in place of two of four, where the request numbered `refused` fails: how it ends,
-// the capacity, the number of requests, and whether the numbers of `left` stand and all memory comes back.
+// Splices the numbers 7 to 10, of which one is told, in place of two of four, where the request
+// numbered `refused` fails: how it ends, the capacity, the number of requests, and whether the
+// numbers of `left` stand and all memory comes back.
 fn spliced_with_one_refused(
     alloc: Global,
     refused: u64,
@@ -54,7 +55,8 @@ fn each_request_of_a_splice_is_refused_in_turn(rt: HostRuntime) -> Result<(), Fa
     Ok(())
 }
 
-// The same of the two in the middle of four, from which none is taken first, as `size_hint` tells of the items.
+// The same of the two in the middle of four, from which none is taken first, as `size_hint` tells
+// of the items.
 fn middle_spliced<T: Drop, A: Allocator + Clone>(v: &mut Vec<T, A>, items: Vec<T, A>) -> End {
     if v.len() != 4 {
         return End::TooLong;
@@ -75,8 +77,9 @@ fn sharing<'a>(
     Ok(v)
 }
 
-// Splices four such elements in place of two of four, where the request numbered `refused` fails: how it ends, how many are left,
-// and whether each that is not was dropped once, and then the others too.
+// Splices four such elements in place of two of four, where the request numbered `refused` fails:
+// how it ends, how many are left, and whether each that is not was dropped once, and then the
+// others too.
 fn shared_spliced(
     alloc: Global,
     told: Option<usize>,
@@ -112,9 +115,9 @@ fn each_element_of_a_refused_splice_is_dropped_once(rt: HostRuntime) -> Result<(
     Ok(())
 }
 
-// Replaces the two numbers in the middle of `[1, 2, 3, 4]` by those from `first` up to `end`, of which `size_hint` tells exactly,
-// while `granted` requests are granted: how it ended, whether the numbers of `left` stand, the capacity, and how many requests
-// there were.
+// Replaces the two numbers in the middle of `[1, 2, 3, 4]` by those from `first` up to `end`, of
+// which `size_hint` tells exactly, while `granted` requests are granted: how it ended, whether the
+// numbers of `left` stand, the capacity, and how many requests there were.
 fn middle_replaced(
     alloc: Global,
     (first, end): (u32, u32),
@@ -164,8 +167,8 @@ fn a_clone_of_the_allocator_is_refused_like_the_first_growth(rt: HostRuntime) ->
     Ok(())
 }
 
-// Splices numbers, told to be `hint`, in place of a range of others in full places, with no request granted: how it ends, and
-// whether the numbers of `left` stand.
+// Splices numbers, told to be `hint`, in place of a range of others in full places, with no request
+// granted: how it ends, and whether the numbers of `left` stand.
 fn spliced_in_full_places(
     alloc: Global,
     old: &[u32],

@@ -1,4 +1,5 @@
-//! How many items the calls take that are given their iterator: no contract can say what is left of it.
+//! How many items the calls take that are given their iterator: no contract can say what is left of
+//! it.
 use crate::seen::{End, end_of, end_of_made, numbers, stands};
 use aa_faulty::Faulty;
 use allocator_api2::vec::{Hinted, Items, Vec};
@@ -48,8 +49,9 @@ enum Call {
     FromIterIn,
 }
 
-// How a call ends that is given five numbers, of which none is told but to `extend_copied`, for a vector of three with room for five,
-// or a new one; and how often it asks for a number. The request numbered `refused` fails.
+// How a call ends that is given five numbers, of which none is told but to `extend_copied`, for a
+// vector of three with room for five, or a new one; and how often it asks for a number. The request
+// numbered `refused` fails.
 fn seen(alloc: Global, call: Call, refused: u64) -> Result<(End, u32), Fail> {
     let heap = Faulty::new(alloc);
     let calls = Cell::new(0);

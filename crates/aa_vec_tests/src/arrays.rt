@@ -1,4 +1,5 @@
-//! Arrays and boxed slices that become vectors, arrays that come back, and arrays whose elements become one list.
+//! Arrays and boxed slices that become vectors, arrays that come back, and arrays whose elements
+//! become one list.
 use crate::lists::{list, stands};
 use aa_boxed::boxed::Box;
 use aa_faulty::counted::Counted;

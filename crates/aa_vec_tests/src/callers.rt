@@ -1,4 +1,5 @@
-//! Callers that state plain lists and room, and prove them by the set of rules that the vector has for its callers.
+//! Callers that state plain lists and room, and prove them by the set of rules that the vector has
+//! for its callers.
 ghost use Rattle.std.specs.Prelude.{◌≡◌, ◌-◌, ◌++◌, take, replicate, OnOk, IfOk};
 ghost use Rattle.aa_vec.specs.Vector.{HasRoom, Holds, SameBlock, len};
 

@@ -1,4 +1,5 @@
-//! What no clause says: sizes, capacities as the table of least capacities gives them, and each public call once.
+//! What no clause says: sizes, capacities as the table of least capacities gives them, and each
+//! public call once.
 use crate::lists::{counted_up, list, stands, units};
 use aa_raw::collections::{TryReserveError, TryReserveErrorKind};
 use aa_raw::raw_vec::Growth;
@@ -71,7 +72,8 @@ fn lengthened<T: Copy>(call: Call<'_, T>, v: &mut Vec<T>) -> Result<(), TryReser
     }
 }
 
-// Numbers, the capacity, a call on them, what it gives, and the numbers and the capacity that it leaves.
+// Numbers, the capacity, a call on them, what it gives, and the numbers and the capacity that it
+// leaves.
 type Row<'a> = (
     &'a [u32],
     usize,

@@ -1,4 +1,5 @@
-//! Closures that choose: the worked examples, with what they write, and closures that change their answers.
+//! Closures that choose: the worked examples, with what they write, and closures that change their
+//! answers.
 ghost use Rattle.std.specs.Prelude.{◌≡◌, ◌+◌, ◌≤◌, [], ◌∷◌};
 ghost use Rattle.aa_vec.specs.Vector.{Holds};
 
@@ -62,7 +63,8 @@ fn note(asked: &mut Vec<u32>, x: u32) {
     let _noted = asked.push(x);
 }
 
-// Chooses by a closure that notes whom it is asked of: for a key, first of the one under test, and then of the last one kept.
+// Chooses by a closure that notes whom it is asked of: for a key, first of the one under test, and
+// then of the last one kept.
 #[tactic(auto, using(aa_vec::proofs::Callers::callers))]
 fn chosen(choice: Choice, v: &mut Vec<u32>, asked: &mut Vec<u32>) {
     match choice {

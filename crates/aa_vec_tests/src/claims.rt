@@ -7,8 +7,8 @@ use aa_raw::collections::TryReserveError;
 use aa_vec::vec::{Items, Vec};
 use std::alloc::Allocator;
 
-// Two of four are replaced by three. Where these tell their number, or that none comes, the one behind is written once; where they
-// tell a hundred, twice.
+// Two of four are replaced by three. Where these tell their number, or that none comes, the one
+// behind is written once; where they tell a hundred, twice.
 fn two_by_three<A: Allocator + Clone>(
     v: &mut Vec<u32, A>,
     items: Items<u32, A>,
@@ -36,7 +36,8 @@ fn seventeen_pushes<A: Allocator>(v: &mut Vec<u32, A>) -> Result<(), TryReserveE
     Ok(())
 }
 
-// Four pushes onto an empty vector, and then ten times a push and a pop: four elements are moved by growth.
+// Four pushes onto an empty vector, and then ten times a push and a pop: four elements are moved by
+// growth.
 fn pushes_and_pops<A: Allocator>(v: &mut Vec<u32, A>) -> Result<(), TryReserveError>
     requires { (v.old.items ≡ []) × (v.old.capacity ≡ 0) × (v.old.growth ≡ Doubling) }
     ensures { OnOk result ((v.new.capacity ≡ 8) × (v.new.grown ≡ v.old.grown + 4)) }
@@ -51,7 +52,8 @@ fn pushes_and_pops<A: Allocator>(v: &mut Vec<u32, A>) -> Result<(), TryReserveEr
     Ok(())
 }
 
-// Seventeen items onto an empty vector, which tell each time that five are left: 18 elements are moved by growth.
+// Seventeen items onto an empty vector, which tell each time that five are left: 18 elements are
+// moved by growth.
 fn seventeen_items<A: Allocator>(
     v: &mut Vec<u32, A>,
     items: Items<u32, A>,

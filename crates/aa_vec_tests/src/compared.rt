@@ -1,4 +1,5 @@
-//! What no clause says of comparing, printing and writing vectors: each once, and by callers that know a bound alone.
+//! What no clause says of comparing, printing and writing vectors: each once, and by callers that
+//! know a bound alone.
 ghost use Rattle.std.specs.Prelude.{◌≡◌, ◌++◌, OnOk};
 ghost use Rattle.std.specs.Io.KnownBytes.{Appends};
 

@@ -1,4 +1,5 @@
-//! What no clause says of the calls that join, split and copy: each once, and clones that are refused.
+//! What no clause says of the calls that join, split and copy: each once, and clones that are
+//! refused.
 use crate::lists::{list, numbers, stands};
 use aa_faulty::refusing::Refusing;
 use aa_raw::collections::TryReserveErrorKind;

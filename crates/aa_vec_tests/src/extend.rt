@@ -35,7 +35,8 @@ fn followed_by<A: Allocator>(v: &mut Vec<u32, A>, others: &[u32]) -> Result<(), 
     v.extend_copied(others.iter())
 }
 
-// What is left where one vector has no room goes on into another; whoever is refused there too may go on again.
+// What is left where one vector has no room goes on into another; whoever is refused there too may
+// go on again.
 fn split_over<I: Iterator<Item = T>, T: Drop, A: Allocator, B: Allocator>(
     first: &mut Vec<T, A>,
     other: &mut Vec<T, B>,

@@ -1,4 +1,5 @@
-//! What no clause says of elements that a closure takes out of a range: whom it asks and when, and how far it tells.
+//! What no clause says of elements that a closure takes out of a range: whom it asks and when, and
+//! how far it tells.
 ghost use Rattle.std.specs.Prelude.{◌≤◌};
 ghost use Rattle.aa_vec.specs.Vector.{len};
 
@@ -20,7 +21,8 @@ fn two_of_three_are_taken(rt: HostRuntime) -> Result<(), Fail> {
     Ok(())
 }
 
-// Numbers, a range of their places, what divides those to be taken, how many they are, and what is left.
+// Numbers, a range of their places, what divides those to be taken, how many they are, and what is
+// left.
 const RANGES: [(&[u32], usize, usize, u32, usize, &[u32]); 4] = [
     (&[2, 1, 4, 3, 6], 2, 2, 1, 0, &[2, 1, 4, 3, 6]),
     (&[2, 1, 4, 3, 6], 3, 5, 2, 1, &[2, 1, 4, 3]),
@@ -41,8 +43,8 @@ fn ranges_at_the_ends(rt: HostRuntime) -> Result<(), Fail> {
     Ok(())
 }
 
-// Asks `count` times for one of the places 1 to 6, each `turn`th of which is taken, and adds 10 to each that is asked: the digits of
-// those that came, and how many were asked.
+// Asks `count` times for one of the places 1 to 6, each `turn`th of which is taken, and adds 10 to
+// each that is asked: the digits of those that came, and how many were asked.
 #[tactic(auto, using(aa_vec::proofs::Callers::callers))]
 fn taken_by_turns(v: &mut Vec<u32>, turn: u32, count: u32) -> (u32, u32)
     requires { 7 ≤ len v.old }

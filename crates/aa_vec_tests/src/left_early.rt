@@ -1,4 +1,5 @@
-//! Ranges and items that are left early, forgotten, or taken from both ends until they meet: what stands then, and what is dropped.
+//! Ranges and items that are left early, forgotten, or taken from both ends until they meet: what
+//! stands then, and what is dropped.
 ghost use Rattle.std.specs.Prelude.{◌≤◌};
 ghost use Rattle.aa_vec.specs.Vector.{len};
 
@@ -20,7 +21,8 @@ pub(crate) enum Left {
     Forgotten,
 }
 
-// Takes `first` items from the front and `last` from the back, by turns, as far as there are so many, and drops them: how many came.
+// Takes `first` items from the front and `last` from the back, by turns, as far as there are so
+// many, and drops them: how many came.
 macro_rules! taken_from_ends {
     ($items:ident, $first:ident, $last:ident) => {{
         let mut taken = 0u32;

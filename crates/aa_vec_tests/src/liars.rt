@@ -1,4 +1,5 @@
-//! What lies: hints, iterators that end early, closures that answer by turns, an equality that never holds, clones that differ.
+//! What lies: hints, iterators that end early, closures that answer by turns, an equality that
+//! never holds, clones that differ.
 ghost use Rattle.std.specs.Prelude.{◌≡◌, ◌-◌, false};
 ghost use Rattle.std.specs.Iterator.{at_most};
 ghost use Rattle.std.proofs.Common.{refl};
@@ -103,7 +104,8 @@ fn untrue_hints_decide_the_room_alone(rt: HostRuntime) -> Result<(), Fail> {
     Ok(())
 }
 
-// Replaces two places from this one, and says whether the call answers so, and leaves these numbers with this capacity.
+// Replaces two places from this one, and says whether the call answers so, and leaves these numbers
+// with this capacity.
 fn splices_to(
     alloc: Global,
     from: usize,
@@ -166,7 +168,8 @@ fn untrue_hints_of_a_splice_at_the_end(rt: HostRuntime) -> Result<(), Fail> {
     Ok(())
 }
 
-// The numbers from `next` up to 9, of which each third is an end, behind which the others are given.
+// The numbers from `next` up to 9, of which each third is an end, behind which the others are
+// given.
 #[derive(Drop)]
 struct Pausing {
     next: u32,
@@ -268,7 +271,8 @@ fn answers_by_turns_keep_and_remove(rt: HostRuntime) -> Result<(), Fail> {
     Ok(())
 }
 
-// The key is the number of the call, divided by `turn`: two of each comparison are equal, or never, or by turns.
+// The key is the number of the call, divided by `turn`: two of each comparison are equal, or never,
+// or by turns.
 #[test]
 #[tactic(auto, using(aa_vec::proofs::Callers::callers))]
 fn keys_by_turns_keep_and_remove(rt: HostRuntime) -> Result<(), Fail> {

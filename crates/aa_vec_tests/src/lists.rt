@@ -28,7 +28,8 @@ pub(crate) fn units(alloc: Global, count: usize) -> Result<Vec<()>, Fail> {
     Ok(v)
 }
 
-/// Those with the numbers from 0 up to `end`. One that is refused is dropped at once, and so counted too early.
+/// Those with the numbers from 0 up to `end`. One that is refused is dropped at once, and so
+/// counted too early.
 pub(crate) fn counted_up(alloc: Global, drops: &Cell<u32>, end: u32) -> Vec<Counted<'_>> {
     let mut v: Vec<Counted<'_>> = Vec::new(alloc);
     for value in 0..end {

@@ -2,7 +2,8 @@
 use crate::lists::{list, stands};
 use std::test::Fail;
 
-// Numbers, a range of their places, as many new numbers from the first, and the numbers and the capacity that are left.
+// Numbers, a range of their places, as many new numbers from the first, and the numbers and the
+// capacity that are left.
 const SPLICES: [(&[u32], usize, usize, u32, u32, &[u32], usize); 3] = [
     (&[1, 2, 3, 4], 0, 3, 9, 1, &[9, 4], 4),
     (&[1, 2], 1, 1, 9, 1, &[1, 9, 2], 4),

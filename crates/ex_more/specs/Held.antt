@@ -9,7 +9,8 @@ pub record Held (T : Type 0) : Type 0 where
   pub items : List T
   pub capacity : ℕ  -- how many there may be
 
--- how many places there are once there is room for k more than n values of `size` bytes in c places: c where they fit
+-- how many places there are once there is room for k more than n values of `size` bytes in c
+-- places: c where they fit
 abbrev pub room : (size c n k : ℕ) → ℕ
 room size c n k = if nat_le k (c - n) then c else amortized Doubling c (n + k) (least_of size)
 

@@ -1,4 +1,5 @@
-//! An arena over any allocator: values that are found again by the handles that were given out for them.
+//! An arena over any allocator: values that are found again by the handles that were given out for
+//! them.
 
 ghost use Rattle.std.specs.Prelude.{◌≡◌, ℕ, ◌<◌, [], ◌∷◌, ◌++◌, length, slice_get, slice_set, Some, None, IfOk, IfErr, IsOk, OnOk, OnErr, option_copied};
 ghost use Rattle.std.specs.Borrow.{sem};
@@ -28,8 +29,8 @@ impl Model for Id {
     ghost inverse = { λ n. record { index = n } };
 }
 
-/// Values that stay where they were put, until all are dropped. A contract sees them as a list, by handle, and how many there may be
-/// without further memory.
+/// Values that stay where they were put, until all are dropped. A contract sees them as a list, by
+/// handle, and how many there may be without further memory.
 #[derive(Drop)]
 pub struct Arena<T, A: Allocator> {
     items: Vec<T, A>,
@@ -50,7 +51,8 @@ impl<T, A: Allocator> Model for Arena<T, A> {
 impl<T, A: Allocator> Arena<T, A> {
     ghost use Rattle.ex_more.specs.Lends.{lends_value};
 
-    /// No values, and room for none; values without size have room for `usize::MAX`. It takes no memory.
+    /// No values, and room for none; values without size have room for `usize::MAX`. It takes no
+    /// memory.
     pub fn new_in(alloc: A) -> Self
         ensures { result ≡ none_of (sized (type_size T.row) 0) }
     {
@@ -66,7 +68,8 @@ impl<T, A: Allocator> Arena<T, A> {
         self.items.len()
     }
 
-    /// Makes room for so many more values, with some to spare where they do not fit. A refusal changes nothing.
+    /// Makes room for so many more values, with some to spare where they do not fit. A refusal
+    /// changes nothing.
     pub fn reserve(&mut self, additional: usize) -> Result<(), TryReserveError>
         ensures fits { HasRoom self.old additional → IsOk result × (self.new ≡ self.old) }
         ensures room { OnOk result (HasRoom self.new additional) }
@@ -76,8 +79,8 @@ impl<T, A: Allocator> Arena<T, A> {
         self.items.try_reserve(additional)
     }
 
-    /// Takes the value in, and gives out a new handle for it; where there is room it takes no memory. A refusal hands the value
-    /// back and changes nothing.
+    /// Takes the value in, and gives out a new handle for it; where there is room it takes no
+    /// memory. A refusal hands the value back and changes nothing.
     pub fn alloc(&mut self, value: T) -> Result<Id, Refused<T>>
         ensures fits { HasRoom self.old 1 → IsOk result × (self.new.capacity ≡ self.old.capacity) }
         ensures put { IfOk result (λ id. slice_get self.new.items id ≡ Some value) }

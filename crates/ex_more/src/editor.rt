@@ -6,8 +6,8 @@ use allocator_api2::gap_buffer::GapBuffer;
 use std::alloc::Allocator;
 use std::marker::Model;
 
-/// A line of bytes with a cursor. A contract sees what is before the cursor, what is after it, and how long the
-/// line may be without further memory.
+/// A line of bytes with a cursor. A contract sees what is before the cursor, what is after it, and
+/// how long the line may be without further memory.
 #[derive(Drop)]
 pub struct Editor<A: Allocator> {
     line: GapBuffer<u8, A>,
@@ -51,7 +51,8 @@ impl<A: Allocator> Editor<A> {
         self.line.after()
     }
 
-    /// Makes room for so many more bytes, with some to spare where they do not fit. A refusal changes nothing.
+    /// Makes room for so many more bytes, with some to spare where they do not fit. A refusal
+    /// changes nothing.
     pub fn reserve(&mut self, additional: usize) -> Result<(), TryReserveError>
         ensures fits { HasRoom self.old additional → IsOk result × (self.new ≡ self.old) }
         ensures room { OnOk result (HasRoom self.new additional) }
@@ -61,7 +62,8 @@ impl<A: Allocator> Editor<A> {
         self.line.reserve(additional)
     }
 
-    /// Types bytes at the cursor: all of them, or none where memory is refused. Where there is room it takes none.
+    /// Types bytes at the cursor: all of them, or none where memory is refused. Where there is room
+    /// it takes none.
     pub fn type_in(&mut self, bytes: &[u8]) -> Result<(), TryReserveError>
         ensures fits { HasRoom self.old (length bytes.now) → IsOk result × (self.new.capacity ≡ self.old.capacity) }
         ensures typed { OnOk result (self.new ≡ with_parts (with_room self.old (length bytes.now)) (self.old.before ++ bytes.now) self.old.after) }

@@ -1,4 +1,5 @@
-//! A vector of a fixed capacity on a block of its own: one request for memory when it is made, and none after it.
+//! A vector of a fixed capacity on a block of its own: one request for memory when it is made, and
+//! none after it.
 ghost use Rattle.std.specs.Prelude.{◌≡◌, ◌<◌, [], ◌∷◌, ◌++◌, length, IfOk, IfErr, OnOk, IsOk, MatchOption};
 ghost use Rattle.std.specs.Mem.{type_size};
 ghost use Rattle.allocator_api2.specs.Growth.{sized};
@@ -10,7 +11,8 @@ use allocator_api2::raw_vec::RawVec;
 use std::alloc::Allocator;
 use std::marker::Model;
 
-/// As many values as it was made for, and no more. A contract sees the values and how many there may be.
+/// As many values as it was made for, and no more. A contract sees the values and how many there
+/// may be.
 pub struct Fixed<T, A: Allocator> {
     block: RawVec<T, A>,
     len: usize,
@@ -30,8 +32,9 @@ impl<T, A: Allocator> Model for Fixed<T, A> {
 
 #[tactic(auto, using(allocator_api2::proofs::Blocks::at_ends))]
 impl<T, A: Allocator> Fixed<T, A> {
-    /// No values, and room for `capacity` of them; values without size have room for `usize::MAX`. It takes memory here alone. A
-    /// refusal is `CapacityOverflow` where the bytes pass `isize::MAX`, and else `AllocError` with this capacity.
+    /// No values, and room for `capacity` of them; values without size have room for `usize::MAX`.
+    /// It takes memory here alone. A refusal is `CapacityOverflow` where the bytes pass
+    /// `isize::MAX`, and else `AllocError` with this capacity.
     #[tactic(auto, using(allocator_api2::proofs::Blocks::with_room))]
     pub fn with_capacity_in(capacity: usize, alloc: A) -> Result<Self, TryReserveError>
         ensures made { IfOk result (λ v. v ≡ none_of (sized (type_size T.row) capacity)) }
@@ -63,7 +66,8 @@ impl<T, A: Allocator> Fixed<T, A> {
         self.block.slice(0, self.len)
     }
 
-    /// Puts a value behind the last, unless it is full: then it hands the value back and changes nothing.
+    /// Puts a value behind the last, unless it is full: then it hands the value back and changes
+    /// nothing.
     pub fn push(&mut self, item: T) -> Result<(), T>
         ensures fits { length self.old.items < self.old.capacity → IsOk result }
         ensures pushed { OnOk result (self.new ≡ with_items self.old (self.old.items ++ item ∷ [])) }

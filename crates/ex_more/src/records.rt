@@ -19,7 +19,8 @@ pub fn write_record<W: Write>(writer: &mut W, entry: &[u8]) -> Written<()>
     writer.write_all(entry)
 }
 
-/// Puts a record behind the bytes of a vector. It is there whole, or not at all; where there is room it takes no memory.
+/// Puts a record behind the bytes of a vector. It is there whole, or not at all; where there is
+/// room it takes no memory.
 #[tactic(auto, using(crate::proofs::Rooms::rooms))]
 pub fn push_record<A: Allocator>(log: &mut Vec<u8, A>, entry: &[u8]) -> Result<(), TryReserveError>
     ensures fits { HasRoom log.old (length (encoded entry.now)) → IsOk result }

@@ -37,7 +37,8 @@ impl<A: Allocator> TextBuilder<A> {
         }
     }
 
-    /// Makes room for so many more bytes, with some to spare where they do not fit. A refusal changes nothing.
+    /// Makes room for so many more bytes, with some to spare where they do not fit. A refusal
+    /// changes nothing.
     pub fn reserve(&mut self, additional: usize) -> Result<(), TryReserveError>
         ensures fits { HasRoom self.old additional → IsOk result × (self.new ≡ self.old) }
         ensures room { OnOk result (HasRoom self.new additional) }
@@ -47,7 +48,8 @@ impl<A: Allocator> TextBuilder<A> {
         self.bytes.try_reserve(additional)
     }
 
-    /// Puts text behind the last; where there is room it takes no memory. A refusal changes nothing.
+    /// Puts text behind the last; where there is room it takes no memory. A refusal changes
+    /// nothing.
     pub fn push_str(&mut self, text: &str) -> Result<(), TryReserveError>
         ensures fits { HasRoom self.old (length text.now) → IsOk result × (self.new.capacity ≡ self.old.capacity) }
         ensures pushed { OnOk result (self.new ≡ with_items (with_room 1 self.old (length text.now)) (self.old.items ++ text.now)) }
@@ -57,8 +59,8 @@ impl<A: Allocator> TextBuilder<A> {
         Ok(())
     }
 
-    /// Puts a number in decimal digits behind the last; they are made in a block of their own first, which may be refused though there is
-    /// room. A refusal changes nothing.
+    /// Puts a number in decimal digits behind the last; they are made in a block of their own
+    /// first, which may be refused though there is room. A refusal changes nothing.
     pub fn push_u64(&mut self, number: u64) -> Result<(), TryReserveError>
     where
         A: Copy + Drop,

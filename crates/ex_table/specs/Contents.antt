@@ -2,7 +2,8 @@
 use Rattle.std.specs.Prelude.{◌≡◌, ℕ, ◌≤◌, Bool, cond, List, count_by, Option}
 use Rattle.std.specs.Map.{lookup}
 
--- the keys with their values in the order of `iter`, how many new keys surely find a place without memory, and what makes the hashers
+-- the keys with their values in the order of `iter`, how many new keys surely find a place without
+-- memory, and what makes the hashers
 pub record Filled (K V S : Type 0) : Type 0 where
   pub entries : List (K × V)
   pub room : ℕ

@@ -1,4 +1,5 @@
-//! A hash table generic in its keys, over any allocator that can be cloned, on the vector of the library.
+//! A hash table generic in its keys, over any allocator that can be cloned, on the vector of the
+//! library.
 #![tactic(auto)]
 
 pub mod iter;

@@ -267,8 +267,8 @@ fn rehash<K: Eq + Hash + Drop, V: Drop, S: BuildHasher, A: Allocator + Clone>(
     Ok(())
 }
 
-/// Makes room for `more` new keys where it is less, and answers how many slots are empty then. A refusal
-/// changes nothing.
+/// Makes room for `more` new keys where it is less, and answers how many slots are empty then. A
+/// refusal changes nothing.
 #[inline(always)]
 pub fn make_room<K: Eq + Hash + Drop, V: Drop, S: BuildHasher, A: Allocator + Clone>(
     slots: &mut Vec<Slot<K, V>, A>,

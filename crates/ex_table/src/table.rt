@@ -13,7 +13,8 @@ use std::hash::{BuildHasher, BuildHasherDefault, FoldHasher, Hash};
 use std::marker::Model;
 use std::mem;
 
-/// A hash table. A contract sees its keys with their values, the room for new keys, and what makes the hashers.
+/// A hash table. A contract sees its keys with their values, the room for new keys, and what makes
+/// the hashers.
 pub struct Table<K: Eq + Hash, V, S: BuildHasher, A: Allocator> {
     slots: Vec<Slot<K, V>, A>,
     builder: S,
@@ -134,8 +135,9 @@ impl<K: Eq + Hash + Drop, V: Drop, S: BuildHasher, A: Allocator + Clone> Table<K
         }
     }
 
-    /// Gives the key this value, and answers the one that it had. A key that is there gives way to its equal. It takes memory
-    /// only for a new key; a refusal hands key and value back and changes nothing.
+    /// Gives the key this value, and answers the one that it had. A key that is there gives way to
+    /// its equal. It takes memory only for a new key; a refusal hands key and value back and
+    /// changes nothing.
     #[inline]
     pub fn insert(&mut self, key: K, item: V) -> Result<Option<V>, Refused<(K, V)>>
         ensures fits { 0 < self.old.room → IsOk result }

@@ -1,4 +1,5 @@
-//! Tests of whole scripts: what is printed, which line is bad, and what is told where memory is refused, or reading or writing fails.
+//! Tests of whole scripts: what is printed, which line is bad, and what is told where memory is
+//! refused, or reading or writing fails.
 #![tactic(auto)]
 
 #[cfg(test)]

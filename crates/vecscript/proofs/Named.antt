@@ -3,7 +3,7 @@ use Rattle.std.proofs.Common.{◌≡◌, ◌≢◌, ◌∙◌, ℕ, Bool, true, 
 use Rattle.std.specs.Prelude.{codes, Result, Ok, Err}
 use Rattle.std.specs.Cmp.Lexicographic.{same_text}
 use Rattle.std.specs.Global.{Global}
-use Rattle.std.specs.Str.{bytes_eq, IsUtf8}
+use Rattle.std.specs.Str.{bytes_eq}
 use Rattle.allocator_api2.specs.declared.runner.Command.{Command}
 use Rattle.allocator_api2.specs.declared.runner.Command.TheVariants.{Push}
 use Rattle.vecscript.specs.declared.script.Fault.{Fault}
@@ -19,23 +19,22 @@ differs word name other = by_test (bytes_eq word name) refl
     by_test false e = e
 
 -- a name that has no function of its own
-pub ReadsOrLacks-named : (number : ℕ) (name : List ℕ) (rest : List (List ℕ)) (r : Result (Command ℕ Global) Fault) → IsUtf8 name
+pub ReadsOrLacks-named : (number : ℕ) (name : List ℕ) (rest : List (List ℕ)) (r : Result (Command ℕ Global) Fault)
     → name ≢ codes "extend" → name ≢ codes "splice" → ReadsAs number (SayAfter name rest) r → ReadsOrLacks number (Say (name ∷ rest)) r
-ReadsOrLacks-named number name rest (Ok command) text e s said =
-    (text, rw (differs name (codes "extend") e) (rw (differs name (codes "splice") s) said))
-ReadsOrLacks-named number name rest (Err fault) text e s said =
+ReadsOrLacks-named number name rest (Ok command) e s said =
+    rw (differs name (codes "extend") e) (rw (differs name (codes "splice") s) said)
+ReadsOrLacks-named number name rest (Err fault) e s said =
     inr (
       said.0,
       λ command says.
-          let after : SayAfter name rest command = rw (differs name (codes "extend") e, differs name (codes "splice") s) at says.1 in
+          let after : SayAfter name rest command = rw (differs name (codes "extend") e, differs name (codes "splice") s) at says in
           said.1 command after,
     )
 
 -- a push
 pub Say-push : (words rest : List (List ℕ)) (name : List ℕ) (x : ℕ) → words ≡ name ∷ rest → name ≡ codes "push" → IsElement rest x
     → Say words (Push x)
-unfolding lib.Utf8.encode
-Say-push words rest name x first push element = rw (first, push) ((codes "push", (refl, refl)), (x, element, refl))
+Say-push words rest name x first push element = rw (first, push) (x, element, refl)
 
 -- or none
 pub IsBad-push : (line name : List ℕ) (rest : List (List ℕ)) → words_of line ≡ name ∷ rest → name ≡ codes "push"
@@ -45,5 +44,5 @@ IsBad-push line name rest first push never =
       has_words = λ none. omega (arith, ap length (sym none ∙ first));
       says_nothing = λ command says.
           let said : Say (codes "push" ∷ rest) command = rw (first, push) at says in
-          never said.1.0 said.1.1;
+          never said.0 said.1;
     }

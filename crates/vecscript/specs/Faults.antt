@@ -24,7 +24,8 @@ abbrev pub behind : ℕ → Fault → Fault
 behind before (BadLine number) = BadLine (before + number)
 behind before fault = fault
 
--- the words of the line of this number are read as what P says, and it is a bad line where P says nothing
+-- the words of the line of this number are read as what P says, and it is a bad line where P says
+-- nothing
 abbrev pub ReadsAs : {X : Type 0} → ℕ → (X → Type 0) → Result X Fault → Type 0
 ReadsAs {X} number P r = MatchResult r P (λ fault. (fault ≡ BadLine number) × ((x : X) → ¬ (P x)))
 

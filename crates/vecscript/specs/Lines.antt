@@ -2,7 +2,7 @@
 use Rattle.std.specs.Prelude.{◌≡◌, ◌≢◌, ℕ, ◌+◌, ◌^◌, ◌<◌, Bool, true, false, ◌==◌, ◌||◌, List, [], ◌∷◌, ◌++◌, length, filter, if◌then◌else◌, Option, None, Some, nat_lt, codes, MatchBool, All, map}
 use Rattle.std.specs.Global.{Global}
 use Rattle.std.specs.List.{AllByRecursion, AllZip, slice_split}
-use Rattle.std.specs.Str.{bytes_eq, IsUtf8}
+use Rattle.std.specs.Str.{bytes_eq}
 use Rattle.std.specs.Str.Parse.{IsNumeral, digits_value}
 use Rattle.allocator_api2.specs.declared.raw_vec.Growth.{Growth}
 use Rattle.allocator_api2.specs.declared.raw_vec.Growth.TheVariants.{Doubling, Sparing}
@@ -48,8 +48,8 @@ abbrev pub SaysKept : List ℕ → Bool → Type 0
 SaysKept word true = word ≡ codes "keep"
 SaysKept word false = word ≡ codes "drop"
 
--- the words are five, which say what a drain takes: where the range begins and ends, how many items come from either end, and whether the
--- others stay
+-- the words are five, which say what a drain takes: where the range begins and ends, how many items
+-- come from either end, and whether the others stay
 abbrev pub AreDrain : List (List ℕ) → ℕ × ℕ × ℕ × ℕ × Bool → Type 0
 AreDrain words p =
     (s : List ℕ) × (t : List ℕ) × (u : List ℕ) × (v : List ℕ) × (w : List ℕ) × (words ≡ s ∷ t ∷ u ∷ v ∷ w ∷ [])
@@ -99,13 +99,8 @@ SaysSplice words command = ⊥
 abbrev pub Say : List (List ℕ) → Command ℕ Global → Type 0
 Say [] command = ⊥
 Say (name ∷ rest) command =
-    IsUtf8 name
-    × MatchBool (bytes_eq name (codes "extend")) (SaysExtend rest command)
+    MatchBool (bytes_eq name (codes "extend")) (SaysExtend rest command)
     (MatchBool (bytes_eq name (codes "splice")) (SaysSplice rest command) (SayAfter name rest command))
-
--- the word alone says the command, and with words behind it none
-abbrev pub SaysAlone : List ℕ → Command ℕ Global → Type 0
-SaysAlone name command = Say (name ∷ []) command × ((rest : List (List ℕ)) (c : Command ℕ Global) → Say (name ∷ rest) c → rest ≡ [])
 
 -- the words of each line that has some, in order
 abbrev pub said_in : List (List ℕ) → List (List (List ℕ))
@@ -121,11 +116,13 @@ abbrev pub begin_sparing : List (List (List ℕ)) → Bool
 begin_sparing [] = false
 begin_sparing (words ∷ others) = are_sparing words
 
--- how the vectors of a script with these lines grow: sparingly, where the first line that has words is `sparing` alone
+-- how the vectors of a script with these lines grow: sparingly, where the first line that has words
+-- is `sparing` alone
 abbrev pub growth_in : List (List ℕ) → Growth
 growth_in lines = if begin_sparing (said_in lines) then Sparing else Doubling
 
--- the lines as those of commands: the line that chooses sparing growth stands among them as a blank one
+-- the lines as those of commands: the line that chooses sparing growth stands among them as a blank
+-- one
 abbrev pub command_lines : List (List ℕ) → List (List ℕ)
 command_lines [] = []
 command_lines (line ∷ lines) =

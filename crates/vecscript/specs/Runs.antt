@@ -17,8 +17,8 @@ abbrev pub element_size : ℕ
 element_size = 4
 
 module _ {K S : Type 0} (calls : Calls ℕ Global K S) where
-  -- the list machine may run the commands on two empty lists that grow so, with the closures in these states, so that what it
-  -- replies and leaves is printed as the text
+  -- the list machine may run the commands on two empty lists that grow so, with the closures in
+  -- these states, so that what it replies and leaves is printed as the text
   pub record MayPrint (growth : Growth) (alloc : Global) (keep : K) (same : S) (commands : List (Command ℕ Global)) (text : List ℕ) : Type 0 where
     pub main : Vector ℕ Global
     pub side : Vector ℕ Global
@@ -29,8 +29,8 @@ module _ {K S : Type 0} (calls : Calls ℕ Global K S) where
     pub run : RunsTo element_size calls (state_of main side keep same) commands replies last
     pub is_text : text ≡ printed replies last.main.items last.main.capacity last.side.items last.side.capacity
 
-  -- none of the lines is bad, and they mean commands that may lead from the one state to the other, and whose replies are printed
-  -- behind the text
+  -- none of the lines is bad, and they mean commands that may lead from the one state to the other,
+  -- and whose replies are printed behind the text
   pub record Answers (old : State ℕ Global K S) (lines : List (List ℕ)) (text text' : List ℕ) (new : State ℕ Global K S) : Type 0 where
     pub good : HasNoBad lines
     pub commands : List (Command ℕ Global)

@@ -1,4 +1,5 @@
-//! Scripts of commands on two lists of numbers: what their lines mean, what runs them, and what is printed.
+//! Scripts of commands on two lists of numbers: what their lines mean, what runs them, and what is
+//! printed.
 #![tactic(auto)]
 
 mod lines;

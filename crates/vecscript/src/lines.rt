@@ -6,7 +6,7 @@ ghost use Rattle.std.specs.Option.{SomeIff};
 ghost use Rattle.std.specs.Str.Lines.{lines, strip_carriage_return};
 ghost use Rattle.std.specs.Str.Parse.{IsNumeral, AllDigits, digits_value};
 ghost use Rattle.vecscript.specs.Faults.{IsFoundAmong, ReadsAs, ReadsOrLacks};
-ghost use Rattle.vecscript.specs.Lines.{is_blank, words_of, IsElement, IsNumber, AreNumberAndElement, AreNumbers, AreThreeNumbers, AreDrain, SaysKept, Writes, IsHint, SaysExtend, SaysSplice, SayAfter, Say, are_sparing, growth_in, command_lines, AreBehind, Mean, SaysAlone, IsBad, HasNoBad};
+ghost use Rattle.vecscript.specs.Lines.{is_blank, words_of, IsElement, IsNumber, AreNumberAndElement, AreNumbers, AreThreeNumbers, AreDrain, SaysKept, Writes, IsHint, SaysExtend, SaysSplice, SayAfter, Say, are_sparing, growth_in, command_lines, AreBehind, Mean, IsBad, HasNoBad};
 
 use crate::script::Fault;
 use allocator_api2::raw_vec::Growth;
@@ -14,8 +14,9 @@ use allocator_api2::runner::Command;
 use allocator_api2::vec::Vec;
 use std::alloc::Global;
 
-/// How the two lists of a script grow, how many of its lines say that, and the text behind these: where the first line that has
-/// words is `sparing` alone, the lists grow sparingly, and commands stand behind it; else in all of the text.
+/// How the two lists of a script grow, how many of its lines say that, and the text behind these:
+/// where the first line that has words is `sparing` alone, the lists grow sparingly, and commands
+/// stand behind it; else in all of the text.
 pub fn chosen_growth(text: &[u8]) -> (Growth, usize, &[u8])
     ensures growth { result.0 ≡ growth_in (lines text.now) }
     ensures behind { AreBehind result.1 (lines result.2.now) (command_lines (lines text.now)) }
@@ -44,7 +45,8 @@ fn is_sparing(line: &[u8]) -> Option<bool>
     }
 }
 
-/// Why lines could not be run: the first of them that is no known form, or else that memory was refused.
+/// Why lines could not be run: the first of them that is no known form, or else that memory was
+/// refused.
 pub fn fault(alloc: Global, text: &[u8]) -> Fault
     ensures { IsFoundAmong (lines text.now) result × (result ≢ Fault.InputOutput) }
 {
@@ -81,10 +83,12 @@ fn check_line(alloc: Global, number: usize, line: &[u8]) -> Result<(), Fault>
     }
 }
 
-// How many bytes of a script are run at a time, with the rest of the last line: few enough for the nearest cache to hold their commands.
+// How many bytes of a script are run at a time, with the rest of the last line: few enough for the
+// nearest cache to hold their commands.
 const PIECE: usize = 4096;
 
-// A guess at how many bytes a line has. The commands of a piece get room for as many lines at first.
+// A guess at how many bytes a line has. The commands of a piece get room for as many lines at
+// first.
 const SHORT_LINE: usize = 8;
 
 /// The commands of the lines, in order. A line without words is no command, but counts.
@@ -106,7 +110,8 @@ pub fn commands(alloc: Global, text: &[u8]) -> Result<Vec<Command<u32>, Global>,
     Ok(commands)
 }
 
-/// Cuts a text between two lines, behind the first one that ends past a piece's length, or at its end.
+/// Cuts a text between two lines, behind the first one that ends past a piece's length, or at its
+/// end.
 pub fn first_lines(text: &[u8]) -> (&[u8], &[u8])
     ensures lines { lines text.now ≡ lines result.0.now ++ lines result.1.now }
     ensures fewer { 0 < length text.now → length result.1.now < length text.now }
@@ -167,7 +172,8 @@ fn without_carriage_return(line: &[u8]) -> &[u8]
     line.strip_suffix(b"\r").unwrap_or(line)
 }
 
-// The command that the line says, or `None` where it has no words. Most lines are pushes, and are known by their bytes.
+// The command that the line says, or `None` where it has no words. Most lines are pushes, and are
+// known by their bytes.
 #[inline(always)]
 fn command_of_line(alloc: Global, number: usize, line: &[u8]) -> Result<Option<Command<u32>>, Fault>
     ensures ok { IfOk result
@@ -186,85 +192,69 @@ fn command_of_line(alloc: Global, number: usize, line: &[u8]) -> Result<Option<C
     }
 }
 
-// The command of a line that begins with this word. It stands apart, so that the code above it stays short.
+// The command of a line that begins with this word. It stands apart, so that the code above it
+// stays short.
 #[inline(never)]
 fn named_command(alloc: Global, name: &[u8], mut line: Line<'_>) -> Result<Command<u32>, Fault>
     ensures { ReadsOrLacks line.entry.number
         (Say (name.now ∷ words_of line.entry.words.rest.now)) result }
 {
-    if let Some(command) = lone_command(name) {
-        line.end()?;
-        return Ok(command);
-    }
-    match std::str::from_utf8(name) {
-        Ok("extend") => extension(alloc, line),
-        Ok("splice") => replacement(alloc, line),
-        Ok(name) => command(name, line),
-        Err(_) => Err(line.bad()),
-    }
-}
-
-// The command of this name, if it is one that takes no further words. It is known by its bytes: read as text, and
-// found among the others, the name would take as long as all else of its line.
-fn lone_command(name: &[u8]) -> Option<Command<u32>>
-    ensures { IfSome result (SaysAlone name.now) }
-{
     match name {
-        b"pop" => Some(Command::Pop),
-        b"clear" => Some(Command::Clear),
-        b"append" => Some(Command::Append),
-        b"retain" => Some(Command::Retain),
-        b"dedup" => Some(Command::Dedup),
-        _ => None,
+        _ if name == b"extend".as_slice() => extension(alloc, line),
+        _ if name == b"splice".as_slice() => replacement(alloc, line),
+        _ => command(name, line),
     }
 }
 
-// The command of this name, where the rest of the line is what it takes.
-fn command(name: &str, mut line: Line<'_>) -> Result<Command<u32>, Fault>
+// The command of this name, where the rest of the line is what it takes. A name is compared as
+// bytes, by its length first.
+#[inline(always)]
+fn command(name: &[u8], mut line: Line<'_>) -> Result<Command<u32>, Fault>
     ensures { ReadsAs line.entry.number
         (SayAfter name.now (words_of line.entry.words.rest.now)) result }
 {
     match name {
-        "push" => line.element().map(|x| Command::Push(x)),
-        "within" => line.element().map(|x| Command::Within(x)),
-        "pop" => line.end().map(|()| Command::Pop),
-        "insert" => line
+        _ if name == b"push".as_slice() => line.element().map(Command::Push),
+        _ if name == b"within".as_slice() => line.element().map(Command::Within),
+        _ if name == b"pop".as_slice() => line.end().map(|()| Command::Pop),
+        _ if name == b"insert".as_slice() => line
             .number_and_element()
             .map(|(index, x)| Command::Insert(index, x)),
-        "remove" => line.number().map(|n| Command::Remove(n)),
-        "swap_remove" => line.number().map(|n| Command::SwapRemove(n)),
-        "truncate" => line.number().map(|n| Command::Truncate(n)),
-        "clear" => line.end().map(|()| Command::Clear),
-        "reserve" => line.number().map(|n| Command::Reserve(n)),
-        "reserve_exact" => line.number().map(|n| Command::ReserveExact(n)),
-        "shrink_to" => line.number().map(|n| Command::ShrinkTo(n)),
-        "split_off" => line.number().map(|n| Command::SplitOff(n)),
-        "append" => line.end().map(|()| Command::Append),
-        "extend_from_within" => line
+        _ if name == b"remove".as_slice() => line.number().map(Command::Remove),
+        _ if name == b"swap_remove".as_slice() => line.number().map(Command::SwapRemove),
+        _ if name == b"truncate".as_slice() => line.number().map(Command::Truncate),
+        _ if name == b"clear".as_slice() => line.end().map(|()| Command::Clear),
+        _ if name == b"reserve".as_slice() => line.number().map(Command::Reserve),
+        _ if name == b"reserve_exact".as_slice() => line.number().map(Command::ReserveExact),
+        _ if name == b"shrink_to".as_slice() => line.number().map(Command::ShrinkTo),
+        _ if name == b"split_off".as_slice() => line.number().map(Command::SplitOff),
+        _ if name == b"append".as_slice() => line.end().map(|()| Command::Append),
+        _ if name == b"extend_from_within".as_slice() => line
             .numbers()
             .map(|(from, to)| Command::ExtendFromWithin(from, to)),
-        "resize" => line
+        _ if name == b"resize".as_slice() => line
             .number_and_element()
             .map(|(len, x)| Command::Resize(len, x)),
-        "retain" => line.end().map(|()| Command::Retain),
-        "dedup" => line.end().map(|()| Command::Dedup),
-        "drain" => line.drain().map(|(start, end, front, back, keep)| Command::Drain {
-            start,
-            end,
-            front,
-            back,
-            keep,
-        }),
-        "extract" => line.three_numbers().map(|(start, end, take)| Command::ExtractIf {
-            start,
-            end,
-            take,
-        }),
+        _ if name == b"retain".as_slice() => line.end().map(|()| Command::Retain),
+        _ if name == b"dedup".as_slice() => line.end().map(|()| Command::Dedup),
+        _ if name == b"drain".as_slice() => {
+            line.drain().map(|(start, end, front, back, keep)| Command::Drain {
+                start,
+                end,
+                front,
+                back,
+                keep,
+            })
+        }
+        _ if name == b"extract".as_slice() => {
+            line.three_numbers().map(|(start, end, take)| Command::ExtractIf { start, end, take })
+        }
         _ => Err(line.bad()),
     }
 }
 
-// The extension by the elements of the rest of the line, before which the hint stands. It takes memory for the elements.
+// The extension by the elements of the rest of the line, before which the hint stands. It takes
+// memory for the elements.
 fn extension(alloc: Global, mut line: Line<'_>) -> Result<Command<u32>, Fault>
     ensures { ReadsOrLacks line.entry.number
         (SaysExtend (words_of line.entry.words.rest.now)) result }
@@ -276,7 +266,8 @@ fn extension(alloc: Global, mut line: Line<'_>) -> Result<Command<u32>, Fault>
     Ok(Command::Extend { items, hint })
 }
 
-// The splice by the elements of the rest of the line, before which the range and the hint stand. It takes memory for the elements.
+// The splice by the elements of the rest of the line, before which the range and the hint stand. It
+// takes memory for the elements.
 fn replacement(alloc: Global, mut line: Line<'_>) -> Result<Command<u32>, Fault>
     ensures { ReadsOrLacks line.entry.number
         (SaysSplice (words_of line.entry.words.rest.now)) result }
@@ -457,8 +448,8 @@ fn number(word: &[u8]) -> Option<usize>
     }
 }
 
-// The number that the bytes before the line's first blank write, and what follows them, if each is a decimal digit and the
-// number fits. No digits write 0.
+// The number that the bytes before the line's first blank write, and what follows them, if each is
+// a decimal digit and the number fits. No digits write 0.
 fn first_number(line: &[u8]) -> Option<(u64, &[u8])>
     ensures some { IfSome result (λ r. let word = take (position_or_len is_blank line.now) line.now in
         AllDigits 10 word × (r.0 ≡ digits_value 10 word) × (r.1.now ≡ drop (position_or_len is_blank line.now) line.now)

@@ -49,8 +49,8 @@ fn print_numbered(output: &mut Text, word: &[u8], x: u32) -> io::Result<()>
     print_bytes(output, &buffer[start..])
 }
 
-/// Puts a line for each list behind the text: its name, length, capacity and elements. It takes memory for them,
-/// and an error is a refusal.
+/// Puts a line for each list behind the text: its name, length, capacity and elements. It takes
+/// memory for them, and an error is a refusal.
 pub fn print_lists(
     output: &mut Text,
     main: &Vec<u32, Global>,
@@ -93,7 +93,8 @@ fn print_elements(output: &mut Text, elements: &[u32]) -> io::Result<()>
     Ok(())
 }
 
-// Puts the bytes behind the text. Where memory is refused, the text stays. Inlined, so that a few known bytes are stored without a call.
+// Puts the bytes behind the text. Where memory is refused, the text stays. Inlined, so that a few
+// known bytes are stored without a call.
 #[inline(always)]
 fn print_bytes(output: &mut Text, bytes: &[u8]) -> io::Result<()>
     ensures { OnOk result (output.new.items ≡ output.old.items ++ bytes.now) }
@@ -105,7 +106,8 @@ fn print_bytes(output: &mut Text, bytes: &[u8]) -> io::Result<()>
 // As many bytes as a space and the longest element take.
 const WIDTH: usize = 11;
 
-// Puts the element behind a space in front of the bytes from an index on, and tells where they begin.
+// Puts the element behind a space in front of the bytes from an index on, and tells where they
+// begin.
 fn lay_out(x: u32, buffer: &mut [u8], end: usize) -> usize
     requires { (WIDTH ≤ end) × (end ≤ length buffer.old) }
     ensures start { result ≤ end }

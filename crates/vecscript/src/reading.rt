@@ -9,8 +9,8 @@ ghost use Rattle.vecscript.specs.Faults.{read_kind};
 use std::io;
 use std::io::{ErrorKind, Read};
 
-/// A reader whose own want of memory is a read that failed, so that the kind `OutOfMemory` says that memory was refused to
-/// whoever reads from it.
+/// A reader whose own want of memory is a read that failed, so that the kind `OutOfMemory` says
+/// that memory was refused to whoever reads from it.
 #[derive(Drop)]
 pub struct Reading<'a, R> {
     pub reader: &'a mut R,

@@ -106,9 +106,10 @@ impl From<io::Error> for Fault {
 /// - 2: memory was refused for the text, the commands, the replies or what is printed.
 /// - 3: reading or writing failed, for want of memory or else.
 ///
-/// At 1 and 2 nothing is written to `output`, and at 3 no more than a beginning of what the script prints. Even numbers stay at
-/// `retain`, and `dedup` goes by equality. To `faults` the fault's line is written, or a beginning of it where a write fails, which
-/// changes no status.
+/// At 1 and 2 nothing is written to `output`, and at 3 no more than a beginning of what the script
+/// prints. Even numbers stay at
+/// `retain`, and `dedup` goes by equality. To `faults` the fault's line is written, or a beginning
+/// of it where a write fails, which changes no status.
 pub fn script<R: Read, W: Write, E: Write>(
     alloc: Global,
     input: &mut R,
@@ -156,7 +157,8 @@ pub fn script<R: Read, W: Write, E: Write>(
     }
 }
 
-/// Reads a script, runs it with these closures, which may be called at every element in every state, and prints what it answers.
+/// Reads a script, runs it with these closures, which may be called at every element in every
+/// state, and prints what it answers.
 ///
 /// It takes memory for the text, the commands, the replies and what is printed. The first line that
 /// is no command is `Fault::BadLine`, refused memory is `Fault::OutOfMemory`, and a failed read or
@@ -204,9 +206,10 @@ fn read_text<R: Read>(alloc: Global, input: &mut R) -> Result<std::vec::Vec<u8>,
     Ok(text)
 }
 
-// Runs the commands of the lines on two empty lists, which grow as the script says, a piece of the text at a
-// time: the text of the replies and of the lists, which is all made before any of it is printed. Where a piece
-// can't be run, all lines are looked at, so that a bad one counts before refused memory.
+// Runs the commands of the lines on two empty lists, which grow as the script says, a piece of the
+// text at a time: the text of the replies and of the lists, which is all made before any of it is
+// printed. Where a piece can't be run, all lines are looked at, so that a bad one counts before
+// refused memory.
 fn answer<K, S>(
     alloc: Global,
     text: std::vec::Vec<u8>,
