@@ -32,7 +32,8 @@ pub fn distinct<A: Allocator>(v: &mut Vec<u64, A>)
 /// Cuts to `count` elements, or fills up with sevens.
 #[tactic(auto, using(allocator_api2::proofs::Callers::callers))]
 pub fn sevens_up_to<A: Allocator>(v: &mut Vec<u64, A>, count: usize) -> Result<(), TryReserveError>
-    ensures { OnOk result (v.new.items ≡ take count v.old.items ++ replicate (count - length v.old.items) 7) }
+    ensures { OnOk result
+        (v.new.items ≡ take count v.old.items ++ replicate (count - length v.old.items) 7) }
 {
     v.resize_with(count, || 7)
 }

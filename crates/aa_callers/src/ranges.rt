@@ -21,7 +21,8 @@ pub fn move_first<A: Allocator>(
 /// The first number of a range, if it has one; the vector is left without the range.
 pub fn first_of_range<A: Allocator>(v: &mut Vec<u32, A>, start: usize, end: usize) -> Option<u32>
     requires { (start ≤ end) × (end ≤ length v.old.items) }
-    ensures first { MatchOption result (slice_range v.old.items start end ≡ []) (λ x. (others : List ℕ) × (slice_range v.old.items start end ≡ x ∷ others)) }
+    ensures first { MatchOption result (slice_range v.old.items start end ≡ [])
+        (λ x. (others : List ℕ) × (slice_range v.old.items start end ≡ x ∷ others)) }
     ensures rest { v.new.items ≡ take start v.old.items ++ drop end v.old.items }
 {
     let mut range = v.drain(start..end);
@@ -36,7 +37,8 @@ pub fn replace<A: Allocator + Clone>(
     with: Vec<u32, A>,
 ) -> Result<(), TryReserveError>
     requires { (start ≤ end) × (end ≤ length v.old.items) }
-    ensures { OnOk result (v.new.items ≡ take start v.old.items ++ (with.items ++ drop end v.old.items)) }
+    ensures { OnOk result
+        (v.new.items ≡ take start v.old.items ++ (with.items ++ drop end v.old.items)) }
 {
     v.splice(start..end, with.into_iter()).finish()?;
     Ok(())

@@ -53,7 +53,8 @@ impl<T, A: Allocator> Stack<T, A> {
     }
 
     pub fn pop(&mut self) -> Option<T>
-        ensures { MatchOption result ((self.old.items ≡ []) × (self.new ≡ self.old)) (λ x. self.old.items ≡ self.new.items ++ x ∷ []) }
+        ensures { MatchOption result ((self.old.items ≡ []) × (self.new ≡ self.old))
+            (λ x. self.old.items ≡ self.new.items ++ x ∷ []) }
     {
         if self.len == 0 {
             return None;
@@ -65,7 +66,8 @@ impl<T, A: Allocator> Stack<T, A> {
     // The items behind the first move down by one place.
     #[tactic(auto, using(allocator_api2::proofs::Blocks::at_positions))]
     pub fn pop_first(&mut self) -> Option<T>
-        ensures { MatchOption result ((self.old.items ≡ []) × (self.new ≡ self.old)) (λ x. self.old.items ≡ x ∷ self.new.items) }
+        ensures { MatchOption result ((self.old.items ≡ []) × (self.new ≡ self.old))
+            (λ x. self.old.items ≡ x ∷ self.new.items) }
     {
         if self.len == 0 {
             return None;

@@ -26,7 +26,8 @@ pub fn put_bytes<A: Allocator>(v: &mut Vec<u8, A>, bytes: &[u8]) -> Written<()>
 
 /// Puts all that a reader gives behind the bytes, up to its end.
 pub fn read_all<R: Read, A: Allocator>(r: &mut R, v: &mut Vec<u8, A>) -> Written<()>
-    ensures all { OnOk result ((more : List ℕ) × (v.new.items ≡ v.old.items ++ more) × Consumes (R.Read.remaining r.old) (R.Read.remaining r.new) more) }
+    ensures all { OnOk result ((more : List ℕ) × (v.new.items ≡ v.old.items ++ more)
+        × Consumes (R.Read.remaining r.old) (R.Read.remaining r.new) more) }
     ensures end { OnOk result (IsAtEnd (R.Read.remaining r.new)) }
 {
     let mut piece = [0; 256];

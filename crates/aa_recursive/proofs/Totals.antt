@@ -16,3 +16,5 @@ module _ {A : Type 0} where
   pub total_of_all_push : (ts : List (Tree A)) (t : Tree A) → total_of_all (ts ++ (t ∷ [])) ≡ total_of_all ts + total t
   total_of_all_push [] t = omega arith
   total_of_all_push (u ∷ ts) t = omega (arith, total_of_all_push ts t)
+
+pub ruleset totals = (total_roll, total_out, total_of_all_push)

@@ -70,7 +70,8 @@ pub fn push<A: Allocator>(
 
 /// Takes the first value out.
 pub fn pop<A: Allocator>(head: &mut Option<Box<Node<A>, A>>) -> Option<u32>
-    ensures cases { MatchOption result (values_of head.old ≡ []) (λ x. values_of head.old ≡ x ∷ values_of head.new) }
+    ensures cases { MatchOption result (values_of head.old ≡ [])
+        (λ x. values_of head.old ≡ x ∷ values_of head.new) }
     ensures rest { values_of head.new ≡ drop 1 (values_of head.old) }
 {
     match head.take() {
@@ -152,7 +153,8 @@ pub fn set_first<A: Allocator>(head: &mut Box<Node<A>, A>, value: u32)
 
 /// Sets the last value.
 pub fn set_last<A: Allocator>(node: &mut Node<A>, value: u32)
-    ensures { values node.new ≡ take (length (values node.old) - 1) (values node.old) ++ value ∷ [] }
+    ensures { values node.new
+        ≡ take (length (values node.old) - 1) (values node.old) ++ value ∷ [] }
 {
     match &mut node.next {
         None => node.value = value,

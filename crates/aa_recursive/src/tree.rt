@@ -27,9 +27,10 @@ pub fn leaf<A: Allocator>(value: u64, alloc: A) -> Tree<A>
 }
 
 /// Puts a tree below, behind the others. A refusal hands it back and leaves the tree as it was.
-#[tactic(auto, using(crate::proofs::Totals::total_roll, crate::proofs::Totals::total_out, crate::proofs::Totals::total_of_all_push))]
+#[tactic(auto, using(crate::proofs::Totals::totals))]
 pub fn push_child<A: Allocator>(tree: &mut Tree<A>, child: Tree<A>) -> Result<(), Refused<Tree<A>>>
-    ensures done { OnOk result ((out-Tree A tree.new).below.items ≡ (out-Tree A tree.old).below.items ++ child ∷ []) }
+    ensures done { OnOk result
+        ((out-Tree A tree.new).below.items ≡ (out-Tree A tree.old).below.items ++ child ∷ []) }
     ensures value { (out-Tree A tree.new).value ≡ (out-Tree A tree.old).value }
     ensures total { OnOk result (total tree.new ≡ total tree.old + total child) }
     ensures refused { IfErr result (λ r. (r.source ≡ child) × (tree.new ≡ tree.old)) }
@@ -63,9 +64,10 @@ pub fn levels<A: Allocator>(tree: &Tree<A>) -> u64
 }
 
 /// Takes the last child out.
-#[tactic(auto, using(crate::proofs::Totals::total_roll, crate::proofs::Totals::total_out, crate::proofs::Totals::total_of_all_push))]
+#[tactic(auto, using(crate::proofs::Totals::totals))]
 pub fn pop_child<A: Allocator>(tree: &mut Tree<A>) -> Option<Tree<A>>
-    ensures cases { MatchOption result ((out-Tree A tree.old).below.items ≡ []) (λ c. (out-Tree A tree.old).below.items ≡ (out-Tree A tree.new).below.items ++ c ∷ []) }
+    ensures cases { MatchOption result ((out-Tree A tree.old).below.items ≡ [])
+        (λ c. (out-Tree A tree.old).below.items ≡ (out-Tree A tree.new).below.items ++ c ∷ []) }
     ensures value { (out-Tree A tree.new).value ≡ (out-Tree A tree.old).value }
     ensures total { IfSome result (λ c. total tree.old ≡ total tree.new + total c) }
     ensures none { IfNone result (tree.new ≡ tree.old) }

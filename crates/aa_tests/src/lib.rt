@@ -13,13 +13,16 @@
 //! | `RawVec::reserve`, `reserve_exact`, `reserve_for_push` | 1 | `block_refusals` |
 //! | `RawVec::try_reserve`, `try_reserve_exact`, `shrink_to_fit` | 1 | `block_refusals` |
 //! | `IntoIter::clone` | 1, and 3 of the elements | `makers`, `drain_refusals`, `clones` |
-//! | `Box::new_in`, `try_new_in`, `try_default`, `new_uninit_in`, `try_new_uninit_in` | 1 | `box_refusals` |
+//! | `Box::new_in`, `try_new_in`, `try_default` | 1 | `box_refusals` |
+//! | `Box::new_uninit_in`, `try_new_uninit_in` | 1 | `box_refusals` |
 //! | `Box::clone` | 1, and 1 of the value | `box_refusals`, `clones` |
 //! | `BoxedSlice::from_array_in` | 1 | `array_refusals` |
 //! | `BoxedSlice::from_slice` | 1 | `makers` |
-//! | `BoxedSlice::from_iter_in`, `from_iter_in_by` | 2; 4 for nine items that nothing is told of | `makers`, `box_refusals`, `aa_boxed_tests` |
+//! | `BoxedSlice::from_iter_in` | 2; 4 for nine items that nothing is told of | `box_refusals` |
+//! | `BoxedSlice::from_iter_in_by` | 2 | `makers`, `aa_boxed_tests` |
 //! | `BoxedSlice::clone` | 1, and 3 of the elements | `makers`, `clones` |
-//! | `BoxedSlice::try_into_array`, `Box::slice`, `into_vec` of an array in a box | 1 | `array_refusals`, `clones` |
+//! | `BoxedSlice::try_into_array`, `Box::slice` | 1 | `array_refusals`, `clones` |
+//! | `into_vec` of an array in a box | 1 | `array_refusals`, `clones` |
 //! | `BoxedText::from_text` | 1 | `makers` |
 //! | `append_texts`, `append_texts_by` | 1 | `box_refusals`, `aa_boxed_tests` |
 //! | `Vec::with_capacity_in` | 1 | `makers` |
@@ -36,12 +39,14 @@
 //! | `Vec::extend`, `extend_by`, `extend_hinted`, `extend_hinted_by` | 1 | `changes` |
 //! | `Splice::finish` | 1 | `splice_refusals` |
 //! | `Splice::finish_hinted` | 2 | `splice_refusals` |
-//! | `Vec::extend_copied`, `extend_copied_by`, `extend_from_slice_copied`, `extend_from_within_copied` | 1 | `plain_changes` |
+//! | `Vec::extend_copied`, `extend_copied_by` | 1 | `plain_changes` |
+//! | `Vec::extend_from_slice_copied`, `extend_from_within_copied` | 1 | `plain_changes` |
 //! | `Vec::resize_with`, `resize_by` | 1 | `plain_changes` |
 //! | `Vec::write`, `write_all` | 1 | `plain_changes` |
 //! | `Vec::clone` | 1, and 3 of the elements | `makers`, `clones` |
 //! | `Vec::clone_copied` | 1 | `plain_changes`, `clones` |
-//! | `Vec::from_slice_in`, `SliceExt::to_vec_in`, `to_vec_in2` | 1, and 3 of the elements | `makers` |
+//! | `Vec::from_slice_in` | 1, and 3 of the elements | `makers` |
+//! | `SliceExt::to_vec_in`, `to_vec_in2` | 1, and 3 of the elements | `makers` |
 //! | `Vec::from_elem_in` | 1, and 4 for each clone but the last | `makers` |
 //! | `Vec::from_iter_in`, `from_iter_in_by` | 1 | `makers` |
 //! | `Vec::from_slice_copied_in`, `from_text_in`, `Repeat::repeated` | 1 | `makers` |
@@ -50,8 +55,10 @@
 //! | `Vec::into_flattened` | 1 | `array_refusals` |
 //! | `GapBuffer::with_capacity_in` | 1 | `makers` |
 //! | `GapBuffer::insert`, `reserve`, `edit_all` | 1 | `aa_gap_tests` |
-//! | `run`: `Push`, `Insert`, `Reserve`, `ReserveExact`, `ShrinkTo`, `SplitOff`, `Append`, `Resize`, `Drain` | 1 | `run_commands` |
-//! | `run`: `Extend`, `ExtendFromWithin`, `ExtractIf`, `Splice` | 1; 4 for ten items of which four are told | `run_commands`, `runs` |
+//! | `run`: `Push`, `Insert`, `Reserve`, `ReserveExact`, `ShrinkTo` | 1 | `run_commands` |
+//! | `run`: `SplitOff`, `Append`, `Resize`, `Drain` | 1 | `run_commands` |
+//! | `run`: `ExtendFromWithin`, `ExtractIf` | 1 | `run_commands` |
+//! | `run`: `Extend`, `Splice` | 1; 4 for ten items of which four are told | `run_commands`, `runs` |
 //!
 //! `run_commands` runs every command on lists of 0 to 100 numbers, and of 0 to 8 whose clones take
 //! memory, with each request refused in turn, beside `plain_machine`, which says in plain words

@@ -16,9 +16,12 @@ fn two_by_three<A: Allocator + Clone>(
     requires old { (v.old.items ≡ 1 ∷ 2 ∷ 3 ∷ 4 ∷ []) × (v.old.capacity ≡ 4) × (v.old.growth ≡ Doubling) }
     requires new { items.items ≡ 7 ∷ 8 ∷ 9 ∷ [] }
     ensures items { OnOk result (v.new.items ≡ 1 ∷ 7 ∷ 8 ∷ 9 ∷ 4 ∷ []) }
-    ensures exact { items.hint ≡ None → OnOk result ((v.new.capacity ≡ 8) × (v.new.written ≡ v.old.written + 4)) }
-    ensures hundred { items.hint ≡ Some 100 → OnOk result ((v.new.capacity ≡ 104) × (v.new.written ≡ v.old.written + 5)) }
-    ensures none { items.hint ≡ Some 0 → OnOk result ((v.new.capacity ≡ 8) × (v.new.written ≡ v.old.written + 4)) }
+    ensures exact { items.hint ≡ None
+        → OnOk result ((v.new.capacity ≡ 8) × (v.new.written ≡ v.old.written + 4)) }
+    ensures hundred { items.hint ≡ Some 100
+        → OnOk result ((v.new.capacity ≡ 104) × (v.new.written ≡ v.old.written + 5)) }
+    ensures none { items.hint ≡ Some 0
+        → OnOk result ((v.new.capacity ≡ 8) × (v.new.written ≡ v.old.written + 4)) }
 {
     let range = v.splice(1..3, items);
     range.finish_hinted()?;
@@ -77,7 +80,8 @@ fn one_put_in<A: Allocator>(v: &mut Vec<u32, A>) -> Result<(), TryReserveError>
 // It is taken out again: two are written.
 fn one_taken_out<A: Allocator>(v: &mut Vec<u32, A>) -> u32
     requires { v.old.items ≡ 1 ∷ 9 ∷ 2 ∷ 3 ∷ [] }
-    ensures { (result ≡ 9) × Holds v.old (1 ∷ 2 ∷ 3 ∷ []) v.new × (v.new.written ≡ v.old.written + 2) }
+    ensures { (result ≡ 9) × Holds v.old (1 ∷ 2 ∷ 3 ∷ []) v.new
+        × (v.new.written ≡ v.old.written + 2) }
 {
     v.remove(1)
 }

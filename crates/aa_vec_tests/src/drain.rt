@@ -30,7 +30,8 @@ fn ends_of<T: Drop, A: Allocator>(
 #[tactic(auto, using(aa_vec::proofs::Drains::first_taken))]
 fn first_of<T: Drop, A: Allocator>(v: &mut Vec<T, A>, from: usize, to: usize) -> Option<T>
     requires { (from < to) × (to ≤ len v.old) }
-    ensures { Holds v.old (take from v.old.items ++ (slice_range v.old.items (from + 1) to ++ drop to v.old.items)) v.new }
+    ensures { Holds v.old (take from v.old.items
+        ++ (slice_range v.old.items (from + 1) to ++ drop to v.old.items)) v.new }
 {
     let mut range = v.drain(from..to);
     let first = range.next();

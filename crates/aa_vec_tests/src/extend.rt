@@ -19,10 +19,15 @@ fn extended<T: Drop, A: Allocator>(
     items: Items<T, A>,
 ) -> Result<(), TryReserveError>
     ensures fits { HasRoom v.old (length items.items) → IsOk result }
-    ensures all { OnOk result (ExtendsAll (type_size T.row) (lower_by items.hint) v.old v.old.items items.items v.new) }
-    ensures exact { OnOk result (items.hint ≡ None → length items.items ≤ usize_max → MakesRoom (type_size T.row) v.old v.old.capacity (len v.old + length items.items - v.old.capacity) v.new) }
+    ensures all { OnOk result
+        (ExtendsAll (type_size T.row) (lower_by items.hint) v.old v.old.items items.items v.new) }
+    ensures exact { OnOk result (items.hint ≡ None → length items.items ≤ usize_max
+        → MakesRoom (type_size T.row) v.old v.old.capacity
+        (len v.old + length items.items - v.old.capacity) v.new) }
     ensures writes { let placed = len v.new - len v.old in Writes v.old placed placed v.new }
-    ensures refused { IfErr result (λ e. ExtendsFull (type_size T.row) (lower_by items.hint) v.old v.old.items items.items e v.new) }
+    ensures refused { IfErr result (λ e. ExtendsFull (type_size T.row) (lower_by items.hint) v.old
+        v.old.items
+        items.items e v.new) }
 {
     v.extend_hinted(items)
 }

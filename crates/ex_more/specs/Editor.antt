@@ -31,4 +31,5 @@ HasRoom l k = k ≤ l.capacity - len l
 
 -- l with room for k more bytes
 abbrev pub with_room : Line → (k : ℕ) → Line
-with_room l k = record { before = l.before; after = l.after; capacity = room 1 l.capacity (len l) k }
+with_room l k =
+    record { before = l.before; after = l.after; capacity = room 1 l.capacity (len l) k }

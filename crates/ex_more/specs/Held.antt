@@ -29,7 +29,8 @@ module _ {T : Type 0} where
 
   -- v with room for k more values of `size` bytes
   abbrev pub with_room : (size : ℕ) → Held T → (k : ℕ) → Held T
-  with_room size v k = record { items = v.items; capacity = room size v.capacity (length v.items) k }
+  with_room size v k =
+      record { items = v.items; capacity = room size v.capacity (length v.items) k }
 
   -- what a vector holds
   abbrev pub held_of : {A : Type 0} → Vector T A → Held T

@@ -6,5 +6,7 @@ use Rattle.ex_more.specs.Held.{Held, with_items}
 use Rattle.ex_more.specs.contracts.arena.Arena.{the_row}
 
 -- the value under the handle is the last one written through r
-abbrev pub lends_value : (R A : RattleType) (g : Ghosts A.Denot) → MutBor (Held R.Denot) → ℕ → MutBor R.Denot → Fml
-lends_value R A g a id r = Lends (the_row R A g) R a r (λ w. with_items a.now (slice_set a.now.items id w))
+abbrev pub lends_value : (R A : RattleType) (g : Ghosts A.Denot) → MutBor (Held R.Denot) → ℕ
+    → MutBor R.Denot → Fml
+lends_value R A g a id r = Lends (the_row R A g) R a r
+    (λ w. with_items a.now (slice_set a.now.items id w))

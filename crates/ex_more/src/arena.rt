@@ -85,8 +85,11 @@ impl<T, A: Allocator> Arena<T, A> {
         ensures fits { HasRoom self.old 1 → IsOk result × (self.new.capacity ≡ self.old.capacity) }
         ensures put { IfOk result (λ id. slice_get self.new.items id ≡ Some value) }
         ensures fresh { IfOk result (λ id. slice_get self.old.items id ≡ None) }
-        ensures stays { (id : ℕ) → id < length self.old.items → slice_get self.new.items id ≡ slice_get self.old.items id }
-        ensures others { OnOk result (self.new ≡ with_items (with_room (type_size T.row) self.old 1) (self.old.items ++ value ∷ [])) }
+        ensures stays { (id : ℕ) → id < length self.old.items
+            → slice_get self.new.items id ≡ slice_get self.old.items id }
+        ensures others { OnOk result
+            (self.new ≡ with_items (with_room (type_size T.row) self.old 1)
+            (self.old.items ++ value ∷ [])) }
         ensures refused { IfErr result (λ r. (r.source ≡ value) × (self.new ≡ self.old)) }
     {
         let index = self.items.len();

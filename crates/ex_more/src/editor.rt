@@ -65,8 +65,11 @@ impl<A: Allocator> Editor<A> {
     /// Types bytes at the cursor: all of them, or none where memory is refused. Where there is room
     /// it takes none.
     pub fn type_in(&mut self, bytes: &[u8]) -> Result<(), TryReserveError>
-        ensures fits { HasRoom self.old (length bytes.now) → IsOk result × (self.new.capacity ≡ self.old.capacity) }
-        ensures typed { OnOk result (self.new ≡ with_parts (with_room self.old (length bytes.now)) (self.old.before ++ bytes.now) self.old.after) }
+        ensures fits { HasRoom self.old (length bytes.now)
+            → IsOk result × (self.new.capacity ≡ self.old.capacity) }
+        ensures typed { OnOk result
+            (self.new ≡ with_parts (with_room self.old (length bytes.now))
+            (self.old.before ++ bytes.now) self.old.after) }
         ensures refused { OnErr result (self.new ≡ self.old) }
     {
         self.line.reserve(bytes.len())?;
@@ -81,7 +84,8 @@ impl<A: Allocator> Editor<A> {
 
     /// Takes the byte before the cursor away, and gives it, if there is one.
     pub fn backspace(&mut self) -> Option<u8>
-        ensures taken { MatchOption result ((self.old.before ≡ []) × (self.new.before ≡ [])) (λ x. self.old.before ≡ self.new.before ++ x ∷ []) }
+        ensures taken { MatchOption result ((self.old.before ≡ []) × (self.new.before ≡ []))
+            (λ x. self.old.before ≡ self.new.before ++ x ∷ []) }
         ensures rest { self.new ≡ with_parts self.old self.new.before self.old.after }
     {
         self.line.delete_back()
@@ -89,7 +93,8 @@ impl<A: Allocator> Editor<A> {
 
     /// Moves the cursor behind so many bytes, or to the end where there are fewer.
     pub fn go_to(&mut self, position: usize)
-        ensures { let at = min position (length (text self.old)) in self.new ≡ with_parts self.old (take at (text self.old)) (drop at (text self.old)) }
+        ensures { let at = min position (length (text self.old))
+            in self.new ≡ with_parts self.old (take at (text self.old)) (drop at (text self.old)) }
     {
         self.line.move_to(position.min(self.line.len()));
     }

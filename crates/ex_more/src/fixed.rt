@@ -3,7 +3,7 @@
 ghost use Rattle.std.specs.Prelude.{◌≡◌, ◌<◌, [], ◌∷◌, ◌++◌, length, IfOk, IfErr, OnOk, IsOk, MatchOption};
 ghost use Rattle.std.specs.Mem.{type_size};
 ghost use Rattle.allocator_api2.specs.Growth.{sized};
-ghost use Rattle.allocator_api2.specs.Refusals.{IsRefusedAt};
+ghost use Rattle.allocator_api2.specs.Refusals.{RefusesBlock};
 ghost use Rattle.ex_more.specs.Held.{none_of, with_items};
 
 use allocator_api2::collections::TryReserveError;
@@ -38,7 +38,7 @@ impl<T, A: Allocator> Fixed<T, A> {
     #[tactic(auto, using(allocator_api2::proofs::Blocks::with_room))]
     pub fn with_capacity_in(capacity: usize, alloc: A) -> Result<Self, TryReserveError>
         ensures made { IfOk result (λ v. v ≡ none_of (sized (type_size T.row) capacity)) }
-        ensures refused { IfErr result (λ e. (0 < capacity) × (0 < type_size T.row) × IsRefusedAt e capacity) }
+        ensures refused { IfErr result (RefusesBlock capacity (type_size T.row)) }
     {
         let block = RawVec::with_capacity_in(capacity, alloc)?;
         Ok(Fixed { block, len: 0 })
@@ -70,8 +70,10 @@ impl<T, A: Allocator> Fixed<T, A> {
     /// nothing.
     pub fn push(&mut self, item: T) -> Result<(), T>
         ensures fits { length self.old.items < self.old.capacity → IsOk result }
-        ensures pushed { OnOk result (self.new ≡ with_items self.old (self.old.items ++ item ∷ [])) }
-        ensures full { IfErr result (λ x. (length self.old.items ≡ self.old.capacity) × (x ≡ item) × (self.new ≡ self.old)) }
+        ensures pushed { OnOk result
+            (self.new ≡ with_items self.old (self.old.items ++ item ∷ [])) }
+        ensures full { IfErr result (λ x. (length self.old.items ≡ self.old.capacity) × (x ≡ item)
+            × (self.new ≡ self.old)) }
     {
         if self.len == self.block.capacity() {
             return Err(item);
@@ -83,7 +85,8 @@ impl<T, A: Allocator> Fixed<T, A> {
 
     /// Takes the last value, if there is one.
     pub fn pop(&mut self) -> Option<T>
-        ensures taken { MatchOption result ((self.old.items ≡ []) × (self.new.items ≡ [])) (λ x. self.old.items ≡ self.new.items ++ x ∷ []) }
+        ensures taken { MatchOption result ((self.old.items ≡ []) × (self.new.items ≡ []))
+            (λ x. self.old.items ≡ self.new.items ++ x ∷ []) }
         ensures rest { self.new ≡ with_items self.old self.new.items }
     {
         if self.len == 0 {

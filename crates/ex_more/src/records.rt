@@ -12,7 +12,8 @@ use std::io::{Error, ErrorKind, Result as Written, Write};
 
 /// Puts a record behind what a writer holds.
 pub fn write_record<W: Write>(writer: &mut W, entry: &[u8]) -> Written<()>
-    ensures { OnOk result (Appends (W.contents writer.old) (W.contents writer.new) (encoded entry.now)) }
+    ensures { OnOk result
+        (Appends (W.contents writer.old) (W.contents writer.new) (encoded entry.now)) }
 {
     let count = (entry.len() as u64).to_le_bytes();
     writer.write_all(&count)?;
@@ -24,7 +25,9 @@ pub fn write_record<W: Write>(writer: &mut W, entry: &[u8]) -> Written<()>
 #[tactic(auto, using(crate::proofs::Rooms::rooms))]
 pub fn push_record<A: Allocator>(log: &mut Vec<u8, A>, entry: &[u8]) -> Result<(), TryReserveError>
     ensures fits { HasRoom log.old (length (encoded entry.now)) → IsOk result }
-    ensures pushed { OnOk result (GrowsTo 1 log.old (length (encoded entry.now)) (log.old.items ++ encoded entry.now) log.new) }
+    ensures pushed { OnOk result
+        (GrowsTo 1 log.old (length (encoded entry.now))
+        (log.old.items ++ encoded entry.now) log.new) }
     ensures refused { OnErr result (log.new ≡ log.old) }
 {
     // It tells the prover that there are at most `usize::MAX` places.
@@ -66,7 +69,8 @@ pub fn encode<A: Allocator>(records: &[&[u8]], alloc: A) -> Written<BoxedSlice<u
 
 // The first record, and what is behind it.
 fn next_record(bytes: &[u8]) -> Option<(&[u8], &[u8])>
-    ensures cases { MatchOption result ((r t : List ℕ) → Fits r → encoded r ++ t ≡ bytes.now → ⊥) (λ p. (encoded p.0.now ++ p.1.now ≡ bytes.now) × Fits p.0.now) }
+    ensures cases { MatchOption result ((r t : List ℕ) → Fits r → encoded r ++ t ≡ bytes.now → ⊥)
+        (λ p. (encoded p.0.now ++ p.1.now ≡ bytes.now) × Fits p.0.now) }
     ensures shorter { IfSome result (λ p. length p.1.now < length bytes.now) }
 {
     let Some((head, tail)) = bytes.split_first_chunk::<8>() else {
@@ -84,8 +88,11 @@ pub fn decode<'a, A: Allocator>(
     bytes: &'a [u8],
     alloc: A,
 ) -> Result<Option<Vec<&'a [u8], A>>, TryReserveError>
-    ensures decoded { IfOk result (λ o. IfSome o (λ v. encoding (map (λ r. r.now) v.items) ≡ bytes.now)) }
-    ensures round_trip { IfOk result (λ o. (rs : List (List ℕ)) → AllFit rs → encoding rs ≡ bytes.now → IsSomeAnd o (λ v. map (λ r. r.now) v.items ≡ rs)) }
+    ensures decoded { IfOk result
+        (λ o. IfSome o (λ v. encoding (map (λ r. r.now) v.items) ≡ bytes.now)) }
+    ensures round_trip { IfOk result
+        (λ o. (rs : List (List ℕ)) → AllFit rs → encoding rs ≡ bytes.now
+        → IsSomeAnd o (λ v. map (λ r. r.now) v.items ≡ rs)) }
 {
     let mut records = Vec::new_in(alloc);
     let mut rest = bytes;

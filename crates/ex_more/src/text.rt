@@ -51,8 +51,11 @@ impl<A: Allocator> TextBuilder<A> {
     /// Puts text behind the last; where there is room it takes no memory. A refusal changes
     /// nothing.
     pub fn push_str(&mut self, text: &str) -> Result<(), TryReserveError>
-        ensures fits { HasRoom self.old (length text.now) → IsOk result × (self.new.capacity ≡ self.old.capacity) }
-        ensures pushed { OnOk result (self.new ≡ with_items (with_room 1 self.old (length text.now)) (self.old.items ++ text.now)) }
+        ensures fits { HasRoom self.old (length text.now)
+            → IsOk result × (self.new.capacity ≡ self.old.capacity) }
+        ensures pushed { OnOk result
+            (self.new ≡ with_items (with_room 1 self.old (length text.now))
+            (self.old.items ++ text.now)) }
         ensures refused { OnErr result (self.new ≡ self.old) }
     {
         self.bytes.extend_from_slice_copied(text.as_bytes())?;
@@ -64,7 +67,9 @@ impl<A: Allocator> TextBuilder<A> {
     pub fn push_u64(&mut self, number: u64) -> Result<(), TryReserveError>
     where
         A: Copy + Drop,
-        ensures pushed { OnOk result (self.new ≡ with_items (with_room 1 self.old (length (decimal number))) (self.old.items ++ decimal number)) }
+        ensures pushed { OnOk result
+            (self.new ≡ with_items (with_room 1 self.old (length (decimal number)))
+            (self.old.items ++ decimal number)) }
         ensures refused { OnErr result (self.new ≡ self.old) }
     {
         match format!(in *self.bytes.allocator(); "{number}") {

@@ -9,7 +9,8 @@ abbrev pub filled_in : {K V S : Type 0} → S → List (Slot K V) → Filled K V
 filled_in b ss = record { entries = entries_of ss; room = room_of ss; builder = b }
 
 -- the slots are sound, and the table knows how many hold a key and how many are empty
-pub record IsTable {K V : Type 0} (eq : K → K → Bool) (h : K → ℕ) (ss : List (Slot K V)) (len empty : ℕ) : Type 0 where
+pub record IsTable {K V : Type 0} (eq : K → K → Bool) (h : K → ℕ) (ss : List (Slot K V))
+    (len empty : ℕ) : Type 0 where
   pub sound : IsSound eq h ss
   pub held : len ≡ count_by is_held ss
   pub free : empty ≡ count_by is_empty ss

@@ -14,8 +14,14 @@ abbrev pub OfKeys : Type 0 → Type 0
 OfKeys K = record { eq : K → K → Bool; hash_input : K → HashWrites }
 
 -- the key has the last value written through r, and without r the table stays as it is
-abbrev pub lends_value : (K V S A H : RattleType) (g : OfKeys K.Denot) (b : builder.Ghosts S.Denot H.Denot) (w : hasher.Ghosts H.Denot) (a : alloc.Ghosts A.Denot)
+abbrev pub lends_value : (K V S A H : RattleType) (g : OfKeys K.Denot)
+    (b : builder.Ghosts S.Denot H.Denot) (w : hasher.Ghosts H.Denot) (a : alloc.Ghosts A.Denot)
     → MutBor (Filled K.Denot V.Denot S.Denot) → K.Denot → Option (MutBor V.Denot) → Fml
 lends_value K V S A H g b w a t key r =
-    LendsIf (the_row K V S A H (record { eq = g.eq }) (record { hash_input = g.hash_input }) b w a) V t r
-    (λ x. record { entries = set_value (g.eq key) t.now.entries x; room = t.now.room; builder = t.now.builder }) t.now
+    LendsIf (the_row K V S A H (record { eq = g.eq }) (record { hash_input = g.hash_input }) b w a)
+    V t r
+    (λ x. record {
+      entries = set_value (g.eq key) t.now.entries x;
+      room = t.now.room;
+      builder = t.now.builder;
+    }) t.now

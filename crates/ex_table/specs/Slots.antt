@@ -13,7 +13,8 @@ unfoldable pub hash_by : {S H : Type 0} → builder.Ghosts S H → hasher.Ghosts
 hash_by b h s writes = h.finish (fold h.write (b.build_hasher s) writes)
 
 -- the hash of each key
-abbrev pub hashes : {K S H : Type 0} → builder.Ghosts S H → hasher.Ghosts H → (K → HashWrites) → S → K → ℕ
+abbrev pub hashes : {K S H : Type 0} → builder.Ghosts S H → hasher.Ghosts H → (K → HashWrites)
+    → S → K → ℕ
 hashes b h input s k = hash_by b h s (input k)
 
 -- keys whose equality is one, with hashes that agree with it
@@ -87,7 +88,8 @@ module _ {K V : Type 0} where
   module _ (eq : K → K → Bool) (h : K → ℕ) where
     -- a look-up for k gets to the slot i
     abbrev pub IsReached : List (Slot K V) → (k : K) (i : ℕ) → Type 0
-    IsReached ss k i = (j : ℕ) → IsBefore (home_of (length ss) (h k)) (length ss) i j → is_empty (slot_at ss j) ≡ false
+    IsReached ss k i = (j : ℕ) → IsBefore (home_of (length ss) (h k)) (length ss) i j
+        → is_empty (slot_at ss j) ≡ false
 
     -- each key is there once, and a look-up for it gets there
     pub record IsSound (ss : List (Slot K V)) : Type 0 where
@@ -98,14 +100,16 @@ module _ {K V : Type 0} where
     -- a look-up for k ends at i
     pub record Passes (ss : List (Slot K V)) (k : K) (i : ℕ) : Type 0 where
       pub within : i < length ss
-      pub before : (j : ℕ) → IsBefore (home_of (length ss) (h k)) (length ss) i j → IsPassed eq k (slot_at ss j)
+      pub before : (j : ℕ) → IsBefore (home_of (length ss) (h k)) (length ss) i j
+          → IsPassed eq k (slot_at ss j)
       pub ends : IsPassed eq k (slot_at ss i) → ⊥
 
     -- a new key is put into an empty slot
     pub record Puts (ss : List (Slot K V)) (k : K) (v : V) (new : List (Slot K V)) : Type 0 where
       pub sound : IsSound new
       pub size : length new ≡ length ss
-      pub others : (q : K) → count_by (is_key eq q) new ≡ count_by (is_key eq q) ss + cond (eq q k) 1 0
+      pub others : (q : K)
+          → count_by (is_key eq q) new ≡ count_by (is_key eq q) ss + cond (eq q k) 1 0
       pub held : count_by is_held new ≡ count_by is_held ss + 1
       pub empty : count_by is_empty new + 1 ≡ count_by is_empty ss
       pub values : (q : K) → found eq new q ≡ cond (eq q k) (Some v) (found eq ss q)

@@ -142,7 +142,8 @@ impl<K: Eq + Hash + Drop, V: Drop, S: BuildHasher, A: Allocator + Clone> Table<K
     pub fn insert(&mut self, key: K, item: V) -> Result<Option<V>, Refused<(K, V)>>
         ensures fits { 0 < self.old.room → IsOk result }
         ensures old { IfOk result (λ old. old ≡ value K.eq self.old.entries key) }
-        ensures inserted { OnOk result (Sets K.eq self.old.entries key (Some item) self.new.entries) }
+        ensures inserted { OnOk result
+            (Sets K.eq self.old.entries key (Some item) self.new.entries) }
         ensures room { OnOk result (self.old.room ≤ self.new.room + 1) }
         ensures replaced { IfOk result (λ old. is_some old ≡ true → self.new.room ≡ self.old.room) }
         ensures builder { self.new.builder ≡ self.old.builder }

@@ -30,14 +30,16 @@ const GOOD_SCRIPTS: [(&[u8], &str); 29] = [
     (b"\r\npush 7\r\n", PUSHED_SEVEN),
     (
         b"push 1\npush 2\npush 3\ninsert 1 9\nswap_remove 0\nwithin 7\npop\n",
-        "done\ndone\ndone\ndone\nitem 1\ndone\nitem 7\nmain len=3 cap=4: 3 9 2\nside len=0 cap=0:\n",
+        "done\ndone\ndone\ndone\nitem 1\ndone\nitem 7\nmain len=3 cap=4: 3 9 2\n\
+            side len=0 cap=0:\n",
     ),
     (
         b"push 3\npush 9\npush 2\nwithin 4\ninsert 0 5\n",
         "done\ndone\ndone\ndone\ndone\nmain len=5 cap=8: 5 3 9 2 4\nside len=0 cap=0:\n",
     ),
     (
-        b"reserve 5\npush 1\nshrink_to 3\nreserve_exact 3\nwithin 9\nclear\nshrink_to 0\nremove 0\n",
+        b"reserve 5\npush 1\nshrink_to 3\nreserve_exact 3\nwithin 9\nclear\nshrink_to 0\n\
+            remove 0\n",
         "done\ndone\ndone\ndone\ndone\ndone\ndone\nrange\nmain len=0 cap=0:\nside len=0 cap=0:\n",
     ),
     (
@@ -77,7 +79,8 @@ const GOOD_SCRIPTS: [(&[u8], &str); 29] = [
         "done\ndone\ndone\nmain len=2 cap=6: 4 5\nside len=3 cap=4: 1 3 2\n",
     ),
     (
-        b"extend - 0 1 2 3 4 5\ndrain 1 4 1 1 keep\ndrain 0 2 0 1 drop\ndrain 0 2 9 9 drop\ndrain 3 2 0 0 keep\n",
+        b"extend - 0 1 2 3 4 5\ndrain 1 4 1 1 keep\ndrain 0 2 0 1 drop\ndrain 0 2 9 9 drop\n\
+            drain 3 2 0 0 keep\n",
         "done\ndone\ndone\ndone\nrange\nmain len=0 cap=6:\nside len=5 cap=8: 1 3 2 4 5\n",
     ),
     (
@@ -98,12 +101,15 @@ const GOOD_SCRIPTS: [(&[u8], &str); 29] = [
         "done\nrefused capacity\nmain len=3 cap=4: 1 8 3\nside len=0 cap=0:\n",
     ),
     (
-        b"extend - 0 1 2 3 4 5\ndrain 1 4 1 1 keep\nsplice 1 2 - 7 8 9\nremove 9\nappend\nretain\nshrink_to 1\n",
+        b"extend - 0 1 2 3 4 5\ndrain 1 4 1 1 keep\nsplice 1 2 - 7 8 9\nremove 9\nappend\n\
+            retain\nshrink_to 1\n",
         "done\ndone\ndone\nrange\ndone\ndone\ndone\nmain len=3 cap=3: 0 8 4\nside len=0 cap=4:\n",
     ),
     (
-        b"extend - 0 1 2 3 4 5\ndrain 1 4 1 1 keep\nsplice 1 2 - 7 8 9\nremove 9\nappend\nretain\nshrink_to 1\nsplit_off 1\n",
-        "done\ndone\ndone\nrange\ndone\ndone\ndone\ndone\nmain len=1 cap=3: 0\nside len=2 cap=2: 8 4\n",
+        b"extend - 0 1 2 3 4 5\ndrain 1 4 1 1 keep\nsplice 1 2 - 7 8 9\nremove 9\nappend\n\
+            retain\nshrink_to 1\nsplit_off 1\n",
+        "done\ndone\ndone\nrange\ndone\ndone\ndone\ndone\nmain len=1 cap=3: 0\n\
+            side len=2 cap=2: 8 4\n",
     ),
 ];
 

@@ -32,7 +32,8 @@ ReadsAs {X} number P r = MatchResult r P (λ fault. (fault ≡ BadLine number) �
 -- the same, or memory was refused
 abbrev pub ReadsOrLacks : {X : Type 0} → ℕ → (X → Type 0) → Result X Fault → Type 0
 ReadsOrLacks {X} number P r =
-    MatchResult r P (λ fault. (fault ≡ OutOfMemory) ⊎ ((fault ≡ BadLine number) × ((x : X) → ¬ (P x))))
+    MatchResult r P
+    (λ fault. (fault ≡ OutOfMemory) ⊎ ((fault ≡ BadLine number) × ((x : X) → ¬ (P x))))
 
 -- the fault names no line
 abbrev pub NamesNoLine : Fault → Type 0

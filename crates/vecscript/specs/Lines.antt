@@ -31,11 +31,15 @@ IsNumber words n = (word : List ℕ) × (words ≡ word ∷ []) × Writes (2 ^ 6
 
 -- the words are two, which write a number and an element
 abbrev pub AreNumberAndElement : List (List ℕ) → ℕ × ℕ → Type 0
-AreNumberAndElement words p = (v : List ℕ) × (w : List ℕ) × (words ≡ v ∷ w ∷ []) × Writes (2 ^ 64) v p.0 × Writes (2 ^ 32) w p.1
+AreNumberAndElement words p =
+    (v : List ℕ) × (w : List ℕ) × (words ≡ v ∷ w ∷ []) × Writes (2 ^ 64) v p.0
+    × Writes (2 ^ 32) w p.1
 
 -- the words are two, which write numbers
 abbrev pub AreNumbers : List (List ℕ) → ℕ × ℕ → Type 0
-AreNumbers words p = (v : List ℕ) × (w : List ℕ) × (words ≡ v ∷ w ∷ []) × Writes (2 ^ 64) v p.0 × Writes (2 ^ 64) w p.1
+AreNumbers words p =
+    (v : List ℕ) × (w : List ℕ) × (words ≡ v ∷ w ∷ []) × Writes (2 ^ 64) v p.0
+    × Writes (2 ^ 64) w p.1
 
 -- the words are three, which write numbers
 abbrev pub AreThreeNumbers : List (List ℕ) → ℕ × ℕ × ℕ → Type 0
@@ -52,8 +56,9 @@ SaysKept word false = word ≡ codes "drop"
 -- come from either end, and whether the others stay
 abbrev pub AreDrain : List (List ℕ) → ℕ × ℕ × ℕ × ℕ × Bool → Type 0
 AreDrain words p =
-    (s : List ℕ) × (t : List ℕ) × (u : List ℕ) × (v : List ℕ) × (w : List ℕ) × (words ≡ s ∷ t ∷ u ∷ v ∷ w ∷ [])
-    × Writes (2 ^ 64) s p.0 × Writes (2 ^ 64) t p.1 × Writes (2 ^ 64) u p.2 × Writes (2 ^ 64) v p.3 × SaysKept w p.4
+    (s : List ℕ) × (t : List ℕ) × (u : List ℕ) × (v : List ℕ) × (w : List ℕ)
+    × (words ≡ s ∷ t ∷ u ∷ v ∷ w ∷ []) × Writes (2 ^ 64) s p.0 × Writes (2 ^ 64) t p.1
+    × Writes (2 ^ 64) u p.2 × Writes (2 ^ 64) v p.3 × SaysKept w p.4
 
 -- the words after this name say the command
 abbrev pub SayAfter : List ℕ → List (List ℕ) → Command ℕ Global → Type 0
@@ -61,22 +66,32 @@ SayAfter name rest command =
     MatchBool (bytes_eq name (codes "push")) ((x : ℕ) × IsElement rest x × (command ≡ Push x))
     (MatchBool (bytes_eq name (codes "within")) ((x : ℕ) × IsElement rest x × (command ≡ Within x))
     (MatchBool (bytes_eq name (codes "pop")) ((rest ≡ []) × (command ≡ Pop))
-    (MatchBool (bytes_eq name (codes "insert")) ((p : ℕ × ℕ) × AreNumberAndElement rest p × (command ≡ Insert p.0 p.1))
+    (MatchBool (bytes_eq name (codes "insert"))
+    ((p : ℕ × ℕ) × AreNumberAndElement rest p × (command ≡ Insert p.0 p.1))
     (MatchBool (bytes_eq name (codes "remove")) ((n : ℕ) × IsNumber rest n × (command ≡ Remove n))
-    (MatchBool (bytes_eq name (codes "swap_remove")) ((n : ℕ) × IsNumber rest n × (command ≡ SwapRemove n))
-    (MatchBool (bytes_eq name (codes "truncate")) ((n : ℕ) × IsNumber rest n × (command ≡ Truncate n))
+    (MatchBool (bytes_eq name (codes "swap_remove"))
+    ((n : ℕ) × IsNumber rest n × (command ≡ SwapRemove n))
+    (MatchBool (bytes_eq name (codes "truncate"))
+    ((n : ℕ) × IsNumber rest n × (command ≡ Truncate n))
     (MatchBool (bytes_eq name (codes "clear")) ((rest ≡ []) × (command ≡ Clear))
     (MatchBool (bytes_eq name (codes "reserve")) ((n : ℕ) × IsNumber rest n × (command ≡ Reserve n))
-    (MatchBool (bytes_eq name (codes "reserve_exact")) ((n : ℕ) × IsNumber rest n × (command ≡ ReserveExact n))
-    (MatchBool (bytes_eq name (codes "shrink_to")) ((n : ℕ) × IsNumber rest n × (command ≡ ShrinkTo n))
-    (MatchBool (bytes_eq name (codes "split_off")) ((n : ℕ) × IsNumber rest n × (command ≡ SplitOff n))
+    (MatchBool (bytes_eq name (codes "reserve_exact"))
+    ((n : ℕ) × IsNumber rest n × (command ≡ ReserveExact n))
+    (MatchBool (bytes_eq name (codes "shrink_to"))
+    ((n : ℕ) × IsNumber rest n × (command ≡ ShrinkTo n))
+    (MatchBool (bytes_eq name (codes "split_off"))
+    ((n : ℕ) × IsNumber rest n × (command ≡ SplitOff n))
     (MatchBool (bytes_eq name (codes "append")) ((rest ≡ []) × (command ≡ Append))
-    (MatchBool (bytes_eq name (codes "extend_from_within")) ((p : ℕ × ℕ) × AreNumbers rest p × (command ≡ ExtendFromWithin p.0 p.1))
-    (MatchBool (bytes_eq name (codes "resize")) ((p : ℕ × ℕ) × AreNumberAndElement rest p × (command ≡ Resize p.0 p.1))
+    (MatchBool (bytes_eq name (codes "extend_from_within"))
+    ((p : ℕ × ℕ) × AreNumbers rest p × (command ≡ ExtendFromWithin p.0 p.1))
+    (MatchBool (bytes_eq name (codes "resize"))
+    ((p : ℕ × ℕ) × AreNumberAndElement rest p × (command ≡ Resize p.0 p.1))
     (MatchBool (bytes_eq name (codes "retain")) ((rest ≡ []) × (command ≡ Retain))
     (MatchBool (bytes_eq name (codes "dedup")) ((rest ≡ []) × (command ≡ Dedup))
-    (MatchBool (bytes_eq name (codes "drain")) ((p : ℕ × ℕ × ℕ × ℕ × Bool) × AreDrain rest p × (command ≡ Drain p.0 p.1 p.2 p.3 p.4))
-    (MatchBool (bytes_eq name (codes "extract")) ((p : ℕ × ℕ × ℕ) × AreThreeNumbers rest p × (command ≡ ExtractIf p.0 p.1 p.2))
+    (MatchBool (bytes_eq name (codes "drain"))
+    ((p : ℕ × ℕ × ℕ × ℕ × Bool) × AreDrain rest p × (command ≡ Drain p.0 p.1 p.2 p.3 p.4))
+    (MatchBool (bytes_eq name (codes "extract"))
+    ((p : ℕ × ℕ × ℕ) × AreThreeNumbers rest p × (command ≡ ExtractIf p.0 p.1 p.2))
     ⊥))))))))))))))))))
 
 -- the word is a hyphen where no number is told, and else writes the number
@@ -86,13 +101,15 @@ IsHint word (Some n) = Writes (2 ^ 64) word n
 
 -- the words, a hint and then elements, say an extension
 abbrev pub SaysExtend : List (List ℕ) → Command ℕ Global → Type 0
-SaysExtend (word ∷ words) (Extend items hint) = IsHint word hint × AllZip (Writes (2 ^ 32)) words items.items
+SaysExtend (word ∷ words) (Extend items hint) =
+    IsHint word hint × AllZip (Writes (2 ^ 32)) words items.items
 SaysExtend words command = ⊥
 
 -- the words, where a range begins and ends, a hint and then elements, say a splice
 abbrev pub SaysSplice : List (List ℕ) → Command ℕ Global → Type 0
 SaysSplice (v ∷ w ∷ word ∷ words) (Splice start end items hint) =
-    Writes (2 ^ 64) v start × Writes (2 ^ 64) w end × IsHint word hint × AllZip (Writes (2 ^ 32)) words items.items
+    Writes (2 ^ 64) v start × Writes (2 ^ 64) w end × IsHint word hint
+    × AllZip (Writes (2 ^ 32)) words items.items
 SaysSplice words command = ⊥
 
 -- the words say the command
@@ -100,7 +117,8 @@ abbrev pub Say : List (List ℕ) → Command ℕ Global → Type 0
 Say [] command = ⊥
 Say (name ∷ rest) command =
     MatchBool (bytes_eq name (codes "extend")) (SaysExtend rest command)
-    (MatchBool (bytes_eq name (codes "splice")) (SaysSplice rest command) (SayAfter name rest command))
+    (MatchBool (bytes_eq name (codes "splice"))
+    (SaysSplice rest command) (SayAfter name rest command))
 
 -- the words of each line that has some, in order
 abbrev pub said_in : List (List ℕ) → List (List (List ℕ))
@@ -132,7 +150,8 @@ command_lines (line ∷ lines) =
 -- all of the lines are blank ones, so many, and then these others
 abbrev pub AreBehind : (count : ℕ) → (others all : List (List ℕ)) → Type 0
 AreBehind count others all =
-    (before : List (List ℕ)) × AllByRecursion (λ line. words_of line ≡ []) before × (count ≡ length before) × (all ≡ before ++ others)
+    (before : List (List ℕ)) × AllByRecursion (λ line. words_of line ≡ []) before
+    × (count ≡ length before) × (all ≡ before ++ others)
 
 -- the lines that have words say these commands, one each and in order
 abbrev pub Mean : List (List ℕ) → List (Command ℕ Global) → Type 0

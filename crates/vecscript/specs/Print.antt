@@ -36,11 +36,13 @@ elements_text elements = flat_map (λ x. 32 ∷ decimal x) elements
 -- a list by its name, its length, its capacity and its elements
 abbrev pub list_text : List ℕ → ℕ → List ℕ → List ℕ
 list_text name capacity elements =
-    (name ++ (codes " len=" ++ (decimal (length elements) ++ (codes " cap=" ++ (decimal capacity ++ codes ":")))))
+    (name ++ (codes " len=" ++ (decimal (length elements)
+    ++ (codes " cap=" ++ (decimal capacity ++ codes ":")))))
     ++ elements_text elements
 
 -- what a script prints: a line for each reply, then the two lists with their capacities
-abbrev pub printed : List (Reply ℕ) → (main : List ℕ) → (main_capacity : ℕ) → (side : List ℕ) → (side_capacity : ℕ)
+abbrev pub printed : List (Reply ℕ) → (main : List ℕ) → (main_capacity : ℕ) → (side : List ℕ)
+    → (side_capacity : ℕ)
     → List ℕ
 printed replies main main_capacity side side_capacity =
     replies_text replies
@@ -49,4 +51,5 @@ printed replies main main_capacity side side_capacity =
 
 -- known bytes grow by a beginning of the text
 abbrev pub AppendsBeginning : (old new : Option (List ℕ)) → List ℕ → Type 0
-AppendsBeginning old new text = (front : List ℕ) × (rest : List ℕ) × (text ≡ front ++ rest) × Appends old new front
+AppendsBeginning old new text =
+    (front : List ℕ) × (rest : List ℕ) × (text ≡ front ++ rest) × Appends old new front

@@ -19,7 +19,8 @@ element_size = 4
 module _ {K S : Type 0} (calls : Calls ℕ Global K S) where
   -- the list machine may run the commands on two empty lists that grow so, with the closures in
   -- these states, so that what it replies and leaves is printed as the text
-  pub record MayPrint (growth : Growth) (alloc : Global) (keep : K) (same : S) (commands : List (Command ℕ Global)) (text : List ℕ) : Type 0 where
+  pub record MayPrint (growth : Growth) (alloc : Global) (keep : K) (same : S)
+      (commands : List (Command ℕ Global)) (text : List ℕ) : Type 0 where
     pub main : Vector ℕ Global
     pub side : Vector ℕ Global
     pub replies : List (Reply ℕ)
@@ -27,11 +28,13 @@ module _ {K S : Type 0} (calls : Calls ℕ Global K S) where
     pub main_new : IsMade element_size 0 growth [] 0 main × (main.alloc ≡ alloc)
     pub side_new : IsMade element_size 0 growth [] 0 side × (side.alloc ≡ alloc)
     pub run : RunsTo element_size calls (state_of main side keep same) commands replies last
-    pub is_text : text ≡ printed replies last.main.items last.main.capacity last.side.items last.side.capacity
+    pub is_text : text
+        ≡ printed replies last.main.items last.main.capacity last.side.items last.side.capacity
 
   -- none of the lines is bad, and they mean commands that may lead from the one state to the other,
   -- and whose replies are printed behind the text
-  pub record Answers (old : State ℕ Global K S) (lines : List (List ℕ)) (text text' : List ℕ) (new : State ℕ Global K S) : Type 0 where
+  pub record Answers (old : State ℕ Global K S) (lines : List (List ℕ)) (text text' : List ℕ)
+      (new : State ℕ Global K S) : Type 0 where
     pub good : HasNoBad lines
     pub commands : List (Command ℕ Global)
     pub meant : Mean lines commands
@@ -40,7 +43,8 @@ module _ {K S : Type 0} (calls : Calls ℕ Global K S) where
     pub shown : text' ≡ text ++ replies_text replies
 
   -- the script's lines say how the two lists grow, and mean commands that may print the text
-  pub record MayAnswer (alloc : Global) (keep : K) (same : S) (lines : List (List ℕ)) (text : List ℕ) : Type 0 where
+  pub record MayAnswer (alloc : Global) (keep : K) (same : S) (lines : List (List ℕ))
+      (text : List ℕ) : Type 0 where
     pub commands : List (Command ℕ Global)
     pub meant : Mean (command_lines lines) commands
     pub prints : MayPrint (growth_in lines) alloc keep same commands text
@@ -56,4 +60,10 @@ RepeatsEqual = Equals (λ x l. x == l)
 -- the calls that a script's run makes, which may always be made, where the allocator is cloned so
 abbrev pub script_calls : (Global → Global → Type 0) → Calls ℕ Global (Unit {0}) (Unit {0})
 script_calls clones =
-    record { keeps = KeepsEven; repeats = RepeatsEqual; takes_keep = λ s x. ⊤; takes_same = λ s x l. ⊤; clones = clones }
+    record {
+      keeps = KeepsEven;
+      repeats = RepeatsEqual;
+      takes_keep = λ s x. ⊤;
+      takes_same = λ s x l. ⊤;
+      clones = clones;
+    }

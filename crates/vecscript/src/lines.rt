@@ -36,7 +36,8 @@ pub fn chosen_growth(text: &[u8]) -> (Growth, usize, &[u8])
 
 // Whether the line's words are `sparing` alone, where it has some.
 fn is_sparing(line: &[u8]) -> Option<bool>
-    ensures { MatchOption result (words_of line.now ≡ []) (λ b. (words_of line.now ≢ []) × (b ≡ are_sparing (words_of line.now))) }
+    ensures { MatchOption result (words_of line.now ≡ [])
+        (λ b. (words_of line.now ≢ []) × (b ≡ are_sparing (words_of line.now))) }
 {
     let mut words = Words { rest: line };
     match (words.next()?, words.next()) {
@@ -452,7 +453,8 @@ fn number(word: &[u8]) -> Option<usize>
 // a decimal digit and the number fits. No digits write 0.
 fn first_number(line: &[u8]) -> Option<(u64, &[u8])>
     ensures some { IfSome result (λ r. let word = take (position_or_len is_blank line.now) line.now in
-        AllDigits 10 word × (r.0 ≡ digits_value 10 word) × (r.1.now ≡ drop (position_or_len is_blank line.now) line.now)
+        AllDigits 10 word × (r.0 ≡ digits_value 10 word)
+        × (r.1.now ≡ drop (position_or_len is_blank line.now) line.now)
         × (r.0 < 2 ^ 64)) }
     ensures none { IfNone result (let word = take (position_or_len is_blank line.now) line.now in
         ¬ (AllDigits 10 word × (digits_value 10 word < 2 ^ 64))) }
@@ -495,14 +497,16 @@ impl<'a> Iterator for Words<'a> {
 impl Words<'_> {
     // Whether no word is left.
     fn is_empty(&self) -> bool
-        ensures { MatchBool result (words_of self.now.rest.now ≡ []) (words_of self.now.rest.now ≢ []) }
+        ensures { MatchBool result (words_of self.now.rest.now ≡ [])
+            (words_of self.now.rest.now ≢ []) }
     {
         blank_count(self.rest) == self.rest.len()
     }
 
     // The element that the next word writes, if there is one and it writes one.
     fn element(&mut self) -> Option<u32>
-        ensures some { IfSome result (λ x. (word : List ℕ) × (words_of self.old.rest.now ≡ word ∷ words_of self.new.rest.now)
+        ensures some { IfSome result (λ x. (word : List ℕ)
+            × (words_of self.old.rest.now ≡ word ∷ words_of self.new.rest.now)
             × Writes (2 ^ 32) word x) }
         ensures none { IfNone result ((word : List ℕ) (rest : List (List ℕ)) (x : ℕ)
             → words_of self.old.rest.now ≡ word ∷ rest → ¬ (Writes (2 ^ 32) word x)) }
@@ -518,7 +522,8 @@ impl Words<'_> {
 
     // The number that the next word writes, if there is one and it writes one.
     fn number(&mut self) -> Option<usize>
-        ensures some { IfSome result (λ n. (word : List ℕ) × (words_of self.old.rest.now ≡ word ∷ words_of self.new.rest.now)
+        ensures some { IfSome result (λ n. (word : List ℕ)
+            × (words_of self.old.rest.now ≡ word ∷ words_of self.new.rest.now)
             × Writes (2 ^ 64) word n) }
         ensures none { IfNone result ((word : List ℕ) (rest : List (List ℕ)) (n : ℕ)
             → words_of self.old.rest.now ≡ word ∷ rest → ¬ (Writes (2 ^ 64) word n)) }

@@ -125,7 +125,8 @@ pub fn script<R: Read, W: Write, E: Write>(
         × MayAnswer (script_calls ⟦<Global as Clone>⟧.is_clone) alloc tt tt (lines text) answer
         × Appends (W.contents output.old) (W.contents output.new) answer) }
     ensures bad { result ≡ 1 →
-        IfSome (R.remaining input.old) (λ text. (number : ℕ) × IsFirstBad (command_lines (lines text)) number) }
+        IfSome (R.remaining input.old)
+        (λ text. (number : ℕ) × IsFirstBad (command_lines (lines text)) number) }
 
     // What is not written, and that nothing but a beginning of an answer is.
     ensures bad_prints_nothing { result ≡ 1 →
@@ -138,7 +139,8 @@ pub fn script<R: Read, W: Write, E: Write>(
         × AppendsBeginning (W.contents output.old) (W.contents output.new) answer) }
     ensures told { result ≢ 0 → (fault : Fault) × (result ≡ status_of fault)
         × IsFoundIn (R.remaining input.old) fault
-        × AppendsBeginning (E.contents faults.old) (E.contents faults.new) (line_of (fault_text fault)) }
+        × AppendsBeginning (E.contents faults.old) (E.contents faults.new)
+        (line_of (fault_text fault)) }
     ensures good_tells_nothing { result ≡ 0 →
         Keeps (E.contents faults.old) (E.contents faults.new) }
 {
@@ -177,9 +179,11 @@ where
     S: FnMut(&mut u32, &mut u32) -> bool,
     requires keep { (k : K) (x : ℕ) → TakesMut K.FnMut k x }
     requires same { (s : S) (x y : ℕ) → TakesPairMut S.FnMut s x y }
-    ensures ok { OnOk result (IfSome (R.remaining input.old) (λ text. HasNoBad (command_lines (lines text)))) }
+    ensures ok { OnOk result
+        (IfSome (R.remaining input.old) (λ text. HasNoBad (command_lines (lines text)))) }
     ensures printed { OnOk result (IfSome (R.remaining input.old) (λ text. (answer : List ℕ)
-        × MayAnswer (calls_of ⟦<Global as Clone>⟧.is_clone K.FnMut S.FnMut) alloc keep.old same.old (lines text) answer
+        × MayAnswer (calls_of ⟦<Global as Clone>⟧.is_clone K.FnMut S.FnMut) alloc keep.old same.old
+        (lines text) answer
         × Appends (W.contents output.old) (W.contents output.new) answer)) }
     ensures err { IfErr result (IsFoundIn (R.remaining input.old)) }
 
@@ -188,7 +192,8 @@ where
         Keeps (W.contents output.old) (W.contents output.new)) }
     ensures part { Keeps (W.contents output.old) (W.contents output.new)
         ⊎ IfSome (R.remaining input.old) (λ text. (answer : List ℕ)
-        × MayAnswer (calls_of ⟦<Global as Clone>⟧.is_clone K.FnMut S.FnMut) alloc keep.old same.old (lines text) answer
+        × MayAnswer (calls_of ⟦<Global as Clone>⟧.is_clone K.FnMut S.FnMut) alloc keep.old same.old
+        (lines text) answer
         × AppendsBeginning (W.contents output.old) (W.contents output.new) answer) }
 {
     let text = read_text(alloc, input)?;
@@ -284,7 +289,8 @@ where
     S: FnMut(&mut u32, &mut u32) -> bool,
     requires keep { (k : K) (x : ℕ) → TakesMut K.FnMut k x }
     requires same { (s : S) (x y : ℕ) → TakesPairMut S.FnMut s x y }
-    ensures ok { IfOk result (λ replies. RunsTo element_size (calls_of ⟦<Global as Clone>⟧.is_clone K.FnMut S.FnMut)
+    ensures ok { IfOk result
+        (λ replies. RunsTo element_size (calls_of ⟦<Global as Clone>⟧.is_clone K.FnMut S.FnMut)
         (state_of main.old side.old keep.old same.old) commands.items replies.items
         (state_of main.new side.new keep.new same.new)) }
     ensures err { IfErr result (λ fault. fault ≡ OutOfMemory) }
@@ -296,7 +302,8 @@ where
 
 // Writes the fault's line, or a beginning of it where a write fails.
 fn tell<E: Write>(fault: &Fault, faults: &mut E)
-    ensures { AppendsBeginning (E.contents faults.old) (E.contents faults.new) (line_of (fault_text fault.now)) }
+    ensures { AppendsBeginning (E.contents faults.old) (E.contents faults.new)
+        (line_of (fault_text fault.now)) }
 {
     let text = InlineText::<64>::of(fault);
     let line = text.as_str().as_bytes();
