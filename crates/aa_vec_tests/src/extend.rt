@@ -26,8 +26,7 @@ fn extended<T: Drop, A: Allocator>(
         (len v.old + length items.items - v.old.capacity) v.new) }
     ensures writes { let placed = len v.new - len v.old in Writes v.old placed placed v.new }
     ensures refused { IfErr result (λ e. ExtendsFull (type_size T.row) (lower_by items.hint) v.old
-        v.old.items
-        items.items e v.new) }
+        v.old.items items.items e v.new) }
 {
     v.extend_hinted(items)
 }
