@@ -215,20 +215,20 @@ fn command(name: &[u8], mut line: Line<'_>) -> Result<Command<u32>, Fault>
         (SayAfter name.now (words_of line.entry.words.rest.now)) result }
 {
     match name {
-        _ if name == b"push".as_slice() => line.element().map(Command::Push),
-        _ if name == b"within".as_slice() => line.element().map(Command::Within),
+        _ if name == b"push".as_slice() => line.element().map(|x| Command::Push(x)),
+        _ if name == b"within".as_slice() => line.element().map(|x| Command::Within(x)),
         _ if name == b"pop".as_slice() => line.end().map(|()| Command::Pop),
         _ if name == b"insert".as_slice() => line
             .number_and_element()
             .map(|(index, x)| Command::Insert(index, x)),
-        _ if name == b"remove".as_slice() => line.number().map(Command::Remove),
-        _ if name == b"swap_remove".as_slice() => line.number().map(Command::SwapRemove),
-        _ if name == b"truncate".as_slice() => line.number().map(Command::Truncate),
+        _ if name == b"remove".as_slice() => line.number().map(|n| Command::Remove(n)),
+        _ if name == b"swap_remove".as_slice() => line.number().map(|n| Command::SwapRemove(n)),
+        _ if name == b"truncate".as_slice() => line.number().map(|n| Command::Truncate(n)),
         _ if name == b"clear".as_slice() => line.end().map(|()| Command::Clear),
-        _ if name == b"reserve".as_slice() => line.number().map(Command::Reserve),
-        _ if name == b"reserve_exact".as_slice() => line.number().map(Command::ReserveExact),
-        _ if name == b"shrink_to".as_slice() => line.number().map(Command::ShrinkTo),
-        _ if name == b"split_off".as_slice() => line.number().map(Command::SplitOff),
+        _ if name == b"reserve".as_slice() => line.number().map(|n| Command::Reserve(n)),
+        _ if name == b"reserve_exact".as_slice() => line.number().map(|n| Command::ReserveExact(n)),
+        _ if name == b"shrink_to".as_slice() => line.number().map(|n| Command::ShrinkTo(n)),
+        _ if name == b"split_off".as_slice() => line.number().map(|n| Command::SplitOff(n)),
         _ if name == b"append".as_slice() => line.end().map(|()| Command::Append),
         _ if name == b"extend_from_within".as_slice() => line
             .numbers()
