@@ -88,9 +88,9 @@ fn check_line(alloc: Global, number: usize, line: &[u8]) -> Result<(), Fault>
 // nearest cache to hold their commands.
 const PIECE: usize = 4096;
 
-// A guess at how many bytes a line has. The commands of a piece get room for as many lines at
-// first.
-const SHORT_LINE: usize = 8;
+// How many bytes the shortest command's line has: `pop` and a line feed. The commands of a piece get
+// room for as many such lines at first.
+const SHORT_LINE: usize = 4;
 
 /// The commands of the lines, in order. A line without words is no command, but counts.
 ///
