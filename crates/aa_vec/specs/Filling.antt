@@ -76,7 +76,7 @@ pub record PutsWithin {T A : Type 0} (old : Vector T A) (n : ℕ) (new : Vector 
   pub written : let placed = len new - len old in new.written ≤ old.written + (placed + 2 * n)
   pub runs : let placed = len new - len old in new.runs ≤ old.runs + (placed + 2)
 
--- `rest` came from s, which told the number of it, and so did each state that followed
+-- the iterator gave `rest` from s on; before each item it told `lower` of the number still to come
 pub record Told {S T : Type 0} (next_gives : S → Option T → S → Type 0)
     (Tells : S → ℕ → Type 0) (s : S) (rest : List T) : Type 0 where
   pub lower : ℕ → ℕ
