@@ -176,7 +176,7 @@ impl<T, A: Allocator> Ring<T, A> {
         ensures rest { self.new ≡ wrote self.old self.new.items 0 }
     {
         let _within = self.block.capacity();
-        if self.count != 0 {
+        if self.count > 0 {
             let item = self.block.take(self.front);
             self.front += 1;
             self.count -= 1;
