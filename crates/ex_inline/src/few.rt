@@ -1,6 +1,7 @@
 //! `Few`: up to `N` items in place.
-ghost use Rattle.std.specs.Prelude.{◌≡◌, ◌+◌, ◌-◌, ◌<◌, ◌≤◌, [], ◌∷◌, ◌++◌, length, get_or, slice_get, slice_set, insert, remove, Some, None};
-ghost use Rattle.allocator_api2.specs.Places.{IsFilled, IsRun, run};
+ghost use Rattle.std.specs.Prelude.{◌≡◌, ◌+◌, ◌-◌, ◌<◌, ◌≤◌, [], ◌∷◌, ◌++◌, length, get_or, slice_get, slice_set, insert, remove, is_some, true, Some, None};
+ghost use Rattle.std.specs.List.{list_all};
+ghost use Rattle.allocator_api2.specs.Places.{IsFilled, IsRun, run, somes};
 ghost use Rattle.allocator_api2.specs.Vector.{HasRoom, SameBlock, Writes};
 
 use allocator_api2::vec::Vec;
@@ -55,6 +56,22 @@ impl<T, const N: usize> Few<T, N> {
         ensures { slice_get self.now index ≡ Some result.now }
     {
         place(&self.cells, index)
+    }
+
+    /// The cells of the items.
+    #[tactic(auto, using(allocator_api2::proofs::Blocks::shown))]
+    pub fn cells(&self) -> &[Option<T>]
+        ensures items { somes result.now ≡ self.now }
+        ensures filled { list_all is_some result.now ≡ true }
+    {
+        &self.cells[..self.len]
+    }
+
+    /// No cells.
+    pub fn no_cells(&self) -> &[Option<T>]
+        ensures { result.now ≡ [] }
+    {
+        &self.cells[..0]
     }
 
     /// Puts `item` behind the others.

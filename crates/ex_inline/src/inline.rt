@@ -1,7 +1,9 @@
 //! `InlineVec`: a vector whose first items stand in place.
-ghost use Rattle.std.specs.Prelude.{◌≡◌, ◌+◌, ◌-◌, ◌<◌, ◌≤◌, true, false, Some, [], ◌∷◌, ◌++◌, length, insert, remove, slice_get, slice_set, option_copied, IfErr, IfOk, OnErr, OnOk, IsOk, IsTrue, ◌↔◌, MatchOption};
+ghost use Rattle.std.specs.Prelude.{◌≡◌, ◌+◌, ◌-◌, ◌<◌, ◌≤◌, true, false, Some, [], ◌∷◌, ◌++◌, length, insert, remove, slice_get, slice_set, is_some, option_copied, IfErr, IfOk, OnErr, OnOk, IsOk, IsTrue, ◌↔◌, MatchOption};
+ghost use Rattle.std.specs.List.{list_all};
 ghost use Rattle.std.specs.Mem.{type_size};
 ghost use Rattle.allocator_api2.specs.Growth.{sized};
+ghost use Rattle.allocator_api2.specs.Places.{somes};
 ghost use Rattle.allocator_api2.specs.declared.raw_vec.Growth.TheVariants.{Doubling};
 ghost use Rattle.ex_inline.specs.Inlined.{empty, wrote, in_block, all_in_block, block_of, with_room, HasRoom, LacksBlock, LacksRoom};
 
@@ -207,6 +209,18 @@ impl<T: Drop, A: Allocator, const N: usize> InlineVec<T, A, N> {
             spilled: _,
         } = self;
         heap
+    }
+
+    // The items: the cells of those in place, and those in the block.
+    pub(crate) fn parts(&self) -> (&[Option<T>], &[T])
+        ensures items { somes result.0.now ++ result.1.now ≡ self.now.items }
+        ensures filled { list_all is_some result.0.now ≡ true }
+    {
+        if self.spilled {
+            (self.few.no_cells(), self.heap.as_slice())
+        } else {
+            (self.few.cells(), self.heap.as_slice())
+        }
     }
 
     // Puts `item` behind the others, where there is room.

@@ -3,5 +3,6 @@
 
 mod few;
 pub mod inline;
+pub mod iter;
 #[cfg(test)]
 mod tests;
