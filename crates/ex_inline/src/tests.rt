@@ -42,39 +42,58 @@ fn the_first_items_take_no_memory(rt: HostRuntime) {
     assert!(rt; heap.outstanding() == 0);
 }
 
+// An item put at `index`, if that is no further than the end.
+fn put(v: &mut Small<'_>, index: usize, item: u64) -> bool {
+    index <= v.len() && v.insert(index, item).is_ok()
+}
+
+// The item at `index` taken, if there is one.
+fn taken(v: &mut Small<'_>, index: usize) -> Option<u64> {
+    if index < v.len() {
+        Some(v.remove(index))
+    } else {
+        None
+    }
+}
+
+// The item at `index`, if there is one, in exchange for another.
+fn exchanged(v: &mut Small<'_>, index: usize, item: u64) -> Option<u64> {
+    if index < v.len() {
+        Some(v.replace(index, item))
+    } else {
+        None
+    }
+}
+
 #[test]
 fn edits_are_the_same_in_place_and_in_the_block(rt: HostRuntime) {
     let heap = Faulty::new(rt.alloc());
     for more in 0u64..3 {
         let mut v: Small<'_> = InlineVec::new_in(&heap);
-        assert!(rt; v.insert(0, 10).is_ok() && v.insert(0, 20).is_ok() && v.insert(1, 30).is_ok());
-        assert!(rt; has(&v, &[20, 30, 10]));
+        assert!(rt; put(&mut v, 0, 10) && put(&mut v, 0, 20) && put(&mut v, 1, 30));
         for item in 0..more {
-            assert!(rt; v.insert(1, item).is_ok());
+            assert!(rt; put(&mut v, 1, item));
         }
-        for _item in 0..more {
-            assert!(rt; v.len() > 3);
-            drop(v.remove(1));
+        for item in 0..more {
+            assert!(rt; taken(&mut v, 1) == Some(more - 1 - item));
         }
-        assert!(rt; has(&v, &[20, 30, 10]));
-        assert!(rt; v.replace(2, 40) == 10 && v.remove(0) == 20 && has(&v, &[30, 40]));
+        assert!(rt; has(&v, &[20, 30, 10]) && exchanged(&mut v, 2, 40) == Some(10));
+        assert!(rt; taken(&mut v, 0) == Some(20) && has(&v, &[30, 40]));
         match v.into_vec() {
             Ok(items) => assert!(rt; items.as_slice() == [30, 40].as_slice()),
             Err(_) => assert!(rt; false),
         }
-        assert!(rt; heap.outstanding() == 0);
     }
+    assert!(rt; heap.outstanding() == 0);
 }
 
 #[test]
 fn a_refused_move_hands_all_back(rt: HostRuntime) {
     let heap = Faulty::new(rt.alloc());
     let mut v: Small<'_> = InlineVec::new_in(&heap);
-    for item in 0u64..3 {
-        assert!(rt; v.push(item).is_ok());
-    }
+    assert!(rt; put(&mut v, 0, 2) && put(&mut v, 0, 1) && put(&mut v, 0, 0));
     heap.refuse(0, 1000);
-    assert!(rt; v.insert(1, 9).is_err() && has(&v, &[0, 1, 2]));
+    assert!(rt; !put(&mut v, 1, 9) && has(&v, &[0, 1, 2]));
     match v.into_vec() {
         Ok(_) => assert!(rt; false),
         Err(back) => assert!(rt; has(&back.source, &[0, 1, 2])),
