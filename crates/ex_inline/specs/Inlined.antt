@@ -1,5 +1,5 @@
 -- What contracts see of a small vector.
-use Rattle.std.specs.Prelude.{◌≡◌, ℕ, ◌+◌, ◌-◌, ◌<◌, ◌≤◌, Bool, false, true, List, [], length, nat_le, nat_lt, if◌then◌else◌}
+use Rattle.std.specs.Prelude.{ℕ, ◌+◌, ◌<◌, Bool, false, true, List, [], length, nat_le, nat_lt, if◌then◌else◌}
 use Rattle.allocator_api2.specs.Growth.{amortized, least_of}
 use Rattle.allocator_api2.specs.Room as Room
 use Rattle.allocator_api2.specs.Vector.{Vector}
@@ -31,7 +31,11 @@ module _ {T A : Type 0} where
   abbrev pub HasRoom : (N : ℕ) → Inlined T A → Type 0
   HasRoom N s = length s.items < capacity N s
 
-  -- s with other items, after n were written where they stand in the block
+  -- s with other items
+  abbrev pub with_items : Inlined T A → List T → Inlined T A
+  with_items s xs = record s { items = xs }
+
+  -- the same, after n were written where they stand in the block
   abbrev pub wrote : Inlined T A → List T → (n : ℕ) → Inlined T A
   wrote s xs n = record s { items = xs; moved = s.moved + (if s.spilled then n else 0) }
 
@@ -58,7 +62,8 @@ module _ {T A : Type 0} where
 
   -- a block for `needed` items of `size` bytes was refused with this error
   abbrev pub LacksBlock : (size needed : ℕ) → Inlined T A → TryReserveError → Type 0
-  LacksBlock size needed s error = Room.LacksRoom s.block 0 needed (grown_to size s.block needed) error
+  LacksBlock size needed s error =
+      Room.LacksRoom s.block 0 needed (grown_to size s.block needed) error
 
   -- s with its items in the block, of `size` bytes each
   abbrev pub all_in_block : (size : ℕ) → Inlined T A → Inlined T A

@@ -5,7 +5,7 @@ ghost use Rattle.std.specs.Mem.{type_size};
 ghost use Rattle.allocator_api2.specs.Growth.{sized};
 ghost use Rattle.allocator_api2.specs.Places.{somes};
 ghost use Rattle.allocator_api2.specs.declared.raw_vec.Growth.TheVariants.{Doubling};
-ghost use Rattle.ex_inline.specs.Inlined.{empty, wrote, in_block, all_in_block, block_of, with_room, HasRoom, LacksBlock, LacksRoom};
+ghost use Rattle.ex_inline.specs.Inlined.{capacity, empty, with_items, wrote, in_block, all_in_block, block_of, with_room, HasRoom, LacksBlock, LacksRoom};
 
 use crate::few::{Few, insert_within, push_within};
 use allocator_api2::collections::{Refused, TryReserveError, TryReserveErrorKind};
@@ -72,6 +72,24 @@ impl<T: Drop, A: Allocator, const N: usize> InlineVec<T, A, N> {
         self.len() == 0
     }
 
+    /// How many items there may be before memory is asked for.
+    pub fn capacity(&self) -> usize
+        ensures { result ≡ capacity N self.now }
+    {
+        if self.spilled {
+            self.heap.capacity()
+        } else {
+            N
+        }
+    }
+
+    /// Whether the items stand in the block.
+    pub fn spilled(&self) -> bool
+        ensures { result ≡ self.now.spilled }
+    {
+        self.spilled
+    }
+
     /// The item at `index`, the first one at 0, if there is one.
     pub fn get(&self, index: usize) -> Option<&T>
         ensures { option_copied result ≡ slice_get self.now.items index }
@@ -111,7 +129,7 @@ impl<T: Drop, A: Allocator, const N: usize> InlineVec<T, A, N> {
     pub fn pop(&mut self) -> Option<T>
         ensures taken { MatchOption result ((self.old.items ≡ []) × (self.new.items ≡ []))
             (λ x. self.old.items ≡ self.new.items ++ x ∷ []) }
-        ensures rest { self.new ≡ wrote self.old self.new.items 0 }
+        ensures rest { self.new ≡ with_items self.old self.new.items }
     {
         if self.spilled {
             return self.heap.pop();
@@ -126,7 +144,7 @@ impl<T: Drop, A: Allocator, const N: usize> InlineVec<T, A, N> {
     pub fn replace(&mut self, index: usize, item: T) -> T
         requires { index < length self.old.items }
         ensures old { slice_get self.old.items index ≡ Some result }
-        ensures now { self.new ≡ wrote self.old (slice_set self.old.items index item) 0 }
+        ensures now { self.new ≡ with_items self.old (slice_set self.old.items index item) }
     {
         if self.spilled {
             return mem::replace(&mut self.heap[index], item);

@@ -30,9 +30,9 @@ fn the_first_items_take_no_memory(rt: HostRuntime) {
         Ok(()) => assert!(rt; false),
         Err(back) => assert!(rt; back.source == 3),
     }
-    assert!(rt; has(&v, &[0, 1, 2]));
+    assert!(rt; has(&v, &[0, 1, 2]) && v.capacity() == 3 && !v.spilled());
     heap.refuse(0, 0);
-    assert!(rt; v.push(3).is_ok() && has(&v, &[0, 1, 2, 3]));
+    assert!(rt; v.push(3).is_ok() && has(&v, &[0, 1, 2, 3]) && v.capacity() > 3 && v.spilled());
     assert!(rt; v.pop() == Some(3) && v.pop() == Some(2) && has(&v, &[0, 1]));
     for item in 2u64..50 {
         assert!(rt; v.push(item).is_ok());
