@@ -1,5 +1,5 @@
 -- A value that is carried through a list.
-use Rattle.std.proofs.Common.{◌≡◌, ℕ, zero, suc, ◌+◌, ◌≤◌, List, [], ◌∷◌, ◌++◌, length, Some, refl, ap, ap₂, arith}
+use Rattle.std.proofs.Common.{◌≡◌, ℕ, zero, suc, ◌≤◌, List, [], ◌∷◌, ◌++◌, length, Some, refl, ap, ap₂, arith}
 use Rattle.std.specs.Prelude.{insert, remove, slice_get, slice_set}
 use Rattle.std.proofs.lemmas.List.{take_all, drop_all}
 

@@ -1,5 +1,5 @@
 -- What a call of a `Few` wants beside the lemmas on places.
-use Rattle.std.proofs.Common.{◌≡◌, ℕ, ◌+◌, ◌-◌, ◌<◌, List, Option, arith}
+use Rattle.std.proofs.Common.{ℕ, ◌-◌, ◌<◌, List, Option, arith}
 use Rattle.allocator_api2.specs.Places.{IsFilled, IsRun}
 use Rattle.allocator_api2.proofs.Blocks.{at_ends, last-filled}
 
