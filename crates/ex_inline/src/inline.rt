@@ -125,7 +125,7 @@ impl<T: Drop, A: Allocator, const N: usize> InlineVec<T, A, N> {
         Ok(())
     }
 
-    /// Takes the last item, if there is one. It stays where the others stand.
+    /// Takes the last item, if there is one. The others stay where they stand.
     pub fn pop(&mut self) -> Option<T>
         ensures taken { MatchOption result ((self.old.items ≡ []) × (self.new.items ≡ []))
             (λ x. self.old.items ≡ self.new.items ++ x ∷ []) }
