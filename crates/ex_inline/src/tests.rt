@@ -1,0 +1,118 @@
+use crate::inline::InlineVec;
+use aa_faulty::Faulty;
+use aa_faulty::counted::Counted;
+use std::alloc::Global;
+use std::cell::Cell;
+
+// Up to three items in place, over an allocator that may refuse.
+type Small<'a> = InlineVec<u64, &'a Faulty<Global>, 3>;
+
+// Whether the vector has these items.
+fn has(v: &Small<'_>, items: &[u64]) -> bool {
+    let mut same = v.len() == items.len() && v.is_empty() == items.is_empty();
+    let mut shown = v.iter();
+    for i in 0..items.len() {
+        let item = Some(items[i]);
+        same = shown.next().copied() == item && v.get(i).copied() == item && same;
+    }
+    same && shown.next().is_none() && v.get(items.len()).is_none()
+}
+
+#[test]
+fn the_first_items_take_no_memory(rt: HostRuntime) {
+    let heap = Faulty::new(rt.alloc());
+    heap.refuse(0, 1000);
+    let mut v: Small<'_> = InlineVec::new_in(&heap);
+    for item in 0u64..3 {
+        assert!(rt; v.push(item).is_ok());
+    }
+    match v.push(3) {
+        Ok(()) => assert!(rt; false),
+        Err(back) => assert!(rt; back.source == 3),
+    }
+    assert!(rt; has(&v, &[0, 1, 2]) && v.capacity() == 3 && !v.spilled());
+    heap.refuse(0, 0);
+    assert!(rt; v.push(3).is_ok() && has(&v, &[0, 1, 2, 3]) && v.capacity() > 3 && v.spilled());
+    assert!(rt; v.pop() == Some(3) && v.pop() == Some(2) && has(&v, &[0, 1]));
+    for item in 2u64..50 {
+        assert!(rt; v.push(item).is_ok());
+    }
+    assert!(rt; v.len() == 50 && v.get(49).copied() == Some(49));
+    drop(v);
+    assert!(rt; heap.outstanding() == 0);
+}
+
+// An item put at `index`, if that is no further than the end.
+fn put(v: &mut Small<'_>, index: usize, item: u64) -> bool {
+    index <= v.len() && v.insert(index, item).is_ok()
+}
+
+// The item at `index` taken, if there is one.
+fn taken(v: &mut Small<'_>, index: usize) -> Option<u64> {
+    if index < v.len() {
+        Some(v.remove(index))
+    } else {
+        None
+    }
+}
+
+// The item at `index`, if there is one, in exchange for another.
+fn exchanged(v: &mut Small<'_>, index: usize, item: u64) -> Option<u64> {
+    if index < v.len() {
+        Some(v.replace(index, item))
+    } else {
+        None
+    }
+}
+
+#[test]
+fn edits_are_the_same_in_place_and_in_the_block(rt: HostRuntime) {
+    let heap = Faulty::new(rt.alloc());
+    for more in 0u64..3 {
+        let mut v: Small<'_> = InlineVec::new_in(&heap);
+        assert!(rt; put(&mut v, 0, 10) && put(&mut v, 0, 20) && put(&mut v, 1, 30));
+        for item in 0..more {
+            assert!(rt; put(&mut v, 1, item));
+        }
+        for item in 0..more {
+            assert!(rt; taken(&mut v, 1) == Some(more - 1 - item));
+        }
+        assert!(rt; has(&v, &[20, 30, 10]) && exchanged(&mut v, 2, 40) == Some(10));
+        assert!(rt; taken(&mut v, 0) == Some(20) && has(&v, &[30, 40]));
+        match v.into_vec() {
+            Ok(items) => assert!(rt; items.as_slice() == [30, 40].as_slice()),
+            Err(_) => assert!(rt; false),
+        }
+    }
+    assert!(rt; heap.outstanding() == 0);
+}
+
+#[test]
+fn a_refused_move_hands_all_back(rt: HostRuntime) {
+    let heap = Faulty::new(rt.alloc());
+    let mut v: Small<'_> = InlineVec::new_in(&heap);
+    assert!(rt; put(&mut v, 0, 2) && put(&mut v, 0, 1) && put(&mut v, 0, 0));
+    heap.refuse(0, 1000);
+    assert!(rt; !put(&mut v, 1, 9) && has(&v, &[0, 1, 2]));
+    match v.into_vec() {
+        Ok(_) => assert!(rt; false),
+        Err(back) => assert!(rt; has(&back.source, &[0, 1, 2])),
+    }
+}
+
+#[test]
+fn each_item_is_dropped_once(rt: HostRuntime) {
+    let heap = Faulty::new(rt.alloc());
+    let drops = Cell::new(0);
+    for len in 0u32..6 {
+        drops.set(0);
+        let mut v: InlineVec<Counted<'_>, &Faulty<Global>, 2> = InlineVec::new_in(&heap);
+        for value in 0..len {
+            let drops = &drops;
+            assert!(rt; v.push(Counted { value, drops }).is_ok());
+        }
+        drop(v.pop());
+        drop(v);
+        assert!(rt; drops.get() == len && heap.outstanding() == 0);
+    }
+}
