@@ -1,13 +1,15 @@
 -- What the cases are called.
 use Rattle.std.specs.Prelude.{ℕ, List, codes, ◌++◌}
 use Rattle.vecbench.specs.declared.case.Case.{Case}
-use Rattle.vecbench.specs.declared.case.Case.TheVariants.{Sized, Chosen, Pieces as PiecesCase, PushPop, PushReserved, PushFull, InsertFront, RemoveFront, SwapRemove, ExtendFromSlice, Extend, ExtendUnhinted, ExtendThrice, Append, SplitJoin, DrainTaken, DrainDropped, DrainFront, DrainBack, IntoIter, SpliceGrowing, SpliceInPlace, SpliceFront, InsertMiddle, GapInsert}
+use Rattle.vecbench.specs.declared.case.Case.TheVariants.{Sized, Chosen, Pieces as PiecesCase, Held, PushPop, PushReserved, PushFull, InsertFront, RemoveFront, SwapRemove, ExtendFromSlice, Extend, ExtendUnhinted, ExtendThrice, Append, SplitJoin, DrainTaken, DrainDropped, DrainFront, DrainBack, IntoIter, SpliceGrowing, SpliceInPlace, SpliceFront, InsertMiddle, GapInsert}
 use Rattle.vecbench.specs.declared.case.Call.{Call}
 use Rattle.vecbench.specs.declared.case.Call.TheVariants.{Push, InsertPop, RemovePush, Clone}
 use Rattle.vecbench.specs.declared.case.Choice.{Choice}
 use Rattle.vecbench.specs.declared.case.Choice.TheVariants.{RetainHalf, RetainMost, RetainRandom, RetainNone, ExtractHalf, Dedup, DedupByKey}
 use Rattle.vecbench.specs.declared.case.Pieces.{Pieces}
 use Rattle.vecbench.specs.declared.case.Pieces.TheVariants.{OfFour, OfTwenty, Mixed, Written}
+use Rattle.vecbench.specs.declared.case.Collection.{Collection}
+use Rattle.vecbench.specs.declared.case.Collection.TheVariants.{TableInsert, TableHit, TableMiss, TableRemove, RingQueue, RingPush, InlineFew}
 use Rattle.vecbench.specs.declared.case.Size.{Size}
 use Rattle.vecbench.specs.declared.case.Size.TheVariants.{Four, One, TwentyFour, Zero}
 
@@ -39,10 +41,20 @@ name_of_pieces OfTwenty = codes "pieces_of_20"
 name_of_pieces Mixed = codes "pieces_mixed"
 name_of_pieces Written = codes "write_pieces"
 
+abbrev pub name_of_collection : Collection → List ℕ
+name_of_collection TableInsert = codes "table_insert"
+name_of_collection TableHit = codes "table_hit"
+name_of_collection TableMiss = codes "table_miss"
+name_of_collection TableRemove = codes "table_remove"
+name_of_collection RingQueue = codes "ring_queue"
+name_of_collection RingPush = codes "ring_push"
+name_of_collection InlineFew = codes "inline_few"
+
 abbrev pub name_of : Case → List ℕ
 name_of (Sized call size) = name_of_call call ++ suffix_of size
 name_of (Chosen choice) = name_of_choice choice
 name_of (PiecesCase pieces) = name_of_pieces pieces
+name_of (Held collection) = name_of_collection collection
 name_of PushPop = codes "push_pop"
 name_of PushReserved = codes "push_reserved"
 name_of PushFull = codes "push_full"

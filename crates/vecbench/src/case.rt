@@ -1,6 +1,7 @@
 //! The cases, by their names.
 ghost use Rattle.std.specs.Prelude.{◌≡◌, ◌≢◌, ◌++◌, Some, IfSome, IfNone};
-ghost use Rattle.vecbench.specs.Cases.{name_of, name_of_call, suffix_of, name_of_choice, name_of_pieces};
+ghost use Rattle.vecbench.specs.Cases.{name_of, name_of_call, suffix_of, name_of_choice};
+ghost use Rattle.vecbench.specs.Cases.{name_of_pieces, name_of_collection};
 
 use std::fmt;
 
@@ -13,6 +14,8 @@ pub enum Case {
     Chosen(Choice),
     /// Pieces of bytes put behind the others, COUNT of them.
     Pieces(Pieces),
+    /// Keys or items go into another collection than a vector, or out of it.
+    Held(Collection),
     /// Pushes a number and pops it.
     PushPop,
     /// Reserves room for numbers and pushes them.
@@ -104,6 +107,26 @@ pub enum Pieces {
     Written,
 }
 
+/// What is timed of a table from `u64` to `u64`, of a queue and of a small vector. Keys are in no
+/// regular order.
+#[derive(Clone, Copy, PartialEq, Debug, Drop)]
+pub enum Collection {
+    /// Inserts keys into an empty table.
+    TableInsert,
+    /// Looks each key of a table up.
+    TableHit,
+    /// Looks keys up that are not there, as many as the table has.
+    TableMiss,
+    /// Removes each key of a table.
+    TableRemove,
+    /// Pushes at the back of a queue of 100 numbers and pops at the front.
+    RingQueue,
+    /// Pushes at the back of an empty queue.
+    RingPush,
+    /// Makes a vector of eight numbers and takes them out, COUNT numbers in all.
+    InlineFew,
+}
+
 /// How large an element is.
 #[derive(Clone, Copy, PartialEq, Debug, Drop)]
 pub enum Size {
@@ -146,19 +169,33 @@ impl Case {
             "splice_front" => Case::SpliceFront,
             "insert_middle" => Case::InsertMiddle,
             "gap_insert" => Case::GapInsert,
-            _ => {
-                if let Some(choice) = chosen(name) {
-                    return Some(Case::Chosen(choice));
-                }
-                if let Some(pieces) = pieced(name) {
-                    return Some(Case::Pieces(pieces));
-                }
-                let (call, size) = sized(name)?;
-                Case::Sized(call, size)
-            }
+            _ => return grouped(name),
         };
         Some(case)
     }
+}
+
+// The case of this name among those of a choice, of pieces, of a collection or of a size.
+fn grouped(name: &str) -> Option<Case>
+    ensures some { IfSome result (λ case. name.now ≡ name_of case) }
+    ensures no_choice { IfNone result ((choice : Choice) → name.now ≢ name_of_choice choice) }
+    ensures no_pieces { IfNone result ((pieces : Pieces) → name.now ≢ name_of_pieces pieces) }
+    ensures no_collection { IfNone result
+        ((held : Collection) → name.now ≢ name_of_collection held) }
+    ensures no_size { IfNone result
+        ((call : Call) → (size : Size) → name.now ≢ name_of_call call ++ suffix_of size) }
+{
+    if let Some(choice) = chosen(name) {
+        return Some(Case::Chosen(choice));
+    }
+    if let Some(pieces) = pieced(name) {
+        return Some(Case::Pieces(pieces));
+    }
+    if let Some(collection) = held(name) {
+        return Some(Case::Held(collection));
+    }
+    let (call, size) = sized(name)?;
+    Some(Case::Sized(call, size))
 }
 
 // The call and the size that a case of this name has.
@@ -221,6 +258,24 @@ fn pieced(name: &str) -> Option<Pieces>
     Some(pieces)
 }
 
+// The case of a collection of this name.
+fn held(name: &str) -> Option<Collection>
+    ensures some { IfSome result (λ collection. name.now ≡ name_of_collection collection) }
+    ensures none { IfNone result ((held : Collection) → name.now ≢ name_of_collection held) }
+{
+    let collection = match name {
+        "table_insert" => Collection::TableInsert,
+        "table_hit" => Collection::TableHit,
+        "table_miss" => Collection::TableMiss,
+        "table_remove" => Collection::TableRemove,
+        "ring_queue" => Collection::RingQueue,
+        "ring_push" => Collection::RingPush,
+        "inline_few" => Collection::InlineFew,
+        _ => return None,
+    };
+    Some(collection)
+}
+
 impl fmt::Display for Case {
     ghost output = { λ case. Some (name_of case) };
 
@@ -229,6 +284,7 @@ impl fmt::Display for Case {
             Case::Sized(call, size) => write!(f, "{call}{size}"),
             Case::Chosen(choice) => write!(f, "{choice}"),
             Case::Pieces(pieces) => write!(f, "{pieces}"),
+            Case::Held(collection) => write!(f, "{collection}"),
             Case::PushPop => write!(f, "push_pop"),
             Case::PushReserved => write!(f, "push_reserved"),
             Case::PushFull => write!(f, "push_full"),
@@ -293,6 +349,22 @@ impl fmt::Display for Pieces {
             Pieces::OfTwenty => write!(f, "pieces_of_20"),
             Pieces::Mixed => write!(f, "pieces_mixed"),
             Pieces::Written => write!(f, "write_pieces"),
+        }
+    }
+}
+
+impl fmt::Display for Collection {
+    ghost output = { λ collection. Some (name_of_collection collection) };
+
+    fn fmt<W: fmt::Write>(&self, f: &mut fmt::Formatter<W>) -> fmt::Result {
+        match self {
+            Collection::TableInsert => write!(f, "table_insert"),
+            Collection::TableHit => write!(f, "table_hit"),
+            Collection::TableMiss => write!(f, "table_miss"),
+            Collection::TableRemove => write!(f, "table_remove"),
+            Collection::RingQueue => write!(f, "ring_queue"),
+            Collection::RingPush => write!(f, "ring_push"),
+            Collection::InlineFew => write!(f, "inline_few"),
         }
     }
 }

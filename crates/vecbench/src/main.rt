@@ -1,4 +1,5 @@
-//! Times the library's vector beside the toolchain's own, case by case.
+//! Times the library's vector, and the table and the ring of this repository, beside the toolchain's
+//! own, case by case.
 //!
 //! Each line of the input is a case to run: `CASE COUNT [REPEAT]`. The answer is one line: the case, the count, nanoseconds for
 //! each element over this library's vector and over the toolchain's, the fastest of REPEAT runs each (1 where it is left out), and

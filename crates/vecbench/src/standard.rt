@@ -1,11 +1,14 @@
 //! The cases over the toolchain's own vector.
 ghost use Rattle.std.specs.Prelude.{◌<◌, ◌≤◌};
 
+mod collections;
+
 use crate::bench::Lists;
 use crate::case::{Call, Case, Choice, Pieces, Size};
 use crate::checksum::checksum_from;
 use crate::element::{Element, Wide};
 use crate::lines::Task;
+use crate::standard::collections::Held;
 use std::alloc::Global;
 use std::io::Write;
 use std::mem::replace;
@@ -23,6 +26,7 @@ pub struct Vectors {
     source: Vec<u8>,
     // For the inserts in the middle, likewise.
     shorts: Pair<u16>,
+    held: Held,
 }
 
 // Two vectors of one type of elements.
@@ -43,6 +47,7 @@ impl Lists for Vectors {
             units: Pair::new(alloc),
             source: Vec::new(alloc),
             shorts: Pair::new(alloc),
+            held: Held::new(alloc),
         };
         if vectors.prepare(task.case, task.count) {
             Some(vectors)
@@ -55,10 +60,8 @@ impl Lists for Vectors {
         let count = task.count;
         let numbers = &mut self.numbers.list;
         match task.case {
-            Case::Sized(call, Size::Four) => self.numbers.run(call, count),
-            Case::Sized(call, Size::One) => self.bytes.run(call, count),
-            Case::Sized(call, Size::TwentyFour) => self.wides.run(call, count),
-            Case::Sized(call, Size::Zero) => self.units.run(call, count),
+            Case::Sized(call, size) => self.run_sized(call, size, count),
+            Case::Held(collection) => self.held.run(collection, count),
             Case::Chosen(choice) => choose(numbers, choice),
             Case::Pieces(pieces) => {
                 put_pieces(&mut self.bytes.list, self.source.as_slice(), pieces, count)
@@ -99,7 +102,8 @@ impl Lists for Vectors {
         let bytes = self.bytes.checksum(longs);
         let wides = self.wides.checksum(bytes);
         let units = self.units.checksum(wides);
-        self.shorts.checksum(units)
+        let shorts = self.shorts.checksum(units);
+        self.held.checksum(shorts)
     }
 }
 
@@ -114,6 +118,7 @@ impl Vectors {
             Case::Sized(call, Size::Zero) => self.units.prepare(call, count),
             Case::PushReserved | Case::Extend | Case::ExtendUnhinted => true,
             Case::ExtendThrice | Case::SpliceGrowing => true,
+            Case::Held(collection) => self.held.prepare(collection, count),
             Case::Chosen(choice) => fill_for(numbers, choice, count),
             Case::Pieces(_) => fill_at_random(&mut self.source, count.max(24), 24),
             Case::PushPop => fill(numbers, 3, 1),
@@ -130,6 +135,15 @@ impl Vectors {
             Case::DrainTaken | Case::DrainDropped => fill(numbers, count.saturating_mul(2), 1),
             Case::ExtendFromSlice => fill(&mut self.source, count, 1),
             Case::Append => fill(&mut self.numbers.other, count, 1),
+        }
+    }
+
+    fn run_sized(&mut self, call: Call, size: Size, count: u32) -> bool {
+        match size {
+            Size::Four => self.numbers.run(call, count),
+            Size::One => self.bytes.run(call, count),
+            Size::TwentyFour => self.wides.run(call, count),
+            Size::Zero => self.units.run(call, count),
         }
     }
 }

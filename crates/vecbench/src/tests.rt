@@ -1,5 +1,5 @@
 //! Which lines are tasks.
-use crate::case::{Call, Case, Choice, Pieces, Size};
+use crate::case::{Call, Case, Choice, Collection, Pieces, Size};
 use crate::lines::{Mode, Task, task_of};
 
 #[test]
@@ -46,6 +46,7 @@ fn a_name_may_have_a_size(rt: HostRuntime) {
         ("check splice_front 5", Case::SpliceFront),
         ("check dedup_by_key 5", Case::Chosen(Choice::DedupByKey)),
         ("check pieces_of_4 5", Case::Pieces(Pieces::OfFour)),
+        ("check table_hit 5", Case::Held(Collection::TableHit)),
     ] {
         let task = Task {
             mode: Mode::Check,

@@ -1,0 +1,190 @@
+//! The cases over this repository's table, ring and small vector.
+
+use crate::case::Collection;
+use crate::checksum::checksum_from;
+use allocator_api2::vec::Vec;
+use ex_inline::inline::InlineVec;
+use ex_ring::ring::Ring;
+use ex_table::table::Table;
+use std::alloc::Global;
+use std::hash::{BuildHasherDefault, FoldHasher};
+
+// By the hasher that the toolchain's map has where no other is named.
+type Numbers = Table<u64, u64, BuildHasherDefault<FoldHasher>, Global>;
+
+type Queue = Ring<u32, Global>;
+
+// Up to eight items in place.
+type Few = InlineVec<u32, Global, 8>;
+
+/// What a case of a collection finds and leaves.
+#[derive(Drop)]
+pub struct Held {
+    alloc: Global,
+    // What is inserted, looked up or removed, in this order.
+    keys: Vec<u64>,
+    table: Numbers,
+    queue: Queue,
+    // What the look-ups or removals gave.
+    sum: u64,
+}
+
+impl Held {
+    pub fn new(alloc: Global) -> Self {
+        Held {
+            alloc,
+            keys: Vec::new(alloc),
+            table: Table::new_in(alloc),
+            queue: Ring::new_in(alloc),
+            sum: 0,
+        }
+    }
+
+    /// Fills the collection as the case finds it. It answers whether all memory was granted.
+    pub fn prepare(&mut self, collection: Collection, count: u32) -> bool {
+        match collection {
+            Collection::TableInsert => fill_keys(&mut self.keys, count, 0),
+            Collection::TableHit | Collection::TableRemove => self.fill_table(count),
+            Collection::TableMiss => {
+                let filled = self.fill_table(count);
+                self.keys.clear();
+                // Keys of the table are below 2 ^ 32.
+                filled && fill_keys(&mut self.keys, count, 4_294_967_296)
+            }
+            Collection::RingQueue => ring_push(&mut self.queue, 100),
+            Collection::RingPush | Collection::InlineFew => true,
+        }
+    }
+
+    fn fill_table(&mut self, count: u32) -> bool {
+        fill_keys(&mut self.keys, count, 0) && table_insert(&mut self.table, self.keys.as_slice())
+    }
+
+    /// Runs the case. It answers whether all memory was granted.
+    pub fn run(&mut self, collection: Collection, count: u32) -> bool {
+        let keys = self.keys.as_slice();
+        match collection {
+            Collection::TableInsert => return table_insert(&mut self.table, keys),
+            Collection::TableHit => self.sum = table_hit(&self.table, keys),
+            Collection::TableMiss => self.sum = table_miss(&self.table, keys),
+            Collection::TableRemove => self.sum = table_remove(&mut self.table, keys),
+            Collection::RingQueue => return ring_queue(&mut self.queue, count),
+            Collection::RingPush => return ring_push(&mut self.queue, count),
+            Collection::InlineFew => match inline_few(self.alloc, count) {
+                Some(sum) => self.sum = sum,
+                None => return false,
+            },
+        }
+        true
+    }
+
+    /// The checksum of what the collections hold and gave, from that of what came before. Keys are
+    /// looked up in their order here, since that of a table is its own.
+    pub fn checksum(&self, sum: u64) -> u64 {
+        let (first, others) = self.queue.as_slices();
+        let items = checksum_from(checksum_from(sum, first), others);
+        let mut values = self.sum.wrapping_add(self.table.len() as u64);
+        for key in self.keys.as_slice() {
+            let value = self.table.get(key).copied().unwrap_or(0);
+            values = values.wrapping_mul(31).wrapping_add(value);
+        }
+        items.wrapping_add(values)
+    }
+}
+
+// So many keys, no two of them equal, in no regular order: from `least` on, and less than 2 ^ 32
+// above it.
+fn fill_keys(keys: &mut Vec<u64>, count: u32, least: u64) -> bool {
+    let mut state: u32 = 1;
+    for _ in 0..count {
+        state = state.wrapping_mul(1_664_525).wrapping_add(1_013_904_223);
+        if keys.push(least.wrapping_add(u64::from(state))).is_err() {
+            return false;
+        }
+    }
+    true
+}
+
+#[inline(never)]
+fn table_insert(table: &mut Numbers, keys: &[u64]) -> bool {
+    for key in keys {
+        if table.insert(*key, *key >> 1).is_err() {
+            return false;
+        }
+    }
+    true
+}
+
+#[inline(never)]
+fn table_hit(table: &Numbers, keys: &[u64]) -> u64 {
+    let mut sum: u64 = 0;
+    for key in keys {
+        if let Some(value) = table.get(key) {
+            sum = sum.wrapping_add(*value);
+        }
+    }
+    sum
+}
+
+// How many keys are not there.
+#[inline(never)]
+fn table_miss(table: &Numbers, keys: &[u64]) -> u64 {
+    let mut misses: u64 = 0;
+    for key in keys {
+        if !table.contains_key(key) {
+            misses = misses.wrapping_add(1);
+        }
+    }
+    misses
+}
+
+#[inline(never)]
+fn table_remove(table: &mut Numbers, keys: &[u64]) -> u64 {
+    let mut sum: u64 = 0;
+    for key in keys {
+        if let Some(value) = table.remove(key) {
+            sum = sum.wrapping_add(value);
+        }
+    }
+    sum
+}
+
+#[inline(never)]
+fn ring_queue(queue: &mut Queue, count: u32) -> bool {
+    let mut sum: u32 = 0;
+    for i in 0..count {
+        if queue.push_back(i).is_err() {
+            return false;
+        }
+        if let Some(x) = queue.pop_front() {
+            sum = sum.wrapping_add(x);
+        }
+    }
+    queue.push_back(sum).is_ok()
+}
+
+#[inline(never)]
+fn ring_push(queue: &mut Queue, count: u32) -> bool {
+    for i in 0..count {
+        if queue.push_back(i).is_err() {
+            return false;
+        }
+    }
+    true
+}
+
+// A vector of up to eight items in place for each eight numbers.
+#[inline(never)]
+fn inline_few(alloc: Global, count: u32) -> Option<u64> {
+    let mut sum: u32 = 0;
+    for i in 0..count / 8 {
+        let mut few: Few = InlineVec::new_in(alloc);
+        for k in 0..8 {
+            few.push(i ^ k).ok()?;
+        }
+        for _ in 0..8 {
+            sum = sum.wrapping_add(few.pop().unwrap_or(0));
+        }
+    }
+    Some(u64::from(sum))
+}
