@@ -1,7 +1,8 @@
 -- A number that each element and the order of the elements decide.
 use Rattle.std.specs.Prelude.{ℕ, ◌+◌, ◌*◌, ◌%◌, ◌^◌, List, [], ◌∷◌}
 
--- from the number so far, 31 times it and the number of the next element, as often as there are elements, in 64 bits
+-- from the number so far, 31 times it and the number of the next element, as often as there are
+-- elements, in 64 bits
 abbrev pub checksum_from : {E : Type 0} → (E → ℕ) → ℕ → List E → ℕ
 checksum_from number_of sum [] = sum
 checksum_from number_of sum (x ∷ xs) = checksum_from number_of ((sum * 31 % 2 ^ 64 + number_of x) % 2 ^ 64) xs

@@ -5,7 +5,8 @@ ghost use Rattle.vecbench.specs.Cases.{name_of_pieces, name_of_collection};
 
 use std::fmt;
 
-/// What is timed. COUNT is the number of its steps or elements. Elements are `u32` where nothing else is said.
+/// What is timed. COUNT is the number of its steps or elements. Elements are `u32` where nothing
+/// else is said.
 #[derive(Clone, Copy, PartialEq, Debug, Drop)]
 pub enum Case {
     /// The call over elements of the size.
@@ -46,7 +47,8 @@ pub enum Case {
     DrainDropped,
     /// Drains the first `u64` and pushes, a hundred times.
     DrainFront,
-    /// Drains ten from the middle of 1,000 `u16` into another vector and appends that, so often that COUNT come to be drained.
+    /// Drains ten from the middle of 1,000 `u16` into another vector and appends that, so often
+    /// that COUNT come to be drained.
     DrainBack,
     /// Takes each item out of a vector given up.
     IntoIter,
@@ -201,7 +203,8 @@ fn grouped(name: &str) -> Option<Case>
 // The call and the size that a case of this name has.
 fn sized(name: &str) -> Option<(Call, Size)>
     ensures some { IfSome result (λ case. name.now ≡ name_of_call case.0 ++ suffix_of case.1) }
-    ensures none { IfNone result ((call : Call) → (size : Size) → name.now ≢ name_of_call call ++ suffix_of size) }
+    ensures none { IfNone result
+        ((call : Call) → (size : Size) → name.now ≢ name_of_call call ++ suffix_of size) }
 {
     let case = match name {
         "push" => (Call::Push, Size::Four),

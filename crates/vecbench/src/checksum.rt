@@ -4,7 +4,8 @@ ghost use Rattle.vecbench.specs.Sums.{checksum_from};
 
 use crate::element::Element;
 
-/// The checksum of the elements, from that of what came before them. The number of each element and their order decide it.
+/// The checksum of the elements, from that of what came before them. The number of each element and
+/// their order decide it.
 pub fn checksum_from<E: Element>(sum: u64, elements: &[E]) -> u64
     ensures { result ≡ checksum_from E.number_of sum elements.now }
 {

@@ -24,8 +24,8 @@ pub struct Task {
     pub count: u32,
 }
 
-/// The task that the words are, if they are one: `CASE COUNT [REPEAT]`, `check CASE COUNT` or `setup CASE COUNT`, with numbers
-/// above 0.
+/// The task that the words are, if they are one: `CASE COUNT [REPEAT]`, `check CASE COUNT` or
+/// `setup CASE COUNT`, with numbers above 0.
 pub fn task_of(line: &str) -> Option<Task>
     ensures { IfSome result (λ task. 0 < task.count) }
 {

@@ -20,7 +20,8 @@ use std::mem::replace;
 pub struct Vectors {
     alloc: Global,
     numbers: Pair<u32>,
-    // For the cases at the front and others, so that they share no code: that would change what the compiler inlines.
+    // For the cases at the front and others, so that they share no code: that would change what the
+    // compiler inlines.
     longs: Pair<u64>,
     bytes: Pair<u8>,
     wides: Pair<Wide>,
