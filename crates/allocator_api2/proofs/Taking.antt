@@ -10,7 +10,7 @@ use Rattle.aa_vec.proofs.Climbing.{SameBlock-refl}
 use Rattle.aa_vec.proofs.Climbing.{SameBlock-trans}
 use Rattle.aa_vec.proofs.Drains.{keeps-same, keeps-then}
 use Rattle.allocator_api2.specs.Drained.{Drained, TakesFront, TakesBack}
-use Rattle.allocator_api2.specs.Machine.{given_of}
+use Rattle.allocator_api2.specs.Machine.{ends_at, given_of}
 
 -- a choice is no more than the greater
 choice_le : (t : Bool) (a b : ℕ) → a ≤ b → (if t then a else b) ≤ b
@@ -99,7 +99,7 @@ module _ {T A : Type 0} (old side : Vector T A) (start end f b : ℕ) (ordered :
       let n : f + (m - f - b) ≡ m - b = omega (arith, few) in
       ap (λ i. drop (i - b) (drain_rest d1)) left_front ∙ ap (drop (m - f - b)) rest_front ∙ drop-drop (m - f - b) f middle ∙ ap (λ i. drop i middle) n
 
-  side_gave : Holds side (side.items ++ given_of old.items start end (f, b)) s2
+  side_gave : Holds side (side.items ++ given_of old.items (ends_at start end f b)) s2
   side_gave =
       let first : s1.items ≡ side.items ++ take f middle = fronts.holds.items ∙ ap (λ l. side.items ++ take f l) drains.rest in
       record {
@@ -123,7 +123,7 @@ module _ {T A : Type 0} (old side : Vector T A) (start end f b : ℕ) (ordered :
   wrote_none : (drain_vec d2).written ≡ old.written
   wrote_none = omega (arith, keeps.writes.written, drains.writes.written)
 
-  pub Drained-dropped : (w : Vector T A) → Closes d2 w → Drained old side start end f b false w s2
+  pub Drained-dropped : (w : Vector T A) → Closes d2 w → Drained old side (ends_at start end f b) false w s2
   Drained-dropped w c =
       record {
         left = record { items = c.holds.items ∙ ap (λ l. l ++ drain_tail d2) head_are ∙ ap (λ l. take start old.items ++ l) tail_are; block = SameBlock-trans block_same c.holds.block };
@@ -131,7 +131,7 @@ module _ {T A : Type 0} (old side : Vector T A) (start end f b : ℕ) (ordered :
         written = omega (arith, c.writes.written, wrote_none, choice_le (range_len d2 == 0) 0 (length (drain_tail d2)) (omega arith), ap length tail_are, length-drop end old.items);
       }
 
-  pub Drained-kept : (w : Vector T A) → KeepsRest d2 w → Drained old side start end f b true w s2
+  pub Drained-kept : (w : Vector T A) → KeepsRest d2 w → Drained old side (ends_at start end f b) true w s2
   Drained-kept w c =
       record {
         left = record {

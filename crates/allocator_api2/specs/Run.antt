@@ -103,8 +103,8 @@ module _ {T A : Type 0} where
   cost_of main side Retain answers main' = kept_behind_removed answers
   cost_of main side Dedup answers main' = kept_behind_removed (map not answers)
   cost_of main side (Drain start end front back keep) answers main' =
-      let taken = ends_of (end - start) front back in
-      len main - end + (if keep then end - start - taken.0 - taken.1 else 0)
+      let ends = ends_of start end front back in
+      len main - end + (if keep then end - start - ends.front - ends.back else 0)
   cost_of main side (ExtractIf start end count) answers main' = len main' - start
   cost_of main side (Splice start end items hint) answers main' =
       len main' - (start + (len main - end)) + 2 * (len main - end)

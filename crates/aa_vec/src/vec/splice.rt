@@ -3,9 +3,9 @@ ghost use Rattle.std.specs.Prelude.{◌≡◌, ℕ, ◌+◌, ◌-◌, ◌<◌, �
 ghost use Rattle.std.specs.Mem.{type_size};
 ghost use Rattle.std.specs.Iterator.{IsFinite};
 ghost use Rattle.aa_vec.specs.Vector.{len, HasRoom};
-ghost use Rattle.aa_vec.specs.Behind.{StandsBehind, behind_items};
+ghost use Rattle.aa_vec.specs.Behind.{StandsBehind};
 ghost use Rattle.aa_vec.specs.Extending.{TellsAtMost, TellsExactly};
-ghost use Rattle.aa_vec.specs.Splicing.{Replaced, SplicesIter};
+ghost use Rattle.aa_vec.specs.Splicing.{Replaced, SplicesIter, without_behind};
 
 use crate::vec::Vec;
 use crate::vec::items::Hinted;
@@ -140,11 +140,10 @@ where
     requires may_ask { I.can_next iter.old }
     requires ends { IsFinite (I.remaining iter.old) }
     ensures replaces { Replaced I.next_gives W.tells I.remaining (¬ (A.is_infallible vec.old.alloc))
-        (type_size I.Item.row) iter.old vec.old end (behind_items vec.old end (total - end))
-        result vec.new }
-    ensures leaves { SplicesIter I.next_gives W.tells (type_size I.Item.row)
-        iter.old vec.old end (behind_items vec.old end (total - end))
-        (¬ (A.is_infallible vec.old.alloc)) iter.new result vec.new }
+        (type_size I.Item.row) iter.old (without_behind vec.old end total) result vec.new }
+    ensures leaves { SplicesIter I.next_gives W.tells (type_size I.Item.row) iter.old
+        (without_behind vec.old end total) (¬ (A.is_infallible vec.old.alloc)) iter.new result
+        vec.new }
 {
     let count = total - end;
     vec.drop_behind(front, back - front);
@@ -175,8 +174,8 @@ where
     requires may_ask { I.can_next iter }
     requires ends { IsFinite (I.remaining iter) }
     ensures { Replaced I.next_gives (TellsExactly I.lower_of) I.remaining
-        (¬ (A.is_infallible vec.old.alloc)) (type_size I.Item.row) iter vec.old end
-        (behind_items vec.old end (total - end)) result vec.new }
+        (¬ (A.is_infallible vec.old.alloc)) (type_size I.Item.row) iter
+        (without_behind vec.old end total) result vec.new }
 {
     let mut items = iter;
     end_telling::<ByLower, I, A>(vec, front, back, end, total, &mut items)
@@ -199,8 +198,8 @@ where
     requires may_ask { I.can_next iter }
     requires ends { IsFinite (I.remaining iter) }
     ensures { Replaced I.next_gives (TellsAtMost I.remaining) I.remaining
-        (¬ (A.is_infallible vec.old.alloc)) (type_size I.Item.row) iter vec.old end
-        (behind_items vec.old end (total - end)) result vec.new }
+        (¬ (A.is_infallible vec.old.alloc)) (type_size I.Item.row) iter
+        (without_behind vec.old end total) result vec.new }
 {
     let mut items = iter;
     end_telling::<ByHint, I, A>(vec, front, back, end, total, &mut items)

@@ -5,6 +5,7 @@ ghost use Rattle.aa_vec.specs.Draining.{drain_rest};
 ghost use Rattle.aa_vec.specs.Vector.{len, HasRoom};
 ghost use Rattle.allocator_api2.specs.Commands.{Does};
 ghost use Rattle.allocator_api2.specs.Drained.{Drained, TakesFront, TakesBack};
+ghost use Rattle.allocator_api2.specs.Machine.{ends_at};
 ghost use Rattle.allocator_api2.specs.declared.runner.Command.{Command};
 
 use crate::runner::{Reply, append_within};
@@ -51,7 +52,7 @@ fn drain_and_keep<T: Drop, A: Allocator>(
 )
     requires range { (start ≤ end) × (end ≤ len main.old) × (first + last ≤ end - start) }
     requires room { HasRoom side.old (first + last) }
-    ensures { Drained main.old side.old start end first last true main.new side.new }
+    ensures { Drained main.old side.old (ends_at start end first last) true main.new side.new }
 {
     let mut items = main.drain(start..end);
     take_front(&mut items, side, first);
@@ -70,7 +71,7 @@ fn drain_and_drop<T: Drop, A: Allocator>(
 )
     requires range { (start ≤ end) × (end ≤ len main.old) × (first + last ≤ end - start) }
     requires room { HasRoom side.old (first + last) }
-    ensures { Drained main.old side.old start end first last false main.new side.new }
+    ensures { Drained main.old side.old (ends_at start end first last) false main.new side.new }
 {
     let mut items = main.drain(start..end);
     take_front(&mut items, side, first);

@@ -7,6 +7,7 @@ ghost use Rattle.aa_vec.specs.Extracting.{extract_rest};
 ghost use Rattle.aa_vec.specs.Vector.{len, HasRoom};
 ghost use Rattle.allocator_api2.specs.Commands.{TakesChosen};
 ghost use Rattle.allocator_api2.specs.Drained.{Chosen, TakesUpTo};
+ghost use Rattle.allocator_api2.specs.Machine.{asking};
 
 use crate::runner::{Reply, append_within};
 use aa_vec::vec::{ExtractBy, Vec};
@@ -28,7 +29,8 @@ where
     requires { IsCallableInOrder (CalledAtMut K.FnMut) (TakesMut K.FnMut)
         keep.old (slice_range main.old.items start end) }
     ensures { TakesChosen (type_size T.row) (CalledAtMut K.FnMut)
-        main.old side.old keep.old start end take result main.new side.new keep.new }
+        (asking main.old side.old keep.old) start end take result
+        (asking main.new side.new keep.new) }
 {
     if start > end || end > main.len() {
         return Reply::Range;
@@ -59,8 +61,8 @@ where
     requires room { HasRoom side.old most }
     requires callable { IsCallableInOrder (CalledAtMut K.FnMut) (TakesMut K.FnMut)
         keep.old (slice_range main.old.items start end) }
-    ensures { Chosen (CalledAtMut K.FnMut)
-        main.old side.old keep.old start end most main.new side.new keep.new }
+    ensures { Chosen (CalledAtMut K.FnMut) (asking main.old side.old keep.old) start end most
+        (asking main.new side.new keep.new) }
 {
     let mut range = main.extract_by(start..end);
     take_chosen(&mut range, side, most, keep);

@@ -52,6 +52,6 @@ finish_hinted_spec 𝓤 𝓛 𝓜 𝓡 wired I A X LI LA LX gH dH gI dI gA dA gC
     lands_as ! refl refl ((answer_laws.lawful 𝓛).typed r (v ∷ []) is).0 $ returns ! (look_at ! 0 refl) $ free_all ! refl $
     -- [the result; the tokens; what `end_hinted` ensures]
     move ! (2 ∷ []) $ pick ! (λ ws. split ! $ move ! (1 ∷ []) $
-    use1 𝓛 (raw ((c κs a).ensures tt r (at_exit E κs a (ws, tt)))) (eight 𝓤 {φ = Replaced _ _ _ _ _ _ _ _ _ _ _} (λ q. (q.items, q.runs, q.fits_gap, q.fits_end, q.fits_told, q.room, q.writes, q.refused))) $
+    use1 𝓛 (raw ((c κs a).ensures tt r (at_exit E κs a (ws, tt)))) (eight 𝓤 {φ = Replaced _ _ _ _ _ _ _ _ _} (λ q. (q.items, q.runs, q.fits_gap, q.fits_end, q.fits_told, q.room, q.writes, q.refused))) $
     move ! (1 ∷ []) $ nothing ! $ move ! (1 ∷ 0 ∷ []) $ fjoin ! $ move ! (3 ∷ 0 ∷ 2 ∷ []) $ group ! 3 $
     suffices ! _ (ends_at 𝓛 E stayed c y v r (ws, tt) (tt, tt)) $ done !))))))))
