@@ -8,10 +8,9 @@ use Rattle.aa_raw.specs.declared.collections.TryReserveError.{TryReserveError}
 use Rattle.aa_raw.specs.declared.collections.TryReserveErrorKind.TheVariants.{AllocError}
 use Rattle.aa_raw.specs.Refusals.{IsRefusedAt}
 use Rattle.aa_raw.specs.Growth.{usize_max}
-use Rattle.aa_vec.specs.Vector.{Vector, len, sized, HasRoom, LacksRoom, LacksExactRoom, GrowsTo, GrowsExactly, ShrinksTo, SameBlock, Holds, Writes, run_count}
+use Rattle.aa_vec.specs.Vector.{Vector, len, HasRoom, LacksRoom, LacksExactRoom, GrowsTo, GrowsExactly, ShrinksTo, SameBlock, Holds}
 use Rattle.aa_vec.specs.Splits.{Splits}
 use Rattle.aa_vec.specs.Choosing.{Asked, AskedInOrder, EndsTrue, TakesMut, Retains, Deduplicates, answers_of, kept, passed_over}
-use Rattle.aa_vec.specs.Copies.{IsMade}
 use Rattle.aa_vec.specs.Extending.{ExtendsAll, ExtendsFull, lower_by}
 use Rattle.aa_vec.specs.Splicing.{Gapped, gapped, SplicesAll, SplicesShort}
 use Rattle.allocator_api2.specs.declared.runner.Command.{Command}
