@@ -62,25 +62,10 @@ module _ {T A : Type 0} where
   abbrev pub added_by : (main side : Vector T A) → Command T A → Reply T → (main' : Vector T A) → ℕ
   added_by main side (Push x) reply main' = if_done reply 1
   added_by main side (Within x) reply main' = if_done reply 1
-  added_by main side Pop reply main' = 0
   added_by main side (Insert i x) reply main' = if_done reply 1
-  added_by main side (Remove i) reply main' = 0
-  added_by main side (SwapRemove i) reply main' = 0
-  added_by main side (Truncate n) reply main' = 0
-  added_by main side Clear reply main' = 0
-  added_by main side (Reserve k) reply main' = 0
-  added_by main side (ReserveExact k) reply main' = 0
-  added_by main side (ShrinkTo k) reply main' = 0
-  added_by main side (SplitOff at) reply main' = 0
   added_by main side Append reply main' = if_done reply (len side)
   added_by main side (Extend items hint) reply main' = len main' - len main
-  added_by main side (ExtendFromWithin from to) reply main' = 0
-  added_by main side (Resize n x) reply main' = 0
-  added_by main side Retain reply main' = 0
-  added_by main side Dedup reply main' = 0
-  added_by main side (Drain start end front back keep) reply main' = 0
-  added_by main side (ExtractIf start end count) reply main' = 0
-  added_by main side (Splice start end items hint) reply main' = 0
+  added_by main side command reply main' = 0
 
   -- how many elements of main a command may write
   abbrev pub cost_of : (main side : Vector T A) → Command T A → List Bool → (main' : Vector T A) → ℕ

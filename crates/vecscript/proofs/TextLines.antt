@@ -108,7 +108,3 @@ lines_cut xs from end is_end inside =
     ap (λ ys. take end xs ++ ys) (sym (left ∙ following-first rest some)) ∙ take-append-drop end xs in
     let Cut : List ℕ → Type 0 = λ ys. lines ys ≡ lines (take (end + 1) ys) ++ lines (drop (end + 1) ys) in
     subst Cut whole (lines_behind (take end xs) (drop 1 (following is_line_feed rest)) (end + 1) (omega (arith, length-take end xs)))
-
--- and cut at its end
-pub lines_uncut : (xs : List ℕ) (end : ℕ) → length xs ≤ end → lines xs ≡ lines (take end xs) ++ lines (drop end xs)
-lines_uncut xs end past = rw (take_all end xs past, drop_all end xs past) (sym (append-nil (lines xs)))

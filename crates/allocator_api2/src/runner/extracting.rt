@@ -14,7 +14,7 @@ use aa_vec::vec::{ExtractBy, Vec};
 use std::alloc::Allocator;
 
 // Tests the range, makes room in side for as many as may be taken, and then takes them.
-pub(crate) fn extract<T, A, K>(
+pub(crate) fn extract<T: Drop, A: Allocator, K: FnMut(&mut T) -> bool>(
     main: &mut Vec<T, A>,
     side: &mut Vec<T, A>,
     start: usize,
@@ -22,10 +22,6 @@ pub(crate) fn extract<T, A, K>(
     take: usize,
     keep: &mut K,
 ) -> Reply<T>
-where
-    T: Drop,
-    A: Allocator,
-    K: FnMut(&mut T) -> bool,
     requires { IsCallableInOrder (CalledAtMut K.FnMut) (TakesMut K.FnMut)
         keep.old (slice_range main.old.items start end) }
     ensures { TakesChosen (type_size T.row) (CalledAtMut K.FnMut)
@@ -45,7 +41,7 @@ where
 
 // Takes at most so many elements out of a range, and puts them behind the last element of a vector
 // that has room for them.
-fn extract_into<T, A, K>(
+fn extract_into<T: Drop, A: Allocator, K: FnMut(&mut T) -> bool>(
     main: &mut Vec<T, A>,
     side: &mut Vec<T, A>,
     start: usize,
@@ -53,10 +49,6 @@ fn extract_into<T, A, K>(
     most: usize,
     keep: &mut K,
 )
-where
-    T: Drop,
-    A: Allocator,
-    K: FnMut(&mut T) -> bool,
     requires range { (start ≤ end) × (end ≤ len main.old) }
     requires room { HasRoom side.old most }
     requires callable { IsCallableInOrder (CalledAtMut K.FnMut) (TakesMut K.FnMut)
@@ -69,16 +61,12 @@ where
 }
 
 // The same from a range out of which elements are taken.
-fn take_chosen<T, A, K>(
+fn take_chosen<T: Drop, A: Allocator, K: FnMut(&mut T) -> bool>(
     range: &mut ExtractBy<'_, T, A>,
     side: &mut Vec<T, A>,
     most: usize,
     keep: &mut K,
 )
-where
-    T: Drop,
-    A: Allocator,
-    K: FnMut(&mut T) -> bool,
     requires room { HasRoom side.old most }
     requires callable { IsCallableInOrder (CalledAtMut K.FnMut) (TakesMut K.FnMut)
         keep.old (extract_rest range.old) }

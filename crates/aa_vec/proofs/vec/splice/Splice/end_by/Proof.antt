@@ -34,8 +34,7 @@ end_by_spec 𝓤 𝓛 𝓜 𝓡 wired I A X W LI LA LX LW gI dI gA dA gC dC drop
     move ! (3 ∷ []) $ use1 𝓛 (raw Asked) (asks 𝓤 I A X W κs Can d.ordered d.held) $ keep ! (3 ∷ 1 ∷ 0 ∷ []) $ join ! $ join ! $ use1 𝓛 (raw (G.pre z)) (id⊢ 𝓤 _) $
     regoal ! (λ (ws : List Val). prop (WpFn 𝓤 𝓛.H 𝓣.C 𝓣.Λ (inst_fn args code.function) (ws ++ []) ((walk_of 𝓛 E stayed c).post y))) fit.0 refl $
     enter ! _ _ _ _ _ $ alloc_all ! (λ l. pass_all ! refl (t, tt) $
-    sets ! (of_opd ! (get_in ! (fld ! refl (stop !)) (sub ! 0 refl (whole !)))) refl (tt, tt) $
-    sets ! (of_opd ! (get_in ! (fld ! refl (stop !)) (sub ! 1 refl (whole !)))) refl (tt, t.1.1.0) $
+    sets ! (of_opd ! (get_in ! (fld ! refl (stop !)) (sub ! 0 refl (whole !)))) refl (tt, tt) $ sets ! (of_opd ! (get_in ! (fld ! refl (stop !)) (sub ! 1 refl (whole !)))) refl (tt, t.1.1.0) $
     sets ! (of_opd ! (get_in ! (fld ! refl (stop !)) (sub ! 2 refl (whole !)))) refl (tt, t.1.1.1.0) $
     sets ! (of_opd ! (get_in ! (fld ! refl (stop !)) (sub ! 3 refl (whole !)))) refl (tt, t.1.1.1.1.0) $
     sets ! (of_opd ! (get_in ! (fld ! refl (stop !)) (sub ! 4 refl (whole !)))) refl (tt, t.1.1.1.1.1.0) $
