@@ -49,3 +49,6 @@ module _ {T A K S : Type 0} {size : ℕ} {calls : Calls T A K S} {main side main
   pub takes_chosen : {side' : Vector T A} {k' : K} {told : Command T A} (start end count : ℕ) → told ≡ ExtractIf start end count → TakesChosen size calls.keeps (asking main side k) start end count reply (asking main' side' k')
       → DoesStep size calls (state_of main side k s) told reply (state_of main' side' k' s)
   takes_chosen start end count e t = rw e (chosen start end count reply t)
+
+-- a command that calls no closure
+pub ruleset answered = (takes_alone, takes_both)
