@@ -17,11 +17,58 @@ USE = re.compile(r"(?:pub |ghost )*use Rattle\.(\w+)\.specs\.([\w.]+?)(?:\.\{(.*
 class Word:
     """A definition of a specs file: its name, comment, head, and all of its text."""
 
-    def __init__(self, file, name, comment, text):
+    def __init__(self, file, name, comment, text, around):
         self.file, self.name, self.comment, self.text = file, name, comment, text
+        self.around = around  # the heads of the modules that it stands in
 
     def sentence(self):
         return " ".join(self.comment)
+
+    def parameters(self):
+        """How many parameters it takes, but for those in braces: its own, and those of the modules that it stands in."""
+        head = re.split(r"\bwhere\b|\n\s*" + re.escape(self.name) + r"\s", self.text)[0]
+        bound, _, arrows = parted(head.split(self.name, 1)[1], ":")
+        return sum(named(part) for part in self.around) + named(bound) + behind(arrows)
+
+
+def parted(text, mark):
+    """The text before the first mark outside of all brackets, the mark, and the text behind it."""
+    depth = 0
+    for at, letter in enumerate(text):
+        depth += (letter in "({[") - (letter in ")}]")
+        if not depth and text.startswith(mark, at):
+            return text[:at], mark, text[at + len(mark) :]
+    return text, "", ""
+
+
+def named(text):
+    """How many names `(a b : T) {C : D} (e : F)` binds, but for those in braces."""
+    return sum(len(parted(group[1:-1], ":")[0].split()) for group in groups(text) if group[0] == "(")
+
+
+def groups(text):
+    """The bracketed parts of a text that stand in no other."""
+    depth, start = 0, 0
+    for at, letter in enumerate(text):
+        if letter in "({":
+            start = start if depth else at
+            depth += 1
+        elif letter in ")}":
+            depth -= 1
+            if not depth:
+                yield text[start : at + 1]
+
+
+def behind(text):
+    """How many parameters the arrows of a type `A → (b c : B) → {D : E} → F` take, but for those in braces."""
+    first, arrow, rest = parted(text, "→")
+    if not arrow:
+        return 0
+    part = first.strip()
+    if part.startswith("{"):
+        return behind(rest)
+    names = parted(part[1:-1], ":") if part.startswith("(") and len(list(groups(part))) == 1 else ("", "", "")
+    return (len(names[0].split()) if names[1] else 1) + behind(rest)
 
 
 class File:
@@ -36,10 +83,18 @@ class File:
         self.scope = uses(lines)
 
     def read(self, lines):
-        comment, at = [], 0
+        comment, at, modules = [], 0, []
         while at < len(lines):
             line = lines[at]
             found = HEAD.match(line)
+            depth = len(line) - len(line.lstrip())
+            if line.strip():
+                modules = [it for it in modules if it[0] < depth]
+            if line.strip().startswith("module _"):
+                end = next(i for i in range(at, len(lines)) if lines[i].rstrip().endswith(" where"))
+                modules.append((depth, " ".join(lines[at : end + 1]).split("_", 1)[1]))
+                comment, at = [], end + 1
+                continue
             if line.strip().startswith("-- "):
                 comment.append(line.strip()[3:])
             elif found and not line.startswith(("pub use", "pub module")):
@@ -47,7 +102,7 @@ class File:
                 # The body: lines that stand deeper, and the equations that begin with the name.
                 while end < len(lines) and lines[end].strip() and lines[end].startswith((indent + "  ", indent + name)):
                     end += 1
-                yield name, Word(self, name, comment, "\n".join(lines[at:end]))
+                yield name, Word(self, name, comment, "\n".join(lines[at:end]), [it[1] for it in modules])
                 comment, at = [], end
                 continue
             else:

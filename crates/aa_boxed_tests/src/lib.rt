@@ -2,12 +2,4 @@
 #![tactic(auto)]
 
 #[cfg(test)]
-mod arrays;
-#[cfg(test)]
-mod boxes;
-#[cfg(test)]
-mod lists;
-#[cfg(test)]
-mod taken;
-#[cfg(test)]
-mod traits;
+mod tests;

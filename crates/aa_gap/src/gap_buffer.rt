@@ -5,8 +5,9 @@ ghost use Rattle.std.specs.Iterator.{IsFinite};
 ghost use Rattle.aa_raw.specs.Growth.{sized, usize_max};
 ghost use Rattle.aa_raw.specs.Places.{IsCapacity};
 ghost use Rattle.aa_raw.specs.Refusals.{RefusesBlock};
-ghost use Rattle.aa_gap.specs.Buffer.{empty, text, cursor, len, gap, travel, with_parts, wrote, moved_to, with_room, went_back, reserved, put, inserted, HasRoom, LacksRoom};
+ghost use Rattle.aa_gap.specs.Buffer.{Buffer, empty, text, cursor, len, gap, travel, with_parts, wrote, moved_to, with_room, went_back, reserved, put, inserted, HasRoom, LacksRoom};
 ghost use Rattle.aa_gap.specs.Taken.{IsPartedIn};
+ghost use Rattle.aa_gap.specs.Inner.{view_of, IsParted};
 
 use aa_raw::collections::{Refused, TryReserveError};
 use aa_raw::raw_vec::{Growth, RawVec};
@@ -39,11 +40,7 @@ pub struct GapBuffer<T, A: Allocator = Global> {
 }
 
 impl<T, A: Allocator> Model for GapBuffer<T, A> {
-    ghost use Rattle.aa_gap.specs.Buffer.{Buffer};
-
     ghost Value = { Buffer T A };
-
-    ghost use Rattle.aa_gap.specs.Inner.{view_of, IsParted};
 
     ghost view = { view_of };
 

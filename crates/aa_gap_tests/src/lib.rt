@@ -2,14 +2,4 @@
 #![tactic(auto)]
 
 #[cfg(test)]
-mod claims;
-#[cfg(test)]
-mod counted;
-#[cfg(test)]
-mod many;
-#[cfg(test)]
-mod refusals;
-#[cfg(test)]
-mod rows;
-#[cfg(test)]
-mod texts;
+mod tests;

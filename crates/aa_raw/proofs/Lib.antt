@@ -19,5 +19,6 @@ mod Walk
 pub mod Cloned
 pub mod Beyond
 pub mod BothEnds
+pub mod Forgetting
 mod LeftOver
 pub mod TwoRuns

@@ -54,13 +54,15 @@ module _ {X A : Type 0} where
     pub runs : new.runs ≡ old.runs
     pub alloc : new.alloc ≡ old.alloc
 
-  -- that room was asked for in old, which is new, with this result: where they fit it was granted,
-  -- and a refusal changed nothing
-  pub record ReservedRuns (size : ℕ) (old : Block X A) (first second : ℕ × ℕ) (k wanted to : ℕ)
+  -- that room, and some to spare, was asked for in old, which is new, with this result: where they
+  -- fit it was granted, and a refusal changed nothing
+  pub record ReservedRuns (size : ℕ) (old : Block X A) (first second : ℕ × ℕ) (k to : ℕ)
       (result : Result Unit TryReserveError) (new : Block X A) : Type 0 where
     pub fits : HasRoom (length old.places) (both first second) k → IsOk result
-    pub made : OnOk result (ReservesRuns size old first second k wanted to new)
-    pub refused : IfErr result
+    pub made : let wanted = asked_for size old (both first second + k) in
+        OnOk result (ReservesRuns size old first second k wanted to new)
+    pub refused : let wanted = asked_for size old (both first second + k) in
+        IfErr result
         (λ e. (new ≡ old) × LacksRoom (length old.places) (both first second) k wanted e)
 
   -- old had no room for k more than its two runs have

@@ -581,10 +581,8 @@ impl<T, A: Allocator> RawVec<T, A> {
         requires one { IsRun self.old.places first.0 first.1 }
         requires two { IsRun self.old.places second.0 second.1 }
         requires apart { AreApart first second }
-        ensures reserved { let wanted =
-            asked_for (type_size T.row) self.old (both first second + additional) in
-            ReservedRuns (type_size T.row) self.old first second additional wanted first.1 result
-            self.new }
+        ensures reserved { ReservedRuns (type_size T.row) self.old first second additional first.1
+            result self.new }
         ensures joined { IsFull self.old first second additional
             → OnOk result (AreJoined self.old self.new first second) }
     {
@@ -612,8 +610,8 @@ impl<T, A: Allocator> RawVec<T, A> {
         requires apart { AreApart first second }
         ensures reserved { let wanted =
             asked_for (type_size T.row) self.old (both first second + additional) in
-            ReservedRuns (type_size T.row) self.old first second additional wanted
-            (wanted - second.1) result self.new }
+            ReservedRuns (type_size T.row) self.old first second additional (wanted - second.1)
+            result self.new }
         ensures parted { IsFull self.old first second additional
             → OnOk result (AreParted self.old self.new first second) }
     {

@@ -50,6 +50,19 @@ module _ {F T : Type 0} (Keeps : F → T → Bool → F → T → Type 0) where
     pub few : length (passed_over told) ≡ stay
     pub ends : (x : T) → taken ≡ x ∷ [] → (front : List (Asked T)) × (told ≡ front ++ record { answer = true; left = x } ∷ [])
 
+  -- the first of them stays
+  told_later : (f g : F) (z : T) (xs : List T) (stay : ℕ) (left taken : List T) → (u : AsksUntil Asks f (z ∷ xs) (suc stay) g left) → ToldTo u.0 xs stay u.2 taken g → ToldTo f (z ∷ xs) (suc stay) left taken g
+  told_later f g z xs stay left taken u r =
+      record {
+        told = record { answer = false; left = u.1 } ∷ r.told;
+        asked = (u.0, u.3, r.asked);
+        count = omega (arith, r.count);
+        items = r.items;
+        stays = ap (λ l. u.1 ∷ l) r.stays ∙ ap (take (suc stay)) (sym u.5);
+        few = omega (arith, r.few);
+        ends = λ y same. let e = r.ends y same in (record { answer = false; left = u.1 } ∷ e.0, ap (λ l. record { answer = false; left = u.1 } ∷ l) e.1);
+      }
+
   pub told_some : (f g : F) (xs : List T) (stay : ℕ) (left : List T) (x : T) (rest : List T) → AsksUntil Asks f xs stay g left → drop stay left ≡ x ∷ rest → ToldTo f xs stay left (x ∷ []) g
   unfolding first_or
   told_some f g [] zero left x rest u e = absurd (omega (arith, ap length e, ap length u.1))
@@ -65,33 +78,13 @@ module _ {F T : Type 0} (Keeps : F → T → Bool → F → T → Type 0) where
         few = refl;
         ends = λ y same. ([], ap (λ l. record { answer = true; left = l } ∷ []) (ap (λ l. first_or x l) same));
       }
-  told_some f g (z ∷ xs) (suc stay) left x rest u e =
-      let r : ToldTo u.0 xs stay u.2 (x ∷ []) g = told_some u.0 g xs stay u.2 x rest u.4 (ap (drop (suc stay)) (sym u.5) ∙ e) in
-      record {
-        told = record { answer = false; left = u.1 } ∷ r.told;
-        asked = (u.0, u.3, r.asked);
-        count = omega (arith, r.count);
-        items = r.items;
-        stays = ap (λ l. u.1 ∷ l) r.stays ∙ ap (take (suc stay)) (sym u.5);
-        few = omega (arith, r.few);
-        ends = λ y same. let e = r.ends y same in (record { answer = false; left = u.1 } ∷ e.0, ap (λ l. record { answer = false; left = u.1 } ∷ l) e.1);
-      }
+  told_some f g (z ∷ xs) (suc stay) left x rest u e = told_later f g z xs stay left (x ∷ []) u (told_some u.0 g xs stay u.2 x rest u.4 (ap (drop (suc stay)) (sym u.5) ∙ e))
 
   pub told_none : (f g : F) (xs : List T) (stay : ℕ) (left : List T) → AsksUntil Asks f xs stay g left → stay ≡ length xs → ToldTo f xs stay left [] g
   told_none f g [] zero left u e = record { told = []; asked = u.0; count = refl; items = refl; stays = refl; few = refl; ends = λ y none. absurd (omega (arith, ap length none)) }
   told_none f g [] (suc stay) left u e = absurd u
   told_none f g (z ∷ xs) zero left u e = absurd (omega (arith, e))
-  told_none f g (z ∷ xs) (suc stay) left u e =
-      let r : ToldTo u.0 xs stay u.2 [] g = told_none u.0 g xs stay u.2 u.4 (omega (arith, e)) in
-      record {
-        told = record { answer = false; left = u.1 } ∷ r.told;
-        asked = (u.0, u.3, r.asked);
-        count = omega (arith, r.count);
-        items = r.items;
-        stays = ap (λ l. u.1 ∷ l) r.stays ∙ ap (take (suc stay)) (sym u.5);
-        few = omega (arith, r.few);
-        ends = λ y same. let e = r.ends y same in (record { answer = false; left = u.1 } ∷ e.0, ap (λ l. record { answer = false; left = u.1 } ∷ l) e.1);
-      }
+  told_none f g (z ∷ xs) (suc stay) left u e = told_later f g z xs stay left [] u (told_none u.0 g xs stay u.2 u.4 (omega (arith, e)))
 
   module _ {A : Type 0} (f : F) (old : Vector T A) (low front end : ℕ) (ordered : (low ≤ front) × (front ≤ end)) (before : StandsBehind old 0 low) (stands : StandsBehind old front (end - front)) (joined : Vector T A) (joins : ClosesGap old 0 low joined) where
     abbrev gap : ℕ

@@ -4,7 +4,7 @@ use Rattle.std.proofs.lemmas.List.{append-nil}
 use Rattle.aa_raw.specs.declared.collections.TryReserveError.{TryReserveError}
 use Rattle.aa_vec.specs.Vector.{Vector, len, SameBlock, MakesRoom, LacksRoom}
 use Rattle.aa_vec.specs.Extending.{ItemsLeft, gives_item, lower_by, TellsExactly}
-use Rattle.aa_vec.specs.Splicing.{MakesRoomTwice, SplicesAll, SplicesFront, SplicesShort, SplicesByAll, SplicesByFront, tail_moves}
+use Rattle.aa_vec.specs.Splicing.{cut_off, gapped, MakesRoomTwice, SplicesAll, SplicesFront, SplicesShort, SplicesByAll, SplicesByFront, tail_moves}
 use Rattle.std.specs.Prelude.{⊤}
 use Rattle.aa_vec.proofs.Climbing.{MakesRoom-same, SameBlock-refl, SameBlock-trans}
 use Rattle.aa_vec.proofs.Gathered.{LacksOthers-told}
@@ -13,7 +13,7 @@ use Rattle.aa_vec.proofs.Counted.{items_lower, items-rest, items-told, items-all
 -- another function tells the same of `taken`, behind which `more` is to come; and the vector was another in the same block
 module _ {T A : Type 0} (size : ℕ) (lower by : ℕ → ℕ) {u v : Vector T A} (b : SameBlock u v) (head : List T) (gap : ℕ) (tail taken more : List T)
     (same : (k : ℕ) → (length head ≤ u.capacity → k ≤ length taken) → lower k ≡ by (k + length more)) (new : Vector T A) where
-  SplicesAll-told : more ≡ [] → SplicesAll size lower v head gap tail taken new → SplicesAll size by u head gap tail taken new
+  SplicesAll-told : more ≡ [] → SplicesAll size lower (gapped v head gap tail) taken new → SplicesAll size by (gapped u head gap tail) taken new
   SplicesAll-told none s =
       let told : lower (length taken - gap) ≡ by (length taken - gap) = same (length taken - gap) (λ _. omega arith) ∙ ap by (omega (arith, ap length none)) in
       record {
@@ -28,7 +28,7 @@ module _ {T A : Type 0} (size : ℕ) (lower by : ℕ → ℕ) {u v : Vector T A}
 
   -- of what was taken a beginning was placed
   module _ (all : List T) (e : all ≡ taken ++ more) (error : TryReserveError) {fails fails' whole whole' : Type 0} (f : fails → fails') (w : whole → whole') (none : whole → more ≡ []) where
-    front_told : SplicesFront size lower v head gap tail taken fails whole error new → SplicesFront size by u head gap tail all fails' whole' error new
+    front_told : SplicesFront size lower (gapped v head gap tail) taken fails whole error new → SplicesFront size by (gapped u head gap tail) all fails' whole' error new
     front_told s =
         let count : length taken ≡ length s.front + length s.others = ap length s.begins ∙ length-append s.front s.others in
         let told : gap ≤ length taken → lower (length taken - gap) ≡ by (length all - gap) =
@@ -42,17 +42,19 @@ module _ {T A : Type 0} (size : ℕ) (lower by : ℕ → ℕ) {u v : Vector T A}
           why = elim s.why [
             | inl h ↦ inl (record { fills = h.fills; block = SameBlock-trans b h.block; lacks = subst (λ k. LacksRoom size new k error) (told (omega (arith, h.fills, count))) h.lacks })
             | inr h ↦
-                let is = told (omega (arith, h.fills, count)) in
-                inr (record {
-                  fills = omega (arith, h.fills, is);
-                  room = subst (λ k. MakesRoom size u n k new) is (MakesRoom-same size n (lower (length taken - gap)) b h.room);
-                  more = omega (arith, h.more, length-append s.others more);
-                  lacks = LacksOthers-told size lower by s.others h.more more (λ k l. same k (λ _. omega (arith, l, count))) error _ _ _ _ f w none new h.lacks;
-                })
+                let is = told (omega (arith, h.0.fills, count)) in
+                inr (
+                  record {
+                    fills = omega (arith, h.0.fills, is);
+                    room = subst (λ k. MakesRoom size u n k new) is (MakesRoom-same size n (lower (length taken - gap)) b h.0.room);
+                    more = omega (arith, h.0.more, length-append s.others more);
+                  },
+                  LacksOthers-told size lower by s.others h.0.more more (λ k l. same k (λ _. omega (arith, l, count))) error _ _ _ _ f w none new h.1,
+                )
           ];
         }
 
-    SplicesShort-told : SplicesShort size lower v head gap tail taken fails whole error new → SplicesShort size by u head gap tail all fails' whole' error new
+    SplicesShort-told : SplicesShort size lower (gapped v head gap tail) taken fails whole error new → SplicesShort size by (gapped u head gap tail) all fails' whole' error new
     SplicesShort-told s =
         elim s [
           | inl p ↦ inl (p.0, ExtendsFull-told size lower by b head taken more (λ k h. same k (λ within. omega (arith, h within))) all e error new p.1)
@@ -61,16 +63,16 @@ module _ {T A : Type 0} (size : ℕ) (lower by : ℕ → ℕ) {u v : Vector T A}
 
 -- splices by an `Items`
 module _ {T : Type 0} (iter : ItemsLeft T) {A : Type 0} (size : ℕ) (old : Vector T A) (gap : ℕ) (tail : List T) where
-  module _ (new : Vector T A) (s : SplicesByAll gives_item (TellsExactly items_lower) size iter old gap tail new) where
+  module _ (new : Vector T A) (s : SplicesByAll gives_item (TellsExactly items_lower) size iter (cut_off old gap tail) new) where
     none : s.last.items ≡ []
     none = s.ends.1.0.0
 
     whole : s.added ≡ iter.items
     whole = items-all s.lower iter s.added s.last s.told none
 
-    pub SplicesAll-items : len old ≤ old.capacity → SplicesAll size (lower_by iter.hint) old old.items gap tail iter.items new
+    pub SplicesAll-items : len old ≤ old.capacity → SplicesAll size (lower_by iter.hint) (cut_off old gap tail) iter.items new
     SplicesAll-items within =
-        subst (λ xs. SplicesAll size (lower_by iter.hint) old old.items gap tail xs new) whole
+        subst (λ xs. SplicesAll size (lower_by iter.hint) (cut_off old gap tail) xs new) whole
         (SplicesAll-told size s.lower (lower_by iter.hint) (SameBlock-refl old) old.items gap tail s.added s.last.items (λ k h. items-told s.lower iter s.added s.last s.told s.first k (h within)) new none s.splices)
 
     pub items-written : new.written ≡ old.written + (length iter.items + tail_moves gap (lower_by iter.hint (length iter.items - gap)) (length iter.items) * length tail)
@@ -80,16 +82,16 @@ module _ {T : Type 0} (iter : ItemsLeft T) {A : Type 0} (size : ℕ) (old : Vect
         (items-told s.lower iter s.added s.last s.told s.first (length s.added - gap) (omega arith) ∙ ap (lower_by iter.hint) (omega (arith, ap length none)))
         ∙ ap (λ xs. old.written + (length xs + tail_moves gap (lower_by iter.hint (length xs - gap)) (length xs) * length tail)) whole
 
-  pub SplicesShort-items : {fails : Type 0} → len old ≤ old.capacity → (error : TryReserveError) (new : Vector T A) → SplicesByFront gives_item (TellsExactly items_lower) size iter old gap tail fails error new
-      → SplicesShort size (lower_by iter.hint) old old.items gap tail iter.items ⊤ ⊤ error new
+  pub SplicesShort-items : {fails : Type 0} → len old ≤ old.capacity → (error : TryReserveError) (new : Vector T A) → SplicesByFront gives_item (TellsExactly items_lower) size iter (cut_off old gap tail) fails error new
+      → SplicesShort size (lower_by iter.hint) (cut_off old gap tail) iter.items ⊤ ⊤ error new
   SplicesShort-items within error new s =
       SplicesShort-told size s.lower (lower_by iter.hint) (SameBlock-refl old) old.items gap tail s.taken s.last.items (λ k h. items-told s.lower iter s.taken s.last s.told s.first k (h within)) new iter.items
       (items-rest s.lower iter s.taken s.last s.told).0 error (λ _. tt) (λ _. tt) (λ h. h.1.0.0) s.splices
 
 -- a splice of v is one of u, in the same block
 module _ {T A : Type 0} (size : ℕ) (lower : ℕ → ℕ) {u v : Vector T A} (b : SameBlock u v) (head : List T) (gap : ℕ) (tail added : List T) where
-  pub SplicesAll-from : (new : Vector T A) → SplicesAll size lower v head gap tail added new → SplicesAll size lower u head gap tail added new
+  pub SplicesAll-from : (new : Vector T A) → SplicesAll size lower (gapped v head gap tail) added new → SplicesAll size lower (gapped u head gap tail) added new
   SplicesAll-from new = SplicesAll-told size lower lower b head gap tail added [] (λ k _. ap lower (omega arith)) new refl
 
-  pub SplicesShort-from : {fails whole : Type 0} → (error : TryReserveError) (new : Vector T A) → SplicesShort size lower v head gap tail added fails whole error new → SplicesShort size lower u head gap tail added fails whole error new
+  pub SplicesShort-from : {fails whole : Type 0} → (error : TryReserveError) (new : Vector T A) → SplicesShort size lower (gapped v head gap tail) added fails whole error new → SplicesShort size lower (gapped u head gap tail) added fails whole error new
   SplicesShort-from error new = SplicesShort-told size lower lower b head gap tail added [] (λ k _. ap lower (omega arith)) new added (sym (append-nil added)) error (λ f. f) (λ w. w) (λ _. refl)

@@ -57,27 +57,27 @@ abbrev pub answer_laws : param_law.Laws Answer
 answer_laws = Rs-laws.the_row_laws unit Tr.the_row (param_law.of_field unit-field laws.unit-laws refl (shared.copy_shared unit-field laws.unit-copy)) Tr-laws.the_row_laws
 
 module _ (I A X : RattleType) (gI : It.Ghosts I.Denot X.Denot) (gA : Ghosts A.Denot) where
-  abbrev pub Decl : Lfts 4 → Declared
-  Decl κs = S.the_type (named_lft 4 0 tt κs) (param 0 I) (param 1 A) (param 2 X) gI gA
+  abbrev pub Decl : Lfts 5 → Declared
+  Decl κs = S.the_type (named_lft 5 0 tt κs) (param 0 I) (param 1 A) (param 2 X) gI gA
 
-  abbrev pub Row : Lfts 4 → RattleType
+  abbrev pub Row : Lfts 5 → RattleType
   Row κs = row (Decl κs)
 
   abbrev D : Type 0
   D = Splice I.Denot A.Denot X.Denot gI
 
   -- the machine values of the fields, where that of the iterator is v
-  abbrev pub words : (κs : Lfts 4) → D → Val → Valss (fields (Decl κs))
+  abbrev pub words : (κs : Lfts 5) → D → Val → Valss (fields (Decl κs))
   words κs d v = (mut_vals d.vec, (vint w64 d.front ∷ [], (vint w64 d.back ∷ [], (vint w64 d.end ∷ [], (vint w64 d.total ∷ [], (v ∷ [], tt))))))
 
-  abbrev pub word : (κs : Lfts 4) → D → Val → Val
+  abbrev pub word : (κs : Lfts 5) → D → Val → Val
   word κs d v = vstruct (of_list (flat (fields (Decl κs)) (words κs d v)))
 
-  abbrev pub Fits : (κs : Lfts 4) → D → Val → Type 0
+  abbrev pub Fits : (κs : Lfts 5) → D → Val → Type 0
   Fits κs d v = (T (has_ty (layout I) v) × WT v) × (T (has_tys (to_tys (mirs (fields (Decl κs)))) (of_list (flat (fields (Decl κs)) (words κs d v)))) × WTs (of_list (flat (fields (Decl κs)) (words κs d v))))
 
   module _ {M : Type 1} {𝓤 : Ura M} (𝓛 : Logic 𝓤) (LI : param_law.Laws I) where
-    told : (κs : Lfts 4) (d : D) (vss : Valss (fields (Decl κs))) → Are (fields (Decl κs)) (Ises (fields (Decl κs))) ((Decl κs).to d) vss → (v : Val) × ((vss ≡ words κs d v) × Fits κs d v)
+    told : (κs : Lfts 5) (d : D) (vss : Valss (fields (Decl κs))) → Are (fields (Decl κs)) (Ises (fields (Decl κs))) ((Decl κs).to d) vss → (v : Val) × ((vss ≡ words κs d v) × Fits κs d v)
     told κs d vss are =
         let Rs = fields (Decl κs) in
         let one = alone (layout I) vss.1.1.1.1.1.0 (((param_law.param_laws 0 I LI).lawful 𝓛).typed d.iter vss.1.1.1.1.1.0 are.1.1.1.1.1.0) in
@@ -103,7 +103,7 @@ module _ (I A X : RattleType) (gI : It.Ghosts I.Denot X.Denot) (gA : Ghosts A.De
         )
 
     -- a splice owns what its fields own
-    pub opened : (κs : Lfts 4) (d : D) (us : List Val) → ent 𝓤 (sem 𝓛 ((Row κs).own_val d us))
+    pub opened : (κs : Lfts 5) (d : D) (us : List Val) → ent 𝓤 (sem 𝓛 ((Row κs).own_val d us))
         (ex 𝓤 (λ (v : Val). sep 𝓤 (fact 𝓤 ((us ≡ word κs d v ∷ []) × Fits κs d v)) (sem 𝓛 (owns (fields (Decl κs)) ((Decl κs).to d) (words κs d v)))))
     opened κs d us =
         let Rs = fields (Decl κs) in let a = (Decl κs).to d in
@@ -118,18 +118,10 @@ module _ (I A X : RattleType) (gI : It.Ghosts I.Denot X.Denot) (gA : Ghosts A.De
 with_fact : {M : Type 1} (𝓤 : Ura M) {P Q : SProp 𝓤} {φ : Type 0} → φ → ent 𝓤 P Q → ent 𝓤 P (sep 𝓤 (fact 𝓤 φ) Q)
 with_fact 𝓤 {P = P} x rest = via 𝓤 (sep 𝓤 (emp 𝓤) P) (emp∗ 𝓤 P) (mono∗ 𝓤 (fact_i 𝓤 _ (emp 𝓤) x) rest)
 
--- a fact that says eight others
-pub eight : {M : Type 1} (𝓤 : Ura M) {φ a b c d e f g h : Type 0} → (φ → a × b × c × d × e × f × g × h)
-    → ent 𝓤 (fact 𝓤 φ) (sep 𝓤 (fact 𝓤 a) (sep 𝓤 (fact 𝓤 b) (sep 𝓤 (fact 𝓤 c) (sep 𝓤 (fact 𝓤 d) (sep 𝓤 (fact 𝓤 e) (sep 𝓤 (fact 𝓤 f) (sep 𝓤 (fact 𝓤 g) (fact 𝓤 h))))))))
-eight 𝓤 {φ = φ} says =
-    fact_use 𝓤 φ (id⊢ 𝓤 (fact 𝓤 φ)) (λ x.
-    let y = says x in
-    with_fact 𝓤 y.0 (with_fact 𝓤 y.1 (with_fact 𝓤 y.2 (with_fact 𝓤 y.3 (with_fact 𝓤 y.4 (with_fact 𝓤 y.5 (with_fact 𝓤 y.6 (fact_i 𝓤 _ (fact 𝓤 φ) y.7))))))))
-
--- the bounds on the three type parameters and what else the caller asked, and two facts before that
-pub asks : {M : Type 1} (𝓤 : Ura M) (I A X : RattleType) (κs : Lfts 4) (Can : SProp 𝓤) {φ ψ : Type 0} → φ → ψ
-    → ent 𝓤 (sep 𝓤 (fact 𝓤 (κs.1.0 ⊑ I.lives)) (sep 𝓤 (fact 𝓤 (κs.1.1.0 ⊑ A.lives)) (sep 𝓤 (fact 𝓤 (κs.1.1.1.0 ⊑ X.lives)) Can)))
-    (sep 𝓤 (fact 𝓤 (κs.1.0 ⊑ I.lives)) (sep 𝓤 (fact 𝓤 (κs.1.1.0 ⊑ A.lives)) (sep 𝓤 (fact 𝓤 (κs.1.1.1.0 ⊑ X.lives)) (sep 𝓤 (fact 𝓤 φ) (sep 𝓤 (fact 𝓤 ψ) Can)))))
-asks 𝓤 I A X κs Can x y =
-    mono∗ 𝓤 (id⊢ 𝓤 (fact 𝓤 (κs.1.0 ⊑ I.lives))) (mono∗ 𝓤 (id⊢ 𝓤 (fact 𝓤 (κs.1.1.0 ⊑ A.lives))) (mono∗ 𝓤 (id⊢ 𝓤 (fact 𝓤 (κs.1.1.1.0 ⊑ X.lives)))
-    (with_fact 𝓤 x (with_fact 𝓤 y (id⊢ 𝓤 Can)))))
+-- the bounds on the four type parameters and what else the caller asked, and two facts before that
+pub asks : {M : Type 1} (𝓤 : Ura M) (I A X W : RattleType) (κs : Lfts 5) (Can : SProp 𝓤) {φ ψ : Type 0} → φ → ψ
+    → ent 𝓤 (sep 𝓤 (fact 𝓤 (κs.1.0 ⊑ I.lives)) (sep 𝓤 (fact 𝓤 (κs.1.1.0 ⊑ A.lives)) (sep 𝓤 (fact 𝓤 (κs.1.1.1.0 ⊑ X.lives)) (sep 𝓤 (fact 𝓤 (κs.1.1.1.1.0 ⊑ W.lives)) Can))))
+    (sep 𝓤 (fact 𝓤 (κs.1.0 ⊑ I.lives)) (sep 𝓤 (fact 𝓤 (κs.1.1.0 ⊑ A.lives)) (sep 𝓤 (fact 𝓤 (κs.1.1.1.0 ⊑ X.lives)) (sep 𝓤 (fact 𝓤 (κs.1.1.1.1.0 ⊑ W.lives)) (sep 𝓤 (fact 𝓤 φ) (sep 𝓤 (fact 𝓤 ψ) Can))))))
+asks 𝓤 I A X W κs Can x y =
+    mono∗ 𝓤 (id⊢ 𝓤 (fact 𝓤 (κs.1.0 ⊑ I.lives))) (mono∗ 𝓤 (id⊢ 𝓤 (fact 𝓤 (κs.1.1.0 ⊑ A.lives))) (mono∗ 𝓤 (id⊢ 𝓤 (fact 𝓤 (κs.1.1.1.0 ⊑ X.lives))) (mono∗ 𝓤 (id⊢ 𝓤 (fact 𝓤 (κs.1.1.1.1.0 ⊑ W.lives)))
+    (with_fact 𝓤 x (with_fact 𝓤 y (id⊢ 𝓤 Can))))))

@@ -8,7 +8,7 @@ use Rattle.aa_raw.proofs.Runs.{length-run, run-zero}
 use Rattle.aa_vec.specs.Vector.{Vector, len, SameBlock, Writes, run_count, moved_over}
 use Rattle.aa_vec.specs.Behind.{StandsBehind, DropsBehind, behind_items}
 use Rattle.aa_vec.specs.Extending.{ExtendsAll, ExtendsFull, ExtendsByAll, ExtendsByFront, Extended, LeavesIter, StopsAt}
-use Rattle.aa_vec.specs.Splicing.{MakesRoomTwice, SplicesByAll, SplicesByFront, Replaced, SplicesIter, tail_moves}
+use Rattle.aa_vec.specs.Splicing.{Gapped, cut_off, MakesRoomTwice, SplicesByAll, SplicesByFront, Replaced, SplicesIter, tail_moves}
 use Rattle.aa_vec.specs.Filling.{FillsAndCloses, PutsAll, PutsFront, Puts}
 use Rattle.aa_vec.proofs.Answered.{on_ok, if_err, done_unless}
 use Rattle.aa_vec.proofs.Closed.{moved_none, moved_some, moved_most, one_run}
@@ -28,6 +28,9 @@ module _ {S T : Type 0} (steps : S → Option T → S → Type 0) (Tells : S →
       abbrev tail : List T
       tail = behind_items old gap n
 
+      abbrev lent : Gapped T A
+      lent = cut_off old gap tail
+
       tail_count : length tail ≡ n
       tail_count = length-run (drop gap old.behind) 0 n stands.1
 
@@ -38,7 +41,7 @@ module _ {S T : Type 0} (steps : S → Option T → S → Type 0) (Tells : S →
       same_len = ap len drops.same
 
       -- what was spliced was given
-      drains : (new : Vector T A) → SplicesByAll steps Tells size iter old gap tail new → (xs : List T) × Drains steps iter xs × (new.items ≡ old.items ++ (xs ++ tail))
+      drains : (new : Vector T A) → SplicesByAll steps Tells size iter lent new → (xs : List T) × Drains steps iter xs × (new.items ≡ old.items ++ (xs ++ tail))
       drains new s = (s.added, (s.ends.0, (s.last, Yields-told steps Tells s.lower iter s.added s.last s.told, s.ends.1)), s.splices.items)
 
       -- nothing stands behind the range, and the vector was extended
@@ -52,7 +55,7 @@ module _ {S T : Type 0} (steps : S → Option T → S → Type 0) (Tells : S →
         same_told : (lower low : ℕ → ℕ) (xs : List T) → ((k : ℕ) → k < length xs → lower k ≡ low k) → len w ≤ w.capacity → (k : ℕ) → (len w ≤ old.capacity → k < length xs) → lower k ≡ low (k + 0)
         same_told lower low xs same within k h = same k (h (omega (arith, within, block.capacity))) ∙ ap low (omega arith)
 
-        all_extended : (new : Vector T A) → Writes w (len new - len w) (len new - len w) new → (x : ExtendsByAll steps Tells size iter w new) → (all : SplicesByAll steps Tells size iter old gap tail new) × (all.ends.0 ≡ x.ends.0)
+        all_extended : (new : Vector T A) → Writes w (len new - len w) (len new - len w) new → (x : ExtendsByAll steps Tells size iter w new) → (all : SplicesByAll steps Tells size iter lent new) × (all.ends.0 ≡ x.ends.0)
         all_extended new z x =
             let nil : List T = [] in
             let f = told_first steps Tells x.lower iter x.added x.last x.told (tell iter).0 (tell iter).1 in
@@ -77,14 +80,14 @@ module _ {S T : Type 0} (steps : S → Option T → S → Type 0) (Tells : S →
               refl,
             )
 
-        front_extended : (error : TryReserveError) (new : Vector T A) → (x : ExtendsByFront steps Tells size iter w error new) → (front : SplicesByFront steps Tells size iter old gap tail (P old.alloc) error new) × (front.last ≡ x.last)
+        front_extended : (error : TryReserveError) (new : Vector T A) → (x : ExtendsByFront steps Tells size iter w error new) → (front : SplicesByFront steps Tells size iter lent (P old.alloc) error new) × (front.last ≡ x.last)
         front_extended error new x =
             let nil : List T = [] in
             let f = told_first steps Tells x.lower iter x.taken x.last x.told (tell iter).0 (tell iter).1 in
             let full = ExtendsFull-told size x.lower f.0 block w.items x.taken nil (same_told x.lower f.0 x.taken f.1 x.within) x.taken (sym (append-nil x.taken)) error new x.extends in
             (record { taken = x.taken; lower = f.0; last = x.last; first = f.4; told = f.2; splices = inl (no_tail, subst (λ h. ExtendsFull size f.0 old h x.taken error new) same_head full) }, refl)
 
-        pub Replaced-extended : (r : Result Unit TryReserveError) (new : Vector T A) → Extended steps Tells left_of size iter w r new → Replaced steps Tells left_of (P old.alloc) size iter old gap tail r new
+        pub Replaced-extended : (r : Result Unit TryReserveError) (new : Vector T A) → Extended steps Tells left_of size iter w r new → Replaced steps Tells left_of (P old.alloc) size iter lent r new
         Replaced-extended r new e =
             let z = e.writes in
             let spliced = on_ok r e.room (λ x. (all_extended new z x).0) in
@@ -104,7 +107,7 @@ module _ {S T : Type 0} (steps : S → Option T → S → Type 0) (Tells : S →
             }
 
         pub SplicesIter-extended : (r : Result Unit TryReserveError) (new : Vector T A) (after : S) → Writes w (len new - len w) (len new - len w) new → LeavesIter steps Tells size iter w after r new
-            → SplicesIter steps Tells size iter old gap tail (P old.alloc) after r new
+            → SplicesIter steps Tells size iter lent (P old.alloc) after r new
         SplicesIter-extended r new after z l = record {
           ended = on_ok r l.ended (λ x. let s = all_extended new z x.0 in (s.0, s.1 ∙ x.1));
           stopped = if_err r l.stopped (λ error x. let s = front_extended error new x.0 in (s.0, inl (s.1 ∙ x.1)));
@@ -130,7 +133,7 @@ module _ {S T : Type 0} (steps : S → Option T → S → Type 0) (Tells : S →
         x_written : x.written ≡ old.written + (length came + moved_over left n)
         x_written = omega (arith, f.writes.written, ap (λ u. u.written) drops.same)
 
-        ended_spliced : 0 < left → (all : SplicesByAll steps Tells size iter old gap tail x) × (all.ends.0 ≡ t)
+        ended_spliced : 0 < left → (all : SplicesByAll steps Tells size iter lent x) × (all.ends.0 ≡ t)
         ended_spliced h =
             let few : length came < gap = omega (arith, f.comes.count, h) in
             let r = tells_each steps Tells tell iter came f.last f.comes.given in
@@ -153,7 +156,7 @@ module _ {S T : Type 0} (steps : S → Option T → S → Type 0) (Tells : S →
               refl,
             )
 
-        pub Replaced-ended : 0 < left → Replaced steps Tells left_of (P old.alloc) size iter old gap tail (Ok tt) x
+        pub Replaced-ended : 0 < left → Replaced steps Tells left_of (P old.alloc) size iter lent (Ok tt) x
         Replaced-ended h =
             let few : length came < gap = omega (arith, f.comes.count, h) in
             let spliced = (ended_spliced h).0 in
@@ -171,7 +174,7 @@ module _ {S T : Type 0} (steps : S → Option T → S → Type 0) (Tells : S →
               refused = tt;
             }
 
-        pub SplicesIter-ended : 0 < left → SplicesIter steps Tells size iter old gap tail (P old.alloc) t (Ok tt) x
+        pub SplicesIter-ended : 0 < left → SplicesIter steps Tells size iter lent (P old.alloc) t (Ok tt) x
         SplicesIter-ended h = record { ended = ended_spliced h; stopped = tt }
 
         -- the gap is full, `told` is told then, and the others were put behind
@@ -191,7 +194,7 @@ module _ {S T : Type 0} (steps : S → Option T → S → Type 0) (Tells : S →
           whole : len x ≡ len old + gap + length tail
           whole = omega (arith, x_len, gap_came, tail_count)
 
-          more_spliced : (new : Vector T A) (after : S) → PutsAll steps size t x told n new after → (all : SplicesByAll steps Tells size iter old gap tail new) × (all.ends.0 ≡ after)
+          more_spliced : (new : Vector T A) (after : S) → PutsAll steps size t x told n new after → (all : SplicesByAll steps Tells size iter lent new) × (all.ends.0 ≡ after)
           more_spliced new after p =
               let all : List T = came ++ p.added in
               let e = tells_each steps Tells tell t p.added p.last p.given in
@@ -222,7 +225,7 @@ module _ {S T : Type 0} (steps : S → Option T → S → Type 0) (Tells : S →
                 refl,
               )
 
-          more_refused : (error : TryReserveError) (new : Vector T A) (after : S) → (p : PutsFront steps Tells (P x.alloc) size t x told n error new after) → (front : SplicesByFront steps Tells size iter old gap tail (P old.alloc) error new) × (front.last ≡ p.last)
+          more_refused : (error : TryReserveError) (new : Vector T A) (after : S) → (p : PutsFront steps Tells (P x.alloc) size t x told n error new after) → (front : SplicesByFront steps Tells size iter lent (P old.alloc) error new) × (front.last ≡ p.last)
           more_refused error new after p =
               let put : List T = p.front ++ p.others in
               let r = tell_between steps Tells tell iter came t given told tells p.lower put p.last p.given in
@@ -244,12 +247,10 @@ module _ {S T : Type 0} (steps : S → Option T → S → Type 0) (Tells : S →
                       why = elim p.why [
                         | inl h ↦ inl (record { fills = omega (arith, count, h.0, length-append p.front p.others); block = SameBlock-trans x_block h.1; lacks = rw told_is h.2 })
                         | inr h ↦
-                            inr (record {
-                              fills = omega (arith, count, h.0, told_is);
-                              room = rw (told_is, ← whole) (MakesRoom-same size (len x) told x_block h.2);
-                              more = h.1;
-                              lacks = LacksOthers-same size p.lower r.0 p.others h.1 (λ k l. r.1 k (omega (arith, l, length-append p.front p.others))) _ _ _ (subst P x_block.alloc) new error h.3;
-                            })
+                            inr (
+                              record { fills = omega (arith, count, h.0, told_is); room = rw (told_is, ← whole) (MakesRoom-same size (len x) told x_block h.2); more = h.1 },
+                              LacksOthers-same size p.lower r.0 p.others h.1 (λ k l. r.1 k (omega (arith, l, length-append p.front p.others))) _ _ _ (subst P x_block.alloc) new error h.3,
+                            )
                       ];
                     },
                   );
@@ -257,7 +258,7 @@ module _ {S T : Type 0} (steps : S → Option T → S → Type 0) (Tells : S →
                 refl,
               )
 
-          pub Replaced-more : (r : Result Unit TryReserveError) (new : Vector T A) (after : S) → Puts steps Tells (P x.alloc) size t x told n left_of r new after → gap + count_of (left_of t) ≤ count_of (left_of iter) → Replaced steps Tells left_of (P old.alloc) size iter old gap tail r new
+          pub Replaced-more : (r : Result Unit TryReserveError) (new : Vector T A) (after : S) → Puts steps Tells (P x.alloc) size t x told n left_of r new after → gap + count_of (left_of t) ≤ count_of (left_of iter) → Replaced steps Tells left_of (P old.alloc) size iter lent r new
           Replaced-more r new after p goes =
               let spliced = on_ok r p.all (λ all. (more_spliced new after all).0) in
               let ran = on_ok r spliced (drains new) in
@@ -277,7 +278,7 @@ module _ {S T : Type 0} (steps : S → Option T → S → Type 0) (Tells : S →
                 refused = if_err r p.refused (λ e front. (more_refused e new after front).0);
               }
 
-          pub SplicesIter-more : (r : Result Unit TryReserveError) (new : Vector T A) (after : S) → Puts steps Tells (P x.alloc) size t x told n left_of r new after → SplicesIter steps Tells size iter old gap tail (P old.alloc) after r new
+          pub SplicesIter-more : (r : Result Unit TryReserveError) (new : Vector T A) (after : S) → Puts steps Tells (P x.alloc) size t x told n left_of r new after → SplicesIter steps Tells size iter lent (P old.alloc) after r new
           SplicesIter-more r new after p = record {
             ended = on_ok r p.all (more_spliced new after);
             stopped = if_err r p.refused (λ e front. let s = more_refused e new after front in (s.0, subst (λ k. StopsAt steps k after) (sym s.1) front.stops));

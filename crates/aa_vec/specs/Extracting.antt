@@ -18,6 +18,10 @@ module _ {T A : Type 0} where
   abbrev pub extract_vec : ExtractBy T A → Vector T A
   extract_vec e = e.vec.now
 
+  -- how many were taken out
+  abbrev pub extract_count : ExtractBy T A → ℕ
+  extract_count e = e.front - e.kept
+
   -- the elements before the range
   abbrev pub extract_head : ExtractBy T A → List T
   extract_head e = (extract_vec e).items
@@ -33,10 +37,6 @@ module _ {T A : Type 0} where
   -- the elements behind the range
   unfoldable pub extract_tail : ExtractBy T A → List T
   extract_tail e = behind_items e.vec.now e.end (e.total - e.end)
-
-  -- how many were taken out
-  abbrev pub extract_count : ExtractBy T A → ℕ
-  extract_count e = e.front - e.kept
 
   -- e takes elements from the index a up to b out of old, and none was asked yet
   pub record ExtractsRange (old : Vector T A) (a b : ℕ) (e : ExtractBy T A) : Type 0 where

@@ -5,7 +5,7 @@ use Rattle.std.specs.Iterator.{size as count}
 use Rattle.std.specs.declared.iter.Iterator.{Ghosts}
 use Rattle.aa_raw.specs.declared.collections.TryReserveError.{TryReserveError}
 use Rattle.aa_vec.specs.Draining.{drain_tail, drains_first, drains_last}
-use Rattle.aa_vec.specs.Splicing.{SplicesByAll, SplicesByFront, TellsOnceFull}
+use Rattle.aa_vec.specs.Splicing.{Gapped, cut_off, SplicesByAll, SplicesByFront, TellsOnceFull}
 use Rattle.aa_vec.specs.Vector.{Vector, len}
 use Rattle.aa_vec.specs.declared.vec.drain.Drain.{Drain}
 use Rattle.aa_vec.specs.declared.vec.splice.Splice.{Splice}
@@ -26,6 +26,10 @@ module _ {I A T : Type 0} {g : Ghosts I T} where
   -- what is to come in its place
   abbrev pub splice_iter : Splice I A T g → I
   splice_iter s = s.iter
+
+  -- the vector without the range
+  abbrev pub splice_gap : Splice I A T g → Gapped T A
+  splice_gap s = cut_off s.vec.now s.end (drain_tail (splice_range s))
 
   -- r was taken from the front of the range of s, which is t afterwards, or nothing was left
   abbrev pub splices_first : Splice I A T g → Option T → Splice I A T g → Type 0
@@ -52,12 +56,10 @@ module _ {I A T : Type 0} {g : Ghosts I T} where
   -- all items are in place of the range, in room asked for as the iterator told
   abbrev pub SpliceDone : (Tells : I → ℕ → Type 0) (size : ℕ) → Splice I A T g → Vector T A → Type 0
   SpliceDone Tells size s new =
-      let d = splice_range s in
-      SplicesByAll g.next_gives Tells size s.iter d.vec.now d.end (drain_tail d) new
+      SplicesByAll g.next_gives Tells size s.iter (splice_gap s) new
 
   -- a beginning of the items is in place of the range; more had no room. `fails`: a clone may fail
   abbrev pub SpliceRefused : (Tells : I → ℕ → Type 0) (fails : Type 0) (size : ℕ)
       → Splice I A T g → TryReserveError → Vector T A → Type 0
   SpliceRefused Tells fails size s error new =
-      let d = splice_range s in
-      SplicesByFront g.next_gives Tells size s.iter d.vec.now d.end (drain_tail d) fails error new
+      SplicesByFront g.next_gives Tells size s.iter (splice_gap s) fails error new

@@ -1,6 +1,5 @@
 -- A range of a vector that is replaced by items, one by one, as an iterator gives them, in the room
--- that it tells. Its elements before the range are `head`, those behind it `tail`, and the range
--- had `gap` elements.
+-- that it tells.
 use Rattle.std.specs.Prelude.{◌≡◌, ℕ, ◌+◌, ◌-◌, ◌*◌, ◌<◌, ◌≤◌, List, [], ◌++◌, length, Option, None, if◌then◌else◌, ◌==◌, ◌⊎◌, Result, IfErr, OnOk, IsOk}
 use Rattle.std.specs.Iterator.{Count, Yields, Drains, size as count}
 use Rattle.std.specs.Iterator.Runs.{WholeRun}
@@ -9,7 +8,16 @@ use Rattle.aa_raw.specs.declared.raw_vec.Growth.TheVariants.{Doubling}
 use Rattle.aa_raw.specs.Growth.{amortized, least_of}
 use Rattle.aa_raw.specs.Refusals.{IsRefusedAt}
 use Rattle.aa_vec.specs.Vector.{Vector, len, HasRoom, IsNew, SameBlock, MakesRoom, LacksRoom, run_count}
+use Rattle.aa_vec.specs.Behind.{behind_items}
 use Rattle.aa_vec.specs.Extending.{ExtendsAll, ExtendsFull, StopsAt, YieldsTelling, asked_for}
+
+-- a vector out of which a range was taken, in its block: the elements before the range, how many
+-- places it has, and the elements behind it
+pub record Gapped (T A : Type 0) : Type 0 where
+  pub block : Vector T A
+  pub head : List T
+  pub gap : ℕ
+  pub tail : List T
 
 -- how often the tail is moved where n items come, and h more are told once they fill the gap: up,
 -- where room is made for those that are told, and where more than those come; and down, where a gap
@@ -45,37 +53,51 @@ module _ {T A : Type 0} where
   LacksOthers fails whole size lower v others error =
       LacksVector A fails size lower others error ⊎ (whole × LacksRoom size v (length others) error)
 
-  module _ (size : ℕ) (lower : ℕ → ℕ) (old : Vector T A) (head : List T) (gap : ℕ)
-      (tail added : List T) where
+  -- v with these elements before the range, so many places, and these behind it
+  abbrev pub gapped : Vector T A → (head : List T) → (gap : ℕ) → (tail : List T) → Gapped T A
+  gapped v head gap tail = record { block = v; head = head; gap = gap; tail = tail }
+
+  -- the same where the vector ends before the range
+  abbrev pub cut_off : Vector T A → (gap : ℕ) → (tail : List T) → Gapped T A
+  cut_off v gap tail = gapped v v.items gap tail
+
+  -- v, behind whose items so many places are the range, and the elements of `tail` end before the
+  -- place `total`
+  abbrev pub without_behind : Vector T A → (gap total : ℕ) → Gapped T A
+  without_behind v gap total = cut_off v gap (behind_items v gap (total - gap))
+
+  -- how many elements and places there are
+  abbrev pub span : Gapped T A → ℕ
+  span old = length old.head + old.gap + length old.tail
+
+  module _ (size : ℕ) (lower : ℕ → ℕ) (old : Gapped T A) (added : List T) where
     -- of the items that find no place in the gap, how many are told
     abbrev pub told_over : ℕ
-    told_over = lower (length added - gap)
+    told_over = lower (length added - old.gap)
 
     -- new has all of `added` in place of the range. With no tail they were put behind the head, as
     -- an extension does. With one, fewer items than the range had take no room; else room was made
     -- for those that were told once the gap was full, and then for the others
     pub record SplicesAll (new : Vector T A) : Type 0 where
-      pub items : new.items ≡ head ++ (added ++ tail)
-      pub at_end : tail ≡ [] → ExtendsAll size lower old head added new
-      pub in_gap : 0 < length tail → length added < gap → SameBlock old new
-      pub beyond : 0 < length tail → gap ≤ length added
-          → MakesRoomTwice size old (length head + gap + length tail)
-          told_over (length added - gap - told_over) new
+      pub items : new.items ≡ old.head ++ (added ++ old.tail)
+      pub at_end : old.tail ≡ [] → ExtendsAll size lower old.block old.head added new
+      pub in_gap : 0 < length old.tail → length added < old.gap → SameBlock old.block new
+      pub beyond : 0 < length old.tail → old.gap ≤ length added
+          → MakesRoomTwice size old.block (span old)
+          told_over (length added - old.gap - told_over) new
 
     -- `front` fills the gap, and there was no room for those that were told then
     pub record StopsAtGap (front : List T) (error : TryReserveError)
         (new : Vector T A) : Type 0 where
-      pub fills : length front ≡ gap
-      pub block : SameBlock old new
+      pub fills : length front ≡ old.gap
+      pub block : SameBlock old.block new
       pub lacks : LacksRoom size new told_over error
 
-    -- it fills the room made for those too, and the others found none
-    pub record StopsBeyond (fails whole : Type 0) (front others : List T) (error : TryReserveError)
-        (new : Vector T A) : Type 0 where
-      pub fills : length front ≡ gap + told_over
-      pub room : MakesRoom size old (length head + gap + length tail) told_over new
+    -- it fills the room made for those too, and there are others
+    pub record FillsBeyond (front others : List T) (new : Vector T A) : Type 0 where
+      pub fills : length front ≡ old.gap + told_over
+      pub room : MakesRoom size old.block (span old) told_over new
       pub more : 0 < length others
-      pub lacks : LacksOthers fails whole size lower new others error
 
     -- with a tail, new has `front`, a beginning of `added`, in place of the range: room for the
     -- others was refused
@@ -84,14 +106,15 @@ module _ {T A : Type 0} where
       pub front : List T
       pub others : List T
       pub begins : added ≡ front ++ others
-      pub items : new.items ≡ head ++ (front ++ tail)
-      pub why : StopsAtGap front error new ⊎ StopsBeyond fails whole front others error new
+      pub items : new.items ≡ old.head ++ (front ++ old.tail)
+      pub why : StopsAtGap front error new
+          ⊎ (FillsBeyond front others new × LacksOthers fails whole size lower new others error)
 
     -- new has a beginning of `added` in place of the range, and room for the others was refused
     abbrev pub SplicesShort : (fails whole : Type 0) → TryReserveError → Vector T A → Type 0
     SplicesShort fails whole error new =
-        ((tail ≡ []) × ExtendsFull size lower old head added error new)
-        ⊎ ((0 < length tail) × SplicesFront fails whole error new)
+        ((old.tail ≡ []) × ExtendsFull size lower old.block old.head added error new)
+        ⊎ ((0 < length old.tail) × SplicesFront fails whole error new)
 
   -- each of the items that were placed was written once, and the tail at most twice
   pub record SplicesWithin (old : Vector T A) (tail : List T) (new : Vector T A) : Type 0 where
@@ -100,7 +123,7 @@ module _ {T A : Type 0} where
     pub runs : let placed = len new - (len old + length tail) in new.runs ≤ old.runs + (placed + 2)
 
 module _ {S T : Type 0} (next_gives : S → Option T → S → Type 0) (Tells : S → ℕ → Type 0)
-    {A : Type 0} (size : ℕ) (iter : S) (old : Vector T A) (gap : ℕ) (tail : List T) where
+    {A : Type 0} (size : ℕ) (iter : S) (old : Gapped T A) where
   -- new has all that came from `iter` in place of the range, in room asked for as the iterator told
   pub record SplicesByAll (new : Vector T A) : Type 0 where
     pub added : List T
@@ -109,9 +132,9 @@ module _ {S T : Type 0} (next_gives : S → Option T → S → Type 0) (Tells : 
     pub first : Tells iter (lower (length added))
     pub told : YieldsTelling next_gives Tells lower iter added last
     pub ends : (end : S) × next_gives last None end
-    pub splices : SplicesAll size lower old old.items gap tail added new
-    pub written : let moves = tail_moves gap (lower (length added - gap)) (length added) in
-        new.written ≡ old.written + (length added + moves * length tail)
+    pub splices : SplicesAll size lower old added new
+    pub written : let moves = tail_moves old.gap (told_over size lower old added) (length added) in
+        new.written ≡ old.block.written + (length added + moves * length old.tail)
 
   -- new has a beginning of what was taken from `iter` in place of the range; more had no room
   pub record SplicesByFront (fails : Type 0) (error : TryReserveError)
@@ -121,7 +144,7 @@ module _ {S T : Type 0} (next_gives : S → Option T → S → Type 0) (Tells : 
     pub last : S
     pub first : Tells iter (lower (length taken))
     pub told : YieldsTelling next_gives Tells lower iter taken last
-    pub splices : SplicesShort size lower old old.items gap tail taken
+    pub splices : SplicesShort size lower old taken
         fails ((end : S) × next_gives last None end) error new
 
   -- items were put in place of the range with this result, and `after` is what is left of `iter`:
@@ -142,18 +165,15 @@ TellsOnceFull {S = S} {T = T} next_gives Tells s gap h =
 -- of old, which is new, with this result
 pub record Replaced {S T A : Type 0} (next_gives : S → Option T → S → Type 0)
     (Tells : S → ℕ → Type 0) (remaining : S → Count) (fails : Type 0) (size : ℕ) (iter : S)
-    (old : Vector T A) (gap : ℕ) (tail : List T) (result : Result Unit TryReserveError)
-    (new : Vector T A) : Type 0 where
+    (old : Gapped T A) (result : Result Unit TryReserveError) (new : Vector T A) : Type 0 where
   pub items : OnOk result
-      ((xs : List T) × Drains next_gives iter xs × (new.items ≡ old.items ++ (xs ++ tail)))
+      ((xs : List T) × Drains next_gives iter xs × (new.items ≡ old.head ++ (xs ++ old.tail)))
   pub runs : OnOk result
-      (WholeRun next_gives iter (λ p. new.items ≡ old.items ++ (p.items ++ tail)))
-  pub fits_gap : count (remaining iter) < gap → IsOk result
-  pub fits_end : tail ≡ [] → HasRoom old (count (remaining iter)) → IsOk result
-  pub fits_told : (h : ℕ) → TellsOnceFull next_gives Tells iter gap h
-      → count (remaining iter) ≤ gap + h
-      → len old + gap + length tail + h ≤ old.capacity → IsOk result
-  pub room : OnOk result (SplicesByAll next_gives Tells size iter old gap tail new)
-  pub writes : SplicesWithin old tail new
-  pub refused : IfErr result
-      (λ e. SplicesByFront next_gives Tells size iter old gap tail fails e new)
+      (WholeRun next_gives iter (λ p. new.items ≡ old.head ++ (p.items ++ old.tail)))
+  pub fits_gap : count (remaining iter) < old.gap → IsOk result
+  pub fits_end : old.tail ≡ [] → HasRoom old.block (count (remaining iter)) → IsOk result
+  pub fits_told : (h : ℕ) → TellsOnceFull next_gives Tells iter old.gap h
+      → count (remaining iter) ≤ old.gap + h → span old + h ≤ old.block.capacity → IsOk result
+  pub room : OnOk result (SplicesByAll next_gives Tells size iter old new)
+  pub writes : SplicesWithin old.block old.tail new
+  pub refused : IfErr result (λ e. SplicesByFront next_gives Tells size iter old fails e new)

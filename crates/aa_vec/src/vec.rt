@@ -5,7 +5,8 @@ ghost use Rattle.std.specs.Borrow.{sem};
 ghost use Rattle.aa_raw.specs.Places.{IsCapacity};
 ghost use Rattle.aa_raw.specs.Refusals.{RefusesBlock};
 ghost use Rattle.aa_vec.specs.Copies.{IsMade};
-ghost use Rattle.aa_vec.specs.Vector.{len, HasRoom, LacksRoom, IsNew, SameBlock, GrowsTo, Holds, Writes};
+ghost use Rattle.aa_vec.specs.Vector.{Vector, len, HasRoom, LacksRoom, IsNew, SameBlock, GrowsTo, Holds, Writes};
+ghost use Rattle.aa_vec.specs.Inner.{view_of, IsFront};
 
 pub use aa_boxed::slices::same;
 use aa_raw::collections::{Refused, TryReserveError};
@@ -56,11 +57,7 @@ pub struct Vec<T, A: Allocator = Global> {
 }
 
 impl<T, A: Allocator> Model for Vec<T, A> {
-    ghost use Rattle.aa_vec.specs.Vector.{Vector};
-
     ghost Value = { Vector T A };
-
-    ghost use Rattle.aa_vec.specs.Inner.{view_of, IsFront};
 
     ghost view = { view_of };
 

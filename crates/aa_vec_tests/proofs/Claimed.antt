@@ -9,7 +9,7 @@ use Rattle.aa_raw.specs.Growth.{amortized}
 use Rattle.aa_vec.specs.Vector.{Vector, len, Holds, MakesRoom}
 use Rattle.aa_vec.specs.Extending.{Climbs, stays as no_more, grows as once_more, asked_for, ExtendsAll, ItemsLeft, gives_item, lower_by, TellsExactly}
 use Rattle.aa_vec.specs.Draining.{TakesRange, KeepsRest, drain_vec, drain_head, drain_rest, drain_tail, range_len, taken_front, taken_back, drains_first, drains_last}
-use Rattle.aa_vec.specs.Splicing.{MakesRoomTwice, SplicesAll, SplicesByAll, tail_moves}
+use Rattle.aa_vec.specs.Splicing.{cut_off, MakesRoomTwice, SplicesAll, SplicesByAll, tail_moves}
 use Rattle.aa_vec.specs.declared.vec.drain.Drain.{Drain}
 use Rattle.aa_vec.proofs.Climbing.{Climbs-fits, SameBlock-trans}
 use Rattle.aa_vec.proofs.Counted.{items_lower}
@@ -33,7 +33,7 @@ module _ {T A : Type 0} {g : Growth} (v w : Vector T A) (c n k : ℕ) (places : 
 
 -- the two in the middle of four, in four places, are replaced by three, of which h are told once two are placed
 module _ {A : Type 0} {old : Vector ℕ A} {iter given : ItemsLeft ℕ} {d : Drain ℕ A} {new : Vector ℕ A} (drains : TakesRange old 1 3 d)
-    (s : SplicesByAll gives_item (TellsExactly items_lower) 4 iter (drain_vec d) (range_len d) (drain_tail d) new) (same : iter ≡ given)
+    (s : SplicesByAll gives_item (TellsExactly items_lower) 4 iter (cut_off (drain_vec d) (range_len d) (drain_tail d)) new) (same : iter ≡ given)
     (was : (old.items ≡ 1 ∷ 2 ∷ 3 ∷ 4 ∷ []) × (old.capacity ≡ 4) × (old.growth ≡ Doubling)) (new_items : given.items ≡ 7 ∷ 8 ∷ 9 ∷ []) where
   come : iter.items ≡ 7 ∷ 8 ∷ 9 ∷ []
   come = ap (λ i. i.items) same ∙ new_items
@@ -44,7 +44,7 @@ module _ {A : Type 0} {old : Vector ℕ A} {iter given : ItemsLeft ℕ} {d : Dra
   behind : drain_tail d ≡ 4 ∷ []
   behind = drains.tail ∙ ap (drop 3) was.0
 
-  spliced : SplicesAll 4 (lower_by iter.hint) (drain_vec d) (drain_head d) (range_len d) (drain_tail d) iter.items new
+  spliced : SplicesAll 4 (lower_by iter.hint) (cut_off (drain_vec d) (range_len d) (drain_tail d)) iter.items new
   spliced = SplicesAll-items iter 4 (drain_vec d) (range_len d) (drain_tail d) new s (omega (arith, ap length before, drains.head.block.capacity, was.1))
 
   pub five_there : new.items ≡ 1 ∷ 7 ∷ 8 ∷ 9 ∷ 4 ∷ []

@@ -9,7 +9,7 @@ use Rattle.aa_vec.specs.declared.vec.extract_if.ExtractBy.{ExtractBy}
 use Rattle.aa_vec.proofs.Climbing.{SameBlock-refl, SameBlock-trans}
 use Rattle.aa_vec.proofs.Extracted.{ExtractedTo-none, Extracted-more, Extracted-end, asked_count, extracts_may}
 use Rattle.allocator_api2.specs.Drained.{Chosen, TakesUpTo}
-use Rattle.allocator_api2.specs.Machine.{TakesOut}
+use Rattle.allocator_api2.specs.Machine.{Asking, asking, TakesOut}
 
 choice_le : (b : Bool) (n : ℕ) → (if b then 0 else n) ≤ n
 choice_le true n = omega arith
@@ -25,10 +25,10 @@ passed_few (y ∷ told) = omega (arith, one_passed (not y.answer) y (filter (λ 
 
 module _ {K T : Type 0} (Keeps : K → T → Bool → K → T → Type 0) where
   module _ {A : Type 0} where
-    pub length-taken_out : (size : ℕ) (main side : Vector T A) (start end count : ℕ) (k : K) (main' side' : Vector T A) (k' : K) → start ≤ end → end ≤ len main → (t : TakesOut Keeps size main side start end count k main' side' k')
-        → length (take start main.items ++ (passed_over t.told ++ drop (start + length t.told) main.items)) ≤ len main
-    length-taken_out size main side start end count k main' side' k' low high t =
-        let q : ℕ = length t.told in let middle : List T = slice_range main.items start end in
+    pub length-taken_out : (size : ℕ) (old : Asking T A K) (start end count : ℕ) (new : Asking T A K) → start ≤ end → end ≤ len old.main → (t : TakesOut Keeps size old start end count new)
+        → length (take start old.main.items ++ (passed_over t.told ++ drop (start + length t.told) old.main.items)) ≤ len old.main
+    length-taken_out size old start end count new low high t =
+        let main : Vector T A = old.main in let q : ℕ = length t.told in let middle : List T = slice_range main.items start end in
         omega (
           arith,
           length-append (take start main.items) (passed_over t.told ++ drop (start + q) main.items),
@@ -36,7 +36,7 @@ module _ {K T : Type 0} (Keeps : K → T → Bool → K → T → Type 0) where
           length-take start main.items,
           length-drop (start + q) main.items,
           passed_few t.told,
-          asked_count Keeps k k' (take q middle) t.told t.asked,
+          asked_count Keeps old.keep new.keep (take q middle) t.told t.asked,
           length-take q middle,
           length-take (end - start) (drop start main.items),
           length-drop start main.items,
@@ -115,7 +115,7 @@ module _ {K T : Type 0} (Keeps : K → T → Bool → K → T → Type 0) where
         | inr less ↦ inr (omega (arith, less.0, ap length up.extracted.items), omega (arith, few, middle_long, ap length less.1, ap length up.extracted.rest, length-drop q (extract_rest range), ap length takes.rest))
       ]
 
-      pub chosen : Chosen Keeps main side k start end most main' side' k'
+      pub chosen : Chosen Keeps (asking main side k) start end most (asking main' side' k')
       chosen = record {
         told = told;
         asked = asked;

@@ -4,7 +4,7 @@ use Rattle.std.specs.Prelude.{⊤}
 use Rattle.aa_raw.specs.declared.collections.TryReserveError.{TryReserveError}
 use Rattle.aa_vec.specs.Vector.{Vector, len}
 use Rattle.aa_vec.specs.Splicing.{SplicesFront, SplicesShort}
-use Rattle.allocator_api2.specs.Machine.{FitsRange}
+use Rattle.allocator_api2.specs.Machine.{FitsRange, without_range}
 use Rattle.allocator_api2.proofs.Stops.{stops-full}
 
 module _ {T A : Type 0} (size : ℕ) (lower : ℕ → ℕ) (old : Vector T A) (start end : ℕ) (ordered : start ≤ end) (within : end ≤ len old) (added : List T) (error : TryReserveError) (new : Vector T A) where
@@ -23,7 +23,7 @@ module _ {T A : Type 0} (size : ℕ) (lower : ℕ → ℕ) (old : Vector T A) (s
   long_tail : length tail ≡ len old - end
   long_tail = length-drop end old.items
 
-  module _ (front : SplicesFront size lower old head gap tail added ⊤ ⊤ error new) where
+  module _ (front : SplicesFront size lower (without_range old start end) added ⊤ ⊤ error new) where
     count : length added ≡ length front.front + length front.others
     count = ap length front.begins ∙ length-append front.front front.others
 
@@ -38,12 +38,12 @@ module _ {T A : Type 0} (size : ℕ) (lower : ℕ → ℕ) (old : Vector T A) (s
             | inr all ↦ absurd (omega (arith, w.lacks.full, w.block.capacity, all.1, long_new, w.fills, ordered, within))
           ]
           | inr w ↦ elim fits [
-            | inl few ↦ absurd (omega (arith, few, count, w.fills))
-            | inr all ↦ absurd (omega (arith, all.0, count, w.fills, w.more))
+            | inl few ↦ absurd (omega (arith, few, count, w.0.fills))
+            | inr all ↦ absurd (omega (arith, all.0, count, w.0.fills, w.0.more))
           ]
         ]
 
-  module _ (short : SplicesShort size lower old head gap tail added ⊤ ⊤ error new) where
+  module _ (short : SplicesShort size lower (without_range old start end) added ⊤ ⊤ error new) where
     pub short-full : ¬ FitsRange old start end (length added) lower
     short-full fits =
         elim short [

@@ -5,7 +5,7 @@ use Rattle.aa_raw.specs.declared.collections.TryReserveError.{TryReserveError}
 use Rattle.aa_vec.specs.Vector.{Vector, len}
 use Rattle.aa_vec.specs.Draining.{TakesRange, drain_vec, drain_head, drain_tail, range_len}
 use Rattle.aa_vec.specs.Extending.{ItemsLeft, gives_item, lower_by, TellsExactly}
-use Rattle.aa_vec.specs.Splicing.{SplicesAll, SplicesShort, SplicesByAll, SplicesByFront, SplicesWithin}
+use Rattle.aa_vec.specs.Splicing.{cut_off, gapped, SplicesAll, SplicesShort, SplicesByAll, SplicesByFront, SplicesWithin}
 use Rattle.aa_vec.specs.declared.vec.drain.Drain.{Drain}
 use Rattle.aa_vec.proofs.Counted.{items_lower}
 use Rattle.aa_vec.proofs.SplicedItems.{SplicesAll-items, SplicesShort-items, SplicesAll-from, SplicesShort-from}
@@ -40,26 +40,26 @@ module _ {T A : Type 0} (size : ℕ) (old : Vector T A) (start end : ℕ) (order
         within,
       )
 
-  pub Spliced-done : SplicesByAll gives_item (TellsExactly items_lower) size iter (drain_vec d) (range_len d) (drain_tail d) new
+  pub Spliced-done : SplicesByAll gives_item (TellsExactly items_lower) size iter (cut_off (drain_vec d) (range_len d) (drain_tail d)) new
       → SplicesWithin (drain_vec d) (drain_tail d) new → DoesOnMain size old (Splice start end items hint) Done new
   Spliced-done s w side =
       let xs : List T = items.items in
-      let by_items = subst (λ j. SplicesByAll gives_item (TellsExactly items_lower) size j (drain_vec d) (range_len d) (drain_tail d) new) all s in
+      let by_items = subst (λ j. SplicesByAll gives_item (TellsExactly items_lower) size j (cut_off (drain_vec d) (range_len d) (drain_tail d)) new) all s in
       let lent = SplicesAll-items (record { items = xs; hint = hint }) size (drain_vec d) (range_len d) (drain_tail d) new by_items places in
       let spliced = SplicesAll-from size (lower_by hint) drains.head.block (drain_head d) (range_len d) (drain_tail d) xs new lent in
       record {
-        answers = record { in_range = (ordered, within); makes = record { side_stays = refl; main_does = of_range (λ h g t. SplicesAll size (lower_by hint) old h g t xs new) spliced } };
+        answers = record { in_range = (ordered, within); makes = record { side_stays = refl; main_does = of_range (λ h g t. SplicesAll size (lower_by hint) (gapped old h g t) xs new) spliced } };
         writes = few w;
       }
 
-  pub Spliced-refused : {fails : Type 0} (kind : TryReserveError) → SplicesByFront gives_item (TellsExactly items_lower) size iter (drain_vec d) (range_len d) (drain_tail d) fails kind new
+  pub Spliced-refused : {fails : Type 0} (kind : TryReserveError) → SplicesByFront gives_item (TellsExactly items_lower) size iter (cut_off (drain_vec d) (range_len d) (drain_tail d)) fails kind new
       → SplicesWithin (drain_vec d) (drain_tail d) new → DoesOnMain size old (Splice start end items hint) (Refused kind) new
   Spliced-refused {fails = fails} kind s w side =
       let xs : List T = items.items in
-      let by_items = subst (λ j. SplicesByFront gives_item (TellsExactly items_lower) size j (drain_vec d) (range_len d) (drain_tail d) fails kind new) all s in
+      let by_items = subst (λ j. SplicesByFront gives_item (TellsExactly items_lower) size j (cut_off (drain_vec d) (range_len d) (drain_tail d)) fails kind new) all s in
       let lent = SplicesShort-items (record { items = xs; hint = hint }) size (drain_vec d) (range_len d) (drain_tail d) places kind new by_items in
       let spliced = SplicesShort-from size (lower_by hint) drains.head.block (drain_head d) (range_len d) (drain_tail d) xs kind new lent in
-      let short = of_range (λ h g t. SplicesShort size (lower_by hint) old h g t xs ⊤ ⊤ kind new) spliced in
+      let short = of_range (λ h g t. SplicesShort size (lower_by hint) (gapped old h g t) xs ⊤ ⊤ kind new) spliced in
       record {
         answers =
             record {

@@ -12,7 +12,7 @@ use Rattle.aa_raw.specs.declared.collections.TryReserveError.{TryReserveError}
 use Rattle.aa_vec.proofs.Kept.{length-kept, length-deduplicated}
 use Rattle.allocator_api2.proofs.Extracting.{length-taken_out}
 use Rattle.allocator_api2.proofs.Ranges.{length-left_of}
-use Rattle.allocator_api2.specs.Machine.{State, Calls, Step, InRange, Makes, Answers, AnswersRefused, ends_of}
+use Rattle.allocator_api2.specs.Machine.{State, Calls, Step, InRange, Makes, Answers, AnswersRefused, asking, ends_of}
 use Rattle.allocator_api2.specs.Run.{AddsOrRemoves, hint_of, added_by}
 
 module _ {T : Type 0} where
@@ -93,7 +93,7 @@ module _ {T A : Type 0} (size : ℕ) where
   change_done main side Append Done main' side' a r m = adds main (len side) _ main' (length-append main.items side.items) m.joined
   change_done main side (Extend items hint) Done main' side' a r m = extends hint main items.items main' m.main_does
   change_done main side (Drain start end front back keep) Done main' side' a r m =
-      shrinks main _ main' (length-left_of main.items start end (ends_of (end - start) front back) keep r.0 r.1) m.leaves
+      shrinks main _ main' (length-left_of main.items (ends_of start end front back) keep r.0 r.1) m.leaves
   change_done main side (Push x) _ main' side' a r m = absurd m.main_does
   change_done main side (Within x) _ main' side' a r m = absurd m.main_does
   change_done main side Pop _ main' side' a r m = absurd m.main_does
@@ -149,7 +149,7 @@ module _ {T A : Type 0} (size : ℕ) where
     change_of old Dedup answers reply new a s =
         let r = s.removes in shrinks old.main _ new.main (length-deduplicated calls.repeats old.same old.main.items r.answers new.same r.left r.asked) r.holds
     change_of old (ExtractIf start end count) answers Done new a s =
-        let t = s.takes in shrinks old.main _ new.main (length-taken_out calls.keeps size old.main old.side start end count old.keep new.main new.side new.keep s.in_range.0 s.in_range.1 t) t.leaves
+        let t = s.takes in shrinks old.main _ new.main (length-taken_out calls.keeps size (asking old.main old.side old.keep) start end count (asking new.main new.side new.keep) s.in_range.0 s.in_range.1 t) t.leaves
     change_of old (ExtractIf start end count) answers (Item y) new a s = change_lists old.main old.side (ExtractIf start end count) (Item y) new.main new.side a s.lists
     change_of old (ExtractIf start end count) answers Nothing new a s = change_lists old.main old.side (ExtractIf start end count) Nothing new.main new.side a s.lists
     change_of old (ExtractIf start end count) answers (Back y) new a s = change_lists old.main old.side (ExtractIf start end count) (Back y) new.main new.side a s.lists

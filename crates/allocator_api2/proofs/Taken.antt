@@ -8,7 +8,7 @@ use Rattle.allocator_api2.specs.declared.runner.Command.TheVariants.{SplitOff, R
 use Rattle.allocator_api2.specs.declared.runner.Reply.{Reply}
 use Rattle.allocator_api2.specs.declared.runner.Reply.TheVariants.{Done, Item, Nothing, Back, Refused, Range}
 use Rattle.allocator_api2.specs.Commands.{Does, DoesOnMain, TakesChosen, DoesStep}
-use Rattle.allocator_api2.specs.Machine.{Calls, state_of}
+use Rattle.allocator_api2.specs.Machine.{Calls, asking, state_of}
 
 module _ {T A : Type 0} where
   -- the command calls no closure, and clones no allocator
@@ -20,7 +20,7 @@ module _ {T A : Type 0} where
   AsksNone command = ⊤
 
 module _ {T A K S : Type 0} {size : ℕ} {calls : Calls T A K S} {main side main' : Vector T A} {k : K} {s : S} where
-  chosen : {side' : Vector T A} {k' : K} (start end count : ℕ) (reply : Reply T) → TakesChosen size calls.keeps main side k start end count reply main' side' k'
+  chosen : {side' : Vector T A} {k' : K} (start end count : ℕ) (reply : Reply T) → TakesChosen size calls.keeps (asking main side k) start end count reply (asking main' side' k')
       → DoesStep size calls (state_of main side k s) (ExtractIf start end count) reply (state_of main' side' k' s)
   chosen start end count Done t = record { answers = answers_of t.1.told; step = record { in_range = t.0; same = refl; takes = t.1; asked = refl }; writes = t.2 }
   chosen start end count (Item y) t = record { answers = []; step = record { none = refl; keep = t.0; same = refl; lists = t.1.answers }; writes = t.1.writes }
@@ -46,6 +46,9 @@ module _ {T A K S : Type 0} {size : ℕ} {calls : Calls T A K S} {main side main
       → DoesStep size calls (state_of main side k s) told reply (state_of main' side k s)
   takes_alone {command = command} e none t = takes_both e none (t side)
 
-  pub takes_chosen : {side' : Vector T A} {k' : K} {told : Command T A} (start end count : ℕ) → told ≡ ExtractIf start end count → TakesChosen size calls.keeps main side k start end count reply main' side' k'
+  pub takes_chosen : {side' : Vector T A} {k' : K} {told : Command T A} (start end count : ℕ) → told ≡ ExtractIf start end count → TakesChosen size calls.keeps (asking main side k) start end count reply (asking main' side' k')
       → DoesStep size calls (state_of main side k s) told reply (state_of main' side' k' s)
   takes_chosen start end count e t = rw e (chosen start end count reply t)
+
+-- a command that calls no closure
+pub ruleset answered = (takes_alone, takes_both)

@@ -3,14 +3,14 @@ use Rattle.std.proofs.Common.{◌≡◌, ℕ, ◌+◌, ◌-◌, ◌<◌, ◌≤�
 use Rattle.std.specs.Prelude.{slice_range, if◌then◌else◌, ◌==◌}
 use Rattle.std.proofs.Math.Seq.{take-add}
 use Rattle.std.proofs.lemmas.List.{append-nil, drop-drop, take_all, drop_all, drop_at, take_at, take-append-drop, reverse-append, take-take}
-use Rattle.aa_vec.specs.Draining.{Closes, DrainKeeps, TakesRange, KeepsRest, drain_head, drain_rest, drain_tail, drain_vec, drains_first, drains_last, range_len, taken_back, taken_front}
+use Rattle.aa_vec.specs.Draining.{Closes, DrainKeeps, TakesRange, KeepsRest, drain_head, drain_lender, drain_rest, drain_tail, drain_vec, drains_first, drains_last, range_len, taken_back, taken_front}
 use Rattle.aa_vec.specs.Vector.{Vector, len, SameBlock, Holds}
 use Rattle.aa_vec.specs.declared.vec.drain.Drain.{Drain}
 use Rattle.aa_vec.proofs.Climbing.{SameBlock-refl}
 use Rattle.aa_vec.proofs.Climbing.{SameBlock-trans}
 use Rattle.aa_vec.proofs.Drains.{keeps-same, keeps-then}
 use Rattle.allocator_api2.specs.Drained.{Drained, TakesFront, TakesBack}
-use Rattle.allocator_api2.specs.Machine.{given_of}
+use Rattle.allocator_api2.specs.Machine.{ends_at, given_of}
 
 -- a choice is no more than the greater
 choice_le : (t : Bool) (a b : ℕ) → a ≤ b → (if t then a else b) ≤ b
@@ -99,7 +99,7 @@ module _ {T A : Type 0} (old side : Vector T A) (start end f b : ℕ) (ordered :
       let n : f + (m - f - b) ≡ m - b = omega (arith, few) in
       ap (λ i. drop (i - b) (drain_rest d1)) left_front ∙ ap (drop (m - f - b)) rest_front ∙ drop-drop (m - f - b) f middle ∙ ap (λ i. drop i middle) n
 
-  side_gave : Holds side (side.items ++ given_of old.items start end (f, b)) s2
+  side_gave : Holds side (side.items ++ given_of old.items (ends_at start end f b)) s2
   side_gave =
       let first : s1.items ≡ side.items ++ take f middle = fronts.holds.items ∙ ap (λ l. side.items ++ take f l) drains.rest in
       record {
@@ -123,17 +123,20 @@ module _ {T A : Type 0} (old side : Vector T A) (start end f b : ℕ) (ordered :
   wrote_none : (drain_vec d2).written ≡ old.written
   wrote_none = omega (arith, keeps.writes.written, drains.writes.written)
 
-  pub Drained-dropped : (w : Vector T A) → Closes d2 w → Drained old side start end f b false w s2
-  Drained-dropped w c =
-      record {
+  pub lender_same : drain_lender d2 ≡ drain_lender d0
+  lender_same = keeps.lender
+
+  pub Drained-dropped : {k : Bool} (w : Vector T A) → Closes d2 w → k ≡ false → Drained old side (ends_at start end f b) k w s2
+  Drained-dropped w c is =
+      rw is (record {
         left = record { items = c.holds.items ∙ ap (λ l. l ++ drain_tail d2) head_are ∙ ap (λ l. take start old.items ++ l) tail_are; block = SameBlock-trans block_same c.holds.block };
         gave = side_gave;
         written = omega (arith, c.writes.written, wrote_none, choice_le (range_len d2 == 0) 0 (length (drain_tail d2)) (omega arith), ap length tail_are, length-drop end old.items);
-      }
+      })
 
-  pub Drained-kept : (w : Vector T A) → KeepsRest d2 w → Drained old side start end f b true w s2
-  Drained-kept w c =
-      record {
+  pub Drained-kept : {k : Bool} (w : Vector T A) → KeepsRest d2 w → k ≡ true → Drained old side (ends_at start end f b) k w s2
+  Drained-kept w c is =
+      rw is (record {
         left = record {
           items = c.holds.items ∙ ap (λ l. l ++ (drain_rest d2 ++ drain_tail d2)) head_are ∙ ap (λ l. take start old.items ++ (l ++ drain_tail d2)) rest_back ∙ ap (λ l. take start old.items ++ (slice_range middle f (m - b) ++ l)) tail_are;
           block = SameBlock-trans block_same c.holds.block;
@@ -152,4 +155,4 @@ module _ {T A : Type 0} (old side : Vector T A) (start end f b : ℕ) (ordered :
           length-drop f middle,
           count_middle,
         );
-      }
+      })

@@ -5,7 +5,7 @@ use Rattle.allocator_api2.specs.declared.runner.Command.{Command}
 use Rattle.allocator_api2.specs.declared.runner.Command.TheVariants.{ExtractIf}
 use Rattle.allocator_api2.specs.declared.runner.Reply.{Reply}
 use Rattle.allocator_api2.specs.declared.runner.Reply.TheVariants.{Done}
-use Rattle.allocator_api2.specs.Machine.{State, Calls, Answers, InRange, Step, TakesOut}
+use Rattle.allocator_api2.specs.Machine.{Asking, State, Calls, Answers, InRange, Step, TakesOut}
 use Rattle.allocator_api2.specs.Run.{cost_by}
 
 module _ {T A : Type 0} (size : ℕ) where
@@ -34,11 +34,11 @@ module _ {T A K S : Type 0} (size : ℕ) (calls : Calls T A K S) where
 module _ {T A K : Type 0} (size : ℕ) (Keeps : K → T → Bool → K → T → Type 0) where
   -- elements of the range were taken out, and no more of main was written than stands behind the
   -- range's start then; or the closure was not called
-  abbrev pub TakesChosen : (main side : Vector T A) → K → (start end count : ℕ) → Reply T
-      → (main' side' : Vector T A) → K → Type 0
-  TakesChosen main side keep start end count Done main' side' keep' =
-      InRange main (ExtractIf start end count)
-      × TakesOut Keeps size main side start end count keep main' side' keep'
-      × (main'.written ≤ main.written + (len main' - start))
-  TakesChosen main side keep start end count reply main' side' keep' =
-      (keep' ≡ keep) × Does size main side (ExtractIf start end count) reply main' side'
+  abbrev pub TakesChosen : Asking T A K → (start end count : ℕ) → Reply T → Asking T A K → Type 0
+  TakesChosen old start end count Done new =
+      InRange old.main (ExtractIf start end count)
+      × TakesOut Keeps size old start end count new
+      × (new.main.written ≤ old.main.written + (len new.main - start))
+  TakesChosen old start end count reply new =
+      (new.keep ≡ old.keep)
+      × Does size old.main old.side (ExtractIf start end count) reply new.main new.side

@@ -6,7 +6,7 @@ use Rattle.aa_vec.specs.Extracting.{Extracted, extract_rest}
 use Rattle.aa_vec.specs.Vector.{Vector, len, Holds}
 use Rattle.aa_vec.specs.declared.vec.drain.Drain.{Drain}
 use Rattle.aa_vec.specs.declared.vec.extract_if.ExtractBy.{ExtractBy}
-use Rattle.allocator_api2.specs.Machine.{left_of, given_of}
+use Rattle.allocator_api2.specs.Machine.{Asking, Ends, left_of, given_of}
 
 module _ {T A : Type 0} where
   -- so many items were taken from the front of a drain, and stand behind the elements of side, in
@@ -29,14 +29,14 @@ module _ {T A : Type 0} where
     pub holds : Holds side
         (side.items ++ reverse (drop (length (drain_rest items) - count) (drain_rest items))) new
 
-  -- f items of the range of main came from the front and then b from the back, and stand behind
-  -- those of side; the others stay or go
-  pub record Drained (main side : Vector T A) (start end f b : ℕ) (keep : Bool)
+  -- items of a range of main came from the front and then from the back, and stand behind those of
+  -- side; the others stay or go
+  pub record Drained (main side : Vector T A) (ends : Ends) (keep : Bool)
       (main' side' : Vector T A) : Type 0 where
-    pub left : Holds main (left_of main.items start end (f, b) keep) main'
-    pub gave : Holds side (side.items ++ given_of main.items start end (f, b)) side'
-    pub written : main'.written
-        ≤ main.written + (len main - end + (if keep then end - start - f - b else 0))
+    pub left : Holds main (left_of main.items ends keep) main'
+    pub gave : Holds side (side.items ++ given_of main.items ends) side'
+    pub written : let others = ends.end - ends.start - ends.front - ends.back in
+        main'.written ≤ main.written + (len main - ends.end + (if keep then others else 0))
 
 module _ {T A K : Type 0} (Keeps : K → T → Bool → K → T → Type 0) where
   -- at most so many elements were taken out of a range, and stand behind those of side; where they
@@ -50,14 +50,13 @@ module _ {T A K : Type 0} (Keeps : K → T → Bool → K → T → Type 0) wher
     pub holds : Holds side (side.items ++ given) new
 
   -- at most so many elements were taken out of a range of main, and stand behind those of side
-  pub record Chosen (main side : Vector T A) (keep : K) (start end most : ℕ)
-      (main' side' : Vector T A) (keep' : K) : Type 0 where
+  pub record Chosen (old : Asking T A K) (start end most : ℕ) (new : Asking T A K) : Type 0 where
     pub told : List (Asked T)
-    pub asked : let first = take (length told) (slice_range main.items start end) in
-        AskedInOrder Keeps keep first told keep'
+    pub asked : let first = take (length told) (slice_range old.main.items start end) in
+        AskedInOrder Keeps old.keep first told new.keep
     pub enough : (length (kept told) ≡ most) × EndsTrue told
         ⊎ (length (kept told) < most) × (length told ≡ end - start)
-    pub left : let rest = drop (start + length told) main.items in
-        Holds main (take start main.items ++ (passed_over told ++ rest)) main'
-    pub gave : Holds side (side.items ++ kept told) side'
-    pub written : main'.written ≤ main.written + (len main' - start)
+    pub left : let rest = drop (start + length told) old.main.items in
+        Holds old.main (take start old.main.items ++ (passed_over told ++ rest)) new.main
+    pub gave : Holds old.side (old.side.items ++ kept told) new.side
+    pub written : new.main.written ≤ old.main.written + (len new.main - start)

@@ -8,16 +8,23 @@ use Rattle.aa_raw.specs.declared.collections.TryReserveError.{TryReserveError}
 use Rattle.aa_raw.specs.declared.collections.TryReserveErrorKind.TheVariants.{AllocError}
 use Rattle.aa_raw.specs.Refusals.{IsRefusedAt}
 use Rattle.aa_raw.specs.Growth.{usize_max}
-use Rattle.aa_vec.specs.Vector.{Vector, len, sized, HasRoom, LacksRoom, LacksExactRoom, GrowsTo, GrowsExactly, ShrinksTo, SameBlock, Holds, Writes, run_count}
+use Rattle.aa_vec.specs.Vector.{Vector, len, HasRoom, LacksRoom, LacksExactRoom, GrowsTo, GrowsExactly, ShrinksTo, SameBlock, Holds}
 use Rattle.aa_vec.specs.Splits.{Splits}
 use Rattle.aa_vec.specs.Choosing.{Asked, AskedInOrder, EndsTrue, TakesMut, Retains, Deduplicates, answers_of, kept, passed_over}
-use Rattle.aa_vec.specs.Copies.{IsMade}
 use Rattle.aa_vec.specs.Extending.{ExtendsAll, ExtendsFull, lower_by}
-use Rattle.aa_vec.specs.Splicing.{SplicesAll, SplicesShort}
+use Rattle.aa_vec.specs.Splicing.{Gapped, gapped, SplicesAll, SplicesShort}
 use Rattle.allocator_api2.specs.declared.runner.Command.{Command}
 use Rattle.allocator_api2.specs.declared.runner.Command.TheVariants.{Push, Within, Pop, Insert, Remove, SwapRemove, Truncate, Clear, Reserve, ReserveExact, ShrinkTo, SplitOff, Append, Extend, ExtendFromWithin, Resize, Retain, Dedup, Drain, ExtractIf, Splice}
 use Rattle.allocator_api2.specs.declared.runner.Reply.{Reply}
 use Rattle.allocator_api2.specs.declared.runner.Reply.TheVariants.{Done, Item, Nothing, Back, Refused, Range}
+
+-- of the elements from the index `start` up to `end`, how many are taken from the front, and how
+-- many from the back
+pub record Ends : Type 0 where
+  pub start : ℕ
+  pub end : ℕ
+  pub front : ℕ
+  pub back : ℕ
 
 -- the two vectors, and the states of the two closures
 pub record State (T A K S : Type 0) : Type 0 where
@@ -30,24 +37,46 @@ pub record State (T A K S : Type 0) : Type 0 where
 abbrev pub state_of : {T A K S : Type 0} → Vector T A → Vector T A → K → S → State T A K S
 state_of main side keep same = record { main = main; side = side; keep = keep; same = same }
 
--- how many items come from the front of m of them, and how many of the others from the back
-abbrev pub ends_of : (m front back : ℕ) → ℕ × ℕ
-ends_of m front back = let f = min front m in (f, min back (m - f))
+-- of these, with the state of the first closure alone
+pub record Asking (T A K : Type 0) : Type 0 where
+  pub main : Vector T A
+  pub side : Vector T A
+  pub keep : K
 
--- what is given where so many are taken from the ends of a range: those from the front in order,
--- and those from the back, the last first
-abbrev pub given_of : {T : Type 0} → List T → (start end : ℕ) → (taken : ℕ × ℕ) → List T
-given_of xs start end taken =
-    let middle = slice_range xs start end in
-    take taken.0 middle ++ reverse (drop (end - start - taken.1) middle)
+-- these two vectors with this state
+abbrev pub asking : {T A K : Type 0} → Vector T A → Vector T A → K → Asking T A K
+asking main side keep = record { main = main; side = side; keep = keep }
+
+-- so many elements from the ends of a range
+abbrev pub ends_at : (start end front back : ℕ) → Ends
+ends_at start end front back = record { start = start; end = end; front = front; back = back }
+
+-- as many of them as the range has, and from the back as many of the others
+abbrev pub ends_of : (start end front back : ℕ) → Ends
+ends_of start end front back =
+    let first = min front (end - start) in ends_at start end first (min back (end - start - first))
+
+-- how many are taken
+abbrev pub taken_count : Ends → ℕ
+taken_count ends = ends.front + ends.back
+
+-- what is given where these are taken: those from the front in order, and those from the back, the
+-- last first
+abbrev pub given_of : {T : Type 0} → List T → Ends → List T
+given_of xs ends =
+    let middle = slice_range xs ends.start ends.end in
+    take ends.front middle ++ reverse (drop (ends.end - ends.start - ends.back) middle)
 
 -- and what is left of the list, where the others of the range stay or go
-abbrev pub left_of : {T : Type 0}
-    → List T → (start end : ℕ) → (taken : ℕ × ℕ) → (keep : Bool) → List T
-left_of xs start end taken keep =
-    let middle = slice_range xs start end in
-    let others = if keep then slice_range middle taken.0 (end - start - taken.1) else [] in
-    take start xs ++ (others ++ drop end xs)
+abbrev pub left_of : {T : Type 0} → List T → Ends → (keep : Bool) → List T
+left_of xs ends keep =
+    let middle = slice_range xs ends.start ends.end in
+    let rest = slice_range middle ends.front (ends.end - ends.start - ends.back) in
+    take ends.start xs ++ ((if keep then rest else []) ++ drop ends.end xs)
+
+-- v without the elements from one index up to another, whose places are left
+abbrev pub without_range : {T A : Type 0} → Vector T A → (start end : ℕ) → Gapped T A
+without_range v start end = gapped v (take start v.items) (end - start) (drop end v.items)
 
 -- n items in place of the range of v, of which `lower` tells how many are to come, need no memory:
 -- nothing is behind the range, and they fit behind what is before it; or fewer come than the range
@@ -106,7 +135,7 @@ module _ {T A : Type 0} where
   Fits main side Retain = ⊤
   Fits main side Dedup = ⊤
   Fits main side (Drain start end front back keep) =
-      let taken = ends_of (end - start) front back in HasRoom side (taken.0 + taken.1)
+      HasRoom side (taken_count (ends_of start end front back))
   Fits main side (ExtractIf start end count) = HasRoom side (min count (end - start))
   Fits main side (Splice start end items hint) =
       FitsRange main start end (len items) (lower_by hint)
@@ -127,26 +156,25 @@ module _ {T A : Type 0} where
     pub emptied : Holds side [] side'
 
   -- what was taken out of the range of main is behind the elements of side
-  pub record MovesRange (size : ℕ) (main side : Vector T A) (start end : ℕ) (taken : ℕ × ℕ)
-      (keep : Bool) (main' side' : Vector T A) : Type 0 where
-    pub leaves : Holds main (left_of main.items start end taken keep) main'
-    pub gives : GrowsTo size side (taken.0 + taken.1)
-        (side.items ++ given_of main.items start end taken) side'
+  pub record MovesRange (size : ℕ) (main side : Vector T A) (ends : Ends) (keep : Bool)
+      (main' side' : Vector T A) : Type 0 where
+    pub leaves : Holds main (left_of main.items ends keep) main'
+    pub gives : GrowsTo size side (taken_count ends) (side.items ++ given_of main.items ends) side'
 
   -- of the range of main the first elements were asked of `keep`, in order. Those at which it
   -- answered true, so many at most, are behind the elements of side; no other was asked after the
   -- last of them, and the others stay
   pub record TakesOut {K : Type 0} (Keeps : K → T → Bool → K → T → Type 0) (size : ℕ)
-      (main side : Vector T A) (start end count : ℕ) (keep : K)
-      (main' side' : Vector T A) (keep' : K) : Type 0 where
+      (old : Asking T A K) (start end count : ℕ) (new : Asking T A K) : Type 0 where
     pub told : List (Asked T)
-    pub asked : let first = take (length told) (slice_range main.items start end) in
-        AskedInOrder Keeps keep first told keep'
+    pub asked : let first = take (length told) (slice_range old.main.items start end) in
+        AskedInOrder Keeps old.keep first told new.keep
     pub enough : (length (kept told) ≡ min count (end - start)) × EndsTrue told
         ⊎ (length (kept told) < min count (end - start)) × (length told ≡ end - start)
-    pub leaves : let rest = drop (start + length told) main.items in
-        Holds main (take start main.items ++ (passed_over told ++ rest)) main'
-    pub gives : GrowsTo size side (min count (end - start)) (side.items ++ kept told) side'
+    pub leaves : let rest = drop (start + length told) old.main.items in
+        Holds old.main (take start old.main.items ++ (passed_over told ++ rest)) new.main
+    pub gives : GrowsTo size old.side (min count (end - start)) (old.side.items ++ kept told)
+        new.side
 
   -- there was no room for k copies, and nothing has changed; or a clone of an element was refused,
   -- and the room for all stays
@@ -183,8 +211,7 @@ module _ {T A : Type 0} (size : ℕ) where
   MakesOfMain main (Resize n x) Done main' =
       GrowsTo size main (n - len main) (take n main.items ++ replicate (n - len main) x) main'
   MakesOfMain main (Splice start end items hint) Done main' =
-      SplicesAll size (lower_by hint) main (take start main.items) (end - start)
-      (drop end main.items) items.items main'
+      SplicesAll size (lower_by hint) (without_range main start end) items.items main'
   -- no other reply is given
   MakesOfMain main command reply main' = ⊥
 
@@ -194,7 +221,7 @@ module _ {T A : Type 0} (size : ℕ) where
   Makes main side (SplitOff at) Done main' side' = Splits size main at main' side'
   Makes main side Append Done main' side' = Joins size main side main' side'
   Makes main side (Drain start end front back keep) Done main' side' =
-      MovesRange size main side start end (ends_of (end - start) front back) keep main' side'
+      MovesRange size main side (ends_of start end front back) keep main' side'
   Makes main side command reply main' side' =
       OnMain side side' (MakesOfMain main command reply main')
 
@@ -214,8 +241,7 @@ module _ {T A : Type 0} (size : ℕ) where
   LeavesOfMain main (Resize n x) error main' = LacksCopies size main (n - len main) error main'
   LeavesOfMain main (Splice start end items hint) error main' =
       -- a clone of the allocator may be refused, and no other item is to come
-      SplicesShort size (lower_by hint) main (take start main.items) (end - start)
-      (drop end main.items) items.items ⊤ ⊤ error main'
+      SplicesShort size (lower_by hint) (without_range main start end) items.items ⊤ ⊤ error main'
   -- no other command is refused
   LeavesOfMain main command error main' = ⊥
 
@@ -228,8 +254,8 @@ module _ {T A : Type 0} (size : ℕ) where
   Leaves main side Append error main' side' =
       LacksRoom size main (len side) error × Unchanged main side main' side'
   Leaves main side (Drain start end front back keep) error main' side' =
-      let taken = ends_of (end - start) front back in
-      LacksRoom size side (taken.0 + taken.1) error × Unchanged main side main' side'
+      LacksRoom size side (taken_count (ends_of start end front back)) error
+      × Unchanged main side main' side'
   Leaves main side (ExtractIf start end count) error main' side' =
       LacksRoom size side (min count (end - start)) error × Unchanged main side main' side'
   Leaves main side command error main' side' =
@@ -339,24 +365,17 @@ module _ {T A K S : Type 0} (size : ℕ) (calls : Calls T A K S) where
       (new : State T A K S) : Type 0 where
     pub in_range : InRange old.main (ExtractIf start end count)
     pub same : new.same ≡ old.same
-    pub takes : TakesOut calls.keeps size old.main old.side start end count
-        old.keep new.main new.side new.keep
+    pub takes : TakesOut calls.keeps size (asking old.main old.side old.keep) start end count
+        (asking new.main new.side new.keep)
     pub asked : answers ≡ answers_of takes.told
 
-  -- `ExtractIf` asks `keep` where it is done, and else no closure
-  abbrev pub CallsChosen : State T A K S → (start end count : ℕ) → (answers : List Bool) → Reply T
-      → State T A K S → Type 0
-  CallsChosen old start end count answers Done new = CallsExtract old start end count answers new
-  CallsChosen old start end count answers reply new =
-      CallsNone old (ExtractIf start end count) answers reply new
-
   -- old may answer the command by this reply, where closures that it calls answer so, and become
-  -- new
+  -- new. `ExtractIf` calls none where it is not done
   abbrev pub Step : State T A K S → Command T A → (answers : List Bool) → Reply T → State T A K S
       → Type 0
   Step old (SplitOff at) answers reply new = CallsClone old at answers reply new
   Step old Retain answers reply new = CallsKeep old answers reply new
   Step old Dedup answers reply new = CallsSame old answers reply new
-  Step old (ExtractIf start end count) answers reply new =
-      CallsChosen old start end count answers reply new
+  Step old (ExtractIf start end count) answers Done new =
+      CallsExtract old start end count answers new
   Step old command answers reply new = CallsNone old command answers reply new

@@ -62,25 +62,10 @@ module _ {T A : Type 0} where
   abbrev pub added_by : (main side : Vector T A) → Command T A → Reply T → (main' : Vector T A) → ℕ
   added_by main side (Push x) reply main' = if_done reply 1
   added_by main side (Within x) reply main' = if_done reply 1
-  added_by main side Pop reply main' = 0
   added_by main side (Insert i x) reply main' = if_done reply 1
-  added_by main side (Remove i) reply main' = 0
-  added_by main side (SwapRemove i) reply main' = 0
-  added_by main side (Truncate n) reply main' = 0
-  added_by main side Clear reply main' = 0
-  added_by main side (Reserve k) reply main' = 0
-  added_by main side (ReserveExact k) reply main' = 0
-  added_by main side (ShrinkTo k) reply main' = 0
-  added_by main side (SplitOff at) reply main' = 0
   added_by main side Append reply main' = if_done reply (len side)
   added_by main side (Extend items hint) reply main' = len main' - len main
-  added_by main side (ExtendFromWithin from to) reply main' = 0
-  added_by main side (Resize n x) reply main' = 0
-  added_by main side Retain reply main' = 0
-  added_by main side Dedup reply main' = 0
-  added_by main side (Drain start end front back keep) reply main' = 0
-  added_by main side (ExtractIf start end count) reply main' = 0
-  added_by main side (Splice start end items hint) reply main' = 0
+  added_by main side command reply main' = 0
 
   -- how many elements of main a command may write
   abbrev pub cost_of : (main side : Vector T A) → Command T A → List Bool → (main' : Vector T A) → ℕ
@@ -103,8 +88,8 @@ module _ {T A : Type 0} where
   cost_of main side Retain answers main' = kept_behind_removed answers
   cost_of main side Dedup answers main' = kept_behind_removed (map not answers)
   cost_of main side (Drain start end front back keep) answers main' =
-      let taken = ends_of (end - start) front back in
-      len main - end + (if keep then end - start - taken.0 - taken.1 else 0)
+      let ends = ends_of start end front back in
+      len main - end + (if keep then end - start - ends.front - ends.back else 0)
   cost_of main side (ExtractIf start end count) answers main' = len main' - start
   cost_of main side (Splice start end items hint) answers main' =
       len main' - (start + (len main - end)) + 2 * (len main - end)

@@ -189,6 +189,7 @@ fn find_possible<T, A: Allocator>(main: &Vec<T, A>, side: &Vec<T, A>)
 }
 
 // One command.
+#[tactic(auto, using(crate::proofs::Taken::answered))]
 fn step<T, A, K, S>(
     main: &mut Vec<T, A>,
     side: &mut Vec<T, A>,

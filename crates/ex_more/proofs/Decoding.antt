@@ -36,19 +36,6 @@ pub record IsDecoding (bytes rest : List ℕ) (rs : List (List ℕ)) : Type 0 wh
   pub whole : encoding rs ++ rest ≡ bytes
   pub fit : AllFit rs
 
-pub AllFit-push : (rs : List (List ℕ)) (r : List ℕ) → AllFit rs → Fits r → AllFit (rs ++ r ∷ [])
-AllFit-push [] r a f = (f, tt)
-AllFit-push (x ∷ rs) r a f = (a.0, AllFit-push rs r a.1 f)
-
-pub encoding-push : (rs : List (List ℕ)) (r : List ℕ) → encoding (rs ++ r ∷ []) ≡ encoding rs ++ encoded r
-encoding-push rs r = flat_map-append encoded rs (r ∷ []) ∙ ap (λ ys. encoding rs ++ ys) (flat_map-cons encoded r [] ∙ append-nil (encoded r))
-
-pub decoded_one : (bytes rest behind r : List ℕ) (rs : List (List ℕ)) → IsDecoding bytes rest rs → encoded r ++ behind ≡ rest → Fits r → IsDecoding bytes behind (rs ++ r ∷ [])
-decoded_one bytes rest behind r rs d e f = record {
-  whole = ap (λ ys. ys ++ behind) (encoding-push rs r) ∙ append_assoc (encoding rs) (encoded r) behind ∙ ap (λ ys. encoding rs ++ ys) e ∙ d.whole;
-  fit = AllFit-push rs r d.fit f;
-}
-
 -- where no record is next, the bytes are no records
 pub no_records : (bytes rest : List ℕ) (rs : List (List ℕ)) → IsDecoding bytes rest rs → 0 < length rest → ((r t : List ℕ) → Fits r → encoded r ++ t ≡ rest → ⊥) → (all : List (List ℕ)) → AllFit all → encoding all ≡ bytes → ⊥
 no_records bytes rest rs d some none all fits e =
@@ -68,11 +55,6 @@ those_records bytes rest rs d none all fits e =
       | t ∷ ts ↦ λ h. absurd (omega (arith, ap length h, ap length (flat_map-cons encoded t ts), length-append (encoded t) (encoding ts), length-append (to_le_bytes w64 (length t)) t))
     ] in
     sym (cut.1 ∙ empty cut.0 cut.2)
-
-pub all_bytes : (bytes rest : List ℕ) (rs : List (List ℕ)) → IsDecoding bytes rest rs → length rest ≡ 0 → encoding rs ≡ bytes
-all_bytes bytes rest rs d none =
-    let empty : (xs : List ℕ) → length xs ≡ 0 → encoding rs ++ xs ≡ encoding rs = elim [ [] ↦ λ h. append-nil (encoding rs) | x ∷ xs ↦ λ h. absurd (omega arith) ] in
-    sym (empty rest none) ∙ d.whole
 
 in_byte : (bs : List ℕ) (k : ℕ) → ((i : ℕ) → get_or bs i 0 < 256) → (i : ℕ) → get_or (take k bs) i 0 < 256
 in_byte [] zero h i = omega (arith)

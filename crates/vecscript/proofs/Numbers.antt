@@ -1,5 +1,5 @@
 -- The number that the bytes before a line's first blank write, taken from its front.
-use Rattle.std.proofs.Common.{◌≡◌, ℕ, zero, suc, ◌+◌, ◌-◌, ◌*◌, ◌^◌, ◌<◌, ◌≤◌, true, false, List, [], ◌∷◌, length, get_or, take, drop, refl, arith, length-take, length-drop}
+use Rattle.std.proofs.Common.{◌≡◌, ℕ, zero, suc, ◌+◌, ◌-◌, ◌*◌, ◌^◌, ◌<◌, ◌≤◌, true, false, List, [], ◌∷◌, length, get_or, take, drop, refl, arith, length-take}
 use Rattle.std.specs.Char.{is_ascii_digit, digit_value}
 use Rattle.std.specs.Int.{IsInRange}
 use Rattle.std.specs.List.{position_or_len}
@@ -77,7 +77,3 @@ too_large xs i digits inside digit large fits =
 pub digits_whole : (word : List ℕ) → AllDigits 10 word → position_or_len is_blank word ≡ length word
 digits_whole word digits =
     blank_none word (length word) (rw (take_all (length word) word (omega arith)) digits) refl
-
--- a line without a blank is one word
-pub whole_word : (xs : List ℕ) → length (drop (position_or_len is_blank xs) xs) ≡ 0 → take (position_or_len is_blank xs) xs ≡ xs
-whole_word xs none = take_all (position_or_len is_blank xs) xs (omega (arith, length-drop (position_or_len is_blank xs) xs))

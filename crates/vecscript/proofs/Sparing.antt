@@ -40,9 +40,6 @@ pub record HasPassed (text rest : List ℕ) (count : ℕ) : Type 0 where
   pub counted : count ≡ length before
   pub blank : AllBlank before
 
-pub HasPassed-start : (text : List ℕ) → HasPassed text text 0
-HasPassed-start text = record { before = []; place = refl; counted = refl; blank = tt }
-
 -- the first line that has words decides
 module _ (line : List ℕ) (others : List (List ℕ)) (some : words_of line ≢ []) (b : Bool) (says : are_sparing (words_of line) ≡ b) where
   first-growth : growth_in (line ∷ others) ≡ (if b then Sparing else Doubling)

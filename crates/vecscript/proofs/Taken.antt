@@ -1,6 +1,6 @@
 -- Words of which some were read as elements.
-use Rattle.std.proofs.Common.{◌≡◌, ◌≢◌, refl, List, [], ◌∷◌, ◌++◌, rules}
-use Rattle.std.proofs.lemmas.List.{append_assoc, append-nil}
+use Rattle.std.proofs.Common.{◌≡◌, ◌≢◌, refl, List, [], ◌∷◌, ◌++◌}
+use Rattle.std.proofs.lemmas.List.{append_assoc}
 use Rattle.std.specs.List.{AllZip}
 
 module _ {W X : Type 0} (R : W → X → Type 0) where
@@ -29,9 +29,6 @@ module _ {W X : Type 0} (R : W → X → Type 0) where
   AllZip-one (v ∷ vs) w rest [] each = absurd each
   AllZip-one (v ∷ vs) w rest (x ∷ xs) each = AllZip-one vs w rest xs each.1
 
-  pub HasTaken-start : (all : List W) → HasTaken all all []
-  HasTaken-start all = record { before = []; place = search rules; each = tt }
-
   -- one word more is read
   pub HasTaken-next : (all old new : List W) (w : W) (xs : List X) (x : X) → HasTaken all old xs → old ≡ w ∷ new → R w x → HasTaken all new (xs ++ x ∷ [])
   HasTaken-next all old new w xs x had next r =
@@ -40,10 +37,6 @@ module _ {W X : Type 0} (R : W → X → Type 0) where
         place = rw (append_assoc had.before (w ∷ []) new, ← next) had.place;
         each = AllZip-more had.before xs w x had.each r;
       }
-
-  -- all words are read
-  pub HasTaken-end : (all rest : List W) (xs : List X) → HasTaken all rest xs → rest ≡ [] → AllZip R all xs
-  HasTaken-end all rest xs had none = let e = had.place in rw (e, none, append-nil had.before) had.each
 
   -- a word is not read
   pub HasTaken-none : (all old new : List W) (w : W) (xs : List X) → HasTaken all old xs → old ≡ w ∷ new → ((x : X) → ¬ (R w x)) → (ys : List X) → ¬ (AllZip R all ys)

@@ -2,7 +2,7 @@
 use Rattle.std.proofs.Common.{◌≡◌, ◌≢◌, ◌∙◌, ℕ, ◌+◌, ◌<◌, ◌≤◌, ◌==◌, Bool, true, false, List, [], ◌∷◌, ◌++◌, length, map, take, drop, refl, sym, ap, subst, arith, one-add, length-take, length-drop}
 use Rattle.std.proofs.lemmas.Bool.{eqb-true}
 use Rattle.std.proofs.lemmas.Bool.Decides.{nat_tests}
-use Rattle.std.proofs.lemmas.List.{append-nil, take_all, drop_all, drop-drop, take-append-drop}
+use Rattle.std.proofs.lemmas.List.{append-nil, drop-drop, take-append-drop}
 use Rattle.std.proofs.Math.Seq.{take-append-add, drop-append-add}
 use Rattle.std.specs.Str.Lines.{lines, lines_of_parts, strip_carriage_return}
 use Rattle.std.specs.List.{position_or_len, onto_first, slice_split}
@@ -108,7 +108,3 @@ lines_cut xs from end is_end inside =
     ap (λ ys. take end xs ++ ys) (sym (left ∙ following-first rest some)) ∙ take-append-drop end xs in
     let Cut : List ℕ → Type 0 = λ ys. lines ys ≡ lines (take (end + 1) ys) ++ lines (drop (end + 1) ys) in
     subst Cut whole (lines_behind (take end xs) (drop 1 (following is_line_feed rest)) (end + 1) (omega (arith, length-take end xs)))
-
--- and cut at its end
-pub lines_uncut : (xs : List ℕ) (end : ℕ) → length xs ≤ end → lines xs ≡ lines (take end xs) ++ lines (drop end xs)
-lines_uncut xs end past = rw (take_all end xs past, drop_all end xs past) (sym (append-nil (lines xs)))

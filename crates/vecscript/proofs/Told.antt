@@ -10,7 +10,7 @@ use Rattle.allocator_api2.specs.declared.runner.Command.{Command}
 use Rattle.allocator_api2.specs.declared.runner.Command.TheVariants.{SplitOff, Retain, Dedup, ExtractIf}
 use Rattle.allocator_api2.specs.declared.runner.Reply.{Reply}
 use Rattle.allocator_api2.specs.declared.runner.Reply.TheVariants.{Done, Item, Nothing, Back, Refused, Range}
-use Rattle.allocator_api2.specs.Machine.{State, Calls, CallsNone, Step, TakesOut}
+use Rattle.allocator_api2.specs.Machine.{Asking, State, asking, Calls, CallsNone, Step, TakesOut}
 use Rattle.allocator_api2.specs.Run.{Turn, IsRun, RunsTo}
 use Rattle.vecscript.specs.Print.{AppendsBeginning}
 use Rattle.vecscript.specs.Runs.{element_size, MayAnswer}
@@ -39,10 +39,10 @@ module _ {T K S : Type 0} (Asks Told : K → T → Bool → K → T → Type 0) 
   Retains-told k old l new h =
       record { told = h.told; asked = asked-told k old.items h.told l h.asked; holds = h.holds; written = h.written; runs = h.runs }
 
-  TakesOut-told : {A : Type 0} (size : ℕ) (main side : Vector T A) (start end count : ℕ) (k : K) (main' side' : Vector T A) (l : K)
-      → TakesOut Asks size main side start end count k main' side' l → TakesOut Told size main side start end count k main' side' l
-  TakesOut-told size main side start end count k main' side' l h =
-      record { told = h.told; asked = asked-told k (take (length h.told) (slice_range main.items start end)) h.told l h.asked; enough = h.enough; leaves = h.leaves; gives = h.gives }
+  TakesOut-told : {A : Type 0} (size : ℕ) (old : Asking T A K) (start end count : ℕ) (new : Asking T A K)
+      → TakesOut Asks size old start end count new → TakesOut Told size old start end count new
+  TakesOut-told size old start end count new h =
+      record { told = h.told; asked = asked-told old.keep (take (length h.told) (slice_range old.main.items start end)) h.told new.keep h.asked; enough = h.enough; leaves = h.leaves; gives = h.gives }
 
   Deduplicates-told : {A : Type 0} (s : S) (old : Vector T A) (r : S) (new : Vector T A) → Deduplicates Repeats s old r new → Deduplicates ToldPair s old r new
   Deduplicates-told s old r new h =
@@ -80,7 +80,7 @@ module _ {T A K S : Type 0} (calls told : Calls T A K S)
         let kept = Deduplicates-told calls.keeps told.keeps calls.repeats told.repeats keeps repeats old.same old.main new.same new.main s.removes in
         record { done = s.done; side = s.side; keep = s.keep; removes = kept; asked = s.asked }
     Step-told old (ExtractIf start end count) answers Done new s =
-        let taken = TakesOut-told calls.keeps told.keeps calls.repeats told.repeats keeps repeats size old.main old.side start end count old.keep new.main new.side new.keep s.takes in
+        let taken = TakesOut-told calls.keeps told.keeps calls.repeats told.repeats keeps repeats size (asking old.main old.side old.keep) start end count (asking new.main new.side new.keep) s.takes in
         record { in_range = s.in_range; same = s.same; takes = taken; asked = s.asked }
     Step-told old (ExtractIf start end count) answers (Item y) new s = CallsNone-told old (ExtractIf start end count) answers (Item y) new s
     Step-told old (ExtractIf start end count) answers Nothing new s = CallsNone-told old (ExtractIf start end count) answers Nothing new s

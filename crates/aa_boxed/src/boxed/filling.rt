@@ -7,7 +7,8 @@ ghost use Rattle.aa_raw.specs.Block.{fresh};
 ghost use Rattle.aa_raw.specs.Growth.{amortized, least_of, sized, usize_max};
 ghost use Rattle.aa_raw.specs.Refusals.{RefusesBlock};
 ghost use Rattle.aa_raw.specs.Room.{LacksRoom};
-ghost use Rattle.aa_boxed.specs.Slice.{none_begun, with_all, with_next, ended};
+ghost use Rattle.aa_boxed.specs.Slice.{Begun, none_begun, with_all, with_next, ended};
+ghost use Rattle.aa_boxed.specs.SliceInner.{begun_of, IsFront};
 
 use crate::boxed::slice::BoxedSlice;
 use aa_raw::collections::{TryReserveError, TryReserveErrorKind};
@@ -22,11 +23,7 @@ pub(crate) struct Filling<T, A: Allocator> {
 }
 
 impl<T, A: Allocator> Model for Filling<T, A> {
-    ghost use Rattle.aa_boxed.specs.Slice.{Begun};
-
     ghost Value = { Begun T A };
-
-    ghost use Rattle.aa_boxed.specs.SliceInner.{begun_of, IsFront};
 
     ghost view = { begun_of };
 

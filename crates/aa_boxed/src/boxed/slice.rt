@@ -13,6 +13,8 @@ ghost use Rattle.aa_raw.specs.declared.raw_vec.Growth.TheVariants.{Doubling};
 ghost use Rattle.aa_boxed.specs.Room.{IsJustFor};
 ghost use Rattle.aa_boxed.specs.Slice.{new_slice, slice_of, Stops};
 ghost use Rattle.aa_boxed.specs.Telling.{TellsAtMost};
+ghost use Rattle.aa_boxed.specs.Slice.{Slice};
+ghost use Rattle.aa_boxed.specs.SliceInner.{view_of, IsWhole};
 
 use crate::boxed::filling::Filling;
 use aa_raw::collections::{TryReserveError, TryReserveErrorKind};
@@ -29,11 +31,7 @@ pub struct BoxedSlice<T, A: Allocator = Global> {
 }
 
 impl<T, A: Allocator> Model for BoxedSlice<T, A> {
-    ghost use Rattle.aa_boxed.specs.Slice.{Slice};
-
     ghost Value = { Slice T A };
-
-    ghost use Rattle.aa_boxed.specs.SliceInner.{view_of, IsWhole};
 
     ghost view = { view_of };
 

@@ -3,8 +3,9 @@ ghost use Rattle.std.specs.Prelude.{◌≡◌, ◌-◌, ◌≤◌, [], length, S
 ghost use Rattle.std.specs.Borrow.{sem};
 ghost use Rattle.std.specs.Iterator.{YieldsFirst, YieldsLast, UpTo, item_count};
 ghost use Rattle.std.specs.Iterator.SizeHint.{IsWithinCount};
-ghost use Rattle.aa_raw.specs.Left.{gives_first, gives_last};
+ghost use Rattle.aa_raw.specs.Left.{Left, gives_first, gives_last};
 ghost use Rattle.aa_raw.specs.Places.{IsRun, run};
+ghost use Rattle.aa_raw.specs.LeftFields.{left_of, IsBetween};
 
 use crate::raw_vec::RawVec;
 use std::alloc::{Allocator, Global};
@@ -22,11 +23,7 @@ pub struct IntoIter<T, A: Allocator = Global> {
 }
 
 impl<T, A: Allocator> Model for IntoIter<T, A> {
-    ghost use Rattle.aa_raw.specs.Left.{Left};
-
     ghost Value = { Left T A };
-
-    ghost use Rattle.aa_raw.specs.LeftFields.{left_of, IsBetween};
 
     ghost view = { left_of };
 

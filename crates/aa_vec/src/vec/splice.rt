@@ -3,9 +3,9 @@ ghost use Rattle.std.specs.Prelude.{◌≡◌, ℕ, ◌+◌, ◌-◌, ◌<◌, �
 ghost use Rattle.std.specs.Mem.{type_size};
 ghost use Rattle.std.specs.Iterator.{IsFinite};
 ghost use Rattle.aa_vec.specs.Vector.{len, HasRoom};
-ghost use Rattle.aa_vec.specs.Behind.{StandsBehind, behind_items};
+ghost use Rattle.aa_vec.specs.Behind.{StandsBehind};
 ghost use Rattle.aa_vec.specs.Extending.{TellsAtMost, TellsExactly};
-ghost use Rattle.aa_vec.specs.Splicing.{Replaced, SplicesIter};
+ghost use Rattle.aa_vec.specs.Splicing.{Replaced, SplicesIter, without_behind};
 
 use crate::vec::Vec;
 use crate::vec::items::Hinted;
@@ -140,11 +140,10 @@ where
     requires may_ask { I.can_next iter.old }
     requires ends { IsFinite (I.remaining iter.old) }
     ensures replaces { Replaced I.next_gives W.tells I.remaining (¬ (A.is_infallible vec.old.alloc))
-        (type_size I.Item.row) iter.old vec.old end (behind_items vec.old end (total - end))
-        result vec.new }
-    ensures leaves { SplicesIter I.next_gives W.tells (type_size I.Item.row)
-        iter.old vec.old end (behind_items vec.old end (total - end))
-        (¬ (A.is_infallible vec.old.alloc)) iter.new result vec.new }
+        (type_size I.Item.row) iter.old (without_behind vec.old end total) result vec.new }
+    ensures leaves { SplicesIter I.next_gives W.tells (type_size I.Item.row) iter.old
+        (without_behind vec.old end total) (¬ (A.is_infallible vec.old.alloc)) iter.new result
+        vec.new }
 {
     let count = total - end;
     vec.drop_behind(front, back - front);
@@ -158,52 +157,51 @@ where
     vec.put_more::<W, I>(told, count, iter)
 }
 
-// The same, as `lower` tells of them.
-fn end_hinted<I: Hinted, A: Allocator + Clone>(
-    vec: &mut Vec<I::Item, A>,
-    front: usize,
-    back: usize,
-    end: usize,
-    total: usize,
-    iter: I,
-) -> Result<(), TryReserveError>
+impl<'a, I: Iterator, A: Allocator + Clone> Splice<'a, I, A>
 where
     I::Item: Drop,
-    requires ordered { (front ≤ back) × (back ≤ end) × (end ≤ total) }
-    requires held { StandsBehind vec.old front (back - front)
-        × StandsBehind vec.old end (total - end) }
-    requires may_ask { I.can_next iter }
-    requires ends { IsFinite (I.remaining iter) }
-    ensures { Replaced I.next_gives (TellsExactly I.lower_of) I.remaining
-        (¬ (A.is_infallible vec.old.alloc)) (type_size I.Item.row) iter vec.old end
-        (behind_items vec.old end (total - end)) result vec.new }
 {
-    let mut items = iter;
-    end_telling::<ByLower, I, A>(vec, front, back, end, total, &mut items)
-}
+    ghost use Rattle.aa_vec.specs.Splices.{splice_gap, splice_iter};
 
-// The same, as `size_hint` tells of them.
-fn end_bounded<I: Iterator, A: Allocator + Clone>(
-    vec: &mut Vec<I::Item, A>,
-    front: usize,
-    back: usize,
-    end: usize,
-    total: usize,
-    iter: I,
-) -> Result<(), TryReserveError>
-where
-    I::Item: Drop,
-    requires ordered { (front ≤ back) × (back ≤ end) × (end ≤ total) }
-    requires held { StandsBehind vec.old front (back - front)
-        × StandsBehind vec.old end (total - end) }
-    requires may_ask { I.can_next iter }
-    requires ends { IsFinite (I.remaining iter) }
-    ensures { Replaced I.next_gives (TellsAtMost I.remaining) I.remaining
-        (¬ (A.is_infallible vec.old.alloc)) (type_size I.Item.row) iter vec.old end
-        (behind_items vec.old end (total - end)) result vec.new }
-{
-    let mut items = iter;
-    end_telling::<ByHint, I, A>(vec, front, back, end, total, &mut items)
+    // The two calls that end a splice are this, as `W` tells of the items.
+    fn end_by<W: Telling<I>>(self) -> Result<(), TryReserveError>
+        requires may_ask { I.can_next (splice_iter self) }
+        requires ends { IsFinite (I.remaining (splice_iter self)) }
+        ensures { Replaced I.next_gives W.tells I.remaining
+            (¬ (A.is_infallible self.entry.vec.now.alloc)) (type_size I.Item.row)
+            (splice_iter self.entry) (splice_gap self.entry) result self.exit.0.now }
+    {
+        let Splice {
+            vec,
+            front,
+            back,
+            end,
+            total,
+            iter,
+        } = self;
+        Self::end_parts::<W>(vec, front, back, end, total, iter)
+    }
+
+    // The same, from its parts.
+    fn end_parts<W: Telling<I>>(
+        vec: &'a mut Vec<I::Item, A>,
+        front: usize,
+        back: usize,
+        end: usize,
+        total: usize,
+        iter: I,
+    ) -> Result<(), TryReserveError>
+        requires ordered { (front ≤ back) × (back ≤ end) × (end ≤ total) }
+        requires held { StandsBehind vec.old front (back - front)
+            × StandsBehind vec.old end (total - end) }
+        requires may_ask { I.can_next iter }
+        requires ends { IsFinite (I.remaining iter) }
+        ensures { Replaced I.next_gives W.tells I.remaining (¬ (A.is_infallible vec.old.alloc))
+            (type_size I.Item.row) iter (without_behind vec.old end total) result vec.new }
+    {
+        let mut items = iter;
+        end_telling::<W, I, A>(vec, front, back, end, total, &mut items)
+    }
 }
 
 impl<'a, I: Hinted, A: Allocator + Clone> Splice<'a, I, A>
@@ -254,15 +252,7 @@ where
             IfErr result (λ e. SpliceRefused (TellsExactly I.lower_of) fails
             (type_size I.Item.row) self.entry e self.exit.0.now) }
     {
-        let Splice {
-            vec,
-            front,
-            back,
-            end,
-            total,
-            iter,
-        } = self;
-        end_hinted(vec, front, back, end, total, iter)
+        self.end_by::<ByLower>()
     }
 }
 
@@ -301,14 +291,6 @@ where
             IfErr result (λ e. SpliceRefused (TellsAtMost I.remaining) fails
             (type_size I.Item.row) self.entry e self.exit.0.now) }
     {
-        let Splice {
-            vec,
-            front,
-            back,
-            end,
-            total,
-            iter,
-        } = self;
-        end_bounded(vec, front, back, end, total, iter)
+        self.end_by::<ByHint>()
     }
 }

@@ -1,10 +1,11 @@
 //! The command `Drain` of `run`, and its parts.
-ghost use Rattle.std.specs.Prelude.{◌+◌, ◌-◌, ◌≤◌, true, false, length};
+ghost use Rattle.std.specs.Prelude.{◌+◌, ◌-◌, ◌≤◌, length};
 ghost use Rattle.std.specs.Mem.{type_size};
 ghost use Rattle.aa_vec.specs.Draining.{drain_rest};
 ghost use Rattle.aa_vec.specs.Vector.{len, HasRoom};
 ghost use Rattle.allocator_api2.specs.Commands.{Does};
 ghost use Rattle.allocator_api2.specs.Drained.{Drained, TakesFront, TakesBack};
+ghost use Rattle.allocator_api2.specs.Machine.{ends_at};
 ghost use Rattle.allocator_api2.specs.declared.runner.Command.{Command};
 
 use crate::runner::{Reply, append_within};
@@ -32,49 +33,31 @@ pub(crate) fn drain<T: Drop, A: Allocator>(
     if let Err(error) = side.try_reserve(first + last) {
         return Reply::Refused(error);
     }
-    if keep {
-        drain_and_keep(main, side, start, end, first, last);
-    } else {
-        drain_and_drop(main, side, start, end, first, last);
-    }
+    drain_into(main, side, start, end, first, last, keep);
     Reply::Done
 }
 
-// Takes so many items of a range from the front and then from the back, and keeps the others.
-fn drain_and_keep<T: Drop, A: Allocator>(
+// Takes so many items of a range from the front and then from the back, and keeps or drops the
+// others.
+fn drain_into<T: Drop, A: Allocator>(
     main: &mut Vec<T, A>,
     side: &mut Vec<T, A>,
     start: usize,
     end: usize,
     first: usize,
     last: usize,
+    keep: bool,
 )
     requires range { (start ≤ end) × (end ≤ len main.old) × (first + last ≤ end - start) }
     requires room { HasRoom side.old (first + last) }
-    ensures { Drained main.old side.old start end first last true main.new side.new }
+    ensures { Drained main.old side.old (ends_at start end first last) keep main.new side.new }
 {
     let mut items = main.drain(start..end);
     take_front(&mut items, side, first);
     take_back(&mut items, side, last);
-    items.keep_rest();
-}
-
-// The same, and drops the others.
-fn drain_and_drop<T: Drop, A: Allocator>(
-    main: &mut Vec<T, A>,
-    side: &mut Vec<T, A>,
-    start: usize,
-    end: usize,
-    first: usize,
-    last: usize,
-)
-    requires range { (start ≤ end) × (end ≤ len main.old) × (first + last ≤ end - start) }
-    requires room { HasRoom side.old (first + last) }
-    ensures { Drained main.old side.old start end first last false main.new side.new }
-{
-    let mut items = main.drain(start..end);
-    take_front(&mut items, side, first);
-    take_back(&mut items, side, last);
+    if keep {
+        items.keep_rest();
+    }
 }
 
 // Takes so many items from the front, and puts them behind the last element of a vector that has

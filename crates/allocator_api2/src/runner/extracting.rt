@@ -7,13 +7,14 @@ ghost use Rattle.aa_vec.specs.Extracting.{extract_rest};
 ghost use Rattle.aa_vec.specs.Vector.{len, HasRoom};
 ghost use Rattle.allocator_api2.specs.Commands.{TakesChosen};
 ghost use Rattle.allocator_api2.specs.Drained.{Chosen, TakesUpTo};
+ghost use Rattle.allocator_api2.specs.Machine.{asking};
 
 use crate::runner::{Reply, append_within};
 use aa_vec::vec::{ExtractBy, Vec};
 use std::alloc::Allocator;
 
 // Tests the range, makes room in side for as many as may be taken, and then takes them.
-pub(crate) fn extract<T, A, K>(
+pub(crate) fn extract<T: Drop, A: Allocator, K: FnMut(&mut T) -> bool>(
     main: &mut Vec<T, A>,
     side: &mut Vec<T, A>,
     start: usize,
@@ -21,14 +22,11 @@ pub(crate) fn extract<T, A, K>(
     take: usize,
     keep: &mut K,
 ) -> Reply<T>
-where
-    T: Drop,
-    A: Allocator,
-    K: FnMut(&mut T) -> bool,
     requires { IsCallableInOrder (CalledAtMut K.FnMut) (TakesMut K.FnMut)
         keep.old (slice_range main.old.items start end) }
     ensures { TakesChosen (type_size T.row) (CalledAtMut K.FnMut)
-        main.old side.old keep.old start end take result main.new side.new keep.new }
+        (asking main.old side.old keep.old) start end take result
+        (asking main.new side.new keep.new) }
 {
     if start > end || end > main.len() {
         return Reply::Range;
@@ -43,7 +41,7 @@ where
 
 // Takes at most so many elements out of a range, and puts them behind the last element of a vector
 // that has room for them.
-fn extract_into<T, A, K>(
+fn extract_into<T: Drop, A: Allocator, K: FnMut(&mut T) -> bool>(
     main: &mut Vec<T, A>,
     side: &mut Vec<T, A>,
     start: usize,
@@ -51,32 +49,24 @@ fn extract_into<T, A, K>(
     most: usize,
     keep: &mut K,
 )
-where
-    T: Drop,
-    A: Allocator,
-    K: FnMut(&mut T) -> bool,
     requires range { (start ≤ end) × (end ≤ len main.old) }
     requires room { HasRoom side.old most }
     requires callable { IsCallableInOrder (CalledAtMut K.FnMut) (TakesMut K.FnMut)
         keep.old (slice_range main.old.items start end) }
-    ensures { Chosen (CalledAtMut K.FnMut)
-        main.old side.old keep.old start end most main.new side.new keep.new }
+    ensures { Chosen (CalledAtMut K.FnMut) (asking main.old side.old keep.old) start end most
+        (asking main.new side.new keep.new) }
 {
     let mut range = main.extract_by(start..end);
     take_chosen(&mut range, side, most, keep);
 }
 
 // The same from a range out of which elements are taken.
-fn take_chosen<T, A, K>(
+fn take_chosen<T: Drop, A: Allocator, K: FnMut(&mut T) -> bool>(
     range: &mut ExtractBy<'_, T, A>,
     side: &mut Vec<T, A>,
     most: usize,
     keep: &mut K,
 )
-where
-    T: Drop,
-    A: Allocator,
-    K: FnMut(&mut T) -> bool,
     requires room { HasRoom side.old most }
     requires callable { IsCallableInOrder (CalledAtMut K.FnMut) (TakesMut K.FnMut)
         keep.old (extract_rest range.old) }

@@ -1,5 +1,5 @@
 //! Each request for memory refused in turn.
-use crate::texts::{edited_twice, nine_put, reads};
+use crate::tests::texts::{edited_twice, nine_put, reads};
 use aa_faulty::Faulty;
 use aa_gap::gap_buffer::{Edit, GapBuffer};
 use aa_raw::collections::TryReserveErrorKind;

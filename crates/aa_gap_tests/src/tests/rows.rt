@@ -1,5 +1,5 @@
 //! Worked examples, and each call once.
-use crate::texts::{edited_twice, nine_put, reads};
+use crate::tests::texts::{edited_twice, nine_put, reads};
 use aa_gap::gap_buffer::{Edit, GapBuffer};
 use aa_raw::collections::TryReserveError;
 use aa_raw::raw_vec::Growth;

@@ -1,5 +1,5 @@
 //! Elements that count how often such an element is dropped.
-use crate::texts::edited_twice;
+use crate::tests::texts::edited_twice;
 use aa_faulty::Faulty;
 use aa_faulty::counted::Counted;
 use aa_gap::gap_buffer::{Edit, GapBuffer};
