@@ -5,7 +5,7 @@ use Rattle.std.specs.List.{AllZip}
 use Rattle.std.proofs.lemmas.List.{length-take-le}
 use Rattle.std.proofs.lemmas.List.Elements.{AllZip-push}
 use Rattle.std.proofs.lemmas.Grind.{take_at_read}
-use Rattle.aa_raw.specs.Places.{IsRun, run}
+use Rattle.aa_raw.specs.Places.{run}
 use Rattle.aa_raw.specs.Clones.{HoldsClones}
 use Rattle.aa_raw.proofs.Runs.{run-zero, run-push, IsRun-nil, IsRun-push}
 

@@ -1,4 +1,5 @@
 mod Access
+mod Arrayed
 mod Arrays
 mod Claims
 mod Each

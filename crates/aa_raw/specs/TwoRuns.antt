@@ -1,6 +1,6 @@
 -- Growth that keeps two runs of a block. A run is a place, and how many places from there on hold
 -- its values.
-use Rattle.std.specs.Prelude.{◌≡◌, ℕ, ◌+◌, ◌<◌, ◌≤◌, ◌-◌, ◌⊎◌, List, ◌++◌, take, drop, replicate, Option, None, length, if◌then◌else◌, nat_le, Result, IfErr, OnOk, IsOk}
+use Rattle.std.specs.Prelude.{◌≡◌, ℕ, ◌+◌, ◌<◌, ◌≤◌, ◌-◌, ◌⊎◌, ◌++◌, take, drop, replicate, None, length, if◌then◌else◌, nat_le, Result, IfErr, OnOk, IsOk}
 use Rattle.aa_raw.specs.Block.{Block}
 use Rattle.aa_raw.specs.Growth.{amortized, least_of, usize_max}
 use Rattle.aa_raw.specs.Places.{IsRun, run, with_run}

@@ -127,7 +127,23 @@ impl<T> Row<T> {
         self.join(row);
     }
 
+    // Moves the `N` values from `from` on to the places from `to` on, which may overlap them: all of
+    // them are read before one is written.
+    #[inline(always)]
+    #[tactic(auto, using(crate::proofs::Places::array_moves))]
+    fn move_array<const N: usize>(&mut self, from: usize, to: usize)
+        requires { IsRun self.old.places from N × (to + N ≤ length self.old.places) }
+        ensures { (self.new.ptr ≡ self.old.ptr)
+            × (self.new.places ≡ moved self.old.places from to N) }
+    {
+        let mut run = self.cut(from);
+        let items = run.read_array::<N>();
+        self.join(run);
+        self.write_array(to, items);
+    }
+
     /// Moves the first `N` values out.
+    #[inline(always)]
     pub(crate) fn read_array<const N: usize>(&mut self) -> [T; N]
         requires { IsRun self.old.places 0 N }
         ensures value { take N self.old.places ≡ map Some result }
@@ -244,7 +260,7 @@ fn raise<T>(row: Row<T>, by: usize, count: usize) -> Row<T>
     if by == 1 {
         raise_by_one(row, count)
     } else {
-        move_up(row, by, count)
+        raise_in_arrays(row, by, count)
     }
 }
 
@@ -287,7 +303,7 @@ fn lower<T>(row: Row<T>, by: usize, count: usize) -> Row<T>
     if by == 1 {
         lower_by_one(row, count)
     } else {
-        move_down(row, by, count)
+        lower_in_arrays(row, by, count)
     }
 }
 
@@ -297,6 +313,67 @@ fn lower_by_one<T>(row: Row<T>, count: usize) -> Row<T>
     ensures { (result.ptr ≡ row.ptr) × (result.places ≡ moved row.places 1 0 count) }
 {
     move_down(row, 1, count)
+}
+
+// `raise` in arrays of 64 to 128 bytes, which are less work than a loop over values. Elements of
+// several words are moved one by one; of those without size the compiler leaves no move.
+fn raise_in_arrays<T>(row: Row<T>, by: usize, count: usize) -> Row<T>
+    requires { (0 < by) × IsRun row.places 0 count × (by + count ≤ length row.places)
+        × (length row.places < 2 ^ 64) }
+    ensures { (result.ptr ≡ row.ptr) × (result.places ≡ moved row.places 0 by count) }
+{
+    match element_size::<T>() {
+        1 | 2 => raise_by_arrays::<T, 64>(row, by, count),
+        3 | 4 => raise_by_arrays::<T, 32>(row, by, count),
+        5..=SMALL => raise_by_arrays::<T, 16>(row, by, count),
+        _ => move_up(row, by, count),
+    }
+}
+
+// `lower` likewise.
+fn lower_in_arrays<T>(row: Row<T>, by: usize, count: usize) -> Row<T>
+    requires { (0 < by) × IsRun row.places by count × (length row.places < 2 ^ 64) }
+    ensures { (result.ptr ≡ row.ptr) × (result.places ≡ moved row.places by 0 count) }
+{
+    match element_size::<T>() {
+        1 | 2 => lower_by_arrays::<T, 64>(row, by, count),
+        3 | 4 => lower_by_arrays::<T, 32>(row, by, count),
+        5..=SMALL => lower_by_arrays::<T, 16>(row, by, count),
+        _ => move_down(row, by, count),
+    }
+}
+
+// The loop of `raise` in arrays of `N`, the last first, and then what is left.
+#[inline(always)]
+#[tactic(auto, using(crate::proofs::Places::begun_arrays))]
+fn raise_by_arrays<T, const N: usize>(mut row: Row<T>, by: usize, count: usize) -> Row<T>
+    requires { (0 < N) × (0 < by) × IsRun row.places 0 count × (by + count ≤ length row.places)
+        × (length row.places < 2 ^ 64) }
+    ensures { (result.ptr ≡ row.ptr) × (result.places ≡ moved row.places 0 by count) }
+{
+    let mut left = count;
+    'up: while N <= left {
+        left -= N;
+        row.move_array::<N>(left, by + left);
+    }
+    move_up(row, by, left)
+}
+
+// The loop of `lower` in arrays of `N`, the first first, and then what is left.
+#[inline(always)]
+#[tactic(auto, using(crate::proofs::Places::begun_arrays))]
+fn lower_by_arrays<T, const N: usize>(mut row: Row<T>, by: usize, count: usize) -> Row<T>
+    requires { (0 < N) × (0 < by) × IsRun row.places by count × (length row.places < 2 ^ 64) }
+    ensures { (result.ptr ≡ row.ptr) × (result.places ≡ moved row.places by 0 count) }
+{
+    let mut at = 0;
+    'down: while N <= count - at {
+        row.move_array::<N>(by + at, at);
+        at += N;
+    }
+    let rest = row.cut(at);
+    row.join(move_down(rest, by, count - at));
+    row
 }
 
 // The loop of `raise`, the last value first.

@@ -1,12 +1,10 @@
 -- Elements behind a gap, asked one after the other beside the last one kept.
-use Rattle.std.proofs.Common.{◌≡◌, ℕ, suc, ◌+◌, ◌<◌, Bool, true, false, List, [], ◌∷◌, ◌++◌, length, map, drop, Some, refl, sym, ap, ◌∙◌, subst, arith, length-append}
+use Rattle.std.proofs.Common.{◌≡◌, ℕ, suc, ◌+◌, ◌<◌, ◌≤◌, Bool, true, false, List, [], ◌∷◌, ◌++◌, length, map, drop, Some, refl, sym, ap, ◌∙◌, subst, arith, length-append}
 use Rattle.std.proofs.lemmas.List.{drop_at, length-map, take-append-drop}
-use Rattle.aa_raw.proofs.Runs.{run-zero}
 use Rattle.aa_vec.specs.Behind.{StandsBehind, behind_items}
 use Rattle.aa_vec.specs.Choosing.{MayChainFrom, MayDeduplicate}
 use Rattle.aa_vec.specs.Until.{ChainsUntil, ChainsAlong, ChainsOn, AsksLast, ChainsBehind}
 use Rattle.aa_vec.specs.Vector.{Vector, len}
-use Rattle.aa_vec.proofs.Climbing.{SameBlock-refl}
 use Rattle.aa_vec.proofs.Gaps.{lent-is, refilled, LeavesBehind-view}
 use Rattle.aa_vec.proofs.Stands.{count, first_are, parts, replaced_are}
 
@@ -17,27 +15,16 @@ module _ {T : Type 0} where
   split_last (x ∷ []) h = ([], x, refl)
   split_last (x ∷ y ∷ xs) h = let p = split_last (y ∷ xs) (omega arith) in (x ∷ p.0, p.1, ap (λ l. x ∷ l) p.2)
 
+  -- a list of no length has no element
+  empty_is : (xs : List T) → length xs ≡ 0 → xs ≡ []
+  empty_is [] h = refl
+  empty_is (x ∷ xs) h = absurd (omega (arith, h))
+
   -- lists that differ in their last element are as long
   pub same_end : (front : List T) (x y : T) → length (front ++ x ∷ []) ≡ length (front ++ y ∷ [])
   same_end front x y = length-append front (x ∷ []) ∙ sym (length-append front (y ∷ []))
 
 module _ {F T A : Type 0} (Asks : F → T → T → Bool → F → T → T → Type 0) (f : F) (v : Vector T A) (gap : ℕ) where
-  -- there is none to ask
-  pub ChainsBehind-none : 0 < len v → ChainsBehind Asks f v gap 0 0 f v
-  ChainsBehind-none some =
-      let p = split_last v.items some in record {
-        front = p.0;
-        last = p.1;
-        last_left = p.1;
-        left = [];
-        had = p.2;
-        until = subst (λ xs. ChainsUntil Asks f p.1 xs 0 f (p.1 ∷ [])) (sym (run-zero (drop gap v.behind) 0)) (refl, refl);
-        items = p.2;
-        behind = refl;
-        block = SameBlock-refl v;
-        writes = record { written = omega arith; runs = omega arith };
-      }
-
   module _ (n : ℕ) (some : 0 < n) (stands : StandsBehind v gap n) where
     pub first_is : (x : T) → behind_items v gap 1 ≡ x ∷ [] → behind_items v gap n ≡ x ∷ drop 1 (behind_items v gap n)
     first_is x e = let xs : List T = behind_items v gap n in sym (take-append-drop 1 xs) ∙ ap (λ l. l ++ drop 1 xs) (sym (first_are v gap n stands 1 (omega arith)) ∙ e)
@@ -90,13 +77,14 @@ module _ {F T A : Type 0} (Asks : F → T → T → Bool → F → T → T → T
             let m : MayChainFrom Asks Takes f asked.last (asked.next ∷ others) = subst (MayChainFrom Asks Takes f asked.last) all may in
             subst (MayDeduplicate Asks Takes g) (sym now_are) (m.2 g asked.next_left asked.last_left (called false e))
 
+        still_behind : drop n (drop gap w.behind) ≡ drop n (drop gap v.behind)
+        still_behind = ap (drop n) now_behind ∙ drop_at (map Some (asked.next_left ∷ others)) (drop n (drop gap v.behind)) n (length-map (asked.next_left ∷ others) (λ (x : T). Some x) ∙ long)
+
         pub ChainsBehind-more : (k : ℕ) (h : F) (u : Vector T A) → ChainsOn Asks g w gap n k h u → ChainsBehind Asks f v gap n (1 + k) h u
         ChainsBehind-more k h u on =
             let follow : ChainsUntil Asks g asked.next_left others k h on.left = subst (λ xs. ChainsAlong Asks g xs k h on.left) now_are on.until in
             let until : ChainsUntil Asks f asked.last (asked.next ∷ others) (suc k) h (asked.last_left ∷ on.left) = (g, asked.next_left, asked.last_left, on.left, called false e, follow, refl) in
             let one : suc k ≡ 1 + k = omega arith in
-            let behind_same : drop n (drop gap w.behind) ≡ drop n (drop gap v.behind) =
-            ap (drop n) now_behind ∙ drop_at (map Some (asked.next_left ∷ others)) (drop n (drop gap v.behind)) n (length-map (asked.next_left ∷ others) (λ (x : T). Some x) ∙ long) in
             record {
               front = asked.front;
               last = asked.last;
@@ -105,13 +93,25 @@ module _ {F T A : Type 0} (Asks : F → T → T → Bool → F → T → T → T
               had = asked.had.0;
               until = subst (λ i. ChainsUntil Asks f asked.last (behind_items v gap n) i h (asked.last_left ∷ on.left)) one (subst (λ xs. ChainsUntil Asks f asked.last xs (suc k) h (asked.last_left ∷ on.left)) (sym all) until);
               items = ap (λ s. s.items) on.leaves.same ∙ asked.items;
-              behind = on.leaves.behind ∙ ap (λ ds. map Some on.left ++ ds) behind_same;
+              behind = on.leaves.behind ∙ ap (λ ds. map Some on.left ++ ds) still_behind;
               block = rw on.leaves.same (record { capacity = asked.block.capacity; growth = asked.block.growth; grown = asked.block.grown; alloc = asked.block.alloc });
               writes = rw on.leaves.same (record { written = asked.writes.written; runs = asked.writes.runs });
             }
 
+        -- and it was the only one
+        pub ChainsBehind-one : n ≤ 1 → ChainsBehind Asks f v gap n 1 g w
+        ChainsBehind-one one =
+            let no_others : others ≡ [] = empty_is others (omega (arith, long, one)) in
+            let only : ChainsUntil Asks g asked.next_left [] 0 g (asked.next_left ∷ []) = (refl, refl) in
+            let until : ChainsUntil Asks g asked.next_left others 0 g (asked.next_left ∷ others) = subst (λ xs. ChainsUntil Asks g asked.next_left xs 0 g (asked.next_left ∷ xs)) (sym no_others) only in
+            ChainsBehind-more 0 g w (record {
+              left = asked.next_left ∷ others;
+              until = subst (λ xs. ChainsAlong Asks g xs 0 g (asked.next_left ∷ others)) (sym now_are) until;
+              leaves = record { same = refl; below = refl; behind = now_behind ∙ ap (λ ds. map Some (asked.next_left ∷ others) ++ ds) (sym still_behind) };
+            })
+
 -- elements asked one after the other
-pub ruleset chains = (ChainsBehind-none, ChainsBehind-repeat, ChainsBehind-more)
+pub ruleset chains = (ChainsBehind-repeat, ChainsBehind-one, ChainsBehind-more)
 
 -- elements lent to who asks them
 pub ruleset lents = (lent-is, refilled, LeavesBehind-view)

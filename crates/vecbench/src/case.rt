@@ -35,7 +35,7 @@ pub enum Case {
     Extend,
     /// Extends an empty vector by an iterator that does not tell how many items come.
     ExtendUnhinted,
-    /// Extends an empty vector of `u64` by three ranges, by a call for each.
+    /// Extends an empty vector by three ranges, by a call for each. Its room is made before.
     ExtendThrice,
     /// Appends a vector to an empty one.
     Append,

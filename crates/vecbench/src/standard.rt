@@ -78,7 +78,7 @@ impl Lists for Vectors {
             }
             Case::Extend => extend(numbers, count),
             Case::ExtendUnhinted => extend_unhinted(numbers, count),
-            Case::ExtendThrice => extend_thrice(&mut self.longs.list, count),
+            Case::ExtendThrice => extend_thrice(numbers, count),
             Case::Append => append(numbers, &mut self.numbers.other),
             Case::SplitJoin => split_join(&mut self.longs.list, count),
             Case::DrainTaken => drain_taken(numbers),
@@ -118,7 +118,8 @@ impl Vectors {
             Case::Sized(call, Size::TwentyFour) => self.wides.prepare(call, count),
             Case::Sized(call, Size::Zero) => self.units.prepare(call, count),
             Case::PushReserved | Case::Extend | Case::ExtendUnhinted => true,
-            Case::ExtendThrice | Case::SpliceGrowing => true,
+            Case::SpliceGrowing => true,
+            Case::ExtendThrice => numbers.reserve(count as usize).is_ok(),
             Case::Held(collection) => self.held.prepare(collection, count),
             Case::Chosen(choice) => fill_for(numbers, choice, count),
             Case::Pieces(_) => fill_at_random(&mut self.source, count.max(24), 24),
@@ -477,8 +478,8 @@ fn extend_unhinted(list: &mut Vec<u32>, count: u32) -> bool {
 }
 
 #[inline(never)]
-fn extend_thrice(list: &mut Vec<u64>, count: u32) -> bool {
-    let third = u64::from(count / 3);
+fn extend_thrice(list: &mut Vec<u32>, count: u32) -> bool {
+    let third = count / 3;
     list.extend(0..third).is_ok()
         && list.extend(third..2 * third).is_ok()
         && list.extend(2 * third..3 * third).is_ok()

@@ -92,7 +92,7 @@ pub(crate) fn distinct_run<T, F: FnMut(&mut T, &mut T) -> bool>(
     elements: &mut [T],
     same: &mut F,
 ) -> usize
-    requires some { 0 < length elements.old }
+    requires some { 1 < length elements.old }
     requires callable { MayDeduplicate (CalledAtPairMut F.FnMut)
         (TakesPairMut F.FnMut) same.old elements.old }
     ensures within { result < length elements.old }
@@ -100,9 +100,6 @@ pub(crate) fn distinct_run<T, F: FnMut(&mut T, &mut T) -> bool>(
         result same.new elements.new }
 {
     let last = elements.len() - 1;
-    if last == 0 {
-        return 0;
-    }
     if ask_neighbours(same, elements, 0) {
         return 0;
     }

@@ -144,31 +144,34 @@ impl<T, A: Allocator> Vec<T, A> {
         count_kept(self.block.slice_mut(self.len + gap, count), true, keep)
     }
 
-    // Asks the `count` elements after the gap in order, each beside the last one kept before it, up
-    // to the first repeat. It answers how many are kept before it.
+    // Asks the elements after the gap, which are those in the places from `at` up to `end`, in
+    // order, each beside the last one kept before it, up to the first repeat. It answers how many
+    // are kept before it.
     #[inline(always)]
     #[tactic(auto, using(crate::proofs::Chains::chains))]
     fn chain_behind<F: FnMut(&mut T, &mut T) -> bool>(
         &mut self,
         gap: usize,
-        count: usize,
+        at: usize,
+        end: usize,
         same: &mut F,
     ) -> usize
-        requires some { 0 < len self.old }
-        requires stands { StandsBehind self.old gap count }
+        requires last { 0 < len self.old }
+        requires some { at < end }
+        requires stands { StandsBehind self.old gap (end - at) }
         requires callable { (front : List T) (last : T) → self.old.items ≡ front ++ last ∷ []
             → MayChainFrom (CalledAtPairMut F.FnMut) (TakesPairMut F.FnMut) same.old last
-            (behind_items self.old gap count) }
-        ensures { ChainsBehind (CalledAtPairMut F.FnMut) same.old self.old gap count
+            (behind_items self.old gap (end - at)) }
+        ensures { ChainsBehind (CalledAtPairMut F.FnMut) same.old self.old gap (end - at)
             result same.new self.new }
     {
-        if count == 0 {
-            return 0;
-        }
         if self.ask_last(gap, same) {
             return 0;
         }
-        1 + self.chain_on(gap, count, same)
+        if end - 1 <= at {
+            return 1;
+        }
+        1 + self.chain_on(gap, end - at, same)
     }
 
     // Asks the `count` elements after the gap behind the first of them in order, each beside the
@@ -181,7 +184,7 @@ impl<T, A: Allocator> Vec<T, A> {
         count: usize,
         same: &mut F,
     ) -> usize
-        requires some { 0 < count }
+        requires some { 1 < count }
         requires stands { StandsBehind self.old gap count }
         requires callable { MayDeduplicate (CalledAtPairMut F.FnMut) (TakesPairMut F.FnMut) same.old
             (behind_items self.old gap count) }
@@ -233,7 +236,8 @@ fn retained<'a, T: Drop, A: Allocator, F: FnMut(&mut T) -> bool>(
     (list, keep)
 }
 
-// `dedup_within`.
+// `dedup_within`. While the loop runs, two elements or more are left to ask, so that nothing else
+// tests whether one stands behind the next.
 fn deduplicated<'a, T: Drop, A: Allocator, F: FnMut(&mut T, &mut T) -> bool>(
     mut list: Vec<T, A>,
     same: &'a mut F,
@@ -249,13 +253,22 @@ fn deduplicated<'a, T: Drop, A: Allocator, F: FnMut(&mut T, &mut T) -> bool>(
     let end = list.len();
     let mut at = 1;
     let _left = list.set_back(at);
-    let first = list.chain_behind(0, end - at, same);
-    (list, at) = first_passed(list, 0, at, end, first);
-    'runs: while at < end {
-        let gap = at - list.len();
-        let kept = list.chain_behind(gap, end - at, same);
-        (list, at) = passed(list, gap, at, end, kept);
+    if end <= at {
+        return (list, same);
     }
+    let first = list.chain_behind(0, at, end, same);
+    (list, at) = first_passed(list, 0, at, end, first);
+    'runs: while at < end - 1 {
+        let gap = at - list.len();
+        let kept = list.chain_behind(gap, at, end, same);
+        (list, at) = passed_inside(list, gap, at, end, kept);
+    }
+    if end <= at {
+        return (list, same);
+    }
+    let gap = at - list.len();
+    let rest = list.chain_behind(gap, at, end, same);
+    (list, _) = passed(list, gap, at, end, rest);
     (list, same)
 }
 
@@ -293,6 +306,29 @@ fn passed<T: Drop, A: Allocator>(
         return (list, end);
     }
     first_passed(list, gap, at, end, 2)
+}
+
+// The same where there are two of them or more, so that one stands behind the first.
+#[inline(always)]
+fn passed_inside<T: Drop, A: Allocator>(
+    mut list: Vec<T, A>,
+    gap: usize,
+    at: usize,
+    end: usize,
+    kept: usize,
+) -> (Vec<T, A>, usize)
+    requires gone { 0 < gap }
+    requires some { at + 1 < end }
+    requires within { at + kept ≤ end }
+    requires stands { StandsBehind list gap (end - at) }
+    ensures { TakesNext list gap at end kept result.0 result.1 }
+{
+    if kept == 1 {
+        list.close_gap_by_one(gap);
+        drop(list.take_behind(gap));
+        return (list, at + 1 + 1);
+    }
+    passed(list, gap, at, end, kept)
 }
 
 // The same of any number, and after any gap.

@@ -1,4 +1,4 @@
-use Rattle.std.proofs.Common.{subst, arith}
+use Rattle.std.proofs.Common.{◌-◌, subst, arith}
 use Rattle.std.specs.Fn.{CalledAtPairMut}
 use Rattle.aa_raw.specs.Closures.{TakesPairMut}
 use Rattle.aa_vec.specs.Choosing.{MayChainFrom}
@@ -8,9 +8,9 @@ use Rattle.aa_vec.proofs.vec.Vec.chain_behind.Goals as goal
 pub ask_last-requires-clause-callable : goal.ask_last-requires-clause-callable
 ask_last-requires-clause-callable g c front last x e next =
     (subst (MayChainFrom (CalledAtPairMut g.F.FnMut) (TakesPairMut g.F.FnMut) c.args.same.now last)
-    (first_is (CalledAtPairMut g.F.FnMut) c.args.same.now c.args.self.now c.args.gap c.args.count (omega (arith, c.if-count-eq0.false)) c.requires.stands x next) (c.requires.callable front last e)).0
+    (first_is (CalledAtPairMut g.F.FnMut) c.args.same.now c.args.self.now c.args.gap (c.args.end - c.args.at) (omega (arith, c.requires.some)) c.requires.stands x next) (c.requires.callable front last e)).0
 
 pub chain_on-requires-clause-callable : goal.chain_on-requires-clause-callable
 chain_on-requires-clause-callable g c =
     let asked = c.ask_last.ensures in
-    may_follow (CalledAtPairMut g.F.FnMut) c.args.same.now c.args.self.now c.args.gap c.args.count (omega (arith, c.if-count-eq0.false)) c.requires.stands c.ask_last.result _ _ asked c.if-ask_last.false (TakesPairMut g.F.FnMut) (c.requires.callable asked.front asked.last asked.had.0)
+    may_follow (CalledAtPairMut g.F.FnMut) c.args.same.now c.args.self.now c.args.gap (c.args.end - c.args.at) (omega (arith, c.requires.some)) c.requires.stands c.ask_last.result _ _ asked c.if-ask_last.false (TakesPairMut g.F.FnMut) (c.requires.callable asked.front asked.last asked.had.0)

@@ -5,17 +5,14 @@ use Rattle.aa_vec.specs.Until.{ChainsAlong}
 use Rattle.aa_vec.proofs.Asking.{HasChained-none, HasChained-more, ChainsAlong-here, ChainsAlong-end, next_pair}
 use Rattle.aa_vec.proofs.vec.asking.distinct_run.Goals as goal
 
-pub returns-then-last-eq0-clause-asked : goal.returns-then-last-eq0-clause-asked
-returns-then-last-eq0-clause-asked g c = ChainsAlong-end (CalledAtPairMut g.F.FnMut) (TakesPairMut g.F.FnMut) _ _ 0 c.args.same.now c.args.elements.now (HasChained-none (CalledAtPairMut g.F.FnMut) (TakesPairMut g.F.FnMut) c.args.same.now c.args.elements.now c.requires.some c.requires.callable) (omega (arith, c.requires.some, c.if-last-eq0.true))
-
 pub ask_neighbours-requires-clause-callable : goal.ask_neighbours-requires-clause-callable
-ask_neighbours-requires-clause-callable g c = next_pair (CalledAtPairMut g.F.FnMut) (TakesPairMut g.F.FnMut) _ _ 0 c.args.same.now c.args.elements.now (HasChained-none (CalledAtPairMut g.F.FnMut) (TakesPairMut g.F.FnMut) c.args.same.now c.args.elements.now c.requires.some c.requires.callable)
+ask_neighbours-requires-clause-callable g c = next_pair (CalledAtPairMut g.F.FnMut) (TakesPairMut g.F.FnMut) _ _ 0 c.args.same.now c.args.elements.now (HasChained-none (CalledAtPairMut g.F.FnMut) (TakesPairMut g.F.FnMut) c.args.same.now c.args.elements.now (omega (arith, c.requires.some)) c.requires.callable)
 
 pub returns-then-ask_neighbours-clause-asked : goal.returns-then-ask_neighbours-clause-asked
-returns-then-ask_neighbours-clause-asked g c = ChainsAlong-here (CalledAtPairMut g.F.FnMut) (TakesPairMut g.F.FnMut) _ _ 0 c.args.same.now c.args.elements.now (HasChained-none (CalledAtPairMut g.F.FnMut) (TakesPairMut g.F.FnMut) c.args.same.now c.args.elements.now c.requires.some c.requires.callable) c.ask_neighbours.result _ _ c.ask_neighbours.ensures (search rules)
+returns-then-ask_neighbours-clause-asked g c = ChainsAlong-here (CalledAtPairMut g.F.FnMut) (TakesPairMut g.F.FnMut) _ _ 0 c.args.same.now c.args.elements.now (HasChained-none (CalledAtPairMut g.F.FnMut) (TakesPairMut g.F.FnMut) c.args.same.now c.args.elements.now (omega (arith, c.requires.some)) c.requires.callable) c.ask_neighbours.result _ _ c.ask_neighbours.ensures (search rules)
 
 pub each-init : goal.each-init
-each-init g c = HasChained-more (CalledAtPairMut g.F.FnMut) (TakesPairMut g.F.FnMut) _ _ 0 c.args.same.now c.args.elements.now (HasChained-none (CalledAtPairMut g.F.FnMut) (TakesPairMut g.F.FnMut) c.args.same.now c.args.elements.now c.requires.some c.requires.callable) c.ask_neighbours.result _ _ c.ask_neighbours.ensures (search rules)
+each-init g c = HasChained-more (CalledAtPairMut g.F.FnMut) (TakesPairMut g.F.FnMut) _ _ 0 c.args.same.now c.args.elements.now (HasChained-none (CalledAtPairMut g.F.FnMut) (TakesPairMut g.F.FnMut) c.args.same.now c.args.elements.now (omega (arith, c.requires.some)) c.requires.callable) c.ask_neighbours.result _ _ c.ask_neighbours.ensures (search rules)
 
 pub ask_neighbours-requires-in-each-clause-callable : goal.ask_neighbours-requires-in-each-clause-callable
 ask_neighbours-requires-in-each-clause-callable g c = next_pair (CalledAtPairMut g.F.FnMut) (TakesPairMut g.F.FnMut) _ _ c.each.kept c.each.same c.each.elements c.each.invariant
