@@ -91,13 +91,12 @@ fn more_than_can_be_counted_is_an_overflow(rt: HostRuntime) -> Result<(), Fail> 
 }
 
 #[test]
+#[tactic(auto, using(aa_raw::proofs::Calls::at_ends))]
 fn elements_without_size_have_room(rt: HostRuntime) -> Result<(), Fail> {
     let heap = Faulty::new(rt.alloc());
     let mut block: RawVec<(), &Faulty<Global>> = RawVec::new_in(&heap);
     block.put(0, ());
-    block.put(5, ());
-    block.try_reserve_joined((5, 1), (0, 1), usize::MAX - 2)?;
-    block.try_reserve_parted((0, 1), (5, 1), usize::MAX - 2)?;
-    assert!(rt; heap.requests() == 0);
+    block.try_reserve_joined((0, 1), (1, 0), usize::MAX - 1)?;
+    assert!(rt; (block.capacity(), heap.requests()) == (usize::MAX, 0));
     Ok(())
 }
