@@ -1,4 +1,4 @@
-use Rattle.std.proofs.Common.{refl, rules}
+use Rattle.std.proofs.Common.{rules}
 use Rattle.std.specs.Iterator.{IsNearerEnd}
 use Rattle.aa_vec.specs.Extending.{CopiesOf, TellsAtMost}
 use Rattle.aa_vec.proofs.Answered.{on_ok}
