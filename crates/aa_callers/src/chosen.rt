@@ -1,5 +1,5 @@
 //! Closures that choose.
-ghost use Rattle.std.specs.Prelude.{◌≡◌, ◌==◌, ◌-◌, ◌++◌, filter, length, nat_lt, not, replicate, take, OnOk};
+ghost use Rattle.std.specs.Prelude.{◌≡◌, ◌==◌, ◌-◌, ◌%◌, ◌++◌, filter, length, nat_lt, not, replicate, take, OnOk};
 ghost use Rattle.std.specs.List.{dedup};
 
 use allocator_api2::collections::TryReserveError;
@@ -36,4 +36,34 @@ pub fn sevens_up_to<A: Allocator>(v: &mut Vec<u64, A>, count: usize) -> Result<(
         (v.new.items ≡ take count v.old.items ++ replicate (count - length v.old.items) 7) }
 {
     v.resize_with(count, || 7)
+}
+
+/// Moves the even numbers of one vector behind those of another; the others stay.
+#[tactic(auto, using(allocator_api2::proofs::Callers::sifts))]
+pub fn move_even<A: Allocator>(
+    from: &mut Vec<u64, A>,
+    to: &mut Vec<u64, A>,
+) -> Result<(), TryReserveError>
+    ensures moved { OnOk result (to.new.items ≡ to.old.items ++ filter (λ x. x % 2 == 0) from.old.items) }
+    ensures stay { OnOk result (from.new.items ≡ filter (λ x. not (x % 2 == 0)) from.old.items) }
+{
+    let mut is_even = |x: &mut u64| *x % 2 == 0;
+    let mut range = from.extract_by(0..from.len());
+    while let Some(x) = range.next_by(&mut is_even) {
+        to.push(x)?;
+    }
+    Ok(())
+}
+
+/// Moves the even numbers of one vector behind those of another. What the first one holds then is
+/// not known: the iterator goes in by value.
+#[tactic(auto, using(allocator_api2::proofs::Callers::callers))]
+pub fn take_even<A: Allocator>(
+    from: &mut Vec<u64, A>,
+    to: &mut Vec<u64, A>,
+) -> Result<(), TryReserveError>
+    ensures { OnOk result
+        (to.new.items ≡ to.old.items ++ filter (λ x. x % 2 == 0) from.old.items) }
+{
+    to.extend(from.extract_if(0..from.len(), |x| *x % 2 == 0))
 }

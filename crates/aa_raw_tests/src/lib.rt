@@ -8,3 +8,5 @@ mod blocks;
 mod items;
 #[cfg(test)]
 mod moves;
+#[cfg(test)]
+mod runs;

@@ -11,6 +11,7 @@ use Rattle.aa_vec.proofs.Callable.{IsCallableInOrder-any, IsCallableAlong-any}
 use Rattle.aa_vec.proofs.Climbing.{SameBlock-trans}
 use Rattle.aa_vec.proofs.Steady.{asked-steady, asked-reading, kept-steady}
 use Rattle.std.proofs.lemmas.Bool.{cases_lt}
+use Rattle.std.proofs.Math.Seq.{take-nil}
 use Rattle.std.proofs.lemmas.List.{append-nil, map-id, take_all}
 
 -- new room for n elements has room for n
@@ -51,6 +52,15 @@ module _ {F T : Type 0} (step : F → T → F → Type 0) where
     | inl l ↦ LengthensBy_same size (n - len old) x f (fills l).0 old new (fills l).1 is ∙ ap (λ ys. ys ++ replicate (n - len old) x) (sym (take_all n old.items (omega (arith, l))))
     | inr l ↦ (cut l).items ∙ sym (append-nil (take n old.items)) ∙ ap (λ k. take n old.items ++ replicate k x) (let z : 0 ≡ n - len old = omega (arith, l) in z)
   ]
+
+  -- and a vector that had none has so many of it
+  pub filled_new : {A : Type 0} (size n : ℕ) (x : T) (f : F) (old new : Vector T A) → old.items ≡ [] → (len old < n → (last : F) × LengthensBy step size old (n - len old) f last new) → (n ≤ len old → Holds old (take n old.items) new)
+      → ((f : F) (y : T) (g : F) → step f y g → y ≡ x) → new.items ≡ replicate n x
+  filled_new size n x f old new none fills cut is =
+      let all = filled_same {E = Unit {0}} (Ok tt) size n x f old new fills cut is in
+      let no_length : length old.items ≡ 0 = ap length none in
+      let count : n - len old ≡ n = omega (arith, no_length) in
+      all ∙ ap (λ ys. take n ys ++ replicate (n - len old) x) none ∙ ap (λ ys. ys ++ replicate (n - len old) x) (take-nil n) ∙ ap (λ k. replicate k x) count
 
 -- a test that leaves each element as it was
 module _ {F T A : Type 0} (Asks : F → T → Bool → F → T → Type 0) where

@@ -24,6 +24,7 @@ pub mod Callable
 pub mod Kept
 pub mod Steady
 pub mod Callers
+pub mod Sifting
 pub mod Drained
 pub mod Drains
 pub mod Walks

@@ -9,6 +9,7 @@ pub mod Copies
 pub mod Splits
 pub mod Extending
 pub mod Extracting
+pub mod Sifting
 pub mod Behind
 pub mod Choosing
 pub mod Until

@@ -17,7 +17,9 @@ pub use Rattle.aa_vec.specs.Choosing
 pub use Rattle.aa_vec.specs.Copies
 pub use Rattle.aa_vec.specs.Draining
 pub use Rattle.aa_vec.specs.Extending
+pub use Rattle.aa_vec.specs.Extracting
 pub use Rattle.aa_vec.specs.Filling
+pub use Rattle.aa_vec.specs.Sifting
 pub use Rattle.aa_vec.specs.Splices
 pub use Rattle.aa_vec.specs.Splicing
 pub use Rattle.aa_vec.specs.Vector

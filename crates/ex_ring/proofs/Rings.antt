@@ -86,11 +86,12 @@ module _ {X : Type 0} where
           ap (λ ys. ys ++ run ds 0 w) (run-unshift cs f n x (f - 1) (n + 1) (omega arith) refl (omega arith)) ∙ ap (λ ys. x ∷ (run cs f n ++ ys)) (run-set-above cs 0 w (f - 1) (Some x) (omega arith) (omega arith))
 
       -- an item put at the end, before those that begin with the block
-      all : f ≡ 0 → run cs 0 n ≡ parts cs f n w
-      all e = ap (λ i. run cs i n) (sym e) ∙ sym (no_others cs f n w (let l = h.apart in omega arith))
+      all : f ≤ 0 → run cs 0 n ≡ parts cs f n w
+      all least = ap (λ i. run cs i n) (let e : 0 ≡ f = omega arith in e) ∙ sym (no_others cs f n w (let l = h.apart in omega arith))
 
-      pub has-put_around : f ≡ 0 → n + w < length cs → HasParts (slice_set cs (length cs - 1) (Some x)) (length cs - 1) 1 n
-      has-put_around e room =
+      pub has-put_around : f ≤ 0 → n + w < length cs → HasParts (slice_set cs (length cs - 1) (Some x)) (length cs - 1) 1 n
+      has-put_around least room =
+          let e : f ≡ 0 = omega arith in
           let last : ℕ = length cs - 1 in
           let ds : List (Option X) = slice_set cs last (Some x) in
           let long : length ds ≡ length cs = length-set cs last (Some x) in
@@ -101,11 +102,11 @@ module _ {X : Type 0} where
             ends = λ more. omega arith;
           }
 
-      pub put_around : f ≡ 0 → n + w < length cs → parts (slice_set cs (length cs - 1) (Some x)) (length cs - 1) 1 n ≡ x ∷ parts cs f n w
-      put_around e room =
+      pub put_around : f ≤ 0 → n + w < length cs → parts (slice_set cs (length cs - 1) (Some x)) (length cs - 1) 1 n ≡ x ∷ parts cs f n w
+      put_around least room =
           let last : ℕ = length cs - 1 in
           let ds : List (Option X) = slice_set cs last (Some x) in
-          ap (λ ys. ys ++ run ds 0 n) (run-set-same cs last x (omega arith)) ∙ ap (λ ys. x ∷ ys) (run-set-above cs 0 n last (Some x) (omega arith) (omega arith) ∙ all e)
+          ap (λ ys. ys ++ run ds 0 n) (run-set-same cs last x (omega arith)) ∙ ap (λ ys. x ∷ ys) (run-set-above cs 0 n last (Some x) (omega arith) (omega arith) ∙ all least)
 
       -- the first item taken
       pub take_first : 0 < n → get_or cs f None ≡ Some x → x ∷ parts (slice_set cs f None) (f + 1) (n - 1) w ≡ parts cs f n w

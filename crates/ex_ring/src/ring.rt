@@ -91,13 +91,14 @@ impl<T, A: Allocator> Ring<T, A> {
         (first, self.block.slice(0, self.wrapped))
     }
 
-    // Puts `item` behind the others.
+    // Puts `item` behind the others. The `prove!` tells the prover that a place is free.
     #[tactic(auto, using(crate::proofs::Rings::put_at_back))]
     fn put_back(&mut self, item: T)
         requires { HasRoom self.old 1 }
         ensures { self.new ≡ wrote self.old (self.old.items ++ item ∷ []) 1 }
     {
         let capacity = self.block.capacity();
+        prove!(self.count + self.wrapped < capacity);
         let end = self.front + self.count;
         if end < capacity {
             self.block.put(end, item);
@@ -108,14 +109,15 @@ impl<T, A: Allocator> Ring<T, A> {
         }
     }
 
-    // Puts `item` before the others.
+    // Puts `item` before the others, and tells the prover the same.
     #[tactic(auto, using(crate::proofs::Rings::put_at_front))]
     fn put_front(&mut self, item: T)
         requires { HasRoom self.old 1 }
         ensures { self.new ≡ wrote self.old (item ∷ self.old.items) 1 }
     {
         let capacity = self.block.capacity();
-        if self.front != 0 {
+        prove!(self.count + self.wrapped < capacity);
+        if self.front > 0 {
             self.front -= 1;
             self.block.put(self.front, item);
             self.count += 1;

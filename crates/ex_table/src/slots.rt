@@ -197,6 +197,7 @@ pub fn put_new<K: Eq + Hash + Drop, V: Drop, S: BuildHasher, A: Allocator>(
 }
 
 // As many empty slots.
+#[tactic(auto, using(allocator_api2::proofs::Callers::callers))]
 fn empty_slots<K: Drop, V: Drop, A: Allocator>(
     count: usize,
     alloc: A,
