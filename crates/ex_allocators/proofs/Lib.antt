@@ -1,1 +1,3 @@
+mod Pooling
+mod Shelving
 mod Watching

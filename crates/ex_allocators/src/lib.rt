@@ -9,8 +9,11 @@ pub mod counting;
 /// A proving ground for allocators.
 pub mod exercise;
 mod pattern;
+/// A pool of blocks of one size.
+pub mod pool;
 mod random;
 mod sets;
+mod shelf;
 #[cfg(test)]
 mod tests;
 /// An allocator that asks a watch before each request.

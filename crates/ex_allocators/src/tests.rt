@@ -1,6 +1,7 @@
 use crate::budget::Budget;
 use crate::counting::Counting;
 use crate::exercise::{Report, exercise};
+use crate::pool::Pool;
 use allocator_api2::boxed::Box;
 use allocator_api2::vec::Vec;
 use std::alloc::{Allocator, Global};
@@ -137,4 +138,86 @@ fn an_exercise_is_the_same_each_time(rt: HostRuntime) {
     let one: Option<Report> = exercise(rt.alloc(), &rt.alloc(), 3, 40).ok();
     assert!(rt; one.is_some());
     assert!(rt; one == exercise(rt.alloc(), &rt.alloc(), 3, 40).ok());
+}
+
+#[test]
+fn blocks_given_back_in_any_order_are_used_again(rt: HostRuntime) -> Result<(), Fail> {
+    let heap = Counting::new(rt.alloc());
+    {
+        let pool = Pool::new(&heap, 24);
+        let first = Box::new_in([1u64; 3], &pool)?;
+        let second = Box::new_in([2u64; 3], &pool)?;
+        let third = Box::new_in([3u64; 3], &pool)?;
+        assert!(rt; heap.counts().requests == 3);
+        drop(second);
+        drop(first);
+        let fourth = Box::new_in([4u64; 3], &pool)?;
+        let fifth = Box::new_in([5u64; 3], &pool)?;
+        assert!(rt; *third == [3; 3] && *fourth == [4; 3] && *fifth == [5; 3]);
+        assert!(rt; heap.counts().requests == 3 && heap.counts().frees == 0);
+        let sixth = Box::new_in([6u64; 3], &pool)?;
+        assert!(rt; heap.counts().requests == 4);
+        drop(fifth);
+        drop(third);
+        drop(sixth);
+        drop(fourth);
+        assert!(rt; heap.counts().frees == 0 && heap.counts().outstanding == 96);
+        pool.clear();
+        assert!(rt; heap.counts().frees == 4 && heap.counts().outstanding == 0);
+        drop(Box::new_in([7u64; 3], &pool)?);
+        assert!(rt; heap.counts().requests == 5 && heap.counts().outstanding == 24);
+    }
+    assert!(rt; heap.counts().outstanding == 0);
+    Ok(())
+}
+
+#[test]
+fn requests_of_another_layout_are_passed_on(rt: HostRuntime) -> Result<(), Fail> {
+    let heap = Counting::new(rt.alloc());
+    let pool = Pool::new(&heap, 16);
+    assert!(rt; pool.size() == 16 && pool.inner().counts().requests == 0);
+    drop(Box::new_in([1u64; 4], &pool)?);
+    drop(Box::new_in([1u32; 4], &pool)?);
+    drop(Box::new_in(1u64, &pool)?);
+    assert!(rt; heap.counts().frees == 3);
+    drop(Box::new_in([1u64; 2], &pool)?);
+    assert!(rt; heap.counts().frees == 3 && heap.counts().outstanding == 16);
+    // A type of the same layout takes what another one left.
+    let pair = Box::new_in((1u64, 2u32), &pool)?;
+    assert!(rt; *pair == (1, 2) && heap.counts().requests == 4);
+    Ok(())
+}
+
+#[test]
+fn a_pool_is_right(rt: HostRuntime) {
+    let heap = Counting::new(rt.alloc());
+    {
+        let pool = Pool::new(&heap, 8);
+        assert!(rt; is_clean(rt.alloc(), &pool));
+        assert!(rt; is_clean(rt.alloc(), &&pool));
+        let pool = Pool::new(&heap, 24);
+        assert!(rt; is_clean(rt.alloc(), &&pool));
+        let pool = Pool::new(&heap, 4_100);
+        assert!(rt; is_clean(rt.alloc(), &&pool));
+    }
+    assert!(rt; heap.counts().outstanding == 0);
+}
+
+#[test]
+fn a_pool_over_a_budget_sheds(rt: HostRuntime) -> Result<(), Fail> {
+    let heap = Budget::new(rt.alloc(), 24);
+    let pool = Pool::new(&heap, 8);
+    let first = Box::new_in(1u64, &pool)?;
+    let second = Box::new_in(2u64, &pool)?;
+    let third = Box::new_in(3u64, &pool)?;
+    assert!(rt; Box::new_in(4u64, &pool).is_err());
+    drop(second);
+    assert!(rt; Box::new_in(4u64, &pool).is_ok());
+    // What is kept counts until it is cleared.
+    drop(first);
+    assert!(rt; Box::new_in([4u32; 4], &pool).is_err());
+    pool.clear();
+    assert!(rt; Box::new_in([4u32; 4], &pool).is_ok());
+    assert!(rt; *third == 3 && purse(&heap) == (8, 16, 24));
+    Ok(())
 }

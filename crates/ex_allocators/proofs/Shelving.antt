@@ -1,0 +1,233 @@
+-- What the walks over a pool's shelf have in common. Assumes `Logic`.
+--     shelf_val, shelf_own      the machine value of a shelf's fields, and what they own by themselves.        shelf_told, shelf_made, shelf_typed     what such a value tells, how it is made, and its type
+--     opens_shelf, shuts_shelf      a shelf behind a `&` is reached with the thread's token, and left again
+--     holding_token, proved_alone       a contract beside that token, and a walk that has it
+--     differs, equals, fills       what the tests of a size and an alignment tell
+--     param_at          one of a function's parameters
+--     left_block        what runs behind a block of code
+--     carves, regrants      the room of a block has room for a pointer in it, and is room for any type of its layout
+--     ready, readies        so a block that was given back can be kept
+use Rattle.std.proofs.Common.{◌≡◌, ℕ, zero, suc, ◌+◌, ◌-◌, ◌*◌, ◌/◌, ◌^◌, ◌<◌, List, [], ◌∷◌, ◌++◌, refl, sym, subst, ◌∙◌, arith, lit<, w64, T, Bool, true, false, not, eqb, T_not, eqb→eq}
+use lib.Dec.{eqb_refl}
+use seplogic.Ra.Ura.{Ura}
+use mir.Syntax.{Ty, Fn, Body, Callee, ty_int, ty_ptr, ty_array, ty_struct, tcons, tnil}
+use mir.Val.{Val, vint, vstruct, vcons, vnil, of_list, has_ty, WT}
+use base.Fraction.{full_share}
+use base.Logic.{ent, emp, sep, wand, via, fst∗, snd∗, apply∗}
+use base.Fml.{Lft, Share, Fml, Incl-refl, fsep, fex, fwand, fat, froom, flft, ftok}
+use base.Mask.{every, less}
+use prog.Capped.{capped_is, capped_small}
+use prog.Memory.{size, align, capped}
+use prog.Align.{Dv}
+use prog.Model.{Model}
+use prog.Routine.{over, ◌≼⁺◌}
+use prog.Wp.{Env, Calls, Loops, Wp, WpFn, Tables, after_seq, after_block}
+use contract.Beside.{Carries}
+use contract.Monad.{fact_use}
+use contract.Named.{bare_unfolds}
+use contract.Running.{Running, tables_of, bare_tables}
+use sound.WpLaws.{WpFn-mono}
+use types.Logic.{Logic, sem}
+use types.Na.{na_acc_in}
+use types.Kit.{Post, any_q, post, Item, Goal, Seq, Step, Soaks, step, ‵, raw, ◌⊛◌, later, ◌$◌, ◌∵◌, !, qed, by, move, drop, use0, use1, use2, use3, split, join, frame, assume, fsplit, fjoin, fjoin3, fpick, fpack, rewrite, await, done}
+use denote.Laws.{Ises, Are, owns_show, showss}
+use denote.Memory.{cell_at, hidden_shr}
+use denote.Opens.{unhide}
+use denote.RattleType.{RattleType, owns}
+use denote.RawPtr.{Ptr, RawPtr, block_ptr, null_ptr, ptr_val}
+use denote.RawPtr.Room.{room_cut, room_glue, past}
+use denote.Builtin.{usize, unit}
+use denote.Shadow.{shadow, makes_shadow, pure_l}
+use denote.Signature.{Slot, plain, types_at}
+use denote.Struct.Struct.{Struct}
+use denote.Triple.Clauses.{Ended, Clauses, closing}
+use denote.Triple.Entry.{on_entry, alive}
+use denote.Triple.Handed.{holding, hands}
+use denote.Triple.Spec.{Meets, triple_of}
+use denote.Triple.Table.{entered}
+use denote.Triple.Walked.{Stays, AllGo, walk_of, walk_Meets}
+use Rattle.std.specs.Allocator.{owned_block}
+use Rattle.std.specs.declared.alloc.Allocator.{Ghosts}
+use Rattle.ex_allocators.specs.Shelves.{IsKept, Fills, right_to, kept_blocks, holds_at}
+use Rattle.ex_allocators.specs.contracts.shelf.Shelf as shelf
+use Rattle.ex_allocators.specs.contracts.shelf.Shelf.TheInside as inside
+
+abbrev pub shelf_type : Ty
+shelf_type = ty_struct [] (tcons ty_ptr (tcons (ty_int w64) (tcons (ty_int w64) (tcons (ty_struct [] tnil) tnil))))
+
+abbrev pub shelf_val : Ptr → ℕ → ℕ → Val
+shelf_val p n m = vstruct (vcons (ptr_val p) (vcons (vint w64 n) (vcons (vint w64 m) (vcons (vstruct vnil) vnil))))
+
+abbrev only_fields : List RattleType → RattleType
+only_fields Rs = Struct (record { name = []; args = []; types = []; fields = Rs })
+
+abbrev pub shelf_own : Ptr → ℕ → ℕ → List Val → Fml
+shelf_own p n m = (only_fields (RawPtr ∷ usize ∷ usize ∷ only_fields [] ∷ [])).own_val (p, (n, (m, (tt, tt))))
+
+-- both numbers fit their words
+abbrev pub Fit : ℕ → ℕ → Type 0
+Fit n m = (n < 2 ^ 64) × (m < 2 ^ 64)
+
+pub shelf_told : (p : Ptr) (n m : ℕ) (vs : List Val) → shadow (shelf_own p n m vs) → (vs ≡ shelf_val p n m ∷ []) × Fit n m
+shelf_told p n m vs s =
+    (s.1.0 ∙ (λ i. vstruct (of_list (s.1.1.0 i ++ (s.1.1.1.0.0 i ++ (s.1.1.1.1.0.0 i ++ (s.1.1.1.1.1.0.1.0 i ++ []))))) ∷ []), (s.1.1.1.0.1, s.1.1.1.1.0.1))
+
+pub shelf_made : {M : Type 1} {𝓤 : Ura M} (𝓛 : Logic 𝓤) (p : Ptr) (n m : ℕ) → Fit n m → ent 𝓤 (emp 𝓤) (sem 𝓛 (shelf_own p n m (shelf_val p n m ∷ [])))
+shelf_made 𝓛 p n m fit =
+    makes_shadow 𝓛 (shelf_own p n m (shelf_val p n m ∷ [])) (λ _. (tt, (tt, ((tt, tt), ((tt, tt), ((λ _. (tt, tt)), tt))))))
+    ((ptr_val p ∷ [], (vint w64 n ∷ [], (vint w64 m ∷ [], (vstruct vnil ∷ [], tt)))), (refl, (refl, ((refl, fit.0), ((refl, fit.1), ((tt, (refl, tt)), tt))))))
+
+pub ptr_typed : (p : Ptr) → T (has_ty ty_ptr (ptr_val p)) × WT (ptr_val p)
+ptr_typed (block_ptr b o) = (tt, tt)
+ptr_typed null_ptr = (tt, record { fits = lit< tt })
+
+pub shelf_typed : (p : Ptr) (n m : ℕ) → Fit n m → T (has_ty shelf_type (shelf_val p n m)) × WT (shelf_val p n m)
+shelf_typed (block_ptr b o) n m fit = (tt, (tt, (record { fits = fit.0 }, (record { fits = fit.1 }, (tt, tt)))))
+shelf_typed null_ptr n m fit = (tt, (record { fits = lit< tt }, (record { fits = fit.0 }, (record { fits = fit.1 }, (tt, tt)))))
+
+module _ (B : RattleType) (g : Ghosts B.Denot) (c : (shelf.the_row B g).Denot) (b o : ℕ) where
+  abbrev F : RattleType
+  F = inside.the_row B g
+
+  abbrev pub stacked : Ptr → ℕ → ℕ → Fml
+  stacked p n m = kept_blocks (g.dealloc_token c) m n p
+
+  abbrev pub fields : Ptr → ℕ → ℕ → Fml
+  fields p n m = fat full_share shelf_type b o (shelf_val p n m)
+
+  abbrev I : F.Denot → Fml
+  I i = stacked i.top i.count i.size
+
+  abbrev P : Fml
+  P = holds_at F I b o
+
+  abbrev pub Shut : {M : Type 1} {𝓤 : Ura M} (𝓛 : Logic 𝓤) → Lft → Share → Item 𝓤
+  Shut {𝓤 = 𝓤} 𝓛 κ q =
+      ‵ (ftok (less every (b, o))) ⊛ raw (wand 𝓤 (sep 𝓤 (sem 𝓛 P) (𝓛.A.tok (less every (b, o)))) (𝓛.H.⇛ (sep 𝓤 (𝓛.A.lft κ q) (𝓛.A.tok every))))
+
+  module _ {M : Type 1} {𝓤 : Ura M} {𝓛 : Logic 𝓤} {K : Type 0} {Γ : List (Item 𝓤)} {G : Goal 𝓤 𝓛.H} where
+    open 𝓛 use {H, A}
+
+    pub opens_shelf : K → Soaks G → {κ : Lft} {q : Share}
+        → ((p : Ptr) (n m : ℕ) → Fit n m → Seq K 𝓛 (‵ (fields p n m) ∷ ‵ (stacked p n m) ∷ Shut 𝓛 κ q ∷ Γ) G)
+        → Seq K 𝓛 (‵ (hidden_shr (shelf.the_row B g) κ c b o) ∷ ‵ (flft κ q) ∷ ‵ (ftok every) ∷ Γ) G
+    opens_shelf t z {κ} {q} k =
+        unhide t $ use3 𝓛 (later (‵ P ⊛ Shut 𝓛 κ q)) (na_acc_in 𝓛 κ ((κ, q) ∷ []) every (b, o) P (Incl-refl κ) refl) $ await t z $ split t $
+        fpick t (λ vs. fsplit t $ move t (1 ∷ []) $ fpick t (λ i. fsplit t $ pure_l t (shelf_own i.top i.count i.size vs) (λ s.
+        let told = shelf_told i.top i.count i.size vs s in
+        rewrite t 1 (λ (us : List Val). ‵ (cell_at full_share F.mir us b o)) told.0 refl $ move t (1 ∷ []) $ k i.top i.count i.size told.1)))
+
+    pub shuts_shelf : K → Soaks G → {κ : Lft} {q : Share} (p : Ptr) (n m : ℕ) → Fit n m
+        → Step K 𝓛 (‵ (flft κ q) ∷ ‵ (ftok every) ∷ Γ) G (‵ (fields p n m) ∷ ‵ (stacked p n m) ∷ Shut 𝓛 κ q ∷ Γ) G
+    shuts_shelf t z {κ} {q} p n m fit = step (λ s.
+        let vs : List Val = shelf_val p n m ∷ [] in
+        let i : F.Denot = record { top = p; count = n; size = m; marker = record {} } in
+        use0 𝓛 (‵ (F.own_val i vs)) (shelf_made 𝓛 p n m fit) $ move t (0 ∷ 2 ∷ []) $ fjoin t $ fpack t F.Denot (λ j. fsep (F.own_val j vs) (I j)) i $
+        move t (1 ∷ 0 ∷ []) $ fjoin t $ fpack t (List Val) (λ us. fsep (cell_at full_share F.mir us b o) (fex F.Denot (λ j. fsep (F.own_val j us) (I j)))) vs $
+        move t (1 ∷ []) $ split t $ move t (2 ∷ 0 ∷ []) $ join t $
+        use2 𝓛 (later (‵ (flft κ q) ⊛ ‵ (ftok every))) (apply∗ 𝓤 (sep 𝓤 (sem 𝓛 P) (A.tok (less every (b, o)))) (H.⇛ (sep 𝓤 (A.lft κ q) (A.tok every)))) $
+        await t z $ split t $ s)
+
+pub differs : (a b : ℕ) → T (not (eqb a b)) → a ≡ b → ⊥
+differs a b t e = T_not (eqb a b) t (subst (λ (k : ℕ). T (eqb a k)) e (eqb_refl a))
+
+pub equals : (a b : ℕ) → T (not (not (eqb a b))) → a ≡ b
+equals a b t = eqb→eq a b (twice (eqb a b) t)
+  where
+    twice : (x : Bool) → T (not (not x)) → T x
+    twice true s = tt
+    twice false s = absurd s
+
+exact : (k n : ℕ) → capped k ≡ n → n < 2 ^ 63 → k ≡ n
+exact k n e small = let short = capped_small k (subst (λ (j : ℕ). j < 2 ^ 63) (sym e) small) in sym (capped_is k (omega (arith, short))) ∙ e
+
+pub fills : (τ : Ty) (m n a : ℕ) → IsKept m → m ≡ n → a ≡ 8 → (capped (size τ) ≡ n) × (capped (align τ) ≡ a) → Fills τ m
+fills τ m n a kept same eight is = (exact (size τ) m (is.0 ∙ sym same) kept.2, exact (align τ) 8 (is.1 ∙ eight) (lit< tt))
+
+-- the k-th parameter
+abbrev pub param_at : {n : ℕ} → ℕ → List (Slot n) → Slot n
+param_at k [] = plain (λ _. unit)
+param_at zero (s ∷ ss) = s
+param_at (suc k) (s ∷ ss) = param_at k ss
+
+module _ {M : Type 1} {𝓤 : Ura M} (𝓛 : Logic 𝓤) (E : Ended) (stays : Stays E.signature.params E.kept) (c : Clauses 𝓤 E) where
+  open 𝓛 use {H, A}
+
+  abbrev pub holding_token : Clauses 𝓤 E
+  holding_token = holding 𝓤 E (A.tok every) c
+
+  pub proved_alone : (𝓜 : Model 𝓤 H) (𝓡 : Running 𝓤 H 𝓜) → AllGo 𝓛 E.signature.lifetimes E.signature.params E.kept stays
+      → (k : Callee) (f : Fn) → over 𝓡.env f ≼⁺ 𝓡.env k
+      → ((C : Calls 𝓤 H) (Λ : Loops 𝓤 H) (y : (walk_of 𝓛 E stays holding_token).Ghost)
+      → Are (types_at E.signature.params y.0.0) (Ises (types_at E.signature.params y.0.0)) y.0.3 y.0.4
+      → ent 𝓤 ((walk_of 𝓛 E stays holding_token).pre y)
+      (WpFn 𝓤 H C Λ f ((walk_of 𝓛 E stays holding_token).args y) ((walk_of 𝓛 E stays holding_token).post y)))
+      → Meets 𝓛 E.signature (𝓡.run (𝓡.env k)) (closing 𝓛 E c)
+  unfolding tables_of
+  proved_alone 𝓜 𝓡 go k f is walk =
+      let 𝓒 : Carries 𝓤 H 𝓜 (A.tok every) = subst (Carries 𝓤 H 𝓜) 𝓛.turn_is 𝓡.carries in
+      let 𝓣 : Tables 𝓤 H = tables_of 𝓤 H 𝓒.inner (bare_tables 𝓤 H 𝓒.inner 𝓡.allowed 𝓡.how 𝓡.env) in
+      hands 𝓛 E (A.tok every) c 𝓜 𝓒 𝓡 (𝓡.env k)
+      (entered 𝓤 H (triple_of 𝓛 E.signature (closing 𝓛 E holding_token)) 𝓣.C 𝓣.Λ k f (bare_unfolds 𝓤 H 𝓒.inner 𝓡.allowed 𝓡.how 𝓡.env k f is)
+      (walk_Meets 𝓛 E stays go holding_token (WpFn 𝓤 H 𝓣.C 𝓣.Λ f) (WpFn-mono 𝓤 H 𝓛.laws 𝓣 f) (λ y.
+      let Rs : List RattleType = types_at E.signature.params y.0.0 in let a = y.0.3 in let vss = y.0.4 in
+      fact_use 𝓤 (Are Rs (Ises Rs) a vss)
+      (via 𝓤 (sem 𝓛 (owns Rs a vss)) (via 𝓤 (on_entry 𝓛 E.signature y.0.0 y.0.1 a vss)
+      (fst∗ 𝓤 (on_entry 𝓛 E.signature y.0.0 y.0.1 a vss) ((holding_token y.0.0 a).requires y.1))
+      (snd∗ 𝓤 (alive 𝓛 E.signature y.0.0 y.0.1) (sem 𝓛 (owns Rs a vss)))) (owns_show 𝓛 Rs (Ises Rs) (showss 𝓛 Rs) a vss)) (walk 𝓣.C 𝓣.Λ y))))
+
+module _ {M : Type 1} {𝓤 : Ura M} (𝓛 : Logic 𝓤) where
+  open 𝓛 use {H}
+
+  -- what runs once a block of code is left that has the code b behind it
+  abbrev pub left_block : Calls 𝓤 H → Loops 𝓤 H → Env 𝓤 H → Body → Post 𝓤 H → Post 𝓤 H
+  left_block C Λ E b q = any_q (after_block 𝓤 H (post 𝓤 H (any_q (after_seq 𝓤 H (Wp 𝓤 H C Λ E b (post 𝓤 H q)) (post 𝓤 H q)))))
+
+module _ {M : Type 1} {𝓤 : Ura M} (𝓛 : Logic 𝓤) (b o : ℕ) where
+  open 𝓛 use {H}
+
+  pub carves : (σ : Ty) (n : ℕ) → Fills σ n → IsKept n
+      → ent 𝓤 (H.room σ b o) (sep 𝓤 (H.room ty_ptr b o) (wand 𝓤 (H.room ty_ptr b o) (H.room σ b o)))
+  carves σ n fills kept =
+      let words = n / 8 in let k = words - 1 in
+      let big = kept.0 in let even = kept.1 in let filled = fills.0 in
+      let sum : words ≡ 1 + k = omega arith in
+      let whole : words * 8 ≡ size σ = omega arith in
+      let Words = λ (j : ℕ). H.room (ty_array ty_ptr j) b o in
+      let Head = H.room ty_ptr b o in let Whole = H.room σ b o in
+      qed 𝓛 (raw Whole ∷ []) ∵
+      use1 𝓛 (raw (Words words) ⊛ raw (wand 𝓤 (Words words) Whole))
+      (𝓛.laws.room_as σ (ty_array ty_ptr words) b o whole (subst (λ (a : ℕ). Dv 8 a) (sym fills.1) tt)) $ split ! $
+      rewrite ! 0 (λ (j : ℕ). raw (Words j)) sum refl $
+      use1 𝓛 (raw (Words 1) ⊛ raw (H.room (ty_array ty_ptr k) b (past ty_ptr 1 o))) (room_cut 𝓛 ty_ptr 1 k b o) $ split ! $
+      use1 𝓛 (raw Head ⊛ raw (wand 𝓤 Head (Words 1))) (𝓛.laws.room_as (ty_array ty_ptr 1) ty_ptr b o refl tt) $ split ! $
+      frame ! $ assume ! (raw Head) $ use2 𝓛 (raw (Words 1)) (apply∗ 𝓤 Head (Words 1)) $
+      use2 𝓛 (raw (Words (1 + k))) (room_glue 𝓛 ty_ptr 1 k b o) $ rewrite ! 0 (λ (j : ℕ). raw (Words j)) (sym sum) refl $
+      by ! (apply∗ 𝓤 (Words words) Whole)
+
+  pub regrants : (t : Ty → Ptr → Fml) (n : ℕ) (σ τ : Ty) → Fills σ n → Fills τ n
+      → ent 𝓤 (sep 𝓤 (H.room σ b o) (sem 𝓛 (t σ (block_ptr b o)))) (sep 𝓤 (H.room τ b o) (sem 𝓛 (right_to t τ (block_ptr b o))))
+  regrants t n σ τ from to =
+      let p : Ptr = block_ptr b o in
+      let Alike : Ty → Type 0 = λ σ. (size σ ≡ size τ) × (align σ ≡ align τ) in
+      qed 𝓛 (‵ (froom σ b o) ∷ ‵ (t σ p) ∷ []) ∵
+      use1 𝓛 (‵ (froom τ b o) ⊛ ‵ (fwand (froom τ b o) (froom σ b o)))
+      (𝓛.laws.room_as σ τ b o (to.0 ∙ sym from.0) (subst (λ (a : ℕ × ℕ). Dv a.0 a.1) (λ i. (sym to.1 i, sym from.1 i)) tt)) $ split ! $
+      frame ! $ drop ! $ fpack ! (Alike σ) (λ _. t σ p) (from.0 ∙ sym to.0, from.1 ∙ sym to.1) $
+      fpack ! Ty (λ σ'. fex (Alike σ') (λ _. t σ' p)) σ $ done !
+
+  -- a block that was given back: room for a pointer, what makes it room for the type that it was granted for, and the right to free it
+  abbrev pub ready : (t : Ty → Ptr → Fml) → ℕ → Fml
+  ready t n = fex Ty (λ σ. fex (Fills σ n) (λ _. fsep (froom ty_ptr b o) (fsep (fwand (froom ty_ptr b o) (froom σ b o)) (t σ (block_ptr b o)))))
+
+  pub readies : (t : Ty → Ptr → Fml) (n : ℕ) (τ : Ty) → Fills τ n → IsKept n → ent 𝓤 (sem 𝓛 (owned_block (right_to t) τ (block_ptr b o))) (sem 𝓛 (ready t n))
+  readies t n τ fills kept =
+      let p : Ptr = block_ptr b o in
+      let Room : Ty → Fml = λ σ. froom σ b o in
+      qed 𝓛 (‵ (owned_block (right_to t) τ p) ∷ []) ∵ fsplit ! $ move ! (1 ∷ []) $ fpick ! (λ σ. fpick ! (λ alike. move ! (1 ∷ []) $
+      let filled : Fills σ n = (alike.0 ∙ fills.0, alike.1 ∙ fills.1) in
+      use1 𝓛 (‵ (Room σ) ⊛ ‵ (fwand (Room σ) (Room τ)))
+      (𝓛.laws.room_as τ σ b o alike.0 (subst (λ (a : ℕ × ℕ). Dv a.0 a.1) (λ i. (sym filled.1 i, sym fills.1 i)) tt)) $ split ! $ move ! (1 ∷ []) $ drop ! $
+      use1 𝓛 (‵ (Room ty_ptr) ⊛ ‵ (fwand (Room ty_ptr) (Room σ))) (carves σ n filled kept) $ split ! $ fjoin3 ! $
+      fpack ! (Fills σ n) (λ _. fsep (Room ty_ptr) (fsep (fwand (Room ty_ptr) (Room σ)) (t σ p))) filled $
+      fpack ! Ty (λ σ. fex (Fills σ n) (λ _. fsep (Room ty_ptr) (fsep (fwand (Room ty_ptr) (Room σ)) (t σ p)))) σ $ done !))

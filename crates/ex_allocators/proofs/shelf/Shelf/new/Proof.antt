@@ -1,0 +1,59 @@
+-- An empty shelf owns nothing. Assumes `Logic`.
+use Rattle.std.proofs.Common.{◌≡◌, List, [], ◌∷◌, ◌++◌, refl, lit<}
+use mir.Syntax.{Fn, Args, a_type, dcons, dnil}
+use mir.Val.{Val, vptr, vint}
+use mir.MapTy.{inst_fn}
+use base.Logic.{SProp, emp}
+use base.Fml.{ftrue, fsep}
+use prog.Wp.{WpFn}
+use contract.BorrowLft.{◌⊑◌}
+use contract.Monad.{fact, fact_i}
+use contract.Running.{tables}
+use types.Kit.{‵, raw, ◌⊛◌, prop, ◌$◌, ◌∵◌, !, qed, by, move, drop, use0, split, regoal, fjoin, fpack}
+use types.Part.{agg}
+use types.Run.{lit, no_more, and_then, returns, enter}
+use types.ByLocal.{alloc_all, pass_all, free_all, look_at, get, sets}
+use denote.Exit.{yes}
+use denote.Laws.{Typed}
+use denote.Param.{param, bounded}
+use denote.RattleType.{RattleType, owns}
+use denote.RawPtr.{null_ptr}
+use denote.Signature.{types_at}
+use denote.Steps.{nothing, heard}
+use denote.Triple.Entry.{alive}
+use denote.Triple.Walked.{Stays, stay_dropped, walk_of, Goes-dropped}
+use Rattle.std.proofs.raw_atomic.Walks.{proved_at, leaves}
+use Rattle.ex_allocators.proofs.Watching.{size_goes}
+use Rattle.ex_allocators.proofs.Shelving.{param_at, Fit, shelf_val, shelf_own, shelf_made, shelf_typed}
+use Rattle.ex_allocators.specs.Shelves.{IsKept, kept_blocks}
+use Rattle.ex_allocators.specs.contracts.shelf.Shelf.TheInside as inside
+use Rattle.ex_allocators.specs.contracts.shelf.Shelf.new as made
+use Rattle.ex_allocators.specs.contracts.shelf.Shelf.new.Key.{name}
+use Rattle.ex_allocators.proofs.shelf.Shelf.new.Statement.{statement}
+use Rattle.ex_allocators.proofs.shelf.Shelf.new.Code as code
+
+pub new_spec : {M : Type 1} → statement M
+new_spec 𝓤 𝓛 𝓜 𝓡 wired B L g d dd met md =
+    let E = made.ended B g d dd in let c = made.clauses B g d dd 𝓛 𝓜.mem 𝓡.returns in let 𝓣 = tables 𝓤 𝓛.H 𝓜 𝓡 𝓡.env in
+    let generics : Args = bounded (a_type ∷ []) (B, tt) (dcons d (dcons dd dnil)) in
+    let fn : Fn = inst_fn generics code.function in
+    let stays : Stays E.signature.params E.kept = (stay_dropped _ yes, (stay_dropped _ yes, tt)) in
+    proved_at 𝓛 E stays c 𝓜 𝓡 (Goes-dropped 𝓛 2 (param_at 0 E.signature.params) yes (λ κs x f. refl), (size_goes 2 𝓛, tt))
+    (name generics) fn (code.unfolded 𝓤 𝓛.H 𝓜 𝓡 wired (B, tt) d dd) (λ z are.
+    let Post : Val → SProp 𝓤 = (walk_of 𝓛 E stays c).post z in
+    let at = z.0.3.0.ref_ptr in let heap = z.0.3.0.now in let m = z.0.3.1.0 in
+    let F : RattleType = inside.the_row (param 0 B) g in
+    let v : Val = shelf_val null_ptr 0 m in let fit : Fit 0 m = (lit< tt, are.1.0.1) in let empty = shelf_typed null_ptr 0 m fit in
+    let Made : Type 0 = heap ≡ heap in
+    qed 𝓛 ((raw (alive 𝓛 E.signature z.0.0 z.0.1) ⊛ ‵ (owns (types_at E.signature.params z.0.0) z.0.3 z.0.4)) ∷ (raw (fact 𝓤 (z.0.0.1.0 ⊑ B.lives)) ⊛ raw (fact 𝓤 (IsKept m))) ∷ []) ∵
+    move ! (1 ∷ []) $ split ! $ drop ! $ heard ! (IsKept m) (λ kept. split ! $ move ! (1 ∷ []) $ drop ! $
+    regoal ! (λ (us : List Val). prop (WpFn 𝓤 𝓛.H 𝓣.C 𝓣.Λ fn us Post)) (λ i. are.0.0 i ++ (are.1.0.0 i ++ [])) refl $
+    enter ! 𝓣.C 𝓣.Λ fn (vptr at.0 at.1 ∷ vint _ m ∷ []) Post $ alloc_all ! (λ l. pass_all ! refl ((tt, tt), ((tt, record { fits = are.1.0.1 }), tt)) $
+    sets ! (agg ! (no_more !)) refl (tt, tt) $
+    sets ! (agg ! (and_then ! (lit ! tt) (and_then ! (lit ! tt) (and_then ! (get ! refl) (and_then ! (get ! refl) (no_more !)))))) refl empty $
+    returns ! (look_at ! 0 refl) $ free_all ! refl $
+    use0 𝓛 (‵ (shelf_own null_ptr 0 m (v ∷ []))) (shelf_made 𝓛 null_ptr 0 m fit) $ nothing ! $ fpack ! (IsKept m) (λ _. ftrue) kept $ move ! (1 ∷ 0 ∷ []) $ fjoin ! $
+    fpack ! F.Denot (λ i. fsep (F.own_val i (v ∷ [])) (kept_blocks (g.dealloc_token heap) i.size i.count i.top)) (record { top = null_ptr; count = 0; size = m; marker = record {} }) $
+    nothing ! $ fpack ! (Typed F.mir (v ∷ [])) (λ _. ftrue) (empty, tt) $ fjoin ! $
+    use0 𝓛 (raw (fact 𝓤 Made)) (fact_i 𝓤 Made (emp 𝓤) refl) $ nothing ! $ nothing ! $ fjoin ! $ nothing ! $ fjoin ! $ move ! (3 ∷ 0 ∷ 2 ∷ 1 ∷ []) $
+    by ! (leaves 𝓛 E stays c z v heap (tt, (tt, tt)) (tt, (tt, tt))))))

@@ -1,0 +1,107 @@
+-- The block leads to the one that was on top. Assumes `Logic`.
+use Rattle.std.proofs.Common.{◌≡◌, ℕ, suc, ◌+◌, ◌-◌, ◌^◌, ◌<◌, List, [], ◌∷◌, ◌++◌, refl, sym, ap, ◌∙◌, arith, w64, Bool, true, false}
+use mir.Syntax.{Ty, Fn, Args, ty_ptr, a_type, dcons, dnil}
+use mir.Val.{Val, vptr, vint, vbool}
+use mir.MapTy.{inst_fn}
+use base.Fraction.{full_share}
+use base.Logic.{SProp, never, fst∗}
+use base.Fml.{Lft, Share, Fml, ftrue, fsep, fwand, fex, fat, froom, flft, ftok}
+use base.Mask.{every}
+use prog.Memory.{size, align, capped}
+use prog.Wp.{Env, WpFn}
+use contract.BorrowLft.{◌⊑◌}
+use contract.Monad.{fact}
+use types.Logic.{sem}
+use types.Kit.{‵, raw, ◌⊛◌, prop, at_ret, Sq, ◌$◌, ◌∵◌, !, qed, by, move, keep, use1, split, split3, join, rewrite, regoal, fsplit, fsplit3, fjoin, fjoin3, fpick, fpack, feq_i}
+use types.Part.{whole, sub, look_in, store_in}
+use types.Run.{stop, fld, load, lit, neg_lit, true_lit, false_lit, bin, addr, of_opd, assigns, init, first, blocks, skips, branches, exec, returns, returns_within, enter}
+use types.ByLocal.{alloc_all, pass_all, free_all, look_at, get, through, sets, sets_last, env}
+use denote.Exit.{yes}
+use denote.Param.{param, bounded}
+use denote.RattleType.{RattleType, owns}
+use denote.RawPtr.{Ptr, block_ptr, null_ptr, ptr_val, in_a_block}
+use denote.Signature.{types_at}
+use denote.Steps.{nothing, heard}
+use denote.Triple.Walked.{Stays, stay_dropped, walk_of, Goes-dropped}
+use Rattle.std.specs.Allocator.{owned_block}
+use Rattle.std.proofs.raw_atomic.Walks.{leaves}
+use Rattle.std.proofs.alloc.Shapes.{after, head, inside}
+use Rattle.ex_allocators.proofs.Watching.{pointer_goes, size_goes}
+use Rattle.ex_allocators.proofs.Shelving.{param_at, ptr_typed, opens_shelf, shuts_shelf, holding_token, proved_alone, left_block, differs, equals, fills, ready, readies}
+use Rattle.ex_allocators.specs.Shelves.{Fills, IsKept, right_to, block_unless, free_block, stack}
+use Rattle.ex_allocators.specs.contracts.shelf.Shelf.put as puts
+use Rattle.ex_allocators.specs.contracts.shelf.Shelf.put.Key.{name}
+use Rattle.ex_allocators.proofs.shelf.Shelf.put.Statement.{statement}
+use Rattle.ex_allocators.proofs.shelf.Shelf.put.Code as code
+use Rattle.ex_allocators.proofs.shelf.Shelf.put.Code.{code}
+
+pub put_spec : {M : Type 1} → statement M
+unfolding code
+put_spec 𝓤 𝓛 𝓜 𝓡 wired B L g d dd met md =
+    let E = puts.ended B g d dd in let c₀ = puts.clauses B g d dd 𝓛 𝓜.mem 𝓡.returns in
+    let generics : Args = bounded (a_type ∷ []) (B, tt) (dcons d (dcons dd dnil)) in
+    let fn : Fn = inst_fn generics code.function in
+    let stays : Stays E.signature.params E.kept = (stay_dropped _ yes, (stay_dropped _ yes, (stay_dropped _ yes, (stay_dropped _ yes, tt)))) in
+    let c = holding_token 𝓛 E stays c₀ in
+    proved_alone 𝓛 E stays c₀ 𝓜 𝓡 (Goes-dropped 𝓛 2 (param_at 0 E.signature.params) yes (λ κs x f. refl), (pointer_goes 2 𝓛, (size_goes 2 𝓛, (size_goes 2 𝓛, tt))))
+    (name generics) fn (wired.0.0 (name generics) refl) (λ C Λ z are.
+    let Post : Val → SProp 𝓤 = (walk_of 𝓛 E stays c).post z in
+    let κ : Lft = z.0.0.0 in let q : Share = z.0.1.0 in let Z : RattleType = param 0 B in
+    let at = z.0.3.0.ref_ptr in let heap = z.0.3.0.now in let from : Ptr = z.0.3.1.0 in let s = z.0.3.1.1.0 in let al = z.0.3.1.1.1.0 in
+    let t = g.dealloc_token heap in let τ : Ty = z.1 in
+    let Other : Fml = flft z.0.0.1.0 z.0.1.1.0 in let Fits : Type 0 = (capped (size τ) ≡ s) × (capped (align τ) ≡ al) in
+    qed 𝓛 (((‵ (flft κ q) ⊛ ‵ Other ⊛ ‵ ftrue) ⊛ ‵ (owns (types_at E.signature.params z.0.0) z.0.3 z.0.4))
+    ∷ (‵ (ftok every) ⊛ raw (fact 𝓤 (z.0.0.1.0 ⊑ B.lives)) ⊛ raw (fact 𝓤 Fits) ⊛ ‵ (owned_block (right_to t) τ from)) ∷ []) ∵
+    move ! (1 ∷ []) $ split3 ! $ move ! (2 ∷ []) $ split ! $ heard ! Fits (λ fits.
+    in_a_block ! from (λ r. owned_block (right_to t) τ r) (fst∗ 𝓤 (never 𝓤) (sem 𝓛 (right_to t τ null_ptr))) (λ b o placed.
+    let ends : (x : Bool) → Sq 𝓛 (‵ (flft κ q) ∷ ‵ (ftok every) ∷ ‵ Other ∷ ‵ (block_unless x (right_to t) τ (block_ptr b o)) ∷ []) (prop (Post (vbool x))) = λ x.
+    rewrite ! 3 (λ (r : Ptr). ‵ (block_unless x (right_to t) τ r)) (sym placed) refl $ move ! (1 ∷ 3 ∷ []) $ join ! $
+    feq_i ! (List Val) (vbool x ∷ []) (vbool x ∷ []) refl $ nothing ! $ nothing ! $ fjoin ! $ nothing ! $ fjoin ! $ nothing ! $ fjoin ! $ nothing ! $ fjoin ! $
+    nothing ! $ move ! (5 ∷ 0 ∷ []) $ join ! $ move ! (4 ∷ 0 ∷ []) $ join ! $ move ! (0 ∷ 1 ∷ 2 ∷ 3 ∷ []) $
+    by ! (leaves 𝓛 E stays c z (vbool x) x (tt, (tt, (tt, (tt, tt)))) (tt, (tt, (tt, (tt, tt))))) in
+    move ! (3 ∷ []) $ split ! $ split3 ! $ move ! (3 ∷ []) $ fsplit ! $ fsplit ! $ keep ! (1 ∷ 3 ∷ 7 ∷ 4 ∷ 6 ∷ []) $
+    regoal ! (λ (us : List Val). prop (WpFn 𝓤 𝓛.H C Λ fn us Post)) (λ i. are.0.0 i ++ ((are.1.0 ∙ ap (λ (r : Ptr). ptr_val r ∷ []) placed) i ++ (are.1.1.0.0 i ++ (are.1.1.1.0.0 i ++ [])))) refl $
+    enter ! C Λ fn (vptr at.0 at.1 ∷ vptr b o ∷ vint w64 s ∷ vint w64 al ∷ []) Post $
+    alloc_all ! (λ l. pass_all ! refl ((tt, tt), ((tt, tt), ((tt, record { fits = are.1.1.0.1 }), ((tt, record { fits = are.1.1.1.0.1 }), tt)))) $
+    let En : Env 𝓤 𝓛.H = env fn.locals l in let Then = left_block 𝓛 C Λ En (after 3 fn.body) (at_ret En Post) in
+    sets ! (addr ! (through ! refl (stop !))) refl (tt, tt) $ sets ! (of_opd ! (get ! refl)) refl (tt, tt) $
+    opens_shelf Z g heap at.0 at.1 ! tt (λ p n m fit.
+    -- [the fields; the free blocks; the way back; the other token; the block]
+    first ! $ blocks ! $
+    sets ! (of_opd ! (load ! (through ! refl (fld ! refl (stop !))) (look_in ! 0 (sub ! 2 refl (whole !))))) refl (tt, record { fits = fit.1 }) $
+    sets ! (bin ! (get ! refl) (get ! refl) tt) refl (tt, tt) $
+    first ! $ branches ! (get ! refl)
+    (λ _. sets ! (of_opd ! (false_lit !)) refl (tt, tt) $ shuts_shelf Z g heap at.0 at.1 ! tt p n m fit $
+    returns_within ! Post refl (look_at ! 0 refl) $ free_all ! refl $ ends false)
+    (λ same. skips ! $ exec ! C Λ En (after 3 (inside (head (after 2 fn.body)))) Then $
+    sets ! (bin ! (get ! refl) (lit ! tt) tt) refl (tt, tt) $
+    first ! $ branches ! (get ! refl)
+    (λ _. sets ! (of_opd ! (false_lit !)) refl (tt, tt) $ shuts_shelf Z g heap at.0 at.1 ! tt p n m fit $
+    returns_within ! Post refl (look_at ! 0 refl) $ free_all ! refl $ ends false)
+    (λ eight. skips ! $ exec ! C Λ En (after 5 (inside (head (after 2 fn.body)))) Then $
+    sets ! (of_opd ! (load ! (through ! refl (fld ! refl (stop !))) (look_in ! 0 (sub ! 1 refl (whole !))))) refl (tt, record { fits = fit.0 }) $
+    sets ! (bin ! (get ! refl) (neg_lit ! tt) tt) refl (tt, tt) $
+    first ! $ branches ! (get ! refl)
+    (λ _. sets ! (of_opd ! (false_lit !)) refl (tt, tt) $ shuts_shelf Z g heap at.0 at.1 ! tt p n m fit $
+    returns_within ! Post refl (look_at ! 0 refl) $ free_all ! refl $ ends false)
+    (λ space. let below = differs n (2 ^ 64 - 1) space in let more : n + 1 < 2 ^ 64 = omega (arith, fit.0) in let next : suc n ≡ n + 1 = omega arith in
+    move ! (1 ∷ []) $ fpick ! (λ kept. move ! (4 ∷ []) $
+    use1 𝓛 (‵ (ready 𝓛 b o t m)) (readies 𝓛 b o t m τ (fills τ m s al kept (equals m s same) (equals al 8 eight) fits) kept) $ fpick ! (λ σ. fpick ! (λ filled. fsplit3 ! $
+    -- [room for the word; the way to the whole room; the right; the free blocks; the fields; the way back; the other token]
+    skips ! $ exec ! C Λ En (after 8 (inside (head (after 2 fn.body)))) Then $
+    sets ! (of_opd ! (get ! refl)) refl (tt, tt) $
+    sets ! (of_opd ! (load ! (through ! refl (fld ! refl (stop !))) (look_in ! 4 (sub ! 0 refl (whole !))))) refl (ptr_typed p) $
+    assigns ! (of_opd ! (get ! refl)) (through ! refl (stop !)) (init ! 0 refl (ptr_typed p)) $
+    assigns ! (of_opd ! (get ! refl)) (through ! refl (fld ! refl (stop !))) (store_in ! 4 (sub ! 0 refl (whole !)) (tt, tt)) $
+    sets ! (bin ! (get ! refl) (lit ! tt) (record { fits = more })) refl (tt, record { fits = more }) $
+    assigns ! (of_opd ! (get ! refl)) (through ! refl (fld ! refl (stop !))) (store_in ! 4 (sub ! 1 refl (whole !)) (tt, record { fits = more })) $
+    sets_last ! (of_opd ! (true_lit !)) refl (tt, tt) $
+    exec ! C Λ En (after 3 fn.body) (at_ret En Post) $ sets ! (of_opd ! (get ! refl)) refl (tt, tt) $
+    let Links : Ty → Fml = λ σ. fsep (fat full_share ty_ptr b o (ptr_val p)) (fsep (fwand (froom ty_ptr b o) (froom σ b o)) (t σ (block_ptr b o))) in
+    let Stack : ℕ × ℕ → Ptr → Fml = λ spot next. fsep (free_block t m spot next) (stack t m n next) in
+    fjoin3 ! $ fpack ! (Fills σ m) (λ _. Links σ) filled $ fpack ! Ty (λ σ. fex (Fills σ m) (λ _. Links σ)) σ $ fjoin ! $
+    fpack ! Ptr (Stack (b, o)) p $ fpack ! (block_ptr b o ≡ block_ptr b o) (λ _. fex Ptr (Stack (b, o))) refl $
+    fpack ! (ℕ × ℕ) (λ spot. fex (block_ptr b o ≡ block_ptr spot.0 spot.1) (λ _. fex Ptr (Stack spot))) (b, o) $
+    rewrite ! 0 (λ (k : ℕ). ‵ (stack t m k (block_ptr b o))) next refl $ fpack ! (IsKept m) (λ _. stack t m (n + 1) (block_ptr b o)) kept $
+    move ! (1 ∷ 0 ∷ 2 ∷ []) $ shuts_shelf Z g heap at.0 at.1 ! tt (block_ptr b o) (n + 1) m (more, fit.1) $
+    returns ! (look_at ! 0 refl) $ free_all ! refl $ nothing ! $ move ! (1 ∷ 2 ∷ 3 ∷ 0 ∷ []) $ ends true)))))))))))

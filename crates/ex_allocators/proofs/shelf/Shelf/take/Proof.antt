@@ -1,0 +1,108 @@
+-- The block on top is unlinked: its word says which one is the next. Assumes `Logic`.
+use Rattle.std.proofs.Common.{◌≡◌, ℕ, zero, suc, ◌-◌, ◌^◌, ◌<◌, true, false, List, [], ◌∷◌, ◌++◌, refl, arith, T, not, eqb, w64, Ok, Err}
+use mir.Syntax.{Ty, Fn, Args, ty_ptr, a_type, dcons, dnil}
+use mir.Val.{Val, vptr, vint}
+use mir.MapTy.{inst_fn}
+use base.Logic.{SProp, apply∗}
+use base.Fml.{Lft, Share, Fml, ftrue, froom, flft, ftok}
+use base.Mask.{every}
+use prog.Memory.{size, align, capped}
+use prog.Wp.{Env, WpFn}
+use contract.BorrowLft.{◌⊑◌}
+use contract.Monad.{fact}
+use types.Logic.{sem}
+use types.Kit.{‵, raw, ◌⊛◌, prop, at_ret, Sq, ◌$◌, ◌∵◌, !, qed, by, move, keep, use0, use1, use2, split, split3, join, rewrite, regoal, fsplit, fsplit3, fjoin, fpick, fpack}
+use types.Part.{whole, sub, agg, look_in, store_in}
+use types.Run.{stop, fld, load, look, lit, bin, addr, of_opd, no_more, and_then, assigns, first, blocks, skips, branches, exec, returns, returns_within, enter}
+use types.ByLocal.{alloc_all, pass_all, free_all, look_at, get, through, sets, sets_last, env}
+use denote.Exit.{yes}
+use denote.Param.{param, bounded}
+use denote.RattleType.{RattleType, owns}
+use denote.RawPtr.{Ptr, block_ptr}
+use denote.Signature.{types_at}
+use denote.Steps.{nothing, heard}
+use denote.Triple.Walked.{Stays, stay_dropped, walk_of, Goes-dropped}
+use Rattle.std.specs.Allocator.{block_if_ok}
+use Rattle.std.proofs.raw_atomic.Walks.{leaves}
+use Rattle.std.proofs.alloc.Shapes.{after, head, inside}
+use Rattle.std.proofs.alloc.Calls.{Answer, answer_val, Answer-typed, Answer-Ok, Answer-err}
+use Rattle.ex_allocators.proofs.Shelving.{param_at, ptr_typed, fields, opens_shelf, shuts_shelf, holding_token, proved_alone, left_block, equals, fills, regrants}
+use Rattle.ex_allocators.proofs.Watching.{size_goes}
+use Rattle.ex_allocators.specs.Shelves.{IsKept, right_to, stack}
+use Rattle.ex_allocators.specs.contracts.shelf.Shelf.take as taken
+use Rattle.ex_allocators.specs.contracts.shelf.Shelf.take.Key.{name}
+use Rattle.ex_allocators.proofs.shelf.Shelf.take.Statement.{statement}
+use Rattle.ex_allocators.proofs.shelf.Shelf.take.Code as code
+use Rattle.ex_allocators.proofs.shelf.Shelf.take.Code.{code}
+
+some_left : (n : ℕ) → T (not (eqb n 0)) → n ≡ suc (n - 1)
+some_left zero t = absurd t
+some_left (suc n) t = omega arith
+
+pub take_spec : {M : Type 1} → statement M
+unfolding code
+take_spec 𝓤 𝓛 𝓜 𝓡 wired B L g d dd met md =
+    let E = taken.ended B g d dd in let c₀ = taken.clauses B g d dd 𝓛 𝓜.mem 𝓡.returns in
+    let generics : Args = bounded (a_type ∷ []) (B, tt) (dcons d (dcons dd dnil)) in
+    let fn : Fn = inst_fn generics code.function in
+    let stays : Stays E.signature.params E.kept = (stay_dropped _ yes, (stay_dropped _ yes, (stay_dropped _ yes, tt))) in
+    let c = holding_token 𝓛 E stays c₀ in
+    proved_alone 𝓛 E stays c₀ 𝓜 𝓡 (Goes-dropped 𝓛 2 (param_at 0 E.signature.params) yes (λ κs x f. refl), (size_goes 2 𝓛, (size_goes 2 𝓛, tt)))
+    (name generics) fn (wired.0.0 (name generics) refl) (λ C Λ z are.
+    let Post : Val → SProp 𝓤 = (walk_of 𝓛 E stays c).post z in
+    let κ : Lft = z.0.0.0 in let q : Share = z.0.1.0 in let Z : RattleType = param 0 B in
+    let at = z.0.3.0.ref_ptr in let heap = z.0.3.0.now in let t = g.dealloc_token heap in let τ : Ty = z.1 in let s = z.0.3.1.0 in let al = z.0.3.1.1.0 in
+    let Other : Fml = flft z.0.0.1.0 z.0.1.1.0 in let Fits : Type 0 = (capped (size τ) ≡ s) × (capped (align τ) ≡ al) in
+    let ends : (x : Answer.Denot) (v : Val) → Sq 𝓛 (‵ (flft κ q) ∷ ‵ (ftok every) ∷ ‵ Other ∷ ‵ (Answer.own_val x (v ∷ [])) ∷ ‵ (block_if_ok (right_to t) τ x) ∷ []) (prop (Post v)) = λ x v.
+    move ! (1 ∷ 4 ∷ []) $ join ! $ nothing ! $ nothing ! $ fjoin ! $ nothing ! $ fjoin ! $ nothing ! $ fjoin ! $
+    nothing ! $ move ! (4 ∷ 0 ∷ []) $ join ! $ move ! (3 ∷ 0 ∷ []) $ join ! $ move ! (0 ∷ 1 ∷ 3 ∷ []) $
+    by ! (leaves 𝓛 E stays c z v x (tt, (tt, (tt, tt))) (tt, (tt, (tt, tt)))) in
+    let none : Sq 𝓛 (‵ (flft κ q) ∷ ‵ (ftok every) ∷ ‵ Other ∷ []) (prop (Post (answer_val false 0 0))) =
+    use0 𝓛 (‵ (Answer.own_val (Err (record {})) (answer_val false 0 0 ∷ []))) (Answer-err 𝓛) $ nothing ! $ move ! (2 ∷ 3 ∷ 4 ∷ 1 ∷ 0 ∷ []) $ ends (Err (record {})) (answer_val false 0 0) in
+    qed 𝓛 (((‵ (flft κ q) ⊛ ‵ Other ⊛ ‵ ftrue) ⊛ ‵ (owns (types_at E.signature.params z.0.0) z.0.3 z.0.4)) ∷ (‵ (ftok every) ⊛ raw (fact 𝓤 (z.0.0.1.0 ⊑ B.lives)) ⊛ raw (fact 𝓤 Fits)) ∷ []) ∵
+    move ! (1 ∷ []) $ split3 ! $ move ! (2 ∷ []) $ heard ! Fits (λ fits. move ! (2 ∷ []) $ split ! $ split3 ! $ move ! (3 ∷ []) $ fsplit ! $ fsplit ! $ keep ! (1 ∷ 3 ∷ 6 ∷ 4 ∷ []) $
+    regoal ! (λ (us : List Val). prop (WpFn 𝓤 𝓛.H C Λ fn us Post)) (λ i. are.0.0 i ++ (are.1.0.0 i ++ (are.1.1.0.0 i ++ []))) refl $
+    enter ! C Λ fn (vptr at.0 at.1 ∷ vint w64 s ∷ vint w64 al ∷ []) Post $
+    alloc_all ! (λ l. pass_all ! refl ((tt, tt), ((tt, record { fits = are.1.0.1 }), ((tt, record { fits = are.1.1.0.1 }), tt))) $
+    let En : Env 𝓤 𝓛.H = env fn.locals l in let Then = left_block 𝓛 C Λ En (after 3 fn.body) (at_ret En Post) in
+    sets ! (addr ! (through ! refl (stop !))) refl (tt, tt) $ sets ! (of_opd ! (get ! refl)) refl (tt, tt) $
+    opens_shelf Z g heap at.0 at.1 ! tt (λ p n m fit.
+    -- [the fields; the free blocks; the way back; the other token]
+    first ! $ blocks ! $
+    sets ! (of_opd ! (load ! (through ! refl (fld ! refl (stop !))) (look_in ! 0 (sub ! 2 refl (whole !))))) refl (tt, record { fits = fit.1 }) $
+    sets ! (bin ! (get ! refl) (get ! refl) tt) refl (tt, tt) $
+    first ! $ branches ! (get ! refl)
+    (λ _. sets ! (agg ! (no_more !)) refl (tt, tt) $ sets ! (agg ! (and_then ! (lit ! tt) (and_then ! (get ! refl) (no_more !)))) refl (Answer-typed false 0 0) $
+    shuts_shelf Z g heap at.0 at.1 ! tt p n m fit $ returns_within ! Post refl (look_at ! 0 refl) $ free_all ! refl $ none)
+    (λ same. skips ! $ exec ! C Λ En (after 3 (inside (head (after 2 fn.body)))) Then $
+    sets ! (bin ! (get ! refl) (lit ! tt) tt) refl (tt, tt) $
+    first ! $ branches ! (get ! refl)
+    (λ _. sets ! (agg ! (no_more !)) refl (tt, tt) $ sets ! (agg ! (and_then ! (lit ! tt) (and_then ! (get ! refl) (no_more !)))) refl (Answer-typed false 0 0) $
+    shuts_shelf Z g heap at.0 at.1 ! tt p n m fit $ returns_within ! Post refl (look_at ! 0 refl) $ free_all ! refl $ none)
+    (λ eight. skips ! $ exec ! C Λ En (after 5 (inside (head (after 2 fn.body)))) Then $
+    sets ! (of_opd ! (load ! (through ! refl (fld ! refl (stop !))) (look_in ! 0 (sub ! 1 refl (whole !))))) refl (tt, record { fits = fit.0 }) $
+    sets ! (bin ! (get ! refl) (lit ! tt) tt) refl (tt, tt) $
+    first ! $ branches ! (get ! refl)
+    (λ _. sets ! (agg ! (no_more !)) refl (tt, tt) $ sets ! (agg ! (and_then ! (lit ! tt) (and_then ! (get ! refl) (no_more !)))) refl (Answer-typed false 0 0) $
+    shuts_shelf Z g heap at.0 at.1 ! tt p n m fit $ returns_within ! Post refl (look_at ! 0 refl) $ free_all ! refl $ none)
+    (λ some. let left = some_left n some in let least : 0 < n = omega arith in let fewer : n - 1 < 2 ^ 64 = omega (arith, fit.0) in
+    move ! (1 ∷ []) $ fpick ! (λ kept. rewrite ! 0 (λ (k : ℕ). ‵ (stack t m k p)) left refl $ fpick ! (λ spot. fpick ! (λ here. fpick ! (λ next. fsplit ! $ fpick ! (λ σ. fpick ! (λ filled. fsplit3 ! $
+    -- [the word; the way to the room; the right; the other free blocks; the fields; the way back; the other token]
+    rewrite ! 4 (λ (r : Ptr). ‵ (fields Z g heap at.0 at.1 r n m)) here refl $
+    skips ! $ exec ! C Λ En (after 8 (inside (head (after 2 fn.body)))) Then $
+    sets ! (of_opd ! (load ! (through ! refl (fld ! refl (stop !))) (look_in ! 4 (sub ! 0 refl (whole !))))) refl (tt, tt) $
+    sets ! (of_opd ! (get ! refl)) refl (tt, tt) $
+    sets ! (of_opd ! (load ! (through ! refl (stop !)) (look ! 0 refl))) refl (ptr_typed next) $
+    assigns ! (of_opd ! (get ! refl)) (through ! refl (fld ! refl (stop !))) (store_in ! 4 (sub ! 0 refl (whole !)) (ptr_typed next)) $
+    sets ! (bin ! (get ! refl) (lit ! tt) (omega arith)) refl (tt, record { fits = fewer }) $
+    assigns ! (of_opd ! (get ! refl)) (through ! refl (fld ! refl (stop !))) (store_in ! 4 (sub ! 1 refl (whole !)) (tt, record { fits = fewer })) $
+    sets_last ! (agg ! (and_then ! (lit ! tt) (and_then ! (get ! refl) (no_more !)))) refl (Answer-typed true spot.0 spot.1) $
+    exec ! C Λ En (after 3 fn.body) (at_ret En Post) $ sets ! (of_opd ! (get ! refl)) refl (Answer-typed true spot.0 spot.1) $
+    use1 𝓛 (‵ (froom ty_ptr spot.0 spot.1)) (𝓛.laws.at_room ty_ptr spot.0 spot.1 _) $
+    use2 𝓛 (‵ (froom σ spot.0 spot.1)) (apply∗ 𝓤 (sem 𝓛 (froom ty_ptr spot.0 spot.1)) (sem 𝓛 (froom σ spot.0 spot.1))) $
+    use2 𝓛 (‵ (froom τ spot.0 spot.1) ⊛ ‵ (right_to t τ (block_ptr spot.0 spot.1)))
+    (regrants 𝓛 spot.0 spot.1 t m σ τ filled (fills τ m s al kept (equals m s same) (equals al 8 eight) fits)) $ split ! $
+    move ! (2 ∷ []) $ fpack ! (IsKept m) (λ _. stack t m (n - 1) next) kept $ move ! (3 ∷ 0 ∷ 4 ∷ []) $
+    shuts_shelf Z g heap at.0 at.1 ! tt next (n - 1) m (fewer, fit.1) $ returns ! (look_at ! 0 refl) $ free_all ! refl $
+    use0 𝓛 (‵ (Answer.own_val (Ok (block_ptr spot.0 spot.1)) (answer_val true spot.0 spot.1 ∷ []))) (Answer-Ok 𝓛 spot.0 spot.1) $
+    move ! (3 ∷ 4 ∷ []) $ fjoin ! $ move ! (2 ∷ 3 ∷ 4 ∷ 1 ∷ 0 ∷ []) $ ends (Ok (block_ptr spot.0 spot.1)) (answer_val true spot.0 spot.1))))))))))))))

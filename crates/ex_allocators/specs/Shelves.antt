@@ -1,0 +1,62 @@
+-- What a pool's shelf owns: free blocks of n bytes, each of which leads to the next. t is the inner
+-- allocator's right to free a block.
+use Rattle.std.specs.Prelude.{◌≡◌, ℕ, zero, suc, ◌%◌, ◌^◌, ◌<◌, ◌≤◌, List, Bool, true, false}
+use mir.Syntax.{Ty, ty_ptr}
+use mir.Val.{Val}
+use prog.Memory.{size, align}
+use base.Fraction.{full_share}
+use base.Fml.{Lft, Fml, ffalse, ftrue, fsep, fex, fwand, fat, froom}
+use denote.RattleType.{RattleType}
+use denote.Memory.{cell_at}
+use denote.RawPtr.{Ptr, block_ptr, null_ptr, ptr_val}
+use denote.Sharing.{said}
+use denote.Hidden.{guarded}
+use Rattle.std.specs.Allocator.{owned_block}
+
+-- a size of blocks that can be kept: each has room for pointers, and for nothing else
+abbrev pub IsKept : ℕ → Type 0
+IsKept n = (8 ≤ n) × (n % 8 ≡ 0) × (n < 2 ^ 63)
+
+-- a type of n bytes, aligned as a pointer is
+abbrev pub Fills : Ty → ℕ → Type 0
+Fills τ n = (size τ ≡ n) × (align τ ≡ 8)
+
+module _ (t : Ty → Ptr → Fml) where
+  -- the right to give a block for a τ at p back: it was granted for a type of the same layout
+  abbrev pub right_to : Ty → Ptr → Fml
+  right_to τ p = fex Ty (λ σ. fex ((size σ ≡ size τ) × (align σ ≡ align τ)) (λ _. t σ p))
+
+  module _ (n : ℕ) where
+    -- a free block at that place: a pointer to the next one, its other bytes, and its right
+    abbrev pub free_block : ℕ × ℕ → Ptr → Fml
+    free_block at next =
+        fex Ty (λ σ. fex (Fills σ n) (λ _. fsep (fat full_share ty_ptr at.0 at.1 (ptr_val next))
+        (fsep (fwand (froom ty_ptr at.0 at.1) (froom σ at.0 at.1)) (t σ (block_ptr at.0 at.1)))))
+
+    -- k free blocks, from p on
+    abbrev pub stack : (k : ℕ) → Ptr → Fml
+    stack zero p = ftrue
+    stack (suc k) p =
+        fex (ℕ × ℕ) (λ at. fex (p ≡ block_ptr at.0 at.1) (λ _.
+        fex Ptr (λ next. fsep (free_block at next) (stack k next))))
+
+    -- the same, of a size that can be kept
+    abbrev pub kept_blocks : (k : ℕ) → Ptr → Fml
+    kept_blocks k p = fex (IsKept n) (λ _. stack k p)
+
+-- a block for a τ at p, unless it was put on the shelf
+abbrev pub block_unless : Bool → (Ty → Ptr → Fml) → Ty → Ptr → Fml
+block_unless true right τ p = ftrue
+block_unless false right τ p = owned_block right τ p
+
+module _ (F : RattleType) (I : F.Denot → Fml) where
+  -- fields in memory of which I holds
+  abbrev pub holds_at : ℕ → ℕ → Fml
+  holds_at b o =
+      fex (List Val) (λ vs. fsep (cell_at full_share F.mir vs b o)
+      (fex F.Denot (λ i. fsep (F.own_val i vs) (I i))))
+
+  -- behind a `&` they are reached by one call at a time, after which I holds again
+  abbrev pub seen_by_one : Ptr → Lft → Fml
+  seen_by_one null_ptr = said ffalse
+  seen_by_one (block_ptr b o) = guarded (b, o) (holds_at b o)

@@ -1,0 +1,115 @@
+//! Where a pool keeps the blocks that came back.
+ghost use Rattle.std.specs.Prelude.{◌≡◌};
+ghost use mir.Syntax.{Ty};
+ghost use base.Fml.{fex, fsep};
+ghost use types.Logic.{sem};
+ghost use Rattle.std.specs.Allocator.{HasLayout, block_if_ok, owned_block};
+ghost use Rattle.ex_allocators.specs.Shelves.{IsKept, right_to, block_unless, kept_blocks, seen_by_one};
+
+use std::alloc::{AllocError, Allocator};
+use std::marker::{Move, Owns, PhantomData};
+use std::ptr::null_mut;
+
+/// The alignment of the blocks: that of a type which holds pointers.
+pub(crate) const ALIGN: usize = 8;
+
+/// Free blocks of `size` bytes that an allocator `B` granted. The first word of each leads to the
+/// next.
+pub(crate) struct Shelf<B: Allocator> {
+    // The block that came last, where `count` is not 0.
+    top: *mut u8,
+    count: usize,
+    size: usize,
+    marker: PhantomData<B>,
+}
+
+// What is known of a shelf is the handle that granted its blocks.
+impl<B: Allocator> Owns for Shelf<B> {
+    ghost Value = { B };
+
+    ghost shr_at = { λ heap. seen_by_one Fields (λ i.
+        kept_blocks (B.dealloc_token heap) i.size i.count i.top) };
+}
+
+impl<B: Allocator> Move for Shelf<B> {
+    ghost own_val = { λ heap vs. fex Inside (λ i. fsep (Fields.own_val i vs)
+        (kept_blocks (B.dealloc_token heap) i.size i.count i.top)) };
+}
+
+impl<B: Allocator> Shelf<B> {
+    /// An empty shelf for blocks of `size` bytes of `_heap`.
+    pub(crate) fn new(_heap: &B, size: usize) -> Shelf<B>
+        requires { IsKept size }
+        ensures { result ≡ _heap.now }
+    {
+        Shelf {
+            top: null_mut(),
+            count: 0,
+            size,
+            marker: PhantomData,
+        }
+    }
+
+    /// Takes the block that came last, if there is one and the layout is that of the shelf.
+    pub(crate) fn take(&self, size: usize, align: usize) -> Result<*mut u8, AllocError>
+        ghost ty: { Ty }
+        requires { HasLayout ty size align }
+        ensures* { sem 𝓛 (block_if_ok (right_to (B.dealloc_token self.now)) ty result) }
+    {
+        let this = self as *const Shelf<B> as *mut Shelf<B>;
+        unsafe {
+            if (*this).size != size {
+                return Err(AllocError);
+            }
+            if align != ALIGN {
+                return Err(AllocError);
+            }
+            let count = (*this).count;
+            if count == 0 {
+                return Err(AllocError);
+            }
+            let block = (*this).top;
+            (*this).top = *(block as *mut *mut u8);
+            (*this).count = count - 1;
+            Ok(block)
+        }
+    }
+
+    /// Puts a block on top, if its layout is that of the shelf. With `false` it is the caller's
+    /// still.
+    pub(crate) unsafe fn put(&self, block: *mut u8, size: usize, align: usize) -> bool
+        ghost ty: { Ty }
+        requires layout { HasLayout ty size align }
+        requires* block { sem 𝓛 (owned_block (right_to (B.dealloc_token self.now)) ty block) }
+        ensures* { sem 𝓛 (block_unless result (right_to (B.dealloc_token self.now)) ty block) }
+    {
+        let this = self as *const Shelf<B> as *mut Shelf<B>;
+        unsafe {
+            if (*this).size != size {
+                return false;
+            }
+            if align != ALIGN {
+                return false;
+            }
+            let count = (*this).count;
+            if count == usize::MAX {
+                return false;
+            }
+            (block as *mut *mut u8).write((*this).top);
+            (*this).top = block;
+            (*this).count = count + 1;
+            true
+        }
+    }
+}
+
+impl<B: Allocator> Drop for Shelf<B> {
+    fn drop(self) {
+        let Shelf {
+            top: _,
+            count: _,
+            size: _,
+            marker: _,
+        } = self;
+    }
+}
