@@ -167,6 +167,7 @@ impl<T, A: Allocator + Default> Default for IntoIter<T, A> {
     ghost is_default = { λ left. (left.items ≡ []) × A.is_default left.alloc };
 
     /// No items, over the default allocator. It takes no memory.
+    #[tactic(auto, using(crate::proofs::Calls::at_ends))]
     fn default() -> Self {
         IntoIter::from_block(RawVec::new_in(A::default()), 0)
     }
