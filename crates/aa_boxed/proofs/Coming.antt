@@ -1,5 +1,5 @@
 -- Items that come of an iterator, and are put into a block.
-use Rattle.std.proofs.Common.{◌≡◌, ℕ, ◌+◌, ◌<◌, ◌≤◌, List, [], ◌∷◌, ◌++◌, length, Option, Some, None, refl, sym, ap, ◌∙◌, subst, arith, length-append, inl, inr}
+use Rattle.std.proofs.Common.{◌≡◌, eq-eqb, ◌≢◌, ℕ, ◌+◌, ◌<◌, ◌≤◌, List, [], ◌∷◌, ◌++◌, length, Option, Some, None, refl, sym, ap, ◌∙◌, subst, arith, length-append, inl, inr}
 use Rattle.std.specs.Prelude.{Result, Ok, Err, IfOk, IfErr, if◌then◌else◌, ◌==◌}
 use Rattle.std.specs.Iterator.{Yields, YieldsThen}
 use Rattle.std.specs.Iterator.Runs.{WholeRun}
@@ -12,7 +12,13 @@ use Rattle.aa_raw.specs.declared.collections.TryReserveErrorKind.TheVariants.{Al
 use Rattle.aa_raw.specs.declared.raw_vec.Growth.TheVariants.{Doubling}
 use Rattle.aa_boxed.specs.Slice.{Begun, Slice, ended, with_next, Stops}
 use Rattle.aa_boxed.specs.Telling.{asked_with}
-use Rattle.aa_boxed.proofs.Fillings.{none-chosen, some-chosen}
+
+-- a choice by whether a number is 0
+none-chosen : {X : Type 0} (n : ℕ) (x y : X) → n ≡ 0 → (if n == 0 then x else y) ≡ x
+none-chosen n x y e = ap (λ t. if t then x else y) (eq-eqb n 0 e)
+
+some-chosen : {X : Type 0} (m n : ℕ) (x y : X) → m ≢ n → (if m == n then x else y) ≡ y
+some-chosen m n x y ne = elim (eqb_tells m n) [ inl h ↦ absurd (ne h.1) | inr h ↦ ap (λ t. if t then x else y) h.0 ]
 
 -- n items that filled their room are no fewer than a new block has places for
 over_start : (size n : ℕ) → (size ≡ 0 → usize_max ≤ n) → n < sized size 0 → ⊥

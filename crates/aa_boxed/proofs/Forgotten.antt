@@ -1,10 +1,9 @@
 -- A block of which all but the first places are forgotten, as it becomes a boxed slice.
-use Rattle.std.proofs.Common.{◌≡◌, ℕ, sym, ap, ◌∙◌, subst}
+use Rattle.std.proofs.Common.{◌≡◌, ℕ, sym, ◌∙◌, subst}
 use Rattle.aa_raw.specs.Block.{Block}
 use Rattle.aa_raw.specs.Places.{IsRun}
-use Rattle.aa_raw.proofs.Forgetting.{forgot, length-forgot, run-forgot, IsRun-forgot, none-forgot}
+use Rattle.aa_raw.proofs.Forgetting.{forgot, length-forgot, IsRun-forgot, none-forgot}
 use Rattle.aa_boxed.specs.Room.{IsJustFor}
-use Rattle.aa_boxed.specs.Slice.{slice_of}
 use Rattle.aa_boxed.specs.SliceInner.{IsWhole}
 
 module _ {T A : Type 0} (b : Block T A) (n : ℕ) (filled : IsRun b.places 0 n) (room : IsJustFor n b.places) (new : Block T A) (is : new ≡ forgot b n filled) where
@@ -16,6 +15,3 @@ module _ {T A : Type 0} (b : Block T A) (n : ℕ) (filled : IsRun b.places 0 n) 
         room = λ other. long ∙ room (λ same. other (long ∙ same));
         others = none-forgot b n filled;
       })
-
-  pub forgot-slice : slice_of new n ≡ slice_of b n
-  forgot-slice = ap (λ (x : Block T A). slice_of x n) is ∙ (λ i. record { items = run-forgot b n filled i; growth = b.growth; alloc = b.alloc })

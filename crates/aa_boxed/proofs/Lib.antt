@@ -1,5 +1,4 @@
 pub mod Coming
-pub mod Fillings
 pub mod Texts
 pub mod Arrays
 pub mod Singles

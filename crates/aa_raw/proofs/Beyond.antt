@@ -51,3 +51,6 @@ module _ {X : Type 0} where
       ap (list_all is_none) (drop_at (take n cs) (replicate m None ++ drop (n + m) cs) n (length-take-le n cs (omega (arith, all))))
       ∙ list_all-append is_none (replicate m None) (drop (n + m) cs)
       ∙ (λ i. none_there X m i && list_all is_none (drop_all (n + m) cs (omega (arith, all)) i))
+
+  -- other values in a run
+  pub ruleset around_run = (none-before-with, none-behind-with)

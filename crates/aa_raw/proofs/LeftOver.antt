@@ -1,9 +1,9 @@
 -- A block of which all but the first places are forgotten, as it becomes an `IntoIter`.
-use Rattle.std.proofs.Common.{◌≡◌, ℕ, ◌-◌, refl, sym, ap, ◌∙◌, subst, arith}
+use Rattle.std.proofs.Common.{◌≡◌, ℕ, ◌-◌, refl, sym, subst, arith}
 use Rattle.aa_raw.specs.Block.{Block}
-use Rattle.aa_raw.specs.LeftFields.{left_of, IsBetween}
-use Rattle.aa_raw.specs.Places.{IsRun, run}
-use Rattle.aa_raw.proofs.Forgetting.{forgot, run-forgot, IsRun-forgot, none-forgot}
+use Rattle.aa_raw.specs.LeftFields.{IsBetween}
+use Rattle.aa_raw.specs.Places.{IsRun}
+use Rattle.aa_raw.proofs.Forgetting.{forgot, IsRun-forgot, none-forgot}
 
 module _ {T A : Type 0} (b : Block T A) (n : ℕ) (filled : IsRun b.places 0 n) (new : Block T A) (is : new ≡ forgot b n filled) where
   whole : n - 0 ≡ n
@@ -16,8 +16,3 @@ module _ {T A : Type 0} (b : Block T A) (n : ℕ) (filled : IsRun b.places 0 n) 
     before = refl;
     behind = none-forgot b n filled;
   })
-
-  pub forgot-left : left_of (record { block = new; front = 0; back = n }) ≡ record { items = run b.places 0 n; alloc = b.alloc }
-  forgot-left =
-      ap (λ (x : Block T A). left_of (record { block = x; front = 0; back = n })) is
-      ∙ (λ i. record { items = (ap (run (forgot b n filled).places 0) whole ∙ run-forgot b n filled) i; alloc = b.alloc })

@@ -66,6 +66,7 @@ impl<T, A: Allocator> BoxedSlice<T, A> {
     }
 
     // All elements, as an array. The block is given back.
+    #[tactic(auto, using(aa_raw::proofs::Calls::in_runs))]
     fn taken_out<const N: usize>(self) -> [T; N]
         requires { length self.items ≡ N }
         ensures { result ≡ self.items }

@@ -32,6 +32,7 @@ impl<T, A: Allocator> Model for Filling<T, A> {
 
 impl<T, A: Allocator> Filling<T, A> {
     // No items yet, with room for `capacity` of them and no more, in a block that grows so.
+    #[tactic(auto, using(aa_raw::proofs::Calls::at_ends))]
     pub(crate) fn with_room(
         growth: Growth,
         capacity: usize,
@@ -46,6 +47,7 @@ impl<T, A: Allocator> Filling<T, A> {
     }
 
     // Whether there is no room for one more item.
+    #[tactic(auto, using(aa_raw::proofs::Calls::at_ends))]
     pub(crate) fn is_full(&self) -> bool
         ensures full { OnTrue result (length self.now.items ≡ self.now.capacity) }
         ensures free { OnFalse result (length self.now.items < self.now.capacity) }
@@ -54,6 +56,7 @@ impl<T, A: Allocator> Filling<T, A> {
     }
 
     // Puts `item` behind the others.
+    #[tactic(auto, using(aa_raw::proofs::Calls::at_ends))]
     pub(crate) fn put(&mut self, item: T)
         requires { length self.old.items < self.old.capacity }
         ensures { self.new ≡ with_next self.old item }
@@ -66,6 +69,7 @@ impl<T, A: Allocator> Filling<T, A> {
     }
 
     // Makes room for `additional` items more, with some to spare.
+    #[tactic(auto, using(aa_raw::proofs::Calls::with_room))]
     pub(crate) fn reserve(&mut self, additional: usize) -> Result<(), TryReserveError>
         ensures items { self.new.items ≡ self.old.items }
         ensures growth { self.new.growth ≡ self.old.growth }
@@ -81,6 +85,7 @@ impl<T, A: Allocator> Filling<T, A> {
     }
 
     // The items as a boxed slice, where the block has no other room.
+    #[tactic(auto, using(aa_raw::proofs::Calls::at_ends))]
     pub(crate) fn whole(self) -> BoxedSlice<T, A>
         requires { length self.items ≢ self.capacity → self.capacity ≡ usize_max }
         ensures { result ≡ ended self }
@@ -90,6 +95,7 @@ impl<T, A: Allocator> Filling<T, A> {
     }
 
     // The items as a boxed slice, whose block gave back all other room.
+    #[tactic(auto, using(aa_raw::proofs::Calls::with_room))]
     pub(crate) fn shrunk(self) -> Result<BoxedSlice<T, A>, TryReserveError>
     where
         T: Drop,
@@ -108,6 +114,7 @@ impl<T, A: Allocator> Filling<T, A> {
     }
 
     // Puts copies of all of `source` behind the items.
+    #[tactic(auto, using(aa_raw::proofs::Calls::in_runs))]
     pub(crate) fn put_copies(&mut self, source: &[T])
     where
         T: Copy,

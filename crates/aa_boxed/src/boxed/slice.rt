@@ -160,6 +160,7 @@ impl<T, A: Allocator> BoxedSlice<T, A> {
 
     /// The values in the first `len` places of `block`, which takes over the block. It takes no
     /// memory. The original has no such call: a vector there takes itself apart.
+    #[tactic(auto, using(aa_raw::proofs::Calls::in_runs))]
     pub fn from_block(block: RawVec<T, A>, len: usize) -> Self
         requires filled { IsRun block.places 0 len }
         requires room { IsJustFor len block.places }
@@ -189,6 +190,7 @@ impl<T, A: Allocator> BoxedSlice<T, A> {
     }
 
     /// The elements, to write to. It stands for the dereference of a mutable `Box<[T], A>`.
+    #[tactic(auto, using(aa_raw::proofs::Calls::shown))]
     pub fn as_mut_slice(&mut self) -> &mut [T]
         ensures* writes_back { sem 𝓛 (lends_items T.row A.row A.Allocator self.entry result) }
         ensures value { result.now ≡ self.old.items }
@@ -208,6 +210,7 @@ impl<T, A: Allocator + Default> Default for BoxedSlice<T, A> {
     ghost is_default = { λ b. (b.items ≡ []) × (b.growth ≡ Doubling) × A.is_default b.alloc };
 
     /// No elements, over the default allocator. It takes no memory.
+    #[tactic(auto, using(aa_raw::proofs::Calls::at_ends))]
     fn default() -> Self {
         BoxedSlice::from_block(RawVec::new_in(A::default()), 0)
     }

@@ -35,6 +35,7 @@ impl<T, A: Allocator> IntoIter<T, A> {
 
     /// The values in the first `len` places of `block`, which takes over the block. The original
     /// has no such call: a vector there takes itself apart.
+    #[tactic(auto, using(crate::proofs::Calls::in_runs))]
     pub fn from_block(block: RawVec<T, A>, len: usize) -> Self
         requires { IsRun block.places 0 len }
         ensures { result ≡ record { items = run block.places 0 len; alloc = block.alloc } }
@@ -57,6 +58,7 @@ impl<T, A: Allocator> IntoIter<T, A> {
     }
 
     /// The items that are left, to write to. It stands for `IntoIter::as_mut_slice`.
+    #[tactic(auto, using(crate::proofs::Calls::shown, crate::proofs::Beyond::around_run))]
     pub fn as_mut_slice(&mut self) -> &mut [T]
         ensures* writes_back { sem 𝓛 (lends_left T.row A.row A.Allocator self.entry result) }
         ensures value { result.now ≡ self.old.items }
@@ -165,6 +167,7 @@ impl<T, A: Allocator + Default> Default for IntoIter<T, A> {
     ghost is_default = { λ left. (left.items ≡ []) × A.is_default left.alloc };
 
     /// No items, over the default allocator. It takes no memory.
+    #[tactic(auto, using(crate::proofs::Calls::at_ends))]
     fn default() -> Self {
         IntoIter::from_block(RawVec::new_in(A::default()), 0)
     }

@@ -1,18 +1,7 @@
-use Rattle.std.proofs.Common.{◌≡◌, ◌≤◌, ◌*◌, ◌^◌, ◌<◌, length, sym, ap, subst, ◌∙◌, arith}
-use Rattle.std.specs.Mem.{type_size}
-use Rattle.std.proofs.Math.Nat.{lt_of_le_of_lt, mul-le-mul_right}
-use denote.Param.{param}
-use Rattle.aa_raw.specs.Places.{IsRun, run}
+use Rattle.std.proofs.Common.{◌≡◌, length, sym, ap, ◌∙◌}
+use Rattle.aa_raw.specs.Places.{run}
 use Rattle.aa_raw.proofs.Runs.{length-run, run-is}
 use Rattle.aa_boxed.proofs.boxed.slice.BoxedSlice.taken_out.Goals as goal
-
-pub take_array-requires : goal.take_array-requires
-take_array-requires g c =
-    let r = c.into_block-block.result in let cs = r.0.places in let size = type_size (param 0 g.row.T) in
-    let long : r.1 ≡ g.row.N = sym (length-run cs 0 r.1 c.into_block-block.ensures.filled) ∙ ap (λ s. length s.items) c.into_block-block.ensures.same ∙ c.requires in
-    let small : length cs * size < 2 ^ 63 = subst (λ k. k * size < 2 ^ 63) c.capacity-capacity.ensures.count c.capacity-capacity.ensures.may_be.0 in
-    let within : g.row.N ≤ length cs = omega (arith, long, c.into_block-block.ensures.filled.0) in
-    (lt_of_le_of_lt (mul-le-mul_right size within) small, subst (λ k. IsRun cs 0 k) long c.into_block-block.ensures.filled)
 
 pub returns : goal.returns
 returns g c =
