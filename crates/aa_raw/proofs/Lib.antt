@@ -1,4 +1,5 @@
 mod Access
+mod Across
 mod Arrayed
 mod Arrays
 mod Claims

@@ -142,6 +142,24 @@ impl<T> Row<T> {
         self.write_array(to, items);
     }
 
+    // Moves the `N` values from `from` on of `source` to the places from `to` on.
+    #[inline(always)]
+    #[tactic(auto, using(crate::proofs::Places::array_moves))]
+    fn take_array<const N: usize>(&mut self, to: usize, source: &mut Row<T>, from: usize)
+        requires here { to + N ≤ length self.old.places }
+        requires there { IsRun source.old.places from N }
+        ensures here { (self.new.ptr ≡ self.old.ptr)
+            × (self.new.places
+            ≡ with_run self.old.places to N (take N (drop from source.old.places))) }
+        ensures there { (source.new.ptr ≡ source.old.ptr)
+            × (source.new.places ≡ with_run source.old.places from N (replicate N None)) }
+    {
+        let mut run = source.cut(from);
+        let items = run.read_array::<N>();
+        source.join(run);
+        self.write_array(to, items);
+    }
+
     /// Moves the first `N` values out.
     #[inline(always)]
     pub(crate) fn read_array<const N: usize>(&mut self) -> [T; N]
@@ -406,10 +424,61 @@ fn move_down<T>(mut row: Row<T>, by: usize, count: usize) -> Row<T>
     row
 }
 
-// Moves the `count` values from `from` on of `source` to the places from `to` on of `row`.
+// Moves the `count` values from `from` on of `source` to the places from `to` on of `row`, in arrays
+// as above.
 #[inline]
-#[tactic(auto, using(crate::proofs::Places::begun_moves))]
 fn move_across<T>(
+    row: Row<T>,
+    to: usize,
+    source: Row<T>,
+    from: usize,
+    count: usize,
+) -> (Row<T>, Row<T>)
+    requires here { (to + count ≤ length row.places) × (length row.places < 2 ^ 64) }
+    requires there { IsRun source.places from count × (length source.places < 2 ^ 64) }
+    ensures here { (result.0.ptr ≡ row.ptr)
+        × (result.0.places ≡ with_run row.places to count (take count (drop from source.places))) }
+    ensures there { (result.1.ptr ≡ source.ptr)
+        × (result.1.places ≡ with_run source.places from count (replicate count None)) }
+{
+    match element_size::<T>() {
+        1 | 2 => move_across_by_arrays::<T, 64>(row, to, source, from, count),
+        3 | 4 => move_across_by_arrays::<T, 32>(row, to, source, from, count),
+        5..=SMALL => move_across_by_arrays::<T, 16>(row, to, source, from, count),
+        _ => move_each_across(row, to, source, from, count),
+    }
+}
+
+// Its loop in arrays of `N`, and then what is left.
+#[inline(always)]
+#[tactic(auto, using(crate::proofs::Places::begun_moves))]
+fn move_across_by_arrays<T, const N: usize>(
+    mut row: Row<T>,
+    to: usize,
+    mut source: Row<T>,
+    from: usize,
+    count: usize,
+) -> (Row<T>, Row<T>)
+    requires array { 0 < N }
+    requires here { (to + count ≤ length row.places) × (length row.places < 2 ^ 64) }
+    requires there { IsRun source.places from count × (length source.places < 2 ^ 64) }
+    ensures here { (result.0.ptr ≡ row.ptr)
+        × (result.0.places ≡ with_run row.places to count (take count (drop from source.places))) }
+    ensures there { (result.1.ptr ≡ source.ptr)
+        × (result.1.places ≡ with_run source.places from count (replicate count None)) }
+{
+    let mut at = 0;
+    'arrays: while N <= count - at {
+        row.take_array::<N>(to + at, &mut source, from + at);
+        at += N;
+    }
+    move_each_across(row, to + at, source, from + at, count - at)
+}
+
+// The same value by value.
+#[inline(always)]
+#[tactic(auto, using(crate::proofs::Places::begun_moves))]
+fn move_each_across<T>(
     mut row: Row<T>,
     to: usize,
     mut source: Row<T>,

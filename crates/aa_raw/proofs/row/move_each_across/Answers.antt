@@ -2,7 +2,7 @@ use Rattle.std.proofs.Common.{rules, ◌≡◌, ◌+◌, ◌<◌, ◌≤◌, len
 use Rattle.std.specs.Option.{is_some}
 use Rattle.aa_raw.specs.Places.{with_run}
 use Rattle.aa_raw.proofs.Places.{run_filled, run_more, gone_more, still_there, with_none}
-use Rattle.aa_raw.proofs.row.move_across.Goals as goal
+use Rattle.aa_raw.proofs.row.move_each_across.Goals as goal
 
 pub each-init : goal.each-init
 each-init g c = record { here = (refl, sym (with_none c.args.row.places c.args.to)); there = (refl, sym (with_none c.args.source.places c.args.from)) }

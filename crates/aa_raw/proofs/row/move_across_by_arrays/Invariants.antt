@@ -1,0 +1,13 @@
+use Rattle.std.proofs.Common.{◌≡◌, ◌≤◌, ◌-◌, take, drop, replicate, None}
+use Rattle.aa_raw.specs.Places.{with_run}
+use Rattle.aa_raw.proofs.row.move_across_by_arrays.Given as goal
+
+abbrev pub invariant-arrays : goal.invariant-arrays
+invariant-arrays g l = record {
+  within : l.at ≤ l.count;
+  here : (l.row.ptr ≡ l.fn.row.ptr) × (l.row.places ≡ with_run l.fn.row.places l.to l.at (take l.at (drop l.from l.fn.source.places)));
+  there : (l.source.ptr ≡ l.fn.source.ptr) × (l.source.places ≡ with_run l.fn.source.places l.from l.at (replicate l.at None));
+}
+
+abbrev pub decreases-arrays : goal.decreases-arrays
+decreases-arrays g l = l.count - l.at
