@@ -1,5 +1,6 @@
 pub mod Callers
 pub mod Costs
+pub mod Grown
 pub mod Moves
 pub mod Pages
 pub mod Parts

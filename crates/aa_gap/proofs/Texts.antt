@@ -1,5 +1,5 @@
 -- A list in two parts, cut behind the first.
-use Rattle.std.proofs.Common.{◌≡◌, ℕ, zero, suc, ◌+◌, ◌-◌, ◌<◌, ◌≤◌, List, [], ◌∷◌, ◌++◌, length, take, drop, Option, Some, None, Bor, refl, sym, ap, ◌∙◌, arith}
+use Rattle.std.proofs.Common.{◌≡◌, ℕ, ◌+◌, ◌-◌, ◌≤◌, List, ◌++◌, length, take, drop, Option, Some, None, Bor, refl, sym, ap, ◌∙◌, arith}
 use Rattle.std.specs.Prelude.{slice_get, option_copied}
 use Rattle.std.specs.Slice.{IsItemAt}
 use Rattle.std.proofs.lemmas.Option.{slice_get_past, slice_get_read}
@@ -10,17 +10,6 @@ take_behind xs ys k h = let e : k ≡ length xs + (k - length xs) = omega arith 
 
 pub drop_behind : {T : Type 0} (xs ys : List T) (k : ℕ) → length xs ≤ k → drop k (xs ++ ys) ≡ drop (k - length xs) ys
 drop_behind xs ys k h = let e : k ≡ length xs + (k - length xs) = omega arith in ap (λ i. drop i (xs ++ ys)) e ∙ drop-append-add xs ys (k - length xs)
-
--- what stands at an index
-pub slice_get_before : {T : Type 0} (xs ys : List T) (i : ℕ) → i < length xs → slice_get (xs ++ ys) i ≡ slice_get xs i
-slice_get_before (x ∷ xs) ys zero h = refl
-slice_get_before (x ∷ xs) ys (suc i) h = slice_get_before xs ys i (omega arith)
-slice_get_before [] ys i h = absurd (omega arith)
-
-pub slice_get_after : {T : Type 0} (xs ys : List T) (i : ℕ) → length xs ≤ i → slice_get (xs ++ ys) i ≡ slice_get ys (i - length xs)
-slice_get_after [] ys i h = let e : i ≡ i - 0 = omega arith in ap (slice_get ys) e
-slice_get_after (x ∷ xs) ys (suc i) h = let e : i - length xs ≡ suc i - length (x ∷ xs) = omega arith in slice_get_after xs ys i (omega arith) ∙ ap (slice_get ys) e
-slice_get_after (x ∷ xs) ys zero h = absurd (omega arith)
 
 -- what a slice's `get` lends
 pub lent_at : {T : Type 0} (xs : List T) (i : ℕ) (r : Option (Bor T)) → IsItemAt xs i r → option_copied r ≡ slice_get xs i

@@ -1,5 +1,5 @@
 -- A gap buffer as contracts see it: a text in two parts, and a block that counts what it does.
-use Rattle.std.specs.Prelude.{ℕ, ◌+◌, ◌-◌, ◌*◌, ◌≤◌, max, List, [], ◌∷◌, ◌++◌, length, take, drop, nat_le, ◌==◌, if◌then◌else◌}
+use Rattle.std.specs.Prelude.{ℕ, ◌+◌, ◌-◌, ◌*◌, ◌≤◌, max, List, [], ◌∷◌, ◌++◌, length, take, drop, nat_le, if◌then◌else◌}
 use Rattle.aa_raw.specs.declared.raw_vec.Growth.{Growth}
 use Rattle.aa_raw.specs.declared.raw_vec.Growth.TheVariants.{Doubling, Sparing}
 use Rattle.aa_raw.specs.declared.collections.TryReserveError.{TryReserveError}
@@ -85,7 +85,7 @@ module _ {T A : Type 0} where
   abbrev pub room : (size : ℕ) → Buffer T A → (k : ℕ) → ℕ
   room size b k = if nat_le k (gap b) then b.capacity else wanted size b (len b + k)
 
-  -- b with room for k more elements
+  -- b with room for k more elements: where they do not fit, each element was moved once
   abbrev pub with_room : (size : ℕ) → Buffer T A → (k : ℕ) → Buffer T A
   with_room size b k =
       record b {
@@ -93,26 +93,13 @@ module _ {T A : Type 0} where
         grown = if nat_le k (gap b) then b.grown else b.grown + len b;
       }
 
-  -- how many elements stand behind the gap, where it is opened anew for k more
-  abbrev pub behind : Buffer T A → (k : ℕ) → ℕ
-  behind b k = if nat_le k (gap b) then 0 else length b.after
-
-  -- b after the cursor went to the end and back
-  abbrev pub went_back : Buffer T A → Buffer T A
-  went_back b = let n = travel b (length b.after) in wrote (wrote b n) n
-
-  -- b after a reserve of room for k more. Where they do not fit, what is behind the gap is written
-  -- to close it, and again to open it
-  abbrev pub reserved : (size : ℕ) → Buffer T A → (k : ℕ) → Buffer T A
-  reserved size b k = wrote (wrote (with_room size b k) (travel b (behind b k))) (behind b k)
-
   -- b with x put into the first free place
   abbrev pub put : Buffer T A → (x : T) → Buffer T A
   put b x = wrote (with_parts b (b.before ++ x ∷ []) b.after) 1
 
   -- b with x inserted, before which it grows where no place is free
   abbrev pub inserted : (size : ℕ) → Buffer T A → (x : T) → Buffer T A
-  inserted size b x = put (reserved size b 1) x
+  inserted size b x = put (with_room size b 1) x
 
   -- while n elements were put into old, growth moved at most one element for each place that was
   -- added, or two where it is sparing. From a buffer of no places that is at most two moves for

@@ -30,12 +30,11 @@ module _ {T A : Type 0} (size : ℕ) where
     pub room : old.capacity ≤ new.capacity
 
 module _ {T A : Type 0} where
-  -- what these edits took at most: an element more for each insert, what they write themselves, and
-  -- what growth moved, written once more
+  -- what these edits took at most: an element more for each insert, what they write, in how many
+  -- runs, and what growth moved
   pub record Costs (old : Buffer T A) (edits : List (Edit T)) (new : Buffer T A) : Type 0 where
     pub longer : len new ≤ len old + inserts edits
-    pub writes : new.written + old.grown
-        ≤ old.written + new.grown + total written_by edits (page old)
+    pub writes : new.written ≤ old.written + total written_by edits (page old)
     pub runs : new.runs ≤ old.runs + total runs_by edits (page old)
     pub grown : GrowsWithin old.growth old (inserts edits) new
 

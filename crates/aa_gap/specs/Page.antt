@@ -28,17 +28,16 @@ module _ {T : Type 0} where
   all_edited [] p = p
   all_edited (e ∷ es) p = all_edited es (edited e p)
 
-  -- how many elements an edit writes, but for what growth moves: those that the cursor passes, and
-  -- one that is put
+  -- how many elements an edit writes at most: those that the cursor passes, and one that is put
   abbrev pub written_by : Edit T → Page T → ℕ
   written_by (Insert x) p = 1
   written_by DeleteBack p = 0
   written_by DeleteForward p = 0
   written_by (MoveTo q) p = distance p.position (min q (length p.text))
 
-  -- and in how many runs at most: an insert may have to move what is behind the cursor
+  -- and in how many runs at most
   abbrev pub runs_by : Edit T → Page T → ℕ
-  runs_by (Insert x) p = 2
+  runs_by (Insert x) p = 1
   runs_by DeleteBack p = 0
   runs_by DeleteForward p = 0
   runs_by (MoveTo q) p = run_count (distance p.position (min q (length p.text)))

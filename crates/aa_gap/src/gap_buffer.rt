@@ -5,7 +5,7 @@ ghost use Rattle.std.specs.Iterator.{IsFinite};
 ghost use Rattle.aa_raw.specs.Growth.{sized, usize_max};
 ghost use Rattle.aa_raw.specs.Places.{IsCapacity};
 ghost use Rattle.aa_raw.specs.Refusals.{RefusesBlock};
-ghost use Rattle.aa_gap.specs.Buffer.{Buffer, empty, text, cursor, len, gap, travel, with_parts, wrote, moved_to, with_room, went_back, reserved, put, inserted, HasRoom, LacksRoom};
+ghost use Rattle.aa_gap.specs.Buffer.{Buffer, empty, text, cursor, len, gap, travel, with_parts, wrote, moved_to, with_room, put, inserted, HasRoom, LacksRoom};
 ghost use Rattle.aa_gap.specs.Taken.{IsPartedIn};
 ghost use Rattle.aa_gap.specs.Inner.{view_of, IsParted};
 
@@ -220,19 +220,19 @@ impl<T, A: Allocator> GapBuffer<T, A> {
         Ok(())
     }
 
-    /// Makes room for `additional` more elements. Where they fit it does nothing; else it closes
-    /// the gap, grows with room to spare, and opens the gap again, where it was refused too. It is
-    /// refused as `insert` is. Elements without size need no memory: all that `usize` counts fit.
+    /// Makes room for `additional` more elements. Where they fit it does nothing. Else it takes a
+    /// new block with room to spare, and moves each element there once. A refusal, as that of
+    /// `insert`, changes nothing. Elements without size need no memory: all that `usize` counts
+    /// fit.
     #[inline(always)]
     pub fn reserve(&mut self, additional: usize) -> Result<(), TryReserveError>
         ensures fits { HasRoom self.old additional → IsOk result }
         ensures sizeless { type_size T.row ≡ 0 → len self.old + additional ≤ usize_max
             → HasRoom self.old additional }
         ensures room { OnOk result (HasRoom self.new additional) }
-        ensures made { OnOk result (self.new ≡ reserved (type_size T.row) self.old additional) }
+        ensures made { OnOk result (self.new ≡ with_room (type_size T.row) self.old additional) }
         ensures refused { IfErr result (LacksRoom (type_size T.row) self.old additional) }
-        ensures leaves { OnErr result (self.new ≡ went_back self.old) }
-        ensures full { gap self.old ≡ 0 → OnErr result (self.new ≡ self.old) }
+        ensures unchanged { OnErr result (self.new ≡ self.old) }
     {
         // It tells the prover how many places elements without size have.
         let _places = self.capacity();
@@ -245,32 +245,17 @@ impl<T, A: Allocator> GapBuffer<T, A> {
     // The same where they do not fit.
     #[cold]
     #[inline(never)]
+    #[tactic(auto, using(crate::proofs::Grown::at_both_ends))]
     fn make_room(&mut self, additional: usize) -> Result<(), TryReserveError>
         requires { gap self.old < additional }
-        ensures made { OnOk result (self.new ≡ reserved (type_size T.row) self.old additional) }
-        ensures refused { IfErr result (LacksRoom (type_size T.row) self.old additional) }
-        ensures leaves { OnErr result (self.new ≡ went_back self.old) }
-    {
-        let cursor = self.cursor();
-        let len = self.len();
-        self.move_to(len);
-        let made = self.grow(additional);
-        self.move_to(cursor);
-        made
-    }
-
-    // The same where the cursor is at the end.
-    #[tactic(auto, using(aa_raw::proofs::Calls::with_room))]
-    fn grow(&mut self, additional: usize) -> Result<(), TryReserveError>
-        requires at_end { self.old.after ≡ [] }
-        requires needed { gap self.old < additional }
         ensures made { OnOk result (self.new ≡ with_room (type_size T.row) self.old additional) }
         ensures refused { IfErr result (LacksRoom (type_size T.row) self.old additional) }
         ensures unchanged { OnErr result (self.new ≡ self.old) }
     {
-        let len = self.start;
-        self.block.try_reserve(len, additional)?;
-        self.end = self.block.capacity();
+        let behind = self.block.capacity() - self.end;
+        self.block
+            .try_reserve_parted((0, self.start), (self.end, behind), additional)?;
+        self.end = self.block.capacity() - behind;
         Ok(())
     }
 

@@ -28,9 +28,12 @@ fn a_refused_insert_hands_its_value_back(rt: HostRuntime) -> Result<(), Fail> {
 fn a_refused_reserve_leaves_the_text(rt: HostRuntime) -> Result<(), Fail> {
     let heap = Faulty::new(rt.alloc());
     let mut text = nine_put(&heap)?;
+    assert!(rt; text.delete_back() == Some(9));
     heap.refuse(0, 1);
-    assert!(rt; text.reserve(3).is_err());
-    assert!(rt; reads(&text, &[1, 9], &[2, 3], 4));
+    assert!(rt; text.reserve(2).is_err());
+    assert!(rt; reads(&text, &[1], &[2, 3], 4));
+    text.reserve(2)?;
+    assert!(rt; reads(&text, &[1], &[2, 3], 8));
     Ok(())
 }
 

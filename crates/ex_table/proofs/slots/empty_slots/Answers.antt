@@ -1,6 +1,0 @@
-use Rattle.std.proofs.Common.{rules}
-use Rattle.allocator_api2.proofs.Callers.{filled_new}
-use Rattle.ex_table.proofs.slots.empty_slots.Goals as goal
-
-pub returns : goal.returns
-returns g c = filled_new _ _ _ _ _ _ _ c.in_ok-made.ensures.made.items c.in_ok-resize_with.ensures.filled c.in_ok-resize_with.ensures.cut (λ f y h s. search rules)
