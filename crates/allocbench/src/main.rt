@@ -6,8 +6,10 @@ use allocator_api2::boxed::Box;
 use allocator_api2::vec::Vec;
 use ex_allocators::budget::Budget;
 use ex_allocators::counting::Counting;
+use ex_allocators::pool::Pool;
 use std::alloc::{Allocator, Global};
 use std::io::{Error, ErrorKind};
+use std::mem::size_of;
 use std::rt::Clock;
 use std::time::Instant;
 
@@ -20,6 +22,8 @@ enum Case {
     Boxes,
     /// Boxes are kept in one vector, and then all dropped.
     Kept,
+    /// Boxes are linked into a list, and then taken out of it.
+    List,
 }
 
 impl Case {
@@ -28,6 +32,15 @@ impl Case {
             Case::Pushes => "pushes",
             Case::Boxes => "boxes",
             Case::Kept => "kept",
+            Case::List => "list",
+        }
+    }
+
+    // How many bytes a block has of which the case wants many.
+    fn size(self) -> usize {
+        match self {
+            Case::Pushes | Case::Boxes | Case::Kept => size_of::<u64>(),
+            Case::List => size_of::<Node<&Pool<Global>>>(),
         }
     }
 
@@ -37,6 +50,7 @@ impl Case {
             Case::Pushes => pushes(heap, count),
             Case::Boxes => boxes(heap, count),
             Case::Kept => kept(heap, count),
+            Case::List => list(heap, count),
         }
     }
 }
@@ -62,8 +76,8 @@ fn sum(list: &[u32]) -> u64 {
 fn boxes<A: Allocator + Copy>(heap: A, count: u32) -> Option<u64> {
     let mut sum = 0u64;
     for number in 0..count {
-        match Box::new_in(number, heap) {
-            Ok(it) => sum = sum.wrapping_add(u64::from(*it)),
+        match Box::new_in(u64::from(number), heap) {
+            Ok(it) => sum = sum.wrapping_add(*it),
             Err(_) => return None,
         }
     }
@@ -71,9 +85,9 @@ fn boxes<A: Allocator + Copy>(heap: A, count: u32) -> Option<u64> {
 }
 
 fn kept<A: Allocator + Copy>(heap: A, count: u32) -> Option<u64> {
-    let mut list: Vec<Box<u32, A>, A> = Vec::new_in(heap);
+    let mut list: Vec<Box<u64, A>, A> = Vec::new_in(heap);
     for number in 0..count {
-        match Box::new_in(number, heap) {
+        match Box::new_in(u64::from(number), heap) {
             Ok(it) => {
                 if list.push(it).is_err() {
                     return None;
@@ -84,7 +98,54 @@ fn kept<A: Allocator + Copy>(heap: A, count: u32) -> Option<u64> {
     }
     let mut sum = 0u64;
     for it in list.iter() {
-        sum = sum.wrapping_add(u64::from(**it));
+        sum = sum.wrapping_add(**it);
+    }
+    Some(sum)
+}
+
+/// A number, and the rest of the list.
+struct Node<A: Allocator> {
+    next: Option<Box<Node<A>, A>>,
+    number: u64,
+}
+
+// A loop, so that a long list needs no deep stack.
+impl<A: Allocator> Drop for Node<A> {
+    fn drop(mut self) {
+        loop {
+            let Node { next, number: _ } = self;
+            match next {
+                None => return,
+                Some(node) => self = Box::into_inner(node),
+            }
+        }
+    }
+}
+
+impl<A: Allocator> Node<A> {
+    fn into_parts(self) -> (u64, Option<Box<Node<A>, A>>) {
+        let Node { next, number } = self;
+        (number, next)
+    }
+}
+
+fn list<A: Allocator + Copy>(heap: A, count: u32) -> Option<u64> {
+    let mut head: Option<Box<Node<A>, A>> = None;
+    for number in 0..count {
+        let number = u64::from(number);
+        match Box::new_in(Node { next: head, number }, heap) {
+            Ok(node) => head = Some(node),
+            Err(_) => return None,
+        }
+    }
+    let mut sum = 0u64;
+    for _ in 0..count {
+        let Some(node) = head else {
+            return None;
+        };
+        let (number, next) = Box::into_inner(node).into_parts();
+        sum = sum.wrapping_add(number);
+        head = next;
     }
     Some(sum)
 }
@@ -120,12 +181,15 @@ fn line<R: Print + Clock>(
 ) -> Result<(), Error> {
     let budget = Budget::new(alloc, usize::MAX);
     let counting = Counting::new(alloc);
+    let pool = Pool::new(alloc, case.size());
     let name = case.name();
     if repeat == 0 {
         let global = case.run(alloc, count);
         let same = global.is_some()
             && case.run(&budget, count) == global
-            && case.run(&counting, count) == global;
+            && case.run(&counting, count) == global
+            && case.run(&pool, count) == global
+            && case.run(&pool, count) == global;
         let requests = counting.counts().requests;
         println!(rt; "{name} {count}: the same: {same}, {requests} requests")?;
         return Ok(());
@@ -133,8 +197,9 @@ fn line<R: Print + Clock>(
     let global = fastest(rt, alloc, case, count, repeat)?;
     let first = fastest(rt, &budget, case, count, repeat)?;
     let second = fastest(rt, &counting, case, count, repeat)?;
+    let third = fastest(rt, &pool, case, count, repeat)?;
     println!(rt;
-        "{name} {count}: Global {global}, Budget {first}, Counting {second} tenths of a nanosecond"
+        "{name} {count}: Global {global}, Budget {first}, Counting {second}, Pool {third} tenths of a nanosecond"
     )?;
     Ok(())
 }
@@ -153,7 +218,7 @@ fn main(rt: HostRuntime) -> Result<(), Error> {
         let Some((count, repeat)) = numbers(text.as_str()) else {
             return Err(Error::from(ErrorKind::InvalidInput));
         };
-        for case in [Case::Pushes, Case::Boxes, Case::Kept] {
+        for case in [Case::Pushes, Case::Boxes, Case::Kept, Case::List] {
             line(&rt, rt.alloc(), case, count, repeat)?;
         }
     }

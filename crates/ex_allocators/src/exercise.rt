@@ -151,12 +151,14 @@ fn exercise_one<A: Allocator>(
     })
 }
 
-// All that lives in the allocator.
+// All that lives in the allocator, of the alignments 1, 2, 4, 8 and 16.
 #[derive(Drop)]
 struct Zoo<'a, A: Allocator> {
     none: Set<(), &'a Faulty<A>>,
     bytes: Set<u8, &'a Faulty<A>>,
+    shorts: Set<u16, &'a Faulty<A>>,
     numbers: Set<u32, &'a Faulty<A>>,
+    sixteens: Set<u128, &'a Faulty<A>>,
     wide: Set<Wide, &'a Faulty<A>>,
     large: Set<Large, &'a Faulty<A>>,
     text: Text<&'a Faulty<A>>,
@@ -168,9 +170,11 @@ impl<'a, A: Allocator> Zoo<'a, A> {
         Zoo {
             none: Set::new(heap, 1),
             bytes: Set::new(heap, 2),
-            numbers: Set::new(heap, 3),
-            wide: Set::new(heap, 4),
-            large: Set::new(heap, 5),
+            shorts: Set::new(heap, 3),
+            numbers: Set::new(heap, 4),
+            sixteens: Set::new(heap, 5),
+            wide: Set::new(heap, 6),
+            large: Set::new(heap, 7),
             text: Text::new(heap),
             store: Store::new(books),
         }
@@ -178,13 +182,15 @@ impl<'a, A: Allocator> Zoo<'a, A> {
 
     // A step of one of them.
     fn step(&mut self, heap: &'a Faulty<A>, random: &mut Random) -> Result<(), Spot> {
-        match random.up_to(6) {
+        match random.up_to(8) {
             0 => self.none.step(random),
             1 => self.bytes.step(random),
-            2 => self.numbers.step(random),
-            3 => self.wide.step(random),
-            4 => self.large.step(random),
-            5 => self.text.step(random),
+            2 => self.shorts.step(random),
+            3 => self.numbers.step(random),
+            4 => self.sixteens.step(random),
+            5 => self.wide.step(random),
+            6 => self.large.step(random),
+            7 => self.text.step(random),
             _ => self.store.step(heap, random),
         }
     }
@@ -193,7 +199,9 @@ impl<'a, A: Allocator> Zoo<'a, A> {
     fn look(&self) -> Result<(), Spot> {
         self.none.look()?;
         self.bytes.look()?;
+        self.shorts.look()?;
         self.numbers.look()?;
+        self.sixteens.look()?;
         self.wide.look()?;
         self.large.look()?;
         self.text.look()?;

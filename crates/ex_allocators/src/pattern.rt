@@ -53,6 +53,30 @@ impl Pattern for u8 {
     }
 }
 
+impl Pattern for u16 {
+    const BYTES: usize = 2;
+
+    fn marked(mark: u64) -> Self {
+        (mark % 65_536) as u16
+    }
+
+    fn has(&self, mark: u64) -> bool {
+        u64::from(*self) == mark % 65_536
+    }
+}
+
+impl Pattern for u128 {
+    const BYTES: usize = 16;
+
+    fn marked(mark: u64) -> Self {
+        u128::from(mark) << 64 | u128::from(mark.wrapping_add(1))
+    }
+
+    fn has(&self, mark: u64) -> bool {
+        *self == Self::marked(mark)
+    }
+}
+
 impl Pattern for u32 {
     const BYTES: usize = 4;
 
