@@ -1,5 +1,5 @@
 -- Lanes of groups: what is found in a group, and what writes to one leave.
-use Rattle.std.proofs.Common.{◌≡◌, ◌≢◌, ℕ, zero, suc, ◌+◌, ◌-◌, ◌*◌, ◌<◌, ◌≤◌, Bool, true, false, cond, List, [], ◌∷◌, length, map, get_or, replicate, refl, sym, ◌∙◌, ap, subst, arith, inl, inr, get_or-set_same, get_or-set_other}
+use Rattle.std.proofs.Common.{◌≡◌, ◌≢◌, ℕ, zero, suc, ◌+◌, ◌-◌, ◌*◌, ◌<◌, ◌≤◌, Bool, true, false, cond, List, [], ◌∷◌, length, take, get_or, replicate, refl, sym, ◌∙◌, ap, subst, arith, inl, inr, get_or-set_same, get_or-set_other}
 use Rattle.std.specs.Prelude.{count_by, nat_lt, ◌==◌}
 use Rattle.std.specs.List.{sum_by, prefix_len}
 use Rattle.std.proofs.Math.ListN.{set}
@@ -7,17 +7,44 @@ use Rattle.std.proofs.lemmas.List.{length-set}
 use Rattle.std.proofs.lemmas.List.Sums.{sum_by-cons, sum_by-set}
 use Rattle.std.proofs.lemmas.Bool.{cases_eq, cases_lt, cases_order, cases_Bool}
 use Rattle.std.specs.Prelude.{Option, Some, None, IfNone, IfSome, is_some}
-use Rattle.ex_table.proofs.Counts.{count-none}
+use Rattle.std.proofs.lemmas.List.{get_or-take, length-take-le}
+use Rattle.std.proofs.Math.Seq.{take-set-lt}
+use Rattle.ex_table.proofs.Counts.{count-none, count-some, count-set}
 use Rattle.ex_table.specs.declared.groups.Group.{Group}
 use Rattle.ex_table.specs.Groups.{tag_at, place_at, free, free_lanes, empty_group, group_at, tag_of, home_of, after, group_of, Writes, IsAt}
 
 is-zero : (t : ℕ) → t ≢ 0 → (t == 0) ≡ false
 is-zero t h = grind (arith, h)
 
--- where no lane has the tag of a free one, none is free
-pub none-free : (g : Group) → length g.tags ≡ 16 → (o : Option ℕ) → IfNone o ((l : ℕ) → l < 16 → tag_at g l ≢ 0) → IfNone o (free g ≡ 0)
-none-free g long (Some l) h = tt
-none-free g long None h = count-none (λ t. t == 0) 0 g.tags (λ l b. is-zero (tag_at g l) (h l (omega (arith, b, long))))
+module _ (g : Group) (long : length g.tags ≡ 16) where
+  lanes : length (take 12 g.tags) ≡ 12
+  lanes = length-take-le 12 g.tags (omega (arith, long))
+
+  -- where no lane has the tag of a free one, none is free
+  pub none-free : (o : Option ℕ) → IfNone o ((l : ℕ) → l < 12 → tag_at g l ≢ 0) → IfNone o (free g ≡ 0)
+  none-free (Some l) h = tt
+  none-free None h = count-none (λ t. t == 0) 0 (take 12 g.tags) (λ l b.
+      let l12 : l < 12 = omega (arith, b, lanes) in
+      ap (λ t. t == 0) (get_or-take 12 g.tags l 0 l12) ∙ is-zero (tag_at g l) (h l l12))
+
+  -- where a lane has it, one is
+  pub one-free : (o : Option ℕ) → IfSome o (λ l. (l < 12) × (tag_at g l ≡ 0)) → IfSome o (λ l. 0 < free g)
+  one-free None h = tt
+  one-free (Some l) h = omega (arith, count-some (λ t. t == 0) 0 (take 12 g.tags) l (omega (arith, lanes, h.0)) (ap (λ t. t == 0) (get_or-take 12 g.tags l 0 h.0 ∙ h.1)))
+
+  pub writes : length g.places ≡ 12 → (lane t p : ℕ) → lane < 12 → Writes g lane t p (record { tags = set g.tags lane t; places = set g.places lane p })
+  writes places lane t p l = record {
+    tag = get_or-set_same g.tags lane t 0 (omega (arith, long, l));
+    place = get_or-set_same g.places lane p 0 (omega (arith, places, l));
+    tags = λ j ne. get_or-set_other g.tags lane j t 0 ne;
+    places = λ j ne. get_or-set_other g.places lane j p 0 ne;
+    free = omega (
+      arith,
+      ap (count_by (λ x. x == 0)) (take-set-lt 12 g.tags lane t l),
+      count-set (λ x. x == 0) 0 (take 12 g.tags) lane t (omega (arith, lanes, l)),
+      ap {B = ℕ} (λ x. cond (x == 0) 1 0) (get_or-take 12 g.tags lane 0 l),
+    );
+  }
 
 pub some-free : (o : Option ℕ) (n : ℕ) → is_some o ≡ true → IfSome o (λ l. 0 < n) → 0 < n
 some-free (Some l) n e h = h
@@ -76,7 +103,7 @@ module _ (gs : List Group) (at : ℕ) (new : Group) (within : at < length gs) wh
       }
 
   -- the slot is named by a lane of the first group on the way with a free one
-  pub placed : (hash i step lane : ℕ) → step < length gs → lane < 16 → Writes (group_at gs at) lane (tag_of hash) i new
+  pub placed : (hash i step lane : ℕ) → step < length gs → lane < 12 → Writes (group_at gs at) lane (tag_of hash) i new
       → after (length gs) (home_of (length gs) hash) step ≡ at → 0 < free (group_at gs at)
       → ((s : ℕ) → s < step → free (group_of gs hash s) ≡ 0) → IsAt (set gs at new) hash i
   placed hash i step lane l in_group w e some full =
@@ -95,7 +122,7 @@ module _ (gs : List Group) (at : ℕ) (new : Group) (within : at < length gs) wh
         ];
       }
 
-goes : (n home s : ℕ) → home + s < n → after n home s ≡ home + s
+pub goes : (n home s : ℕ) → home + s < n → after n home s ≡ home + s
 goes n home s l = ap (λ b. cond b (home + s) (home + s - n)) (let e : nat_lt (home + s) n ≡ true = grind (arith, l) in e)
 
 wraps : (n home s : ℕ) → n ≤ home + s → after n home s ≡ home + s - n

@@ -31,16 +31,26 @@ module _ (ts : List ℕ) (t : ℕ) (long : length ts ≡ 16) where
   mask : compared ts t ≡ mask_l (map (λ x. eqb x t) ts)
   mask = bitmask_splat w8 eqb ts 16 t long (omega arith)
 
-  pub no_lane : compared ts t ≡ 0 → (l : ℕ) → l < 16 → get_or ts l 0 ≢ t
+  pub no_lane : compared ts t ≡ 0 → (l : ℕ) → l < 12 → get_or ts l 0 ≢ t
   no_lane none l b =
       let all = leading_from_mask_l (λ x. eqb x t) ts (sym mask ∙ none) in
       differs (get_or ts l 0) t (prefix_len_passes (λ x. not (eqb x t)) ts l 0 (omega (arith, all, long, b)))
 
-  pub first_lane : (compared ts t ≡ 0 → ⊥) → (count_trailing_zeros 64 (compared ts t) < 16) × (get_or ts (count_trailing_zeros 64 (compared ts t)) 0 ≡ t)
+  -- the lowest bit is that of the first lane with the tag
+  pub record IsFirst (l : ℕ) : Type 0 where
+    pub tag : get_or ts l 0 ≡ t
+    pub before : (j : ℕ) → j < l → get_or ts j 0 ≢ t
+
+  pub first_lane : (compared ts t ≡ 0 → ⊥) → IsFirst (count_trailing_zeros 64 (compared ts t))
   first_lane some =
       let p : ℕ → Bool = λ x. eqb x t in
       let set : 0 < mask_l (map p ts) = elim (cases_lt 0 (mask_l (map p ts))) [ inl a ↦ a | inr b ↦ absurd (some (mask ∙ omega (arith, b))) ] in
       let at : count_trailing_zeros 64 (compared ts t) ≡ prefix_len (λ x. not (p x)) ts = ap (count_trailing_zeros 64) mask ∙ trailing_mask_l p 64 ts (omega (arith, long)) set in
       let within : prefix_len (λ x. not (p x)) ts < length ts = elim (cases_lt (prefix_len (λ x. not (p x)) ts) (length ts)) [ inl a ↦ a | inr b ↦ absurd (omega (arith, set, none_set p ts b)) ] in
-      let P : ℕ → Type 0 = λ i. (i < 16) × (get_or ts i 0 ≡ t) in
-      subst P (sym at) (omega (arith, within, long), equals (get_or ts (prefix_len (λ x. not (p x)) ts) 0) t (prefix_len_stops (λ x. not (p x)) ts 0 within))
+      subst IsFirst (sym at) (record {
+        tag = equals (get_or ts (prefix_len (λ x. not (p x)) ts) 0) t (prefix_len_stops (λ x. not (p x)) ts 0 within);
+        before = λ j l. differs (get_or ts j 0) t (prefix_len_passes (λ x. not (p x)) ts j 0 l);
+      })
+
+  pub late_lane : (compared ts t ≡ 0 → ⊥) → 12 ≤ count_trailing_zeros 64 (compared ts t) → (l : ℕ) → l < 12 → get_or ts l 0 ≢ t
+  late_lane some late l b = (first_lane some).before l (omega (arith, late, b))

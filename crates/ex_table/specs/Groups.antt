@@ -1,5 +1,5 @@
 -- Groups of lanes, where a hash is looked for, and what writes leave.
-use Rattle.std.specs.Prelude.{◌≡◌, ◌≢◌, ℕ, ◌+◌, ◌-◌, ◌*◌, ◌/◌, ◌%◌, ◌^◌, ◌<◌, max, cond, nat_lt, ◌==◌, List, [], Option, None, Some, length, count_by, replicate, slice_index_or}
+use Rattle.std.specs.Prelude.{◌≡◌, ◌≢◌, ℕ, ◌+◌, ◌-◌, ◌*◌, ◌/◌, ◌%◌, ◌^◌, ◌<◌, max, cond, nat_lt, ◌==◌, List, [], Option, None, Some, length, count_by, take, replicate, slice_index_or}
 use Rattle.std.specs.List.{sum_by}
 use Rattle.allocator_api2.specs.Vector.{Vector}
 use Rattle.ex_table.specs.declared.groups.Group.{Group}
@@ -14,11 +14,11 @@ place_at g l = slice_index_or g.places l 0
 
 -- how many lanes are free
 abbrev pub free : Group → ℕ
-free g = count_by (λ t. t == 0) g.tags
+free g = count_by (λ t. t == 0) (take 12 g.tags)
 
 -- all lanes are free
 abbrev pub empty_group : Group
-empty_group = record { tags = replicate 16 0; places = replicate 16 0 }
+empty_group = record { tags = replicate 16 0; places = replicate 12 0 }
 
 -- how many lanes are free in all groups
 abbrev pub free_lanes : List Group → ℕ
@@ -35,7 +35,7 @@ groups_of (Some v) = v.items
 
 -- the part of a hash that a lane has, and never that of a free lane
 abbrev pub tag_of : ℕ → ℕ
-tag_of hash = max (hash % 256) 2
+tag_of hash = max (hash % 256) 1
 
 -- the first group of a hash, of n: it is a part of 2 ^ 64, and the group is at that part of n
 abbrev pub home_of : (n hash : ℕ) → ℕ
@@ -62,7 +62,7 @@ pub record IsAt (gs : List Group) (hash i : ℕ) : Type 0 where
   pub steps : ℕ
   pub lane : ℕ
   pub within : steps < length gs
-  pub in_group : lane < 16
+  pub in_group : lane < 12
   pub tag : tag_at (group_of gs hash steps) lane ≡ tag_of hash
   pub place : place_at (group_of gs hash steps) lane ≡ i
   pub passes : (s : ℕ) → s < steps → free (group_of gs hash s) ≡ 0

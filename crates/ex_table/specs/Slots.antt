@@ -73,7 +73,7 @@ module _ {K V : Type 0} where
       pub within : s.slot < length ss
       pub here : is_key eq k (slot_at ss s.slot) ≡ true
       pub group : s.group < length gs
-      pub lane : s.lane < 16
+      pub lane : s.lane < 12
       pub named : place_at (group_at gs s.group) s.lane ≡ s.slot
 
     -- a new key is put there

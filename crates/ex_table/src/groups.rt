@@ -1,5 +1,5 @@
 //! Groups of lanes: where a hash is looked for. A lane has a part of a hash, and the slot of the
-//! key that has it; sixteen lanes are asked at once.
+//! key that has it; all lanes of a group are asked at once.
 ghost use Rattle.std.specs.Prelude.{◌≡◌, ◌≢◌, ℕ, ◌+◌, ◌*◌, ◌<◌, ◌≤◌, Bool, true, false, length, replicate, IfOk, IfSome, IfNone, ◌==◌};
 ghost use Rattle.ex_table.specs.Groups.{tag_at, place_at, free, free_lanes, empty_group, tag_of, home_of, after, group_at, groups_of, Writes, IsAt};
 
@@ -9,9 +9,9 @@ use std::alloc::Allocator;
 use std::simd::prelude::*;
 
 /// How many lanes a group has.
-pub const LANES: usize = 16;
+pub const LANES: usize = 12;
 
-/// For how many keys there is room with each group: half the lanes, so that hardly a group is full.
+/// For how many keys there is room with each group: two of three lanes, so that few groups are full.
 pub const KEYS_OF_GROUP: usize = 8;
 
 // No key was ever in the lane, or none since it could be free again.
@@ -20,11 +20,12 @@ const FREE: u8 = 0;
 // The lane's key is gone. A look-up goes on.
 const GONE: u8 = 1;
 
-/// Sixteen lanes, each with a tag and the number of a slot.
+/// Twelve lanes, each with a tag and the number of a slot. The last four tags are of no lane: with
+/// them the tags are as many as are compared at once, and a group has 64 bytes.
 #[derive(Clone, Copy)]
 pub struct Group {
     tags: [u8; 16],
-    places: [u32; 16],
+    places: [u32; 12],
 }
 
 impl Group {
@@ -34,28 +35,28 @@ impl Group {
     {
         Group {
             tags: [FREE; 16],
-            places: [0; 16],
+            places: [0; 12],
         }
     }
 
     /// The first lane with this tag.
     #[inline(always)]
     pub fn lane_of(&self, tag: u8) -> Option<usize>
-        ensures some { IfSome result (λ l. (l < 16) × (tag_at self.now l ≡ tag)) }
-        ensures none { IfNone result ((l : ℕ) → l < 16 → tag_at self.now l ≢ tag) }
+        ensures some { IfSome result (λ l. (l < 12) × (tag_at self.now l ≡ tag)) }
+        ensures none { IfNone result ((l : ℕ) → l < 12 → tag_at self.now l ≢ tag) }
     {
         let same = u8x16::from_array(self.tags).simd_eq(u8x16::splat(tag)).to_bitmask();
         if same == 0 {
-            None
-        } else {
-            Some(same.trailing_zeros() as usize)
+            return None;
         }
+        let lane = same.trailing_zeros() as usize;
+        if lane < LANES { Some(lane) } else { None }
     }
 
     /// The first free lane.
     #[inline(always)]
     pub fn free_lane(&self) -> Option<usize>
-        ensures some { IfSome result (λ l. (l < 16) × (tag_at self.now l ≡ 0)) }
+        ensures some { IfSome result (λ l. (l < 12) × (tag_at self.now l ≡ 0)) }
         ensures any { IfSome result (λ _. 0 < free self.now) }
         ensures none { IfNone result (free self.now ≡ 0) }
     {
@@ -65,7 +66,7 @@ impl Group {
     /// Whether the lane has this tag.
     #[inline(always)]
     pub fn has_tag(&self, lane: usize, tag: u8) -> bool
-        requires { lane < 16 }
+        requires { lane < 12 }
         ensures { result ≡ (tag_at self.now lane == tag) }
     {
         self.tags[lane] == tag
@@ -74,7 +75,7 @@ impl Group {
     /// The slot that the lane names.
     #[inline(always)]
     pub fn place(&self, lane: usize) -> usize
-        requires { lane < 16 }
+        requires { lane < 12 }
         ensures { result ≡ place_at self.now lane }
     {
         self.places[lane] as usize
@@ -83,7 +84,7 @@ impl Group {
     /// Writes a lane.
     #[inline(always)]
     pub fn write(&mut self, lane: usize, tag: u8, place: u32)
-        requires { lane < 16 }
+        requires { lane < 12 }
         ensures { Writes self.old lane tag place self.new }
     {
         self.tags[lane] = tag;
@@ -96,7 +97,7 @@ impl Group {
 pub fn tag(hash: u64) -> u8
     ensures { result ≡ tag_of hash }
 {
-    ((hash & 255) as u8).max(2)
+    ((hash & 255) as u8).max(1)
 }
 
 /// The group at which a hash is looked for first.
@@ -180,7 +181,7 @@ pub fn put(groups: &mut [Group], hash: u64, place: u32)
 #[inline(always)]
 fn release(groups: &mut [Group], at: usize, lane: usize)
     requires at { at < length groups.old }
-    requires lane { lane < 16 }
+    requires lane { lane < 12 }
     ensures len { length groups.new ≡ length groups.old }
     ensures free { free_lanes groups.old ≤ free_lanes groups.new }
     ensures others { (h i : ℕ) → i ≢ place_at (group_at groups.old at) lane
@@ -196,7 +197,7 @@ fn release(groups: &mut [Group], at: usize, lane: usize)
 #[inline(always)]
 pub fn release_in<A: Allocator>(groups: &mut Option<Vec<Group, A>>, at: usize, lane: usize)
     requires at { at < length (groups_of groups.old) }
-    requires lane { lane < 16 }
+    requires lane { lane < 12 }
     ensures len { length (groups_of groups.new) ≡ length (groups_of groups.old) }
     ensures free { free_lanes (groups_of groups.old) ≤ free_lanes (groups_of groups.new) }
     ensures others { (h i : ℕ) → i ≢ place_at (group_at (groups_of groups.old) at) lane

@@ -105,9 +105,9 @@ fn has_key_at<K: Eq, V>(slots: &[Slot<K, V>], at: usize, key: &K) -> bool
 #[cold]
 #[inline(never)]
 fn lane_by_lane<K: Eq, V>(group: &Group, tag: u8, slots: &[Slot<K, V>], key: &K) -> Option<usize>
-    ensures some { IfSome result (λ l. (l < 16)
+    ensures some { IfSome result (λ l. (l < 12)
         × (is_key K.eq key.now (slot_at slots.now (place_at group.now l)) ≡ true)) }
-    ensures none { IfNone result (Lacks K.eq slots.now group.now tag 16 key.now) }
+    ensures none { IfNone result (Lacks K.eq slots.now group.now tag 12 key.now) }
 {
     'each: for lane in 0..LANES {
         if group.has_tag(lane, tag) && has_key_at(slots, group.place(lane), key) {
@@ -121,9 +121,9 @@ fn lane_by_lane<K: Eq, V>(group: &Group, tag: u8, slots: &[Slot<K, V>], key: &K)
 // tag.
 #[inline(always)]
 fn lane_with<K: Eq, V>(group: &Group, tag: u8, slots: &[Slot<K, V>], key: &K) -> Option<usize>
-    ensures some { IfSome result (λ l. (l < 16)
+    ensures some { IfSome result (λ l. (l < 12)
         × (is_key K.eq key.now (slot_at slots.now (place_at group.now l)) ≡ true)) }
-    ensures none { IfNone result (Lacks K.eq slots.now group.now tag 16 key.now) }
+    ensures none { IfNone result (Lacks K.eq slots.now group.now tag 12 key.now) }
 {
     match group.lane_of(tag) {
         Some(lane) => {
@@ -136,9 +136,10 @@ fn lane_with<K: Eq, V>(group: &Group, tag: u8, slots: &[Slot<K, V>], key: &K) ->
     }
 }
 
-/// Where a key is.
-#[inline(always)]
-pub fn find<K: Eq + Hash, V, S: BuildHasher>(
+// Where a key is, group by group.
+#[cold]
+#[inline(never)]
+fn group_by_group<K: Eq + Hash, V, S: BuildHasher>(
     groups: &[Group],
     slots: &[Slot<K, V>],
     builder: &S,
@@ -171,4 +172,44 @@ pub fn find<K: Eq + Hash, V, S: BuildHasher>(
         }
     }
     None
+}
+
+/// Where a key is. Mostly the first group on its way tells.
+#[inline(always)]
+pub fn find<K: Eq + Hash, V, S: BuildHasher>(
+    groups: &[Group],
+    slots: &[Slot<K, V>],
+    builder: &S,
+    key: &K,
+) -> Option<Spot>
+    requires { Indexes K.eq (hashes S.BuildHasher S.Hasher.Hasher K.hash_input builder.now)
+        groups.now slots.now }
+    ensures found { IfSome result (IsSpot K.eq groups.now slots.now key.now) }
+    ensures absent { IfNone result (count_by (is_key K.eq key.now) slots.now ≡ 0) }
+{
+    let count = groups.len();
+    if count == 0 {
+        return None;
+    }
+    let hash = hash_of(builder, key);
+    let at = home(hash, count);
+    let group = &groups[at];
+    match group.lane_of(tag(hash)) {
+        Some(lane) => {
+            let slot = group.place(lane);
+            if has_key_at(slots, slot, key) {
+                return Some(Spot {
+                    group: at,
+                    lane,
+                    slot,
+                });
+            }
+        }
+        None => {
+            if group.free_lane().is_some() {
+                return None;
+            }
+        }
+    }
+    group_by_group(groups, slots, builder, key)
 }
