@@ -8,8 +8,8 @@ use Rattle.std.specs.Cmp.{IsEquivalence}
 use Rattle.std.specs.Map.{set_value}
 use Rattle.ex_table.specs.Contents.{value, keys_like}
 use Rattle.ex_table.specs.declared.slots.Slot.{Slot}
-use Rattle.ex_table.specs.declared.slots.Slot.TheVariants.{Empty, Gone, Held}
-use Rattle.ex_table.specs.Slots.{is_key, is_empty, is_held, value_of, with_value, slot_at, entries_of, found}
+use Rattle.ex_table.specs.declared.slots.Slot.TheVariants.{Gone, Held}
+use Rattle.ex_table.specs.Slots.{is_key, is_held, value_of, with_value, slot_at, entries_of, found}
 
 abbrev pub bit : Bool → ℕ
 bit b = cond b 1 0
@@ -39,19 +39,16 @@ module _ {X : Type 0} (p : X → Bool) where
 module _ {K V : Type 0} (eq : K → K → Bool) where
   pub found-entries : (ss : List (Slot K V)) (k : K) → value eq (entries_of ss) k ≡ found eq ss k
   found-entries [] k = refl
-  found-entries (Empty ∷ ss) k = found-entries ss k
   found-entries (Gone ∷ ss) k = found-entries ss k
   found-entries (Held q v ∷ ss) k = ap (cond (eq k q) (Some v)) (found-entries ss k)
 
   pub keys-entries : (ss : List (Slot K V)) (k : K) → keys_like eq k (entries_of ss) ≡ count_by (is_key eq k) ss
   keys-entries [] k = refl
-  keys-entries (Empty ∷ ss) k = omega (arith, keys-entries ss k, count-cons (is_key eq k) Empty ss)
   keys-entries (Gone ∷ ss) k = omega (arith, keys-entries ss k, count-cons (is_key eq k) Gone ss)
   keys-entries (Held q v ∷ ss) k = omega (arith, keys-entries ss k, count-cons (is_key eq k) (Held q v) ss, count-cons (λ (e : K × V). eq k e.0) (q, v) (entries_of ss))
 
   pub length-entries : (ss : List (Slot K V)) → length (entries_of ss) ≡ count_by is_held ss
   length-entries [] = refl
-  length-entries (Empty ∷ ss) = omega (arith, length-entries ss, count-cons is_held Empty ss)
   length-entries (Gone ∷ ss) = omega (arith, length-entries ss, count-cons is_held Gone ss)
   length-entries (Held q v ∷ ss) = omega (arith, length-entries ss, count-cons is_held (Held q v) ss)
 
@@ -69,7 +66,7 @@ module _ {K V : Type 0} (eq : K → K → Bool) where
   found-at (s ∷ ss) k (suc i) h e c =
       let lt : i < length ss = omega arith in
       elim (is_key eq k s) as (λ b. cond b 1 0 + count_by (is_key eq k) ss ≤ 1 → cond b (value_of s) (found eq ss k) ≡ value_of (slot_at ss i)) [
-        | true ↦ λ g. absurd (omega (arith, g, count-some (is_key eq k) Empty ss i lt e))
+        | true ↦ λ g. absurd (omega (arith, g, count-some (is_key eq k) Gone ss i lt e))
         | false ↦ λ g. found-at ss k i lt e (omega (arith, g))
       ] (omega (arith, c, count-cons (is_key eq k) s ss))
 
@@ -82,59 +79,51 @@ module _ {K V : Type 0} (eq : K → K → Bool) where
   found-append [] ys zs k e = e
   found-append (s ∷ xs) ys zs k e = ap (cond (is_key eq k s) (value_of s)) (found-append xs ys zs k e)
 
-  -- an empty slot has no key and no value
-  pub empty-key : (s : Slot K V) (k : K) → is_empty s ≡ true → is_key eq k s ≡ false
-  empty-key Empty k e = refl
-  empty-key Gone k e = refl
-  empty-key (Held q v) k e = cc
+  -- a key that is in none of the slots before
+  pub found-past : (xs ys : List (Slot K V)) (k : K) → count_by (is_key eq k) xs ≡ 0 → found eq (xs ++ ys) k ≡ found eq ys k
+  found-past [] ys k e = refl
+  found-past (s ∷ xs) ys k e =
+      elim (is_key eq k s) as (λ b. cond b 1 0 + count_by (is_key eq k) xs ≡ 0 → cond b (value_of s) (found eq (xs ++ ys) k) ≡ found eq ys k) [
+        | true ↦ λ h. absurd (omega (arith, h))
+        | false ↦ λ h. found-past xs ys k (omega (arith, h))
+      ] (sym (count-cons (is_key eq k) s xs) ∙ e)
 
-  pub empty-held : (s : Slot K V) → is_empty s ≡ true → is_held s ≡ false
-  empty-held Empty e = refl
-  empty-held Gone e = refl
-  empty-held (Held q v) e = cc
-
-  pub key-held : (s : Slot K V) (k : K) → is_key eq k s ≡ true → (is_held s ≡ true) × (is_empty s ≡ false)
-  key-held Empty k e = absurd (let bad : false ≡ true = e in cc)
+  pub key-held : (s : Slot K V) (k : K) → is_key eq k s ≡ true → is_held s ≡ true
   key-held Gone k e = absurd (let bad : false ≡ true = e in cc)
-  key-held (Held q v) k e = (refl, refl)
+  key-held (Held q v) k e = refl
 
   -- the slot of a key with another value still has it
   pub record Rewritten (k : K) (w : V) (s : Slot K V) : Type 0 where
     pub key : is_key eq k s ≡ true
-    pub full : is_empty s ≡ false
     pub held : is_held s ≡ true
     pub value : value_of s ≡ Some w
 
   pub with_value-held : (s : Slot K V) (k : K) (w : V) → is_key eq k s ≡ true → Rewritten k w (with_value s w)
-  with_value-held Empty k w e = absurd (let bad : false ≡ true = e in cc)
   with_value-held Gone k w e = absurd (let bad : false ≡ true = e in cc)
-  with_value-held (Held q v) k w e = record { key = e; full = refl; held = refl; value = refl }
+  with_value-held (Held q v) k w e = record { key = e; held = refl; value = refl }
 
   -- the entries with another value for a key
   pub entries-written : (ss : List (Slot K V)) (k : K) (i : ℕ) (s : Slot K V) (v : V) → i < length ss → is_key eq k (slot_at ss i) ≡ true → count_by (is_key eq k) ss ≤ 1 → s ≡ slot_at ss i
       → entries_of (set ss i (with_value s v)) ≡ set_value (eq k) (entries_of ss) v
   entries-written [] k i s v h e c is = absurd (omega arith)
-  entries-written (Empty ∷ ss) k zero s v h e c is = absurd (let bad : false ≡ true = e in cc)
   entries-written (Gone ∷ ss) k zero s v h e c is = absurd (let bad : false ≡ true = e in cc)
   entries-written (Held q w ∷ ss) k zero s v h e c is =
       ap (λ t. entries_of (with_value t v ∷ ss)) is ∙ sym (ap (λ b. cond b ((q, v) ∷ entries_of ss) ((q, w) ∷ set_value (eq k) (entries_of ss) v)) e)
-  entries-written (Empty ∷ ss) k (suc i) s v h e c is = entries-written ss k i s v (omega arith) e (omega (arith, c, count-cons (is_key eq k) Empty ss)) is
   entries-written (Gone ∷ ss) k (suc i) s v h e c is = entries-written ss k i s v (omega arith) e (omega (arith, c, count-cons (is_key eq k) Gone ss)) is
   entries-written (Held q w ∷ ss) k (suc i) s v h e c is =
       let lt : i < length ss = omega arith in
       elim (eq k q) as (λ b. cond b 1 0 + count_by (is_key eq k) ss ≤ 1 → (q, w) ∷ entries_of (set ss i (with_value s v)) ≡ cond b ((q, v) ∷ entries_of ss) ((q, w) ∷ set_value (eq k) (entries_of ss) v)) [
-        | true ↦ λ g. absurd (omega (arith, g, count-some (is_key eq k) Empty ss i lt e))
+        | true ↦ λ g. absurd (omega (arith, g, count-some (is_key eq k) Gone ss i lt e))
         | false ↦ λ g. ap (λ es. (q, w) ∷ es) (entries-written ss k i s v lt e (omega (arith, g)) is)
       ] (omega (arith, c, count-cons (is_key eq k) (Held q w) ss))
 
   -- a key that is nowhere is not in this slot
   pub key_unseen : (ss : List (Slot K V)) (k : K) (i : ℕ) → i < length ss → count_by (is_key eq k) ss ≡ 0 → is_key eq k (slot_at ss i) ≡ false
-  key_unseen ss k i h none = elim (cases_Bool (is_key eq k (slot_at ss i))) [ inl t ↦ absurd (omega (arith, none, count-some (is_key eq k) Empty ss i h t)) | inr f ↦ f ]
+  key_unseen ss k i h none = elim (cases_Bool (is_key eq k (slot_at ss i))) [ inl t ↦ absurd (omega (arith, none, count-some (is_key eq k) Gone ss i h t)) | inr f ↦ f ]
 
   module _ (E : IsEquivalence eq) where
     -- keys that are equal are in the same slots
     pub alike : (q k : K) (s : Slot K V) → eq q k ≡ true → is_key eq q s ≡ is_key eq k s
-    alike q k Empty e = refl
     alike q k Gone e = refl
     alike q k (Held p v) e = E.congr q k p e
 
@@ -147,6 +136,5 @@ module _ {K V : Type 0} (eq : K → K → Bool) where
     alike-found q k (s ∷ ss) e = ap (λ b. cond b (value_of s) (found eq ss q)) (alike q k s e) ∙ ap (cond (is_key eq k s) (value_of s)) (alike-found q k ss e)
 
     pub one-key : (s : Slot K V) (q k : K) → is_key eq q s ≡ true → is_key eq k s ≡ true → eq q k ≡ true
-    one-key Empty q k e f = absurd (both_ways (is_key {K = K} {V = V} eq q Empty) refl e)
     one-key Gone q k e f = absurd (both_ways (is_key {K = K} {V = V} eq q Gone) refl e)
     one-key (Held p v) q k e f = let g : eq p k ≡ true = E.symm p k ∙ f in E.congr q p k e ∙ g

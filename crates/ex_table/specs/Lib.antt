@@ -1,3 +1,4 @@
+pub mod Groups
 pub mod Slots
 pub mod Contents
 pub mod Inside

@@ -2,6 +2,8 @@
 //! library.
 #![tactic(auto)]
 
+pub mod groups;
+pub mod growth;
 pub mod iter;
 pub mod slots;
 pub mod table;

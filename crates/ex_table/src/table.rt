@@ -4,8 +4,10 @@ ghost use Rattle.std.specs.Borrow.{sem};
 ghost use Rattle.std.specs.Option.{option_copied_mut};
 ghost use Rattle.ex_table.specs.Contents.{value, Sets, SameMap, IsMap};
 
+use crate::groups::{Group, clear_all, groups_in, release_in};
+use crate::growth::{make_room, put_new};
 use crate::iter::Iter;
-use crate::slots::{Slot, clear_all, find, make_room, put_new};
+use crate::slots::{Slot, find};
 use allocator_api2::collections::{Refused, TryReserveError};
 use allocator_api2::vec::Vec;
 use std::alloc::Allocator;
@@ -17,9 +19,10 @@ use std::mem;
 /// the hashers.
 pub struct Table<K: Eq + Hash, V, S: BuildHasher, A: Allocator> {
     slots: Vec<Slot<K, V>, A>,
+    groups: Option<Vec<Group, A>>,
     builder: S,
     len: usize,
-    empty: usize,
+    room: usize,
 }
 
 impl<K: Eq + Hash, V, S: BuildHasher, A: Allocator> Model for Table<K, V, S, A> {
@@ -27,24 +30,27 @@ impl<K: Eq + Hash, V, S: BuildHasher, A: Allocator> Model for Table<K, V, S, A> 
 
     ghost Value = { Filled K V S };
 
-    ghost use Rattle.ex_table.specs.Slots.{hashes};
-    ghost use Rattle.ex_table.specs.Inside.{filled_in, IsTable};
+    ghost use Rattle.ex_table.specs.Slots.{hashes, IsTable};
+    ghost use Rattle.ex_table.specs.Inside.{filled_in};
+    ghost use Rattle.ex_table.specs.Groups.{groups_of};
 
-    ghost view = { λ t. filled_in t.builder t.slots.items };
+    ghost view = { λ t. filled_in t.builder t.slots.items t.room };
 
     ghost invariant = { λ t. IsTable K.eq (hashes S.BuildHasher S.Hasher.Hasher K.hash_input t.builder)
-        t.slots.items t.len t.empty };
+        t.slots (groups_of t.groups) t.len t.room };
 }
 
 impl<K: Eq + Hash + Drop, V: Drop, S: BuildHasher + Drop, A: Allocator> Drop for Table<K, V, S, A> {
     fn drop(self) {
         let Table {
             slots,
+            groups,
             builder,
             len: _,
-            empty: _,
+            room: _,
         } = self;
         drop(slots);
+        drop(groups);
         drop(builder);
     }
 }
@@ -73,9 +79,10 @@ impl<K: Eq + Hash + Drop, V: Drop, S: BuildHasher, A: Allocator + Clone> Table<K
     {
         Table {
             slots: Vec::new_in(alloc),
+            groups: None,
             builder,
             len: 0,
-            empty: 0,
+            room: 0,
         }
     }
 
@@ -99,8 +106,8 @@ impl<K: Eq + Hash + Drop, V: Drop, S: BuildHasher, A: Allocator + Clone> Table<K
     pub fn get(&self, key: &K) -> Option<&V>
         ensures { option_copied result ≡ value K.eq self.now.entries key.now }
     {
-        match find(self.slots.as_slice(), &self.builder, key) {
-            Some(at) => self.slots[at].value(),
+        match find(groups_in(&self.groups), self.slots.as_slice(), &self.builder, key) {
+            Some(spot) => self.slots[spot.slot].value(),
             None => None,
         }
     }
@@ -120,8 +127,8 @@ impl<K: Eq + Hash + Drop, V: Drop, S: BuildHasher, A: Allocator + Clone> Table<K
             K.Hash S.BuildHasher S.Hasher.Hasher A.Allocator self.entry key.now result) }
         ensures value { option_copied_mut result ≡ value K.eq self.old.entries key.now }
     {
-        match find(self.slots.as_slice(), &self.builder, key) {
-            Some(at) => Some(self.slots[at].value_mut()),
+        match find(groups_in(&self.groups), self.slots.as_slice(), &self.builder, key) {
+            Some(spot) => Some(self.slots[spot.slot].value_mut()),
             None => None,
         }
     }
@@ -151,12 +158,24 @@ impl<K: Eq + Hash + Drop, V: Drop, S: BuildHasher, A: Allocator + Clone> Table<K
         ensures new { OnErr result (value K.eq self.old.entries key ≡ None) }
         ensures refused { OnErr result (self.new ≡ self.old) }
     {
-        if let Some(at) = find(self.slots.as_slice(), &self.builder, &key) {
-            let old = mem::replace(&mut self.slots[at], Slot::Held(key, item));
+        if let Some(spot) = find(
+            groups_in(&self.groups),
+            self.slots.as_slice(),
+            &self.builder,
+            &key,
+        ) {
+            let old = mem::replace(&mut self.slots[spot.slot], Slot::Held(key, item));
             return Ok(old.into_value());
         }
-        match make_room(&mut self.slots, &self.builder, self.len, self.empty, 1) {
-            Ok(empty) => self.empty = empty,
+        match make_room(
+            &mut self.slots,
+            &mut self.groups,
+            &self.builder,
+            self.len,
+            self.room,
+            1,
+        ) {
+            Ok(room) => self.room = room,
             Err(error) => {
                 return Err(Refused {
                     source: (key, item),
@@ -164,9 +183,14 @@ impl<K: Eq + Hash + Drop, V: Drop, S: BuildHasher, A: Allocator + Clone> Table<K
                 });
             }
         }
-        put_new(&mut self.slots, &self.builder, key, item);
+        match &mut self.groups {
+            Some(groups) => {
+                put_new(&mut self.slots, groups.as_mut_slice(), &self.builder, key, item);
+            }
+            None => unreachable!(),
+        }
         self.len += 1;
-        self.empty -= 1;
+        self.room -= 1;
         Ok(None)
     }
 
@@ -179,11 +203,12 @@ impl<K: Eq + Hash + Drop, V: Drop, S: BuildHasher, A: Allocator + Clone> Table<K
         ensures builder { self.new.builder ≡ self.old.builder }
         ensures refused { OnErr result (self.new ≡ self.old) }
     {
-        self.empty = make_room(
+        self.room = make_room(
             &mut self.slots,
+            &mut self.groups,
             &self.builder,
             self.len,
-            self.empty,
+            self.room,
             additional,
         )?;
         Ok(())
@@ -197,9 +222,10 @@ impl<K: Eq + Hash + Drop, V: Drop, S: BuildHasher, A: Allocator + Clone> Table<K
         ensures room { self.new.room ≡ self.old.room }
         ensures builder { self.new.builder ≡ self.old.builder }
     {
-        match find(self.slots.as_slice(), &self.builder, key) {
-            Some(at) => {
-                let old = mem::replace(&mut self.slots[at], Slot::Gone);
+        match find(groups_in(&self.groups), self.slots.as_slice(), &self.builder, key) {
+            Some(spot) => {
+                release_in(&mut self.groups, spot.group, spot.lane);
+                let old = mem::replace(&mut self.slots[spot.slot], Slot::Gone);
                 self.len -= 1;
                 old.into_value()
             }
@@ -213,8 +239,10 @@ impl<K: Eq + Hash + Drop, V: Drop, S: BuildHasher, A: Allocator + Clone> Table<K
         ensures room { self.old.room ≤ self.new.room }
         ensures builder { self.new.builder ≡ self.old.builder }
     {
-        clear_all(self.slots.as_mut_slice());
+        self.slots.clear();
         self.len = 0;
-        self.empty = self.slots.len();
+        if let Some(groups) = &mut self.groups {
+            self.room = clear_all(groups.as_mut_slice());
+        }
     }
 }

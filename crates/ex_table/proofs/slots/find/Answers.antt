@@ -1,10 +1,16 @@
-use Rattle.std.proofs.Common.{ap, sym, ◌∙◌}
-use Rattle.ex_table.specs.Slots.{is_key}
-use Rattle.ex_table.proofs.Probing.{ends_absent}
-use Rattle.ex_table.proofs.Scanned.{slot-read}
+use Rattle.std.proofs.Common.{refl, sym, ◌∙◌}
+use Rattle.ex_table.specs.Slots.{hashes}
+use Rattle.ex_table.proofs.Finding.{absent-none, absent-first}
+use Rattle.ex_table.proofs.Lanes.{some-free}
 use Rattle.ex_table.proofs.slots.find.Goals as goal
 
-pub returns-else-has_key-clause-absent : goal.returns-else-has_key-clause-absent
-returns-else-has_key-clause-absent g c =
-    let slot = slot-read c.args.slots.now c.seek-at.result c.index-slots-at.result c.seek-at.ensures.within c.index-slots-at.is in
-    ends_absent _ _ c.args.slots.now c.args.key.now c.seek-at.result c.requires.sound c.seek-at.ensures (ap (is_key g.K.PartialEq.eq c.args.key.now) (sym slot) ∙ sym c.if-has_key.ensures)
+pub returns-then-count-eq0-clause-absent : goal.returns-then-count-eq0-clause-absent
+returns-then-count-eq0-clause-absent g c =
+    let h = hashes g.S.BuildHasher g.S.Hasher.Hasher g.K.Hash.hash_input c.args.builder.now in
+    absent-none g.K.PartialEq.eq h c.args.groups.now c.args.slots.now c.args.key.now c.requires _ _ refl refl c.if-count-eq0.true
+
+pub returns-then-is_some-clause-absent : goal.returns-then-is_some-clause-absent
+returns-then-is_some-clause-absent g c =
+    let h = hashes g.S.BuildHasher g.S.Hasher.Hasher g.K.Hash.hash_input c.args.builder.now in
+    let some = some-free c.free_lane.result _ (sym c.is_some.ensures ∙ c.if-is_some.true) c.free_lane.ensures.any in
+    absent-first g.K.PartialEq.eq h c.args.groups.now c.args.slots.now c.args.key.now c.requires _ _ c.hash_of-hash.ensures c.tag.ensures c.home-at.result c.home-at.ensures.value c.home-at.ensures.within c.in-None.ensures.none some

@@ -8,4 +8,4 @@ pub returns-clause-len : goal.returns-clause-len
 returns-clause-len g c = c.self.invariant.held ∙ sym (length-entries g.K.PartialEq.eq c.self.inside.slots.items) ∙ ap (λ f. length f.entries) c.self.view_is
 
 pub returns-clause-once : goal.returns-clause-once
-returns-clause-once g c = subst (λ es. IsMap g.K.PartialEq.eq es) (ap (λ f. f.entries) c.self.view_is) (is-map _ _ c.self.inside.slots.items c.self.invariant.sound)
+returns-clause-once g c = subst (λ es. IsMap g.K.PartialEq.eq es) (ap (λ f. f.entries) c.self.view_is) (is-map _ _ _ c.self.inside.slots.items c.self.invariant.sound)

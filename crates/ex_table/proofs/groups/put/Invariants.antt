@@ -1,0 +1,7 @@
+use Rattle.std.proofs.Common.{◌≡◌, ℕ, ◌<◌}
+use Rattle.ex_table.specs.Groups.{free, group_of}
+use Rattle.ex_table.proofs.groups.put.Given as goal
+
+-- each group before was full, and nothing was written
+abbrev pub invariant-each : goal.invariant-each
+invariant-each l = (l.groups ≡ l.fn.groups) × ((s : ℕ) → s < l.step → free (group_of l.groups l.hash s) ≡ 0)
