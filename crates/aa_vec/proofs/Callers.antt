@@ -36,7 +36,8 @@ module _ {F T : Type 0} (step : F → T → F → Type 0) where
   MayCallTimes_any takes zero f any = tt
   MayCallTimes_any takes (suc k) f any = (any f, λ y g s. MayCallTimes_any takes k g any)
 
-  all_same : (x : T) (f : F) (ys : List T) (last : F) → ((f : F) (y : T) (g : F) → step f y g → y ≡ x) → FoldsTo step f ys last → ys ≡ replicate (length ys) x
+  -- what it answers, call after call
+  pub all_same : (x : T) (f : F) (ys : List T) (last : F) → ((f : F) (y : T) (g : F) → step f y g → y ≡ x) → FoldsTo step f ys last → ys ≡ replicate (length ys) x
   all_same x f [] last is h = refl
   all_same x f (y ∷ ys) last is h = λ i. is f y h.0 h.1 i ∷ all_same x h.0 ys last is h.2 i
 
