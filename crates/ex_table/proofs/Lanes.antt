@@ -1,17 +1,16 @@
 -- Lanes of groups: what is found in a group, and what writes to one leave.
-use Rattle.std.proofs.Common.{◌≡◌, ◌≢◌, ℕ, zero, suc, ◌+◌, ◌-◌, ◌*◌, ◌<◌, ◌≤◌, Bool, true, false, cond, List, [], ◌∷◌, length, take, get_or, replicate, refl, sym, ◌∙◌, ap, subst, arith, inl, inr, get_or-set_same, get_or-set_other}
+use Rattle.std.proofs.Common.{◌≡◌, ◌≢◌, ℕ, zero, suc, ◌+◌, ◌-◌, ◌<◌, ◌≤◌, true, false, cond, List, [], ◌∷◌, length, take, refl, sym, ◌∙◌, ap, arith, inl, inr, get_or-set_same, get_or-set_other}
 use Rattle.std.specs.Prelude.{count_by, nat_lt, ◌==◌}
-use Rattle.std.specs.List.{sum_by, prefix_len}
 use Rattle.std.proofs.Math.ListN.{set}
 use Rattle.std.proofs.lemmas.List.{length-set}
 use Rattle.std.proofs.lemmas.List.Sums.{sum_by-cons, sum_by-set}
-use Rattle.std.proofs.lemmas.Bool.{cases_eq, cases_lt, cases_order, cases_Bool}
+use Rattle.std.proofs.lemmas.Bool.{cases_eq, cases_lt}
 use Rattle.std.specs.Prelude.{Option, Some, None, IfNone, IfSome, is_some}
 use Rattle.std.proofs.lemmas.List.{get_or-take, length-take-le}
 use Rattle.std.proofs.Math.Seq.{take-set-lt}
 use Rattle.ex_table.proofs.Counts.{count-none, count-some, count-set}
 use Rattle.ex_table.specs.declared.groups.Group.{Group}
-use Rattle.ex_table.specs.Groups.{tag_at, place_at, free, free_lanes, empty_group, group_at, tag_of, home_of, after, group_of, Writes, IsAt}
+use Rattle.ex_table.specs.Groups.{tag_at, place_at, free, free_lanes, group_at, tag_of, home_of, after, group_of, Writes, IsAt}
 
 is-zero : (t : ℕ) → t ≢ 0 → (t == 0) ≡ false
 is-zero t h = grind (arith, h)
@@ -81,8 +80,8 @@ module _ (gs : List Group) (at : ℕ) (new : Group) (within : at < length gs) wh
       let there : (s : ℕ) → go s ≡ at → group_of (set gs at new) hash s ≡ new = λ s e. at_step s ∙ ap (group_at (set gs at new)) e ∙ group-same in
       let was : (s : ℕ) → go s ≡ at → group_of gs hash s ≡ group_at gs at = λ s e. ap (group_at gs) e in
       let other : go x.steps ≡ at → x.lane ≢ lane = λ e l. apart
-        (sym (ap (λ g. tag_at g lane) (was x.steps e)) ∙ sym (ap (tag_at (group_of gs hash x.steps)) l) ∙ x.tag)
-        (sym (ap (λ g. place_at g lane) (was x.steps e)) ∙ sym (ap (place_at (group_of gs hash x.steps)) l) ∙ x.place) in
+      (sym (ap (λ g. tag_at g lane) (was x.steps e)) ∙ sym (ap (tag_at (group_of gs hash x.steps)) l) ∙ x.tag)
+      (sym (ap (λ g. place_at g lane) (was x.steps e)) ∙ sym (ap (place_at (group_of gs hash x.steps)) l) ∙ x.place) in
       record {
         steps = x.steps;
         lane = x.lane;

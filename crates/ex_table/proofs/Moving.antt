@@ -1,16 +1,14 @@
--- Keys that are moved from slots to fresh ones, from the last slot on.
-use Rattle.std.proofs.Common.{◌≡◌, ℕ, zero, suc, ◌+◌, ◌-◌, ◌*◌, ◌<◌, ◌≤◌, Bool, true, false, cond, List, [], ◌∷◌, ◌++◌, length, replicate, refl, sym, ◌∙◌, ap, subst, arith, append_assoc}
+-- Keys that are moved from slots to fresh ones, in their order.
+use Rattle.std.proofs.Common.{◌≡◌, ℕ, ◌+◌, ◌*◌, ◌<◌, ◌≤◌, Bool, false, cond, List, [], ◌∷◌, ◌++◌, length, refl, sym, ◌∙◌, ap, arith, Some, inl, inr}
 use Rattle.std.specs.Prelude.{count_by, ◌^◌}
-use Rattle.std.proofs.lemmas.List.{append-nil}
-use Rattle.std.proofs.lemmas.List.Folds.{sum_by-replicate}
-use Rattle.std.proofs.lemmas.Bool.{both_ways}
+use Rattle.std.proofs.lemmas.Bool.{cases_Bool}
 use Rattle.allocator_api2.specs.Vector.{Vector}
 use Rattle.ex_table.specs.declared.groups.Group.{Group}
 use Rattle.ex_table.specs.declared.slots.Slot.{Slot}
 use Rattle.ex_table.specs.declared.slots.Slot.TheVariants.{Gone, Held}
-use Rattle.ex_table.specs.Groups.{free, free_lanes, empty_group}
-use Rattle.ex_table.specs.Slots.{is_key, is_held, value_of, slot_at, found, AreKeys, IsSound, IsTable, Puts, Keeps, MovesAll}
-use Rattle.ex_table.proofs.Counts.{bit, count-cons, count-append, found-absent, found-append}
+use Rattle.ex_table.specs.Groups.{free, free_lanes}
+use Rattle.ex_table.specs.Slots.{is_key, is_held, value_of, found, IsSound, Puts, MovesAll}
+use Rattle.ex_table.proofs.Counts.{bit, count-cons, found-past, found-append}
 
 module _ {K V : Type 0} (eq : K → K → Bool) (h : K → ℕ) where
   -- keys that are held in old are in rest and in fresh, whose slots n groups name
@@ -25,12 +23,12 @@ module _ {K V : Type 0} (eq : K → K → Bool) (h : K → ℕ) where
     pub values : (q : K) → found eq (rest ++ fresh.items) q ≡ found eq old q
 
   module _ {A : Type 0} (old rest less : List (Slot K V)) (n : ℕ) (fresh : Vector (Slot K V) A) (gs : List Group) (m : IsMoving old n rest fresh gs) where
-    module _ (s : Slot K V) (cut : rest ≡ less ++ s ∷ []) where
+    module _ (s : Slot K V) (cut : rest ≡ s ∷ less) where
       counted : (p : Slot K V → Bool) → count_by p rest ≡ count_by p less + cond (p s) 1 0
-      counted p = ap (count_by p) cut ∙ count-append p less (s ∷ []) ∙ omega (arith, count-cons p s [])
+      counted p = ap (count_by p) cut ∙ omega (arith, count-cons p s less)
 
-      same : (q : K) → found eq (less ++ (s ∷ fresh.items)) q ≡ found eq old q
-      same q = ap (λ ss. found eq ss q) (sym (append_assoc less (s ∷ []) fresh.items)) ∙ ap (λ ss. found eq (ss ++ fresh.items) q) (sym cut) ∙ m.values q
+      same : (q : K) → cond (is_key eq q s) (value_of s) (found eq (less ++ fresh.items) q) ≡ found eq old q
+      same q = ap (λ ss. found eq (ss ++ fresh.items) q) (sym cut) ∙ m.values q
 
       -- a slot without a key is left behind
       pub left_behind : ((q : K) → is_key eq q s ≡ false) → is_held s ≡ false → IsMoving old n less fresh gs
@@ -42,18 +40,27 @@ module _ {K V : Type 0} (eq : K → K → Bool) (h : K → ℕ) where
         full = m.full;
         keys = λ q. omega (arith, m.keys q, counted (is_key eq q), ap bit (lacks q));
         held = omega (arith, m.held, counted is_held, ap bit none);
-        values = λ q. found-append eq less fresh.items (s ∷ fresh.items) q (sym (ap (λ b. cond b (value_of s) (found eq fresh.items q)) (lacks q))) ∙ same q;
+        values = λ q. sym (ap (λ b. cond b (value_of s) (found eq (less ++ fresh.items) q)) (lacks q)) ∙ same q;
       }
 
-    module _ (k : K) (v : V) (cut : rest ≡ less ++ Held k v ∷ []) where
+    module _ (k : K) (v : V) (cut : rest ≡ Held k v ∷ less) (once : (q : K) → count_by (is_key eq q) old ≤ 1) where
       of_key : (q : K) → count_by (is_key eq q) rest ≡ count_by (is_key eq q) less + cond (eq q k) 1 0
       of_key q = counted (Held k v) cut (is_key eq q)
 
       of_held : count_by is_held rest ≡ count_by is_held less + 1
       of_held = counted (Held k v) cut is_held
 
-      pub not_there : ((q : K) → count_by (is_key eq q) old ≤ 1) → count_by (is_key eq k) fresh.items ≡ 0
-      not_there once = omega (arith, m.keys k, once k, of_key k, ap bit (m.sound.keys.equality.refl k))
+      pub not_there : count_by (is_key eq k) fresh.items ≡ 0
+      not_there = omega (arith, m.keys k, once k, of_key k, ap bit (m.sound.keys.equality.refl k))
+
+      -- the key may as well stand behind the others that are left
+      later : (q : K) → found eq (less ++ (Held k v ∷ fresh.items)) q ≡ found eq old q
+      later q = elim (cases_Bool (eq q k)) [
+        | inl e ↦ found-past eq less (Held k v ∷ fresh.items) q (omega (arith, m.keys q, once q, of_key q, ap bit e))
+            ∙ ap (λ b. cond b (Some v) (found eq fresh.items q)) e ∙ sym (ap (λ b. cond b (Some v) (found eq (less ++ fresh.items) q)) e) ∙ same (Held k v) cut q
+        | inr e ↦ found-append eq less (Held k v ∷ fresh.items) fresh.items q (ap (λ b. cond b (Some v) (found eq fresh.items q)) e)
+            ∙ sym (ap (λ b. cond b (Some v) (found eq (less ++ fresh.items) q)) e) ∙ same (Held k v) cut q
+      ]
 
       -- a key is put there
       pub moved_on : (new : Vector (Slot K V) A) (hs : List Group) → IsSound eq h hs new.items → Puts eq fresh.items k v new.items
@@ -66,7 +73,7 @@ module _ {K V : Type 0} (eq : K → K → Bool) (h : K → ℕ) where
         full = omega (arith, m.full, p.held, p.size);
         keys = λ q. omega (arith, m.keys q, of_key q, p.others q);
         held = omega (arith, m.held, of_held, p.held);
-        values = λ q. found-append eq less new.items (Held k v ∷ fresh.items) q (p.values q) ∙ same (Held k v) cut q;
+        values = λ q. found-append eq less new.items (Held k v ∷ fresh.items) q (p.values q) ∙ later q;
       }
 
   pub all_moved : {A : Type 0} (old rest : List (Slot K V)) (n : ℕ) (fresh : Vector (Slot K V) A) (gs : List Group) → IsMoving old n rest fresh gs → rest ≡ [] → count_by is_held old ≤ 8 * n → 8 * n < 2 ^ 32 → MovesAll eq h old fresh gs

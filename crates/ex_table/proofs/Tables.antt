@@ -1,5 +1,5 @@
 -- What a look-up found in a table, and tables with one slot written.
-use Rattle.std.proofs.Common.{◌≡◌, ℕ, ◌+◌, ◌-◌, ◌≤◌, Bool, List, length, Option, refl, ap, sym, ◌∙◌, subst, arith}
+use Rattle.std.proofs.Common.{◌≡◌, ℕ, ◌+◌, ◌-◌, ◌≤◌, Bool, List, length, Option, sym, subst, arith}
 use Rattle.std.specs.Prelude.{count_by, is_some}
 use Rattle.allocator_api2.specs.Vector.{Vector}
 use Rattle.ex_table.specs.declared.groups.Group.{Group}

@@ -45,7 +45,9 @@ impl Group {
         ensures some { IfSome result (λ l. (l < 12) × (tag_at self.now l ≡ tag)) }
         ensures none { IfNone result ((l : ℕ) → l < 12 → tag_at self.now l ≢ tag) }
     {
-        let same = u8x16::from_array(self.tags).simd_eq(u8x16::splat(tag)).to_bitmask();
+        let same = u8x16::from_array(self.tags)
+            .simd_eq(u8x16::splat(tag))
+            .to_bitmask();
         if same == 0 {
             return None;
         }
@@ -189,7 +191,11 @@ fn release(groups: &mut [Group], at: usize, lane: usize)
 {
     let group = &groups[at];
     let place = group.places[lane];
-    let tag = if group.free_lane().is_some() { FREE } else { GONE };
+    let tag = if group.free_lane().is_some() {
+        FREE
+    } else {
+        GONE
+    };
     groups[at].write(lane, tag, place);
 }
 

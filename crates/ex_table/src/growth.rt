@@ -52,7 +52,7 @@ fn cloned<A: Allocator + Clone>(alloc: &A, capacity: usize) -> Result<A, TryRese
     }
 }
 
-// Puts all keys of `old` into `fresh`, from the last on.
+// Puts all keys of `old` into `fresh`, in their order.
 fn move_all<K: Eq + Hash + Drop, V: Drop, S: BuildHasher, A: Allocator>(
     old: Vec<Slot<K, V>, A>,
     fresh: &mut Vec<Slot<K, V>, A>,
@@ -70,8 +70,8 @@ fn move_all<K: Eq + Hash + Drop, V: Drop, S: BuildHasher, A: Allocator>(
         old.items fresh.new groups.new }
     ensures len { length groups.new ≡ length groups.old }
 {
-    let mut rest = old;
-    'moving: while let Some(slot) = rest.pop() {
+    let mut rest = old.into_iter();
+    'moving: while let Some(slot) = rest.next() {
         if let Slot::Held(key, value) = slot {
             put_new(fresh, groups, builder, key, value);
         }

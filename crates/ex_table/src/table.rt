@@ -106,7 +106,12 @@ impl<K: Eq + Hash + Drop, V: Drop, S: BuildHasher, A: Allocator + Clone> Table<K
     pub fn get(&self, key: &K) -> Option<&V>
         ensures { option_copied result ≡ value K.eq self.now.entries key.now }
     {
-        match find(groups_in(&self.groups), self.slots.as_slice(), &self.builder, key) {
+        match find(
+            groups_in(&self.groups),
+            self.slots.as_slice(),
+            &self.builder,
+            key,
+        ) {
             Some(spot) => self.slots[spot.slot].value(),
             None => None,
         }
@@ -127,7 +132,12 @@ impl<K: Eq + Hash + Drop, V: Drop, S: BuildHasher, A: Allocator + Clone> Table<K
             K.Hash S.BuildHasher S.Hasher.Hasher A.Allocator self.entry key.now result) }
         ensures value { option_copied_mut result ≡ value K.eq self.old.entries key.now }
     {
-        match find(groups_in(&self.groups), self.slots.as_slice(), &self.builder, key) {
+        match find(
+            groups_in(&self.groups),
+            self.slots.as_slice(),
+            &self.builder,
+            key,
+        ) {
             Some(spot) => Some(self.slots[spot.slot].value_mut()),
             None => None,
         }
@@ -185,7 +195,13 @@ impl<K: Eq + Hash + Drop, V: Drop, S: BuildHasher, A: Allocator + Clone> Table<K
         }
         match &mut self.groups {
             Some(groups) => {
-                put_new(&mut self.slots, groups.as_mut_slice(), &self.builder, key, item);
+                put_new(
+                    &mut self.slots,
+                    groups.as_mut_slice(),
+                    &self.builder,
+                    key,
+                    item,
+                );
             }
             None => unreachable!(),
         }
@@ -222,7 +238,12 @@ impl<K: Eq + Hash + Drop, V: Drop, S: BuildHasher, A: Allocator + Clone> Table<K
         ensures room { self.new.room ≡ self.old.room }
         ensures builder { self.new.builder ≡ self.old.builder }
     {
-        match find(groups_in(&self.groups), self.slots.as_slice(), &self.builder, key) {
+        match find(
+            groups_in(&self.groups),
+            self.slots.as_slice(),
+            &self.builder,
+            key,
+        ) {
             Some(spot) => {
                 release_in(&mut self.groups, spot.group, spot.lane);
                 let old = mem::replace(&mut self.slots[spot.slot], Slot::Gone);

@@ -158,3 +158,20 @@ fn texts_are_keys_by_any_hasher(rt: HostRuntime) {
     }
     assert!(rt; table.len() == 2);
 }
+
+#[test]
+fn keys_of_one_hash_fill_many_groups(rt: HostRuntime) {
+    let mut table: Table<u64, u64, Same, Global> = Table::with_hasher_in(Same, rt.alloc());
+    for key in 0u64..100 {
+        assert!(rt; table.insert(key, key.wrapping_mul(3)).is_ok());
+    }
+    for key in 0u64..50 {
+        assert!(rt; table.remove(&key.wrapping_mul(2)) == Some(key.wrapping_mul(6)));
+    }
+    for key in 0u64..50 {
+        let odd = key.wrapping_mul(2).wrapping_add(1);
+        assert!(rt; table.get(&odd).copied() == Some(odd.wrapping_mul(3)));
+        assert!(rt; !table.contains_key(&key.wrapping_mul(2)));
+    }
+    assert!(rt; table.len() == 50);
+}

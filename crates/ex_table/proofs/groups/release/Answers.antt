@@ -1,4 +1,4 @@
-use Rattle.std.proofs.Common.{◌≡◌, ℕ, ◌==◌, cond, ap, sym, ◌∙◌, arith, rules}
+use Rattle.std.proofs.Common.{◌≡◌, ℕ, ◌==◌, cond, ap, sym, ◌∙◌, arith}
 use Rattle.ex_table.specs.Groups.{free, group_at}
 use Rattle.ex_table.proofs.Lanes.{kept, some-free}
 use Rattle.ex_table.proofs.groups.release.Goals as goal

@@ -1,5 +1,4 @@
-use Rattle.std.proofs.Common.{List, ap, subst, sym, ◌∙◌}
-use Rattle.ex_table.specs.declared.slots.Slot.{Slot}
+use Rattle.std.proofs.Common.{subst, sym}
 use Rattle.ex_table.specs.Groups.{IsAt}
 use Rattle.ex_table.specs.Slots.{hashes, IsSound, Puts}
 use Rattle.ex_table.proofs.Putting.{puts, sound-put}

@@ -1,4 +1,4 @@
-use Rattle.std.proofs.Common.{◌≡◌, ℕ, ◌<◌, length, refl, ap, subst, sym, ◌∙◌, arith}
+use Rattle.std.proofs.Common.{ℕ, ◌<◌, length, refl, ap, subst, sym, ◌∙◌}
 use Rattle.ex_table.specs.Groups.{after, free, group_at, group_of}
 use Rattle.ex_table.specs.Slots.{hashes, Lacks}
 use Rattle.ex_table.proofs.Finding.{one_more, absent-none, absent-all, absent-free}

@@ -1,4 +1,4 @@
-use Rattle.std.proofs.Common.{ℕ, List, None, ap, arith, cond, refl, subst, sym, ◌∙◌}
+use Rattle.std.proofs.Common.{List, None, ap, arith, cond, refl, subst, sym, ◌∙◌}
 use Rattle.std.proofs.Math.ListN.{set}
 use Rattle.ex_table.specs.Contents.{value, Sets}
 use Rattle.ex_table.specs.Slots.{hashes, value_of}
