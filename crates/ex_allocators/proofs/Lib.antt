@@ -1,3 +1,2 @@
 mod Pooling
 mod Shelving
-mod Watching

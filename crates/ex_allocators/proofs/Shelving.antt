@@ -30,6 +30,7 @@ use sound.WpLaws.{WpFn-mono}
 use types.Logic.{Logic, sem}
 use types.Na.{na_acc_in}
 use types.Kit.{Post, any_q, post, Item, Goal, Seq, Step, Soaks, step, ‵, raw, ◌⊛◌, later, ◌$◌, ◌∵◌, !, qed, by, move, drop, use0, use1, use2, use3, split, join, frame, assume, fsplit, fjoin, fjoin3, fpick, fpack, rewrite, await, done}
+use denote.Exit.{yes}
 use denote.Laws.{Ises, Are, owns_show, showss}
 use denote.Memory.{cell_at, hidden_shr}
 use denote.Opens.{unhide}
@@ -45,7 +46,7 @@ use denote.Triple.Entry.{on_entry, alive}
 use denote.Triple.Handed.{holding, hands}
 use denote.Triple.Spec.{Meets, triple_of}
 use denote.Triple.Table.{entered}
-use denote.Triple.Walked.{Stays, AllGo, walk_of, walk_Meets}
+use denote.Triple.Walked.{Stays, AllGo, Goes, Goes-dropped, stay_dropped, walk_of, walk_Meets}
 use Rattle.std.specs.Allocator.{owned_block}
 use Rattle.std.specs.declared.alloc.Allocator.{Ghosts}
 use Rattle.ex_allocators.specs.Shelves.{IsKept, Fills, right_to, kept_blocks, holds_at}
@@ -149,6 +150,19 @@ abbrev pub param_at : {n : ℕ} → ℕ → List (Slot n) → Slot n
 param_at k [] = plain (λ _. unit)
 param_at zero (s ∷ ss) = s
 param_at (suc k) (s ∷ ss) = param_at k ss
+
+-- of a size and of a pointer nothing is left at the return
+abbrev Size : Slot 2
+Size = plain (λ _. usize)
+
+pub size_goes : {M : Type 1} {𝓤 : Ura M} (𝓛 : Logic 𝓤) → Goes 𝓛 2 Size yes (stay_dropped Size yes)
+size_goes 𝓛 = Goes-dropped 𝓛 2 Size yes (λ κs x f. refl)
+
+abbrev Pointer : Slot 2
+Pointer = plain (λ _. RawPtr)
+
+pub pointer_goes : {M : Type 1} {𝓤 : Ura M} (𝓛 : Logic 𝓤) → Goes 𝓛 2 Pointer yes (stay_dropped Pointer yes)
+pointer_goes 𝓛 = Goes-dropped 𝓛 2 Pointer yes (λ κs x f. refl)
 
 module _ {M : Type 1} {𝓤 : Ura M} (𝓛 : Logic 𝓤) (E : Ended) (stays : Stays E.signature.params E.kept) (c : Clauses 𝓤 E) where
   open 𝓛 use {H, A}

@@ -2,10 +2,6 @@
 //! contract, and a proving ground for one's own.
 #![tactic(auto)]
 
-/// An allocator with a limit on what it has granted.
-pub mod budget;
-/// An allocator that counts what it is asked.
-pub mod counting;
 /// A proving ground for allocators.
 pub mod exercise;
 mod pattern;
@@ -16,5 +12,5 @@ mod sets;
 mod shelf;
 #[cfg(test)]
 mod tests;
-/// An allocator that asks a watch before each request.
-pub mod watched;
+
+pub use ex_watched::{budget, counting, watched};

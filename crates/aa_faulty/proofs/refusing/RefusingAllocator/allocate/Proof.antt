@@ -14,7 +14,7 @@ use denote.Steps.{nothing}
 use denote.Triple.Walked.{Stays, stay_dropped, walk_of, ends_at}
 use Rattle.std.proofs.raw_atomic.Walks.{proved}
 use Rattle.std.proofs.alloc.Calls.{Answer, answer_val, Answer-typed, Answer-err}
-use Rattle.aa_faulty.proofs.Counting.{size_goes, refuser_goes}
+use Rattle.aa_faulty.proofs.Refusals.{size_goes, refuser_goes}
 use Rattle.aa_faulty.specs.contracts.refusing.RefusingAllocator.allocate as F
 use Rattle.aa_faulty.specs.contracts.refusing.RefusingAllocator.allocate.Key.{name}
 use Rattle.aa_faulty.proofs.refusing.RefusingAllocator.allocate.Statement.{statement}

@@ -12,7 +12,7 @@ use denote.Ref.{shr_vals}
 use denote.Triple.Entry.{on_entry}
 use denote.Triple.Walked.{Stays, stay_dropped}
 use Rattle.std.proofs.raw_atomic.Walks.{proved}
-use Rattle.aa_faulty.proofs.Counting.{size_goes, pointer_goes, refuser_goes}
+use Rattle.aa_faulty.proofs.Refusals.{size_goes, pointer_goes, refuser_goes}
 use Rattle.aa_faulty.specs.contracts.refusing.RefusingAllocator.deallocate as F
 use Rattle.aa_faulty.specs.contracts.refusing.RefusingAllocator.deallocate.Key.{name}
 use Rattle.aa_faulty.proofs.refusing.RefusingAllocator.deallocate.Statement.{statement}

@@ -29,7 +29,7 @@ use denote.Triple.Walked.{Stays, stay_dropped, walk_of, ends_at}
 use Rattle.std.proofs.raw_atomic.Walks.{proved}
 use Rattle.std.proofs.alloc.Shapes.{after, front, arm_body}
 use Rattle.std.proofs.alloc.Calls.{Al, seen, Answer-typed, Answered, answers, Gives, at_gives, Gives-goes, Gives-Gives}
-use Rattle.ex_allocators.proofs.Watching.{size_goes}
+use Rattle.ex_allocators.proofs.Shelving.{size_goes}
 use Rattle.ex_allocators.proofs.Pooling.{generics, inner_of, shelf_of, self_goes, Kept, shelved, reaches, Off, taking, takes, took}
 use Rattle.ex_allocators.proofs.shelf.Shelf.take.Met.{met}
 use Rattle.ex_allocators.specs.contracts.pool.Pool.give_one as F
@@ -51,7 +51,7 @@ pub give_one_spec : {M : Type 1} → statement M
 give_one_spec 𝓤 𝓛 𝓜 𝓡 wired B L g d d' inner drops =
     let Z : Al = record { row = B; laws = L; g = g; d = d; drops = d' } in let K : Al = Kept Z in
     let c = F.clauses B g d d' 𝓛 𝓜.mem 𝓡.returns in let Wk = walk_of 𝓛 (promised Z) (stays Z) c in let 𝓣 = tables 𝓤 𝓛.H 𝓜 𝓡 𝓡.env in
-    proved 𝓛 (promised Z) (stays Z) c 𝓜 𝓡 (self_goes Z 𝓛, (size_goes 2 𝓛, tt))
+    proved 𝓛 (promised Z) (stays Z) c 𝓜 𝓡 (self_goes Z 𝓛, (size_goes 𝓛, tt))
     (name (generics Z)) (routine Z) (code.unfolded 𝓤 𝓛.H 𝓜 𝓡 wired (B, tt) d d')
     (λ κs. (shr_vals, (uint_vals w64, tt))) (λ κs. ((λ r vs is. is.0), (uint_Tells w64, tt))) (λ κs qs bounds a _ are.
     let κ = κs.0 in let q = qs.0 in let r = a.0 in let n = a.1.0 in let n_fits = are.1.0.1 in

@@ -23,8 +23,7 @@ use denote.Steps.{nothing, heard}
 use denote.Triple.Entry.{alive}
 use denote.Triple.Walked.{Stays, stay_dropped, walk_of, Goes-dropped}
 use Rattle.std.proofs.raw_atomic.Walks.{proved_at, leaves}
-use Rattle.ex_allocators.proofs.Watching.{size_goes}
-use Rattle.ex_allocators.proofs.Shelving.{param_at, Fit, shelf_val, shelf_own, shelf_made, shelf_typed}
+use Rattle.ex_allocators.proofs.Shelving.{size_goes, param_at, Fit, shelf_val, shelf_own, shelf_made, shelf_typed}
 use Rattle.ex_allocators.specs.Shelves.{IsKept, kept_blocks}
 use Rattle.ex_allocators.specs.contracts.shelf.Shelf.TheInside as inside
 use Rattle.ex_allocators.specs.contracts.shelf.Shelf.new as made
@@ -38,7 +37,7 @@ new_spec 𝓤 𝓛 𝓜 𝓡 wired B L g d dd met md =
     let generics : Args = bounded (a_type ∷ []) (B, tt) (dcons d (dcons dd dnil)) in
     let fn : Fn = inst_fn generics code.function in
     let stays : Stays E.signature.params E.kept = (stay_dropped _ yes, (stay_dropped _ yes, tt)) in
-    proved_at 𝓛 E stays c 𝓜 𝓡 (Goes-dropped 𝓛 2 (param_at 0 E.signature.params) yes (λ κs x f. refl), (size_goes 2 𝓛, tt))
+    proved_at 𝓛 E stays c 𝓜 𝓡 (Goes-dropped 𝓛 2 (param_at 0 E.signature.params) yes (λ κs x f. refl), (size_goes 𝓛, tt))
     (name generics) fn (code.unfolded 𝓤 𝓛.H 𝓜 𝓡 wired (B, tt) d dd) (λ z are.
     let Post : Val → SProp 𝓤 = (walk_of 𝓛 E stays c).post z in
     let at = z.0.3.0.ref_ptr in let heap = z.0.3.0.now in let m = z.0.3.1.0 in

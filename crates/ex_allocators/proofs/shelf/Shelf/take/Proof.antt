@@ -26,8 +26,7 @@ use Rattle.std.specs.Allocator.{block_if_ok}
 use Rattle.std.proofs.raw_atomic.Walks.{leaves}
 use Rattle.std.proofs.alloc.Shapes.{after, head, inside}
 use Rattle.std.proofs.alloc.Calls.{Answer, answer_val, Answer-typed, Answer-Ok, Answer-err}
-use Rattle.ex_allocators.proofs.Shelving.{param_at, ptr_typed, fields, opens_shelf, shuts_shelf, holding_token, proved_alone, left_block, equals, fills, regrants}
-use Rattle.ex_allocators.proofs.Watching.{size_goes}
+use Rattle.ex_allocators.proofs.Shelving.{param_at, ptr_typed, fields, opens_shelf, shuts_shelf, holding_token, proved_alone, left_block, equals, fills, regrants, size_goes}
 use Rattle.ex_allocators.specs.Shelves.{IsKept, right_to, stack}
 use Rattle.ex_allocators.specs.contracts.shelf.Shelf.take as taken
 use Rattle.ex_allocators.specs.contracts.shelf.Shelf.take.Key.{name}
@@ -47,7 +46,7 @@ take_spec 𝓤 𝓛 𝓜 𝓡 wired B L g d dd met md =
     let fn : Fn = inst_fn generics code.function in
     let stays : Stays E.signature.params E.kept = (stay_dropped _ yes, (stay_dropped _ yes, (stay_dropped _ yes, tt))) in
     let c = holding_token 𝓛 E stays c₀ in
-    proved_alone 𝓛 E stays c₀ 𝓜 𝓡 (Goes-dropped 𝓛 2 (param_at 0 E.signature.params) yes (λ κs x f. refl), (size_goes 2 𝓛, (size_goes 2 𝓛, tt)))
+    proved_alone 𝓛 E stays c₀ 𝓜 𝓡 (Goes-dropped 𝓛 2 (param_at 0 E.signature.params) yes (λ κs x f. refl), (size_goes 𝓛, (size_goes 𝓛, tt)))
     (name generics) fn (wired.0.0 (name generics) refl) (λ C Λ z are.
     let Post : Val → SProp 𝓤 = (walk_of 𝓛 E stays c).post z in
     let κ : Lft = z.0.0.0 in let q : Share = z.0.1.0 in let Z : RattleType = param 0 B in

@@ -1,5 +1,5 @@
 ghost use Rattle.std.specs.Prelude.{◌≡◌, ◌<◌};
-ghost use Rattle.ex_allocators.specs.Sizes.{IsClass, greatest_of};
+ghost use Rattle.ex_watched.specs.Sizes.{IsClass, greatest_of};
 
 use crate::watched::{Watch, Watched};
 use std::alloc::{AllocError, Allocator};

@@ -61,6 +61,7 @@ unsafe impl<B: Allocator, W: Watch> Allocator for Watched<B, W> {
 /// A clone is an allocator of its own, over a clone of `inner`, with a clone of the watch.
 impl<B: Allocator + Clone, W: Watch + Clone> Clone for Watched<B, W> {
     fn clone(&self) -> Result<Watched<B, W>, AllocError> {
-        Ok(Watched::with_watch(self.inner.clone()?, self.watch.clone()?))
+        let watch = self.watch.clone()?;
+        Ok(Watched::with_watch(self.inner.clone()?, watch))
     }
 }

@@ -32,11 +32,11 @@ use Rattle.std.specs.Allocator.{block_if_ok}
 use Rattle.std.proofs.raw_atomic.Walks.{proved}
 use Rattle.std.proofs.alloc.Shapes.{after, front, arm_body}
 use Rattle.std.proofs.alloc.Calls.{Al, seen, token, Answer, answer_val, Answer-typed, Answer-Ok, Answer-err, Takes, at_takes, Answered, Takes-goes, Takes-gives, answers}
-use Rattle.ex_allocators.proofs.Watching.{Wa, generics, inner_of, watch_of, watched_by, self_goes, size_goes, reaches, Asks, asking, asks, asked, Notes, noting, notes, noted}
-use Rattle.ex_allocators.specs.contracts.watched.WatchedAllocator.allocate as F
-use Rattle.ex_allocators.specs.contracts.watched.WatchedAllocator.allocate.Key.{name}
-use Rattle.ex_allocators.proofs.watched.WatchedAllocator.allocate.Statement.{statement}
-use Rattle.ex_allocators.proofs.watched.WatchedAllocator.allocate.Code as code
+use Rattle.ex_watched.proofs.Watching.{Wa, generics, inner_of, watch_of, watched_by, self_goes, size_goes, reaches, Asks, asking, asks, asked, Notes, noting, notes, noted}
+use Rattle.ex_watched.specs.contracts.watched.WatchedAllocator.allocate as F
+use Rattle.ex_watched.specs.contracts.watched.WatchedAllocator.allocate.Key.{name}
+use Rattle.ex_watched.proofs.watched.WatchedAllocator.allocate.Statement.{statement}
+use Rattle.ex_watched.proofs.watched.WatchedAllocator.allocate.Code as code
 
 module _ (Z : Al) (Y : Wa) where
   abbrev routine : Fn

@@ -32,10 +32,10 @@ use denote.Triple.Statement.{Contract}
 use denote.Triple.Spec.{triple_of}
 use denote.Triple.Walked.{Goes, stay_dropped, Goes-dropped}
 use Rattle.std.proofs.alloc.Calls.{Al, α, seen}
-use Rattle.ex_allocators.specs.declared.watched.Watch.{Ghosts}
-use Rattle.ex_allocators.specs.contracts.watched.Watched as watched
-use Rattle.ex_allocators.specs.contracts.watched.Watch.refuses as refuses
-use Rattle.ex_allocators.specs.contracts.watched.Watch.grants as grants
+use Rattle.ex_watched.specs.declared.watched.Watch.{Ghosts}
+use Rattle.ex_watched.specs.contracts.watched.Watched as watched
+use Rattle.ex_watched.specs.contracts.watched.Watch.refuses as refuses
+use Rattle.ex_watched.specs.contracts.watched.Watch.grants as grants
 
 pub record Wa : Type 2 where
   pub row : RattleType
