@@ -140,6 +140,7 @@ pub fn groups_in<A: Allocator>(groups: &Option<Vec<Group, A>>) -> &[Group]
 }
 
 /// Groups with free lanes alone.
+#[tactic(auto, using(allocator_api2::proofs::Callers::callers))]
 pub fn empty_groups<A: Allocator>(count: usize, alloc: A) -> Result<Vec<Group, A>, TryReserveError>
     ensures { IfOk result (λ v. v.items ≡ replicate count empty_group) }
 {

@@ -1,7 +1,7 @@
 use Rattle.std.proofs.Common.{replicate, ap, ◌∙◌, rules}
 use Rattle.ex_table.specs.Groups.{empty_group}
-use Rattle.ex_table.proofs.Calls.{all_same}
+use Rattle.allocator_api2.proofs.Callers.{all_same}
 use Rattle.ex_table.proofs.groups.clear_all.Goals as goal
 
 pub returns-clause-free : goal.returns-clause-free
-returns-clause-free c = all_same _ empty_group (λ f y h s. search rules) _ _ _ c.fill_with.ensures.ran.1 ∙ ap (λ n. replicate n empty_group) c.fill_with.ensures.len
+returns-clause-free c = all_same _ empty_group _ _ _ (λ f y h s. search rules) c.fill_with.ensures.ran.1 ∙ ap (λ n. replicate n empty_group) c.fill_with.ensures.len
