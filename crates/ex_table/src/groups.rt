@@ -11,13 +11,14 @@ use std::simd::prelude::*;
 /// How many lanes a group has.
 pub const LANES: usize = 12;
 
-/// For how many keys there is room with each group: two of three lanes, so that few groups are full.
+/// For how many keys there is room with each group: for two of three lanes, so that few groups are
+/// full.
 pub const KEYS_OF_GROUP: usize = 8;
 
-// No key was ever in the lane, or none since it could be free again.
+// No key has the lane, and no look-up has to go on because of it.
 const FREE: u8 = 0;
 
-// The lane's key is gone. A look-up goes on.
+// The lane's key is gone, and look-ups go on past its group.
 const GONE: u8 = 1;
 
 /// Twelve lanes, each with a tag and the number of a slot. The last four tags are of no lane: with
