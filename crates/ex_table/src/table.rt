@@ -210,7 +210,8 @@ impl<K: Eq + Hash + Drop, V: Drop, S: BuildHasher, A: Allocator + Clone> Table<K
         Ok(None)
     }
 
-    /// Makes room for this many new keys, where there is less. A refusal changes nothing.
+    /// Makes room for this many new keys, where there is less. A refusal changes nothing: it is
+    /// `CapacityOverflow` where that makes more than 2,000,000,000 keys, else it is of memory.
     pub fn reserve(&mut self, additional: usize) -> Result<(), TryReserveError>
         ensures fits { additional ≤ self.old.room → IsOk result }
         ensures room { OnOk result (additional ≤ self.new.room) }
