@@ -1,8 +1,7 @@
 -- A run that is moved to other places in arrays.
-use Rattle.std.proofs.Common.{◌≡◌, ℕ, ◌+◌, ◌≤◌, List, Option, None, length, take, drop, replicate, sym, ap, ◌∙◌, arith, length-drop, length-take}
-use Rattle.std.proofs.lemmas.List.{length-replicate, replicate-append-replicate}
-use lib.Seq.{drop-drop, take-add}
-use Rattle.aa_raw.specs.Places.{IsRun, with_run}
+use Rattle.aa_raw.proofs.Common.{◌≡◌, ℕ, ◌+◌, ◌≤◌, List, Option, None, length, take, drop, replicate, sym, ap, ◌∙◌, arith, length-drop, length-take, length-replicate, drop-drop, IsRun, with_run}
+use Rattle.std.proofs.lemmas.List.{replicate-append-replicate}
+use lib.Seq.{take-add}
 use Rattle.aa_raw.proofs.Calls.{IsRun-with-above}
 use Rattle.aa_raw.proofs.Places.{length-with_run, length-cut, with_run_on}
 use Rattle.aa_raw.proofs.Runs.{IsRun-part, drop-with}

@@ -1,9 +1,6 @@
 -- A run that is moved in arrays: what is still to be moved is where it was.
-use Rattle.std.proofs.Common.{◌≡◌, ℕ, ◌+◌, ◌-◌, ◌<◌, ◌≤◌, List, Option, length, take, drop, sym, ◌∙◌, arith, length-drop}
-use lib.Seq.{drop-drop}
-use Rattle.std.specs.List.{list_all}
+use Rattle.aa_raw.proofs.Common.{◌≡◌, ℕ, ◌+◌, ◌-◌, ◌<◌, ◌≤◌, List, Option, length, take, drop, sym, ◌∙◌, arith, length-drop, drop-drop, list_all, IsRun, moved}
 use Rattle.std.specs.Option.{is_some}
-use Rattle.aa_raw.specs.Places.{IsRun, moved}
 use Rattle.aa_raw.proofs.Calls.{IsRun-moved-above, IsRun-moved-below}
 use Rattle.aa_raw.proofs.Places.{length-moved, moved_on_down, moved_on_up}
 use Rattle.aa_raw.proofs.Runs.{IsRun-part}

@@ -1,31 +1,21 @@
 -- An array of N elements: its one machine value, its memory as a run of places, and what it leaves when it is passed. Assumes `Logic`.
 use mathlib.Core.Path.{◌≡◌, refl}
 use Prim.Native.Nat.{ℕ}
-use mathlib.Core.List.{List, [], ◌∷◌, map}
+use Rattle.aa_raw.proofs.Common.{[], ◌∷◌, map, Ura, full_share, ftrue, fat, ent, sep, Ty, Args, ty_array, a_type, Val, WT, has_ty, Logic, sem, cells, ‵, some, given, learn, ◌⊛◌, ◌$◌, ◌∵◌, !, qed, by, done, move, use1, use2, pick, split, fjoin, Array, whole_in, Is, part_at, mem, layouts, param, RattleType, nothing, Some, El, R, el_x, elτ, each}
+use mathlib.Core.List.{List}
 use lib.Dec.{T}
 use lib.ListN.{length}
-use seplogic.Ra.Ura.{Ura}
-use base.Fraction.{full_share}
-use base.Fml.{ftrue, fat}
-use base.Logic.{ent, ex, guard, sep}
-use mir.Syntax.{Ty, Args, ty_array, a_type, a_number}
-use mir.Val.{Val, WT, has_ty}
-use types.Logic.{Logic, sem}
-use types.SemTy.{cells}
-use types.Kit.{‵, some, given, learn, show, check, ◌⊛◌, ◌$◌, ◌∵◌, !, qed, by, done, move, use1, use2, pick, split, fjoin}
-use denote.Array.{Array}
+use base.Logic.{ex, guard}
+use mir.Syntax.{a_number}
+use types.Kit.{show, check}
 use denote.Exit.{Entries, all_last}
-use denote.Index.{row, whole_in, whole_out}
-use denote.Laws.{Is, Typed, Lawful, shows}
-use denote.Memory.{part_at, mem}
-use denote.Param.{ArrayAt, layouts, number, param}
+use denote.Index.{row, whole_out}
+use denote.Laws.{Typed, Lawful, shows}
+use denote.Param.{ArrayAt, number}
 use denote.Param.Laws.{param_laws, array_at_laws}
-use denote.RattleType.{RattleType}
-use denote.Steps.{nothing, peeks}
+use denote.Steps.{peeks}
 use borrow.Table.OneValue.{part_in, part_out}
-use Rattle.std.specs.Prelude.{Some}
-use Rattle.core.proofs.ptr.Rows.{El, R, el_x, elτ, apart, whole}
-use Rattle.aa_raw.specs.Holding.{each}
+use Rattle.core.proofs.ptr.Rows.{apart, whole}
 use Rattle.aa_raw.proofs.Spots.{Spot, at, values_in, values_out}
 
 module _ (E : El) (N : ℕ) where

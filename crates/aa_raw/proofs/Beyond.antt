@@ -3,10 +3,9 @@
 --     at_sides           take at an end of the run
 --     none-before-with, none-behind-with      other values in the run
 --     none-forgotten     what stood behind the run is forgotten
-use Rattle.std.proofs.Common.{◌≡◌, ℕ, zero, suc, ◌+◌, ◌-◌, ◌<◌, ◌≤◌, List, ◌∷◌, [], ◌++◌, Option, None, true, ◌&&◌, length, take, drop, replicate, refl, sym, ap, subst, ◌∙◌, arith}
-use Rattle.std.specs.Prelude.{is_none, slice_set}
-use Rattle.std.specs.List.{list_all}
-use Rattle.std.proofs.lemmas.List.{length-take-le, take_at, drop_at, drop_all, drop-set, drop-set-lt, take-set-le, take_more_set}
+use Rattle.aa_raw.proofs.Common.{◌≡◌, ℕ, zero, suc, ◌+◌, ◌-◌, ◌<◌, ◌≤◌, List, ◌++◌, Option, None, true, length, take, drop, replicate, refl, sym, ap, subst, ◌∙◌, arith, is_none, slice_set, list_all, length-take-le, take_at, drop_at, drop-set-lt, take-set-le}
+use Rattle.std.proofs.Common.{◌∷◌, [], ◌&&◌}
+use Rattle.std.proofs.lemmas.List.{drop_all, drop-set, take_more_set}
 use Rattle.std.proofs.lemmas.List.Folds.{list_all-append}
 use Rattle.aa_raw.specs.Places.{with_run}
 use Rattle.aa_raw.proofs.Runs.{drop-with}

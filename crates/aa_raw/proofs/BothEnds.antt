@@ -4,12 +4,8 @@
 --     between     one told by its first place and the first place behind it
 --     two_runs     a value of two lists in line, of which the first is a run
 --     by_arithmetic     the same calls at any numbers that arithmetic finds equal
-use Rattle.std.proofs.Common.{◌≡◌, ℕ, zero, suc, ◌+◌, ◌-◌, ◌<◌, ◌≤◌, List, [], ◌∷◌, ◌++◌, length, take, drop, get_or, Option, Some, None, refl, sym, ap, ◌∙◌, subst, arith, length-set}
-use Rattle.std.specs.Prelude.{slice_set, slice_get}
-use Rattle.std.proofs.lemmas.Bool.Decides.{nat_tests}
-use Rattle.std.proofs.lemmas.List.{drop_at, take_at}
-use Rattle.std.proofs.lemmas.Option.{slice_get_past}
-use Rattle.aa_raw.specs.Places.{IsFilled, IsRun, run}
+use Rattle.aa_raw.proofs.Common.{◌≡◌, ℕ, zero, suc, ◌+◌, ◌-◌, ◌<◌, ◌≤◌, List, ◌++◌, length, take, drop, get_or, Option, Some, None, refl, sym, ap, ◌∙◌, subst, arith, length-set, slice_set, slice_get, nat_tests, drop_at, take_at, slice_get_past, IsFilled, IsRun, run}
+use Rattle.std.proofs.Common.{[], ◌∷◌}
 use Rattle.aa_raw.proofs.Calls.{run-take_first, IsRun-take_first, run-take_back, IsRun-take_back, filled-back}
 use Rattle.aa_raw.proofs.Places.{run_filled}
 use Rattle.aa_raw.proofs.Runs.{IsRun-long, IsRun-part, IsRun-pop, IsRun-push, IsRun-shift, IsRun-set-above, IsRun-set-below, first-filled, last-filled, length-run, run-one, run-pop, run-push, run-set-above, run-set-below, run-set-same, run-shift, run-split}

@@ -1,12 +1,9 @@
 -- Clones of elements put into the first places of a block, one after another.
-use Rattle.std.proofs.Common.{◌≡◌, ℕ, ◌+◌, ◌<◌, List, [], ◌∷◌, ◌++◌, length, take, get_or, Option, Some, sym, ap, ◌∙◌, subst, arith, length-append}
-use Rattle.std.specs.Prelude.{slice_set}
+use Rattle.aa_raw.proofs.Common.{◌≡◌, ℕ, ◌+◌, ◌<◌, List, ◌++◌, length, take, get_or, Option, Some, sym, ap, ◌∙◌, subst, arith, length-append, slice_set, length-take-le, run, HoldsClones}
+use Rattle.std.proofs.Common.{[], ◌∷◌}
 use Rattle.std.specs.List.{AllZip}
-use Rattle.std.proofs.lemmas.List.{length-take-le}
 use Rattle.std.proofs.lemmas.List.Elements.{AllZip-push}
 use Rattle.std.proofs.lemmas.Grind.{take_at_read}
-use Rattle.aa_raw.specs.Places.{run}
-use Rattle.aa_raw.specs.Clones.{HoldsClones}
 use Rattle.aa_raw.proofs.Runs.{run-zero, run-push, IsRun-nil, IsRun-push}
 
 module _ {X : Type 0} (clones : X → X → Type 0) where

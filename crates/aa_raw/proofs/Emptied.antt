@@ -1,8 +1,6 @@
 -- Lemmas on a run of places that is emptied from its first on.
-use Rattle.std.proofs.Common.{◌≡◌, ℕ, ◌+◌, ◌<◌, ◌≤◌, List, length, get_or, replicate, Option, None, sym, ap, subst, ◌∙◌, arith, inr}
-use Rattle.std.specs.Prelude.{slice_set, is_some}
-use Rattle.std.proofs.lemmas.List.{length-replicate, replicate_more}
-use Rattle.aa_raw.specs.Places.{IsRun, IsFilled, with_run}
+use Rattle.aa_raw.proofs.Common.{◌≡◌, ℕ, ◌+◌, ◌<◌, ◌≤◌, List, length, get_or, replicate, Option, None, sym, ap, subst, ◌∙◌, arith, inr, slice_set, is_some, length-replicate, IsRun, IsFilled, with_run}
+use Rattle.std.proofs.lemmas.List.{replicate_more}
 use Rattle.aa_raw.proofs.Places.{with_run_more, outside, run_filled}
 
 module _ {X : Type 0} where

@@ -1,8 +1,7 @@
 -- The values in the first places of a block, one of which is read or written anew.
-use Rattle.std.proofs.Common.{◌≡◌, ℕ, zero, suc, ◌<◌, List, [], ◌∷◌, take, get_or, true, Option, Some, None, refl, ap, arith, length-set}
-use Rattle.std.specs.Prelude.{slice_set, is_some}
-use Rattle.std.specs.List.{list_all}
-use Rattle.aa_raw.specs.Places.{IsRun, somes, run}
+use Rattle.aa_raw.proofs.Common.{◌≡◌, ℕ, zero, suc, ◌<◌, List, take, get_or, true, Option, Some, None, refl, ap, arith, length-set, slice_set, is_some, list_all, IsRun, somes}
+use Rattle.std.proofs.Common.{[], ◌∷◌}
+use Rattle.aa_raw.specs.Places.{run}
 
 module _ {X : Type 0} where
   abbrev AllFilled : List (Option X) → Type 0

@@ -1,10 +1,5 @@
 -- A block of which all but the first places are forgotten.
-use Rattle.std.proofs.Common.{◌≡◌, ℕ, ◌-◌, length, replicate, None, true, drop, arith}
-use Rattle.std.specs.Prelude.{is_none}
-use Rattle.std.specs.List.{list_all}
-use Rattle.std.proofs.lemmas.List.{length-replicate}
-use Rattle.aa_raw.specs.Block.{Block, with_places}
-use Rattle.aa_raw.specs.Places.{IsRun, run, with_run}
+use Rattle.aa_raw.proofs.Common.{◌≡◌, ℕ, ◌-◌, length, replicate, None, true, drop, arith, is_none, list_all, length-replicate, Block, with_places, IsRun, run, with_run}
 use Rattle.aa_raw.proofs.Beyond.{none-forgotten}
 use Rattle.aa_raw.proofs.Places.{length-with_run}
 use Rattle.aa_raw.proofs.Runs.{IsRun-same, run-with-below}

@@ -1,8 +1,6 @@
 -- A block of which all but the first places are forgotten, as it becomes an `IntoIter`.
-use Rattle.std.proofs.Common.{◌≡◌, ℕ, ◌-◌, refl, sym, subst, arith}
-use Rattle.aa_raw.specs.Block.{Block}
+use Rattle.aa_raw.proofs.Common.{◌≡◌, ℕ, ◌-◌, refl, sym, subst, arith, Block, IsRun}
 use Rattle.aa_raw.specs.LeftFields.{IsBetween}
-use Rattle.aa_raw.specs.Places.{IsRun}
 use Rattle.aa_raw.proofs.Forgetting.{forgot, IsRun-forgot, none-forgot}
 
 module _ {T A : Type 0} (b : Block T A) (n : ℕ) (filled : IsRun b.places 0 n) (new : Block T A) (is : new ≡ forgot b n filled) where

@@ -1,3 +1,4 @@
+pub mod Common
 mod Access
 mod Across
 mod Arrayed

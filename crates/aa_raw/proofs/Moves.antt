@@ -1,9 +1,6 @@
 -- Moves within one block, as its contracts say them.
-use Rattle.std.proofs.Common.{◌≡◌, ◌≢◌, ℕ, ◌+◌, ◌<◌, ◌≤◌, ◌==◌, Bool, if◌then◌else◌, get_or, slice_set, inl, inr, List, length, Option, None, sym, ap, ◌∙◌, arith}
-use Rattle.std.proofs.lemmas.Bool.{eq-eqb}
-use Rattle.std.proofs.lemmas.Bool.Decides.{eqb_tells}
-use Rattle.aa_raw.specs.Places.{moved}
-use Rattle.aa_raw.specs.Block.{Block, wrote}
+use Rattle.aa_raw.proofs.Common.{◌≡◌, ◌≢◌, ℕ, ◌+◌, ◌<◌, ◌≤◌, ◌==◌, if◌then◌else◌, get_or, slice_set, inl, inr, List, length, Option, None, sym, ap, ◌∙◌, arith, eq-eqb, eqb_tells, moved, Block, wrote}
+use Rattle.std.proofs.Common.{Bool}
 use Rattle.aa_raw.proofs.Places.{below_or_not, moved_none, moved_nowhere, moved_up, moved_down}
 
 module _ {X : Type 0} where

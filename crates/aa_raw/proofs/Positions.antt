@@ -1,10 +1,9 @@
 -- Lemmas on edits at a position of the first n places of a block, which are filled.
-use Rattle.std.proofs.Common.{◌≡◌, ◌≢◌, ℕ, suc, ◌+◌, ◌-◌, ◌<◌, ◌≤◌, List, [], ◌∷◌, ◌++◌, length, take, drop, get_or, Option, Some, None, true, refl, sym, ap, ◌∙◌, subst, arith, length-append, length-take, length-drop, length-set, zero-add, get_or-set_other}
-use Rattle.std.specs.Prelude.{slice_set, slice_get, insert, remove, swap_remove, is_some}
-use Rattle.std.proofs.lemmas.Bool.Decides.{nat_tests}
-use Rattle.std.proofs.lemmas.List.{set-set, set_comm, take-append-drop, take-set-le}
-use Rattle.std.proofs.lemmas.Option.{slice_get_read, get_or_from_slice_get}
-use Rattle.aa_raw.specs.Places.{IsRun, IsFilled, run, moved}
+use Rattle.aa_raw.proofs.Common.{◌≡◌, ◌≢◌, ℕ, suc, ◌+◌, ◌-◌, ◌<◌, ◌≤◌, List, ◌++◌, length, take, drop, get_or, Option, Some, None, true, refl, sym, ap, ◌∙◌, subst, arith, length-append, length-take, length-drop, length-set, zero-add, slice_set, slice_get, is_some, nat_tests, take-append-drop, take-set-le, slice_get_read, IsRun, IsFilled, run, moved}
+use Rattle.std.proofs.Common.{[], ◌∷◌, get_or-set_other}
+use Rattle.std.specs.Prelude.{insert, remove, swap_remove}
+use Rattle.std.proofs.lemmas.List.{set-set, set_comm}
+use Rattle.std.proofs.lemmas.Option.{get_or_from_slice_get}
 use Rattle.aa_raw.proofs.Moves.{moved_one}
 use Rattle.aa_raw.proofs.Calls.{run-of_none, IsRun-rest, run-reserved, IsRun-reserved}
 use Rattle.aa_raw.proofs.Places.{lengths, length-moved, run_filled}

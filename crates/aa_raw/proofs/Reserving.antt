@@ -1,13 +1,10 @@
 -- What a reserve leaves, and how many places there are after the calls of a block.
-use Rattle.std.proofs.Common.{◌≡◌, ℕ, ◌+◌, ◌-◌, ◌<◌, ◌≤◌, List, length, replicate, Option, None, refl, sym, ap, ◌∙◌, arith, inl, inr}
-use Rattle.std.specs.Prelude.{Bool, if◌then◌else◌}
+use Rattle.aa_raw.proofs.Common.{◌≡◌, ℕ, ◌+◌, ◌-◌, ◌<◌, ◌≤◌, List, length, replicate, Option, None, refl, sym, ap, ◌∙◌, arith, inl, inr, if◌then◌else◌, eqb_tells, nat_tests, usize_max, sized, Block, Reserves, empty_places, length_refill}
+use Rattle.std.specs.Prelude.{Bool}
 use Rattle.std.proofs.lemmas.Bool.{cases_lt}
-use Rattle.std.proofs.lemmas.Bool.Decides.{eqb_tells, nat_tests}
-use Rattle.aa_raw.specs.Growth.{usize_max, sized}
-use Rattle.aa_raw.specs.Block.{Block, Reserves, fresh}
-use Rattle.aa_raw.specs.Places.{empty_places, endless_places}
+use Rattle.aa_raw.specs.Block.{fresh}
+use Rattle.aa_raw.specs.Places.{endless_places}
 use Rattle.aa_raw.specs.declared.raw_vec.Growth.{Growth}
-use Rattle.std.specs.List.{length_refill}
 use Rattle.aa_raw.proofs.Places.{length-empty_places, lengths, endless-empty, sized-empty, with_none}
 
 module _ {X A : Type 0} (size : ℕ) (old : Block X A) (n k wanted : ℕ) where

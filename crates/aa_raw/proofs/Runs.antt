@@ -1,9 +1,8 @@
 -- Lemmas on the values in a run of places.
-use Rattle.std.proofs.Common.{◌≡◌, ℕ, ◌+◌, ◌-◌, ◌<◌, ◌≤◌, suc, true, List, [], ◌∷◌, ◌++◌, Option, Some, None, map, length, take, drop, get_or, replicate, refl, sym, ◌∙◌, ap, subst, arith, rules, append_assoc, length-append, length-take, length-drop, add-zero}
-use Rattle.std.proofs.lemmas.List.{places, same_lists, take_at, drop_at, drop-drop, take-append-drop, length-set, length-map, length-replicate, set_split, drop_more, drop-set-lt, drop-append-le, take-append-le, length-take-le, get_or-set_same, drop-take, take-take}
-use Rattle.std.specs.Prelude.{slice_set, is_some}
-use Rattle.std.specs.List.{list_all}
-use Rattle.aa_raw.specs.Places.{somes, run, moved, IsRun, IsFilled, with_run}
+use Rattle.aa_raw.proofs.Common.{◌≡◌, ℕ, ◌+◌, ◌-◌, ◌<◌, ◌≤◌, suc, true, List, ◌++◌, Option, Some, None, length, take, drop, get_or, replicate, refl, sym, ◌∙◌, ap, subst, arith, rules, append_assoc, length-append, length-take, length-drop, take_at, drop_at, take-append-drop, length-map, length-replicate, drop-set-lt, drop-append-le, take-append-le, length-take-le, get_or-set_same, take-take, slice_set, is_some, list_all, somes, IsRun, IsFilled}
+use Rattle.std.proofs.Common.{[], ◌∷◌, map, add-zero}
+use Rattle.std.proofs.lemmas.List.{places, same_lists, drop-drop, length-set, set_split, drop_more, drop-take}
+use Rattle.aa_raw.specs.Places.{run, moved, with_run}
 use Rattle.aa_raw.proofs.Places.{length-with_run, length-moved, run_filled}
 
 module _ {X : Type 0} where

@@ -1,11 +1,10 @@
 -- A slice of which a closure was asked in order, up to one place.
 use mathlib.Core.Bool.{beq}
-use Rattle.std.proofs.Common.{◌≡◌, not, ℕ, suc, ◌+◌, ◌<◌, ◌≤◌, Bool, true, false, List, [], ◌∷◌, ◌++◌, length, take, drop, get_or, sym, ap, ◌∙◌, subst, refl, arith, append_assoc, length-set, length-append, length-drop, zero-add, add-zero}
-use Rattle.std.specs.Prelude.{slice_set, if◌then◌else◌}
+use Rattle.aa_vec.proofs.Common.{◌≡◌, not, ℕ, suc, ◌+◌, ◌<◌, ◌≤◌, Bool, true, false, List, [], ◌∷◌, ◌++◌, length, take, drop, get_or, sym, ap, ◌∙◌, subst, refl, arith, append_assoc, length-set, length-append, length-drop, slice_set, if◌then◌else◌, append-nil, drop-set-lt, take_all, drop_all, take-append-drop, drop-set, drop-append-le, take_at, drop_at, length-take-le, MayAskInOrder, MayChainFrom, MayDeduplicate, AsksUntil, ChainsUntil, ChainsAlong}
+use Rattle.std.proofs.Common.{zero-add, add-zero}
 use Rattle.std.proofs.Math.Seq.{drop-cons}
-use Rattle.std.proofs.lemmas.List.{append-nil, drop-set-lt, take_more_set, take-set, take_all, drop_all, take-append-drop, drop-set, drop-append-le, take-append-le, take_at, drop_at, length-take-le}
-use Rattle.aa_vec.specs.Choosing.{MayAskInOrder, MayChainFrom, MayDeduplicate}
-use Rattle.aa_vec.specs.Until.{AsksUntil, AsksNeighbours, ChainsUntil, ChainsAlong}
+use Rattle.std.proofs.lemmas.List.{take_more_set, take-set, take-append-le}
+use Rattle.aa_vec.specs.Until.{AsksNeighbours}
 
 module _ {T : Type 0} (ys : List T) (i : ℕ) (d : T) (h : i < length ys) where
   -- the elements from the index on

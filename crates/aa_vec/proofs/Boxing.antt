@@ -1,16 +1,10 @@
 -- A vector with room for its elements and no more.
-use Rattle.std.proofs.Common.{◌≡◌, ℕ, ◌*◌, ◌^◌, ◌<◌, ◌≤◌, length, sym, ap, ◌∙◌, arith, inl, inr}
+use Rattle.aa_vec.proofs.Common.{◌≡◌, ℕ, ◌*◌, ◌^◌, ◌<◌, ◌≤◌, length, sym, ap, ◌∙◌, arith, inl, inr, nat_tests, usize_max, Block, IsRun, length-run, view_of}
 use Rattle.std.proofs.Math.Nat.{le-mul_of_pos_right}
-use Rattle.std.proofs.lemmas.Bool.Decides.{nat_tests}
-use Rattle.aa_raw.specs.Growth.{usize_max}
-use Rattle.aa_raw.specs.Block.{Block}
-use Rattle.aa_raw.specs.Places.{IsRun}
 use Rattle.aa_raw.proofs.Places.{same_or_not}
-use Rattle.aa_raw.proofs.Runs.{length-run}
 use Rattle.aa_boxed.specs.Room.{IsJustFor}
 use Rattle.aa_boxed.specs.Slice.{Slice, slice_of}
 use Rattle.aa_vec.specs.Boxes.{IsUnboxed}
-use Rattle.aa_vec.specs.Inner.{view_of}
 
 module _ {T A : Type 0} (size : ℕ) where
   -- the block of a boxed slice as that of a vector

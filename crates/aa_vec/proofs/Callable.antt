@@ -1,6 +1,5 @@
 -- Closures that may be called whatever they are given: a caller of `retain` or `dedup_by` answers its premise by one of these.
-use Rattle.std.proofs.Common.{Bool, List, [], ◌∷◌}
-use Rattle.aa_vec.specs.Choosing.{MayAskInOrder, MayChainFrom, MayDeduplicate, IsCallableInOrder, IsCallableAlong}
+use Rattle.aa_vec.proofs.Common.{Bool, List, [], ◌∷◌, MayAskInOrder, MayChainFrom, MayDeduplicate, IsCallableInOrder, IsCallableAlong}
 
 may_ask : {F T : Type 0} (Asks : F → T → Bool → F → T → Type 0) (Takes : F → T → Type 0) → ((f : F) (x : T) → Takes f x) → (f : F) (xs : List T) → MayAskInOrder Asks Takes f xs
 may_ask Asks Takes any f [] = tt

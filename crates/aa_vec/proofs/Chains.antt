@@ -1,10 +1,6 @@
 -- Elements behind a gap, asked one after the other beside the last one kept.
-use Rattle.std.proofs.Common.{◌≡◌, ℕ, suc, ◌+◌, ◌<◌, ◌≤◌, Bool, true, false, List, [], ◌∷◌, ◌++◌, length, map, drop, Some, refl, sym, ap, ◌∙◌, subst, arith, length-append}
-use Rattle.std.proofs.lemmas.List.{drop_at, length-map, take-append-drop}
-use Rattle.aa_vec.specs.Behind.{StandsBehind, behind_items}
-use Rattle.aa_vec.specs.Choosing.{MayChainFrom, MayDeduplicate}
-use Rattle.aa_vec.specs.Until.{ChainsUntil, ChainsAlong, ChainsOn, AsksLast, ChainsBehind}
-use Rattle.aa_vec.specs.Vector.{Vector, len}
+use Rattle.aa_vec.proofs.Common.{◌≡◌, ℕ, suc, ◌+◌, ◌<◌, ◌≤◌, Bool, true, false, List, [], ◌∷◌, ◌++◌, length, map, drop, Some, refl, sym, ap, ◌∙◌, subst, arith, length-append, drop_at, length-map, take-append-drop, StandsBehind, behind_items, MayChainFrom, MayDeduplicate, ChainsUntil, ChainsAlong, AsksLast, ChainsBehind, Vector, len}
+use Rattle.aa_vec.specs.Until.{ChainsOn}
 use Rattle.aa_vec.proofs.Gaps.{lent-is, refilled, LeavesBehind-view}
 use Rattle.aa_vec.proofs.Stands.{count, first_are, parts, replaced_are}
 

@@ -1,9 +1,5 @@
 -- Lemmas on a vector that grew while it was full.
-use Rattle.std.proofs.Common.{◌≡◌, ℕ, ◌+◌, ◌-◌, ◌<◌, ◌≤◌, List, ◌++◌, append_assoc, refl, ap, ◌∙◌, subst, arith, inl, inr}
-use Rattle.std.specs.Prelude.{min}
-use Rattle.aa_raw.specs.Growth.{usize_max}
-use Rattle.aa_vec.specs.Vector.{Vector, SameBlock, Holds, MakesRoom}
-use Rattle.aa_vec.specs.Extending.{Climbs, stays, grows, asked_for}
+use Rattle.aa_vec.proofs.Common.{◌≡◌, ℕ, ◌+◌, ◌-◌, ◌<◌, ◌≤◌, List, ◌++◌, append_assoc, refl, ap, ◌∙◌, subst, arith, inl, inr, min, usize_max, Vector, SameBlock, Holds, MakesRoom, Climbs, stays, grows, asked_for}
 
 module _ {T A : Type 0} where
   pub SameBlock-refl : (v : Vector T A) → SameBlock v v

@@ -1,12 +1,5 @@
 -- Extensions by an iterator that tells a function of how many items are to come.
-use Rattle.std.proofs.Common.{◌≡◌, ℕ, ◌+◌, ◌-◌, ◌<◌, ◌≤◌, List, [], ◌∷◌, ◌++◌, length, None, append_assoc, sym, ap, ◌∙◌, subst, arith, inl, inr, length-append}
-use Rattle.std.specs.Prelude.{min}
-use Rattle.std.proofs.lemmas.Bool.{cases_lt}
-use Rattle.std.proofs.lemmas.List.{append-nil}
-use Rattle.aa_raw.specs.declared.collections.TryReserveError.{TryReserveError}
-use Rattle.aa_raw.specs.Growth.{usize_max}
-use Rattle.aa_vec.specs.Vector.{Vector, len, SameBlock, LacksRoom, MakesRoom}
-use Rattle.aa_vec.specs.Extending.{Climbs, asked_for, YieldsTelling, ExtendsAll, ExtendsFull, ExtendsByAll, ExtendsByFront, ItemsLeft, gives_item, lower_by, TellsExactly}
+use Rattle.aa_vec.proofs.Common.{◌≡◌, ℕ, ◌+◌, ◌-◌, ◌<◌, ◌≤◌, List, [], ◌∷◌, ◌++◌, length, None, append_assoc, sym, ap, ◌∙◌, subst, arith, inl, inr, length-append, min, cases_lt, append-nil, TryReserveError, usize_max, Vector, len, SameBlock, LacksRoom, MakesRoom, Climbs, asked_for, YieldsTelling, ExtendsAll, ExtendsFull, ExtendsByAll, ExtendsByFront, ItemsLeft, gives_item, lower_by, TellsExactly}
 use Rattle.aa_vec.proofs.Climbing.{SameBlock-refl, Climbs-counted, Climbs-exact}
 
 -- another function tells the same of `taken`, behind which `more` is to come; and the vector was another in the same block

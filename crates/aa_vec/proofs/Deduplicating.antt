@@ -1,10 +1,6 @@
 -- Elements asked beside the last one kept, of which those that stay were moved down.
-use Rattle.std.proofs.Common.{◌≡◌, ℕ, zero, suc, ◌+◌, ◌-◌, ◌≤◌, ◌<◌, Bool, true, false, not, List, [], ◌∷◌, ◌++◌, length, map, take, drop, refl, sym, ap, ◌∙◌, subst, arith, append_assoc, length-append}
+use Rattle.aa_vec.proofs.Common.{◌≡◌, ℕ, zero, suc, ◌+◌, ◌-◌, ◌≤◌, ◌<◌, Bool, true, false, not, List, [], ◌∷◌, ◌++◌, length, map, take, drop, refl, sym, ap, ◌∙◌, subst, arith, append_assoc, length-append, StandsBehind, SetsBack, behind_items, kept_behind_removed, removed_count, ChainsFrom, Deduplicated, MayChainFrom, MayDeduplicate, Deduplicates, ChainsUntil, ChainsBehind, Vector, len}
 use Rattle.std.proofs.lemmas.List.{same_from_push}
-use Rattle.aa_vec.specs.Behind.{StandsBehind, SetsBack, behind_items}
-use Rattle.aa_vec.specs.Choosing.{kept_behind_removed, removed_count, ChainsFrom, Deduplicated, MayChainFrom, MayDeduplicate, Deduplicates}
-use Rattle.aa_vec.specs.Until.{ChainsUntil, ChainsBehind}
-use Rattle.aa_vec.specs.Vector.{Vector, len}
 use Rattle.aa_vec.proofs.Chains.{same_end, split_last}
 use Rattle.aa_vec.proofs.Closed.{marks}
 use Rattle.aa_vec.proofs.Stages.{Turn, Stage, Turned, turned, start-len, stage-start, stage-ended}

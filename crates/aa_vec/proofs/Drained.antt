@@ -1,11 +1,6 @@
 -- Elements behind the items of a vector that are dropped, taken from either end, or moved down behind others.
-use Rattle.std.proofs.Common.{◌≡◌, ℕ, ◌+◌, ◌-◌, ◌<◌, ◌≤◌, List, ◌++◌, length, drop, replicate, Option, None, refl, sym, ap, ◌∙◌, subst, arith, length-append}
-use Rattle.std.specs.Prelude.{slice_set}
-use Rattle.std.proofs.lemmas.List.{append_assoc, drop-drop, drop-set-add, drop-set-lt, drop_at, length-replicate}
-use Rattle.aa_raw.specs.Places.{IsRun, run}
-use Rattle.aa_raw.proofs.Runs.{length-run, run-drop, run-set-above, run-split, IsRun-part, IsRun-set-above}
-use Rattle.aa_vec.specs.Behind.{StandsBehind, ClosesGap, DropsBehind, behind_items, with_behind}
-use Rattle.aa_vec.specs.Vector.{Vector, len, Holds}
+use Rattle.aa_vec.proofs.Common.{◌≡◌, ℕ, ◌+◌, ◌-◌, ◌<◌, ◌≤◌, List, ◌++◌, length, drop, replicate, Option, None, refl, sym, ap, ◌∙◌, subst, arith, length-append, slice_set, drop-drop, drop-set-add, drop-set-lt, drop_at, length-replicate, IsRun, run, length-run, run-drop, run-set-above, run-split, IsRun-part, IsRun-set-above, StandsBehind, ClosesGap, DropsBehind, behind_items, with_behind, Vector, len, Holds}
+use Rattle.std.proofs.lemmas.List.{append_assoc}
 use Rattle.aa_vec.proofs.Gaps.{further, run-of_drop, IsRun-to_drop}
 
 module _ {T A : Type 0} where

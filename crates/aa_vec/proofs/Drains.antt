@@ -1,17 +1,11 @@
 -- Steps of a drain.
-use borrow.Rule.Reborrow.{re_v}
-use Rattle.std.proofs.Common.{◌≡◌, ℕ, ◌+◌, ◌-◌, ◌<◌, ◌≤◌, List, [], ◌∷◌, ◌++◌, length, take, drop, Option, Some, None, refl, sym, ap, ◌∙◌, subst, arith, length-append, length-drop, length-set, length-take, MutBor}
-use Rattle.std.specs.Prelude.{slice_set, slice_range}
+use Rattle.aa_vec.proofs.Common.{re_v, ◌≡◌, ℕ, ◌+◌, ◌-◌, ◌<◌, ◌≤◌, List, [], ◌∷◌, ◌++◌, length, take, drop, Option, Some, None, refl, sym, ap, ◌∙◌, subst, arith, length-append, length-drop, length-set, length-take, MutBor, slice_set, drop-drop, drop-set-add, drop-set-lt, drop-take, IsRun, run, run-split, run-set-above, IsRun-part, IsRun-set-above, length-run, StandsBehind, SetsBack, behind_items, Vector, len, Drain}
+use Rattle.std.specs.Prelude.{slice_range}
 use Rattle.std.specs.Iterator.Runs.{YieldsInOrder, YieldsInReverse}
 use Rattle.std.proofs.iter.runs.Sources.{from_front, from_back, as_is, as_is_back}
-use Rattle.std.proofs.lemmas.List.{drop-drop, drop-set-add, drop-set-lt, drop-take}
-use Rattle.aa_raw.specs.Places.{IsRun, run}
-use Rattle.aa_raw.proofs.Runs.{run-none, run-split, run-set-above, IsRun-part, IsRun-set-above, length-run}
+use Rattle.aa_raw.proofs.Runs.{run-none}
 use Rattle.aa_vec.proofs.Gaps.{run-of_drop, IsRun-to_drop}
-use Rattle.aa_vec.specs.Behind.{StandsBehind, SetsBack, behind_items}
-use Rattle.aa_vec.specs.Vector.{Vector, len}
 use Rattle.aa_vec.specs.Draining.{TakesRange, DrainKeeps, DrainKeepsAlong, drain_rest, drain_tail, drains_first, drains_last}
-use Rattle.aa_vec.specs.declared.vec.drain.Drain.{Drain}
 use Rattle.aa_vec.proofs.Climbing.{SameBlock-refl, SameBlock-trans}
 use Rattle.aa_vec.proofs.Drained.{part_stand, later_part}
 use Rattle.aa_vec.proofs.Stands.{first_are}

@@ -1,13 +1,8 @@
 -- What calls that take elements out of a range leave, one after the other.
-use Rattle.std.proofs.Common.{◌≡◌, ℕ, suc, ◌+◌, ◌-◌, ◌<◌, ◌≤◌, Bool, true, not, List, [], ◌∷◌, ◌++◌, length, map, take, drop, Option, Some, None, refl, sym, ap, ◌∙◌, subst, arith, inl, inr, append_assoc, length-append, length-drop, length-take}
-use Rattle.std.specs.Prelude.{filter}
-use Rattle.std.specs.Iterator.{Yields, MakesProgress, at_most}
-use Rattle.std.proofs.lemmas.List.{append-nil, drop-drop, map-append, take-append-drop, take-take, drop-take}
-use Rattle.std.proofs.lemmas.List.Elements.{filter-append}
-use Rattle.aa_vec.specs.Choosing.{Asked, AskedInOrder, MayAskInOrder, IsCallableInOrder, kept, passed_over}
-use Rattle.aa_vec.specs.Extracting.{Extracts, Extracted, ExtractedTo, ExtractsAlong, extract_count, extract_kept, extract_rest, extract_vec}
-use Rattle.aa_vec.specs.declared.vec.extract_if.ExtractBy.{ExtractBy}
-use Rattle.aa_vec.specs.declared.vec.extract_if.ExtractIf.{ExtractIf}
+use Rattle.aa_vec.proofs.Common.{◌≡◌, ℕ, suc, ◌+◌, ◌-◌, ◌<◌, ◌≤◌, Bool, true, not, List, [], ◌∷◌, ◌++◌, length, map, take, drop, Option, Some, None, refl, sym, ap, ◌∙◌, subst, arith, inl, inr, append_assoc, length-append, length-drop, length-take, filter, Yields, append-nil, drop-drop, take-append-drop, drop-take, filter-append, Asked, AskedInOrder, MayAskInOrder, IsCallableInOrder, kept, passed_over, Extracts, extract_kept, extract_rest, ExtractBy, ExtractIf}
+use Rattle.std.specs.Iterator.{MakesProgress, at_most}
+use Rattle.std.proofs.lemmas.List.{map-append, take-take}
+use Rattle.aa_vec.specs.Extracting.{Extracted, ExtractedTo, ExtractsAlong, extract_count, extract_vec}
 use Rattle.aa_vec.proofs.Climbing.{SameBlock-refl, SameBlock-trans}
 use Rattle.aa_vec.proofs.Closed.{few_runs, moved_most}
 

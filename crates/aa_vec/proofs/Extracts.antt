@@ -1,16 +1,7 @@
 -- Calls that take elements out of a range.
-use borrow.Rule.Reborrow.{re_v}
-use Rattle.std.proofs.Common.{◌≡◌, ℕ, suc, ◌+◌, ◌-◌, ◌≤◌, Bool, true, false, not, List, [], ◌∷◌, ◌++◌, length, map, drop, Option, Some, None, refl, sym, ap, ◌∙◌, subst, arith, length-append, MutBor}
-use Rattle.std.specs.Prelude.{cond, filter, MatchOption}
-use Rattle.std.proofs.lemmas.List.{take-append-drop}
-use Rattle.aa_raw.proofs.Runs.{run-zero}
-use Rattle.aa_vec.specs.Behind.{StandsBehind, SetsBack, ClosesTwice, behind_items}
-use Rattle.aa_vec.specs.Choosing.{Asked, EndsTrue, MayAskInOrder, kept, passed_over}
+use Rattle.aa_vec.proofs.Common.{re_v, ◌≡◌, ℕ, suc, ◌+◌, ◌-◌, ◌≤◌, Bool, true, false, not, List, [], ◌∷◌, ◌++◌, length, map, drop, Option, Some, None, refl, sym, ap, ◌∙◌, subst, arith, length-append, MutBor, cond, filter, MatchOption, take-append-drop, run-zero, StandsBehind, SetsBack, ClosesTwice, behind_items, Asked, EndsTrue, MayAskInOrder, kept, passed_over, ClosesExtract, ExtractsRange, Extracts, StaysAt, Picks, Vector, len, Holds, Moves, ExtractBy}
 use Rattle.aa_vec.specs.Draining.{drain_rest, drain_tail}
-use Rattle.aa_vec.specs.Extracting.{ClosesExtract, ExtractsRange, Extracts, extract_kept, extract_rest, extract_tail}
-use Rattle.aa_vec.specs.Until.{StaysAt, Picks}
-use Rattle.aa_vec.specs.Vector.{Vector, len, Holds, Moves}
-use Rattle.aa_vec.specs.declared.vec.extract_if.ExtractBy.{ExtractBy}
+use Rattle.aa_vec.specs.Extracting.{extract_kept, extract_rest, extract_tail}
 use Rattle.aa_vec.proofs.Drained.{still_stand, still_are, part_stand, later_part}
 use Rattle.aa_vec.proofs.Drains.{range_held, range_drains}
 use Rattle.aa_vec.proofs.Gaps.{further}

@@ -1,11 +1,7 @@
 -- A new vector of n clones of one value.
-use Rattle.std.proofs.Common.{◌≡◌, ℕ, ◌-◌, ◌<◌, List, [], ◌∷◌, ◌++◌, length, replicate, sym, ap, ◌∙◌, subst, arith, length-append}
-use Rattle.std.specs.Prelude.{if◌then◌else◌, ◌==◌}
-use Rattle.std.proofs.lemmas.List.{length-replicate}
+use Rattle.aa_vec.proofs.Common.{◌≡◌, ℕ, ◌-◌, ◌<◌, List, [], ◌∷◌, ◌++◌, length, replicate, sym, ap, ◌∙◌, subst, arith, length-append, if◌then◌else◌, ◌==◌, length-replicate, Doubling, Copies, Fills, Vector, IsNew}
 use Rattle.std.proofs.lemmas.List.Elements.{length_all_zip}
-use Rattle.aa_raw.specs.declared.raw_vec.Growth.TheVariants.{Doubling}
-use Rattle.aa_vec.specs.Copies.{Copies, Fills, IsMade, IsMadeOfOne}
-use Rattle.aa_vec.specs.Vector.{Vector, IsNew}
+use Rattle.aa_vec.specs.Copies.{IsMade, IsMadeOfOne}
 use Rattle.aa_vec.proofs.Copied.{all-copied}
 use Rattle.aa_vec.proofs.Lists.{unequal}
 

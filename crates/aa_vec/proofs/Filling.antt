@@ -1,17 +1,6 @@
 -- A gap before the elements behind the items of a vector: items are put into it, and it is made.
-use Rattle.std.proofs.Common.{◌≡◌, ℕ, ◌+◌, ◌-◌, ◌<◌, ◌≤◌, List, [], ◌∷◌, ◌++◌, length, take, drop, Option, Some, None, append_assoc, refl, sym, ap, ◌∙◌, subst, arith, length-append, length-take}
-use Rattle.std.specs.Prelude.{if◌then◌else◌, ◌==◌}
-use Rattle.std.specs.Iterator.{Yields}
-use Rattle.std.proofs.lemmas.List.{append-nil, drop-drop}
-use Rattle.aa_raw.specs.Block.{wrote}
-use Rattle.aa_raw.specs.Places.{IsRun, run, moved}
-use Rattle.aa_raw.proofs.Places.{length-moved}
-use Rattle.aa_raw.proofs.Runs.{length-run, IsRun-long, IsRun-same, run-moved, run-moved-below}
-use Rattle.aa_vec.specs.Vector.{Vector, len, Holds, Writes, GrowsTo}
-use Rattle.aa_vec.specs.Inner.{view_of, IsFront}
-use Rattle.aa_vec.specs.Behind.{StandsBehind, SetsBack, ClosesGap, behind_items}
-use Rattle.aa_vec.specs.Filling.{OpensGap, Widens, Placed, FillsGap, FillsAndCloses}
-use Rattle.aa_vec.specs.declared.vec.Vec.TheInside.{Inside}
+use Rattle.aa_vec.proofs.Common.{◌≡◌, ℕ, ◌+◌, ◌-◌, ◌<◌, ◌≤◌, List, [], ◌∷◌, ◌++◌, length, take, drop, Option, Some, None, append_assoc, refl, sym, ap, ◌∙◌, subst, arith, length-append, length-take, if◌then◌else◌, ◌==◌, Yields, append-nil, drop-drop, wrote, IsRun, run, moved, length-moved, length-run, IsRun-long, IsRun-same, run-moved, run-moved-below, Vector, len, Holds, Writes, GrowsTo, view_of, IsFront, StandsBehind, SetsBack, ClosesGap, behind_items, Widens, Placed, FillsGap, FillsAndCloses, Inside}
+use Rattle.aa_vec.specs.Filling.{OpensGap}
 use Rattle.aa_vec.proofs.Climbing.{SameBlock-refl, SameBlock-trans, MakesRoom-into, MakesRoom-fits}
 use Rattle.aa_vec.proofs.Drained.{still_stand, still_are}
 use Rattle.aa_vec.proofs.Gaps.{run-of_drop, IsRun-to_drop, there, elements}

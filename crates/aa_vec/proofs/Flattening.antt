@@ -1,12 +1,7 @@
 -- Arrays whose elements are moved behind those of a vector, one array after another.
-use Rattle.std.proofs.Common.{◌≡◌, ℕ, ◌+◌, ◌-◌, ◌*◌, ◌<◌, ◌≤◌, List, [], ◌++◌, replicate, Option, None, Some, length, get_or, refl, sym, ap, ◌∙◌, subst, arith, inl, inr, append_assoc, append-nil, length-append}
-use Rattle.std.specs.Prelude.{slice_set}
-use Rattle.std.proofs.lemmas.Bool.Decides.{eqb_tells, nat_tests}
-use Rattle.aa_raw.specs.Growth.{usize_max}
-use Rattle.aa_raw.specs.Places.{IsRun, run}
+use Rattle.aa_vec.proofs.Common.{◌≡◌, ℕ, ◌+◌, ◌-◌, ◌*◌, ◌<◌, ◌≤◌, List, [], ◌++◌, replicate, Option, None, Some, length, get_or, refl, sym, ap, ◌∙◌, subst, arith, inl, inr, append_assoc, length-append, slice_set, eqb_tells, nat_tests, usize_max, IsRun, run, flattened, sized}
+use Rattle.std.proofs.Common.{append-nil}
 use Rattle.aa_raw.proofs.Calls.{run-of_none, run-take_first}
-use Rattle.aa_vec.specs.Arrays.{flattened}
-use Rattle.aa_vec.specs.Vector.{sized}
 
 -- room as large as it is to be is as large as that again
 pub sized-again : (size n : ℕ) → sized size (sized size n) ≡ sized size n

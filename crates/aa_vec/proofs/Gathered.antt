@@ -1,16 +1,8 @@
 -- Items gathered in a vector of their own, and what was asked for where they could not be.
-use Rattle.std.proofs.Common.{◌≡◌, ℕ, ◌+◌, ◌-◌, ◌<◌, ◌≤◌, List, [], ◌∷◌, ◌++◌, length, Option, None, refl, sym, ap, ◌∙◌, subst, arith, inl, inr, length-append}
-use Rattle.std.specs.Prelude.{min}
-use Rattle.std.proofs.lemmas.Bool.Decides.{eqb_tells}
-use Rattle.std.proofs.lemmas.List.{append-nil}
-use Rattle.aa_raw.specs.declared.collections.TryReserveError.{TryReserveError}
-use Rattle.aa_raw.specs.declared.raw_vec.Growth.TheVariants.{Doubling}
-use Rattle.aa_raw.specs.Growth.{amortized, least_of, usize_max}
+use Rattle.aa_vec.proofs.Common.{◌≡◌, ℕ, ◌+◌, ◌-◌, ◌<◌, ◌≤◌, List, [], ◌∷◌, ◌++◌, length, Option, None, refl, sym, ap, ◌∙◌, subst, arith, inl, inr, length-append, min, eqb_tells, append-nil, TryReserveError, Doubling, amortized, least_of, usize_max, Vector, len, IsNew, LacksRoom, GrowsTo, Holds, MakesRoom, Climbs, stays, grows, asked_for, ExtendsFull, ExtendsByAll, ExtendsByFront, Gathers, GathersShort}
 use Rattle.aa_raw.specs.Refusals.{IsRefusedAt}
-use Rattle.aa_vec.specs.Vector.{Vector, len, IsNew, LacksRoom, GrowsTo, Holds, MakesRoom}
-use Rattle.aa_vec.specs.Extending.{Climbs, stays, grows, asked_for, ExtendsFull, ExtendsByAll, ExtendsByFront}
 use Rattle.aa_vec.specs.Splicing.{LacksVector, LacksOthers}
-use Rattle.aa_vec.specs.Filling.{Told, Gathers, GathersShort}
+use Rattle.aa_vec.specs.Filling.{Told}
 use Rattle.aa_vec.proofs.Climbing.{SameBlock-refl, Climbs-counted}
 use Rattle.aa_vec.proofs.Counted.{ExtendsFull-told}
 use Rattle.aa_vec.proofs.Lists.{equal, unequal}

@@ -2,18 +2,14 @@
 use Prim.Native.Nat.{ℕ}
 use mathlib.Core.Path.{subst}
 use mathlib.Core.List.{List, [], ◌∷◌}
-use seplogic.Ra.Ura.{Ura}
+use Rattle.aa_vec.proofs.Common.{Ura, ent, sep, emp, emp∗, via, mono∗, id⊢, Logic, sem, ◌$◌, by, fpick, Lfts, fact, fact_use, fact_i, Are, Ises, owns_show, showss, RattleType, Valss, Declared, row}
 use mir.Val.{Val}
-use base.Logic.{ent, sep, emp, emp∗, via, mono∗, id⊢}
-use types.Logic.{Logic, sem}
-use types.Kit.{‵, ◌$◌, ◌∵◌, !, qed, by, drop, fsplit, fpick}
-use contract.Lifetimes.{Lfts}
-use contract.Monad.{fact, fact_use, fact_i}
+use types.Kit.{‵, ◌∵◌, !, qed, drop, fsplit}
 use denote.Exit.{Kept, left}
-use denote.Laws.{Are, Ises, all_tell, owns_show, showss, valss}
-use denote.RattleType.{RattleType, owns, Valss}
+use denote.Laws.{all_tell, valss}
+use denote.RattleType.{owns}
 use denote.Signature.{plain}
-use denote.Struct.Declared.{Declared, fields, row}
+use denote.Struct.Declared.{fields}
 use denote.Struct.Laws as laws
 use denote.Triple.Walked.{Stay, Goes}
 

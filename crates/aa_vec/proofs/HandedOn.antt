@@ -1,15 +1,6 @@
 -- A drain that is given up, and a range out of which elements were taken: the fields, and what a call asks that is handed them.
-use seplogic.Ra.Ura.{Ura}
-use base.Logic.{ent, sep, emp, mono∗, id⊢}
-use contract.BorrowLft.{◌⊑◌}
-use contract.Lifetimes.{Lfts}
-use contract.Monad.{fact}
-use denote.Param.{param}
-use denote.RattleType.{RattleType}
-use denote.Signature.{named_lft}
-use denote.Struct.Declared.{Declared, row}
+use Rattle.aa_vec.proofs.Common.{Ura, ent, sep, emp, mono∗, id⊢, ◌⊑◌, Lfts, fact, param, RattleType, named_lft, Declared, row, Ghosts}
 use denote.Struct.Laws as laws
-use Rattle.std.specs.declared.alloc.Allocator.{Ghosts}
 use Rattle.aa_vec.specs.contracts.vec.Vec as V
 use Rattle.aa_vec.specs.contracts.vec.drain.Drain as D
 use Rattle.aa_vec.specs.contracts.vec.extract_if.ExtractBy as E

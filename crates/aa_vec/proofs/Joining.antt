@@ -1,9 +1,7 @@
 -- Runs of elements that pass from one vector to another.
-use Rattle.std.proofs.Common.{◌≡◌, ℕ, ◌+◌, ◌-◌, ◌≤◌, List, ◌++◌, length, take, drop, Option, sym, ap, ◌∙◌, arith}
-use Rattle.aa_raw.specs.Places.{IsRun, run, with_run}
-use Rattle.std.proofs.lemmas.List.{drop-drop}
+use Rattle.aa_vec.proofs.Common.{◌≡◌, ℕ, ◌+◌, ◌-◌, ◌≤◌, List, ◌++◌, length, take, drop, Option, sym, ap, ◌∙◌, arith, IsRun, run, drop-drop, drop-with, run-drop}
+use Rattle.aa_raw.specs.Places.{with_run}
 use Rattle.aa_raw.proofs.Calls.{IsRun-rest, run-transferred}
-use Rattle.aa_raw.proofs.Runs.{drop-with, run-drop}
 
 module _ {X : Type 0} where
   -- the last k - at of k values put behind the first n places of another block

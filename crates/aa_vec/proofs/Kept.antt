@@ -1,7 +1,5 @@
 -- What a closure that chooses leaves is no longer than what it was asked of.
-use Rattle.std.proofs.Common.{suc, ◌≤◌, Bool, true, false, List, [], ◌∷◌, length, map, ap, arith}
-use Rattle.std.specs.Prelude.{cond, filter}
-use Rattle.aa_vec.specs.Choosing.{Asked, AskedInOrder, ChainsFrom, Deduplicated, kept}
+use Rattle.aa_vec.proofs.Common.{suc, ◌≤◌, Bool, true, false, List, [], ◌∷◌, length, map, ap, arith, cond, filter, Asked, AskedInOrder, ChainsFrom, Deduplicated, kept}
 
 one_kept : {T : Type 0} (b : Bool) (y : Asked T) (ys : List (Asked T)) → length (map (λ t. t.left) (cond b (y ∷ ys) ys)) ≤ suc (length (map (λ t. t.left) ys))
 one_kept true y ys = omega arith

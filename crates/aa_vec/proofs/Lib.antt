@@ -1,3 +1,4 @@
+pub mod Common
 pub mod Boxing
 pub mod Climbing
 pub mod Copied

@@ -1,10 +1,5 @@
 -- What an extension by an iterator says of another one, which it reads and gives back.
-use Rattle.std.proofs.Common.{◌≡◌, ℕ, List, [], ◌∷◌, ◌++◌, Option, Some, None, Result, Ok, Err, IfErr, refl, sym, ap, ◌∙◌, subst}
-use Rattle.std.specs.Prelude.{OnOk}
-use Rattle.std.specs.Iterator.{Drains}
-use Rattle.aa_raw.specs.declared.collections.TryReserveError.{TryReserveError}
-use Rattle.aa_vec.specs.Vector.{Vector}
-use Rattle.aa_vec.specs.Extending.{YieldsTelling, ExtendsByAll, ExtendsByFront, LeavesIter}
+use Rattle.aa_vec.proofs.Common.{◌≡◌, ℕ, List, [], ◌∷◌, ◌++◌, Option, Some, None, Result, Ok, Err, IfErr, refl, sym, ap, ◌∙◌, subst, OnOk, Drains, TryReserveError, Vector, YieldsTelling, ExtendsByAll, ExtendsByFront, LeavesIter}
 use Rattle.aa_vec.proofs.Answered.{on_ok, if_err}
 use Rattle.aa_vec.proofs.Extending.{Yields-told}
 

@@ -1,15 +1,7 @@
 -- Items put before the last ones of a vector, in room made for those that were told, and then for the others.
-use Rattle.std.proofs.Common.{◌≡◌, ℕ, ◌+◌, ◌-◌, ◌*◌, ◌<◌, ◌≤◌, List, [], ◌∷◌, ◌++◌, length, take, drop, Option, Some, None, append_assoc, refl, sym, ap, ◌∙◌, subst, arith, inl, inr, length-append, length-drop, length-take}
-use Rattle.std.specs.Prelude.{Result, Ok, Err, IfErr, OnOk}
-use Rattle.std.specs.Iterator.{Count, Yields, size as count_of}
-use Rattle.std.proofs.lemmas.List.{take-append-drop, take_at, drop_at}
-use Rattle.std.proofs.lemmas.Bool.Decides.{eqb_tells}
+use Rattle.aa_vec.proofs.Common.{◌≡◌, ℕ, ◌+◌, ◌-◌, ◌*◌, ◌<◌, ◌≤◌, List, [], ◌∷◌, ◌++◌, length, take, drop, Option, Some, None, append_assoc, refl, sym, ap, ◌∙◌, subst, arith, inl, inr, length-append, length-drop, length-take, Result, Ok, Err, IfErr, OnOk, Count, Yields, count_of, take-append-drop, take_at, drop_at, eqb_tells, TryReserveError, Vector, len, Holds, Writes, MakesRoom, LacksRoom, run_count, moved_over, ClosesGap, behind_items, tail_moves, Widens, FillsAndCloses, Gathers, GathersShort, PutsAll, Puts}
 use Rattle.std.proofs.Math.Nat.{add-mul}
-use Rattle.aa_raw.specs.declared.collections.TryReserveError.{TryReserveError}
-use Rattle.aa_vec.specs.Vector.{Vector, len, Holds, Writes, MakesRoom, LacksRoom, run_count, moved_over}
-use Rattle.aa_vec.specs.Behind.{ClosesGap, behind_items}
-use Rattle.aa_vec.specs.Splicing.{tail_moves}
-use Rattle.aa_vec.specs.Filling.{Widens, FillsAndCloses, Gathers, GathersShort, PutsRest, LacksRest, PutsAll, PutsWithin, Puts}
+use Rattle.aa_vec.specs.Filling.{PutsRest, LacksRest, PutsWithin}
 use Rattle.aa_vec.proofs.Closed.{moved_none, moved_some, moved_most, one_run}
 use Rattle.aa_vec.proofs.Climbing.{SameBlock-refl, SameBlock-trans, MakesRoom-into}
 use Rattle.aa_vec.proofs.Drained.{still_are, still_stand}

@@ -1,10 +1,5 @@
 -- Elements asked in order, of which those that stay were moved down.
-use Rattle.std.proofs.Common.{◌≡◌, ℕ, zero, suc, ◌+◌, ◌-◌, ◌≤◌, Bool, true, false, List, [], ◌∷◌, ◌++◌, length, take, drop, refl, sym, ap, ◌∙◌, subst, arith, append_assoc}
-use Rattle.std.proofs.lemmas.List.{append-nil}
-use Rattle.aa_vec.specs.Behind.{StandsBehind, behind_items}
-use Rattle.aa_vec.specs.Choosing.{Asked, answers_of, kept, kept_behind_removed, removed_count, AskedInOrder, MayAskInOrder, Retains}
-use Rattle.aa_vec.specs.Until.{AsksUntil, AsksBehind}
-use Rattle.aa_vec.specs.Vector.{Vector, len}
+use Rattle.aa_vec.proofs.Common.{◌≡◌, ℕ, zero, suc, ◌+◌, ◌-◌, ◌≤◌, Bool, true, false, List, [], ◌∷◌, ◌++◌, length, take, drop, refl, sym, ap, ◌∙◌, subst, arith, append_assoc, append-nil, StandsBehind, behind_items, Asked, answers_of, kept, kept_behind_removed, removed_count, AskedInOrder, MayAskInOrder, Retains, AsksUntil, AsksBehind, Vector, len}
 use Rattle.aa_vec.proofs.Closed.{marks}
 use Rattle.aa_vec.proofs.Stages.{Turn, Stage, Turned, turned, stage-ended}
 use Rattle.aa_vec.proofs.Stands.{count, left_are, left_stand}

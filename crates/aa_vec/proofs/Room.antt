@@ -1,18 +1,10 @@
 -- Room that the block made for a vector.
-use Rattle.std.proofs.Common.{◌≡◌, ℕ, ◌+◌, ◌-◌, ◌<◌, ◌≤◌, [], ◌∷◌, ◌++◌, Some, length, refl, ap, ◌∙◌, arith, inl, inr}
-use Rattle.std.specs.Prelude.{if◌then◌else◌, ◌==◌, insert, slice_set}
+use Rattle.aa_vec.proofs.Common.{◌≡◌, ℕ, ◌+◌, ◌-◌, ◌<◌, ◌≤◌, [], ◌∷◌, ◌++◌, Some, length, refl, ap, ◌∙◌, arith, inl, inr, if◌then◌else◌, ◌==◌, slice_set, cases_lt, nat_tests, Block, wrote, IsRun, run, moved, amortized, least_of, length-run, Vector, len, MakesRoom, GrowsTo, view_of, IsFront, Inside}
+use Rattle.std.specs.Prelude.{insert}
 use Rattle.std.proofs.lemmas.List.{length-set}
-use Rattle.std.proofs.lemmas.Bool.{cases_lt}
-use Rattle.std.proofs.lemmas.Bool.Decides.{nat_tests}
-use Rattle.aa_raw.specs.Block.{Block, Reserves, wrote}
-use Rattle.aa_raw.specs.Places.{IsRun, run, moved}
-use Rattle.aa_raw.specs.Growth.{amortized, least_of}
+use Rattle.aa_raw.specs.Block.{Reserves}
 use Rattle.aa_raw.proofs.Calls.{run-put, run-reserved, IsRun-reserved}
 use Rattle.aa_raw.proofs.Positions.{run-inserted, length-inserted}
-use Rattle.aa_raw.proofs.Runs.{length-run}
-use Rattle.aa_vec.specs.Vector.{Vector, len, MakesRoom, GrowsTo}
-use Rattle.aa_vec.specs.Inner.{view_of, IsFront}
-use Rattle.aa_vec.specs.declared.vec.Vec.TheInside.{Inside}
 
 module _ {T A : Type 0} (size : ℕ) (old : Inside T A) (front : IsFront old) (k : ℕ) (b : Block T A) where
   count : len (view_of old) ≡ old.len

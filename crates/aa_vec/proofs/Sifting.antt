@@ -1,15 +1,7 @@
 -- Elements that a test takes out of a range: what comes, one after another, and what the vector has at the end.
-use Rattle.std.proofs.Common.{◌≡◌, ℕ, ◌-◌, Bool, true, false, not, List, [], ◌∷◌, ◌++◌, length, map, take, drop, Option, Some, None, refl, sym, ap, ◌∙◌, subst, arith, append_assoc}
-use Rattle.std.specs.Prelude.{cond, filter, Result, Ok, Err, OnOk}
-use Rattle.std.specs.Iterator.{Yields, Drains}
-use Rattle.std.proofs.lemmas.List.{append-nil, map-id, take-append-drop, take_all, drop_all}
-use Rattle.std.proofs.lemmas.List.Elements.{filter-append}
-use Rattle.aa_vec.specs.Choosing.{Asked, kept, passed_over}
-use Rattle.aa_vec.specs.Extracting.{Extracts, ExtractsRange, ClosesExtract, extract_head, extract_kept, extract_rest, extract_tail}
+use Rattle.aa_vec.proofs.Common.{◌≡◌, ℕ, ◌-◌, Bool, true, false, not, List, [], ◌∷◌, ◌++◌, length, map, take, drop, Option, Some, None, refl, sym, ap, ◌∙◌, subst, arith, append_assoc, cond, filter, Result, Ok, Err, OnOk, Yields, Drains, append-nil, map-id, take-append-drop, take_all, drop_all, filter-append, Asked, kept, passed_over, Extracts, ExtractsRange, ClosesExtract, extract_kept, extract_rest, Vector, len, ExtractBy, ExtractIf}
+use Rattle.aa_vec.specs.Extracting.{extract_head, extract_tail}
 use Rattle.aa_vec.specs.Sifting.{still_taken, left_at_end}
-use Rattle.aa_vec.specs.Vector.{Vector, len}
-use Rattle.aa_vec.specs.declared.vec.extract_if.ExtractBy.{ExtractBy}
-use Rattle.aa_vec.specs.declared.vec.extract_if.ExtractIf.{ExtractIf}
 use Rattle.aa_vec.proofs.Callable.{IsCallableInOrder-any}
 use Rattle.aa_vec.proofs.Extracted.{extracts_fewer}
 use Rattle.aa_vec.proofs.Steady.{asked-steady, told_by, kept-steady}

@@ -1,11 +1,6 @@
 -- Splices by an `Items`, which tells a function of how many items are left, and splices of a vector in the same block.
-use Rattle.std.proofs.Common.{◌≡◌, ℕ, ◌+◌, ◌-◌, ◌*◌, ◌≤◌, List, [], ◌++◌, length, append_assoc, refl, sym, ap, ◌∙◌, subst, arith, inl, inr, length-append}
-use Rattle.std.proofs.lemmas.List.{append-nil}
-use Rattle.aa_raw.specs.declared.collections.TryReserveError.{TryReserveError}
-use Rattle.aa_vec.specs.Vector.{Vector, len, SameBlock, MakesRoom, LacksRoom}
-use Rattle.aa_vec.specs.Extending.{ItemsLeft, gives_item, lower_by, TellsExactly}
-use Rattle.aa_vec.specs.Splicing.{cut_off, gapped, MakesRoomTwice, SplicesAll, SplicesFront, SplicesShort, SplicesByAll, SplicesByFront, tail_moves}
-use Rattle.std.specs.Prelude.{⊤}
+use Rattle.aa_vec.proofs.Common.{◌≡◌, ℕ, ◌+◌, ◌-◌, ◌*◌, ◌≤◌, List, [], ◌++◌, length, append_assoc, refl, sym, ap, ◌∙◌, subst, arith, inl, inr, length-append, append-nil, TryReserveError, Vector, len, SameBlock, MakesRoom, LacksRoom, ItemsLeft, gives_item, lower_by, TellsExactly, cut_off, MakesRoomTwice, SplicesByAll, SplicesByFront, tail_moves, ⊤}
+use Rattle.aa_vec.specs.Splicing.{gapped, SplicesAll, SplicesFront, SplicesShort}
 use Rattle.aa_vec.proofs.Climbing.{MakesRoom-same, SameBlock-refl, SameBlock-trans}
 use Rattle.aa_vec.proofs.Gathered.{LacksOthers-told}
 use Rattle.aa_vec.proofs.Counted.{items_lower, items-rest, items-told, items-all, ExtendsAll-told, ExtendsFull-told}

@@ -1,14 +1,12 @@
 -- A splice that is given up: its fields, of which the iterator tells no machine value of its own, and what a call asks that is handed them.
 use mathlib.Core.Path.{◌∙◌}
 use Rattle.aa_vec.proofs.Walks.{◌≡◌, refl, sym, ap, subst, List, [], ◌∷◌, Val, sep, id⊢, ‵, ◌∵◌, !, qed, fsplit, feq_l, fact, unit, owns, fields}
-use seplogic.Ra.Ura.{Ura}
+use Rattle.aa_vec.proofs.Common.{Ura, ent, emp, emp∗, via, mono∗, Logic, sem, ◌$◌, by, fpick, ◌⊑◌, Lfts, fact_use, fact_i, Are, Ises, owns_show, showss, param, RattleType, Valss, named_lft, Declared, row, Ghosts}
 use lib.Dec.{T}
 use mir.Syntax.{Ty, w64, named}
 use mir.Val.{has_ty, vint, vstruct, of_list, has_tys, WT, WTs}
 pub use base.Logic.{SProp}
-use base.Logic.{ent, ex, emp, emp∗, via, mono∗, ex_i}
-use types.Logic.{Logic, sem}
-use types.Kit.{◌$◌, by, fpick}
+use base.Logic.{ex, ex_i}
 pub use types.Kit.{regoal, prop}
 pub use prog.Wp.{WpFn}
 pub use denote.Exit.{at}
@@ -19,22 +17,16 @@ pub use Rattle.std.proofs.raw_atomic.Walks.{proved_at}
 pub use Rattle.std.specs.Iterator.{IsFinite}
 pub use Rattle.aa_vec.specs.Vector.{Vector}
 pub use Rattle.aa_vec.proofs.GivenUp.{only_said, goes}
-use contract.BorrowLft.{◌⊑◌}
-use contract.Lifetimes.{Lfts}
-use contract.Monad.{fact_use, fact_i}
-use denote.Laws.{Typed, Are, Ises, owns_show, showss}
-use denote.Param.{param, layout}
+use denote.Laws.{Typed}
+use denote.Param.{layout}
 use denote.Param.Laws as param_law
 use denote.Param.Shared as shared
 use denote.Plain.{uint_Tells}
-use denote.RattleType.{RattleType, Valss, flat, mirs}
+use denote.RattleType.{flat, mirs}
 use denote.Ref.{mut_vals, mut_Tells}
-use denote.Signature.{named_lft}
-use denote.Struct.Declared.{Declared, row}
 use denote.Struct.Field.{unit-field}
 use denote.Struct.Laws as laws
 use denote.Struct.Struct.{as_fields, to_tys}
-use Rattle.std.specs.declared.alloc.Allocator.{Ghosts}
 use Rattle.std.specs.declared.iter.Iterator as It
 use Rattle.std.specs.contracts.result.Result as Rs
 use Rattle.std.proofs.result.Result.TheLaws as Rs-laws

@@ -1,15 +1,8 @@
 -- A range that was replaced by items: what an iterator told of them, and what its phases left.
-use Rattle.std.proofs.Common.{◌≡◌, ℕ, ◌+◌, ◌-◌, ◌*◌, ◌<◌, ◌≤◌, List, [], ◌++◌, length, take, drop, Option, append_assoc, refl, sym, ap, ◌∙◌, subst, arith, inl, inr, length-append}
-use Rattle.std.specs.Prelude.{Result, Ok, OnOk}
-use Rattle.std.specs.Iterator.{Count, Yields, Drains, size as count_of}
-use Rattle.std.proofs.lemmas.List.{append-nil}
-use Rattle.aa_raw.specs.declared.collections.TryReserveError.{TryReserveError}
-use Rattle.aa_raw.proofs.Runs.{length-run, run-zero}
-use Rattle.aa_vec.specs.Vector.{Vector, len, SameBlock, Writes, run_count, moved_over}
-use Rattle.aa_vec.specs.Behind.{StandsBehind, DropsBehind, behind_items}
-use Rattle.aa_vec.specs.Extending.{ExtendsAll, ExtendsFull, ExtendsByAll, ExtendsByFront, Extended, LeavesIter, StopsAt}
-use Rattle.aa_vec.specs.Splicing.{Gapped, cut_off, MakesRoomTwice, SplicesByAll, SplicesByFront, Replaced, SplicesIter, tail_moves}
-use Rattle.aa_vec.specs.Filling.{FillsAndCloses, PutsAll, PutsFront, Puts}
+use Rattle.aa_vec.proofs.Common.{◌≡◌, ℕ, ◌+◌, ◌-◌, ◌*◌, ◌<◌, ◌≤◌, List, [], ◌++◌, length, take, drop, Option, append_assoc, refl, sym, ap, ◌∙◌, subst, arith, inl, inr, length-append, Result, Ok, OnOk, Count, Yields, Drains, count_of, append-nil, TryReserveError, length-run, run-zero, Vector, len, SameBlock, Writes, run_count, moved_over, StandsBehind, DropsBehind, behind_items, ExtendsAll, ExtendsFull, ExtendsByAll, ExtendsByFront, Extended, LeavesIter, cut_off, MakesRoomTwice, SplicesByAll, SplicesByFront, tail_moves, FillsAndCloses, PutsAll, Puts}
+use Rattle.aa_vec.specs.Extending.{StopsAt}
+use Rattle.aa_vec.specs.Splicing.{Gapped, Replaced, SplicesIter}
+use Rattle.aa_vec.specs.Filling.{PutsFront}
 use Rattle.aa_vec.proofs.Answered.{on_ok, if_err, done_unless}
 use Rattle.aa_vec.proofs.Closed.{moved_none, moved_some, moved_most, one_run}
 use Rattle.aa_vec.proofs.Climbing.{SameBlock-trans, MakesRoom-same}

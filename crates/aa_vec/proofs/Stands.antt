@@ -1,10 +1,5 @@
 -- What stands behind the items of a vector, after each of the calls that work on it.
-use Rattle.std.proofs.Common.{◌≡◌, ℕ, ◌+◌, ◌-◌, ◌<◌, ◌≤◌, List, [], ◌∷◌, ◌++◌, length, map, take, drop, Option, Some, None, sym, ap, ◌∙◌, arith, length-append}
-use Rattle.std.specs.Prelude.{slice_set}
-use Rattle.std.proofs.lemmas.List.{append-nil, drop-drop, drop-set-lt, length-map, take_at, take-append-drop}
-use Rattle.aa_raw.proofs.Runs.{length-run, run-is, run-take, run-filled, run-zero, IsRun-long}
-use Rattle.aa_vec.specs.Behind.{StandsBehind, ClosesGap, LeavesBehind, behind_items, with_behind}
-use Rattle.aa_vec.specs.Vector.{Vector, len, Holds, Writes, run_count, moved_over}
+use Rattle.aa_vec.proofs.Common.{◌≡◌, ℕ, ◌+◌, ◌-◌, ◌<◌, ◌≤◌, List, [], ◌∷◌, ◌++◌, length, map, take, drop, Option, Some, None, sym, ap, ◌∙◌, arith, length-append, slice_set, append-nil, drop-drop, drop-set-lt, length-map, take_at, take-append-drop, length-run, run-is, run-take, run-filled, run-zero, IsRun-long, StandsBehind, ClosesGap, LeavesBehind, behind_items, with_behind, Vector, len, Holds, Writes, run_count, moved_over}
 use Rattle.aa_vec.proofs.Climbing.{SameBlock-refl, SameBlock-trans}
 use Rattle.aa_vec.proofs.Closed.{moved_some}
 use Rattle.aa_vec.proofs.Drained.{same_holds, still_stand, still_are, part_stand, later_part, above_stand, above_are}

@@ -1,8 +1,5 @@
 -- What an iterator told of how many items are to come, put together.
-use Rattle.std.proofs.Common.{◌≡◌, ℕ, ◌<◌, List, [], ◌∷◌, ◌++◌, length, Option, refl, sym, ◌∙◌, subst, arith, length-append}
-use Rattle.std.specs.Prelude.{if◌then◌else◌, ◌==◌}
-use Rattle.std.specs.Iterator.{Yields}
-use Rattle.aa_vec.specs.Extending.{YieldsTelling}
+use Rattle.aa_vec.proofs.Common.{◌≡◌, ℕ, ◌<◌, List, [], ◌∷◌, ◌++◌, length, Option, refl, sym, ◌∙◌, subst, arith, length-append, if◌then◌else◌, ◌==◌, Yields, YieldsTelling}
 use Rattle.aa_vec.proofs.Lists.{equal, unequal}
 
 module _ {S T : Type 0} (steps : S → Option T → S → Type 0) (Tells : S → ℕ → Type 0) where

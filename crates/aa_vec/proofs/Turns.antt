@@ -1,10 +1,8 @@
 -- A closure that is called once for each new place.
-use Rattle.std.proofs.Common.{◌≡◌, ℕ, suc, ◌+◌, ◌-◌, ◌<◌, List, [], ◌∷◌, ◌++◌, length, refl, sym, ap, ◌∙◌, subst, arith, append-nil, length-append}
-use Rattle.std.specs.Prelude.{Result, Ok, Err, OnOk}
-use Rattle.std.specs.List.{FoldsTo}
+use Rattle.aa_vec.proofs.Common.{◌≡◌, ℕ, suc, ◌+◌, ◌-◌, ◌<◌, List, [], ◌∷◌, ◌++◌, length, refl, sym, ap, ◌∙◌, subst, arith, length-append, Result, Ok, Err, OnOk, FoldsTo, LengthensBy, MayCallTimes, Vector, len, GrowsTo, HasRoom, Holds, Writes}
+use Rattle.std.proofs.Common.{append-nil}
 use Rattle.std.proofs.lemmas.Fn.{FoldsTo-push}
-use Rattle.aa_vec.specs.Copies.{AddsAnswers, LengthensBy, MayCallTimes}
-use Rattle.aa_vec.specs.Vector.{Vector, len, GrowsTo, HasRoom, Holds, Writes}
+use Rattle.aa_vec.specs.Copies.{AddsAnswers}
 use Rattle.aa_vec.proofs.Climbing.{Holds-more, SameBlock-refl}
 use Rattle.aa_vec.proofs.Copied.{grown-to, room-there}
 

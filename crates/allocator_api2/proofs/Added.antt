@@ -1,17 +1,7 @@
 -- What a list of commands added, where each adds at most one element.
-use Rattle.std.proofs.Common.{◌≡◌, ℕ, ◌+◌, ◌*◌, ◌≤◌, List, [], ◌∷◌, length, map, sum_by, sym, ap, subst, arith}
-use Rattle.std.specs.List.{AllByRecursion}
+use Rattle.allocator_api2.proofs.Common.{◌≡◌, ℕ, ◌+◌, ◌*◌, ◌≤◌, List, [], ◌∷◌, length, map, sum_by, sym, ap, subst, arith, AllByRecursion, sum_by-cons, Growth, Doubling, Sparing, Vector, Command, Push, Within, Pop, Insert, Remove, SwapRemove, Truncate, Clear, Append, Extend, Retain, Dedup, Drain, ExtractIf, Reply, Done, State, Calls, Turn, AddsOrRemoves, added, added_by, moves_each, RunsWithin}
 use Rattle.std.proofs.lemmas.List.{length-map}
-use Rattle.std.proofs.lemmas.List.Sums.{sum_by-cons}
-use Rattle.aa_raw.specs.declared.raw_vec.Growth.{Growth}
-use Rattle.aa_raw.specs.declared.raw_vec.Growth.TheVariants.{Doubling, Sparing}
-use Rattle.aa_vec.specs.Vector.{Vector}
-use Rattle.allocator_api2.specs.declared.runner.Command.{Command}
-use Rattle.allocator_api2.specs.declared.runner.Command.TheVariants.{Push, Within, Pop, Insert, Remove, SwapRemove, Truncate, Clear, Append, Extend, Retain, Dedup, Drain, ExtractIf}
-use Rattle.allocator_api2.specs.declared.runner.Reply.{Reply}
-use Rattle.allocator_api2.specs.declared.runner.Reply.TheVariants.{Done}
-use Rattle.allocator_api2.specs.Machine.{State, Calls}
-use Rattle.allocator_api2.specs.Run.{Turn, AddsOrRemoves, AddsOneAtMost, added, added_by, if_done, moves_each, RunsWithin}
+use Rattle.allocator_api2.specs.Run.{AddsOneAtMost, if_done}
 
 if_done-le : {T : Type 0} (reply : Reply T) (n : ℕ) → if_done reply n ≤ n
 if_done-le Done n = omega arith

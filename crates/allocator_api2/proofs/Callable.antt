@@ -1,15 +1,7 @@
 -- Closures that may be called as a run calls them: along the commands that are still to come, and whatever they are given.
-use Rattle.std.proofs.Common.{◌≡◌, ℕ, Bool, true, false, List, [], ◌∷◌, ◌++◌, length, reverse, take, sym, ap, ◌∙◌, subst}
-use Rattle.std.specs.Prelude.{⊤, slice_range}
-use Rattle.std.proofs.lemmas.List.{reverse-append, reverse-reverse}
-use Rattle.aa_vec.specs.Choosing.{Asked, AskedInOrder, MayAskInOrder, ChainsFrom, Deduplicated, MayChainFrom, MayDeduplicate}
-use Rattle.allocator_api2.specs.declared.runner.Command.{Command}
-use Rattle.allocator_api2.specs.declared.runner.Command.TheVariants.{SplitOff, Retain, Dedup, ExtractIf}
-use Rattle.allocator_api2.specs.declared.runner.Reply.{Reply}
-use Rattle.allocator_api2.specs.declared.runner.Reply.TheVariants.{Done, Item, Nothing, Back, Refused, Range}
-use Rattle.allocator_api2.specs.Machine.{State, Calls, IsPossible, Step}
-use Rattle.allocator_api2.specs.Commands.{DoesStep}
-use Rattle.allocator_api2.specs.Run.{MayCall, MayRun, IsCallableOnRuns}
+use Rattle.allocator_api2.proofs.Common.{◌≡◌, ℕ, Bool, true, false, List, [], ◌∷◌, ◌++◌, length, reverse, take, sym, ap, ◌∙◌, subst, ⊤, slice_range, reverse-append, reverse-reverse, Asked, AskedInOrder, ChainsFrom, Deduplicated, Command, SplitOff, Retain, Dedup, ExtractIf, Reply, Done, Item, Nothing, Back, Refused, Range, State, Calls, IsPossible, Step, DoesStep, MayRun}
+use Rattle.aa_vec.specs.Choosing.{MayAskInOrder, MayChainFrom, MayDeduplicate}
+use Rattle.allocator_api2.specs.Run.{MayCall, IsCallableOnRuns}
 
 module _ {T A K S : Type 0} (size : ℕ) (calls : Calls T A K S) where
   -- the commands stand in turned order

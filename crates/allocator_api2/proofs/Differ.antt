@@ -1,6 +1,5 @@
 -- Neighbours in what is left without repeats were asked beside each other, and differ.
-use Rattle.std.proofs.Common.{◌≡◌, Bool, true, false, List, [], ◌∷◌, sym, ap, ◌∙◌, subst}
-use Rattle.aa_vec.specs.Choosing.{ChainsFrom, Deduplicated}
+use Rattle.allocator_api2.proofs.Common.{◌≡◌, Bool, true, false, List, [], ◌∷◌, sym, ap, ◌∙◌, subst, ChainsFrom, Deduplicated}
 use Rattle.allocator_api2.specs.Laws.{NeighboursDiffer, TestsEquality, LeavesNoRepeats}
 
 module _ {T S : Type 0} (eq : T → T → Bool) (symmetric : (x y : T) → eq x y ≡ eq y x) (Repeats : S → T → T → Bool → S → T → T → Type 0) (tests : TestsEquality eq Repeats) where

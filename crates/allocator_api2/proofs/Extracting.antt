@@ -1,15 +1,13 @@
 -- Elements that a run takes out of a range of main.
-use Rattle.std.proofs.Common.{◌≡◌, ℕ, suc, ◌+◌, ◌-◌, ◌<◌, ◌≤◌, Bool, true, false, List, [], ◌∷◌, ◌++◌, length, map, take, drop, Some, None, refl, sym, ap, ◌∙◌, subst, arith, inl, inr, append_assoc, length-append, length-drop, length-take}
-use Rattle.std.specs.Prelude.{cond, filter, not, slice_range, ◌⊎◌, if◌then◌else◌, ◌==◌}
-use Rattle.std.proofs.lemmas.List.{append-nil, drop-append-le, drop-drop, take-append-drop}
-use Rattle.aa_vec.specs.Choosing.{Asked, AskedInOrder, EndsTrue, IsCallableInOrder, kept, passed_over}
+use Rattle.allocator_api2.proofs.Common.{◌≡◌, ℕ, suc, ◌+◌, ◌-◌, ◌<◌, ◌≤◌, Bool, true, false, List, [], ◌∷◌, ◌++◌, length, map, take, drop, Some, None, refl, sym, ap, ◌∙◌, subst, arith, inl, inr, append_assoc, length-append, length-drop, length-take, slice_range, ◌⊎◌, if◌then◌else◌, ◌==◌, append-nil, drop-drop, take-append-drop, Asked, AskedInOrder, Vector, len, HasRoom, Holds, SameBlock-refl, SameBlock-trans, Chosen, asking}
+use Rattle.std.specs.Prelude.{cond, filter, not}
+use Rattle.std.proofs.lemmas.List.{drop-append-le}
+use Rattle.aa_vec.specs.Choosing.{EndsTrue, IsCallableInOrder, kept, passed_over}
 use Rattle.aa_vec.specs.Extracting.{ClosesExtract, ExtractedTo, Extracts, ExtractsRange, extract_count, extract_kept, extract_rest, extract_tail}
-use Rattle.aa_vec.specs.Vector.{Vector, len, HasRoom, Holds}
 use Rattle.aa_vec.specs.declared.vec.extract_if.ExtractBy.{ExtractBy}
-use Rattle.aa_vec.proofs.Climbing.{SameBlock-refl, SameBlock-trans}
 use Rattle.aa_vec.proofs.Extracted.{ExtractedTo-none, Extracted-more, Extracted-end, asked_count, extracts_may}
-use Rattle.allocator_api2.specs.Drained.{Chosen, TakesUpTo}
-use Rattle.allocator_api2.specs.Machine.{Asking, asking, TakesOut}
+use Rattle.allocator_api2.specs.Drained.{TakesUpTo}
+use Rattle.allocator_api2.specs.Machine.{Asking, TakesOut}
 
 choice_le : (b : Bool) (n : ℕ) → (if b then 0 else n) ≤ n
 choice_le true n = omega arith

@@ -1,7 +1,5 @@
 -- What was cut is whole again when it is joined.
-use Rattle.std.proofs.Common.{◌≡◌, ℕ, zero, suc, ◌<◌, take, drop, refl, ap, ◌∙◌, arith}
-use Rattle.std.proofs.lemmas.List.{take-append-drop}
-use Rattle.aa_vec.specs.Vector.{Vector}
+use Rattle.allocator_api2.proofs.Common.{◌≡◌, ℕ, zero, suc, ◌<◌, take, drop, refl, ap, ◌∙◌, arith, take-append-drop, Vector}
 use Rattle.allocator_api2.specs.Laws.{CutIsJoined}
 use Rattle.aa_vec.specs.Splits.{Splits}
 

@@ -1,12 +1,8 @@
 -- What a vector was moved by growth is paid for by what was added to it.
-use Rattle.std.proofs.Common.{◌≡◌, ℕ, ◌+◌, ◌*◌, ◌-◌, ◌<◌, ◌≤◌, min, max, List, length, Option, None, ap, subst, ◌∙◌, arith, inl, inr}
-use Rattle.aa_raw.specs.declared.raw_vec.Growth.{Growth}
-use Rattle.aa_raw.specs.declared.raw_vec.Growth.TheVariants.{Doubling, Sparing}
-use Rattle.aa_raw.specs.Growth.{amortized, least_of}
-use Rattle.aa_vec.specs.Vector.{Vector, len, SameBlock, GrowsTo}
-use Rattle.allocator_api2.specs.Run.{moves_each}
-use Rattle.aa_vec.specs.Extending.{Climbs, stays, grows, asked_for, lower_by}
-use Rattle.aa_vec.proofs.Climbing.{Climbs-rises, Climbs-growth}
+use Rattle.allocator_api2.proofs.Common.{◌≡◌, ℕ, ◌+◌, ◌*◌, ◌-◌, ◌<◌, ◌≤◌, min, max, List, length, Option, None, ap, subst, ◌∙◌, arith, inl, inr, Growth, Doubling, Sparing, least_of, Vector, len, SameBlock, GrowsTo, moves_each, Climbs, lower_by, Climbs-rises}
+use Rattle.aa_raw.specs.Growth.{amortized}
+use Rattle.aa_vec.specs.Extending.{stays, grows, asked_for}
+use Rattle.aa_vec.proofs.Climbing.{Climbs-growth}
 use Rattle.allocator_api2.proofs.Steps.{Change}
 
 -- c places were not enough for `needed` elements: of what was moved by then, the new capacity pays all but the last move

@@ -1,6 +1,5 @@
 -- Lists out of which a range was drained.
-use Rattle.std.proofs.Common.{ℕ, ◌-◌, ◌≤◌, Bool, true, false, List, [], ◌++◌, length, take, drop, arith, length-append, length-take, length-drop}
-use Rattle.std.specs.Prelude.{slice_range}
+use Rattle.allocator_api2.proofs.Common.{ℕ, ◌-◌, ◌≤◌, Bool, true, false, List, [], ◌++◌, length, take, drop, arith, length-append, length-take, length-drop, slice_range}
 use Rattle.allocator_api2.specs.Machine.{Ends, left_of}
 
 pub length-left_of : {T : Type 0} (xs : List T) (ends : Ends) (keep : Bool) → ends.start ≤ ends.end → ends.end ≤ length xs → length (left_of xs ends keep) ≤ length xs

@@ -1,14 +1,7 @@
 -- Room that a reserve made lasts for as many pushes.
-use Rattle.std.proofs.Common.{◌≡◌, ℕ, ◌+◌, ◌-◌, ◌≤◌, List, [], ◌∷◌, length, ap, ◌∙◌, refl, arith, inl, inr}
-use Rattle.std.specs.List.{AllByRecursion}
+use Rattle.allocator_api2.proofs.Common.{◌≡◌, ℕ, ◌+◌, ◌-◌, ◌≤◌, List, [], ◌∷◌, length, ap, ◌∙◌, refl, arith, inl, inr, AllByRecursion, least_of, Vector, len, HasRoom, GrowsTo, Within, Reply, Done, Back, Refused, Range, Answers}
 use Rattle.std.proofs.lemmas.List.{length-append}
-use Rattle.aa_raw.specs.Growth.{least_of}
-use Rattle.aa_vec.specs.Vector.{Vector, len, HasRoom, GrowsTo}
-use Rattle.allocator_api2.specs.declared.runner.Command.TheVariants.{Within}
-use Rattle.allocator_api2.specs.declared.runner.Reply.{Reply}
-use Rattle.allocator_api2.specs.declared.runner.Reply.TheVariants.{Done, Back, Refused, Range}
 use Rattle.allocator_api2.specs.Laws.{IsDone, PushesWithin, ReserveHolds}
-use Rattle.allocator_api2.specs.Machine.{Answers}
 use Rattle.allocator_api2.proofs.Paid.{amortized-enough}
 
 module _ {T A : Type 0} (size : ℕ) where

@@ -1,12 +1,6 @@
 -- A run that is not at its end.
-use Rattle.std.proofs.Common.{ℕ, ◌≡◌, List, [], ◌∷◌, ◌++◌, map, reverse, sym, ap, subst, ◌∙◌, append_assoc, refl}
-use Rattle.std.specs.List.{AllByRecursion}
-use Rattle.std.proofs.lemmas.List.{map-append, reverse-append, append-nil, reverse-reverse}
-use Rattle.allocator_api2.specs.declared.runner.Command.{Command}
-use Rattle.allocator_api2.specs.declared.runner.Reply.{Reply}
-use Rattle.allocator_api2.specs.Machine.{State, Calls, IsPossible}
-use Rattle.allocator_api2.specs.Commands.{DoesStep}
-use Rattle.allocator_api2.specs.Run.{Turn, IsRun, RunsWithin, AddsOrRemoves, IsUnhinted}
+use Rattle.allocator_api2.proofs.Common.{ℕ, ◌≡◌, List, [], ◌∷◌, ◌++◌, map, reverse, sym, ap, subst, ◌∙◌, append_assoc, refl, AllByRecursion, reverse-append, append-nil, reverse-reverse, Command, Reply, State, Calls, IsPossible, DoesStep, Turn, IsRun, RunsWithin, AddsOrRemoves, IsUnhinted}
+use Rattle.std.proofs.lemmas.List.{map-append}
 use Rattle.allocator_api2.proofs.WholeRuns.{moves_law, places_law, writes_law}
 
 module _ {T A K S : Type 0} (size : ℕ) (calls : Calls T A K S) where

@@ -1,9 +1,6 @@
 -- A splice that was refused did not fit.
-use Rattle.std.proofs.Common.{◌≡◌, ℕ, ◌+◌, ◌-◌, ◌<◌, ◌≤◌, List, ◌++◌, length, take, drop, ap, ◌∙◌, arith, ◌⊎◌, inl, inr, length-append, length-take, length-drop}
-use Rattle.std.specs.Prelude.{⊤}
-use Rattle.aa_raw.specs.declared.collections.TryReserveError.{TryReserveError}
-use Rattle.aa_vec.specs.Vector.{Vector, len}
-use Rattle.aa_vec.specs.Splicing.{SplicesFront, SplicesShort}
+use Rattle.allocator_api2.proofs.Common.{◌≡◌, ℕ, ◌+◌, ◌-◌, ◌<◌, ◌≤◌, List, ◌++◌, length, take, drop, ap, ◌∙◌, arith, ◌⊎◌, inl, inr, length-append, length-take, length-drop, ⊤, TryReserveError, Vector, len, SplicesShort}
+use Rattle.aa_vec.specs.Splicing.{SplicesFront}
 use Rattle.allocator_api2.specs.Machine.{FitsRange, without_range}
 use Rattle.allocator_api2.proofs.Stops.{stops-full}
 

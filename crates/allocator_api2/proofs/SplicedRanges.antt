@@ -1,17 +1,10 @@
 -- A range that was taken out of a vector and replaced by an `Items`.
-use Rattle.std.proofs.Common.{◌≡◌, ℕ, ◌+◌, ◌*◌, ◌-◌, ◌≤◌, List, length, take, drop, Option, refl, ap, subst, arith, length-take, length-drop}
-use Rattle.std.specs.Prelude.{⊤}
-use Rattle.aa_raw.specs.declared.collections.TryReserveError.{TryReserveError}
-use Rattle.aa_vec.specs.Vector.{Vector, len}
-use Rattle.aa_vec.specs.Draining.{TakesRange, drain_vec, drain_head, drain_tail, range_len}
-use Rattle.aa_vec.specs.Extending.{ItemsLeft, gives_item, lower_by, TellsExactly}
-use Rattle.aa_vec.specs.Splicing.{cut_off, gapped, SplicesAll, SplicesShort, SplicesByAll, SplicesByFront, SplicesWithin}
+use Rattle.allocator_api2.proofs.Common.{◌≡◌, ℕ, ◌+◌, ◌*◌, ◌-◌, ◌≤◌, List, length, take, drop, Option, refl, ap, subst, arith, length-take, length-drop, ⊤, TryReserveError, Vector, len, TakesRange, drain_vec, drain_head, drain_tail, range_len, lower_by, SplicesShort, DoesOnMain, Splice, Done, Refused}
+use Rattle.aa_vec.specs.Extending.{ItemsLeft, gives_item, TellsExactly}
+use Rattle.aa_vec.specs.Splicing.{cut_off, gapped, SplicesAll, SplicesByAll, SplicesByFront, SplicesWithin}
 use Rattle.aa_vec.specs.declared.vec.drain.Drain.{Drain}
 use Rattle.aa_vec.proofs.Counted.{items_lower}
 use Rattle.aa_vec.proofs.SplicedItems.{SplicesAll-items, SplicesShort-items, SplicesAll-from, SplicesShort-from}
-use Rattle.allocator_api2.specs.Commands.{DoesOnMain}
-use Rattle.allocator_api2.specs.declared.runner.Command.TheVariants.{Splice}
-use Rattle.allocator_api2.specs.declared.runner.Reply.TheVariants.{Done, Refused}
 use Rattle.allocator_api2.proofs.Spliced.{short-full}
 
 module _ {T A : Type 0} (size : ℕ) (old : Vector T A) (start end : ℕ) (ordered : start ≤ end) (within : end ≤ len old) (room : len old ≤ old.capacity)

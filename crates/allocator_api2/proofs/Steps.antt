@@ -1,19 +1,13 @@
 -- What a step of the list machine does to main: it stays in its block, has grown once, or climbed while it was full.
-use Rattle.std.proofs.Common.{◌≡◌, ℕ, suc, ◌+◌, ◌-◌, ◌≤◌, min, Bool, List, [], ◌∷◌, length, take, drop, Option, refl, ap, ◌∙◌, arith, ◌⊎◌, inl, inr, length-take, length-drop, length-set}
+use Rattle.allocator_api2.proofs.Common.{◌≡◌, ℕ, suc, ◌+◌, ◌-◌, ◌≤◌, min, Bool, List, [], ◌∷◌, length, take, drop, Option, refl, ap, ◌∙◌, arith, ◌⊎◌, inl, inr, length-take, length-drop, Vector, len, SameBlock, GrowsTo, Holds, Command, SplitOff, Push, Within, Pop, Insert, Remove, SwapRemove, Truncate, Clear, Append, Extend, Retain, Dedup, Drain, ExtractIf, Reply, Done, Item, Nothing, Back, Refused, Range, Climbs, ExtendsFull, lower_by, TryReserveError, State, Calls, Step, Answers, asking, AddsOrRemoves, hint_of, added_by}
+use Rattle.std.proofs.Common.{length-set}
 use Rattle.std.specs.Prelude.{insert, remove, swap_remove, slice_set, slice_index_or}
 use Rattle.std.proofs.lemmas.List.{length-append}
-use Rattle.aa_vec.specs.Vector.{Vector, len, SameBlock, GrowsTo, Holds}
-use Rattle.allocator_api2.specs.declared.runner.Command.{Command}
-use Rattle.allocator_api2.specs.declared.runner.Command.TheVariants.{SplitOff, Push, Within, Pop, Insert, Remove, SwapRemove, Truncate, Clear, Append, Extend, Retain, Dedup, Drain, ExtractIf}
-use Rattle.allocator_api2.specs.declared.runner.Reply.{Reply}
-use Rattle.allocator_api2.specs.declared.runner.Reply.TheVariants.{Done, Item, Nothing, Back, Refused, Range}
-use Rattle.aa_vec.specs.Extending.{Climbs, ExtendsAll, ExtendsFull, lower_by}
-use Rattle.aa_raw.specs.declared.collections.TryReserveError.{TryReserveError}
+use Rattle.aa_vec.specs.Extending.{ExtendsAll}
 use Rattle.aa_vec.proofs.Kept.{length-kept, length-deduplicated}
 use Rattle.allocator_api2.proofs.Extracting.{length-taken_out}
 use Rattle.allocator_api2.proofs.Ranges.{length-left_of}
-use Rattle.allocator_api2.specs.Machine.{State, Calls, Step, InRange, Makes, Answers, AnswersRefused, asking, ends_of}
-use Rattle.allocator_api2.specs.Run.{AddsOrRemoves, hint_of, added_by}
+use Rattle.allocator_api2.specs.Machine.{InRange, Makes, AnswersRefused, ends_of}
 
 module _ {T : Type 0} where
   length-insert : (xs : List T) (i : ℕ) (x : T) → i ≤ length xs → length (insert xs i x) ≡ length xs + 1

@@ -1,9 +1,5 @@
 -- What follows where an extension stopped at a refusal.
-use Rattle.std.proofs.Common.{ℕ, ◌+◌, ◌-◌, ◌≤◌, List, length, arith}
-use Rattle.aa_raw.specs.declared.collections.TryReserveError.{TryReserveError}
-use Rattle.aa_vec.specs.Vector.{Vector}
-use Rattle.aa_vec.specs.Extending.{ExtendsFull}
-use Rattle.aa_vec.proofs.Climbing.{Climbs-rises}
+use Rattle.allocator_api2.proofs.Common.{ℕ, ◌+◌, ◌-◌, ◌≤◌, List, length, arith, TryReserveError, Vector, ExtendsFull, Climbs-rises}
 
 module _ {T A : Type 0} (size : ℕ) (lower : ℕ → ℕ) (old : Vector T A) (xs added : List T) (error : TryReserveError) (new : Vector T A) (full : ExtendsFull size lower old xs added error new) where
   -- the items did not fit

@@ -1,14 +1,6 @@
 -- A command that is answered as the machine may answer it is a step of the machine.
-use Rattle.std.proofs.Common.{◌≡◌, ℕ, [], refl}
-use Rattle.std.specs.Prelude.{⊤}
-use Rattle.aa_vec.specs.Choosing.{answers_of}
-use Rattle.aa_vec.specs.Vector.{Vector}
-use Rattle.allocator_api2.specs.declared.runner.Command.{Command}
-use Rattle.allocator_api2.specs.declared.runner.Command.TheVariants.{SplitOff, Retain, Dedup, ExtractIf}
-use Rattle.allocator_api2.specs.declared.runner.Reply.{Reply}
-use Rattle.allocator_api2.specs.declared.runner.Reply.TheVariants.{Done, Item, Nothing, Back, Refused, Range}
-use Rattle.allocator_api2.specs.Commands.{Does, DoesOnMain, TakesChosen, DoesStep}
-use Rattle.allocator_api2.specs.Machine.{Calls, asking, state_of}
+use Rattle.allocator_api2.proofs.Common.{◌≡◌, ℕ, [], refl, ⊤, answers_of, Vector, Command, SplitOff, Retain, Dedup, ExtractIf, Reply, Done, Item, Nothing, Back, Refused, Range, Does, DoesOnMain, DoesStep, Calls, asking, state_of}
+use Rattle.allocator_api2.specs.Commands.{TakesChosen}
 
 module _ {T A : Type 0} where
   -- the command calls no closure, and clones no allocator

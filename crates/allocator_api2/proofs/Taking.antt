@@ -1,15 +1,11 @@
 -- Items taken out of a drain, one after the other, and put behind the elements of another vector.
-use Rattle.std.proofs.Common.{◌≡◌, ℕ, ◌+◌, ◌-◌, ◌<◌, ◌≤◌, List, [], ◌∷◌, ◌++◌, length, take, drop, reverse, Bool, true, false, Some, refl, sym, ap, ◌∙◌, arith, append_assoc, length-append, length-take, length-drop}
-use Rattle.std.specs.Prelude.{slice_range, if◌then◌else◌, ◌==◌}
+use Rattle.allocator_api2.proofs.Common.{◌≡◌, ℕ, ◌+◌, ◌-◌, ◌<◌, ◌≤◌, List, [], ◌∷◌, ◌++◌, length, take, drop, reverse, Bool, true, false, Some, refl, sym, ap, ◌∙◌, arith, append_assoc, length-append, length-take, length-drop, slice_range, if◌then◌else◌, ◌==◌, append-nil, drop-drop, take_all, take-append-drop, reverse-append, TakesRange, drain_head, drain_rest, drain_tail, drain_vec, range_len, Vector, len, SameBlock, Holds, SameBlock-refl, SameBlock-trans, TakesFront, TakesBack}
 use Rattle.std.proofs.Math.Seq.{take-add}
-use Rattle.std.proofs.lemmas.List.{append-nil, drop-drop, take_all, drop_all, drop_at, take_at, take-append-drop, reverse-append, take-take}
-use Rattle.aa_vec.specs.Draining.{Closes, DrainKeeps, TakesRange, KeepsRest, drain_head, drain_lender, drain_rest, drain_tail, drain_vec, drains_first, drains_last, range_len, taken_back, taken_front}
-use Rattle.aa_vec.specs.Vector.{Vector, len, SameBlock, Holds}
+use Rattle.std.proofs.lemmas.List.{drop_all, drop_at, take_at, take-take}
+use Rattle.aa_vec.specs.Draining.{Closes, DrainKeeps, KeepsRest, drain_lender, drains_first, drains_last, taken_back, taken_front}
 use Rattle.aa_vec.specs.declared.vec.drain.Drain.{Drain}
-use Rattle.aa_vec.proofs.Climbing.{SameBlock-refl}
-use Rattle.aa_vec.proofs.Climbing.{SameBlock-trans}
 use Rattle.aa_vec.proofs.Drains.{keeps-same, keeps-then}
-use Rattle.allocator_api2.specs.Drained.{Drained, TakesFront, TakesBack}
+use Rattle.allocator_api2.specs.Drained.{Drained}
 use Rattle.allocator_api2.specs.Machine.{ends_at, given_of}
 
 -- a choice is no more than the greater

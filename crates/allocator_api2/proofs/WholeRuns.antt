@@ -1,13 +1,7 @@
 -- Laws over whole runs.
-use Rattle.std.proofs.Common.{◌≡◌, ℕ, ◌+◌, ◌*◌, ◌≤◌, max, Bool, List, [], ◌∷◌, map, length, sum_by, sym, ap, subst, refl, arith, add-zero, zero-add}
-use Rattle.std.specs.List.{AllByRecursion}
-use Rattle.std.proofs.lemmas.List.Sums.{sum_by-cons}
-use Rattle.aa_raw.specs.declared.raw_vec.Growth.{Growth}
-use Rattle.aa_vec.specs.Vector.{len}
-use Rattle.allocator_api2.specs.declared.runner.Command.{Command}
-use Rattle.allocator_api2.specs.declared.runner.Reply.{Reply}
-use Rattle.allocator_api2.specs.Machine.{State, Calls, Step}
-use Rattle.allocator_api2.specs.Run.{Turn, IsRun, AddsOrRemoves, IsUnhinted, hint_of, added, added_by, cost, greatest_length, moves_each}
+use Rattle.allocator_api2.proofs.Common.{◌≡◌, ℕ, ◌+◌, ◌*◌, ◌≤◌, max, Bool, List, [], ◌∷◌, map, length, sum_by, sym, ap, subst, refl, arith, AllByRecursion, sum_by-cons, Growth, len, Command, Reply, State, Calls, Step, Turn, IsRun, AddsOrRemoves, IsUnhinted, hint_of, added, added_by, moves_each}
+use Rattle.std.proofs.Common.{add-zero, zero-add}
+use Rattle.allocator_api2.specs.Run.{cost, greatest_length}
 use Rattle.allocator_api2.proofs.Paid.{IsPaid, IsPaid-change, IsPlaced, IsPlaced-change}
 use Rattle.allocator_api2.proofs.Steps.{change_of}
 

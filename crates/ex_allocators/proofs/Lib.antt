@@ -1,2 +1,3 @@
+pub mod Common
 mod Pooling
 mod Shelving

@@ -5,35 +5,23 @@
 --     widens       the inner allocator's right to free a block is one of a pool
 --     Off, On      the contracts of the shelf's `take` and `put`.        taking, putting      what such a call is given
 --     takes, took, puts, has_put      what it is handed, and what its caller has afterwards
-use Rattle.std.proofs.Common.{◌≡◌, ℕ, ◌+◌, ◌<◌, ◌^◌, Bool, List, [], ◌∷◌, refl, ap, w64, Bor}
-use seplogic.Ra.Ura.{Ura}
-use mir.Syntax.{Ty, Args, a_type, dnil, dcons, named}
-use mir.Val.{Val, vint, vptr, vbool}
-use base.Logic.{SProp, ent, emp, sep, ex, guard, id⊢}
-use base.Fml.{Lft, Share, Fml, ftrue, fsep, fex, flft}
+use Rattle.ex_allocators.proofs.Common.{◌≡◌, ℕ, ◌+◌, ◌<◌, ◌^◌, Bool, List, [], ◌∷◌, refl, ap, w64, Ura, Ty, Args, a_type, dnil, dcons, Val, vint, vptr, vbool, SProp, ent, emp, sep, Lft, Share, Fml, ftrue, fsep, fex, flft, fact, fact_i, ◌⊑◌, size, align, capped, Logic, sem, ‵, raw, ◌⊛◌, some, later, ◌$◌, ◌∵◌, !, qed, move, keep, drop, use0, use1, use2, split, split3, join, pick, fsplit, fjoin, fpack, feq_i, rewrite, await, updating, at_once, done, yes, hidden_shr, unhide, bounded, param, RattleType, Ptr, block_ptr, shr_vals, Slot, plain, nothing, triple_of, Goes, stay_dropped, Goes-dropped, owned_block, Al, seen, token, Answered, Takes-gives, right_to, block_unless}
+use Rattle.std.proofs.Common.{Bor}
+use mir.Syntax.{named}
+use base.Logic.{ex, guard, id⊢}
 use base.Share
-use contract.Monad.{Fun, fact, fact_i}
-use contract.BorrowLft.{◌⊑◌, ⊑_refl}
-use prog.Memory.{Memory, size, align, up, capped}
+use contract.Monad.{Fun}
+use contract.BorrowLft.{⊑_refl}
+use prog.Memory.{Memory, up}
 use prog.Routine.{Routine}
-use types.Logic.{Logic, sem}
-use types.Kit.{‵, raw, ◌⊛◌, some, later, ◌$◌, ◌∵◌, !, qed, move, keep, drop, use0, use1, use2, split, split3, join, pick, show, check, fsplit, fjoin, fpack, feq_i, feq_l, flt_i, rewrite, await, updating, now as at_once, done}
+use types.Kit.{show, check, feq_l, flt_i}
 use denote.Builtin.{bool, RefOf}
-use denote.Exit.{yes}
-use denote.Memory.{hidden_shr}
-use denote.Opens.{unhide, hide}
-use denote.Param.{bounded, param, layout}
-use denote.RattleType.{RattleType}
-use denote.RawPtr.{Ptr, block_ptr}
-use denote.Ref.{ShrRef, shr_vals}
-use denote.Signature.{Slot, plain}
-use denote.Steps.{nothing, only}
+use denote.Opens.{hide}
+use denote.Param.{layout}
+use denote.Ref.{ShrRef}
+use denote.Steps.{only}
 use denote.Triple.Statement.{Contract}
-use denote.Triple.Spec.{triple_of}
-use denote.Triple.Walked.{Goes, stay_dropped, Goes-dropped}
-use Rattle.std.specs.Allocator.{owned_block}
-use Rattle.std.proofs.alloc.Calls.{Al, α, seen, token, Answered, Takes-gives}
-use Rattle.ex_allocators.specs.Shelves.{right_to, block_unless}
+use Rattle.std.proofs.alloc.Calls.{α}
 use Rattle.ex_allocators.specs.contracts.pool.Pool as pool
 use Rattle.ex_allocators.specs.contracts.shelf.Shelf as shelf
 use Rattle.ex_allocators.specs.contracts.shelf.Shelf.take as take

@@ -7,49 +7,39 @@
 --     left_block        what runs behind a block of code
 --     carves, regrants      the room of a block has room for a pointer in it, and is room for any type of its layout
 --     ready, readies        so a block that was given back can be kept
-use Rattle.std.proofs.Common.{◌≡◌, ℕ, zero, suc, ◌+◌, ◌-◌, ◌*◌, ◌/◌, ◌^◌, ◌<◌, List, [], ◌∷◌, ◌++◌, refl, sym, subst, ◌∙◌, arith, lit<, w64, T, Bool, true, false, not, eqb, T_not, eqb→eq}
+use Rattle.ex_allocators.proofs.Common.{◌≡◌, ℕ, zero, suc, ◌+◌, ◌-◌, ◌*◌, ◌/◌, ◌^◌, ◌<◌, List, [], ◌∷◌, ◌++◌, refl, sym, subst, ◌∙◌, arith, lit<, w64, T, Bool, true, false, not, eqb, Ura, Ty, Fn, Body, ty_ptr, ty_array, Val, vint, has_ty, WT, full_share, ent, emp, sep, fst∗, apply∗, Lft, Share, Fml, fsep, fex, fwand, fat, froom, flft, ftok, every, capped_is, size, align, capped, Dv, Env, Wp, WpFn, after_seq, Logic, sem, Post, any_q, ‵, raw, ◌⊛◌, later, ◌$◌, ◌∵◌, !, qed, by, move, drop, use0, use1, use2, split, join, fsplit, fjoin, fjoin3, fpick, fpack, rewrite, await, done, yes, hidden_shr, unhide, RattleType, owns, Ptr, block_ptr, null_ptr, ptr_val, Slot, plain, types_at, Ended, alive, triple_of, Stays, Goes, Goes-dropped, stay_dropped, walk_of, owned_block, Ghosts, IsKept, Fills, right_to, kept_blocks}
+use Rattle.std.proofs.Common.{T_not, eqb→eq}
 use lib.Dec.{eqb_refl}
-use seplogic.Ra.Ura.{Ura}
-use mir.Syntax.{Ty, Fn, Body, Callee, ty_int, ty_ptr, ty_array, ty_struct, tcons, tnil}
-use mir.Val.{Val, vint, vstruct, vcons, vnil, of_list, has_ty, WT}
-use base.Fraction.{full_share}
-use base.Logic.{ent, emp, sep, wand, via, fst∗, snd∗, apply∗}
-use base.Fml.{Lft, Share, Fml, Incl-refl, fsep, fex, fwand, fat, froom, flft, ftok}
-use base.Mask.{every, less}
-use prog.Capped.{capped_is, capped_small}
-use prog.Memory.{size, align, capped}
-use prog.Align.{Dv}
+use mir.Syntax.{Callee, ty_int, ty_struct, tcons, tnil}
+use mir.Val.{vstruct, vcons, vnil, of_list}
+use base.Logic.{wand, via, snd∗}
+use base.Fml.{Incl-refl}
+use base.Mask.{less}
+use prog.Capped.{capped_small}
 use prog.Model.{Model}
 use prog.Routine.{over, ◌≼⁺◌}
-use prog.Wp.{Env, Calls, Loops, Wp, WpFn, Tables, after_seq, after_block}
+use prog.Wp.{Calls, Loops, Tables, after_block}
 use contract.Beside.{Carries}
 use contract.Monad.{fact_use}
 use contract.Named.{bare_unfolds}
 use contract.Running.{Running, tables_of, bare_tables}
 use sound.WpLaws.{WpFn-mono}
-use types.Logic.{Logic, sem}
 use types.Na.{na_acc_in}
-use types.Kit.{Post, any_q, post, Item, Goal, Seq, Step, Soaks, step, ‵, raw, ◌⊛◌, later, ◌$◌, ◌∵◌, !, qed, by, move, drop, use0, use1, use2, use3, split, join, frame, assume, fsplit, fjoin, fjoin3, fpick, fpack, rewrite, await, done}
-use denote.Exit.{yes}
+use types.Kit.{post, Item, Goal, Seq, Step, Soaks, step, use3, frame, assume}
 use denote.Laws.{Ises, Are, owns_show, showss}
-use denote.Memory.{cell_at, hidden_shr}
-use denote.Opens.{unhide}
-use denote.RattleType.{RattleType, owns}
-use denote.RawPtr.{Ptr, RawPtr, block_ptr, null_ptr, ptr_val}
+use denote.Memory.{cell_at}
+use denote.RawPtr.{RawPtr}
 use denote.RawPtr.Room.{room_cut, room_glue, past}
 use denote.Builtin.{usize, unit}
 use denote.Shadow.{shadow, makes_shadow, pure_l}
-use denote.Signature.{Slot, plain, types_at}
 use denote.Struct.Struct.{Struct}
-use denote.Triple.Clauses.{Ended, Clauses, closing}
-use denote.Triple.Entry.{on_entry, alive}
+use denote.Triple.Clauses.{Clauses, closing}
+use denote.Triple.Entry.{on_entry}
 use denote.Triple.Handed.{holding, hands}
-use denote.Triple.Spec.{Meets, triple_of}
+use denote.Triple.Spec.{Meets}
 use denote.Triple.Table.{entered}
-use denote.Triple.Walked.{Stays, AllGo, Goes, Goes-dropped, stay_dropped, walk_of, walk_Meets}
-use Rattle.std.specs.Allocator.{owned_block}
-use Rattle.std.specs.declared.alloc.Allocator.{Ghosts}
-use Rattle.ex_allocators.specs.Shelves.{IsKept, Fills, right_to, kept_blocks, holds_at}
+use denote.Triple.Walked.{AllGo, walk_Meets}
+use Rattle.ex_allocators.specs.Shelves.{holds_at}
 use Rattle.ex_allocators.specs.contracts.shelf.Shelf as shelf
 use Rattle.ex_allocators.specs.contracts.shelf.Shelf.TheInside as inside
 

@@ -1,15 +1,8 @@
 -- What slots hold, by counts: no look-ups yet.
-use Rattle.std.proofs.Common.{◌≡◌, ℕ, zero, suc, ◌+◌, ◌<◌, ◌≤◌, Bool, true, false, cond, List, [], ◌∷◌, ◌++◌, length, get_or, Some, None, refl, sym, ◌∙◌, ap, arith, inl, inr}
-use Rattle.std.specs.Prelude.{count_by}
-use Rattle.std.proofs.Math.ListN.{set}
-use Rattle.std.proofs.lemmas.List.Sums.{sum_by-cons, sum_by-set, sum_by-append, get_or-le-sum_by}
-use Rattle.std.proofs.lemmas.Bool.{both_ways, cases_Bool}
+use Rattle.ex_table.proofs.Common.{◌≡◌, ℕ, zero, suc, ◌+◌, ◌<◌, ◌≤◌, Bool, true, false, cond, List, [], ◌∷◌, ◌++◌, length, get_or, Some, None, refl, sym, ◌∙◌, ap, arith, inl, inr, count_by, set, sum_by-cons, sum_by-set, both_ways, cases_Bool, set_value, value, Slot, Gone, Held, is_key, is_held, value_of, with_value, slot_at, entries_of, found}
+use Rattle.std.proofs.lemmas.List.Sums.{sum_by-append, get_or-le-sum_by}
 use Rattle.std.specs.Cmp.{IsEquivalence}
-use Rattle.std.specs.Map.{set_value}
-use Rattle.ex_table.specs.Contents.{value, keys_like}
-use Rattle.ex_table.specs.declared.slots.Slot.{Slot}
-use Rattle.ex_table.specs.declared.slots.Slot.TheVariants.{Gone, Held}
-use Rattle.ex_table.specs.Slots.{is_key, is_held, value_of, with_value, slot_at, entries_of, found}
+use Rattle.ex_table.specs.Contents.{keys_like}
 
 abbrev pub bit : Bool → ℕ
 bit b = cond b 1 0

@@ -1,13 +1,6 @@
 -- A key that no look-up meets is nowhere.
-use Rattle.std.proofs.Common.{◌≡◌, ◌≢◌, ℕ, ◌+◌, ◌<◌, ◌≤◌, Bool, List, length, sym, ◌∙◌, ap, subst, arith, inl, inr}
-use Rattle.std.specs.Prelude.{count_by}
-use Rattle.std.proofs.lemmas.Bool.{cases_eq, cases_lt, cases_Bool}
-use Rattle.ex_table.specs.declared.groups.Group.{Group}
-use Rattle.ex_table.specs.declared.slots.Slot.{Slot}
-use Rattle.ex_table.specs.declared.slots.Slot.TheVariants.{Gone}
-use Rattle.ex_table.specs.Groups.{free, tag_at, group_at, home_of, after, group_of, tag_of, IsAt}
+use Rattle.ex_table.proofs.Common.{◌≡◌, ◌≢◌, ℕ, ◌+◌, ◌<◌, ◌≤◌, Bool, List, length, sym, ◌∙◌, ap, subst, arith, inl, inr, count_by, cases_eq, cases_lt, cases_Bool, Group, Slot, Gone, free, tag_at, group_at, home_of, after, group_of, tag_of, IsAt, is_key, slot_at, Lacks, Indexes}
 use Rattle.ex_table.proofs.Lanes.{goes}
-use Rattle.ex_table.specs.Slots.{is_key, slot_at, Lacks, Indexes}
 use Rattle.ex_table.proofs.Counts.{count-none}
 
 pub one_more : (P : ℕ → Type 0) (n : ℕ) → ((s : ℕ) → s < n → P s) → P n → (s : ℕ) → s < n + 1 → P s

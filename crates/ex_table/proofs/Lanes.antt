@@ -1,16 +1,12 @@
 -- Lanes of groups: what is found in a group, and what writes to one leave.
-use Rattle.std.proofs.Common.{◌≡◌, ◌≢◌, ℕ, zero, suc, ◌+◌, ◌-◌, ◌<◌, ◌≤◌, true, false, cond, List, [], ◌∷◌, length, take, refl, sym, ◌∙◌, ap, arith, inl, inr, get_or-set_same, get_or-set_other}
-use Rattle.std.specs.Prelude.{count_by, nat_lt, ◌==◌}
-use Rattle.std.proofs.Math.ListN.{set}
-use Rattle.std.proofs.lemmas.List.{length-set}
-use Rattle.std.proofs.lemmas.List.Sums.{sum_by-cons, sum_by-set}
-use Rattle.std.proofs.lemmas.Bool.{cases_eq, cases_lt}
-use Rattle.std.specs.Prelude.{Option, Some, None, IfNone, IfSome, is_some}
+use Rattle.ex_table.proofs.Common.{◌≡◌, ◌≢◌, ℕ, zero, suc, ◌+◌, ◌-◌, ◌<◌, ◌≤◌, true, false, cond, List, [], ◌∷◌, length, refl, sym, ◌∙◌, ap, arith, inl, inr, get_or-set_same, get_or-set_other, count_by, set, length-set, sum_by-cons, sum_by-set, cases_eq, cases_lt, Option, Some, None, is_some, Group, tag_at, free, free_lanes, group_at, tag_of, home_of, after, group_of, IsAt}
+use Rattle.std.proofs.Common.{take}
+use Rattle.std.specs.Prelude.{nat_lt, ◌==◌}
+use Rattle.std.specs.Prelude.{IfNone, IfSome}
 use Rattle.std.proofs.lemmas.List.{get_or-take, length-take-le}
 use Rattle.std.proofs.Math.Seq.{take-set-lt}
 use Rattle.ex_table.proofs.Counts.{count-none, count-some, count-set}
-use Rattle.ex_table.specs.declared.groups.Group.{Group}
-use Rattle.ex_table.specs.Groups.{tag_at, place_at, free, free_lanes, group_at, tag_of, home_of, after, group_of, Writes, IsAt}
+use Rattle.ex_table.specs.Groups.{place_at, Writes}
 
 is-zero : (t : ℕ) → t ≢ 0 → (t == 0) ≡ false
 is-zero t h = grind (arith, h)

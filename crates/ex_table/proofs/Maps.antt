@@ -1,14 +1,7 @@
 -- Slots as a map.
-use Rattle.std.proofs.Common.{◌≡◌, ℕ, ◌<◌, Bool, true, cond, List, length, get_or, Option, None, sym, ◌∙◌, ap, arith, inl, inr}
-use Rattle.std.proofs.Math.ListN.{set}
-use Rattle.std.specs.Prelude.{count_by}
-use Rattle.std.specs.Map.{set_value}
-use Rattle.std.proofs.lemmas.Bool.{cases_Bool}
-use Rattle.ex_table.specs.declared.groups.Group.{Group}
-use Rattle.ex_table.specs.declared.slots.Slot.{Slot}
-use Rattle.ex_table.specs.Contents.{Filled, value, Sets, SameMap, IsMap}
+use Rattle.ex_table.proofs.Common.{◌≡◌, ℕ, ◌<◌, Bool, true, cond, List, length, get_or, Option, None, sym, ◌∙◌, ap, arith, inl, inr, set, count_by, set_value, cases_Bool, Group, Slot, value, Sets, IsMap, is_key, value_of, with_value, slot_at, entries_of, found, IsSound}
+use Rattle.ex_table.specs.Contents.{Filled, SameMap}
 use Rattle.ex_table.specs.Inside.{filled_in}
-use Rattle.ex_table.specs.Slots.{is_key, value_of, with_value, slot_at, entries_of, found, IsSound}
 use Rattle.ex_table.proofs.Counts.{found-entries, keys-entries, found-absent, found-at, alike-found, entries-written}
 use Rattle.ex_table.proofs.Writing.{slot-read}
 

@@ -1,13 +1,6 @@
 -- Keys that are moved from slots to fresh ones, in their order.
-use Rattle.std.proofs.Common.{◌≡◌, ℕ, ◌+◌, ◌*◌, ◌<◌, ◌≤◌, Bool, false, cond, List, [], ◌∷◌, ◌++◌, length, refl, sym, ◌∙◌, ap, arith, Some, inl, inr}
-use Rattle.std.specs.Prelude.{count_by, ◌^◌}
-use Rattle.std.proofs.lemmas.Bool.{cases_Bool}
-use Rattle.allocator_api2.specs.Vector.{Vector}
-use Rattle.ex_table.specs.declared.groups.Group.{Group}
-use Rattle.ex_table.specs.declared.slots.Slot.{Slot}
-use Rattle.ex_table.specs.declared.slots.Slot.TheVariants.{Gone, Held}
-use Rattle.ex_table.specs.Groups.{free, free_lanes}
-use Rattle.ex_table.specs.Slots.{is_key, is_held, value_of, found, IsSound, Puts, MovesAll}
+use Rattle.ex_table.proofs.Common.{◌≡◌, ℕ, ◌+◌, ◌*◌, ◌<◌, ◌≤◌, Bool, false, cond, List, [], ◌∷◌, ◌++◌, length, refl, sym, ◌∙◌, ap, arith, Some, inl, inr, count_by, ◌^◌, cases_Bool, Vector, Group, Slot, Gone, Held, free, free_lanes, is_key, is_held, value_of, found, IsSound, Puts}
+use Rattle.ex_table.specs.Slots.{MovesAll}
 use Rattle.ex_table.proofs.Counts.{bit, count-cons, found-past, found-append}
 
 module _ {K V : Type 0} (eq : K → K → Bool) (h : K → ℕ) where

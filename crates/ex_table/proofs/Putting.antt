@@ -1,14 +1,8 @@
 -- A new key in the slot behind the others.
-use Rattle.std.proofs.Common.{◌≡◌, ℕ, ◌+◌, Bool, true, cond, List, [], ◌∷◌, ◌++◌, length, Some, refl, sym, ◌∙◌, ap, subst, arith, inl, inr}
-use Rattle.std.specs.Prelude.{count_by}
-use Rattle.std.proofs.lemmas.Bool.{both_ways, cases_Bool, cases_lt, cases_eq}
+use Rattle.ex_table.proofs.Common.{◌≡◌, ℕ, ◌+◌, Bool, true, cond, List, [], ◌∷◌, ◌++◌, length, Some, refl, sym, ◌∙◌, ap, subst, arith, inl, inr, count_by, both_ways, cases_Bool, cases_lt, cases_eq, Group, Slot, Gone, Held, IsAt, is_key, is_held, slot_at, found, IsSound, Puts}
 use Rattle.std.proofs.lemmas.List.{append-nil, get_or_append_left, get_or-append-add, length-append}
 use lib.ListN.{get_or-eq_default}
-use Rattle.ex_table.specs.declared.groups.Group.{Group}
-use Rattle.ex_table.specs.declared.slots.Slot.{Slot}
-use Rattle.ex_table.specs.declared.slots.Slot.TheVariants.{Gone, Held}
-use Rattle.ex_table.specs.Groups.{IsAt}
-use Rattle.ex_table.specs.Slots.{is_key, is_held, slot_at, found, AreKeys, IsSound, Puts}
+use Rattle.ex_table.specs.Slots.{AreKeys}
 use Rattle.ex_table.proofs.Counts.{bit, count-cons, count-append, found-past, found-append, alike-count}
 
 module _ {K V : Type 0} (eq : K → K → Bool) (h : K → ℕ) (ss : List (Slot K V)) (k : K) (v : V) (laws : AreKeys eq h) (none : count_by (is_key eq k) ss ≡ 0) where

@@ -1,12 +1,7 @@
 -- What a look-up found in a table, and tables with one slot written.
-use Rattle.std.proofs.Common.{◌≡◌, ℕ, ◌+◌, ◌-◌, ◌≤◌, Bool, List, length, Option, sym, subst, arith}
-use Rattle.std.specs.Prelude.{count_by, is_some}
-use Rattle.allocator_api2.specs.Vector.{Vector}
-use Rattle.ex_table.specs.declared.groups.Group.{Group}
-use Rattle.ex_table.specs.declared.slots.Slot.{Slot}
+use Rattle.ex_table.proofs.Common.{◌≡◌, ℕ, ◌+◌, ◌-◌, ◌≤◌, Bool, List, length, Option, sym, subst, arith, count_by, is_some, Vector, Group, Slot, free_lanes, is_key, Indexes}
 use Rattle.ex_table.specs.declared.slots.Spot.{Spot}
-use Rattle.ex_table.specs.Groups.{free_lanes}
-use Rattle.ex_table.specs.Slots.{is_key, Indexes, IsSpot, IsTable}
+use Rattle.ex_table.specs.Slots.{IsSpot, IsTable}
 use Rattle.ex_table.proofs.Counts.{bit}
 use Rattle.ex_table.proofs.Writing.{Changes}
 

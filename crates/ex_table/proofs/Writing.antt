@@ -1,14 +1,6 @@
 -- The slot of a key is written.
-use Rattle.std.proofs.Common.{◌≡◌, ◌≢◌, ℕ, ◌+◌, ◌<◌, true, false, cond, List, length, get_or, Option, Some, None, refl, sym, ◌∙◌, ap, subst, arith, inl, inr, get_or-set_same, get_or-set_other}
-use Rattle.std.specs.Prelude.{count_by, Bool, is_some}
-use Rattle.std.proofs.Math.ListN.{set}
-use Rattle.std.proofs.lemmas.List.{length-set, get_or_default}
-use Rattle.std.proofs.lemmas.Bool.{both_ways, cases_eq, cases_Bool}
-use Rattle.ex_table.specs.declared.groups.Group.{Group}
-use Rattle.ex_table.specs.declared.slots.Slot.{Slot}
-use Rattle.ex_table.specs.declared.slots.Slot.TheVariants.{Gone, Held}
-use Rattle.ex_table.specs.Groups.{IsAt}
-use Rattle.ex_table.specs.Slots.{is_key, is_held, value_of, with_value, slot_at, found, IsSound}
+use Rattle.ex_table.proofs.Common.{◌≡◌, ◌≢◌, ℕ, ◌+◌, ◌<◌, true, false, cond, List, length, get_or, Option, Some, None, refl, sym, ◌∙◌, ap, subst, arith, inl, inr, get_or-set_same, get_or-set_other, count_by, Bool, is_some, set, length-set, both_ways, cases_eq, cases_Bool, Group, Slot, Gone, Held, IsAt, is_key, is_held, value_of, with_value, slot_at, found, IsSound}
+use Rattle.std.proofs.lemmas.List.{get_or_default}
 use Rattle.ex_table.proofs.Counts.{bit, count-set, found-absent, found-at, found-set_other, key-held, alike, one-key, with_value-held}
 
 -- a slot that was read is the one at its index

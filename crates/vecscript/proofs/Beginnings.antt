@@ -1,14 +1,12 @@
 -- A text of which a beginning is written.
-use Rattle.std.proofs.Common.{◌≡◌, ◌∙◌, refl, inl, inr, ℕ, Bool, true, false, true≢false, sym, List, [], ◌∷◌, ◌++◌, take, drop, length, arith}
+use Rattle.vecscript.proofs.Common.{◌≡◌, ◌∙◌, refl, inl, inr, ℕ, Bool, true, false, sym, List, [], ◌∷◌, ◌++◌, take, drop, length, arith, append_assoc, append-nil, take-append-drop, Option, None, Some, IfSome, Result, Ok, Err, codes, Appends, AppendsBeginning}
+use Rattle.std.proofs.Common.{true≢false}
 use Rattle.std.proofs.KnownBytes.{Appends-trans}
-use Rattle.std.proofs.lemmas.List.{append_assoc, append-nil, take-append-drop}
 use Rattle.std.specs.Fmt.Cut.{IsTextOrCut}
 use Rattle.std.specs.Cmp.Lexicographic.{pointwise}
 use Rattle.std.specs.List.{ends_with}
-use Rattle.std.specs.Prelude.{Option, None, Some, IfSome, Result, Ok, Err, OnOk, codes}
+use Rattle.std.specs.Prelude.{OnOk}
 use Rattle.std.specs.Result.{is_ok}
-use Rattle.std.specs.Io.KnownBytes.{Appends}
-use Rattle.vecscript.specs.Print.{AppendsBeginning}
 
 -- known bytes grew by what of the text is not left
 pub record HasWritten (old new : Option (List ℕ)) (text rest : List ℕ) : Type 0 where

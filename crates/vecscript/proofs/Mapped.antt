@@ -1,8 +1,6 @@
 -- What is read of a line, and made into another value by `map`.
-use Rattle.std.proofs.Common.{◌≡◌, ℕ}
-use Rattle.std.specs.Prelude.{Result, Ok, Err, MatchResult}
-use Rattle.vecscript.specs.Faults.{ReadsAs}
-use Rattle.vecscript.specs.declared.script.Fault.{Fault}
+use Rattle.vecscript.proofs.Common.{◌≡◌, ℕ, Result, Ok, Err, ReadsAs, Fault}
+use Rattle.std.specs.Prelude.{MatchResult}
 
 -- r is read as P says, m is r with its value made into another, and Q says of that what P says of the value
 pub ReadsAs-map : {X Y : Type 0} (number : ℕ) (P : X → Type 0) (Q : Y → Type 0) (make : X → Y)

@@ -1,14 +1,9 @@
 -- The words that say a command, by the name that is the first of them.
-use Rattle.std.proofs.Common.{◌≡◌, ◌≢◌, ◌∙◌, ℕ, Bool, true, false, List, ◌∷◌, length, refl, sym, ap, inr, arith}
-use Rattle.std.specs.Prelude.{codes, Result, Ok, Err}
+use Rattle.vecscript.proofs.Common.{◌≡◌, ◌≢◌, ◌∙◌, ℕ, Bool, true, false, List, ◌∷◌, length, refl, sym, ap, inr, arith, codes, Result, Ok, Err, Global, Command, Push, Fault, ReadsAs, words_of, Say, IsBad}
 use Rattle.std.specs.Cmp.Lexicographic.{same_text}
-use Rattle.std.specs.Global.{Global}
 use Rattle.std.specs.Str.{bytes_eq}
-use Rattle.allocator_api2.specs.declared.runner.Command.{Command}
-use Rattle.allocator_api2.specs.declared.runner.Command.TheVariants.{Push}
-use Rattle.vecscript.specs.declared.script.Fault.{Fault}
-use Rattle.vecscript.specs.Faults.{ReadsAs, ReadsOrLacks}
-use Rattle.vecscript.specs.Lines.{words_of, IsElement, Say, SayAfter, IsBad}
+use Rattle.vecscript.specs.Faults.{ReadsOrLacks}
+use Rattle.vecscript.specs.Lines.{IsElement, SayAfter}
 
 -- a word that is not this name
 differs : (word name : List ℕ) → word ≢ name → bytes_eq word name ≡ false

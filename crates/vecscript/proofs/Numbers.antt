@@ -1,14 +1,10 @@
 -- The number that the bytes before a line's first blank write, taken from its front.
-use Rattle.std.proofs.Common.{◌≡◌, ℕ, zero, suc, ◌+◌, ◌-◌, ◌*◌, ◌^◌, ◌<◌, ◌≤◌, true, false, List, [], ◌∷◌, length, get_or, take, drop, refl, arith, length-take}
-use Rattle.std.specs.Char.{is_ascii_digit, digit_value}
+use Rattle.vecscript.proofs.Common.{◌≡◌, ℕ, zero, suc, ◌+◌, ◌-◌, ◌^◌, ◌<◌, ◌≤◌, true, false, List, [], ◌∷◌, length, get_or, take, drop, refl, arith, length-take, is_ascii_digit, position_or_len, AllDigits, digits_value, nat_tests, digits_value_more, take_all, drop_all, is_blank}
+use Rattle.std.proofs.Common.{◌*◌}
+use Rattle.std.specs.Char.{digit_value}
 use Rattle.std.specs.Int.{IsInRange}
-use Rattle.std.specs.List.{position_or_len}
-use Rattle.std.specs.Str.Parse.{AllDigits, digits_value}
-use Rattle.std.proofs.lemmas.Bool.Decides.{nat_tests}
-use Rattle.std.proofs.lemmas.Int.Digits.{digits_value_more}
-use Rattle.std.proofs.lemmas.List.{take_all, drop_all, drop_more, take-take, get_or-take}
+use Rattle.std.proofs.lemmas.List.{drop_more, take-take, get_or-take}
 use Rattle.std.proofs.lemmas.Str.Parse.{digit_from_value, digit_at, digits_value-take-le}
-use Rattle.vecscript.specs.Lines.{is_blank}
 
 -- what a digit counts for
 pub digit_is : (b : ℕ) → is_ascii_digit b ≡ true → digit_value b ≡ b - 48

@@ -1,6 +1,5 @@
 -- A list cut at the elements that pass a test, taken from its front.
-use Rattle.std.proofs.Common.{◌≡◌, ℕ, Bool, true, false, List, [], ◌∷◌, take, drop, refl, one-add}
-use Rattle.std.specs.List.{slice_split, position_or_len}
+use Rattle.vecscript.proofs.Common.{◌≡◌, ℕ, Bool, true, false, List, [], ◌∷◌, take, drop, refl, one-add, slice_split, position_or_len}
 
 -- what stands before the first element that passes, and what begins there
 abbrev pub front : (ℕ → Bool) → List ℕ → List ℕ

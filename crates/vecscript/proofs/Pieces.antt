@@ -1,21 +1,13 @@
 -- A script of which some pieces were run, one after the other.
-use Rattle.std.proofs.Common.{◌≡◌, ◌∙◌, ℕ, List, [], ◌∷◌, ◌++◌, length, refl, sym, ap, subst, rules, arith}
-use Rattle.std.specs.Global.{Global}
-use Rattle.std.specs.Str.Lines.{lines}
+use Rattle.vecscript.proofs.Common.{◌≡◌, ◌∙◌, ℕ, List, [], ◌∷◌, ◌++◌, length, refl, sym, ap, subst, rules, arith, Global, lines, append_assoc, append-nil, map-append, Vector, Command, Reply, State, Calls, state_of, Turn, IsRun, RunsTo, HasNoBad, AreBehind, command_lines, growth_in, replies_text, element_size, MayAnswer}
 use Rattle.std.proofs.lemmas.Grind.{flat_map-append}
-use Rattle.std.proofs.lemmas.List.{append_assoc, append-nil, map-append}
 use Rattle.aa_vec.specs.Copies.{IsMade}
-use Rattle.aa_vec.specs.Vector.{Vector}
 use Rattle.allocator_api2.specs.declared.raw_vec.Growth.{Growth}
-use Rattle.allocator_api2.specs.declared.runner.Command.{Command}
-use Rattle.allocator_api2.specs.declared.runner.Reply.{Reply}
-use Rattle.allocator_api2.specs.Machine.{State, Calls, IsPossible, state_of}
-use Rattle.allocator_api2.specs.Run.{Turn, IsRun, RunsTo}
+use Rattle.allocator_api2.specs.Machine.{IsPossible}
 use Rattle.vecscript.proofs.Read.{Mean-append}
 use Rattle.vecscript.proofs.Sparing.{HasNoBad-append, HasNoBad-behind, Mean-behind}
-use Rattle.vecscript.specs.Lines.{HasNoBad, AreBehind, command_lines, growth_in}
-use Rattle.vecscript.specs.Print.{line_of, reply_text, replies_text, printed}
-use Rattle.vecscript.specs.Runs.{element_size, Answers, MayAnswer}
+use Rattle.vecscript.specs.Print.{line_of, reply_text, printed}
+use Rattle.vecscript.specs.Runs.{Answers}
 
 -- two runs, one behind the other, are one
 module _ {T A K S : Type 0} (size : ℕ) (calls : Calls T A K S) where

@@ -1,15 +1,10 @@
 -- A text of which some lines are read.
-use Rattle.std.proofs.Common.{◌≡◌, ℕ, Bool, true, ◌+◌, ◌≤◌, List, [], ◌∷◌, ◌++◌, length, map, filter, nat_lt, Option, None, Some, MatchOption, refl, ap, rules, arith}
-use Rattle.std.proofs.lemmas.Bool.Decides.{nat_tests}
-use Rattle.std.proofs.lemmas.List.{append_assoc, append-nil, length-append, map-append}
-use Rattle.std.proofs.lemmas.List.Elements.{All-append, filter-append}
-use Rattle.std.specs.List.{AllZip}
-use Rattle.std.specs.Global.{Global}
-use Rattle.std.specs.Str.Lines.{lines}
-use Rattle.allocator_api2.specs.declared.runner.Command.{Command}
+use Rattle.vecscript.proofs.Common.{◌≡◌, ℕ, Bool, true, ◌+◌, ◌≤◌, List, [], ◌∷◌, ◌++◌, length, map, filter, nat_lt, Option, None, Some, refl, ap, rules, arith, nat_tests, append_assoc, append-nil, length-append, map-append, All-append, AllZip, Global, lines, Command, HasNoBad, IsBad, words_of, Say, Mean}
+use Rattle.std.proofs.Common.{MatchOption}
+use Rattle.std.proofs.lemmas.List.Elements.{filter-append}
 use Rattle.vecscript.proofs.TextLines.{length-lines}
 use Rattle.vecscript.proofs.Taken.{AllZip-more, AllZip-append}
-use Rattle.vecscript.specs.Lines.{HasNoBad, IsBad, words_of, Say, said_in, Mean}
+use Rattle.vecscript.specs.Lines.{said_in}
 
 -- the first lines of the text, as many as count, are not bad and mean the commands, and rest has the others
 pub record HasRead (text rest : List ℕ) (count : ℕ) (commands : List (Command ℕ Global)) : Type 0 where

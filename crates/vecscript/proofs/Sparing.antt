@@ -1,20 +1,13 @@
 -- Which line of a script chooses how its lists grow.
-use Rattle.std.proofs.Common.{◌≡◌, ◌≢◌, ℕ, suc, Bool, true, false, ◌+◌, ◌≤◌, ◌==◌, nat_lt, List, [], ◌∷◌, ◌++◌, length, refl, ap, rules, arith}
-use Rattle.std.proofs.lemmas.Bool.Decides.{nat_tests}
+use Rattle.vecscript.proofs.Common.{◌≡◌, ◌≢◌, ℕ, suc, Bool, true, false, ◌+◌, ◌≤◌, ◌==◌, nat_lt, List, [], ◌∷◌, ◌++◌, length, refl, ap, rules, arith, nat_tests, append_assoc, append-nil, length-append, All-append, Global, lines, Command, Fault, words_of, growth_in, command_lines, AreBehind, Mean, IsBad, HasNoBad}
 use Rattle.std.specs.Prelude.{if◌then◌else◌}
-use Rattle.std.proofs.lemmas.List.{append_assoc, append-nil, length-append}
-use Rattle.std.proofs.lemmas.List.Elements.{All-append}
-use Rattle.std.specs.Global.{Global}
 use Rattle.std.specs.List.{AllByRecursion}
-use Rattle.std.specs.Str.Lines.{lines}
 use Rattle.allocator_api2.specs.declared.raw_vec.Growth.TheVariants.{Doubling, Sparing}
-use Rattle.allocator_api2.specs.declared.runner.Command.{Command}
 use Rattle.vecscript.proofs.Read.{Mean-append}
 use Rattle.vecscript.proofs.TextLines.{length-lines}
-use Rattle.vecscript.specs.declared.script.Fault.{Fault}
 use Rattle.vecscript.specs.declared.script.Fault.TheVariants.{BadLine, OutOfMemory, InputOutput}
 use Rattle.vecscript.specs.Faults.{IsFoundAmong, behind as behind_of}
-use Rattle.vecscript.specs.Lines.{words_of, are_sparing, growth_in, command_lines, AreBehind, Mean, IsBad, HasNoBad, IsFirstBad}
+use Rattle.vecscript.specs.Lines.{are_sparing, IsFirstBad}
 
 -- no line has words
 abbrev pub AllBlank : List (List ℕ) → Type 0

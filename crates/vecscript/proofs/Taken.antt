@@ -1,7 +1,5 @@
 -- Words of which some were read as elements.
-use Rattle.std.proofs.Common.{◌≡◌, ◌≢◌, refl, List, [], ◌∷◌, ◌++◌}
-use Rattle.std.proofs.lemmas.List.{append_assoc}
-use Rattle.std.specs.List.{AllZip}
+use Rattle.vecscript.proofs.Common.{◌≡◌, ◌≢◌, refl, List, [], ◌∷◌, ◌++◌, append_assoc, AllZip}
 
 module _ {W X : Type 0} (R : W → X → Type 0) where
   -- the first words were read as xs, and the others are left

@@ -1,19 +1,11 @@
 -- A run whose closures are told in other words: where those say what each call does, they say it of the run.
-use Rattle.std.proofs.Common.{ℕ, Bool, inl, inr, true, false, List, [], ◌∷◌, length, take}
-use Rattle.std.specs.Prelude.{Option, None, Some, IfSome, ◌⊎◌, slice_range}
-use Rattle.std.specs.Global.{Global}
-use Rattle.std.specs.Io.KnownBytes.{Keeps, Appends}
-use Rattle.std.specs.Str.Lines.{lines}
+use Rattle.vecscript.proofs.Common.{ℕ, Bool, inl, inr, true, false, List, [], ◌∷◌, length, take, Option, None, Some, IfSome, Global, Appends, lines, Vector, Command, SplitOff, ExtractIf, Reply, State, Calls, Turn, IsRun, RunsTo, AppendsBeginning, element_size, MayAnswer}
+use Rattle.std.specs.Prelude.{◌⊎◌, slice_range}
+use Rattle.std.specs.Io.KnownBytes.{Keeps}
 use Rattle.aa_vec.specs.Choosing.{Asked, AskedInOrder, Retains, ChainsFrom, Deduplicated, Deduplicates}
-use Rattle.aa_vec.specs.Vector.{Vector}
-use Rattle.allocator_api2.specs.declared.runner.Command.{Command}
-use Rattle.allocator_api2.specs.declared.runner.Command.TheVariants.{SplitOff, Retain, Dedup, ExtractIf}
-use Rattle.allocator_api2.specs.declared.runner.Reply.{Reply}
+use Rattle.allocator_api2.specs.declared.runner.Command.TheVariants.{Retain, Dedup}
 use Rattle.allocator_api2.specs.declared.runner.Reply.TheVariants.{Done, Item, Nothing, Back, Refused, Range}
-use Rattle.allocator_api2.specs.Machine.{Asking, State, asking, Calls, CallsNone, Step, TakesOut}
-use Rattle.allocator_api2.specs.Run.{Turn, IsRun, RunsTo}
-use Rattle.vecscript.specs.Print.{AppendsBeginning}
-use Rattle.vecscript.specs.Runs.{element_size, MayAnswer}
+use Rattle.allocator_api2.specs.Machine.{Asking, asking, CallsNone, Step, TakesOut}
 
 module _ {T K S : Type 0} (Asks Told : K → T → Bool → K → T → Type 0) (Repeats ToldPair : S → T → T → Bool → S → T → T → Type 0)
     (asks : (k : K) (x : T) (answer : Bool) (l : K) (y : T) → Asks k x answer l y → Told k x answer l y)

@@ -1,12 +1,10 @@
 -- The words of a line, taken from its front.
-use Rattle.std.proofs.Common.{◌≡◌, ◌≢◌, ℕ, zero, suc, ◌+◌, ◌<◌, Bool, true, false, not, List, [], ◌∷◌, length, drop, filter, nat_lt, refl, sym, ap, ◌∙◌, arith, one-add, length-take, length-drop}
-use Rattle.std.specs.List.{prefix_len, position_or_len}
+use Rattle.vecscript.proofs.Common.{◌≡◌, ◌≢◌, ℕ, zero, suc, ◌+◌, ◌<◌, Bool, true, false, List, [], ◌∷◌, length, drop, filter, nat_lt, refl, sym, ap, ◌∙◌, arith, one-add, length-take, length-drop, position_or_len, eqb-true, drop_all, nat_tests, is_blank, words_of}
+use Rattle.std.proofs.Common.{not}
+use Rattle.std.specs.List.{prefix_len}
 use Rattle.std.specs.Prelude.{MatchBool, nat_eq}
-use Rattle.std.proofs.lemmas.Bool.{eqb-true, eqb-false}
-use Rattle.std.proofs.lemmas.List.{drop_all}
-use Rattle.std.proofs.lemmas.Bool.Decides.{nat_tests}
+use Rattle.std.proofs.lemmas.Bool.{eqb-false}
 use Rattle.std.proofs.lemmas.List.Sums.{prefix_len-le-length}
-use Rattle.vecscript.specs.Lines.{is_blank, words_of}
 use Rattle.vecscript.proofs.Parts.{front, following, more_parts, slice_split-front}
 
 -- what is left of a line after the blanks in front

@@ -1,55 +1,30 @@
 -- Empty places from the allocator, with the right to give them back. Assumes `Logic`.
 use mathlib.Core.Path.{◌≡◌, refl, ap}
-use mathlib.Core.Bool.{true, false}
+use Rattle.aa_raw.proofs.Common.{false, [], ◌∷◌, ftrue, flft, Incl-trans, named, w64, ty_array, inst_fn, Val, vint, vstruct, vcons, vnil, capped_fits, align, capped, ◌⊑◌, fact, tables, ‵, raw, ◌⊛◌, later, await, at_ret, ◌$◌, ◌∵◌, !, qed, done, move, keep, use1, use2, split, join, fsplit, fjoin, suffices, whole, agg, enter, stop, fld, bin, size_word, align_word, of_opd, and_then, no_more, first, exec, returns, alloc_all, pass_all, free_all, look_at, get, get_in, is, sets, env, usize, RefOf, yes, Is, layout, param, uint_vals, uint_Tells, RattleType, owns, block_ptr, shr_vals, shr_Tells, plain, types_at, nothing, heard, Struct, Vals, framed, Stays, walk_of, says, stay_dropped, Goes-dropped, ends_at, None, proved, Good, after, Al, token, El, R, elτ, sz, args, block_ty, block_size, block_align, each, IsCapacity}
+use mathlib.Core.Bool.{true}
 use Prim.Native.Nat.{ℕ, ◌*◌, ◌<◌, ◌^◌}
 use native.Mathlib.Omega.{arith}
-use mathlib.Core.List.{[], ◌∷◌}
 use lib.Dec.{lit<}
 use lib.ListN.{replicate}
-use base.Fml.{ftrue, flft, Incl-trans}
-use mir.Syntax.{Body, named, w64, ty_array}
-use mir.MapTy.{inst_fn}
-use mir.Val.{Val, vint, vstruct, vcons, vnil}
-use prog.Capped.{capped_fits}
-use prog.Memory.{align, capped}
+use mir.Syntax.{Body}
 use prog.Wp.{Wp, after_seq, at_return}
-use contract.BorrowLft.{◌⊑◌}
-use contract.Monad.{fact}
-use contract.Running.{tables, tables_of}
-use types.Kit.{Post as After, any_q, Sq, prop, ‵, raw, ◌⊛◌, later, await, at_ret, ◌$◌, ◌∵◌, !, qed, done, move, keep, drop, use1, use2, split, join, fsplit, fjoin, suffices}
+use contract.Running.{tables_of}
+use types.Kit.{Post as After, any_q, Sq, prop, drop}
 use types.Match.{live, vrt, in_variant}
-use types.Part.{whole, agg}
-use types.Run.{enter, lit, stop, fld, bin, size_word, align_word, of_opd, and_then, no_more, first, switches_on, exec, returns}
-use types.ByLocal.{alloc_all, pass_all, free_all, look_at, get, get_in, get_tag, is, sets, sets_last, lands_as, env}
-use denote.Builtin.{usize, RefOf}
-use denote.Exit.{yes}
-use denote.Laws.{Is}
-use denote.Param.{layout, param}
-use denote.Plain.{uint_vals, uint_Tells}
-use denote.RattleType.{RattleType, owns}
-use denote.RawPtr.{block_ptr}
-use denote.Ref.{shr_vals, shr_Tells}
-use denote.Signature.{plain, types_at}
-use denote.Steps.{nothing, heard, owned}
+use types.Run.{lit, switches_on}
+use types.ByLocal.{get_tag, sets_last, lands_as}
+use denote.Steps.{owned}
 use denote.Struct.Declared as Declared
-use denote.Struct.Struct.{Struct, Struct-Makes}
+use denote.Struct.Struct.{Struct-Makes}
 use denote.Triple.Call.{calls_at}
-use denote.Triple.Entry.{Vals}
-use denote.Triple.Table.{framed}
-use denote.Triple.Walked.{Stays, walk_of, says, stay_dropped, Goes-dropped, ends_at}
-use Rattle.std.specs.Prelude.{None, IfOk, Ok, Err}
-use Rattle.std.proofs.raw_atomic.Walks.{proved}
+use Rattle.std.specs.Prelude.{IfOk, Ok, Err}
 use Rattle.std_alloc.proofs.RawLayout.{as_written}
-use Rattle.std_alloc.proofs.RcSteps.{Good, first_Good}
+use Rattle.std_alloc.proofs.RcSteps.{first_Good}
 use Rattle.std_alloc.proofs.ResultValues.{ok_of, err_of}
-use Rattle.std_alloc.proofs.VecSteps.Shapes.{after, head, arm_body}
-use Rattle.core.proofs.alloc.Calls.{Al, token, Answer-typed, Takes, at_takes, Answered, Takes-goes, Takes-gives, answers}
-use Rattle.core.proofs.ptr.Rows.{El, R, elτ, sz}
-use Rattle.core.proofs.slots.Leases.{args, block_ty, block_size, block_align}
+use Rattle.std_alloc.proofs.VecSteps.Shapes.{head, arm_body}
+use Rattle.core.proofs.alloc.Calls.{Answer-typed, Takes, at_takes, Answered, Takes-goes, Takes-gives, answers}
 use Rattle.core.specs.contracts.alloc.AllocError as AE
 use Rattle.core.specs.contracts.result.Result as RS
-use Rattle.aa_raw.specs.Holding.{each}
-use Rattle.aa_raw.specs.Places.{IsCapacity}
 use Rattle.aa_raw.specs.contracts.row.allocate as f
 use Rattle.aa_raw.proofs.Access.{word, way_word, way_fits}
 use Rattle.aa_raw.proofs.Claims.{Both, Right, mark, new_pair, pair_val, pair_made, right_made}

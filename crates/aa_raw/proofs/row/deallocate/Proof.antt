@@ -2,44 +2,19 @@
 use mathlib.Core.Path.{◌≡◌, refl, sym, ap, subst, ◌∙◌}
 use Prim.Native.Nat.{ℕ, ◌*◌, ◌<◌, ◌^◌}
 use native.Mathlib.Omega.{arith}
-use mathlib.Core.List.{[], ◌∷◌}
+use Rattle.aa_raw.proofs.Common.{[], ◌∷◌, ent, ftrue, flft, froom, Incl-trans, w64, ty_array, inst_fn, Val, vint, vunit, has_ty, WT, capped_fits, align, capped, ◌⊑◌, fact, tables, feq_i, by, given, learn, group, rewrite, ‵, raw, ◌⊛◌, later, await, at_ret, ◌$◌, ◌∵◌, !, qed, done, move, keep, use1, split, join, fsplit, fsplit3, fjoin, suffices, whole, unit_lit, enter, stop, fld, bin, size_word, align_word, of_opd, and_then, no_more, first, exec, returns, alloc_all, pass_all, free_all, look_at, get, get_in, is, sets, lands_last, env, usize, RefOf, yes, hidden_shr, param, uint_vals, owns, Ptr, block_ptr, shr_vals, plain, types_at, nothing, heard, calls_at_last, Vals, framed, Stays, walk_of, stay_dropped, Goes-dropped, ends_at, after, Al, token, El, elτ, sz, args, block_ty, block_size, block_align}
 use lib.ListN.{length}
-use base.Logic.{ent}
-use base.Fml.{ftrue, flft, froom, Incl-trans}
 use lib.Dec.{T as So}
-use mir.Syntax.{ty_unit, w64, ty_array}
-use mir.MapTy.{inst_fn}
-use mir.Val.{Val, vint, vunit, has_ty, WT}
-use prog.Capped.{capped_fits}
-use prog.Memory.{align, capped}
+use mir.Syntax.{ty_unit}
 use prog.Wp.{WpFn}
-use contract.BorrowLft.{◌⊑◌}
-use contract.Monad.{fact}
-use contract.Running.{tables, tables_of}
-use types.Kit.{feq_i, by, given, learn, group, rewrite, ⋆, ‵, raw, ◌⊛◌, later, await, at_ret, ◌$◌, ◌∵◌, !, qed, done, move, keep, drop, use1, split, join, fsplit, fsplit3, fjoin, suffices}
-use types.Part.{whole, sub}
-use types.Run.{blocks, unit_lit, enter, stop, fld, bin, size_word, align_word, of_opd, and_then, no_more, first, exec, returns}
-use types.ByLocal.{alloc_all, pass_all, free_all, look_at, get, get_in, is, sets, lands_last, env}
-use denote.Builtin.{usize, RefOf}
-use denote.Exit.{yes, no}
-use denote.Memory.{hidden_shr}
-use denote.Param.{param}
-use denote.Plain.{uint_vals}
-use denote.RattleType.{owns}
-use denote.RawPtr.{Ptr, block_ptr}
-use denote.Ref.{shr_vals}
-use denote.Signature.{plain, types_at}
-use denote.Steps.{nothing, heard}
-use denote.Triple.Call.{calls_at_last}
-use denote.Triple.Entry.{Vals}
-use denote.Triple.Table.{framed}
-use denote.Triple.Walked.{Stays, walk_of, stay_dropped, Goes-dropped, ends_at}
+use contract.Running.{tables_of}
+use types.Kit.{⋆, drop}
+use types.Part.{sub}
+use types.Run.{blocks}
+use denote.Exit.{no}
 use Rattle.std.proofs.raw_atomic.Walks.{proved_at}
 use Rattle.std_alloc.proofs.RawLayout.{as_raw}
-use Rattle.std_alloc.proofs.VecSteps.Shapes.{after}
-use Rattle.core.proofs.alloc.Calls.{Al, token, Gives, at_gives, Gives-goes, Gives-Gives, Goes-blank}
-use Rattle.core.proofs.ptr.Rows.{El, elτ, sz}
-use Rattle.core.proofs.slots.Leases.{args, block_ty, block_size, block_align}
+use Rattle.core.proofs.alloc.Calls.{Gives, at_gives, Gives-goes, Gives-Gives, Goes-blank}
 use Rattle.aa_raw.specs.contracts.row.deallocate as f
 use Rattle.aa_raw.proofs.Access.{Rw, word, row_had, way_word, way_fits}
 use Rattle.aa_raw.proofs.Claims.{Cl, Right, mark, claim_had, right_had}

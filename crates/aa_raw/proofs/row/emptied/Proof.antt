@@ -1,19 +1,12 @@
 -- The places of a row are slots, whatever stands in them. Assumes `Logic`.
 use Rattle.aa_raw.proofs.Walk.{◌≡◌, refl, sym, ◌∙◌, ℕ, ◌*◌, ◌<◌, ◌^◌, List, [], ◌∷◌, length, replicate, length-replicate, subst, ftrue, flft, froom, inst_fn, WpFn, ◌⊑◌, fact, tables, ty_array, elτ, prop, regoal, ‵, raw, some, given, learn, ◌⊛◌, at_ret, ◌$◌, ◌∵◌, !, qed, move, keep, use1, use2, pick, split, join, fsplit, fjoin, rewrite, suffices, done, and_then, no_more, enter, of_opd, stop, fld, first, blocks, exec, returns, sub, whole, alloc_all, pass_all, free_all, look_at, get, is, sets, env, yes, no, owns, plain, types_at, nothing, heard, Vals, Stays, walk_of, says, stay_dropped, Goes-dropped, Goes-blank, ends_at, after, proved_at, El, R, sz, Rw, word, row_had, args}
-use mathlib.Core.Bool.{Bool, false}
-use mir.Val.{WT}
-use types.Kit.{later, await}
-use types.ByLocal.{get_in, lands_last}
+use Rattle.aa_raw.proofs.Common.{Bool, false, WT, later, await, get_in, lands_last, Room, calls_at_last, framed, row_val, ItemIn, no_al, all, Row}
 use denote.Builtin.{SliceRefOf}
-use denote.Slice.{Room, shr_slice_vals}
-use denote.Triple.Call.{calls_at_last}
-use denote.Triple.Table.{framed}
-use Rattle.core.proofs.slots.Opens.{row_val}
+use denote.Slice.{shr_slice_vals}
 use Rattle.core.proofs.slots.Runs.{of_space}
 use Rattle.core.proofs.slots.Slots.from_raw_parts.Met as callee
-use Rattle.std_alloc.proofs.VecSteps.El.{El as ItemIn, no_al}
-use Rattle.std_alloc.proofs.vec.Blocks.{el, all}
-use Rattle.std_alloc.proofs.vec.Spares.{Row, row_Typed, From, at_from, Made, from_goes, from_gives}
+use Rattle.std_alloc.proofs.vec.Blocks.{el}
+use Rattle.std_alloc.proofs.vec.Spares.{row_Typed, From, at_from, Made, from_goes, from_gives}
 use Rattle.aa_raw.proofs.Spots.{room_of_row}
 use Rattle.aa_raw.specs.contracts.row.emptied as f
 use Rattle.aa_raw.proofs.row.emptied.Statement.{statement}

@@ -1,22 +1,12 @@
 -- Slots that all hold their values are the places of a row. Assumes `Logic`.
 use Rattle.aa_raw.proofs.Walk.{◌≡◌, refl, sym, ◌∙◌, ℕ, ◌*◌, ◌<◌, ◌^◌, List, [], ◌∷◌, map, length, length-map, subst, arith, via, ftrue, flft, inst_fn, WpFn, ◌⊑◌, fact, tables, block_ptr, prop, regoal, ‵, raw, given, learn, ◌⊛◌, at_ret, ◌$◌, ◌∵◌, !, qed, move, keep, use1, use2, split, join, fsplit, fjoin, rewrite, suffices, done, agg, and_then, no_more, enter, of_opd, stop, fld, first, blocks, exec, returns, sub, whole, alloc_all, pass_all, free_all, look_at, get, is, sets, env, no, owns, plain, types_at, nothing, heard, Vals, Stays, walk_of, says, stay_dropped, Goes-dropped, ends_at, Some, after, proved_at, El, R, sz, Rw, word, row_made, args, Spots, start}
-use mathlib.Core.Bool.{Bool}
-use mir.Val.{WT}
-use types.Kit.{later, await}
-use types.SemTy.{cells}
-use types.ByLocal.{get_in, lands_last}
-use denote.Memory.{mem}
-use denote.Index.{whole_in}
-use denote.Triple.Call.{calls_at_last}
-use denote.Triple.Table.{framed}
+use Rattle.aa_raw.proofs.Common.{Bool, WT, later, await, cells, get_in, lands_last, mem, whole_in, calls_at_last, framed, row_val, ItemIn, no_al, all, Row}
 use Rattle.core.specs.Mem.Slots.{slots_items, slots_filled, slots_len, slots_counts, IsFull}
 use Rattle.core.proofs.mem.Param.{El as Item}
-use Rattle.core.proofs.slots.Opens.{row_val, row_had as slots_had, row_made as slots_made}
+use Rattle.core.proofs.slots.Opens.{row_had as slots_had, row_made as slots_made}
 use Rattle.core.proofs.slots.Places.{to_row}
 use Rattle.core.proofs.slots.Slots.into_raw_parts.Met as callee
-use Rattle.std_alloc.proofs.VecSteps.El.{El as ItemIn, no_al}
-use Rattle.std_alloc.proofs.vec.Blocks.{all}
-use Rattle.std_alloc.proofs.vec.Spares.{Row, parts_typed, Into, at_into, Into-goes, Into-gives}
+use Rattle.std_alloc.proofs.vec.Spares.{parts_typed, Into, at_into, Into-goes, Into-gives}
 use Rattle.aa_raw.proofs.Spots.{values_in}
 use Rattle.aa_raw.specs.contracts.row.filled as f
 use Rattle.aa_raw.proofs.row.filled.Statement.{statement}

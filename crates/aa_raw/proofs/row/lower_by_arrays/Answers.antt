@@ -1,5 +1,4 @@
-use Rattle.std.proofs.Common.{◌≡◌, ◌-◌, ◌+◌, length, take, drop, ◌++◌, sym, ap, ◌∙◌, subst, arith, length-drop}
-use Rattle.aa_raw.specs.Places.{IsRun, moved}
+use Rattle.aa_raw.proofs.Common.{◌≡◌, ◌-◌, ◌+◌, length, take, drop, ◌++◌, sym, ap, ◌∙◌, subst, arith, length-drop, IsRun, moved}
 use Rattle.aa_raw.proofs.Arrayed.{lowered_long, lowered_next, lowered_more, run_in_rest}
 use Rattle.aa_raw.proofs.Places.{moved_behind}
 use Rattle.aa_raw.proofs.row.lower_by_arrays.Goals as goal

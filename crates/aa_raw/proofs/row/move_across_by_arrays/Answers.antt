@@ -1,5 +1,4 @@
-use Rattle.std.proofs.Common.{◌≡◌, ◌-◌, ◌+◌, ◌≤◌, length, take, drop, replicate, None, refl, sym, ap, ◌∙◌, subst, arith}
-use Rattle.aa_raw.specs.Places.{IsRun, with_run}
+use Rattle.aa_raw.proofs.Common.{◌≡◌, ◌-◌, ◌+◌, ◌≤◌, length, take, drop, replicate, None, refl, sym, ap, ◌∙◌, subst, arith, IsRun, with_run}
 use Rattle.aa_raw.proofs.Across.{left_long, left_next, left_more, put_long, put_more}
 use Rattle.aa_raw.proofs.Places.{with_none}
 use Rattle.aa_raw.proofs.row.move_across_by_arrays.Goals as goal

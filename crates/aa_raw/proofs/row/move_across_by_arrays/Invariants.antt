@@ -1,5 +1,4 @@
-use Rattle.std.proofs.Common.{◌≡◌, ◌≤◌, ◌-◌, take, drop, replicate, None}
-use Rattle.aa_raw.specs.Places.{with_run}
+use Rattle.aa_raw.proofs.Common.{◌≡◌, ◌≤◌, ◌-◌, take, drop, replicate, None, with_run}
 use Rattle.aa_raw.proofs.row.move_across_by_arrays.Given as goal
 
 abbrev pub invariant-arrays : goal.invariant-arrays

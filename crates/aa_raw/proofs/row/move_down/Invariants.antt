@@ -1,5 +1,4 @@
-use Rattle.std.proofs.Common.{◌≡◌}
-use Rattle.aa_raw.specs.Places.{moved}
+use Rattle.aa_raw.proofs.Common.{◌≡◌, moved}
 use Rattle.aa_raw.proofs.row.move_down.Given as goal
 
 abbrev pub invariant-down : goal.invariant-down

@@ -1,6 +1,5 @@
-use Rattle.std.proofs.Common.{rules, ◌≡◌, ◌+◌, ◌<◌, ◌≤◌, length, get_or, slice_set, take, drop, Some, None, refl, sym, ap, ◌∙◌, arith}
+use Rattle.aa_raw.proofs.Common.{rules, ◌≡◌, ◌+◌, ◌<◌, ◌≤◌, length, get_or, slice_set, take, drop, Some, None, refl, sym, ap, ◌∙◌, arith, with_run}
 use Rattle.std.specs.Option.{is_some}
-use Rattle.aa_raw.specs.Places.{with_run}
 use Rattle.aa_raw.proofs.Places.{run_filled, run_more, gone_more, still_there, with_none}
 use Rattle.aa_raw.proofs.row.move_each_across.Goals as goal
 

@@ -1,6 +1,5 @@
-use Rattle.std.proofs.Common.{rules, ◌≡◌, ◌+◌, ◌-◌, ◌<◌, ◌≤◌, length, get_or, slice_set, Some, None, sym, ap, ◌∙◌, arith}
+use Rattle.aa_raw.proofs.Common.{rules, ◌≡◌, ◌+◌, ◌-◌, ◌<◌, ◌≤◌, length, get_or, slice_set, Some, None, sym, ap, ◌∙◌, arith, moved}
 use Rattle.std.specs.Option.{is_some}
-use Rattle.aa_raw.specs.Places.{moved}
 use Rattle.aa_raw.proofs.Places.{run_filled, moved_up, still_up}
 use Rattle.aa_raw.proofs.row.move_up.Goals as goal
 

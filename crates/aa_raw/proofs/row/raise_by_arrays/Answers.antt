@@ -1,5 +1,4 @@
-use Rattle.std.proofs.Common.{◌≡◌, ◌-◌, ◌+◌, length, refl, sym, ap, ◌∙◌, subst, arith}
-use Rattle.aa_raw.specs.Places.{IsRun, moved}
+use Rattle.aa_raw.proofs.Common.{◌≡◌, ◌-◌, ◌+◌, length, refl, sym, ap, ◌∙◌, subst, arith, IsRun, moved}
 use Rattle.aa_raw.proofs.Arrayed.{raised_long, raised_next, raised_more}
 use Rattle.aa_raw.proofs.Places.{moved_none}
 use Rattle.aa_raw.proofs.row.raise_by_arrays.Goals as goal

@@ -1,6 +1,5 @@
-use Rattle.std.proofs.Common.{◌≡◌, ◌+◌, ◌∷◌, [], length, arith, refl, ap, ◌∙◌}
-use Rattle.std.proofs.lemmas.List.{length-append, length-reverse}
-use Rattle.allocator_api2.specs.Machine.{calls_of}
+use Rattle.allocator_api2.proofs.Common.{◌≡◌, ◌+◌, ◌∷◌, [], length, arith, refl, ap, ◌∙◌, length-reverse, calls_of}
+use Rattle.std.proofs.lemmas.List.{length-append}
 use Rattle.allocator_api2.proofs.Callable.{MayRun-turned, MayRun-later, MayCall-next}
 use Rattle.allocator_api2.proofs.Runs.{HasRun-start, HasRun-more, HasRun-end}
 use Rattle.allocator_api2.proofs.runner.run.Goals as goal

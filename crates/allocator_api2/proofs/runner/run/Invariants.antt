@@ -1,9 +1,4 @@
-use Rattle.std.proofs.Common.{length, reverse}
-use Rattle.std.specs.Mem.{type_size}
-use denote.Param.{param}
-use Rattle.aa_vec.specs.Vector.{HasRoom, SameBlock}
-use Rattle.allocator_api2.specs.Machine.{state_of, calls_of}
-use Rattle.allocator_api2.specs.Run.{MayRun}
+use Rattle.allocator_api2.proofs.Common.{length, reverse, type_size, param, HasRoom, SameBlock, state_of, calls_of, MayRun}
 use Rattle.allocator_api2.proofs.Runs.{HasRun}
 use Rattle.allocator_api2.proofs.runner.run.Given as goal
 

@@ -1,5 +1,4 @@
-use Rattle.std.proofs.Common.{[], refl, rules}
-use Rattle.aa_vec.specs.Choosing.{answers_of}
+use Rattle.allocator_api2.proofs.Common.{[], refl, rules, answers_of}
 use Rattle.allocator_api2.proofs.Taken.{takes_chosen}
 use Rattle.allocator_api2.proofs.runner.step.Goals as goal
 

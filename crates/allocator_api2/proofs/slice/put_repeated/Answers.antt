@@ -1,6 +1,5 @@
-use Rattle.std.proofs.Common.{◌+◌, ◌*◌, ◌≤◌, ◌++◌, length, take, ap, ◌∙◌, arith, mul-le-mul_right, add-mul}
-use Rattle.std.specs.List.{repeat}
-use Rattle.aa_vec.proofs.Climbing.{SameBlock-trans}
+use Rattle.allocator_api2.proofs.Common.{◌+◌, ◌*◌, ◌≤◌, ◌++◌, length, take, ap, ◌∙◌, arith, repeat, SameBlock-trans}
+use Rattle.std.proofs.Common.{mul-le-mul_right, add-mul}
 use Rattle.allocator_api2.proofs.Repeated.{length-repeat, repeat-add, take-repeat}
 use Rattle.allocator_api2.proofs.slice.put_repeated.Goals as goal
 

@@ -1,7 +1,4 @@
-use Rattle.std.proofs.Common.{◌-◌, ◌*◌, ◌<◌, ◌≤◌, length}
-use Rattle.std.specs.List.{repeat}
-use Rattle.aa_vec.specs.Vector.{Holds}
-use Rattle.aa_vec.specs.Copies.{WritesAtMost}
+use Rattle.allocator_api2.proofs.Common.{◌-◌, ◌*◌, ◌<◌, ◌≤◌, length, repeat, Holds, WritesAtMost}
 use Rattle.allocator_api2.proofs.slice.put_repeated.Given as goal
 
 abbrev pub invariant-each : goal.invariant-each

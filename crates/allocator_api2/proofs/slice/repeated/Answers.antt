@@ -1,10 +1,5 @@
-use Rattle.std.proofs.Common.{rules, ◌≡◌, ◌*◌, length, sym, subst, arith}
-use Rattle.std.specs.List.{repeat}
-use Rattle.std.specs.Mem.{type_size}
+use Rattle.allocator_api2.proofs.Common.{rules, ◌≡◌, ◌*◌, length, sym, subst, arith, repeat, type_size, Doubling, Vector, IsNew, IsMadeWithin}
 use denote.Param.{copied}
-use Rattle.aa_raw.specs.declared.raw_vec.Growth.TheVariants.{Doubling}
-use Rattle.aa_vec.specs.Vector.{Vector, IsNew}
-use Rattle.aa_vec.specs.Copies.{IsMadeWithin}
 use Rattle.allocator_api2.proofs.Repeated.{Holds-none, Writes-none, IsMadeWithin-repeated}
 use Rattle.allocator_api2.proofs.slice.repeated.Goals as goal
 use Rattle.allocator_api2.proofs.slice.repeated.Goals.{then-n-gt0, else-n-gt0}

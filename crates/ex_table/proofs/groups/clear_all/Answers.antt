@@ -1,5 +1,4 @@
-use Rattle.std.proofs.Common.{replicate, ap, ◌∙◌, rules}
-use Rattle.ex_table.specs.Groups.{empty_group}
+use Rattle.ex_table.proofs.Common.{replicate, ap, ◌∙◌, rules, empty_group}
 use Rattle.allocator_api2.proofs.Callers.{all_same}
 use Rattle.ex_table.proofs.groups.clear_all.Goals as goal
 

@@ -1,5 +1,4 @@
-use Rattle.std.proofs.Common.{rules}
-use Rattle.ex_table.specs.Groups.{empty_group}
+use Rattle.ex_table.proofs.Common.{rules, empty_group}
 use Rattle.allocator_api2.proofs.Callers.{filled_new}
 use Rattle.ex_table.proofs.groups.empty_groups.Goals as goal
 

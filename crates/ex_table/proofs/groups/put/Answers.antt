@@ -1,5 +1,4 @@
-use Rattle.std.proofs.Common.{ℕ, ◌<◌, ap, arith, subst, sym, ◌∙◌}
-use Rattle.ex_table.specs.Groups.{IsAt, free_lanes, home_of}
+use Rattle.ex_table.proofs.Common.{ℕ, ◌<◌, ap, arith, subst, sym, ◌∙◌, IsAt, free_lanes, home_of}
 use Rattle.ex_table.proofs.Lanes.{kept, tag-some, all-full}
 use Rattle.ex_table.proofs.groups.put.Goals as goal
 

@@ -1,5 +1,4 @@
-use Rattle.std.proofs.Common.{◌≡◌, ℕ, ◌<◌}
-use Rattle.ex_table.specs.Groups.{free, group_of}
+use Rattle.ex_table.proofs.Common.{◌≡◌, ℕ, ◌<◌, free, group_of}
 use Rattle.ex_table.proofs.groups.put.Given as goal
 
 -- each group before was full, and nothing was written

@@ -1,5 +1,4 @@
-use Rattle.std.proofs.Common.{◌∷◌, ap, ◌∙◌}
-use Rattle.ex_table.specs.Slots.{hashes}
+use Rattle.ex_table.proofs.Common.{◌∷◌, ap, ◌∙◌, hashes}
 use Rattle.ex_table.proofs.Moving.{left_behind, not_there, moved_on, all_moved, unheld}
 use Rattle.ex_table.proofs.growth.move_all.Goals as goal
 

@@ -1,5 +1,4 @@
-use Rattle.std.proofs.Common.{length}
-use Rattle.ex_table.specs.Slots.{hashes}
+use Rattle.ex_table.proofs.Common.{length, hashes}
 use Rattle.ex_table.proofs.Moving.{IsMoving}
 use Rattle.ex_table.proofs.growth.move_all.Given as goal
 

@@ -1,6 +1,4 @@
-use Rattle.std.proofs.Common.{subst, sym}
-use Rattle.ex_table.specs.Groups.{IsAt}
-use Rattle.ex_table.specs.Slots.{hashes, IsSound, Puts}
+use Rattle.ex_table.proofs.Common.{subst, sym, IsAt, hashes, IsSound, Puts}
 use Rattle.ex_table.proofs.Putting.{puts, sound-put}
 use Rattle.ex_table.proofs.growth.put_new.Goals as goal
 

@@ -1,8 +1,4 @@
-use Rattle.std.proofs.Common.{◌≤◌, subst, sym}
-use Rattle.std.specs.Prelude.{count_by}
-use Rattle.allocator_api2.specs.Vector.{Vector}
-use Rattle.ex_table.specs.declared.slots.Slot.{Slot}
-use Rattle.ex_table.specs.Slots.{is_key}
+use Rattle.ex_table.proofs.Common.{◌≤◌, subst, sym, count_by, Vector, Slot, is_key}
 use Rattle.ex_table.proofs.growth.rehash.Goals as goal
 
 pub move_all-requires-clause-once : goal.move_all-requires-clause-once

@@ -1,5 +1,4 @@
-use Rattle.std.proofs.Common.{refl, sym, ◌∙◌}
-use Rattle.ex_table.specs.Slots.{hashes}
+use Rattle.ex_table.proofs.Common.{refl, sym, ◌∙◌, hashes}
 use Rattle.ex_table.proofs.Finding.{absent-none, absent-first}
 use Rattle.ex_table.proofs.Lanes.{some-free}
 use Rattle.ex_table.proofs.slots.find.Goals as goal

@@ -1,6 +1,4 @@
-use Rattle.std.proofs.Common.{ℕ, ◌<◌, length, refl, ap, subst, sym, ◌∙◌}
-use Rattle.ex_table.specs.Groups.{after, free, group_at, group_of}
-use Rattle.ex_table.specs.Slots.{hashes, Lacks}
+use Rattle.ex_table.proofs.Common.{ℕ, ◌<◌, length, refl, ap, subst, sym, ◌∙◌, after, free, group_at, group_of, hashes, Lacks}
 use Rattle.ex_table.proofs.Finding.{one_more, absent-none, absent-all, absent-free}
 use Rattle.ex_table.proofs.Lanes.{some-free}
 use Rattle.ex_table.proofs.slots.group_by_group.Goals as goal

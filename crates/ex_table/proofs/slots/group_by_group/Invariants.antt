@@ -1,6 +1,4 @@
-use Rattle.std.proofs.Common.{ℕ, ◌<◌}
-use Rattle.ex_table.specs.Groups.{group_of}
-use Rattle.ex_table.specs.Slots.{Lacks}
+use Rattle.ex_table.proofs.Common.{ℕ, ◌<◌, group_of, Lacks}
 use Rattle.ex_table.proofs.slots.group_by_group.Given as goal
 
 -- the groups before lack the key

@@ -1,5 +1,4 @@
-use Rattle.std.proofs.Common.{length}
-use Rattle.std.specs.Str.Lines.{lines}
+use Rattle.vecscript.proofs.Common.{length, lines}
 use Rattle.vecscript.proofs.Sparing.{HasPassed}
 use Rattle.vecscript.proofs.lines.chosen_growth.Given as goal
 

@@ -1,6 +1,5 @@
-use Rattle.std.proofs.Common.{◌≡◌, rules, refl}
-use Rattle.std.specs.Prelude.{codes}
-use Rattle.allocator_api2.specs.declared.runner.Command.TheVariants.{Push, Within, Insert, Remove, SwapRemove, Truncate, Reserve, ReserveExact, ShrinkTo, SplitOff, ExtendFromWithin, Resize, Drain, ExtractIf}
+use Rattle.vecscript.proofs.Common.{◌≡◌, rules, refl, codes, Push, SplitOff, ExtractIf}
+use Rattle.allocator_api2.specs.declared.runner.Command.TheVariants.{Within, Insert, Remove, SwapRemove, Truncate, Reserve, ReserveExact, ShrinkTo, ExtendFromWithin, Resize, Drain}
 use Rattle.vecscript.proofs.Mapped.{ReadsAs-map}
 use Rattle.vecscript.proofs.lines.command.Goals as goal
 

@@ -1,7 +1,5 @@
-use Rattle.std.proofs.Common.{◌≡◌, rules, arith}
+use Rattle.vecscript.proofs.Common.{◌≡◌, rules, arith, codes, words_of}
 use Rattle.std.proofs.lemmas.Slice.Eq.{text_from_reads}
-use Rattle.std.specs.Prelude.{codes}
-use Rattle.vecscript.specs.Lines.{words_of}
 use Rattle.vecscript.proofs.Named.{Say-push, IsBad-push}
 use Rattle.vecscript.proofs.lines.command_of_line.Goals as goal
 

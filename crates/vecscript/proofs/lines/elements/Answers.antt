@@ -1,5 +1,4 @@
-use Rattle.std.proofs.Common.{◌^◌, inr, refl}
-use Rattle.vecscript.specs.Lines.{Writes}
+use Rattle.vecscript.proofs.Common.{◌^◌, inr, refl, Writes}
 use Rattle.vecscript.proofs.Taken.{HasTaken-next, HasTaken-stuck}
 use Rattle.vecscript.proofs.lines.elements.Goals as goal
 

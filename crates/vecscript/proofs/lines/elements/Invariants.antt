@@ -1,5 +1,4 @@
-use Rattle.std.proofs.Common.{◌^◌, length}
-use Rattle.vecscript.specs.Lines.{words_of, Writes}
+use Rattle.vecscript.proofs.Common.{◌^◌, length, words_of, Writes}
 use Rattle.vecscript.proofs.Taken.{HasTaken}
 use Rattle.vecscript.proofs.lines.elements.Given as goal
 

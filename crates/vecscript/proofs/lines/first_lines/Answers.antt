@@ -1,5 +1,4 @@
-use Rattle.std.proofs.Common.{◌≡◌, ◌+◌, drop, refl}
-use Rattle.std.specs.List.{position_or_len}
+use Rattle.vecscript.proofs.Common.{◌≡◌, ◌+◌, drop, refl, position_or_len}
 use Rattle.vecscript.proofs.TextLines.{is_line_feed, lines_cut}
 use Rattle.vecscript.proofs.lines.first_lines.Goals as goal
 

@@ -1,9 +1,5 @@
-use Rattle.std.proofs.Common.{◌≡◌, true, length, get_or, sym, arith}
-use Rattle.std.specs.Char.{is_ascii_digit}
-use Rattle.std.specs.List.{position_or_len}
-use Rattle.std.proofs.lemmas.Int.Digits.{digits_more, digits_value_more}
-use Rattle.std.proofs.lemmas.List.{take_rest}
-use Rattle.vecscript.specs.Lines.{is_blank}
+use Rattle.vecscript.proofs.Common.{◌≡◌, true, length, get_or, sym, arith, is_ascii_digit, position_or_len, digits_value_more, take_rest, is_blank}
+use Rattle.std.proofs.lemmas.Int.Digits.{digits_more}
 use Rattle.vecscript.proofs.Numbers.{digit_is, digit_below, blank_next, blank_none, other_in_word, too_large}
 use Rattle.vecscript.proofs.lines.first_number.Goals as goal
 

@@ -1,8 +1,4 @@
-use Rattle.std.proofs.Common.{◌≡◌, length, take, ap, arith, length-drop}
-use Rattle.std.specs.List.{position_or_len}
-use Rattle.std.proofs.lemmas.Bool.Decides.{nat_tests}
-use Rattle.std.proofs.lemmas.List.{take_all}
-use Rattle.vecscript.specs.Lines.{is_blank}
+use Rattle.vecscript.proofs.Common.{◌≡◌, length, take, ap, arith, length-drop, position_or_len, nat_tests, take_all, is_blank}
 use Rattle.vecscript.proofs.Numbers.{digits_whole}
 use Rattle.vecscript.proofs.lines.number.Goals as goal
 

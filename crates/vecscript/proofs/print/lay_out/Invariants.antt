@@ -1,5 +1,4 @@
-use Rattle.std.proofs.Common.{◌≡◌, ◌++◌, ◌<◌, ◌≤◌, length, drop}
-use Rattle.std.specs.Prelude.{decimal}
+use Rattle.vecscript.proofs.Common.{◌≡◌, ◌++◌, ◌<◌, ◌≤◌, length, drop, decimal}
 use Rattle.vecscript.proofs.print.lay_out.Given as goal
 
 -- the last digits stand in front of what is kept, and there is room for the first ones and the space

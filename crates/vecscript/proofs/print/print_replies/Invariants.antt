@@ -1,5 +1,4 @@
-use Rattle.std.proofs.Common.{◌≡◌, ◌++◌, take}
-use Rattle.vecscript.specs.Print.{replies_text}
+use Rattle.vecscript.proofs.Common.{◌≡◌, ◌++◌, take, replies_text}
 use Rattle.vecscript.proofs.print.print_replies.Given as goal
 
 abbrev pub invariant-loop-reply : goal.invariant-loop-reply

@@ -1,8 +1,4 @@
-use Rattle.std.proofs.Common.{◌≡◌, length, refl, arith}
-use Rattle.std.specs.Str.Lines.{lines}
-use Rattle.std.proofs.lemmas.Bool.Decides.{nat_tests}
-use Rattle.allocator_api2.specs.Machine.{state_of}
-use Rattle.vecscript.specs.Lines.{command_lines}
+use Rattle.vecscript.proofs.Common.{◌≡◌, length, refl, arith, lines, nat_tests, state_of, command_lines}
 use Rattle.vecscript.proofs.Sparing.{found-behind, found-behind-fits, length-command_lines}
 use Rattle.vecscript.proofs.TextLines.{length-lines}
 use Rattle.vecscript.proofs.Pieces.{HasAnswered-start, HasAnswered-next, HasAnswered-good, HasAnswered-end}

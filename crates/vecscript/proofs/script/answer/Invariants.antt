@@ -1,6 +1,5 @@
-use Rattle.std.proofs.Common.{◌≡◌, length}
-use Rattle.std.specs.Str.Lines.{lines}
-use Rattle.allocator_api2.specs.Machine.{calls_of, state_of}
+use Rattle.vecscript.proofs.Common.{◌≡◌, length, lines, state_of}
+use Rattle.allocator_api2.specs.Machine.{calls_of}
 use Rattle.vecscript.proofs.Pieces.{HasAnswered}
 use Rattle.vecscript.proofs.script.answer.Given as goal
 

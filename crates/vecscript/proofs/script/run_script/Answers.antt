@@ -1,6 +1,4 @@
-use Rattle.std.proofs.Common.{◌≡◌, ℕ, List, inr, subst}
-use Rattle.std.specs.Str.Lines.{lines}
-use Rattle.vecscript.specs.Runs.{MayAnswer}
+use Rattle.vecscript.proofs.Common.{◌≡◌, ℕ, List, inr, subst, lines, MayAnswer}
 use Rattle.vecscript.proofs.Beginnings.{IfSome-begun}
 use Rattle.vecscript.proofs.script.run_script.Goals as goal
 

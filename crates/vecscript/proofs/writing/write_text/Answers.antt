@@ -1,6 +1,4 @@
-use Rattle.std.proofs.Common.{◌≡◌, refl, arith, [], length}
-use Rattle.std.proofs.lemmas.Bool.Decides.{nat_tests}
-use Rattle.std.proofs.lemmas.List.{take_rest}
+use Rattle.vecscript.proofs.Common.{◌≡◌, refl, arith, [], length, nat_tests, take_rest}
 use Rattle.std.proofs.KnownBytes.{Appends-nil, Appends-kept}
 use Rattle.vecscript.proofs.Beginnings.{HasWritten-next, HasWritten-all}
 use Rattle.vecscript.proofs.writing.write_text.Goals as goal

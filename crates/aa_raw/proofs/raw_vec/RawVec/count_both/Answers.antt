@@ -1,5 +1,4 @@
-use Rattle.std.proofs.Common.{rules, ◌≤◌, length}
-use Rattle.aa_raw.specs.TwoRuns.{both}
+use Rattle.aa_raw.proofs.Common.{rules, ◌≤◌, length, both}
 use Rattle.aa_raw.proofs.TwoRuns.{both-fit}
 use Rattle.aa_raw.proofs.raw_vec.RawVec.count_both.Goals as goal
 

@@ -1,6 +1,4 @@
-use Rattle.std.proofs.Common.{◌+◌, None, refl, ap, ◌∙◌, arith}
-use Rattle.std.specs.Prelude.{slice_set}
-use Rattle.aa_raw.specs.Block.{with_places}
+use Rattle.aa_raw.proofs.Common.{◌+◌, None, refl, ap, ◌∙◌, arith, slice_set, with_places}
 use Rattle.aa_raw.proofs.Emptied.{emptied-next, emptied-more}
 use Rattle.aa_raw.proofs.raw_vec.RawVec.drop_run.Goals as goal
 

@@ -1,6 +1,4 @@
-use Rattle.std.proofs.Common.{◌≡◌, None, replicate}
-use Rattle.aa_raw.specs.Block.{with_places}
-use Rattle.aa_raw.specs.Places.{with_run}
+use Rattle.aa_raw.proofs.Common.{◌≡◌, None, replicate, with_places, with_run}
 use Rattle.aa_raw.proofs.raw_vec.RawVec.drop_run.Given as goal
 
 abbrev pub invariant-each : goal.invariant-each

@@ -1,5 +1,4 @@
-use Rattle.std.proofs.Common.{slice_set, None, Some, sym, ap, ◌∙◌, arith}
-use Rattle.aa_raw.specs.Block.{wrote}
+use Rattle.aa_raw.proofs.Common.{slice_set, None, Some, sym, ap, ◌∙◌, arith, wrote}
 use Rattle.aa_raw.proofs.Moves.{moved_one, still, elsewhere}
 use Rattle.aa_raw.proofs.Places.{filled_within}
 use Rattle.aa_raw.proofs.raw_vec.RawVec.move_one.Goals as goal

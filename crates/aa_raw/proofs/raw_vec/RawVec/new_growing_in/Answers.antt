@@ -1,9 +1,4 @@
-use Rattle.std.proofs.Common.{◌≡◌, ◌<◌, List, Option, None, replicate, ap, ◌∙◌, arith, inl, inr}
-use Rattle.std.proofs.lemmas.Bool.Decides.{eqb_tells}
-use Rattle.std.specs.Mem.{type_size}
-use denote.Param.{param}
-use Rattle.aa_raw.specs.Block.{Block}
-use Rattle.aa_raw.specs.Places.{empty_places}
+use Rattle.aa_raw.proofs.Common.{◌≡◌, ◌<◌, List, Option, None, replicate, ap, ◌∙◌, arith, inl, inr, eqb_tells, type_size, param, Block, empty_places}
 use Rattle.aa_raw.proofs.Places.{endless-empty, sized-empty}
 use Rattle.aa_raw.proofs.raw_vec.RawVec.new_growing_in.Goals.{then-is_sizeless, else-is_sizeless}
 use Rattle.aa_raw.proofs.raw_vec.RawVec.new_growing_in.Goals as goal

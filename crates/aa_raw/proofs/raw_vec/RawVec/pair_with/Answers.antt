@@ -1,8 +1,4 @@
-use Rattle.std.proofs.Common.{◌≡◌, get_or, slice_set, Some, None, sym, ap, subst, ◌∙◌}
-use Rattle.std.proofs.lemmas.List.{get_or-set_other}
-use Rattle.aa_raw.specs.Block.{with_places}
-use Rattle.aa_raw.specs.Fields.{view_of}
-use Rattle.aa_raw.specs.Places.{IsFilled}
+use Rattle.aa_raw.proofs.Common.{◌≡◌, get_or, slice_set, Some, None, sym, ap, subst, ◌∙◌, get_or-set_other, with_places, view_of, IsFilled}
 use Rattle.aa_raw.proofs.Places.{filled_within, filled_again}
 use Rattle.aa_raw.proofs.raw_vec.RawVec.pair_with.Goals as goal
 

@@ -1,5 +1,4 @@
-use Rattle.std.proofs.Common.{◌≡◌, length, take}
-use Rattle.aa_raw.specs.Clones.{HoldsClones}
+use Rattle.aa_raw.proofs.Common.{◌≡◌, length, take, HoldsClones}
 use Rattle.aa_raw.proofs.vec.clones.put_clones.Given as goal
 
 abbrev pub invariant-each : goal.invariant-each

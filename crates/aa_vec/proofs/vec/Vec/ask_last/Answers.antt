@@ -1,10 +1,4 @@
-use Rattle.std.proofs.Common.{◌<◌, refl, sym, ap, subst, ◌∙◌, arith}
-use Rattle.std.specs.Fn.{CalledAtPairMut}
-use Rattle.aa_raw.proofs.Runs.{length-run}
-use Rattle.aa_vec.specs.Behind.{StandsBehind, behind_items}
-use Rattle.aa_vec.specs.Until.{AsksLast}
-use Rattle.aa_vec.specs.Vector.{Vector, len}
-use Rattle.aa_vec.specs.Inner.{view_of}
+use Rattle.aa_vec.proofs.Common.{◌<◌, refl, sym, ap, subst, ◌∙◌, arith, CalledAtPairMut, length-run, StandsBehind, behind_items, AsksLast, Vector, len, view_of}
 use Rattle.aa_vec.proofs.Gaps.{filled, last-filled, last-item, taken-value, before, run-rewritten, length-rewritten, drop-rewritten}
 use Rattle.aa_vec.proofs.vec.Vec.ask_last.Goals as goal
 

@@ -1,7 +1,4 @@
-use Rattle.std.proofs.Common.{◌-◌, subst, arith}
-use Rattle.std.specs.Fn.{CalledAtPairMut}
-use Rattle.aa_raw.specs.Closures.{TakesPairMut}
-use Rattle.aa_vec.specs.Choosing.{MayChainFrom}
+use Rattle.aa_vec.proofs.Common.{◌-◌, subst, arith, CalledAtPairMut, TakesPairMut, MayChainFrom}
 use Rattle.aa_vec.proofs.Chains.{first_is, may_follow}
 use Rattle.aa_vec.proofs.vec.Vec.chain_behind.Goals as goal
 

@@ -1,6 +1,4 @@
-use Rattle.std.proofs.Common.{◌<◌, refl, ap, arith, length, length-append, ◌∷◌, []}
-use Rattle.std.specs.Iterator.{size}
-use Rattle.std.proofs.lemmas.Result.{err_from_is_err_and}
+use Rattle.aa_vec.proofs.Common.{◌<◌, refl, ap, arith, length, length-append, ◌∷◌, [], size, err_from_is_err_and}
 use Rattle.aa_vec.proofs.Extending.{Placing-start, Placing-filled, Placing-full, Placing-grown, Placing-refused, Placing-end, Placing-extended, Placing-writes, Placing-over}
 use Rattle.aa_vec.proofs.vec.Vec.extend_telling.Goals as goal
 

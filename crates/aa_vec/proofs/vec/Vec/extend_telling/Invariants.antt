@@ -1,7 +1,5 @@
-use Rattle.std.proofs.Common.{◌+◌, ◌≤◌}
-use Rattle.std.specs.Mem.{type_size}
-use Rattle.std.specs.Iterator.{IsFinite, size}
-use Rattle.aa_vec.specs.Vector.{len}
+use Rattle.aa_vec.proofs.Common.{◌+◌, ◌≤◌, type_size, size, len}
+use Rattle.std.specs.Iterator.{IsFinite}
 use Rattle.aa_vec.proofs.Extending.{Placing}
 use Rattle.aa_vec.proofs.vec.Vec.extend_telling.Given as goal
 

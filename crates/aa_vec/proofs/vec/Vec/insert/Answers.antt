@@ -1,6 +1,4 @@
-use Rattle.std.proofs.Common.{◌≤◌, ap, arith}
-use Rattle.aa_raw.proofs.Runs.{length-run}
-use Rattle.aa_vec.specs.Vector.{len}
+use Rattle.aa_vec.proofs.Common.{◌≤◌, ap, arith, length-run, len}
 use Rattle.aa_vec.proofs.Room.{GrowsTo-inserted}
 use Rattle.aa_vec.proofs.vec.Vec.insert.Goals as goal
 

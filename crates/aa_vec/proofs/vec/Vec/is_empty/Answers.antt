@@ -1,6 +1,4 @@
-use Rattle.std.proofs.Common.{ap, ◌∙◌, ◌≡◌, sym}
-use Rattle.aa_raw.proofs.Runs.{length-run}
-use Rattle.aa_vec.specs.Vector.{len}
+use Rattle.aa_vec.proofs.Common.{ap, ◌∙◌, ◌≡◌, sym, length-run, len}
 use Rattle.aa_vec.proofs.Lists.{no-items}
 use Rattle.aa_vec.proofs.vec.Vec.is_empty.Goals as goal
 

@@ -1,7 +1,5 @@
-use Rattle.std.proofs.Common.{◌<◌, length, Some, refl, ap, arith, length-set}
-use Rattle.std.proofs.lemmas.List.{drop-set-lt}
+use Rattle.aa_vec.proofs.Common.{◌<◌, length, Some, refl, ap, arith, length-set, drop-set-lt, length-run}
 use Rattle.aa_raw.proofs.Firsts.{run-set, run-at}
-use Rattle.aa_raw.proofs.Runs.{length-run}
 use Rattle.aa_vec.proofs.vec.Vec.item_mut.Goals as goal
 
 pub returns : goal.returns

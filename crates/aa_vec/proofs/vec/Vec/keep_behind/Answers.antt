@@ -1,7 +1,4 @@
-use Rattle.std.proofs.Common.{rules, ◌+◌, ◌<◌, ◌^◌, sym, ap, ◌∙◌, subst, arith}
-use Rattle.std.specs.Fn.{CalledAtMut}
-use Rattle.aa_vec.specs.Behind.{behind_items}
-use Rattle.aa_vec.specs.Choosing.{TakesMut, MayAskInOrder}
+use Rattle.aa_vec.proofs.Common.{rules, ◌+◌, ◌<◌, ◌^◌, sym, ap, ◌∙◌, subst, arith, CalledAtMut, behind_items, TakesMut, MayAskInOrder}
 use Rattle.aa_vec.proofs.Gaps.{seen, there, within, lent-is, IsFront-relent}
 use Rattle.aa_vec.proofs.vec.Vec.keep_behind.Goals as goal
 

@@ -1,6 +1,4 @@
-use Rattle.std.proofs.Common.{false, refl, subst, arith}
-use Rattle.std.specs.Fn.{CalledAtMut}
-use Rattle.aa_vec.specs.Until.{StaysAt, AsksBehind}
+use Rattle.aa_vec.proofs.Common.{false, refl, subst, arith, CalledAtMut, StaysAt, AsksBehind}
 use Rattle.aa_vec.proofs.Extracting.{asked_stand, asked_within}
 use Rattle.aa_vec.proofs.Stands.{first_stand, closes_none}
 use Rattle.aa_vec.proofs.vec.Vec.pass_over.Goals as goal

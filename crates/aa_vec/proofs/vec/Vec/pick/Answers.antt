@@ -1,8 +1,4 @@
-use Rattle.std.proofs.Common.{ℕ, ◌-◌, Option, sym, ◌∙◌, subst, arith}
-use Rattle.std.specs.Fn.{CalledAtMut}
-use Rattle.aa_vec.specs.Behind.{SetsBack}
-use Rattle.aa_vec.specs.Until.{Picks}
-use Rattle.aa_vec.specs.Vector.{len}
+use Rattle.aa_vec.proofs.Common.{ℕ, ◌-◌, Option, sym, ◌∙◌, subst, arith, CalledAtMut, SetsBack, Picks, len}
 use Rattle.aa_vec.proofs.Extracting.{joined_stand, next_stand, asked_few, Picks-none, Picks-taken}
 use Rattle.aa_vec.proofs.Stands.{first_stand}
 use Rattle.aa_vec.proofs.vec.Vec.pick.Goals.{then-stay-count, else-stay-count}

@@ -1,5 +1,4 @@
-use Rattle.std.proofs.Common.{None, subst, arith}
-use Rattle.std.proofs.lemmas.Result.{err_from_is_err_and}
+use Rattle.aa_vec.proofs.Common.{None, subst, arith, err_from_is_err_and}
 use Rattle.aa_vec.proofs.Replacing.{Puts-none, Puts-told, Puts-rest}
 use Rattle.aa_vec.proofs.vec.Vec.put_more.Goals as goal
 

@@ -1,5 +1,4 @@
-use Rattle.std.proofs.Common.{Bool, subst}
-use Rattle.std.specs.Fn.{CalledAtMut}
+use Rattle.aa_vec.proofs.Common.{Bool, subst, CalledAtMut}
 use Rattle.aa_vec.proofs.Asking.{answer_is}
 use Rattle.aa_vec.proofs.vec.asking.ask_stays.Goals as goal
 

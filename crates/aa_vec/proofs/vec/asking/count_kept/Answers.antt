@@ -1,7 +1,4 @@
-use Rattle.std.proofs.Common.{rules, ◌+◌, ◌<◌, ◌^◌, subst, arith}
-use Rattle.std.specs.Fn.{CalledAtMut}
-use Rattle.aa_vec.specs.Choosing.{TakesMut, MayAskInOrder}
-use Rattle.aa_vec.specs.Until.{StaysAt}
+use Rattle.aa_vec.proofs.Common.{rules, ◌+◌, ◌<◌, ◌^◌, subst, arith, CalledAtMut, TakesMut, MayAskInOrder, StaysAt}
 use Rattle.aa_vec.proofs.Retaining.{follows}
 use Rattle.aa_vec.proofs.vec.asking.count_kept.Goals as goal
 

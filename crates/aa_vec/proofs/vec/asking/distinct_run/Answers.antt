@@ -1,7 +1,4 @@
-use Rattle.std.proofs.Common.{rules, ◌≡◌, ◌-◌, ℕ, length, subst, arith}
-use Rattle.std.specs.Fn.{CalledAtPairMut}
-use Rattle.aa_raw.specs.Closures.{TakesPairMut}
-use Rattle.aa_vec.specs.Until.{ChainsAlong}
+use Rattle.aa_vec.proofs.Common.{rules, ◌≡◌, ◌-◌, ℕ, length, subst, arith, CalledAtPairMut, TakesPairMut, ChainsAlong}
 use Rattle.aa_vec.proofs.Asking.{HasChained-none, HasChained-more, ChainsAlong-here, ChainsAlong-end, next_pair}
 use Rattle.aa_vec.proofs.vec.asking.distinct_run.Goals as goal
 

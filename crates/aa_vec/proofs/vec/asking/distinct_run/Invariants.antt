@@ -1,6 +1,4 @@
-use Rattle.std.proofs.Common.{◌-◌}
-use Rattle.std.specs.Fn.{CalledAtPairMut}
-use Rattle.aa_raw.specs.Closures.{TakesPairMut}
+use Rattle.aa_vec.proofs.Common.{◌-◌, CalledAtPairMut, TakesPairMut}
 use Rattle.aa_vec.proofs.Asking.{HasChained}
 use Rattle.aa_vec.proofs.vec.asking.distinct_run.Given as goal
 

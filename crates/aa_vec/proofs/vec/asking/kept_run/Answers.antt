@@ -1,8 +1,5 @@
-use Rattle.std.proofs.Common.{◌≡◌, ℕ, Bool, length, subst, arith}
+use Rattle.aa_vec.proofs.Common.{◌≡◌, ℕ, Bool, length, subst, arith, CalledAtMut, TakesMut, StaysAt}
 use Rattle.std.specs.Prelude.{slice_index_or}
-use Rattle.std.specs.Fn.{CalledAtMut}
-use Rattle.aa_vec.specs.Choosing.{TakesMut}
-use Rattle.aa_vec.specs.Until.{StaysAt}
 use Rattle.aa_vec.proofs.Asking.{HasAsked, HasAsked-none, HasAsked-more, next_takes, AsksUntil-here, AsksUntil-end, goes_where, stays_where}
 use Rattle.aa_vec.proofs.vec.asking.kept_run.Goals as goal
 

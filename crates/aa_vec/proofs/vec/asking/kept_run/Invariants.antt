@@ -1,7 +1,4 @@
-use Rattle.std.proofs.Common.{◌-◌}
-use Rattle.std.specs.Fn.{CalledAtMut}
-use Rattle.aa_vec.specs.Choosing.{TakesMut}
-use Rattle.aa_vec.specs.Until.{StaysAt}
+use Rattle.aa_vec.proofs.Common.{◌-◌, CalledAtMut, TakesMut, StaysAt}
 use Rattle.aa_vec.proofs.Asking.{HasAsked}
 use Rattle.aa_vec.proofs.vec.asking.kept_run.Given as goal
 

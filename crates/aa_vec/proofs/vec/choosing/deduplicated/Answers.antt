@@ -1,7 +1,4 @@
-use Rattle.std.proofs.Common.{◌-◌, ◌<◌, ◌+◌, ◌≡◌, arith}
-use Rattle.std.specs.Fn.{CalledAtPairMut}
-use Rattle.aa_raw.specs.Closures.{TakesPairMut}
-use Rattle.aa_vec.specs.Vector.{len}
+use Rattle.aa_vec.proofs.Common.{◌-◌, ◌<◌, ◌+◌, ◌≡◌, arith, CalledAtPairMut, TakesPairMut, len}
 use Rattle.aa_vec.proofs.Deduplicating.{chained-start, chained-turn, Deduplicates-ended}
 use Rattle.aa_vec.proofs.Stages.{stage-on}
 use Rattle.aa_vec.proofs.vec.choosing.deduplicated.Goals as goal

@@ -1,7 +1,4 @@
-use Rattle.std.proofs.Common.{◌-◌, ◌<◌, take, drop}
-use Rattle.aa_vec.specs.Vector.{len}
-use Rattle.std.specs.Fn.{CalledAtPairMut}
-use Rattle.aa_raw.specs.Closures.{TakesPairMut}
+use Rattle.aa_vec.proofs.Common.{◌-◌, ◌<◌, take, drop, len, CalledAtPairMut, TakesPairMut}
 use Rattle.aa_vec.proofs.Deduplicating.{Told, May}
 use Rattle.aa_vec.proofs.Stages.{Stage}
 use Rattle.aa_vec.proofs.vec.choosing.deduplicated.Given as goal

@@ -1,6 +1,4 @@
-use Rattle.std.proofs.Common.{◌≡◌, ◌-◌, refl, sym, subst, arith}
-use Rattle.aa_vec.specs.Behind.{ClosesGap}
-use Rattle.aa_vec.specs.Until.{TakesNext}
+use Rattle.aa_vec.proofs.Common.{◌≡◌, ◌-◌, refl, sym, subst, arith, ClosesGap, TakesNext}
 use Rattle.aa_vec.proofs.Stands.{first_stand, others_stand, closes_none}
 use Rattle.aa_vec.proofs.vec.choosing.passed.Goals as goal
 

@@ -1,5 +1,4 @@
-use Rattle.std.proofs.Common.{◌-◌, sym, subst, arith}
-use Rattle.aa_vec.specs.Behind.{ClosesGap}
+use Rattle.aa_vec.proofs.Common.{◌-◌, sym, subst, arith, ClosesGap}
 use Rattle.aa_vec.proofs.Stands.{first_stand, others_stand}
 use Rattle.aa_vec.proofs.vec.choosing.passed_inside.Goals as goal
 

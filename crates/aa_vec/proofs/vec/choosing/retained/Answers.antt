@@ -1,7 +1,4 @@
-use Rattle.std.proofs.Common.{◌-◌, ◌+◌, ◌≡◌, arith}
-use Rattle.std.specs.Fn.{CalledAtMut}
-use Rattle.aa_vec.specs.Choosing.{TakesMut}
-use Rattle.aa_vec.specs.Vector.{len}
+use Rattle.aa_vec.proofs.Common.{◌-◌, ◌+◌, ◌≡◌, arith, CalledAtMut, TakesMut, len}
 use Rattle.aa_vec.proofs.Retaining.{Told, May, asked-turn, Retains-ended}
 use Rattle.aa_vec.proofs.Stages.{stage-start}
 use Rattle.aa_vec.proofs.vec.choosing.retained.Goals as goal

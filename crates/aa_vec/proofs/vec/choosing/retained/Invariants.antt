@@ -1,7 +1,4 @@
-use Rattle.std.proofs.Common.{[], ◌-◌, ◌<◌}
-use Rattle.aa_vec.specs.Vector.{len}
-use Rattle.std.specs.Fn.{CalledAtMut}
-use Rattle.aa_vec.specs.Choosing.{TakesMut}
+use Rattle.aa_vec.proofs.Common.{[], ◌-◌, ◌<◌, len, CalledAtMut, TakesMut}
 use Rattle.aa_vec.proofs.Retaining.{Told, May}
 use Rattle.aa_vec.proofs.Stages.{Stage}
 use Rattle.aa_vec.proofs.vec.choosing.retained.Given as goal

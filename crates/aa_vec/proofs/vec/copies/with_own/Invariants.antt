@@ -1,5 +1,4 @@
-use Rattle.std.proofs.Common.{take, drop}
-use Rattle.aa_vec.specs.Copies.{Adds}
+use Rattle.aa_vec.proofs.Common.{take, drop, Adds}
 use Rattle.aa_vec.proofs.vec.copies.with_own.Given as goal
 
 abbrev pub invariant-each : goal.invariant-each

@@ -1,5 +1,4 @@
-use Rattle.std.proofs.Common.{replicate, take}
-use Rattle.aa_vec.specs.Copies.{Adds}
+use Rattle.aa_vec.proofs.Common.{replicate, take, Adds}
 use Rattle.aa_vec.proofs.vec.copies.with_same.Given as goal
 
 abbrev pub invariant-each : goal.invariant-each

@@ -1,6 +1,4 @@
-use Rattle.std.proofs.Common.{◌+◌, ◌≤◌}
-use Rattle.std.specs.Iterator.{size}
-use Rattle.aa_vec.specs.Filling.{Placed}
+use Rattle.aa_vec.proofs.Common.{◌+◌, ◌≤◌, size, Placed}
 use Rattle.aa_vec.proofs.vec.filling.with_gap_filled.Given as goal
 
 abbrev pub invariant-loop-left : goal.invariant-loop-left

@@ -1,5 +1,4 @@
-use Rattle.std.proofs.Common.{◌-◌, ◌<◌, arith}
-use Rattle.std.specs.Prelude.{⊤}
+use Rattle.aa_vec.proofs.Common.{◌-◌, ◌<◌, arith, ⊤}
 use Rattle.aa_vec.proofs.Drained.{dropped_stand}
 use Rattle.aa_vec.proofs.Splicing.{Replaced-extended, Replaced-ended, Replaced-more, SplicesIter-extended, SplicesIter-ended, SplicesIter-more, filled_len}
 use Rattle.aa_vec.proofs.vec.splice.end_telling.Goals as goal

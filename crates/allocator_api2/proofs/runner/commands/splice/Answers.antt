@@ -1,11 +1,5 @@
-use Rattle.std.proofs.Common.{rules}
-use Rattle.std.specs.Mem.{type_size}
-use denote.Param.{param}
-use Rattle.aa_vec.specs.Draining.{drain_vec}
+use Rattle.allocator_api2.proofs.Common.{rules, type_size, param, drain_vec, Does, Splice, Done, Refused}
 use Rattle.aa_vec.specs.Splices.{splice_range, splice_iter}
-use Rattle.allocator_api2.specs.Commands.{Does}
-use Rattle.allocator_api2.specs.declared.runner.Command.TheVariants.{Splice}
-use Rattle.allocator_api2.specs.declared.runner.Reply.TheVariants.{Done, Refused}
 use Rattle.allocator_api2.proofs.SplicedRanges.{Spliced-done, Spliced-refused}
 use Rattle.allocator_api2.proofs.runner.commands.splice.Goals as goal
 

@@ -1,7 +1,4 @@
-use Rattle.std.proofs.Common.{◌-◌, length, drop, reverse, ap, subst, arith, length-append, length-take, length-drop}
-use Rattle.std.proofs.lemmas.List.{length-reverse}
-use Rattle.aa_vec.specs.Draining.{drain_rest}
-use Rattle.allocator_api2.specs.Drained.{TakesBack}
+use Rattle.allocator_api2.proofs.Common.{◌-◌, length, drop, reverse, ap, subst, arith, length-append, length-take, length-drop, length-reverse, drain_rest, TakesBack}
 use Rattle.allocator_api2.proofs.Taking.{TakesBack-none, TakesBack-more}
 use Rattle.allocator_api2.proofs.runner.draining.take_back.Goals as goal
 

@@ -1,6 +1,4 @@
-use Rattle.std.proofs.Common.{length, take, ap, subst, arith, length-append, length-take, length-drop}
-use Rattle.aa_vec.specs.Draining.{drain_rest}
-use Rattle.allocator_api2.specs.Drained.{TakesFront}
+use Rattle.allocator_api2.proofs.Common.{length, take, ap, subst, arith, length-append, length-take, length-drop, drain_rest, TakesFront}
 use Rattle.allocator_api2.proofs.Taking.{TakesFront-none, TakesFront-more}
 use Rattle.allocator_api2.proofs.runner.draining.take_front.Goals as goal
 

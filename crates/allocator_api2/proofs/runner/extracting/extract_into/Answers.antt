@@ -1,8 +1,5 @@
-use Rattle.std.proofs.Common.{rules, ◌≡◌}
-use Rattle.std.specs.Fn.{CalledAtMut}
+use Rattle.allocator_api2.proofs.Common.{rules, ◌≡◌, CalledAtMut, Chosen, asking}
 use Rattle.aa_vec.specs.Extracting.{extract_lender}
-use Rattle.allocator_api2.specs.Drained.{Chosen}
-use Rattle.allocator_api2.specs.Machine.{asking}
 use Rattle.allocator_api2.proofs.Extracting.{chosen}
 use Rattle.allocator_api2.proofs.runner.extracting.extract_into.Goals as goal
 

@@ -1,6 +1,4 @@
-use Rattle.std.proofs.Common.{arith}
-use Rattle.std.specs.Fn.{CalledAtMut}
-use Rattle.aa_vec.specs.Choosing.{TakesMut}
+use Rattle.allocator_api2.proofs.Common.{arith, CalledAtMut, TakesMut}
 use Rattle.allocator_api2.proofs.Extracting.{TakenSoFar-none, TakenSoFar-more, TakesUpTo-end, TakesUpTo-all, room_left}
 use Rattle.allocator_api2.proofs.runner.extracting.take_chosen.Goals as goal
 

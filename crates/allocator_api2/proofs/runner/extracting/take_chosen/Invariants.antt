@@ -1,5 +1,4 @@
-use Rattle.std.specs.Fn.{CalledAtMut}
-use Rattle.aa_vec.specs.Choosing.{TakesMut}
+use Rattle.allocator_api2.proofs.Common.{CalledAtMut, TakesMut}
 use Rattle.allocator_api2.proofs.Extracting.{TakenSoFar}
 use Rattle.allocator_api2.proofs.runner.extracting.take_chosen.Given as goal
 

@@ -1,34 +1,9 @@
 -- A block of the shelf goes back to the inner allocator, as room for pointers. Assumes `Logic`.
-use Rattle.std.proofs.Common.{◌≡◌, ℕ, ◌*◌, ◌/◌, ◌%◌, ◌<◌, ◌^◌, Bool, true, false, List, [], ◌∷◌, refl, sym, ap, subst, ◌∙◌, arith, lit<, w64, T}
-use mir.Syntax.{Ty, Fn, Body, ty_ptr, ty_array, ty_unit}
-use mir.Val.{Val, vunit, vbool, has_ty, WT}
-use mir.MapTy.{inst_fn}
-use base.Fml.{ftrue, fwand, froom, flft}
-use prog.Align.{Dv, dv_self}
-use prog.Capped.{capped_is}
-use prog.Memory.{size, align, capped}
-use prog.Wp.{Env, Wp, after_seq, at_return}
-use contract.BorrowLft.{◌⊑◌, ⊑_trans}
-use contract.Monad.{fact}
-use contract.Running.{tables}
-use types.Kit.{‵, raw, prop, at_ret, any_q, Sq, Post, ◌⊛◌, later, given, ◌$◌, ◌∵◌, !, qed, move, keep, drop, use1, use2, split, learn, fsplit, fpick, feq_i, fjoin, suffices, join, group, await, done}
-use types.Match.{vrt, in_variant}
-use types.Part.{whole}
-use types.Run.{stop, fld, addr, lit, true_lit, false_lit, no_more, and_then, of_opd, first, blocks, switches_on, exec, returns, returns_within, enter}
-use types.ByLocal.{alloc_all, pass_all, free_all, look_at, get, get_in, get_tag, through, sets, sets_last, lands_as, lands_last, env}
-use denote.Exit.{yes}
-use denote.Plain.{uint_vals, uint_Tells}
-use denote.RattleType.{owns}
-use denote.Ref.{shr_vals}
-use denote.Signature.{types_at}
-use denote.Steps.{heard, nothing}
-use denote.Triple.Call.{calls_at, calls_at_last}
-use denote.Triple.Clauses.{Ended}
-use denote.Triple.Table.{framed}
-use denote.Triple.Walked.{Stays, stay_dropped, walk_of, ends_at}
-use Rattle.std.proofs.raw_atomic.Walks.{proved}
-use Rattle.std.proofs.alloc.Shapes.{after, front, arm_body}
-use Rattle.std.proofs.alloc.Calls.{Al, seen, Answer-typed, Answered, answers, Gives, at_gives, Gives-goes, Gives-Gives}
+use Rattle.ex_allocators.proofs.Common.{◌≡◌, ℕ, ◌*◌, ◌/◌, ◌<◌, ◌^◌, Bool, true, false, List, [], ◌∷◌, refl, sym, ap, subst, ◌∙◌, arith, lit<, w64, T, Ty, Fn, Body, ty_ptr, ty_array, Val, vunit, vbool, has_ty, WT, inst_fn, ftrue, fwand, froom, flft, Dv, dv_self, capped_is, size, align, capped, Env, Wp, after_seq, at_return, ◌⊑◌, ⊑_trans, fact, tables, ‵, raw, prop, at_ret, any_q, Sq, Post, ◌⊛◌, later, given, ◌$◌, ◌∵◌, !, qed, move, keep, drop, use1, use2, split, learn, fsplit, fpick, feq_i, fjoin, suffices, join, group, await, done, vrt, in_variant, whole, stop, fld, addr, lit, true_lit, false_lit, no_more, and_then, of_opd, first, blocks, switches_on, exec, returns, returns_within, enter, alloc_all, pass_all, free_all, look_at, get, get_in, get_tag, through, sets, sets_last, lands_as, env, yes, uint_vals, uint_Tells, owns, shr_vals, types_at, heard, nothing, calls_at, Ended, framed, Stays, stay_dropped, walk_of, ends_at, proved, after, front, arm_body, Al, seen, Answer-typed, Answered, answers, Gives, at_gives, Gives-goes, Gives-Gives}
+use Rattle.std.proofs.Common.{◌%◌}
+use mir.Syntax.{ty_unit}
+use types.ByLocal.{lands_last}
+use denote.Triple.Call.{calls_at_last}
 use Rattle.ex_allocators.proofs.Shelving.{size_goes}
 use Rattle.ex_allocators.proofs.Pooling.{generics, inner_of, shelf_of, self_goes, Kept, shelved, reaches, Off, taking, takes, took}
 use Rattle.ex_allocators.proofs.shelf.Shelf.take.Met.{met}

@@ -1,36 +1,6 @@
 -- A block comes from the shelf, or else from the inner allocator. Assumes `Logic`.
-use Rattle.std.proofs.Common.{◌≡◌, true, false, [], ◌∷◌, Ok, Err, refl, w64}
-use mir.Syntax.{Fn, Body}
-use mir.Val.{Val}
-use mir.MapTy.{inst_fn}
-use base.Logic.{ent, emp}
-use base.Fml.{ftrue, flft}
-use prog.Memory.{size, align, capped}
-use prog.Wp.{Env, Wp, after_seq, at_return}
-use contract.BorrowLft.{◌⊑◌, ⊑_trans}
-use contract.Monad.{fact}
-use contract.Running.{tables}
-use types.Logic.{sem}
-use types.Kit.{‵, raw, prop, at_ret, any_q, Sq, Post, ◌⊛◌, later, ◌$◌, ◌∵◌, !, qed, move, keep, use0, use1, use2, split, join, fsplit, fjoin, suffices, group, await, done}
-use types.Match.{vrt, in_variant}
-use types.Part.{agg, whole}
-use types.Run.{stop, fld, addr, lit, no_more, and_then, of_opd, first, switches_on, exec, returns, returns_within, enter}
-use types.ByLocal.{alloc_all, pass_all, free_all, look_at, get, get_in, get_tag, through, sets, sets_last, lands_as, env}
-use denote.Exit.{yes}
-use denote.Plain.{uint_vals, uint_Tells}
-use denote.RattleType.{owns}
-use denote.RawPtr.{block_ptr}
-use denote.Ref.{shr_vals}
-use denote.Signature.{types_at}
-use denote.Steps.{heard, nothing}
-use denote.Triple.Call.{calls_at}
-use denote.Triple.Clauses.{Ended}
-use denote.Triple.Table.{framed}
-use denote.Triple.Walked.{Stays, stay_dropped, walk_of, ends_at}
-use Rattle.std.specs.Allocator.{block_if_ok}
-use Rattle.std.proofs.raw_atomic.Walks.{proved}
-use Rattle.std.proofs.alloc.Shapes.{after, front, arm_body}
-use Rattle.std.proofs.alloc.Calls.{Al, seen, token, Answer, answer_val, Answer-typed, Answer-Ok, Answer-err, Takes, at_takes, Answered, Takes-goes, Takes-gives, answers}
+use Rattle.ex_allocators.proofs.Common.{◌≡◌, true, false, [], ◌∷◌, Ok, Err, refl, w64, Fn, Body, Val, inst_fn, ent, emp, ftrue, flft, size, align, capped, Env, Wp, after_seq, at_return, ◌⊑◌, ⊑_trans, fact, tables, sem, ‵, raw, prop, at_ret, any_q, Sq, Post, ◌⊛◌, later, ◌$◌, ◌∵◌, !, qed, move, keep, use0, use1, use2, split, join, fsplit, fjoin, suffices, group, await, done, vrt, in_variant, agg, whole, stop, fld, addr, lit, no_more, and_then, of_opd, first, switches_on, exec, returns, returns_within, enter, alloc_all, pass_all, free_all, look_at, get, get_in, get_tag, through, sets, sets_last, lands_as, env, yes, uint_vals, uint_Tells, owns, block_ptr, shr_vals, types_at, heard, nothing, calls_at, Ended, framed, Stays, stay_dropped, walk_of, ends_at, block_if_ok, proved, after, front, arm_body, Al, seen, token, Answer, answer_val, Answer-typed, Answer-Ok, Answer-err, Answered, Takes-gives, answers}
+use Rattle.std.proofs.alloc.Calls.{Takes, at_takes, Takes-goes}
 use Rattle.ex_allocators.proofs.Shelving.{size_goes}
 use Rattle.ex_allocators.proofs.Pooling.{generics, inner_of, shelf_of, self_goes, Kept, shelved, reaches, widens, Off, taking, takes, took}
 use Rattle.ex_allocators.proofs.shelf.Shelf.take.Met.{met}

@@ -1,39 +1,10 @@
 -- The block goes to the shelf, or else to the inner allocator. Assumes `Logic`.
-use Rattle.std.proofs.Common.{◌≡◌, ℕ, Bool, true, false, List, [], ◌∷◌, T, not, refl, sym, ap, subst, ◌∙◌, w64}
-use mir.Syntax.{Fn, Body}
-use mir.Val.{Val, vunit, vint, vptr, vbool}
-use mir.MapTy.{inst_fn}
-use base.Logic.{fst∗, never}
-use base.Fml.{Fml, ftrue, fwand, froom, flft}
-use prog.Align.{Dv, dv_self}
-use prog.Memory.{size, align, capped}
-use prog.Wp.{Env, WpFn}
-use contract.BorrowLft.{◌⊑◌, ⊑_trans}
-use contract.Monad.{fact}
-use contract.Running.{tables}
-use types.Logic.{sem}
-use types.Kit.{‵, raw, prop, at_ret, Sq, ◌⊛◌, some, later, given, ◌$◌, ◌∵◌, !, qed, move, keep, drop, use1, split, split3, join, pick, learn, rewrite, fsplit, fpick, feq_i, fjoin, suffices, regoal, group, await, done}
-use types.Run.{stop, fld, addr, unit_lit, no_more, and_then, of_opd, first, branches, skips, exec, returns, returns_within, enter}
-use types.ByLocal.{alloc_all, pass_all, free_all, look_at, get, through, sets, lands_as, env}
-use denote.Exit.{yes}
-use denote.Plain.{uint_vals, uint_Tells}
-use denote.RattleType.{owns}
-use denote.RawPtr.{Ptr, block_ptr, null_ptr, ptr_val, in_a_block, rawptr_vals, rawptr_Tells}
-use denote.Ref.{shr_vals}
-use denote.Signature.{types_at}
-use denote.Steps.{heard, nothing}
-use denote.Triple.Call.{calls_at}
-use denote.Triple.Clauses.{Ended}
-use denote.Triple.Table.{framed}
-use denote.Triple.Walked.{Stays, stay_dropped, walk_of, ends_at}
-use Rattle.std.specs.Allocator.{owned_block}
-use Rattle.std.proofs.raw_atomic.Walks.{proved}
-use Rattle.std.proofs.alloc.Shapes.{after}
-use Rattle.std.proofs.alloc.Calls.{Al, seen, token, Gives, at_gives, Gives-goes, Gives-Gives}
+use Rattle.ex_allocators.proofs.Common.{◌≡◌, ℕ, Bool, true, false, List, [], ◌∷◌, T, not, refl, sym, ap, subst, ◌∙◌, w64, Fn, Body, Val, vunit, vint, vptr, vbool, inst_fn, fst∗, never, Fml, ftrue, fwand, froom, flft, Dv, dv_self, size, align, capped, Env, WpFn, ◌⊑◌, ⊑_trans, fact, tables, sem, ‵, raw, prop, at_ret, Sq, ◌⊛◌, some, later, given, ◌$◌, ◌∵◌, !, qed, move, keep, drop, use1, split, split3, join, pick, learn, rewrite, fsplit, fpick, feq_i, fjoin, suffices, regoal, group, await, done, stop, fld, addr, no_more, and_then, of_opd, first, branches, skips, exec, returns, returns_within, enter, alloc_all, pass_all, free_all, look_at, get, through, sets, lands_as, env, yes, uint_vals, uint_Tells, owns, Ptr, block_ptr, null_ptr, ptr_val, in_a_block, shr_vals, types_at, heard, nothing, calls_at, Ended, framed, Stays, stay_dropped, walk_of, ends_at, owned_block, proved, after, Al, seen, token, Gives, at_gives, Gives-goes, Gives-Gives, block_unless}
+use types.Run.{unit_lit}
+use denote.RawPtr.{rawptr_vals, rawptr_Tells}
 use Rattle.ex_allocators.proofs.Shelving.{size_goes, pointer_goes}
 use Rattle.ex_allocators.proofs.Pooling.{generics, inner_of, shelf_of, self_goes, Kept, shelved, reaches, On, putting, puts, has_put}
 use Rattle.ex_allocators.proofs.shelf.Shelf.put.Met.{met}
-use Rattle.ex_allocators.specs.Shelves.{block_unless}
 use Rattle.ex_allocators.specs.contracts.pool.PoolAllocator.deallocate as F
 use Rattle.ex_allocators.specs.contracts.pool.PoolAllocator.deallocate.Key.{name}
 use Rattle.ex_allocators.proofs.pool.PoolAllocator.deallocate.Statement.{statement}

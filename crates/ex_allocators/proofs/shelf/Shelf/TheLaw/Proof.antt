@@ -1,15 +1,12 @@
 -- A `&` to a shelf is made of a borrow of it: the borrow itself, for one call at a time. Assumes `Logic`.
 use mathlib.Core.List.{[], ◌∷◌}
-use base.Fraction.{full_share}
-use base.Fml.{Fml, fbor}
+use Rattle.ex_allocators.proofs.Common.{full_share, Fml, ‵, raw, later, ◌$◌, ◌∵◌, !, qed, use1, await, updating, at_once, done, RattleType, Ghosts}
+use base.Fml.{fbor}
 use types.Logic.{lfts}
-use types.Kit.{‵, raw, later, ◌$◌, ◌∵◌, !, qed, use1, await, updating, now as at_once, done}
 use types.Na.{na_bor, bor_na}
 use denote.Hidden.{guarded_shr_laws}
 use denote.Memory.{part_at, part_of}
 use denote.Param.Laws.{Laws}
-use denote.RattleType.{RattleType}
-use Rattle.std.specs.declared.alloc.Allocator.{Ghosts}
 use Rattle.ex_allocators.specs.contracts.shelf.Shelf as shelf
 use Rattle.ex_allocators.proofs.shelf.Shelf.TheLaw.Statement.{statement}
 

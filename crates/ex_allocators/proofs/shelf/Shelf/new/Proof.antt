@@ -1,30 +1,8 @@
 -- An empty shelf owns nothing. Assumes `Logic`.
-use Rattle.std.proofs.Common.{◌≡◌, List, [], ◌∷◌, ◌++◌, refl, lit<}
-use mir.Syntax.{Fn, Args, a_type, dcons, dnil}
-use mir.Val.{Val, vptr, vint}
-use mir.MapTy.{inst_fn}
-use base.Logic.{SProp, emp}
-use base.Fml.{ftrue, fsep}
-use prog.Wp.{WpFn}
-use contract.BorrowLft.{◌⊑◌}
-use contract.Monad.{fact, fact_i}
-use contract.Running.{tables}
-use types.Kit.{‵, raw, ◌⊛◌, prop, ◌$◌, ◌∵◌, !, qed, by, move, drop, use0, split, regoal, fjoin, fpack}
-use types.Part.{agg}
-use types.Run.{lit, no_more, and_then, returns, enter}
-use types.ByLocal.{alloc_all, pass_all, free_all, look_at, get, sets}
-use denote.Exit.{yes}
+use Rattle.ex_allocators.proofs.Common.{◌≡◌, List, [], ◌∷◌, ◌++◌, refl, lit<, Fn, Args, a_type, dcons, dnil, Val, vptr, vint, inst_fn, SProp, emp, ftrue, fsep, WpFn, ◌⊑◌, fact, fact_i, tables, ‵, raw, ◌⊛◌, prop, ◌$◌, ◌∵◌, !, qed, by, move, drop, use0, split, regoal, fjoin, fpack, agg, lit, no_more, and_then, returns, enter, alloc_all, pass_all, free_all, look_at, get, sets, yes, param, bounded, RattleType, owns, null_ptr, types_at, nothing, heard, alive, Stays, stay_dropped, walk_of, Goes-dropped, leaves, IsKept, kept_blocks}
 use denote.Laws.{Typed}
-use denote.Param.{param, bounded}
-use denote.RattleType.{RattleType, owns}
-use denote.RawPtr.{null_ptr}
-use denote.Signature.{types_at}
-use denote.Steps.{nothing, heard}
-use denote.Triple.Entry.{alive}
-use denote.Triple.Walked.{Stays, stay_dropped, walk_of, Goes-dropped}
-use Rattle.std.proofs.raw_atomic.Walks.{proved_at, leaves}
+use Rattle.std.proofs.raw_atomic.Walks.{proved_at}
 use Rattle.ex_allocators.proofs.Shelving.{size_goes, param_at, Fit, shelf_val, shelf_own, shelf_made, shelf_typed}
-use Rattle.ex_allocators.specs.Shelves.{IsKept, kept_blocks}
 use Rattle.ex_allocators.specs.contracts.shelf.Shelf.TheInside as inside
 use Rattle.ex_allocators.specs.contracts.shelf.Shelf.new as made
 use Rattle.ex_allocators.specs.contracts.shelf.Shelf.new.Key.{name}

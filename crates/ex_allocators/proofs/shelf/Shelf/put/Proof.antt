@@ -1,33 +1,8 @@
 -- The block leads to the one that was on top. Assumes `Logic`.
-use Rattle.std.proofs.Common.{◌≡◌, ℕ, suc, ◌+◌, ◌-◌, ◌^◌, ◌<◌, List, [], ◌∷◌, ◌++◌, refl, sym, ap, ◌∙◌, arith, w64, Bool, true, false}
-use mir.Syntax.{Ty, Fn, Args, ty_ptr, a_type, dcons, dnil}
-use mir.Val.{Val, vptr, vint, vbool}
-use mir.MapTy.{inst_fn}
-use base.Fraction.{full_share}
-use base.Logic.{SProp, never, fst∗}
-use base.Fml.{Lft, Share, Fml, ftrue, fsep, fwand, fex, fat, froom, flft, ftok}
-use base.Mask.{every}
-use prog.Memory.{size, align, capped}
-use prog.Wp.{Env, WpFn}
-use contract.BorrowLft.{◌⊑◌}
-use contract.Monad.{fact}
-use types.Logic.{sem}
-use types.Kit.{‵, raw, ◌⊛◌, prop, at_ret, Sq, ◌$◌, ◌∵◌, !, qed, by, move, keep, use1, split, split3, join, rewrite, regoal, fsplit, fsplit3, fjoin, fjoin3, fpick, fpack, feq_i}
-use types.Part.{whole, sub, look_in, store_in}
-use types.Run.{stop, fld, load, lit, neg_lit, true_lit, false_lit, bin, addr, of_opd, assigns, init, first, blocks, skips, branches, exec, returns, returns_within, enter}
-use types.ByLocal.{alloc_all, pass_all, free_all, look_at, get, through, sets, sets_last, env}
-use denote.Exit.{yes}
-use denote.Param.{param, bounded}
-use denote.RattleType.{RattleType, owns}
-use denote.RawPtr.{Ptr, block_ptr, null_ptr, ptr_val, in_a_block}
-use denote.Signature.{types_at}
-use denote.Steps.{nothing, heard}
-use denote.Triple.Walked.{Stays, stay_dropped, walk_of, Goes-dropped}
-use Rattle.std.specs.Allocator.{owned_block}
-use Rattle.std.proofs.raw_atomic.Walks.{leaves}
-use Rattle.std.proofs.alloc.Shapes.{after, head, inside}
+use Rattle.ex_allocators.proofs.Common.{◌≡◌, ℕ, suc, ◌+◌, ◌-◌, ◌^◌, ◌<◌, List, [], ◌∷◌, ◌++◌, refl, sym, ap, ◌∙◌, arith, w64, Bool, true, false, Ty, Fn, Args, ty_ptr, a_type, dcons, dnil, Val, vptr, vint, vbool, inst_fn, full_share, SProp, never, fst∗, Lft, Share, Fml, ftrue, fsep, fwand, fex, fat, froom, flft, ftok, every, size, align, capped, Env, WpFn, ◌⊑◌, fact, sem, ‵, raw, ◌⊛◌, prop, at_ret, Sq, ◌$◌, ◌∵◌, !, qed, by, move, keep, use1, split, split3, join, rewrite, regoal, fsplit, fsplit3, fjoin, fjoin3, fpick, fpack, feq_i, whole, sub, look_in, store_in, stop, fld, load, lit, true_lit, false_lit, bin, addr, of_opd, assigns, first, blocks, skips, branches, exec, returns, returns_within, enter, alloc_all, pass_all, free_all, look_at, get, through, sets, sets_last, env, yes, param, bounded, RattleType, owns, Ptr, block_ptr, null_ptr, ptr_val, in_a_block, types_at, nothing, heard, Stays, stay_dropped, walk_of, Goes-dropped, owned_block, leaves, after, head, inside, Fills, IsKept, right_to, block_unless, stack}
+use types.Run.{neg_lit, init}
 use Rattle.ex_allocators.proofs.Shelving.{pointer_goes, size_goes, param_at, ptr_typed, opens_shelf, shuts_shelf, holding_token, proved_alone, left_block, differs, equals, fills, ready, readies}
-use Rattle.ex_allocators.specs.Shelves.{Fills, IsKept, right_to, block_unless, free_block, stack}
+use Rattle.ex_allocators.specs.Shelves.{free_block}
 use Rattle.ex_allocators.specs.contracts.shelf.Shelf.put as puts
 use Rattle.ex_allocators.specs.contracts.shelf.Shelf.put.Key.{name}
 use Rattle.ex_allocators.proofs.shelf.Shelf.put.Statement.{statement}

@@ -1,33 +1,7 @@
 -- The block on top is unlinked: its word says which one is the next. Assumes `Logic`.
-use Rattle.std.proofs.Common.{◌≡◌, ℕ, zero, suc, ◌-◌, ◌^◌, ◌<◌, true, false, List, [], ◌∷◌, ◌++◌, refl, arith, T, not, eqb, w64, Ok, Err}
-use mir.Syntax.{Ty, Fn, Args, ty_ptr, a_type, dcons, dnil}
-use mir.Val.{Val, vptr, vint}
-use mir.MapTy.{inst_fn}
-use base.Logic.{SProp, apply∗}
-use base.Fml.{Lft, Share, Fml, ftrue, froom, flft, ftok}
-use base.Mask.{every}
-use prog.Memory.{size, align, capped}
-use prog.Wp.{Env, WpFn}
-use contract.BorrowLft.{◌⊑◌}
-use contract.Monad.{fact}
-use types.Logic.{sem}
-use types.Kit.{‵, raw, ◌⊛◌, prop, at_ret, Sq, ◌$◌, ◌∵◌, !, qed, by, move, keep, use0, use1, use2, split, split3, join, rewrite, regoal, fsplit, fsplit3, fjoin, fpick, fpack}
-use types.Part.{whole, sub, agg, look_in, store_in}
-use types.Run.{stop, fld, load, look, lit, bin, addr, of_opd, no_more, and_then, assigns, first, blocks, skips, branches, exec, returns, returns_within, enter}
-use types.ByLocal.{alloc_all, pass_all, free_all, look_at, get, through, sets, sets_last, env}
-use denote.Exit.{yes}
-use denote.Param.{param, bounded}
-use denote.RattleType.{RattleType, owns}
-use denote.RawPtr.{Ptr, block_ptr}
-use denote.Signature.{types_at}
-use denote.Steps.{nothing, heard}
-use denote.Triple.Walked.{Stays, stay_dropped, walk_of, Goes-dropped}
-use Rattle.std.specs.Allocator.{block_if_ok}
-use Rattle.std.proofs.raw_atomic.Walks.{leaves}
-use Rattle.std.proofs.alloc.Shapes.{after, head, inside}
-use Rattle.std.proofs.alloc.Calls.{Answer, answer_val, Answer-typed, Answer-Ok, Answer-err}
+use Rattle.ex_allocators.proofs.Common.{◌≡◌, ℕ, zero, suc, ◌-◌, ◌^◌, ◌<◌, true, false, List, [], ◌∷◌, ◌++◌, refl, arith, T, not, eqb, w64, Ok, Err, Ty, Fn, Args, ty_ptr, a_type, dcons, dnil, Val, vptr, vint, inst_fn, SProp, apply∗, Lft, Share, Fml, ftrue, froom, flft, ftok, every, size, align, capped, Env, WpFn, ◌⊑◌, fact, sem, ‵, raw, ◌⊛◌, prop, at_ret, Sq, ◌$◌, ◌∵◌, !, qed, by, move, keep, use0, use1, use2, split, split3, join, rewrite, regoal, fsplit, fsplit3, fjoin, fpick, fpack, whole, sub, agg, look_in, store_in, stop, fld, load, lit, bin, addr, of_opd, no_more, and_then, assigns, first, blocks, skips, branches, exec, returns, returns_within, enter, alloc_all, pass_all, free_all, look_at, get, through, sets, sets_last, env, yes, param, bounded, RattleType, owns, Ptr, block_ptr, types_at, nothing, heard, Stays, stay_dropped, walk_of, Goes-dropped, block_if_ok, leaves, after, head, inside, Answer, answer_val, Answer-typed, Answer-Ok, Answer-err, IsKept, right_to, stack}
+use types.Run.{look}
 use Rattle.ex_allocators.proofs.Shelving.{param_at, ptr_typed, fields, opens_shelf, shuts_shelf, holding_token, proved_alone, left_block, equals, fills, regrants, size_goes}
-use Rattle.ex_allocators.specs.Shelves.{IsKept, right_to, stack}
 use Rattle.ex_allocators.specs.contracts.shelf.Shelf.take as taken
 use Rattle.ex_allocators.specs.contracts.shelf.Shelf.take.Key.{name}
 use Rattle.ex_allocators.proofs.shelf.Shelf.take.Statement.{statement}

@@ -1,5 +1,4 @@
-use Rattle.std.proofs.Common.{◌≡◌, length}
-use Rattle.ex_table.specs.Slots.{entries_of}
+use Rattle.ex_table.proofs.Common.{◌≡◌, length, entries_of}
 use Rattle.ex_table.proofs.iter.IterIterator.next.Given as goal
 
 -- only slots without a key were passed over

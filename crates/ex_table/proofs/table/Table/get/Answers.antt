@@ -1,6 +1,4 @@
-use Rattle.std.proofs.Common.{ap, sym, ◌∙◌}
-use Rattle.ex_table.specs.Contents.{value}
-use Rattle.ex_table.specs.Slots.{hashes}
+use Rattle.ex_table.proofs.Common.{ap, sym, ◌∙◌, value, hashes}
 use Rattle.ex_table.proofs.Maps.{get-absent, value-at}
 use Rattle.ex_table.proofs.Tables.{there, nowhere}
 use Rattle.ex_table.proofs.table.Table.get.Goals as goal

@@ -1,6 +1,4 @@
-use Rattle.std.proofs.Common.{refl, ap, sym, ◌∙◌, arith, inl, inr}
-use Rattle.ex_table.specs.Contents.{value}
-use Rattle.ex_table.specs.Slots.{hashes}
+use Rattle.ex_table.proofs.Common.{refl, ap, sym, ◌∙◌, arith, inl, inr, value, hashes}
 use Rattle.ex_table.proofs.Maps.{put, get-absent, value-at, written-filled}
 use Rattle.ex_table.proofs.Writing.{written-value}
 use Rattle.ex_table.proofs.Tables.{there, nowhere, changed}

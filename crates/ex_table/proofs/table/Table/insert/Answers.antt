@@ -1,7 +1,4 @@
-use Rattle.std.proofs.Common.{Some, ap, arith, cond, refl, sym, ◌∙◌}
-use Rattle.std.proofs.Math.ListN.{set}
-use Rattle.ex_table.specs.Contents.{value}
-use Rattle.ex_table.specs.Slots.{hashes, value_of}
+use Rattle.ex_table.proofs.Common.{Some, ap, arith, cond, refl, sym, ◌∙◌, set, value, hashes, value_of}
 use Rattle.ex_table.proofs.Maps.{get-absent, map-same, map-sets, value-at}
 use Rattle.ex_table.proofs.Writing.{written-held}
 use Rattle.ex_table.proofs.Tables.{there, nowhere, changed}

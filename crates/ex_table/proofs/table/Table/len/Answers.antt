@@ -1,5 +1,4 @@
-use Rattle.std.proofs.Common.{ap, sym, ◌∙◌, subst, length}
-use Rattle.ex_table.specs.Contents.{IsMap}
+use Rattle.ex_table.proofs.Common.{ap, sym, ◌∙◌, subst, length, IsMap}
 use Rattle.ex_table.proofs.Counts.{length-entries}
 use Rattle.ex_table.proofs.Maps.{is-map}
 use Rattle.ex_table.proofs.table.Table.len.Goals as goal

@@ -1,7 +1,4 @@
-use Rattle.std.proofs.Common.{List, None, ap, arith, cond, refl, subst, sym, ◌∙◌}
-use Rattle.std.proofs.Math.ListN.{set}
-use Rattle.ex_table.specs.Contents.{value, Sets}
-use Rattle.ex_table.specs.Slots.{hashes, value_of}
+use Rattle.ex_table.proofs.Common.{List, None, ap, arith, cond, refl, subst, sym, ◌∙◌, set, value, Sets, hashes, value_of}
 use Rattle.ex_table.proofs.Maps.{get-absent, remove-absent, map-sets, value-at}
 use Rattle.ex_table.proofs.Writing.{written-gone}
 use Rattle.ex_table.proofs.Tables.{there, nowhere, changed}

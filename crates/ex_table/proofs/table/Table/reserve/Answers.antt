@@ -1,5 +1,4 @@
-use Rattle.std.proofs.Common.{ap, ◌∙◌}
-use Rattle.ex_table.specs.Contents.{value}
+use Rattle.ex_table.proofs.Common.{ap, ◌∙◌, value}
 use Rattle.ex_table.proofs.Maps.{map-same}
 use Rattle.ex_table.proofs.table.Table.reserve.Goals as goal
 

@@ -1,5 +1,4 @@
-use Rattle.std.proofs.Common.{length, arith, ap}
-use Rattle.std.proofs.lemmas.List.{take_rest}
+use Rattle.vecscript.proofs.Common.{length, arith, ap, take_rest}
 use Rattle.vecscript.proofs.TextLines.{lines_last, lines_first}
 use Rattle.vecscript.proofs.lines.LinesIterator.next.Goals as goal
 

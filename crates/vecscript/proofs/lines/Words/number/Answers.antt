@@ -1,7 +1,4 @@
-use Rattle.std.proofs.Common.{◌≡◌, ◌≢◌, length, refl, sym, ap, arith, length-take}
-use Rattle.std.specs.List.{position_or_len}
-use Rattle.std.proofs.lemmas.Bool.Decides.{nat_tests}
-use Rattle.vecscript.specs.Lines.{is_blank}
+use Rattle.vecscript.proofs.Common.{◌≡◌, ◌≢◌, length, refl, sym, ap, arith, length-take, position_or_len, nat_tests, is_blank}
 use Rattle.vecscript.proofs.Parts.{front}
 use Rattle.vecscript.proofs.Words.{unindented, first_word_is, words_of_first_word, word_there, following-shorter}
 use Rattle.vecscript.proofs.lines.Words.number.Goals as goal

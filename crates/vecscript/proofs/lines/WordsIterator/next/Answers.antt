@@ -1,5 +1,4 @@
-use Rattle.std.proofs.Common.{◌≡◌, ◌∷◌, arith}
-use Rattle.vecscript.specs.Lines.{words_of}
+use Rattle.vecscript.proofs.Common.{◌≡◌, ◌∷◌, arith, words_of}
 use Rattle.vecscript.proofs.Words.{words_of_no_word, words_of_first_word}
 use Rattle.vecscript.proofs.lines.WordsIterator.next.Goals as goal
 

@@ -1,7 +1,4 @@
-use Rattle.std.proofs.Common.{◌≡◌, ◌+◌, ◌-◌, ◌*◌, ◌++◌}
-use Rattle.aa_raw.specs.Places.{IsRun, run}
-use Rattle.aa_vec.specs.Arrays.{flattened}
-use Rattle.aa_vec.specs.Vector.{len, SameBlock, Writes, run_count}
+use Rattle.aa_vec.proofs.Common.{◌≡◌, ◌+◌, ◌-◌, ◌*◌, ◌++◌, IsRun, run, flattened, len, SameBlock, Writes, run_count}
 use Rattle.aa_vec.proofs.vec.arrays.Vec+array+N+T+A.poured_into.Given as goal
 
 abbrev pub invariant-each : goal.invariant-each

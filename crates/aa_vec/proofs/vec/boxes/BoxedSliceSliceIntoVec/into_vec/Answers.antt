@@ -1,7 +1,4 @@
-use Rattle.std.proofs.Common.{◌≡◌, ◌*◌, ◌^◌, ◌<◌, ◌≤◌, length, subst, arith}
-use Rattle.std.specs.Mem.{type_size}
-use denote.Param.{param}
-use Rattle.aa_raw.specs.Growth.{usize_max}
+use Rattle.aa_vec.proofs.Common.{◌≡◌, ◌*◌, ◌^◌, ◌<◌, ◌≤◌, length, subst, arith, type_size, param, usize_max}
 use Rattle.aa_vec.proofs.Boxing.{IsUnboxed-block}
 use Rattle.aa_vec.proofs.vec.boxes.BoxedSliceSliceIntoVec.into_vec.Goals as goal
 

@@ -1,5 +1,4 @@
-use Rattle.std.specs.Fn.{CalledAtMut}
-use Rattle.aa_vec.specs.Choosing.{TakesMut}
+use Rattle.aa_vec.proofs.Common.{CalledAtMut, TakesMut}
 use Rattle.aa_vec.specs.Extracting.{extract_rest}
 use Rattle.aa_vec.proofs.Extracts.{may_spare, rest_stand, picked_ordered, picked_held, picked_extracts}
 use Rattle.aa_vec.proofs.vec.extract_if.ExtractBy.next_by.Goals as goal

@@ -1,5 +1,4 @@
-use Rattle.std.specs.Fn.{CalledAtMut}
-use Rattle.aa_vec.specs.Choosing.{TakesMut}
+use Rattle.aa_vec.proofs.Common.{CalledAtMut, TakesMut}
 use Rattle.aa_vec.proofs.Extracted.{extracts_progress}
 use Rattle.aa_vec.proofs.vec.extract_if.ExtractIfIterator.next.Goals as goal
 
