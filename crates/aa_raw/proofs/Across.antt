@@ -1,9 +1,7 @@
 -- A run that is moved to other places in arrays.
-use Rattle.aa_raw.proofs.Common.{◌≡◌, ℕ, ◌+◌, ◌≤◌, List, Option, None, length, take, drop, replicate, sym, ap, ◌∙◌, arith, length-drop, length-take, length-replicate, drop-drop, IsRun, with_run}
-use Rattle.std.proofs.lemmas.List.{replicate-append-replicate}
-use lib.Seq.{take-add}
+use Rattle.aa_raw.proofs.Common.{IsRun, List, None, Option, ap, arith, drop, drop-drop, length, length-drop, length-replicate, length-take, replicate, replicate-append-replicate, sym, take, take-add, with_run, ℕ, ◌+◌, ◌∙◌, ◌≡◌, ◌≤◌}
 use Rattle.aa_raw.proofs.Calls.{IsRun-with-above}
-use Rattle.aa_raw.proofs.Places.{length-with_run, length-cut, with_run_on}
+use Rattle.aa_raw.proofs.Places.{length-cut, length-with_run, with_run_on}
 use Rattle.aa_raw.proofs.Runs.{IsRun-part, drop-with}
 
 module _ {X : Type 0} (qs : List (Option X)) (from n : ℕ) (run : IsRun qs from n) (k : ℕ) (within : k ≤ n) where

@@ -1,6 +1,5 @@
 -- A run that is moved in arrays: what is still to be moved is where it was.
-use Rattle.aa_raw.proofs.Common.{◌≡◌, ℕ, ◌+◌, ◌-◌, ◌<◌, ◌≤◌, List, Option, length, take, drop, sym, ◌∙◌, arith, length-drop, drop-drop, list_all, IsRun, moved}
-use Rattle.std.specs.Option.{is_some}
+use Rattle.aa_raw.proofs.Common.{IsRun, List, Option, arith, drop, drop-drop, is_some, length, length-drop, list_all, moved, sym, take, ℕ, ◌+◌, ◌-◌, ◌<◌, ◌∙◌, ◌≡◌, ◌≤◌}
 use Rattle.aa_raw.proofs.Calls.{IsRun-moved-above, IsRun-moved-below}
 use Rattle.aa_raw.proofs.Places.{length-moved, moved_on_down, moved_on_up}
 use Rattle.aa_raw.proofs.Runs.{IsRun-part}

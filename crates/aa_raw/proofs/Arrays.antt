@@ -1,21 +1,5 @@
 -- An array of N elements: its one machine value, its memory as a run of places, and what it leaves when it is passed. Assumes `Logic`.
-use mathlib.Core.Path.{◌≡◌, refl}
-use Prim.Native.Nat.{ℕ}
-use Rattle.aa_raw.proofs.Common.{[], ◌∷◌, map, Ura, full_share, ftrue, fat, ent, sep, Ty, Args, ty_array, a_type, Val, WT, has_ty, Logic, sem, cells, ‵, some, given, learn, ◌⊛◌, ◌$◌, ◌∵◌, !, qed, by, done, move, use1, use2, pick, split, fjoin, Array, whole_in, Is, part_at, mem, layouts, param, RattleType, nothing, Some, El, R, el_x, elτ, each}
-use mathlib.Core.List.{List}
-use lib.Dec.{T}
-use lib.ListN.{length}
-use base.Logic.{ex, guard}
-use mir.Syntax.{a_number}
-use types.Kit.{show, check}
-use denote.Exit.{Entries, all_last}
-use denote.Index.{row, whole_out}
-use denote.Laws.{Typed, Lawful, shows}
-use denote.Param.{ArrayAt, number}
-use denote.Param.Laws.{param_laws, array_at_laws}
-use denote.Steps.{peeks}
-use borrow.Table.OneValue.{part_in, part_out}
-use Rattle.core.proofs.ptr.Rows.{apart, whole}
+use Rattle.aa_raw.proofs.Common.{!, Args, Array, ArrayAt, El, Entries, Is, Lawful, List, Logic, R, RattleType, Some, T, Ty, Typed, Ura, Val, WT, [], a_number, a_type, all_last, array_apart as apart, array_at_laws, by, cells, check, done, each, el_x, elτ, ent, ex, fat, fjoin, ftrue, full_share, given, guard, has_ty, layouts, learn, length, map, mem, move, nothing, number, param, param_laws, part_at, part_in, part_out, peeks, pick, qed, refl, row, sem, sep, show, shows, some, split, ty_array, use1, use2, whole_array as whole, whole_in, whole_out, ‵, ℕ, ◌$◌, ◌∵◌, ◌∷◌, ◌≡◌, ◌⊛◌}
 use Rattle.aa_raw.proofs.Spots.{Spot, at, values_in, values_out}
 
 module _ (E : El) (N : ℕ) where
@@ -49,9 +33,9 @@ module _ (E : El) (N : ℕ) {M : Type 1} {𝓤 : Ura M} (𝓛 : Logic 𝓤) (b o
   open 𝓛 use {H}
 
   -- N filled places are an array
-  pub array_out : (xs : List (el_x E)) (i : ℕ) → length xs ≡ N → ent 𝓤 (sem 𝓛 (each (Spot E 𝓛 b o) i (map Some xs)))
+  pub items_out : (xs : List (el_x E)) (i : ℕ) → length xs ≡ N → ent 𝓤 (sem 𝓛 (each (Spot E 𝓛 b o) i (map Some xs)))
       (ex 𝓤 (λ (v : Val). guard 𝓤 (Whole E N v) (sep 𝓤 (H.at full_share (items_ty E N) b (at E 𝓛 b o i) v) (sem 𝓛 ((Items E N).own_val xs (v ∷ []))))))
-  array_out xs i count = let p = at E 𝓛 b o i in qed 𝓛 (‵ (each (Spot E 𝓛 b o) i (map Some xs)) ∷ []) ∵
+  items_out xs i count = let p = at E 𝓛 b o i in qed 𝓛 (‵ (each (Spot E 𝓛 b o) i (map Some xs)) ∷ []) ∵
       use1 𝓛 (‵ (cells (mem (R E)) xs b p)) (values_out E 𝓛 b o xs i) $ use1 𝓛 (‵ (row (R E) full_share xs b p)) (whole_out 𝓛 (R E) xs b p) $
       use1 𝓛 (‵ (part_at (Array (R E) N) full_share xs b p)) (whole E 𝓛 full_share N xs b p count) $
       use1 𝓛 (some (λ (v : Val). ‵ (fat full_share (items_ty E N) b p v) ⊛ ‵ ((Items E N).own_val xs (v ∷ [])))) (part_out 𝓛 (Array (R E) N) refl full_share xs b p) $ pick ! (λ v. split ! $ move ! (1 ∷ []) $
@@ -59,9 +43,9 @@ module _ (E : El) (N : ℕ) {M : Type 1} {𝓤 : Ura M} (𝓛 : Logic 𝓤) (b o
       show ! (λ (w : Val). guard 𝓤 (Whole E N w) (sep 𝓤 (H.at full_share (items_ty E N) b p w) (sem 𝓛 ((Items E N).own_val xs (w ∷ []))))) v $ check ! ((items_lawful E N 𝓛).typed xs (v ∷ []) is).0 $ move ! (1 ∷ 0 ∷ []) $ done !))
 
   -- and an array is as many filled places as it has items
-  pub array_in : (xs : List (el_x E)) (i : ℕ) (v : Val) → ent 𝓤 (sep 𝓤 (H.at full_share (items_ty E N) b (at E 𝓛 b o i) v) (sem 𝓛 ((Items E N).own_val xs (v ∷ []))))
+  pub items_in : (xs : List (el_x E)) (i : ℕ) (v : Val) → ent 𝓤 (sep 𝓤 (H.at full_share (items_ty E N) b (at E 𝓛 b o i) v) (sem 𝓛 ((Items E N).own_val xs (v ∷ []))))
       (guard 𝓤 (length xs ≡ N) (sem 𝓛 (each (Spot E 𝓛 b o) i (map Some xs))))
-  array_in xs i v = let p = at E 𝓛 b o i in qed 𝓛 (‵ (fat full_share (items_ty E N) b p v) ∷ ‵ ((Items E N).own_val xs (v ∷ [])) ∷ []) ∵
+  items_in xs i v = let p = at E 𝓛 b o i in qed 𝓛 (‵ (fat full_share (items_ty E N) b p v) ∷ ‵ ((Items E N).own_val xs (v ∷ [])) ∷ []) ∵
       use2 𝓛 (‵ (part_at (Array (R E) N) full_share xs b p)) (part_in 𝓛 (Array (R E) N) refl full_share xs b p v) $
       use1 𝓛 (given (length xs ≡ N) (‵ (row (R E) full_share xs b p))) (apart E 𝓛 full_share N xs b p) $ learn ! (λ count. check ! count $
       use1 𝓛 (‵ (cells (mem (R E)) xs b p)) (whole_in 𝓛 (R E) xs b p) $ by ! (values_in E 𝓛 b o xs i))

@@ -3,11 +3,7 @@
 --     at_sides           take at an end of the run
 --     none-before-with, none-behind-with      other values in the run
 --     none-forgotten     what stood behind the run is forgotten
-use Rattle.aa_raw.proofs.Common.{◌≡◌, ℕ, zero, suc, ◌+◌, ◌-◌, ◌<◌, ◌≤◌, List, ◌++◌, Option, None, true, length, take, drop, replicate, refl, sym, ap, subst, ◌∙◌, arith, is_none, slice_set, list_all, length-take-le, take_at, drop_at, drop-set-lt, take-set-le}
-use Rattle.std.proofs.Common.{◌∷◌, [], ◌&&◌}
-use Rattle.std.proofs.lemmas.List.{drop_all, drop-set, take_more_set}
-use Rattle.std.proofs.lemmas.List.Folds.{list_all-append}
-use Rattle.aa_raw.specs.Places.{with_run}
+use Rattle.aa_raw.proofs.Common.{List, None, Option, [], ap, arith, drop, drop-set, drop-set-lt, drop_all, drop_at, is_none, length, length-take-le, list_all, list_all-append, refl, replicate, slice_set, subst, suc, sym, take, take-set-le, take_at, take_more_set, true, with_run, zero, ℕ, ◌&&◌, ◌++◌, ◌+◌, ◌-◌, ◌<◌, ◌∙◌, ◌∷◌, ◌≡◌, ◌≤◌}
 use Rattle.aa_raw.proofs.Runs.{drop-with}
 
 pub none_there : (X : Type 0) (n : ℕ) → list_all {X = Option X} is_none (replicate n None) ≡ true

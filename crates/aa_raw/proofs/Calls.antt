@@ -4,13 +4,10 @@
 --     with_room     the constructors, the reserves and the shrinks
 --     shown     slice, slice_mut, and what a loan wrote back
 --     in_runs     move_one, move_run, move_down, transfer, drop_run, put_array, take_array, put_copies
-use Rattle.aa_raw.proofs.Common.{◌≡◌, ℕ, suc, ◌+◌, ◌-◌, ◌<◌, ◌≤◌, List, ◌++◌, length, take, drop, get_or, replicate, Option, Some, None, refl, sym, ap, ◌∙◌, subst, arith, zero-add, length-append, length-take, length-drop, length-set, slice_set, slice_get, length_refill, nat_tests, drop-set-lt, take-take, take-append-le, drop-append-le, length-take-le, length-replicate, length-map, slice_get_read, slice_get_past, Block, Reserves, IsFilled, IsRun, somes, with_run}
-use Rattle.std.proofs.Common.{[], ◌∷◌, map}
-use Rattle.std.proofs.lemmas.List.{drop-drop, take_all}
-use Rattle.aa_raw.specs.Places.{run, moved}
-use Rattle.aa_raw.proofs.Places.{run_filled, lengths, length-with_run, length-moved, length-empty_places, with_none, moved_none}
-use Rattle.aa_raw.proofs.Runs.{IsRun-kept, IsRun-long, IsRun-moved, IsRun-nil, IsRun-part, IsRun-pop, IsRun-push, IsRun-same, IsRun-set-above, IsRun-set-below, IsRun-shift, IsRun-with, cut-long, drop-with, length-run, run-below, run-drop, run-filled, first-filled, last-filled, run-moved, run-moved-below, run-none, run-pop, run-push, run-set-above, run-set-below, run-shift, run-split, run-take, run-with, run-with-above, run-with-below, run-zero, somes-map}
+use Rattle.aa_raw.proofs.Common.{Block, IsFilled, IsRun, List, None, Option, Reserves, Some, [], ap, arith, drop, drop-append-le, drop-drop, drop-set-lt, get_or, length, length-append, length-drop, length-map, length-replicate, length-set, length-take, length-take-le, length_refill, map, moved, nat_tests, refl, replicate, run, slice_get, slice_get_past, slice_get_read, slice_set, somes, subst, suc, sym, take, take-append-le, take-take, take_all, with_run, zero-add, ℕ, ◌++◌, ◌+◌, ◌-◌, ◌<◌, ◌∙◌, ◌∷◌, ◌≡◌, ◌≤◌}
 use Rattle.aa_raw.proofs.Firsts.{run-at}
+use Rattle.aa_raw.proofs.Places.{length-empty_places, length-moved, length-with_run, lengths, moved_none, run_filled, with_none}
+use Rattle.aa_raw.proofs.Runs.{IsRun-kept, IsRun-long, IsRun-moved, IsRun-nil, IsRun-part, IsRun-pop, IsRun-push, IsRun-same, IsRun-set-above, IsRun-set-below, IsRun-shift, IsRun-with, cut-long, drop-with, first-filled, last-filled, length-run, run-below, run-drop, run-filled, run-moved, run-moved-below, run-none, run-pop, run-push, run-set-above, run-set-below, run-shift, run-split, run-take, run-with, run-with-above, run-with-below, run-zero, somes-map}
 
 module _ {X : Type 0} where
   -- a value put behind the first n

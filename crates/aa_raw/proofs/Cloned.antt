@@ -1,10 +1,6 @@
 -- Clones of elements put into the first places of a block, one after another.
-use Rattle.aa_raw.proofs.Common.{◌≡◌, ℕ, ◌+◌, ◌<◌, List, ◌++◌, length, take, get_or, Option, Some, sym, ap, ◌∙◌, subst, arith, length-append, slice_set, length-take-le, run, HoldsClones}
-use Rattle.std.proofs.Common.{[], ◌∷◌}
-use Rattle.std.specs.List.{AllZip}
-use Rattle.std.proofs.lemmas.List.Elements.{AllZip-push}
-use Rattle.std.proofs.lemmas.Grind.{take_at_read}
-use Rattle.aa_raw.proofs.Runs.{run-zero, run-push, IsRun-nil, IsRun-push}
+use Rattle.aa_raw.proofs.Common.{AllZip, AllZip-push, HoldsClones, List, Option, Some, [], ap, arith, get_or, length, length-append, length-take-le, run, slice_set, subst, sym, take, take_at_read, ℕ, ◌++◌, ◌+◌, ◌<◌, ◌∙◌, ◌∷◌, ◌≡◌}
+use Rattle.aa_raw.proofs.Runs.{IsRun-nil, IsRun-push, run-push, run-zero}
 
 module _ {X : Type 0} (clones : X → X → Type 0) where
   pub none-cloned : (places : List (Option X)) → HoldsClones clones [] places

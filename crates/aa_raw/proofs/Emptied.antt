@@ -1,7 +1,6 @@
 -- Lemmas on a run of places that is emptied from its first on.
-use Rattle.aa_raw.proofs.Common.{◌≡◌, ℕ, ◌+◌, ◌<◌, ◌≤◌, List, length, get_or, replicate, Option, None, sym, ap, subst, ◌∙◌, arith, inr, slice_set, is_some, length-replicate, IsRun, IsFilled, with_run}
-use Rattle.std.proofs.lemmas.List.{replicate_more}
-use Rattle.aa_raw.proofs.Places.{with_run_more, outside, run_filled}
+use Rattle.aa_raw.proofs.Common.{IsFilled, IsRun, List, None, Option, ap, arith, get_or, inr, is_some, length, length-replicate, replicate, replicate_more, slice_set, subst, sym, with_run, ℕ, ◌+◌, ◌<◌, ◌∙◌, ◌≡◌, ◌≤◌}
+use Rattle.aa_raw.proofs.Places.{outside, run_filled, with_run_more}
 
 module _ {X : Type 0} where
   -- the n places from the index on, emptied

@@ -1,7 +1,5 @@
 -- The values in the first places of a block, one of which is read or written anew.
-use Rattle.aa_raw.proofs.Common.{◌≡◌, ℕ, zero, suc, ◌<◌, List, take, get_or, true, Option, Some, None, refl, ap, arith, length-set, slice_set, is_some, list_all, IsRun, somes}
-use Rattle.std.proofs.Common.{[], ◌∷◌}
-use Rattle.aa_raw.specs.Places.{run}
+use Rattle.aa_raw.proofs.Common.{IsRun, List, None, Option, Some, [], ap, arith, get_or, is_some, length-set, list_all, refl, run, slice_set, somes, suc, take, true, zero, ℕ, ◌<◌, ◌∷◌, ◌≡◌}
 
 module _ {X : Type 0} where
   abbrev AllFilled : List (Option X) → Type 0

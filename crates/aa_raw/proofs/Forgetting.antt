@@ -1,5 +1,5 @@
 -- A block of which all but the first places are forgotten.
-use Rattle.aa_raw.proofs.Common.{◌≡◌, ℕ, ◌-◌, length, replicate, None, true, drop, arith, is_none, list_all, length-replicate, Block, with_places, IsRun, run, with_run}
+use Rattle.aa_raw.proofs.Common.{Block, IsRun, None, arith, drop, is_none, length, length-replicate, list_all, replicate, run, true, with_places, with_run, ℕ, ◌-◌, ◌≡◌}
 use Rattle.aa_raw.proofs.Beyond.{none-forgotten}
 use Rattle.aa_raw.proofs.Places.{length-with_run}
 use Rattle.aa_raw.proofs.Runs.{IsRun-same, run-with-below}

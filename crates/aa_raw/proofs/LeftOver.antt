@@ -1,7 +1,6 @@
 -- A block of which all but the first places are forgotten, as it becomes an `IntoIter`.
-use Rattle.aa_raw.proofs.Common.{◌≡◌, ℕ, ◌-◌, refl, sym, subst, arith, Block, IsRun}
-use Rattle.aa_raw.specs.LeftFields.{IsBetween}
-use Rattle.aa_raw.proofs.Forgetting.{forgot, IsRun-forgot, none-forgot}
+use Rattle.aa_raw.proofs.Common.{Block, IsBetween, IsRun, arith, refl, subst, sym, ℕ, ◌-◌, ◌≡◌}
+use Rattle.aa_raw.proofs.Forgetting.{IsRun-forgot, forgot, none-forgot}
 
 module _ {T A : Type 0} (b : Block T A) (n : ℕ) (filled : IsRun b.places 0 n) (new : Block T A) (is : new ≡ forgot b n filled) where
   whole : n - 0 ≡ n

@@ -1,3 +1,18 @@
+-- The names that the proofs of the functions cite, passed on.
+pub use Access.*
+pub use Across.*
+pub use Arrayed.*
+pub use Arrays.*
+pub use Claims.*
+unfoldable pub use Common.*
+pub use Each.*
+pub use Filled.*
+pub use Loans.*
+pub use Moves.*
+pub use Places.*
+pub use Seen.*
+pub use Spots.*
+pub use TwoRuns.*
 pub mod Common
 mod Access
 mod Across
@@ -18,7 +33,6 @@ pub mod Reserving
 pub mod Runs
 mod Seen
 mod Spots
-mod Walk
 pub mod Cloned
 pub mod Beyond
 pub mod BothEnds

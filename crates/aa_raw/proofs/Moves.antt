@@ -1,7 +1,6 @@
 -- Moves within one block, as its contracts say them.
-use Rattle.aa_raw.proofs.Common.{◌≡◌, ◌≢◌, ℕ, ◌+◌, ◌<◌, ◌≤◌, ◌==◌, if◌then◌else◌, get_or, slice_set, inl, inr, List, length, Option, None, sym, ap, ◌∙◌, arith, eq-eqb, eqb_tells, moved, Block, wrote}
-use Rattle.std.proofs.Common.{Bool}
-use Rattle.aa_raw.proofs.Places.{below_or_not, moved_none, moved_nowhere, moved_up, moved_down}
+use Rattle.aa_raw.proofs.Common.{Block, Bool, List, None, Option, ap, arith, eq-eqb, eqb_tells, get_or, if◌then◌else◌, inl, inr, length, moved, slice_set, sym, wrote, ℕ, ◌+◌, ◌<◌, ◌==◌, ◌∙◌, ◌≡◌, ◌≢◌, ◌≤◌}
+use Rattle.aa_raw.proofs.Places.{below_or_not, moved_down, moved_none, moved_nowhere, moved_up}
 
 module _ {X : Type 0} where
   -- one value is moved elsewhere

@@ -1,14 +1,10 @@
 -- Lemmas on edits at a position of the first n places of a block, which are filled.
-use Rattle.aa_raw.proofs.Common.{◌≡◌, ◌≢◌, ℕ, suc, ◌+◌, ◌-◌, ◌<◌, ◌≤◌, List, ◌++◌, length, take, drop, get_or, Option, Some, None, true, refl, sym, ap, ◌∙◌, subst, arith, length-append, length-take, length-drop, length-set, zero-add, slice_set, slice_get, is_some, nat_tests, take-append-drop, take-set-le, slice_get_read, IsRun, IsFilled, run, moved}
-use Rattle.std.proofs.Common.{[], ◌∷◌, get_or-set_other}
-use Rattle.std.specs.Prelude.{insert, remove, swap_remove}
-use Rattle.std.proofs.lemmas.List.{set-set, set_comm}
-use Rattle.std.proofs.lemmas.Option.{get_or_from_slice_get}
+use Rattle.aa_raw.proofs.Common.{IsFilled, IsRun, List, None, Option, Some, [], ap, arith, drop, get_or, get_or-set_other, get_or_from_slice_get, insert, is_some, length, length-append, length-drop, length-set, length-take, moved, nat_tests, refl, remove, run, set-set, set_comm, slice_get, slice_get_read, slice_set, subst, suc, swap_remove, sym, take, take-append-drop, take-set-le, true, zero-add, ℕ, ◌++◌, ◌+◌, ◌-◌, ◌<◌, ◌∙◌, ◌∷◌, ◌≡◌, ◌≢◌, ◌≤◌}
+use Rattle.aa_raw.proofs.Calls.{IsRun-reserved, IsRun-rest, run-of_none, run-reserved}
+use Rattle.aa_raw.proofs.Firsts.{IsRun-set, run-at, run-set}
 use Rattle.aa_raw.proofs.Moves.{moved_one}
-use Rattle.aa_raw.proofs.Calls.{run-of_none, IsRun-rest, run-reserved, IsRun-reserved}
-use Rattle.aa_raw.proofs.Places.{lengths, length-moved, run_filled}
-use Rattle.aa_raw.proofs.Runs.{length-run, IsRun-long, IsRun-part, IsRun-same, run-split, run-take, run-drop, run-set-same, run-set-above, run-set-below, run-moved, run-moved-below, run-one}
-use Rattle.aa_raw.proofs.Firsts.{IsRun-set, run-set, run-at}
+use Rattle.aa_raw.proofs.Places.{length-moved, lengths, run_filled}
+use Rattle.aa_raw.proofs.Runs.{IsRun-long, IsRun-part, IsRun-same, length-run, run-drop, run-moved, run-moved-below, run-one, run-set-above, run-set-below, run-set-same, run-split, run-take}
 
 module _ {T : Type 0} where
   pub value_in : (o : Option T) → is_some o ≡ true → (x : T) × (o ≡ Some x)

@@ -1,11 +1,6 @@
 -- What a reserve leaves, and how many places there are after the calls of a block.
-use Rattle.aa_raw.proofs.Common.{◌≡◌, ℕ, ◌+◌, ◌-◌, ◌<◌, ◌≤◌, List, length, replicate, Option, None, refl, sym, ap, ◌∙◌, arith, inl, inr, if◌then◌else◌, eqb_tells, nat_tests, usize_max, sized, Block, Reserves, empty_places, length_refill}
-use Rattle.std.specs.Prelude.{Bool}
-use Rattle.std.proofs.lemmas.Bool.{cases_lt}
-use Rattle.aa_raw.specs.Block.{fresh}
-use Rattle.aa_raw.specs.Places.{endless_places}
-use Rattle.aa_raw.specs.declared.raw_vec.Growth.{Growth}
-use Rattle.aa_raw.proofs.Places.{length-empty_places, lengths, endless-empty, sized-empty, with_none}
+use Rattle.aa_raw.proofs.Common.{Block, Bool, Growth, List, None, Option, Reserves, ap, arith, cases_lt, empty_places, endless_places, eqb_tells, fresh, if◌then◌else◌, inl, inr, length, length_refill, nat_tests, refl, replicate, sized, sym, usize_max, ℕ, ◌+◌, ◌-◌, ◌<◌, ◌∙◌, ◌≡◌, ◌≤◌}
+use Rattle.aa_raw.proofs.Places.{endless-empty, length-empty_places, lengths, sized-empty, with_none}
 
 module _ {X A : Type 0} (size : ℕ) (old : Block X A) (n k wanted : ℕ) where
   -- where they fit, the block stays

@@ -1,9 +1,6 @@
 -- Lemmas on the values in a run of places.
-use Rattle.aa_raw.proofs.Common.{◌≡◌, ℕ, ◌+◌, ◌-◌, ◌<◌, ◌≤◌, suc, true, List, ◌++◌, Option, Some, None, length, take, drop, get_or, replicate, refl, sym, ◌∙◌, ap, subst, arith, rules, append_assoc, length-append, length-take, length-drop, take_at, drop_at, take-append-drop, length-map, length-replicate, drop-set-lt, drop-append-le, take-append-le, length-take-le, get_or-set_same, take-take, slice_set, is_some, list_all, somes, IsRun, IsFilled}
-use Rattle.std.proofs.Common.{[], ◌∷◌, map, add-zero}
-use Rattle.std.proofs.lemmas.List.{places, same_lists, drop-drop, length-set, set_split, drop_more, drop-take}
-use Rattle.aa_raw.specs.Places.{run, moved, with_run}
-use Rattle.aa_raw.proofs.Places.{length-with_run, length-moved, run_filled}
+use Rattle.aa_raw.proofs.Common.{IsFilled, IsRun, List, None, Option, Some, [], add-zero, ap, append_assoc, arith, drop, drop-append-le, drop-drop, drop-set-lt, drop-take, drop_at, drop_more, get_or, get_or-set_same, is_some, length, length-append, length-drop, length-map, length-replicate, length-set, length-take, length-take-le, list_all, map, moved, places, refl, replicate, rules, run, same_lists, set_split, slice_set, somes, subst, suc, sym, take, take-append-drop, take-append-le, take-take, take_at, true, with_run, ℕ, ◌++◌, ◌+◌, ◌-◌, ◌<◌, ◌∙◌, ◌∷◌, ◌≡◌, ◌≤◌}
+use Rattle.aa_raw.proofs.Places.{length-moved, length-with_run, run_filled}
 
 module _ {X : Type 0} where
   pub somes-append : (cs ds : List (Option X)) → somes (cs ++ ds) ≡ somes cs ++ somes ds

@@ -1,9 +1,7 @@
 -- What growth that keeps two runs leaves.
-use Rattle.aa_raw.proofs.Common.{◌≡◌, ℕ, ◌+◌, ◌-◌, ◌<◌, ◌≤◌, List, ◌++◌, length, take, drop, replicate, Option, Some, None, refl, sym, ap, subst, ◌∙◌, arith, inl, inr, nat_tests, length-replicate, length_refill, Block, usize_max, IsRun, run, with_run, both}
-use Rattle.std.proofs.Common.{map}
-use Rattle.aa_raw.specs.TwoRuns.{AreApart, AreJoined, AreParted, IsFull, ReservesRuns, grown_with}
-use Rattle.aa_raw.proofs.Calls.{run-transferred_there, IsRun-transferred_there, IsRun-with-below}
-use Rattle.aa_raw.proofs.Places.{lengths, length-with_run}
+use Rattle.aa_raw.proofs.Common.{AreApart, AreJoined, AreParted, Block, IsFull, IsRun, List, None, Option, ReservesRuns, Some, ap, arith, both, drop, grown_with, inl, inr, length, length-replicate, length_refill, map, nat_tests, refl, replicate, run, subst, sym, take, usize_max, with_run, ℕ, ◌++◌, ◌+◌, ◌-◌, ◌<◌, ◌∙◌, ◌≡◌, ◌≤◌}
+use Rattle.aa_raw.proofs.Calls.{IsRun-transferred_there, IsRun-with-below, run-transferred_there}
+use Rattle.aa_raw.proofs.Places.{length-with_run, lengths}
 use Rattle.aa_raw.proofs.Runs.{IsRun-joined, IsRun-same, cut-long, run-filled, run-split, run-with-above, run-with-below}
 
 pub AreApart-before : (a m b n : ℕ) → a + m ≤ b → AreApart (a, m) (b, n)

@@ -1,15 +1,8 @@
 -- The places of a row are slots, whatever stands in them. Assumes `Logic`.
-use Rattle.aa_raw.proofs.Walk.{◌≡◌, refl, sym, ◌∙◌, ℕ, ◌*◌, ◌<◌, ◌^◌, List, [], ◌∷◌, length, replicate, length-replicate, subst, ftrue, flft, froom, inst_fn, WpFn, ◌⊑◌, fact, tables, ty_array, elτ, prop, regoal, ‵, raw, some, given, learn, ◌⊛◌, at_ret, ◌$◌, ◌∵◌, !, qed, move, keep, use1, use2, pick, split, join, fsplit, fjoin, rewrite, suffices, done, and_then, no_more, enter, of_opd, stop, fld, first, blocks, exec, returns, sub, whole, alloc_all, pass_all, free_all, look_at, get, is, sets, env, yes, no, owns, plain, types_at, nothing, heard, Vals, Stays, walk_of, says, stay_dropped, Goes-dropped, Goes-blank, ends_at, after, proved_at, El, R, sz, Rw, word, row_had, args}
-use Rattle.aa_raw.proofs.Common.{Bool, false, WT, later, await, get_in, lands_last, Room, calls_at_last, framed, row_val, ItemIn, no_al, all, Row}
-use denote.Builtin.{SliceRefOf}
-use denote.Slice.{shr_slice_vals}
-use Rattle.core.proofs.slots.Runs.{of_space}
-use Rattle.core.proofs.slots.Slots.from_raw_parts.Met as callee
-use Rattle.std_alloc.proofs.vec.Blocks.{el}
-use Rattle.std_alloc.proofs.vec.Spares.{row_Typed, From, at_from, Made, from_goes, from_gives}
-use Rattle.aa_raw.proofs.Spots.{room_of_row}
-use Rattle.aa_raw.specs.contracts.row.emptied as f
+use Rattle.aa_raw.proofs.{!, Bool, El, From, Goes-blank, Goes-dropped, ItemIn, List, Made, R, Room, Row, Rw, SliceRefOf, Stays, Vals, WT, WpFn, [], after, all, alloc_all, and_then, args, at_from, at_ret, await, blocks, calls_at_last, done, el, elτ, ends_at, enter, env, exec, fact, false, first, fjoin, fld, flft, framed, free_all, from_gives, from_goes, froom, fsplit, ftrue, get, get_in, given, heard, inst_fn, is, join, keep, lands_last, later, learn, length, length-replicate, look_at, move, no, no_al, no_more, nothing, of_opd, of_space, owns, pass_all, pick, plain, prop, proved_at, qed, raw, refl, regoal, replicate, returns, rewrite, room_of_row, row_Typed, row_had, row_val, says, sets, shr_slice_vals, some, split, stay_dropped, stop, sub, subst, suffices, sym, sz, tables, ty_array, types_at, use1, use2, walk_of, whole, word, yes, ‵, ℕ, ◌$◌, ◌*◌, ◌<◌, ◌^◌, ◌∙◌, ◌∵◌, ◌∷◌, ◌≡◌, ◌⊑◌, ◌⊛◌}
 use Rattle.aa_raw.proofs.row.emptied.Statement.{statement}
+use Rattle.core.proofs.slots.Slots.from_raw_parts.Met as callee
+use Rattle.aa_raw.specs.contracts.row.emptied as f
 use Rattle.aa_raw.proofs.row.emptied.Code as code
 
 abbrev held : El → ItemIn

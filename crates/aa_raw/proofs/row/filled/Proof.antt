@@ -1,15 +1,8 @@
 -- Slots that all hold their values are the places of a row. Assumes `Logic`.
-use Rattle.aa_raw.proofs.Walk.{◌≡◌, refl, sym, ◌∙◌, ℕ, ◌*◌, ◌<◌, ◌^◌, List, [], ◌∷◌, map, length, length-map, subst, arith, via, ftrue, flft, inst_fn, WpFn, ◌⊑◌, fact, tables, block_ptr, prop, regoal, ‵, raw, given, learn, ◌⊛◌, at_ret, ◌$◌, ◌∵◌, !, qed, move, keep, use1, use2, split, join, fsplit, fjoin, rewrite, suffices, done, agg, and_then, no_more, enter, of_opd, stop, fld, first, blocks, exec, returns, sub, whole, alloc_all, pass_all, free_all, look_at, get, is, sets, env, no, owns, plain, types_at, nothing, heard, Vals, Stays, walk_of, says, stay_dropped, Goes-dropped, ends_at, Some, after, proved_at, El, R, sz, Rw, word, row_made, args, Spots, start}
-use Rattle.aa_raw.proofs.Common.{Bool, WT, later, await, cells, get_in, lands_last, mem, whole_in, calls_at_last, framed, row_val, ItemIn, no_al, all, Row}
-use Rattle.core.specs.Mem.Slots.{slots_items, slots_filled, slots_len, slots_counts, IsFull}
-use Rattle.core.proofs.mem.Param.{El as Item}
-use Rattle.core.proofs.slots.Opens.{row_had as slots_had, row_made as slots_made}
-use Rattle.core.proofs.slots.Places.{to_row}
-use Rattle.core.proofs.slots.Slots.into_raw_parts.Met as callee
-use Rattle.std_alloc.proofs.vec.Spares.{parts_typed, Into, at_into, Into-goes, Into-gives}
-use Rattle.aa_raw.proofs.Spots.{values_in}
-use Rattle.aa_raw.specs.contracts.row.filled as f
+use Rattle.aa_raw.proofs.{!, Bool, El, Goes-dropped, Into, Into-gives, Into-goes, ItemIn, List, MemEl as Item, R, Row, Rw, Some, SpotsFrom, Stays, Vals, WT, WpFn, [], after, agg, all, alloc_all, and_then, args, arith, at_into, at_ret, await, block_ptr, blocks, calls_at_last, cells, done, ends_at, enter, env, exec, fact, first, fjoin, fld, flft, framed, free_all, fsplit, ftrue, get, get_in, given, heard, inst_fn, is, join, keep, lands_last, later, learn, length, length-map, look_at, map, mem, move, no, no_al, no_more, nothing, of_opd, owns, parts_typed, pass_all, plain, prop, proved_at, qed, raw, refl, regoal, returns, rewrite, row_made, row_val, says, sets, slots_counts, slots_filled, slots_full as IsFull, slots_had, slots_items, slots_len, slots_made, split, start, stay_dropped, stop, sub, subst, suffices, sym, sz, tables, to_row, types_at, use1, use2, values_in, via, walk_of, whole, whole_in, word, ‵, ℕ, ◌$◌, ◌*◌, ◌<◌, ◌^◌, ◌∙◌, ◌∵◌, ◌∷◌, ◌≡◌, ◌⊑◌, ◌⊛◌}
 use Rattle.aa_raw.proofs.row.filled.Statement.{statement}
+use Rattle.core.proofs.slots.Slots.into_raw_parts.Met as callee
+use Rattle.aa_raw.specs.contracts.row.filled as f
 use Rattle.aa_raw.proofs.row.filled.Code as code
 
 abbrev it : El → Item
@@ -44,7 +37,7 @@ filled_spec 𝓤 𝓛 𝓜 𝓡 wired X LX =
     sets ! (is ! (of_opd ! (get ! refl)) over) refl (tt, words) $ sets ! (agg ! (and_then ! (get_in ! (fld ! refl (stop !)) (sub ! 0 refl (whole !))) (no_more !))) refl (tt, (tt, tt)) $
     let many : n ≡ length xs = (slots_counts r).0 in let flags : n ≡ length fs = (slots_counts r).1 in
     use1 𝓛 (‵ (cells (mem (R E)) xs b o)) (via 𝓤 _ (to_row (it E) 𝓛 b xs fs o (sym flags ∙ many) (λ k h. full k (omega arith) (omega arith))) (whole_in 𝓛 (R E) xs b o)) $
-    rewrite ! 0 (λ (k : ℕ). ‵ (cells (mem (R E)) xs b k)) (sym (start E 𝓛 b o)) refl $ use1 𝓛 (‵ (Spots E 𝓛 b o 0 (map Some xs))) (values_in E 𝓛 b o xs 0) $
+    rewrite ! 0 (λ (k : ℕ). ‵ (cells (mem (R E)) xs b k)) (sym (start E 𝓛 b o)) refl $ use1 𝓛 (‵ (SpotsFrom E 𝓛 b o 0 (map Some xs))) (values_in E 𝓛 b o xs 0) $
     let d : (Rw E).Denot = record { ptr = block_ptr b o; places = map Some xs } in
     row_made E ! d b o refl (subst (λ k. k * sz E < 2 ^ 63) (many ∙ sym (length-map xs Some)) small) $
     returns ! (look_at ! 0 refl) $ free_all ! refl $

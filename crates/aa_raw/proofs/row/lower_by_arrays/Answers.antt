@@ -1,6 +1,4 @@
-use Rattle.aa_raw.proofs.Common.{◌≡◌, ◌-◌, ◌+◌, length, take, drop, ◌++◌, sym, ap, ◌∙◌, subst, arith, length-drop, IsRun, moved}
-use Rattle.aa_raw.proofs.Arrayed.{lowered_long, lowered_next, lowered_more, run_in_rest}
-use Rattle.aa_raw.proofs.Places.{moved_behind}
+use Rattle.aa_raw.proofs.{IsRun, ap, arith, drop, length, length-drop, lowered_long, lowered_more, lowered_next, moved, moved_behind, run_in_rest, subst, sym, take, ◌++◌, ◌+◌, ◌-◌, ◌∙◌, ◌≡◌}
 use Rattle.aa_raw.proofs.row.lower_by_arrays.Goals as goal
 
 pub move_array-requires : goal.move_array-requires

@@ -1,6 +1,4 @@
-use Rattle.aa_raw.proofs.Common.{◌≡◌, ◌-◌, ◌+◌, ◌≤◌, length, take, drop, replicate, None, refl, sym, ap, ◌∙◌, subst, arith, IsRun, with_run}
-use Rattle.aa_raw.proofs.Across.{left_long, left_next, left_more, put_long, put_more}
-use Rattle.aa_raw.proofs.Places.{with_none}
+use Rattle.aa_raw.proofs.{IsRun, None, ap, arith, drop, left_long, left_more, left_next, length, put_long, put_more, refl, replicate, subst, sym, take, with_none, with_run, ◌+◌, ◌-◌, ◌∙◌, ◌≡◌, ◌≤◌}
 use Rattle.aa_raw.proofs.row.move_across_by_arrays.Goals as goal
 
 pub arrays-init : goal.arrays-init

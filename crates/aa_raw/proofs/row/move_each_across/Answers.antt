@@ -1,6 +1,4 @@
-use Rattle.aa_raw.proofs.Common.{rules, ◌≡◌, ◌+◌, ◌<◌, ◌≤◌, length, get_or, slice_set, take, drop, Some, None, refl, sym, ap, ◌∙◌, arith, with_run}
-use Rattle.std.specs.Option.{is_some}
-use Rattle.aa_raw.proofs.Places.{run_filled, run_more, gone_more, still_there, with_none}
+use Rattle.aa_raw.proofs.{None, Some, ap, arith, drop, get_or, gone_more, is_some, length, refl, rules, run_filled, run_more, slice_set, still_there, sym, take, with_none, with_run, ◌+◌, ◌<◌, ◌∙◌, ◌≡◌, ◌≤◌}
 use Rattle.aa_raw.proofs.row.move_each_across.Goals as goal
 
 pub each-init : goal.each-init

@@ -1,6 +1,4 @@
-use Rattle.aa_raw.proofs.Common.{rules, ◌≡◌, ◌+◌, ◌-◌, ◌<◌, ◌≤◌, length, get_or, slice_set, Some, None, sym, ap, ◌∙◌, arith, moved}
-use Rattle.std.specs.Option.{is_some}
-use Rattle.aa_raw.proofs.Places.{run_filled, moved_up, still_up}
+use Rattle.aa_raw.proofs.{None, Some, ap, arith, get_or, is_some, length, moved, moved_up, rules, run_filled, slice_set, still_up, sym, ◌+◌, ◌-◌, ◌<◌, ◌∙◌, ◌≡◌, ◌≤◌}
 use Rattle.aa_raw.proofs.row.move_up.Goals as goal
 
 pub read-item-requires : goal.read-item-requires

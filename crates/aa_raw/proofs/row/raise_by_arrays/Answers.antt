@@ -1,6 +1,4 @@
-use Rattle.aa_raw.proofs.Common.{◌≡◌, ◌-◌, ◌+◌, length, refl, sym, ap, ◌∙◌, subst, arith, IsRun, moved}
-use Rattle.aa_raw.proofs.Arrayed.{raised_long, raised_next, raised_more}
-use Rattle.aa_raw.proofs.Places.{moved_none}
+use Rattle.aa_raw.proofs.{IsRun, ap, arith, length, moved, moved_none, raised_long, raised_more, raised_next, refl, subst, sym, ◌+◌, ◌-◌, ◌∙◌, ◌≡◌}
 use Rattle.aa_raw.proofs.row.raise_by_arrays.Goals as goal
 
 pub up-init : goal.up-init

@@ -1,5 +1,5 @@
-use Rattle.aa_raw.proofs.Common.{◌+◌, None, refl, ap, ◌∙◌, arith, slice_set, with_places}
-use Rattle.aa_raw.proofs.Emptied.{emptied-next, emptied-more}
+use Rattle.aa_raw.proofs.{None, ap, arith, refl, slice_set, with_places, ◌+◌, ◌∙◌}
+use Rattle.aa_raw.proofs.Emptied.{emptied-more, emptied-next}
 use Rattle.aa_raw.proofs.raw_vec.RawVec.drop_run.Goals as goal
 
 pub take-requires : goal.take-requires

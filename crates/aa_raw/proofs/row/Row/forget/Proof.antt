@@ -1,7 +1,7 @@
 -- What stands in places side by side is forgotten: they are room then. Assumes `Logic`.
-use Rattle.aa_raw.proofs.Walk.{refl, ◌+◌, ◌≤◌, [], ◌∷◌, length, take, drop_l, replicate, length-take, length-drop, length-replicate, arith, ftrue, flft, froom, named, w64, inst_fn, vunit, ◌⊑◌, fact, ‵, raw, ◌⊛◌, ◌$◌, ◌∵◌, !, qed, done, move, keep, drop, use1, split, join, fsplit, fsplit3, fjoin, fjoin3, feq_i, rewrite, suffices, enter, of_opd, unit_lit, returns, alloc_all, pass_all, free_all, look_at, sets, yes, usize, owns, uint_vals, uint_Tells, mut_vals, mut_Tells, plain, types_at, nothing, heard, Vals, Stays, walk_of, says, stay_ref, stay_dropped, Goes-ref, Goes-dropped, ends_at, None, proved, El, elτ, ty_array, holding, with_run, Rw, opens_places, closes_places, args, Spots, at, all_room, empties, ◌≡◌, ℕ}
-use Rattle.aa_raw.specs.contracts.row.Row.forget as f
+use Rattle.aa_raw.proofs.{!, El, Goes-dropped, Goes-ref, None, Rw, SpotsFrom, Stays, Vals, [], all_room, alloc_all, args, arith, at, closes_places, done, drop as drop_l, elτ, empties, ends_at, enter, fact, feq_i, fjoin, fjoin3, flft, free_all, froom, fsplit, fsplit3, ftrue, heard, holding, inst_fn, join, keep, length, length-drop, length-replicate, length-take, look_at, lose as drop, move, mut_Tells, mut_vals, named, nothing, of_opd, opens_places, owns, pass_all, plain, proved, qed, raw, refl, replicate, returns, rewrite, says, sets, split, stay_dropped, stay_ref, suffices, take, ty_array, types_at, uint_Tells, uint_vals, unit_lit, use1, usize, vunit, w64, walk_of, with_run, yes, ‵, ℕ, ◌$◌, ◌+◌, ◌∵◌, ◌∷◌, ◌≡◌, ◌≤◌, ◌⊑◌, ◌⊛◌}
 use Rattle.aa_raw.proofs.row.Row.forget.Statement.{statement}
+use Rattle.aa_raw.specs.contracts.row.Row.forget as f
 use Rattle.aa_raw.proofs.row.Row.forget.Code as code
 
 abbrev stayed : (E : El) → Stays (f.ended E.row).signature.params (f.ended E.row).kept
@@ -23,7 +23,7 @@ forget_spec 𝓤 𝓛 𝓜 𝓡 wired X LX =
     opens_places E ! tt d i n rb ro within (λ b o p small far.
     let had = take n (drop_l i d.places) in let many : length had ≡ n = omega (arith, length-take n (drop_l i d.places), length-drop i d.places) in
     use1 𝓛 (‵ (froom (ty_array (elτ E) (length had)) b (at E 𝓛 b o i))) (all_room E 𝓛 b o had i) $ rewrite ! 0 (λ (k : ℕ). ‵ (froom (ty_array (elτ E) k) b (at E 𝓛 b o i))) many refl $
-    use1 𝓛 (‵ (Spots E 𝓛 b o i (replicate n None))) (empties E 𝓛 b o n i) $
+    use1 𝓛 (‵ (SpotsFrom E 𝓛 b o i (replicate n None))) (empties E 𝓛 b o n i) $
     closes_places E ! tt d i n rb ro b o (replicate n None) (length-replicate n None) within p small $
     sets ! (of_opd ! (unit_lit !)) refl (tt, tt) $
     returns ! (look_at ! 0 refl) $ free_all ! refl $

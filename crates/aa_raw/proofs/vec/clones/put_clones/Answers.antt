@@ -1,5 +1,4 @@
-use Rattle.std.proofs.Common.{ap, ◌∙◌, refl, arith, Some, length}
-use Rattle.std.proofs.lemmas.List.{length-set}
+use Rattle.aa_raw.proofs.{Some, ap, arith, length, length-set, refl, ◌∙◌}
 use Rattle.aa_raw.proofs.Cloned.{none-cloned, one-cloned}
 use Rattle.aa_raw.proofs.vec.clones.put_clones.Goals as goal
 
