@@ -1,9 +1,5 @@
 -- A list in two parts, cut behind the first.
-use Rattle.std.proofs.Common.{◌≡◌, ℕ, ◌+◌, ◌-◌, ◌≤◌, List, ◌++◌, length, take, drop, Option, Some, None, Bor, refl, sym, ap, ◌∙◌, arith}
-use Rattle.std.specs.Prelude.{slice_get, option_copied}
-use Rattle.std.specs.Slice.{IsItemAt}
-use Rattle.std.proofs.lemmas.Option.{slice_get_past, slice_get_read}
-use Rattle.std.proofs.Math.Seq.{take-append-add, drop-append-add}
+use Rattle.aa_gap.proofs.Common.{Bor, IsItemAt, List, None, Option, Some, ap, arith, drop, drop-append-add, length, option_copied, refl, slice_get, slice_get_past, slice_get_read, sym, take, take-append-add, ℕ, ◌++◌, ◌+◌, ◌-◌, ◌∙◌, ◌≡◌, ◌≤◌}
 
 pub take_behind : {T : Type 0} (xs ys : List T) (k : ℕ) → length xs ≤ k → take k (xs ++ ys) ≡ xs ++ take (k - length xs) ys
 take_behind xs ys k h = let e : k ≡ length xs + (k - length xs) = omega arith in ap (λ i. take i (xs ++ ys)) e ∙ take-append-add xs ys (k - length xs)

@@ -24,10 +24,10 @@ pub use Rattle.core.specs.Ptr.{ptr_add}
 pub use Rattle.core.specs.declared.alloc.Allocator.{Ghosts}
 pub use Rattle.std.proofs.Common.{Bool, Err, IfOk, List, None, Ok, Option, Some, T, [], add-zero, ap, append_assoc, arith, drop, drop-cons, drop-drop, drop-set-lt, drop_at, eq-eqb, ext_get_or, false, get_or, get_or-drop, get_or-set_other, get_or-set_same, get_or-take, if◌then◌else◌, inl, inr, insert, is_none, is_some, length, length-append, length-drop, length-set, length-take, length-take-le, lit<, map, refl, remove, replicate, rules, set as slice_set, set-set, slice_get, subst, suc, suc-mul, swap_remove, sym, take, take-add, take-append-drop, take-take, take_all, take_at, true, w64, zero, zero-add, zero-mul, ℕ, ◌&&◌, ◌*◌, ◌++◌, ◌+◌, ◌-◌, ◌<◌, ◌==◌, ◌^◌, ◌∙◌, ◌∷◌, ◌≡◌, ◌≢◌, ◌≤◌, ◌⊎◌}
 pub use Rattle.std.proofs.Math.Nat.{mul-pos}
-pub use Rattle.std.proofs.lemmas.Bool.{cases_lt}
+pub use Rattle.std.proofs.lemmas.Bool.{cases_eq, cases_lt}
 pub use Rattle.std.proofs.lemmas.Bool.Decides.{eqb_tells, nat_tests}
 pub use Rattle.std.proofs.lemmas.Grind.{take_at_read}
-pub use Rattle.std.proofs.lemmas.List.{drop-append-le, drop-map, drop-set, drop-take, drop_all, drop_more, get_or-append_right, get_or-replicate, get_or_append_left, get_or_push, length-map, length-replicate, places, replicate-append-replicate, replicate_more, same_lists, set_comm, set_split, take-append-le, take-map, take-set-le, take_more_set}
+pub use Rattle.std.proofs.lemmas.List.{drop-append-le, drop-map, drop-replicate, drop-set, drop-take, drop_all, drop_more, get_or-append_right, get_or-replicate, get_or_append_left, get_or_push, length-map, length-replicate, places, replicate-append-replicate, replicate_more, same_lists, set_comm, set_split, take-append-le, take-map, take-set-le, take_more_set}
 pub use Rattle.std.proofs.lemmas.List.Elements.{AllZip-push}
 pub use Rattle.std.proofs.lemmas.List.Folds.{list_all-append}
 pub use Rattle.std.proofs.lemmas.Option.{get_or_from_slice_get, slice_get_past, slice_get_read}

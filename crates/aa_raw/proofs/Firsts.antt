@@ -6,9 +6,8 @@ module _ {X : Type 0} where
   AllFilled cs = list_all is_some cs ≡ true
 
   set-all : (cs : List (Option X)) (n i : ℕ) (w : X) → AllFilled (take n cs) → AllFilled (take n (slice_set cs i (Some w)))
-  set-all [] n i w r = r
-  set-all (c ∷ cs) zero zero w r = refl
-  set-all (c ∷ cs) zero (suc i) w r = refl
+  set-all [] n i w r = grind arith
+  set-all (c ∷ cs) zero i w r = refl
   set-all (None ∷ cs) (suc n) i w r = cc
   set-all (Some x ∷ cs) (suc n) zero w r = r
   set-all (Some x ∷ cs) (suc n) (suc i) w r = set-all cs n i w r

@@ -1,7 +1,4 @@
-use Rattle.std.proofs.Common.{◌-◌, sym, ap, ◌∙◌, arith}
-use Rattle.std.specs.Prelude.{slice_get}
-use Rattle.aa_raw.proofs.BothEnds.{slice_get-front, slice_get-behind}
-use Rattle.aa_gap.proofs.Texts.{lent_at}
+use Rattle.aa_gap.proofs.{ap, arith, lent_at, slice_get, slice_get-behind, slice_get-front, sym, ◌-◌, ◌∙◌}
 use Rattle.aa_gap.proofs.gap_buffer.GapBuffer.get.Goals as goal
 
 pub returns-then-index-cursor : goal.returns-then-index-cursor

@@ -1,5 +1,4 @@
-use Rattle.std.proofs.Common.{sym, ap, ◌∙◌}
-use Rattle.aa_raw.proofs.Runs.{run-is}
+use Rattle.aa_boxed.proofs.{ap, run-is, sym, ◌∙◌}
 use Rattle.aa_boxed.proofs.boxed.slice.BoxedSlice.as_slice.Goals as goal
 
 pub returns : goal.returns

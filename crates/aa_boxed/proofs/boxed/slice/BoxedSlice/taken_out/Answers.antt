@@ -1,6 +1,4 @@
-use Rattle.std.proofs.Common.{◌≡◌, length, sym, ap, ◌∙◌}
-use Rattle.aa_raw.specs.Places.{run}
-use Rattle.aa_raw.proofs.Runs.{length-run, run-is}
+use Rattle.aa_boxed.proofs.{ap, length, length-run, run, run-is, sym, ◌∙◌, ◌≡◌}
 use Rattle.aa_boxed.proofs.boxed.slice.BoxedSlice.taken_out.Goals as goal
 
 pub returns : goal.returns
