@@ -151,6 +151,7 @@ impl<T, A: Allocator> GapBuffer<T, A> {
     }
 
     /// The element at `index` of the whole text, if there is one.
+    #[tactic(auto, using(crate::proofs::Texts::lent))]
     pub fn get(&self, index: usize) -> Option<&T>
         ensures { option_copied result ≡ slice_get (text self.now) index }
     {
