@@ -93,7 +93,7 @@ pub use prog.Memory.{align, capped, size as ty_size}
 pub use prog.Wp.{Wp, WpFn, after_seq, at_return}
 pub use seplogic.Ra.Ura.{Ura}
 pub use types.ByLocal.{alloc_all, env, free_all, get, get_in, get_tag, is, lands_as, lands_last, look_at, pass_all, sets, sets_last, through}
-pub use types.Kit.{!, Goal, Item, Post as After, Seq, Soaks, Sq, Step, any_q, at_ret, await, by, check, done, drop as lose, feq_i, feq_l, fjoin, fjoin3, flt_i, flt_l, fpack, fpick, frame, fsplit, fsplit3, given, group, join, keep, later, learn, move, pick, prop, qed, raw, regoal, rewrite, show, some, split, split3, step, suffices, use0, use1, use2, ‵, ⋆, ◌$◌, ◌∵◌, ◌⊛◌}
+pub use types.Kit.{ !, Goal, Item, Post as After, Seq, Soaks, Sq, Step, any_q, at_ret, await, by, check, done, drop as lose, feq_i, feq_l, fjoin, fjoin3, flt_i, flt_l, fpack, fpick, frame, fsplit, fsplit3, given, group, join, keep, later, learn, move, pick, prop, qed, raw, regoal, rewrite, show, some, split, split3, step, suffices, use0, use1, use2, ‵, ⋆, ◌$◌, ◌∵◌, ◌⊛◌}
 pub use types.Logic.{Logic, sem}
 pub use types.Match.{in_variant, live, vrt}
 pub use types.Part.{agg, look_in, sub, whole}

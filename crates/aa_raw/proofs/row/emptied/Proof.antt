@@ -1,5 +1,5 @@
 -- The places of a row are slots, whatever stands in them. Assumes `Logic`.
-use Rattle.aa_raw.proofs.{!, Bool, El, From, Goes-blank, Goes-dropped, ItemIn, List, Made, R, Room, Row, Rw, SliceRefOf, Stays, Vals, WT, WpFn, [], after, all, alloc_all, and_then, args, at_from, at_ret, await, blocks, calls_at_last, done, el, elτ, ends_at, enter, env, exec, fact, false, first, fjoin, fld, flft, framed, free_all, from_gives, from_goes, froom, fsplit, ftrue, get, get_in, given, heard, inst_fn, is, join, keep, lands_last, later, learn, length, length-replicate, look_at, move, no, no_al, no_more, nothing, of_opd, of_space, owns, pass_all, pick, plain, prop, proved_at, qed, raw, refl, regoal, replicate, returns, rewrite, room_of_row, row_Typed, row_had, row_val, says, sets, shr_slice_vals, some, split, stay_dropped, stop, sub, subst, suffices, sym, sz, tables, ty_array, types_at, use1, use2, walk_of, whole, word, yes, ‵, ℕ, ◌$◌, ◌*◌, ◌<◌, ◌^◌, ◌∙◌, ◌∵◌, ◌∷◌, ◌≡◌, ◌⊑◌, ◌⊛◌}
+use Rattle.aa_raw.proofs.{ !, Bool, El, From, Goes-blank, Goes-dropped, ItemIn, List, Made, R, Room, Row, Rw, SliceRefOf, Stays, Vals, WT, WpFn, [], after, all, alloc_all, and_then, args, at_from, at_ret, await, blocks, calls_at_last, done, el, elτ, ends_at, enter, env, exec, fact, false, first, fjoin, fld, flft, framed, free_all, from_gives, from_goes, froom, fsplit, ftrue, get, get_in, given, heard, inst_fn, is, join, keep, lands_last, later, learn, length, length-replicate, look_at, move, no, no_al, no_more, nothing, of_opd, of_space, owns, pass_all, pick, plain, prop, proved_at, qed, raw, refl, regoal, replicate, returns, rewrite, room_of_row, row_Typed, row_had, row_val, says, sets, shr_slice_vals, some, split, stay_dropped, stop, sub, subst, suffices, sym, sz, tables, ty_array, types_at, use1, use2, walk_of, whole, word, yes, ‵, ℕ, ◌$◌, ◌*◌, ◌<◌, ◌^◌, ◌∙◌, ◌∵◌, ◌∷◌, ◌≡◌, ◌⊑◌, ◌⊛◌}
 use Rattle.core.proofs.slots.Slots.from_raw_parts.Met as callee
 use Rattle.aa_raw.specs.contracts.row.emptied as f
 use Rattle.aa_raw.proofs.row.emptied.Code as code

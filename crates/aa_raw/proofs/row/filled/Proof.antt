@@ -1,5 +1,5 @@
 -- Slots that all hold their values are the places of a row. Assumes `Logic`.
-use Rattle.aa_raw.proofs.{!, Bool, El, Goes-dropped, Into, Into-gives, Into-goes, ItemIn, List, MemEl as Item, R, Row, Rw, Some, SpotsFrom, Stays, Vals, WT, WpFn, [], after, agg, all, alloc_all, and_then, args, arith, at_into, at_ret, await, block_ptr, blocks, calls_at_last, cells, done, ends_at, enter, env, exec, fact, first, fjoin, fld, flft, framed, free_all, fsplit, ftrue, get, get_in, given, heard, inst_fn, is, join, keep, lands_last, later, learn, length, length-map, look_at, map, mem, move, no, no_al, no_more, nothing, of_opd, owns, parts_typed, pass_all, plain, prop, proved_at, qed, raw, refl, regoal, returns, rewrite, row_made, row_val, says, sets, slots_counts, slots_filled, slots_full as IsFull, slots_had, slots_items, slots_len, slots_made, split, start, stay_dropped, stop, sub, subst, suffices, sym, sz, tables, to_row, types_at, use1, use2, values_in, via, walk_of, whole, whole_in, word, ‵, ℕ, ◌$◌, ◌*◌, ◌<◌, ◌^◌, ◌∙◌, ◌∵◌, ◌∷◌, ◌≡◌, ◌⊑◌, ◌⊛◌}
+use Rattle.aa_raw.proofs.{ !, Bool, El, Goes-dropped, Into, Into-gives, Into-goes, ItemIn, List, MemEl as Item, R, Row, Rw, Some, SpotsFrom, Stays, Vals, WT, WpFn, [], after, agg, all, alloc_all, and_then, args, arith, at_into, at_ret, await, block_ptr, blocks, calls_at_last, cells, done, ends_at, enter, env, exec, fact, first, fjoin, fld, flft, framed, free_all, fsplit, ftrue, get, get_in, given, heard, inst_fn, is, join, keep, lands_last, later, learn, length, length-map, look_at, map, mem, move, no, no_al, no_more, nothing, of_opd, owns, parts_typed, pass_all, plain, prop, proved_at, qed, raw, refl, regoal, returns, rewrite, row_made, row_val, says, sets, slots_counts, slots_filled, slots_full as IsFull, slots_had, slots_items, slots_len, slots_made, split, start, stay_dropped, stop, sub, subst, suffices, sym, sz, tables, to_row, types_at, use1, use2, values_in, via, walk_of, whole, whole_in, word, ‵, ℕ, ◌$◌, ◌*◌, ◌<◌, ◌^◌, ◌∙◌, ◌∵◌, ◌∷◌, ◌≡◌, ◌⊑◌, ◌⊛◌}
 use Rattle.core.proofs.slots.Slots.into_raw_parts.Met as callee
 use Rattle.aa_raw.specs.contracts.row.filled as f
 use Rattle.aa_raw.proofs.row.filled.Code as code
