@@ -7,8 +7,8 @@ use Rattle.std.proofs.lemmas.List.Elements.{all_zip_more, same_from_all_zip}
 use Rattle.aa_raw.specs.declared.collections.TryReserveError.{TryReserveError}
 use Rattle.aa_raw.specs.declared.collections.TryReserveErrorKind.TheVariants.{AllocError}
 use Rattle.aa_vec.specs.Copies.{Copies, Adds, Begins, Undone, Fills}
-use Rattle.aa_vec.specs.Vector.{Vector, len, GrowsTo, Holds, MakesRoom, SameBlock, Writes, with_items}
-use Rattle.aa_vec.proofs.Climbing.{Holds-more, MakesRoom-into, MakesRoom-room, MakesRoom-same, SameBlock-trans}
+use Rattle.aa_vec.specs.Vector.{Vector, len, GrowsTo, Holds, SameBlock, Writes, with_items}
+use Rattle.aa_vec.proofs.Climbing.{MakesRoom, Holds-more, MakesRoom-fits, MakesRoom-same, SameBlock-trans}
 
 -- clones of one value and the value itself, where clones are copies
 pub all-copied : {T : Type 0} (clones : T → T → Type 0) (k : ℕ) (x : T) (ys : List T) → 0 < k → Copies clones → AllZip clones (replicate (k - 1) x) ys → ys ++ x ∷ [] ≡ replicate k x
@@ -17,7 +17,7 @@ all-copied clones k x ys some copies e = ap (λ l. l ++ x ∷ []) (same_from_all
 module _ {T A : Type 0} where
   -- a call that made room, and then one in the block that there was
   pub GrowsTo-then : (size : ℕ) (old mid new : Vector T A) (k : ℕ) (xs ys : List T) → GrowsTo size old k xs mid → Holds mid ys new → GrowsTo size old k ys new
-  GrowsTo-then size old mid new k xs ys p q = record { items = q.items; room = MakesRoom-into size (len old) k p.room q.block }
+  GrowsTo-then size old mid new k xs ys p q = record { items = q.items; room = SameBlock-trans p.room q.block }
 
   module _ (clones : T → T → Type 0) where
     -- a clone of the next item of a list
@@ -62,7 +62,7 @@ module _ {T A : Type 0} where
     grown-to ys h = GrowsTo-then size old mid new k old.items (old.items ++ ys) made (record { items = h.items ∙ ap (λ l. l ++ ys) made.items; block = h.block })
 
     pub room-there : len old ≤ old.capacity → k ≤ mid.capacity - len mid
-    room-there within = omega (arith, MakesRoom-room size (len old) k old mid within made.room, ap (λ l. length l) made.items)
+    room-there within = omega (arith, MakesRoom-fits size (len old) k old mid made.room, ap (λ l. length l) made.items)
 
   pub Resized-copied : (clones : T → T → Type 0) (size : ℕ) (old mid new : Vector T A) (n : ℕ) (x : T) → Copies clones → GrowsTo size old (n - len old) old.items mid → Fills clones mid (n - len old) x new → len old < n
       → GrowsTo size old (n - len old) (take n old.items ++ replicate (n - len old) x) new

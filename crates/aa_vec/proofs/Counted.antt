@@ -1,6 +1,6 @@
 -- Extensions by an iterator that tells a function of how many items are to come.
-use Rattle.aa_vec.proofs.Common.{◌≡◌, ℕ, ◌+◌, ◌-◌, ◌<◌, ◌≤◌, List, [], ◌∷◌, ◌++◌, length, None, append_assoc, sym, ap, ◌∙◌, subst, arith, inl, inr, length-append, min, cases_lt, append-nil, TryReserveError, usize_max, Vector, len, SameBlock, LacksRoom, MakesRoom, Climbs, asked_for, YieldsTelling, ExtendsAll, ExtendsFull, ExtendsByAll, ExtendsByFront, ItemsLeft, gives_item, lower_by, TellsExactly}
-use Rattle.aa_vec.proofs.Climbing.{SameBlock-refl, Climbs-counted, Climbs-exact}
+use Rattle.aa_vec.proofs.Common.{◌≡◌, ℕ, ◌+◌, ◌-◌, ◌<◌, ◌≤◌, List, [], ◌∷◌, ◌++◌, length, None, append_assoc, sym, ap, ◌∙◌, subst, arith, inl, inr, length-append, min, cases_lt, append-nil, TryReserveError, usize_max, Vector, len, SameBlock, LacksRoom, Climbs, asked_for, YieldsTelling, ExtendsAll, ExtendsFull, ExtendsByAll, ExtendsByFront, ItemsLeft, gives_item, lower_by, TellsExactly}
+use Rattle.aa_vec.proofs.Climbing.{MakesRoom, SameBlock-refl, Climbs-counted, Climbs-exact}
 
 -- another function tells the same of `taken`, behind which `more` is to come; and the vector was another in the same block
 module _ {T A : Type 0} (size : ℕ) (lower by : ℕ → ℕ) {u v : Vector T A} (b : SameBlock u v) (head taken more : List T)

@@ -1,10 +1,11 @@
 -- Room that the block made for a vector.
-use Rattle.aa_vec.proofs.Common.{◌≡◌, ℕ, ◌+◌, ◌-◌, ◌<◌, ◌≤◌, [], ◌∷◌, ◌++◌, Some, length, refl, ap, ◌∙◌, arith, inl, inr, if◌then◌else◌, ◌==◌, slice_set, cases_lt, nat_tests, Block, wrote, IsRun, run, moved, amortized, least_of, length-run, Vector, len, MakesRoom, GrowsTo, view_of, IsFront, Inside}
+use Rattle.aa_vec.proofs.Common.{◌≡◌, ℕ, ◌+◌, ◌-◌, ◌<◌, ◌≤◌, [], ◌∷◌, ◌++◌, Some, length, refl, ap, ◌∙◌, arith, inl, inr, if◌then◌else◌, ◌==◌, slice_set, cases_lt, nat_tests, Block, wrote, IsRun, run, moved, amortized, least_of, length-run, Vector, len, GrowsTo, view_of, IsFront, Inside}
 use Rattle.std.specs.Prelude.{insert}
 use Rattle.std.proofs.lemmas.List.{length-set}
 use Rattle.aa_raw.specs.Block.{Reserves}
 use Rattle.aa_raw.proofs.Calls.{run-put, run-reserved, IsRun-reserved}
 use Rattle.aa_raw.proofs.Positions.{run-inserted, length-inserted}
+use Rattle.aa_vec.proofs.Climbing.{MakesRoom}
 
 module _ {T A : Type 0} (size : ℕ) (old : Inside T A) (front : IsFront old) (k : ℕ) (b : Block T A) where
   count : len (view_of old) ≡ old.len
@@ -13,12 +14,7 @@ module _ {T A : Type 0} (size : ℕ) (old : Inside T A) (front : IsFront old) (k
   -- the vector has the room that its block made
   pub MakesRoom-block : Reserves size old.block old.len k (amortized old.block.growth (length old.block.places) (old.len + k) (least_of size)) b
       → (new : Vector T A) → new.capacity ≡ length b.places → new.growth ≡ b.growth → new.grown ≡ b.grown → new.alloc ≡ b.alloc → MakesRoom size (view_of old) (len (view_of old)) k new
-  MakesRoom-block made new c h g a =
-      let fits = front.0 in
-      elim (cases_lt (length old.block.places) (old.len + k)) [
-        | inl gt ↦ inr (omega (arith, count, gt), record { has_size = (made.grows gt).0; capacity = c ∙ grind (arith, nat_tests, count); growth = h ∙ made.growth; grown = grind (arith, nat_tests, count); alloc = a ∙ made.alloc })
-        | inr le ↦ let e = made.fits le in inl (omega (arith, count, le), record { capacity = c ∙ ap (λ (x : Block T A). length x.places) e; growth = h ∙ made.growth; grown = g ∙ ap (λ (x : Block T A). x.grown) e; alloc = a ∙ made.alloc })
-      ]
+  MakesRoom-block made new c h g a = rw count (record { capacity = c ∙ made.capacity; growth = h ∙ made.growth; grown = g ∙ made.grown; alloc = a ∙ made.alloc })
 
 -- room for one more, and one more element in it
 pub GrowsTo-put : {T A : Type 0} (size : ℕ) (old : Inside T A) (front : IsFront old) (b : Block T A) (x : T)

@@ -1,11 +1,11 @@
 -- A range that was replaced by items: what an iterator told of them, and what its phases left.
-use Rattle.aa_vec.proofs.Common.{◌≡◌, ℕ, ◌+◌, ◌-◌, ◌*◌, ◌<◌, ◌≤◌, List, [], ◌++◌, length, take, drop, Option, append_assoc, refl, sym, ap, ◌∙◌, subst, arith, inl, inr, length-append, Result, Ok, OnOk, Count, Yields, Drains, count_of, append-nil, TryReserveError, length-run, run-zero, Vector, len, SameBlock, Writes, run_count, moved_over, StandsBehind, DropsBehind, behind_items, ExtendsAll, ExtendsFull, ExtendsByAll, ExtendsByFront, Extended, LeavesIter, cut_off, MakesRoomTwice, SplicesByAll, SplicesByFront, tail_moves, FillsAndCloses, PutsAll, Puts}
+use Rattle.aa_vec.proofs.Common.{◌≡◌, ℕ, ◌+◌, ◌-◌, ◌*◌, ◌<◌, ◌≤◌, List, [], ◌++◌, length, take, drop, Option, append_assoc, refl, sym, ap, ◌∙◌, subst, arith, inl, inr, length-append, Result, Ok, OnOk, Count, Yields, Drains, count_of, append-nil, TryReserveError, length-run, run-zero, Vector, len, SameBlock, Writes, run_count, moved_over, StandsBehind, DropsBehind, behind_items, ExtendsAll, ExtendsFull, ExtendsByAll, ExtendsByFront, Extended, LeavesIter, cut_off, SplicesByAll, SplicesByFront, tail_moves, FillsAndCloses, PutsAll, Puts}
 use Rattle.aa_vec.specs.Extending.{StopsAt}
 use Rattle.aa_vec.specs.Splicing.{Gapped, Replaced, SplicesIter}
 use Rattle.aa_vec.specs.Filling.{PutsFront}
 use Rattle.aa_vec.proofs.Answered.{on_ok, if_err, done_unless}
 use Rattle.aa_vec.proofs.Closed.{moved_none, moved_some, moved_most, one_run}
-use Rattle.aa_vec.proofs.Climbing.{SameBlock-trans, MakesRoom-same}
+use Rattle.aa_vec.proofs.Climbing.{MakesRoomTwice, MakesRoomTwice-same, SameBlock-trans, MakesRoom-same}
 use Rattle.aa_vec.proofs.Counted.{ExtendsAll-told, ExtendsFull-told}
 use Rattle.aa_vec.proofs.Drained.{dropped_are}
 use Rattle.aa_vec.proofs.Extending.{Yields-told, whole_run}
@@ -195,7 +195,7 @@ module _ {S T : Type 0} (steps : S → Option T → S → Type 0) (Tells : S →
               let low : ℕ → ℕ = r.0 in
               let over_is : length all - gap ≡ length p.added = beyond_gap p.added in
               let told_is : low (length all - gap) ≡ told = ap low over_is ∙ r.2 in
-              let m : MakesRoomTwice size old (len x) told (length p.added - told) new = (p.room.0, MakesRoom-same size (len x) told x_block p.room.1, p.room.2) in (
+              let m : MakesRoomTwice size old (len x) told (length p.added - told) new = MakesRoomTwice-same size (len x) told (length p.added - told) x_block p.room in (
                 record {
                   added = all;
                   lower = low;

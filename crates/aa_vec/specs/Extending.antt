@@ -7,7 +7,7 @@ use Rattle.std.specs.Iterator.Runs.{WholeRun}
 use Rattle.aa_raw.specs.declared.collections.TryReserveError.{TryReserveError}
 use Rattle.aa_boxed.specs.Telling.{asked_with}
 pub use Rattle.aa_boxed.specs.Telling.{TellsAtMost}
-use Rattle.aa_vec.specs.Vector.{Vector, len, HasRoom, IsNew, LacksRoom, SameBlock, MakesRoom, Writes}
+use Rattle.aa_vec.specs.Vector.{Vector, len, HasRoom, IsNew, LacksRoom, SameBlock, Writes, with_room}
 
 -- what an `Items` has: the items that are to come, in order, and the number that it tells of them
 pub record ItemsLeft (T : Type 0) : Type 0 where
@@ -34,7 +34,7 @@ module _ {T A : Type 0} where
   pub data Climbs (size : ℕ) (lower : ℕ → ℕ) (needed : ℕ) : Vector T A → Vector T A → Type 0 where
     stays : {old new : Vector T A} → SameBlock old new → Climbs size lower needed old new
     grows : {old mid new : Vector T A} → old.capacity < needed
-        → MakesRoom size old old.capacity (asked_for lower (needed - old.capacity)) mid
+        → SameBlock (with_room size old old.capacity (asked_for lower (needed - old.capacity))) mid
         → Climbs size lower needed mid new
         → Climbs size lower needed old new
 

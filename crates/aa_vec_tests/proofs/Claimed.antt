@@ -6,12 +6,12 @@ use Rattle.std.proofs.lemmas.Bool.Decides.{nat_tests}
 use Rattle.aa_raw.specs.declared.raw_vec.Growth.{Growth}
 use Rattle.aa_raw.specs.declared.raw_vec.Growth.TheVariants.{Doubling}
 use Rattle.aa_raw.specs.Growth.{amortized}
-use Rattle.aa_vec.specs.Vector.{Vector, len, Holds, MakesRoom}
+use Rattle.aa_vec.specs.Vector.{Vector, len, Holds}
 use Rattle.aa_vec.specs.Extending.{Climbs, stays as no_more, grows as once_more, asked_for, ExtendsAll, ItemsLeft, gives_item, lower_by, TellsExactly}
 use Rattle.aa_vec.specs.Draining.{TakesRange, KeepsRest, drain_vec, drain_head, drain_rest, drain_tail, range_len, taken_front, taken_back, drains_first, drains_last}
-use Rattle.aa_vec.specs.Splicing.{cut_off, MakesRoomTwice, SplicesAll, SplicesByAll, tail_moves}
+use Rattle.aa_vec.specs.Splicing.{cut_off, SplicesAll, SplicesByAll, tail_moves}
 use Rattle.aa_vec.specs.declared.vec.drain.Drain.{Drain}
-use Rattle.aa_vec.proofs.Climbing.{Climbs-fits, SameBlock-trans}
+use Rattle.aa_vec.proofs.Climbing.{MakesRoom, MakesRoomTwice, Climbs-fits, SameBlock-trans}
 use Rattle.aa_vec.proofs.Counted.{items_lower}
 use Rattle.aa_vec.proofs.Drains.{keeps-then}
 use Rattle.aa_vec.proofs.SplicedItems.{SplicesAll-items, items-written}

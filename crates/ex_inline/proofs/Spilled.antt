@@ -3,9 +3,10 @@ use Rattle.std.proofs.Common.{◌≡◌, ℕ, ◌+◌, ◌<◌, ◌≤◌, Bool,
 use Rattle.std.specs.Prelude.{nat_le, if◌then◌else◌}
 use Rattle.std.proofs.lemmas.Bool.Decides.{nat_tests}
 use Rattle.allocator_api2.specs.Growth.{amortized, least_of}
-use Rattle.allocator_api2.specs.Vector.{Vector, len, GrowsTo, MakesRoom, SameBlock, Writes}
+use Rattle.allocator_api2.specs.Vector.{Vector, len, GrowsTo, SameBlock, Writes}
 use Rattle.allocator_api2.specs.declared.raw_vec.Growth.TheVariants.{Doubling}
 use Rattle.ex_inline.specs.Inlined.{Inlined, block_of, grown_to, in_block}
+use Rattle.aa_vec.proofs.Climbing.{MakesRoom}
 
 enough : (n c a b : ℕ) → n ≤ c → (if nat_le n c then a else b) ≡ a
 enough n c a b h = grind (arith, nat_tests)
