@@ -1,11 +1,14 @@
 -- Room that the block made for a vector.
-use Rattle.aa_vec.proofs.Common.{◌≡◌, ℕ, ◌+◌, ◌-◌, ◌<◌, ◌≤◌, [], ◌∷◌, ◌++◌, Some, length, refl, ap, ◌∙◌, arith, inl, inr, if◌then◌else◌, ◌==◌, slice_set, cases_lt, nat_tests, Block, wrote, IsRun, run, moved, amortized, least_of, length-run, Vector, len, GrowsTo, view_of, IsFront, Inside}
+use Rattle.aa_vec.proofs.Common.{◌≡◌, ℕ, ◌+◌, ◌-◌, ◌<◌, ◌≤◌, [], ◌∷◌, ◌++◌, Some, length, refl, ap, ◌∙◌, arith, if◌then◌else◌, ◌==◌, slice_set, Block, wrote, IsRun, run, moved, amortized, least_of, length-run, Vector, len, run_count, with_room, view_of, IsFront, Inside}
 use Rattle.std.specs.Prelude.{insert}
 use Rattle.std.proofs.lemmas.List.{length-set}
 use Rattle.aa_raw.specs.Block.{Reserves}
 use Rattle.aa_raw.proofs.Calls.{run-put, run-reserved, IsRun-reserved}
 use Rattle.aa_raw.proofs.Positions.{run-inserted, length-inserted}
+use Rattle.aa_vec.specs.Vector.{Becomes}
+use Rattle.aa_vec.proofs.Becoming.{Becomes-grows}
 use Rattle.aa_vec.proofs.Climbing.{MakesRoom}
+use Rattle.aa_vec.proofs.Lists.{unequal}
 
 module _ {T A : Type 0} (size : ℕ) (old : Inside T A) (front : IsFront old) (k : ℕ) (b : Block T A) where
   count : len (view_of old) ≡ old.len
@@ -17,25 +20,31 @@ module _ {T A : Type 0} (size : ℕ) (old : Inside T A) (front : IsFront old) (k
   MakesRoom-block made new c h g a = rw count (record { capacity = c ∙ made.capacity; growth = h ∙ made.growth; grown = g ∙ made.grown; alloc = a ∙ made.alloc })
 
 -- room for one more, and one more element in it
-pub GrowsTo-put : {T A : Type 0} (size : ℕ) (old : Inside T A) (front : IsFront old) (b : Block T A) (x : T)
+pub Becomes-put : {T A : Type 0} (size : ℕ) (old : Inside T A) (front : IsFront old) (b : Block T A) (x : T)
     → Reserves size old.block old.len 1 (amortized old.block.growth (length old.block.places) (old.len + 1) (least_of size)) b
-    → GrowsTo size (view_of old) 1 (run old.block.places 0 old.len ++ x ∷ []) (view_of (record { block = wrote b (slice_set b.places old.len (Some x)) 1; len = old.len + 1 }))
-GrowsTo-put {T} {A} size old front b x made =
+    → Becomes (with_room size (view_of old) (len (view_of old)) 1) (run old.block.places 0 old.len ++ x ∷ []) 1 1 (view_of (record { block = wrote b (slice_set b.places old.len (Some x)) 1; len = old.len + 1 }))
+Becomes-put {T} {A} size old front b x made =
     let put : Inside T A = record { block = wrote b (slice_set b.places old.len (Some x)) 1; len = old.len + 1 } in
-    record {
+    Becomes-grows _ _ _ _ _ size 1
+    (record {
       items = run-put b.places old.len x (omega (arith, made.room)) ∙ ap (λ xs. xs ++ x ∷ []) (run-reserved size old.block old.len 1 _ b made);
       room = MakesRoom-block size old front 1 b made (view_of put) (length-set b.places old.len (Some x)) refl refl refl;
-    }
+    })
+    (record { written = ap (λ n. n + 1) made.written; runs = ap (λ n. n + 1) made.runs })
 
 -- and in the middle, behind which the elements are moved up
-pub GrowsTo-inserted : {T A : Type 0} (size : ℕ) (old : Inside T A) (front : IsFront old) (b : Block T A) (i : ℕ) (x : T) → i ≤ old.len
+pub Becomes-inserted : {T A : Type 0} (size : ℕ) (old : Inside T A) (front : IsFront old) (b : Block T A) (i : ℕ) (x : T) → i ≤ old.len
     → Reserves size old.block old.len 1 (amortized old.block.growth (length old.block.places) (old.len + 1) (least_of size)) b
-    → GrowsTo size (view_of old) 1 (insert (run old.block.places 0 old.len) i x)
+    → Becomes (with_room size (view_of old) (len (view_of old)) 1) (insert (run old.block.places 0 old.len) i x) (len (view_of old) - i + 1) (run_count (len (view_of old) - i) + 1)
     (view_of (record { block = wrote (wrote b (moved b.places i (i + 1) (old.len - i)) (if i == i + 1 then 0 else old.len - i)) (slice_set (moved b.places i (i + 1) (old.len - i)) i (Some x)) 1; len = old.len + 1 }))
-GrowsTo-inserted size old front b i x within made =
+Becomes-inserted size old front b i x within made =
     let kept : IsRun b.places 0 old.len = IsRun-reserved size old.block old.len 1 _ b made front in
     let room : old.len < length b.places = omega (arith, made.room) in
-    record {
+    let count : len (view_of old) ≡ old.len = length-run old.block.places 0 old.len front in
+    let moves : (if i == i + 1 then 0 else old.len - i) ≡ len (view_of old) - i = unequal i (i + 1) 0 (old.len - i) (λ e. absurd (omega (arith, e))) ∙ omega (arith, count) in
+    Becomes-grows _ _ _ _ _ size 1
+    (record {
       items = run-inserted b.places old.len kept i x within room ∙ ap (λ ys. insert ys i x) (run-reserved size old.block old.len 1 _ b made);
       room = MakesRoom-block size old front 1 b made _ (length-inserted b.places old.len kept i x within room) refl refl refl;
-    }
+    })
+    (record { written = omega (arith, moves, made.written); runs = omega (arith, ap run_count moves, made.runs) })

@@ -111,6 +111,18 @@ module _ {T A : Type 0} where
     pub written : new.written ≡ old.written + n
     pub runs : new.runs ≡ old.runs + k
 
+  -- new is old with the items xs, after k calls of the block that wrote n elements; what stands in
+  -- the places behind the items is left open
+  abbrev pub Becomes : (old : Vector T A) → (xs : List T) → (n k : ℕ) → (new : Vector T A) → Type 0
+  Becomes old xs n k new =
+      new
+      ≡ record old {
+        items = xs;
+        written = old.written + n;
+        runs = old.runs + k;
+        behind = new.behind;
+      }
+
   -- n elements were moved over a gap by one call of the block, or by none where there is no gap
   abbrev pub Moves : Vector T A → (gap n : ℕ) → Vector T A → Type 0
   Moves old gap n new = Writes old (moved_over gap n) (run_count (moved_over gap n)) new
