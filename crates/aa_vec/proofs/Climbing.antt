@@ -1,5 +1,5 @@
 -- Lemmas on a vector that grew while it was full.
-use Rattle.aa_vec.proofs.Common.{◌≡◌, ℕ, ◌+◌, ◌-◌, ◌<◌, ◌≤◌, List, ◌++◌, append_assoc, refl, ap, ◌∙◌, subst, arith, min, usize_max, Growth, Doubling, Sparing, amortized, least_of, Vector, SameBlock, Holds, with_room, with_room_twice, Climbs, stays, grows, asked_for}
+use Rattle.aa_vec.proofs.Common.{◌≡◌, ℕ, ◌+◌, ◌-◌, ◌<◌, ◌≤◌, List, ◌++◌, append_assoc, refl, ap, ◌∙◌, subst, arith, min, usize_max, Growth, Doubling, Sparing, amortized, least_of, Vector, SameBlock, Holds, with_room, Climbs, stays, grows, asked_for, ExtendsAll, ExtendsFull, ExtendsByAll, ExtendsByFront, TryReserveError, Option, [], ◌∷◌, length, length-append}
 use Rattle.std.proofs.lemmas.Bool.Decides.{nat_tests}
 
 -- a growth asks for no less than what is needed
@@ -20,7 +20,7 @@ module _ {T A : Type 0} where
 
   -- and then for r more
   abbrev pub MakesRoomTwice : (size : ℕ) → Vector T A → (n h r : ℕ) → Vector T A → Type 0
-  MakesRoomTwice size old n h r new = SameBlock (with_room_twice size old n h r) new
+  MakesRoomTwice size old n h r new = MakesRoom size (with_room size old n h) (n + h) r new
 
   -- room is made alike in one block
   pub MakesRoom-same : (size n k : ℕ) {u v w : Vector T A} → SameBlock u v → MakesRoom size v n k w → MakesRoom size u n k w
@@ -44,6 +44,10 @@ module _ {T A : Type 0} where
 
   pub MakesRoom-stays : (size n k : ℕ) (v w : Vector T A) → MakesRoom size v n k w → n + k ≤ v.capacity → SameBlock v w
   MakesRoom-stays size n k v w m h = record { capacity = grind (arith, nat_tests); growth = m.growth; grown = grind (arith, nat_tests); alloc = m.alloc }
+
+  -- else there was a growth
+  pub MakesRoom-grows : (size n k : ℕ) (v w : Vector T A) → MakesRoom size v n k w → v.capacity < n + k → (w.capacity ≡ amortized v.growth v.capacity (n + k) (least_of size)) × (w.grown ≡ v.grown + n)
+  MakesRoom-grows size n k v w m h = (grind (arith, nat_tests), grind (arith, nat_tests))
 
   -- items put behind others, and those behind the items there were
   pub Holds-more : (old mid new : Vector T A) (xs ys : List T) → Holds old (old.items ++ xs) mid → Holds mid (mid.items ++ ys) new → Holds old (old.items ++ (xs ++ ys)) new
@@ -101,3 +105,23 @@ module _ {T A : Type 0} (size : ℕ) (lower : ℕ → ℕ) (needed : ℕ) where
       let asked : asked_for lower left ≡ left = ap (λ n. min (n + 1) usize_max) (exact (left - 1)) ∙ omega (arith, h, few) in
       let made : MakesRoom size u u.capacity left mid = subst (λ k. MakesRoom size u u.capacity k mid) asked m in
       SameBlock-trans made (Climbs-fits r (omega (arith, h, MakesRoom-fits size u.capacity left u mid made)))
+
+-- what came from an iterator is a list that was put there, and what was taken of it is one of which the last found no place
+module _ {S T A : Type 0} (steps : S → Option T → S → Type 0) (Tells : S → ℕ → Type 0) (size : ℕ) (iter : S) (old new : Vector T A) where
+  pub all_of : (e : ExtendsByAll steps Tells size iter old new) → ExtendsAll size e.lower old old.items e.added new
+  all_of e = record { climbs = e.climbs; enough = e.enough; items = e.items }
+
+  pub full_of : (error : TryReserveError) (e : ExtendsByFront steps Tells size iter old error new) → ExtendsFull size e.lower old old.items (e.front ++ e.item ∷ []) error new
+  full_of error e =
+      let count = length-append e.front (e.item ∷ []) in
+      let full = ap length e.items ∙ length-append old.items e.front in
+      record {
+        front = e.front;
+        others = e.item ∷ [];
+        begins = refl;
+        climbs = subst (λ n. Climbs size e.lower n old new) (omega (arith, count)) e.climbs;
+        short = omega (arith, count, full, e.full);
+        items = e.items;
+        full = omega (arith, full, e.full);
+        lacks = e.lacks;
+      }

@@ -16,7 +16,7 @@ pub use Rattle.aa_vec.specs.Extending.{Climbs, CopiesOf, Extended, ExtendsAll, E
 pub use Rattle.aa_vec.specs.Extracting.{ClosesExtract, Extracts, ExtractsRange, extract_kept, extract_rest}
 pub use Rattle.aa_vec.specs.Filling.{FillsAndCloses, FillsGap, Gathers, GathersShort, Placed, Puts, PutsAll, Widens}
 pub use Rattle.aa_vec.specs.Inner.{IsFront, view_of}
-pub use Rattle.aa_vec.specs.Splicing.{SplicesByAll, SplicesByFront, cut_off, tail_moves, with_room_twice}
+pub use Rattle.aa_vec.specs.Splicing.{SplicesByAll, SplicesByFront, cut_off, tail_moves}
 pub use Rattle.aa_vec.specs.Until.{AsksBehind, AsksLast, AsksUntil, ChainsAlong, ChainsBehind, ChainsUntil, Picks, StaysAt, TakesNext}
 pub use Rattle.aa_vec.specs.Vector.{GrowsTo, HasRoom, Holds, IsNew, LacksRoom, Moves, SameBlock, Vector, Writes, len, moved_over, run_count, sized, with_room}
 pub use Rattle.aa_vec.specs.declared.vec.Vec.TheInside.{Inside}

@@ -6,7 +6,7 @@ use Rattle.std.proofs.lemmas.List.{length-replicate, replicate_more, take_all, t
 use Rattle.std.proofs.lemmas.List.Elements.{all_zip_more, same_from_all_zip}
 use Rattle.aa_raw.specs.declared.collections.TryReserveError.{TryReserveError}
 use Rattle.aa_raw.specs.declared.collections.TryReserveErrorKind.TheVariants.{AllocError}
-use Rattle.aa_vec.specs.Copies.{Copies, Adds, Begins, Undone, Fills}
+use Rattle.aa_vec.specs.Copies.{Copies, Adds, Begins, Undone, Fills, Refuses}
 use Rattle.aa_vec.specs.Vector.{Vector, len, GrowsTo, Holds, SameBlock, Writes, with_items}
 use Rattle.aa_vec.proofs.Climbing.{MakesRoom, Holds-more, MakesRoom-fits, MakesRoom-same, SameBlock-trans}
 
@@ -91,5 +91,17 @@ module _ {T A : Type 0} (size : ℕ) (old cleared : Vector T A) (none : Holds ol
     grows = GrowsTo-anew (length xs) p.added new (GrowsTo-then size cleared mid new (length xs) cleared.items p.added made (record { items = p.holds.items ∙ ap (λ l. l ++ p.added) (made.items ∙ none.items); block = p.holds.block }));
     writes = omega (arith, length-take n xs);
   }
+
+  -- room was made, and what was put there is gone
+  pub Refuses-undone : (failure : Type 0) (size : ℕ) (old mid new : Vector T A) (k : ℕ) (error : TryReserveError) → GrowsTo size old k old.items mid → Writes old 0 0 mid → Undone mid k new → failure → error.kind ≡ AllocError (len old + k)
+      → Refuses failure size old k error new
+  Refuses-undone failure size old mid new k error made w u cause number = inr (record {
+    cause = cause;
+    number = number;
+    left = GrowsTo-then size old mid new k old.items old.items made (record { items = u.holds.items ∙ made.items; block = u.holds.block });
+    done = u.done;
+    fewer = u.fewer;
+    writes = omega (arith, w.written, w.runs, u.writes.written, u.writes.runs);
+  })
 
 pub ruleset copied = (Adds-take, Adds-same, Adds-own, own-fails, Undone-cut, Resized-copied, length-replicate, length-take)

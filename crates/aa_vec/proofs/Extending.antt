@@ -81,7 +81,9 @@ module _ {S T : Type 0} (steps : S → Option T → S → Type 0) (Tells : S →
           told = p.told;
           ends = (u, h);
           within = p.within;
-          extends = record { climbs = p.climbs; enough = omega (arith, p.fits, count); items = p.items };
+          climbs = p.climbs;
+          enough = omega (arith, p.fits, count);
+          items = p.items;
         },
         refl,
       )
@@ -173,22 +175,16 @@ module _ {S T : Type 0} (steps : S → Option T → S → Type 0) (Tells : S →
         pub Placing-refused : (k : ℕ) → k ≡ min (n + 1) usize_max → (error : TryReserveError) → LacksRoom size v k error → (front : ExtendsByFront steps Tells size iter old error v) × (front.last ≡ t)
         Placing-refused k e error lacks = (
           record {
-            taken = next_front;
+            front = p.front;
+            item = x;
             lower = next_lower;
             last = t;
             told = YieldsTelling-more p.lower n iter p.front s x t p.told step tells;
             within = p.within;
-            extends = record {
-              front = p.front;
-              others = x ∷ [];
-              begins = refl;
-              climbs = climbed;
-              short = omega (arith, full, count, longer);
-              items = p.items;
-              full = omega (arith, full, count);
-              lacks = subst (λ j. LacksRoom size v j error) e lacks;
-            };
-            one = refl;
+            climbs = subst (λ m. Climbs size next_lower m old v) (omega (arith, longer)) climbed;
+            items = p.items;
+            full = full;
+            lacks = subst (λ j. LacksRoom size v j error) e lacks;
           },
           refl,
         )
@@ -214,9 +210,9 @@ module _ {S T A : Type 0} (steps : S → Option T → S → Type 0) (Tells : S �
   -- what all extensions keep
   module _ (old new : Vector T A) (e : ExtendsByAll steps Tells size iter old new) where
     pub ExtendsByAll-growth : new.growth ≡ old.growth
-    ExtendsByAll-growth = Climbs-growth size e.lower (len old + length e.added) e.extends.climbs
+    ExtendsByAll-growth = Climbs-growth size e.lower (len old + length e.added) e.climbs
 
     pub ExtendsByAll-alloc : new.alloc ≡ old.alloc
-    ExtendsByAll-alloc = Climbs-alloc size e.lower (len old + length e.added) e.extends.climbs
+    ExtendsByAll-alloc = Climbs-alloc size e.lower (len old + length e.added) e.climbs
 
 pub ruleset extended = (ExtendsByAll-growth, ExtendsByAll-alloc)

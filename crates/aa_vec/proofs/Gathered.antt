@@ -3,7 +3,7 @@ use Rattle.aa_vec.proofs.Common.{◌≡◌, ℕ, ◌+◌, ◌-◌, ◌<◌, ◌�
 use Rattle.aa_raw.specs.Refusals.{IsRefusedAt}
 use Rattle.aa_vec.specs.Splicing.{LacksVector, LacksOthers}
 use Rattle.aa_vec.specs.Filling.{Told}
-use Rattle.aa_vec.proofs.Climbing.{MakesRoom, MakesRoom-stays, SameBlock-refl, Climbs-counted}
+use Rattle.aa_vec.proofs.Climbing.{full_of, MakesRoom, MakesRoom-stays, SameBlock-refl, Climbs-counted}
 use Rattle.aa_vec.proofs.Counted.{ExtendsFull-told}
 use Rattle.aa_vec.proofs.Lists.{equal, unequal}
 use Rattle.aa_vec.proofs.Telling.{told_first}
@@ -84,17 +84,18 @@ module _ {S T A : Type 0} (steps : S → Option T → S → Type 0) (Tells : S �
           let e = by.0 in
           let f = told_first steps Tells e.lower s e.added e.last e.told n tells in
           let P : S → Type 0 = λ k. steps e.last None k in
-          record { rest = e.added; told = record { lower = f.0; last = e.last; first = f.4; each = f.2 }; ends = subst P by.1 e.ends.1; items = e.extends.items ∙ ap (λ ys. ys ++ e.added) one }
+          record { rest = e.added; told = record { lower = f.0; last = e.last; first = f.4; each = f.2 }; ends = subst P by.1 e.ends.1; items = e.items ∙ ap (λ ys. ys ++ e.added) one }
 
       pub GathersShort-more : (x : Vector T A) (error : TryReserveError) (t : S) → (e : ExtendsByFront steps Tells size s w error x) × (e.last ≡ t) → GathersShort steps Tells size s first fails old error t
       GathersShort-more x error t by =
           let e = by.0 in
           let nil : List T = [] in
-          let all : List T = first ∷ e.taken in
-          let f = told_first steps Tells e.lower s e.taken e.last e.told n tells in
-          let same : (k : ℕ) → (length w.items ≤ v.capacity → k < length e.taken) → e.lower k ≡ f.0 (k + length nil) = λ k h. f.1 k (h (omega (arith, e.within, put.block.capacity))) ∙ ap f.0 (omega arith) in
-          let full : ExtendsFull size f.0 v w.items e.taken error x = ExtendsFull-told size e.lower f.0 put.block w.items e.taken nil same e.taken (sym (append-nil e.taken)) error x e.extends in
-          let needed : length w.items + length e.taken ≡ length nil + length all = omega (arith, ap length one) in
+          let taken : List T = e.front ++ e.item ∷ [] in
+          let all : List T = first ∷ taken in
+          let f = told_first steps Tells e.lower s taken e.last e.told n tells in
+          let same : (k : ℕ) → (length w.items ≤ v.capacity → k < length taken) → e.lower k ≡ f.0 (k + length nil) = λ k h. f.1 k (h (omega (arith, e.within, put.block.capacity))) ∙ ap f.0 (omega arith) in
+          let full : ExtendsFull size f.0 v w.items taken error x = ExtendsFull-told size e.lower f.0 put.block w.items taken nil same taken (sym (append-nil taken)) error x (full_of steps Tells size s w x error e) in
+          let needed : length w.items + length taken ≡ length nil + length all = omega (arith, ap length one) in
           let rest : Climbs size f.0 (length nil + length all) v x = subst (λ k. Climbs size f.0 k v x) needed full.climbs in
           let none : len made ≡ 0 = ap length new.items in
           let climbs : Climbs size f.0 (length nil + length all) made x = elim (cases_lt made.capacity (len made + wanted)) [
@@ -109,7 +110,7 @@ module _ {S T A : Type 0} (steps : S → Option T → S → Type 0) (Tells : S �
                 grows (omega (arith, no_places)) m rest
           ] in
           record {
-            rest = e.taken;
+            rest = taken;
             told = record { lower = f.0; last = e.last; first = f.4; each = f.2 };
             stops = by.1;
             lacks = inr (

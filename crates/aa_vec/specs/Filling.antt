@@ -7,7 +7,7 @@ use Rattle.aa_raw.specs.declared.collections.TryReserveError.{TryReserveError}
 use Rattle.aa_vec.specs.Vector.{Vector, len, HasRoom, SameBlock, LacksRoom, Holds, Writes, Moves, with_room, run_count, moved_over}
 use Rattle.aa_vec.specs.Behind.{StandsBehind, behind_items}
 use Rattle.aa_vec.specs.Extending.{YieldsTelling, StopsAt}
-use Rattle.aa_vec.specs.Splicing.{with_room_twice, LacksVector, LacksOthers, tail_moves}
+use Rattle.aa_vec.specs.Splicing.{LacksVector, LacksOthers, tail_moves}
 
 module _ {T A : Type 0} where
   -- the n elements behind the items were moved up by the gap
@@ -123,7 +123,8 @@ module _ {S T A : Type 0} (next_gives : S → Option T → S → Type 0) (size :
     pub given : Yields next_gives s added last
     pub ends : next_gives last None after
     pub items : new.items ≡ take (len old - n) old.items ++ (added ++ drop (len old - n) old.items)
-    pub room : SameBlock (with_room_twice size old (len old) told (length added - told)) new
+    pub room : let more = with_room size old (len old) told in
+        SameBlock (with_room size more (len old + told) (length added - told)) new
     pub written : new.written ≡ old.written + (length added + tail_moves 0 told (length added) * n)
 
 module _ {S T A : Type 0} (next_gives : S → Option T → S → Type 0) (Tells : S → ℕ → Type 0)

@@ -41,10 +41,6 @@ LacksVector {T = T} A fails size lower items error =
     × ExtendsFull size lower made [] items error full)
 
 module _ {T A : Type 0} where
-  -- v with room for h more than n elements, and then for r more
-  abbrev pub with_room_twice : (size : ℕ) → Vector T A → (n h r : ℕ) → Vector T A
-  with_room_twice size v n h r = with_room size (with_room size v n h) (n + h) r
-
   -- no vector could be made of the others, or, where they are all that is to come, there was no
   -- room for just them in v
   abbrev pub LacksOthers : (fails whole : Type 0) (size : ℕ) (lower : ℕ → ℕ) → Vector T A → List T
@@ -82,7 +78,8 @@ module _ {T A : Type 0} where
       pub at_end : old.tail ≡ [] → ExtendsAll size lower old.block old.head added new
       pub in_gap : 0 < length old.tail → length added < old.gap → SameBlock old.block new
       pub beyond : 0 < length old.tail → old.gap ≤ length added
-          → SameBlock (with_room_twice size old.block (span old) told_over
+          → let told = with_room size old.block (span old) told_over in
+          SameBlock (with_room size told (span old + told_over)
           (length added - old.gap - told_over)) new
 
     -- `front` fills the gap, and there was no room for those that were told then
@@ -143,8 +140,10 @@ module _ {S T : Type 0} (next_gives : S → Option T → S → Type 0) (Tells : 
     pub last : S
     pub first : Tells iter (lower (length taken))
     pub told : YieldsTelling next_gives Tells lower iter taken last
-    pub splices : SplicesShort size lower old taken
-        fails ((end : S) × next_gives last None end) error new
+    pub splices :
+        ((old.tail ≡ []) × ExtendsFull size lower old.block old.head taken error new)
+        ⊎ ((0 < length old.tail)
+        × SplicesFront size lower old taken fails ((end : S) × next_gives last None end) error new)
 
   -- items were put in place of the range with this result, and `after` is what is left of `iter`:
   -- nothing was taken but what found a place, and what was gathered where others found none
