@@ -1,5 +1,6 @@
 -- What a vector becomes, as one equation and by its parts.
-use Rattle.aa_vec.proofs.Common.{ℕ, List, length, ap, Vector, GrowsTo, Holds, Writes, with_room}
+use Rattle.aa_vec.proofs.Common.{ℕ, ◌+◌, ◌<◌, ◌≤◌, List, length, ap, arith, Vector, GrowsTo, HasRoom, Holds, Writes, with_room}
+use Rattle.aa_vec.proofs.Climbing.{MakesRoom-stays}
 use Rattle.aa_vec.specs.Vector.{Becomes}
 
 module _ {T A : Type 0} (old : Vector T A) (xs : List T) (n k : ℕ) (new : Vector T A) where
@@ -22,7 +23,13 @@ module _ {T A : Type 0} (old : Vector T A) (xs : List T) (n k : ℕ) (new : Vect
     pub Writes-grown : Becomes (with_room size old (length old.items) more) xs n k new → Writes old n k new
     Writes-grown e = record { written = ap (λ v. v.written) e; runs = ap (λ v. v.runs) e }
 
+    -- where there was room, the block stays
+    pub Holds-within : Becomes (with_room size old (length old.items) more) xs n k new → 0 < more → HasRoom old more → Holds old xs new
+    Holds-within e some fits =
+        let within : length old.items + more ≤ old.capacity = omega (arith, some, fits) in
+        record { items = ap (λ v. v.items) e; block = MakesRoom-stays size (length old.items) more old new (GrowsTo-becomes e).room within }
+
 -- an equation from what a call did, and back
 pub ruleset becomes = (Becomes-holds, Becomes-grows)
 
-pub ruleset became = (Holds-becomes, Writes-becomes, GrowsTo-becomes, Writes-grown)
+pub ruleset became = (Holds-becomes, Writes-becomes, GrowsTo-becomes, Writes-grown, Holds-within)

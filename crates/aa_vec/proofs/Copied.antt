@@ -19,6 +19,18 @@ module _ {T A : Type 0} where
   pub GrowsTo-then : (size : ℕ) (old mid new : Vector T A) (k : ℕ) (xs ys : List T) → GrowsTo size old k xs mid → Holds mid ys new → GrowsTo size old k ys new
   GrowsTo-then size old mid new k xs ys p q = record { items = q.items; room = SameBlock-trans p.room q.block }
 
+  -- room was made, and what was put there is gone
+  pub Refuses-undone : (failure : Type 0) (size : ℕ) (old mid new : Vector T A) (k : ℕ) (error : TryReserveError) → GrowsTo size old k old.items mid → Writes old 0 0 mid → Undone mid k new → failure → error.kind ≡ AllocError (len old + k)
+      → Refuses failure size old k error new
+  Refuses-undone failure size old mid new k error made w u cause number = inr (record {
+    cause = cause;
+    number = number;
+    left = GrowsTo-then size old mid new k old.items old.items made (record { items = u.holds.items ∙ made.items; block = u.holds.block });
+    done = u.done;
+    fewer = u.fewer;
+    writes = omega (arith, w.written, w.runs, u.writes.written, u.writes.runs);
+  })
+
   module _ (clones : T → T → Type 0) where
     -- a clone of the next item of a list
     pub Adds-take : (old mid new : Vector T A) (xs : List T) (i : ℕ) (x y : T) → Adds clones old (take i xs) mid → i < length xs → x ≡ get_or xs i x → clones x y → Holds mid (mid.items ++ y ∷ []) new → Writes mid 1 1 new → Adds clones old (take (i + 1) xs) new
@@ -91,17 +103,5 @@ module _ {T A : Type 0} (size : ℕ) (old cleared : Vector T A) (none : Holds ol
     grows = GrowsTo-anew (length xs) p.added new (GrowsTo-then size cleared mid new (length xs) cleared.items p.added made (record { items = p.holds.items ∙ ap (λ l. l ++ p.added) (made.items ∙ none.items); block = p.holds.block }));
     writes = omega (arith, length-take n xs);
   }
-
-  -- room was made, and what was put there is gone
-  pub Refuses-undone : (failure : Type 0) (size : ℕ) (old mid new : Vector T A) (k : ℕ) (error : TryReserveError) → GrowsTo size old k old.items mid → Writes old 0 0 mid → Undone mid k new → failure → error.kind ≡ AllocError (len old + k)
-      → Refuses failure size old k error new
-  Refuses-undone failure size old mid new k error made w u cause number = inr (record {
-    cause = cause;
-    number = number;
-    left = GrowsTo-then size old mid new k old.items old.items made (record { items = u.holds.items ∙ made.items; block = u.holds.block });
-    done = u.done;
-    fewer = u.fewer;
-    writes = omega (arith, w.written, w.runs, u.writes.written, u.writes.runs);
-  })
 
 pub ruleset copied = (Adds-take, Adds-same, Adds-own, own-fails, Undone-cut, Resized-copied, length-replicate, length-take)

@@ -3,32 +3,19 @@ use Rattle.std.proofs.Common.{◌≡◌, ℕ, ◌+◌, ◌<◌, ◌≤◌, Bool,
 use Rattle.std.specs.Prelude.{nat_le, if◌then◌else◌}
 use Rattle.std.proofs.lemmas.Bool.Decides.{nat_tests}
 use Rattle.allocator_api2.specs.Growth.{amortized, least_of}
-use Rattle.allocator_api2.specs.Vector.{Vector, len, GrowsTo, SameBlock, Writes}
+use Rattle.allocator_api2.specs.Vector.{Vector, len, GrowsTo, SameBlock, Writes, with_room}
 use Rattle.allocator_api2.specs.declared.raw_vec.Growth.TheVariants.{Doubling}
 use Rattle.ex_inline.specs.Inlined.{Inlined, block_of, grown_to, in_block}
-use Rattle.aa_vec.proofs.Climbing.{MakesRoom}
 
-enough : (n c a b : ℕ) → n ≤ c → (if nat_le n c then a else b) ≡ a
-enough n c a b h = grind (arith, nat_tests)
-
-too_few : (n c a b : ℕ) → c < n → (if nat_le n c then a else b) ≡ b
-too_few n c a b h = grind (arith, nat_tests)
-
-module _ {T A : Type 0} (size needed : ℕ) (heap roomy : Vector T A) (none : heap.items ≡ []) where
-  capacity : heap.growth ≡ Doubling → MakesRoom size heap (len heap) needed roomy → roomy.capacity ≡ (if nat_le needed heap.capacity then heap.capacity else grown_to size heap.capacity needed)
-  capacity doubles room =
+module _ {T A : Type 0} (size needed : ℕ) (heap roomy : Vector T A) (none : heap.items ≡ []) (room : SameBlock (with_room size heap (len heap) needed) roomy) where
+  capacity : heap.growth ≡ Doubling → roomy.capacity ≡ (if nat_le needed heap.capacity then heap.capacity else grown_to size heap.capacity needed)
+  capacity doubles =
       let all : length heap.items + needed ≡ needed = omega (arith, ap length none) in
-      elim room [
-        | inl h ↦ h.1.capacity ∙ sym (enough needed heap.capacity heap.capacity (grown_to size heap.capacity needed) (omega (arith, h.0)))
-        | inr h ↦ h.1.capacity ∙ ap (λ g. amortized g heap.capacity (length heap.items + needed) (least_of size)) doubles ∙ ap (λ k. grown_to size heap.capacity k) all
-            ∙ sym (too_few needed heap.capacity heap.capacity (grown_to size heap.capacity needed) (omega (arith, h.0, ap length none)))
-      ]
+      room.capacity ∙ ap (λ n. if nat_le n heap.capacity then heap.capacity else amortized heap.growth heap.capacity n (least_of size)) all
+      ∙ ap (λ g. if nat_le needed heap.capacity then heap.capacity else amortized g heap.capacity needed (least_of size)) doubles
 
-  grown : MakesRoom size heap (len heap) needed roomy → roomy.grown ≡ heap.grown
-  grown room = elim room [ inl h ↦ h.1.grown | inr h ↦ omega (arith, h.1.grown, ap length none) ]
-
-  alloc : MakesRoom size heap (len heap) needed roomy → roomy.alloc ≡ heap.alloc
-  alloc room = elim room [ inl h ↦ h.1.alloc | inr h ↦ h.1.alloc ]
+  grown : roomy.grown ≡ heap.grown
+  grown = let empty = ap length none in let e = room.grown in grind (arith, nat_tests)
 
 -- the items that stood in place were moved into the block that was made for them
 pub spilled : {T A : Type 0} (size needed : ℕ) (b : Bool) (few : List T) (heap roomy poured : Vector T A) → b ≡ false → heap.items ≡ [] → heap.growth ≡ Doubling → GrowsTo size heap needed heap.items roomy → Writes heap 0 0 roomy
@@ -44,7 +31,7 @@ spilled {T} {A} size needed b few heap roomy poured off none doubles grows reser
     λ i. record {
       items = same i;
       spilled = true;
-      block = (block.capacity ∙ capacity size needed heap roomy none doubles grows.room) i;
+      block = (block.capacity ∙ capacity size needed heap roomy none grows.room doubles) i;
       moved = more i;
-      alloc = (block.alloc ∙ alloc size needed heap roomy none grows.room) i;
+      alloc = (block.alloc ∙ grows.room.alloc) i;
     } in moved_there ∙ ap (in_block size needed) seen

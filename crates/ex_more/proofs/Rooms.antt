@@ -8,10 +8,7 @@ module _ {T A : Type 0} (size n : ℕ) (old mid : Vector T A) (made : GrowsTo si
   GrowsTo_then : (new : Vector T A) (zs : List T) → SameBlock mid new → new.items ≡ zs → GrowsTo size old n zs new
   GrowsTo_then new zs b is = record {
     items = is;
-    room = elim made.room [
-      | inl r ↦ inl (r.0, record { capacity = b.capacity ∙ r.1.capacity; growth = b.growth ∙ r.1.growth; grown = b.grown ∙ r.1.grown; alloc = b.alloc ∙ r.1.alloc })
-      | inr r ↦ inr (r.0, record { has_size = r.1.has_size; capacity = b.capacity ∙ r.1.capacity; growth = b.growth ∙ r.1.growth; grown = b.grown ∙ r.1.grown; alloc = b.alloc ∙ r.1.alloc })
-    ];
+    room = search (callers, made.room, b);
   }
 
   module _ (next : Vector T A) (xs : List T) (first : Holds mid (mid.items ++ xs) next) where
