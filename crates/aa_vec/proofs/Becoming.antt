@@ -24,12 +24,13 @@ module _ {T A : Type 0} (old : Vector T A) (xs : List T) (n k : ℕ) (new : Vect
     Writes-grown e = record { written = ap (λ v. v.written) e; runs = ap (λ v. v.runs) e }
 
     -- where there was room, the block stays
+    pub Holds-fits : GrowsTo size old more xs new → HasRoom old more → length old.items ≤ old.capacity → Holds old xs new
+    Holds-fits g fits within = record { items = g.items; block = MakesRoom-stays size (length old.items) more old new g.room (omega (arith, fits, within)) }
+
     pub Holds-within : Becomes (with_room size old (length old.items) more) xs n k new → 0 < more → HasRoom old more → Holds old xs new
-    Holds-within e some fits =
-        let within : length old.items + more ≤ old.capacity = omega (arith, some, fits) in
-        record { items = ap (λ v. v.items) e; block = MakesRoom-stays size (length old.items) more old new (GrowsTo-becomes e).room within }
+    Holds-within e some fits = Holds-fits (GrowsTo-becomes e) fits (omega (arith, some, fits))
 
 -- an equation from what a call did, and back
 pub ruleset becomes = (Becomes-holds, Becomes-grows)
 
-pub ruleset became = (Holds-becomes, Writes-becomes, GrowsTo-becomes, Writes-grown, Holds-within)
+pub ruleset became = (Holds-becomes, Writes-becomes, GrowsTo-becomes, Writes-grown, Holds-fits, Holds-within)

@@ -233,11 +233,13 @@ fn next_count(done: usize, left: usize) -> usize
 }
 
 // Puts copies of all of `source` behind the last element of a vector that has room for them.
+#[tactic(auto, using(aa_vec::proofs::Becoming::became))]
 fn put_copies<T: Copy, A: Allocator>(made: &mut Vec<T, A>, source: &[T])
     requires room { HasRoom made.old (length source.now) }
     ensures items { Holds made.old (made.old.items ++ source.now) made.new }
     ensures writes { WritesAtMost made.old (length source.now) made.new }
 {
+    let _within = made.capacity();
     match made.extend_from_slice_copied(source) {
         Ok(()) => {}
         Err(_) => unreachable!(),
@@ -246,12 +248,14 @@ fn put_copies<T: Copy, A: Allocator>(made: &mut Vec<T, A>, source: &[T])
 
 // Puts copies of its own first `count` elements behind the last one of a vector that has room for
 // them.
+#[tactic(auto, using(aa_vec::proofs::Becoming::became))]
 fn put_again<T: Copy, A: Allocator>(made: &mut Vec<T, A>, count: usize)
     requires within { count ≤ len made.old }
     requires room { HasRoom made.old count }
     ensures items { Holds made.old (made.old.items ++ take count made.old.items) made.new }
     ensures writes { WritesAtMost made.old count made.new }
 {
+    let _within = made.capacity();
     match made.extend_from_within_copied(0..count) {
         Ok(()) => {}
         Err(_) => unreachable!(),
