@@ -137,7 +137,7 @@ module _ {F T : Type 0} (Asks : F → T → Bool → F → T → Type 0) where
     runs_along s (x ∷ xs) later y = omega (arith, runs_along y.0 xs later y.2, y.1.writes.runs, few_runs (extract_count s.by) (length (passed_over y.1.told)), y.1.count, ap length y.1.cases.0)
 
     pub extracts_along : (s : ExtractIf T F A) → ExtractsAlong Asks s
-    extracts_along s xs later y = (along s s [] xs later (ExtractedTo-none s.f s.by) y, runs_along s xs later y)
+    extracts_along s = record { along = λ xs later y. (along s s [] xs later (ExtractedTo-none s.f s.by) y, runs_along s xs later y) }
 
     -- a call comes nearer to the end
     pub extracts_progress : (Takes : F → T → Type 0) (s t : ExtractIf T F A) (r : Option T) → Extracts Asks s.f s.by r t.f t.by → IsCallableInOrder Asks Takes s.f (extract_rest s.by)
