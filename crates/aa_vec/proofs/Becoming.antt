@@ -1,5 +1,5 @@
 -- What a vector becomes, as one equation and by its parts.
-use Rattle.aa_vec.proofs.Common.{ℕ, ◌+◌, ◌<◌, ◌≤◌, List, length, ap, arith, Vector, GrowsTo, HasRoom, Holds, Writes, with_room}
+use Rattle.aa_vec.proofs.Common.{ℕ, ◌+◌, List, length, ap, Vector, GrowsTo, HasRoom, Holds, Writes, with_room}
 use Rattle.aa_vec.proofs.Climbing.{MakesRoom-stays}
 use Rattle.aa_vec.specs.Vector.{Becomes}
 
@@ -24,11 +24,11 @@ module _ {T A : Type 0} (old : Vector T A) (xs : List T) (n k : ℕ) (new : Vect
     Writes-grown e = record { written = ap (λ v. v.written) e; runs = ap (λ v. v.runs) e }
 
     -- where there was room, the block stays
-    pub Holds-fits : GrowsTo size old more xs new → HasRoom old more → length old.items ≤ old.capacity → Holds old xs new
-    Holds-fits g fits within = record { items = g.items; block = MakesRoom-stays size (length old.items) more old new g.room (omega (arith, fits, within)) }
+    pub Holds-fits : GrowsTo size old more xs new → HasRoom old more → Holds old xs new
+    Holds-fits g fits = record { items = g.items; block = MakesRoom-stays size (length old.items) more old new g.room fits }
 
-    pub Holds-within : Becomes (with_room size old (length old.items) more) xs n k new → 0 < more → HasRoom old more → Holds old xs new
-    Holds-within e some fits = Holds-fits (GrowsTo-becomes e) fits (omega (arith, some, fits))
+    pub Holds-within : Becomes (with_room size old (length old.items) more) xs n k new → HasRoom old more → Holds old xs new
+    Holds-within e fits = Holds-fits (GrowsTo-becomes e) fits
 
 -- an equation from what a call did, and back
 pub ruleset becomes = (Becomes-holds, Becomes-grows)

@@ -30,23 +30,26 @@ module _ {T A : Type 0} where
   MakesRoomTwice-same size n h r {u} {v} b m = MakesRoom-same size (n + h) r (MakesRoom-same size n h b (SameBlock-refl (with_room size v n h))) m
 
   -- there is room for all, and no less than before
-  pub MakesRoom-fits : (size n k : ℕ) (v w : Vector T A) → MakesRoom size v n k w → n + k ≤ w.capacity
-  MakesRoom-fits size n k v w m =
+  pub MakesRoom-has : (size n k : ℕ) (v w : Vector T A) → MakesRoom size v n k w → k ≤ w.capacity - n
+  MakesRoom-has size n k v w m =
       let enough = amortized-enough v.growth v.capacity (n + k) (least_of size) in grind (arith, nat_tests)
+
+  pub MakesRoom-fits : (size n k : ℕ) (v w : Vector T A) → MakesRoom size v n k w → n ≤ w.capacity → n + k ≤ w.capacity
+  MakesRoom-fits size n k v w m l = omega (arith, MakesRoom-has size n k v w m)
 
   pub MakesRoom-rises : (size n k : ℕ) (v w : Vector T A) → MakesRoom size v n k w → v.capacity ≤ w.capacity
   MakesRoom-rises size n k v w m =
       let enough = amortized-enough v.growth v.capacity (n + k) (least_of size) in grind (arith, nat_tests)
 
   -- where they fit, nothing changes
-  pub with_room-fits : (size : ℕ) (v : Vector T A) (n k : ℕ) → n + k ≤ v.capacity → SameBlock (with_room size v n k) v
+  pub with_room-fits : (size : ℕ) (v : Vector T A) (n k : ℕ) → k ≤ v.capacity - n → SameBlock (with_room size v n k) v
   with_room-fits size v n k h = record { capacity = grind (arith, nat_tests); growth = refl; grown = grind (arith, nat_tests); alloc = refl }
 
-  pub MakesRoom-stays : (size n k : ℕ) (v w : Vector T A) → MakesRoom size v n k w → n + k ≤ v.capacity → SameBlock v w
+  pub MakesRoom-stays : (size n k : ℕ) (v w : Vector T A) → MakesRoom size v n k w → k ≤ v.capacity - n → SameBlock v w
   MakesRoom-stays size n k v w m h = record { capacity = grind (arith, nat_tests); growth = m.growth; grown = grind (arith, nat_tests); alloc = m.alloc }
 
   -- else there was a growth
-  pub MakesRoom-grows : (size n k : ℕ) (v w : Vector T A) → MakesRoom size v n k w → v.capacity < n + k → (w.capacity ≡ amortized v.growth v.capacity (n + k) (least_of size)) × (w.grown ≡ v.grown + n)
+  pub MakesRoom-grows : (size n k : ℕ) (v w : Vector T A) → MakesRoom size v n k w → v.capacity - n < k → (w.capacity ≡ amortized v.growth v.capacity (n + k) (least_of size)) × (w.grown ≡ v.grown + n)
   MakesRoom-grows size n k v w m h = (grind (arith, nat_tests), grind (arith, nat_tests))
 
   -- items put behind others, and those behind the items there were
@@ -104,7 +107,7 @@ module _ {T A : Type 0} (size : ℕ) (lower : ℕ → ℕ) (needed : ℕ) where
       let left : ℕ = needed - u.capacity in
       let asked : asked_for lower left ≡ left = ap (λ n. min (n + 1) usize_max) (exact (left - 1)) ∙ omega (arith, h, few) in
       let made : MakesRoom size u u.capacity left mid = subst (λ k. MakesRoom size u u.capacity k mid) asked m in
-      SameBlock-trans made (Climbs-fits r (omega (arith, h, MakesRoom-fits size u.capacity left u mid made)))
+      SameBlock-trans made (Climbs-fits r (omega (arith, h, MakesRoom-fits size u.capacity left u mid made (MakesRoom-rises size u.capacity left u mid made))))
 
 -- what came from an iterator is a list that was put there, and what was taken of it is one of which the last found no place
 module _ {S T A : Type 0} (steps : S → Option T → S → Type 0) (Tells : S → ℕ → Type 0) (size : ℕ) (iter : S) (old new : Vector T A) where

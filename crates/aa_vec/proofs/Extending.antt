@@ -156,7 +156,7 @@ module _ {S T : Type 0} (steps : S → Option T → S → Type 0) (Tells : S →
             let asked : k ≡ asked_for next_lower (len old + length next_front - v.capacity) = e ∙ ap (asked_for next_lower) (sym one_left) in
             let m : MakesRoom size v v.capacity (asked_for next_lower (len old + length next_front - v.capacity)) w =
             subst (λ j. MakesRoom size v j (asked_for next_lower (len old + length next_front - v.capacity)) w) full (subst (λ j. MakesRoom size v (len v) j w) asked g.room) in
-            let room : len w < w.capacity = omega (arith, e, full, ap length g.items, MakesRoom-fits size (len v) k v w g.room) in
+            let room : len w < w.capacity = omega (arith, e, full, ap length g.items, MakesRoom-fits size (len v) k v w g.room (omega (arith, full, MakesRoom-rises size (len v) k v w g.room))) in
             let climbs : Climbs size next_lower (len old + length next_front) old w = Climbs-more size next_lower (len old + length next_front) climbed (omega (arith, full, count, longer)) m in
             let i : new.items ≡ old.items ++ next_front = holds.items ∙ ap (λ ys. ys ++ x ∷ []) (g.items ∙ p.items) ∙ append_assoc old.items p.front (x ∷ []) in
             record {

@@ -123,7 +123,7 @@ module _ {T A : Type 0} (size : ℕ) (old w x : Vector T A) (gap n : ℕ) (few :
   widen_stands = let P : ℕ → Type 0 = λ k. StandsBehind x 0 k in subst P at_end sets.stands
 
   pub widen_room : len x + gap + n ≤ x.capacity
-  widen_room = omega (arith, MakesRoom-fits size (len old) gap old w g.room, shorter, few, sets.holds.block.capacity)
+  widen_room = omega (arith, MakesRoom-fits size (len old) gap old w g.room (omega (arith, widen_stands.0, shorter, few, sets.holds.block.capacity)), shorter, few, sets.holds.block.capacity)
 
   pub Widens-opened : (y : Vector T A) → OpensGap x gap n y → Widens size old gap n y
   Widens-opened y o =

@@ -100,7 +100,7 @@ module _ {S T A : Type 0} (steps : S → Option T → S → Type 0) (Tells : S �
           let none : len made ≡ 0 = ap length new.items in
           let climbs : Climbs size f.0 (length nil + length all) made x = elim (cases_lt made.capacity (len made + wanted)) [
             | inr h ↦
-                let b = MakesRoom-stays size (len made) wanted made v g.room h in
+                let b = MakesRoom-stays size (len made) wanted made v g.room (omega (arith, h)) in
                 Climbs-counted size f.0 f.0 (length nil + length all) 0 (length nil + length all) b (omega arith) (λ k _. ap f.0 (omega arith)) rest
             | inl h ↦
                 let no_places : made.capacity ≡ 0 = new.capacity ∙ unequal size 0 usize_max 0 (λ z. absurd (omega (arith, h, is, none, new.capacity ∙ equal size 0 usize_max 0 z))) in

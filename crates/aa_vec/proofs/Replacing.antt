@@ -3,7 +3,7 @@ use Rattle.aa_vec.proofs.Common.{◌≡◌, ℕ, ◌+◌, ◌-◌, ◌*◌, ◌<
 use Rattle.std.proofs.Math.Nat.{add-mul}
 use Rattle.aa_vec.specs.Filling.{PutsRest, LacksRest, PutsWithin}
 use Rattle.aa_vec.proofs.Closed.{moved_none, moved_some, moved_most, one_run}
-use Rattle.aa_vec.proofs.Climbing.{MakesRoom, MakesRoom-same, MakesRoom-fits, with_room-fits, SameBlock-refl, SameBlock-trans}
+use Rattle.aa_vec.proofs.Climbing.{MakesRoom, MakesRoom-same, with_room-fits, SameBlock-refl, SameBlock-trans}
 use Rattle.aa_vec.proofs.Drained.{still_are, still_stand}
 use Rattle.aa_vec.proofs.Filling.{Yields-join}
 use Rattle.aa_vec.proofs.Extending.{Yields-told}
@@ -139,7 +139,7 @@ module _ {S T A : Type 0} (steps : S → Option T → S → Type 0) (Tells : S �
         given = f.comes.given;
         ends = ended;
         items = z_items;
-        room = MakesRoom-same size (len old + told) (length came - told) z_room (with_room-fits size z _ _ (omega (arith, f.comes.count, MakesRoom-fits size (len old) told old z z_room)));
+        room = MakesRoom-same size (len old + told) (length came - told) z_room (with_room-fits size z _ _ (omega (arith, f.comes.count)));
         written = z_written ∙ ap (λ k. old.written + k) (moves_told told left (length came) n f.comes.count);
       };
       writes = within;

@@ -1,6 +1,7 @@
 -- Room that the block made for a vector.
 use Rattle.aa_vec.proofs.Common.{◌≡◌, ℕ, ◌+◌, ◌-◌, ◌<◌, ◌≤◌, [], ◌∷◌, ◌++◌, Some, length, refl, ap, ◌∙◌, arith, if◌then◌else◌, ◌==◌, slice_set, Block, wrote, IsRun, run, moved, amortized, least_of, length-run, Vector, len, run_count, with_room, view_of, IsFront, Inside}
-use Rattle.std.specs.Prelude.{insert}
+use Rattle.std.specs.Prelude.{insert, nat_le}
+use Rattle.std.proofs.lemmas.Bool.Decides.{nat_tests}
 use Rattle.std.proofs.lemmas.List.{length-set}
 use Rattle.aa_raw.specs.Block.{Reserves}
 use Rattle.aa_raw.proofs.Calls.{run-put, run-reserved, IsRun-reserved}
@@ -10,6 +11,10 @@ use Rattle.aa_vec.proofs.Becoming.{Becomes-grows}
 use Rattle.aa_vec.proofs.Climbing.{MakesRoom}
 use Rattle.aa_vec.proofs.Lists.{unequal}
 
+-- beside n of c places, k more fit
+same_test : (n k c a b : ℕ) → n ≤ c → (if nat_le (n + k) c then a else b) ≡ (if nat_le k (c - n) then a else b)
+same_test n k c a b h = grind (arith, nat_tests)
+
 module _ {T A : Type 0} (size : ℕ) (old : Inside T A) (front : IsFront old) (k : ℕ) (b : Block T A) where
   count : len (view_of old) ≡ old.len
   count = length-run old.block.places 0 old.len front
@@ -17,7 +22,14 @@ module _ {T A : Type 0} (size : ℕ) (old : Inside T A) (front : IsFront old) (k
   -- the vector has the room that its block made
   pub MakesRoom-block : Reserves size old.block old.len k (amortized old.block.growth (length old.block.places) (old.len + k) (least_of size)) b
       → (new : Vector T A) → new.capacity ≡ length b.places → new.growth ≡ b.growth → new.grown ≡ b.grown → new.alloc ≡ b.alloc → MakesRoom size (view_of old) (len (view_of old)) k new
-  MakesRoom-block made new c h g a = rw count (record { capacity = c ∙ made.capacity; growth = h ∙ made.growth; grown = g ∙ made.grown; alloc = a ∙ made.alloc })
+  MakesRoom-block made new c h g a =
+      let places : ℕ = length old.block.places in
+      rw count (record {
+        capacity = c ∙ made.capacity ∙ same_test old.len k places _ _ (omega (arith, front.0));
+        growth = h ∙ made.growth;
+        grown = g ∙ made.grown ∙ same_test old.len k places _ _ (omega (arith, front.0));
+        alloc = a ∙ made.alloc;
+      })
 
 -- room for one more, and one more element in it
 pub Becomes-put : {T A : Type 0} (size : ℕ) (old : Inside T A) (front : IsFront old) (b : Block T A) (x : T)

@@ -34,18 +34,18 @@ module _ {T A : Type 0} where
   abbrev pub with_room : (size : ℕ) → Vector T A → (n k : ℕ) → Vector T A
   with_room size v n k =
       record v {
-        capacity = if nat_le (n + k) v.capacity
+        capacity = if nat_le k (v.capacity - n)
             then v.capacity
             else amortized v.growth v.capacity (n + k) (least_of size);
-        grown = if nat_le (n + k) v.capacity then v.grown else v.grown + n;
+        grown = if nat_le k (v.capacity - n) then v.grown else v.grown + n;
       }
 
   -- the same, where a growth makes room for just the n and k
   abbrev pub with_exact_room : Vector T A → (n k : ℕ) → Vector T A
   with_exact_room v n k =
       record v {
-        capacity = if nat_le (n + k) v.capacity then v.capacity else n + k;
-        grown = if nat_le (n + k) v.capacity then v.grown else v.grown + n;
+        capacity = if nat_le k (v.capacity - n) then v.capacity else n + k;
+        grown = if nat_le k (v.capacity - n) then v.grown else v.grown + n;
       }
 
   -- k more than old has did not fit, and a growth with room to spare was refused with this error

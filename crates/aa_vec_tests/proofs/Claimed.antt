@@ -19,11 +19,11 @@ use Rattle.aa_vec.proofs.SplicedItems.{SplicesAll-items, items-written}
 
 module _ {T A : Type 0} {g : Growth} (v w : Vector T A) (c n k : ℕ) (places : v.capacity ≡ c) (grows : v.growth ≡ g) (room : MakesRoom 4 v n k w) where
   -- room that is there is kept
-  pub kept_at : n + k ≤ c → (w.capacity ≡ c) × (w.growth ≡ g) × (w.grown ≡ v.grown)
+  pub kept_at : k ≤ c - n → (w.capacity ≡ c) × (w.growth ≡ g) × (w.grown ≡ v.grown)
   kept_at fits = let b = MakesRoom-stays 4 n k v w room (omega (arith, fits, places)) in (b.capacity ∙ places, b.growth ∙ grows, b.grown)
 
   -- and else a block of elements of 4 bytes grows, or takes what is needed
-  pub grows_to : c < n + k → (w.capacity ≡ amortized g c (n + k) 4) × (w.growth ≡ g) × (w.grown ≡ v.grown + n)
+  pub grows_to : c - n < k → (w.capacity ≡ amortized g c (n + k) 4) × (w.growth ≡ g) × (w.grown ≡ v.grown + n)
   grows_to lacks =
       let b = MakesRoom-grows 4 n k v w room (omega (arith, lacks, places)) in
       (b.0 ∙ ap (λ h. amortized h v.capacity (n + k) 4) grows ∙ ap (λ m. amortized g m (n + k) 4) places, room.growth ∙ grows, b.1)
@@ -123,11 +123,11 @@ module _ {T A : Type 0} (g : Growth) (old : Vector T A) where
 
       by_test : (b : Bool) → nat_lt k (reached g k).0 ≡ b → IsPushed (suc k) w
       by_test true e =
-          let fits : len v + 1 ≤ (reached g k).0 = let count = p.count in grind (arith, nat_tests) in
+          let fits : 1 ≤ (reached g k).0 - len v = let count = p.count in grind (arith, nat_tests) in
           let d = kept_at v w (reached g k).0 (len v) 1 p.capacity p.growth room fits in
           record { count = counts; growth = d.1; capacity = rw e d.0; grown = rw e (d.2 ∙ p.grown) }
       by_test false e =
-          let lacks : (reached g k).0 < len v + 1 = let count = p.count in grind (arith, nat_tests) in
+          let lacks : (reached g k).0 - len v < 1 = let count = p.count in grind (arith, nat_tests) in
           let d = grows_to v w (reached g k).0 (len v) 1 p.capacity p.growth room lacks in
           let count = p.count in
           let grown = p.grown in

@@ -3,7 +3,7 @@ use Rattle.allocator_api2.proofs.Common.{◌≡◌, ℕ, ◌+◌, ◌*◌, ◌-�
 use Rattle.aa_raw.specs.Growth.{amortized}
 use Rattle.aa_vec.specs.Extending.{stays, grows, asked_for}
 use Rattle.std.proofs.lemmas.Bool.{cases_lt}
-use Rattle.aa_vec.proofs.Climbing.{Climbs-growth, MakesRoom-fits, MakesRoom-stays, MakesRoom-grows, amortized-enough}
+use Rattle.aa_vec.proofs.Climbing.{Climbs-growth, MakesRoom-fits, MakesRoom-rises, MakesRoom-stays, MakesRoom-grows, amortized-enough}
 use Rattle.allocator_api2.proofs.Steps.{Change}
 
 -- c places were not enough for `needed` elements: of what was moved by then, the new capacity pays all but the last move
@@ -50,10 +50,10 @@ module _ {T A : Type 0} (size : ℕ) (G : Growth) (paid : ℕ) where
   IsPaid-grows n k old xs new p e g =
       let l : len new ≡ len old + k = ap length g.items ∙ e in
       elim (cases_lt old.capacity (len old + k)) [
-        | inr le ↦ IsPaid-same n k old new p (MakesRoom-stays size (len old) k old new g.room le) (omega arith) (omega (arith, p.fits, le))
+        | inr le ↦ IsPaid-same n k old new p (MakesRoom-stays size (len old) k old new g.room (omega (arith, le))) (omega arith) (omega (arith, p.fits, le))
         | inl lt ↦
             let m : ℕ = least_of size in
-            let b = MakesRoom-grows size (len old) k old new g.room lt in
+            let b = MakesRoom-grows size (len old) k old new g.room (omega (arith, lt, p.fits)) in
             let c : new.capacity ≡ amortized G old.capacity (len old + k) m = b.0 ∙ ap (λ x. amortized x old.capacity (len old + k) m) p.growth in
             record {
               growth = g.room.growth ∙ p.growth;
@@ -72,10 +72,10 @@ module _ {T A : Type 0} (size : ℕ) (G : Growth) (paid : ℕ) where
   climb_paid lower needed k u v (grows {mid = mid} lt m r) h g p q =
       let c : ℕ = u.capacity in let more : ℕ = asked_for lower (needed - c) in let least : ℕ = least_of size in
       let some : c < c + more = omega arith in
-      let b = MakesRoom-grows size c more u mid m some in
+      let b = MakesRoom-grows size c more u mid m (omega arith) in
       let places : mid.capacity ≡ amortized G c (c + more) least = b.0 ∙ ap (λ x. amortized x c (c + more) least) g in
       let rises : mid.capacity ≤ v.capacity = Climbs-rises size lower needed r in
-      let enough : c + more ≤ mid.capacity = MakesRoom-fits size c more u mid m in
+      let enough : c + more ≤ mid.capacity = MakesRoom-fits size c more u mid m (MakesRoom-rises size c more u mid m) in
       climb_paid lower needed k mid v r h (m.growth ∙ g)
       (rw (b.1, places) (grown_pays G paid u.grown c c (c + more) least (omega arith) some p))
       (rw b.1 (all_pays G paid u.grown c c k (omega (arith, h, lt, rises, enough)) (omega (arith, h, lt, rises, enough)) p))
@@ -114,8 +114,8 @@ module _ {T A : Type 0} (size : ℕ) where
       let c : ℕ = u.capacity in let more : ℕ = asked_for (lower_by None) (needed - c) in let least : ℕ = least_of size in
       let some : c < c + more = omega arith in
       let rises : mid.capacity ≤ v.capacity = Climbs-rises size (lower_by None) needed r in
-      let enough : c + more ≤ mid.capacity = MakesRoom-fits size c more u mid m in
-      let b = (MakesRoom-grows size c more u mid m some).0 in
+      let enough : c + more ≤ mid.capacity = MakesRoom-fits size c more u mid m (MakesRoom-rises size c more u mid m) in
+      let b = (MakesRoom-grows size c more u mid m (omega arith)).0 in
       climb_placed needed most mid v r h (rw b (amortized-within u.growth c (c + more) least most some (omega (arith, h, lt, rises, enough)) (least_of-le size)))
 
   IsPlaced-climbs : (needed most : ℕ) (old new : Vector T A) → IsPlaced most old → Climbs size (lower_by None) needed old new → len new ≤ new.capacity → min needed new.capacity ≤ len new → IsPlaced (max most (len new)) new
@@ -125,11 +125,11 @@ module _ {T A : Type 0} (size : ℕ) where
   IsPlaced-grows : (most k : ℕ) (old : Vector T A) (xs : List T) (new : Vector T A) → IsPlaced most old → length xs ≡ len old + k → GrowsTo size old k xs new → IsPlaced (max most (len new)) new
   IsPlaced-grows most k old xs new p e g =
       let l : len new ≡ len old + k = ap length g.items ∙ e in
-      let fits : len new ≤ new.capacity = omega (arith, l, MakesRoom-fits size (len old) k old new g.room) in
+      let fits : len new ≤ new.capacity = omega (arith, l, MakesRoom-fits size (len old) k old new g.room (omega (arith, p.fits, MakesRoom-rises size (len old) k old new g.room))) in
       elim (cases_lt old.capacity (len old + k)) [
-        | inr le ↦ record { fits = fits; capacity = omega (arith, (MakesRoom-stays size (len old) k old new g.room le).capacity, p.capacity) }
+        | inr le ↦ record { fits = fits; capacity = omega (arith, (MakesRoom-stays size (len old) k old new g.room (omega (arith, le))).capacity, p.capacity) }
         | inl lt ↦
-            let b = (MakesRoom-grows size (len old) k old new g.room lt).0 in
+            let b = (MakesRoom-grows size (len old) k old new g.room (omega (arith, lt, p.fits))).0 in
             record { fits = fits; capacity = rw (l, b) (amortized-within old.growth old.capacity (len old + k) (least_of size) (max most (len old + k)) lt (omega arith) (least_of-le size)) }
       ]
 

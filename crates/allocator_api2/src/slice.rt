@@ -239,7 +239,6 @@ fn put_copies<T: Copy, A: Allocator>(made: &mut Vec<T, A>, source: &[T])
     ensures items { Holds made.old (made.old.items ++ source.now) made.new }
     ensures writes { WritesAtMost made.old (length source.now) made.new }
 {
-    let _within = made.capacity();
     match made.extend_from_slice_copied(source) {
         Ok(()) => {}
         Err(_) => unreachable!(),
@@ -255,7 +254,6 @@ fn put_again<T: Copy, A: Allocator>(made: &mut Vec<T, A>, count: usize)
     ensures items { Holds made.old (made.old.items ++ take count made.old.items) made.new }
     ensures writes { WritesAtMost made.old count made.new }
 {
-    let _within = made.capacity();
     match made.extend_from_within_copied(0..count) {
         Ok(()) => {}
         Err(_) => unreachable!(),

@@ -11,7 +11,9 @@ module _ {T A : Type 0} (size needed : ℕ) (heap roomy : Vector T A) (none : he
   capacity : heap.growth ≡ Doubling → roomy.capacity ≡ (if nat_le needed heap.capacity then heap.capacity else grown_to size heap.capacity needed)
   capacity doubles =
       let all : length heap.items + needed ≡ needed = omega (arith, ap length none) in
-      room.capacity ∙ ap (λ n. if nat_le n heap.capacity then heap.capacity else amortized heap.growth heap.capacity n (least_of size)) all
+      let free : heap.capacity - length heap.items ≡ heap.capacity = omega (arith, ap length none) in
+      room.capacity ∙ ap (λ c. if nat_le needed c then heap.capacity else amortized heap.growth heap.capacity (length heap.items + needed) (least_of size)) free
+      ∙ ap (λ n. if nat_le needed heap.capacity then heap.capacity else amortized heap.growth heap.capacity n (least_of size)) all
       ∙ ap (λ g. if nat_le needed heap.capacity then heap.capacity else amortized g heap.capacity needed (least_of size)) doubles
 
   grown : roomy.grown ≡ heap.grown
