@@ -1,9 +1,9 @@
 -- What the walks of `allocate` and `deallocate` have in common. Assumes `Logic`.
 --     Wa     the watch's row, with what a statement assumes of it
---     generics, inner_of, watch_of     the type arguments of both, and where the fields of a `Watched` lie.        watched_by     a `&` to the watch
+--     generics, watch_of     the type arguments of both, and where the watch of a `Watched` lies.        watched_by     a `&` to the watch
 --     reaches      a `&Watched` is a `&` to each of its fields
 --     Asks, Notes      the contract of `refuses`, and the one that `grants` and `takes_back` share.        asking, asks     what a call of either is given, and what it is handed
-use Rattle.ex_watched.proofs.Walk.{ℕ, ◌+◌, ◌<◌, ◌^◌, List, [], ◌∷◌, refl, w64, Bor, Al, α, seen, Ura, Args, Dict, a_type, dnil, dcons, named, Val, vint, vptr, Fml, Lft, Share, flft, SProp, ent, emp, sep, ◌⊑◌, ⊑_refl, Fun, fact, fact_i, Memory, size, align, up, Routine, ‵, raw, ◌⊛◌, ◌$◌, ◌∵◌, !, qed, move, keep, drop, use0, use1, split, join, fsplit, fjoin, feq_i, flt_i, done, Logic, sem, hidden_shr, unhide, bounded, param, layout, Laws, RattleType, ShrRef, shr_vals, nothing, triple_of, Contract}
+use Rattle.ex_watched.proofs.Walk.{ℕ, ◌+◌, ◌<◌, ◌^◌, List, [], ◌∷◌, refl, w64, Bor, Al, α, seen, Ura, Args, Dict, a_type, dnil, dcons, named, Val, vint, vptr, Fml, Lft, Share, flft, SProp, ent, emp, sep, ◌⊑◌, ⊑_refl, Fun, fact, fact_i, Memory, size, align, up, Routine, ‵, raw, ◌⊛◌, ◌$◌, ◌∵◌, !, qed, move, keep, drop, use0, use1, split, join, fsplit, fjoin, feq_i, flt_i, done, Logic, sem, hidden_shr, unhide, bounded, param, layout, Laws, RattleType, ShrRef, shr_vals, nothing, triple_of, Contract, inner_of}
 use base.Share
 use Rattle.ex_watched.specs.declared.watched.Watch.{Ghosts}
 use Rattle.ex_watched.specs.contracts.watched.Watched as watched
@@ -17,22 +17,18 @@ pub record Wa : Type 2 where
   pub d : Dict
   pub drops : Dict
 
-module _ (Y : Wa) where
-  abbrev pub watched_by : Lft → Y.row.Denot → ℕ × ℕ → Fml
-  watched_by κ w at = hidden_shr Y.row κ w at.0 at.1
+abbrev pub watched_by : (Y : Wa) → Lft → Y.row.Denot → ℕ × ℕ → Fml
+watched_by Y κ w at = hidden_shr Y.row κ w at.0 at.1
 
 module _ (Z : Al) (Y : Wa) where
   abbrev pub generics : Args
   generics = bounded (a_type ∷ a_type ∷ []) (Z.row, (Y.row, tt)) (dcons Z.d (dcons Y.d (dcons Z.drops (dcons Y.drops dnil))))
 
-  abbrev pub inner_of : ℕ × ℕ → ℕ × ℕ
-  inner_of at = (at.0, at.1 + up (align (α Z)) 0)
-
   abbrev pub watch_of : ℕ × ℕ → ℕ × ℕ
   watch_of at = (at.0, at.1 + up (align (layout Y.row)) (up (align (α Z)) 0 + size (α Z)))
 
   pub reaches : {M : Type 1} {𝓤 : Ura M} (𝓛 : Logic 𝓤) (κ : Lft) (r : Bor (watched.the_row Z.row Y.row).Denot)
-      → ent 𝓤 (sem 𝓛 ((ShrRef (named 0) κ (watched.the_row (param 0 Z.row) (param 1 Y.row))).own_val r (shr_vals r))) (sep 𝓤 (sem 𝓛 (seen Z κ (inner_of r.ref_ptr) r.now.inner)) (sem 𝓛 (watched_by Y κ r.now.watch (watch_of r.ref_ptr))))
+      → ent 𝓤 (sem 𝓛 ((ShrRef (named 0) κ (watched.the_row (param 0 Z.row) (param 1 Y.row))).own_val r (shr_vals r))) (sep 𝓤 (sem 𝓛 (seen Z κ (inner_of Z r.ref_ptr) r.now.inner)) (sem 𝓛 (watched_by Y κ r.now.watch (watch_of r.ref_ptr))))
   reaches 𝓛 κ r =
       qed 𝓛 (‵ ((ShrRef (named 0) κ (watched.the_row (param 0 Z.row) (param 1 Y.row))).own_val r (shr_vals r)) ∷ []) ∵ fsplit ! $ drop ! $ unhide ! $ fsplit ! $ fsplit ! $ move ! (1 ∷ []) $ fsplit ! $ keep ! (2 ∷ 0 ∷ []) $ done !
 
