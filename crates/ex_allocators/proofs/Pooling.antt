@@ -3,39 +3,33 @@
 --     Shelved      the shelf, with a pool's right to free a block
 --     hands_shelf      a call of the shelf is handed what one of that allocator is, but names the handle's lifetime
 --     reaches      a `&Pool` is a `&` to its inner allocator and one to its shelf
-use Rattle.ex_watched.proofs.Walk.{ℕ, ◌+◌, [], ◌∷◌, refl, Bor, ◌++◌, Al, α, seen, Ura, named, Lft, SProp, ent, emp, sep, ◌⊑◌, ⊑_meet, ⊑_static, fact, fact_i, size, align, up, ‵, raw, ◌⊛◌, ◌$◌, ◌∵◌, !, qed, move, keep, drop, use0, use1, split3, fsplit, done, rewrite, Logic, sem, unhide, hide, param, layout, param_laws, RattleType, ShrRef, shr_vals, inner_of}
+use Rattle.ex_watched.proofs.Walk.{ℕ, ◌+◌, [], ◌∷◌, refl, Bor, ◌++◌, Al, α, seen, Ura, named, Lft, SProp, ent, emp, sep, ◌⊑◌, ⊑_meet, ⊑_static, fact, fact_i, size, align, up, ‵, raw, ◌⊛◌, ◌$◌, ◌∵◌, !, qed, move, keep, drop, use0, use1, split3, fsplit, done, rewrite, Logic, sem, unhide, hide, param, layout, param_laws, ShrRef, shr_vals, Signature, Bound, on_entry, inner_of}
 pub use Rattle.ex_allocators.proofs.Shelving.{block_unless, generics, right_to}
 use Rattle.ex_allocators.specs.contracts.pool.Pool as pool
 use Rattle.ex_allocators.specs.contracts.shelf.Shelf as shelf
 use Rattle.ex_allocators.proofs.shelf.Shelf.TheLaws.{the_row_laws}
 
 module _ (Z : Al) where
-  abbrev B : RattleType
-  B = param 0 Z.row
-
   abbrev pub shelf_of : ℕ × ℕ → ℕ × ℕ
-  shelf_of at = (at.0, at.1 + up (align (layout (shelf.the_row B Z.g))) (up 8 (up (align (α Z)) 0 + size (α Z)) + 8))
+  shelf_of at = (at.0, at.1 + up (align (layout (shelf.the_row (param 0 Z.row) Z.g))) (up 8 (up (align (α Z)) 0 + size (α Z)) + 8))
 
   -- the shelf, as an allocator: what it grants, a pool may free
   abbrev pub Shelved : Al
-  Shelved = record Z { row = shelf.the_row B Z.g; laws = the_row_laws B Z.g (param_laws 0 Z.row Z.laws); g = record { dealloc_token = λ heap. right_to (Z.g.dealloc_token heap) } }
+  Shelved = record Z { row = shelf.the_row (param 0 Z.row) Z.g; laws = the_row_laws (param 0 Z.row) Z.g (param_laws 0 Z.row Z.laws); g = record { dealloc_token = λ heap. right_to (Z.g.dealloc_token heap) } }
 
-  -- a lifetime within the handle's is within the shelf's
-  within : (κ : Lft) → κ ⊑ Z.row.lives → κ ⊑ Shelved.row.lives
-  within κ le =
+  pub hands_shelf : {M : Type 1} {𝓤 : Ura M} (𝓛 : Logic 𝓤) (κ : Lft) → κ ⊑ Z.row.lives → (S : Signature) (y : Bound 𝓛 S) {X : SProp 𝓤} (R : SProp 𝓤)
+      → (κ ⊑ Shelved.row.lives → ent 𝓤 X (sep 𝓤 (on_entry 𝓛 S y.0 y.1 y.3 y.4) (sep 𝓤 (fact 𝓤 (κ ⊑ Shelved.row.lives)) R)))
+      → ent 𝓤 X (sep 𝓤 (on_entry 𝓛 S y.0 y.1 y.3 y.4) (sep 𝓤 (fact 𝓤 (κ ⊑ Z.row.lives)) R))
+  hands_shelf {𝓤 = 𝓤} 𝓛 κ le S y {X} R goes =
       let L : Lft = Z.row.lives ++ [] in let one : κ ⊑ L = ⊑_meet κ Z.row.lives [] le (⊑_static κ) in
-      ⊑_meet κ L ((L ++ []) ++ []) one (⊑_meet κ (L ++ []) [] (⊑_meet κ L [] one (⊑_static κ)) (⊑_static κ))
-
-  pub hands_shelf : {M : Type 1} {𝓤 : Ura M} (𝓛 : Logic 𝓤) (κ : Lft) → κ ⊑ Z.row.lives → (X P R : SProp 𝓤)
-      → (κ ⊑ Shelved.row.lives → ent 𝓤 X (sep 𝓤 P (sep 𝓤 (fact 𝓤 (κ ⊑ Shelved.row.lives)) R))) → ent 𝓤 X (sep 𝓤 P (sep 𝓤 (fact 𝓤 (κ ⊑ Z.row.lives)) R))
-  hands_shelf {𝓤 = 𝓤} 𝓛 κ le X P R goes =
-      qed 𝓛 (raw X ∷ []) ∵ use1 𝓛 (raw P ⊛ raw (fact 𝓤 (κ ⊑ Shelved.row.lives)) ⊛ raw R) (goes (within κ le)) $ split3 ! $ move ! (1 ∷ []) $ drop ! $
-      use0 𝓛 (raw (fact 𝓤 (κ ⊑ Z.row.lives))) (fact_i 𝓤 (κ ⊑ Z.row.lives) (emp 𝓤) le) $ move ! (1 ∷ 0 ∷ 2 ∷ []) $ done !
+      let within : κ ⊑ Shelved.row.lives = ⊑_meet κ L ((L ++ []) ++ []) one (⊑_meet κ (L ++ []) [] (⊑_meet κ L [] one (⊑_static κ)) (⊑_static κ)) in
+      qed 𝓛 (raw X ∷ []) ∵ use1 𝓛 (raw (on_entry 𝓛 S y.0 y.1 y.3 y.4) ⊛ raw (fact 𝓤 (κ ⊑ Shelved.row.lives)) ⊛ raw R) (goes within) $ split3 ! $
+      move ! (1 ∷ []) $ drop ! $ use0 𝓛 (raw (fact 𝓤 (κ ⊑ Z.row.lives))) (fact_i 𝓤 (κ ⊑ Z.row.lives) (emp 𝓤) le) $ move ! (1 ∷ 0 ∷ 2 ∷ []) $ done !
 
   pub reaches : {M : Type 1} {𝓤 : Ura M} (𝓛 : Logic 𝓤) (κ : Lft) (r : Bor (pool.the_row Z.row Z.g).Denot)
-      → ent 𝓤 (sem 𝓛 ((ShrRef (named 0) κ (pool.the_row B Z.g)).own_val r (shr_vals r)))
+      → ent 𝓤 (sem 𝓛 ((ShrRef (named 0) κ (pool.the_row (param 0 Z.row) Z.g)).own_val r (shr_vals r)))
       (sep 𝓤 (sem 𝓛 (seen Z κ (inner_of Z r.ref_ptr) r.now.inner)) (sem 𝓛 (seen Shelved κ (shelf_of r.ref_ptr) r.now.inner)))
   reaches 𝓛 κ r =
-      qed 𝓛 (‵ ((ShrRef (named 0) κ (pool.the_row B Z.g)).own_val r (shr_vals r)) ∷ []) ∵
+      qed 𝓛 (‵ ((ShrRef (named 0) κ (pool.the_row (param 0 Z.row) Z.g)).own_val r (shr_vals r)) ∷ []) ∵
       fsplit ! $ drop ! $ unhide ! $ fsplit ! $ fsplit ! $ move ! (1 ∷ []) $ fsplit ! $ move ! (1 ∷ []) $ fsplit ! $ hide ! $
       rewrite ! 0 (λ (h : Z.row.Denot). ‵ (seen Shelved κ (shelf_of r.ref_ptr) h)) r.now.ours refl $ keep ! (3 ∷ 0 ∷ []) $ done !

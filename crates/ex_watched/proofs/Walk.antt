@@ -42,8 +42,9 @@ pub use denote.Plain.{uint_vals, uint_Tells}
 pub use denote.RattleType.{RattleType, owns}
 pub use denote.RawPtr.{RawPtr, Ptr, block_ptr, null_ptr, ptr_val, room_for, in_a_block, rawptr_vals, rawptr_Tells, rawptr_Lawful}
 pub use denote.Ref.{ShrRef, shr_vals}
-pub use denote.Signature.{Slot, types_at}
+pub use denote.Signature.{Signature, Slot, types_at}
 pub use denote.Steps.{nothing, only, heard}
+pub use denote.Triple.Bound.{Bound}
 pub use denote.Triple.Call.{calls_at, calls_at_last}
 pub use denote.Triple.Clauses.{Ended, Clauses, closing}
 pub use denote.Triple.End.{Kepts}

@@ -1,5 +1,5 @@
 -- A block of the shelf goes back to the inner allocator, as room for pointers. Assumes `Logic`.
-use Rattle.ex_watched.proofs.Walk.{◌≡◌, ℕ, ◌<◌, ◌^◌, Bool, List, [], ◌∷◌, refl, ap, w64, true, false, T, arith, lit<, subst, sym, ◌*◌, ◌/◌, ◌∙◌, ◌%◌, Al, seen, Answer-typed, at_takes, Answered, Takes-goes, Takes-gives, answers, Gives, at_gives, Gives-goes, Gives-Gives, after, front, arm_body, proved, inst_fn, Fn, Body, Ty, ty_array, ty_ptr, ty_unit, Val, vunit, vbool, WT, has_ty, ftrue, flft, froom, fwand, ◌⊑◌, ⊑_trans, fact, tables, Dv, dv_self, capped_is, size, align, capped, Env, Wp, after_seq, at_return, alloc_all, pass_all, free_all, look_at, get, get_in, get_tag, through, sets, sets_last, lands_as, env, lands_last, ‵, raw, ◌⊛◌, later, ◌$◌, ◌∵◌, !, qed, move, keep, drop, use1, use2, split, join, fsplit, fjoin, feq_i, await, done, prop, at_ret, any_q, Sq, Post, given, learn, suffices, group, fpick, vrt, in_variant, whole, stop, fld, addr, lit, no_more, and_then, of_opd, first, switches_on, exec, returns, returns_within, enter, blocks, false_lit, true_lit, uint_vals, uint_Tells, owns, shr_vals, types_at, nothing, heard, calls_at, calls_at_last, on_entry, triple_of, framed, walk_of, ends_at, inner_of, dropped, all_go}
+use Rattle.ex_watched.proofs.Walk.{◌≡◌, ℕ, ◌<◌, ◌^◌, Bool, List, [], ◌∷◌, refl, ap, w64, true, false, T, arith, lit<, subst, sym, ◌*◌, ◌/◌, ◌∙◌, ◌%◌, Al, seen, Answer-typed, at_takes, Answered, Takes-goes, Takes-gives, answers, Gives, at_gives, Gives-goes, Gives-Gives, after, front, arm_body, proved, inst_fn, Fn, Body, Ty, ty_array, ty_ptr, ty_unit, Val, vunit, vbool, WT, has_ty, ftrue, flft, froom, fwand, ◌⊑◌, ⊑_trans, fact, tables, Dv, dv_self, capped_is, size, align, capped, Env, Wp, after_seq, at_return, alloc_all, pass_all, free_all, look_at, get, get_in, get_tag, through, sets, sets_last, lands_as, env, lands_last, ‵, raw, ◌⊛◌, later, ◌$◌, ◌∵◌, !, qed, move, keep, drop, use1, use2, split, join, fsplit, fjoin, feq_i, await, done, prop, at_ret, any_q, Sq, Post, given, learn, suffices, group, fpick, vrt, in_variant, whole, stop, fld, addr, lit, no_more, and_then, of_opd, first, switches_on, exec, returns, returns_within, enter, blocks, false_lit, true_lit, uint_vals, uint_Tells, owns, shr_vals, types_at, nothing, heard, calls_at, calls_at_last, triple_of, framed, walk_of, ends_at, inner_of, dropped, all_go}
 use Rattle.ex_allocators.proofs.Pooling.{generics, shelf_of, Shelved, hands_shelf, reaches}
 use Rattle.ex_allocators.proofs.shelf.Shelf.take.Met.{met}
 use Rattle.ex_allocators.specs.contracts.shelf.Shelf.take as take
@@ -33,7 +33,7 @@ give_one_spec 𝓤 𝓛 𝓜 𝓡 wired B L g d d' inner drops =
     let Then : Post 𝓤 𝓛.H = any_q (after_seq 𝓤 𝓛.H (Wp 𝓤 𝓛.H 𝓣.C 𝓣.Λ En (after 3 body) (at_return 𝓤 𝓛.H En (Wk.post y))) (at_return 𝓤 𝓛.H En (Wk.post y))) in
     let S = triple_of 𝓛 (take.signature B g d d') (take.spec B g d d' 𝓛 𝓜.mem 𝓡.returns) in let asked : S.Ghost = at_takes K 𝓛 𝓜.mem 𝓡.returns κ q spot heap n 8 τ in
     sets ! (addr ! (through ! refl (fld ! refl (stop !)))) refl (tt, tt) $
-    use2 𝓛 (raw (S.pre asked)) (hands_shelf Z 𝓛 κ lasts _ (on_entry 𝓛 (take.signature B g d d') asked.0.0 asked.0.1 asked.0.3 asked.0.4) (fact 𝓤 ((capped (size τ) ≡ n) × (capped (align τ) ≡ 8))) (λ le.
+    use2 𝓛 (raw (S.pre asked)) (hands_shelf Z 𝓛 κ lasts (take.signature B g d d') asked.0 (fact 𝓤 ((capped (size τ) ≡ n) × (capped (align τ) ≡ 8))) (λ le.
     Takes-goes K 𝓛 𝓜.mem 𝓡.returns κ q spot heap le n 8 τ fits.0 fits.1 n_fits eight)) $
     calls_at ! (framed 𝓤 𝓛.H 𝓜 𝓣) S (met 𝓤 𝓛 𝓜 𝓡 (code.calls-ex_allocators::shelf::Shelf::take 𝓡.env wired) B L g d d' inner drops) asked
     (and_then ! (get ! refl) (and_then ! (get ! refl) (and_then ! (lit ! tt) (no_more !)))) (λ v.

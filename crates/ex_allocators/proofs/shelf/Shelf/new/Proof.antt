@@ -18,7 +18,6 @@ new_spec 𝓤 𝓛 𝓜 𝓡 wired B L g d dd met md =
     let F : RattleType = inside.the_row (param 0 B) g in
     let v : Val = shelf_val null_ptr 0 m in let fit : Fit 0 m = (lit< tt, are.1.0.1) in
     let empty : T (has_ty shelf_type v) × WT v = (tt, (record { fits = lit< tt }, (record { fits = fit.0 }, (record { fits = fit.1 }, (tt, tt))))) in
-    let Made : Type 0 = heap ≡ heap in
     qed 𝓛 ((raw (alive 𝓛 E.signature z.0.0 z.0.1) ⊛ ‵ (owns (types_at E.signature.params z.0.0) z.0.3 z.0.4)) ∷ (raw (fact 𝓤 (z.0.0.1.0 ⊑ B.lives)) ⊛ raw (fact 𝓤 (IsKept m))) ∷ []) ∵
     move ! (1 ∷ []) $ split ! $ drop ! $ heard ! (IsKept m) (λ kept. split ! $ move ! (1 ∷ []) $ drop ! $
     regoal ! (λ (us : List Val). prop (WpFn 𝓤 𝓛.H 𝓣.C 𝓣.Λ fn us Post)) (λ i. are.0.0 i ++ (are.1.0.0 i ++ [])) refl $
@@ -29,5 +28,5 @@ new_spec 𝓤 𝓛 𝓜 𝓡 wired B L g d dd met md =
     use0 𝓛 (‵ (shelf_own null_ptr 0 m (v ∷ []))) (shelf_made 𝓛 null_ptr 0 m fit) $ nothing ! $ fpack ! (IsKept m) (λ _. ftrue) kept $ move ! (1 ∷ 0 ∷ []) $ fjoin ! $
     fpack ! F.Denot (λ i. fsep (F.own_val i (v ∷ [])) (kept_blocks (g.dealloc_token heap) i.size i.count i.top)) (record { top = null_ptr; count = 0; size = m; marker = record {} }) $
     nothing ! $ fpack ! (Typed F.mir (v ∷ [])) (λ _. ftrue) (empty, tt) $ fjoin ! $
-    use0 𝓛 (raw (fact 𝓤 Made)) (fact_i 𝓤 Made (emp 𝓤) refl) $ nothing ! $ nothing ! $ fjoin ! $ nothing ! $ fjoin ! $ move ! (3 ∷ 0 ∷ 2 ∷ 1 ∷ []) $
+    use0 𝓛 (raw (fact 𝓤 (heap ≡ heap))) (fact_i 𝓤 (heap ≡ heap) (emp 𝓤) refl) $ nothing ! $ nothing ! $ fjoin ! $ nothing ! $ fjoin ! $ move ! (3 ∷ 0 ∷ 2 ∷ 1 ∷ []) $
     by ! (leaves 𝓛 E stays c z v heap (tt, (tt, tt)) (tt, (tt, tt))))))
