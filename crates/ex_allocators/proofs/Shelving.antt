@@ -7,7 +7,7 @@
 --     left_block        what runs behind a block of code
 --     carves      the room of a block has room for a pointer in it
 --     regrants, readies      so a free block can be granted again, and one that was given back can be kept
-use Rattle.ex_watched.proofs.Walk.{◌≡◌, ℕ, ◌+◌, ◌<◌, ◌^◌, List, [], ◌∷◌, refl, w64, arith, lit<, subst, sym, ◌*◌, ◌++◌, ◌-◌, ◌/◌, ◌∙◌, owned_block, Ghosts, Ura, Args, Dict, a_type, dnil, dcons, Fn, Body, Ty, ty_array, ty_ptr, Callee, ty_int, ty_struct, tcons, tnil, Val, vint, vstruct, vcons, vnil, of_list, Fml, Lft, Share, fsep, flft, fat, fex, froom, ftok, fwand, Incl-refl, full_share, ent, emp, sep, fst∗, apply∗, wand, via, snd∗, every, less, fact_use, Running, Carries, bare_tables, Dv, capped_is, capped_small, size, align, capped, over, ◌≼⁺◌, Env, Wp, after_seq, WpFn, Calls, Loops, Tables, after_block, ‵, raw, ◌⊛◌, later, ◌$◌, ◌∵◌, !, qed, move, keep, drop, use0, use1, use2, split, join, fsplit, fjoin, await, done, any_q, Post, by, fjoin3, fpack, fpick, fsplit3, rewrite, post, Item, Goal, Seq, Step, Soaks, step, use3, frame, assume, Logic, sem, na_acc_in, whole, usize, Ises, Are, owns_show, showss, hidden_shr, cell_at, unhide, bounded, RattleType, owns, RawPtr, Ptr, block_ptr, ptr_val, types_at, Ended, Clauses, closing, on_entry, alive, triple_of, Meets, entered, Stays, walk_of, AllGo, walk_Meets}
+use Rattle.ex_watched.proofs.Walk.{◌≡◌, ℕ, ◌+◌, ◌<◌, ◌^◌, List, [], ◌∷◌, refl, w64, arith, lit<, subst, sym, ◌*◌, ◌++◌, ◌-◌, ◌/◌, ◌∙◌, owned_block, full_share, usize, Ghosts, Ura, Args, Dict, a_type, dnil, dcons, Fn, Body, Ty, ty_array, ty_ptr, Callee, ty_int, ty_struct, tcons, tnil, Val, vint, vstruct, vcons, vnil, of_list, Fml, Lft, Share, fsep, flft, fat, fex, froom, ftok, fwand, Incl-refl, ent, emp, sep, fst∗, apply∗, wand, via, snd∗, every, less, fact_use, Running, Carries, bare_tables, Dv, capped_is, capped_small, size, align, capped, over, ◌≼⁺◌, Env, Wp, after_seq, WpFn, Calls, Loops, Tables, after_block, ‵, raw, ◌⊛◌, later, ◌$◌, ◌∵◌, !, qed, move, keep, drop, use0, use1, use2, split, join, fsplit, fjoin, await, done, any_q, Post, by, fjoin3, fpack, fpick, fsplit3, rewrite, post, Item, Goal, Seq, Step, Soaks, step, use3, frame, assume, Logic, sem, na_acc_in, whole, Ises, Are, owns_show, showss, hidden_shr, cell_at, unhide, bounded, RattleType, owns, RawPtr, Ptr, block_ptr, ptr_val, types_at, Ended, Clauses, closing, on_entry, alive, triple_of, Meets, entered, Stays, walk_of, AllGo, walk_Meets}
 use prog.Model.{Model}
 use contract.Named.{bare_unfolds}
 use contract.Running.{tables_of}

@@ -1,6 +1,6 @@
 -- The names that the walks of this crate and of the crates above it cite, passed on, and what the walks share. Assumes `Logic`.
 --     inner_of      where the first field of a struct lies, if that is the inner allocator
---     dropped, AllSilent, all_go      of no parameter is anything left at the return, if nothing is said of its last value
+--     dropped, gone      of no parameter is anything left at the return, where nothing is said of its last value
 --     ended      what a caller has, once a call of n parameters returns that was lent a token in two halves: the result, the `ensures` and the token
 pub use Rattle.std.proofs.Common.{◌≡◌, ℕ, ◌+◌, ◌<◌, ◌^◌, Bool, List, [], ◌∷◌, refl, ap, w64, Bor, true, false, Ok, Err, T, arith, lit<, subst, suc, sym, zero, ◌*◌, ◌++◌, ◌-◌, ◌/◌, ◌∙◌, ◌%◌}
 pub use Rattle.std.specs.Allocator.{block_if_ok, owned_block}
@@ -64,13 +64,8 @@ dropped (s ∷ ss) ks = (stay_dropped s ks.0, dropped ss ks.1)
 module _ {M : Type 1} {𝓤 : Ura M} (𝓛 : Logic 𝓤) where
   open 𝓛 use {H, A}
 
-  abbrev pub AllSilent : {n : ℕ} (ss : List (Slot n)) → Kepts ss → Type 1
-  AllSilent [] ks = Unit {1}
-  AllSilent {n} (s ∷ ss) ks = Silent 𝓛 n s ks.0 × AllSilent ss ks.1
-
-  pub all_go : {n : ℕ} (ss : List (Slot n)) (ks : Kepts ss) → AllSilent ss ks → AllGo 𝓛 n ss ks (dropped ss ks)
-  all_go [] ks q = tt
-  all_go {n} (s ∷ ss) ks q = (Goes-dropped 𝓛 n s ks.0 q.0, all_go ss ks.1 q.1)
+  pub gone : ent 𝓤 (emp 𝓤) (H.⇛ (emp 𝓤))
+  gone = 𝓛.laws.⇛_intro (emp 𝓤)
 
   abbrev trues : ℕ → Fml
   trues zero = ftrue

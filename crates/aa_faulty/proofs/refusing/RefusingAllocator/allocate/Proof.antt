@@ -1,5 +1,5 @@
 -- The answer is `Err`, whatever is asked for. Assumes `Logic`.
-use Rattle.ex_watched.proofs.Walk.{[], ◌∷◌, refl, w64, false, Err, Answer, answer_val, Answer-typed, Answer-err, proved, ftrue, flft, alloc_all, pass_all, free_all, look_at, get, sets, ‵, raw, ◌⊛◌, ◌$◌, ◌∵◌, !, qed, move, keep, use0, split, fjoin, done, suffices, group, agg, lit, no_more, and_then, returns, enter, uint_vals, uint_Tells, owns, shr_vals, types_at, nothing, walk_of, ends_at, dropped, all_go}
+use Rattle.ex_watched.proofs.Walk.{[], ◌∷◌, refl, w64, false, Err, Answer, answer_val, Answer-typed, Answer-err, proved, ftrue, flft, alloc_all, pass_all, free_all, look_at, get, sets, ‵, raw, ◌⊛◌, ◌$◌, ◌∵◌, !, qed, move, keep, use0, split, fjoin, done, suffices, group, agg, lit, no_more, and_then, returns, enter, uint_vals, uint_Tells, owns, shr_vals, types_at, nothing, walk_of, ends_at, dropped, gone}
 use Rattle.aa_faulty.specs.contracts.refusing.RefusingAllocator.allocate as F
 use Rattle.aa_faulty.proofs.refusing.RefusingAllocator.allocate.Statement.{statement}
 use Rattle.aa_faulty.proofs.refusing.RefusingAllocator.allocate.Code as code
@@ -7,7 +7,7 @@ use Rattle.aa_faulty.proofs.refusing.RefusingAllocator.allocate.Code as code
 pub allocate_spec : {M : Type 1} → statement M
 allocate_spec 𝓤 𝓛 𝓜 𝓡 wired =
     let E = F.ended in let hs = dropped E.signature.params E.kept in let c = F.clauses 𝓛 𝓜.mem 𝓡.returns in let W = walk_of 𝓛 E hs c in
-    proved 𝓛 E hs c 𝓜 𝓡 (all_go 𝓛 E.signature.params E.kept ((λ κs x f. refl), ((λ κs x f. refl), ((λ κs x f. refl), tt))))
+    proved 𝓛 E hs c 𝓜 𝓡 ((λ κs x f vs ok. gone 𝓛), ((λ κs x f vs ok. gone 𝓛), ((λ κs x f vs ok. gone 𝓛), tt)))
     F.Key.name code.function (code.unfolded 𝓤 𝓛.H 𝓜 𝓡 wired)
     (λ κs. (shr_vals, (uint_vals w64, (uint_vals w64, tt)))) (λ κs. ((λ r vs is. is.0), (uint_Tells w64, (uint_Tells w64, tt)))) (λ κs qs bounds a τ are.
     let y : W.Ghost = ((κs, qs, bounds, a, (shr_vals a.0, (uint_vals w64 a.1.0, (uint_vals w64 a.1.1.0, tt)))), τ) in

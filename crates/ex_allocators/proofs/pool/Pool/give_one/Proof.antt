@@ -1,5 +1,5 @@
 -- A block of the shelf goes back to the inner allocator, as room for pointers. Assumes `Logic`.
-use Rattle.ex_watched.proofs.Walk.{◌≡◌, ℕ, ◌<◌, ◌^◌, Bool, List, [], ◌∷◌, refl, ap, w64, true, false, T, arith, lit<, subst, sym, ◌*◌, ◌/◌, ◌∙◌, ◌%◌, Al, seen, Answer-typed, at_takes, Answered, Takes-goes, Takes-gives, answers, Gives, at_gives, Gives-goes, Gives-Gives, after, front, arm_body, proved, inst_fn, Fn, Body, Ty, ty_array, ty_ptr, ty_unit, Val, vunit, vbool, WT, has_ty, ftrue, flft, froom, fwand, ◌⊑◌, ⊑_trans, fact, tables, Dv, dv_self, capped_is, size, align, capped, Env, Wp, after_seq, at_return, alloc_all, pass_all, free_all, look_at, get, get_in, get_tag, through, sets, sets_last, lands_as, env, lands_last, ‵, raw, ◌⊛◌, later, ◌$◌, ◌∵◌, !, qed, move, keep, drop, use1, use2, split, join, fsplit, fjoin, feq_i, await, done, prop, at_ret, any_q, Sq, Post, given, learn, suffices, group, fpick, vrt, in_variant, whole, stop, fld, addr, lit, no_more, and_then, of_opd, first, switches_on, exec, returns, returns_within, enter, blocks, false_lit, true_lit, uint_vals, uint_Tells, owns, shr_vals, types_at, nothing, heard, calls_at, calls_at_last, triple_of, framed, walk_of, ends_at, inner_of, dropped, all_go}
+use Rattle.ex_watched.proofs.Walk.{◌≡◌, ℕ, ◌<◌, ◌^◌, Bool, List, [], ◌∷◌, refl, ap, w64, true, false, T, arith, lit<, subst, sym, ◌*◌, ◌/◌, ◌∙◌, ◌%◌, Al, seen, Answer-typed, at_takes, Answered, Takes-goes, Takes-gives, answers, Gives, at_gives, Gives-goes, Gives-Gives, after, front, arm_body, proved, inst_fn, Fn, Body, Ty, ty_array, ty_ptr, ty_unit, Val, vunit, vbool, WT, has_ty, ftrue, flft, froom, fwand, ◌⊑◌, ⊑_trans, fact, tables, Dv, dv_self, capped_is, size, align, capped, Env, Wp, after_seq, at_return, alloc_all, pass_all, free_all, look_at, get, get_in, get_tag, through, sets, sets_last, lands_as, env, lands_last, ‵, raw, ◌⊛◌, later, ◌$◌, ◌∵◌, !, qed, move, keep, drop, use1, use2, split, join, fsplit, fjoin, feq_i, await, done, prop, at_ret, any_q, Sq, Post, given, learn, suffices, group, fpick, vrt, in_variant, whole, stop, fld, addr, lit, no_more, and_then, of_opd, first, switches_on, exec, returns, returns_within, enter, blocks, false_lit, true_lit, uint_vals, uint_Tells, owns, shr_vals, types_at, nothing, heard, calls_at, calls_at_last, triple_of, framed, walk_of, ends_at, inner_of, dropped, gone}
 use Rattle.ex_allocators.proofs.Pooling.{generics, shelf_of, Shelved, hands_shelf, reaches}
 use Rattle.ex_allocators.proofs.shelf.Shelf.take.Met.{met}
 use Rattle.ex_allocators.specs.contracts.shelf.Shelf.take as take
@@ -12,7 +12,7 @@ give_one_spec 𝓤 𝓛 𝓜 𝓡 wired B L g d d' inner drops =
     let Z : Al = record { row = B; laws = L; g = g; d = d; drops = d' } in let K : Al = Shelved Z in
     let E = F.ended B g d d' in let c = F.clauses B g d d' 𝓛 𝓜.mem 𝓡.returns in let hs = dropped E.signature.params E.kept in
     let Wk = walk_of 𝓛 E hs c in let 𝓣 = tables 𝓤 𝓛.H 𝓜 𝓡 𝓡.env in let fn : Fn = inst_fn (generics B d d') code.function in
-    proved 𝓛 E hs c 𝓜 𝓡 (all_go 𝓛 E.signature.params E.kept ((λ κs x f. refl), ((λ κs x f. refl), tt))) (F.Key.name (generics B d d')) fn (code.unfolded 𝓤 𝓛.H 𝓜 𝓡 wired (B, tt) d d')
+    proved 𝓛 E hs c 𝓜 𝓡 ((λ κs x f vs ok. gone 𝓛), ((λ κs x f vs ok. gone 𝓛), tt)) (F.Key.name (generics B d d')) fn (code.unfolded 𝓤 𝓛.H 𝓜 𝓡 wired (B, tt) d d')
     (λ κs. (shr_vals, (uint_vals w64, tt))) (λ κs. ((λ r vs is. is.0), (uint_Tells w64, tt))) (λ κs qs bounds a _ are.
     let κ = κs.0 in let q = qs.0 in let r = a.0 in let n = a.1.0 in let n_fits = are.1.0.1 in
     let heap : B.Denot = r.now.inner in let at = inner_of Z r.ref_ptr in let spot = shelf_of Z r.ref_ptr in

@@ -1,5 +1,5 @@
 -- A block comes from the shelf, or else from the inner allocator. Assumes `Logic`.
-use Rattle.ex_watched.proofs.Walk.{◌≡◌, [], ◌∷◌, refl, w64, true, false, Ok, Err, T, block_if_ok, Al, seen, token, Answer, answer_val, Answer-typed, Answer-Ok, Answer-err, Takes, at_takes, Answered, Takes-goes, Takes-gives, answers, after, front, arm_body, proved, leaves, inst_fn, Fn, Body, Ty, Val, ftrue, flft, fex, ent, emp, ◌⊑◌, ⊑_trans, fact, tables, size, align, capped, Env, Wp, after_seq, at_return, alloc_all, pass_all, free_all, look_at, get, get_in, get_tag, through, sets, sets_last, lands_as, env, ‵, raw, ◌⊛◌, later, ◌$◌, ◌∵◌, !, qed, move, keep, use0, use1, use2, split, join, fsplit, fjoin, await, done, prop, at_ret, any_q, Sq, Post, suffices, group, fpack, sem, vrt, in_variant, agg, whole, stop, fld, addr, lit, no_more, and_then, of_opd, first, switches_on, exec, returns, returns_within, enter, uint_vals, uint_Tells, owns, block_ptr, shr_vals, types_at, nothing, heard, calls_at, triple_of, framed, walk_of, ends_at, inner_of, dropped, all_go}
+use Rattle.ex_watched.proofs.Walk.{◌≡◌, [], ◌∷◌, refl, w64, true, false, Ok, Err, T, block_if_ok, Al, seen, token, Answer, answer_val, Answer-typed, Answer-Ok, Answer-err, Takes, at_takes, Answered, Takes-goes, Takes-gives, answers, after, front, arm_body, proved, leaves, inst_fn, Fn, Body, Ty, Val, ftrue, flft, fex, ent, emp, ◌⊑◌, ⊑_trans, fact, tables, size, align, capped, Env, Wp, after_seq, at_return, alloc_all, pass_all, free_all, look_at, get, get_in, get_tag, through, sets, sets_last, lands_as, env, ‵, raw, ◌⊛◌, later, ◌$◌, ◌∵◌, !, qed, move, keep, use0, use1, use2, split, join, fsplit, fjoin, await, done, prop, at_ret, any_q, Sq, Post, suffices, group, fpack, sem, vrt, in_variant, agg, whole, stop, fld, addr, lit, no_more, and_then, of_opd, first, switches_on, exec, returns, returns_within, enter, uint_vals, uint_Tells, owns, block_ptr, shr_vals, types_at, nothing, heard, calls_at, triple_of, framed, walk_of, ends_at, inner_of, dropped, gone}
 use Rattle.ex_allocators.proofs.Pooling.{generics, shelf_of, Shelved, hands_shelf, reaches}
 use Rattle.ex_allocators.proofs.shelf.Shelf.take.Met.{met}
 use Rattle.ex_allocators.specs.contracts.shelf.Shelf.take as take
@@ -12,7 +12,7 @@ allocate_spec 𝓤 𝓛 𝓜 𝓡 wired B L g d d' inner drops =
     let Z : Al = record { row = B; laws = L; g = g; d = d; drops = d' } in let K : Al = Shelved Z in
     let E = F.ended B g d d' in let c = F.clauses B g d d' 𝓛 𝓜.mem 𝓡.returns in let hs = dropped E.signature.params E.kept in
     let Wk = walk_of 𝓛 E hs c in let 𝓣 = tables 𝓤 𝓛.H 𝓜 𝓡 𝓡.env in let fn : Fn = inst_fn (generics B d d') code.function in
-    proved 𝓛 E hs c 𝓜 𝓡 (all_go 𝓛 E.signature.params E.kept ((λ κs x f. refl), ((λ κs x f. refl), ((λ κs x f. refl), tt)))) (F.Key.name (generics B d d')) fn (code.unfolded 𝓤 𝓛.H 𝓜 𝓡 wired (B, tt) d d')
+    proved 𝓛 E hs c 𝓜 𝓡 ((λ κs x f vs ok. gone 𝓛), ((λ κs x f vs ok. gone 𝓛), ((λ κs x f vs ok. gone 𝓛), tt))) (F.Key.name (generics B d d')) fn (code.unfolded 𝓤 𝓛.H 𝓜 𝓡 wired (B, tt) d d')
     (λ κs. (shr_vals, (uint_vals w64, (uint_vals w64, tt)))) (λ κs. ((λ r vs is. is.0), (uint_Tells w64, (uint_Tells w64, tt)))) (λ κs qs bounds a τ are.
     let κ = κs.0 in let q = qs.0 in let r = a.0 in let n = a.1.0 in let al = a.1.1.0 in let n_fits = are.1.0.1 in let al_fits = are.1.1.0.1 in
     let heap : B.Denot = r.now.inner in let at = inner_of Z r.ref_ptr in let spot = shelf_of Z r.ref_ptr in

@@ -1,5 +1,5 @@
 -- The block goes to the shelf, or else to the inner allocator. Assumes `Logic`.
-use Rattle.ex_watched.proofs.Walk.{◌≡◌, ℕ, Bool, List, [], ◌∷◌, refl, ap, w64, false, subst, sym, ◌∙◌, owned_block, bool, Al, seen, token, Gives, at_gives, Gives-goes, Gives-Gives, after, proved, inst_fn, Fn, Body, Val, vunit, vint, vptr, Fml, ftrue, flft, froom, fwand, sep, fst∗, never, ◌⊑◌, ⊑_trans, fact, tables, Dv, dv_self, size, align, capped, Env, WpFn, alloc_all, pass_all, free_all, look_at, get, through, sets, lands_as, env, ‵, raw, ◌⊛◌, some, later, ◌$◌, ◌∵◌, !, qed, move, keep, drop, use1, split, split3, join, pick, fsplit, fjoin, feq_i, feq_l, await, done, prop, at_ret, Sq, given, learn, suffices, group, regoal, fpick, rewrite, sem, stop, fld, addr, no_more, and_then, of_opd, first, branches, skips, exec, returns, returns_within, enter, unit_lit, uint_vals, uint_Tells, owns, Ptr, block_ptr, null_ptr, ptr_val, in_a_block, rawptr_vals, rawptr_Tells, shr_vals, types_at, nothing, only, heard, calls_at, triple_of, framed, walk_of, ends_at, inner_of, dropped, all_go, ended}
+use Rattle.ex_watched.proofs.Walk.{◌≡◌, ℕ, Bool, List, [], ◌∷◌, refl, ap, w64, false, subst, sym, ◌∙◌, owned_block, bool, Al, seen, token, Gives, at_gives, Gives-goes, Gives-Gives, after, proved, inst_fn, Fn, Body, Val, vunit, vint, vptr, Fml, ftrue, flft, froom, fwand, sep, fst∗, never, ◌⊑◌, ⊑_trans, fact, tables, Dv, dv_self, size, align, capped, Env, WpFn, alloc_all, pass_all, free_all, look_at, get, through, sets, lands_as, env, ‵, raw, ◌⊛◌, some, later, ◌$◌, ◌∵◌, !, qed, move, keep, drop, use1, split, split3, join, pick, fsplit, fjoin, feq_i, feq_l, await, done, prop, at_ret, Sq, given, learn, suffices, group, regoal, fpick, rewrite, sem, stop, fld, addr, no_more, and_then, of_opd, first, branches, skips, exec, returns, returns_within, enter, unit_lit, uint_vals, uint_Tells, owns, Ptr, block_ptr, null_ptr, ptr_val, in_a_block, rawptr_vals, rawptr_Tells, shr_vals, types_at, nothing, only, heard, calls_at, triple_of, framed, walk_of, ends_at, inner_of, dropped, gone, ended}
 use Rattle.ex_allocators.proofs.Pooling.{block_unless, generics, shelf_of, Shelved, hands_shelf, reaches}
 use lib.Ieee.Bits.{is_false}
 use Rattle.ex_allocators.proofs.shelf.Shelf.put.Met.{met}
@@ -13,7 +13,7 @@ deallocate_spec 𝓤 𝓛 𝓜 𝓡 wired B L g d d' inner drops =
     let Z : Al = record { row = B; laws = L; g = g; d = d; drops = d' } in let K : Al = Shelved Z in
     let E = F.ended B g d d' in let c = F.clauses B g d d' 𝓛 𝓜.mem 𝓡.returns in let hs = dropped E.signature.params E.kept in
     let Wk = walk_of 𝓛 E hs c in let 𝓣 = tables 𝓤 𝓛.H 𝓜 𝓡 𝓡.env in let fn : Fn = inst_fn (generics B d d') code.function in
-    proved 𝓛 E hs c 𝓜 𝓡 (all_go 𝓛 E.signature.params E.kept ((λ κs x f. refl), ((λ κs x f. refl), ((λ κs x f. refl), ((λ κs x f. refl), tt))))) (F.Key.name (generics B d d')) fn (code.unfolded 𝓤 𝓛.H 𝓜 𝓡 wired (B, tt) d d')
+    proved 𝓛 E hs c 𝓜 𝓡 ((λ κs x f vs ok. gone 𝓛), ((λ κs x f vs ok. gone 𝓛), ((λ κs x f vs ok. gone 𝓛), ((λ κs x f vs ok. gone 𝓛), tt)))) (F.Key.name (generics B d d')) fn (code.unfolded 𝓤 𝓛.H 𝓜 𝓡 wired (B, tt) d d')
     (λ κs. (shr_vals, (rawptr_vals, (uint_vals w64, (uint_vals w64, tt))))) (λ κs. ((λ r vs is. is.0), (rawptr_Tells, (uint_Tells w64, (uint_Tells w64, tt))))) (λ κs qs bounds a τ are.
     let κ = κs.0 in let q = qs.0 in let r = a.0 in let n = a.1.1.0 in let al = a.1.1.1.0 in let n_fits = are.1.1.0.1 in let al_fits = are.1.1.1.0.1 in
     let heap : B.Denot = r.now.inner in let at = inner_of Z r.ref_ptr in let spot = shelf_of Z r.ref_ptr in

@@ -1,5 +1,5 @@
 -- An empty shelf owns nothing. Assumes `Logic`.
-use Rattle.ex_watched.proofs.Walk.{◌≡◌, List, [], ◌∷◌, refl, T, lit<, ◌++◌, leaves, proved_at, inst_fn, Fn, Val, vint, vptr, WT, has_ty, ftrue, fsep, SProp, emp, ◌⊑◌, fact, fact_i, tables, size, WpFn, alloc_all, pass_all, free_all, look_at, get, sets, ‵, raw, ◌⊛◌, ◌$◌, ◌∵◌, !, qed, move, drop, use0, split, fjoin, prop, Post, regoal, by, fpack, agg, lit, no_more, and_then, returns, enter, Typed, param, RattleType, owns, null_ptr, types_at, nothing, heard, alive, walk_of, dropped, all_go}
+use Rattle.ex_watched.proofs.Walk.{◌≡◌, List, [], ◌∷◌, refl, T, lit<, ◌++◌, leaves, proved_at, inst_fn, Fn, Val, vint, vptr, WT, has_ty, ftrue, fsep, SProp, emp, ◌⊑◌, fact, fact_i, tables, size, WpFn, alloc_all, pass_all, free_all, look_at, get, sets, ‵, raw, ◌⊛◌, ◌$◌, ◌∵◌, !, qed, move, drop, use0, split, fjoin, prop, Post, regoal, by, fpack, agg, lit, no_more, and_then, returns, enter, Typed, param, RattleType, owns, null_ptr, types_at, nothing, heard, alive, walk_of, dropped, gone}
 use Rattle.ex_allocators.proofs.Shelving.{IsKept, kept_blocks, generics, shelf_type, shelf_val, shelf_own, Fit, shelf_made}
 use Rattle.ex_allocators.specs.contracts.shelf.Shelf.TheInside as inside
 use Rattle.ex_allocators.specs.contracts.shelf.Shelf.new as made
@@ -11,7 +11,7 @@ new_spec 𝓤 𝓛 𝓜 𝓡 wired B L g d dd met md =
     let E = made.ended B g d dd in let c = made.clauses B g d dd 𝓛 𝓜.mem 𝓡.returns in let 𝓣 = tables 𝓤 𝓛.H 𝓜 𝓡 𝓡.env in
     let fn : Fn = inst_fn (generics B d dd) code.function in
     let stays = dropped E.signature.params E.kept in
-    proved_at 𝓛 E stays c 𝓜 𝓡 (all_go 𝓛 E.signature.params E.kept ((λ κs x f. refl), ((λ κs x f. refl), tt)))
+    proved_at 𝓛 E stays c 𝓜 𝓡 ((λ κs x f vs ok. gone 𝓛), ((λ κs x f vs ok. gone 𝓛), tt))
     (made.Key.name (generics B d dd)) fn (code.unfolded 𝓤 𝓛.H 𝓜 𝓡 wired (B, tt) d dd) (λ z are.
     let Post : Val → SProp 𝓤 = (walk_of 𝓛 E stays c).post z in
     let at = z.0.3.0.ref_ptr in let heap = z.0.3.0.now in let m = z.0.3.1.0 in

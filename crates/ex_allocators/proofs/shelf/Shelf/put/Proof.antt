@@ -1,5 +1,5 @@
 -- The block leads to the one that was on top. Assumes `Logic`.
-use Rattle.ex_watched.proofs.Walk.{◌≡◌, ℕ, ◌+◌, ◌<◌, ◌^◌, Bool, List, [], ◌∷◌, refl, ap, w64, true, false, arith, suc, sym, ◌++◌, ◌-◌, ◌∙◌, owned_block, after, head, inside, is_not, is_so, leaves, inst_fn, Fn, Ty, ty_ptr, Val, vint, vptr, vbool, Fml, Lft, Share, ftrue, fsep, flft, fex, froom, ftok, full_share, SProp, fst∗, never, apply∗, wand, every, ◌⊑◌, fact, size, align, capped, Env, WpFn, alloc_all, pass_all, free_all, look_at, get, through, sets, sets_last, env, ‵, raw, ◌⊛◌, ◌$◌, ◌∵◌, !, qed, move, keep, use1, use2, split, split3, join, fsplit, fjoin, feq_i, prop, at_ret, Sq, Post, regoal, by, fpack, fpick, rewrite, sem, whole, look_in, store_in, sub, stop, fld, addr, lit, of_opd, first, branches, skips, exec, returns, returns_within, enter, assigns, bin, blocks, false_lit, load, true_lit, neg_lit, init, param, RattleType, owns, Ptr, block_ptr, null_ptr, ptr_val, in_a_block, rawptr_Lawful, types_at, nothing, heard, walk_of, dropped, all_go}
+use Rattle.ex_watched.proofs.Walk.{◌≡◌, ℕ, ◌+◌, ◌<◌, ◌^◌, Bool, List, [], ◌∷◌, refl, ap, w64, true, false, arith, suc, sym, ◌++◌, ◌-◌, ◌∙◌, owned_block, full_share, after, head, inside, is_not, is_so, leaves, inst_fn, Fn, Ty, ty_ptr, Val, vint, vptr, vbool, Fml, Lft, Share, ftrue, fsep, flft, fex, froom, ftok, SProp, fst∗, never, apply∗, wand, every, ◌⊑◌, fact, size, align, capped, Env, WpFn, alloc_all, pass_all, free_all, look_at, get, through, sets, sets_last, env, ‵, raw, ◌⊛◌, ◌$◌, ◌∵◌, !, qed, move, keep, use1, use2, split, split3, join, fsplit, fjoin, feq_i, prop, at_ret, Sq, Post, regoal, by, fpack, fpick, rewrite, sem, whole, look_in, store_in, sub, stop, fld, addr, lit, of_opd, first, branches, skips, exec, returns, returns_within, enter, assigns, bin, blocks, false_lit, load, true_lit, neg_lit, init, param, RattleType, owns, Ptr, block_ptr, null_ptr, ptr_val, in_a_block, rawptr_Lawful, types_at, nothing, heard, walk_of, dropped, gone}
 use Rattle.ex_allocators.proofs.Shelving.{IsKept, block_unless, free_block, right_to, stack, generics, fields, opens_shelf, shuts_shelf, fills, holding_token, proved_alone, left_block, readies}
 use Rattle.ex_allocators.specs.contracts.shelf.Shelf.put as puts
 use Rattle.ex_allocators.proofs.shelf.Shelf.put.Statement.{statement}
@@ -12,7 +12,7 @@ put_spec 𝓤 𝓛 𝓜 𝓡 wired B L g d dd met md =
     let fn : Fn = inst_fn (generics B d dd) code.function in
     let stays = dropped E.signature.params E.kept in
     let c = holding_token 𝓛 E stays c₀ in
-    proved_alone 𝓛 E stays c₀ 𝓜 𝓡 (all_go 𝓛 E.signature.params E.kept ((λ κs x f. refl), ((λ κs x f. refl), ((λ κs x f. refl), ((λ κs x f. refl), tt)))))
+    proved_alone 𝓛 E stays c₀ 𝓜 𝓡 ((λ κs x f vs ok. gone 𝓛), ((λ κs x f vs ok. gone 𝓛), ((λ κs x f vs ok. gone 𝓛), ((λ κs x f vs ok. gone 𝓛), tt))))
     (puts.Key.name (generics B d dd)) fn (wired.0.0 (puts.Key.name (generics B d dd)) refl) (λ C Λ z are.
     let Post : Val → SProp 𝓤 = (walk_of 𝓛 E stays c).post z in
     let κ : Lft = z.0.0.0 in let q : Share = z.0.1.0 in let Z : RattleType = param 0 B in

@@ -1,5 +1,5 @@
 -- The request is counted, and refused or passed on. A block that comes of it is counted too. Assumes `Logic`.
-use Rattle.ex_watched.proofs.Walk.{◌≡◌, Bool, [], ◌∷◌, refl, ap, w64, true, false, Ok, Err, T, block_if_ok, Al, seen, token, Answer, answer_val, Answer-typed, Answer-Ok, Answer-err, Takes, at_takes, Answered, Takes-goes, Takes-gives, answers, after, front, arm_body, proved, leaves, inst_fn, Fn, Body, Val, ftrue, flft, ent, emp, ◌⊑◌, ⊑_trans, fact, tables, size, align, capped, Env, Wp, after_seq, at_return, alloc_all, pass_all, free_all, look_at, get, get_in, get_tag, through, sets, sets_last, lands_as, env, ‵, raw, ◌⊛◌, some, later, ◌$◌, ◌∵◌, !, qed, move, keep, drop, use0, use1, use2, split, split3, join, pick, fsplit, fjoin, feq_l, await, done, prop, at_ret, any_q, Sq, Post, suffices, group, sem, vrt, in_variant, agg, whole, stop, fld, addr, lit, no_more, and_then, of_opd, first, branches, skips, switches_on, exec, returns, returns_within, enter, bool, unit, shr_dup, uint_vals, uint_Tells, owns, block_ptr, shr_vals, types_at, nothing, only, heard, calls_at, framed, walk_of, ends_at, inner_of, dropped, all_go, ended}
+use Rattle.ex_watched.proofs.Walk.{◌≡◌, Bool, [], ◌∷◌, refl, ap, w64, true, false, Ok, Err, T, block_if_ok, bool, unit, Al, seen, token, Answer, answer_val, Answer-typed, Answer-Ok, Answer-err, Takes, at_takes, Answered, Takes-goes, Takes-gives, answers, after, front, arm_body, proved, leaves, inst_fn, Fn, Body, Val, ftrue, flft, ent, emp, ◌⊑◌, ⊑_trans, fact, tables, size, align, capped, Env, Wp, after_seq, at_return, alloc_all, pass_all, free_all, look_at, get, get_in, get_tag, through, sets, sets_last, lands_as, env, ‵, raw, ◌⊛◌, some, later, ◌$◌, ◌∵◌, !, qed, move, keep, drop, use0, use1, use2, split, split3, join, pick, fsplit, fjoin, feq_l, await, done, prop, at_ret, any_q, Sq, Post, suffices, group, sem, vrt, in_variant, agg, whole, stop, fld, addr, lit, no_more, and_then, of_opd, first, branches, skips, switches_on, exec, returns, returns_within, enter, shr_dup, uint_vals, uint_Tells, owns, block_ptr, shr_vals, types_at, nothing, only, heard, calls_at, framed, walk_of, ends_at, inner_of, dropped, gone, ended}
 use Rattle.ex_watched.proofs.Watching.{Wa, generics, watch_of, watched_by, reaches, Asks, asking, asks, Notes}
 use Rattle.ex_watched.specs.contracts.watched.WatchedAllocator.allocate as F
 use Rattle.ex_watched.proofs.watched.WatchedAllocator.allocate.Statement.{statement}
@@ -10,7 +10,7 @@ allocate_spec 𝓤 𝓛 𝓜 𝓡 wired B W L LW g d gw dw d' dw' inner watch _ 
     let Z : Al = record { row = B; laws = L; g = g; d = d; drops = d' } in let Y : Wa = record { row = W; laws = LW; g = gw; d = dw; drops = dw' } in
     let E = F.ended B W g d gw dw d' dw' in let c = F.clauses B W g d gw dw d' dw' 𝓛 𝓜.mem 𝓡.returns in let hs = dropped E.signature.params E.kept in
     let Wk = walk_of 𝓛 E hs c in let 𝓣 = tables 𝓤 𝓛.H 𝓜 𝓡 𝓡.env in let fn : Fn = inst_fn (generics Z Y) code.function in
-    proved 𝓛 E hs c 𝓜 𝓡 (all_go 𝓛 E.signature.params E.kept ((λ κs x f. refl), ((λ κs x f. refl), ((λ κs x f. refl), tt)))) (F.Key.name (generics Z Y)) fn (code.unfolded 𝓤 𝓛.H 𝓜 𝓡 wired (B, (W, tt)) d dw d' dw')
+    proved 𝓛 E hs c 𝓜 𝓡 ((λ κs x f vs ok. gone 𝓛), ((λ κs x f vs ok. gone 𝓛), ((λ κs x f vs ok. gone 𝓛), tt))) (F.Key.name (generics Z Y)) fn (code.unfolded 𝓤 𝓛.H 𝓜 𝓡 wired (B, (W, tt)) d dw d' dw')
     (λ κs. (shr_vals, (uint_vals w64, (uint_vals w64, tt)))) (λ κs. ((λ r vs is. is.0), (uint_Tells w64, (uint_Tells w64, tt)))) (λ κs qs bounds a τ are.
     let κ = κs.0 in let q = qs.0 in let r = a.0 in let n = a.1.0 in let al = a.1.1.0 in let n_fits = are.1.0.1 in let al_fits = are.1.1.0.1 in
     let heap : B.Denot = r.now.inner in let at = inner_of Z r.ref_ptr in let eye : W.Denot = r.now.watch in let spot = watch_of Z Y r.ref_ptr in

@@ -1,5 +1,5 @@
 -- The block is counted as given back, and the inner allocator takes it. Assumes `Logic`.
-use Rattle.ex_watched.proofs.Walk.{◌≡◌, List, [], ◌∷◌, refl, ap, w64, Al, seen, token, Gives, at_gives, Gives-goes, Gives-Gives, proved, inst_fn, Fn, Val, vunit, vint, vptr, ftrue, fsep, flft, fst∗, never, ◌⊑◌, ⊑_trans, fact, tables, size, align, capped, WpFn, alloc_all, pass_all, free_all, look_at, get, through, sets, lands_as, ‵, raw, ◌⊛◌, some, later, ◌$◌, ◌∵◌, !, qed, move, keep, drop, use1, use2, split, split3, join, pick, fsplit, fjoin, feq_i, feq_l, await, done, prop, given, learn, suffices, group, regoal, sem, stop, fld, addr, no_more, and_then, of_opd, returns, enter, unit_lit, unit, uint_vals, uint_Tells, owns, Ptr, block_ptr, null_ptr, ptr_val, room_for, in_a_block, rawptr_vals, rawptr_Tells, shr_vals, types_at, nothing, only, heard, calls_at, framed, walk_of, ends_at, inner_of, dropped, all_go, ended}
+use Rattle.ex_watched.proofs.Walk.{◌≡◌, List, [], ◌∷◌, refl, ap, w64, unit, Al, seen, token, Gives, at_gives, Gives-goes, Gives-Gives, proved, inst_fn, Fn, Val, vunit, vint, vptr, ftrue, fsep, flft, fst∗, never, ◌⊑◌, ⊑_trans, fact, tables, size, align, capped, WpFn, alloc_all, pass_all, free_all, look_at, get, through, sets, lands_as, ‵, raw, ◌⊛◌, some, later, ◌$◌, ◌∵◌, !, qed, move, keep, drop, use1, use2, split, split3, join, pick, fsplit, fjoin, feq_i, feq_l, await, done, prop, given, learn, suffices, group, regoal, sem, stop, fld, addr, no_more, and_then, of_opd, returns, enter, unit_lit, uint_vals, uint_Tells, owns, Ptr, block_ptr, null_ptr, ptr_val, room_for, in_a_block, rawptr_vals, rawptr_Tells, shr_vals, types_at, nothing, only, heard, calls_at, framed, walk_of, ends_at, inner_of, dropped, gone, ended}
 use Rattle.ex_watched.proofs.Watching.{Wa, generics, watch_of, watched_by, reaches, asking, asks, Notes}
 use Rattle.ex_watched.specs.contracts.watched.WatchedAllocator.deallocate as F
 use Rattle.ex_watched.proofs.watched.WatchedAllocator.deallocate.Statement.{statement}
@@ -10,7 +10,7 @@ deallocate_spec 𝓤 𝓛 𝓜 𝓡 wired B W L LW g d gw dw d' dw' inner watch 
     let Z : Al = record { row = B; laws = L; g = g; d = d; drops = d' } in let Y : Wa = record { row = W; laws = LW; g = gw; d = dw; drops = dw' } in
     let E = F.ended B W g d gw dw d' dw' in let c = F.clauses B W g d gw dw d' dw' 𝓛 𝓜.mem 𝓡.returns in let hs = dropped E.signature.params E.kept in
     let Wk = walk_of 𝓛 E hs c in let 𝓣 = tables 𝓤 𝓛.H 𝓜 𝓡 𝓡.env in let fn : Fn = inst_fn (generics Z Y) code.function in
-    proved 𝓛 E hs c 𝓜 𝓡 (all_go 𝓛 E.signature.params E.kept ((λ κs x f. refl), ((λ κs x f. refl), ((λ κs x f. refl), ((λ κs x f. refl), tt)))))
+    proved 𝓛 E hs c 𝓜 𝓡 ((λ κs x f vs ok. gone 𝓛), ((λ κs x f vs ok. gone 𝓛), ((λ κs x f vs ok. gone 𝓛), ((λ κs x f vs ok. gone 𝓛), tt))))
     (F.Key.name (generics Z Y)) fn (code.unfolded 𝓤 𝓛.H 𝓜 𝓡 wired (B, (W, tt)) d dw d' dw')
     (λ κs. (shr_vals, (rawptr_vals, (uint_vals w64, (uint_vals w64, tt))))) (λ κs. ((λ r vs is. is.0), (rawptr_Tells, (uint_Tells w64, (uint_Tells w64, tt))))) (λ κs qs bounds a τ are.
     let κ = κs.0 in let q = qs.0 in let r = a.0 in let n = a.1.1.0 in let al = a.1.1.1.0 in let n_fits = are.1.1.0.1 in let al_fits = are.1.1.1.0.1 in
