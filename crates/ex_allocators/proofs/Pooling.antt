@@ -3,7 +3,7 @@
 --     Shelved      the shelf, with a pool's right to free a block
 --     hands_shelf      a call of the shelf is handed what one of that allocator is, but names the handle's lifetime
 --     reaches      a `&Pool` is a `&` to its inner allocator and one to its shelf
-pub use Rattle.ex_watched.proofs.Walk.{◌≡◌, ℕ, ◌+◌, ◌<◌, ◌^◌, Bool, List, [], ◌∷◌, refl, ap, w64, Bor, true, false, Ok, Err, T, arith, lit<, subst, sym, ◌*◌, ◌++◌, ◌/◌, ◌∙◌, ◌%◌, block_if_ok, owned_block, bool, Al, α, seen, token, Answer, answer_val, Answer-typed, Answer-Ok, Answer-err, Takes, at_takes, Answered, Takes-goes, Takes-gives, answers, Gives, at_gives, Gives-goes, Gives-Gives, after, front, arm_body, proved, leaves, Ura, inst_fn, named, Fn, Body, Ty, ty_array, ty_ptr, ty_unit, Val, vunit, vint, vptr, vbool, WT, has_ty, Fml, Lft, ftrue, flft, fex, froom, fwand, SProp, ent, emp, sep, fst∗, never, ◌⊑◌, ⊑_trans, ⊑_meet, ⊑_static, fact, fact_i, tables, Dv, dv_self, capped_is, size, align, up, capped, Env, Wp, after_seq, at_return, WpFn, alloc_all, pass_all, free_all, look_at, get, get_in, get_tag, through, sets, sets_last, lands_as, env, lands_last, ‵, raw, ◌⊛◌, some, later, ◌$◌, ◌∵◌, !, qed, move, keep, drop, use0, use1, use2, split, split3, join, pick, fsplit, fjoin, feq_i, feq_l, await, done, prop, at_ret, any_q, Sq, Post, given, learn, suffices, group, regoal, fpack, fpick, rewrite, Logic, sem, vrt, in_variant, agg, whole, stop, fld, addr, lit, no_more, and_then, of_opd, first, branches, skips, switches_on, exec, returns, returns_within, enter, unit_lit, blocks, false_lit, true_lit, unhide, hide, param, layout, param_laws, uint_vals, uint_Tells, owns, Ptr, block_ptr, null_ptr, ptr_val, in_a_block, rawptr_vals, rawptr_Tells, ShrRef, shr_vals, Signature, types_at, nothing, only, heard, Bound, calls_at, calls_at_last, on_entry, triple_of, framed, walk_of, ends_at, inner_of, dropped, gone, ended}
+pub use Rattle.ex_watched.proofs.Walk.{◌≡◌, ℕ, ◌+◌, ◌<◌, ◌^◌, Bool, List, [], ◌∷◌, refl, ap, w64, Bor, true, false, Ok, Err, T, arith, lit<, subst, sym, ◌*◌, ◌++◌, ◌/◌, ◌∙◌, ◌%◌, block_if_ok, owned_block, bool, Al, α, seen, token, Answer, answer_val, Answer-typed, Answer-Ok, Answer-err, Takes, at_takes, Answered, Takes-goes, Takes-gives, answers, Gives, at_gives, Gives-goes, Gives-Gives, after, front, arm_body, proved, leaves, Ura, inst_fn, named, Fn, Body, Ty, ty_array, ty_ptr, ty_unit, Val, vunit, vint, vptr, vbool, WT, has_ty, Fml, Lft, ftrue, flft, fex, froom, fwand, SProp, ent, emp, sep, fst∗, never, ◌⊑◌, ⊑_trans, ⊑_meet, ⊑_static, fact, fact_i, tables, Dv, dv_self, capped_is, size, align, up, capped, Env, Wp, after_seq, at_return, WpFn, alloc_all, pass_all, free_all, look_at, get, get_in, get_tag, through, sets, sets_last, lands_as, env, lands_last, ‵, raw, ◌⊛◌, some, later, ◌$◌, ◌∵◌, !, qed, move, keep, drop, use0, use1, use2, split, split3, join, pick, fsplit, fjoin, feq_i, feq_l, await, done, prop, at_ret, any_q, Sq, Post, given, learn, suffices, group, regoal, fpack, fpick, rewrite, Logic, sem, vrt, in_variant, agg, whole, stop, fld, addr, lit, no_more, and_then, of_opd, first, branches, skips, switches_on, exec, returns, returns_within, enter, unit_lit, blocks, false_lit, true_lit, unhide, hide, param, layout, param_laws, uint_vals, uint_Tells, owns, Ptr, block_ptr, null_ptr, ptr_val, in_a_block, rawptr_vals, rawptr_Tells, ShrRef, shr_vals, Signature, types_at, nothing, only, heard, Bound, calls_at, calls_at_last, on_entry, triple_of, framed, walk_of, ends_at, inner_of, dropped, gone, trues, spent, ended}
 pub use Rattle.ex_allocators.proofs.Shelving.{block_unless, generics, right_to}
 use Rattle.ex_allocators.specs.contracts.pool.Pool as pool
 use Rattle.ex_allocators.specs.contracts.shelf.Shelf as shelf

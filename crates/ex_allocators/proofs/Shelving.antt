@@ -7,7 +7,7 @@
 --     left_block        what runs behind a block of code
 --     carves      the room of a block has room for a pointer in it
 --     regrants, readies      so a free block can be granted again, and one that was given back can be kept
-pub use Rattle.ex_watched.proofs.Walk.{◌≡◌, ℕ, ◌+◌, ◌<◌, ◌^◌, Bool, List, [], ◌∷◌, refl, ap, w64, true, false, Ok, Err, T, arith, lit<, subst, suc, sym, ◌*◌, ◌++◌, ◌-◌, ◌/◌, ◌∙◌, block_if_ok, owned_block, full_share, usize, Ghosts, Answer, answer_val, Answer-typed, Answer-Ok, Answer-err, after, head, inside, is_not, is_so, leaves, proved_at, Ura, inst_fn, Args, Dict, a_type, dnil, dcons, Fn, Body, Ty, ty_array, ty_ptr, Callee, ty_int, ty_struct, tcons, tnil, Val, vint, vptr, vbool, WT, has_ty, vstruct, vcons, vnil, of_list, Fml, Lft, Share, ftrue, fsep, flft, fat, fex, froom, ftok, fwand, Incl-refl, SProp, ent, emp, sep, fst∗, never, apply∗, wand, via, snd∗, every, less, ◌⊑◌, fact, fact_i, fact_use, tables, Running, Carries, bare_tables, Dv, capped_is, capped_small, size, align, capped, over, ◌≼⁺◌, Env, Wp, after_seq, WpFn, Calls, Loops, Tables, after_block, alloc_all, pass_all, free_all, look_at, get, through, sets, sets_last, env, ‵, raw, ◌⊛◌, some, later, ◌$◌, ◌∵◌, !, qed, move, keep, drop, use0, use1, use2, split, split3, join, fsplit, fjoin, feq_i, await, done, prop, at_ret, any_q, Sq, Post, regoal, by, fjoin3, fpack, fpick, fsplit3, rewrite, post, Item, Goal, Seq, Step, Soaks, step, use3, frame, assume, Logic, sem, na_acc_in, agg, whole, look_in, store_in, sub, stop, fld, addr, lit, no_more, and_then, of_opd, first, branches, skips, exec, returns, returns_within, enter, assigns, bin, blocks, false_lit, load, true_lit, neg_lit, init, look, Ises, Are, owns_show, showss, Typed, hidden_shr, cell_at, unhide, bounded, param, RattleType, owns, RawPtr, Ptr, block_ptr, null_ptr, ptr_val, in_a_block, rawptr_Lawful, types_at, nothing, heard, Ended, Clauses, closing, on_entry, alive, triple_of, Meets, entered, Stays, walk_of, AllGo, walk_Meets, dropped, gone}
+pub use Rattle.ex_watched.proofs.Walk.{◌≡◌, ℕ, ◌+◌, ◌<◌, ◌^◌, Bool, List, [], ◌∷◌, refl, ap, w64, true, false, Ok, Err, T, arith, lit<, subst, suc, sym, ◌*◌, ◌++◌, ◌-◌, ◌/◌, ◌∙◌, block_if_ok, owned_block, full_share, usize, Ghosts, Answer, answer_val, Answer-typed, Answer-Ok, Answer-err, after, head, inside, is_not, is_so, leaves, proved_at, Ura, inst_fn, Args, Dict, a_type, dnil, dcons, Fn, Body, Ty, ty_array, ty_ptr, Callee, ty_int, ty_struct, tcons, tnil, Val, vint, vptr, vbool, WT, has_ty, vstruct, vcons, vnil, of_list, Fml, Lft, Share, ftrue, fsep, flft, fat, fex, froom, ftok, fwand, Incl-refl, SProp, ent, emp, sep, fst∗, never, apply∗, wand, via, snd∗, every, less, ◌⊑◌, fact, fact_i, fact_use, tables, Running, Carries, bare_tables, Dv, capped_is, capped_small, size, align, capped, over, ◌≼⁺◌, Env, Wp, after_seq, WpFn, Calls, Loops, Tables, after_block, alloc_all, pass_all, free_all, look_at, get, through, sets, sets_last, env, ‵, raw, ◌⊛◌, some, later, ◌$◌, ◌∵◌, !, qed, move, keep, drop, use0, use1, use2, split, split3, join, fsplit, fjoin, feq_i, await, done, prop, at_ret, any_q, Sq, Post, regoal, by, fjoin3, fpack, fpick, fsplit3, rewrite, post, Item, Goal, Seq, Step, Soaks, step, use3, frame, assume, Logic, sem, na_acc_in, agg, whole, look_in, store_in, sub, stop, fld, addr, lit, no_more, and_then, of_opd, first, branches, skips, exec, returns, returns_within, enter, assigns, bin, blocks, false_lit, load, true_lit, neg_lit, init, look, Ises, Are, owns_show, showss, Typed, hidden_shr, cell_at, unhide, bounded, param, RattleType, owns, RawPtr, Ptr, block_ptr, null_ptr, ptr_val, in_a_block, rawptr_Lawful, types_at, nothing, heard, Ended, Clauses, closing, on_entry, alive, triple_of, Meets, entered, Stays, walk_of, AllGo, walk_Meets, dropped, gone, trues, spent}
 use prog.Model.{Model}
 use contract.Named.{bare_unfolds}
 use contract.Running.{tables_of}

@@ -1,6 +1,6 @@
 -- The names that the walks of this crate and of the crates above it cite, passed on, and what the walks share. Assumes `Logic`.
 --     inner_of      where the first field of a struct lies, if that is the inner allocator
---     dropped, gone      of no parameter is anything left at the return, where nothing is said of its last value
+--     dropped, gone      of no parameter is anything left at the return, where nothing is said of its last value.        trues, spent      what is then had of n parameters
 --     ended      what a caller has, once a call of n parameters returns that was lent a token in two halves: the result, the `ensures` and the token
 pub use Rattle.std.proofs.Common.{◌≡◌, ℕ, ◌+◌, ◌<◌, ◌^◌, Bool, List, [], ◌∷◌, refl, ap, w64, Bor, true, false, Ok, Err, T, arith, lit<, subst, suc, sym, zero, ◌*◌, ◌++◌, ◌-◌, ◌/◌, ◌∙◌, ◌%◌}
 pub use Rattle.std.specs.Allocator.{block_if_ok, owned_block}
@@ -15,7 +15,7 @@ pub use mir.MapTy.{inst_fn}
 pub use mir.Syntax.{Args, Dict, a_type, dnil, dcons, named, Fn, Body, Ty, ty_array, ty_ptr, Callee, ty_int, ty_struct, tcons, tnil, ty_unit}
 pub use mir.Val.{Val, vunit, vint, vptr, vbool, WT, has_ty, vstruct, vcons, vnil, of_list}
 pub use base.Fml.{Fml, Lft, Share, ftrue, fsep, flft, ffalse, fat, fex, froom, ftok, fwand, Incl-refl, fbor}
-pub use base.Logic.{SProp, ent, emp, sep, ex, fst∗, never, never_e, apply∗, wand, via, snd∗}
+pub use base.Logic.{SProp, ent, emp, sep, ex, id⊢, fst∗, never, never_e, apply∗, wand, via, snd∗}
 pub use base.Mask.{every, less}
 use base.Share
 pub use contract.BorrowLft.{◌⊑◌, ⊑_refl, ⊑_trans, ⊑_meet, ⊑_static}
@@ -67,9 +67,13 @@ module _ {M : Type 1} {𝓤 : Ura M} (𝓛 : Logic 𝓤) where
   pub gone : ent 𝓤 (emp 𝓤) (H.⇛ (emp 𝓤))
   gone = 𝓛.laws.⇛_intro (emp 𝓤)
 
-  abbrev trues : ℕ → Fml
+  abbrev pub trues : ℕ → Fml
   trues zero = ftrue
   trues (suc n) = fsep ftrue (trues n)
+
+  pub spent : (n : ℕ) → ent 𝓤 (emp 𝓤) (sem 𝓛 (trues n))
+  spent zero = id⊢ 𝓤 (emp 𝓤)
+  spent (suc n) = qed 𝓛 [] ∵ use0 𝓛 (‵ (trues n)) (spent n) $ nothing ! $ fjoin ! $ done !
 
   module _ (κ : Lft) (q : Share) (n : ℕ) (X : RattleType) (v : Val) (says : X.Denot → Fml) {W : Type 0} where
     pub ended : ent 𝓤 (H.⇛ (ex 𝓤 (λ (r : X.Denot). sep 𝓤 (sep 𝓤 (sep 𝓤 (A.lft κ (Share.left q)) (sep 𝓤 (A.lft κ (Share.right q)) (emp 𝓤))) (sem 𝓛 (X.own_val r (v ∷ [])))) (ex 𝓤 (λ (_ : W). sep 𝓤 (sem 𝓛 (trues n)) (sem 𝓛 (says r)))))))

@@ -3,7 +3,7 @@
 --     generics, watch_of     the type arguments of both, and where the watch of a `Watched` lies.        watched_by     a `&` to the watch
 --     reaches      a `&Watched` is a `&` to each of its fields
 --     Asks, Notes      the contract of `refuses`, and the one that `grants` and `takes_back` share.        asking, asks     what a call of either is given, and what it is handed
-pub use Rattle.ex_watched.proofs.Walk.{◌≡◌, ℕ, ◌+◌, ◌<◌, ◌^◌, Bool, List, [], ◌∷◌, refl, ap, w64, Bor, true, false, Ok, Err, T, block_if_ok, bool, unit, Al, α, seen, token, Answer, answer_val, Answer-typed, Answer-Ok, Answer-err, Takes, at_takes, Answered, Takes-goes, Takes-gives, answers, Gives, at_gives, Gives-goes, Gives-Gives, after, front, arm_body, proved, leaves, Ura, inst_fn, Args, Dict, a_type, dnil, dcons, named, Fn, Body, Val, vunit, vint, vptr, Fml, Lft, Share, ftrue, fsep, flft, SProp, ent, emp, sep, fst∗, never, ◌⊑◌, ⊑_refl, ⊑_trans, Fun, fact, fact_i, tables, Memory, size, align, up, capped, Routine, Env, Wp, after_seq, at_return, WpFn, alloc_all, pass_all, free_all, look_at, get, get_in, get_tag, through, sets, sets_last, lands_as, env, ‵, raw, ◌⊛◌, some, later, ◌$◌, ◌∵◌, !, qed, move, keep, drop, use0, use1, use2, split, split3, join, pick, fsplit, fjoin, feq_i, feq_l, flt_i, await, done, prop, at_ret, any_q, Sq, Post, given, learn, suffices, group, regoal, Logic, sem, vrt, in_variant, agg, whole, stop, fld, addr, lit, no_more, and_then, of_opd, first, branches, skips, switches_on, exec, returns, returns_within, enter, unit_lit, hidden_shr, unhide, shr_dup, bounded, param, layout, Laws, uint_vals, uint_Tells, RattleType, owns, Ptr, block_ptr, null_ptr, ptr_val, room_for, in_a_block, rawptr_vals, rawptr_Tells, ShrRef, shr_vals, types_at, nothing, only, heard, calls_at, triple_of, Contract, framed, walk_of, ends_at, inner_of, dropped, gone, ended}
+pub use Rattle.ex_watched.proofs.Walk.{◌≡◌, ℕ, ◌+◌, ◌<◌, ◌^◌, Bool, List, [], ◌∷◌, refl, ap, w64, Bor, true, false, Ok, Err, T, block_if_ok, bool, unit, Al, α, seen, token, Answer, answer_val, Answer-typed, Answer-Ok, Answer-err, Takes, at_takes, Answered, Takes-goes, Takes-gives, answers, Gives, at_gives, Gives-goes, Gives-Gives, after, front, arm_body, proved, leaves, Ura, inst_fn, Args, Dict, a_type, dnil, dcons, named, Fn, Body, Val, vunit, vint, vptr, Fml, Lft, Share, ftrue, fsep, flft, SProp, ent, emp, sep, fst∗, never, ◌⊑◌, ⊑_refl, ⊑_trans, Fun, fact, fact_i, tables, Memory, size, align, up, capped, Routine, Env, Wp, after_seq, at_return, WpFn, alloc_all, pass_all, free_all, look_at, get, get_in, get_tag, through, sets, sets_last, lands_as, env, ‵, raw, ◌⊛◌, some, later, ◌$◌, ◌∵◌, !, qed, move, keep, drop, use0, use1, use2, split, split3, join, pick, fsplit, fjoin, feq_i, feq_l, flt_i, await, done, prop, at_ret, any_q, Sq, Post, given, learn, suffices, group, regoal, Logic, sem, vrt, in_variant, agg, whole, stop, fld, addr, lit, no_more, and_then, of_opd, first, branches, skips, switches_on, exec, returns, returns_within, enter, unit_lit, hidden_shr, unhide, shr_dup, bounded, param, layout, Laws, uint_vals, uint_Tells, RattleType, owns, Ptr, block_ptr, null_ptr, ptr_val, room_for, in_a_block, rawptr_vals, rawptr_Tells, ShrRef, shr_vals, types_at, nothing, only, heard, calls_at, triple_of, Contract, framed, walk_of, ends_at, inner_of, dropped, gone, trues, spent, ended}
 use base.Share
 use Rattle.ex_watched.specs.declared.watched.Watch.{Ghosts}
 use Rattle.ex_watched.specs.contracts.watched.Watched as watched

@@ -1,5 +1,5 @@
 -- The answer is `Err`, whatever is asked for. Assumes `Logic`.
-use Rattle.ex_watched.proofs.Walk.{[], ◌∷◌, refl, w64, false, Err, Answer, answer_val, Answer-typed, Answer-err, proved, ftrue, flft, alloc_all, pass_all, free_all, look_at, get, sets, ‵, raw, ◌⊛◌, ◌$◌, ◌∵◌, !, qed, move, keep, use0, split, fjoin, done, suffices, group, agg, lit, no_more, and_then, returns, enter, uint_vals, uint_Tells, owns, shr_vals, types_at, nothing, walk_of, ends_at, dropped, gone}
+use Rattle.ex_watched.proofs.Walk.{[], ◌∷◌, refl, w64, false, Err, Answer, answer_val, Answer-typed, Answer-err, proved, ftrue, flft, alloc_all, pass_all, free_all, look_at, get, sets, ‵, raw, ◌⊛◌, ◌$◌, ◌∵◌, !, qed, move, keep, use0, split, fjoin, done, suffices, group, agg, lit, no_more, and_then, returns, enter, uint_vals, uint_Tells, owns, shr_vals, types_at, nothing, walk_of, ends_at, dropped, gone, trues, spent}
 use Rattle.aa_faulty.specs.contracts.refusing.RefusingAllocator.allocate as F
 use Rattle.aa_faulty.proofs.refusing.RefusingAllocator.allocate.Statement.{statement}
 use Rattle.aa_faulty.proofs.refusing.RefusingAllocator.allocate.Code as code
@@ -18,5 +18,4 @@ allocate_spec 𝓤 𝓛 𝓜 𝓡 wired =
     returns ! (look_at ! 0 refl) $ free_all ! refl $
     -- [the token]
     suffices ! _ (ends_at 𝓛 E hs c y v no (tt, (tt, (tt, tt))) (tt, (tt, (tt, tt)))) $
-    nothing ! $ use0 𝓛 (‵ (Answer.own_val no (v ∷ []))) (Answer-err 𝓛) $
-    nothing ! $ nothing ! $ fjoin ! $ nothing ! $ fjoin ! $ nothing ! $ fjoin ! $ move ! (3 ∷ 0 ∷ 1 ∷ []) $ group ! 3 $ done !))
+    nothing ! $ use0 𝓛 (‵ (Answer.own_val no (v ∷ []))) (Answer-err 𝓛) $ use0 𝓛 (‵ (trues 𝓛 3)) (spent 𝓛 3) $ move ! (3 ∷ 0 ∷ 1 ∷ []) $ group ! 3 $ done !))

@@ -1,5 +1,5 @@
 -- A block comes from the shelf, or else from the inner allocator. Assumes `Logic`.
-use Rattle.ex_allocators.proofs.Pooling.{◌≡◌, [], ◌∷◌, refl, w64, true, false, Ok, Err, T, block_if_ok, Al, seen, token, Answer, answer_val, Answer-typed, Answer-Ok, Answer-err, Takes, at_takes, Answered, Takes-goes, Takes-gives, answers, after, front, arm_body, proved, leaves, inst_fn, Fn, Body, Ty, Val, ftrue, flft, fex, ent, emp, ◌⊑◌, ⊑_trans, fact, tables, size, align, capped, Env, Wp, after_seq, at_return, alloc_all, pass_all, free_all, look_at, get, get_in, get_tag, through, sets, sets_last, lands_as, env, ‵, raw, ◌⊛◌, later, ◌$◌, ◌∵◌, !, qed, move, keep, use0, use1, use2, split, join, fsplit, fjoin, await, done, prop, at_ret, any_q, Sq, Post, suffices, group, fpack, sem, vrt, in_variant, agg, whole, stop, fld, addr, lit, no_more, and_then, of_opd, first, switches_on, exec, returns, returns_within, enter, uint_vals, uint_Tells, owns, block_ptr, shr_vals, types_at, nothing, heard, calls_at, triple_of, framed, walk_of, ends_at, inner_of, dropped, gone, generics, shelf_of, Shelved, hands_shelf, reaches}
+use Rattle.ex_allocators.proofs.Pooling.{◌≡◌, [], ◌∷◌, refl, w64, true, false, Ok, Err, T, block_if_ok, Al, seen, token, Answer, answer_val, Answer-typed, Answer-Ok, Answer-err, Takes, at_takes, Answered, Takes-goes, Takes-gives, answers, after, front, arm_body, proved, leaves, inst_fn, Fn, Body, Ty, Val, ftrue, flft, fex, ent, emp, ◌⊑◌, ⊑_trans, fact, tables, size, align, capped, Env, Wp, after_seq, at_return, alloc_all, pass_all, free_all, look_at, get, get_in, get_tag, through, sets, sets_last, lands_as, env, ‵, raw, ◌⊛◌, later, ◌$◌, ◌∵◌, !, qed, move, keep, use0, use1, use2, split, join, fsplit, fjoin, await, done, prop, at_ret, any_q, Sq, Post, suffices, group, fpack, sem, vrt, in_variant, agg, whole, stop, fld, addr, lit, no_more, and_then, of_opd, first, switches_on, exec, returns, returns_within, enter, uint_vals, uint_Tells, owns, block_ptr, shr_vals, types_at, nothing, heard, calls_at, triple_of, framed, walk_of, ends_at, inner_of, dropped, gone, trues, spent, generics, shelf_of, Shelved, hands_shelf, reaches}
 use Rattle.ex_allocators.proofs.shelf.Shelf.take.Met.{met}
 use Rattle.ex_allocators.specs.contracts.shelf.Shelf.take as take
 use Rattle.ex_allocators.specs.contracts.pool.PoolAllocator.allocate as F
@@ -22,8 +22,7 @@ allocate_spec 𝓤 𝓛 𝓜 𝓡 wired B L g d d' inner drops =
     let leaves : (x : Answer.Denot) (v : Val) → ent 𝓤 (emp 𝓤) (sem 𝓛 (Answer.own_val x (v ∷ [])))
     → Sq 𝓛 (‵ (block_if_ok (token K heap) τ x) ∷ ‵ (flft κ q) ∷ (‵ (flft κs.1.0 qs.1.0) ⊛ ‵ ftrue) ∷ []) (prop (Wk.post y v)) = λ x v made.
     suffices ! _ (ends_at 𝓛 E hs c y v x (tt, (tt, (tt, tt))) (tt, (tt, (tt, tt)))) $
-    move ! (1 ∷ 2 ∷ []) $ join ! $ use0 𝓛 (‵ (Answer.own_val x (v ∷ []))) made $
-    nothing ! $ nothing ! $ fjoin ! $ nothing ! $ fjoin ! $ nothing ! $ fjoin ! $ move ! (2 ∷ 0 ∷ 1 ∷ []) $ group ! 3 $ done ! in
+    move ! (1 ∷ 2 ∷ []) $ join ! $ use0 𝓛 (‵ (Answer.own_val x (v ∷ []))) made $ use0 𝓛 (‵ (trues 𝓛 3)) (spent 𝓛 3) $ move ! (2 ∷ 0 ∷ 1 ∷ []) $ group ! 3 $ done ! in
     qed 𝓛 (((‵ (flft κ q) ⊛ ‵ (flft κs.1.0 qs.1.0) ⊛ ‵ ftrue) ⊛ ‵ (owns (types_at E.signature.params κs) a y.0.4)) ∷ (raw (fact 𝓤 (κs.1.0 ⊑ B.lives)) ⊛ raw (fact 𝓤 Fits)) ∷ []) ∵
     move ! (1 ∷ []) $ split ! $ heard ! _ (λ lives. heard ! Fits (λ fits. let lasts = ⊑_trans κ κs.1.0 B.lives bounds.0 lives in
     split ! $ split ! $ move ! (2 ∷ []) $ fsplit ! $

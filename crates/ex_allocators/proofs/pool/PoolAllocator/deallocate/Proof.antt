@@ -1,5 +1,5 @@
 -- The block goes to the shelf, or else to the inner allocator. Assumes `Logic`.
-use Rattle.ex_allocators.proofs.Pooling.{◌≡◌, ℕ, Bool, List, [], ◌∷◌, refl, ap, w64, false, subst, sym, ◌∙◌, owned_block, bool, Al, seen, token, Gives, at_gives, Gives-goes, Gives-Gives, after, proved, inst_fn, Fn, Body, Val, vunit, vint, vptr, Fml, ftrue, flft, froom, fwand, sep, fst∗, never, ◌⊑◌, ⊑_trans, fact, tables, Dv, dv_self, size, align, capped, Env, WpFn, alloc_all, pass_all, free_all, look_at, get, through, sets, lands_as, env, ‵, raw, ◌⊛◌, some, later, ◌$◌, ◌∵◌, !, qed, move, keep, drop, use1, split, split3, join, pick, fsplit, fjoin, feq_i, feq_l, await, done, prop, at_ret, Sq, given, learn, suffices, group, regoal, fpick, rewrite, sem, stop, fld, addr, no_more, and_then, of_opd, first, branches, skips, exec, returns, returns_within, enter, unit_lit, uint_vals, uint_Tells, owns, Ptr, block_ptr, null_ptr, ptr_val, in_a_block, rawptr_vals, rawptr_Tells, shr_vals, types_at, nothing, only, heard, calls_at, triple_of, framed, walk_of, ends_at, inner_of, dropped, gone, ended, block_unless, generics, shelf_of, Shelved, hands_shelf, reaches}
+use Rattle.ex_allocators.proofs.Pooling.{◌≡◌, ℕ, Bool, List, [], ◌∷◌, refl, ap, w64, false, subst, sym, ◌∙◌, owned_block, bool, Al, seen, token, Gives, at_gives, Gives-goes, Gives-Gives, after, proved, inst_fn, Fn, Body, Val, vunit, vint, vptr, Fml, ftrue, flft, froom, fwand, sep, fst∗, never, ◌⊑◌, ⊑_trans, fact, tables, Dv, dv_self, size, align, capped, Env, WpFn, alloc_all, pass_all, free_all, look_at, get, through, sets, lands_as, env, ‵, raw, ◌⊛◌, some, later, ◌$◌, ◌∵◌, !, qed, move, keep, drop, use0, use1, split, split3, join, pick, fsplit, fjoin, feq_i, feq_l, await, done, prop, at_ret, Sq, given, learn, suffices, group, regoal, fpick, rewrite, sem, stop, fld, addr, no_more, and_then, of_opd, first, branches, skips, exec, returns, returns_within, enter, unit_lit, uint_vals, uint_Tells, owns, Ptr, block_ptr, null_ptr, ptr_val, in_a_block, rawptr_vals, rawptr_Tells, shr_vals, types_at, nothing, only, heard, calls_at, triple_of, framed, walk_of, ends_at, inner_of, dropped, gone, trues, spent, ended, block_unless, generics, shelf_of, Shelved, hands_shelf, reaches}
 use lib.Ieee.Bits.{is_false}
 use Rattle.ex_allocators.proofs.shelf.Shelf.put.Met.{met}
 use Rattle.ex_allocators.specs.contracts.shelf.Shelf.put as put
@@ -25,8 +25,7 @@ deallocate_spec 𝓤 𝓛 𝓜 𝓡 wired B L g d d' inner drops =
     regoal ! (λ (p : Ptr). prop (WpFn 𝓤 𝓛.H 𝓣.C 𝓣.Λ fn (vptr r.ref_ptr.0 r.ref_ptr.1 ∷ ptr_val p ∷ vint w64 n ∷ vint w64 al ∷ []) (Wk.post (y p)))) is_block refl $
     let ends : Sq 𝓛 (‵ (flft κ q) ∷ (‵ (flft κs.1.0 qs.1.0) ⊛ ‵ ftrue) ∷ []) (prop (Wk.post (y (block_ptr b o)) vunit)) =
     suffices ! _ (ends_at 𝓛 E hs c (y (block_ptr b o)) vunit tt (tt, (tt, (tt, (tt, tt)))) (tt, (tt, (tt, (tt, tt))))) $
-    join ! $ nothing ! $ feq_i ! (List Val) (vunit ∷ []) (vunit ∷ []) refl $
-    nothing ! $ nothing ! $ fjoin ! $ nothing ! $ fjoin ! $ nothing ! $ fjoin ! $ nothing ! $ fjoin ! $ move ! (3 ∷ 0 ∷ 1 ∷ []) $ group ! 3 $ done ! in
+    join ! $ nothing ! $ feq_i ! (List Val) (vunit ∷ []) (vunit ∷ []) refl $ use0 𝓛 (‵ (trues 𝓛 4)) (spent 𝓛 4) $ move ! (3 ∷ 0 ∷ 1 ∷ []) $ group ! 3 $ done ! in
     move ! (1 ∷ []) $ split ! $ split ! $ move ! (2 ∷ []) $ fsplit ! $
     use1 𝓛 (‵ (seen Z κ at heap) ⊛ ‵ (seen K κ spot heap)) (reaches Z 𝓛 κ r) $ split ! $ keep ! (5 ∷ 1 ∷ 3 ∷ 0 ∷ 4 ∷ []) $
     -- [the block; the `&` to the shelf; its token; the `&` to the inner allocator; the other token]

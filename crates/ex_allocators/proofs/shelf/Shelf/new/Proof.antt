@@ -1,5 +1,5 @@
 -- An empty shelf owns nothing. Assumes `Logic`.
-use Rattle.ex_allocators.proofs.Shelving.{◌≡◌, List, [], ◌∷◌, refl, T, lit<, ◌++◌, leaves, proved_at, inst_fn, Fn, Val, vint, vptr, WT, has_ty, ftrue, fsep, SProp, emp, ◌⊑◌, fact, fact_i, tables, size, WpFn, alloc_all, pass_all, free_all, look_at, get, sets, ‵, raw, ◌⊛◌, ◌$◌, ◌∵◌, !, qed, move, drop, use0, split, fjoin, prop, Post, regoal, by, fpack, agg, lit, no_more, and_then, returns, enter, Typed, param, RattleType, owns, null_ptr, types_at, nothing, heard, alive, walk_of, dropped, gone, IsKept, kept_blocks, generics, shelf_type, shelf_val, shelf_own, Fit, shelf_made}
+use Rattle.ex_allocators.proofs.Shelving.{◌≡◌, List, [], ◌∷◌, refl, T, lit<, ◌++◌, leaves, proved_at, inst_fn, Fn, Val, vint, vptr, WT, has_ty, ftrue, fsep, SProp, emp, ◌⊑◌, fact, fact_i, tables, size, WpFn, alloc_all, pass_all, free_all, look_at, get, sets, ‵, raw, ◌⊛◌, ◌$◌, ◌∵◌, !, qed, move, drop, use0, split, fjoin, prop, Post, regoal, by, fpack, agg, lit, no_more, and_then, returns, enter, Typed, param, RattleType, owns, null_ptr, types_at, nothing, heard, alive, walk_of, dropped, gone, trues, spent, IsKept, kept_blocks, generics, shelf_type, shelf_val, shelf_own, Fit, shelf_made}
 use Rattle.ex_allocators.specs.contracts.shelf.Shelf.TheInside as inside
 use Rattle.ex_allocators.specs.contracts.shelf.Shelf.new as made
 use Rattle.ex_allocators.proofs.shelf.Shelf.new.Statement.{statement}
@@ -27,5 +27,5 @@ new_spec 𝓤 𝓛 𝓜 𝓡 wired B L g d dd met md =
     use0 𝓛 (‵ (shelf_own null_ptr 0 m (v ∷ []))) (shelf_made 𝓛 null_ptr 0 m fit) $ nothing ! $ fpack ! (IsKept m) (λ _. ftrue) kept $ move ! (1 ∷ 0 ∷ []) $ fjoin ! $
     fpack ! F.Denot (λ i. fsep (F.own_val i (v ∷ [])) (kept_blocks (g.dealloc_token heap) i.size i.count i.top)) (record { top = null_ptr; count = 0; size = m; marker = record {} }) $
     nothing ! $ fpack ! (Typed F.mir (v ∷ [])) (λ _. ftrue) (empty, tt) $ fjoin ! $
-    use0 𝓛 (raw (fact 𝓤 (heap ≡ heap))) (fact_i 𝓤 (heap ≡ heap) (emp 𝓤) refl) $ nothing ! $ nothing ! $ fjoin ! $ nothing ! $ fjoin ! $ move ! (3 ∷ 0 ∷ 2 ∷ 1 ∷ []) $
+    use0 𝓛 (raw (fact 𝓤 (heap ≡ heap))) (fact_i 𝓤 (heap ≡ heap) (emp 𝓤) refl) $ use0 𝓛 (‵ (trues 𝓛 2)) (spent 𝓛 2) $ move ! (3 ∷ 0 ∷ 2 ∷ 1 ∷ []) $
     by ! (leaves 𝓛 E stays c z v heap (tt, (tt, tt)) (tt, (tt, tt))))))

@@ -1,5 +1,5 @@
 -- The block leads to the one that was on top. Assumes `Logic`.
-use Rattle.ex_allocators.proofs.Shelving.{◌≡◌, ℕ, ◌+◌, ◌<◌, ◌^◌, Bool, List, [], ◌∷◌, refl, ap, w64, true, false, arith, suc, sym, ◌++◌, ◌-◌, ◌∙◌, owned_block, full_share, after, head, inside, is_not, is_so, leaves, inst_fn, Fn, Ty, ty_ptr, Val, vint, vptr, vbool, Fml, Lft, Share, ftrue, fsep, flft, fex, froom, ftok, SProp, fst∗, never, apply∗, wand, every, ◌⊑◌, fact, size, align, capped, Env, WpFn, alloc_all, pass_all, free_all, look_at, get, through, sets, sets_last, env, ‵, raw, ◌⊛◌, ◌$◌, ◌∵◌, !, qed, move, keep, use1, use2, split, split3, join, fsplit, fjoin, feq_i, prop, at_ret, Sq, Post, regoal, by, fpack, fpick, rewrite, sem, whole, look_in, store_in, sub, stop, fld, addr, lit, of_opd, first, branches, skips, exec, returns, returns_within, enter, assigns, bin, blocks, false_lit, load, true_lit, neg_lit, init, param, RattleType, owns, Ptr, block_ptr, null_ptr, ptr_val, in_a_block, rawptr_Lawful, types_at, nothing, heard, walk_of, dropped, gone, IsKept, block_unless, free_block, right_to, stack, generics, fields, opens_shelf, shuts_shelf, fills, holding_token, proved_alone, left_block, readies}
+use Rattle.ex_allocators.proofs.Shelving.{◌≡◌, ℕ, ◌+◌, ◌<◌, ◌^◌, Bool, List, [], ◌∷◌, refl, ap, w64, true, false, arith, suc, sym, ◌++◌, ◌-◌, ◌∙◌, owned_block, full_share, after, head, inside, is_not, is_so, leaves, inst_fn, Fn, Ty, ty_ptr, Val, vint, vptr, vbool, Fml, Lft, Share, ftrue, fsep, flft, fex, froom, ftok, SProp, fst∗, never, apply∗, wand, every, ◌⊑◌, fact, size, align, capped, Env, WpFn, alloc_all, pass_all, free_all, look_at, get, through, sets, sets_last, env, ‵, raw, ◌⊛◌, ◌$◌, ◌∵◌, !, qed, move, keep, use0, use1, use2, split, split3, join, fsplit, fjoin, feq_i, prop, at_ret, Sq, Post, regoal, by, fpack, fpick, rewrite, sem, whole, look_in, store_in, sub, stop, fld, addr, lit, of_opd, first, branches, skips, exec, returns, returns_within, enter, assigns, bin, blocks, false_lit, load, true_lit, neg_lit, init, param, RattleType, owns, Ptr, block_ptr, null_ptr, ptr_val, in_a_block, rawptr_Lawful, types_at, nothing, heard, walk_of, dropped, gone, trues, spent, IsKept, block_unless, free_block, right_to, stack, generics, fields, opens_shelf, shuts_shelf, fills, holding_token, proved_alone, left_block, readies}
 use Rattle.ex_allocators.specs.contracts.shelf.Shelf.put as puts
 use Rattle.ex_allocators.proofs.shelf.Shelf.put.Statement.{statement}
 use Rattle.ex_allocators.proofs.shelf.Shelf.put.Code as code
@@ -24,8 +24,7 @@ put_spec 𝓤 𝓛 𝓜 𝓡 wired B L g d dd met md =
     in_a_block ! from (λ r. owned_block (right_to t) τ r) (fst∗ 𝓤 (never 𝓤) (sem 𝓛 (right_to t τ null_ptr))) (λ b o placed.
     let ends : (x : Bool) → Sq 𝓛 (‵ (flft κ q) ∷ ‵ (ftok every) ∷ ‵ Other ∷ ‵ (block_unless x (right_to t) τ (block_ptr b o)) ∷ []) (prop (Post (vbool x))) = λ x.
     rewrite ! 3 (λ (r : Ptr). ‵ (block_unless x (right_to t) τ r)) (sym placed) refl $ move ! (1 ∷ 3 ∷ []) $ join ! $
-    feq_i ! (List Val) (vbool x ∷ []) (vbool x ∷ []) refl $ nothing ! $ nothing ! $ fjoin ! $ nothing ! $ fjoin ! $ nothing ! $ fjoin ! $ nothing ! $ fjoin ! $
-    nothing ! $ move ! (5 ∷ 0 ∷ []) $ join ! $ move ! (4 ∷ 0 ∷ []) $ join ! $ move ! (0 ∷ 1 ∷ 2 ∷ 3 ∷ []) $
+    feq_i ! (List Val) (vbool x ∷ []) (vbool x ∷ []) refl $ use0 𝓛 (‵ (trues 𝓛 4)) (spent 𝓛 4) $ nothing ! $ move ! (5 ∷ 0 ∷ []) $ join ! $ move ! (4 ∷ 0 ∷ []) $ join ! $ move ! (0 ∷ 1 ∷ 2 ∷ 3 ∷ []) $
     by ! (leaves 𝓛 E stays c z (vbool x) x (tt, (tt, (tt, (tt, tt)))) (tt, (tt, (tt, (tt, tt))))) in
     move ! (3 ∷ []) $ split ! $ split3 ! $ move ! (3 ∷ []) $ fsplit ! $ fsplit ! $ keep ! (1 ∷ 3 ∷ 7 ∷ 4 ∷ 6 ∷ []) $
     regoal ! (λ (us : List Val). prop (WpFn 𝓤 𝓛.H C Λ fn us Post)) (λ i. are.0.0 i ++ ((are.1.0 ∙ ap (λ (r : Ptr). ptr_val r ∷ []) placed) i ++ (are.1.1.0.0 i ++ (are.1.1.1.0.0 i ++ [])))) refl $

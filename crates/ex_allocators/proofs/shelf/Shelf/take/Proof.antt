@@ -1,5 +1,5 @@
 -- The block on top is unlinked: its word says which one is the next. Assumes `Logic`.
-use Rattle.ex_allocators.proofs.Shelving.{◌≡◌, ℕ, ◌<◌, ◌^◌, List, [], ◌∷◌, refl, w64, true, false, Ok, Err, arith, suc, ◌++◌, ◌-◌, block_if_ok, owned_block, full_share, Answer, answer_val, Answer-typed, Answer-Ok, Answer-err, after, head, inside, is_not, is_so, leaves, inst_fn, Fn, Ty, ty_ptr, Val, vint, vptr, Fml, Lft, Share, ftrue, flft, fat, ftok, SProp, apply∗, wand, every, ◌⊑◌, fact, size, align, capped, Env, WpFn, alloc_all, pass_all, free_all, look_at, get, through, sets, sets_last, env, ‵, raw, ◌⊛◌, some, ◌$◌, ◌∵◌, !, qed, move, keep, use0, use1, use2, split, split3, join, fsplit, fjoin, prop, at_ret, Sq, Post, regoal, by, fpack, fpick, rewrite, sem, agg, whole, look_in, store_in, sub, stop, fld, addr, lit, no_more, and_then, of_opd, first, branches, skips, exec, returns, returns_within, enter, assigns, bin, blocks, load, look, param, RattleType, owns, Ptr, block_ptr, ptr_val, rawptr_Lawful, types_at, nothing, heard, walk_of, dropped, gone, IsKept, right_to, stack, generics, fields, opens_shelf, shuts_shelf, fills, holding_token, proved_alone, left_block, regrants}
+use Rattle.ex_allocators.proofs.Shelving.{◌≡◌, ℕ, ◌<◌, ◌^◌, List, [], ◌∷◌, refl, w64, true, false, Ok, Err, arith, suc, ◌++◌, ◌-◌, block_if_ok, owned_block, full_share, Answer, answer_val, Answer-typed, Answer-Ok, Answer-err, after, head, inside, is_not, is_so, leaves, inst_fn, Fn, Ty, ty_ptr, Val, vint, vptr, Fml, Lft, Share, ftrue, flft, fat, ftok, SProp, apply∗, wand, every, ◌⊑◌, fact, size, align, capped, Env, WpFn, alloc_all, pass_all, free_all, look_at, get, through, sets, sets_last, env, ‵, raw, ◌⊛◌, some, ◌$◌, ◌∵◌, !, qed, move, keep, use0, use1, use2, split, split3, join, fsplit, fjoin, prop, at_ret, Sq, Post, regoal, by, fpack, fpick, rewrite, sem, agg, whole, look_in, store_in, sub, stop, fld, addr, lit, no_more, and_then, of_opd, first, branches, skips, exec, returns, returns_within, enter, assigns, bin, blocks, load, look, param, RattleType, owns, Ptr, block_ptr, ptr_val, rawptr_Lawful, types_at, nothing, heard, walk_of, dropped, gone, trues, spent, IsKept, right_to, stack, generics, fields, opens_shelf, shuts_shelf, fills, holding_token, proved_alone, left_block, regrants}
 use Rattle.ex_allocators.specs.contracts.shelf.Shelf.take as taken
 use Rattle.ex_allocators.proofs.shelf.Shelf.take.Statement.{statement}
 use Rattle.ex_allocators.proofs.shelf.Shelf.take.Code as code
@@ -18,8 +18,7 @@ take_spec 𝓤 𝓛 𝓜 𝓡 wired B L g d dd met md =
     let at = z.0.3.0.ref_ptr in let heap = z.0.3.0.now in let t = g.dealloc_token heap in let τ : Ty = z.1 in let s = z.0.3.1.0 in let al = z.0.3.1.1.0 in
     let Other : Fml = flft z.0.0.1.0 z.0.1.1.0 in let Fits : Type 0 = (capped (size τ) ≡ s) × (capped (align τ) ≡ al) in
     let ends : (x : Answer.Denot) (v : Val) → Sq 𝓛 (‵ (flft κ q) ∷ ‵ (ftok every) ∷ ‵ Other ∷ ‵ (Answer.own_val x (v ∷ [])) ∷ ‵ (block_if_ok (right_to t) τ x) ∷ []) (prop (Post v)) = λ x v.
-    move ! (1 ∷ 4 ∷ []) $ join ! $ nothing ! $ nothing ! $ fjoin ! $ nothing ! $ fjoin ! $ nothing ! $ fjoin ! $
-    nothing ! $ move ! (4 ∷ 0 ∷ []) $ join ! $ move ! (3 ∷ 0 ∷ []) $ join ! $ move ! (0 ∷ 1 ∷ 3 ∷ []) $
+    move ! (1 ∷ 4 ∷ []) $ join ! $ use0 𝓛 (‵ (trues 𝓛 3)) (spent 𝓛 3) $ nothing ! $ move ! (4 ∷ 0 ∷ []) $ join ! $ move ! (3 ∷ 0 ∷ []) $ join ! $ move ! (0 ∷ 1 ∷ 3 ∷ []) $
     by ! (leaves 𝓛 E stays c z v x (tt, (tt, (tt, tt))) (tt, (tt, (tt, tt)))) in
     let none : Sq 𝓛 (‵ (flft κ q) ∷ ‵ (ftok every) ∷ ‵ Other ∷ []) (prop (Post (answer_val false 0 0))) =
     use0 𝓛 (‵ (Answer.own_val (Err (record {})) (answer_val false 0 0 ∷ []))) (Answer-err 𝓛) $ nothing ! $ move ! (2 ∷ 3 ∷ 4 ∷ 1 ∷ 0 ∷ []) $ ends (Err (record {})) (answer_val false 0 0) in

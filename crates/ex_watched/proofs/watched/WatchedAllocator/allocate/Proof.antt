@@ -1,5 +1,5 @@
 -- The request is counted, and refused or passed on. A block that comes of it is counted too. Assumes `Logic`.
-use Rattle.ex_watched.proofs.Watching.{◌≡◌, Bool, [], ◌∷◌, refl, ap, w64, true, false, Ok, Err, T, block_if_ok, bool, unit, Al, seen, token, Answer, answer_val, Answer-typed, Answer-Ok, Answer-err, Takes, at_takes, Answered, Takes-goes, Takes-gives, answers, after, front, arm_body, proved, leaves, inst_fn, Fn, Body, Val, ftrue, flft, ent, emp, ◌⊑◌, ⊑_trans, fact, tables, size, align, capped, Env, Wp, after_seq, at_return, alloc_all, pass_all, free_all, look_at, get, get_in, get_tag, through, sets, sets_last, lands_as, env, ‵, raw, ◌⊛◌, some, later, ◌$◌, ◌∵◌, !, qed, move, keep, drop, use0, use1, use2, split, split3, join, pick, fsplit, fjoin, feq_l, await, done, prop, at_ret, any_q, Sq, Post, suffices, group, sem, vrt, in_variant, agg, whole, stop, fld, addr, lit, no_more, and_then, of_opd, first, branches, skips, switches_on, exec, returns, returns_within, enter, shr_dup, uint_vals, uint_Tells, owns, block_ptr, shr_vals, types_at, nothing, only, heard, calls_at, framed, walk_of, ends_at, inner_of, dropped, gone, ended, Wa, generics, watch_of, watched_by, reaches, Asks, asking, asks, Notes}
+use Rattle.ex_watched.proofs.Watching.{◌≡◌, Bool, [], ◌∷◌, refl, ap, w64, true, false, Ok, Err, T, block_if_ok, bool, unit, Al, seen, token, Answer, answer_val, Answer-typed, Answer-Ok, Answer-err, Takes, at_takes, Answered, Takes-goes, Takes-gives, answers, after, front, arm_body, proved, leaves, inst_fn, Fn, Body, Val, ftrue, flft, ent, emp, ◌⊑◌, ⊑_trans, fact, tables, size, align, capped, Env, Wp, after_seq, at_return, alloc_all, pass_all, free_all, look_at, get, get_in, get_tag, through, sets, sets_last, lands_as, env, ‵, raw, ◌⊛◌, some, later, ◌$◌, ◌∵◌, !, qed, move, keep, drop, use0, use1, use2, split, split3, join, pick, fsplit, fjoin, feq_l, await, done, prop, at_ret, any_q, Sq, Post, suffices, group, sem, vrt, in_variant, agg, whole, stop, fld, addr, lit, no_more, and_then, of_opd, first, branches, skips, switches_on, exec, returns, returns_within, enter, shr_dup, uint_vals, uint_Tells, owns, block_ptr, shr_vals, types_at, nothing, only, heard, calls_at, framed, walk_of, ends_at, inner_of, dropped, gone, trues, spent, ended, Wa, generics, watch_of, watched_by, reaches, Asks, asking, asks, Notes}
 use Rattle.ex_watched.specs.contracts.watched.WatchedAllocator.allocate as F
 use Rattle.ex_watched.proofs.watched.WatchedAllocator.allocate.Statement.{statement}
 use Rattle.ex_watched.proofs.watched.WatchedAllocator.allocate.Code as code
@@ -20,8 +20,7 @@ allocate_spec 𝓤 𝓛 𝓜 𝓡 wired B W L LW g d gw dw d' dw' inner watch _ 
     let leaves : (x : Answer.Denot) (v : Val) → ent 𝓤 (emp 𝓤) (sem 𝓛 (Answer.own_val x (v ∷ [])))
     → Sq 𝓛 (‵ (block_if_ok (token Z heap) τ x) ∷ ‵ (flft κ q) ∷ (‵ (flft κs.1.0 qs.1.0) ⊛ ‵ (flft κs.1.1.0 qs.1.1.0) ⊛ ‵ ftrue) ∷ []) (prop (Wk.post y v)) = λ x v made.
     suffices ! _ (ends_at 𝓛 E hs c y v x (tt, (tt, (tt, tt))) (tt, (tt, (tt, tt)))) $
-    move ! (1 ∷ 2 ∷ []) $ join ! $ use0 𝓛 (‵ (Answer.own_val x (v ∷ []))) made $
-    nothing ! $ nothing ! $ fjoin ! $ nothing ! $ fjoin ! $ nothing ! $ fjoin ! $ move ! (2 ∷ 0 ∷ 1 ∷ []) $ group ! 3 $ done ! in
+    move ! (1 ∷ 2 ∷ []) $ join ! $ use0 𝓛 (‵ (Answer.own_val x (v ∷ []))) made $ use0 𝓛 (‵ (trues 𝓛 3)) (spent 𝓛 3) $ move ! (2 ∷ 0 ∷ 1 ∷ []) $ group ! 3 $ done ! in
     qed 𝓛 (((‵ (flft κ q) ⊛ ‵ (flft κs.1.0 qs.1.0) ⊛ ‵ (flft κs.1.1.0 qs.1.1.0) ⊛ ‵ ftrue) ⊛ ‵ (owns (types_at E.signature.params κs) a y.0.4))
     ∷ (raw (fact 𝓤 (κs.1.0 ⊑ B.lives)) ⊛ raw (fact 𝓤 (κs.1.1.0 ⊑ W.lives)) ⊛ raw (fact 𝓤 Fits)) ∷ []) ∵
     move ! (1 ∷ []) $ split3 ! $ heard ! _ (λ lives. heard ! _ (λ lives'. let lasts = ⊑_trans κ κs.1.1.0 W.lives bounds.1.0 lives' in heard ! Fits (λ fits.
