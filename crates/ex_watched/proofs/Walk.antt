@@ -1,7 +1,7 @@
 -- The names that the walks of this crate and of the crates above it cite, passed on, and what the walks share. Assumes `Logic`.
 --     inner_of      where the first field of a struct lies, if that is the inner allocator
 --     dropped, gone      of no parameter is anything left at the return, where nothing is said of its last value.        trues, spent      what is then had of n parameters
---     ended      what a caller has, once a call of n parameters returns that was lent a token in two halves: the result, the `ensures` and the token
+--     ended      a proof's step: what a caller has, once a call of n parameters returns that was lent a token in two halves: the result, the `ensures` and the token
 pub use Rattle.std.proofs.Common.{◌≡◌, ℕ, ◌+◌, ◌<◌, ◌^◌, Bool, List, [], ◌∷◌, refl, ap, w64, Bor, true, false, Ok, Err, T, arith, lit<, subst, suc, sym, zero, ◌*◌, ◌++◌, ◌-◌, ◌/◌, ◌∙◌, ◌%◌}
 pub use Rattle.std.specs.Allocator.{block_if_ok, owned_block}
 pub use Rattle.std.specs.Borrow.{full_share, bool, unit, usize}
@@ -27,7 +27,7 @@ pub use prog.Memory.{Memory, size, align, up, capped}
 pub use prog.Routine.{Routine, over, ◌≼⁺◌}
 pub use prog.Wp.{Env, Wp, after_seq, at_return, WpFn, Calls, Loops, Tables, after_block}
 pub use types.ByLocal.{alloc_all, pass_all, free_all, look_at, get, get_in, get_tag, through, sets, sets_last, lands_as, env, lands_last}
-pub use types.Kit.{‵, raw, ◌⊛◌, some, later, ◌$◌, ◌∵◌, !, qed, move, keep, drop, use0, use1, use2, split, split3, join, pick, show, fsplit, fjoin, feq_i, feq_l, flt_i, await, updating, now as at_once, done, prop, at_ret, any_q, Sq, Post, given, learn, suffices, group, regoal, by, fjoin3, fpack, fpick, fsplit3, rewrite, post, Item, Goal, Seq, Step, Soaks, step, use3, frame, assume}
+pub use types.Kit.{‵, raw, ◌⊛◌, some, later, ◌$◌, ◌∵◌, !, qed, move, keep, drop, use0, use1, use2, split, split3, join, pick, show, fsplit, fjoin, feq_i, feq_l, flt_i, await, updating, now as at_once, done, prop, at_ret, any_q, Sq, Post, given, learn, suffices, group, regoal, by, fjoin3, fpack, fpick, fsplit3, rewrite, post, Item, Goal, Seq, Step, Soaks, step, mean, use3, frame, assume}
 pub use types.Logic.{Logic, sem, lfts}
 pub use types.Match.{vrt, in_variant}
 pub use types.Na.{bor_na, na_acc_in, na_bor}
@@ -75,10 +75,12 @@ module _ {M : Type 1} {𝓤 : Ura M} (𝓛 : Logic 𝓤) where
   spent zero = id⊢ 𝓤 (emp 𝓤)
   spent (suc n) = qed 𝓛 [] ∵ use0 𝓛 (‵ (trues n)) (spent n) $ nothing ! $ fjoin ! $ done !
 
-  module _ (κ : Lft) (q : Share) (n : ℕ) (X : RattleType) (v : Val) (says : X.Denot → Fml) {W : Type 0} where
-    pub ended : ent 𝓤 (H.⇛ (ex 𝓤 (λ (r : X.Denot). sep 𝓤 (sep 𝓤 (sep 𝓤 (A.lft κ (Share.left q)) (sep 𝓤 (A.lft κ (Share.right q)) (emp 𝓤))) (sem 𝓛 (X.own_val r (v ∷ [])))) (ex 𝓤 (λ (_ : W). sep 𝓤 (sem 𝓛 (trues n)) (sem 𝓛 (says r)))))))
-        (H.⇛ (ex 𝓤 (λ (r : X.Denot). sep 𝓤 (sem 𝓛 (X.own_val r (v ∷ []))) (sep 𝓤 (sem 𝓛 (says r)) (A.lft κ q)))))
-    ended =
-        qed 𝓛 (later (some (λ (r : X.Denot). ((‵ (flft κ (Share.left q)) ⊛ ‵ (flft κ (Share.right q)) ⊛ ‵ ftrue) ⊛ ‵ (X.own_val r (v ∷ []))) ⊛ some (λ (_ : W). ‵ (trues n) ⊛ ‵ (says r)))) ∷ []) ∵ updating ! $
-        await ! tt $ pick ! (λ r. split ! $ move ! (1 ∷ []) $ pick ! (λ _. split ! $ drop ! $ move ! (1 ∷ []) $ split ! $ split3 ! $ use2 𝓛 (‵ (flft κ q)) (𝓛.lfts.lft_join κ q) $
-        at_once ! $ show ! (λ (r : X.Denot). sep 𝓤 (sem 𝓛 (X.own_val r (v ∷ []))) (sep 𝓤 (sem 𝓛 (says r)) (A.lft κ q))) r $ keep ! (2 ∷ 3 ∷ 0 ∷ []) $ done !))
+  module _ (κ : Lft) (q : Share) (n : ℕ) (X : RattleType) (v : Val) (says : X.Denot → Fml) (W : Type 0) where
+    abbrev Given : Item 𝓤
+    Given = later (some (λ (r : X.Denot). ((‵ (flft κ (Share.left q)) ⊛ ‵ (flft κ (Share.right q)) ⊛ ‵ ftrue) ⊛ ‵ (X.own_val r (v ∷ []))) ⊛ some (λ (_ : W). ‵ (trues n) ⊛ ‵ (says r))))
+
+    pub ended : {K : Type 0} {Γ : List (Item 𝓤)} {G : Goal 𝓤 H} → K → Soaks G
+        → ((r : X.Denot) → Seq K 𝓛 (‵ (X.own_val r (v ∷ [])) ∷ ‵ (says r) ∷ ‵ (flft κ q) ∷ Γ) G) → Seq K 𝓛 (raw (mean 𝓛 Given) ∷ Γ) G
+    ended t z k =
+        use1 𝓛 Given (id⊢ 𝓤 (mean 𝓛 Given)) $ await t z $ pick t (λ r. split t $ move t (1 ∷ []) $ pick t (λ _. split t $ drop t $ move t (1 ∷ []) $ split t $
+        split3 t $ use2 𝓛 (‵ (flft κ q)) (𝓛.lfts.lft_join κ q) $ move t (1 ∷ []) $ drop t $ move t (1 ∷ 2 ∷ 0 ∷ []) $ k r))

@@ -38,8 +38,7 @@ deallocate_spec 𝓤 𝓛 𝓜 𝓡 wired B L g d d' inner drops =
     Gives-goes K 𝓛 𝓜.mem 𝓡.returns κ q spot heap le b o n al τ fits.0 fits.1 n_fits al_fits)) $
     calls_at ! (framed 𝓤 𝓛.H 𝓜 𝓣) S (met 𝓤 𝓛 𝓜 𝓡 (code.calls-ex_allocators::shelf::Shelf::put 𝓡.env wired) B L g d d' inner drops) puts
     (and_then ! (get ! refl) (and_then ! (get ! refl) (and_then ! (get ! refl) (and_then ! (get ! refl) (no_more !))))) (λ v.
-    use1 𝓛 (later (some (λ (x : Bool). ‵ (bool.own_val x (v ∷ [])) ⊛ ‵ (Unless x) ⊛ ‵ (flft κ q)))) (ended 𝓛 κ q 4 bool v Unless) $
-    await ! tt $ pick ! (λ x. split3 ! $ feq_l ! (λ told. lands_as ! (ap only told) refl (tt, tt) $
+    ended 𝓛 κ q 4 bool v Unless _ ! tt (λ x. feq_l ! (λ told. lands_as ! (ap only told) refl (tt, tt) $
     -- [the block, unless it was put there; the token; the `&` to the inner allocator; the other token]
     first ! $ branches ! (get ! refl)
     (λ _. sets ! (of_opd ! (unit_lit !)) refl (tt, tt) $ returns_within ! (Wk.post (y (block_ptr b o))) refl (look_at ! 0 refl) $ free_all ! refl $ keep ! (1 ∷ 3 ∷ []) $ ends)

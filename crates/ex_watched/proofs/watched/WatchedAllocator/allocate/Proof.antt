@@ -34,7 +34,7 @@ allocate_spec 𝓤 𝓛 𝓜 𝓡 wired B W L LW g d gw dw d' dw' inner watch _ 
     sets ! (addr ! (through ! refl (fld ! refl (stop !)))) refl (tt, tt) $
     use2 𝓛 (raw (Q.pre ask)) (asks Y 𝓛 𝓜.mem 𝓡.returns κ q eye spot n lasts n_fits) $
     calls_at ! (framed 𝓤 𝓛.H 𝓜 𝓣) Q (watch.refuses dw') ask (and_then ! (get ! refl) (and_then ! (get ! refl) (no_more !))) (λ v.
-    use1 𝓛 (later (some (λ (no : Bool). ‵ (bool.own_val no (v ∷ [])) ⊛ ‵ ftrue ⊛ ‵ (flft κ q)))) (ended 𝓛 κ q 2 bool v (λ _. ftrue)) $ await ! tt $ pick ! (λ no. split3 ! $ feq_l ! (λ told. drop ! $ lands_as ! (ap only told) refl (tt, tt) $
+    ended 𝓛 κ q 2 bool v (λ _. ftrue) _ ! tt (λ no. feq_l ! (λ told. drop ! $ lands_as ! (ap only told) refl (tt, tt) $
     -- [the token; the `&` to the watch; the `&` to the inner allocator; the other token]
     first ! $ branches ! (get ! refl)
     (λ _. sets ! (agg ! (no_more !)) refl (tt, tt) $ sets ! (agg ! (and_then ! (lit ! tt) (and_then ! (get ! refl) (no_more !)))) refl (Answer-typed false 0 0) $
@@ -53,7 +53,7 @@ allocate_spec 𝓤 𝓛 𝓜 𝓡 wired B W L LW g d gw dw d' dw' inner watch _ 
     sets ! (addr ! (through ! refl (fld ! refl (stop !)))) refl (tt, tt) $ move ! (3 ∷ 2 ∷ []) $
     use2 𝓛 (raw (N.pre ask)) (asks Y 𝓛 𝓜.mem 𝓡.returns κ q eye spot n lasts n_fits) $
     calls_at ! (framed 𝓤 𝓛.H 𝓜 𝓣) N (watch.grants dw') ask (and_then ! (get ! refl) (and_then ! (get ! refl) (no_more !))) (λ u.
-    use1 𝓛 (later (some (λ (x : Unit {0}). ‵ (unit.own_val x (u ∷ [])) ⊛ ‵ ftrue ⊛ ‵ (flft κ q)))) (ended 𝓛 κ q 2 unit u (λ _. ftrue)) $ await ! tt $ pick ! (λ x. split3 ! $ feq_l ! (λ counted. drop ! $ lands_as ! (ap only counted) refl (tt, tt) $
+    ended 𝓛 κ q 2 unit u (λ _. ftrue) _ ! tt (λ _. feq_l ! (λ counted. drop ! $ lands_as ! (ap only counted) refl (tt, tt) $
     sets ! (agg ! (and_then ! (lit ! tt) (and_then ! (get ! refl) (no_more !)))) refl (Answer-typed true b o) $ returns ! (look_at ! 0 refl) $ free_all ! refl $
     move ! (1 ∷ 2 ∷ []) $ fjoin ! $ leaves (Ok (block_ptr b o)) (answer_val true b o) (Answer-Ok 𝓛 b o)))))
     (λ refused. lands_as ! refused refl (Answer-typed false 0 0) $

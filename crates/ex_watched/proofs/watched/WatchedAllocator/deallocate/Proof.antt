@@ -30,7 +30,7 @@ deallocate_spec 𝓤 𝓛 𝓜 𝓡 wired B W L LW g d gw dw d' dw' inner watch 
     sets ! (addr ! (through ! refl (fld ! refl (stop !)))) refl (tt, tt) $
     use2 𝓛 (raw (N.pre note)) (asks Y 𝓛 𝓜.mem 𝓡.returns κ q eye spot n lasts n_fits) $
     calls_at ! (framed 𝓤 𝓛.H 𝓜 𝓣) N (watch.takes_back dw') note (and_then ! (get ! refl) (and_then ! (get ! refl) (no_more !))) (λ v.
-    use1 𝓛 (later (some (λ (x : Unit {0}). ‵ (unit.own_val x (v ∷ [])) ⊛ ‵ ftrue ⊛ ‵ (flft κ q)))) (ended 𝓛 κ q 2 unit v (λ _. ftrue)) $ await ! tt $ pick ! (λ x. split3 ! $ feq_l ! (λ counted. drop ! $ lands_as ! (ap only counted) refl (tt, tt) $
+    ended 𝓛 κ q 2 unit v (λ _. ftrue) _ ! tt (λ _. feq_l ! (λ counted. drop ! $ lands_as ! (ap only counted) refl (tt, tt) $
     -- [the token; the `&` to the inner allocator; the block; the other token]
     sets ! (addr ! (through ! refl (fld ! refl (stop !)))) refl (tt, tt) $
     move ! (2 ∷ []) $ fsplit ! $ move ! (0 ∷ 1 ∷ 3 ∷ 2 ∷ []) $ group ! 4 $
