@@ -1,5 +1,5 @@
 -- The answer is `Err`, whatever is asked for. Assumes `Logic`.
-use Rattle.ex_watched.proofs.Walk.{[], ◌∷◌, refl, w64, false, Err, Answer, answer_val, Answer-typed, Answer-err, proved, ftrue, flft, alloc_all, pass_all, free_all, look_at, get, sets, ‵, raw, ◌⊛◌, ◌$◌, ◌∵◌, !, qed, move, keep, use0, split, fjoin, done, suffices, group, agg, lit, no_more, and_then, returns, enter, uint_vals, uint_Tells, owns, shr_vals, types_at, nothing, walk_of, ends_at, dropped, gone, trues, spent}
+use Rattle.ex_watched.proofs.Walk.{[], ◌∷◌, refl, w64, false, Err, Answer, answer_val, Answer-typed, Answer-err, proved, ftrue, flft, alloc_all, pass_all, free_all, look_at, get, sets, ‵, raw, ◌⊛◌, ◌$◌, ◌∵◌, !, qed, move, keep, use0, split, done, suffices, group, agg, lit, no_more, and_then, returns, enter, uint_vals, uint_Tells, owns, shr_vals, types_at, nothing, walk_of, ends_at, dropped, gone, trues, spent}
 use Rattle.aa_faulty.specs.contracts.refusing.RefusingAllocator.allocate as F
 use Rattle.aa_faulty.proofs.refusing.RefusingAllocator.allocate.Statement.{statement}
 use Rattle.aa_faulty.proofs.refusing.RefusingAllocator.allocate.Code as code

@@ -1,5 +1,5 @@
 -- A block of the shelf goes back to the inner allocator, as room for pointers. Assumes `Logic`.
-use Rattle.ex_allocators.proofs.Pooling.{◌≡◌, ℕ, ◌<◌, ◌^◌, Bool, List, [], ◌∷◌, refl, ap, w64, true, false, T, arith, lit<, subst, sym, ◌*◌, ◌/◌, ◌∙◌, ◌%◌, Al, seen, Answer-typed, at_takes, Answered, Takes-goes, Takes-gives, answers, Gives, at_gives, Gives-goes, Gives-Gives, after, front, arm_body, proved, inst_fn, Fn, Body, Ty, ty_array, ty_ptr, ty_unit, Val, vunit, vbool, WT, has_ty, ftrue, flft, froom, fwand, ◌⊑◌, ⊑_trans, fact, tables, Dv, dv_self, capped_is, size, align, capped, Env, Wp, after_seq, at_return, alloc_all, pass_all, free_all, look_at, get, get_in, get_tag, through, sets, sets_last, lands_as, env, lands_last, ‵, raw, ◌⊛◌, later, ◌$◌, ◌∵◌, !, qed, move, keep, drop, use0, use1, use2, split, join, fsplit, fjoin, feq_i, await, done, prop, at_ret, any_q, Sq, Post, given, learn, suffices, group, fpick, vrt, in_variant, whole, stop, fld, addr, lit, no_more, and_then, of_opd, first, switches_on, exec, returns, returns_within, enter, blocks, false_lit, true_lit, uint_vals, uint_Tells, owns, shr_vals, types_at, nothing, heard, calls_at, calls_at_last, triple_of, framed, walk_of, ends_at, inner_of, dropped, gone, trues, spent, generics, shelf_of, Shelved, hands_shelf, reaches}
+use Rattle.ex_allocators.proofs.Pooling.{◌≡◌, ℕ, ◌<◌, ◌^◌, Bool, List, [], ◌∷◌, refl, ap, w64, true, false, T, arith, lit<, subst, sym, ◌*◌, ◌/◌, ◌∙◌, ◌%◌, Al, seen, Answer-typed, at_takes, Answered, Takes-goes, Takes-gives, answers, Gives, at_gives, Gives-goes, Gives-Gives, after, front, arm_body, proved, inst_fn, Fn, Body, Ty, ty_array, ty_ptr, ty_unit, Val, vunit, vbool, WT, has_ty, ftrue, flft, froom, fwand, ◌⊑◌, ⊑_trans, fact, tables, Dv, dv_self, capped_is, size, align, capped, Env, Wp, after_seq, at_return, alloc_all, pass_all, free_all, look_at, get, get_in, get_tag, through, sets, sets_last, lands_as, env, lands_last, ‵, raw, ◌⊛◌, later, ◌$◌, ◌∵◌, !, qed, move, keep, drop, use0, use1, use2, split, join, fsplit, feq_i, await, done, prop, at_ret, any_q, Sq, Post, given, learn, suffices, group, fpick, vrt, in_variant, whole, stop, fld, addr, lit, no_more, and_then, of_opd, first, switches_on, exec, returns, returns_within, enter, blocks, false_lit, true_lit, uint_vals, uint_Tells, owns, shr_vals, types_at, nothing, heard, calls_at, calls_at_last, triple_of, framed, walk_of, ends_at, inner_of, dropped, gone, trues, spent, generics, shelf_of, Shelved, hands_shelf, reaches}
 use Rattle.ex_allocators.proofs.shelf.Shelf.take.Met.{met}
 use Rattle.ex_allocators.specs.contracts.shelf.Shelf.take as take
 use Rattle.ex_allocators.specs.contracts.pool.Pool.give_one as F

@@ -1,5 +1,5 @@
 -- The block goes to the shelf, or else to the inner allocator. Assumes `Logic`.
-use Rattle.ex_allocators.proofs.Pooling.{◌≡◌, ℕ, Bool, List, [], ◌∷◌, refl, ap, w64, false, subst, sym, ◌∙◌, owned_block, bool, Al, seen, token, Gives, at_gives, Gives-goes, Gives-Gives, after, proved, inst_fn, Fn, Body, Val, vunit, vint, vptr, Fml, ftrue, flft, froom, fwand, sep, fst∗, never, ◌⊑◌, ⊑_trans, fact, tables, Dv, dv_self, size, align, capped, Env, WpFn, alloc_all, pass_all, free_all, look_at, get, through, sets, lands_as, env, ‵, raw, ◌⊛◌, some, later, ◌$◌, ◌∵◌, !, qed, move, keep, drop, use0, use1, split, split3, join, pick, fsplit, fjoin, feq_i, feq_l, await, done, prop, at_ret, Sq, given, learn, suffices, group, regoal, fpick, rewrite, sem, stop, fld, addr, no_more, and_then, of_opd, first, branches, skips, exec, returns, returns_within, enter, unit_lit, uint_vals, uint_Tells, owns, Ptr, block_ptr, null_ptr, ptr_val, in_a_block, rawptr_vals, rawptr_Tells, shr_vals, types_at, nothing, only, heard, calls_at, triple_of, framed, walk_of, ends_at, inner_of, dropped, gone, trues, spent, ended, block_unless, generics, shelf_of, Shelved, hands_shelf, reaches}
+use Rattle.ex_allocators.proofs.Pooling.{◌≡◌, ℕ, Bool, List, [], ◌∷◌, refl, ap, w64, false, subst, sym, ◌∙◌, owned_block, bool, Al, seen, token, Gives, at_gives, Gives-goes, Gives-Gives, after, proved, inst_fn, Fn, Body, Val, vunit, vint, vptr, Fml, ftrue, flft, froom, fwand, sep, fst∗, never, ◌⊑◌, ⊑_trans, fact, tables, Dv, dv_self, size, align, capped, Env, WpFn, alloc_all, pass_all, free_all, look_at, get, through, sets, lands_as, env, ‵, raw, ◌⊛◌, later, ◌$◌, ◌∵◌, !, qed, move, keep, drop, use0, use1, split, split3, join, fsplit, feq_i, feq_l, await, done, prop, at_ret, Sq, given, learn, suffices, group, regoal, fpick, rewrite, sem, stop, fld, addr, no_more, and_then, of_opd, first, branches, skips, exec, returns, returns_within, enter, unit_lit, uint_vals, uint_Tells, owns, Ptr, block_ptr, null_ptr, ptr_val, in_a_block, rawptr_vals, rawptr_Tells, shr_vals, types_at, nothing, only, heard, calls_at, triple_of, framed, walk_of, ends_at, inner_of, dropped, gone, trues, spent, ended, block_unless, generics, shelf_of, Shelved, hands_shelf, reaches}
 use lib.Ieee.Bits.{is_false}
 use Rattle.ex_allocators.proofs.shelf.Shelf.put.Met.{met}
 use Rattle.ex_allocators.specs.contracts.shelf.Shelf.put as put

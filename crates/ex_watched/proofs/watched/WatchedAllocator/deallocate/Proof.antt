@@ -1,5 +1,5 @@
 -- The block is counted as given back, and the inner allocator takes it. Assumes `Logic`.
-use Rattle.ex_watched.proofs.Watching.{◌≡◌, List, [], ◌∷◌, refl, ap, w64, unit, Al, seen, token, Gives, at_gives, Gives-goes, Gives-Gives, proved, inst_fn, Fn, Val, vunit, vint, vptr, ftrue, fsep, flft, fst∗, never, ◌⊑◌, ⊑_trans, fact, tables, size, align, capped, WpFn, alloc_all, pass_all, free_all, look_at, get, through, sets, lands_as, ‵, raw, ◌⊛◌, some, later, ◌$◌, ◌∵◌, !, qed, move, keep, drop, use0, use1, use2, split, split3, join, pick, fsplit, fjoin, feq_i, feq_l, await, done, prop, given, learn, suffices, group, regoal, sem, stop, fld, addr, no_more, and_then, of_opd, returns, enter, unit_lit, uint_vals, uint_Tells, owns, Ptr, block_ptr, null_ptr, ptr_val, room_for, in_a_block, rawptr_vals, rawptr_Tells, shr_vals, types_at, nothing, only, heard, calls_at, framed, walk_of, ends_at, inner_of, dropped, gone, trues, spent, ended, Wa, generics, watch_of, watched_by, reaches, asking, asks, Notes}
+use Rattle.ex_watched.proofs.Watching.{◌≡◌, List, [], ◌∷◌, refl, ap, w64, unit, Al, seen, token, Gives, at_gives, Gives-goes, Gives-Gives, proved, inst_fn, Fn, Val, vunit, vint, vptr, ftrue, fsep, flft, fst∗, never, ◌⊑◌, ⊑_trans, fact, tables, size, align, capped, WpFn, alloc_all, pass_all, free_all, look_at, get, through, sets, lands_as, ‵, raw, ◌⊛◌, later, ◌$◌, ◌∵◌, !, qed, move, keep, drop, use0, use1, use2, split, split3, join, fsplit, feq_i, feq_l, await, done, prop, given, learn, suffices, group, regoal, sem, stop, fld, addr, no_more, and_then, of_opd, returns, enter, unit_lit, uint_vals, uint_Tells, owns, Ptr, block_ptr, null_ptr, ptr_val, room_for, in_a_block, rawptr_vals, rawptr_Tells, shr_vals, types_at, nothing, only, heard, calls_at, framed, walk_of, ends_at, inner_of, dropped, gone, trues, spent, ended, Wa, generics, watch_of, watched_by, reaches, asking, asks, Notes}
 use Rattle.ex_watched.specs.contracts.watched.WatchedAllocator.deallocate as F
 use Rattle.ex_watched.proofs.watched.WatchedAllocator.deallocate.Statement.{statement}
 use Rattle.ex_watched.proofs.watched.WatchedAllocator.deallocate.Code as code
