@@ -1,5 +1,5 @@
 -- A text of which a beginning is written.
-use Rattle.vecscript.proofs.Common.{◌≡◌, ◌∙◌, refl, inl, inr, ℕ, Bool, true, false, sym, List, [], ◌∷◌, ◌++◌, take, drop, length, arith, append_assoc, append-nil, take-append-drop, Option, None, Some, IfSome, Result, Ok, Err, codes, Appends, AppendsBeginning}
+use Rattle.vecscript.proofs.Common.{◌≡◌, ◌∙◌, refl, inl, inr, ℕ, Bool, true, false, sym, List, [], ◌∷◌, ◌++◌, take, drop, length, arith, append_assoc, append-nil, take-append-drop, Option, Result, Ok, Err, codes, Appends, AppendsBeginning}
 use Rattle.std.proofs.Common.{true≢false}
 use Rattle.std.proofs.KnownBytes.{Appends-trans}
 use Rattle.std.specs.Fmt.Cut.{IsTextOrCut}
@@ -28,13 +28,6 @@ HasWritten-next old mid new text rest n had more =
 pub HasWritten-all : (old new : Option (List ℕ)) (text rest : List ℕ) → HasWritten old new text rest → length rest ≡ 0 → Appends old new text
 HasWritten-all old new text [] had none = rw (had.place, append-nil had.front) had.grew
 HasWritten-all old new text (x ∷ xs) had none = absurd (omega arith)
-
--- a beginning of what a known text leads to
-pub IfSome-begun : {X : Type 0} (Means : X → Type 0) (Leads : X → List ℕ → Type 0) (known : Option X) (answer : List ℕ) (old new : Option (List ℕ))
-    → IfSome known Means → ((x : X) → Means x → Leads x answer) → AppendsBeginning old new answer
-    → IfSome known (λ x. (answer : List ℕ) × Leads x answer × AppendsBeginning old new answer)
-IfSome-begun Means Leads None answer old new means leads begun = tt
-IfSome-begun Means Leads (Some x) answer old new means leads begun = (answer, leads x means, begun)
 
 -- a text that does not end in dots was not cut
 pub whole-text : (E : ℕ → ℕ → Bool) (known kept : List ℕ) → pointwise E (codes "...") (codes "...") ≡ true → IsTextOrCut 64 known kept

@@ -11,6 +11,7 @@ pub use Rattle.std.proofs.lemmas.Bool.Decides.{nat_tests}
 pub use Rattle.std.proofs.lemmas.Int.Digits.{digits_value_more}
 pub use Rattle.std.proofs.lemmas.List.{append-nil, append_assoc, drop_all, length-append, map-append, take-append-drop, take_all, take_rest}
 pub use Rattle.std.proofs.lemmas.List.Elements.{All-append}
+pub use Rattle.std.proofs.lemmas.Option.{IfSome_then}
 pub use Rattle.std.specs.Char.{is_ascii_digit}
 pub use Rattle.std.specs.Global.{Global}
 pub use Rattle.std.specs.Io.KnownBytes.{Appends}

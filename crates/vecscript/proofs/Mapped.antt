@@ -1,11 +1,16 @@
--- What is read of a line, and made into another value by `map`.
-use Rattle.vecscript.proofs.Common.{◌≡◌, ℕ, Result, Ok, Err, ReadsAs, Fault}
+-- What is read of a line that begins with a name, and made into a command by `map`.
+use Rattle.vecscript.proofs.Common.{◌≡◌, ℕ, List, Result, Ok, Err, refl, sym, subst, ReadsAs, Fault, Command, Global}
 use Rattle.std.specs.Prelude.{MatchResult}
+use Rattle.vecscript.specs.Lines.{SayAfter}
 
--- r is read as P says, m is r with its value made into another, and Q says of that what P says of the value
-pub ReadsAs-map : {X Y : Type 0} (number : ℕ) (P : X → Type 0) (Q : Y → Type 0) (make : X → Y)
-    → (r : Result X Fault) (m : Result Y Fault) → ReadsAs number P r
-    → MatchResult r (λ x. m ≡ Ok (make x)) (λ fault. m ≡ Err fault)
-    → ((x : X) → P x → Q (make x)) → ((y : Y) → Q y → (x : X) × P x) → ReadsAs number Q m
-ReadsAs-map number P Q make (Ok x) m said mapped to from = rw mapped (to x said)
-ReadsAs-map number P Q make (Err fault) m said mapped to from = rw mapped (said.0, λ y q. let p = from y q in said.1 p.0 p.1)
+-- r is read as P says, m is r with its value made into a command, and the words after the name say that command
+pub ReadsAs-named : {X : Type 0} (number : ℕ) (P : X → Type 0) (rest : List (List ℕ)) (word name : List ℕ) (r : Result X Fault) (m : Result (Command ℕ Global) Fault)
+    → word ≡ name → (make : X → Command ℕ Global) → SayAfter name rest ≡ (λ y. (x : X) × P x × (y ≡ make x))
+    → ReadsAs number P r → MatchResult r (λ x. m ≡ Ok (make x)) (λ fault. m ≡ Err fault) → ReadsAs number (SayAfter word rest) m
+ReadsAs-named {X = X} number P rest word name r m is make says read mapped =
+    rw is (let Reads : (Command ℕ Global → Type 0) → Type 0 = λ Q. ReadsAs number Q m in subst Reads (sym says) (made r read mapped))
+  where
+    made : (r : Result X Fault) → ReadsAs number P r → MatchResult r (λ x. m ≡ Ok (make x)) (λ fault. m ≡ Err fault)
+        → ReadsAs number (λ y. (x : X) × P x × (y ≡ make x)) m
+    made (Ok x) read mapped = rw mapped (x, read, refl)
+    made (Err fault) read mapped = rw mapped (read.0, λ y q. read.1 q.0 q.1)
