@@ -1,5 +1,5 @@
 -- A text of which a beginning is written.
-use Rattle.vecscript.proofs.Common.{◌≡◌, ◌∙◌, refl, inl, inr, ℕ, Bool, true, false, sym, List, [], ◌∷◌, ◌++◌, take, drop, length, arith, append_assoc, append-nil, take-append-drop, Option, Result, Ok, Err, codes, Appends, AppendsBeginning}
+use Rattle.vecscript.proofs.Common.{◌≡◌, ◌∙◌, inl, inr, ℕ, Bool, true, false, sym, List, [], ◌∷◌, ◌++◌, take, drop, length, arith, append_assoc, append-nil, take-append-drop, Option, Result, Ok, Err, codes, Appends}
 use Rattle.std.proofs.Common.{true≢false}
 use Rattle.std.proofs.KnownBytes.{Appends-trans}
 use Rattle.std.specs.Fmt.Cut.{IsTextOrCut}
@@ -35,16 +35,6 @@ pub whole-text : (E : ℕ → ℕ → Bool) (known kept : List ℕ) → pointwis
 whole-text E known kept same (inl whole) ends = whole
 whole-text E known kept same (inr dots) ends =
     absurd (true≢false (sym (rw dots at ends ∙ same)))
-
--- a beginning of a line's text is one of the line, and so is all of the text and a beginning of its end
-pub AppendsBeginning-within : (old new : Option (List ℕ)) (text more : List ℕ) → AppendsBeginning old new text → AppendsBeginning old new (text ++ more)
-AppendsBeginning-within old new text more begun =
-    (begun.0, begun.1 ++ more, rw (begun.2, append_assoc begun.0 begun.1 more) refl, begun.3)
-
-pub AppendsBeginning-on : (old mid new : Option (List ℕ)) (text more : List ℕ) → Appends old mid text → AppendsBeginning mid new more
-    → AppendsBeginning old new (text ++ more)
-AppendsBeginning-on old mid new text more whole begun =
-    (text ++ begun.0, begun.1, rw (append_assoc text begun.0 begun.1, ← begun.2) refl, Appends-trans old mid new text begun.0 whole begun.3)
 
 pub OnOk-holds : {X Y : Type 0} (P : Type 0) (r : Result X Y) → true ≡ is_ok r → OnOk r P → P
 OnOk-holds P (Ok x) ok p = p

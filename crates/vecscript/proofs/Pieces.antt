@@ -1,5 +1,5 @@
 -- A script of which some pieces were run, one after the other.
-use Rattle.vecscript.proofs.Common.{◌≡◌, ◌∙◌, ℕ, List, [], ◌∷◌, ◌++◌, length, refl, sym, ap, subst, arith, Global, lines, append_assoc, append-nil, map-append, Vector, Command, Reply, State, Calls, state_of, Turn, IsRun, RunsTo, AreBehind, replies_text, element_size}
+use Rattle.vecscript.proofs.Common.{◌≡◌, ℕ, List, [], ◌∷◌, ◌++◌, length, refl, ap, subst, arith, Global, lines, append_assoc, append-nil, map-append, Vector, State, Calls, state_of, Turn, IsRun, AreBehind, element_size}
 use Rattle.std.proofs.lemmas.Grind.{flat_map-append}
 use Rattle.aa_vec.specs.Copies.{IsMade}
 use Rattle.allocator_api2.specs.declared.raw_vec.Growth.{Growth}
@@ -9,30 +9,13 @@ use Rattle.vecscript.proofs.Sparing.{HasNoBad-blank, Mean-blank}
 use Rattle.vecscript.specs.Print.{line_of, reply_text}
 use Rattle.vecscript.specs.Runs.{Answers}
 
--- two runs, one behind the other, are one
-module _ {T A K S : Type 0} (size : ℕ) (calls : Calls T A K S) where
-  IsRun-append : (old : State T A K S) (ts : List (Turn T A K S)) (mid : State T A K S) (us : List (Turn T A K S)) (new : State T A K S)
-      → IsRun size calls old ts mid → IsRun size calls mid us new → IsRun size calls old (ts ++ us) new
-  IsRun-append old [] mid us new r s = let From : State T A K S → Type 0 = λ m. IsRun size calls m us new in subst From r s
+module _ {K S : Type 0} (calls : Calls ℕ Global K S) where
+  -- two runs, one behind the other, are one
+  IsRun-append : (old : State ℕ Global K S) (ts : List (Turn ℕ Global K S)) (mid : State ℕ Global K S) (us : List (Turn ℕ Global K S)) (new : State ℕ Global K S)
+      → IsRun element_size calls old ts mid → IsRun element_size calls mid us new → IsRun element_size calls old (ts ++ us) new
+  IsRun-append old [] mid us new r s = let From : State ℕ Global K S → Type 0 = λ m. IsRun element_size calls m us new in subst From r s
   IsRun-append old (t ∷ ts) mid us new r s = (r.0, r.1, IsRun-append t.after ts mid us new r.2 s)
 
-  RunsTo-append : (old mid new : State T A K S) (commands later : List (Command T A)) (replies more : List (Reply T))
-      → RunsTo size calls old commands replies mid → RunsTo size calls mid later more new
-      → RunsTo size calls old (commands ++ later) (replies ++ more) new
-  RunsTo-append old mid new commands later replies more r s =
-      let told = r.commands_are in
-      let told_later = s.commands_are in
-      let given = r.replies_are in
-      let given_later = s.replies_are in
-      record {
-        possible = r.possible;
-        turns = r.turns ++ s.turns;
-        run = IsRun-append old r.turns mid s.turns new r.run s.run;
-        commands_are = rw map-append (λ i. told i ++ told_later i);
-        replies_are = rw map-append (λ i. given i ++ given_later i);
-      }
-
-module _ {K S : Type 0} (calls : Calls ℕ Global K S) where
   -- of these lines those before the rest are blank, or were run
   pub record HasAnswered (old : State ℕ Global K S) (all : List (List ℕ)) (rest answer : List ℕ) (now : State ℕ Global K S) : Type 0 where
     pub before : List (List ℕ)
@@ -64,7 +47,8 @@ module _ {K S : Type 0} (calls : Calls ℕ Global K S) where
       → lines rest ≡ lines piece ++ lines others → HasAnswered old all others answer' new
   HasAnswered-next old all rest answer now had piece others answer' new more cut =
       let run = had.run in
-      let shown : answer ++ replies_text more.replies ≡ replies_text run.replies ++ replies_text more.replies = ap (λ a. a ++ replies_text more.replies) run.shown in
+      let r = run.run in
+      let s = more.run in
       record {
         before = had.before ++ lines piece;
         place = rw (append_assoc had.before (lines piece) (lines others), ← cut) had.place;
@@ -73,8 +57,14 @@ module _ {K S : Type 0} (calls : Calls ℕ Global K S) where
           commands = run.commands ++ more.commands;
           meant = Mean-append had.before (lines piece) run.commands more.commands run.meant more.meant;
           replies = run.replies ++ more.replies;
-          run = RunsTo-append element_size calls old now new run.commands more.commands run.replies more.replies run.run more.run;
-          shown = more.shown ∙ shown ∙ sym (flat_map-append (λ reply. line_of (reply_text reply)) run.replies more.replies);
+          run = record {
+            possible = r.possible;
+            turns = r.turns ++ s.turns;
+            run = IsRun-append old r.turns now s.turns new r.run s.run;
+            commands_are = rw (map-append, r.commands_are, s.commands_are) refl;
+            replies_are = rw (map-append, r.replies_are, s.replies_are) refl;
+          };
+          shown = rw (flat_map-append (λ reply. line_of (reply_text reply)) run.replies more.replies, more.shown, run.shown) refl;
         };
       }
 

@@ -1,5 +1,5 @@
 -- Which line of a script chooses how its lists grow.
-use Rattle.vecscript.proofs.Common.{◌≡◌, ◌≢◌, ℕ, Bool, true, false, ◌+◌, ◌≤◌, List, [], ◌∷◌, ◌++◌, length, refl, sym, ap, ◌∙◌, rules, arith, nat_tests, append_assoc, length-append, lines, Fault, words_of, growth_in, command_lines, AreBehind, Mean, HasNoBad}
+use Rattle.vecscript.proofs.Common.{◌≡◌, ◌≢◌, ℕ, Bool, true, false, ◌+◌, ◌≤◌, List, [], ◌∷◌, ◌++◌, length, refl, sym, ap, ◌∙◌, rules, arith, nat_tests, append_assoc, append-nil, length-append, lines, Fault, words_of, growth_in, command_lines, AreBehind, Mean, HasNoBad}
 use Rattle.std.specs.Prelude.{if◌then◌else◌}
 use Rattle.std.specs.List.{AllByRecursion}
 use Rattle.allocator_api2.specs.declared.raw_vec.Growth.TheVariants.{Doubling, Sparing}
@@ -31,8 +31,7 @@ HasNoBad-blank (line ∷ before) blank =
     HasNoBad-append (line ∷ []) before (HasNoBad-one line (λ bad. bad.has_words blank.0)) (HasNoBad-blank before blank.1)
 
 pub Mean-blank : (before : List (List ℕ)) → AllBlank before → Mean before []
-Mean-blank [] blank = tt
-Mean-blank (line ∷ before) blank = rw blank.0 (Mean-blank before blank.1)
+Mean-blank before blank = rw (rw (append-nil before) at (said_in-behind before [] blank)) tt
 
 -- the first line that has words decides
 first_words : (line : List ℕ) (others : List (List ℕ)) → words_of line ≢ [] → (b : Bool) → are_sparing (words_of line) ≡ b

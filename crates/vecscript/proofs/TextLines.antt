@@ -1,10 +1,10 @@
 -- The lines of a text, taken from its front.
-use Rattle.vecscript.proofs.Common.{get_or, ◌≡◌, ◌≢◌, ◌∙◌, ℕ, ◌+◌, ◌<◌, ◌≤◌, ◌==◌, Bool, List, [], ◌∷◌, ◌++◌, length, map, take, drop, refl, sym, ap, arith, length-take, length-drop, nat_tests, append-nil, take-append-drop, lines, position_or_len, slice_split}
+use Rattle.vecscript.proofs.Common.{get_or, ◌≡◌, ◌≢◌, ◌∙◌, ℕ, ◌+◌, ◌<◌, ◌≤◌, ◌==◌, Bool, List, [], ◌∷◌, ◌++◌, length, map, take, drop, refl, ap, arith, length-take, length-drop, nat_tests, append-nil, take-append-drop, lines, position_or_len, slice_split}
 use Rattle.std.proofs.lemmas.List.{drop_more, take_more, get_or-drop}
 use Rattle.std.proofs.lemmas.List.Sums.{passes_at_first}
 use Rattle.std.specs.Str.Lines.{lines_of_parts, strip_carriage_return}
 use Rattle.std.specs.List.{onto_first}
-use Rattle.vecscript.proofs.Parts.{front, following, more_parts, slice_split-front}
+use Rattle.vecscript.proofs.Parts.{front, following, slice_split-front}
 
 abbrev pub is_line_feed : ℕ → Bool
 is_line_feed b = b == 10
@@ -44,13 +44,8 @@ lines_of_parts-append (x ∷ y ∷ parts) part more =
 
 lines_at : (xs ys : List ℕ) → lines (xs ++ 10 ∷ ys) ≡ lines (xs ++ 10 ∷ []) ++ lines ys
 lines_at xs ys =
-    let parts = slice_split is_line_feed xs in
-    let others = more_parts is_line_feed (following is_line_feed ys) in
-    let both : lines (xs ++ 10 ∷ ys) ≡ map strip_carriage_return parts ++ lines ys =
-    rw (slice_split-at xs ys, slice_split-front is_line_feed ys) (lines_of_parts-append parts (front is_line_feed ys) others) in
-    let one : lines (xs ++ 10 ∷ []) ≡ map strip_carriage_return parts =
-    rw (slice_split-at xs []) (lines_of_parts-append parts [] [] ∙ append-nil (map strip_carriage_return parts)) in
-    both ∙ ap (λ ls. ls ++ lines ys) (sym one)
+    let parts = lines_of_parts-append (slice_split is_line_feed xs) in
+    grind (arith, slice_split-at xs ys, slice_split-at xs [], slice_split-front is_line_feed ys, parts, append-nil {A = List ℕ})
 
 -- the first line feed from an index on
 pub lines_cut : (xs : List ℕ) (from end : ℕ) → end ≡ from + position_or_len is_line_feed (drop from xs) → end < length xs
@@ -58,5 +53,5 @@ pub lines_cut : (xs : List ℕ) (from end : ℕ) → end ≡ from + position_or_
 lines_cut xs from end is_end inside =
     let feed = passes_at_first is_line_feed (drop from xs) 0 (omega (arith, length-drop from xs)) in
     let here : get_or xs end 0 ≡ 10 = grind (arith, nat_tests, get_or-drop, feed) in
-    let whole : xs ≡ take end xs ++ 10 ∷ drop (end + 1) xs = sym (take-append-drop end xs) ∙ rw (drop_more xs end 0 inside, here) refl in
+    let whole : xs ≡ take end xs ++ 10 ∷ drop (end + 1) xs = grind (arith, take-append-drop end xs, drop_more xs end 0 inside) in
     ap lines whole ∙ rw (take_more xs end 0 inside, here) (lines_at (take end xs) (drop (end + 1) xs))

@@ -1,10 +1,10 @@
 -- A run whose closures are told in other words: where those say what each call does, they say it of the run.
-use Rattle.vecscript.proofs.Common.{ℕ, Bool, true, false, List, [], ◌∷◌, length, take, Option, IfSome, IfSome_then, Global, lines, SplitOff, ExtractIf, Reply, Command, State, Calls, Turn, IsRun, element_size, MayAnswer}
+use Rattle.vecscript.proofs.Common.{ℕ, Bool, true, false, rules, List, [], ◌∷◌, length, take, Option, IfSome, IfSome_then, Global, lines, SplitOff, ExtractIf, Reply, Command, State, Calls, Turn, IsRun, element_size, MayAnswer}
 use Rattle.std.specs.Prelude.{slice_range}
-use Rattle.aa_vec.specs.Choosing.{Asked, AskedInOrder, ChainsFrom, Deduplicated}
+use Rattle.aa_vec.specs.Choosing.{Asked, AskedInOrder, Retains, ChainsFrom, Deduplicated, Deduplicates}
 use Rattle.allocator_api2.specs.declared.runner.Command.TheVariants.{Retain, Dedup}
 use Rattle.allocator_api2.specs.declared.runner.Reply.TheVariants.{Done}
-use Rattle.allocator_api2.specs.Machine.{Step}
+use Rattle.allocator_api2.specs.Machine.{Step, TakesOut, asking}
 
 module _ {K S : Type 0} (calls told : Calls ℕ Global K S)
     (keeps : (k : K) (x : ℕ) (answer : Bool) (l : K) (y : ℕ) → calls.keeps k x answer l y → told.keeps k x answer l y)
@@ -27,51 +27,29 @@ module _ {K S : Type 0} (calls told : Calls ℕ Global K S)
 
   Step-told : (old : State ℕ Global K S) (command : Command ℕ Global) (answers : List Bool) (reply : Reply ℕ) (new : State ℕ Global K S)
       → Step element_size calls old command answers reply new → Step element_size told old command answers reply new
-  Step-told old (SplitOff at) answers reply new s =
-      let cut = s.cut in
-      record {
-        cut = record { none = cut.none; keep = cut.keep; same = cut.same; lists = cut.lists };
-        tail_clone = λ e h. clones _ _ (s.tail_clone e h);
-        head_clone = λ e h. clones _ _ (s.head_clone e h);
-      }
+  Step-told old (SplitOff at) answers reply new s = search (rules, clones)
   Step-told old Retain answers reply new s =
       let h = s.retains in
-      let asked = asked-told old.keep old.main.items h.told new.keep h.asked in
-      record {
-        done = s.done;
-        side = s.side;
-        same = s.same;
-        retains = record { told = h.told; asked = asked; holds = h.holds; written = h.written; runs = h.runs };
-        asked = s.asked;
-      }
+      let kept : Retains told.keeps old.keep old.main new.keep new.main =
+      record { told = h.told; asked = asked-told old.keep old.main.items h.told new.keep h.asked; holds = h.holds; written = h.written; runs = h.runs } in
+      record { done = s.done; side = s.side; same = s.same; retains = kept; asked = s.asked }
   Step-told old Dedup answers reply new s =
       let h = s.removes in
       let asked = deduplicated-told old.same old.main.items h.answers new.same h.left h.asked in
-      record {
-        done = s.done;
-        side = s.side;
-        keep = s.keep;
-        removes = record { answers = h.answers; left = h.left; asked = asked; holds = h.holds; written = h.written; runs = h.runs };
-        asked = s.asked;
-      }
+      let kept : Deduplicates told.repeats old.same old.main new.same new.main =
+      record { answers = h.answers; left = h.left; asked = asked; holds = h.holds; written = h.written; runs = h.runs } in
+      record { done = s.done; side = s.side; keep = s.keep; removes = kept; asked = s.asked }
   Step-told old (ExtractIf start end count) answers Done new s =
       let h = s.takes in
       let asked = asked-told old.keep (take (length h.told) (slice_range old.main.items start end)) h.told new.keep h.asked in
-      record {
-        in_range = s.in_range;
-        same = s.same;
-        takes = record { told = h.told; asked = asked; enough = h.enough; leaves = h.leaves; gives = h.gives };
-        asked = s.asked;
-      }
+      let taken : TakesOut told.keeps element_size (asking old.main old.side old.keep) start end count (asking new.main new.side new.keep) =
+      record { told = h.told; asked = asked; enough = h.enough; leaves = h.leaves; gives = h.gives } in
+      record { in_range = s.in_range; same = s.same; takes = taken; asked = s.asked }
   Step-told old command answers reply new s = record { none = s.none; keep = s.keep; same = s.same; lists = s.lists }
 
   IsRun-told : (old : State ℕ Global K S) (turns : List (Turn ℕ Global K S)) (new : State ℕ Global K S) → IsRun element_size calls old turns new → IsRun element_size told old turns new
   IsRun-told old [] new run = run
-  IsRun-told old (t ∷ ts) new run = (
-    run.0,
-    record { step = Step-told t.before t.command t.answers t.reply t.after run.1.step; writes = run.1.writes; possible = run.1.possible },
-    IsRun-told t.after ts new run.2,
-  )
+  IsRun-told old (t ∷ ts) new run = search (rules, Step-told, IsRun-told t.after ts new run.2)
 
   MayAnswer-told : (alloc : Global) (keep : K) (same : S) (lines : List (List ℕ)) (text : List ℕ)
       → MayAnswer calls alloc keep same lines text → MayAnswer told alloc keep same lines text

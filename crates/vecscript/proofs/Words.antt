@@ -1,5 +1,5 @@
 -- The words of a line, taken from its front.
-use Rattle.vecscript.proofs.Common.{◌≡◌, ◌≢◌, ℕ, ◌<◌, Bool, true, false, List, [], ◌∷◌, length, drop, filter, nat_lt, refl, inl, inr, arith, nat_tests, one-add, length-drop, is_blank, words_of}
+use Rattle.vecscript.proofs.Common.{◌≡◌, ℕ, ◌<◌, true, false, List, [], ◌∷◌, length, drop, filter, nat_lt, refl, inl, inr, ⊎_elim, cases_Bool, arith, nat_tests, one-add, length-drop, is_blank, words_of}
 use Rattle.std.specs.List.{prefix_len}
 use Rattle.std.specs.Prelude.{◌⊎◌}
 use Rattle.std.proofs.lemmas.Grind.{common_steps}
@@ -16,12 +16,8 @@ later_words xs = filter (λ word. nat_lt 0 (length word)) (more_parts is_blank (
 -- the blank after a word is no part of the next
 words_of-following : (xs : List ℕ) → words_of (following is_blank xs) ≡ later_words xs
 words_of-following [] = refl
-words_of-following (x ∷ xs) = by_test (is_blank x) refl (words_of-following xs)
-  where
-    by_test : (b : Bool) → is_blank x ≡ b → words_of (following is_blank xs) ≡ later_words xs
-        → words_of (following is_blank (x ∷ xs)) ≡ later_words (x ∷ xs)
-    by_test true e more = rw (e, e) refl
-    by_test false e more = rw (e, one-add) more
+words_of-following (x ∷ xs) =
+    ⊎_elim (λ (e : is_blank x ≡ true). rw (e, e) refl) (λ (e : is_blank x ≡ false). rw (e, one-add) (words_of-following xs)) (cases_Bool (is_blank x))
 
 -- after the blanks in front the line is at its end, or at its first word
 abbrev AtWord : (xs line : List ℕ) → Type 0
@@ -31,17 +27,13 @@ AtWord xs line =
 
 pub word_or_end : (xs : List ℕ) → AtWord xs (unindented xs)
 word_or_end [] = inl (refl, refl)
-word_or_end (x ∷ xs) = by_test (is_blank x) refl (word_or_end xs)
+word_or_end (x ∷ xs) = ⊎_elim (λ (e : is_blank x ≡ true). rw (e, one-add) (word_or_end xs)) at_word (cases_Bool (is_blank x))
   where
-    by_test : (b : Bool) → is_blank x ≡ b → AtWord xs (unindented xs) → AtWord (x ∷ xs) (unindented (x ∷ xs))
-    by_test true e more = rw (e, one-add) more
-    by_test false e more =
-        let some : 0 < length (front is_blank (x ∷ xs)) = rw (e, one-add) (omega arith) in
-        let kept : nat_lt 0 (length (front is_blank (x ∷ xs))) ≡ true = grind (arith, nat_tests) in
-        let split : words_of (x ∷ xs) ≡ front is_blank (x ∷ xs) ∷ words_of (following is_blank (x ∷ xs)) =
-        rw (slice_split-front is_blank (x ∷ xs), kept, words_of-following (x ∷ xs)) refl in
+    at_word : is_blank x ≡ false → AtWord (x ∷ xs) (unindented (x ∷ xs))
+    at_word e =
         let line : unindented (x ∷ xs) ≡ x ∷ xs = rw e refl in
-        rw line (inr (omega arith, some, split))
+        let some : 0 < length (front is_blank (x ∷ xs)) = rw (e, one-add) (omega arith) in
+        rw line (inr (omega arith, some, grind (arith, nat_tests, slice_split-front is_blank (x ∷ xs), words_of-following (x ∷ xs))))
 
 -- a step over a word leaves less of the line
 pub following-shorter : (xs : List ℕ) → 0 < length (front is_blank (unindented xs)) → length (following is_blank (unindented xs)) < length xs

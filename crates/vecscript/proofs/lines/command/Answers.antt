@@ -34,10 +34,14 @@ pub returns-then-eq-12 : goal.returns-then-eq-12
 returns-then-eq-12 c = ReadsAs-named _ _ _ c.args.name.now (codes "split_off") c.number-then-eq-12.result c.map-then-eq-12.result (search rules) SplitOff refl c.number-then-eq-12.ensures (search rules)
 
 pub returns-then-eq-14 : goal.returns-then-eq-14
-returns-then-eq-14 c = ReadsAs-named _ _ _ c.args.name.now (codes "extend_from_within") c.numbers.result c.map-then-eq-14.result (search (rules, c.if-eq-14.ensures, c.as_slice-14.ensures)) (λ p. ExtendFromWithin p.0 p.1) refl c.numbers.ensures (search rules)
+returns-then-eq-14 c =
+    ReadsAs-named _ _ _ c.args.name.now (codes "extend_from_within") c.numbers.result c.map-then-eq-14.result
+    (search (rules, c.if-eq-14.ensures, c.as_slice-14.ensures)) (λ p. ExtendFromWithin p.0 p.1) refl c.numbers.ensures (search rules)
 
 pub returns-then-eq-15 : goal.returns-then-eq-15
-returns-then-eq-15 c = ReadsAs-named _ _ _ c.args.name.now (codes "resize") c.number_and_element-then-eq-15.result c.map-then-eq-15.result (search rules) (λ p. Resize p.0 p.1) refl c.number_and_element-then-eq-15.ensures (search rules)
+returns-then-eq-15 c =
+    ReadsAs-named _ _ _ c.args.name.now (codes "resize") c.number_and_element-then-eq-15.result c.map-then-eq-15.result
+    (search rules) (λ p. Resize p.0 p.1) refl c.number_and_element-then-eq-15.ensures (search rules)
 
 pub returns-then-eq-18 : goal.returns-then-eq-18
 returns-then-eq-18 c = ReadsAs-named _ _ _ c.args.name.now (codes "drain") c.drain.result c.map-then-eq-18.result (search rules) (λ p. Drain p.0 p.1 p.2 p.3 p.4) refl c.drain.ensures (search rules)

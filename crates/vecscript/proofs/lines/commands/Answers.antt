@@ -15,7 +15,8 @@ pub loop-index-preserved-in-Continue-branch-4 : goal.loop-index-preserved-in-Con
 loop-index-preserved-in-Continue-branch-4 c =
     let (lines_left, at, counts, bound) = c.in-Some.ensures.steps in
     let (able, ends, had) = c.loop-index.invariant in
-    let read = HasSeen-next _ (AreRead (with_command c.loop-index.commands.items c.in_ok-command.field-0)) _ _ c.next.new.self.iter.rest.now _ _ _ had lines_left counts (AreRead-next c.in-Some.line.now c.loop-index.commands.items c.in_ok-command.field-0 c.in_ok-command.ensures.ok) in
+    let read = HasSeen-next _ (AreRead (with_command c.loop-index.commands.items c.in_ok-command.field-0)) _ _ c.next.new.self.iter.rest.now _ _ _ had lines_left counts
+    (AreRead-next c.in-Some.line.now c.loop-index.commands.items c.in_ok-command.field-0 c.in_ok-command.ensures.ok) in
     let more : c.push.new.self.items ≡ with_command c.loop-index.commands.items c.in_ok-command.field-0 =
     rw c.in-Some-2.is c.in_ok-push.ensures.pushed.items in
     ((tt, tt, inl (omega arith)), tt, rw more read)
@@ -24,5 +25,6 @@ pub loop-index-preserved : goal.loop-index-preserved
 loop-index-preserved c =
     let (lines_left, at, counts, bound) = c.in-Some.ensures.steps in
     let (able, ends, had) = c.loop-index.invariant in
-    let read = HasSeen-next _ (AreRead (with_command c.loop-index.commands.items c.in_ok-command.field-0)) _ _ c.next.new.self.iter.rest.now _ _ _ had lines_left counts (AreRead-next c.in-Some.line.now c.loop-index.commands.items c.in_ok-command.field-0 c.in_ok-command.ensures.ok) in
+    let read = HasSeen-next _ (AreRead (with_command c.loop-index.commands.items c.in_ok-command.field-0)) _ _ c.next.new.self.iter.rest.now _ _ _ had lines_left counts
+    (AreRead-next c.in-Some.line.now c.loop-index.commands.items c.in_ok-command.field-0 c.in_ok-command.ensures.ok) in
     ((tt, tt, inl (omega arith)), tt, rw c.in_default.is at read)

@@ -1,4 +1,4 @@
-use Rattle.vecscript.proofs.Common.{◌≡◌, length, arith, lines, nat_tests, state_of, command_lines}
+use Rattle.vecscript.proofs.Common.{◌≡◌, length, arith, lines, nat_tests, rules, state_of, command_lines}
 use Rattle.vecscript.proofs.Sparing.{found-behind, found-behind-fits, length-command_lines}
 use Rattle.vecscript.proofs.TextLines.{length-lines}
 use Rattle.vecscript.proofs.Pieces.{HasAnswered-start, HasAnswered-next, HasAnswered-end}
@@ -32,27 +32,26 @@ returns-in_default-clause-err g c =
     rw c.behind.ensures (found-behind _ _ _ (rw c.deref.ensures.value at c.chosen_growth-growth.ensures.behind) c.fault.result c.fault.ensures)
 
 -- all pieces were run
-pub returns-in-Ok-print_lists-clause-good : goal.returns-in-Ok-print_lists-clause-good
-returns-in-Ok-print_lists-clause-good g c =
-    let last : length c.pieces.rest.now ≡ 0 = grind (arith, nat_tests) in
-    let run = HasAnswered-end _ _ _ c.pieces.rest.now _ _ c.pieces.invariant last in run.good
-
-pub returns-in-Ok-print_lists-clause-ok : goal.returns-in-Ok-print_lists-clause-ok
-returns-in-Ok-print_lists-clause-ok g c =
+pub returns-in-Ok-print_lists : goal.returns-in-Ok-print_lists
+returns-in-Ok-print_lists g c =
     let last : length c.pieces.rest.now ≡ 0 = grind (arith, nat_tests) in
     let run = HasAnswered-end _ _ _ c.pieces.rest.now _ _ c.pieces.invariant last in
     let grows = (rw c.deref.ensures.value at c.chosen_growth-growth.ensures.growth) in
     record {
-      commands = run.commands;
-      meant = run.meant;
-      prints = record {
-        main = c.new_growing_in-main.result;
-        side = c.new_growing_in-side.result;
-        replies = run.replies;
-        last = state_of c.pieces.main c.pieces.side c.pieces.keep c.pieces.same;
-        main_new = (rw grows at c.new_growing_in-main.ensures.made, c.new_growing_in-main.ensures.alloc);
-        side_new = (rw grows at c.new_growing_in-side.ensures.made, c.new_growing_in-side.ensures.alloc);
-        run = run.run;
-        is_text = rw run.shown at c.in-Ok-print_lists.ensures;
+      good = run.good;
+      ok = record {
+        commands = run.commands;
+        meant = run.meant;
+        prints = record {
+          main = c.new_growing_in-main.result;
+          side = c.new_growing_in-side.result;
+          replies = run.replies;
+          last = state_of c.pieces.main c.pieces.side c.pieces.keep c.pieces.same;
+          main_new = (rw grows at c.new_growing_in-main.ensures.made, c.new_growing_in-main.ensures.alloc);
+          side_new = (rw grows at c.new_growing_in-side.ensures.made, c.new_growing_in-side.ensures.alloc);
+          run = run.run;
+          is_text = rw run.shown at c.in-Ok-print_lists.ensures;
+        };
       };
+      err = search rules;
     }
