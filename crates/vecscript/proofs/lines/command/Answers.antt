@@ -1,7 +1,20 @@
-use Rattle.vecscript.proofs.Common.{rules, refl, codes, Push, SplitOff, ExtractIf}
+use Rattle.vecscript.proofs.Common.{◌≡◌, ℕ, List, Result, Ok, Err, rules, refl, sym, subst, codes, ReadsAs, Fault, Global, Command, Push, SplitOff, ExtractIf}
+use Rattle.std.specs.Prelude.{MatchResult}
 use Rattle.allocator_api2.specs.declared.runner.Command.TheVariants.{Within, Insert, Remove, SwapRemove, Truncate, Reserve, ReserveExact, ShrinkTo, ExtendFromWithin, Resize, Drain}
-use Rattle.vecscript.proofs.Mapped.{ReadsAs-named}
+use Rattle.vecscript.specs.Lines.{SayAfter}
 use Rattle.vecscript.proofs.lines.command.Goals as goal
+
+-- r is read as P says, m is r with its value made into a command, and the words after the name say that command
+ReadsAs-named : {X : Type 0} (number : ℕ) (P : X → Type 0) (rest : List (List ℕ)) (word name : List ℕ) (r : Result X Fault) (m : Result (Command ℕ Global) Fault)
+    → word ≡ name → (make : X → Command ℕ Global) → SayAfter name rest ≡ (λ y. (x : X) × P x × (y ≡ make x))
+    → ReadsAs number P r → MatchResult r (λ x. m ≡ Ok (make x)) (λ fault. m ≡ Err fault) → ReadsAs number (SayAfter word rest) m
+ReadsAs-named {X = X} number P rest word name r m is make says read mapped =
+    rw is (let Reads : (Command ℕ Global → Type 0) → Type 0 = λ Q. ReadsAs number Q m in subst Reads (sym says) (made r read mapped))
+  where
+    made : (r : Result X Fault) → ReadsAs number P r → MatchResult r (λ x. m ≡ Ok (make x)) (λ fault. m ≡ Err fault)
+        → ReadsAs number (λ y. (x : X) × P x × (y ≡ make x)) m
+    made (Ok x) read mapped = rw mapped (x, read, refl)
+    made (Err fault) read mapped = rw mapped (read.0, λ y q. read.1 q.0 q.1)
 
 pub returns-then-eq : goal.returns-then-eq
 returns-then-eq c = ReadsAs-named _ _ _ c.args.name.now (codes "push") c.element.result c.map.result (search rules) Push refl c.element.ensures (search rules)
