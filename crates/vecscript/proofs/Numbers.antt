@@ -2,7 +2,6 @@
 use Rattle.vecscript.proofs.Common.{◌≡◌, ℕ, ◌+◌, ◌-◌, ◌<◌, ◌≤◌, true, false, List, refl, length, get_or, take, arith, length-take, length-drop, is_ascii_digit, position_or_len, AllDigits, digits_value, nat_tests, digits_value_more, take_all, take_rest, is_blank}
 use Rattle.std.proofs.Common.{◌*◌}
 use Rattle.std.specs.Char.{digit_value}
-use Rattle.std.proofs.lemmas.Int.Digits.{digits_more}
 use Rattle.std.proofs.lemmas.List.{take-take, get_or-take}
 use Rattle.std.proofs.lemmas.List.Sums.{passes_at_first, position_or_len_is}
 use Rattle.std.proofs.lemmas.Str.Parse.{digit_at, digits_value-take-le}
@@ -45,7 +44,7 @@ no_smaller xs i digits inside digit =
     grind (arith, digits_value_more 10 xs i inside, digits_value-take-le 10 word (i + 1), front)
 
 -- what a digit more makes of the number that is written so far
-pub ruleset digits = (word_is, digit_or_blank, no_smaller, digit_is, digits_more, digits_value_more, take_rest)
+pub ruleset digits = (word_is, digit_or_blank, no_smaller, digit_is, take_rest)
 
 -- digits have no blank among them
 pub digits_whole : (word : List ℕ) → AllDigits 10 word → position_or_len is_blank word ≡ length word

@@ -1,5 +1,5 @@
 -- A text of which some lines are seen.
-use Rattle.vecscript.proofs.Common.{◌≡◌, ℕ, true, ◌+◌, ◌≤◌, List, [], ◌∷◌, ◌++◌, length, map, nat_lt, Option, None, Some, refl, ap, rules, arith, nat_tests, append_assoc, append-nil, length-append, map-append, All-append, Global, lines, Command, HasNoBad, IsBad, words_of, Say, Mean}
+use Rattle.vecscript.proofs.Common.{◌≡◌, ℕ, ◌+◌, ◌≤◌, List, [], ◌∷◌, ◌++◌, length, map, nat_lt, Option, None, Some, refl, ap, rules, arith, nat_tests, append_assoc, append-nil, length-append, map-append, All-append, Global, lines, Command, HasNoBad, IsBad, words_of, Say, Mean}
 use Rattle.std.proofs.Common.{MatchOption}
 use Rattle.std.proofs.lemmas.List.Elements.{filter-append}
 use Rattle.vecscript.proofs.TextLines.{length-lines}
@@ -48,9 +48,7 @@ Mean-append ls ms commands more meant later =
 -- a line that says a command
 Mean-one : (line : List ℕ) (words : List (List ℕ)) (command : Command ℕ Global) → words_of line ≡ words → Say words command → Mean (line ∷ []) (command ∷ [])
 Mean-one line [] command e said = absurd said
-Mean-one line (word ∷ words) command e said =
-    let some : nat_lt 0 (length (word ∷ words)) ≡ true = grind (arith, nat_tests) in
-    rw (e, some) (said, tt)
+Mean-one line (word ∷ words) command e said = rw e (grind (arith, nat_tests))
 
 -- none of the lines is bad, and they mean the commands
 abbrev pub AreRead : List (Command ℕ Global) → List (List ℕ) → Type 0

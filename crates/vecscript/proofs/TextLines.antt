@@ -3,7 +3,6 @@ use Rattle.vecscript.proofs.Common.{get_or, ◌≡◌, ◌≢◌, ◌∙◌, ℕ
 use Rattle.std.proofs.lemmas.List.{drop_more, take_more, get_or-drop}
 use Rattle.std.proofs.lemmas.List.Sums.{passes_at_first}
 use Rattle.std.specs.Str.Lines.{lines_of_parts, strip_carriage_return}
-use Rattle.std.specs.List.{onto_first}
 use Rattle.vecscript.proofs.Parts.{front, following, slice_split-front}
 
 abbrev pub is_line_feed : ℕ → Bool
@@ -20,15 +19,10 @@ pub lines_first : (xs : List ℕ) → 0 < length (following is_line_feed xs)
     → lines xs ≡ strip_carriage_return (front is_line_feed xs) ∷ lines (drop 1 (following is_line_feed xs))
 lines_first xs more = grind (arith, slice_split-front)
 
--- a byte more at the front of the first part makes at most one more line
-lines_of_parts-onto_first : (x : ℕ) (part : List ℕ) (parts : List (List ℕ))
-    → length (lines_of_parts (onto_first x (part ∷ parts))) ≤ length (lines_of_parts (part ∷ parts)) + 1
-lines_of_parts-onto_first x part parts = grind (arith, nat_tests)
-
 -- a line takes a byte or more of the text
 pub length-lines : (xs : List ℕ) → length (lines xs) ≤ length xs
 length-lines [] = omega arith
-length-lines (x ∷ xs) = grind (arith, nat_tests, length-lines xs, slice_split-front is_line_feed xs, lines_of_parts-onto_first x)
+length-lines (x ∷ xs) = grind (arith, nat_tests, length-lines xs, slice_split-front is_line_feed xs)
 
 -- cut behind a line feed, a text is cut between its lines
 slice_split-at : (xs ys : List ℕ) → slice_split is_line_feed (xs ++ 10 ∷ ys) ≡ slice_split is_line_feed xs ++ slice_split is_line_feed ys
