@@ -1,8 +1,7 @@
 -- The words of a line, taken from its front.
-use Rattle.vecscript.proofs.Common.{◌≡◌, ℕ, ◌<◌, true, false, List, [], ◌∷◌, length, drop, filter, nat_lt, refl, inl, inr, ⊎_elim, cases_Bool, arith, nat_tests, one-add, length-drop, is_blank, words_of}
+use Rattle.vecscript.proofs.Common.{◌≡◌, ℕ, ◌<◌, true, false, List, [], ◌∷◌, length, drop, filter, nat_lt, refl, inl, inr, ⊎_elim, cases_Bool, arith, nat_tests, one-add, length-take, length-drop, is_blank, words_of}
 use Rattle.std.specs.List.{prefix_len}
 use Rattle.std.specs.Prelude.{◌⊎◌}
-use Rattle.std.proofs.lemmas.Grind.{common_steps}
 use Rattle.vecscript.proofs.Parts.{front, following, more_parts, slice_split-front}
 
 -- what is left of a line after the blanks in front
@@ -35,8 +34,4 @@ word_or_end (x ∷ xs) = ⊎_elim (λ (e : is_blank x ≡ true). rw (e, one-add)
         let some : 0 < length (front is_blank (x ∷ xs)) = rw (e, one-add) (omega arith) in
         rw line (inr (omega arith, some, grind (arith, nat_tests, slice_split-front is_blank (x ∷ xs), words_of-following (x ∷ xs))))
 
--- a step over a word leaves less of the line
-pub following-shorter : (xs : List ℕ) → 0 < length (front is_blank (unindented xs)) → length (following is_blank (unindented xs)) < length xs
-following-shorter xs some = grind (arith, common_steps)
-
-pub ruleset first_word = (word_or_end, following-shorter, length-drop)
+pub ruleset first_word = (word_or_end, length-take, length-drop)

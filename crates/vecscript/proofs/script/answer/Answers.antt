@@ -35,7 +35,8 @@ returns-in_default-clause-err g c =
 pub returns-in-Ok-print_lists : goal.returns-in-Ok-print_lists
 returns-in-Ok-print_lists g c =
     let last : length c.pieces.rest.now ≡ 0 = grind (arith, nat_tests) in
-    let run = HasAnswered-end _ _ _ c.pieces.rest.now _ _ c.pieces.invariant last in
+    let run = HasAnswered-end _ (state_of c.new_growing_in-main.result c.new_growing_in-side.result c.args.keep.now c.args.same.now) _
+    c.pieces.rest.now c.pieces.answer.items (state_of c.pieces.main c.pieces.side c.pieces.keep c.pieces.same) c.pieces.invariant last in
     let grows = (rw c.deref.ensures.value at c.chosen_growth-growth.ensures.growth) in
     record {
       good = run.good;
