@@ -43,11 +43,12 @@ no_smaller xs i digits inside digit =
     let front = take-take (i + 1) (position_or_len is_blank xs) xs (omega arith) in
     grind (arith, digits_value_more 10 xs i inside, digits_value-take-le 10 word (i + 1), front)
 
--- what a digit more makes of the number that is written so far
+-- what is known once the bytes so far are digits
 pub ruleset digits = (word_is, digit_or_blank, no_smaller, digit_is, take_rest)
 
 -- digits have no blank among them
 pub digits_whole : (word : List ℕ) → AllDigits 10 word → position_or_len is_blank word ≡ length word
 digits_whole word digits = grind (arith, word_is word (length word), take_all (length word) word)
 
+-- what is known of a word by itself
 pub ruleset whole_word = (digits_whole, take_all, length-drop)

@@ -34,4 +34,5 @@ word_or_end (x ∷ xs) = ⊎_elim (λ (e : is_blank x ≡ true). rw (e, one-add)
         let some : 0 < length (front is_blank (x ∷ xs)) = rw (e, one-add) (omega arith) in
         rw line (inr (omega arith, some, grind (arith, nat_tests, slice_split-front is_blank (x ∷ xs), words_of-following (x ∷ xs))))
 
+-- what a step over a word stands on
 pub ruleset first_word = (word_or_end, length-take, length-drop)
