@@ -1,31 +1,9 @@
 -- Items that come of an iterator, and are put into a block.
-use Rattle.std.proofs.Common.{◌≡◌, eq-eqb, ◌≢◌, ℕ, ◌+◌, ◌<◌, ◌≤◌, List, [], ◌∷◌, ◌++◌, length, Option, Some, None, refl, sym, ap, ◌∙◌, subst, arith, length-append, inl, inr}
-use Rattle.std.specs.Prelude.{Result, Ok, Err, IfOk, IfErr, if◌then◌else◌, ◌==◌}
-use Rattle.std.specs.Iterator.{Yields, YieldsThen}
-use Rattle.std.specs.Iterator.Runs.{WholeRun}
-use Rattle.std.proofs.iter.runs.Consumers.{total_runs}
-use Rattle.std.proofs.lemmas.Bool.Decides.{eqb_tells}
-use Rattle.aa_raw.specs.Growth.{amortized, least_of, usize_max, sized}
-use Rattle.aa_raw.specs.Room.{LacksRoom}
-use Rattle.aa_raw.specs.declared.collections.TryReserveError.{TryReserveError}
-use Rattle.aa_raw.specs.declared.collections.TryReserveErrorKind.TheVariants.{AllocError}
-use Rattle.aa_raw.specs.declared.raw_vec.Growth.TheVariants.{Doubling}
-use Rattle.aa_boxed.specs.Slice.{Begun, Slice, ended, with_next, Stops}
-use Rattle.aa_boxed.specs.Telling.{asked_with}
-
--- a choice by whether a number is 0
-none-chosen : {X : Type 0} (n : ℕ) (x y : X) → n ≡ 0 → (if n == 0 then x else y) ≡ x
-none-chosen n x y e = ap (λ t. if t then x else y) (eq-eqb n 0 e)
-
-some-chosen : {X : Type 0} (m n : ℕ) (x y : X) → m ≢ n → (if m == n then x else y) ≡ y
-some-chosen m n x y ne = elim (eqb_tells m n) [ inl h ↦ absurd (ne h.1) | inr h ↦ ap (λ t. if t then x else y) h.0 ]
+use Rattle.aa_boxed.proofs.Common.{AllocError, Begun, Doubling, Err, IfErr, IfOk, LacksRoom, List, None, Ok, Option, Result, Slice, Some, Stops, TryReserveError, WholeRun, Yields, YieldsThen, [], amortized, ap, arith, asked_with, ended, eq-eqb, eqb_tells, if◌then◌else◌, inl, inr, least_of, length, length-append, nat_tests, refl, rules, sized, subst, sym, total_runs, usize_max, with_next, ℕ, ◌++◌, ◌+◌, ◌<◌, ◌==◌, ◌∙◌, ◌∷◌, ◌≡◌, ◌≢◌, ◌≤◌}
 
 -- n items that filled their room are no fewer than a new block has places for
 over_start : (size n : ℕ) → (size ≡ 0 → usize_max ≤ n) → n < sized size 0 → ⊥
-over_start size n many h = elim (eqb_tells size 0) [
-  | inl e ↦ absurd (omega (arith, many e.1, h, none-chosen size usize_max 0 e.1))
-  | inr e ↦ absurd (omega (arith, h, some-chosen size 0 usize_max 0 e.1))
-]
+over_start size n many h = grind (arith, nat_tests)
 
 -- w is f, or f with more room
 pub record HasMore {T A : Type 0} (f w : Begun T A) : Type 0 where
@@ -63,13 +41,7 @@ module _ {S T : Type 0} (steps : S → Option T → S → Type 0) where
       pub fewer : length f.items + left s ≤ left iter
 
     pub Coming-start : (f : Begun T A) → f ≡ record { items = []; capacity = if size == 0 then usize_max else 0; growth = Doubling; alloc = alloc } → Coming iter f
-    Coming-start f e = subst (λ b. Coming iter b) (sym e) (record {
-      came = refl;
-      grows = refl;
-      over = refl;
-      sizeless = λ z. omega (arith, none-chosen size usize_max 0 z);
-      fewer = omega arith;
-    })
+    Coming-start f e = rw e (search (rules, nat_tests))
 
     module _ (s : S) (f : Begun T A) (p : Coming s f) where
       pub Coming-ends : (u : S) → steps s None u → YieldsThen steps iter f.items None u

@@ -1,5 +1,7 @@
+-- The names that the proofs of the functions cite, passed on.
+pub use Coming.*
+unfoldable pub use Common.*
+pub use Texts.*
+pub mod Common
 pub mod Coming
 pub mod Texts
-pub mod Arrays
-pub mod Singles
-pub mod Forgotten

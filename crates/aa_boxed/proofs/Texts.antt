@@ -1,13 +1,5 @@
 -- Texts that come of an iterator, and are put behind a text.
-use Rattle.std.proofs.Common.{◌≡◌, ℕ, ◌+◌, ◌<◌, List, [], ◌∷◌, ◌++◌, length, Option, Some, sym, ap, ◌∙◌, subst, append_assoc, append-nil}
-use Rattle.std.specs.Prelude.{flat_map, String}
-use Rattle.std.specs.Iterator.{Yields}
-use Rattle.std.specs.String.{string_bytes, string_capacity}
-use Rattle.aa_raw.specs.Growth.{usize_max}
-use Rattle.aa_raw.specs.Refusals.{IsRefusedAt}
-use Rattle.aa_raw.specs.declared.collections.TryReserveError.{TryReserveError}
-use Rattle.aa_raw.specs.declared.collections.TryReserveErrorKind.TheVariants.{CapacityOverflow}
-use Rattle.aa_boxed.specs.Text.{Text, StopsAtText}
+use Rattle.aa_boxed.proofs.Common.{CapacityOverflow, IsRefusedAt, List, Option, Some, StopsAtText, String, Text, TryReserveError, Yields, [], ap, append-nil, append_assoc, flat_map, length, string_bytes, string_capacity, subst, sym, usize_max, ℕ, ◌++◌, ◌+◌, ◌<◌, ◌∙◌, ◌∷◌, ◌≡◌}
 use Rattle.aa_boxed.proofs.Coming.{Yields-next}
 
 module _ {A : Type 0} where

@@ -1,8 +1,9 @@
+-- The names that the proofs of the functions cite, passed on.
+pub use Common.*
+pub use Pages.*
+pub use Texts.*
+pub mod Common
 pub mod Callers
-pub mod Costs
-pub mod Grown
-pub mod Moves
 pub mod Pages
 pub mod Parts
-pub mod Taking
 pub mod Texts

@@ -1,9 +1,5 @@
 -- A list in two parts, cut behind the first.
-use Rattle.std.proofs.Common.{◌≡◌, ℕ, ◌+◌, ◌-◌, ◌≤◌, List, ◌++◌, length, take, drop, Option, Some, None, Bor, refl, sym, ap, ◌∙◌, arith}
-use Rattle.std.specs.Prelude.{slice_get, option_copied}
-use Rattle.std.specs.Slice.{IsItemAt}
-use Rattle.std.proofs.lemmas.Option.{slice_get_past, slice_get_read}
-use Rattle.std.proofs.Math.Seq.{take-append-add, drop-append-add}
+use Rattle.aa_gap.proofs.Common.{Bor, IsItemAt, List, None, Option, Some, ap, arith, drop, drop-append-add, length, nat_tests, option_copied, refl, slice_get, slice_get-behind, slice_get-front, slice_get_past, slice_get_read, sym, take, take-append-add, ℕ, ◌++◌, ◌+◌, ◌-◌, ◌∙◌, ◌≡◌, ◌≤◌}
 
 pub take_behind : {T : Type 0} (xs ys : List T) (k : ℕ) → length xs ≤ k → take k (xs ++ ys) ≡ xs ++ take (k - length xs) ys
 take_behind xs ys k h = let e : k ≡ length xs + (k - length xs) = omega arith in ap (λ i. take i (xs ++ ys)) e ∙ take-append-add xs ys (k - length xs)
@@ -17,3 +13,6 @@ lent_at xs i None h = sym (slice_get_past xs i h.3)
 lent_at xs i (Some x) h = sym (slice_get_read xs (length xs) i x.now refl h.3.0 h.1)
 
 pub ruleset cut_behind = (take_behind, drop_behind)
+
+-- and what the two of a text lend
+pub ruleset lent = (lent_at, slice_get-front, slice_get-behind, nat_tests)

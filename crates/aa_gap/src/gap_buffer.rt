@@ -151,6 +151,7 @@ impl<T, A: Allocator> GapBuffer<T, A> {
     }
 
     /// The element at `index` of the whole text, if there is one.
+    #[tactic(auto, using(crate::proofs::Texts::lent))]
     pub fn get(&self, index: usize) -> Option<&T>
         ensures { option_copied result ≡ slice_get (text self.now) index }
     {
@@ -245,7 +246,7 @@ impl<T, A: Allocator> GapBuffer<T, A> {
     // The same where they do not fit.
     #[cold]
     #[inline(never)]
-    #[tactic(auto, using(crate::proofs::Grown::at_both_ends))]
+    #[tactic(auto, using(crate::proofs::Parts::at_both_ends))]
     fn make_room(&mut self, additional: usize) -> Result<(), TryReserveError>
         requires { gap self.old < additional }
         ensures made { OnOk result (self.new ≡ with_room (type_size T.row) self.old additional) }
@@ -275,7 +276,7 @@ impl<T, A: Allocator> GapBuffer<T, A> {
     }
 
     /// Takes the element after the cursor, if there is one.
-    #[tactic(auto, using(crate::proofs::Taking::from_behind))]
+    #[tactic(auto, using(crate::proofs::Parts::from_behind))]
     pub fn delete_forward(&mut self) -> Option<T>
         ensures taken { MatchOption result ((self.old.after ≡ []) × (self.new.after ≡ []))
             (λ x. self.old.after ≡ x ∷ self.new.after) }
@@ -290,7 +291,7 @@ impl<T, A: Allocator> GapBuffer<T, A> {
     }
 
     // Moves the last `by` elements before the cursor to the other side.
-    #[tactic(auto, using(crate::proofs::Moves::across))]
+    #[tactic(auto, using(crate::proofs::Parts::across))]
     fn go_back(&mut self, by: usize)
         requires { by ≤ cursor self.old }
         ensures { let at = cursor self.old - by in
@@ -307,7 +308,7 @@ impl<T, A: Allocator> GapBuffer<T, A> {
     }
 
     // Moves the first `by` elements after the cursor to the other side.
-    #[tactic(auto, using(crate::proofs::Moves::across))]
+    #[tactic(auto, using(crate::proofs::Parts::across))]
     fn go_forward(&mut self, by: usize)
         requires { by ≤ length self.old.after }
         ensures { let before = self.old.before ++ take by self.old.after in
@@ -321,7 +322,7 @@ impl<T, A: Allocator> GapBuffer<T, A> {
     }
 
     /// Drops all elements. The capacity stays.
-    #[tactic(auto, using(crate::proofs::Taking::emptied))]
+    #[tactic(auto, using(crate::proofs::Parts::emptied))]
     pub fn clear(&mut self)
     where
         T: Drop,
@@ -337,7 +338,7 @@ impl<T, A: Allocator> GapBuffer<T, A> {
 
     /// The block, and how many elements stand at its first places and how many at its last. It
     /// takes no memory.
-    #[tactic(auto, using(crate::proofs::Taking::apart))]
+    #[tactic(auto, using(crate::proofs::Parts::apart))]
     pub fn into_parts(self) -> (RawVec<T, A>, usize, usize)
         ensures { IsPartedIn self result.0 result.1 result.2 }
     {

@@ -4,11 +4,10 @@
 --     between     one told by its first place and the first place behind it
 --     two_runs     a value of two lists in line, of which the first is a run
 --     by_arithmetic     the same calls at any numbers that arithmetic finds equal
-use Rattle.aa_raw.proofs.Common.{◌≡◌, ℕ, zero, suc, ◌+◌, ◌-◌, ◌<◌, ◌≤◌, List, ◌++◌, length, take, drop, get_or, Option, Some, None, refl, sym, ap, ◌∙◌, subst, arith, length-set, slice_set, slice_get, nat_tests, drop_at, take_at, slice_get_past, IsFilled, IsRun, run}
-use Rattle.std.proofs.Common.{[], ◌∷◌}
-use Rattle.aa_raw.proofs.Calls.{run-take_first, IsRun-take_first, run-take_back, IsRun-take_back, filled-back}
+use Rattle.aa_raw.proofs.Common.{IsFilled, IsRun, List, None, Option, Some, [], ap, arith, drop, drop_at, get_or, length, length-set, nat_tests, refl, run, slice_get, slice_get_past, slice_set, subst, suc, sym, take, take_at, zero, ℕ, ◌++◌, ◌+◌, ◌-◌, ◌<◌, ◌∙◌, ◌∷◌, ◌≡◌, ◌≤◌}
+use Rattle.aa_raw.proofs.Calls.{IsRun-take_back, IsRun-take_first, filled-back, run-take_back, run-take_first}
 use Rattle.aa_raw.proofs.Places.{run_filled}
-use Rattle.aa_raw.proofs.Runs.{IsRun-long, IsRun-part, IsRun-pop, IsRun-push, IsRun-shift, IsRun-set-above, IsRun-set-below, first-filled, last-filled, length-run, run-one, run-pop, run-push, run-set-above, run-set-below, run-set-same, run-shift, run-split}
+use Rattle.aa_raw.proofs.Runs.{IsRun-long, IsRun-part, IsRun-pop, IsRun-push, IsRun-set-above, IsRun-set-below, IsRun-shift, first-filled, last-filled, length-run, run-one, run-pop, run-push, run-set-above, run-set-below, run-set-same, run-shift, run-split}
 
 module _ {X : Type 0} where
   -- a value of the first of two lists in line, and of the second

@@ -4,13 +4,10 @@
 --     with_room     the constructors, the reserves and the shrinks
 --     shown     slice, slice_mut, and what a loan wrote back
 --     in_runs     move_one, move_run, move_down, transfer, drop_run, put_array, take_array, put_copies
-use Rattle.aa_raw.proofs.Common.{◌≡◌, ℕ, suc, ◌+◌, ◌-◌, ◌<◌, ◌≤◌, List, ◌++◌, length, take, drop, get_or, replicate, Option, Some, None, refl, sym, ap, ◌∙◌, subst, arith, zero-add, length-append, length-take, length-drop, length-set, slice_set, slice_get, length_refill, nat_tests, drop-set-lt, take-take, take-append-le, drop-append-le, length-take-le, length-replicate, length-map, slice_get_read, slice_get_past, Block, Reserves, IsFilled, IsRun, somes, with_run}
-use Rattle.std.proofs.Common.{[], ◌∷◌, map}
-use Rattle.std.proofs.lemmas.List.{drop-drop, take_all}
-use Rattle.aa_raw.specs.Places.{run, moved}
-use Rattle.aa_raw.proofs.Places.{run_filled, lengths, length-with_run, length-moved, length-empty_places, with_none, moved_none}
-use Rattle.aa_raw.proofs.Runs.{IsRun-kept, IsRun-long, IsRun-moved, IsRun-nil, IsRun-part, IsRun-pop, IsRun-push, IsRun-same, IsRun-set-above, IsRun-set-below, IsRun-shift, IsRun-with, cut-long, drop-with, length-run, run-below, run-drop, run-filled, first-filled, last-filled, run-moved, run-moved-below, run-none, run-pop, run-push, run-set-above, run-set-below, run-shift, run-split, run-take, run-with, run-with-above, run-with-below, run-zero, somes-map}
+use Rattle.aa_raw.proofs.Common.{Block, IsFilled, IsRun, List, None, Option, Reserves, Some, [], ap, arith, drop, drop-append-le, drop-drop, drop-set-lt, get_or, is_some, length, length-append, length-drop, length-map, length-replicate, length-set, length-take, length-take-le, length_refill, list_all, map, moved, nat_tests, places, refl, replicate, rules, run, same_lists, slice_get, slice_get_past, slice_get_read, slice_set, somes, subst, suc, sym, take, take-add, take-append-le, take-take, take_all, with_run, zero-add, ℕ, ◌++◌, ◌+◌, ◌-◌, ◌<◌, ◌∙◌, ◌∷◌, ◌≡◌, ◌≤◌}
 use Rattle.aa_raw.proofs.Firsts.{run-at}
+use Rattle.aa_raw.proofs.Places.{length-empty_places, length-moved, length-with_run, lengths, moved_behind, moved_none, moved_on_down, moved_on_up, run_filled, with_none, with_run_on}
+use Rattle.aa_raw.proofs.Runs.{IsRun-kept, IsRun-long, IsRun-moved, IsRun-nil, IsRun-part, IsRun-pop, IsRun-push, IsRun-same, IsRun-set-above, IsRun-set-below, IsRun-shift, IsRun-with, cut-long, drop-with, first-filled, last-filled, length-run, run-below, run-drop, run-filled, run-moved, run-moved-below, run-none, run-pop, run-push, run-set-above, run-set-below, run-shift, run-split, run-take, run-with, run-with-above, run-with-below, run-zero, run_same, somes-map}
 
 module _ {X : Type 0} where
   -- a value put behind the first n
@@ -133,10 +130,8 @@ module _ {X : Type 0} where
 
   -- a move leaves a run that lies before both runs, behind both, or between them
   pub run-moved-above : (cs : List (Option X)) (from to n a k : ℕ) → from + n ≤ length cs → to + n ≤ length cs → from + n ≤ a → to + n ≤ a → run (moved cs from to n) a k ≡ run cs a k
-  unfolding moved
-  run-moved-above cs from to n a k f t b c =
-      let none = with_run cs from n (replicate n None) in let long : length none ≡ length cs = length-with_run cs from n (replicate n None) f (length-replicate n None) in
-      run-with-above none to n (take n (drop from cs)) a k (omega (arith, long)) (cut-long cs from n f) c ∙ run-with-above cs from n (replicate n None) a k f (length-replicate n None) b
+  unfolding moved with_run
+  run-moved-above cs from to n a k f t b c = run_same (moved cs from to n) cs a k (same_lists _ _ (search (rules, places)) (λ j d h. grind (arith, places)))
 
   pub IsRun-moved-below : (cs : List (Option X)) (from to n a k : ℕ) → from + n ≤ length cs → to + n ≤ length cs → a + k ≤ from → a + k ≤ to → IsRun cs a k → IsRun (moved cs from to n) a k
   IsRun-moved-below cs from to n a k f t b c r = IsRun-same cs (moved cs from to n) a k (length-moved cs from to n f t) (run-moved-below cs from to n a k f t b c) r
@@ -175,6 +170,71 @@ module _ {X : Type 0} where
 
   pub drop-with-first : (cs : List (Option X)) (n : ℕ) (ys : List (Option X)) → n ≤ length cs → length ys ≡ n → drop n (with_run cs 0 n ys) ≡ drop n cs
   drop-with-first cs n ys h e = ap (λ k. drop k (with_run cs 0 n ys)) (sym (zero-add n)) ∙ drop-with cs 0 n ys (omega arith) e ∙ ap (λ k. drop k cs) (zero-add n)
+
+  -- what the loops over arrays find: the values that are still to be moved are where they were
+  pub left_next : (qs : List (Option X)) (from n k m : ℕ) → IsRun qs from n → k + m ≤ n → IsRun (with_run qs from k (replicate k None)) (from + k) m
+  left_next qs from n k m r h = IsRun-with-above qs from k (replicate k None) (from + k) m (omega (arith, r.0)) (length-replicate k None) (omega arith) (IsRun-part qs from n (from + k) m (omega arith) (omega arith) r)
+
+  pub lowered_next : (cs : List (Option X)) (by n k m : ℕ) → IsRun cs by n → k + m ≤ n → IsRun (moved cs by 0 k) (by + k) m
+  lowered_next cs by n k m r h = IsRun-moved-above cs by 0 k (by + k) m (omega (arith, r.0)) (omega (arith, r.0)) (omega arith) (omega arith) (IsRun-part cs by n (by + k) m (omega arith) (omega arith) r)
+
+  pub raised_next : (cs : List (Option X)) (by n left from m : ℕ) → IsRun cs 0 n → by + n ≤ length cs → left ≤ n → from + m ≤ left → IsRun (moved cs left (by + left) (n - left)) from m
+  raised_next cs by n left from m r room h l = IsRun-moved-below cs left (by + left) (n - left) from m (omega (arith, room)) (omega arith) l (omega arith) (IsRun-part cs 0 n from m (omega arith) (omega arith) r)
+
+  pub raised_first : (cs : List (Option X)) (by n left : ℕ) → IsRun cs 0 n → by + n ≤ length cs → left ≤ n → IsRun (moved cs left (by + left) (n - left)) 0 left
+  raised_first cs by n left r room h = raised_next cs by n left 0 left r room h (omega arith)
+
+  -- and what they do
+  pub left_more : (qs : List (Option X)) (from k m : ℕ) → from + (k + m) ≤ length qs → with_run (with_run qs from k (replicate k None)) (from + k) m (replicate m None) ≡ with_run qs from (k + m) (replicate (k + m) None)
+  unfolding with_run
+  left_more qs from k m h = same_lists _ _ (search (rules, places)) (λ j d h. grind (arith, places))
+
+  pub put_more : (cs qs : List (Option X)) (to from k m : ℕ) → to + (k + m) ≤ length cs → from + (k + m) ≤ length qs
+      → with_run (with_run cs to k (take k (drop from qs))) (to + k) m (take m (drop (from + k) (with_run qs from k (replicate k None)))) ≡ with_run cs to (k + m) (take (k + m) (drop from qs))
+  put_more cs qs to from k m room fits =
+      let next : take m (drop (from + k) (with_run qs from k (replicate k None))) ≡ take m (drop k (drop from qs)) = ap (take m) (drop-with qs from k (replicate k None) (omega arith) (length-replicate k None) ∙ sym (drop-drop k from qs)) in
+      let long : length (take m (drop k (drop from qs))) ≡ m = omega (arith, length-take m (drop k (drop from qs)), length-drop k (drop from qs), length-drop from qs) in
+      ap (with_run (with_run cs to k (take k (drop from qs))) (to + k) m) next ∙ with_run_on cs to k m (take k (drop from qs)) (take m (drop k (drop from qs))) (cut-long qs from k (omega arith)) long room ∙ ap (with_run cs to (k + m)) (sym (take-add k m (drop from qs)))
+
+  pub lowered_more : (cs : List (Option X)) (by k m : ℕ) → 0 < by → by + (k + m) ≤ length cs → moved (moved cs by 0 k) (by + k) k m ≡ moved cs by 0 (k + m)
+  lowered_more cs by k m some fits = let e : k ≡ 0 + k = omega arith in (λ t. moved (moved cs by 0 k) (by + k) (e t) m) ∙ moved_on_down cs by 0 k m some fits
+
+  pub raised_more : (cs : List (Option X)) (by n left from m : ℕ) → 0 < by → by + n ≤ length cs → left ≤ n → from + m ≡ left → moved (moved cs left (by + left) (n - left)) from (by + from) m ≡ moved cs from (by + from) (n - from)
+  raised_more cs by n left from m some room h low =
+      let high : by + from + m ≡ by + left = omega arith in let all : m + (n - left) ≡ n - from = omega arith in
+      (λ t. moved (moved cs (sym low t) (sym high t) (n - left)) from (by + from) m) ∙ moved_on_up cs m from (by + from) (n - left) (omega arith) (omega arith) ∙ (λ t. moved cs from (by + from) (all t))
+
+  -- first, and at the end
+  pub raised_none : (cs : List (Option X)) (by n : ℕ) → by + n ≤ length cs → moved cs n (by + n) (n - n) ≡ cs
+  raised_none cs by n room = let none : n - n ≡ 0 = omega arith in ap (moved cs n (by + n)) none ∙ moved_none cs n (by + n) (omega arith) (omega arith)
+
+  pub raised_all : (cs : List (Option X)) (by n left : ℕ) → 0 < by → by + n ≤ length cs → left ≤ n → moved (moved cs left (by + left) (n - left)) 0 by left ≡ moved cs 0 by n
+  raised_all cs by n left some room h =
+      let e : by + 0 ≡ by = omega arith in let all : n - 0 ≡ n = omega arith in
+      (λ t. moved (moved cs left (by + left) (n - left)) 0 (sym e t) left) ∙ raised_more cs by n left 0 left some room h (omega arith) ∙ (λ t. moved cs 0 (e t) (all t))
+
+  pub lowered_rest : (cs : List (Option X)) (by n k : ℕ) → IsRun cs by n → k ≤ n → IsRun (drop k (moved cs by 0 k)) by (n - k)
+  lowered_rest cs by n k r h =
+      let e : k + by ≡ by + k = omega arith in let next = lowered_next cs by n k (n - k) r (omega arith) in let long = length-moved cs by 0 k (omega (arith, r.0)) (omega (arith, r.0)) in
+      (omega (arith, length-drop k (moved cs by 0 k), r.0), (λ t. list_all is_some (take (n - k) ((drop-drop by k (moved cs by 0 k) ∙ ap (λ i. drop i (moved cs by 0 k)) e) t))) ∙ next.1)
+
+  pub lowered_all : (cs : List (Option X)) (by n k : ℕ) → 0 < by → by + n ≤ length cs → k ≤ n → take k (moved cs by 0 k) ++ moved (drop k (moved cs by 0 k)) by 0 (n - k) ≡ moved cs by 0 n
+  lowered_all cs by n k some fits h =
+      let all : k + (n - k) ≡ n = omega arith in let long = length-moved cs by 0 k (omega arith) (omega arith) in
+      moved_behind k (moved cs by 0 k) by 0 (n - k) (by + k) k (omega arith) (omega arith) (omega arith) ∙ lowered_more cs by k (n - k) some (omega arith) ∙ ap (moved cs by 0) all
+
+  pub left_all : (qs : List (Option X)) (from k n : ℕ) → from + n ≤ length qs → k ≤ n → with_run (with_run qs from k (replicate k None)) (from + k) (n - k) (replicate (n - k) None) ≡ with_run qs from n (replicate n None)
+  left_all qs from k n fits h = let all : k + (n - k) ≡ n = omega arith in left_more qs from k (n - k) (omega arith) ∙ ap (λ i. with_run qs from i (replicate i None)) all
+
+  pub put_all : (cs qs : List (Option X)) (to from k n : ℕ) → to + n ≤ length cs → from + n ≤ length qs → k ≤ n
+      → with_run (with_run cs to k (take k (drop from qs))) (to + k) (n - k) (take (n - k) (drop (from + k) (with_run qs from k (replicate k None)))) ≡ with_run cs to n (take n (drop from qs))
+  put_all cs qs to from k n room fits h = let all : k + (n - k) ≡ n = omega arith in put_more cs qs to from k (n - k) (omega arith) (omega arith) ∙ ap (λ i. with_run cs to i (take i (drop from qs))) all
+
+  pub ruleset lowered_in_arrays = (lengths, length-drop, lowered_next, lowered_more, lowered_rest, lowered_all, moved_none)
+
+  pub ruleset raised_in_arrays = (lengths, raised_next, raised_first, raised_more, raised_none, raised_all)
+
+  pub ruleset put_in_arrays = (lengths, with_none, left_next, left_more, put_more, left_all, put_all)
 
 module _ {X A : Type 0} where
   pub run-reserved : (size : ℕ) (old : Block X A) (n k wanted : ℕ) (new : Block X A) → Reserves size old n k wanted new → run new.places 0 n ≡ run old.places 0 n

@@ -1,77 +1,101 @@
--- The names from elsewhere that several proofs here cite, passed on.
-pub use Rattle.aa_raw.specs.Block.{Block, Reserves, with_places, wrote}
+-- The names from elsewhere that proofs here cite, passed on.
+pub use Rattle.aa_raw.specs.Block.{Block, Reserves, fresh, shrunk_to, with_places, wrote}
 pub use Rattle.aa_raw.specs.Clones.{HoldsClones}
 pub use Rattle.aa_raw.specs.Fields.{view_of}
 pub use Rattle.aa_raw.specs.Growth.{sized, usize_max}
-pub use Rattle.aa_raw.specs.Holding.{each, row_lends, row_owns, spot, spot_seen, token_for}
+pub use Rattle.aa_raw.specs.Holding.{each, few_bytes, roomy, row_lends, row_owns, spot, spot_seen, token_for}
+pub use Rattle.aa_raw.specs.LeftFields.{IsBetween}
 pub use Rattle.aa_raw.specs.Lends.{holding}
-pub use Rattle.aa_raw.specs.Places.{IsCapacity, IsFilled, IsRun, empty_places, moved, run, somes, with_run}
-pub use Rattle.aa_raw.specs.TwoRuns.{both}
-pub use Rattle.core.proofs.alloc.Calls.{Al, token}
-pub use Rattle.core.proofs.ptr.Rows.{El, R, el_x, elτ, sz}
-pub use Rattle.core.proofs.slots.Leases.{args, block_align, block_size, block_ty}
-pub use Rattle.core.proofs.slots.Opens.{row_val}
-pub use Rattle.std.proofs.Common.{List, None, Option, Some, ap, append_assoc, arith, drop, get_or, if◌then◌else◌, inl, inr, length, length-append, length-drop, length-set, length-take, refl, replicate, rules, subst, suc, sym, take, true, zero, zero-add, ℕ, ◌++◌, ◌+◌, ◌-◌, ◌<◌, ◌==◌, ◌∙◌, ◌≡◌, ◌≢◌, ◌≤◌}
-pub use Rattle.std.proofs.lemmas.Bool.{eq-eqb}
+unfoldable pub use Rattle.aa_raw.specs.Places.{IsCapacity, IsFilled, IsRun, empty_places, endless_places, moved, run, somes, with_run}
+pub use Rattle.aa_raw.specs.TwoRuns.{AreApart, AreJoined, AreParted, IsFull, ReservesRuns, both, grown_with}
+pub use Rattle.aa_raw.specs.contracts.tally.Tally.{the_row as tally_row}
+pub use Rattle.aa_raw.specs.declared.raw_vec.Growth.{Growth}
+pub use Rattle.core.proofs.alloc.Calls.{Al, Answer-typed, Answered, Gives, Gives-Gives, Gives-goes, Goes-blank, Takes, Takes-gives, Takes-goes, answers, at_gives, at_takes, token}
+pub use Rattle.core.proofs.mem.Facts.{says_three, says_two}
+pub use Rattle.core.proofs.mem.Param.{El as MemEl, lawful, one}
+pub use Rattle.core.proofs.ptr.Rows.{El, Good, R, add_times, apart as array_apart, el_in, el_out, el_x, elτ, sz, times_below, whole as whole_array}
+pub use Rattle.core.proofs.slots.Leases.{args as block_args, block_align, block_size, block_ty, uncapped}
+pub use Rattle.core.proofs.slots.Lent.{pointer_in, pointer_out}
+pub use Rattle.core.proofs.slots.Opens.{row_had as slots_had, row_made as slots_made, row_val}
+pub use Rattle.core.proofs.slots.Places.{to_row}
+pub use Rattle.core.proofs.slots.Runs.{of_space}
+pub use Rattle.core.specs.Mem.Slots.{IsFull as slots_full, slots_counts, slots_filled, slots_items, slots_len}
+pub use Rattle.core.specs.Ptr.{ptr_add}
+pub use Rattle.core.specs.declared.alloc.Allocator.{Ghosts}
+pub use Rattle.std.proofs.Common.{Bool, Err, IfOk, List, None, Ok, Option, Some, T, [], add-zero, ap, append_assoc, arith, drop, drop-cons, drop-drop, drop-set-lt, drop_at, eq-eqb, ext_get_or, false, get_or, get_or-drop, get_or-set_other, get_or-set_same, get_or-take, if◌then◌else◌, inl, inr, insert, is_none, is_some, length, length-append, length-drop, length-set, length-take, length-take-le, lit<, map, refl, remove, replicate, rules, set as slice_set, set-set, slice_get, subst, suc, suc-mul, swap_remove, sym, take, take-add, take-append-drop, take-take, take_all, take_at, true, w64, zero, zero-add, zero-mul, ℕ, ◌&&◌, ◌*◌, ◌++◌, ◌+◌, ◌-◌, ◌<◌, ◌==◌, ◌^◌, ◌∙◌, ◌∷◌, ◌≡◌, ◌≢◌, ◌≤◌, ◌⊎◌}
+pub use Rattle.std.proofs.Math.Nat.{mul-pos}
+pub use Rattle.std.proofs.lemmas.Bool.{cases_eq, cases_lt}
 pub use Rattle.std.proofs.lemmas.Bool.Decides.{eqb_tells, nat_tests}
-pub use Rattle.std.proofs.lemmas.List.{drop-append-le, drop-set-lt, drop_at, get_or-set_other, get_or-set_same, length-map, length-replicate, length-take-le, take-append-drop, take-append-le, take-set-le, take-take, take_at}
-pub use Rattle.std.proofs.lemmas.Option.{slice_get_past, slice_get_read}
-pub use Rattle.std.proofs.raw_atomic.Walks.{proved}
-pub use Rattle.std.specs.List.{length_refill, list_all}
+pub use Rattle.std.proofs.lemmas.Grind.{take_at_read}
+pub use Rattle.std.proofs.lemmas.List.{drop-append-le, drop-map, drop-replicate, drop-set, drop-take, drop_all, drop_more, get_or-append_right, get_or-replicate, get_or_append_left, get_or_push, length-map, length-replicate, places, replicate-append-replicate, replicate_more, same_lists, set_comm, set_split, take-append-le, take-map, take-set-le, take_more_set}
+pub use Rattle.std.proofs.lemmas.List.Elements.{AllZip-push}
+pub use Rattle.std.proofs.lemmas.List.Folds.{list_all-append}
+pub use Rattle.std.proofs.lemmas.Option.{get_or_from_slice_get, slice_get_past, slice_get_read}
+pub use Rattle.std.proofs.raw_atomic.Walks.{proved, proved_at}
+pub use Rattle.std.specs.List.{AllZip, length_refill, list_all, refill}
 pub use Rattle.std.specs.Mem.{type_size}
-pub use Rattle.std.specs.Prelude.{is_none, is_some, slice_get, slice_set}
-pub use Rattle.std_alloc.proofs.RcSteps.{Good}
+pub use Rattle.std_alloc.proofs.RawLayout.{as_raw, as_written}
+pub use Rattle.std_alloc.proofs.RcSteps.{Good as IsGood, first_Good}
+pub use Rattle.std_alloc.proofs.ResultValues.{err_of, ok_of}
 pub use Rattle.std_alloc.proofs.VecSteps.El.{El as ItemIn, no_al}
-pub use Rattle.std_alloc.proofs.VecSteps.Shapes.{after}
-pub use Rattle.std_alloc.proofs.vec.Blocks.{all}
-pub use Rattle.std_alloc.proofs.vec.Spares.{Row}
-pub use base.Fml.{Fml, GName, Incl-trans, Lft, Share, fat, fauth, flft, fobs, froom, fsep, ftrue}
+pub use Rattle.std_alloc.proofs.VecSteps.Shapes.{after, arm_body, head}
+pub use Rattle.std_alloc.proofs.vec.Blocks.{all, el}
+pub use Rattle.std_alloc.proofs.vec.Spares.{From, Into, Into-gives, Into-goes, Made, Row, at_from, at_into, from_gives, from_goes, parts_typed, row_Typed}
+pub use base.Fml.{Fml, GName, Incl, Incl-trans, Lft, Share, fat, fauth, fbor, ffalse, fhide, flft, fobor, fobs, froom, fsep, ftrue}
 pub use base.Fraction.{full_share}
-pub use base.Logic.{ent, id⊢, never, sep}
+pub use base.Logic.{SProp, emp, ent, ex, fst∗, guard, id⊢, never, sep, via, wand}
 pub use base.Stored.{Gv}
-pub use contract.BorrowLft.{◌⊑◌}
+pub use borrow.Table.OneValue.{part_in, part_out}
+pub use contract.BorrowLft.{meet_⊑_left, ◌⊑◌}
 pub use contract.Monad.{fact}
-pub use contract.Running.{tables}
+unfoldable pub use contract.Running.{tables, tables_of}
 pub use denote.Array.{Array}
-pub use denote.Builtin.{RefOf, usize}
-pub use denote.Exit.{yes}
-pub use denote.Index.{whole_in}
-pub use denote.Laws.{Is}
-pub use denote.Memory.{cell_at, hidden_shr, lone, mem, part_at}
-pub use denote.Opens.{unhide}
-pub use denote.Param.{layout, layouts, param}
-pub use denote.Param.Laws.{Laws}
+pub use denote.Builtin.{RefOf, SliceRefOf, usize}
+pub use denote.Exit.{Entries, all_last, all_rest, no, yes}
+pub use denote.Follow.{follows, lends_Part}
+pub use denote.FollowSlice.{lends_Elements}
+pub use denote.Index.{row, whole_in, whole_out}
+pub use denote.Laws.{Is, Lawful, Typed, shows}
+unfoldable pub use denote.Memory.{cell_at, hidden_shr, lone, mem, part_at, part_of}
+pub use denote.Opens.{hide, unhide}
+pub use denote.Param.{ArrayAt, layout, layouts, number, param}
+pub use denote.Param.Laws.{Laws, array_at_laws, param_laws}
 pub use denote.Param.Shared.{copy_shared}
 pub use denote.Plain.{uint_Tells, uint_vals}
 pub use denote.RattleType.{RattleType, Valss, owns}
-pub use denote.RawPtr.{Ptr, RawPtr, block_ptr, in_a_block, null_ptr}
-pub use denote.Ref.{MutRef, shr_Tells, shr_vals}
+pub use denote.RawPtr.{Ptr, RawPtr, block_ptr, in_a_block, null_ptr, ptr_val}
+pub use denote.Ref.{MutRef, mut_Tells, mut_vals, shr_Tells, shr_vals}
+pub use denote.Shadow.{makes_shadow, pure_i}
+pub use denote.Shares.{Shares-less}
 pub use denote.Sharing.{ShrLaws, said}
 pub use denote.SharingLaws.{beside_shr_laws, nothing_shr_laws, said_shr_laws}
-pub use denote.Signature.{plain, types_at}
-pub use denote.Slice.{Room, elements_shared}
-pub use denote.Steps.{closes, heard, nothing, opens}
-pub use denote.Struct.Lending.{Lends, Lends-both, Lends-nothing, Lends-said, of_Lends}
+pub use denote.Signature.{mut_ref_to, plain, type_at, types_at}
+pub use denote.Slice.{MutSlice, Room, elements_shared, shr_slice_vals, slice_val}
+pub use denote.Steps.{closes, heard, nothing, opens, owned, peeks}
+pub use denote.Struct.Field.{RawPtr-field}
+pub use denote.Struct.Laws.{RawPtr-copy, field_copy}
+pub use denote.Struct.Lending.{Lends, Lends-both, Lends-false, Lends-first, Lends-nothing, Lends-said, lent_out, of_Lends}
 pub use denote.Struct.Owning.{shape}
-pub use denote.Struct.Struct.{Struct, within}
-pub use denote.Triple.Call.{calls_at_last}
-pub use denote.Triple.Entry.{Vals}
+pub use denote.Struct.Struct.{Struct, Struct-Makes, within}
+pub use denote.Struct.Tuple.{Tuple, tuple_type}
+pub use denote.Triple.Call.{calls_at, calls_at_last}
+pub use denote.Triple.Entry.{Res, Vals}
 pub use denote.Triple.Table.{framed}
-pub use denote.Triple.Walked.{Goes-dropped, Stays, ends_at, says, stay_dropped, walk_of}
-pub use lib.ListN.{set}
-pub use lib.Seq.{drop-drop}
-pub use mathlib.Core.Bool.{Bool, false}
-pub use mathlib.Core.List.{[], map, ◌∷◌}
+pub use denote.Triple.Walked.{Goes-dropped, Goes-ref, Goes-spent_ref, Stays, ends_at, says, stay_dropped, stay_ref, walk_of}
+pub use lib.Seq.{drop-append_seam, take-append_seam}
 pub use mir.MapTy.{inst_fn}
-pub use mir.Syntax.{Args, Ty, a_type, named, ty_array, w64}
+pub use mir.Raw.{raw as raw_ty}
+pub use mir.Syntax.{Args, Body, Ty, a_number, a_type, named, ty_array, ty_unit}
 pub use mir.Val.{Val, WT, has_ty, of_list, vcons, vint, vnil, vptr, vstruct, vunit}
-pub use native.Mathlib.Nat.{suc-mul, zero-mul}
+pub use prog.Align.{dv_self}
 pub use prog.Capped.{capped_fits}
-pub use prog.Memory.{align, capped}
+pub use prog.Memory.{align, capped, size as ty_size}
+pub use prog.Wp.{Wp, WpFn, after_seq, at_return}
 pub use seplogic.Ra.Ura.{Ura}
-pub use types.ByLocal.{alloc_all, env, free_all, get, get_in, is, lands_last, look_at, pass_all, sets}
-pub use types.Kit.{!, Goal, Item, Seq, Soaks, Step, at_ret, await, by, done, drop as lose, feq_i, feq_l, fjoin, flt_i, flt_l, fpack, fpick, fsplit, fsplit3, given, group, join, keep, later, learn, move, pick, qed, raw, rewrite, some, split, step, suffices, use0, use1, use2, ‵, ◌$◌, ◌∵◌, ◌⊛◌}
+pub use types.ByLocal.{alloc_all, env, free_all, get, get_in, get_tag, is, lands_as, lands_last, look_at, pass_all, sets, sets_last, through}
+pub use types.Kit.{!, Goal, Item, Post as After, Seq, Soaks, Sq, Step, any_q, at_ret, await, by, check, done, drop as lose, feq_i, feq_l, fjoin, fjoin3, flt_i, flt_l, fpack, fpick, frame, fsplit, fsplit3, given, group, join, keep, later, learn, move, pick, prop, qed, raw, regoal, rewrite, show, some, split, split3, step, suffices, use0, use1, use2, ‵, ⋆, ◌$◌, ◌∵◌, ◌⊛◌}
 pub use types.Logic.{Logic, sem}
-pub use types.Part.{agg, whole}
-pub use types.Run.{align_word, and_then, bin, enter, exec, first, fld, no_more, of_opd, returns, size_word, stop, unit_lit}
-pub use types.SemTy.{cells}
+pub use types.Match.{in_variant, live, vrt}
+pub use types.Part.{agg, look_in, sub, whole}
+pub use types.Run.{addr, align_word, and_then, assigns_last, bin, blocks, enter, exec, first, fld, from, init, lit, load, look, no_more, of_opd, returns, size_word, stop, switches_on, unit_lit}
+pub use types.SemTy.{Body as BodyAt, cells}

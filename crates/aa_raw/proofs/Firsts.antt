@@ -1,16 +1,13 @@
 -- The values in the first places of a block, one of which is read or written anew.
-use Rattle.aa_raw.proofs.Common.{◌≡◌, ℕ, zero, suc, ◌<◌, List, take, get_or, true, Option, Some, None, refl, ap, arith, length-set, slice_set, is_some, list_all, IsRun, somes}
-use Rattle.std.proofs.Common.{[], ◌∷◌}
-use Rattle.aa_raw.specs.Places.{run}
+use Rattle.aa_raw.proofs.Common.{IsRun, List, None, Option, Some, [], ap, arith, get_or, is_some, length-set, list_all, refl, run, slice_set, somes, suc, take, true, zero, ℕ, ◌<◌, ◌∷◌, ◌≡◌}
 
 module _ {X : Type 0} where
   abbrev AllFilled : List (Option X) → Type 0
   AllFilled cs = list_all is_some cs ≡ true
 
   set-all : (cs : List (Option X)) (n i : ℕ) (w : X) → AllFilled (take n cs) → AllFilled (take n (slice_set cs i (Some w)))
-  set-all [] n i w r = r
-  set-all (c ∷ cs) zero zero w r = refl
-  set-all (c ∷ cs) zero (suc i) w r = refl
+  set-all [] n i w r = grind arith
+  set-all (c ∷ cs) zero i w r = refl
   set-all (None ∷ cs) (suc n) i w r = cc
   set-all (Some x ∷ cs) (suc n) zero w r = r
   set-all (Some x ∷ cs) (suc n) (suc i) w r = set-all cs n i w r

@@ -1,20 +1,11 @@
 -- Lemmas on edits at a position of the first n places of a block, which are filled.
-use Rattle.aa_raw.proofs.Common.{◌≡◌, ◌≢◌, ℕ, suc, ◌+◌, ◌-◌, ◌<◌, ◌≤◌, List, ◌++◌, length, take, drop, get_or, Option, Some, None, true, refl, sym, ap, ◌∙◌, subst, arith, length-append, length-take, length-drop, length-set, zero-add, slice_set, slice_get, is_some, nat_tests, take-append-drop, take-set-le, slice_get_read, IsRun, IsFilled, run, moved}
-use Rattle.std.proofs.Common.{[], ◌∷◌, get_or-set_other}
-use Rattle.std.specs.Prelude.{insert, remove, swap_remove}
-use Rattle.std.proofs.lemmas.List.{set-set, set_comm}
-use Rattle.std.proofs.lemmas.Option.{get_or_from_slice_get}
-use Rattle.aa_raw.proofs.Moves.{moved_one}
-use Rattle.aa_raw.proofs.Calls.{run-of_none, IsRun-rest, run-reserved, IsRun-reserved}
-use Rattle.aa_raw.proofs.Places.{lengths, length-moved, run_filled}
-use Rattle.aa_raw.proofs.Runs.{length-run, IsRun-long, IsRun-part, IsRun-same, run-split, run-take, run-drop, run-set-same, run-set-above, run-set-below, run-moved, run-moved-below, run-one}
-use Rattle.aa_raw.proofs.Firsts.{IsRun-set, run-set, run-at}
+use Rattle.aa_raw.proofs.Common.{IsFilled, IsRun, List, None, Option, Some, [], ap, arith, drop, get_or, get_or-set_other, get_or_from_slice_get, insert, is_some, length, length-append, length-drop, length-set, length-take, moved, nat_tests, refl, remove, run, set-set, set_comm, slice_get, slice_get_read, slice_set, subst, suc, swap_remove, sym, take, take-append-drop, take-set-le, true, zero-add, ℕ, ◌++◌, ◌+◌, ◌-◌, ◌<◌, ◌∙◌, ◌∷◌, ◌≡◌, ◌≢◌, ◌≤◌}
+use Rattle.aa_raw.proofs.Calls.{IsRun-reserved, IsRun-rest, run-of_none, run-reserved}
+use Rattle.aa_raw.proofs.Firsts.{IsRun-set, run-at, run-set}
+use Rattle.aa_raw.proofs.Places.{length-moved, lengths, moved_one, run_filled, value_of}
+use Rattle.aa_raw.proofs.Runs.{IsRun-long, IsRun-part, IsRun-same, length-run, run-drop, run-moved, run-moved-below, run-one, run-set-above, run-set-below, run-set-same, run-split, run-take}
 
 module _ {T : Type 0} where
-  pub value_in : (o : Option T) → is_some o ≡ true → (x : T) × (o ≡ Some x)
-  value_in None e = cc
-  value_in (Some x) e = (x, refl)
-
   module _ (cs : List (Option T)) (n : ℕ) (front : IsRun cs 0 n) where
     -- one of them is filled
     pub front-filled : (i : ℕ) → i < n → IsFilled cs i
@@ -46,15 +37,10 @@ module _ {T : Type 0} where
           let behind : run ds (i + 1) k ≡ drop i (run cs 0 n) = run-set-below M (i + 1) k i (Some x) (omega arith) ∙ run-moved cs i (i + 1) k part (omega arith) ∙ sym (run-drop cs 0 i i n k (omega arith) (omega arith) front) in
           run-split ds 0 i i (k + 1) (n + 1) (omega arith) (omega arith)
           ∙ ap (λ ys. run ds 0 i ++ ys) (run-split ds i (i + 1) 1 k (k + 1) refl (omega arith))
-          ∙ ap (λ ys. ys ++ (run ds i 1 ++ run ds (i + 1) k)) before
-          ∙ ap (λ ys. take i (run cs 0 n) ++ (ys ++ run ds (i + 1) k)) here
-          ∙ ap (λ ys. take i (run cs 0 n) ++ (x ∷ ys)) behind
+          ∙ (λ t. before t ++ (here t ++ behind t))
 
       pub IsRun-inserted : IsRun (inserted i x) 0 (n + 1)
-      IsRun-inserted =
-          IsRun-long (inserted i x) 0 (n + 1)
-          (ap length run-inserted ∙ length-append (take i (run cs 0 n)) (x ∷ drop i (run cs 0 n)) ∙ omega (arith, length-take i (run cs 0 n), length-drop i (run cs 0 n), length-run cs 0 n front, within))
-          (omega (arith, length-inserted))
+      IsRun-inserted = IsRun-long (inserted i x) 0 (n + 1) (grind (arith, run-inserted, length-append, length-take, length-drop, length-run)) (omega (arith, length-inserted))
 
     -- place i is emptied, and those behind it are moved down by one
     abbrev pub removed : (i : ℕ) → List (Option T)
@@ -80,13 +66,10 @@ module _ {T : Type 0} where
           run-moved-below ds (i + 1) i k 0 i (omega (arith, taken, front.0)) (omega (arith, taken, front.0)) (omega arith) (omega arith) ∙ run-set-above cs 0 i i None (omega (arith, front.0)) (omega arith) ∙ sym (run-take cs 0 i n (omega arith) front) in
           let behind : run (removed i) i k ≡ drop (suc i) (run cs 0 n) =
           run-moved ds (i + 1) i k IsRun-behind (omega (arith, taken, front.0)) ∙ run-set-below cs (i + 1) k i None (omega arith) ∙ sym (run-drop cs 0 (i + 1) (suc i) n k (omega arith) (omega arith) front) in
-          run-split (removed i) 0 i i k (n - 1) (omega arith) (omega arith) ∙ ap (λ ys. ys ++ run (removed i) i k) before ∙ ap (λ ys. take i (run cs 0 n) ++ ys) behind
+          run-split (removed i) 0 i i k (n - 1) (omega arith) (omega arith) ∙ (λ t. before t ++ behind t)
 
       pub IsRun-removed : IsRun (removed i) 0 (n - 1)
-      IsRun-removed =
-          IsRun-long (removed i) 0 (n - 1)
-          (ap length run-removed ∙ length-append (take i (run cs 0 n)) (drop (suc i) (run cs 0 n)) ∙ omega (arith, length-take i (run cs 0 n), length-drop (suc i) (run cs 0 n), length-run cs 0 n front, within))
-          (omega (arith, length-removed, front.0))
+      IsRun-removed = IsRun-long (removed i) 0 (n - 1) (grind (arith, run-removed, length-append, length-take, length-drop, length-run)) (omega (arith, length-removed, front.0))
 
       -- the last one is taken: nothing moves
       pub run-last_removed : (d : T) → i ≡ n - 1 → run (slice_set cs i None) 0 (n - 1) ≡ swap_remove (run cs 0 n) i d
@@ -110,16 +93,10 @@ module _ {T : Type 0} where
       run-swapped d h =
           let last : ℕ = n - 1 in
           let xs : List T = run cs 0 n in
-          let v = value_in (get_or cs last None) (front-filled last (omega arith)) in
+          let v = value_of (get_or cs last None) (front-filled last (omega arith)) in
           let y : T = v.0 in
-          let there : last ≢ i = λ e. absurd (omega arith) in
-          let moved_is : get_or (slice_set cs i None) last None ≡ Some y = get_or-set_other cs i last None None there ∙ v.1 in
           let places : swapped ≡ slice_set (slice_set cs i (Some y)) last None =
-          moved_one (slice_set cs i None) last i there (omega (arith, taken, front.0)) (omega (arith, taken, front.0))
-          ∙ ap (λ c. slice_set (slice_set (slice_set cs i None) last None) i c) moved_is
-          ∙ ap (λ l. slice_set l i (Some y)) (set_comm cs i last None None (λ e. there (sym e)))
-          ∙ set-set (slice_set cs last None) i None (Some y)
-          ∙ set_comm cs last i None (Some y) there in
+          grind (arith, moved_one, set_comm, set-set, length-set, get_or-set_other, v.1) in
           let last_is : y ≡ get_or xs last d = sym (get_or_from_slice_get xs last y d (front-get last y (omega arith) v.1)) in
           ap (λ l. run l 0 last) places
           ∙ run-set-above (slice_set cs i (Some y)) 0 last last None (omega (arith, front.0, length-set cs i (Some y))) (omega arith)
@@ -135,7 +112,7 @@ module _ {T : Type 0} where
           IsRun-long ds 0 (n - 1) (ap length e ∙ omega (arith, length-take (length xs - 1) ys, length-set xs i (get_or xs (length xs - 1) d), length-run cs 0 n front, within)) (omega (arith, l, front.0))
 
       value : T
-      value = (value_in (get_or cs i None) (front-filled i within)).0
+      value = (value_of (get_or cs i None) (front-filled i within)).0
 
       pub IsRun-last_removed : i ≡ n - 1 → IsRun (slice_set cs i None) 0 (n - 1)
       IsRun-last_removed e = IsRun-fewer value (slice_set cs i None) taken (run-last_removed value e)

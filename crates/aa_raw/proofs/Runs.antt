@@ -1,9 +1,7 @@
 -- Lemmas on the values in a run of places.
-use Rattle.aa_raw.proofs.Common.{◌≡◌, ℕ, ◌+◌, ◌-◌, ◌<◌, ◌≤◌, suc, true, List, ◌++◌, Option, Some, None, length, take, drop, get_or, replicate, refl, sym, ◌∙◌, ap, subst, arith, rules, append_assoc, length-append, length-take, length-drop, take_at, drop_at, take-append-drop, length-map, length-replicate, drop-set-lt, drop-append-le, take-append-le, length-take-le, get_or-set_same, take-take, slice_set, is_some, list_all, somes, IsRun, IsFilled}
-use Rattle.std.proofs.Common.{[], ◌∷◌, map, add-zero}
-use Rattle.std.proofs.lemmas.List.{places, same_lists, drop-drop, length-set, set_split, drop_more, drop-take}
-use Rattle.aa_raw.specs.Places.{run, moved, with_run}
-use Rattle.aa_raw.proofs.Places.{length-with_run, length-moved, run_filled}
+use Rattle.aa_raw.proofs.Common.{IsFilled, IsRun, List, None, Option, Some, [], add-zero, ap, append_assoc, arith, cases_lt, drop, drop-append-le, drop-drop, drop-set-lt, drop-take, drop_at, drop_more, get_or, get_or-drop, get_or-set_same, get_or-take, inl, inr, is_some, length, length-append, length-drop, length-map, length-replicate, length-set, length-take, length-take-le, list_all, map, moved, places, refl, replicate, rules, run, same_lists, set_split, slice_set, somes, subst, suc, sym, take, take-add, take-append-drop, take-append-le, take-take, take_at, true, with_run, ℕ, ◌++◌, ◌+◌, ◌-◌, ◌<◌, ◌∙◌, ◌∷◌, ◌≡◌, ◌≤◌}
+use Rattle.aa_raw.proofs.Places.{length-moved, length-with_run, run_filled}
+pub use Rattle.aa_raw.proofs.Places.{length-cut as cut-long}
 
 module _ {X : Type 0} where
   pub somes-append : (cs ds : List (Option X)) → somes (cs ++ ds) ≡ somes cs ++ somes ds
@@ -26,23 +24,15 @@ module _ {X : Type 0} where
   all-map (None ∷ cs) h = cc
   all-map (Some x ∷ cs) h = ap (λ ds. Some x ∷ ds) (all-map cs h)
 
-  all-long : (cs : List (Option X)) → list_all is_some cs ≡ true → length (somes cs) ≡ length cs
-  all-long [] h = refl
-  all-long (None ∷ cs) h = cc
-  all-long (Some x ∷ cs) h = ap suc (all-long cs h)
-
   long-all : (cs : List (Option X)) → length (somes cs) ≡ length cs → list_all is_some cs ≡ true
   long-all [] h = refl
   long-all (None ∷ cs) h = absurd (omega (arith, somes-le cs, h))
   long-all (Some x ∷ cs) h = let e : length (somes cs) ≡ length cs = omega (arith, h) in long-all cs e
 
-  pub cut-long : (cs : List (Option X)) (from n : ℕ) → from + n ≤ length cs → length (take n (drop from cs)) ≡ n
-  cut-long cs from n h = omega (arith, length-take n (drop from cs), length-drop from cs)
-
   -- as many values as places
   pub length-run : (cs : List (Option X)) (from n : ℕ) → IsRun cs from n → length (run cs from n) ≡ n
   unfolding run
-  length-run cs from n r = all-long (take n (drop from cs)) r.1 ∙ cut-long cs from n r.0
+  length-run cs from n r = let there = take n (drop from cs) in sym (ap length (all-map there r.1) ∙ length-map (somes there) (λ (x : X). Some x)) ∙ cut-long cs from n r.0
 
   -- and where there are as many, each place is filled
   pub IsRun-long : (cs : List (Option X)) (from n : ℕ) → length (run cs from n) ≡ n → from + n ≤ length cs → IsRun cs from n
@@ -59,10 +49,7 @@ module _ {X : Type 0} where
   unfolding run
   run-is cs from n xs e = ap somes e ∙ somes-map xs
 
-  take-add : (m n : ℕ) (cs : List (Option X)) → take (m + n) cs ≡ take m cs ++ take n (drop m cs)
-  take-add m n cs = sym (same_lists (take m cs ++ take n (drop m cs)) (take (m + n) cs) (search (rules, places)) (λ k d h. grind (arith, places)))
-
-  run_same : (cs ds : List (Option X)) (from n : ℕ) → take n (drop from cs) ≡ take n (drop from ds) → run cs from n ≡ run ds from n
+  pub run_same : (cs ds : List (Option X)) (from n : ℕ) → take n (drop from cs) ≡ take n (drop from ds) → run cs from n ≡ run ds from n
   unfolding run
   run_same cs ds from n e = ap somes e
 
@@ -73,20 +60,6 @@ module _ {X : Type 0} where
   pub run-add : (cs : List (Option X)) (from m n : ℕ) → run cs from (m + n) ≡ run cs from m ++ run cs (from + m) n
   unfolding run
   run-add cs from m n = ap somes (take-add m n (drop from cs)) ∙ somes-append (take m (drop from cs)) (take n (drop m (drop from cs))) ∙ ap (λ ds. somes (take m (drop from cs)) ++ somes (take n ds)) (drop-drop m from cs)
-
-  length-run-le : (cs : List (Option X)) (from n : ℕ) → length (run cs from n) ≤ n
-  unfolding run
-  length-run-le cs from n = omega (arith, somes-le (take n (drop from cs)), length-take n (drop from cs))
-
-  -- the parts of a run are runs
-  IsRun-front : (cs : List (Option X)) (from m n : ℕ) → IsRun cs from (m + n) → IsRun cs from m
-  IsRun-front cs from m n h = IsRun-long cs from m (omega (arith, length-run cs from (m + n) h, ap length (run-add cs from m n), length-append (run cs from m) (run cs (from + m) n), length-run-le cs from m, length-run-le cs (from + m) n)) (omega (arith, h.0))
-
-  IsRun-back : (cs : List (Option X)) (from m n : ℕ) → IsRun cs from (m + n) → IsRun cs (from + m) n
-  IsRun-back cs from m n h = IsRun-long cs (from + m) n (omega (arith, length-run cs from (m + n) h, ap length (run-add cs from m n), length-append (run cs from m) (run cs (from + m) n), length-run-le cs from m, length-run-le cs (from + m) n)) (omega (arith, h.0))
-
-  IsRun-join : (cs : List (Option X)) (from m n : ℕ) → IsRun cs from m → IsRun cs (from + m) n → IsRun cs from (m + n)
-  IsRun-join cs from m n h k = IsRun-long cs from (m + n) (omega (arith, length-run cs from m h, length-run cs (from + m) n k, ap length (run-add cs from m n), length-append (run cs from m) (run cs (from + m) n))) (omega (arith, k.0))
 
   take-one : (cs : List (Option X)) (i : ℕ) → i < length cs → take 1 (drop i cs) ≡ get_or cs i None ∷ []
   take-one cs i h = ap (take 1) (drop_more cs i None h)
@@ -109,19 +82,25 @@ module _ {X : Type 0} where
   pub run-split : (cs : List (Option X)) (from a m n k : ℕ) → from + m ≡ a → m + n ≡ k → run cs from k ≡ run cs from m ++ run cs a n
   run-split cs from a m n k e f = ap (run cs from) (sym f) ∙ run-add cs from m n ∙ ap (λ i. run cs from m ++ run cs i n) e
 
+  -- places that are all filled are a run, and so are the parts of a run, and two runs in line
+  all-filled : (cs : List (Option X)) → ((i : ℕ) → i < length cs → IsFilled cs i) → list_all is_some cs ≡ true
+  all-filled [] f = refl
+  all-filled (None ∷ cs) f = let e = f 0 (omega arith) in cc
+  all-filled (Some x ∷ cs) f = all-filled cs (λ i h. f (suc i) (omega arith))
+
+  filled-run : (cs : List (Option X)) (from n : ℕ) → from + n ≤ length cs → ((i : ℕ) → i < n → IsFilled cs (from + i)) → IsRun cs from n
+  filled-run cs from n h f =
+      let long = cut-long cs from n h in (h, all-filled (take n (drop from cs)) (λ i l. ap is_some (get_or-take n (drop from cs) i None (omega arith) ∙ get_or-drop from cs i None) ∙ f i (omega arith)))
+
   pub IsRun-part : (cs : List (Option X)) (from n a k : ℕ) → from ≤ a → a + k ≤ from + n → IsRun cs from n → IsRun cs a k
   IsRun-part cs from n a k h l r =
-      let P : ℕ → Type 0 = λ i. IsRun cs from i in
-      let Q : ℕ → Type 0 = λ i. IsRun cs i k in
-      let e : n ≡ (a - from) + (k + (n - (a - from) - k)) = omega arith in
-      let f : from + (a - from) ≡ a = omega arith in
-      subst Q f (IsRun-front cs (from + (a - from)) k (n - (a - from) - k) (IsRun-back cs from (a - from) (k + (n - (a - from) - k)) (subst P e r)))
+      filled-run cs a k (omega (arith, r.0)) (λ i b. let e : from + (a - from + i) ≡ a + i = omega arith in subst (λ j. IsFilled cs j) e (run_filled cs from n (a - from + i) r (omega arith)))
 
   pub IsRun-joined : (cs : List (Option X)) (from a m n k : ℕ) → from + m ≡ a → m + n ≡ k → IsRun cs from m → IsRun cs a n → IsRun cs from k
-  IsRun-joined cs from a m n k e f r s =
-      let P : ℕ → Type 0 = λ i. IsRun cs i n in
-      let Q : ℕ → Type 0 = λ i. IsRun cs from i in
-      subst Q f (IsRun-join cs from m n r (subst P (sym e) s))
+  IsRun-joined cs from a m n k e f r s = filled-run cs from k (omega (arith, s.0)) (λ i h. elim (cases_lt i m) [
+    | inl low ↦ run_filled cs from m i r low
+    | inr high ↦ let j : a + (i - m) ≡ from + i = omega arith in subst (λ j. IsFilled cs j) j (run_filled cs a n (i - m) s (omega arith))
+  ])
 
   pub IsRun-nil : (cs : List (Option X)) (from : ℕ) → from ≤ length cs → IsRun cs from 0
   IsRun-nil cs from h = IsRun-long cs from 0 (ap length (run-zero cs from)) (omega (arith, h))
@@ -217,10 +196,9 @@ module _ {X : Type 0} where
 
   -- a run that was moved holds the same values where it is now
   pub run-moved : (cs : List (Option X)) (from to n : ℕ) → IsRun cs from n → to + n ≤ length cs → run (moved cs from to n) to n ≡ run cs from n
-  unfolding moved
-  run-moved cs from to n r h =
-      let none = with_run cs from n (replicate n None) in let long : length none ≡ length cs = length-with_run cs from n (replicate n None) r.0 (length-replicate n None) in
-      ap (λ l. run (with_run none to n l) to n) (run-filled cs from n r) ∙ run-with none to n (run cs from n) (omega (arith, long)) (length-run cs from n r)
+  unfolding run moved with_run
+  run-moved cs from to n r room =
+      let fits = r.0 in let same : take n (drop to (moved cs from to n)) ≡ take n (drop from cs) = same_lists _ _ (search (rules, places)) (λ j d h. grind (arith, places)) in ap somes same
 
   pub IsRun-moved : (cs : List (Option X)) (from to n : ℕ) → IsRun cs from n → to + n ≤ length cs → IsRun (moved cs from to n) to n
   IsRun-moved cs from to n r h = IsRun-long (moved cs from to n) to n (ap length (run-moved cs from to n r h) ∙ length-run cs from n r) (omega (arith, length-moved cs from to n r.0 h))
@@ -241,14 +219,10 @@ module _ {X : Type 0} where
       run-below cs (with_run cs from n ys) from a k (take_at (take from cs) (ys ++ drop (from + n) cs) from (length-take-le from cs (omega arith))) l
 
   pub run-with-above : (cs : List (Option X)) (from n : ℕ) (ys : List (Option X)) (a k : ℕ) → from + n ≤ length cs → length ys ≡ n → from + n ≤ a → run (with_run cs from n ys) a k ≡ run cs a k
-  run-with-above cs from n ys a k h e l =
-      let f : from + n + (a - (from + n)) ≡ a = omega arith in
-      let g : (es : List (Option X)) → drop (a - (from + n)) (drop (from + n) es) ≡ drop a es = λ es. drop-drop (a - (from + n)) (from + n) es ∙ ap (λ i. drop i es) f in
-      run_same (with_run cs from n ys) cs a k (ap (take k) (sym (g (with_run cs from n ys)) ∙ ap (drop (a - (from + n))) (drop-with cs from n ys h e) ∙ g cs))
+  unfolding with_run
+  run-with-above cs from n ys a k fits e l = run_same (with_run cs from n ys) cs a k (same_lists _ _ (search (rules, places)) (λ j d t. grind (arith, places)))
 
   -- a run that was moved leaves one that lies before it, and before where it is now
   pub run-moved-below : (cs : List (Option X)) (from to n a k : ℕ) → from + n ≤ length cs → to + n ≤ length cs → a + k ≤ from → a + k ≤ to → run (moved cs from to n) a k ≡ run cs a k
-  unfolding moved
-  run-moved-below cs from to n a k h l b c =
-      let none = with_run cs from n (replicate n None) in let long : length none ≡ length cs = length-with_run cs from n (replicate n None) h (length-replicate n None) in
-      run-with-below none to n (take n (drop from cs)) a k (omega (arith, long)) c ∙ run-with-below cs from n (replicate n None) a k h b
+  unfolding moved with_run
+  run-moved-below cs from to n a k f t b c = run_same (moved cs from to n) cs a k (same_lists _ _ (search (rules, places)) (λ j d h. grind (arith, places)))

@@ -1,9 +1,7 @@
 -- What growth that keeps two runs leaves.
-use Rattle.aa_raw.proofs.Common.{◌≡◌, ℕ, ◌+◌, ◌-◌, ◌<◌, ◌≤◌, List, ◌++◌, length, take, drop, replicate, Option, Some, None, refl, sym, ap, subst, ◌∙◌, arith, inl, inr, nat_tests, length-replicate, length_refill, Block, usize_max, IsRun, run, with_run, both}
-use Rattle.std.proofs.Common.{map}
-use Rattle.aa_raw.specs.TwoRuns.{AreApart, AreJoined, AreParted, IsFull, ReservesRuns, grown_with}
-use Rattle.aa_raw.proofs.Calls.{run-transferred_there, IsRun-transferred_there, IsRun-with-below}
-use Rattle.aa_raw.proofs.Places.{lengths, length-with_run}
+use Rattle.aa_raw.proofs.Common.{AreApart, AreJoined, AreParted, Block, IsFull, IsRun, List, None, Option, ReservesRuns, Some, ap, arith, both, drop, grown_with, inl, inr, length, length-replicate, length_refill, map, nat_tests, refl, replicate, rules, run, subst, sym, take, usize_max, with_run, ℕ, ◌++◌, ◌+◌, ◌-◌, ◌<◌, ◌∙◌, ◌≡◌, ◌≤◌}
+use Rattle.aa_raw.proofs.Calls.{IsRun-transferred_there, IsRun-with-below, run-transferred_there}
+use Rattle.aa_raw.proofs.Places.{length-with_run, lengths}
 use Rattle.aa_raw.proofs.Runs.{IsRun-joined, IsRun-same, cut-long, run-filled, run-split, run-with-above, run-with-below}
 
 pub AreApart-before : (a m b n : ℕ) → a + m ≤ b → AreApart (a, m) (b, n)
@@ -80,36 +78,13 @@ module _ {X : Type 0} (cs : List (Option X)) (first second : ℕ × ℕ) (r : Is
 module _ {X A : Type 0} (size : ℕ) (old : Block X A) (first second : ℕ × ℕ) (k wanted to : ℕ) where
   -- where they fit, the block stays
   pub ReservesRuns-stays : both first second + k ≤ length old.places → length old.places ≤ usize_max → ReservesRuns size old first second k wanted to old
-  ReservesRuns-stays fits within = record {
-    fits = λ h. refl;
-    grows = λ h. absurd (omega arith);
-    room = fits;
-    within = within;
-    capacity = grind (arith, nat_tests);
-    growth = refl;
-    grown = grind (arith, nat_tests);
-    written = refl;
-    runs = refl;
-    alloc = refl;
-  }
+  ReservesRuns-stays fits within = search (rules, nat_tests)
 
   -- where they don't, it has grown
   pub ReservesRuns-grows : IsFull old first second k → IsRun old.places first.0 first.1 → IsRun old.places second.0 second.1 → first.1 ≤ to → to + second.1 ≤ wanted
       → both first second + k ≤ wanted → wanted ≤ usize_max → 0 < size → ReservesRuns size old first second k wanted to (grown_with old first second to wanted)
   ReservesRuns-grows full r s low high enough few has_size =
-      let long = length-two old.places first second r s wanted to low high in
-      record {
-        fits = λ h. absurd (omega arith);
-        grows = λ h. (has_size, refl);
-        room = omega (arith, long);
-        within = omega (arith, long);
-        capacity = long ∙ grind (arith, nat_tests);
-        growth = refl;
-        grown = grind (arith, nat_tests);
-        written = refl;
-        runs = refl;
-        alloc = refl;
-      }
+      let long = length-two old.places first second r s wanted to low high in grind (arith, nat_tests, long)
 
 module _ {X A : Type 0} (size : ℕ) (old : Block X A) (first second : ℕ × ℕ) (k wanted : ℕ) (new : Block X A) (full : IsFull old first second k) (r : IsRun old.places first.0 first.1) (s : IsRun old.places second.0 second.1) where
   enough : (to : ℕ) → ReservesRuns size old first second k wanted to new → both first second ≤ wanted
@@ -118,32 +93,19 @@ module _ {X A : Type 0} (size : ℕ) (old : Block X A) (first second : ℕ × �
   -- in line
   pub AreJoined-made : ReservesRuns size old first second k wanted first.1 new → AreJoined old new first second
   AreJoined-made made =
-      let m : ℕ = first.1 in let n : ℕ = second.1 in
-      let high : m + n ≤ wanted = enough m made in
-      let low : m ≤ m = omega arith in
-      let ds : List (Option X) = two old.places first second r s wanted m low high in
-      let front = run-first old.places first second r s wanted m low high in
-      let back = run-second old.places first second r s wanted m low high in
-      subst (λ b. AreJoined old b first second) (sym (made.grows full).1) (record {
-        there = IsRun-joined ds 0 m m n (m + n) (omega arith) refl (IsRun-first old.places first second r s wanted m low high) (IsRun-second old.places first second r s wanted m low high);
-        same = run-split ds 0 m m n (m + n) (omega arith) refl ∙ (λ i. front i ++ back i);
-      })
+      let m : ℕ = first.1 in let n : ℕ = second.1 in let high : m + n ≤ wanted = enough m made in let low : m ≤ m = omega arith in let cs = old.places in let is = (made.grows full).1 in
+      let front = run-first cs first second r s wanted m low high in let back = run-second cs first second r s wanted m low high in
+      let before = IsRun-first cs first second r s wanted m low high in let behind = IsRun-second cs first second r s wanted m low high in
+      rw is (record { there = IsRun-joined _ 0 m m n (m + n) (omega arith) refl before behind; same = run-split _ 0 m m n (m + n) (omega arith) refl ∙ (λ i. front i ++ back i) })
 
   -- at both ends
   pub AreParted-made : ReservesRuns size old first second k wanted (wanted - second.1) new → AreParted old new first second
   AreParted-made made =
-      let n : ℕ = second.1 in let to : ℕ = wanted - n in
-      let all : both first second ≤ wanted = enough to made in
-      let low : first.1 ≤ to = omega arith in
-      let high : to + n ≤ wanted = omega arith in
-      let ds : List (Option X) = two old.places first second r s wanted to low high in
-      let long : length ds ≡ wanted = length-two old.places first second r s wanted to low high in
-      let same : to ≡ length ds - n = ap (λ c. c - n) (sym long) in
-      subst (λ b. AreParted old b first second) (sym (made.grows full).1) (record {
-        before = IsRun-first old.places first second r s wanted to low high;
-        front = run-first old.places first second r s wanted to low high;
-        behind = subst (λ i. IsRun ds i n) same (IsRun-second old.places first second r s wanted to low high);
-        back = ap (λ i. run ds i n) (sym same) ∙ run-second old.places first second r s wanted to low high;
-      })
+      let n : ℕ = second.1 in let to : ℕ = wanted - n in let all : both first second ≤ wanted = enough to made in let cs = old.places in let is = (made.grows full).1 in
+      let low : first.1 ≤ to = omega arith in let high : to + n ≤ wanted = omega arith in
+      let front = run-first cs first second r s wanted to low high in let back = run-second cs first second r s wanted to low high in
+      let before = IsRun-first cs first second r s wanted to low high in let behind = IsRun-second cs first second r s wanted to low high in
+      let ds : List (Option X) = two cs first second r s wanted to low high in let same : to ≡ length ds - n = ap (λ c. c - n) (sym (length-two cs first second r s wanted to low high)) in
+      rw is (record { before = before; front = front; behind = subst (λ i. IsRun ds i n) same behind; back = ap (λ i. run ds i n) (sym same) ∙ back })
 
 pub ruleset kept_runs = (lengths, nat_tests, length_refill, both-fit, length-left, IsRun-left, cut-left, ReservesRuns-stays, ReservesRuns-grows, AreJoined-made, AreParted-made)

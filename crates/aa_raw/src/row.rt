@@ -363,7 +363,7 @@ fn lower_in_arrays<T>(row: Row<T>, by: usize, count: usize) -> Row<T>
 
 // The loop of `raise` in arrays of `N`, the last first, and then what is left.
 #[inline(always)]
-#[tactic(auto, using(crate::proofs::Places::begun_arrays))]
+#[tactic(auto, using(crate::proofs::Calls::raised_in_arrays))]
 fn raise_by_arrays<T, const N: usize>(mut row: Row<T>, by: usize, count: usize) -> Row<T>
     requires { (0 < N) × (0 < by) × IsRun row.places 0 count × (by + count ≤ length row.places)
         × (length row.places < 2 ^ 64) }
@@ -379,7 +379,7 @@ fn raise_by_arrays<T, const N: usize>(mut row: Row<T>, by: usize, count: usize) 
 
 // The loop of `lower` in arrays of `N`, the first first, and then what is left.
 #[inline(always)]
-#[tactic(auto, using(crate::proofs::Places::begun_arrays))]
+#[tactic(auto, using(crate::proofs::Calls::lowered_in_arrays))]
 fn lower_by_arrays<T, const N: usize>(mut row: Row<T>, by: usize, count: usize) -> Row<T>
     requires { (0 < N) × (0 < by) × IsRun row.places by count × (length row.places < 2 ^ 64) }
     ensures { (result.ptr ≡ row.ptr) × (result.places ≡ moved row.places by 0 count) }
@@ -396,7 +396,7 @@ fn lower_by_arrays<T, const N: usize>(mut row: Row<T>, by: usize, count: usize) 
 
 // The loop of `raise`, the last value first.
 #[inline(always)]
-#[tactic(auto, using(crate::proofs::Places::begun_moves))]
+#[tactic(auto, using(crate::proofs::Places::moved_one_by_one))]
 fn move_up<T>(mut row: Row<T>, by: usize, count: usize) -> Row<T>
     requires { (0 < by) × IsRun row.places 0 count × (by + count ≤ length row.places)
         × (length row.places < 2 ^ 64) }
@@ -412,7 +412,7 @@ fn move_up<T>(mut row: Row<T>, by: usize, count: usize) -> Row<T>
 
 // The loop of `lower`, the first value first.
 #[inline(always)]
-#[tactic(auto, using(crate::proofs::Places::begun_moves))]
+#[tactic(auto, using(crate::proofs::Places::moved_one_by_one))]
 fn move_down<T>(mut row: Row<T>, by: usize, count: usize) -> Row<T>
     requires { (0 < by) × IsRun row.places by count × (length row.places < 2 ^ 64) }
     ensures { (result.ptr ≡ row.ptr) × (result.places ≡ moved row.places by 0 count) }
@@ -451,7 +451,7 @@ fn move_across<T>(
 
 // Its loop in arrays of `N`, and then what is left.
 #[inline(always)]
-#[tactic(auto, using(crate::proofs::Places::begun_moves))]
+#[tactic(auto, using(crate::proofs::Calls::put_in_arrays))]
 fn move_across_by_arrays<T, const N: usize>(
     mut row: Row<T>,
     to: usize,
@@ -477,7 +477,7 @@ fn move_across_by_arrays<T, const N: usize>(
 
 // The same value by value.
 #[inline(always)]
-#[tactic(auto, using(crate::proofs::Places::begun_moves))]
+#[tactic(auto, using(crate::proofs::Places::moved_across))]
 fn move_each_across<T>(
     mut row: Row<T>,
     to: usize,

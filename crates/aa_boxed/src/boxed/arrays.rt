@@ -66,7 +66,7 @@ impl<T, A: Allocator> BoxedSlice<T, A> {
     }
 
     // All elements, as an array. The block is given back.
-    #[tactic(auto, using(aa_raw::proofs::Calls::in_runs))]
+    #[tactic(auto, using(aa_raw::proofs::Calls::in_runs, aa_raw::proofs::Calls::shown))]
     fn taken_out<const N: usize>(self) -> [T; N]
         requires { length self.items ≡ N }
         ensures { result ≡ self.items }
@@ -106,7 +106,7 @@ impl<T, A: Allocator, const N: usize> Box<[T; N], A> {
 }
 
 // The elements of an array as a boxed slice, in an empty block that has room for them and no more.
-#[tactic(auto, using(aa_raw::proofs::Calls::in_runs))]
+#[tactic(auto, using(aa_raw::proofs::Calls::in_runs, aa_raw::proofs::Calls::shown))]
 fn filled<T, A: Allocator, const N: usize>(block: RawVec<T, A>, items: [T; N]) -> BoxedSlice<T, A>
     requires room { IsJustFor N block.places × (N ≤ length block.places) }
     ensures { result ≡ record { items = items; growth = block.growth; alloc = block.alloc } }

@@ -183,6 +183,7 @@ impl<T, A: Allocator> BoxedSlice<T, A> {
     }
 
     /// The elements. It stands for the dereference of `Box<[T], A>`.
+    #[tactic(auto, using(aa_raw::proofs::Calls::shown))]
     pub fn as_slice(&self) -> &[T]
         ensures { result.now ≡ self.now.items }
     {

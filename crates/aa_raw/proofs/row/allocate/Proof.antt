@@ -1,54 +1,26 @@
 -- Empty places from the allocator, with the right to give them back. Assumes `Logic`.
-use mathlib.Core.Path.{◌≡◌, refl, ap}
-use Rattle.aa_raw.proofs.Common.{false, [], ◌∷◌, ftrue, flft, Incl-trans, named, w64, ty_array, inst_fn, Val, vint, vstruct, vcons, vnil, capped_fits, align, capped, ◌⊑◌, fact, tables, ‵, raw, ◌⊛◌, later, await, at_ret, ◌$◌, ◌∵◌, !, qed, done, move, keep, use1, use2, split, join, fsplit, fjoin, suffices, whole, agg, enter, stop, fld, bin, size_word, align_word, of_opd, and_then, no_more, first, exec, returns, alloc_all, pass_all, free_all, look_at, get, get_in, is, sets, env, usize, RefOf, yes, Is, layout, param, uint_vals, uint_Tells, RattleType, owns, block_ptr, shr_vals, shr_Tells, plain, types_at, nothing, heard, Struct, Vals, framed, Stays, walk_of, says, stay_dropped, Goes-dropped, ends_at, None, proved, Good, after, Al, token, El, R, elτ, sz, args, block_ty, block_size, block_align, each, IsCapacity}
-use mathlib.Core.Bool.{true}
-use Prim.Native.Nat.{ℕ, ◌*◌, ◌<◌, ◌^◌}
-use native.Mathlib.Omega.{arith}
-use lib.Dec.{lit<}
-use lib.ListN.{replicate}
-use mir.Syntax.{Body}
-use prog.Wp.{Wp, after_seq, at_return}
-use contract.Running.{tables_of}
-use types.Kit.{Post as After, any_q, Sq, prop, drop}
-use types.Match.{live, vrt, in_variant}
-use types.Run.{lit, switches_on}
-use types.ByLocal.{get_tag, sets_last, lands_as}
-use denote.Steps.{owned}
+use Rattle.aa_raw.proofs.{!, After, Al, Answer-typed, Answered, Body, Both, El, Err, Goes-dropped, IfOk, Incl-trans, Is, IsCapacity, IsGood as Good, None, Ok, R, RattleType, RefOf, Right, Spot, Sq, Stays, Struct, Struct-Makes, Takes, Takes-gives, Takes-goes, Val, Vals, Wp, [], after, after_seq, agg, align, align_word, alloc_all, and_then, answers, any_q, ap, arith, arm_body, as_written, at_ret, at_return, at_takes, await, bin, block_align, block_args as args, block_ptr, block_size, block_ty, calls_at, capped, capped_fits, done, each, elτ, ends_at, enter, env, err_of, exec, fact, false, first, first_Good, fjoin, fld, flft, framed, free_all, fsplit, ftrue, get, get_in, get_tag, head, heard, in_variant, inst_fn, is, join, keep, lands_as, later, layout, lit, lit<, live, look_at, lose as drop, mark, move, named, new_pair, no_more, nothing, of_opd, ok_of, owned, owns, pair_made, pair_val, param, pass_all, plain, prop, proved, qed, raw, refl, replicate, returns, right_made, row_of_room, says, sets, sets_last, shr_Tells, shr_vals, size_word, split, stay_dropped, stop, suffices, switches_on, sz, tables, tables_of, token, true, ty_array, types_at, uint_Tells, uint_vals, use1, use2, usize, vcons, vint, vnil, vrt, vstruct, w64, walk_of, way_fits, way_word, whole, word, yes, ‵, ℕ, ◌$◌, ◌*◌, ◌<◌, ◌^◌, ◌∵◌, ◌∷◌, ◌≡◌, ◌⊑◌, ◌⊛◌}
 use denote.Struct.Declared as Declared
-use denote.Struct.Struct.{Struct-Makes}
-use denote.Triple.Call.{calls_at}
-use Rattle.std.specs.Prelude.{IfOk, Ok, Err}
-use Rattle.std_alloc.proofs.RawLayout.{as_written}
-use Rattle.std_alloc.proofs.RcSteps.{first_Good}
-use Rattle.std_alloc.proofs.ResultValues.{ok_of, err_of}
-use Rattle.std_alloc.proofs.VecSteps.Shapes.{head, arm_body}
-use Rattle.core.proofs.alloc.Calls.{Answer-typed, Takes, at_takes, Answered, Takes-goes, Takes-gives, answers}
 use Rattle.core.specs.contracts.alloc.AllocError as AE
 use Rattle.core.specs.contracts.result.Result as RS
 use Rattle.aa_raw.specs.contracts.row.allocate as f
-use Rattle.aa_raw.proofs.Access.{word, way_word, way_fits}
-use Rattle.aa_raw.proofs.Claims.{Both, Right, mark, new_pair, pair_val, pair_made, right_made}
-use Rattle.aa_raw.proofs.Spots.{Spot, row_of_room}
-use Rattle.aa_raw.proofs.row.allocate.Statement.{statement}
 use Rattle.aa_raw.proofs.row.allocate.Code as code
 
-abbrev stayed : (E : El) (Z : Al) → Stays (f.ended E.row Z.row Z.g Z.d Z.drops).signature.params (f.ended E.row Z.row Z.g Z.d Z.drops).kept
-stayed E Z = (stay_dropped (RefOf (0 ∷ []) tt (plain (λ _. param 1 Z.row)) (λ _. tt)) yes, (stay_dropped (plain (λ _. usize)) yes, tt))
-
-pub allocate_spec : {M : Type 1} → statement M
+pub allocate_spec : {M : Type 1} → Rattle.aa_raw.proofs.row.allocate.Statement.statement M
 unfolding tables_of
 allocate_spec 𝓤 𝓛 𝓜 𝓡 wired X W LX LW g dict dd met md =
     let E : El = record { row = X; laws = LX } in let Z : Al = record { row = W; laws = LW; g = g; d = dict; drops = dd } in let key = args (record { row = X; laws = LX }) Z in
-    let T = f.ended X W g dict dd in let c = f.clauses X W g dict dd 𝓛 𝓜.mem 𝓡.returns in let e = inst_fn key code.function in let Wk = walk_of 𝓛 T (stayed E Z) c in let 𝓣 = tables 𝓤 𝓛.H 𝓜 𝓡 𝓡.env in
+    let stayed : Stays (f.ended E.row Z.row Z.g Z.d Z.drops).signature.params (f.ended E.row Z.row Z.g Z.d Z.drops).kept = (stay_dropped (RefOf (0 ∷ []) tt (plain (λ _. param 1 Z.row)) (λ _. tt)) yes, (stay_dropped (plain (λ _. usize)) yes, tt)) in
+    let T = f.ended X W g dict dd in let c = f.clauses X W g dict dd 𝓛 𝓜.mem 𝓡.returns in let e = inst_fn key code.function in let Wk = walk_of 𝓛 T stayed c in let 𝓣 = tables 𝓤 𝓛.H 𝓜 𝓡 𝓡.env in
     let B = block_ty (record { row = X; laws = LX }) in let Out = RS.the_row (Both E Z) AE.the_row in let Refusal : RattleType = Struct (Declared.shape AE.the_type) in
-    proved 𝓛 T (stayed E Z) c 𝓜 𝓡 (Goes-dropped 𝓛 3 (RefOf (0 ∷ []) tt (plain (λ _. param 1 W)) (λ _. tt)) yes (λ κs x w. refl), (Goes-dropped 𝓛 3 (plain (λ _. usize)) yes (λ κs x w. refl), tt))
+    proved 𝓛 T stayed c 𝓜 𝓡 (Goes-dropped 𝓛 3 (RefOf (0 ∷ []) tt (plain (λ _. param 1 W)) (λ _. tt)) yes (λ κs x w. refl), (Goes-dropped 𝓛 3 (plain (λ _. usize)) yes (λ κs x w. refl), tt))
     (f.Key.name key) e (code.unfolded 𝓤 𝓛.H 𝓜 𝓡 wired (X, (W, tt)) dict dd)
     (λ κs. (shr_vals, (uint_vals w64, tt))) (λ κs. (shr_Tells (named 0) κs.0 (param 1 W), (uint_Tells w64, tt))) (λ κs qs bounds a none are.
     let κ = κs.0 in let q = qs.0 in let rp : ℕ × ℕ = a.0.ref_ptr in let h = a.0.now in let n = a.1.0 in let s = sz E in
     let vss : Vals T.signature κs = (shr_vals a.0, (uint_vals w64 n, tt)) in let y : Wk.Ghost = ((κs, qs, bounds, a, vss), tt) in
     let ends : (r : Out.Denot) (v : Val) → IfOk r (λ t. (t.0.places ≡ replicate n None) × (t.1.ptr ≡ t.0.ptr) × (t.1.len ≡ n) × (t.1.alloc ≡ h))
     → Sq 𝓛 (‵ (Out.own_val r (v ∷ [])) ∷ ‵ (flft κ q) ∷ (‵ (flft κs.1.0 qs.1.0) ⊛ ‵ (flft κs.1.1.0 qs.1.1.0) ⊛ ‵ ftrue) ∷ []) (prop (Wk.post y v)) = λ r v good.
-    suffices ! _ (ends_at 𝓛 T (stayed E Z) c y v r (tt, (tt, tt)) (tt, (tt, tt))) $ says ! good $
+    suffices ! _ (ends_at 𝓛 T stayed c y v r (tt, (tt, tt)) (tt, (tt, tt))) $ says ! good $
     move ! (1 ∷ 2 ∷ []) $ join ! $ nothing ! $ nothing ! $ fjoin ! $ nothing ! $ fjoin ! $ move ! (1 ∷ 0 ∷ 2 ∷ []) $ done ! in
     qed 𝓛 (((‵ (flft κ q) ⊛ ‵ (flft κs.1.0 qs.1.0) ⊛ ‵ (flft κs.1.1.0 qs.1.1.0) ⊛ ‵ ftrue) ⊛ ‵ (owns (types_at T.signature.params κs) a vss))
     ∷ (raw (fact 𝓤 (κs.1.0 ⊑ X.lives)) ⊛ raw (fact 𝓤 (κs.1.1.0 ⊑ W.lives)) ⊛ raw (fact 𝓤 (IsCapacity (R E) n))) ∷ []) ∵

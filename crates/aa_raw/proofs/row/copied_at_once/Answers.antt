@@ -1,4 +1,4 @@
-use Rattle.std.proofs.Common.{arith}
+use Rattle.aa_raw.proofs.{arith}
 use Rattle.aa_raw.proofs.row.copied_at_once.Goals as goal
 
 pub filled-requires : goal.filled-requires

@@ -1,5 +1,4 @@
-use Rattle.aa_raw.proofs.Places.{ends_copied}
-use Rattle.std.proofs.Common.{◌∙◌}
+use Rattle.aa_raw.proofs.{ends_copied, ◌∙◌}
 use Rattle.aa_raw.proofs.row.copied_from_ends.Goals as goal
 
 pub returns : goal.returns

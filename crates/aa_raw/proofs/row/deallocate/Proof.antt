@@ -1,37 +1,16 @@
 -- The memory of a row goes back to its allocator. Assumes `Logic`.
-use mathlib.Core.Path.{◌≡◌, refl, sym, ap, subst, ◌∙◌}
-use Prim.Native.Nat.{ℕ, ◌*◌, ◌<◌, ◌^◌}
-use native.Mathlib.Omega.{arith}
-use Rattle.aa_raw.proofs.Common.{[], ◌∷◌, ent, ftrue, flft, froom, Incl-trans, w64, ty_array, inst_fn, Val, vint, vunit, has_ty, WT, capped_fits, align, capped, ◌⊑◌, fact, tables, feq_i, by, given, learn, group, rewrite, ‵, raw, ◌⊛◌, later, await, at_ret, ◌$◌, ◌∵◌, !, qed, done, move, keep, use1, split, join, fsplit, fsplit3, fjoin, suffices, whole, unit_lit, enter, stop, fld, bin, size_word, align_word, of_opd, and_then, no_more, first, exec, returns, alloc_all, pass_all, free_all, look_at, get, get_in, is, sets, lands_last, env, usize, RefOf, yes, hidden_shr, param, uint_vals, owns, Ptr, block_ptr, shr_vals, plain, types_at, nothing, heard, calls_at_last, Vals, framed, Stays, walk_of, stay_dropped, Goes-dropped, ends_at, after, Al, token, El, elτ, sz, args, block_ty, block_size, block_align}
-use lib.ListN.{length}
-use lib.Dec.{T as So}
-use mir.Syntax.{ty_unit}
-use prog.Wp.{WpFn}
-use contract.Running.{tables_of}
-use types.Kit.{⋆, drop}
-use types.Part.{sub}
-use types.Run.{blocks}
-use denote.Exit.{no}
-use Rattle.std.proofs.raw_atomic.Walks.{proved_at}
-use Rattle.std_alloc.proofs.RawLayout.{as_raw}
-use Rattle.core.proofs.alloc.Calls.{Gives, at_gives, Gives-goes, Gives-Gives, Goes-blank}
+use Rattle.aa_raw.proofs.{!, Al, Cl, El, Gives, Gives-Gives, Gives-goes, Goes-blank, Goes-dropped, Incl-trans, Ptr, RefOf, Right, Rw, Stays, T as So, Val, Vals, WT, WpFn, [], after, align, align_word, alloc_all, and_then, ap, arith, as_raw, at_gives, at_ret, await, bin, block_align, block_args as args, block_ptr, block_size, block_ty, blocks, by, calls_at_last, capped, capped_fits, claim_had, done, elτ, ends_at, ent, enter, env, exec, fact, feq_i, first, fjoin, fld, flft, framed, free_all, froom, fsplit, fsplit3, ftrue, get, get_in, given, group, has_ty, heard, hidden_shr, inst_fn, is, join, keep, lands_last, later, learn, length, look_at, lose as drop, mark, move, no, no_more, nothing, of_opd, owns, param, pass_all, plain, proved_at, qed, raw, refl, returns, rewrite, right_had, room_of_row, row_had, sets, shr_vals, size_word, split, stay_dropped, stop, sub, subst, suffices, sym, sz, tables, tables_of, token, ty_array, ty_unit, types_at, uint_vals, unit_lit, use1, usize, vint, vunit, w64, walk_of, way_fits, way_word, whole, word, yes, ‵, ℕ, ⋆, ◌$◌, ◌*◌, ◌<◌, ◌^◌, ◌∙◌, ◌∵◌, ◌∷◌, ◌≡◌, ◌⊑◌, ◌⊛◌}
 use Rattle.aa_raw.specs.contracts.row.deallocate as f
-use Rattle.aa_raw.proofs.Access.{Rw, word, row_had, way_word, way_fits}
-use Rattle.aa_raw.proofs.Claims.{Cl, Right, mark, claim_had, right_had}
-use Rattle.aa_raw.proofs.Spots.{room_of_row}
-use Rattle.aa_raw.proofs.row.deallocate.Statement.{statement}
 use Rattle.aa_raw.proofs.row.deallocate.Code as code
 
-abbrev stayed : (E : El) (Z : Al) → Stays (f.ended E.row Z.row Z.g Z.d Z.drops).signature.params (f.ended E.row Z.row Z.g Z.d Z.drops).kept
-stayed E Z = (stay_dropped (RefOf (0 ∷ []) tt (plain (λ _. param 1 Z.row)) (λ _. tt)) yes, (stay_dropped (plain (λ _. usize)) yes, (stay_dropped (plain (λ _. Rw E)) no, (stay_dropped (plain (λ _. Cl E Z)) no, tt))))
-
-pub deallocate_spec : {M : Type 1} → statement M
+pub deallocate_spec : {M : Type 1} → Rattle.aa_raw.proofs.row.deallocate.Statement.statement M
 unfolding tables_of
 deallocate_spec 𝓤 𝓛 𝓜 𝓡 wired X W LX LW g dict dd met md =
     let E : El = record { row = X; laws = LX } in let Z : Al = record { row = W; laws = LW; g = g; d = dict; drops = dd } in let key = args (record { row = X; laws = LX }) Z in
-    let T = f.ended X W g dict dd in let c = f.clauses X W g dict dd 𝓛 𝓜.mem 𝓡.returns in let e = inst_fn key code.function in let Wk = walk_of 𝓛 T (stayed E Z) c in let 𝓣 = tables 𝓤 𝓛.H 𝓜 𝓡 𝓡.env in
+    let stayed : Stays (f.ended E.row Z.row Z.g Z.d Z.drops).signature.params (f.ended E.row Z.row Z.g Z.d Z.drops).kept = (stay_dropped (RefOf (0 ∷ []) tt (plain (λ _. param 1 Z.row)) (λ _. tt)) yes, (stay_dropped (plain (λ _. usize)) yes, (stay_dropped (plain (λ _. Rw E)) no, (stay_dropped (plain (λ _. Cl E Z)) no, tt)))) in
+    let T = f.ended X W g dict dd in let c = f.clauses X W g dict dd 𝓛 𝓜.mem 𝓡.returns in let e = inst_fn key code.function in let Wk = walk_of 𝓛 T stayed c in let 𝓣 = tables 𝓤 𝓛.H 𝓜 𝓡 𝓡.env in
     let B = block_ty (record { row = X; laws = LX }) in
-    proved_at 𝓛 T (stayed E Z) c 𝓜 𝓡 (
+    proved_at 𝓛 T stayed c 𝓜 𝓡 (
       Goes-dropped 𝓛 3 (RefOf (0 ∷ []) tt (plain (λ _. param 1 W)) (λ _. tt)) yes (λ κs x w. refl),
       (
         Goes-dropped 𝓛 3 (plain (λ _. usize)) yes (λ κs x w. refl),
@@ -64,6 +43,6 @@ deallocate_spec 𝓤 𝓛 𝓜 𝓡 wired X W LX LW g dict dd met md =
     use1 𝓛 (later (given (v ≡ vunit) (‵ (flft κ q)))) (Gives-Gives Z 𝓛 𝓜.mem 𝓡.returns κ q rp h b o (n * s) al (B n) v) $ await ! tt $ learn ! (λ over.
     lands_last ! refl (subst (λ (u : Val). So (has_ty ty_unit u) × WT u) (sym over) (tt, tt)) $ exec ! 𝓣.C 𝓣.Λ (env e.locals l) (after 2 e.body) (at_ret _ (Wk.post y)) $
     sets ! (of_opd ! (unit_lit !)) refl (tt, tt) $ returns ! (look_at ! 0 refl) $ free_all ! refl $
-    suffices ! _ (ends_at 𝓛 T (stayed E Z) c y vunit tt (tt, (tt, (tt, (tt, tt)))) (tt, (tt, (tt, (tt, tt))))) $
+    suffices ! _ (ends_at 𝓛 T stayed c y vunit tt (tt, (tt, (tt, (tt, tt)))) (tt, (tt, (tt, (tt, tt))))) $
     join ! $ feq_i ! _ (vunit ∷ []) _ refl $ nothing ! $ nothing ! $ fjoin ! $ nothing ! $ fjoin ! $ nothing ! $ fjoin ! $ nothing ! $ fjoin ! $ join ! $
     move ! (1 ∷ 0 ∷ []) $ join ! $ nothing ! $ move ! (1 ∷ 0 ∷ []) $ done !))))))))))

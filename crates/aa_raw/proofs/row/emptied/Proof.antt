@@ -1,29 +1,19 @@
 -- The places of a row are slots, whatever stands in them. Assumes `Logic`.
-use Rattle.aa_raw.proofs.Walk.{◌≡◌, refl, sym, ◌∙◌, ℕ, ◌*◌, ◌<◌, ◌^◌, List, [], ◌∷◌, length, replicate, length-replicate, subst, ftrue, flft, froom, inst_fn, WpFn, ◌⊑◌, fact, tables, ty_array, elτ, prop, regoal, ‵, raw, some, given, learn, ◌⊛◌, at_ret, ◌$◌, ◌∵◌, !, qed, move, keep, use1, use2, pick, split, join, fsplit, fjoin, rewrite, suffices, done, and_then, no_more, enter, of_opd, stop, fld, first, blocks, exec, returns, sub, whole, alloc_all, pass_all, free_all, look_at, get, is, sets, env, yes, no, owns, plain, types_at, nothing, heard, Vals, Stays, walk_of, says, stay_dropped, Goes-dropped, Goes-blank, ends_at, after, proved_at, El, R, sz, Rw, word, row_had, args}
-use Rattle.aa_raw.proofs.Common.{Bool, false, WT, later, await, get_in, lands_last, Room, calls_at_last, framed, row_val, ItemIn, no_al, all, Row}
-use denote.Builtin.{SliceRefOf}
-use denote.Slice.{shr_slice_vals}
-use Rattle.core.proofs.slots.Runs.{of_space}
+use Rattle.aa_raw.proofs.{!, Bool, El, From, Goes-blank, Goes-dropped, ItemIn, List, Made, R, Room, Row, Rw, SliceRefOf, Stays, Vals, WT, WpFn, [], after, all, alloc_all, and_then, args, at_from, at_ret, await, blocks, calls_at_last, done, el, elτ, ends_at, enter, env, exec, fact, false, first, fjoin, fld, flft, framed, free_all, from_gives, from_goes, froom, fsplit, ftrue, get, get_in, given, heard, inst_fn, is, join, keep, lands_last, later, learn, length, length-replicate, look_at, move, no, no_al, no_more, nothing, of_opd, of_space, owns, pass_all, pick, plain, prop, proved_at, qed, raw, refl, regoal, replicate, returns, rewrite, room_of_row, row_Typed, row_had, row_val, says, sets, shr_slice_vals, some, split, stay_dropped, stop, sub, subst, suffices, sym, sz, tables, ty_array, types_at, use1, use2, walk_of, whole, word, yes, ‵, ℕ, ◌$◌, ◌*◌, ◌<◌, ◌^◌, ◌∙◌, ◌∵◌, ◌∷◌, ◌≡◌, ◌⊑◌, ◌⊛◌}
 use Rattle.core.proofs.slots.Slots.from_raw_parts.Met as callee
-use Rattle.std_alloc.proofs.vec.Blocks.{el}
-use Rattle.std_alloc.proofs.vec.Spares.{row_Typed, From, at_from, Made, from_goes, from_gives}
-use Rattle.aa_raw.proofs.Spots.{room_of_row}
 use Rattle.aa_raw.specs.contracts.row.emptied as f
-use Rattle.aa_raw.proofs.row.emptied.Statement.{statement}
 use Rattle.aa_raw.proofs.row.emptied.Code as code
 
 abbrev held : El → ItemIn
 held E = record { row = E.row; laws = E.laws; al = no_al }
 
-abbrev stayed : (E : El) → Stays (f.ended E.row).signature.params (f.ended E.row).kept
-stayed E = (stay_dropped (plain (λ _. Rw E)) no, (stay_dropped (SliceRefOf (0 ∷ []) tt (plain (λ _. R E)) (λ _. tt)) yes, tt))
-
-pub emptied_spec : {M : Type 1} → statement M
+pub emptied_spec : {M : Type 1} → Rattle.aa_raw.proofs.row.emptied.Statement.statement M
 emptied_spec 𝓤 𝓛 𝓜 𝓡 wired X LX =
     let E : El = record { row = X; laws = LX } in let V = held (record { row = X; laws = LX }) in let e = inst_fn (args E) code.function in
-    let c = f.clauses X 𝓛 𝓜.mem 𝓡.returns in let W = walk_of 𝓛 (f.ended X) (stayed E) c in let 𝓣 = tables 𝓤 𝓛.H 𝓜 𝓡 𝓡.env in
+    let stayed : Stays (f.ended E.row).signature.params (f.ended E.row).kept = (stay_dropped (plain (λ _. Rw E)) no, (stay_dropped (SliceRefOf (0 ∷ []) tt (plain (λ _. R E)) (λ _. tt)) yes, tt)) in
+    let c = f.clauses X 𝓛 𝓜.mem 𝓡.returns in let W = walk_of 𝓛 (f.ended X) stayed c in let 𝓣 = tables 𝓤 𝓛.H 𝓜 𝓡 𝓡.env in
     let met = callee.met 𝓤 𝓛 𝓜 𝓡 (code.calls-core::slots::Slots::from_raw_parts 𝓡.env wired) X LX in let Makes = From V 𝓛 𝓜.mem 𝓡.returns in
-    proved_at 𝓛 (f.ended X) (stayed E) c 𝓜 𝓡 (Goes-blank 𝓛 2 (plain (λ _. Rw E)) no (λ κs x w. tt), (Goes-dropped 𝓛 2 (SliceRefOf (0 ∷ []) tt (plain (λ _. R E)) (λ _. tt)) yes (λ κs x w. refl), tt))
+    proved_at 𝓛 (f.ended X) stayed c 𝓜 𝓡 (Goes-blank 𝓛 2 (plain (λ _. Rw E)) no (λ κs x w. tt), (Goes-dropped 𝓛 2 (SliceRefOf (0 ∷ []) tt (plain (λ _. R E)) (λ _. tt)) yes (λ κs x w. refl), tt))
     (f.Key.name (args E)) e (code.unfolded 𝓤 𝓛.H 𝓜 𝓡 wired (X, tt)) (λ z are.
     let κs = z.0.0 in let qs = z.0.1 in let a = z.0.3 in let us = z.0.4 in let row = a.0 in let xs = a.1.0.now in let n = length xs in let fs : List Bool = replicate n false in
     let Fits : Type 0 = length row.places ≡ n in let room : Room (R E) n = are.1.0.0.1 in let far = room.0 in
@@ -45,5 +35,5 @@ emptied_spec 𝓤 𝓛 𝓜 𝓡 wired X LX =
     (from_gives V 𝓛 𝓜.mem 𝓡.returns κs.1.0 qs.1.0 b o n xs fs v) $ await ! tt $ pick ! (λ r. learn ! (λ got. split ! $ let made = got.1 in
     lands_last ! refl (row_Typed V v b o n got.0 far) $ exec ! 𝓣.C 𝓣.Λ (env e.locals l) (after 2 e.body) (at_ret _ (W.post y)) $ sets ! (is ! (of_opd ! (get ! refl)) got.0) refl (tt, words) $
     returns ! (look_at ! 0 refl) $ free_all ! refl $
-    suffices ! _ (ends_at 𝓛 (f.ended X) (stayed E) c y (row_val b o n) r (tt, (tt, tt)) (tt, (tt, tt))) $ says ! (made.0 ∙ sym lies, made.1, made.2) $
+    suffices ! _ (ends_at 𝓛 (f.ended X) stayed c y (row_val b o n) r (tt, (tt, tt)) (tt, (tt, tt))) $ says ! (made.0 ∙ sym lies, made.1, made.2) $
     move ! (1 ∷ 2 ∷ []) $ join ! $ move ! (2 ∷ 0 ∷ []) $ join ! $ nothing ! $ nothing ! $ fjoin ! $ nothing ! $ fjoin ! $ move ! (1 ∷ 0 ∷ 2 ∷ []) $ done !))))))))

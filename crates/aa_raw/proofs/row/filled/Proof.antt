@@ -1,15 +1,7 @@
 -- Slots that all hold their values are the places of a row. Assumes `Logic`.
-use Rattle.aa_raw.proofs.Walk.{◌≡◌, refl, sym, ◌∙◌, ℕ, ◌*◌, ◌<◌, ◌^◌, List, [], ◌∷◌, map, length, length-map, subst, arith, via, ftrue, flft, inst_fn, WpFn, ◌⊑◌, fact, tables, block_ptr, prop, regoal, ‵, raw, given, learn, ◌⊛◌, at_ret, ◌$◌, ◌∵◌, !, qed, move, keep, use1, use2, split, join, fsplit, fjoin, rewrite, suffices, done, agg, and_then, no_more, enter, of_opd, stop, fld, first, blocks, exec, returns, sub, whole, alloc_all, pass_all, free_all, look_at, get, is, sets, env, no, owns, plain, types_at, nothing, heard, Vals, Stays, walk_of, says, stay_dropped, Goes-dropped, ends_at, Some, after, proved_at, El, R, sz, Rw, word, row_made, args, Spots, start}
-use Rattle.aa_raw.proofs.Common.{Bool, WT, later, await, cells, get_in, lands_last, mem, whole_in, calls_at_last, framed, row_val, ItemIn, no_al, all, Row}
-use Rattle.core.specs.Mem.Slots.{slots_items, slots_filled, slots_len, slots_counts, IsFull}
-use Rattle.core.proofs.mem.Param.{El as Item}
-use Rattle.core.proofs.slots.Opens.{row_had as slots_had, row_made as slots_made}
-use Rattle.core.proofs.slots.Places.{to_row}
+use Rattle.aa_raw.proofs.{!, Bool, El, Goes-dropped, Into, Into-gives, Into-goes, ItemIn, List, MemEl as Item, R, Row, Rw, Some, SpotsFrom, Stays, Vals, WT, WpFn, [], after, agg, all, alloc_all, and_then, args, arith, at_into, at_ret, await, block_ptr, blocks, calls_at_last, cells, done, ends_at, enter, env, exec, fact, first, fjoin, fld, flft, framed, free_all, fsplit, ftrue, get, get_in, given, heard, inst_fn, is, join, keep, lands_last, later, learn, length, length-map, look_at, map, mem, move, no, no_al, no_more, nothing, of_opd, owns, parts_typed, pass_all, plain, prop, proved_at, qed, raw, refl, regoal, returns, rewrite, row_made, row_val, says, sets, slots_counts, slots_filled, slots_full as IsFull, slots_had, slots_items, slots_len, slots_made, split, start, stay_dropped, stop, sub, subst, suffices, sym, sz, tables, to_row, types_at, use1, use2, values_in, via, walk_of, whole, whole_in, word, ‵, ℕ, ◌$◌, ◌*◌, ◌<◌, ◌^◌, ◌∙◌, ◌∵◌, ◌∷◌, ◌≡◌, ◌⊑◌, ◌⊛◌}
 use Rattle.core.proofs.slots.Slots.into_raw_parts.Met as callee
-use Rattle.std_alloc.proofs.vec.Spares.{parts_typed, Into, at_into, Into-goes, Into-gives}
-use Rattle.aa_raw.proofs.Spots.{values_in}
 use Rattle.aa_raw.specs.contracts.row.filled as f
-use Rattle.aa_raw.proofs.row.filled.Statement.{statement}
 use Rattle.aa_raw.proofs.row.filled.Code as code
 
 abbrev it : El → Item
@@ -18,15 +10,13 @@ it E = record { row = E.row; laws = E.laws }
 abbrev held : El → ItemIn
 held E = record { row = E.row; laws = E.laws; al = no_al }
 
-abbrev stayed : (E : El) → Stays (f.ended E.row).signature.params (f.ended E.row).kept
-stayed E = (stay_dropped (plain (λ _. Row (held E))) no, tt)
-
-pub filled_spec : {M : Type 1} → statement M
+pub filled_spec : {M : Type 1} → Rattle.aa_raw.proofs.row.filled.Statement.statement M
 filled_spec 𝓤 𝓛 𝓜 𝓡 wired X LX =
     let E : El = record { row = X; laws = LX } in let V = held (record { row = X; laws = LX }) in let e = inst_fn (args E) code.function in
-    let c = f.clauses X 𝓛 𝓜.mem 𝓡.returns in let W = walk_of 𝓛 (f.ended X) (stayed E) c in let 𝓣 = tables 𝓤 𝓛.H 𝓜 𝓡 𝓡.env in
+    let stayed : Stays (f.ended E.row).signature.params (f.ended E.row).kept = (stay_dropped (plain (λ _. Row (held E))) no, tt) in
+    let c = f.clauses X 𝓛 𝓜.mem 𝓡.returns in let W = walk_of 𝓛 (f.ended X) stayed c in let 𝓣 = tables 𝓤 𝓛.H 𝓜 𝓡 𝓡.env in
     let met = callee.met 𝓤 𝓛 𝓜 𝓡 (code.calls-core::slots::Slots::into_raw_parts 𝓡.env wired) X LX in let Gives = Into V 𝓛 𝓜.mem 𝓡.returns in
-    proved_at 𝓛 (f.ended X) (stayed E) c 𝓜 𝓡 (Goes-dropped 𝓛 1 (plain (λ _. Row (held E))) no (λ κs x w. refl), tt)
+    proved_at 𝓛 (f.ended X) stayed c 𝓜 𝓡 (Goes-dropped 𝓛 1 (plain (λ _. Row (held E))) no (λ κs x w. refl), tt)
     (f.Key.name (args E)) e (code.unfolded 𝓤 𝓛.H 𝓜 𝓡 wired (X, tt)) (λ z are.
     let κs = z.0.0 in let qs = z.0.1 in let a = z.0.3 in let us = z.0.4 in let r = a.0 in let n = slots_len r in let xs = slots_items r in let fs : List Bool = slots_filled r in
     let spelled : Vals (f.ended X).signature κs → W.Ghost = λ vss. ((κs, qs, z.0.2, a, vss), z.1) in
@@ -44,9 +34,9 @@ filled_spec 𝓤 𝓛 𝓜 𝓡 wired X LX =
     sets ! (is ! (of_opd ! (get ! refl)) over) refl (tt, words) $ sets ! (agg ! (and_then ! (get_in ! (fld ! refl (stop !)) (sub ! 0 refl (whole !))) (no_more !))) refl (tt, (tt, tt)) $
     let many : n ≡ length xs = (slots_counts r).0 in let flags : n ≡ length fs = (slots_counts r).1 in
     use1 𝓛 (‵ (cells (mem (R E)) xs b o)) (via 𝓤 _ (to_row (it E) 𝓛 b xs fs o (sym flags ∙ many) (λ k h. full k (omega arith) (omega arith))) (whole_in 𝓛 (R E) xs b o)) $
-    rewrite ! 0 (λ (k : ℕ). ‵ (cells (mem (R E)) xs b k)) (sym (start E 𝓛 b o)) refl $ use1 𝓛 (‵ (Spots E 𝓛 b o 0 (map Some xs))) (values_in E 𝓛 b o xs 0) $
+    rewrite ! 0 (λ (k : ℕ). ‵ (cells (mem (R E)) xs b k)) (sym (start E 𝓛 b o)) refl $ use1 𝓛 (‵ (SpotsFrom E 𝓛 b o 0 (map Some xs))) (values_in E 𝓛 b o xs 0) $
     let d : (Rw E).Denot = record { ptr = block_ptr b o; places = map Some xs } in
     row_made E ! d b o refl (subst (λ k. k * sz E < 2 ^ 63) (many ∙ sym (length-map xs Some)) small) $
     returns ! (look_at ! 0 refl) $ free_all ! refl $
-    suffices ! _ (ends_at 𝓛 (f.ended X) (stayed E) c y (word b o) d (tt, tt) (tt, tt)) $ says ! (sym lies, refl) $
+    suffices ! _ (ends_at 𝓛 (f.ended X) stayed c y (word b o) d (tt, tt) (tt, tt)) $ says ! (sym lies, refl) $
     nothing ! $ move ! (2 ∷ 0 ∷ []) $ join ! $ nothing ! $ nothing ! $ fjoin ! $ move ! (1 ∷ 0 ∷ 2 ∷ []) $ done !)))))))

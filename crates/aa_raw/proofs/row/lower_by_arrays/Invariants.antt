@@ -1,4 +1,4 @@
-use Rattle.aa_raw.proofs.Common.{◌≡◌, ◌≤◌, ◌-◌, moved}
+use Rattle.aa_raw.proofs.{moved, ◌-◌, ◌≡◌, ◌≤◌}
 use Rattle.aa_raw.proofs.row.lower_by_arrays.Given as goal
 
 abbrev pub invariant-down : goal.invariant-down

@@ -1,4 +1,4 @@
-use Rattle.aa_raw.proofs.Common.{◌≡◌, take, drop, replicate, None, with_run}
+use Rattle.aa_raw.proofs.{None, drop, replicate, take, with_run, ◌≡◌}
 use Rattle.aa_raw.proofs.row.move_each_across.Given as goal
 
 abbrev pub invariant-each : goal.invariant-each

@@ -1,4 +1,4 @@
-use Rattle.aa_raw.proofs.Common.{◌≡◌, ◌+◌, ◌-◌, moved}
+use Rattle.aa_raw.proofs.{moved, ◌+◌, ◌-◌, ◌≡◌}
 use Rattle.aa_raw.proofs.row.move_up.Given as goal
 
 abbrev pub invariant-up : goal.invariant-up

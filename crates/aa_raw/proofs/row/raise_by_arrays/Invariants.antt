@@ -1,4 +1,4 @@
-use Rattle.aa_raw.proofs.Common.{◌≡◌, ◌≤◌, ◌+◌, ◌-◌, moved}
+use Rattle.aa_raw.proofs.{moved, ◌+◌, ◌-◌, ◌≡◌, ◌≤◌}
 use Rattle.aa_raw.proofs.row.raise_by_arrays.Given as goal
 
 abbrev pub invariant-up : goal.invariant-up

@@ -1,10 +1,4 @@
-use Rattle.std.proofs.Common.{◌≡◌, Option, Some, None, [], ◌∷◌, get_or, true, refl, ◌∙◌}
-use Rattle.std.specs.Prelude.{is_some}
-use Rattle.aa_raw.specs.Places.{run}
-use Rattle.aa_raw.proofs.Places.{filled_within}
-use Rattle.aa_raw.proofs.Runs.{run-one}
-use Rattle.aa_raw.specs.declared.raw_vec.Growth.TheVariants.{Doubling}
-use Rattle.aa_boxed.specs.Boxed.{held}
+use Rattle.aa_boxed.proofs.{Doubling, None, Option, Some, [], filled_within, get_or, held, is_some, refl, run, run-one, true, ◌∙◌, ◌∷◌, ◌≡◌}
 use Rattle.aa_boxed.proofs.boxed.Box.into_boxed_slice.Goals as goal
 
 held-is : {T : Type 0} (o : Option T) (h : is_some o ≡ true) → o ≡ Some (held o h)

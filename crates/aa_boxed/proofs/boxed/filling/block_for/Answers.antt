@@ -1,4 +1,4 @@
-use Rattle.aa_raw.proofs.Reserving.{fresh-reserved}
+use Rattle.aa_boxed.proofs.{fresh-reserved}
 use Rattle.aa_boxed.proofs.boxed.filling.block_for.Goals as goal
 
 pub returns-in-Ok-clause-made : goal.returns-in-Ok-clause-made

@@ -1,9 +1,4 @@
-use Rattle.std.proofs.Common.{◌≡◌, ◌+◌, ◌<◌, ◌++◌, length, refl, ap, arith, subst, ◌∙◌}
-use Rattle.std.specs.String.{string_bytes, string_capacity}
-use Rattle.aa_raw.specs.Growth.{usize_max}
-use Rattle.aa_raw.specs.Refusals.{IsRefusedAt}
-use Rattle.aa_raw.specs.declared.collections.TryReserveErrorKind.TheVariants.{CapacityOverflow}
-use Rattle.aa_boxed.proofs.Texts.{Joining-next, Joining-stopped}
+use Rattle.aa_boxed.proofs.{CapacityOverflow, IsRefusedAt, Joining-next, Joining-stopped, ap, arith, length, refl, string_bytes, string_capacity, subst, usize_max, ◌++◌, ◌+◌, ◌<◌, ◌∙◌, ◌≡◌}
 use Rattle.aa_boxed.proofs.boxed.text.append_texts_by.Goals as goal
 
 pub loop-next-preserved : goal.loop-next-preserved

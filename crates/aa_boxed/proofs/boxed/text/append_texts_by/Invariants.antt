@@ -1,6 +1,4 @@
-use Rattle.std.specs.Prelude.{◌≤◌}
-use Rattle.std.specs.String.{string_bytes, string_capacity}
-use Rattle.aa_boxed.proofs.Texts.{Joining}
+use Rattle.aa_boxed.proofs.{Joining, string_bytes, string_capacity, ◌≤◌}
 use Rattle.aa_boxed.proofs.boxed.text.append_texts_by.Given as goal
 
 abbrev pub invariant-loop-next : goal.invariant-loop-next

@@ -1,10 +1,4 @@
-use Rattle.std.proofs.Common.{[], ◌∷◌, ◌++◌, rules}
-use Rattle.std.specs.Iterator.{Yields}
-use Rattle.std.specs.Mem.{type_size}
-use Rattle.std.proofs.lemmas.Result.{err_from_is_err_and}
-use Rattle.std.proofs.iter.Next.{Yields-more}
-use Rattle.aa_gap.proofs.Costs.{Costs-known}
-use Rattle.aa_gap.proofs.Pages.{Edits-known}
+use Rattle.aa_gap.proofs.{Costs-known, Edits-known, Yields, Yields-more, [], err_from_is_err_and, rules, type_size, ◌++◌, ◌∷◌}
 use Rattle.aa_gap.proofs.gap_buffer.GapBuffer.edit_all.Goals as goal
 
 pub returns-in_err-edit-clause-refused : goal.returns-in_err-edit-clause-refused

@@ -1,6 +1,4 @@
-use Rattle.std.specs.Prelude.{◌≡◌}
-use Rattle.std.specs.Mem.{type_size}
-use Rattle.aa_gap.specs.Editing.{with_edits}
+use Rattle.aa_gap.proofs.{type_size, with_edits, ◌≡◌}
 use Rattle.aa_gap.proofs.gap_buffer.GapBuffer.edit_all.Given as goal
 
 abbrev pub invariant-loop-edit : goal.invariant-loop-edit

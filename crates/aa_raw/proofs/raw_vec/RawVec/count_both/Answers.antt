@@ -1,5 +1,4 @@
-use Rattle.aa_raw.proofs.Common.{rules, ◌≤◌, length, both}
-use Rattle.aa_raw.proofs.TwoRuns.{both-fit}
+use Rattle.aa_raw.proofs.{both, both-fit, length, rules, ◌≤◌}
 use Rattle.aa_raw.proofs.raw_vec.RawVec.count_both.Goals as goal
 
 pub overflow_add-result : goal.overflow_add-result

@@ -1,4 +1,4 @@
-use Rattle.aa_raw.proofs.Common.{◌≡◌, None, replicate, with_places, with_run}
+use Rattle.aa_raw.proofs.{None, replicate, with_places, with_run, ◌≡◌}
 use Rattle.aa_raw.proofs.raw_vec.RawVec.drop_run.Given as goal
 
 abbrev pub invariant-each : goal.invariant-each

@@ -1,6 +1,4 @@
-use Rattle.aa_raw.proofs.Common.{slice_set, None, Some, sym, ap, ◌∙◌, arith, wrote}
-use Rattle.aa_raw.proofs.Moves.{moved_one, still, elsewhere}
-use Rattle.aa_raw.proofs.Places.{filled_within}
+use Rattle.aa_raw.proofs.{None, Some, ap, arith, elsewhere, filled_within, moved_one, slice_set, still, sym, wrote, ◌∙◌}
 use Rattle.aa_raw.proofs.raw_vec.RawVec.move_one.Goals as goal
 
 pub returns-then-from-to : goal.returns-then-from-to

@@ -1,4 +1,4 @@
-use Rattle.aa_raw.proofs.Moves.{still}
+use Rattle.aa_raw.proofs.{still}
 use Rattle.aa_raw.proofs.raw_vec.RawVec.move_run.Goals as goal
 
 pub returns-then-from-to : goal.returns-then-from-to

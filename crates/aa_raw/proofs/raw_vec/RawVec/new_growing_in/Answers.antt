@@ -1,6 +1,5 @@
-use Rattle.aa_raw.proofs.Common.{◌≡◌, ◌<◌, List, Option, None, replicate, ap, ◌∙◌, arith, inl, inr, eqb_tells, type_size, param, Block, empty_places}
-use Rattle.aa_raw.proofs.Places.{endless-empty, sized-empty}
-use Rattle.aa_raw.proofs.raw_vec.RawVec.new_growing_in.Goals.{then-is_sizeless, else-is_sizeless}
+use Rattle.aa_raw.proofs.{Block, List, None, Option, ap, arith, empty_places, endless-empty, eqb_tells, inl, inr, param, replicate, sized-empty, type_size, ◌<◌, ◌∙◌, ◌≡◌}
+use Rattle.aa_raw.proofs.raw_vec.RawVec.new_growing_in.Goals.{else-is_sizeless, then-is_sizeless}
 use Rattle.aa_raw.proofs.raw_vec.RawVec.new_growing_in.Goals as goal
 
 pub returns : goal.returns

@@ -1,5 +1,4 @@
-use Rattle.aa_raw.proofs.Common.{◌≡◌, get_or, slice_set, Some, None, sym, ap, subst, ◌∙◌, get_or-set_other, with_places, view_of, IsFilled}
-use Rattle.aa_raw.proofs.Places.{filled_within, filled_again}
+use Rattle.aa_raw.proofs.{IsFilled, None, Some, ap, filled_again, filled_within, get_or, get_or-set_other, slice_set, subst, sym, view_of, with_places, ◌∙◌, ◌≡◌}
 use Rattle.aa_raw.proofs.raw_vec.RawVec.pair_with.Goals as goal
 
 pub returns : goal.returns

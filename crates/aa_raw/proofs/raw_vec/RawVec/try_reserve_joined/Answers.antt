@@ -1,5 +1,4 @@
-use Rattle.std.proofs.Common.{refl}
-use Rattle.aa_raw.proofs.TwoRuns.{AreJoined-made}
+use Rattle.aa_raw.proofs.{AreJoined-made, refl}
 use Rattle.aa_raw.proofs.raw_vec.RawVec.try_reserve_joined.Goals as goal
 
 pub returns-then-grow_runs-clause-joined : goal.returns-then-grow_runs-clause-joined

@@ -1,5 +1,4 @@
-use Rattle.std.proofs.Common.{refl}
-use Rattle.aa_raw.proofs.TwoRuns.{AreParted-made}
+use Rattle.aa_raw.proofs.{AreParted-made, refl}
 use Rattle.aa_raw.proofs.raw_vec.RawVec.try_reserve_parted.Goals as goal
 
 pub returns-then-grow_runs-clause-parted : goal.returns-then-grow_runs-clause-parted

@@ -1,17 +1,14 @@
 -- What stands in places side by side is forgotten: they are room then. Assumes `Logic`.
-use Rattle.aa_raw.proofs.Walk.{refl, ◌+◌, ◌≤◌, [], ◌∷◌, length, take, drop_l, replicate, length-take, length-drop, length-replicate, arith, ftrue, flft, froom, named, w64, inst_fn, vunit, ◌⊑◌, fact, ‵, raw, ◌⊛◌, ◌$◌, ◌∵◌, !, qed, done, move, keep, drop, use1, split, join, fsplit, fsplit3, fjoin, fjoin3, feq_i, rewrite, suffices, enter, of_opd, unit_lit, returns, alloc_all, pass_all, free_all, look_at, sets, yes, usize, owns, uint_vals, uint_Tells, mut_vals, mut_Tells, plain, types_at, nothing, heard, Vals, Stays, walk_of, says, stay_ref, stay_dropped, Goes-ref, Goes-dropped, ends_at, None, proved, El, elτ, ty_array, holding, with_run, Rw, opens_places, closes_places, args, Spots, at, all_room, empties, ◌≡◌, ℕ}
+use Rattle.aa_raw.proofs.{!, El, Goes-dropped, Goes-ref, None, Rw, SpotsFrom, Stays, Vals, [], all_room, alloc_all, args, arith, at, closes_places, done, drop as drop_l, elτ, empties, ends_at, enter, fact, feq_i, fjoin, fjoin3, flft, free_all, froom, fsplit, fsplit3, ftrue, heard, holding, inst_fn, join, keep, length, length-drop, length-replicate, length-take, look_at, lose as drop, move, mut_Tells, mut_vals, named, nothing, of_opd, opens_places, owns, pass_all, plain, proved, qed, raw, refl, replicate, returns, rewrite, says, sets, split, stay_dropped, stay_ref, suffices, take, ty_array, types_at, uint_Tells, uint_vals, unit_lit, use1, usize, vunit, w64, walk_of, with_run, yes, ‵, ℕ, ◌$◌, ◌+◌, ◌∵◌, ◌∷◌, ◌≡◌, ◌≤◌, ◌⊑◌, ◌⊛◌}
 use Rattle.aa_raw.specs.contracts.row.Row.forget as f
-use Rattle.aa_raw.proofs.row.Row.forget.Statement.{statement}
 use Rattle.aa_raw.proofs.row.Row.forget.Code as code
 
-abbrev stayed : (E : El) → Stays (f.ended E.row).signature.params (f.ended E.row).kept
-stayed E = (stay_ref (0 ∷ []) tt (plain (λ _. Rw E)), (stay_dropped (plain (λ _. usize)) yes, (stay_dropped (plain (λ _. usize)) yes, tt)))
-
-pub forget_spec : {M : Type 1} → statement M
+pub forget_spec : {M : Type 1} → Rattle.aa_raw.proofs.row.Row.forget.Statement.statement M
 forget_spec 𝓤 𝓛 𝓜 𝓡 wired X LX =
     let E : El = record { row = X; laws = LX } in let e = inst_fn (args E) code.function in
-    let c = f.clauses X 𝓛 𝓜.mem 𝓡.returns in let W = walk_of 𝓛 (f.ended X) (stayed E) c in
-    proved 𝓛 (f.ended X) (stayed E) c 𝓜 𝓡 (Goes-ref 𝓛 2 0 tt (plain (λ _. Rw E)), (Goes-dropped 𝓛 2 (plain (λ _. usize)) yes (λ κs x w. refl), (Goes-dropped 𝓛 2 (plain (λ _. usize)) yes (λ κs x w. refl), tt)))
+    let stayed : Stays (f.ended E.row).signature.params (f.ended E.row).kept = (stay_ref (0 ∷ []) tt (plain (λ _. Rw E)), (stay_dropped (plain (λ _. usize)) yes, (stay_dropped (plain (λ _. usize)) yes, tt))) in
+    let c = f.clauses X 𝓛 𝓜.mem 𝓡.returns in let W = walk_of 𝓛 (f.ended X) stayed c in
+    proved 𝓛 (f.ended X) stayed c 𝓜 𝓡 (Goes-ref 𝓛 2 0 tt (plain (λ _. Rw E)), (Goes-dropped 𝓛 2 (plain (λ _. usize)) yes (λ κs x w. refl), (Goes-dropped 𝓛 2 (plain (λ _. usize)) yes (λ κs x w. refl), tt)))
     (f.Key.name (args E)) e (code.unfolded 𝓤 𝓛.H 𝓜 𝓡 wired (X, tt))
     (λ κs. (mut_vals, (uint_vals w64, (uint_vals w64, tt)))) (λ κs. (mut_Tells (named 0) κs.0 (Rw E), (uint_Tells w64, (uint_Tells w64, tt)))) (λ κs qs bounds a _ are.
     let rb = a.0.ref_ptr.0 in let ro = a.0.ref_ptr.1 in let d = a.0.now in let i = a.1.0 in let n = a.1.1.0 in let vss : Vals (f.ended X).signature κs = (mut_vals a.0, (uint_vals w64 i, (uint_vals w64 n, tt))) in
@@ -23,10 +20,10 @@ forget_spec 𝓤 𝓛 𝓜 𝓡 wired X LX =
     opens_places E ! tt d i n rb ro within (λ b o p small far.
     let had = take n (drop_l i d.places) in let many : length had ≡ n = omega (arith, length-take n (drop_l i d.places), length-drop i d.places) in
     use1 𝓛 (‵ (froom (ty_array (elτ E) (length had)) b (at E 𝓛 b o i))) (all_room E 𝓛 b o had i) $ rewrite ! 0 (λ (k : ℕ). ‵ (froom (ty_array (elτ E) k) b (at E 𝓛 b o i))) many refl $
-    use1 𝓛 (‵ (Spots E 𝓛 b o i (replicate n None))) (empties E 𝓛 b o n i) $
+    use1 𝓛 (‵ (SpotsFrom E 𝓛 b o i (replicate n None))) (empties E 𝓛 b o n i) $
     closes_places E ! tt d i n rb ro b o (replicate n None) (length-replicate n None) within p small $
     sets ! (of_opd ! (unit_lit !)) refl (tt, tt) $
     returns ! (look_at ! 0 refl) $ free_all ! refl $
-    suffices ! _ (ends_at 𝓛 (f.ended X) (stayed E) c y vunit tt (holding d (with_run d.places i n (replicate n None)), (tt, (tt, tt))) (tt, (tt, (tt, tt)))) $ says ! (refl, refl) $
+    suffices ! _ (ends_at 𝓛 (f.ended X) stayed c y vunit tt (holding d (with_run d.places i n (replicate n None)), (tt, (tt, tt))) (tt, (tt, (tt, tt)))) $ says ! (refl, refl) $
     feq_i ! _ (mut_vals a.0) _ refl $ fjoin3 ! $ nothing ! $ nothing ! $ fjoin ! $ nothing ! $ fjoin ! $ move ! (1 ∷ 0 ∷ []) $ fjoin ! $
     move ! (1 ∷ 2 ∷ []) $ join ! $ feq_i ! _ (vunit ∷ []) _ refl $ keep ! (1 ∷ 2 ∷ 0 ∷ []) $ done !))))

@@ -1,17 +1,14 @@
 -- An array is put into places side by side, whatever stood there. Assumes `Logic`.
-use Rattle.aa_raw.proofs.Walk.{◌≡◌, refl, sym, ap, subst, ◌∙◌, ℕ, ◌<◌, ◌^◌, List, ◌+◌, ◌≤◌, [], ◌∷◌, length, take, drop_l, map, length-map, length-take, length-drop, arith, ent, via, ftrue, flft, froom, w64, inst_fn, vunit, vint, WpFn, ◌⊑◌, fact, tables, ‵, raw, given, learn, ◌⊛◌, at_ret, ◌$◌, ◌∵◌, !, qed, done, move, keep, drop, use1, use2, split, join, fsplit, fsplit3, fjoin, fjoin3, feq_i, rewrite, suffices, sub, whole, look_in, init, enter, of_opd, bin, unit_lit, size_word, load, stop, fld, first, blocks, assigns_last, exec, returns, alloc_all, pass_all, free_all, look_at, get, is, through, sets, env, yes, no, usize, owns, uint_vals, mut_vals, plain, types_at, nothing, heard, Vals, Stays, walk_of, says, stay_ref, stay_dropped, Goes-ref, Goes-dropped, ends_at, Some, after, proved_at, El, el_x, holding, with_run, Rw, opens_places, closes_places, way_word, way_fits, Spots, at, all_room, all_rest, number, layout, size, ty_array, elτ, array_args, Items, items_ty, items_lawful, one_val, spent, array_in}
+use Rattle.aa_raw.proofs.{!, El, Goes-dropped, Goes-ref, Items, List, Rw, Some, SpotsFrom, Stays, Vals, WpFn, [], after, all_rest, all_room, alloc_all, ap, arith, array_args, items_in, assigns_last, at, at_ret, bin, blocks, closes_places, done, drop as drop_l, el_x, elτ, ends_at, ent, enter, env, exec, fact, feq_i, first, fjoin, fjoin3, fld, flft, free_all, froom, fsplit, fsplit3, ftrue, get, given, heard, holding, init, inst_fn, is, items_lawful, items_ty, join, keep, layout, learn, length, length-drop, length-map, length-take, load, look_at, look_in, lose as drop, map, move, mut_vals, no, nothing, number, of_opd, one_val, opens_places, owns, pass_all, plain, proved_at, qed, raw, refl, returns, rewrite, says, sets, ty_size as size, size_word, spent, split, stay_dropped, stay_ref, stop, sub, subst, suffices, sym, tables, take, through, ty_array, types_at, uint_vals, unit_lit, use1, use2, usize, via, vint, vunit, w64, walk_of, way_fits, way_word, whole, with_run, yes, ‵, ℕ, ◌$◌, ◌+◌, ◌<◌, ◌^◌, ◌∙◌, ◌∵◌, ◌∷◌, ◌≡◌, ◌≤◌, ◌⊑◌, ◌⊛◌}
 use Rattle.aa_raw.specs.contracts.row.Row.write_array as f
-use Rattle.aa_raw.proofs.row.Row.write_array.Statement.{statement}
 use Rattle.aa_raw.proofs.row.Row.write_array.Code as code
 
-abbrev stayed : (E : El) (N : ℕ) → Stays (f.ended E.row (number N)).signature.params (f.ended E.row (number N)).kept
-stayed E N = (stay_ref (0 ∷ []) tt (plain (λ _. Rw E)), (stay_dropped (plain (λ _. usize)) yes, (stay_dropped (plain (λ _. Items E N)) no, tt)))
-
-pub write_array_spec : {M : Type 1} → statement M
+pub write_array_spec : {M : Type 1} → Rattle.aa_raw.proofs.row.Row.write_array.Statement.statement M
 write_array_spec 𝓤 𝓛 𝓜 𝓡 wired X N LX fN =
     let E : El = record { row = X; laws = LX } in let e = inst_fn (array_args (record { row = X; laws = LX }) N) code.function in let T = f.ended X (number N) in
-    let c = f.clauses X (number N) 𝓛 𝓜.mem 𝓡.returns in let W = walk_of 𝓛 T (stayed E N) c in let 𝓣 = tables 𝓤 𝓛.H 𝓜 𝓡 𝓡.env in
-    proved_at 𝓛 T (stayed E N) c 𝓜 𝓡 (Goes-ref 𝓛 3 0 tt (plain (λ _. Rw E)), (Goes-dropped 𝓛 3 (plain (λ _. usize)) yes (λ κs x w. refl), (λ κs x left vs ok. via 𝓤 _ (spent 𝓛 x left) (𝓛.laws.⇛_intro _), tt)))
+    let stayed : Stays (f.ended E.row (number N)).signature.params (f.ended E.row (number N)).kept = (stay_ref (0 ∷ []) tt (plain (λ _. Rw E)), (stay_dropped (plain (λ _. usize)) yes, (stay_dropped (plain (λ _. Items E N)) no, tt))) in
+    let c = f.clauses X (number N) 𝓛 𝓜.mem 𝓡.returns in let W = walk_of 𝓛 T stayed c in let 𝓣 = tables 𝓤 𝓛.H 𝓜 𝓡 𝓡.env in
+    proved_at 𝓛 T stayed c 𝓜 𝓡 (Goes-ref 𝓛 3 0 tt (plain (λ _. Rw E)), (Goes-dropped 𝓛 3 (plain (λ _. usize)) yes (λ κs x w. refl), (λ κs x left vs ok. via 𝓤 _ (spent 𝓛 x left) (𝓛.laws.⇛_intro _), tt)))
     (f.Key.name (array_args E N)) e (code.unfolded 𝓤 𝓛.H 𝓜 𝓡 wired (X, (number N, tt))) (λ z are.
     let κs = z.0.0 in let qs = z.0.1 in let a = z.0.3 in let rb = a.0.ref_ptr.0 in let ro = a.0.ref_ptr.1 in let d = a.0.now in let i = a.1.0 in let xs : List (el_x E) = a.1.1.0 in
     let got = one_val (items_ty (record { row = X; laws = LX }) N) z.0.4.1.1.0 ((items_lawful (record { row = X; laws = LX }) N 𝓛).typed xs z.0.4.1.1.0 are.1.1.0) in let v = got.0 in let good = got.2 in
@@ -31,9 +28,9 @@ write_array_spec 𝓤 𝓛 𝓜 𝓡 wired X N LX fN =
     use1 𝓛 (‵ (froom (ty_array (elτ E) (length had)) b (at E 𝓛 b o i))) (all_room E 𝓛 b o had i) $ rewrite ! 0 (λ (k : ℕ). ‵ (froom (ty_array (elτ E) k) b (at E 𝓛 b o i))) many refl $
     sets ! (of_opd ! (get ! refl)) refl good $ assigns_last ! (of_opd ! (get ! refl)) (through ! refl (stop !)) (init ! 0 refl good) $
     exec ! 𝓣.C 𝓣.Λ (env e.locals l) (after 1 e.body) (at_ret _ (W.post y)) $ sets ! (of_opd ! (unit_lit !)) refl (tt, tt) $
-    move ! (0 ∷ 6 ∷ []) $ use2 𝓛 (given (length xs ≡ N) (‵ (Spots E 𝓛 b o i (map Some xs)))) (array_in E N 𝓛 b o xs i v) $ learn ! (λ count.
+    move ! (0 ∷ 6 ∷ []) $ use2 𝓛 (given (length xs ≡ N) (‵ (SpotsFrom E 𝓛 b o i (map Some xs)))) (items_in E N 𝓛 b o xs i v) $ learn ! (λ count.
     closes_places E ! tt d i N rb ro b o (map Some xs) (length-map xs Some ∙ count) within p small $
     returns ! (look_at ! 0 refl) $ free_all ! refl $
-    suffices ! _ (ends_at 𝓛 T (stayed E N) c y vunit tt (holding d (with_run d.places i N (map Some xs)), (tt, (all_rest (λ _. Unit {0}) (λ _. tt) xs, tt))) (tt, (tt, (tt, tt)))) $ says ! (refl, refl) $
+    suffices ! _ (ends_at 𝓛 T stayed c y vunit tt (holding d (with_run d.places i N (map Some xs)), (tt, (all_rest (λ _. Unit {0}) (λ _. tt) xs, tt))) (tt, (tt, (tt, tt)))) $ says ! (refl, refl) $
     feq_i ! _ (mut_vals a.0) _ refl $ fjoin3 ! $ nothing ! $ nothing ! $ fjoin ! $ nothing ! $ fjoin ! $ move ! (1 ∷ 0 ∷ []) $ fjoin ! $
     move ! (1 ∷ 2 ∷ []) $ join ! $ feq_i ! _ (vunit ∷ []) _ refl $ keep ! (1 ∷ 2 ∷ 0 ∷ []) $ done !))))))

@@ -1,4 +1,4 @@
-use Rattle.aa_raw.proofs.Common.{◌≡◌, length, take, HoldsClones}
+use Rattle.aa_raw.proofs.{HoldsClones, length, take, ◌≡◌}
 use Rattle.aa_raw.proofs.vec.clones.put_clones.Given as goal
 
 abbrev pub invariant-each : goal.invariant-each

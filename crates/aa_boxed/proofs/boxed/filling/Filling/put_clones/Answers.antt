@@ -1,7 +1,4 @@
-use Rattle.std.proofs.Common.{◌≡◌, ◌+◌, ◌∷◌, ◌++◌, [], take, ap, sym, subst, ◌∙◌}
-use Rattle.std.specs.List.{AllZip}
-use Rattle.std.proofs.lemmas.List.Elements.{AllZip-push}
-use Rattle.std.proofs.lemmas.Grind.{take_at_read}
+use Rattle.aa_boxed.proofs.{AllZip, AllZip-push, [], ap, subst, sym, take, take_at_read, ◌++◌, ◌+◌, ◌∙◌, ◌∷◌, ◌≡◌}
 use Rattle.aa_boxed.proofs.boxed.filling.Filling.put_clones.Goals as goal
 
 pub each-preserved : goal.each-preserved

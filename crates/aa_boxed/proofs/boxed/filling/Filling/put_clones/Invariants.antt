@@ -1,5 +1,4 @@
-use Rattle.std.proofs.Common.{◌≡◌, take}
-use Rattle.std.specs.List.{AllZip}
+use Rattle.aa_boxed.proofs.{AllZip, take, ◌≡◌}
 use Rattle.aa_boxed.proofs.boxed.filling.Filling.put_clones.Given as goal
 
 abbrev pub invariant-each : goal.invariant-each

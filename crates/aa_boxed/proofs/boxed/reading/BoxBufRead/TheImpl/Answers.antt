@@ -1,17 +1,5 @@
 -- What `fill_buf` promises of a box's end gives what its trait asks.
-use Rattle.std.specs.Prelude.{◌≡◌, ⊤, [], length, IfSome, IfOk}
-use Rattle.std.specs.Borrow.{RattleType, GName, sem, follows_if, follows_so}
-use Rattle.std.specs.Io.{StartsWith}
-use Rattle.std.specs.Io.BufRead.{FillKeeps}
-use Rattle.aa_boxed.specs.contracts.boxed.Box.{the_row}
-use base.Logic.{SProp, ent, ex, sep, emp, all, wand, all_i, wand_i, snd∗, via, ex_i, ex_e, emp∗, mono_r}
-use borrow.Fn.Refines.{Turns}
-use contract.Monad.{fact}
-use denote.Follow.{such_by}
-use denote.Param.{param}
-use mathlib.Core.Option.{none}
-use seplogic.Ra.Ura.{Ura}
-use types.Logic.{Logic}
+use Rattle.aa_boxed.proofs.{FillKeeps, GName, IfOk, IfSome, Logic, RattleType, SProp, StartsWith, Turns, Ura, [], all, all_i, emp, emp∗, ent, ex, ex_e, ex_i, fact, follows_if, follows_so, length, mono_r, none, param, sem, sep, snd∗, such_by, the_row, via, wand, wand_i, ⊤, ◌≡◌}
 use Rattle.aa_boxed.proofs.boxed.reading.BoxBufRead.TheImpl.Goals as goal
 
 module _ {M : Type 1} {𝓤 : Ura M} (𝓛 : Logic 𝓤) (R : RattleType) (γ : GName) where

@@ -1,7 +1,5 @@
-use Rattle.std.proofs.Common.{refl, sym, subst, arith}
-use Rattle.std.proofs.lemmas.Result.{err_from_is_err_and}
-use Rattle.aa_boxed.proofs.Coming.{HasMore, Coming-start, Coming-put, Coming-ends, Coming-refused, Coming-over, whole_run_of, stops_at_end}
-use Rattle.aa_boxed.proofs.boxed.slice.BoxedSlice.from_iter_in_by.Goals.{then-is_full+in_ok-reserve, else-is_full}
+use Rattle.aa_boxed.proofs.{Coming-ends, Coming-over, Coming-put, Coming-refused, Coming-start, HasMore, arith, err_from_is_err_and, refl, stops_at_end, subst, sym, whole_run_of}
+use Rattle.aa_boxed.proofs.boxed.slice.BoxedSlice.from_iter_in_by.Goals.{else-is_full, then-is_full+in_ok-reserve}
 use Rattle.aa_boxed.proofs.boxed.slice.BoxedSlice.from_iter_in_by.Goals as goal
 
 pub loop-x-init : goal.loop-x-init

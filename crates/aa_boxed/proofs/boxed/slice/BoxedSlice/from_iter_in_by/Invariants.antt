@@ -1,5 +1,4 @@
-use Rattle.std.specs.Mem.{type_size}
-use Rattle.std.specs.Iterator.{size}
+use Rattle.aa_boxed.proofs.{size, type_size}
 use Rattle.aa_boxed.proofs.Coming.{Coming}
 use Rattle.aa_boxed.proofs.boxed.slice.BoxedSlice.from_iter_in_by.Given as goal
 

@@ -1,5 +1,4 @@
-use Rattle.std.proofs.Common.{IsUtf8, sym, subst}
-use Rattle.std.proofs.lemmas.Str.{IsUtf8-had}
+use Rattle.aa_boxed.proofs.{IsUtf8, IsUtf8-had, subst, sym}
 use Rattle.aa_boxed.proofs.boxed.text.BoxedText.as_str.Goals as goal
 
 pub from_utf8_unchecked-requires : goal.from_utf8_unchecked-requires

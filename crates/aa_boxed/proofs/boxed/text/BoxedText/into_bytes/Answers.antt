@@ -1,4 +1,4 @@
-use Rattle.std.proofs.lemmas.Str.{IsUtf8-had}
+use Rattle.aa_boxed.proofs.{IsUtf8-had}
 use Rattle.aa_boxed.proofs.boxed.text.BoxedText.into_bytes.Goals as goal
 
 pub returns-clause-utf8 : goal.returns-clause-utf8

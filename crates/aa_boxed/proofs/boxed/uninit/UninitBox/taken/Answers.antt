@@ -1,5 +1,19 @@
-use Rattle.aa_boxed.proofs.Singles.{fresh-one}
+use Rattle.aa_boxed.proofs.{Block, Doubling, IsForOne, List, None, Option, arith, drop, empty_places, endless-empty, fresh, is_none, length, length-empty_places, length-replicate, list_all, nat_tests, none_there, refl, replicate, sized-empty, subst, suc, sym, true, usize_max, zero, ℕ, ◌<◌, ◌∙◌, ◌≡◌}
 use Rattle.aa_boxed.proofs.boxed.uninit.UninitBox.taken.Goals as goal
+
+-- A block that is to be a box's.
+none_behind : (T : Type 0) (k : ℕ) → list_all {X = Option T} is_none (drop 1 (replicate k None)) ≡ true
+none_behind T zero = refl
+none_behind T (suc k) = none_there T k
+
+none_behind_one : (T : Type 0) (size : ℕ) → list_all {X = Option T} is_none (drop 1 (empty_places size 1)) ≡ true
+none_behind_one T zero = subst (λ cs. list_all {X = Option T} is_none (drop 1 cs) ≡ true) (endless-empty T 0 1 usize_max refl refl) (none_behind T usize_max)
+none_behind_one T (suc n) = subst (λ cs. list_all {X = Option T} is_none (drop 1 cs) ≡ true) (sized-empty T (suc n) 1 (omega arith)) refl
+
+fresh-one : {T A : Type 0} (size : ℕ) (a : A) (b : Block T A) → b ≡ fresh size 1 Doubling a → (0 < length b.places) × (IsForOne b × Unit {0})
+fresh-one {T = T} size a b e =
+    let long = length-empty_places T size 1 in
+    rw e (grind (arith, nat_tests, long), (record { capacity = λ other. grind (arith, nat_tests, long); growth = refl; others = none_behind_one T size }, tt))
 
 pub invariant_of-result : goal.invariant_of-result
 invariant_of-result g c = fresh-one _ c.args.alloc c.in-Ok.block c.in-Ok.ensures.made

@@ -1,0 +1,34 @@
+-- The names from elsewhere that proofs here cite, passed on.
+pub use Rattle.aa_boxed.specs.Boxed.{held}
+pub use Rattle.aa_boxed.specs.Room.{IsForOne, IsJustFor}
+pub use Rattle.aa_boxed.specs.Slice.{Begun, Slice, Stops, ended, slice_of, with_next}
+pub use Rattle.aa_boxed.specs.SliceInner.{IsWhole}
+pub use Rattle.aa_boxed.specs.Telling.{asked_with}
+pub use Rattle.aa_boxed.specs.Text.{StopsAtText, Text}
+pub use Rattle.aa_boxed.specs.contracts.boxed.Box.{the_row}
+pub use Rattle.aa_raw.proofs.Beyond.{IsRun-forgot, forgot, length-forgot, none-forgot, none_there}
+pub use Rattle.aa_raw.proofs.Common.{AllZip, AllZip-push, Block, IsRun, Logic, SProp, Ura, emp, empty_places, ent, eqb_tells, ex, fact, fresh, length-replicate, list_all, nat_tests, param, run, sep, sized, take_at_read, type_size, usize_max, via, wand, with_run, wrote}
+pub use Rattle.aa_raw.proofs.Places.{endless-empty, filled_within, length-empty_places, sized-empty}
+pub use Rattle.aa_raw.proofs.Reserving.{fresh-reserved}
+pub use Rattle.aa_raw.proofs.Runs.{IsRun-with, length-run, run-is, run-one, run-with}
+pub use Rattle.aa_raw.specs.Growth.{amortized, least_of}
+pub use Rattle.aa_raw.specs.Refusals.{IsRefusedAt}
+pub use Rattle.aa_raw.specs.Room.{LacksRoom}
+pub use Rattle.aa_raw.specs.declared.collections.TryReserveError.{TryReserveError}
+pub use Rattle.aa_raw.specs.declared.collections.TryReserveErrorKind.TheVariants.{AllocError, CapacityOverflow}
+pub use Rattle.aa_raw.specs.declared.raw_vec.Growth.TheVariants.{Doubling}
+pub use Rattle.std.proofs.Common.{Err, IfErr, IfOk, IfSome, IsUtf8, List, None, Ok, Option, Result, Some, String, [], ap, append-nil, append_assoc, arith, drop, eq-eqb, flat_map, get_or, if◌then◌else◌, inl, inr, is_none, is_some, length, length-append, map, refl, replicate, rules, subst, suc, sym, take, true, zero, ℕ, ◌++◌, ◌+◌, ◌<◌, ◌==◌, ◌∙◌, ◌∷◌, ◌≡◌, ◌≢◌, ◌≤◌}
+pub use Rattle.std.proofs.iter.runs.Consumers.{total_runs}
+pub use Rattle.std.proofs.lemmas.Result.{err_from_is_err_and}
+pub use Rattle.std.proofs.lemmas.Str.{IsUtf8-had}
+pub use Rattle.std.specs.Borrow.{GName, RattleType, follows_if, follows_so, sem}
+pub use Rattle.std.specs.Io.{StartsWith}
+pub use Rattle.std.specs.Io.BufRead.{FillKeeps}
+pub use Rattle.std.specs.Iterator.{Yields, YieldsThen, size}
+pub use Rattle.std.specs.Iterator.Runs.{WholeRun}
+pub use Rattle.std.specs.Prelude.{⊤}
+pub use Rattle.std.specs.String.{string_bytes, string_capacity}
+pub use base.Logic.{all, all_i, emp∗, ex_e, ex_i, mono_r, snd∗, wand_i}
+pub use borrow.Fn.Refines.{Turns}
+unfoldable pub use denote.Follow.{such_by}
+pub use mathlib.Core.Option.{none}

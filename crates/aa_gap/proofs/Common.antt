@@ -1,0 +1,23 @@
+-- The names from elsewhere that proofs here cite, passed on.
+pub use Rattle.aa_gap.specs.Buffer.{Buffer, GrowsWithin, cursor, distance, empty, gap, inserted, len, run_count, text, travel}
+pub use Rattle.aa_gap.specs.Editing.{Costs, Edits, with_edit, with_edits}
+pub use Rattle.aa_gap.specs.Inner.{HasGap}
+pub use Rattle.aa_gap.specs.Page.{Page, all_edited, edited, inserts, page, runs_by, total, written_by}
+pub use Rattle.aa_gap.specs.declared.gap_buffer.Edit.{Edit}
+pub use Rattle.aa_gap.specs.declared.gap_buffer.Edit.TheVariants.{DeleteBack, DeleteForward, Insert, MoveTo}
+pub use Rattle.aa_raw.proofs.BothEnds.{slice_get-behind, slice_get-front}
+pub use Rattle.aa_raw.proofs.Calls.{IsRun-first, IsRun-last, IsRun-of_none, IsRun-take_next, IsRun-with-above, run-moved-above, run-of_none, run-take_next}
+pub use Rattle.aa_raw.proofs.Common.{AreParted, Block, IsRun, cases_lt, length-replicate, moved, nat_tests, run, slice_get_past, slice_get_read, take-append-le, type_size}
+pub use Rattle.aa_raw.proofs.Places.{length-moved, lengths}
+pub use Rattle.aa_raw.proofs.Runs.{IsRun-joined, IsRun-moved, IsRun-part, IsRun-same, IsRun-set-above, IsRun-set-below, length-run, run-drop, run-moved, run-moved-below, run-set-above, run-set-below, run-split, run-take}
+pub use Rattle.aa_raw.proofs.TwoRuns.{AreApart-before}
+pub use Rattle.aa_raw.specs.Growth.{amortized, least_of}
+pub use Rattle.aa_raw.specs.declared.raw_vec.Growth.{Growth}
+pub use Rattle.aa_raw.specs.declared.raw_vec.Growth.TheVariants.{Doubling, Sparing}
+pub use Rattle.std.proofs.Common.{Bor, List, MatchOption, None, Option, Some, [], ap, append_assoc, arith, drop, inl, inr, insert, length, length-append, length-drop, length-set, length-take, length-take-le, min, option_copied, refl, remove, rules, slice_get, subst, sym, take, take-append-drop, ℕ, ◌*◌, ◌++◌, ◌+◌, ◌-◌, ◌∙◌, ◌∷◌, ◌≡◌, ◌≤◌}
+pub use Rattle.std.proofs.Math.Seq.{drop-append-add, drop-append_seam, take-append-add, take-append_seam}
+pub use Rattle.std.proofs.iter.Next.{Yields-more}
+pub use Rattle.std.proofs.lemmas.List.Edits.{remove-append_right}
+pub use Rattle.std.proofs.lemmas.Result.{err_from_is_err_and}
+pub use Rattle.std.specs.Iterator.{Yields}
+pub use Rattle.std.specs.Slice.{IsItemAt}
