@@ -1,5 +1,5 @@
 -- What slots hold, by counts: no look-ups yet.
-use Rattle.ex_table.proofs.Common.{◌≡◌, ℕ, zero, suc, ◌+◌, ◌<◌, ◌≤◌, Bool, true, false, cond, List, [], ◌∷◌, ◌++◌, length, get_or, Some, None, refl, sym, ◌∙◌, ap, arith, inl, inr, count_by, set, sum_by-cons, sum_by-set, both_ways, cases_Bool, set_value, value, Slot, Gone, Held, is_key, is_held, value_of, with_value, slot_at, entries_of, found}
+use Rattle.ex_table.proofs.Common.{◌≡◌, ℕ, zero, suc, ◌+◌, ◌<◌, ◌≤◌, Bool, true, false, cond, List, [], ◌∷◌, ◌++◌, length, get_or, Some, None, refl, ap, arith, count_by, set, sum_by-cons, sum_by-set, set_value, value, Slot, Gone, Held, is_key, is_held, value_of, with_value, slot_at, entries_of, found}
 use Rattle.std.proofs.lemmas.List.Sums.{sum_by-append, get_or-le-sum_by}
 use Rattle.std.specs.Cmp.{IsEquivalence}
 use Rattle.ex_table.specs.Contents.{keys_like}

@@ -1,6 +1,5 @@
 -- A key that no look-up meets is nowhere.
-use Rattle.ex_table.proofs.Common.{◌≡◌, ◌≢◌, ℕ, ◌+◌, ◌<◌, ◌≤◌, Bool, List, length, sym, ◌∙◌, arith, inl, inr, count_by, cases_eq, cases_Bool, Group, Slot, Gone, free, tag_at, group_at, home_of, after, group_of, tag_of, IsAt, is_key, slot_at, Lacks, Indexes}
-use Rattle.std.proofs.lemmas.Bool.Decides.{nat_tests}
+use Rattle.ex_table.proofs.Common.{nat_tests, ◌≡◌, ◌≢◌, ℕ, ◌+◌, ◌<◌, ◌≤◌, Bool, List, length, sym, ◌∙◌, arith, inl, inr, count_by, cases_eq, cases_Bool, Group, Slot, Gone, free, tag_at, group_at, home_of, after, group_of, tag_of, IsAt, is_key, slot_at, Lacks, Indexes}
 use Rattle.ex_table.proofs.Counts.{count-none}
 
 module _ {K V : Type 0} (eq : K → K → Bool) (gs : List Group) (ss : List (Slot K V)) (k : K) (hash t : ℕ) where

@@ -1,12 +1,11 @@
 -- Lanes of groups: what is found in a group, and what writes to one leave.
-use Rattle.ex_table.proofs.Common.{◌≡◌, ◌≢◌, ℕ, zero, suc, ◌+◌, ◌-◌, ◌<◌, ◌≤◌, cond, List, [], ◌∷◌, length, refl, ◌∙◌, arith, inl, inr, get_or-set_same, get_or-set_other, count_by, set, length-set, sum_by-cons, sum_by-set, cases_eq, Group, tag_at, free, free_lanes, group_at, tag_of, home_of, after, group_of, IsAt}
+use Rattle.ex_table.proofs.Common.{nat_tests, place_at, ◌≡◌, ◌≢◌, ℕ, zero, suc, ◌+◌, ◌-◌, ◌<◌, ◌≤◌, cond, List, [], ◌∷◌, length, refl, ◌∙◌, arith, inl, inr, get_or-set_same, get_or-set_other, count_by, set, length-set, sum_by-cons, sum_by-set, cases_eq, Group, tag_at, free, free_lanes, group_at, tag_of, home_of, after, group_of, IsAt}
 use Rattle.std.proofs.Common.{take}
 use Rattle.std.specs.Prelude.{Option, Some, None, IfNone, nat_lt, ◌==◌}
-use Rattle.std.proofs.lemmas.Bool.Decides.{nat_tests}
 use Rattle.std.proofs.lemmas.List.{get_or-take, length-take-le}
 use Rattle.std.proofs.Math.Seq.{take-set-lt}
 use Rattle.ex_table.proofs.Counts.{count-none, count-some, count-set}
-use Rattle.ex_table.specs.Groups.{place_at, Writes}
+use Rattle.ex_table.specs.Groups.{Writes}
 
 module _ (g : Group) (long : length g.tags ≡ 16) where
   lanes : length (take 12 g.tags) ≡ 12

@@ -1,9 +1,7 @@
 -- Slots as a map.
-use Rattle.ex_table.proofs.Common.{◌≡◌, ℕ, ◌<◌, ◌≤◌, Bool, true, cond, List, length, get_or, Option, None, sym, ◌∙◌, ap, arith, set, count_by, set_value, Group, Slot, value, Sets, IsMap, is_key, value_of, with_value, slot_at, entries_of, found, IsSound}
+use Rattle.ex_table.proofs.Common.{Spot, IsSpot, ◌≡◌, ℕ, Bool, cond, List, get_or, Option, None, sym, ◌∙◌, ap, arith, set, count_by, set_value, Group, Slot, value, Sets, IsMap, is_key, value_of, with_value, entries_of, found, IsSound}
 use Rattle.ex_table.specs.Contents.{Filled, SameMap}
 use Rattle.ex_table.specs.Inside.{filled_in}
-use Rattle.ex_table.specs.Slots.{IsSpot}
-use Rattle.ex_table.specs.declared.slots.Spot.{Spot}
 use Rattle.ex_table.proofs.Counts.{found-entries, keys-entries, found-absent, found-at, alike-found, entries-written}
 use Rattle.ex_table.proofs.Writing.{slot-read}
 

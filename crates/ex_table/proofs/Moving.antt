@@ -1,5 +1,5 @@
 -- Keys that are moved from slots to fresh ones, in their order.
-use Rattle.ex_table.proofs.Common.{◌≡◌, ℕ, ◌+◌, ◌*◌, ◌<◌, ◌≤◌, Bool, false, cond, List, [], ◌∷◌, ◌++◌, length, refl, sym, ◌∙◌, arith, Some, inl, inr, count_by, ◌^◌, cases_Bool, Vector, Group, Slot, Gone, Held, free, free_lanes, is_key, is_held, value_of, found, IsSound, Puts}
+use Rattle.ex_table.proofs.Common.{◌≡◌, ℕ, ◌+◌, ◌*◌, ◌<◌, ◌≤◌, Bool, List, [], ◌∷◌, ◌++◌, length, refl, ◌∙◌, arith, inl, inr, count_by, ◌^◌, cases_Bool, Vector, Group, Slot, Gone, Held, free, free_lanes, is_key, is_held, found, IsSound, Puts}
 use Rattle.ex_table.specs.Slots.{MovesAll}
 use Rattle.ex_table.proofs.Counts.{count-cons, found-past, found-append}
 

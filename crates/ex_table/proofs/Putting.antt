@@ -1,5 +1,5 @@
 -- A new key in the slot behind the others.
-use Rattle.ex_table.proofs.Common.{◌≡◌, ℕ, ◌+◌, Bool, true, cond, List, [], ◌∷◌, ◌++◌, length, Some, ◌∙◌, arith, inl, inr, count_by, cases_Bool, cases_lt, Group, Slot, Gone, Held, IsAt, is_key, is_held, slot_at, found, IsSound, Puts}
+use Rattle.ex_table.proofs.Common.{◌≡◌, ℕ, ◌+◌, Bool, cond, List, [], ◌∷◌, ◌++◌, length, ◌∙◌, arith, inl, inr, count_by, cases_Bool, cases_lt, Group, Slot, Gone, Held, IsAt, is_key, is_held, slot_at, IsSound, Puts}
 use Rattle.std.proofs.lemmas.Grind.{elements}
 use Rattle.std.proofs.lemmas.List.{append-nil, get_or_append_left, length-append}
 use lib.ListN.{get_or-eq_default}

@@ -1,7 +1,6 @@
 -- What a look-up found in a table, and tables with one slot written.
-use Rattle.ex_table.proofs.Common.{◌≡◌, ℕ, ◌+◌, ◌-◌, ◌≤◌, Bool, List, length, Option, arith, is_some, Vector, Group, Slot, free_lanes}
-use Rattle.ex_table.specs.declared.slots.Spot.{Spot}
-use Rattle.ex_table.specs.Slots.{IsSpot, IsTable}
+use Rattle.ex_table.proofs.Common.{Spot, IsSpot, ◌≡◌, ℕ, ◌+◌, ◌-◌, ◌≤◌, Bool, List, length, Option, arith, is_some, Vector, Group, Slot, free_lanes}
+use Rattle.ex_table.specs.Slots.{IsTable}
 use Rattle.ex_table.proofs.Counts.{bit}
 use Rattle.ex_table.proofs.Writing.{Changes}
 

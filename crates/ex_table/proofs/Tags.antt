@@ -1,5 +1,5 @@
 -- Tags of one group, sixteen asked at once.
-use Rattle.std.proofs.Common.{◌≡◌, ◌≢◌, ℕ, ◌*◌, ◌+◌, ◌-◌, ◌<◌, ◌≤◌, Bool, cond, not, eqb, List, [], ◌∷◌, length, map, get_or, replicate, refl, sym, ◌∙◌, ap, arith}
+use Rattle.std.proofs.Common.{◌≡◌, ◌≢◌, ℕ, ◌-◌, ◌<◌, ◌≤◌, Bool, cond, not, eqb, List, [], ◌∷◌, length, map, get_or, replicate, refl, sym, ◌∙◌, ap, arith}
 use Rattle.std.specs.Prelude.{◌^◌, ◌%◌}
 use Rattle.std.specs.List.{prefix_len}
 use Rattle.std.proofs.lemmas.List.Sums.{prefix_len_passes, prefix_len_stops}

@@ -1,9 +1,6 @@
 -- The slot of a key is written.
-use Rattle.ex_table.proofs.Common.{◌≡◌, ◌≢◌, ℕ, ◌+◌, ◌<◌, ◌≤◌, refl, true, false, cond, List, length, get_or, Option, Some, None, ◌∙◌, arith, inl, inr, get_or-set_same, get_or-set_other, count_by, Bool, is_some, set, length-set, cases_eq, cases_Bool, Group, Slot, Gone, Held, IsAt, is_key, is_held, value_of, with_value, slot_at, found, IsSound}
+use Rattle.ex_table.proofs.Common.{Spot, IsSpot, group_at, place_at, ◌≡◌, ◌≢◌, ℕ, ◌+◌, ◌<◌, ◌≤◌, refl, true, false, cond, List, length, get_or, Option, Some, None, ◌∙◌, arith, inl, inr, get_or-set_same, get_or-set_other, count_by, Bool, is_some, set, length-set, cases_eq, cases_Bool, Group, Slot, Gone, Held, IsAt, is_key, is_held, value_of, with_value, slot_at, found, IsSound}
 use Rattle.std.proofs.lemmas.List.{get_or_default}
-use Rattle.ex_table.specs.declared.slots.Spot.{Spot}
-use Rattle.ex_table.specs.Groups.{group_at, place_at}
-use Rattle.ex_table.specs.Slots.{IsSpot}
 use Rattle.ex_table.proofs.Counts.{bit, count-set, found-absent, found-at, found-set_other, key-held, alike, one-key}
 
 -- a slot that was read is the one at its index

@@ -1,4 +1,4 @@
-use Rattle.ex_table.proofs.Common.{arith, sym, ◌∙◌}
+use Rattle.ex_table.proofs.Common.{arith}
 use Rattle.ex_table.proofs.Lanes.{kept, all-full}
 use Rattle.ex_table.proofs.groups.put.Goals as goal
 

@@ -1,6 +1,4 @@
-use Rattle.std.proofs.Common.{◌≡◌, arith, sym}
-use Rattle.ex_table.proofs.Common.{free, group_at}
-use Rattle.std.proofs.lemmas.Bool.Decides.{nat_tests}
+use Rattle.ex_table.proofs.Common.{◌≡◌, arith, free, group_at, sym}
 use Rattle.ex_table.proofs.Lanes.{kept}
 use Rattle.ex_table.proofs.groups.release.Goals as goal
 use Rattle.ex_table.proofs.groups.release.Goals.{then-is_some, else-is_some}

@@ -1,4 +1,3 @@
-use Rattle.ex_table.proofs.Common.{◌∷◌, ap, ◌∙◌}
 use Rattle.ex_table.proofs.Moving.{left_behind, not_there, moved_on, all_moved}
 use Rattle.ex_table.proofs.growth.move_all.Goals as goal
 
