@@ -1,5 +1,5 @@
 -- Elements behind the items of a vector that are dropped, taken from either end, or moved down behind others.
-use Rattle.aa_vec.proofs.Common.{◌≡◌, ℕ, ◌+◌, ◌-◌, ◌<◌, ◌≤◌, List, ◌++◌, length, drop, replicate, Option, None, refl, sym, ap, ◌∙◌, subst, arith, length-append, slice_set, drop-drop, drop-set-add, drop-set-lt, drop_at, length-replicate, IsRun, run, length-run, run-drop, run-set-above, run-split, IsRun-part, IsRun-set-above, StandsBehind, ClosesGap, DropsBehind, behind_items, with_behind, Vector, len, Holds}
+use Rattle.aa_vec.proofs.Common.{◌≡◌, ℕ, ◌+◌, ◌-◌, ◌<◌, ◌≤◌, List, drop, replicate, Option, None, refl, sym, ap, ◌∙◌, subst, arith, length-append, slice_set, drop-drop, drop-set-lt, drop_at, length-replicate, IsRun, run, length-run, run-drop, IsRun-part, StandsBehind, ClosesGap, DropsBehind, behind_items, with_behind, Vector, len, Holds}
 use Rattle.std.proofs.lemmas.List.{append_assoc}
 use Rattle.aa_vec.proofs.Gaps.{further, run-of_drop, IsRun-to_drop}
 

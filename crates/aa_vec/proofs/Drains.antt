@@ -35,7 +35,16 @@ module _ {T A : Type 0} where
   pub runs-in_reverse : YieldsInReverse (drains_last {T = T} {A = A}) drain_rest
   runs-in_reverse p s = as_is_back p (drain_rest p.from) (from_back (drains_last {T = T} {A = A}) (λ x. x) drain_rest (λ d e h. ap length h.1.0) (λ d x e h. h.1.0) p s)
 
-  -- how many are left, and how many are behind the range
+  -- what is left, and what is behind the range, as places of the vector's block
+  pub rest_is : (d : Drain T A) → drain_rest d ≡ behind_items d.vec.now d.front (d.back - d.front)
+  unfolding drain_rest
+  rest_is d = refl
+
+  pub tail_is : (d : Drain T A) → drain_tail d ≡ behind_items d.vec.now d.end (d.total - d.end)
+  unfolding drain_tail
+  tail_is d = refl
+
+  -- how many they are
   pub count_left : (d : Drain T A) → length (drain_rest d) ≡ d.back - d.front
   unfolding drain_rest
   count_left d = length-run (drop d.front d.vec.now.behind) 0 (d.back - d.front) d.held.0.1
@@ -105,4 +114,7 @@ module _ {X : Type 0} (bs : List (Option X)) (f b : ℕ) (some : f < b) (r : IsR
   IsRun-before = subst (λ ds. IsRun ds 0 few) (sym set-there) (IsRun-set-above (drop f bs) 0 few few None (omega (arith, r.0, some)) (omega arith) (IsRun-part (drop f bs) 0 (b - f) 0 few (omega arith) (omega (arith, some)) r))
 
 -- an item taken from either end
-pub ruleset from_ends = (run-next, IsRun-next, run-last, IsRun-end, run-before, IsRun-before, drop-set-lt, run-none, length-set, length-drop, length-append)
+pub ruleset from_ends = (rest_is, tail_is, run-next, IsRun-next, run-last, IsRun-end, run-before, IsRun-before, drop-set-lt, run-none, length-set, length-drop, length-append)
+
+-- what follows calls of a range that was taken
+pub ruleset ranges = (keeps-along, runs-in_order, runs-in_reverse)

@@ -1,7 +1,9 @@
 -- What calls that take elements out of a range leave, one after the other.
-use Rattle.aa_vec.proofs.Common.{◌≡◌, ℕ, suc, ◌+◌, ◌-◌, ◌<◌, ◌≤◌, Bool, true, not, List, [], ◌∷◌, ◌++◌, length, map, take, drop, Option, Some, None, refl, sym, ap, ◌∙◌, subst, arith, inl, inr, append_assoc, length-append, length-drop, length-take, filter, Yields, append-nil, drop-drop, take-append-drop, drop-take, filter-append, Asked, AskedInOrder, MayAskInOrder, IsCallableInOrder, kept, passed_over, Extracts, extract_kept, extract_rest, ExtractBy, ExtractIf}
+use Rattle.aa_vec.proofs.Common.{◌≡◌, ℕ, suc, ◌+◌, ◌-◌, ◌<◌, ◌≤◌, Bool, true, not, List, [], ◌∷◌, ◌++◌, length, map, take, drop, Option, Some, None, refl, sym, ap, ◌∙◌, subst, arith, inl, inr, append_assoc, length-append, length-drop, length-take, filter, Yields, append-nil, drop-drop, filter-append, length-map, Asked, AskedInOrder, EndsTrue, MayAskInOrder, IsCallableInOrder, kept, passed_over, Extracts, extract_kept, extract_rest, ExtractBy, ExtractIf}
 use Rattle.std.specs.Iterator.{MakesProgress, at_most}
-use Rattle.std.proofs.lemmas.List.{map-append, take-take}
+use lib.Seq.{take-add}
+use Rattle.std.proofs.lemmas.List.{map-append}
+use Rattle.std.proofs.lemmas.List.Filters.{length-filter_both}
 use Rattle.aa_vec.specs.Extracting.{Extracted, ExtractedTo, ExtractsAlong, extract_count, extract_vec}
 use Rattle.aa_vec.proofs.Climbing.{SameBlock-refl, SameBlock-trans}
 use Rattle.aa_vec.proofs.Closed.{few_runs, moved_most}
@@ -12,10 +14,15 @@ kept-append told more = ap (map (λ t. t.left)) (filter-append (λ t. t.answer) 
 passed-append : {T : Type 0} (told more : List (Asked T)) → passed_over (told ++ more) ≡ passed_over told ++ passed_over more
 passed-append told more = ap (map (λ t. t.left)) (filter-append (λ t. not t.answer) told more) ∙ map-append (λ t. t.left) (filter (λ t. not t.answer) told) (filter (λ t. not t.answer) more)
 
-take-both : {T : Type 0} (n m : ℕ) (xs : List T) → take (n + m) xs ≡ take n xs ++ take m (drop n xs)
-take-both n m xs =
-    let all : List _ = take (n + m) xs in
-    sym (take-append-drop n all) ∙ ap (λ l. l ++ drop n all) (take-take n (n + m) xs (omega arith)) ∙ ap (λ l. take n xs ++ l) (drop-take n m xs)
+-- of those that were asked, some stay, and the others were taken out
+pub asked_parts : {T : Type 0} (told : List (Asked T)) → length told ≡ length (passed_over told) + length (kept told)
+asked_parts told =
+    omega (arith, length-filter_both (λ t. t.answer) (λ t. not t.answer) (λ t. refl) told, length-map (filter (λ t. t.answer) told) (λ t. t.left), length-map (filter (λ t. not t.answer) told) (λ t. t.left))
+
+-- the last of them, if one was taken out
+ends_some : {T : Type 0} (told : List (Asked T)) (x : T) → kept told ≡ x ∷ [] → EndsTrue told → (front : List (Asked T)) × (y : T) × (told ≡ front ++ record { answer = true; left = y } ∷ [])
+ends_some told x one (inl none) = absurd (omega (arith, ap length one, ap (λ l. length (kept l)) none))
+ends_some told x one (inr last) = last
 
 module _ {F T : Type 0} (Asks : F → T → Bool → F → T → Type 0) where
   -- as many were asked as were told
@@ -67,7 +74,7 @@ module _ {F T : Type 0} (Asks : F → T → Bool → F → T → Type 0) where
         together : take (length all) (extract_rest s) ≡ take (length now.told) (extract_rest s) ++ take (length next.told) (extract_rest t)
         together =
             let q : ℕ = length now.told in let k : ℕ = length next.told in let ys : List T = extract_rest s in
-            ap (λ n. take n ys) (length-append now.told next.told) ∙ take-both q k ys ∙ ap (λ l. take q ys ++ take k l) (sym now.rest)
+            ap (λ n. take n ys) (length-append now.told next.told) ∙ take-add q k ys ∙ ap (λ l. take q ys ++ take k l) (sym now.rest)
 
         pub Extracted-then : Extracted Asks f s (xs ++ taken) g w
         Extracted-then = record {
@@ -96,10 +103,8 @@ module _ {F T : Type 0} (Asks : F → T → Bool → F → T → Type 0) where
       unfolding Extracted-then
       Extracted-more x next = record {
         extracted = Extracted-then (Some x) next (x ∷ []) next.cases.0;
-        ends = elim next.cases.1 [
-          | inl none ↦ absurd (omega (arith, ap length next.cases.0, ap (λ l. length (kept l)) none))
-          | inr last ↦ inr (now.told ++ last.0, last.1, ap (λ l. now.told ++ l) last.2 ∙ sym (append_assoc now.told last.0 (record { answer = true; left = last.1 } ∷ [])))
-        ];
+        ends = let last = ends_some next.told x next.cases.0 next.cases.1 in
+            inr (now.told ++ last.0, last.1, ap (λ l. now.told ++ l) last.2 ∙ sym (append_assoc now.told last.0 (record { answer = true; left = last.1 } ∷ [])));
       }
 
       -- none was left
@@ -108,16 +113,10 @@ module _ {F T : Type 0} (Asks : F → T → Bool → F → T → Type 0) where
 
     -- after a call that took one, the others may be asked, and they are fewer
     module _ (f g : F) (s t : ExtractBy T A) (x : T) (next : Extracts Asks f s (Some x) g t) where
-      some_told : 0 < length next.told
-      some_told = elim next.cases.1 [
-        | inl none ↦ absurd (omega (arith, ap length next.cases.0, ap (λ l. length (kept l)) none))
-        | inr last ↦ omega (arith, ap length last.2, length-append last.0 (record { answer = true; left = last.1 } ∷ []))
-      ]
-
       pub extracts_fewer : length (extract_rest t) < length (extract_rest s)
       extracts_fewer =
           let q : ℕ = length next.told in let ys : List T = extract_rest s in
-          omega (arith, some_told, asked_count f g (take q ys) next.told next.asked, length-take q ys, ap length next.rest, length-drop q ys)
+          omega (arith, asked_parts next.told, ap length next.cases.0, asked_count f g (take q ys) next.told next.asked, length-take q ys, ap length next.rest, length-drop q ys)
 
       pub extracts_may : (Takes : F → T → Type 0) → IsCallableInOrder Asks Takes f (extract_rest s) → IsCallableInOrder Asks Takes g (extract_rest t)
       extracts_may Takes may = record { along = subst (MayAskInOrder Asks Takes g) (sym next.rest) (may_after Takes f g (extract_rest s) next.told may.along next.asked) }

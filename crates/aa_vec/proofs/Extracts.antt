@@ -1,20 +1,12 @@
 -- Calls that take elements out of a range.
-use Rattle.aa_vec.proofs.Common.{re_v, ◌≡◌, ℕ, suc, ◌+◌, ◌-◌, ◌≤◌, Bool, true, false, not, List, [], ◌∷◌, ◌++◌, length, map, drop, Option, Some, None, refl, sym, ap, ◌∙◌, subst, arith, length-append, MutBor, cond, filter, MatchOption, take-append-drop, run-zero, StandsBehind, SetsBack, ClosesTwice, behind_items, Asked, EndsTrue, MayAskInOrder, kept, passed_over, ClosesExtract, ExtractsRange, Extracts, StaysAt, Picks, Vector, len, Holds, Moves, ExtractBy}
+use Rattle.aa_vec.proofs.Common.{re_v, ◌≡◌, ℕ, ◌+◌, ◌-◌, ◌≤◌, Bool, false, not, List, [], ◌∷◌, ◌++◌, length, drop, Option, Some, None, refl, sym, ap, ◌∙◌, subst, arith, length-append, MutBor, MatchOption, take-append-drop, run-zero, StandsBehind, SetsBack, ClosesTwice, behind_items, EndsTrue, MayAskInOrder, kept, ClosesExtract, ExtractsRange, Extracts, StaysAt, Picks, Vector, len, Holds, Moves, ExtractBy}
 use Rattle.aa_vec.specs.Draining.{drain_rest, drain_tail}
 use Rattle.aa_vec.specs.Extracting.{extract_kept, extract_rest, extract_tail}
 use Rattle.aa_vec.proofs.Drained.{still_stand, still_are, part_stand, later_part}
 use Rattle.aa_vec.proofs.Drains.{range_held, range_drains}
+use Rattle.aa_vec.proofs.Extracted.{asked_parts}
 use Rattle.aa_vec.proofs.Gaps.{further}
 use Rattle.aa_vec.proofs.Stands.{count, first_are}
-
-one_part : {T : Type 0} (b : Bool) (y : Asked T) (ys zs : List (Asked T)) → length (map (λ t. t.left) (cond (not b) (y ∷ ys) ys)) + length (map (λ t. t.left) (cond b (y ∷ zs) zs)) ≡ suc (length (map (λ t. t.left) ys) + length (map (λ t. t.left) zs))
-one_part true y ys zs = omega arith
-one_part false y ys zs = omega arith
-
--- of those that were asked, some stay, and the others were taken out
-asked_parts : {T : Type 0} (told : List (Asked T)) → length told ≡ length (passed_over told) + length (kept told)
-asked_parts [] = refl
-asked_parts (y ∷ told) = omega (arith, one_part y.answer y (filter (λ t. not t.answer) told) (filter (λ t. t.answer) told), asked_parts told)
 
 module _ {F T : Type 0} (Asks : F → T → Bool → F → T → Type 0) (Takes : F → T → Type 0) where
   -- who may be asked may be asked for either answer
@@ -104,3 +96,6 @@ module _ {T A : Type 0} (e : ExtractBy T A) where
         holds = subst (λ l. Holds e.vec.now (e.vec.now.items ++ (behind_items e.vec.now 0 e.kept ++ l)) w) closed_parts closes.holds;
         writes = subst (λ m. Moves e.vec.now (e.front - e.kept) m w) (sym moved) (record { written = omega (arith, closes.writes.written); runs = omega (arith, closes.writes.runs) });
       }
+
+-- a call that asked some of them
+pub ruleset picked = (rest_stand, picked_extracts)

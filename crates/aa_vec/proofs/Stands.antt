@@ -1,5 +1,5 @@
 -- What stands behind the items of a vector, after each of the calls that work on it.
-use Rattle.aa_vec.proofs.Common.{◌≡◌, ℕ, ◌+◌, ◌-◌, ◌<◌, ◌≤◌, List, [], ◌∷◌, ◌++◌, length, map, take, drop, Option, Some, None, sym, ap, ◌∙◌, arith, length-append, slice_set, append-nil, drop-drop, drop-set-lt, length-map, take_at, take-append-drop, length-run, run-is, run-take, run-filled, run-zero, IsRun-long, StandsBehind, ClosesGap, LeavesBehind, behind_items, with_behind, Vector, len, Holds, Writes, run_count, moved_over}
+use Rattle.aa_vec.proofs.Common.{◌≡◌, ℕ, ◌+◌, ◌-◌, ◌<◌, ◌≤◌, List, [], ◌∷◌, ◌++◌, length, map, take, drop, Option, Some, None, refl, subst, sym, ap, ◌∙◌, arith, length-append, slice_set, append-nil, drop-drop, drop-set-lt, length-map, take_at, take-append-drop, length-run, run-is, run-take, run-filled, run-zero, IsRun-long, StandsBehind, ClosesGap, LeavesBehind, behind_items, with_behind, Vector, len, Holds, Writes, run_count, moved_over, TakesNext}
 use Rattle.aa_vec.proofs.Climbing.{SameBlock-refl, SameBlock-trans}
 use Rattle.aa_vec.proofs.Closed.{moved_some}
 use Rattle.aa_vec.proofs.Drained.{same_holds, still_stand, still_are, part_stand, later_part, above_stand, above_are}
@@ -91,3 +91,20 @@ module _ {T A : Type 0} where
       }
 
 pub ruleset closing = (closes_none, closes_by_one)
+
+-- of the elements behind a gap the first k were moved down
+module _ {T A : Type 0} {v closed : Vector T A} {gap k : ℕ} (closes : ClosesGap v gap k closed) where
+  -- the next may be taken out, if there is one
+  pub others_first : (n : ℕ) → StandsBehind v gap n → k < n → StandsBehind closed gap 1
+  others_first n stands less = first_stand closed gap (n - k) (others_stand v gap n stands k (omega (arith, less)) closed closes) 1 (omega (arith, less))
+
+  pub takes_next : {new : Vector T A} {at end kept next : ℕ} → kept ≡ k → new ≡ with_behind closed (slice_set closed.behind gap None) → at + k < end → next ≡ at + k + 1 → TakesNext v gap at end kept new next
+  takes_next e taken more is = record {
+    closed = closed;
+    closes = subst (λ i. ClosesGap v gap i closed) (sym e) closes;
+    goes = λ h. (taken, omega (arith, is, e));
+    none = λ all. absurd (omega (arith, all, e, more));
+  }
+
+  pub takes_none : {at end kept : ℕ} → kept ≡ k → end ≤ at + k → TakesNext v gap at end kept closed end
+  takes_none e all = record { closed = closed; closes = subst (λ i. ClosesGap v gap i closed) (sym e) closes; goes = λ h. absurd (omega (arith, h, e, all)); none = λ h. (refl, refl) }

@@ -276,6 +276,7 @@ fn deduplicated<'a, T: Drop, A: Allocator, F: FnMut(&mut T, &mut T) -> bool>(
 // first `kept` down to the last item, and drops the one behind them, if there is one. It answers
 // the next place. None, one and two are far less work than a run.
 #[inline(always)]
+#[tactic(auto, using(crate::proofs::Stands::first_stand))]
 fn passed<T: Drop, A: Allocator>(
     mut list: Vec<T, A>,
     gap: usize,
@@ -310,6 +311,7 @@ fn passed<T: Drop, A: Allocator>(
 
 // The same where there are two of them or more, so that one stands behind the first.
 #[inline(always)]
+#[tactic(auto, using(crate::proofs::Stands::first_stand))]
 fn passed_inside<T: Drop, A: Allocator>(
     mut list: Vec<T, A>,
     gap: usize,
@@ -333,6 +335,7 @@ fn passed_inside<T: Drop, A: Allocator>(
 
 // The same of any number, and after any gap.
 #[inline(always)]
+#[tactic(auto, using(crate::proofs::Stands::first_stand))]
 fn first_passed<T: Drop, A: Allocator>(
     mut list: Vec<T, A>,
     gap: usize,
