@@ -156,3 +156,8 @@ module _ {F T : Type 0} (Asks : F → T → T → Bool → F → T → T → Typ
     pub ChainsAlong-end : {n : ℕ} → n ≤ i → n + 1 ≡ length ys → ChainsAlong Asks f xs n h ys
     ChainsAlong-end all e =
         Gone-here 1 (ChainsAlong Asks) (MayDeduplicate Asks Takes) chained h ys (drop i ys) (omega (arith, all, e, chained.within)) (one_left (drop i ys) (omega (arith, all, e, chained.within, length-drop i ys))) (sym (take-append-drop i ys))
+
+-- a closure that is asked along a slice
+pub ruleset asks = (Gone-none, next_takes, AsksUntil-end)
+
+pub ruleset chains = (Gone-none, next_pair, ChainsAlong-here)

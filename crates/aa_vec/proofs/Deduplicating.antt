@@ -129,3 +129,5 @@ module _ {F T A : Type 0} {Asks : F → T → T → Bool → F → T → T → T
         written = q.2 ∙ ap (λ s. old.written + kept_behind_removed s) (sym r.stay);
         runs = subst (λ s. w.runs ≤ old.runs + removed_count s) (sym r.stay) q.3;
       }
+
+pub ruleset ended = (Deduplicates-ended, chained-start)

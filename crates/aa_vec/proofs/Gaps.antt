@@ -202,3 +202,6 @@ pub ruleset lent = (run-is, drop-drop, run-of_drop, length-run)
 
 -- elements that were dropped
 pub ruleset cleared = (drop-laid, drop-drop, run-with-below, IsRun-cleared, length-with_run, length-replicate, length-run)
+
+-- an element that is asked beside the last item
+pub ruleset beside = (seen, filled, last-filled, length-run)

@@ -87,3 +87,5 @@ module _ {F T A : Type 0} {Asks : F → T → Bool → F → T → Type 0} {Take
         written = q.2 ∙ ap (λ s. old.written + kept_behind_removed s) (sym r.answers);
         runs = subst (λ s. w.runs ≤ old.runs + removed_count s) (sym r.answers) q.3;
       }
+
+pub ruleset ended = (Retains-ended)

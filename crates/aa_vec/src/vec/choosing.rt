@@ -198,6 +198,7 @@ impl<T, A: Allocator> Vec<T, A> {
 
     // Asks the element after the gap beside the last item.
     #[inline(always)]
+    #[tactic(auto, using(crate::proofs::Gaps::beside))]
     fn ask_last<F: FnMut(&mut T, &mut T) -> bool>(&mut self, gap: usize, same: &mut F) -> bool
         requires some { 0 < len self.old }
         requires stands { StandsBehind self.old gap 1 }
@@ -216,6 +217,7 @@ impl<T, A: Allocator> Vec<T, A> {
 // the first element that goes none is moved.
 
 // `retain_by`.
+#[tactic(auto, using(crate::proofs::Retaining::ended))]
 fn retained<'a, T: Drop, A: Allocator, F: FnMut(&mut T) -> bool>(
     mut list: Vec<T, A>,
     keep: &'a mut F,
@@ -238,6 +240,7 @@ fn retained<'a, T: Drop, A: Allocator, F: FnMut(&mut T) -> bool>(
 
 // `dedup_within`. While the loop runs, two elements or more are left to ask, so that nothing else
 // tests whether one stands behind the next.
+#[tactic(auto, using(crate::proofs::Deduplicating::ended))]
 fn deduplicated<'a, T: Drop, A: Allocator, F: FnMut(&mut T, &mut T) -> bool>(
     mut list: Vec<T, A>,
     same: &'a mut F,

@@ -1,18 +1,9 @@
 use Rattle.aa_vec.proofs.Common.{rules, arith, CalledAtPairMut, TakesPairMut}
-use Rattle.aa_vec.proofs.Asking.{Gone-none, HasChained-more, ChainsAlong-here, ChainsAlong-end, next_pair}
+use Rattle.aa_vec.proofs.Asking.{Gone-none, HasChained-more, ChainsAlong-here, ChainsAlong-end}
 use Rattle.aa_vec.proofs.vec.asking.distinct_run.Goals as goal
-
-pub ask_neighbours-requires-clause-callable : goal.ask_neighbours-requires-clause-callable
-ask_neighbours-requires-clause-callable g c = next_pair (CalledAtPairMut g.F.FnMut) (TakesPairMut g.F.FnMut) (Gone-none 1 _ _ c.args.same.now c.args.elements.now (omega (arith, c.requires.some)) c.requires.callable)
-
-pub returns-then-ask_neighbours-clause-asked : goal.returns-then-ask_neighbours-clause-asked
-returns-then-ask_neighbours-clause-asked g c = ChainsAlong-here (CalledAtPairMut g.F.FnMut) (TakesPairMut g.F.FnMut) (Gone-none 1 _ _ c.args.same.now c.args.elements.now (omega (arith, c.requires.some)) c.requires.callable) c.ask_neighbours.ensures (search rules)
 
 pub each-init : goal.each-init
 each-init g c = HasChained-more (CalledAtPairMut g.F.FnMut) (TakesPairMut g.F.FnMut) (Gone-none 1 _ _ c.args.same.now c.args.elements.now (omega (arith, c.requires.some)) c.requires.callable) c.ask_neighbours.ensures (search rules)
-
-pub ask_neighbours-requires-in-each-clause-callable : goal.ask_neighbours-requires-in-each-clause-callable
-ask_neighbours-requires-in-each-clause-callable g c = next_pair (CalledAtPairMut g.F.FnMut) (TakesPairMut g.F.FnMut) c.each.invariant
 
 pub returns-then-ask_neighbours-2-clause-asked : goal.returns-then-ask_neighbours-2-clause-asked
 returns-then-ask_neighbours-2-clause-asked g c = ChainsAlong-here (CalledAtPairMut g.F.FnMut) (TakesPairMut g.F.FnMut) c.each.invariant c.ask_neighbours-in-each.ensures (search rules)

@@ -9,11 +9,6 @@ chain_behind-first-requires g c =
     let on = stage-on _ _ _ _ _ _ s.0 s.1 in
     record { last = on.may.some; some = omega (arith, c.if-end-at.false); stands = on.stands; callable = on.may.along }
 
-pub returns-then-end-at-clause-removes : goal.returns-then-end-at-clause-removes
-returns-then-end-at-clause-removes g c =
-    let s = chained-start c.set_back-left.result c.set_back-left.ensures.set_back c.set_back-left.ensures.count c.len-end.ensures.count c.requires in
-    Deduplicates-ended s.0 (omega (arith, c.if-end-at.true, s.0.within))
-
 pub first_passed-requires : goal.first_passed-requires
 first_passed-requires g c =
     let s = chained-start c.set_back-left.result c.set_back-left.ensures.set_back c.set_back-left.ensures.count c.len-end.ensures.count c.requires in

@@ -1,5 +1,5 @@
 use Rattle.aa_vec.proofs.Common.{arith}
-use Rattle.aa_vec.proofs.Retaining.{retained-start, asked-turn, Retains-ended}
+use Rattle.aa_vec.proofs.Retaining.{retained-start, asked-turn}
 use Rattle.aa_vec.proofs.vec.choosing.retained.Goals as goal
 
 pub first_passed-requires : goal.first_passed-requires
@@ -24,6 +24,3 @@ pub runs-smaller : goal.runs-smaller
 runs-smaller g c =
     let p = (asked-turn c.runs.invariant.0 c.len.ensures.count c.keep_behind-kept.ensures).2 _ _ c.passed.ensures in
     omega (arith, p.1 c.runs-test.true, p.0.within)
-
-pub returns-clause-retains : goal.returns-clause-retains
-returns-clause-retains g c = Retains-ended c.runs.invariant.0 (omega (arith, c.runs-test.false, c.runs.invariant.0.within))
