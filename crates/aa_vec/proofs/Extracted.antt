@@ -1,5 +1,5 @@
 -- What calls that take elements out of a range leave, one after the other.
-use Rattle.aa_vec.proofs.Common.{◌≡◌, ℕ, suc, ◌+◌, ◌-◌, ◌<◌, ◌≤◌, Bool, true, not, List, [], ◌∷◌, ◌++◌, length, map, take, drop, Option, Some, None, refl, sym, ap, ◌∙◌, subst, arith, inl, inr, append_assoc, length-append, length-drop, length-take, filter, Yields, append-nil, drop-drop, filter-append, length-map, Asked, AskedInOrder, EndsTrue, MayAskInOrder, IsCallableInOrder, kept, passed_over, Extracts, extract_kept, extract_rest, ExtractBy, ExtractIf}
+use Rattle.aa_vec.proofs.Common.{◌≡◌, ℕ, suc, ◌+◌, ◌-◌, ◌<◌, ◌≤◌, Bool, true, not, List, [], ◌∷◌, ◌++◌, length, map, take, drop, Option, Some, None, refl, sym, ap, ◌∙◌, subst, arith, inl, inr, append_assoc, length-append, length-drop, length-take, filter, Yields, append-nil, drop-drop, filter-append, length-map, Asked, AskedInOrder, MayAskInOrder, IsCallableInOrder, kept, passed_over, Extracts, extract_kept, extract_rest, ExtractBy, ExtractIf}
 use Rattle.std.specs.Iterator.{MakesProgress, at_most}
 use lib.Seq.{take-add}
 use Rattle.std.proofs.lemmas.List.{map-append}
@@ -18,11 +18,6 @@ passed-append told more = ap (map (λ t. t.left)) (filter-append (λ t. not t.an
 pub asked_parts : {T : Type 0} (told : List (Asked T)) → length told ≡ length (passed_over told) + length (kept told)
 asked_parts told =
     omega (arith, length-filter_both (λ t. t.answer) (λ t. not t.answer) (λ t. refl) told, length-map (filter (λ t. t.answer) told) (λ t. t.left), length-map (filter (λ t. not t.answer) told) (λ t. t.left))
-
--- the last of them, if one was taken out
-ends_some : {T : Type 0} (told : List (Asked T)) (x : T) → kept told ≡ x ∷ [] → EndsTrue told → (front : List (Asked T)) × (y : T) × (told ≡ front ++ record { answer = true; left = y } ∷ [])
-ends_some told x one (inl none) = absurd (omega (arith, ap length one, ap (λ l. length (kept l)) none))
-ends_some told x one (inr last) = last
 
 module _ {F T : Type 0} (Asks : F → T → Bool → F → T → Type 0) where
   -- as many were asked as were told
@@ -103,8 +98,10 @@ module _ {F T : Type 0} (Asks : F → T → Bool → F → T → Type 0) where
       unfolding Extracted-then
       Extracted-more x next = record {
         extracted = Extracted-then (Some x) next (x ∷ []) next.cases.0;
-        ends = let last = ends_some next.told x next.cases.0 next.cases.1 in
-            inr (now.told ++ last.0, last.1, ap (λ l. now.told ++ l) last.2 ∙ sym (append_assoc now.told last.0 (record { answer = true; left = last.1 } ∷ [])));
+        ends = elim next.cases.1 [
+          | inl none ↦ absurd (omega (arith, ap length next.cases.0, ap (λ l. length (kept l)) none))
+          | inr last ↦ inr (now.told ++ last.0, last.1, ap (λ l. now.told ++ l) last.2 ∙ sym (append_assoc now.told last.0 (record { answer = true; left = last.1 } ∷ [])))
+        ];
       }
 
       -- none was left

@@ -14,7 +14,7 @@ module _ {F T : Type 0} (Asks : F → T → Bool → F → T → Type 0) where
   until-others f h (x ∷ xs) zero left u = ap (drop 1) u.2
   until-others f h (x ∷ xs) (suc k) left u = ap (drop (suc (suc k))) u.5 ∙ until-others u.0 h xs k u.2 u.4
 
-  module _ {A : Type 0} {f : F} {old : Vector T A} {gap n k : ℕ} {g : F} {new : Vector T A} (stands : StandsBehind old gap n) (asked : AsksBehind Asks f old gap n k g new) where
+  module _ {A : Type 0} {f : F} {old : Vector T A} {gap n k : ℕ} {g : F} {new : Vector T A} (asked : AsksBehind Asks f old gap n k g new) (stands : StandsBehind old gap n) where
     goes_on : Follows Asks (λ s x. Unit {0}) f (behind_items old gap n) k g asked.left
     goes_on = follows Asks (λ s x. Unit {0}) f g (behind_items old gap n) k asked.left asked.until
 
@@ -81,27 +81,24 @@ module _ {T A : Type 0} {old joined : Vector T A} {low : ℕ} (front end : ℕ) 
       let long : len joined ≡ len old + low = omega (arith, ap length joins.holds.items, length-append old.items (behind_items old 0 low), count old 0 low before) in
       still_stand old joined front gap n stands (omega (arith, stands.0, long, joins.holds.block.capacity, ordered.0)) apart
 
-  pub joined_are : behind_items joined (front - low) (end - front) ≡ behind_items old front (end - front)
-  joined_are = still_are old joined front gap n apart
-
   module _ {F : Type 0} (Keeps : F → T → Bool → F → T → Type 0) {f g : F} {stay : ℕ} {down : Vector T A} (keeps : KeepsDown (StaysAt false Keeps) f joined (front - low) (end - front) stay g down) where
     abbrev left : List T
     left = keeps.asks.left
 
     until : AsksUntil (StaysAt false Keeps) f (behind_items old front n) stay g left
-    until = subst (λ xs. AsksUntil (StaysAt false Keeps) f xs stay g left) joined_are keeps.asks.until
+    until = subst (λ xs. AsksUntil (StaysAt false Keeps) f xs stay g left) (still_are old joined front gap n apart) keeps.asks.until
 
     told : ToldTo Keeps f (behind_items old front n) stay left g
     told = told_to Keeps f g (behind_items old front n) stay left until
 
     long : length left ≡ n
-    long = asked_long (StaysAt false Keeps) joined_stand keeps.asks
+    long = asked_long (StaysAt false Keeps) keeps.asks joined_stand
 
     pub asked_few : stay ≤ n
-    asked_few = asked_within (StaysAt false Keeps) joined_stand keeps.asks
+    asked_few = asked_within (StaysAt false Keeps) keeps.asks joined_stand
 
     now_stand : StandsBehind keeps.left gap n
-    now_stand = asked_stand (StaysAt false Keeps) joined_stand keeps.asks
+    now_stand = asked_stand (StaysAt false Keeps) keeps.asks joined_stand
 
     now_are : behind_items keeps.left gap n ≡ left
     now_are = left_are joined gap n joined_stand keeps.left left long keeps.asks.leaves

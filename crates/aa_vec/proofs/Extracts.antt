@@ -56,23 +56,19 @@ module _ {T A : Type 0} (e : ExtractBy T A) where
     picked_cases None c = (c.0, ap (behind_items new next) (omega (arith, c.1)) ∙ run-zero (drop next new.behind) 0)
     picked_cases (Some x) c = c
 
-    picked_rest : behind_items new next (e.end - next) ≡ drop (length picks.told) (behind_items e.vec.now e.front (e.end - e.front))
-    picked_rest =
-        let many : next ≡ e.front + length picks.told = picks.counts.1 in
-        still_are e.vec.now new next next (e.end - next) picks.above ∙ ap (λ i. behind_items e.vec.now i (e.end - next)) many
-        ∙ later_part e.vec.now e.front (length picks.told) (e.end - e.front) (e.end - next) (omega (arith, many, picks.within)) rest_stand
-
     pub picked_extracts : (ordered : (e.kept + stay ≤ next) × (next ≤ e.end) × (e.end ≤ e.total)) (held : StandsBehind new 0 (e.kept + stay) × StandsBehind new next (e.total - next))
         → Extracts Asks f e item g (record { vec = re_v new e.vec; kept = e.kept + stay; front = next; end = e.end; total = e.total; ordered = ordered; held = held })
     unfolding extract_kept extract_rest extract_tail
     picked_extracts ordered held =
+        let many : next ≡ e.front + length picks.told = picks.counts.1 in
         record {
           told = picks.told;
           asked = picks.asked;
           cases = picked_cases item picks.cases;
           count = omega (arith, picks.counts, asked_parts picks.told, e.ordered);
           kept = picks.stayed;
-          rest = picked_rest;
+          rest = still_are e.vec.now new next next (e.end - next) picks.above ∙ ap (λ i. behind_items e.vec.now i (e.end - next)) many
+              ∙ later_part e.vec.now e.front (length picks.told) (e.end - e.front) (e.end - next) (omega (arith, many, picks.within)) rest_stand;
           lender = refl;
           head = picks.holds;
           tail = still_are e.vec.now new e.end e.end (e.total - e.end) (further new.behind e.vec.now.behind next next e.end e.end (omega (arith, picks.within)) refl picks.above);

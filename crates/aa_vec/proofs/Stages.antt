@@ -5,7 +5,8 @@ use Rattle.aa_vec.proofs.Common.{◌≡◌, ℕ, ◌+◌, ◌-◌, ◌<◌, ◌�
 use Rattle.aa_raw.proofs.Places.{below_or_not}
 use Rattle.aa_vec.proofs.Climbing.{SameBlock-trans}
 use Rattle.aa_vec.proofs.Closed.{still, still-none, few_runs, no_run, marks, marks-are, marks-written}
-use Rattle.aa_vec.proofs.Stands.{count, first_stand, moved_items, moved_len, others_are, others_stand, later_are, later_stand}
+use Rattle.aa_vec.proofs.Stands.{count, first_stand, moved_items, moved_len, others_are, others_stand}
+use Rattle.aa_vec.proofs.Drained.{above_are, above_stand, later_part, part_stand}
 
 module _ {F T A : Type 0} (Ends : F → (items yet : List T) → List Bool → F → List T → Type 0) (May : F → (items yet : List T) → Type 0) where
   -- k of the n elements behind the gap were asked and stay, and the next, if there is one, goes. `left` are all, as they were left
@@ -79,12 +80,13 @@ module _ {F T A : Type 0} (Ends : F → (items yet : List T) → List Bool → F
               let q = p.goes less in let grown : len z ≡ len v + k = ap len q.0 ∙ long in
               let i : next - len z ≡ at - n + 1 = omega (arith, q.1, grown, many, s.here) in let m : end - next ≡ end - at - k - 1 = omega (arith, q.1) in
               let some : 0 < end - at - k = omega (arith, less) in let rest = others_stand w (at - n) (end - at) t.stands k t.within p.closed p.closes in
-              let are = later_are p.closed (at - n) (end - at - k) rest some z q.0 ∙ ap (drop 1) (others_are w (at - n) (end - at) t.stands k t.within p.closed p.closes ∙ ap (drop k) t.are) in
+              let stands = above_stand p.closed z (at - n) q.0 (at - n + 1) (omega arith) (end - at - k - 1) (part_stand p.closed (at - n) (end - at - k) rest (at - n + 1) (end - at - k - 1) (omega arith) (omega (arith, some))) in
+              let are = above_are p.closed z (at - n) q.0 (at - n + 1) (omega arith) (end - at - k - 1) ∙ later_part p.closed (at - n) 1 (end - at - k) (end - at - k - 1) (omega (arith, some)) rest ∙ ap (drop 1) (others_are w (at - n) (end - at) t.stands k t.within p.closed p.closes ∙ ap (drop k) t.are) in
               record {
                 here = omega (arith, q.1, grown, s.here);
                 within = omega (arith, q.1, less);
                 on = more h v (at - n) (end - at) stage-on k g w t p.closed z _ _ p.closes (q.0 ∙ ap (with_behind p.closed) (sym (ap (λ s. s.behind) q.0)))
-                    (rw (i, m) (later_stand p.closed (at - n) (end - at - k) rest some z q.0)) (rw (i, m) are) (omega (arith, i, less)) (omega (arith, m));
+                    (rw (i, m) stands) (rw (i, m) are) (omega (arith, i, less)) (omega (arith, m));
               }
 
           -- there is none

@@ -2,7 +2,7 @@
 use Rattle.aa_vec.proofs.Common.{◌≡◌, ℕ, ◌+◌, ◌-◌, ◌<◌, ◌≤◌, List, [], ◌∷◌, ◌++◌, length, map, take, drop, Option, Some, None, refl, subst, sym, ap, ◌∙◌, arith, length-append, slice_set, append-nil, drop-drop, drop-set-lt, length-map, take_at, take-append-drop, length-run, run-is, run-take, run-filled, run-zero, IsRun-long, StandsBehind, ClosesGap, LeavesBehind, behind_items, with_behind, Vector, len, Holds, Writes, run_count, moved_over, TakesNext}
 use Rattle.aa_vec.proofs.Climbing.{SameBlock-refl, SameBlock-trans}
 use Rattle.aa_vec.proofs.Closed.{moved_some}
-use Rattle.aa_vec.proofs.Drained.{same_holds, still_stand, still_are, part_stand, later_part, above_stand, above_are}
+use Rattle.aa_vec.proofs.Drained.{same_holds, still_stand, still_are, part_stand, later_part}
 
 module _ {T A : Type 0} (v : Vector T A) (gap n : ℕ) (stands : StandsBehind v gap n) where
   abbrev pub elements : List T
@@ -59,14 +59,6 @@ module _ {T A : Type 0} (v : Vector T A) (gap n : ℕ) (stands : StandsBehind v 
 
     pub others_stand : StandsBehind w gap (n - k)
     others_stand = still_stand v w (gap + k) gap (n - k) (part_stand v gap n stands (gap + k) (n - k) (omega arith) (omega (arith, h))) (omega (arith, stands.0, h, moved_len, closes.holds.block.capacity)) others
-
-  -- the first of them was taken
-  module _ (some : 0 < n) (w : Vector T A) (taken : w ≡ with_behind v (slice_set v.behind gap None)) where
-    pub later_are : behind_items w (gap + 1) (n - 1) ≡ drop 1 elements
-    later_are = above_are v w gap taken (gap + 1) (omega arith) (n - 1) ∙ later_part v gap 1 n (n - 1) (omega (arith, some)) stands
-
-    pub later_stand : StandsBehind w (gap + 1) (n - 1)
-    later_stand = above_stand v w gap taken (gap + 1) (omega arith) (n - 1) (part_stand v gap n stands (gap + 1) (n - 1) (omega arith) (omega (arith, some)))
 
 no_moves : (gap n : ℕ) → n ≡ 0 → moved_over gap n ≡ 0
 no_moves gap n e = grind (arith, e)
