@@ -1,6 +1,6 @@
 -- A slice of which a closure was asked in order, up to one place.
 use mathlib.Core.Bool.{beq}
-use Rattle.aa_vec.proofs.Common.{◌≡◌, not, ℕ, suc, ◌+◌, ◌<◌, ◌≤◌, Bool, true, false, List, [], ◌∷◌, ◌++◌, length, take, drop, get_or, sym, ap, ◌∙◌, subst, refl, arith, append_assoc, length-append, length-drop, slice_set, if◌then◌else◌, drop_all, take-append-drop, drop-set, drop-append-le, take_at, drop_at, length-take-le, MayAskInOrder, MayChainFrom, MayDeduplicate, StaysAt, AsksUntil, ChainsAlong}
+use Rattle.aa_vec.proofs.Common.{◌≡◌, not, ℕ, suc, ◌+◌, ◌<◌, ◌≤◌, Bool, true, false, List, [], ◌∷◌, ◌++◌, length, take, drop, get_or, sym, ap, ◌∙◌, subst, refl, arith, append_assoc, length-append, length-drop, slice_set, if◌then◌else◌, drop_all, take-append-drop, drop-set, drop-append-le, take_at, drop_at, length-take-le, nat_tests, MayAskInOrder, MayChainFrom, MayDeduplicate, StaysAt, AsksUntil, ChainsAlong}
 use Rattle.aa_vec.specs.Until.{AsksNeighbours}
 use Rattle.std.proofs.Common.{zero-add}
 use Rattle.std.proofs.Math.Seq.{drop-cons}
@@ -17,14 +17,10 @@ module _ {T : Type 0} (ys : List T) (i : ℕ) (d : T) (h : i < length ys) where
 
 -- an answer that is not that of those that stay, and one that is
 pub answer_is : (answer stays : Bool) → answer ≡ (if stays then beq answer stays else not (beq answer stays))
-answer_is true true = refl
-answer_is true false = refl
-answer_is false true = refl
-answer_is false false = refl
+answer_is answer stays = grind (arith, nat_tests)
 
 twice : (b : Bool) → b ≡ not (not b)
-twice true = refl
-twice false = refl
+twice b = grind (arith, nat_tests)
 
 -- a closure is asked along a list, up to the first element that goes: `Until f xs k g ys` says that k stay, and that all are ys then, and
 -- `May f xs` that it may be asked. `low` elements or more are left where it stops
@@ -145,9 +141,8 @@ module _ {F T : Type 0} (Asks : F → T → T → Bool → F → T → T → Typ
 
     -- one is left
     one_left : (zs : List T) → length zs ≡ 1 → ChainsAlong Asks h zs 0 h zs
-    one_left [] e = absurd (omega (arith, e))
     one_left (x ∷ []) e = (refl, refl)
-    one_left (x ∷ y ∷ zs) e = absurd (omega (arith, e))
+    one_left zs e = absurd (omega (arith, e))
 
     -- all stay
     pub ChainsAlong-end : {n : ℕ} → n ≤ i → n + 1 ≡ length ys → ChainsAlong Asks f xs n h ys

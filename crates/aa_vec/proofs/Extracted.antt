@@ -23,9 +23,8 @@ module _ {F T : Type 0} (Asks : F → T → Bool → F → T → Type 0) where
   -- as many were asked as were told
   pub asked_count : (f g : F) (xs : List T) (told : List (Asked T)) → AskedInOrder Asks f xs told g → length told ≡ length xs
   asked_count f g [] [] a = refl
-  asked_count f g [] (y ∷ told) a = absurd a
-  asked_count f g (x ∷ xs) [] a = absurd a
   asked_count f g (x ∷ xs) (y ∷ told) a = ap suc (asked_count a.0 g xs told a.2)
+  asked_count f g xs told a = absurd a
 
   -- and the others may be asked
   may_after : (Takes : F → T → Type 0) (f g : F) (xs : List T) (told : List (Asked T)) → MayAskInOrder Asks Takes f xs → AskedInOrder Asks f (take (length told) xs) told g → MayAskInOrder Asks Takes g (drop (length told) xs)
@@ -36,9 +35,8 @@ module _ {F T : Type 0} (Asks : F → T → Bool → F → T → Type 0) where
 
   asked-append : (f h g : F) (xs ys : List T) (told more : List (Asked T)) → AskedInOrder Asks f xs told h → AskedInOrder Asks h ys more g → AskedInOrder Asks f (xs ++ ys) (told ++ more) g
   asked-append f h g [] ys [] more a b = subst (λ s. AskedInOrder Asks s ys more g) a b
-  asked-append f h g [] ys (y ∷ told) more a b = absurd a
-  asked-append f h g (x ∷ xs) ys [] more a b = absurd a
   asked-append f h g (x ∷ xs) ys (y ∷ told) more a b = (a.0, a.1, asked-append a.0 h g xs ys told more a.2 b)
+  asked-append f h g xs ys told more a b = absurd a
 
   module _ {A : Type 0} where
     -- nothing was asked
@@ -83,14 +81,9 @@ module _ {F T : Type 0} (Asks : F → T → Bool → F → T → Type 0) where
           head = record { items = next.head.items ∙ now.head.items; block = SameBlock-trans now.head.block next.head.block };
           tail = next.tail ∙ now.tail;
           count = omega (arith, next.count, ap length items, now.count, length-append xs taken);
-          written = omega (
-            arith,
-            now.written,
-            next.writes.written,
-            moved_most (extract_count t) (length (passed_over next.told)),
-            ap length (passed-append now.told next.told),
-            length-append (passed_over now.told) (passed_over next.told),
-          );
+          written =
+              let more : length (passed_over all) ≡ length (passed_over now.told) + length (passed_over next.told) = ap length (passed-append now.told next.told) ∙ length-append (passed_over now.told) (passed_over next.told) in
+              omega (arith, now.written, next.writes.written, moved_most (extract_count t) (length (passed_over next.told)), more);
         }
 
       -- an element was taken out
