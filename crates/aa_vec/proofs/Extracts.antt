@@ -40,9 +40,6 @@ module _ {T A : Type 0} (e : ExtractBy T A) where
   rest_count = count e.vec.now e.front (e.end - e.front) rest_stand
 
   module _ {F : Type 0} (Asks : F → T → Bool → F → T → Type 0) (f : F) (stay next : ℕ) (item : Option T) (g : F) (new : Vector T A) (picks : Picks Asks f e.vec.now e.kept e.front e.end stay next item g new) where
-    pub picked_ordered : (e.kept + stay ≤ next) × (next ≤ e.end) × (e.end ≤ e.total)
-    picked_ordered = (picks.within.0, picks.within.2, e.ordered.2)
-
     pub picked_held : StandsBehind new 0 (e.kept + stay) × StandsBehind new next (e.total - next)
     picked_held = (
       picks.stands,

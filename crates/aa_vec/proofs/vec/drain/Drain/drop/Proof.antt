@@ -1,20 +1,14 @@
 -- `drop` hands the reference on to `drop_and_close`, for good: so it owes no drain at the return.
-use Rattle.aa_vec.proofs.Walks.{◌-◌, sym, subst, [], ◌∷◌, List, Args, dcons, dnil, a_type, inst_fn, Val, vunit, id⊢, ftrue, ‵, raw, ◌⊛◌, some, later, ◌$◌, ◌∵◌, !, qed, move, keep, use0, use1, group, split, join, fsplit, fjoin, feq_l, feq_i, pick, await, suffices, done, whole, sub, enter, stop, fld, of_opd, addr, unit_lit, and_then, no_more, returns, alloc_all, pass_all, free_all, look_at, get, get_in, through, sets, lands_as, fact, tables, unit, yes, bounded, owns, nothing, heard, only, fields, vals, tells, lawful, calls_at, Ended, lasts, alive, triple_of, framed, Stays, walk_of, ends_at, proved, refl, ap}
-use Rattle.aa_vec.proofs.Common.{fact_i, row, emp, Vector, Moves, Drain}
+use Rattle.aa_vec.proofs.Walks.{◌-◌, [], ◌∷◌, List, Args, dcons, dnil, a_type, inst_fn, Val, vunit, id⊢, ftrue, ‵, raw, ◌⊛◌, some, later, ◌$◌, ◌∵◌, !, qed, move, keep, use0, use1, group, split, join, fsplit, fjoin, feq_l, feq_i, pick, await, suffices, done, whole, sub, enter, stop, fld, of_opd, addr, unit_lit, and_then, no_more, returns, alloc_all, pass_all, free_all, look_at, get, get_in, through, sets, lands_as, fact, tables, unit, yes, bounded, owns, nothing, heard, only, fields, vals, tells, lawful, calls_at, Ended, lasts, alive, triple_of, framed, Stays, walk_of, ends_at, proved, refl, ap, fact_i, emp, row, Vector}
 use Rattle.aa_vec.proofs.HandedOn.{Decl, Lws, asks, words, only_said, goes, opened}
-use Rattle.aa_vec.proofs.Drains.{count_behind}
+use Rattle.aa_vec.proofs.Drains.{closes}
 use Rattle.aa_vec.specs.Behind.{DropsAndCloses}
-use Rattle.aa_vec.specs.Draining.{Closes, drain_tail}
+use Rattle.aa_vec.specs.Draining.{Closes}
 use Rattle.aa_vec.specs.contracts.vec.drain.Drain.drop as f
 use Rattle.aa_vec.proofs.vec.drain.Drain.drop.Statement.{statement}
 use Rattle.aa_vec.proofs.vec.drain.Drain.drop.Code as code
 use Rattle.aa_vec.specs.contracts.vec.Vec.drop_and_close as g
 use Rattle.aa_vec.proofs.vec.Vec.drop_and_close.Met.{met}
-
--- what `drop_and_close` says, and what `drop` says
-closes : {X Y : Type 0} (d : Drain X Y) (w : Vector X Y) → DropsAndCloses d.vec.now d.end (d.total - d.end) w → Closes d w
-unfolding drain_tail
-closes d w h = record { holds = h.holds; writes = subst (λ n. Moves d.vec.now d.end n w) (sym (count_behind d)) h.writes }
 
 pub drop_spec : {M : Type 1} → statement M
 drop_spec 𝓤 𝓛 𝓜 𝓡 wired T A LT LA G-A dA dT dD metA metT metD =
@@ -30,10 +24,9 @@ drop_spec 𝓤 𝓛 𝓜 𝓡 wired T A LT LA G-A dA dT dD metA metT metD =
     let S = g.signature T A G-A dA dD dT in
     let G = triple_of 𝓛 S (g.spec T A G-A dA dD dT 𝓛 𝓜.mem 𝓡.returns) in
     let z : G.Ghost = ((κs, qs, bounds, Dl.to d, words Dl (Lws T A G-A κs) d), tt) in
-    let Asked = (g.clauses T A G-A dA dD dT 𝓛 𝓜.mem 𝓡.returns κs z.0.3).requires tt in
     qed 𝓛 ((raw (alive 𝓛 E.signature κs qs) ⊛ ‵ ((row Dl).own_val d us) ⊛ ‵ ftrue) ∷ raw ((c κs a).requires tt) ∷ []) ∵
     split ! $ move ! (1 ∷ []) $ split ! $ use1 𝓛 (‵ (owns (fields Dl) (Dl.to d) z.0.4)) (opened Dl (Lws T A G-A κs) 𝓛 d us) $
-    move ! (3 ∷ []) $ use1 𝓛 (raw Asked) (asks 𝓤 T A κs d.ordered d.held) $ keep ! (3 ∷ 1 ∷ 0 ∷ []) $ join ! $ join ! $ use1 𝓛 (raw (G.pre z)) (id⊢ 𝓤 _) $
+    move ! (3 ∷ []) $ use1 𝓛 (raw _) (asks 𝓤 T A κs d.ordered d.held) $ keep ! (3 ∷ 1 ∷ 0 ∷ []) $ join ! $ join ! $ use1 𝓛 (raw (G.pre z)) (id⊢ 𝓤 _) $
     enter ! _ _ _ _ _ $ alloc_all ! (λ l. pass_all ! refl (t, tt) $
     sets ! (of_opd ! (get_in ! (fld ! refl (stop !)) (sub ! 0 refl (whole !)))) refl (tt, tt) $
     sets ! (of_opd ! (get_in ! (fld ! refl (stop !)) (sub ! 1 refl (whole !)))) refl (tt, t.1.1.0) $
