@@ -19,9 +19,6 @@ module _ {T : Type 0} (ys : List T) (i : ℕ) (d : T) (h : i < length ys) where
 pub answer_is : (answer stays : Bool) → answer ≡ (if stays then beq answer stays else not (beq answer stays))
 answer_is answer stays = grind (arith, nat_tests)
 
-twice : (b : Bool) → b ≡ not (not b)
-twice b = grind (arith, nat_tests)
-
 -- a closure is asked along a list, up to the first element that goes: `Until f xs k g ys` says that k stay, and that all are ys then, and
 -- `May f xs` that it may be asked. `low` elements or more are left where it stops
 module _ {F T : Type 0} (low : ℕ) (Until : F → List T → ℕ → F → List T → Type 0) (May : F → List T → Type 0) where
@@ -73,7 +70,9 @@ module _ {F T : Type 0} (Calls : F → T → Bool → F → T → Type 0) (Takes
 
     module _ {answer : Bool} {g : F} {y : T} (a : Calls h (get_or ys i d) answer g y) where
       called : (goes : Bool) → not (beq answer stays) ≡ goes → Asks h (get_or ys i d) (not goes) g y
-      called goes e = subst (λ b. Calls h (get_or ys i d) b g y) (answer_is answer stays ∙ ap (λ b. if stays then b else not b) (twice (beq answer stays) ∙ ap not e)) a
+      called goes e =
+          let is : answer ≡ (if stays then not goes else not (not goes)) = grind (arith, nat_tests, e) in
+          subst (λ b. Calls h (get_or ys i d) b g y) is a
 
       until : (k : ℕ) (t : F) (zs : List T) → AsksUntil Asks h (get_or ys i d ∷ drop (i + 1) ys) k t zs → AsksUntil Asks h (drop i ys) k t zs
       until k t zs = subst (λ l. AsksUntil Asks h l k t zs) (sym (from_here ys i d within))

@@ -1,5 +1,5 @@
 -- Elements behind a gap, asked one after the other beside the last one kept.
-use Rattle.aa_vec.proofs.Common.{◌≡◌, ℕ, suc, ◌+◌, ◌<◌, ◌≤◌, Bool, true, false, List, [], ◌∷◌, ◌++◌, length, map, drop, Some, refl, sym, ap, ◌∙◌, subst, arith, length-append, drop_at, drop_all, length-map, take-append-drop, StandsBehind, LeavesBehind, behind_items, MayChainFrom, MayDeduplicate, ChainsUntil, ChainsAlong, AsksLast, ChainsBehind, Vector, len}
+use Rattle.aa_vec.proofs.Common.{◌≡◌, ℕ, suc, ◌+◌, ◌<◌, ◌≤◌, Bool, true, false, List, [], ◌∷◌, ◌++◌, length, map, drop, Some, refl, sym, ap, ◌∙◌, subst, arith, length-append, drop_at, drop_all, length-map, take-append-drop, StandsBehind, LeavesBehind, behind_items, MayChainFrom, MayDeduplicate, ChainsUntil, ChainsAlong, AsksLast, ChainsBehind, Vector}
 use Rattle.aa_vec.specs.Until.{ChainsOn}
 use Rattle.aa_vec.proofs.Gaps.{lent-is, refilled, LeavesBehind-view, seen, there, within, IsFront-relent}
 use Rattle.aa_vec.proofs.Stands.{count, first_are, parts, replaced_are}
@@ -36,11 +36,8 @@ module _ {F T A : Type 0} (Asks : F → T → T → Bool → F → T → T → T
           let was : drop gap v.behind ≡ map Some (asked.next ∷ others) ++ drop n (drop gap v.behind) = parts v gap n stands ∙ ap (λ l. map Some l ++ drop n (drop gap v.behind)) all in
           asked.behind ∙ ap (λ ds. Some asked.next_left ∷ drop 1 ds) was
 
-      same_len : len w ≡ len v
-      same_len = ap length asked.items ∙ same_end asked.front asked.last_left asked.last ∙ sym (ap length asked.had.0)
-
       now_are : behind_items w gap n ≡ asked.next_left ∷ others
-      now_are = replaced_are v gap n stands w (asked.next_left ∷ others) _ same_len asked.block.capacity long now_behind
+      now_are = replaced_are v gap n stands w (asked.next_left ∷ others) _ (ap length asked.items ∙ same_end asked.front asked.last_left asked.last ∙ sym (ap length asked.had.0)) asked.block.capacity long now_behind
 
       called : (b : Bool) → answer ≡ b → Asks f asked.next asked.last b g asked.next_left asked.last_left
       called b e = subst (λ a. Asks f asked.next asked.last a g asked.next_left asked.last_left) e asked.called

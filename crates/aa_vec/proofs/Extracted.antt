@@ -64,27 +64,25 @@ module _ {F T : Type 0} (Asks : F → T → Bool → F → T → Type 0) where
         abbrev all : List (Asked T)
         all = now.told ++ next.told
 
-        together : take (length all) (extract_rest s) ≡ take (length now.told) (extract_rest s) ++ take (length next.told) (extract_rest t)
-        together =
-            let q : ℕ = length now.told in let k : ℕ = length next.told in let ys : List T = extract_rest s in
-            ap (λ n. take n ys) (length-append now.told next.told) ∙ take-add q k ys ∙ ap (λ l. take q ys ++ take k l) (sym now.rest)
-
         pub Extracted-then : Extracted Asks f s (xs ++ taken) g w
-        Extracted-then = record {
-          told = all;
-          asked = subst (λ l. AskedInOrder Asks f l all g) (sym together) (asked-append f h g (take (length now.told) (extract_rest s)) (take (length next.told) (extract_rest t)) now.told next.told now.asked next.asked);
-          items = ap (λ l. l ++ taken) now.items ∙ ap (λ l. kept now.told ++ l) (sym items) ∙ sym (kept-append now.told next.told);
-          kept = next.kept ∙ ap (λ l. l ++ passed_over next.told) now.kept ∙ append_assoc (extract_kept s) (passed_over now.told) (passed_over next.told)
-              ∙ ap (λ l. extract_kept s ++ l) (sym (passed-append now.told next.told));
-          rest = next.rest ∙ ap (drop (length next.told)) now.rest ∙ drop-drop (length next.told) (length now.told) (extract_rest s) ∙ ap (λ n. drop n (extract_rest s)) (sym (length-append now.told next.told));
-          lender = next.lender ∙ now.lender;
-          head = record { items = next.head.items ∙ now.head.items; block = SameBlock-trans now.head.block next.head.block };
-          tail = next.tail ∙ now.tail;
-          count = omega (arith, next.count, ap length items, now.count, length-append xs taken);
-          written =
-              let more : length (passed_over all) ≡ length (passed_over now.told) + length (passed_over next.told) = ap length (passed-append now.told next.told) ∙ length-append (passed_over now.told) (passed_over next.told) in
-              omega (arith, now.written, next.writes.written, moved_most (extract_count t) (length (passed_over next.told)), more);
-        }
+        Extracted-then =
+            let q : ℕ = length now.told in let k : ℕ = length next.told in let ys : List T = extract_rest s in
+            let together : take (length all) ys ≡ take q ys ++ take k (extract_rest t) = ap (λ n. take n ys) (length-append now.told next.told) ∙ take-add q k ys ∙ ap (λ l. take q ys ++ take k l) (sym now.rest) in
+            record {
+              told = all;
+              asked = subst (λ l. AskedInOrder Asks f l all g) (sym together) (asked-append f h g (take (length now.told) (extract_rest s)) (take (length next.told) (extract_rest t)) now.told next.told now.asked next.asked);
+              items = ap (λ l. l ++ taken) now.items ∙ ap (λ l. kept now.told ++ l) (sym items) ∙ sym (kept-append now.told next.told);
+              kept = next.kept ∙ ap (λ l. l ++ passed_over next.told) now.kept ∙ append_assoc (extract_kept s) (passed_over now.told) (passed_over next.told)
+                  ∙ ap (λ l. extract_kept s ++ l) (sym (passed-append now.told next.told));
+              rest = next.rest ∙ ap (drop (length next.told)) now.rest ∙ drop-drop (length next.told) (length now.told) (extract_rest s) ∙ ap (λ n. drop n (extract_rest s)) (sym (length-append now.told next.told));
+              lender = next.lender ∙ now.lender;
+              head = record { items = next.head.items ∙ now.head.items; block = SameBlock-trans now.head.block next.head.block };
+              tail = next.tail ∙ now.tail;
+              count = omega (arith, next.count, ap length items, now.count, length-append xs taken);
+              written =
+                  let more : length (passed_over all) ≡ length (passed_over now.told) + length (passed_over next.told) = ap length (passed-append now.told next.told) ∙ length-append (passed_over now.told) (passed_over next.told) in
+                  omega (arith, now.written, next.writes.written, moved_most (extract_count t) (length (passed_over next.told)), more);
+            }
 
       -- an element was taken out
       pub Extracted-more : (x : T) → Extracts Asks h t (Some x) g w → ExtractedTo Asks f s (xs ++ x ∷ []) g w

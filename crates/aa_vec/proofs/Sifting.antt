@@ -45,14 +45,6 @@ module _ {F T A : Type 0} (Asks : F → T → Bool → F → T → Type 0) (test
   unfolding still_taken
   Extracts_none f s g t e = taken f s None g t e ∙ (λ i. e.cases.0 i ++ filter test (e.cases.1 i))
 
-  -- it is what the vector has, once none is left
-  Closes_left : (f : F) (s : ExtractBy T A) (g : F) (t : ExtractBy T A) (new : Vector T A) → ClosesExtract t new → Extracts Asks f s None g t → new.items ≡ left_at_end test t
-  unfolding left_at_end
-  Closes_left f s g t new closes e =
-      let stays : T → Bool = λ x. not (test x) in
-      let none : extract_rest t ≡ filter stays (extract_rest t) = e.cases.1 ∙ ap (filter stays) (sym e.cases.1) in
-      closes.holds.items ∙ ap (λ l. extract_head t ++ (extract_kept t ++ (l ++ extract_tail t))) none
-
 -- a whole vector
 module _ {T A : Type 0} (test : T → Bool) (old : Vector T A) (n : ℕ) (e : ExtractBy T A) (r : ExtractsRange old 0 n e) (all : n ≡ len old) where
   rest_is : extract_rest e ≡ old.items
@@ -89,7 +81,11 @@ module _ {F T A : Type 0} (Asks : F → T → Bool → F → T → Type 0) (f : 
 
     pub left-end : (new : Vector T A) → ClosesExtract t new → Extracts Asks f s r g t → r ≡ None → left_at_end test s ≡ left_at_end test start → ExtractsRange old 0 n start → n ≡ len old
         → ((f : F) (x : T) (answer : Bool) (g : F) (y : T) → Asks f x answer g y → (answer ≡ test x) × (y ≡ x)) → new.items ≡ filter (λ x. not (test x)) old.items
-    left-end new closes e none was range all steady = Closes_left Asks test steady f s g t new closes (none-of e none) ∙ left-more None (left_at_end test start) (none-of e none) was steady ∙ Range_left test old n start range all
+    unfolding left_at_end
+    left-end new closes e none was range all steady =
+        let stays : T → Bool = λ x. not (test x) in let last = none-of e none in
+        let rest : extract_rest t ≡ filter stays (extract_rest t) = last.cases.1 ∙ ap (filter stays) (sym last.cases.1) in
+        closes.holds.items ∙ ap (λ l. extract_head t ++ (extract_kept t ++ (l ++ extract_tail t))) rest ∙ left-more None (left_at_end test start) last was steady ∙ Range_left test old n start range all
 
 -- all that comes out of a vector
 module _ {F T A : Type 0} (Asks : F → T → Bool → F → T → Type 0) (test : T → Bool) where

@@ -1,12 +1,12 @@
 -- Turns of a loop in which a closure is asked of elements behind a gap, and those that stay are moved down. `Ends` is what the closure
 -- says of all that are yet to be asked, where these items stay so far: the answers, which are true where an element stays, and then
 -- the closure's state and all the items. `May` is that they may be asked.
-use Rattle.aa_vec.proofs.Common.{◌≡◌, ℕ, ◌+◌, ◌-◌, ◌<◌, ◌≤◌, Bool, List, [], ◌++◌, length, take, drop, sym, ap, ◌∙◌, subst, arith, inl, inr, min, drop_all, length-take-le, run-zero, StandsBehind, SetsBack, ClosesGap, behind_items, with_behind, kept_behind_removed, removed_count, TakesNext, Vector, len, SameBlock, Writes, moved_over}
+use Rattle.aa_vec.proofs.Common.{None, drop-set-lt, ◌≡◌, ℕ, ◌+◌, ◌-◌, ◌<◌, ◌≤◌, Bool, List, [], ◌++◌, length, take, drop, sym, ap, ◌∙◌, subst, arith, inl, inr, min, drop_all, length-take-le, run-zero, StandsBehind, SetsBack, ClosesGap, behind_items, with_behind, kept_behind_removed, removed_count, TakesNext, Vector, len, SameBlock, Writes, moved_over}
 use Rattle.aa_raw.proofs.Places.{below_or_not}
 use Rattle.aa_vec.proofs.Climbing.{SameBlock-trans}
 use Rattle.aa_vec.proofs.Closed.{still, still-none, few_runs, no_run, marks, marks-are, marks-written}
 use Rattle.aa_vec.proofs.Stands.{count, first_stand, moved_items, moved_len, others_are, others_stand}
-use Rattle.aa_vec.proofs.Drained.{above_are, above_stand, later_part, part_stand}
+use Rattle.aa_vec.proofs.Drained.{later_part, part_stand, still_are, still_stand}
 
 module _ {F T A : Type 0} (Ends : F → (items yet : List T) → List Bool → F → List T → Type 0) (May : F → (items yet : List T) → Type 0) where
   -- k of the n elements behind the gap were asked and stay, and the next, if there is one, goes. `left` are all, as they were left
@@ -80,8 +80,10 @@ module _ {F T A : Type 0} (Ends : F → (items yet : List T) → List Bool → F
               let q = p.goes less in let grown : len z ≡ len v + k = ap len q.0 ∙ long in
               let i : next - len z ≡ at - n + 1 = omega (arith, q.1, grown, many, s.here) in let m : end - next ≡ end - at - k - 1 = omega (arith, q.1) in
               let some : 0 < end - at - k = omega (arith, less) in let rest = others_stand w (at - n) (end - at) t.stands k t.within p.closed p.closes in
-              let stands = above_stand p.closed z (at - n) q.0 (at - n + 1) (omega arith) (end - at - k - 1) (part_stand p.closed (at - n) (end - at - k) rest (at - n + 1) (end - at - k - 1) (omega arith) (omega (arith, some))) in
-              let are = above_are p.closed z (at - n) q.0 (at - n + 1) (omega arith) (end - at - k - 1) ∙ later_part p.closed (at - n) 1 (end - at - k) (end - at - k - 1) (omega (arith, some)) rest ∙ ap (drop 1) (others_are w (at - n) (end - at) t.stands k t.within p.closed p.closes ∙ ap (drop k) t.are) in
+              let there = part_stand p.closed (at - n) (end - at - k) rest (at - n + 1) (end - at - k - 1) (omega arith) (omega (arith, some)) in
+              let above : drop (at - n + 1) z.behind ≡ drop (at - n + 1) p.closed.behind = ap (λ u. drop (at - n + 1) u.behind) q.0 ∙ drop-set-lt (at - n + 1) p.closed.behind (at - n) None (omega arith) in
+              let stands = still_stand p.closed z (at - n + 1) (at - n + 1) (end - at - k - 1) there (omega (arith, there.0, ap len q.0, ap (λ u. u.capacity) q.0)) above in
+              let are = still_are p.closed z (at - n + 1) (at - n + 1) (end - at - k - 1) above ∙ later_part p.closed (at - n) 1 (end - at - k) (end - at - k - 1) (omega (arith, some)) rest ∙ ap (drop 1) (others_are w (at - n) (end - at) t.stands k t.within p.closed p.closes ∙ ap (drop k) t.are) in
               record {
                 here = omega (arith, q.1, grown, s.here);
                 within = omega (arith, q.1, less);

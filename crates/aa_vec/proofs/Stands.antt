@@ -24,11 +24,8 @@ module _ {T A : Type 0} (v : Vector T A) (gap n : ℕ) (stands : StandsBehind v 
 
   -- others in their places
   module _ (w : Vector T A) (left : List T) (rest : List (Option T)) (same_len : len w ≡ len v) (same_capacity : w.capacity ≡ v.capacity) (long : length left ≡ n) (are : drop gap w.behind ≡ map Some left ++ rest) where
-    there : take n (drop gap w.behind) ≡ map Some left
-    there = ap (take n) are ∙ take_at (map Some left) rest n (length-map left (λ (x : T). Some x) ∙ long)
-
     pub replaced_are : behind_items w gap n ≡ left
-    replaced_are = run-is (drop gap w.behind) 0 n left there
+    replaced_are = run-is (drop gap w.behind) 0 n left (ap (take n) are ∙ take_at (map Some left) rest n (length-map left (λ (x : T). Some x) ∙ long))
 
     pub replaced_stand : StandsBehind w gap n
     replaced_stand = (

@@ -3,7 +3,6 @@ use Rattle.aa_vec.proofs.Walks.{◌-◌, [], ◌∷◌, List, Args, dcons, dnil,
 use Rattle.aa_vec.proofs.HandedOn.{Decl, Lws, asks, words, only_said, goes, opened}
 use Rattle.aa_vec.proofs.Drains.{closes}
 use Rattle.aa_vec.specs.Behind.{DropsAndCloses}
-use Rattle.aa_vec.specs.Draining.{Closes}
 use Rattle.aa_vec.specs.contracts.vec.drain.Drain.drop as f
 use Rattle.aa_vec.proofs.vec.drain.Drain.drop.Statement.{statement}
 use Rattle.aa_vec.proofs.vec.drain.Drain.drop.Code as code
@@ -45,5 +44,5 @@ drop_spec 𝓤 𝓛 𝓜 𝓡 wired T A LT LA G-A dA dT dD metA metT metD =
     -- [the last values of `drop_and_close`; the tokens]
     fsplit ! $ keep ! (0 ∷ 2 ∷ []) $ nothing ! $ move ! (1 ∷ 0 ∷ []) $ fjoin ! $ nothing ! $ move ! (1 ∷ 0 ∷ []) $ fjoin ! $
     feq_i ! _ (vunit ∷ []) _ refl $ move ! (2 ∷ 1 ∷ 0 ∷ []) $ group ! 3 $
-    use0 𝓛 (raw (fact 𝓤 (Closes d ws.0))) (fact_i 𝓤 _ (emp 𝓤) (closes d ws.0 said)) $
+    use0 𝓛 (raw (fact 𝓤 _)) (fact_i 𝓤 _ (emp 𝓤) (closes d ws.0 said)) $
     move ! (1 ∷ 0 ∷ []) $ suffices ! _ (ends_at 𝓛 E stayed c y vunit tt ((ws.0, tt), tt) (tt, tt)) $ done !)))))))

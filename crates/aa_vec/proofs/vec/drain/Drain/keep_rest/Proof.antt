@@ -2,7 +2,6 @@
 use Rattle.aa_vec.proofs.Walks.{◌-◌, [], ◌∷◌, List, Args, dcons, dnil, a_type, inst_fn, Val, vunit, id⊢, ftrue, ‵, raw, ◌⊛◌, some, later, ◌$◌, ◌∵◌, !, qed, move, keep, use0, use1, group, split, join, fsplit, fjoin, feq_l, feq_i, pick, await, suffices, done, whole, sub, enter, stop, fld, of_opd, addr, unit_lit, and_then, no_more, returns, alloc_all, pass_all, free_all, look_at, get, get_in, through, sets, lands_as, fact, tables, unit, yes, bounded, owns, nothing, heard, only, fields, vals, tells, lawful, calls_at, Ended, lasts, alive, triple_of, framed, Stays, walk_of, ends_at, proved, refl, ap, fact_i, emp, row, Vector, ClosesTwice}
 use Rattle.aa_vec.proofs.HandedOn.{Decl, Lws, asks, words, only_said, goes, opened}
 use Rattle.aa_vec.proofs.Drains.{keeps}
-use Rattle.aa_vec.specs.Draining.{KeepsRest}
 use Rattle.aa_vec.specs.contracts.vec.drain.Drain.keep_rest as f
 use Rattle.aa_vec.proofs.vec.drain.Drain.keep_rest.Statement.{statement}
 use Rattle.aa_vec.proofs.vec.drain.Drain.keep_rest.Code as code
@@ -44,5 +43,5 @@ keep_rest_spec 𝓤 𝓛 𝓜 𝓡 wired T A LT LA G-A dA dD metA metD =
     -- [the last values of `close_gaps`; the tokens]
     fsplit ! $ keep ! (0 ∷ 2 ∷ []) $ nothing ! $ move ! (1 ∷ 0 ∷ []) $ fjoin ! $ nothing ! $ move ! (1 ∷ 0 ∷ []) $ fjoin ! $
     feq_i ! _ (vunit ∷ []) _ refl $ move ! (2 ∷ 1 ∷ 0 ∷ []) $ group ! 3 $
-    use0 𝓛 (raw (fact 𝓤 (KeepsRest d ws.0))) (fact_i 𝓤 _ (emp 𝓤) (keeps d ws.0 said)) $
+    use0 𝓛 (raw (fact 𝓤 _)) (fact_i 𝓤 _ (emp 𝓤) (keeps d ws.0 said)) $
     move ! (1 ∷ 0 ∷ []) $ suffices ! _ (ends_at 𝓛 E stayed c y vunit tt ((ws.0, tt), tt) (tt, tt)) $ done !)))))))
