@@ -70,7 +70,7 @@ impl<'a, I: Iterator, A: Allocator> Splice<'a, I, A> {
     ghost use Rattle.aa_vec.specs.Splices.{splice_range, splices_first, splices_last};
 
     /// Takes the first element of the range. At the end it answers `None`.
-    #[tactic(auto, using(crate::proofs::Drains::from_ends), unfolding(crate::specs::Draining::drain_rest, crate::specs::Draining::drain_tail))]
+    #[tactic(auto, using(crate::proofs::Drains::from_ends))]
     pub fn next(&mut self) -> Option<I::Item>
         ensures { splices_first self.old result self.new }
     {
@@ -83,7 +83,7 @@ impl<'a, I: Iterator, A: Allocator> Splice<'a, I, A> {
     }
 
     /// Takes the last element of the range. At the end it answers `None`.
-    #[tactic(auto, using(crate::proofs::Drains::from_ends), unfolding(crate::specs::Draining::drain_rest, crate::specs::Draining::drain_tail))]
+    #[tactic(auto, using(crate::proofs::Drains::from_ends))]
     pub fn next_back(&mut self) -> Option<I::Item>
         ensures { splices_last self.old result self.new }
     {
