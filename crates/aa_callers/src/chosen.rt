@@ -57,7 +57,7 @@ pub fn move_even<A: Allocator>(
 
 /// Moves the even numbers of one vector behind those of another. What the first one holds then is
 /// not known: the iterator goes in by value.
-#[tactic(auto, using(allocator_api2::proofs::Callers::callers))]
+#[tactic(auto, using(allocator_api2::proofs::Callers::takes))]
 pub fn take_even<A: Allocator>(
     from: &mut Vec<u64, A>,
     to: &mut Vec<u64, A>,

@@ -15,11 +15,8 @@ sized size n = if size == 0 then usize_max else n
 abbrev pub least_of : (size : ℕ) → ℕ
 least_of size = if size == 1 then 8 else (if nat_lt 1024 size then 1 else 4)
 
--- the capacity that a growth from c aims at, before what is required
-abbrev pub next : Growth → (c : ℕ) → ℕ
-next Doubling c = 2 * c
-next Sparing c = c + (c + 1) / 2
-
--- the capacity that a growth with room to spare asks for, from c to at least `required`
+-- the capacity that a growth with room to spare asks for, from c to at least `required`: twice c, or
+-- half of it more where it is sparing, and never less than `least`
 abbrev pub amortized : Growth → (c required least : ℕ) → ℕ
-amortized growth c required least = max (max (next growth c) required) least
+amortized Doubling c required least = max (max (2 * c) required) least
+amortized Sparing c required least = max (max (c + (c + 1) / 2) required) least

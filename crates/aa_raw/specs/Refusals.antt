@@ -4,18 +4,16 @@ use Rattle.aa_raw.specs.declared.collections.TryReserveError.{TryReserveError}
 use Rattle.aa_raw.specs.declared.collections.TryReserveErrorKind.{TryReserveErrorKind}
 use Rattle.aa_raw.specs.declared.collections.TryReserveErrorKind.TheVariants.{CapacityOverflow, AllocError}
 
--- an allocator's refusal is of this many elements; a number that is too large has none
-abbrev pub Counts : TryReserveErrorKind → (of : ℕ → Type 0) → Type 0
-Counts CapacityOverflow of = ⊤
-Counts (AllocError capacity) of = of capacity
-
--- the refusal of n places: an allocator's has a number of at least n
+-- the refusal of n places: an allocator's has a number of at least n; a number that is too large has
+-- none
 abbrev pub IsRefused : TryReserveError → (n : ℕ) → Type 0
-IsRefused e n = Counts e.kind (λ capacity. n ≤ capacity)
+IsRefused e n =
+    elim e.kind as (λ _. Type 0) [ CapacityOverflow ↦ ⊤ | AllocError capacity ↦ n ≤ capacity ]
 
 -- the same, where the number is exactly n
 abbrev pub IsRefusedAt : TryReserveError → (n : ℕ) → Type 0
-IsRefusedAt e n = Counts e.kind (λ capacity. capacity ≡ n)
+IsRefusedAt e n =
+    elim e.kind as (λ _. Type 0) [ CapacityOverflow ↦ ⊤ | AllocError capacity ↦ capacity ≡ n ]
 
 -- a block of n elements was refused: there are some, they have a size, and the error's number is n
 abbrev pub RefusesBlock : (n size : ℕ) → TryReserveError → Type 0

@@ -1,8 +1,8 @@
 -- Room in a block, in the words of the collections that stand on it. They are about numbers, so
 -- that a block, a vector and any other collection share them.
-use Rattle.std.specs.Prelude.{◌≡◌, ℕ, ◌+◌, ◌-◌, ◌<◌, ◌≤◌, ◌==◌, if◌then◌else◌}
+use Rattle.std.specs.Prelude.{◌≡◌, ℕ, ◌+◌, ◌-◌, ◌^◌, ◌<◌, ◌≤◌, ◌==◌, if◌then◌else◌}
 use Rattle.aa_raw.specs.Growth.{usize_max}
-use Rattle.aa_raw.specs.Refusals.{IsRefused, IsRefusedAt}
+use Rattle.aa_raw.specs.Refusals.{IsRefusedAt}
 use Rattle.aa_raw.specs.declared.collections.TryReserveError.{TryReserveError}
 use Rattle.aa_raw.specs.declared.collections.TryReserveErrorKind.TheVariants.{CapacityOverflow}
 
@@ -23,8 +23,7 @@ HasRoom capacity n k = k ≤ capacity - n
 pub record LacksRoom (capacity n k wanted : ℕ) (error : TryReserveError) : Type 0 where
   pub full : capacity - n < k
   pub number : IsRefusedAt error wanted
-  pub enough : IsRefused error (n + k)
-  pub overflow : usize_max < n + k → error.kind ≡ CapacityOverflow
+  pub overflow : 2 ^ 64 ≤ n + k → error.kind ≡ CapacityOverflow
 
 -- to be left with n of `capacity` places, a block of elements of this size takes a new one
 abbrev pub NeedsBlock : (size capacity n : ℕ) → Type 0

@@ -1,31 +1,25 @@
 -- The last value of a list.
-use Rattle.std.proofs.Common.{◌≡◌, ℕ, suc, ◌<◌, ◌-◌, List, [], ◌∷◌, ◌++◌, take, length, refl, sym, ap, ◌∙◌, arith}
-use Rattle.std.specs.Prelude.{Option, Some}
+use Rattle.std.proofs.Common.{◌≡◌, ℕ, ◌<◌, ◌-◌, List, [], ◌∷◌, ◌++◌, take, length, refl, sym, ap, ◌∙◌, arith}
+use Rattle.std.specs.Prelude.{Some}
 use native.Mathlib.Numerals.{unary_clauses}
 use Rattle.aa_boxed.specs.Boxed.{Boxed, with_value}
-use Rattle.aa_recursive.specs.Linked.{values, values_of, values_step, tail_of}
+use Rattle.aa_recursive.specs.Linked.{values, values_step}
 use Rattle.aa_recursive.specs.declared.list.Node.{Node}
-use Rattle.aa_recursive.specs.declared.list.Node.TheViews.{out-Node, roll-Node, roll-out-Node}
+use Rattle.aa_recursive.specs.declared.list.Node.TheViews.{out-Node, roll-Node}
 use Rattle.aa_recursive.specs.declared.list.Node.TheFolds.{fold-roll-Node, fold_out-Node}
-
--- the value behind the others of a list that has one
-last_behind : (v x : ℕ) (ys : List ℕ) → 0 < length ys → v ∷ (take (length ys - 1) ys ++ x ∷ []) ≡ take (length (v ∷ ys) - 1) (v ∷ ys) ++ x ∷ []
-last_behind v x [] h = absurd (omega (arith, h))
-last_behind v x (y ∷ ys) h = simp unary_clauses refl
 
 -- the list without its last value, and x in its place
 abbrev pub with_last : ℕ → List ℕ → List ℕ
 with_last x ys = take (length ys - 1) ys ++ x ∷ []
 
+-- the value behind the others of a list that has one
+last_behind : (v x : ℕ) (ys : List ℕ) → 0 < length ys → v ∷ with_last x ys ≡ with_last x (v ∷ ys)
+last_behind v x [] h = absurd (omega (arith, h))
+last_behind v x (y ∷ ys) h = simp unary_clauses refl
+
 module _ {A : Type 0} where
   some : (n : Node A) → 0 < length (values n)
-  some n = let e : length (values n) ≡ suc (length _) = ap length (fold_out-Node A (List ℕ) values_step n) in omega (arith, e)
-
-  unrolled : (n : Node A) (b : Boxed (Node A) A) → (out-Node A n).next ≡ Some b → values n ≡ (out-Node A n).value ∷ values b.value
-  unrolled n b e =
-      sym (ap values (roll-out-Node A n))
-      ∙ ap (λ (o : Option (Boxed (Node A) A)). values (roll-Node A (record { next = o; value = (out-Node A n).value }))) e
-      ∙ fold-roll-Node A (List ℕ) values_step (record { next = Some b; value = (out-Node A n).value })
+  some n = rw (fold_out-Node A (List ℕ) values_step n) (omega arith)
 
   pub last_set : (n m : Node A) (b : Boxed (Node A) A) (x : ℕ) → (out-Node A n).next ≡ Some b → values m ≡ with_last x (values b.value)
       → values (roll-Node A (record { next = Some (with_value b m); value = (out-Node A n).value })) ≡ with_last x (values n)
@@ -33,4 +27,4 @@ module _ {A : Type 0} where
       fold-roll-Node A (List ℕ) values_step (record { next = Some (with_value b m); value = (out-Node A n).value })
       ∙ ap (λ ys. (out-Node A n).value ∷ ys) h
       ∙ last_behind (out-Node A n).value x (values b.value) (some b.value)
-      ∙ ap (with_last x) (sym (unrolled n b e))
+      ∙ ap (with_last x) (sym (rw e at (fold_out-Node A (List ℕ) values_step n)))

@@ -1,9 +1,10 @@
--- The equations of `total`.
-use Rattle.std.proofs.Common.{◌≡◌, ℕ, ◌+◌, List, [], ◌∷◌, ◌++◌, arith}
-use Rattle.aa_recursive.specs.Trees.{total_step, total, total_of_all}
+-- The equations of `total` and of `height`, and a tree whose push was refused.
+use Rattle.std.proofs.Common.{◌≡◌, ℕ, suc, ◌+◌, List, [], ◌∷◌, ◌++◌, map, ap, ◌∙◌, arith}
+use Rattle.aa_vec.specs.Vector.{Vector}
+use Rattle.aa_recursive.specs.Trees.{total_step, total, total_of_all, height, height_step, greatest}
 use Rattle.aa_recursive.specs.declared.tree.Tree.{Tree}
 use Rattle.aa_recursive.specs.declared.tree.Tree.TheOpen.{Tree-F}
-use Rattle.aa_recursive.specs.declared.tree.Tree.TheViews.{out-Tree, roll-Tree}
+use Rattle.aa_recursive.specs.declared.tree.Tree.TheViews.{out-Tree, roll-Tree, roll-out-Tree}
 use Rattle.aa_recursive.specs.declared.tree.Tree.TheFolds.{fold-roll-Tree, fold_out-Tree}
 
 module _ {A : Type 0} where
@@ -17,4 +18,10 @@ module _ {A : Type 0} where
   total_of_all_push [] t = omega arith
   total_of_all_push (u ∷ ts) t = omega (arith, total_of_all_push ts t)
 
-pub ruleset totals = (total_roll, total_out, total_of_all_push)
+  pub height_out : (t : Tree A) → height t ≡ suc (greatest (map height (out-Tree A t).below.items))
+  height_out = fold_out-Tree A ℕ height_step
+
+  pub refused_leaves : (t : Tree A) (below : Vector (Tree A) A) → below ≡ (out-Tree A t).below → roll-Tree A (record { below = below; value = (out-Tree A t).value }) ≡ t
+  refused_leaves t below same = ap (λ v. roll-Tree A (record { below = v; value = (out-Tree A t).value })) same ∙ roll-out-Tree A t
+
+pub ruleset totals = (total_roll, total_out, total_of_all_push, refused_leaves)

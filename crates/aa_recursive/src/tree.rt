@@ -52,7 +52,7 @@ pub fn add_up<A: Allocator>(tree: &Tree<A>) -> u64
 }
 
 /// How many levels a tree has, or `u64::MAX` if there are more.
-#[tactic(auto, using(crate::proofs::Heights::heights))]
+#[tactic(auto, using(crate::proofs::Totals::height_out))]
 pub fn levels<A: Allocator>(tree: &Tree<A>) -> u64
     ensures { result ≡ min (height tree.now) (2 ^ 64 - 1) }
 {

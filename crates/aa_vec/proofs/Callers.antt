@@ -2,7 +2,7 @@
 -- answers hang on the elements alone.
 use Rattle.aa_vec.proofs.Common.{◌≡◌, ℕ, zero, suc, ◌-◌, ◌<◌, ◌≤◌, Bool, true, false, List, [], ◌∷◌, ◌++◌, length, take, replicate, refl, sym, ap, ◌∙◌, arith, inl, inr, filter, ◌==◌, if◌then◌else◌, Result, Ok, Err, OnOk, FoldsTo, usize_max, Retains, kept, MayCallTimes, LengthensBy, Vector, len, sized, GrowsTo, HasRoom, Holds, cases_lt, append-nil, map-id, take_all}
 use Rattle.aa_vec.proofs.Callable.{IsCallableInOrder-any, IsCallableAlong-any}
-use Rattle.aa_vec.proofs.Climbing.{SameBlock-trans}
+use Rattle.aa_vec.proofs.Climbing.{MakesRoom-has, SameBlock-trans}
 use Rattle.aa_vec.proofs.Steady.{asked-steady, asked-reading, kept-steady}
 use Rattle.std.proofs.Math.Seq.{take-nil}
 
@@ -13,10 +13,7 @@ sized_room size n h = elim (size == 0) as (λ b. n ≤ (if b then usize_max else
 module _ {T A : Type 0} where
   -- the room that was made is there
   pub HasRoom_grown : (size k : ℕ) (old new : Vector T A) → GrowsTo size old k old.items new → HasRoom new k
-  HasRoom_grown size k old new p = elim p.room [
-    | inl h ↦ omega (arith, h.0, h.1.capacity, ap length p.items)
-    | inr h ↦ omega (arith, h.1.capacity, ap length p.items)
-  ]
+  HasRoom_grown size k old new p = rw p.items (MakesRoom-has size (len old) k old new p.room)
 
   -- two calls in one block
   pub Holds_then : (old mid new : Vector T A) (xs ys : List T) → Holds old xs mid → Holds mid ys new → Holds old ys new

@@ -1,7 +1,7 @@
 -- Elements behind a gap, asked one after the other beside the last one kept.
-use Rattle.aa_vec.proofs.Common.{◌≡◌, ℕ, suc, ◌+◌, ◌<◌, ◌≤◌, Bool, true, false, List, [], ◌∷◌, ◌++◌, length, map, drop, Some, refl, sym, ap, ◌∙◌, subst, arith, length-append, drop_at, length-map, take-append-drop, StandsBehind, behind_items, MayChainFrom, MayDeduplicate, ChainsUntil, ChainsAlong, AsksLast, ChainsBehind, Vector, len}
+use Rattle.aa_vec.proofs.Common.{◌≡◌, ℕ, suc, ◌+◌, ◌<◌, ◌≤◌, Bool, true, false, List, [], ◌∷◌, ◌++◌, length, map, drop, Some, refl, sym, ap, ◌∙◌, subst, arith, length-append, drop_at, drop_all, length-map, take-append-drop, StandsBehind, LeavesBehind, behind_items, MayChainFrom, MayDeduplicate, ChainsUntil, ChainsAlong, AsksLast, ChainsBehind, Vector}
 use Rattle.aa_vec.specs.Until.{ChainsOn}
-use Rattle.aa_vec.proofs.Gaps.{lent-is, refilled, LeavesBehind-view}
+use Rattle.aa_vec.proofs.Gaps.{lent-is, refilled, LeavesBehind-view, seen, there, within, IsFront-relent}
 use Rattle.aa_vec.proofs.Stands.{count, first_are, parts, replaced_are}
 
 module _ {T : Type 0} where
@@ -10,11 +10,6 @@ module _ {T : Type 0} where
   split_last [] h = absurd (omega arith)
   split_last (x ∷ []) h = ([], x, refl)
   split_last (x ∷ y ∷ xs) h = let p = split_last (y ∷ xs) (omega arith) in (x ∷ p.0, p.1, ap (λ l. x ∷ l) p.2)
-
-  -- a list of no length has no element
-  empty_is : (xs : List T) → length xs ≡ 0 → xs ≡ []
-  empty_is [] h = refl
-  empty_is (x ∷ xs) h = absurd (omega (arith, h))
 
   -- lists that differ in their last element are as long
   pub same_end : (front : List T) (x y : T) → length (front ++ x ∷ []) ≡ length (front ++ y ∷ [])
@@ -41,73 +36,59 @@ module _ {F T A : Type 0} (Asks : F → T → T → Bool → F → T → T → T
           let was : drop gap v.behind ≡ map Some (asked.next ∷ others) ++ drop n (drop gap v.behind) = parts v gap n stands ∙ ap (λ l. map Some l ++ drop n (drop gap v.behind)) all in
           asked.behind ∙ ap (λ ds. Some asked.next_left ∷ drop 1 ds) was
 
-      same_len : len w ≡ len v
-      same_len = ap length asked.items ∙ same_end asked.front asked.last_left asked.last ∙ sym (ap length asked.had.0)
-
       now_are : behind_items w gap n ≡ asked.next_left ∷ others
-      now_are = replaced_are v gap n stands w (asked.next_left ∷ others) _ same_len asked.block.capacity long now_behind
+      now_are = replaced_are v gap n stands w (asked.next_left ∷ others) _ (ap length asked.items ∙ same_end asked.front asked.last_left asked.last ∙ sym (ap length asked.had.0)) asked.block.capacity long now_behind
 
       called : (b : Bool) → answer ≡ b → Asks f asked.next asked.last b g asked.next_left asked.last_left
       called b e = subst (λ a. Asks f asked.next asked.last a g asked.next_left asked.last_left) e asked.called
 
-      -- and goes
-      pub ChainsBehind-repeat : answer ≡ true → ChainsBehind Asks f v gap n 0 g w
-      ChainsBehind-repeat e =
-          record {
-            front = asked.front;
-            last = asked.last;
-            last_left = asked.last_left;
-            left = asked.next_left ∷ others;
-            had = asked.had.0;
-            until = subst (λ xs. ChainsUntil Asks f asked.last xs 0 g (asked.last_left ∷ asked.next_left ∷ others)) (sym all) (asked.next_left, asked.last_left, called true e, refl);
-            items = asked.items;
-            behind = now_behind;
-            block = asked.block;
-            writes = asked.writes;
-          }
+      still_behind : drop n (drop gap w.behind) ≡ drop n (drop gap v.behind)
+      still_behind = ap (drop n) now_behind ∙ drop_at (map Some (asked.next_left ∷ others)) (drop n (drop gap v.behind)) n (length-map (asked.next_left ∷ others) (λ (x : T). Some x) ∙ long)
 
-      -- and stays
+      itself : LeavesBehind w gap n (asked.next_left ∷ others) w
+      itself = record { same = refl; below = refl; behind = now_behind ∙ ap (λ ds. map Some (asked.next_left ∷ others) ++ ds) (sym still_behind) }
+
+      -- what follows leaves the others so
+      module _ (k : ℕ) (h : F) (u : Vector T A) (left : List T) (leaves : LeavesBehind w gap n left u) where
+        behind : ChainsUntil Asks f asked.last (asked.next ∷ others) k h (asked.last_left ∷ left) → ChainsBehind Asks f v gap n k h u
+        behind until = record {
+          front = asked.front;
+          last = asked.last;
+          last_left = asked.last_left;
+          left = left;
+          had = asked.had.0;
+          until = subst (λ xs. ChainsUntil Asks f asked.last xs k h (asked.last_left ∷ left)) (sym all) until;
+          items = ap (λ s. s.items) leaves.same ∙ asked.items;
+          behind = leaves.behind ∙ ap (λ ds. map Some left ++ ds) still_behind;
+          block = rw leaves.same (record { capacity = asked.block.capacity; growth = asked.block.growth; grown = asked.block.grown; alloc = asked.block.alloc });
+          writes = rw leaves.same (record { written = asked.writes.written; runs = asked.writes.runs });
+        }
+
+      -- it goes
+      pub ChainsBehind-repeat : answer ≡ true → ChainsBehind Asks f v gap n 0 g w
+      ChainsBehind-repeat e = behind 0 g w (asked.next_left ∷ others) itself (asked.next_left, asked.last_left, called true e, refl)
+
+      -- it stays
       module _ (e : answer ≡ false) where
         pub may_follow : (Takes : F → T → T → Type 0) → MayChainFrom Asks Takes f asked.last (behind_items v gap n) → MayDeduplicate Asks Takes g (behind_items w gap n)
         may_follow Takes may =
             let m : MayChainFrom Asks Takes f asked.last (asked.next ∷ others) = subst (MayChainFrom Asks Takes f asked.last) all may in
             subst (MayDeduplicate Asks Takes g) (sym now_are) (m.2 g asked.next_left asked.last_left (called false e))
 
-        still_behind : drop n (drop gap w.behind) ≡ drop n (drop gap v.behind)
-        still_behind = ap (drop n) now_behind ∙ drop_at (map Some (asked.next_left ∷ others)) (drop n (drop gap v.behind)) n (length-map (asked.next_left ∷ others) (λ (x : T). Some x) ∙ long)
-
         pub ChainsBehind-more : (k : ℕ) (h : F) (u : Vector T A) → ChainsOn Asks g w gap n k h u → ChainsBehind Asks f v gap n (1 + k) h u
         ChainsBehind-more k h u on =
             let follow : ChainsUntil Asks g asked.next_left others k h on.left = subst (λ xs. ChainsAlong Asks g xs k h on.left) now_are on.until in
-            let until : ChainsUntil Asks f asked.last (asked.next ∷ others) (suc k) h (asked.last_left ∷ on.left) = (g, asked.next_left, asked.last_left, on.left, called false e, follow, refl) in
-            let one : suc k ≡ 1 + k = omega arith in
-            record {
-              front = asked.front;
-              last = asked.last;
-              last_left = asked.last_left;
-              left = on.left;
-              had = asked.had.0;
-              until = subst (λ i. ChainsUntil Asks f asked.last (behind_items v gap n) i h (asked.last_left ∷ on.left)) one (subst (λ xs. ChainsUntil Asks f asked.last xs (suc k) h (asked.last_left ∷ on.left)) (sym all) until);
-              items = ap (λ s. s.items) on.leaves.same ∙ asked.items;
-              behind = on.leaves.behind ∙ ap (λ ds. map Some on.left ++ ds) still_behind;
-              block = rw on.leaves.same (record { capacity = asked.block.capacity; growth = asked.block.growth; grown = asked.block.grown; alloc = asked.block.alloc });
-              writes = rw on.leaves.same (record { written = asked.writes.written; runs = asked.writes.runs });
-            }
+            subst (λ i. ChainsBehind Asks f v gap n i h u) {x = suc k} {y = 1 + k} (omega arith) (behind (suc k) h u on.left on.leaves (g, asked.next_left, asked.last_left, on.left, called false e, follow, refl))
 
         -- and it was the only one
         pub ChainsBehind-one : n ≤ 1 → ChainsBehind Asks f v gap n 1 g w
         ChainsBehind-one one =
-            let no_others : others ≡ [] = empty_is others (omega (arith, long, one)) in
-            let only : ChainsUntil Asks g asked.next_left [] 0 g (asked.next_left ∷ []) = (refl, refl) in
-            let until : ChainsUntil Asks g asked.next_left others 0 g (asked.next_left ∷ others) = subst (λ xs. ChainsUntil Asks g asked.next_left xs 0 g (asked.next_left ∷ xs)) (sym no_others) only in
-            ChainsBehind-more 0 g w (record {
-              left = asked.next_left ∷ others;
-              until = subst (λ xs. ChainsAlong Asks g xs 0 g (asked.next_left ∷ others)) (sym now_are) until;
-              leaves = record { same = refl; below = refl; behind = now_behind ∙ ap (λ ds. map Some (asked.next_left ∷ others) ++ ds) (sym still_behind) };
-            })
+            let no_others : others ≡ [] = drop_all 1 (behind_items v gap n) (omega (arith, count v gap n stands, one)) in
+            let none : ChainsUntil Asks g asked.next_left others 0 g (asked.next_left ∷ others) = subst (λ xs. ChainsUntil Asks g asked.next_left xs 0 g (asked.next_left ∷ xs)) (sym no_others) (refl, refl) in
+            behind 1 g w (asked.next_left ∷ others) itself (g, asked.next_left, asked.last_left, asked.next_left ∷ others, called false e, none, refl)
 
 -- elements asked one after the other
 pub ruleset chains = (ChainsBehind-repeat, ChainsBehind-one, ChainsBehind-more)
 
 -- elements lent to who asks them
-pub ruleset lents = (lent-is, refilled, LeavesBehind-view)
+pub ruleset lents = (lent-is, refilled, LeavesBehind-view, seen, there, within, IsFront-relent)

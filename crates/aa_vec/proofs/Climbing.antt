@@ -1,5 +1,11 @@
 -- Lemmas on a vector that grew while it was full.
-use Rattle.aa_vec.proofs.Common.{◌≡◌, ℕ, ◌+◌, ◌-◌, ◌<◌, ◌≤◌, List, ◌++◌, append_assoc, refl, ap, ◌∙◌, subst, arith, inl, inr, min, usize_max, Vector, SameBlock, Holds, MakesRoom, Climbs, stays, grows, asked_for}
+use Rattle.aa_vec.proofs.Common.{◌≡◌, ℕ, ◌+◌, ◌-◌, ◌<◌, ◌≤◌, List, ◌++◌, append_assoc, refl, ap, ◌∙◌, subst, arith, min, usize_max, Growth, Doubling, Sparing, amortized, least_of, Vector, SameBlock, Holds, with_room, Climbs, stays, grows, asked_for, ExtendsAll, ExtendsFull, ExtendsByAll, ExtendsByFront, TryReserveError, Option, [], ◌∷◌, length, length-append}
+use Rattle.std.proofs.lemmas.Bool.Decides.{nat_tests}
+
+-- a growth asks for no less than what is needed
+pub amortized-enough : (G : Growth) (c needed m : ℕ) → needed ≤ amortized G c needed m
+amortized-enough Doubling c needed m = omega arith
+amortized-enough Sparing c needed m = omega arith
 
 module _ {T A : Type 0} where
   pub SameBlock-refl : (v : Vector T A) → SameBlock v v
@@ -8,37 +14,47 @@ module _ {T A : Type 0} where
   pub SameBlock-trans : {u v w : Vector T A} → SameBlock u v → SameBlock v w → SameBlock u w
   SameBlock-trans p q = record { capacity = q.capacity ∙ p.capacity; growth = q.growth ∙ p.growth; grown = q.grown ∙ p.grown; alloc = q.alloc ∙ p.alloc }
 
+  -- new has the block of old, with room for k more than n elements
+  abbrev pub MakesRoom : (size : ℕ) → Vector T A → (n k : ℕ) → Vector T A → Type 0
+  MakesRoom size old n k new = SameBlock (with_room size old n k) new
+
+  -- and then for r more
+  abbrev pub MakesRoomTwice : (size : ℕ) → Vector T A → (n h r : ℕ) → Vector T A → Type 0
+  MakesRoomTwice size old n h r new = MakesRoom size (with_room size old n h) (n + h) r new
+
   -- room is made alike in one block
   pub MakesRoom-same : (size n k : ℕ) {u v w : Vector T A} → SameBlock u v → MakesRoom size v n k w → MakesRoom size u n k w
-  MakesRoom-same size n k b (inl h) = inl (omega (arith, h.0, b.capacity), SameBlock-trans b h.1)
-  MakesRoom-same size n k {u} {v} {w} b (inr h) = inr (
-    omega (arith, h.0, b.capacity),
-    record { has_size = h.1.has_size; capacity = rw (← b.growth, ← b.capacity) h.1.capacity; growth = h.1.growth ∙ b.growth; grown = h.1.grown ∙ ap (λ m. m + n) b.grown; alloc = h.1.alloc ∙ b.alloc },
-  )
+  MakesRoom-same size n k b m = record { capacity = rw (← b.capacity, ← b.growth) m.capacity; growth = m.growth ∙ b.growth; grown = rw (← b.capacity, ← b.grown) m.grown; alloc = m.alloc ∙ b.alloc }
 
-  pub MakesRoom-into : (size n k : ℕ) {u v w : Vector T A} → MakesRoom size u n k v → SameBlock v w → MakesRoom size u n k w
-  MakesRoom-into size n k (inl h) b = inl (h.0, SameBlock-trans h.1 b)
-  MakesRoom-into size n k (inr h) b = inr (
-    h.0,
-    record { has_size = h.1.has_size; capacity = b.capacity ∙ h.1.capacity; growth = b.growth ∙ h.1.growth; grown = b.grown ∙ h.1.grown; alloc = b.alloc ∙ h.1.alloc },
-  )
+  pub MakesRoomTwice-same : (size n h r : ℕ) {u v w : Vector T A} → SameBlock u v → MakesRoomTwice size v n h r w → MakesRoomTwice size u n h r w
+  MakesRoomTwice-same size n h r {u} {v} b m = MakesRoom-same size (n + h) r (MakesRoom-same size n h b (SameBlock-refl (with_room size v n h))) m
 
-  -- there is room for all
+  -- there is room for all, and no less than before
+  pub MakesRoom-has : (size n k : ℕ) (v w : Vector T A) → MakesRoom size v n k w → k ≤ w.capacity - n
+  MakesRoom-has size n k v w m =
+      let enough = amortized-enough v.growth v.capacity (n + k) (least_of size) in grind (arith, nat_tests)
+
   pub MakesRoom-fits : (size n k : ℕ) (v w : Vector T A) → MakesRoom size v n k w → n ≤ w.capacity → n + k ≤ w.capacity
-  MakesRoom-fits size n k v w (inl h) l = omega (arith, h.0, h.1.capacity, l)
-  MakesRoom-fits size n k v w (inr h) l = omega (arith, h.1.capacity)
+  MakesRoom-fits size n k v w m l = omega (arith, MakesRoom-has size n k v w m)
 
-  pub MakesRoom-room : (size n k : ℕ) (v w : Vector T A) → n ≤ v.capacity → MakesRoom size v n k w → n + k ≤ w.capacity
-  MakesRoom-room size n k v w within m = MakesRoom-fits size n k v w m (elim m [ inl h ↦ omega (arith, h.1.capacity, within) | inr h ↦ omega (arith, h.1.capacity) ])
+  pub MakesRoom-rises : (size n k : ℕ) (v w : Vector T A) → MakesRoom size v n k w → v.capacity ≤ w.capacity
+  MakesRoom-rises size n k v w m =
+      let enough = amortized-enough v.growth v.capacity (n + k) (least_of size) in grind (arith, nat_tests)
+
+  -- where they fit, nothing changes
+  pub with_room-fits : (size : ℕ) (v : Vector T A) (n k : ℕ) → k ≤ v.capacity - n → SameBlock (with_room size v n k) v
+  with_room-fits size v n k h = record { capacity = grind (arith, nat_tests); growth = refl; grown = grind (arith, nat_tests); alloc = refl }
+
+  pub MakesRoom-stays : (size n k : ℕ) (v w : Vector T A) → MakesRoom size v n k w → k ≤ v.capacity - n → SameBlock v w
+  MakesRoom-stays size n k v w m h = record { capacity = grind (arith, nat_tests); growth = m.growth; grown = grind (arith, nat_tests); alloc = m.alloc }
+
+  -- else there was a growth
+  pub MakesRoom-grows : (size n k : ℕ) (v w : Vector T A) → MakesRoom size v n k w → v.capacity - n < k → (w.capacity ≡ amortized v.growth v.capacity (n + k) (least_of size)) × (w.grown ≡ v.grown + n)
+  MakesRoom-grows size n k v w m h = (grind (arith, nat_tests), grind (arith, nat_tests))
 
   -- items put behind others, and those behind the items there were
   pub Holds-more : (old mid new : Vector T A) (xs ys : List T) → Holds old (old.items ++ xs) mid → Holds mid (mid.items ++ ys) new → Holds old (old.items ++ (xs ++ ys)) new
   Holds-more old mid new xs ys p q = record { items = q.items ∙ ap (λ l. l ++ ys) p.items ∙ append_assoc old.items xs ys; block = SameBlock-trans p.block q.block }
-
-  -- and it is no less than before
-  pub MakesRoom-rises : (size k : ℕ) (v w : Vector T A) → MakesRoom size v v.capacity k w → v.capacity ≤ w.capacity
-  MakesRoom-rises size k v w (inl h) = omega (arith, h.1.capacity)
-  MakesRoom-rises size k v w (inr h) = omega (arith, h.1.capacity)
 
 -- the same climb from another vector in the same block, where r items more are to come after those that were counted, and the bounds agree
 -- from the capacity on
@@ -50,7 +66,7 @@ Climbs-counted size lower by needed r all {u} {v} {w} b e same (grows {mid = mid
     let P : ℕ → Type 0 = λ c. MakesRoom size u c (asked_for lower (needed - c)) mid in
     let a : asked_for lower (needed - u.capacity) ≡ asked_for by (all - u.capacity) =
     ap (λ n. min (n + 1) usize_max) (same left (omega (arith, h, b.capacity)) ∙ ap by (omega (arith, h, b.capacity, e))) in
-    let up : u.capacity ≤ mid.capacity = omega (arith, MakesRoom-rises size (asked_for lower (needed - v.capacity)) v mid m, b.capacity) in
+    let up : u.capacity ≤ mid.capacity = omega (arith, MakesRoom-rises size v.capacity (asked_for lower (needed - v.capacity)) v mid m, b.capacity) in
     grows (omega (arith, h, b.capacity, e)) (subst (λ k. MakesRoom size u u.capacity k mid) a (subst P b.capacity (MakesRoom-same size v.capacity (asked_for lower (needed - v.capacity)) b m)))
     (Climbs-counted size lower by needed r all (SameBlock-refl mid) e (λ k l. same k (omega (arith, l, up))) rest)
 
@@ -68,7 +84,7 @@ module _ {T A : Type 0} (size : ℕ) (lower : ℕ → ℕ) (needed : ℕ) where
   -- the capacity never falls
   pub Climbs-rises : {u v : Vector T A} → Climbs size lower needed u v → u.capacity ≤ v.capacity
   Climbs-rises (stays b) = omega (arith, b.capacity)
-  Climbs-rises {u} {v} (grows {mid = mid} h m r) = omega (arith, MakesRoom-rises size (asked_for lower (needed - u.capacity)) u mid m, Climbs-rises r)
+  Climbs-rises {u} {v} (grows {mid = mid} h m r) = omega (arith, MakesRoom-rises size u.capacity (asked_for lower (needed - u.capacity)) u mid m, Climbs-rises r)
 
   -- where all fit, there is no growth
   pub Climbs-fits : {u v : Vector T A} → Climbs size lower needed u v → needed ≤ u.capacity → SameBlock u v
@@ -78,19 +94,37 @@ module _ {T A : Type 0} (size : ℕ) (lower : ℕ → ℕ) (needed : ℕ) where
   -- what stays through every growth
   pub Climbs-growth : {u v : Vector T A} → Climbs size lower needed u v → v.growth ≡ u.growth
   Climbs-growth (stays b) = b.growth
-  Climbs-growth (grows h (inl m) r) = Climbs-growth r ∙ m.1.growth
-  Climbs-growth (grows h (inr m) r) = Climbs-growth r ∙ m.1.growth
+  Climbs-growth (grows h m r) = Climbs-growth r ∙ m.growth
 
   pub Climbs-alloc : {u v : Vector T A} → Climbs size lower needed u v → v.alloc ≡ u.alloc
   Climbs-alloc (stays b) = b.alloc
-  Climbs-alloc (grows h (inl m) r) = Climbs-alloc r ∙ m.1.alloc
-  Climbs-alloc (grows h (inr m) r) = Climbs-alloc r ∙ m.1.alloc
+  Climbs-alloc (grows h m r) = Climbs-alloc r ∙ m.alloc
 
   -- where just as many are told as are to come, it makes room for them at once
   pub Climbs-exact : ((n : ℕ) → lower n ≡ n) → {u v : Vector T A} → Climbs size lower needed u v → needed ≤ v.capacity → needed - u.capacity ≤ usize_max → MakesRoom size u u.capacity (needed - u.capacity) v
-  Climbs-exact exact (stays b) enough few = inl (omega (arith, enough, b.capacity), b)
+  Climbs-exact exact {u} {v} (stays b) enough few = SameBlock-trans (with_room-fits size u u.capacity (needed - u.capacity) (omega (arith, enough, b.capacity))) b
   Climbs-exact exact {u} {v} (grows {mid = mid} h m r) enough few =
       let left : ℕ = needed - u.capacity in
       let asked : asked_for lower left ≡ left = ap (λ n. min (n + 1) usize_max) (exact (left - 1)) ∙ omega (arith, h, few) in
       let made : MakesRoom size u u.capacity left mid = subst (λ k. MakesRoom size u u.capacity k mid) asked m in
-      MakesRoom-into size u.capacity left made (Climbs-fits r (omega (arith, h, MakesRoom-fits size u.capacity left u mid made (MakesRoom-rises size left u mid made))))
+      SameBlock-trans made (Climbs-fits r (omega (arith, h, MakesRoom-fits size u.capacity left u mid made (MakesRoom-rises size u.capacity left u mid made))))
+
+-- what came from an iterator is a list that was put there, and what was taken of it is one of which the last found no place
+module _ {S T A : Type 0} (steps : S → Option T → S → Type 0) (Tells : S → ℕ → Type 0) (size : ℕ) (iter : S) (old new : Vector T A) where
+  pub all_of : (e : ExtendsByAll steps Tells size iter old new) → ExtendsAll size e.lower old old.items e.added new
+  all_of e = record { climbs = e.climbs; enough = e.enough; items = e.items }
+
+  pub full_of : (error : TryReserveError) (e : ExtendsByFront steps Tells size iter old error new) → ExtendsFull size e.lower old old.items (e.front ++ e.item ∷ []) error new
+  full_of error e =
+      let count = length-append e.front (e.item ∷ []) in
+      let full = ap length e.items ∙ length-append old.items e.front in
+      record {
+        front = e.front;
+        others = e.item ∷ [];
+        begins = refl;
+        climbs = subst (λ n. Climbs size e.lower n old new) (omega (arith, count)) e.climbs;
+        short = omega (arith, count, full, e.full);
+        items = e.items;
+        full = omega (arith, full, e.full);
+        lacks = e.lacks;
+      }

@@ -35,13 +35,10 @@ one_run n = grind arith
 pub few_runs : (gap k : ℕ) → run_count (moved_over gap k) + (gap - 1) ≤ gap
 few_runs gap k = grind (arith, one_run)
 
-some_run : (n : ℕ) → run_count n ≤ n
-some_run n = grind arith
-
 -- and in none where none is moved
 pub no_run : (gap k : ℕ) → run_count (moved_over gap k) ≤ k
 no_run zero k = omega arith
-no_run (suc gap) k = subst (λ i. run_count i ≤ k) (sym (moved_some (suc gap) k (omega arith))) (some_run k)
+no_run (suc gap) k = subst (λ i. run_count i ≤ k) (sym (moved_some (suc gap) k (omega arith))) (grind arith)
 
 -- of n elements the first k stay, and the next, if there is one, goes; behind it so many stay
 abbrev pub marks : (k n : ℕ) → List Bool → List Bool
@@ -50,26 +47,16 @@ marks zero (suc n) told = false ∷ told
 marks (suc k) zero told = told
 marks (suc k) (suc n) told = true ∷ marks k n told
 
-marks-stay : (k n : ℕ) → k ≤ n → (told : List Bool) → count_by (λ s. s) (marks k n told) ≡ k + count_by (λ s. s) told
-marks-stay zero zero h told = omega arith
-marks-stay zero (suc n) h told = omega (arith, counted (λ s. s) false told)
-marks-stay (suc k) zero h told = absurd (omega (arith, h))
-marks-stay (suc k) (suc n) h told = omega (arith, counted (λ s. s) true (marks k n told), marks-stay k n (omega (arith, h)) told)
-
--- one more goes, if there is one
-pub marks-gone : (k n : ℕ) → k ≤ n → (told : List Bool) → removed_count (marks k n told) ≡ min (n - k) 1 + removed_count told
-marks-gone zero zero h told = omega arith
-marks-gone zero (suc n) h told = omega (arith, counted not false told)
-marks-gone (suc k) zero h told = absurd (omega (arith, h))
-marks-gone (suc k) (suc n) h told = omega (arith, counted not true (marks k n told), marks-gone k n (omega (arith, h)) told)
-
-marks-behind : (k n : ℕ) → k ≤ n → (told : List Bool) → kept_behind_removed (marks k n told) ≡ still (min (n - k) 1) told
-marks-behind zero zero h told = refl
-marks-behind zero (suc n) h told = ap (λ i. still i told) {x = 1} {y = min (suc n - 0) 1} (omega arith)
-marks-behind (suc k) zero h told = absurd (omega (arith, h))
-marks-behind (suc k) (suc n) h told = marks-behind k n (omega (arith, h)) told ∙ ap (λ i. still i told) {x = min (n - k) 1} {y = min (suc n - suc k) 1} (omega arith)
+-- how many stay, and one more goes, if there is one, behind which all that stay are written
+pub marks-are : (k n : ℕ) → k ≤ n → (told : List Bool) → (count_by (λ s. s) (marks k n told) ≡ k + count_by (λ s. s) told) × (removed_count (marks k n told) ≡ min (n - k) 1 + removed_count told) × (kept_behind_removed (marks k n told) ≡ still (min (n - k) 1) told)
+marks-are zero zero h told = (omega arith, omega arith, refl)
+marks-are zero (suc n) h told = (omega (arith, counted (λ s. s) false told), omega (arith, counted not false told), ap (λ i. still i told) {x = 1} {y = min (suc n - 0) 1} (omega arith))
+marks-are (suc k) zero h told = absurd (omega (arith, h))
+marks-are (suc k) (suc n) h told =
+    let r = marks-are k n (omega (arith, h)) told in
+    (omega (arith, counted (λ s. s) true (marks k n told), r.0), omega (arith, counted not true (marks k n told), r.1), r.2 ∙ ap (λ i. still i told) {x = min (n - k) 1} {y = min (suc n - suc k) 1} (omega arith))
 
 -- those k are written, once there is a gap, and all that stay behind one that goes
 pub marks-written : (gap k n : ℕ) → k ≤ n → (told : List Bool) → still gap (marks k n told) ≡ moved_over gap k + still (gap + min (n - k) 1) told
-marks-written zero k n h told = omega (arith, marks-behind k n h told, ap (λ i. still i told) {x = min (n - k) 1} {y = 0 + min (n - k) 1} (omega arith))
-marks-written (suc gap) k n h told = marks-stay k n h told ∙ ap (λ i. i + count_by (λ s. s) told) (sym (moved_some (suc gap) k (omega arith))) ∙ ap (λ i. moved_over (suc gap) k + still i told) {x = suc (gap + min (n - k) 1)} {y = suc gap + min (n - k) 1} (omega arith)
+marks-written zero k n h told = omega (arith, (marks-are k n h told).2, ap (λ i. still i told) {x = min (n - k) 1} {y = 0 + min (n - k) 1} (omega arith))
+marks-written (suc gap) k n h told = (marks-are k n h told).0 ∙ ap (λ i. i + count_by (λ s. s) told) (sym (moved_some (suc gap) k (omega arith))) ∙ ap (λ i. moved_over (suc gap) k + still i told) {x = suc (gap + min (n - k) 1)} {y = suc gap + min (n - k) 1} (omega arith)

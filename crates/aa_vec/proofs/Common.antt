@@ -6,7 +6,8 @@ pub use Rattle.aa_raw.specs.Closures.{TakesPairMut}
 pub use Rattle.aa_raw.specs.Growth.{amortized, least_of, usize_max}
 pub use Rattle.aa_raw.specs.Places.{IsRun, moved, run}
 pub use Rattle.aa_raw.specs.declared.collections.TryReserveError.{TryReserveError}
-pub use Rattle.aa_raw.specs.declared.raw_vec.Growth.TheVariants.{Doubling}
+pub use Rattle.aa_raw.specs.declared.raw_vec.Growth.{Growth}
+pub use Rattle.aa_raw.specs.declared.raw_vec.Growth.TheVariants.{Doubling, Sparing}
 pub use Rattle.aa_vec.specs.Arrays.{flattened}
 pub use Rattle.aa_vec.specs.Behind.{ClosesGap, ClosesTwice, DropsBehind, LeavesBehind, SetsBack, StandsBehind, behind_items, with_behind}
 pub use Rattle.aa_vec.specs.Choosing.{Asked, AskedInOrder, ChainsFrom, Deduplicated, Deduplicates, EndsTrue, IsCallableAlong, IsCallableInOrder, MayAskInOrder, MayChainFrom, MayDeduplicate, Retains, TakesMut, answers_of, kept, kept_behind_removed, passed_over, removed_count}
@@ -15,9 +16,9 @@ pub use Rattle.aa_vec.specs.Extending.{Climbs, CopiesOf, Extended, ExtendsAll, E
 pub use Rattle.aa_vec.specs.Extracting.{ClosesExtract, Extracts, ExtractsRange, extract_kept, extract_rest}
 pub use Rattle.aa_vec.specs.Filling.{FillsAndCloses, FillsGap, Gathers, GathersShort, Placed, Puts, PutsAll, Widens}
 pub use Rattle.aa_vec.specs.Inner.{IsFront, view_of}
-pub use Rattle.aa_vec.specs.Splicing.{MakesRoomTwice, SplicesByAll, SplicesByFront, cut_off, tail_moves}
+pub use Rattle.aa_vec.specs.Splicing.{SplicesByAll, SplicesByFront, cut_off, tail_moves}
 pub use Rattle.aa_vec.specs.Until.{AsksBehind, AsksLast, AsksUntil, ChainsAlong, ChainsBehind, ChainsUntil, Picks, StaysAt, TakesNext}
-pub use Rattle.aa_vec.specs.Vector.{GrowsTo, HasRoom, Holds, IsNew, LacksRoom, MakesRoom, Moves, SameBlock, Vector, Writes, len, moved_over, run_count, sized}
+pub use Rattle.aa_vec.specs.Vector.{GrowsTo, HasRoom, Holds, IsNew, LacksRoom, Moves, SameBlock, Vector, Writes, len, moved_over, run_count, sized, with_room}
 pub use Rattle.aa_vec.specs.declared.vec.Vec.TheInside.{Inside}
 pub use Rattle.aa_vec.specs.declared.vec.drain.Drain.{Drain}
 pub use Rattle.aa_vec.specs.declared.vec.extract_if.ExtractBy.{ExtractBy}

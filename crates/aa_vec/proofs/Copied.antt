@@ -6,9 +6,9 @@ use Rattle.std.proofs.lemmas.List.{length-replicate, replicate_more, take_all, t
 use Rattle.std.proofs.lemmas.List.Elements.{all_zip_more, same_from_all_zip}
 use Rattle.aa_raw.specs.declared.collections.TryReserveError.{TryReserveError}
 use Rattle.aa_raw.specs.declared.collections.TryReserveErrorKind.TheVariants.{AllocError}
-use Rattle.aa_vec.specs.Copies.{Copies, Adds, Begins, Undone, Fills}
-use Rattle.aa_vec.specs.Vector.{Vector, len, GrowsTo, Holds, MakesRoom, SameBlock, Writes, with_items}
-use Rattle.aa_vec.proofs.Climbing.{Holds-more, MakesRoom-into, MakesRoom-room, MakesRoom-same, SameBlock-trans}
+use Rattle.aa_vec.specs.Copies.{Copies, IsBeginning, Adds, Begins, Undone, Fills, Refuses}
+use Rattle.aa_vec.specs.Vector.{Vector, len, GrowsTo, Holds, SameBlock, Writes, with_items}
+use Rattle.aa_vec.proofs.Climbing.{MakesRoom, Holds-more, MakesRoom-has, MakesRoom-same, SameBlock-trans}
 
 -- clones of one value and the value itself, where clones are copies
 pub all-copied : {T : Type 0} (clones : T → T → Type 0) (k : ℕ) (x : T) (ys : List T) → 0 < k → Copies clones → AllZip clones (replicate (k - 1) x) ys → ys ++ x ∷ [] ≡ replicate k x
@@ -17,7 +17,19 @@ all-copied clones k x ys some copies e = ap (λ l. l ++ x ∷ []) (same_from_all
 module _ {T A : Type 0} where
   -- a call that made room, and then one in the block that there was
   pub GrowsTo-then : (size : ℕ) (old mid new : Vector T A) (k : ℕ) (xs ys : List T) → GrowsTo size old k xs mid → Holds mid ys new → GrowsTo size old k ys new
-  GrowsTo-then size old mid new k xs ys p q = record { items = q.items; room = MakesRoom-into size (len old) k p.room q.block }
+  GrowsTo-then size old mid new k xs ys p q = record { items = q.items; room = SameBlock-trans p.room q.block }
+
+  -- room was made, and what was put there is gone
+  pub Refuses-undone : (failure : Type 0) (size : ℕ) (old mid new : Vector T A) (k : ℕ) (error : TryReserveError) → GrowsTo size old k old.items mid → Writes old 0 0 mid → Undone mid k new → failure → error.kind ≡ AllocError (len old + k)
+      → Refuses failure size old k error new
+  Refuses-undone failure size old mid new k error made w u cause number = inr (record {
+    cause = cause;
+    number = number;
+    left = GrowsTo-then size old mid new k old.items old.items made (record { items = u.holds.items ∙ made.items; block = u.holds.block });
+    done = u.done;
+    fewer = u.fewer;
+    writes = omega (arith, w.written, w.runs, u.writes.written, u.writes.runs);
+  })
 
   module _ (clones : T → T → Type 0) where
     -- a clone of the next item of a list
@@ -47,6 +59,12 @@ module _ {T A : Type 0} where
     pub Adds-same : (old mid new : Vector T A) (k i : ℕ) (x y : T) → Adds clones old (take i (replicate k x)) mid → i < k → clones x y → Holds mid (mid.items ++ y ∷ []) new → Writes mid 1 1 new → Adds clones old (take (i + 1) (replicate k x)) new
     Adds-same old mid new k i x y p h = Adds-take old mid new (replicate k x) i x y p (omega (arith, h, length-replicate k x)) (sym (get_or-replicate k i x x h))
 
+    -- of a beginning of a list, into a vector that was emptied
+    pub Adds-begun : (mid new : Vector T A) (xs : List T) (n : ℕ) → Copies clones → Adds clones mid (take n xs) new → mid.items ≡ [] → n < length xs → IsBeginning xs new.items
+    Adds-begun mid new xs n copies p none less =
+        let e : new.items ≡ take n xs = p.holds.items ∙ ap (λ l. l ++ p.added) none ∙ same_from_all_zip clones (take n xs) p.added p.each copies in
+        e ∙ ap (λ k. take k xs) (omega (arith, ap length e, length-take n xs, less))
+
     -- the clones that were put there are dropped
     pub Undone-cut : (old mid new : Vector T A) (xs : List T) (k : ℕ) → Adds clones old xs mid → Holds mid (take (len old) mid.items) new → Writes mid 0 0 new → length xs < k → Undone old k new
     Undone-cut old mid new xs k p h w less = record {
@@ -62,7 +80,7 @@ module _ {T A : Type 0} where
     grown-to ys h = GrowsTo-then size old mid new k old.items (old.items ++ ys) made (record { items = h.items ∙ ap (λ l. l ++ ys) made.items; block = h.block })
 
     pub room-there : len old ≤ old.capacity → k ≤ mid.capacity - len mid
-    room-there within = omega (arith, MakesRoom-room size (len old) k old mid within made.room, ap (λ l. length l) made.items)
+    room-there within = rw made.items (MakesRoom-has size (len old) k old mid made.room)
 
   pub Resized-copied : (clones : T → T → Type 0) (size : ℕ) (old mid new : Vector T A) (n : ℕ) (x : T) → Copies clones → GrowsTo size old (n - len old) old.items mid → Fills clones mid (n - len old) x new → len old < n
       → GrowsTo size old (n - len old) (take n old.items ++ replicate (n - len old) x) new

@@ -1,6 +1,6 @@
 -- Extensions by an iterator that tells a function of how many items are to come.
-use Rattle.aa_vec.proofs.Common.{◌≡◌, ℕ, ◌+◌, ◌-◌, ◌<◌, ◌≤◌, List, [], ◌∷◌, ◌++◌, length, None, append_assoc, sym, ap, ◌∙◌, subst, arith, inl, inr, length-append, min, cases_lt, append-nil, TryReserveError, usize_max, Vector, len, SameBlock, LacksRoom, MakesRoom, Climbs, asked_for, YieldsTelling, ExtendsAll, ExtendsFull, ExtendsByAll, ExtendsByFront, ItemsLeft, gives_item, lower_by, TellsExactly}
-use Rattle.aa_vec.proofs.Climbing.{SameBlock-refl, Climbs-counted, Climbs-exact}
+use Rattle.aa_vec.proofs.Common.{◌≡◌, ℕ, ◌+◌, ◌-◌, ◌<◌, ◌≤◌, List, [], ◌∷◌, ◌++◌, length, None, append_assoc, sym, ap, ◌∙◌, subst, arith, inl, inr, length-append, min, cases_lt, append-nil, TryReserveError, usize_max, Vector, len, SameBlock, LacksRoom, Climbs, asked_for, YieldsTelling, ExtendsAll, ExtendsFull, ExtendsByAll, ExtendsByFront, ItemsLeft, gives_item, lower_by, TellsExactly}
+use Rattle.aa_vec.proofs.Climbing.{all_of, full_of, MakesRoom, SameBlock-refl, Climbs-counted, Climbs-exact}
 
 -- another function tells the same of `taken`, behind which `more` is to come; and the vector was another in the same block
 module _ {T A : Type 0} (size : ℕ) (lower by : ℕ → ℕ) {u v : Vector T A} (b : SameBlock u v) (head taken more : List T)
@@ -67,12 +67,13 @@ module _ {T A : Type 0} (size : ℕ) (iter : ItemsLeft T) (old : Vector T A) whe
   ExtendsAll-items new e =
       let same = (items-rest e.lower iter e.added e.last e.told).1 in
       subst (λ xs. ExtendsAll size (lower_by iter.hint) old old.items xs new) (items-all e.lower iter e.added e.last e.told e.ends.1.0.0)
-      (ExtendsAll-told size e.lower (lower_by iter.hint) (SameBlock-refl old) old.items e.added e.last.items (λ k h. same k (h e.within)) new e.ends.1.0.0 e.extends)
+      (ExtendsAll-told size e.lower (lower_by iter.hint) (SameBlock-refl old) old.items e.added e.last.items (λ k h. same k (h e.within)) new e.ends.1.0.0 (all_of gives_item (TellsExactly items_lower) size iter old new e))
 
   pub ExtendsFull-items : (error : TryReserveError) (new : Vector T A) → ExtendsByFront gives_item (TellsExactly items_lower) size iter old error new → ExtendsFull size (lower_by iter.hint) old old.items iter.items error new
   ExtendsFull-items error new e =
-      let r = items-rest e.lower iter e.taken e.last e.told in
-      ExtendsFull-told size e.lower (lower_by iter.hint) (SameBlock-refl old) old.items e.taken e.last.items (λ k h. r.1 k (h e.within)) iter.items r.0 error new e.extends
+      let taken : List T = e.front ++ e.item ∷ [] in
+      let r = items-rest e.lower iter taken e.last e.told in
+      ExtendsFull-told size e.lower (lower_by iter.hint) (SameBlock-refl old) old.items taken e.last.items (λ k h. r.1 k (h e.within)) iter.items r.0 error new (full_of gives_item (TellsExactly items_lower) size iter old new error e)
 
   -- where it tells how many there are, room for them is made at once
   pub ExtendsAll-counted : (new : Vector T A) → ExtendsByAll gives_item (TellsExactly items_lower) size iter old new → iter.hint ≡ None → length iter.items ≤ usize_max → MakesRoom size old old.capacity (len old + length iter.items - old.capacity) new

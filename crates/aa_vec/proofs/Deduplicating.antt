@@ -1,5 +1,5 @@
 -- Elements asked beside the last one kept, of which those that stay were moved down.
-use Rattle.aa_vec.proofs.Common.{◌≡◌, ℕ, zero, suc, ◌+◌, ◌-◌, ◌≤◌, ◌<◌, Bool, true, false, not, List, [], ◌∷◌, ◌++◌, length, map, take, drop, refl, sym, ap, ◌∙◌, subst, arith, append_assoc, length-append, StandsBehind, SetsBack, behind_items, kept_behind_removed, removed_count, ChainsFrom, Deduplicated, MayChainFrom, MayDeduplicate, Deduplicates, ChainsUntil, ChainsBehind, Vector, len}
+use Rattle.aa_vec.proofs.Common.{IsCallableAlong, ◌≡◌, ℕ, zero, suc, ◌+◌, ◌-◌, ◌≤◌, ◌<◌, Bool, true, false, not, List, [], ◌∷◌, ◌++◌, length, map, take, drop, refl, sym, ap, ◌∙◌, subst, arith, append_assoc, length-append, StandsBehind, SetsBack, behind_items, kept_behind_removed, removed_count, ChainsFrom, Deduplicated, MayChainFrom, MayDeduplicate, Deduplicates, ChainsUntil, ChainsBehind, Vector, len}
 use Rattle.std.proofs.lemmas.List.{same_from_push}
 use Rattle.aa_vec.proofs.Chains.{same_end, split_last}
 use Rattle.aa_vec.proofs.Closed.{marks}
@@ -107,23 +107,27 @@ module _ {F T : Type 0} (Asks : F → T → T → Bool → F → T → T → Typ
                 };
           }
 
-      pub chained-turn : {f h g : F} {old v w : Vector T A} {at end k : ℕ} (s : Stage Told (May Takes) f (take 1 old.items) (drop 1 old.items) old h v at end) (gap : ℕ) → gap + len v ≡ at → ChainsBehind Asks h v gap (end - at) k g w
-          → Turned Told (May Takes) f (take 1 old.items) (drop 1 old.items) old at end gap k g w
-      chained-turn {h = h} {g = g} {v = v} {w = w} {at = at} {end = end} {k = k} s gap e asked = turned Told (May Takes) s gap e (λ stands. turn-chained h v gap (end - at) stands k g w asked)
+module _ {F T A : Type 0} {Asks : F → T → T → Bool → F → T → T → Type 0} {Takes : F → T → T → Type 0} where
+  pub chained-turn : {f h g : F} {old v w : Vector T A} {at end k n : ℕ} → Stage (Told Asks) (May Asks Takes) f (take 1 old.items) (drop 1 old.items) old h v at end → n ≡ len v → ChainsBehind Asks h v (at - n) (end - at) k g w
+      → Turned (Told Asks) (May Asks Takes) f (take 1 old.items) (drop 1 old.items) old at end (at - n) k g w
+  chained-turn {f = f} {h = h} {g = g} {old = old} {v = v} {w = w} s many asked = turned (Told Asks) (May Asks Takes) f (take 1 old.items) (drop 1 old.items) old s many (λ stands. turn-chained Asks Takes h v _ _ stands _ g w asked)
 
-      pub chained-start : (f : F) (old v : Vector T A) (end : ℕ) → SetsBack old 1 v → 1 ≤ end → end ≡ len old → MayDeduplicate Asks Takes f old.items → Stage Told (May Takes) f (take 1 old.items) (drop 1 old.items) old f v 1 end × (0 + len v ≡ 1)
-      chained-start f old v end set within all may =
-          (stage-start Told (May Takes) f old v 1 end set within all (may_all f old.items (omega (arith, within, all)) may), omega (arith, start-len Told (May Takes) f old v 1 end set within all))
+  pub chained-start : {f : F} {old v : Vector T A} {end : ℕ} (rest : ℕ) → SetsBack old 1 v → 1 + rest ≡ len old → end ≡ len old → IsCallableAlong Asks Takes f old.items → Stage (Told Asks) (May Asks Takes) f (take 1 old.items) (drop 1 old.items) old f v 1 end × (1 ≡ len v)
+  chained-start {f = f} {old = old} {end = end} rest set some all may =
+      let within : 1 ≤ end = omega (arith, some, all) in
+      (stage-start (Told Asks) (May Asks Takes) set within all (may_all Asks Takes f old.items (omega (arith, some)) may.along), start-len (Told Asks) (May Asks Takes) set within all)
 
-      -- all were asked
-      pub Deduplicates-ended : (f : F) (old : Vector T A) (g : F) (z : Vector T A) (at end : ℕ) → Stage Told (May Takes) f (take 1 old.items) (drop 1 old.items) old g z at end → at ≡ end → Deduplicates Asks f old g z
-      Deduplicates-ended f old g z at end s e =
-          let q = stage-ended Told (May Takes) f (take 1 old.items) (drop 1 old.items) old g z at end s e (λ yet none m. let p = split_last z.items m.some in rw none (record { front = p.0; last = p.1; answers = []; left = p.1 ∷ []; had = p.2; asked = (refl, refl); stay = refl; all = p.2 })) in let r = q.1 in
-          record {
-            answers = r.answers;
-            left = z.items;
-            asked = whole f old.items q.0 g z.items r;
-            holds = record { items = refl; block = q.4 };
-            written = q.2 ∙ ap (λ s. old.written + kept_behind_removed s) (sym r.stay);
-            runs = subst (λ s. z.runs ≤ old.runs + removed_count s) (sym r.stay) q.3;
-          }
+  -- all were asked
+  pub Deduplicates-ended : {f g : F} {old w : Vector T A} {at end : ℕ} → Stage (Told Asks) (May Asks Takes) f (take 1 old.items) (drop 1 old.items) old g w at end → at ≡ end → Deduplicates Asks f old g w
+  Deduplicates-ended {f = f} {g = g} {old = old} {w = w} {at = at} {end = end} s e =
+      let q = stage-ended (Told Asks) (May Asks Takes) f (take 1 old.items) (drop 1 old.items) old g w at end s e (λ yet none m. let p = split_last w.items m.some in rw none (record { front = p.0; last = p.1; answers = []; left = p.1 ∷ []; had = p.2; asked = (refl, refl); stay = refl; all = p.2 })) in let r = q.1 in
+      record {
+        answers = r.answers;
+        left = w.items;
+        asked = whole Asks Takes f old.items q.0 g w.items r;
+        holds = record { items = refl; block = q.4 };
+        written = q.2 ∙ ap (λ s. old.written + kept_behind_removed s) (sym r.stay);
+        runs = subst (λ s. w.runs ≤ old.runs + removed_count s) (sym r.stay) q.3;
+      }
+
+pub ruleset ended = (Deduplicates-ended, chained-start)

@@ -1,5 +1,5 @@
 -- Elements behind the items of a vector that are dropped, taken from either end, or moved down behind others.
-use Rattle.aa_vec.proofs.Common.{◌≡◌, ℕ, ◌+◌, ◌-◌, ◌<◌, ◌≤◌, List, ◌++◌, length, drop, replicate, Option, None, refl, sym, ap, ◌∙◌, subst, arith, length-append, slice_set, drop-drop, drop-set-add, drop-set-lt, drop_at, length-replicate, IsRun, run, length-run, run-drop, run-set-above, run-split, IsRun-part, IsRun-set-above, StandsBehind, ClosesGap, DropsBehind, behind_items, with_behind, Vector, len, Holds}
+use Rattle.aa_vec.proofs.Common.{◌≡◌, ℕ, ◌+◌, ◌-◌, ◌≤◌, List, drop, replicate, Option, None, refl, sym, ap, ◌∙◌, subst, arith, length-append, drop-drop, drop_at, length-replicate, IsRun, run, length-run, run-drop, IsRun-part, StandsBehind, ClosesGap, DropsBehind, behind_items, with_behind, Vector, len, Holds}
 use Rattle.std.proofs.lemmas.List.{append_assoc}
 use Rattle.aa_vec.proofs.Gaps.{further, run-of_drop, IsRun-to_drop}
 
@@ -33,19 +33,6 @@ module _ {T A : Type 0} where
   module _ (v w : Vector T A) (places : List (Option T)) (differs : w ≡ with_behind v places) where
     pub same_holds : Holds v v.items w
     same_holds = record { items = ap (λ u. u.items) differs; block = record { capacity = ap (λ u. u.capacity) differs; growth = ap (λ u. u.growth) differs; grown = ap (λ u. u.grown) differs; alloc = ap (λ u. u.alloc) differs } }
-
-  -- a place is emptied
-  module _ (v w : Vector T A) (at : ℕ) (taken : w ≡ with_behind v (slice_set v.behind at None)) where
-    -- what stands above it
-    module _ (gap : ℕ) (h : at < gap) where
-      same_above : drop gap w.behind ≡ drop gap v.behind
-      same_above = ap (λ u. drop gap u.behind) taken ∙ drop-set-lt gap v.behind at None h
-
-      pub above_stand : (n : ℕ) → StandsBehind v gap n → StandsBehind w gap n
-      above_stand n stands = still_stand v w gap gap n stands (omega (arith, stands.0, ap len taken, ap (λ u. u.capacity) taken)) same_above
-
-      pub above_are : (n : ℕ) → behind_items w gap n ≡ behind_items v gap n
-      above_are n = still_are v w gap gap n same_above
 
   -- what stands above a run that was dropped, and above one that was moved down
   pub above_dropped : (v w : Vector T A) (gap n end : ℕ) → gap + n ≤ end → DropsBehind v gap n w → drop end w.behind ≡ drop end v.behind

@@ -1,11 +1,12 @@
 -- Steps of a drain.
-use Rattle.aa_vec.proofs.Common.{re_v, ◌≡◌, ℕ, ◌+◌, ◌-◌, ◌<◌, ◌≤◌, List, [], ◌∷◌, ◌++◌, length, take, drop, Option, Some, None, refl, sym, ap, ◌∙◌, subst, arith, length-append, length-drop, length-set, length-take, MutBor, slice_set, drop-drop, drop-set-add, drop-set-lt, drop-take, IsRun, run, run-split, run-set-above, IsRun-part, IsRun-set-above, length-run, StandsBehind, SetsBack, behind_items, Vector, len, Drain}
+use Rattle.aa_vec.proofs.Common.{re_v, ◌≡◌, ℕ, ◌+◌, ◌-◌, ◌<◌, ◌≤◌, List, [], ◌∷◌, ◌++◌, length, take, drop, Option, Some, None, refl, sym, ap, ◌∙◌, subst, arith, length-append, length-drop, length-set, length-take, MutBor, slice_set, drop-drop, drop-set-add, drop-set-lt, drop-take, IsRun, run, run-split, run-set-above, IsRun-part, IsRun-set-above, length-run, StandsBehind, SetsBack, behind_items, Vector, len, ClosesTwice, Moves, Drain}
 use Rattle.std.specs.Prelude.{slice_range}
 use Rattle.std.specs.Iterator.Runs.{YieldsInOrder, YieldsInReverse}
 use Rattle.std.proofs.iter.runs.Sources.{from_front, from_back, as_is, as_is_back}
 use Rattle.aa_raw.proofs.Runs.{run-none}
 use Rattle.aa_vec.proofs.Gaps.{run-of_drop, IsRun-to_drop}
-use Rattle.aa_vec.specs.Draining.{TakesRange, DrainKeeps, DrainKeepsAlong, drain_rest, drain_tail, drains_first, drains_last}
+use Rattle.aa_vec.specs.Behind.{DropsAndCloses}
+use Rattle.aa_vec.specs.Draining.{Closes, KeepsRest, TakesRange, DrainKeeps, DrainKeepsAlong, drain_rest, drain_tail, drains_first, drains_last}
 use Rattle.aa_vec.proofs.Climbing.{SameBlock-refl, SameBlock-trans}
 use Rattle.aa_vec.proofs.Drained.{part_stand, later_part}
 use Rattle.aa_vec.proofs.Stands.{first_are}
@@ -35,7 +36,16 @@ module _ {T A : Type 0} where
   pub runs-in_reverse : YieldsInReverse (drains_last {T = T} {A = A}) drain_rest
   runs-in_reverse p s = as_is_back p (drain_rest p.from) (from_back (drains_last {T = T} {A = A}) (λ x. x) drain_rest (λ d e h. ap length h.1.0) (λ d x e h. h.1.0) p s)
 
-  -- how many are left, and how many are behind the range
+  -- what is left, and what is behind the range, as places of the vector's block
+  pub rest_is : (d : Drain T A) → drain_rest d ≡ behind_items d.vec.now d.front (d.back - d.front)
+  unfolding drain_rest
+  rest_is d = refl
+
+  pub tail_is : (d : Drain T A) → drain_tail d ≡ behind_items d.vec.now d.end (d.total - d.end)
+  unfolding drain_tail
+  tail_is d = refl
+
+  -- how many they are
   pub count_left : (d : Drain T A) → length (drain_rest d) ≡ d.back - d.front
   unfolding drain_rest
   count_left d = length-run (drop d.front d.vec.now.behind) 0 (d.back - d.front) d.held.0.1
@@ -105,4 +115,19 @@ module _ {X : Type 0} (bs : List (Option X)) (f b : ℕ) (some : f < b) (r : IsR
   IsRun-before = subst (λ ds. IsRun ds 0 few) (sym set-there) (IsRun-set-above (drop f bs) 0 few few None (omega (arith, r.0, some)) (omega arith) (IsRun-part (drop f bs) 0 (b - f) 0 few (omega arith) (omega (arith, some)) r))
 
 -- an item taken from either end
-pub ruleset from_ends = (run-next, IsRun-next, run-last, IsRun-end, run-before, IsRun-before, drop-set-lt, run-none, length-set, length-drop, length-append)
+pub ruleset from_ends = (rest_is, tail_is, run-next, IsRun-next, run-last, IsRun-end, run-before, IsRun-before, drop-set-lt, run-none, length-set, length-drop, length-append)
+
+-- what `drop_and_close` says, and what `drop` says
+pub closes : {X Y : Type 0} (d : Drain X Y) (w : Vector X Y) → DropsAndCloses d.vec.now d.end (d.total - d.end) w → Closes d w
+unfolding drain_tail
+closes d w h = record { holds = h.holds; writes = subst (λ n. Moves d.vec.now d.end n w) (sym (count_behind d)) h.writes }
+
+-- what `close_gaps` says, and what `keep_rest` says
+pub keeps : {X Y : Type 0} (d : Drain X Y) (w : Vector X Y) → ClosesTwice d.vec.now d.front (d.back - d.front) d.end (d.total - d.end) w → KeepsRest d w
+unfolding drain_rest drain_tail
+keeps d w h =
+    let taken : d.end - (d.back - d.front) ≡ d.front + (d.end - d.back) = omega (arith, d.ordered) in
+    record { holds = h.holds; writes = rw (count_left d, count_behind d, ← taken) h.writes }
+
+-- what follows calls of a range that was taken
+pub ruleset ranges = (keeps-along, runs-in_order, runs-in_reverse)

@@ -1,9 +1,9 @@
 -- A vector that items of an iterator are put behind.
-use Rattle.aa_vec.proofs.Common.{◌≡◌, ℕ, zero, suc, ◌+◌, ◌-◌, ◌<◌, ◌≤◌, List, [], ◌∷◌, ◌++◌, length, Option, Some, None, Ok, append_assoc, refl, sym, ap, ◌∙◌, subst, arith, length-append, min, map, Count, Yields, Drains, append-nil, TryReserveError, usize_max, Vector, len, HasRoom, LacksRoom, GrowsTo, Holds, Writes, MakesRoom, Placed, FillsGap, Climbs, stays, asked_for, YieldsTelling, ExtendsByAll, ExtendsByFront, Extended, CopiesOf}
+use Rattle.aa_vec.proofs.Common.{◌≡◌, ℕ, zero, suc, ◌+◌, ◌-◌, ◌<◌, ◌≤◌, List, [], ◌∷◌, ◌++◌, length, Option, Some, None, Ok, append_assoc, refl, sym, ap, ◌∙◌, subst, arith, length-append, min, map, Count, Yields, Drains, append-nil, TryReserveError, usize_max, Vector, len, HasRoom, LacksRoom, GrowsTo, Holds, Writes, Placed, FillsGap, Climbs, stays, asked_for, YieldsTelling, ExtendsByAll, ExtendsByFront, Extended, CopiesOf}
 use Rattle.std.specs.Borrow.{Bor}
 use Rattle.std.specs.Iterator.Runs.{WholeRun}
 use Rattle.std.proofs.iter.runs.Consumers.{total_runs}
-use Rattle.aa_vec.proofs.Climbing.{SameBlock-refl, MakesRoom-fits, MakesRoom-rises, Climbs-same, Climbs-more, Climbs-rises, Climbs-counted, Climbs-growth, Climbs-alloc}
+use Rattle.aa_vec.proofs.Climbing.{MakesRoom, SameBlock-refl, MakesRoom-fits, MakesRoom-rises, Climbs-same, Climbs-more, Climbs-rises, Climbs-counted, Climbs-growth, Climbs-alloc}
 
 -- the items that came, as one run
 pub whole_run : {S A : Type 0} (steps : S → Option A → S → Type 0) (s : S) (P : List A → Type 0) → (xs : List A) × Drains steps s xs × P xs → WholeRun steps s (λ p. P p.items)
@@ -81,7 +81,9 @@ module _ {S T : Type 0} (steps : S → Option T → S → Type 0) (Tells : S →
           told = p.told;
           ends = (u, h);
           within = p.within;
-          extends = record { climbs = p.climbs; enough = omega (arith, p.fits, count); items = p.items };
+          climbs = p.climbs;
+          enough = omega (arith, p.fits, count);
+          items = p.items;
         },
         refl,
       )
@@ -154,7 +156,7 @@ module _ {S T : Type 0} (steps : S → Option T → S → Type 0) (Tells : S →
             let asked : k ≡ asked_for next_lower (len old + length next_front - v.capacity) = e ∙ ap (asked_for next_lower) (sym one_left) in
             let m : MakesRoom size v v.capacity (asked_for next_lower (len old + length next_front - v.capacity)) w =
             subst (λ j. MakesRoom size v j (asked_for next_lower (len old + length next_front - v.capacity)) w) full (subst (λ j. MakesRoom size v (len v) j w) asked g.room) in
-            let room : len w < w.capacity = omega (arith, e, full, ap length g.items, MakesRoom-fits size (len v) k v w g.room (omega (arith, full, MakesRoom-rises size _ v w m))) in
+            let room : len w < w.capacity = omega (arith, e, full, ap length g.items, MakesRoom-fits size (len v) k v w g.room (omega (arith, full, MakesRoom-rises size (len v) k v w g.room))) in
             let climbs : Climbs size next_lower (len old + length next_front) old w = Climbs-more size next_lower (len old + length next_front) climbed (omega (arith, full, count, longer)) m in
             let i : new.items ≡ old.items ++ next_front = holds.items ∙ ap (λ ys. ys ++ x ∷ []) (g.items ∙ p.items) ∙ append_assoc old.items p.front (x ∷ []) in
             record {
@@ -173,22 +175,16 @@ module _ {S T : Type 0} (steps : S → Option T → S → Type 0) (Tells : S →
         pub Placing-refused : (k : ℕ) → k ≡ min (n + 1) usize_max → (error : TryReserveError) → LacksRoom size v k error → (front : ExtendsByFront steps Tells size iter old error v) × (front.last ≡ t)
         Placing-refused k e error lacks = (
           record {
-            taken = next_front;
+            front = p.front;
+            item = x;
             lower = next_lower;
             last = t;
             told = YieldsTelling-more p.lower n iter p.front s x t p.told step tells;
             within = p.within;
-            extends = record {
-              front = p.front;
-              others = x ∷ [];
-              begins = refl;
-              climbs = climbed;
-              short = omega (arith, full, count, longer);
-              items = p.items;
-              full = omega (arith, full, count);
-              lacks = subst (λ j. LacksRoom size v j error) e lacks;
-            };
-            one = refl;
+            climbs = subst (λ m. Climbs size next_lower m old v) (omega (arith, longer)) climbed;
+            items = p.items;
+            full = full;
+            lacks = subst (λ j. LacksRoom size v j error) e lacks;
           },
           refl,
         )
@@ -214,9 +210,9 @@ module _ {S T A : Type 0} (steps : S → Option T → S → Type 0) (Tells : S �
   -- what all extensions keep
   module _ (old new : Vector T A) (e : ExtendsByAll steps Tells size iter old new) where
     pub ExtendsByAll-growth : new.growth ≡ old.growth
-    ExtendsByAll-growth = Climbs-growth size e.lower (len old + length e.added) e.extends.climbs
+    ExtendsByAll-growth = Climbs-growth size e.lower (len old + length e.added) e.climbs
 
     pub ExtendsByAll-alloc : new.alloc ≡ old.alloc
-    ExtendsByAll-alloc = Climbs-alloc size e.lower (len old + length e.added) e.extends.climbs
+    ExtendsByAll-alloc = Climbs-alloc size e.lower (len old + length e.added) e.climbs
 
 pub ruleset extended = (ExtendsByAll-growth, ExtendsByAll-alloc)

@@ -1,7 +1,9 @@
 -- What calls that take elements out of a range leave, one after the other.
-use Rattle.aa_vec.proofs.Common.{◌≡◌, ℕ, suc, ◌+◌, ◌-◌, ◌<◌, ◌≤◌, Bool, true, not, List, [], ◌∷◌, ◌++◌, length, map, take, drop, Option, Some, None, refl, sym, ap, ◌∙◌, subst, arith, inl, inr, append_assoc, length-append, length-drop, length-take, filter, Yields, append-nil, drop-drop, take-append-drop, drop-take, filter-append, Asked, AskedInOrder, MayAskInOrder, IsCallableInOrder, kept, passed_over, Extracts, extract_kept, extract_rest, ExtractBy, ExtractIf}
+use Rattle.aa_vec.proofs.Common.{◌≡◌, ℕ, suc, ◌+◌, ◌-◌, ◌<◌, ◌≤◌, Bool, true, not, List, [], ◌∷◌, ◌++◌, length, map, take, drop, Option, Some, None, refl, sym, ap, ◌∙◌, subst, arith, inl, inr, append_assoc, length-append, length-drop, length-take, filter, Yields, append-nil, drop-drop, filter-append, length-map, Asked, AskedInOrder, MayAskInOrder, IsCallableInOrder, kept, passed_over, Extracts, extract_kept, extract_rest, ExtractBy, ExtractIf}
 use Rattle.std.specs.Iterator.{MakesProgress, at_most}
-use Rattle.std.proofs.lemmas.List.{map-append, take-take}
+use lib.Seq.{take-add}
+use Rattle.std.proofs.lemmas.List.{map-append}
+use Rattle.std.proofs.lemmas.List.Filters.{length-filter_both}
 use Rattle.aa_vec.specs.Extracting.{Extracted, ExtractedTo, ExtractsAlong, extract_count, extract_vec}
 use Rattle.aa_vec.proofs.Climbing.{SameBlock-refl, SameBlock-trans}
 use Rattle.aa_vec.proofs.Closed.{few_runs, moved_most}
@@ -12,18 +14,17 @@ kept-append told more = ap (map (λ t. t.left)) (filter-append (λ t. t.answer) 
 passed-append : {T : Type 0} (told more : List (Asked T)) → passed_over (told ++ more) ≡ passed_over told ++ passed_over more
 passed-append told more = ap (map (λ t. t.left)) (filter-append (λ t. not t.answer) told more) ∙ map-append (λ t. t.left) (filter (λ t. not t.answer) told) (filter (λ t. not t.answer) more)
 
-take-both : {T : Type 0} (n m : ℕ) (xs : List T) → take (n + m) xs ≡ take n xs ++ take m (drop n xs)
-take-both n m xs =
-    let all : List _ = take (n + m) xs in
-    sym (take-append-drop n all) ∙ ap (λ l. l ++ drop n all) (take-take n (n + m) xs (omega arith)) ∙ ap (λ l. take n xs ++ l) (drop-take n m xs)
+-- of those that were asked, some stay, and the others were taken out
+pub asked_parts : {T : Type 0} (told : List (Asked T)) → length told ≡ length (passed_over told) + length (kept told)
+asked_parts told =
+    omega (arith, length-filter_both (λ t. t.answer) (λ t. not t.answer) (λ t. refl) told, length-map (filter (λ t. t.answer) told) (λ t. t.left), length-map (filter (λ t. not t.answer) told) (λ t. t.left))
 
 module _ {F T : Type 0} (Asks : F → T → Bool → F → T → Type 0) where
   -- as many were asked as were told
   pub asked_count : (f g : F) (xs : List T) (told : List (Asked T)) → AskedInOrder Asks f xs told g → length told ≡ length xs
   asked_count f g [] [] a = refl
-  asked_count f g [] (y ∷ told) a = absurd a
-  asked_count f g (x ∷ xs) [] a = absurd a
   asked_count f g (x ∷ xs) (y ∷ told) a = ap suc (asked_count a.0 g xs told a.2)
+  asked_count f g xs told a = absurd a
 
   -- and the others may be asked
   may_after : (Takes : F → T → Type 0) (f g : F) (xs : List T) (told : List (Asked T)) → MayAskInOrder Asks Takes f xs → AskedInOrder Asks f (take (length told) xs) told g → MayAskInOrder Asks Takes g (drop (length told) xs)
@@ -34,9 +35,8 @@ module _ {F T : Type 0} (Asks : F → T → Bool → F → T → Type 0) where
 
   asked-append : (f h g : F) (xs ys : List T) (told more : List (Asked T)) → AskedInOrder Asks f xs told h → AskedInOrder Asks h ys more g → AskedInOrder Asks f (xs ++ ys) (told ++ more) g
   asked-append f h g [] ys [] more a b = subst (λ s. AskedInOrder Asks s ys more g) a b
-  asked-append f h g [] ys (y ∷ told) more a b = absurd a
-  asked-append f h g (x ∷ xs) ys [] more a b = absurd a
   asked-append f h g (x ∷ xs) ys (y ∷ told) more a b = (a.0, a.1, asked-append a.0 h g xs ys told more a.2 b)
+  asked-append f h g xs ys told more a b = absurd a
 
   module _ {A : Type 0} where
     -- nothing was asked
@@ -64,32 +64,25 @@ module _ {F T : Type 0} (Asks : F → T → Bool → F → T → Type 0) where
         abbrev all : List (Asked T)
         all = now.told ++ next.told
 
-        together : take (length all) (extract_rest s) ≡ take (length now.told) (extract_rest s) ++ take (length next.told) (extract_rest t)
-        together =
-            let q : ℕ = length now.told in let k : ℕ = length next.told in let ys : List T = extract_rest s in
-            ap (λ n. take n ys) (length-append now.told next.told) ∙ take-both q k ys ∙ ap (λ l. take q ys ++ take k l) (sym now.rest)
-
         pub Extracted-then : Extracted Asks f s (xs ++ taken) g w
-        Extracted-then = record {
-          told = all;
-          asked = subst (λ l. AskedInOrder Asks f l all g) (sym together) (asked-append f h g (take (length now.told) (extract_rest s)) (take (length next.told) (extract_rest t)) now.told next.told now.asked next.asked);
-          items = ap (λ l. l ++ taken) now.items ∙ ap (λ l. kept now.told ++ l) (sym items) ∙ sym (kept-append now.told next.told);
-          kept = next.kept ∙ ap (λ l. l ++ passed_over next.told) now.kept ∙ append_assoc (extract_kept s) (passed_over now.told) (passed_over next.told)
-              ∙ ap (λ l. extract_kept s ++ l) (sym (passed-append now.told next.told));
-          rest = next.rest ∙ ap (drop (length next.told)) now.rest ∙ drop-drop (length next.told) (length now.told) (extract_rest s) ∙ ap (λ n. drop n (extract_rest s)) (sym (length-append now.told next.told));
-          lender = next.lender ∙ now.lender;
-          head = record { items = next.head.items ∙ now.head.items; block = SameBlock-trans now.head.block next.head.block };
-          tail = next.tail ∙ now.tail;
-          count = omega (arith, next.count, ap length items, now.count, length-append xs taken);
-          written = omega (
-            arith,
-            now.written,
-            next.writes.written,
-            moved_most (extract_count t) (length (passed_over next.told)),
-            ap length (passed-append now.told next.told),
-            length-append (passed_over now.told) (passed_over next.told),
-          );
-        }
+        Extracted-then =
+            let q : ℕ = length now.told in let k : ℕ = length next.told in let ys : List T = extract_rest s in
+            let together : take (length all) ys ≡ take q ys ++ take k (extract_rest t) = ap (λ n. take n ys) (length-append now.told next.told) ∙ take-add q k ys ∙ ap (λ l. take q ys ++ take k l) (sym now.rest) in
+            record {
+              told = all;
+              asked = subst (λ l. AskedInOrder Asks f l all g) (sym together) (asked-append f h g (take (length now.told) (extract_rest s)) (take (length next.told) (extract_rest t)) now.told next.told now.asked next.asked);
+              items = ap (λ l. l ++ taken) now.items ∙ ap (λ l. kept now.told ++ l) (sym items) ∙ sym (kept-append now.told next.told);
+              kept = next.kept ∙ ap (λ l. l ++ passed_over next.told) now.kept ∙ append_assoc (extract_kept s) (passed_over now.told) (passed_over next.told)
+                  ∙ ap (λ l. extract_kept s ++ l) (sym (passed-append now.told next.told));
+              rest = next.rest ∙ ap (drop (length next.told)) now.rest ∙ drop-drop (length next.told) (length now.told) (extract_rest s) ∙ ap (λ n. drop n (extract_rest s)) (sym (length-append now.told next.told));
+              lender = next.lender ∙ now.lender;
+              head = record { items = next.head.items ∙ now.head.items; block = SameBlock-trans now.head.block next.head.block };
+              tail = next.tail ∙ now.tail;
+              count = omega (arith, next.count, ap length items, now.count, length-append xs taken);
+              written =
+                  let more : length (passed_over all) ≡ length (passed_over now.told) + length (passed_over next.told) = ap length (passed-append now.told next.told) ∙ length-append (passed_over now.told) (passed_over next.told) in
+                  omega (arith, now.written, next.writes.written, moved_most (extract_count t) (length (passed_over next.told)), more);
+            }
 
       -- an element was taken out
       pub Extracted-more : (x : T) → Extracts Asks h t (Some x) g w → ExtractedTo Asks f s (xs ++ x ∷ []) g w
@@ -108,16 +101,10 @@ module _ {F T : Type 0} (Asks : F → T → Bool → F → T → Type 0) where
 
     -- after a call that took one, the others may be asked, and they are fewer
     module _ (f g : F) (s t : ExtractBy T A) (x : T) (next : Extracts Asks f s (Some x) g t) where
-      some_told : 0 < length next.told
-      some_told = elim next.cases.1 [
-        | inl none ↦ absurd (omega (arith, ap length next.cases.0, ap (λ l. length (kept l)) none))
-        | inr last ↦ omega (arith, ap length last.2, length-append last.0 (record { answer = true; left = last.1 } ∷ []))
-      ]
-
       pub extracts_fewer : length (extract_rest t) < length (extract_rest s)
       extracts_fewer =
           let q : ℕ = length next.told in let ys : List T = extract_rest s in
-          omega (arith, some_told, asked_count f g (take q ys) next.told next.asked, length-take q ys, ap length next.rest, length-drop q ys)
+          omega (arith, asked_parts next.told, ap length next.cases.0, asked_count f g (take q ys) next.told next.asked, length-take q ys, ap length next.rest, length-drop q ys)
 
       pub extracts_may : (Takes : F → T → Type 0) → IsCallableInOrder Asks Takes f (extract_rest s) → IsCallableInOrder Asks Takes g (extract_rest t)
       extracts_may Takes may = record { along = subst (MayAskInOrder Asks Takes g) (sym next.rest) (may_after Takes f g (extract_rest s) next.told may.along next.asked) }
@@ -137,7 +124,7 @@ module _ {F T : Type 0} (Asks : F → T → Bool → F → T → Type 0) where
     runs_along s (x ∷ xs) later y = omega (arith, runs_along y.0 xs later y.2, y.1.writes.runs, few_runs (extract_count s.by) (length (passed_over y.1.told)), y.1.count, ap length y.1.cases.0)
 
     pub extracts_along : (s : ExtractIf T F A) → ExtractsAlong Asks s
-    extracts_along s xs later y = (along s s [] xs later (ExtractedTo-none s.f s.by) y, runs_along s xs later y)
+    extracts_along s = record { along = λ xs later y. (along s s [] xs later (ExtractedTo-none s.f s.by) y, runs_along s xs later y) }
 
     -- a call comes nearer to the end
     pub extracts_progress : (Takes : F → T → Type 0) (s t : ExtractIf T F A) (r : Option T) → Extracts Asks s.f s.by r t.f t.by → IsCallableInOrder Asks Takes s.f (extract_rest s.by)

@@ -1,20 +1,12 @@
 -- Calls that take elements out of a range.
-use Rattle.aa_vec.proofs.Common.{re_v, ◌≡◌, ℕ, suc, ◌+◌, ◌-◌, ◌≤◌, Bool, true, false, not, List, [], ◌∷◌, ◌++◌, length, map, drop, Option, Some, None, refl, sym, ap, ◌∙◌, subst, arith, length-append, MutBor, cond, filter, MatchOption, take-append-drop, run-zero, StandsBehind, SetsBack, ClosesTwice, behind_items, Asked, EndsTrue, MayAskInOrder, kept, passed_over, ClosesExtract, ExtractsRange, Extracts, StaysAt, Picks, Vector, len, Holds, Moves, ExtractBy}
+use Rattle.aa_vec.proofs.Common.{re_v, ◌≡◌, ℕ, ◌+◌, ◌-◌, ◌≤◌, Bool, false, not, List, [], ◌∷◌, ◌++◌, length, drop, Option, Some, None, refl, sym, ap, ◌∙◌, subst, arith, length-append, MutBor, MatchOption, take-append-drop, run-zero, StandsBehind, SetsBack, ClosesTwice, behind_items, EndsTrue, MayAskInOrder, kept, ClosesExtract, ExtractsRange, Extracts, StaysAt, Picks, Vector, len, Holds, Moves, ExtractBy}
 use Rattle.aa_vec.specs.Draining.{drain_rest, drain_tail}
 use Rattle.aa_vec.specs.Extracting.{extract_kept, extract_rest, extract_tail}
 use Rattle.aa_vec.proofs.Drained.{still_stand, still_are, part_stand, later_part}
 use Rattle.aa_vec.proofs.Drains.{range_held, range_drains}
+use Rattle.aa_vec.proofs.Extracted.{asked_parts}
 use Rattle.aa_vec.proofs.Gaps.{further}
 use Rattle.aa_vec.proofs.Stands.{count, first_are}
-
-one_part : {T : Type 0} (b : Bool) (y : Asked T) (ys zs : List (Asked T)) → length (map (λ t. t.left) (cond (not b) (y ∷ ys) ys)) + length (map (λ t. t.left) (cond b (y ∷ zs) zs)) ≡ suc (length (map (λ t. t.left) ys) + length (map (λ t. t.left) zs))
-one_part true y ys zs = omega arith
-one_part false y ys zs = omega arith
-
--- of those that were asked, some stay, and the others were taken out
-asked_parts : {T : Type 0} (told : List (Asked T)) → length told ≡ length (passed_over told) + length (kept told)
-asked_parts [] = refl
-asked_parts (y ∷ told) = omega (arith, one_part y.answer y (filter (λ t. not t.answer) told) (filter (λ t. t.answer) told), asked_parts told)
 
 module _ {F T : Type 0} (Asks : F → T → Bool → F → T → Type 0) (Takes : F → T → Type 0) where
   -- who may be asked may be asked for either answer
@@ -48,9 +40,6 @@ module _ {T A : Type 0} (e : ExtractBy T A) where
   rest_count = count e.vec.now e.front (e.end - e.front) rest_stand
 
   module _ {F : Type 0} (Asks : F → T → Bool → F → T → Type 0) (f : F) (stay next : ℕ) (item : Option T) (g : F) (new : Vector T A) (picks : Picks Asks f e.vec.now e.kept e.front e.end stay next item g new) where
-    pub picked_ordered : (e.kept + stay ≤ next) × (next ≤ e.end) × (e.end ≤ e.total)
-    picked_ordered = (picks.within.0, picks.within.2, e.ordered.2)
-
     pub picked_held : StandsBehind new 0 (e.kept + stay) × StandsBehind new next (e.total - next)
     picked_held = (
       picks.stands,
@@ -64,23 +53,19 @@ module _ {T A : Type 0} (e : ExtractBy T A) where
     picked_cases None c = (c.0, ap (behind_items new next) (omega (arith, c.1)) ∙ run-zero (drop next new.behind) 0)
     picked_cases (Some x) c = c
 
-    picked_rest : behind_items new next (e.end - next) ≡ drop (length picks.told) (behind_items e.vec.now e.front (e.end - e.front))
-    picked_rest =
-        let many : next ≡ e.front + length picks.told = picks.counts.1 in
-        still_are e.vec.now new next next (e.end - next) picks.above ∙ ap (λ i. behind_items e.vec.now i (e.end - next)) many
-        ∙ later_part e.vec.now e.front (length picks.told) (e.end - e.front) (e.end - next) (omega (arith, many, picks.within)) rest_stand
-
     pub picked_extracts : (ordered : (e.kept + stay ≤ next) × (next ≤ e.end) × (e.end ≤ e.total)) (held : StandsBehind new 0 (e.kept + stay) × StandsBehind new next (e.total - next))
         → Extracts Asks f e item g (record { vec = re_v new e.vec; kept = e.kept + stay; front = next; end = e.end; total = e.total; ordered = ordered; held = held })
     unfolding extract_kept extract_rest extract_tail
     picked_extracts ordered held =
+        let many : next ≡ e.front + length picks.told = picks.counts.1 in
         record {
           told = picks.told;
           asked = picks.asked;
           cases = picked_cases item picks.cases;
           count = omega (arith, picks.counts, asked_parts picks.told, e.ordered);
           kept = picks.stayed;
-          rest = picked_rest;
+          rest = still_are e.vec.now new next next (e.end - next) picks.above ∙ ap (λ i. behind_items e.vec.now i (e.end - next)) many
+              ∙ later_part e.vec.now e.front (length picks.told) (e.end - e.front) (e.end - next) (omega (arith, many, picks.within)) rest_stand;
           lender = refl;
           head = picks.holds;
           tail = still_are e.vec.now new e.end e.end (e.total - e.end) (further new.behind e.vec.now.behind next next e.end e.end (omega (arith, picks.within)) refl picks.above);
@@ -104,3 +89,6 @@ module _ {T A : Type 0} (e : ExtractBy T A) where
         holds = subst (λ l. Holds e.vec.now (e.vec.now.items ++ (behind_items e.vec.now 0 e.kept ++ l)) w) closed_parts closes.holds;
         writes = subst (λ m. Moves e.vec.now (e.front - e.kept) m w) (sym moved) (record { written = omega (arith, closes.writes.written); runs = omega (arith, closes.writes.runs) });
       }
+
+-- a call that asked some of them
+pub ruleset picked = (rest_stand, picked_extracts)

@@ -1,7 +1,7 @@
 -- A gap before the elements behind the items of a vector: items are put into it, and it is made.
 use Rattle.aa_vec.proofs.Common.{◌≡◌, ℕ, ◌+◌, ◌-◌, ◌<◌, ◌≤◌, List, [], ◌∷◌, ◌++◌, length, take, drop, Option, Some, None, append_assoc, refl, sym, ap, ◌∙◌, subst, arith, length-append, length-take, if◌then◌else◌, ◌==◌, Yields, append-nil, drop-drop, wrote, IsRun, run, moved, length-moved, length-run, IsRun-long, IsRun-same, run-moved, run-moved-below, Vector, len, Holds, Writes, GrowsTo, view_of, IsFront, StandsBehind, SetsBack, ClosesGap, behind_items, Widens, Placed, FillsGap, FillsAndCloses, Inside}
 use Rattle.aa_vec.specs.Filling.{OpensGap}
-use Rattle.aa_vec.proofs.Climbing.{SameBlock-refl, SameBlock-trans, MakesRoom-into, MakesRoom-fits}
+use Rattle.aa_vec.proofs.Climbing.{SameBlock-refl, SameBlock-trans, MakesRoom-fits}
 use Rattle.aa_vec.proofs.Drained.{still_stand, still_are}
 use Rattle.aa_vec.proofs.Gaps.{run-of_drop, IsRun-to_drop, there, elements}
 
@@ -130,7 +130,7 @@ module _ {T A : Type 0} (size : ℕ) (old w x : Vector T A) (gap n : ℕ) (few :
       let at : k - n ≡ len old - n = omega (arith, same_len, e) in
       record {
         items = o.holds.items ∙ sets.holds.items ∙ ap (λ i. take i w.items) at ∙ ap (take (len old - n)) g.items;
-        room = MakesRoom-into size (len old) gap g.room (SameBlock-trans sets.holds.block o.holds.block);
+        room = SameBlock-trans g.room (SameBlock-trans sets.holds.block o.holds.block);
         stands = o.stands;
         elements = o.elements ∙ ap (behind_items x 0) (sym at_end) ∙ sets.elements ∙ ap (λ i. drop i w.items) at ∙ ap (drop (len old - n)) g.items;
         writes = record { written = omega (arith, o.writes.written, sets.writes.written, z.written); runs = omega (arith, o.writes.runs, sets.writes.runs, z.runs) };

@@ -1,6 +1,5 @@
 -- Arrays whose elements are moved behind those of a vector, one array after another.
-use Rattle.aa_vec.proofs.Common.{◌≡◌, ℕ, ◌+◌, ◌-◌, ◌*◌, ◌<◌, ◌≤◌, List, [], ◌++◌, replicate, Option, None, Some, length, get_or, refl, sym, ap, ◌∙◌, subst, arith, inl, inr, append_assoc, length-append, slice_set, eqb_tells, nat_tests, usize_max, IsRun, run, flattened, sized}
-use Rattle.std.proofs.Common.{append-nil}
+use Rattle.aa_vec.proofs.Common.{append-nil, ◌≡◌, ℕ, ◌+◌, ◌-◌, ◌*◌, ◌<◌, ◌≤◌, List, ◌++◌, Option, None, Some, get_or, ap, ◌∙◌, arith, append_assoc, length-append, slice_set, nat_tests, usize_max, IsRun, run, flattened, sized}
 use Rattle.aa_raw.proofs.Calls.{run-of_none, run-take_first}
 
 -- room as large as it is to be is as large as that again

@@ -1,5 +1,5 @@
 -- Elements behind the items of a vector, and the gap before them, as the places of its block.
-use Rattle.aa_vec.proofs.Common.{◌≡◌, ℕ, ◌+◌, ◌-◌, ◌<◌, ◌≤◌, List, [], ◌∷◌, ◌++◌, length, map, take, drop, replicate, get_or, Option, Some, None, refl, sym, ap, ◌∙◌, subst, arith, inl, inr, length-append, length-drop, length-set, length-take, slice_set, if◌then◌else◌, ◌==◌, drop-append-le, drop-drop, drop-map, drop-take, drop-set, drop-set-add, drop-set-lt, length-map, length-replicate, length-take-le, take-append-drop, take_at, drop_at, IsRun, length-moved, length-run, IsRun-long, IsRun-part, IsRun-same, drop-with, run-drop, run-filled, run-moved, run-moved-below, run-split, run-take, run-is, run-set-above, IsRun-set-above, StandsBehind, LeavesBehind, behind_items, Vector, len, view_of, IsFront, Inside}
+use Rattle.aa_vec.proofs.Common.{◌≡◌, ℕ, ◌+◌, ◌-◌, ◌<◌, ◌≤◌, List, [], ◌∷◌, ◌++◌, length, map, take, drop, replicate, get_or, Option, Some, None, refl, sym, ap, ◌∙◌, subst, arith, length-append, length-drop, length-set, length-take, slice_set, if◌then◌else◌, ◌==◌, drop-append-le, drop-drop, drop-map, drop-take, drop-set, drop-set-add, drop-set-lt, length-map, length-replicate, length-take-le, take-append-drop, take_at, drop_at, IsRun, length-moved, length-run, IsRun-long, IsRun-part, drop-with, run-drop, run-filled, run-moved, run-moved-below, run-split, run-take, run-is, run-set-above, IsRun-set-above, StandsBehind, LeavesBehind, behind_items, Vector, len, view_of, IsFront, Inside}
 use Rattle.std.specs.List.{refill, length_refill}
 use Rattle.aa_raw.specs.Block.{with_places}
 use Rattle.aa_raw.specs.Places.{IsFilled, run, moved, with_run}
@@ -29,9 +29,6 @@ module _ {X : Type 0} where
 
   pub IsRun-back : (cs : List (Option X)) (a n : ℕ) → IsRun cs 0 n → a ≤ n → IsRun (drop a cs) 0 (n - a)
   IsRun-back cs a n r h = IsRun-to_drop cs a (n - a) (IsRun-part cs 0 n a (n - a) (omega arith) (omega (arith, h)) r)
-
-  pub length-front : (cs : List (Option X)) (a n : ℕ) → IsRun cs 0 n → a ≤ n → length (take a (run cs 0 n)) ≡ a
-  length-front cs a n r h = grind (arith, length-run cs 0 n r, length-take)
 
   pub IsRun-front : (cs : List (Option X)) (a n : ℕ) → IsRun cs 0 n → a ≤ n → IsRun cs 0 a
   IsRun-front cs a n r h = IsRun-part cs 0 n 0 a (omega arith) (omega (arith, h)) r
@@ -120,11 +117,8 @@ module _ {T A : Type 0} (v : Inside T A) (front : IsFront v) (some : 0 < v.len) 
   abbrev pub before : List T
   before = run v.block.places 0 (v.len - 1)
 
-  last-there : IsRun v.block.places (v.len - 1) 1
-  last-there = IsRun-part v.block.places 0 v.len (v.len - 1) 1 (omega arith) (omega arith) front
-
   pub last-filled : IsFilled v.block.places (v.len - 1)
-  last-filled = first-filled v.block.places (v.len - 1) 1 last-there (omega arith)
+  last-filled = first-filled v.block.places (v.len - 1) 1 (IsRun-part v.block.places 0 v.len (v.len - 1) 1 (omega arith) (omega arith) front) (omega arith)
 
   pub last-item : (l : T) → get_or v.block.places (v.len - 1) None ≡ Some l → (view_of v).items ≡ before ++ l ∷ []
   last-item l e =
@@ -192,7 +186,7 @@ pub ruleset behind = (run-of_drop, IsRun-to_drop, drop-moved, over_gap, drop-dro
 pub ruleset closed = (run-closed, drop-closed, IsRun-closed, over_gap, length-moved, length-run, drop-drop)
 
 -- elements that were set back
-pub ruleset set_apart = (drop-set_apart, length-drop, length-front, run-back, IsRun-back, IsRun-front, run-take, length-run)
+pub ruleset set_apart = (drop-set_apart, length-drop, length-take, run-back, IsRun-back, IsRun-front, run-take, length-run)
 
 -- an element that was taken
 pub ruleset emptied = (run-one, run-set-above, length-set, drop-set-add, drop-drop, first-filled, run-of_drop, length-run, IsRun-set-above)
@@ -202,3 +196,6 @@ pub ruleset lent = (run-is, drop-drop, run-of_drop, length-run)
 
 -- elements that were dropped
 pub ruleset cleared = (drop-laid, drop-drop, run-with-below, IsRun-cleared, length-with_run, length-replicate, length-run)
+
+-- an element that is asked beside the last item
+pub ruleset beside = (seen, filled, last-filled, length-run)

@@ -1,9 +1,9 @@
 -- Items gathered in a vector of their own, and what was asked for where they could not be.
-use Rattle.aa_vec.proofs.Common.{◌≡◌, ℕ, ◌+◌, ◌-◌, ◌<◌, ◌≤◌, List, [], ◌∷◌, ◌++◌, length, Option, None, refl, sym, ap, ◌∙◌, subst, arith, inl, inr, length-append, min, eqb_tells, append-nil, TryReserveError, Doubling, amortized, least_of, usize_max, Vector, len, IsNew, LacksRoom, GrowsTo, Holds, MakesRoom, Climbs, stays, grows, asked_for, ExtendsFull, ExtendsByAll, ExtendsByFront, Gathers, GathersShort}
+use Rattle.aa_vec.proofs.Common.{◌≡◌, ℕ, ◌+◌, ◌-◌, ◌<◌, ◌≤◌, List, [], ◌∷◌, ◌++◌, length, Option, None, refl, sym, ap, cases_lt, ◌∙◌, subst, arith, inl, inr, length-append, min, eqb_tells, append-nil, TryReserveError, Doubling, amortized, least_of, usize_max, Vector, len, IsNew, LacksRoom, GrowsTo, Holds, Climbs, stays, grows, asked_for, ExtendsFull, ExtendsByAll, ExtendsByFront, Gathers, GathersShort}
 use Rattle.aa_raw.specs.Refusals.{IsRefusedAt}
 use Rattle.aa_vec.specs.Splicing.{LacksVector, LacksOthers}
 use Rattle.aa_vec.specs.Filling.{Told}
-use Rattle.aa_vec.proofs.Climbing.{SameBlock-refl, Climbs-counted}
+use Rattle.aa_vec.proofs.Climbing.{full_of, MakesRoom, MakesRoom-stays, SameBlock-refl, Climbs-counted}
 use Rattle.aa_vec.proofs.Counted.{ExtendsFull-told}
 use Rattle.aa_vec.proofs.Lists.{equal, unequal}
 use Rattle.aa_vec.proofs.Telling.{told_first}
@@ -84,30 +84,33 @@ module _ {S T A : Type 0} (steps : S → Option T → S → Type 0) (Tells : S �
           let e = by.0 in
           let f = told_first steps Tells e.lower s e.added e.last e.told n tells in
           let P : S → Type 0 = λ k. steps e.last None k in
-          record { rest = e.added; told = record { lower = f.0; last = e.last; first = f.4; each = f.2 }; ends = subst P by.1 e.ends.1; items = e.extends.items ∙ ap (λ ys. ys ++ e.added) one }
+          record { rest = e.added; told = record { lower = f.0; last = e.last; first = f.4; each = f.2 }; ends = subst P by.1 e.ends.1; items = e.items ∙ ap (λ ys. ys ++ e.added) one }
 
       pub GathersShort-more : (x : Vector T A) (error : TryReserveError) (t : S) → (e : ExtendsByFront steps Tells size s w error x) × (e.last ≡ t) → GathersShort steps Tells size s first fails old error t
       GathersShort-more x error t by =
           let e = by.0 in
           let nil : List T = [] in
-          let all : List T = first ∷ e.taken in
-          let f = told_first steps Tells e.lower s e.taken e.last e.told n tells in
-          let same : (k : ℕ) → (length w.items ≤ v.capacity → k < length e.taken) → e.lower k ≡ f.0 (k + length nil) = λ k h. f.1 k (h (omega (arith, e.within, put.block.capacity))) ∙ ap f.0 (omega arith) in
-          let full : ExtendsFull size f.0 v w.items e.taken error x = ExtendsFull-told size e.lower f.0 put.block w.items e.taken nil same e.taken (sym (append-nil e.taken)) error x e.extends in
-          let needed : length w.items + length e.taken ≡ length nil + length all = omega (arith, ap length one) in
+          let taken : List T = e.front ++ e.item ∷ [] in
+          let all : List T = first ∷ taken in
+          let f = told_first steps Tells e.lower s taken e.last e.told n tells in
+          let same : (k : ℕ) → (length w.items ≤ v.capacity → k < length taken) → e.lower k ≡ f.0 (k + length nil) = λ k h. f.1 k (h (omega (arith, e.within, put.block.capacity))) ∙ ap f.0 (omega arith) in
+          let full : ExtendsFull size f.0 v w.items taken error x = ExtendsFull-told size e.lower f.0 put.block w.items taken nil same taken (sym (append-nil taken)) error x (full_of steps Tells size s w x error e) in
+          let needed : length w.items + length taken ≡ length nil + length all = omega (arith, ap length one) in
           let rest : Climbs size f.0 (length nil + length all) v x = subst (λ k. Climbs size f.0 k v x) needed full.climbs in
           let none : len made ≡ 0 = ap length new.items in
-          let climbs : Climbs size f.0 (length nil + length all) made x = elim g.room [
-            | inl h ↦ Climbs-counted size f.0 f.0 (length nil + length all) 0 (length nil + length all) h.1 (omega arith) (λ k _. ap f.0 (omega arith)) rest
+          let climbs : Climbs size f.0 (length nil + length all) made x = elim (cases_lt made.capacity (len made + wanted)) [
             | inr h ↦
-                let no_places : made.capacity ≡ 0 = new.capacity ∙ unequal size 0 usize_max 0 (λ z. absurd (omega (arith, z, h.1.has_size))) in
+                let b = MakesRoom-stays size (len made) wanted made v g.room (omega (arith, h)) in
+                Climbs-counted size f.0 f.0 (length nil + length all) 0 (length nil + length all) b (omega arith) (λ k _. ap f.0 (omega arith)) rest
+            | inl h ↦
+                let no_places : made.capacity ≡ 0 = new.capacity ∙ unequal size 0 usize_max 0 (λ z. absurd (omega (arith, h, is, none, new.capacity ∙ equal size 0 usize_max 0 z))) in
                 let asked : wanted ≡ asked_for f.0 (length nil + length all - made.capacity) = is ∙ ap (λ k. min (k + 1) usize_max) (sym f.3 ∙ ap f.0 (omega (arith, no_places))) in
                 let m : MakesRoom size made made.capacity (asked_for f.0 (length nil + length all - made.capacity)) v =
                 subst (λ k. MakesRoom size made made.capacity k v) asked (subst (λ k. MakesRoom size made k wanted v) {x = len made} {y = made.capacity} (omega (arith, none, no_places)) g.room) in
                 grows (omega (arith, no_places)) m rest
           ] in
           record {
-            rest = e.taken;
+            rest = taken;
             told = record { lower = f.0; last = e.last; first = f.4; each = f.2 };
             stops = by.1;
             lacks = inr (

@@ -6,9 +6,8 @@ module _ {Q F T : Type 0} (inner : Q → F) (Outer : Q → T → Bool → Q → 
     (calls : (q : Q) (x : T) (answer : Bool) (r : Q) (y : T) → Outer q x answer r y → Inner (inner q) x answer (inner r) y) where
   asked_on : (q : Q) (xs : List T) (told : List (Asked T)) (r : Q) → AskedInOrder Outer q xs told r → AskedInOrder Inner (inner q) xs told (inner r)
   asked_on q [] [] r a = ap inner a
-  asked_on q [] (y ∷ told) r a = absurd a
-  asked_on q (x ∷ xs) [] r a = absurd a
   asked_on q (x ∷ xs) (y ∷ told) r a = (inner a.0, calls q x y.answer a.0 y.left a.1, asked_on a.0 xs told r a.2)
+  asked_on q xs told r a = absurd a
 
   pub Retains-on : {A : Type 0} (q : Q) (old : Vector T A) (r : Q) (new : Vector T A) → Retains Outer q old r new → Retains Inner (inner q) old (inner r) new
   Retains-on q old r new h = record { told = h.told; asked = asked_on q old.items h.told r h.asked; holds = h.holds; written = h.written; runs = h.runs }
@@ -26,10 +25,9 @@ module _ {Q F T : Type 0} (inner : Q → F) (Outer : Q → T → T → Bool → 
     (calls : (q : Q) (x l : T) (answer : Bool) (r : Q) (y k : T) → Outer q x l answer r y k → Inner (inner q) x l answer (inner r) y k) where
   chained_on : (q : Q) (l : T) (xs : List T) (answers : List Bool) (r : Q) (ys : List T) → ChainsFrom Outer q l xs answers r ys → ChainsFrom Inner (inner q) l xs answers (inner r) ys
   chained_on q l [] [] r ys c = (ap inner c.0, c.1)
-  chained_on q l [] (a ∷ answers) r ys c = absurd c
-  chained_on q l (x ∷ xs) [] r ys c = absurd c
   chained_on q l (x ∷ xs) (true ∷ answers) r ys c = (inner c.0, c.1, c.2, calls q x l true c.0 c.1 c.2 c.3, chained_on c.0 c.2 xs answers r ys c.4)
   chained_on q l (x ∷ xs) (false ∷ answers) r ys c = (inner c.0, c.1, c.2, c.3, calls q x l false c.0 c.1 c.2 c.4, chained_on c.0 c.1 xs answers r c.3 c.5, c.6)
+  chained_on q l xs answers r ys c = absurd c
 
   deduplicated_on : (q : Q) (xs : List T) (answers : List Bool) (r : Q) (ys : List T) → Deduplicated Outer q xs answers r ys → Deduplicated Inner (inner q) xs answers (inner r) ys
   deduplicated_on q [] answers r ys d = (d.0, ap inner d.1, d.2)
@@ -42,10 +40,9 @@ module _ {Q F T : Type 0} (inner : Q → F) (Outer : Q → T → T → Bool → 
   module _ {N : Type 0} (name : Q → N) (keeps : (q : Q) (x l : T) (answer : Bool) (r : Q) (y k : T) → Outer q x l answer r y k → name r ≡ name q) where
     chain_keeps : (q : Q) (l : T) (xs : List T) (answers : List Bool) (r : Q) (ys : List T) → ChainsFrom Outer q l xs answers r ys → name r ≡ name q
     chain_keeps q l [] [] r ys c = ap name c.0
-    chain_keeps q l [] (a ∷ answers) r ys c = absurd c
-    chain_keeps q l (x ∷ xs) [] r ys c = absurd c
     chain_keeps q l (x ∷ xs) (true ∷ answers) r ys c = chain_keeps c.0 c.2 xs answers r ys c.4 ∙ keeps q x l true c.0 c.1 c.2 c.3
     chain_keeps q l (x ∷ xs) (false ∷ answers) r ys c = chain_keeps c.0 c.1 xs answers r c.3 c.5 ∙ keeps q x l false c.0 c.1 c.2 c.4
+    chain_keeps q l xs answers r ys c = absurd c
 
     all_keep : (q : Q) (xs : List T) (answers : List Bool) (r : Q) (ys : List T) → Deduplicated Outer q xs answers r ys → name r ≡ name q
     all_keep q [] answers r ys d = ap name d.1

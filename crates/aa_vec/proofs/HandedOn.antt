@@ -1,10 +1,11 @@
 -- A drain that is given up, and a range out of which elements were taken: the fields, and what a call asks that is handed them.
-use Rattle.aa_vec.proofs.Common.{Ura, ent, sep, emp, mono∗, id⊢, ◌⊑◌, Lfts, fact, param, RattleType, named_lft, Declared, row, Ghosts}
+use Rattle.aa_vec.proofs.Common.{Ura, ent, sep, emp, mono∗, id⊢, ◌⊑◌, Lfts, fact, param, RattleType, named_lft, Declared, Ghosts}
 use denote.Struct.Laws as laws
 use Rattle.aa_vec.specs.contracts.vec.Vec as V
 use Rattle.aa_vec.specs.contracts.vec.drain.Drain as D
 use Rattle.aa_vec.specs.contracts.vec.extract_if.ExtractBy as E
 use Rattle.aa_vec.proofs.GivenUp.{two}
+pub use Rattle.aa_vec.proofs.GivenUp.{words, only_said, goes, opened}
 
 module _ (T A : RattleType) (g : Ghosts A.Denot) where
   abbrev pub Decl : Lfts 3 → Declared
@@ -12,12 +13,6 @@ module _ (T A : RattleType) (g : Ghosts A.Denot) where
 
   abbrev pub DeclBy : Lfts 3 → Declared
   DeclBy κs = E.the_type (named_lft 3 0 tt κs) (param 0 T) (param 1 A) g
-
-  abbrev pub Row : Lfts 3 → RattleType
-  Row κs = row (Decl κs)
-
-  abbrev pub RowBy : Lfts 3 → RattleType
-  RowBy κs = row (DeclBy κs)
 
   abbrev pub Lws : (κs : Lfts 3) → laws.Laws (Decl κs)
   Lws κs = (laws.mut_ref_laws (named_lft 3 0 tt κs) (V.the_row (param 0 T) (param 1 A) g) tt, (laws.usize-laws, (laws.usize-laws, (laws.usize-laws, (laws.usize-laws, tt)))))

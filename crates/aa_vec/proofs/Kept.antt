@@ -1,24 +1,16 @@
 -- What a closure that chooses leaves is no longer than what it was asked of.
-use Rattle.aa_vec.proofs.Common.{suc, ◌≤◌, Bool, true, false, List, [], ◌∷◌, length, map, ap, arith, cond, filter, Asked, AskedInOrder, ChainsFrom, Deduplicated, kept}
+use Rattle.aa_vec.proofs.Common.{suc, ◌≤◌, Bool, true, false, List, [], ◌∷◌, length, ap, arith, Asked, AskedInOrder, ChainsFrom, Deduplicated, kept}
+use Rattle.aa_vec.proofs.Extracted.{asked_count, asked_parts}
 
-one_kept : {T : Type 0} (b : Bool) (y : Asked T) (ys : List (Asked T)) → length (map (λ t. t.left) (cond b (y ∷ ys) ys)) ≤ suc (length (map (λ t. t.left) ys))
-one_kept true y ys = omega arith
-one_kept false y ys = omega arith
-
-module _ {F T : Type 0} (Asks : F → T → Bool → F → T → Type 0) where
-  pub length-kept : (f : F) (xs : List T) (told : List (Asked T)) (g : F) → AskedInOrder Asks f xs told g → length (kept told) ≤ length xs
-  length-kept f [] [] g a = omega arith
-  length-kept f [] (y ∷ told) g a = absurd a
-  length-kept f (x ∷ xs) [] g a = absurd a
-  length-kept f (x ∷ xs) (y ∷ told) g a = omega (arith, one_kept y.answer y (filter (λ t. t.answer) told), length-kept a.0 xs told g a.2)
+pub length-kept : {F T : Type 0} (Asks : F → T → Bool → F → T → Type 0) (f : F) (xs : List T) (told : List (Asked T)) (g : F) → AskedInOrder Asks f xs told g → length (kept told) ≤ length xs
+length-kept Asks f xs told g a = omega (arith, asked_parts told, asked_count Asks f g xs told a)
 
 module _ {F T : Type 0} (Asks : F → T → T → Bool → F → T → T → Type 0) where
   length-chained : (f : F) (l : T) (xs : List T) (answers : List Bool) (g : F) (ys : List T) → ChainsFrom Asks f l xs answers g ys → length ys ≤ suc (length xs)
   length-chained f l [] [] g ys c = omega (arith, ap length c.1)
-  length-chained f l [] (a ∷ answers) g ys c = absurd c
-  length-chained f l (x ∷ xs) [] g ys c = absurd c
   length-chained f l (x ∷ xs) (true ∷ answers) g ys c = omega (arith, length-chained c.0 c.2 xs answers g ys c.4)
   length-chained f l (x ∷ xs) (false ∷ answers) g ys c = omega (arith, ap length c.6, length-chained c.0 c.1 xs answers g c.3 c.5)
+  length-chained f l xs answers g ys c = absurd c
 
   pub length-deduplicated : (f : F) (xs : List T) (answers : List Bool) (g : F) (ys : List T) → Deduplicated Asks f xs answers g ys → length ys ≤ length xs
   length-deduplicated f [] answers g ys d = omega (arith, ap length d.2)

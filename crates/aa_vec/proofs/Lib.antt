@@ -1,3 +1,4 @@
+pub mod Becoming
 pub mod Common
 pub mod Boxing
 pub mod Climbing

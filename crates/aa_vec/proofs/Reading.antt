@@ -30,7 +30,9 @@ module _ {S U N T : Type 0} (steps : S → Option T → S → Type 0) (seen : U 
             told = told.1;
             ends = (held e.ends.0, end.1);
             within = e.within;
-            extends = e.extends;
+            climbs = e.climbs;
+            enough = e.enough;
+            items = e.items;
           },
           refl,
           end.0 ∙ told.0,
@@ -38,15 +40,18 @@ module _ {S U N T : Type 0} (steps : S → Option T → S → Type 0) (seen : U 
 
     front_read : (error : TryReserveError) (e : ExtendsByFront steps Tells size iter old error new) → (front : ExtendsByFront seen Told size (held iter) old error new) × (front.last ≡ held e.last) × (name e.last ≡ name iter)
     front_read error e =
-        let told = read e.lower iter e.taken e.last e.told in (
+        let told = read e.lower iter (e.front ++ e.item ∷ []) e.last e.told in (
           record {
-            taken = e.taken;
+            front = e.front;
+            item = e.item;
             lower = e.lower;
             last = held e.last;
             told = told.1;
             within = e.within;
-            extends = e.extends;
-            one = e.one;
+            climbs = e.climbs;
+            items = e.items;
+            full = e.full;
+            lacks = e.lacks;
           },
           refl,
           told.0,
@@ -57,7 +62,7 @@ module _ {S U N T : Type 0} (steps : S → Option T → S → Type 0) (seen : U 
       room_read e = on_ok result e (λ x. (all_read x).0)
 
       pub items_read : OnOk result (ExtendsByAll steps Tells size iter old new) → OnOk result ((xs : List T) × Drains seen (held iter) xs × (new.items ≡ old.items ++ xs))
-      items_read e = on_ok result (room_read e) (λ x. (x.added, (x.ends.0, (x.last, Yields-told seen Told x.lower (held iter) x.added x.last x.told, x.ends.1)), x.extends.items))
+      items_read e = on_ok result (room_read e) (λ x. (x.added, (x.ends.0, (x.last, Yields-told seen Told x.lower (held iter) x.added x.last x.told, x.ends.1)), x.items))
 
       pub refused_read : IfErr result (λ e. ExtendsByFront steps Tells size iter old e new) → IfErr result (λ e. ExtendsByFront seen Told size (held iter) old e new)
       refused_read e = if_err result e (λ error x. (front_read error x).0)

@@ -1,9 +1,9 @@
 -- Items put before the last ones of a vector, in room made for those that were told, and then for the others.
-use Rattle.aa_vec.proofs.Common.{◌≡◌, ℕ, ◌+◌, ◌-◌, ◌*◌, ◌<◌, ◌≤◌, List, [], ◌∷◌, ◌++◌, length, take, drop, Option, Some, None, append_assoc, refl, sym, ap, ◌∙◌, subst, arith, inl, inr, length-append, length-drop, length-take, Result, Ok, Err, IfErr, OnOk, Count, Yields, count_of, take-append-drop, take_at, drop_at, eqb_tells, TryReserveError, Vector, len, Holds, Writes, MakesRoom, LacksRoom, run_count, moved_over, ClosesGap, behind_items, tail_moves, Widens, FillsAndCloses, Gathers, GathersShort, PutsAll, Puts}
+use Rattle.aa_vec.proofs.Common.{◌≡◌, ℕ, ◌+◌, ◌-◌, ◌*◌, ◌<◌, ◌≤◌, List, [], ◌∷◌, ◌++◌, length, take, drop, Option, Some, None, append_assoc, refl, sym, ap, ◌∙◌, subst, arith, inl, inr, length-append, length-drop, length-take, Result, Ok, Err, IfErr, OnOk, Count, Yields, count_of, take-append-drop, take_at, drop_at, eqb_tells, TryReserveError, Vector, len, Holds, Writes, LacksRoom, run_count, moved_over, ClosesGap, behind_items, tail_moves, Widens, FillsAndCloses, Gathers, GathersShort, PutsAll, Puts}
 use Rattle.std.proofs.Math.Nat.{add-mul}
 use Rattle.aa_vec.specs.Filling.{PutsRest, LacksRest, PutsWithin}
 use Rattle.aa_vec.proofs.Closed.{moved_none, moved_some, moved_most, one_run}
-use Rattle.aa_vec.proofs.Climbing.{SameBlock-refl, SameBlock-trans, MakesRoom-into}
+use Rattle.aa_vec.proofs.Climbing.{MakesRoom, MakesRoom-same, with_room-fits, SameBlock-refl, SameBlock-trans}
 use Rattle.aa_vec.proofs.Drained.{still_are, still_stand}
 use Rattle.aa_vec.proofs.Filling.{Yields-join}
 use Rattle.aa_vec.proofs.Extending.{Yields-told}
@@ -79,7 +79,7 @@ module _ {S T A : Type 0} (steps : S → Option T → S → Type 0) (Tells : S �
         items =
             closes.holds.items ∙ ap (λ ys. ys ++ behind_items w 0 n) (holds.items ∙ ap (λ ys. ys ++ new) wid.items) ∙ append_assoc head new (behind_items w 0 n)
             ∙ ap (λ ys. head ++ (new ++ ys)) (still_are v w (length new) 0 n behind ∙ wid.elements);
-        room = MakesRoom-into size (len old) (length new) wid.room (SameBlock-trans holds.block closes.holds.block);
+        room = SameBlock-trans wid.room (SameBlock-trans holds.block closes.holds.block);
         writes = record {
           written = omega (arith, closes.writes.written, writes.written, wid.writes.written, moved_some (length new) n some);
           runs = omega (arith, closes.writes.runs, writes.runs, wid.writes.runs, moved_some (length new) 1 some, ap run_count (moved_some (length new) n some));
@@ -118,7 +118,7 @@ module _ {S T A : Type 0} (steps : S → Option T → S → Type 0) (Tells : S �
     z_len = ap length z_items ∙ length-append head (came ++ tail) ∙ omega (arith, length-append came tail, head_count, tail_count, few)
 
     z_room : MakesRoom size old (len old) told z
-    z_room = MakesRoom-into size (len old) told wid.room f.holds.block
+    z_room = SameBlock-trans wid.room f.holds.block
 
     z_written : z.written ≡ old.written + (moved_over told n + (length came + moved_over left n))
     z_written = omega (arith, f.writes.written, wid.writes.written)
@@ -139,7 +139,7 @@ module _ {S T A : Type 0} (steps : S → Option T → S → Type 0) (Tells : S �
         given = f.comes.given;
         ends = ended;
         items = z_items;
-        room = (z, z_room, inl (omega (arith, f.comes.count), SameBlock-refl z));
+        room = MakesRoom-same size (len old + told) (length came - told) z_room (with_room-fits size z _ _ (omega (arith, f.comes.count)));
         written = z_written ∙ ap (λ k. old.written + k) (moves_told told left (length came) n f.comes.count);
       };
       writes = within;
@@ -182,7 +182,7 @@ module _ {S T A : Type 0} (steps : S → Option T → S → Type 0) (Tells : S �
               given = subst (λ ys. Yields steps s (came ++ ys) r.comes.1) (sym r.comes.4) (given_more r.comes.0 r.comes.1 r.comes.2);
               ends = r.comes.3;
               items = new_items;
-              room = (z, z_room, subst P (omega (arith, z_len, told_came)) (subst Q (omega (arith, all_count)) r.room));
+              room = MakesRoom-same size (len old + told) (length (came ++ others) - told) z_room (subst P (omega (arith, z_len, told_came)) (subst Q (omega (arith, all_count)) r.room));
               written =
                   omega (arith, r.writes.written, z_written, told_came, moved_none left n full, moves_rest told (length others) n some)
                   ∙ ap R (sym all_count);
@@ -203,7 +203,7 @@ module _ {S T A : Type 0} (steps : S → Option T → S → Type 0) (Tells : S �
       Puts-rest P tell (Ok x) new after r _ more = record { all = all_put new after r; writes = rest_within new after r; refused = tt; few = tt }
       Puts-rest P tell (Err e) new after _ l more =
           let Q : S → Type 0 = λ k. Yields steps s came k in
-          let alloc : z.alloc ≡ old.alloc = elim z_room [ inl h ↦ h.1.alloc | inr h ↦ h.1.alloc ] in
+          let alloc : z.alloc ≡ old.alloc = z_room.alloc in
           let others : List T = first ∷ l.0.rest in
           let g = tell_between steps Tells tell s came t (subst Q (sym (f.stops.full full)) f.comes.given) (tell t).0 (tell t).1 l.0.told.lower others l.0.told.last (u, step, l.0.told.first, l.0.told.each) in
           rw l.1 (record {

@@ -1,7 +1,7 @@
 -- Elements asked in order, of which those that stay were moved down.
-use Rattle.aa_vec.proofs.Common.{◌≡◌, ℕ, zero, suc, ◌+◌, ◌-◌, ◌≤◌, Bool, true, false, List, [], ◌∷◌, ◌++◌, length, take, drop, refl, sym, ap, ◌∙◌, subst, arith, append_assoc, append-nil, StandsBehind, behind_items, Asked, answers_of, kept, kept_behind_removed, removed_count, AskedInOrder, MayAskInOrder, Retains, AsksUntil, AsksBehind, Vector, len}
+use Rattle.aa_vec.proofs.Common.{SetsBack, IsCallableInOrder, ◌≡◌, ℕ, zero, suc, ◌+◌, ◌-◌, ◌≤◌, Bool, true, false, List, [], ◌∷◌, ◌++◌, length, take, drop, refl, sym, ap, ◌∙◌, subst, arith, append_assoc, append-nil, StandsBehind, behind_items, Asked, answers_of, kept, kept_behind_removed, removed_count, AskedInOrder, MayAskInOrder, Retains, AsksUntil, AsksBehind, Vector, len}
 use Rattle.aa_vec.proofs.Closed.{marks}
-use Rattle.aa_vec.proofs.Stages.{Turn, Stage, Turned, turned, stage-ended}
+use Rattle.aa_vec.proofs.Stages.{Turn, Stage, Turned, turned, stage-start, start-len, stage-ended}
 use Rattle.aa_vec.proofs.Stands.{count, left_are, left_stand}
 
 module _ {F T : Type 0} (Asks : F → T → Bool → F → T → Type 0) where
@@ -68,17 +68,24 @@ module _ {F T : Type 0} (Asks : F → T → Bool → F → T → Type 0) where
                 };
           }
 
-      pub asked-turn : {f h g : F} {old v w : Vector T A} {at end k : ℕ} (s : Stage Told May f [] old.items old h v at end) (gap : ℕ) → gap + len v ≡ at → AsksBehind Asks h v gap (end - at) k g w → Turned Told May f [] old.items old at end gap k g w
-      asked-turn {h = h} {g = g} {v = v} {w = w} {at = at} {end = end} {k = k} s gap e asked = turned Told May s gap e (λ stands. turn-asked h v gap (end - at) stands k g w asked)
+module _ {F T A : Type 0} {Asks : F → T → Bool → F → T → Type 0} {Takes : F → T → Type 0} where
+  pub asked-turn : {f h g : F} {old v w : Vector T A} {at end k n : ℕ} → Stage (Told Asks) (May Asks Takes) f [] old.items old h v at end → n ≡ len v → AsksBehind Asks h v (at - n) (end - at) k g w → Turned (Told Asks) (May Asks Takes) f [] old.items old at end (at - n) k g w
+  asked-turn {f = f} {h = h} {g = g} {old = old} {v = v} {w = w} s many asked = turned (Told Asks) (May Asks Takes) f [] old.items old s many (λ stands. turn-asked Asks Takes h v _ _ stands _ g w asked)
 
-      -- all were asked
-      pub Retains-ended : (f : F) (old : Vector T A) (g : F) (z : Vector T A) (at end : ℕ) → Stage Told May f [] old.items old g z at end → at ≡ end → Retains Asks f old g z
-      Retains-ended f old g z at end s e =
-          let q = stage-ended Told May f [] old.items old g z at end s e (λ yet none m. rw none (record { told = []; asked = refl; answers = refl; all = sym (append-nil z.items) })) in let r = q.1 in
-          record {
-            told = r.told;
-            asked = r.asked;
-            holds = record { items = r.all; block = q.4 };
-            written = q.2 ∙ ap (λ s. old.written + kept_behind_removed s) (sym r.answers);
-            runs = subst (λ s. z.runs ≤ old.runs + removed_count s) (sym r.answers) q.3;
-          }
+  pub retained-start : {f : F} {old v : Vector T A} {end : ℕ} → SetsBack old 0 v → 0 + end ≡ len old → IsCallableInOrder Asks Takes f old.items → Stage (Told Asks) (May Asks Takes) f [] old.items old f v 0 end × (0 ≡ len v)
+  retained-start {f = f} {old = old} {end = end} set all may =
+      let all : end ≡ len old = omega (arith, all) in (stage-start (Told Asks) (May Asks Takes) set (omega arith) all may.along, start-len (Told Asks) (May Asks Takes) set (omega arith) all)
+
+  -- all were asked
+  pub Retains-ended : {f g : F} {old w : Vector T A} {at end : ℕ} → Stage (Told Asks) (May Asks Takes) f [] old.items old g w at end → at ≡ end → Retains Asks f old g w
+  Retains-ended {f = f} {g = g} {old = old} {w = w} {at = at} {end = end} s e =
+      let q = stage-ended (Told Asks) (May Asks Takes) f [] old.items old g w at end s e (λ yet none m. rw none (record { told = []; asked = refl; answers = refl; all = sym (append-nil w.items) })) in let r = q.1 in
+      record {
+        told = r.told;
+        asked = r.asked;
+        holds = record { items = r.all; block = q.4 };
+        written = q.2 ∙ ap (λ s. old.written + kept_behind_removed s) (sym r.answers);
+        runs = subst (λ s. w.runs ≤ old.runs + removed_count s) (sym r.answers) q.3;
+      }
+
+pub ruleset ended = (Retains-ended)

@@ -1,10 +1,19 @@
 -- Room that the block made for a vector.
-use Rattle.aa_vec.proofs.Common.{◌≡◌, ℕ, ◌+◌, ◌-◌, ◌<◌, ◌≤◌, [], ◌∷◌, ◌++◌, Some, length, refl, ap, ◌∙◌, arith, inl, inr, if◌then◌else◌, ◌==◌, slice_set, cases_lt, nat_tests, Block, wrote, IsRun, run, moved, amortized, least_of, length-run, Vector, len, MakesRoom, GrowsTo, view_of, IsFront, Inside}
-use Rattle.std.specs.Prelude.{insert}
+use Rattle.aa_vec.proofs.Common.{◌≡◌, ℕ, ◌+◌, ◌-◌, ◌<◌, ◌≤◌, [], ◌∷◌, ◌++◌, Some, length, refl, ap, ◌∙◌, arith, if◌then◌else◌, ◌==◌, slice_set, Block, wrote, IsRun, run, moved, amortized, least_of, length-run, Vector, len, run_count, with_room, view_of, IsFront, Inside}
+use Rattle.std.specs.Prelude.{insert, nat_le}
+use Rattle.std.proofs.lemmas.Bool.Decides.{nat_tests}
 use Rattle.std.proofs.lemmas.List.{length-set}
 use Rattle.aa_raw.specs.Block.{Reserves}
 use Rattle.aa_raw.proofs.Calls.{run-put, run-reserved, IsRun-reserved}
 use Rattle.aa_raw.proofs.Positions.{run-inserted, length-inserted}
+use Rattle.aa_vec.specs.Vector.{Becomes}
+use Rattle.aa_vec.proofs.Becoming.{Becomes-grows}
+use Rattle.aa_vec.proofs.Climbing.{MakesRoom}
+use Rattle.aa_vec.proofs.Lists.{unequal}
+
+-- beside n of c places, k more fit
+same_test : (n k c a b : ℕ) → n ≤ c → (if nat_le (n + k) c then a else b) ≡ (if nat_le k (c - n) then a else b)
+same_test n k c a b h = grind (arith, nat_tests)
 
 module _ {T A : Type 0} (size : ℕ) (old : Inside T A) (front : IsFront old) (k : ℕ) (b : Block T A) where
   count : len (view_of old) ≡ old.len
@@ -14,32 +23,40 @@ module _ {T A : Type 0} (size : ℕ) (old : Inside T A) (front : IsFront old) (k
   pub MakesRoom-block : Reserves size old.block old.len k (amortized old.block.growth (length old.block.places) (old.len + k) (least_of size)) b
       → (new : Vector T A) → new.capacity ≡ length b.places → new.growth ≡ b.growth → new.grown ≡ b.grown → new.alloc ≡ b.alloc → MakesRoom size (view_of old) (len (view_of old)) k new
   MakesRoom-block made new c h g a =
-      let fits = front.0 in
-      elim (cases_lt (length old.block.places) (old.len + k)) [
-        | inl gt ↦ inr (omega (arith, count, gt), record { has_size = (made.grows gt).0; capacity = c ∙ grind (arith, nat_tests, count); growth = h ∙ made.growth; grown = grind (arith, nat_tests, count); alloc = a ∙ made.alloc })
-        | inr le ↦ let e = made.fits le in inl (omega (arith, count, le), record { capacity = c ∙ ap (λ (x : Block T A). length x.places) e; growth = h ∙ made.growth; grown = g ∙ ap (λ (x : Block T A). x.grown) e; alloc = a ∙ made.alloc })
-      ]
+      let places : ℕ = length old.block.places in
+      rw count (record {
+        capacity = c ∙ made.capacity ∙ same_test old.len k places _ _ (omega (arith, front.0));
+        growth = h ∙ made.growth;
+        grown = g ∙ made.grown ∙ same_test old.len k places _ _ (omega (arith, front.0));
+        alloc = a ∙ made.alloc;
+      })
 
 -- room for one more, and one more element in it
-pub GrowsTo-put : {T A : Type 0} (size : ℕ) (old : Inside T A) (front : IsFront old) (b : Block T A) (x : T)
+pub Becomes-put : {T A : Type 0} (size : ℕ) (old : Inside T A) (front : IsFront old) (b : Block T A) (x : T)
     → Reserves size old.block old.len 1 (amortized old.block.growth (length old.block.places) (old.len + 1) (least_of size)) b
-    → GrowsTo size (view_of old) 1 (run old.block.places 0 old.len ++ x ∷ []) (view_of (record { block = wrote b (slice_set b.places old.len (Some x)) 1; len = old.len + 1 }))
-GrowsTo-put {T} {A} size old front b x made =
+    → Becomes (with_room size (view_of old) (len (view_of old)) 1) (run old.block.places 0 old.len ++ x ∷ []) 1 1 (view_of (record { block = wrote b (slice_set b.places old.len (Some x)) 1; len = old.len + 1 }))
+Becomes-put {T} {A} size old front b x made =
     let put : Inside T A = record { block = wrote b (slice_set b.places old.len (Some x)) 1; len = old.len + 1 } in
-    record {
+    Becomes-grows _ _ _ _ _ size 1
+    (record {
       items = run-put b.places old.len x (omega (arith, made.room)) ∙ ap (λ xs. xs ++ x ∷ []) (run-reserved size old.block old.len 1 _ b made);
       room = MakesRoom-block size old front 1 b made (view_of put) (length-set b.places old.len (Some x)) refl refl refl;
-    }
+    })
+    (record { written = ap (λ n. n + 1) made.written; runs = ap (λ n. n + 1) made.runs })
 
 -- and in the middle, behind which the elements are moved up
-pub GrowsTo-inserted : {T A : Type 0} (size : ℕ) (old : Inside T A) (front : IsFront old) (b : Block T A) (i : ℕ) (x : T) → i ≤ old.len
+pub Becomes-inserted : {T A : Type 0} (size : ℕ) (old : Inside T A) (front : IsFront old) (b : Block T A) (i : ℕ) (x : T) → i ≤ old.len
     → Reserves size old.block old.len 1 (amortized old.block.growth (length old.block.places) (old.len + 1) (least_of size)) b
-    → GrowsTo size (view_of old) 1 (insert (run old.block.places 0 old.len) i x)
+    → Becomes (with_room size (view_of old) (len (view_of old)) 1) (insert (run old.block.places 0 old.len) i x) (len (view_of old) - i + 1) (run_count (len (view_of old) - i) + 1)
     (view_of (record { block = wrote (wrote b (moved b.places i (i + 1) (old.len - i)) (if i == i + 1 then 0 else old.len - i)) (slice_set (moved b.places i (i + 1) (old.len - i)) i (Some x)) 1; len = old.len + 1 }))
-GrowsTo-inserted size old front b i x within made =
+Becomes-inserted size old front b i x within made =
     let kept : IsRun b.places 0 old.len = IsRun-reserved size old.block old.len 1 _ b made front in
     let room : old.len < length b.places = omega (arith, made.room) in
-    record {
+    let count : len (view_of old) ≡ old.len = length-run old.block.places 0 old.len front in
+    let moves : (if i == i + 1 then 0 else old.len - i) ≡ len (view_of old) - i = unequal i (i + 1) 0 (old.len - i) (λ e. absurd (omega (arith, e))) ∙ omega (arith, count) in
+    Becomes-grows _ _ _ _ _ size 1
+    (record {
       items = run-inserted b.places old.len kept i x within room ∙ ap (λ ys. insert ys i x) (run-reserved size old.block old.len 1 _ b made);
       room = MakesRoom-block size old front 1 b made _ (length-inserted b.places old.len kept i x within room) refl refl refl;
-    }
+    })
+    (record { written = omega (arith, moves, made.written); runs = omega (arith, ap run_count moves, made.runs) })

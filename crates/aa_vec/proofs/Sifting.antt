@@ -1,40 +1,29 @@
 -- Elements that a test takes out of a range: what comes, one after another, and what the vector has at the end.
-use Rattle.aa_vec.proofs.Common.{◌≡◌, ℕ, ◌-◌, Bool, true, false, not, List, [], ◌∷◌, ◌++◌, length, map, take, drop, Option, Some, None, refl, sym, ap, ◌∙◌, subst, arith, append_assoc, cond, filter, Result, Ok, Err, OnOk, Yields, Drains, append-nil, map-id, take-append-drop, take_all, drop_all, filter-append, Asked, kept, passed_over, Extracts, ExtractsRange, ClosesExtract, extract_kept, extract_rest, Vector, len, ExtractBy, ExtractIf}
-use Rattle.aa_vec.specs.Extracting.{extract_head, extract_tail}
+use Rattle.aa_vec.proofs.Common.{◌≡◌, ℕ, ◌-◌, Bool, not, List, [], ◌∷◌, ◌++◌, length, map, take, drop, Option, Some, None, sym, ap, ◌∙◌, subst, arith, append_assoc, filter, Result, Ok, Err, OnOk, Yields, Drains, append-nil, map-id, take-append-drop, take_all, drop_all, filter-append, Asked, kept, passed_over, Extracts, ExtractsRange, ClosesExtract, extract_kept, extract_rest, Vector, len, ExtractBy, ExtractIf}
+use Rattle.aa_vec.specs.Extracting.{ExtractsAlong, extract_head, extract_tail}
 use Rattle.aa_vec.specs.Sifting.{still_taken, left_at_end}
 use Rattle.aa_vec.proofs.Callable.{IsCallableInOrder-any}
 use Rattle.aa_vec.proofs.Extracted.{extracts_fewer}
-use Rattle.aa_vec.proofs.Steady.{asked-steady, told_by, kept-steady}
+use Rattle.aa_vec.proofs.Steady.{asked-steady, told_by, chosen-steady}
 
-module _ {T : Type 0} (test : T → Bool) where
-  one_more : (x : T) (xs : List T) (b : Bool) → passed_over (map (told_by test (λ x. x)) xs) ≡ filter (λ x. not (test x)) xs
-      → map (λ (t : Asked T). t.left) (cond (not b) (told_by test (λ x. x) x ∷ filter (λ t. not t.answer) (map (told_by test (λ x. x)) xs)) (filter (λ t. not t.answer) (map (told_by test (λ x. x)) xs))) ≡ cond (not b) (x ∷ filter (λ x. not (test x)) xs) (filter (λ x. not (test x)) xs)
-  one_more x xs true e = e
-  one_more x xs false e = ap (λ l. x ∷ l) e
+-- a list in two parts, of which the first was asked: those that were told so, and what comes behind them
+first_part : {T : Type 0} (test : T → Bool) (q : Bool → Bool) (xs : List T) (n : ℕ) (told : List (Asked T)) → told ≡ map (told_by test (λ x. x)) (take n xs)
+    → filter (λ x. q (test x)) xs ≡ map (λ t. t.left) (filter (λ t. q t.answer) told) ++ filter (λ x. q (test x)) (drop n xs)
+first_part {T} test q xs n told is =
+    let p : T → Bool = λ x. q (test x) in
+    ap (filter p) (sym (take-append-drop n xs)) ∙ filter-append p (take n xs) (drop n xs)
+    ∙ ap (λ l. l ++ filter p (drop n xs)) (sym (map-id (filter p (take n xs))) ∙ sym (chosen-steady q test (λ x. x) (take n xs)) ∙ sym (ap (λ (l : List (Asked T)). map (λ t. t.left) (filter (λ t. q t.answer) l)) is))
 
-  -- what such a test passes over
-  passed-steady : (xs : List T) → passed_over (map (told_by test (λ x. x)) xs) ≡ filter (λ x. not (test x)) xs
-  passed-steady [] = refl
-  passed-steady (x ∷ xs) = one_more x xs (test x) (passed-steady xs)
+module _ {F T A : Type 0} (Asks : F → T → Bool → F → T → Type 0) (test : T → Bool) (steady : (f : F) (x : T) (answer : Bool) (g : F) (y : T) → Asks f x answer g y → (answer ≡ test x) × (y ≡ x)) where
+  module _ (f : F) (s : ExtractBy T A) (r : Option T) (g : F) (t : ExtractBy T A) (e : Extracts Asks f s r g t) where
+    is : e.told ≡ map (told_by test (λ x. x)) (take (length e.told) (extract_rest s))
+    is = asked-steady Asks test (λ x. x) steady f (take (length e.told) (extract_rest s)) e.told g e.asked
 
-  -- a list in two parts, of which the first was asked
-  module _ (xs : List T) (n : ℕ) (told : List (Asked T)) (is : told ≡ map (told_by test (λ x. x)) (take n xs)) where
-    taken_first : filter test xs ≡ kept told ++ filter test (drop n xs)
-    taken_first =
-        ap (filter test) (sym (take-append-drop n xs)) ∙ filter-append test (take n xs) (drop n xs)
-        ∙ ap (λ l. l ++ filter test (drop n xs)) (sym (map-id (filter test (take n xs))) ∙ sym (kept-steady test (λ x. x) (take n xs)) ∙ sym (ap kept is))
-
-    passed_first : filter (λ x. not (test x)) xs ≡ passed_over told ++ filter (λ x. not (test x)) (drop n xs)
-    passed_first =
-        ap (filter (λ x. not (test x))) (sym (take-append-drop n xs)) ∙ filter-append (λ x. not (test x)) (take n xs) (drop n xs)
-        ∙ ap (λ l. l ++ filter (λ x. not (test x)) (drop n xs)) (sym (passed-steady (take n xs)) ∙ sym (ap passed_over is))
-
-module _ {F T A : Type 0} (Asks : F → T → Bool → F → T → Type 0) (test : T → Bool) where
-  module _ (f : F) (s : ExtractBy T A) (r : Option T) (g : F) (t : ExtractBy T A) (e : Extracts Asks f s r g t) (is : e.told ≡ map (told_by test (λ x. x)) (take (length e.told) (extract_rest s))) where
     taken : still_taken test s ≡ kept e.told ++ still_taken test t
     unfolding still_taken
-    taken = taken_first test (extract_rest s) (length e.told) e.told is ∙ ap (λ l. kept e.told ++ filter test l) (sym e.rest)
+    taken = first_part test (λ b. b) (extract_rest s) (length e.told) e.told is ∙ ap (λ l. kept e.told ++ filter test l) (sym e.rest)
 
+    -- what stays is the same
     left : left_at_end test t ≡ left_at_end test s
     unfolding left_at_end
     left =
@@ -43,34 +32,18 @@ module _ {F T A : Type 0} (Asks : F → T → Bool → F → T → Type 0) (test
         let middle : extract_kept t ++ (filter stays (extract_rest t) ++ behind) ≡ extract_kept s ++ (filter stays (extract_rest s) ++ behind) =
         ap (λ l. l ++ (filter stays (extract_rest t) ++ behind)) e.kept ∙ append_assoc (extract_kept s) (passed_over e.told) (filter stays (extract_rest t) ++ behind)
         ∙ ap (λ l. extract_kept s ++ l) (sym (append_assoc (passed_over e.told) (filter stays (extract_rest t)) behind)) ∙ ap (λ l. extract_kept s ++ ((passed_over e.told ++ filter stays l) ++ behind)) e.rest
-        ∙ ap (λ l. extract_kept s ++ (l ++ behind)) (sym (passed_first test (extract_rest s) (length e.told) e.told is)) in
+        ∙ ap (λ l. extract_kept s ++ (l ++ behind)) (sym (first_part test not (extract_rest s) (length e.told) e.told is)) in
         ap (λ l. extract_head t ++ l) middle ∙ ap (λ l. l ++ (extract_kept s ++ (filter stays (extract_rest s) ++ behind))) e.head.items
         ∙ ap (λ l. extract_head s ++ (extract_kept s ++ (filter stays (extract_rest s) ++ l))) e.tail
 
-  module _ (steady : (f : F) (x : T) (answer : Bool) (g : F) (y : T) → Asks f x answer g y → (answer ≡ test x) × (y ≡ x)) where
-    told_is : (f : F) (s : ExtractBy T A) (r : Option T) (g : F) (t : ExtractBy T A) (e : Extracts Asks f s r g t) → e.told ≡ map (told_by test (λ x. x)) (take (length e.told) (extract_rest s))
-    told_is f s r g t e = asked-steady Asks test (λ x. x) steady f (take (length e.told) (extract_rest s)) e.told g e.asked
-
   -- one was taken out
-  pub Extracts_some : (f : F) (s : ExtractBy T A) (x : T) (g : F) (t : ExtractBy T A) → Extracts Asks f s (Some x) g t → ((f : F) (x : T) (answer : Bool) (g : F) (y : T) → Asks f x answer g y → (answer ≡ test x) × (y ≡ x)) → still_taken test s ≡ x ∷ still_taken test t
-  Extracts_some f s x g t e steady = taken f s (Some x) g t e (told_is steady f s (Some x) g t e) ∙ ap (λ l. l ++ still_taken test t) e.cases.0
+  Extracts_some : (f : F) (s : ExtractBy T A) (x : T) (g : F) (t : ExtractBy T A) → Extracts Asks f s (Some x) g t → still_taken test s ≡ x ∷ still_taken test t
+  Extracts_some f s x g t e = taken f s (Some x) g t e ∙ ap (λ l. l ++ still_taken test t) e.cases.0
 
   -- or none is left
-  pub Extracts_none : (f : F) (s : ExtractBy T A) (g : F) (t : ExtractBy T A) → Extracts Asks f s None g t → ((f : F) (x : T) (answer : Bool) (g : F) (y : T) → Asks f x answer g y → (answer ≡ test x) × (y ≡ x)) → still_taken test s ≡ []
+  Extracts_none : (f : F) (s : ExtractBy T A) (g : F) (t : ExtractBy T A) → Extracts Asks f s None g t → still_taken test s ≡ []
   unfolding still_taken
-  Extracts_none f s g t e steady = taken f s None g t e (told_is steady f s None g t e) ∙ (λ i. e.cases.0 i ++ filter test (e.cases.1 i))
-
-  -- what stays is the same
-  pub Extracts_left : (f : F) (s : ExtractBy T A) (r : Option T) (g : F) (t : ExtractBy T A) → Extracts Asks f s r g t → ((f : F) (x : T) (answer : Bool) (g : F) (y : T) → Asks f x answer g y → (answer ≡ test x) × (y ≡ x)) → left_at_end test t ≡ left_at_end test s
-  Extracts_left f s r g t e steady = left f s r g t e (told_is steady f s r g t e)
-
-  -- and it is what the vector has, once none is left
-  pub Closes_left : (f : F) (s : ExtractBy T A) (g : F) (t : ExtractBy T A) (new : Vector T A) → ClosesExtract t new → Extracts Asks f s None g t → new.items ≡ left_at_end test t
-  unfolding left_at_end
-  Closes_left f s g t new closes e =
-      let stays : T → Bool = λ x. not (test x) in
-      let none : extract_rest t ≡ filter stays (extract_rest t) = e.cases.1 ∙ ap (filter stays) (sym e.cases.1) in
-      closes.holds.items ∙ ap (λ l. extract_head t ++ (extract_kept t ++ (l ++ extract_tail t))) none
+  Extracts_none f s g t e = taken f s None g t e ∙ (λ i. e.cases.0 i ++ filter test (e.cases.1 i))
 
 -- a whole vector
 module _ {T A : Type 0} (test : T → Bool) (old : Vector T A) (n : ℕ) (e : ExtractBy T A) (r : ExtractsRange old 0 n e) (all : n ≡ len old) where
@@ -92,10 +65,10 @@ module _ {T A : Type 0} (test : T → Bool) (old : Vector T A) (n : ℕ) (e : Ex
 -- along the calls: ys were taken out, one by one, and then x, which is put behind them
 module _ {F T A : Type 0} (Asks : F → T → Bool → F → T → Type 0) (f : F) (s : ExtractBy T A) (g : F) (t : ExtractBy T A) (test : T → Bool) where
   pub taken-more : (x : T) (ys zs ws : List T) → Extracts Asks f s (Some x) g t → ys ≡ zs ++ x ∷ [] → zs ++ still_taken test s ≡ ws → ((f : F) (x : T) (answer : Bool) (g : F) (y : T) → Asks f x answer g y → (answer ≡ test x) × (y ≡ x)) → ys ++ still_taken test t ≡ ws
-  taken-more x ys zs ws e put was steady = ap (λ l. l ++ still_taken test t) put ∙ append_assoc zs (x ∷ []) (still_taken test t) ∙ ap (λ l. zs ++ l) (sym (Extracts_some Asks test f s x g t e steady)) ∙ was
+  taken-more x ys zs ws e put was steady = ap (λ l. l ++ still_taken test t) put ∙ append_assoc zs (x ∷ []) (still_taken test t) ∙ ap (λ l. zs ++ l) (sym (Extracts_some Asks test steady f s x g t e)) ∙ was
 
   pub left-more : (r : Option T) (ws : List T) → Extracts Asks f s r g t → left_at_end test s ≡ ws → ((f : F) (x : T) (answer : Bool) (g : F) (y : T) → Asks f x answer g y → (answer ≡ test x) × (y ≡ x)) → left_at_end test t ≡ ws
-  left-more r ws e was steady = Extracts_left Asks test f s r g t e steady ∙ was
+  left-more r ws e was steady = left Asks test steady f s r g t e ∙ was
 
   module _ (old : Vector T A) (start : ExtractBy T A) (n : ℕ) (r : Option T) where
     none-of : Extracts Asks f s r g t → r ≡ None → Extracts Asks f s None g t
@@ -104,11 +77,15 @@ module _ {F T A : Type 0} (Asks : F → T → Bool → F → T → Type 0) (f : 
     pub taken-end : (zs ws : List T) → Extracts Asks f s r g t → r ≡ None → zs ++ still_taken test s ≡ ws ++ still_taken test start → ExtractsRange old 0 n start → n ≡ len old
         → ((f : F) (x : T) (answer : Bool) (g : F) (y : T) → Asks f x answer g y → (answer ≡ test x) × (y ≡ x)) → zs ≡ ws ++ filter test old.items
     taken-end zs ws e none was range all steady =
-        sym (append-nil zs) ∙ ap (λ l. zs ++ l) (sym (Extracts_none Asks test f s g t (none-of e none) steady)) ∙ was ∙ ap (λ l. ws ++ l) (Range_taken test old n start range all)
+        sym (append-nil zs) ∙ ap (λ l. zs ++ l) (sym (Extracts_none Asks test steady f s g t (none-of e none))) ∙ was ∙ ap (λ l. ws ++ l) (Range_taken test old n start range all)
 
     pub left-end : (new : Vector T A) → ClosesExtract t new → Extracts Asks f s r g t → r ≡ None → left_at_end test s ≡ left_at_end test start → ExtractsRange old 0 n start → n ≡ len old
         → ((f : F) (x : T) (answer : Bool) (g : F) (y : T) → Asks f x answer g y → (answer ≡ test x) × (y ≡ x)) → new.items ≡ filter (λ x. not (test x)) old.items
-    left-end new closes e none was range all steady = Closes_left Asks test f s g t new closes (none-of e none) ∙ left-more None (left_at_end test start) (none-of e none) was steady ∙ Range_left test old n start range all
+    unfolding left_at_end
+    left-end new closes e none was range all steady =
+        let stays : T → Bool = λ x. not (test x) in let last = none-of e none in
+        let rest : extract_rest t ≡ filter stays (extract_rest t) = last.cases.1 ∙ ap (filter stays) (sym last.cases.1) in
+        closes.holds.items ∙ ap (λ l. extract_head t ++ (extract_kept t ++ (l ++ extract_tail t))) rest ∙ left-more None (left_at_end test start) last was steady ∙ Range_left test old n start range all
 
 -- all that comes out of a vector
 module _ {F T A : Type 0} (Asks : F → T → Bool → F → T → Type 0) (test : T → Bool) where
@@ -117,8 +94,8 @@ module _ {F T A : Type 0} (Asks : F → T → Bool → F → T → Type 0) (test
 
   module _ (steady : (f : F) (x : T) (answer : Bool) (g : F) (y : T) → Asks f x answer g y → (answer ≡ test x) × (y ≡ x)) where
     drained : (s t : ExtractIf T F A) (xs : List T) (u : ExtractIf T F A) → Yields Steps s xs t → Steps t None u → xs ≡ still_taken test s.by
-    drained s t [] u y e = sym (ap (λ (i : ExtractIf T F A). still_taken test i.by) y ∙ Extracts_none Asks test t.f t.by u.f u.by e steady)
-    drained s t (x ∷ xs) u y e = ap (λ l. x ∷ l) (drained y.0 t xs u y.2 e) ∙ sym (Extracts_some Asks test s.f s.by x y.0.f y.0.by y.1 steady)
+    drained s t [] u y e = sym (ap (λ (i : ExtractIf T F A). still_taken test i.by) y ∙ Extracts_none Asks test steady t.f t.by u.f u.by e)
+    drained s t (x ∷ xs) u y e = ap (λ l. x ∷ l) (drained y.0 t xs u y.2 e) ∙ sym (Extracts_some Asks test steady s.f s.by x y.0.f y.0.by y.1)
 
   pub Extracts_filter : (old : Vector T A) (n : ℕ) (s : ExtractIf T F A) (xs : List T) → ExtractsRange old 0 n s.by → n ≡ len old → Drains Steps s xs → ((f : F) (x : T) (answer : Bool) (g : F) (y : T) → Asks f x answer g y → (answer ≡ test x) × (y ≡ x)) → xs ≡ filter test old.items
   Extracts_filter old n s xs range all d steady = drained steady s d.1.0 xs d.0 d.1.1 d.1.2 ∙ Range_taken test old n s.by range all
@@ -129,5 +106,13 @@ module _ {F T A : Type 0} (Asks : F → T → Bool → F → T → Type 0) (test
   Extends_filter (Err e) old n s zs new all range whole steady = tt
   Extends_filter (Ok u) old n s zs new all range whole steady = all.2 ∙ ap (λ l. zs ++ l) (Extracts_filter old n s all.0 range whole all.1 steady)
 
+  -- the same in the search's order: of the iterator as a call gave it, whose record names what is asked
+  pub Extends_along : {E : Type 0} (r : Result Unit E) (old : Vector T A) (n : ℕ) (s : ExtractIf T F A) (zs new : List T) → ExtractsAlong Asks s → ExtractsRange old 0 n s.by → n ≡ len old
+      → OnOk r ((xs : List T) × Drains Steps s xs × (new ≡ zs ++ xs)) → ((f : F) (x : T) (answer : Bool) (g : F) (y : T) → Asks f x answer g y → (answer ≡ test x) × (y ≡ x)) → OnOk r (new ≡ zs ++ filter test old.items)
+  Extends_along r old n s zs new along range whole all steady = Extends_filter r old n s zs new all range whole steady
+
 -- what a loop over such a range wants
 pub ruleset sifts = (IsCallableInOrder-any, extracts_fewer, taken-more, left-more, taken-end, left-end)
+
+-- what an extension by such elements wants
+pub ruleset takes = (IsCallableInOrder-any, Extends_along)

@@ -1,7 +1,7 @@
 -- Splices by an `Items`, which tells a function of how many items are left, and splices of a vector in the same block.
-use Rattle.aa_vec.proofs.Common.{◌≡◌, ℕ, ◌+◌, ◌-◌, ◌*◌, ◌≤◌, List, [], ◌++◌, length, append_assoc, refl, sym, ap, ◌∙◌, subst, arith, inl, inr, length-append, append-nil, TryReserveError, Vector, len, SameBlock, MakesRoom, LacksRoom, ItemsLeft, gives_item, lower_by, TellsExactly, cut_off, MakesRoomTwice, SplicesByAll, SplicesByFront, tail_moves, ⊤}
+use Rattle.aa_vec.proofs.Common.{◌≡◌, ℕ, ◌+◌, ◌-◌, ◌*◌, ◌≤◌, List, [], ◌++◌, length, append_assoc, refl, sym, ap, ◌∙◌, subst, arith, inl, inr, length-append, append-nil, TryReserveError, Vector, len, SameBlock, LacksRoom, ItemsLeft, gives_item, lower_by, TellsExactly, cut_off, SplicesByAll, SplicesByFront, tail_moves, ⊤}
 use Rattle.aa_vec.specs.Splicing.{gapped, SplicesAll, SplicesFront, SplicesShort}
-use Rattle.aa_vec.proofs.Climbing.{MakesRoom-same, SameBlock-refl, SameBlock-trans}
+use Rattle.aa_vec.proofs.Climbing.{MakesRoom, MakesRoomTwice, MakesRoom-same, MakesRoomTwice-same, SameBlock-refl, SameBlock-trans}
 use Rattle.aa_vec.proofs.Gathered.{LacksOthers-told}
 use Rattle.aa_vec.proofs.Counted.{items_lower, items-rest, items-told, items-all, ExtendsAll-told, ExtendsFull-told}
 
@@ -16,9 +16,8 @@ module _ {T A : Type 0} (size : ℕ) (lower by : ℕ → ℕ) {u v : Vector T A}
         at_end = λ e. ExtendsAll-told size lower by b head taken more (λ k h. same k (λ within. omega (arith, h within))) new none (s.at_end e);
         in_gap = λ some few. SameBlock-trans b (s.in_gap some few);
         beyond = λ some full.
-            let r = s.beyond some full in
             subst (λ h. MakesRoomTwice size u (length head + gap + length tail) h (length taken - gap - h) new) told
-            (r.0, MakesRoom-same size (length head + gap + length tail) (lower (length taken - gap)) b r.1, r.2);
+            (MakesRoomTwice-same size _ _ _ b (s.beyond some full));
       }
 
   -- of what was taken a beginning was placed

@@ -1,11 +1,11 @@
 -- A range that was replaced by items: what an iterator told of them, and what its phases left.
-use Rattle.aa_vec.proofs.Common.{◌≡◌, ℕ, ◌+◌, ◌-◌, ◌*◌, ◌<◌, ◌≤◌, List, [], ◌++◌, length, take, drop, Option, append_assoc, refl, sym, ap, ◌∙◌, subst, arith, inl, inr, length-append, Result, Ok, OnOk, Count, Yields, Drains, count_of, append-nil, TryReserveError, length-run, run-zero, Vector, len, SameBlock, Writes, run_count, moved_over, StandsBehind, DropsBehind, behind_items, ExtendsAll, ExtendsFull, ExtendsByAll, ExtendsByFront, Extended, LeavesIter, cut_off, MakesRoomTwice, SplicesByAll, SplicesByFront, tail_moves, FillsAndCloses, PutsAll, Puts}
+use Rattle.aa_vec.proofs.Common.{◌≡◌, ℕ, ◌+◌, ◌-◌, ◌*◌, ◌<◌, ◌≤◌, List, [], ◌∷◌, ◌++◌, length, take, drop, Option, append_assoc, refl, sym, ap, ◌∙◌, subst, arith, inl, inr, length-append, Result, Ok, OnOk, Count, Yields, Drains, count_of, append-nil, TryReserveError, length-run, run-zero, Vector, len, SameBlock, Writes, run_count, moved_over, StandsBehind, DropsBehind, behind_items, ExtendsAll, ExtendsFull, ExtendsByAll, ExtendsByFront, Extended, LeavesIter, cut_off, SplicesByAll, SplicesByFront, tail_moves, FillsAndCloses, PutsAll, Puts}
 use Rattle.aa_vec.specs.Extending.{StopsAt}
 use Rattle.aa_vec.specs.Splicing.{Gapped, Replaced, SplicesIter}
 use Rattle.aa_vec.specs.Filling.{PutsFront}
 use Rattle.aa_vec.proofs.Answered.{on_ok, if_err, done_unless}
 use Rattle.aa_vec.proofs.Closed.{moved_none, moved_some, moved_most, one_run}
-use Rattle.aa_vec.proofs.Climbing.{SameBlock-trans, MakesRoom-same}
+use Rattle.aa_vec.proofs.Climbing.{all_of, full_of, MakesRoomTwice, MakesRoomTwice-same, SameBlock-trans, MakesRoom-same}
 use Rattle.aa_vec.proofs.Counted.{ExtendsAll-told, ExtendsFull-told}
 use Rattle.aa_vec.proofs.Drained.{dropped_are}
 use Rattle.aa_vec.proofs.Extending.{Yields-told, whole_run}
@@ -52,7 +52,7 @@ module _ {S T : Type 0} (steps : S → Option T → S → Type 0) (Tells : S →
         all_extended new z x =
             let nil : List T = [] in
             let f = told_first steps Tells x.lower iter x.added x.last x.told (tell iter).0 (tell iter).1 in
-            let all = ExtendsAll-told size x.lower f.0 block w.items x.added nil (same_told x.lower f.0 x.added f.1 x.within) new refl x.extends in
+            let all = ExtendsAll-told size x.lower f.0 block w.items x.added nil (same_told x.lower f.0 x.added f.1 x.within) new refl (all_of steps Tells size iter w new x) in
             let at_end : ExtendsAll size f.0 old old.items x.added new = subst (λ h. ExtendsAll size f.0 old h x.added new) same_head all in (
               record {
                 added = x.added;
@@ -76,9 +76,10 @@ module _ {S T : Type 0} (steps : S → Option T → S → Type 0) (Tells : S →
         front_extended : (error : TryReserveError) (new : Vector T A) → (x : ExtendsByFront steps Tells size iter w error new) → (front : SplicesByFront steps Tells size iter lent (P old.alloc) error new) × (front.last ≡ x.last)
         front_extended error new x =
             let nil : List T = [] in
-            let f = told_first steps Tells x.lower iter x.taken x.last x.told (tell iter).0 (tell iter).1 in
-            let full = ExtendsFull-told size x.lower f.0 block w.items x.taken nil (same_told x.lower f.0 x.taken f.1 x.within) x.taken (sym (append-nil x.taken)) error new x.extends in
-            (record { taken = x.taken; lower = f.0; last = x.last; first = f.4; told = f.2; splices = inl (no_tail, subst (λ h. ExtendsFull size f.0 old h x.taken error new) same_head full) }, refl)
+            let taken : List T = x.front ++ x.item ∷ [] in
+            let f = told_first steps Tells x.lower iter taken x.last x.told (tell iter).0 (tell iter).1 in
+            let full = ExtendsFull-told size x.lower f.0 block w.items taken nil (same_told x.lower f.0 taken f.1 x.within) taken (sym (append-nil taken)) error new (full_of steps Tells size iter w new error x) in
+            (record { taken = taken; lower = f.0; last = x.last; first = f.4; told = f.2; splices = inl (no_tail, subst (λ h. ExtendsFull size f.0 old h taken error new) same_head full) }, refl)
 
         pub Replaced-extended : (r : Result Unit TryReserveError) (new : Vector T A) → Extended steps Tells left_of size iter w r new → Replaced steps Tells left_of (P old.alloc) size iter lent r new
         Replaced-extended r new e =
@@ -195,7 +196,7 @@ module _ {S T : Type 0} (steps : S → Option T → S → Type 0) (Tells : S →
               let low : ℕ → ℕ = r.0 in
               let over_is : length all - gap ≡ length p.added = beyond_gap p.added in
               let told_is : low (length all - gap) ≡ told = ap low over_is ∙ r.2 in
-              let m : MakesRoomTwice size old (len x) told (length p.added - told) new = (p.room.0, MakesRoom-same size (len x) told x_block p.room.1, p.room.2) in (
+              let m : MakesRoomTwice size old (len x) told (length p.added - told) new = MakesRoomTwice-same size (len x) told (length p.added - told) x_block p.room in (
                 record {
                   added = all;
                   lower = low;

@@ -1,8 +1,8 @@
 -- What stands behind the items of a vector, after each of the calls that work on it.
-use Rattle.aa_vec.proofs.Common.{◌≡◌, ℕ, ◌+◌, ◌-◌, ◌<◌, ◌≤◌, List, [], ◌∷◌, ◌++◌, length, map, take, drop, Option, Some, None, sym, ap, ◌∙◌, arith, length-append, slice_set, append-nil, drop-drop, drop-set-lt, length-map, take_at, take-append-drop, length-run, run-is, run-take, run-filled, run-zero, IsRun-long, StandsBehind, ClosesGap, LeavesBehind, behind_items, with_behind, Vector, len, Holds, Writes, run_count, moved_over}
+use Rattle.aa_vec.proofs.Common.{◌≡◌, ℕ, ◌+◌, ◌-◌, ◌<◌, ◌≤◌, List, [], ◌∷◌, ◌++◌, length, map, take, drop, Option, Some, None, refl, subst, sym, ap, ◌∙◌, arith, length-append, slice_set, append-nil, drop-drop, drop-set-lt, length-map, take_at, take-append-drop, length-run, run-is, run-take, run-filled, run-zero, IsRun-long, StandsBehind, ClosesGap, LeavesBehind, behind_items, with_behind, Vector, len, Holds, Writes, run_count, moved_over, TakesNext}
 use Rattle.aa_vec.proofs.Climbing.{SameBlock-refl, SameBlock-trans}
 use Rattle.aa_vec.proofs.Closed.{moved_some}
-use Rattle.aa_vec.proofs.Drained.{same_holds, still_stand, still_are, part_stand, later_part, above_stand, above_are}
+use Rattle.aa_vec.proofs.Drained.{same_holds, still_stand, still_are, part_stand, later_part}
 
 module _ {T A : Type 0} (v : Vector T A) (gap n : ℕ) (stands : StandsBehind v gap n) where
   abbrev pub elements : List T
@@ -24,11 +24,8 @@ module _ {T A : Type 0} (v : Vector T A) (gap n : ℕ) (stands : StandsBehind v 
 
   -- others in their places
   module _ (w : Vector T A) (left : List T) (rest : List (Option T)) (same_len : len w ≡ len v) (same_capacity : w.capacity ≡ v.capacity) (long : length left ≡ n) (are : drop gap w.behind ≡ map Some left ++ rest) where
-    there : take n (drop gap w.behind) ≡ map Some left
-    there = ap (take n) are ∙ take_at (map Some left) rest n (length-map left (λ (x : T). Some x) ∙ long)
-
     pub replaced_are : behind_items w gap n ≡ left
-    replaced_are = run-is (drop gap w.behind) 0 n left there
+    replaced_are = run-is (drop gap w.behind) 0 n left (ap (take n) are ∙ take_at (map Some left) rest n (length-map left (λ (x : T). Some x) ∙ long))
 
     pub replaced_stand : StandsBehind w gap n
     replaced_stand = (
@@ -60,14 +57,6 @@ module _ {T A : Type 0} (v : Vector T A) (gap n : ℕ) (stands : StandsBehind v 
     pub others_stand : StandsBehind w gap (n - k)
     others_stand = still_stand v w (gap + k) gap (n - k) (part_stand v gap n stands (gap + k) (n - k) (omega arith) (omega (arith, h))) (omega (arith, stands.0, h, moved_len, closes.holds.block.capacity)) others
 
-  -- the first of them was taken
-  module _ (some : 0 < n) (w : Vector T A) (taken : w ≡ with_behind v (slice_set v.behind gap None)) where
-    pub later_are : behind_items w (gap + 1) (n - 1) ≡ drop 1 elements
-    later_are = above_are v w gap taken (gap + 1) (omega arith) (n - 1) ∙ later_part v gap 1 n (n - 1) (omega (arith, some)) stands
-
-    pub later_stand : StandsBehind w (gap + 1) (n - 1)
-    later_stand = above_stand v w gap taken (gap + 1) (omega arith) (n - 1) (part_stand v gap n stands (gap + 1) (n - 1) (omega arith) (omega (arith, some)))
-
 no_moves : (gap n : ℕ) → n ≡ 0 → moved_over gap n ≡ 0
 no_moves gap n e = grind (arith, e)
 
@@ -91,3 +80,20 @@ module _ {T A : Type 0} where
       }
 
 pub ruleset closing = (closes_none, closes_by_one)
+
+-- of the elements behind a gap the first k were moved down
+module _ {T A : Type 0} {v closed : Vector T A} {gap k : ℕ} (closes : ClosesGap v gap k closed) where
+  -- the next may be taken out, if there is one
+  pub others_first : (n : ℕ) → StandsBehind v gap n → k < n → StandsBehind closed gap 1
+  others_first n stands less = first_stand closed gap (n - k) (others_stand v gap n stands k (omega (arith, less)) closed closes) 1 (omega (arith, less))
+
+  pub takes_next : {new : Vector T A} {at end kept next : ℕ} → kept ≡ k → new ≡ with_behind closed (slice_set closed.behind gap None) → at + k < end → next ≡ at + k + 1 → TakesNext v gap at end kept new next
+  takes_next e taken more is = record {
+    closed = closed;
+    closes = subst (λ i. ClosesGap v gap i closed) (sym e) closes;
+    goes = λ h. (taken, omega (arith, is, e));
+    none = λ all. absurd (omega (arith, all, e, more));
+  }
+
+  pub takes_none : {at end kept : ℕ} → kept ≡ k → end ≤ at + k → TakesNext v gap at end kept closed end
+  takes_none e all = record { closed = closed; closes = subst (λ i. ClosesGap v gap i closed) (sym e) closes; goes = λ h. absurd (omega (arith, h, e, all)); none = λ h. (refl, refl) }

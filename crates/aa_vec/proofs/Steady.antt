@@ -11,23 +11,21 @@ told_by p h x = record { answer = p x; left = h x }
 pub asked-steady : {F T : Type 0} (Asks : F → T → Bool → F → T → Type 0) (p : T → Bool) (h : T → T) → ((f : F) (x : T) (answer : Bool) (g : F) (y : T) → Asks f x answer g y → (answer ≡ p x) × (y ≡ h x))
     → (f : F) (xs : List T) (told : List (Asked T)) (g : F) → AskedInOrder Asks f xs told g → told ≡ map (told_by p h) xs
 asked-steady Asks p h steady f [] [] g a = refl
-asked-steady Asks p h steady f [] (y ∷ told) g a = absurd a
-asked-steady Asks p h steady f (x ∷ xs) [] g a = absurd a
 asked-steady Asks p h steady f (x ∷ xs) (y ∷ told) g a =
     let s = steady f x y.answer a.0 y.left a.1 in
     let one : y ≡ told_by p h x = λ i. record { answer = s.0 i; left = s.1 i } in
     ap (λ z. z ∷ told) one ∙ ap (λ l. told_by p h x ∷ l) (asked-steady Asks p h steady a.0 xs told g a.2)
+asked-steady Asks p h steady f xs told g a = absurd a
 
 -- and by one that only reads what it holds, in the state that it has
 pub asked-reading : {F T : Type 0} (Asks : F → T → Bool → F → T → Type 0) (p : T → Bool) (f : F) → ((x : T) (answer : Bool) (g : F) (y : T) → Asks f x answer g y → (answer ≡ p x) × (y ≡ x) × (g ≡ f))
     → (xs : List T) (told : List (Asked T)) (g : F) → AskedInOrder Asks f xs told g → told ≡ map (told_by p (λ x. x)) xs
 asked-reading Asks p f reads [] [] g a = refl
-asked-reading Asks p f reads [] (y ∷ told) g a = absurd a
-asked-reading Asks p f reads (x ∷ xs) [] g a = absurd a
 asked-reading Asks p f reads (x ∷ xs) (y ∷ told) g a =
     let s = reads x y.answer a.0 y.left a.1 in
     let one : y ≡ told_by p (λ x. x) x = λ i. record { answer = s.0 i; left = s.1 i } in
     ap (λ z. z ∷ told) one ∙ ap (λ l. told_by p (λ x. x) x ∷ l) (asked-reading Asks p f reads xs told g (subst (λ next. AskedInOrder Asks next xs told g) s.2 a.2))
+asked-reading Asks p f reads xs told g a = absurd a
 
 module _ {F T : Type 0} (Asks : F → T → T → Bool → F → T → T → Type 0) (same : T → T → Bool) (steady : (f : F) (x l : T) (answer : Bool) (g : F) (y k : T) → Asks f x l answer g y k → (answer ≡ same x l) × (y ≡ x) × (k ≡ l)) where
   -- the answers of such a test, the first beside l
@@ -37,8 +35,6 @@ module _ {F T : Type 0} (Asks : F → T → T → Bool → F → T → T → Typ
 
   pub chained-steady : (f : F) (l : T) (xs : List T) (answers : List Bool) (g : F) (ys : List T) → ChainsFrom Asks f l xs answers g ys → (answers ≡ answers_from l xs) × (ys ≡ dedup_from same l xs)
   chained-steady f l [] [] g ys c = (refl, c.1)
-  chained-steady f l [] (a ∷ answers) g ys c = absurd c
-  chained-steady f l (x ∷ xs) [] g ys c = absurd c
   chained-steady f l (x ∷ xs) (true ∷ answers) g ys c =
       let s = steady f x l true c.0 c.1 c.2 c.3 in
       let r = chained-steady c.0 l xs answers g ys (subst (λ k. ChainsFrom Asks c.0 k xs answers g ys) s.2 c.4) in
@@ -49,20 +45,23 @@ module _ {F T : Type 0} (Asks : F → T → T → Bool → F → T → T → Typ
         ap (λ bs. false ∷ bs) r.0 ∙ ap (λ b. b ∷ answers_from (cond b l x) xs) s.0,
         c.6 ∙ ap (λ k. k ∷ c.3) s.2 ∙ ap (λ zs. l ∷ zs) r.1 ∙ ap (λ b. cond b (dedup_from same l xs) (l ∷ dedup_from same x xs)) s.0,
       )
+  chained-steady f l xs answers g ys c = absurd c
 
   pub deduplicated-steady : (f : F) (xs : List T) (answers : List Bool) (g : F) (ys : List T) → Deduplicated Asks f xs answers g ys → ys ≡ dedup same xs
   deduplicated-steady f [] answers g ys d = d.2
   deduplicated-steady f (x ∷ xs) answers g ys d = (chained-steady f x xs answers g ys d).1
 
-one_more : {T : Type 0} (p : T → Bool) (h : T → T) (x : T) (xs : List T) (b : Bool) → kept (map (told_by p h) xs) ≡ map h (filter p xs)
-    → map (λ (t : Asked T). t.left) (cond b (told_by p h x ∷ filter (λ t. t.answer) (map (told_by p h) xs)) (filter (λ t. t.answer) (map (told_by p h) xs))) ≡ map h (cond b (x ∷ filter p xs) (filter p xs))
-one_more p h x xs true e = ap (λ l. h x ∷ l) e
-one_more p h x xs false e = e
+one_more : {T : Type 0} (h : T → T) (b answer : Bool) (x : T) (us : List (Asked T)) (vs : List T) → map (λ t. t.left) us ≡ map h vs → map (λ (t : Asked T). t.left) (cond b (record { answer = answer; left = h x } ∷ us) us) ≡ map h (cond b (x ∷ vs) vs)
+one_more h true answer x us vs e = ap (λ l. h x ∷ l) e
+one_more h false answer x us vs e = e
 
--- what such a closure keeps
+-- those that are told so by such a closure
+pub chosen-steady : {T : Type 0} (q : Bool → Bool) (p : T → Bool) (h : T → T) (xs : List T) → map (λ (t : Asked T). t.left) (filter (λ t. q t.answer) (map (told_by p h) xs)) ≡ map h (filter (λ x. q (p x)) xs)
+chosen-steady q p h [] = refl
+chosen-steady q p h (x ∷ xs) = one_more h (q (p x)) (p x) x _ _ (chosen-steady q p h xs)
+
 pub kept-steady : {T : Type 0} (p : T → Bool) (h : T → T) (xs : List T) → kept (map (told_by p h) xs) ≡ map h (filter p xs)
-kept-steady p h [] = refl
-kept-steady p h (x ∷ xs) = one_more p h x xs (p x) (kept-steady p h xs)
+kept-steady = chosen-steady (λ b. b)
 
 -- and where it keeps all, none goes
 pub kept-all : {T : Type 0} (xs : List T) → (kept (map (told_by (λ x. true) (λ x. x)) xs) ≡ xs) × (kept_behind_removed (answers_of (map (told_by (λ x. true) (λ x. x)) xs)) ≡ 0) × (removed_count (answers_of (map (told_by (λ x. true) (λ x. x)) xs)) ≡ 0)

@@ -1,18 +1,13 @@
 -- The names that a walk by hand cites.
-pub use Prim.Native.Nat.{ℕ, ◌-◌, ◌+◌}
-pub use mathlib.Core.Path.{◌≡◌, refl, sym, ap, subst}
-pub use mathlib.Core.List.{List, [], ◌∷◌, ◌++◌}
-pub use lib.ListN.{length}
+pub use Rattle.aa_vec.proofs.Common.{ℕ, ◌-◌, ◌+◌, ◌≡◌, refl, sym, ap, subst, List, [], ◌∷◌, ◌++◌, length, sep, id⊢, fact, fact_i, emp, row, Vector, ClosesTwice, ClosesExtract, ◌$◌}
 pub use mir.Syntax.{Args, dcons, dnil, a_type}
 pub use mir.MapTy.{inst_fn}
 pub use mir.Val.{Val, vunit}
-pub use base.Logic.{sep, id⊢}
 pub use base.Fml.{ftrue}
-pub use types.Kit.{‵, raw, ◌⊛◌, some, later, ◌$◌, ◌∵◌, !, qed, move, keep, use0, use1, group, split, join, fsplit, fjoin, feq_l, feq_i, pick, await, suffices, done}
+pub use types.Kit.{‵, raw, ◌⊛◌, some, later, ◌∵◌, !, qed, move, keep, use0, use1, group, split, join, fsplit, fjoin, feq_l, feq_i, pick, await, suffices, done}
 pub use types.Part.{whole, sub}
 pub use types.Run.{enter, stop, fld, of_opd, addr, unit_lit, and_then, no_more, returns}
 pub use types.ByLocal.{alloc_all, pass_all, free_all, look_at, get, get_in, through, sets, lands_as}
-pub use contract.Monad.{fact}
 pub use contract.Running.{tables}
 pub use denote.Builtin.{unit}
 pub use denote.Exit.{yes}

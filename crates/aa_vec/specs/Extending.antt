@@ -1,13 +1,12 @@
 -- A vector that items are put behind, one by one, as an iterator gives them, and what the iterator
 -- tells of how many are to come.
-use Rattle.std.specs.Prelude.{◌≡◌, ℕ, ◌+◌, ◌-◌, ◌<◌, ◌≤◌, List, [], ◌∷◌, ◌++◌, length, Option, Some, None, ◌⊎◌, Result, IfOk, IfErr, OnOk, IsOk}
+use Rattle.std.specs.Prelude.{◌≡◌, ℕ, ◌+◌, ◌-◌, ◌^◌, ◌<◌, ◌≤◌, min, List, [], ◌∷◌, ◌++◌, length, Option, Some, None, ◌⊎◌, Result, IfOk, IfErr, OnOk, IsOk}
 use Rattle.std.specs.Borrow.{Bor}
 use Rattle.std.specs.Iterator.{Count, YieldsFirst, Drains, size as count}
 use Rattle.std.specs.Iterator.Runs.{WholeRun}
 use Rattle.aa_raw.specs.declared.collections.TryReserveError.{TryReserveError}
-use Rattle.aa_boxed.specs.Telling.{asked_with}
 pub use Rattle.aa_boxed.specs.Telling.{TellsAtMost}
-use Rattle.aa_vec.specs.Vector.{Vector, len, HasRoom, IsNew, LacksRoom, SameBlock, MakesRoom, Writes}
+use Rattle.aa_vec.specs.Vector.{Vector, len, HasRoom, IsNew, LacksRoom, SameBlock, Writes, with_room}
 
 -- what an `Items` has: the items that are to come, in order, and the number that it tells of them
 pub record ItemsLeft (T : Type 0) : Type 0 where
@@ -26,7 +25,7 @@ lower_by (Some hint) left = hint
 -- what a full vector asks room for: `left` items find no place, the first of them is taken, and
 -- `lower` of the others is told
 abbrev pub asked_for : (lower : ℕ → ℕ) → (left : ℕ) → ℕ
-asked_for lower left = asked_with (lower (left - 1))
+asked_for lower left = min (lower (left - 1) + 1) (2 ^ 64 - 1)
 
 module _ {T A : Type 0} where
   -- old, of elements of `size` bytes, grew while it was full and had not room for `needed`, any
@@ -34,7 +33,7 @@ module _ {T A : Type 0} where
   pub data Climbs (size : ℕ) (lower : ℕ → ℕ) (needed : ℕ) : Vector T A → Vector T A → Type 0 where
     stays : {old new : Vector T A} → SameBlock old new → Climbs size lower needed old new
     grows : {old mid new : Vector T A} → old.capacity < needed
-        → MakesRoom size old old.capacity (asked_for lower (needed - old.capacity)) mid
+        → SameBlock (with_room size old old.capacity (asked_for lower (needed - old.capacity))) mid
         → Climbs size lower needed mid new
         → Climbs size lower needed old new
 
@@ -90,19 +89,24 @@ module _ {S T : Type 0} (next_gives : S → Option T → S → Type 0) (Tells : 
       pub last : S
       pub told : YieldsTelling lower iter added last
       pub ends : (end : S) × next_gives last None end
-      pub within : len old ≤ old.capacity
-      pub extends : ExtendsAll size lower old old.items added new
+      pub within : length old.items ≤ old.capacity
+      pub climbs : Climbs size lower (length old.items + length added) old new
+      pub enough : length old.items + length added ≤ new.capacity
+      pub items : new.items ≡ old.items ++ added
 
-    -- new is old with a beginning of what was taken from `iter`, all but one item, behind its
-    -- items; room for the one was refused
+    -- new is old with what was taken from `iter`, all but one item, behind its items, and full; room
+    -- for the one, and as many as were told then, was refused
     pub record ExtendsByFront (error : TryReserveError) (new : Vector T A) : Type 0 where
-      pub taken : List T
+      pub front : List T
+      pub item : T
       pub lower : ℕ → ℕ
       pub last : S
-      pub told : YieldsTelling lower iter taken last
-      pub within : len old ≤ old.capacity
-      pub extends : ExtendsFull size lower old old.items taken error new
-      pub one : length extends.others ≡ 1
+      pub told : YieldsTelling lower iter (front ++ item ∷ []) last
+      pub within : length old.items ≤ old.capacity
+      pub climbs : Climbs size lower (length old.items + (length front + 1)) old new
+      pub items : new.items ≡ old.items ++ front
+      pub full : length new.items ≡ new.capacity
+      pub lacks : LacksRoom size new (asked_for lower 1) error
 
   module _ {A : Type 0} (size : ℕ) (iter : S) (alloc : A) where
     -- v was new, and was extended by all that came from `iter`

@@ -97,10 +97,9 @@ module _ {F T : Type 0} (Asks : F → T → Bool → F → T → Type 0) where
 
   -- so was each state reached that calls of `next` lead to, as long as they give items; each but
   -- the first of these moved one run at most
-  abbrev pub ExtractsAlong : {A : Type 0} → ExtractIf T F A → Type 0
-  ExtractsAlong {A} s =
-      (xs : List T) (later : ExtractIf T F A)
-      → Yields (λ u r t. Extracts u.f u.by r t.f t.by) s xs later
-      → ExtractedTo s.f s.by xs later.f later.by
-      × (let was = extract_vec s.by in let is = extract_vec later.by in
-      is.runs + (extract_count s.by - 1) ≤ was.runs + (extract_count later.by - 1))
+  pub record ExtractsAlong {A : Type 0} (s : ExtractIf T F A) : Type 0 where
+    pub along : (xs : List T) (later : ExtractIf T F A)
+        → Yields (λ u r t. Extracts u.f u.by r t.f t.by) s xs later
+        → ExtractedTo s.f s.by xs later.f later.by
+        × (let was = extract_vec s.by in let is = extract_vec later.by in
+        is.runs + (extract_count s.by - 1) ≤ was.runs + (extract_count later.by - 1))

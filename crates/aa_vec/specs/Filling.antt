@@ -4,10 +4,10 @@ use Rattle.std.specs.Prelude.{◌≡◌, ℕ, ◌+◌, ◌-◌, ◌*◌, ◌<◌
 use Rattle.std.specs.Iterator.{Count, Yields, IsFinite, size as count_of}
 use Rattle.std.specs.declared.iter.Iterator.{Ghosts}
 use Rattle.aa_raw.specs.declared.collections.TryReserveError.{TryReserveError}
-use Rattle.aa_vec.specs.Vector.{Vector, len, HasRoom, SameBlock, LacksRoom, Holds, Writes, Moves, MakesRoom, run_count, moved_over}
+use Rattle.aa_vec.specs.Vector.{Vector, len, HasRoom, SameBlock, LacksRoom, Holds, Writes, Moves, with_room, run_count, moved_over}
 use Rattle.aa_vec.specs.Behind.{StandsBehind, behind_items}
 use Rattle.aa_vec.specs.Extending.{YieldsTelling, StopsAt}
-use Rattle.aa_vec.specs.Splicing.{MakesRoomTwice, LacksVector, LacksOthers, tail_moves}
+use Rattle.aa_vec.specs.Splicing.{LacksVector, LacksOthers, tail_moves}
 
 module _ {T A : Type 0} where
   -- the n elements behind the items were moved up by the gap
@@ -21,7 +21,7 @@ module _ {T A : Type 0} where
   -- behind it
   pub record Widens (size : ℕ) (old : Vector T A) (gap n : ℕ) (new : Vector T A) : Type 0 where
     pub items : new.items ≡ take (len old - n) old.items
-    pub room : MakesRoom size old (len old) gap new
+    pub room : SameBlock (with_room size old (len old) gap) new
     pub stands : StandsBehind new gap n
     pub elements : behind_items new gap n ≡ drop (len old - n) old.items
     pub writes : Moves old gap n new
@@ -112,7 +112,7 @@ module _ {S T A : Type 0} (next_gives : S → Option T → S → Type 0) (size :
         × next_gives last None after
         × (added ≡ first ∷ rest)
     pub items : new.items ≡ take (len old - n) old.items ++ (added ++ drop (len old - n) old.items)
-    pub room : MakesRoom size old (len old) (length added) new
+    pub room : SameBlock (with_room size old (len old) (length added)) new
     pub writes : Writes old (length added + n) (1 + run_count n) new
 
   -- all that came from s, of which `after` is left, was put before the last n items of old, in room
@@ -123,7 +123,8 @@ module _ {S T A : Type 0} (next_gives : S → Option T → S → Type 0) (size :
     pub given : Yields next_gives s added last
     pub ends : next_gives last None after
     pub items : new.items ≡ take (len old - n) old.items ++ (added ++ drop (len old - n) old.items)
-    pub room : MakesRoomTwice size old (len old) told (length added - told) new
+    pub room : let more = with_room size old (len old) told in
+        SameBlock (with_room size more (len old + told) (length added - told)) new
     pub written : new.written ≡ old.written + (length added + tail_moves 0 told (length added) * n)
 
 module _ {S T A : Type 0} (next_gives : S → Option T → S → Type 0) (Tells : S → ℕ → Type 0)
@@ -151,7 +152,8 @@ module _ {S T A : Type 0} (next_gives : S → Option T → S → Type 0) (Tells 
           ≡ take (len old - n) old.items ++ (front ++ drop (len old - n) old.items)
       pub why :
           ((length (front ++ others) ≡ 0) × SameBlock old new × LacksRoom size new told error)
-          ⊎ ((length front ≡ told) × (0 < length others) × MakesRoom size old (len old) told new
+          ⊎ ((length front ≡ told) × (0 < length others)
+          × SameBlock (with_room size old (len old) told) new
           × LacksOthers fails ((end : S) × next_gives last None end) size lower new others error)
 
     -- all that comes from s, of which `remaining` bounds how many and `after` is left, was put

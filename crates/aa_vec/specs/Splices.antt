@@ -1,12 +1,9 @@
 -- What a contract sees of a `Splice`: the range, as a `Drain` has it, and the items that are to
 -- come in its place.
-use Rattle.std.specs.Prelude.{◌≡◌, ℕ, ◌+◌, ◌≤◌, List, ◌++◌, length, Option, Result, IsOk}
-use Rattle.std.specs.Iterator.{size as count}
+use Rattle.std.specs.Prelude.{◌≡◌, List, ◌++◌, Option}
 use Rattle.std.specs.declared.iter.Iterator.{Ghosts}
-use Rattle.aa_raw.specs.declared.collections.TryReserveError.{TryReserveError}
 use Rattle.aa_vec.specs.Draining.{drain_tail, drains_first, drains_last}
-use Rattle.aa_vec.specs.Splicing.{Gapped, cut_off, SplicesByAll, SplicesByFront, TellsOnceFull}
-use Rattle.aa_vec.specs.Vector.{Vector, len}
+use Rattle.aa_vec.specs.Splicing.{Gapped, cut_off}
 use Rattle.aa_vec.specs.declared.vec.drain.Drain.{Drain}
 use Rattle.aa_vec.specs.declared.vec.splice.Splice.{Splice}
 
@@ -27,7 +24,7 @@ module _ {I A T : Type 0} {g : Ghosts I T} where
   abbrev pub splice_iter : Splice I A T g → I
   splice_iter s = s.iter
 
-  -- the vector without the range
+  -- the vector without the range: the elements before it, how many it had, and those behind it
   abbrev pub splice_gap : Splice I A T g → Gapped T A
   splice_gap s = cut_off s.vec.now s.end (drain_tail (splice_range s))
 
@@ -44,22 +41,3 @@ module _ {I A T : Type 0} {g : Ghosts I T} where
   -- the items with xs in place of the range
   abbrev pub spliced_with : Splice I A T g → List T → List T
   spliced_with s xs = s.vec.now.items ++ (xs ++ drain_tail (splice_range s))
-
-  -- where h more are told once the range is full, no others come, and they fit, it was done
-  abbrev pub FitsTold : (Tells : I → ℕ → Type 0) → Splice I A T g → (h : ℕ)
-      → Result Unit TryReserveError → Type 0
-  FitsTold Tells s h result =
-      let d = splice_range s in
-      TellsOnceFull g.next_gives Tells s.iter d.end h → count (g.remaining s.iter) ≤ d.end + h
-      → len d.vec.now + d.end + length (drain_tail d) + h ≤ d.vec.now.capacity → IsOk result
-
-  -- all items are in place of the range, in room asked for as the iterator told
-  abbrev pub SpliceDone : (Tells : I → ℕ → Type 0) (size : ℕ) → Splice I A T g → Vector T A → Type 0
-  SpliceDone Tells size s new =
-      SplicesByAll g.next_gives Tells size s.iter (splice_gap s) new
-
-  -- a beginning of the items is in place of the range; more had no room. `fails`: a clone may fail
-  abbrev pub SpliceRefused : (Tells : I → ℕ → Type 0) (fails : Type 0) (size : ℕ)
-      → Splice I A T g → TryReserveError → Vector T A → Type 0
-  SpliceRefused Tells fails size s error new =
-      SplicesByFront g.next_gives Tells size s.iter (splice_gap s) fails error new

@@ -7,7 +7,7 @@ use Rattle.aa_raw.specs.declared.collections.TryReserveError.{TryReserveError}
 use Rattle.aa_raw.specs.declared.raw_vec.Growth.TheVariants.{Doubling}
 use Rattle.aa_raw.specs.Growth.{amortized, least_of}
 use Rattle.aa_raw.specs.Refusals.{IsRefusedAt}
-use Rattle.aa_vec.specs.Vector.{Vector, len, HasRoom, IsNew, SameBlock, MakesRoom, LacksRoom, run_count}
+use Rattle.aa_vec.specs.Vector.{Vector, len, HasRoom, IsNew, SameBlock, LacksRoom, run_count, with_room}
 use Rattle.aa_vec.specs.Behind.{behind_items}
 use Rattle.aa_vec.specs.Extending.{ExtendsAll, ExtendsFull, StopsAt, YieldsTelling, asked_for}
 
@@ -41,11 +41,6 @@ LacksVector {T = T} A fails size lower items error =
     × ExtendsFull size lower made [] items error full)
 
 module _ {T A : Type 0} where
-  -- room was made for h more than n elements, and then for r more
-  abbrev pub MakesRoomTwice : (size : ℕ) → Vector T A → (n h r : ℕ) → Vector T A → Type 0
-  MakesRoomTwice size old n h r new =
-      (mid : Vector T A) × MakesRoom size old n h mid × MakesRoom size mid (n + h) r new
-
   -- no vector could be made of the others, or, where they are all that is to come, there was no
   -- room for just them in v
   abbrev pub LacksOthers : (fails whole : Type 0) (size : ℕ) (lower : ℕ → ℕ) → Vector T A → List T
@@ -83,8 +78,9 @@ module _ {T A : Type 0} where
       pub at_end : old.tail ≡ [] → ExtendsAll size lower old.block old.head added new
       pub in_gap : 0 < length old.tail → length added < old.gap → SameBlock old.block new
       pub beyond : 0 < length old.tail → old.gap ≤ length added
-          → MakesRoomTwice size old.block (span old)
-          told_over (length added - old.gap - told_over) new
+          → let told = with_room size old.block (span old) told_over in
+          SameBlock (with_room size told (span old + told_over)
+          (length added - old.gap - told_over)) new
 
     -- `front` fills the gap, and there was no room for those that were told then
     pub record StopsAtGap (front : List T) (error : TryReserveError)
@@ -96,7 +92,7 @@ module _ {T A : Type 0} where
     -- it fills the room made for those too, and there are others
     pub record FillsBeyond (front others : List T) (new : Vector T A) : Type 0 where
       pub fills : length front ≡ old.gap + told_over
-      pub room : MakesRoom size old.block (span old) told_over new
+      pub room : SameBlock (with_room size old.block (span old) told_over) new
       pub more : 0 < length others
 
     -- with a tail, new has `front`, a beginning of `added`, in place of the range: room for the
@@ -144,8 +140,10 @@ module _ {S T : Type 0} (next_gives : S → Option T → S → Type 0) (Tells : 
     pub last : S
     pub first : Tells iter (lower (length taken))
     pub told : YieldsTelling next_gives Tells lower iter taken last
-    pub splices : SplicesShort size lower old taken
-        fails ((end : S) × next_gives last None end) error new
+    pub splices :
+        ((old.tail ≡ []) × ExtendsFull size lower old.block old.head taken error new)
+        ⊎ ((0 < length old.tail)
+        × SplicesFront size lower old taken fails ((end : S) × next_gives last None end) error new)
 
   -- items were put in place of the range with this result, and `after` is what is left of `iter`:
   -- nothing was taken but what found a place, and what was gathered where others found none

@@ -1,5 +1,5 @@
 -- A vector as contracts see it, and how it makes room.
-use Rattle.std.specs.Prelude.{◌≡◌, ℕ, ◌+◌, ◌-◌, ◌<◌, ◌≤◌, min, List, [], length, Option, ◌⊎◌}
+use Rattle.std.specs.Prelude.{◌≡◌, ℕ, ◌+◌, ◌-◌, ◌≤◌, min, List, [], length, Option, if◌then◌else◌, nat_le}
 use Rattle.aa_raw.specs.declared.raw_vec.Growth.{Growth}
 use Rattle.aa_raw.specs.declared.raw_vec.Growth.TheVariants.{Doubling}
 use Rattle.aa_raw.specs.declared.collections.TryReserveError.{TryReserveError}
@@ -27,20 +27,38 @@ module _ {T A : Type 0} where
 
   -- k more elements fit
   abbrev pub HasRoom : Vector T A → ℕ → Type 0
-  HasRoom v k = Room.HasRoom v.capacity (len v) k
+  HasRoom v k = k ≤ v.capacity - length v.items
 
-  -- how many places a growth of v with room to spare asks for, of `size` bytes each, that needs n
-  abbrev pub wanted : (size : ℕ) → Vector T A → (n : ℕ) → ℕ
-  wanted size v n = amortized v.growth v.capacity n (least_of size)
+  -- v with room for k more than n elements of `size` bytes: where they do not fit, a growth with room
+  -- to spare moved the n to a new block
+  abbrev pub with_room : (size : ℕ) → Vector T A → (n k : ℕ) → Vector T A
+  with_room size v n k =
+      record v {
+        capacity = if nat_le k (v.capacity - n)
+            then v.capacity
+            else amortized v.growth v.capacity (n + k) (least_of size);
+        grown = if nat_le k (v.capacity - n) then v.grown else v.grown + n;
+      }
+
+  -- the same, where a growth makes room for just the n and k
+  abbrev pub with_exact_room : Vector T A → (n k : ℕ) → Vector T A
+  with_exact_room v n k =
+      record v {
+        capacity = if nat_le k (v.capacity - n) then v.capacity else n + k;
+        grown = if nat_le k (v.capacity - n) then v.grown else v.grown + n;
+      }
 
   -- k more than old has did not fit, and a growth with room to spare was refused with this error
   abbrev pub LacksRoom : (size : ℕ) → Vector T A → (k : ℕ) → TryReserveError → Type 0
   LacksRoom size old k error =
-      Room.LacksRoom old.capacity (len old) k (wanted size old (len old + k)) error
+      let n = length old.items in
+      Room.LacksRoom old.capacity n k (amortized old.growth old.capacity (n + k) (least_of size))
+      error
 
   -- the same of a growth to just as many places as are needed
   abbrev pub LacksExactRoom : Vector T A → (k : ℕ) → TryReserveError → Type 0
-  LacksExactRoom old k error = Room.LacksRoom old.capacity (len old) k (len old + k) error
+  LacksExactRoom old k error =
+      let n = length old.items in Room.LacksRoom old.capacity n k (n + k) error
 
   -- v is empty and was just made, with room for n elements of `size` bytes over the allocator a
   pub record IsNew (size n : ℕ) (a : A) (v : Vector T A) : Type 0 where
@@ -59,41 +77,16 @@ module _ {T A : Type 0} where
     pub grown : new.grown ≡ old.grown
     pub alloc : new.alloc ≡ old.alloc
 
-  -- new has a new block of c places for elements of `size` bytes, into which n elements of old's
-  -- were moved
-  pub record NewBlock (size : ℕ) (old : Vector T A) (n c : ℕ) (new : Vector T A) : Type 0 where
-    pub has_size : 0 < size
-    pub capacity : new.capacity ≡ c
-    pub growth : new.growth ≡ old.growth
-    pub grown : new.grown ≡ old.grown + n
-    pub alloc : new.alloc ≡ old.alloc
-
-  -- old, with n elements of `size` bytes in it, has room for k more and is new: its own block, or
-  -- one of `wanted` places
-  abbrev pub HasRoomBy : (size wanted : ℕ) → Vector T A → (n k : ℕ) → Vector T A → Type 0
-  HasRoomBy size wanted old n k new =
-      ((k ≤ old.capacity - n) × SameBlock old new)
-      ⊎ ((old.capacity - n < k) × NewBlock size old n wanted new)
-
-  -- a growth asks for room to spare
-  abbrev pub MakesRoom : (size : ℕ) → Vector T A → (n k : ℕ) → Vector T A → Type 0
-  MakesRoom size old n k new = HasRoomBy size (wanted size old (n + k)) old n k new
-
-  -- a growth asks for room for k more and no others
-  abbrev pub MakesExactRoom : (size : ℕ) → Vector T A → (n k : ℕ) → Vector T A → Type 0
-  MakesExactRoom size old n k new = HasRoomBy size (n + k) old n k new
-
   -- new has the items xs, and made room for k more than old has
   pub record GrowsTo (size : ℕ) (old : Vector T A) (k : ℕ) (xs : List T)
       (new : Vector T A) : Type 0 where
     pub items : new.items ≡ xs
-    pub room : MakesRoom size old (len old) k new
+    pub room : SameBlock (with_room size old (length old.items) k) new
 
   -- the same, with room for k more and no others
-  pub record GrowsExactly (size : ℕ) (old : Vector T A) (k : ℕ) (xs : List T)
-      (new : Vector T A) : Type 0 where
+  pub record GrowsExactly (old : Vector T A) (k : ℕ) (xs : List T) (new : Vector T A) : Type 0 where
     pub items : new.items ≡ xs
-    pub room : MakesExactRoom size old (len old) k new
+    pub room : SameBlock (with_exact_room old (length old.items) k) new
 
   -- new has the items xs, in the block of old
   pub record Holds (old : Vector T A) (xs : List T) (new : Vector T A) : Type 0 where
@@ -117,6 +110,18 @@ module _ {T A : Type 0} where
   pub record Writes (old : Vector T A) (n k : ℕ) (new : Vector T A) : Type 0 where
     pub written : new.written ≡ old.written + n
     pub runs : new.runs ≡ old.runs + k
+
+  -- new is old with the items xs, after k calls of the block that wrote n elements; what stands in
+  -- the places behind the items is left open
+  abbrev pub Becomes : (old : Vector T A) → (xs : List T) → (n k : ℕ) → (new : Vector T A) → Type 0
+  Becomes old xs n k new =
+      new
+      ≡ record old {
+        items = xs;
+        written = old.written + n;
+        runs = old.runs + k;
+        behind = new.behind;
+      }
 
   -- n elements were moved over a gap by one call of the block, or by none where there is no gap
   abbrev pub Moves : Vector T A → (gap n : ℕ) → Vector T A → Type 0

@@ -5,7 +5,7 @@ ghost use Rattle.std.specs.Borrow.{sem};
 ghost use Rattle.aa_raw.specs.Places.{IsCapacity};
 ghost use Rattle.aa_raw.specs.Refusals.{RefusesBlock};
 ghost use Rattle.aa_vec.specs.Copies.{IsMade};
-ghost use Rattle.aa_vec.specs.Vector.{Vector, len, HasRoom, LacksRoom, IsNew, SameBlock, GrowsTo, Holds, Writes};
+ghost use Rattle.aa_vec.specs.Vector.{Vector, len, HasRoom, LacksRoom, IsNew, SameBlock, Holds, Writes, Becomes, with_room};
 ghost use Rattle.aa_vec.specs.Inner.{view_of, IsFront};
 
 pub use aa_boxed::slices::same;
@@ -189,9 +189,8 @@ impl<T, A: Allocator> Vec<T, A> {
     #[tactic(auto, using(aa_raw::proofs::Calls::with_room))]
     pub fn push(&mut self, value: T) -> Result<(), Refused<T>>
         ensures fits { HasRoom self.old 1 → IsOk result }
-        ensures pushed { OnOk result
-            (GrowsTo (type_size T.row) self.old 1 (self.old.items ++ value ∷ []) self.new) }
-        ensures writes { OnOk result (Writes self.old 1 1 self.new) }
+        ensures pushed { let roomy = with_room (type_size T.row) self.old (length self.old.items) 1 in
+            OnOk result (Becomes roomy (self.old.items ++ value ∷ []) 1 1 self.new) }
         ensures refused { IfErr result (λ r. LacksRoom (type_size T.row) self.old 1 r.error) }
         ensures handed_back { IfErr result (λ r. r.source ≡ value) }
         ensures unchanged { OnErr result (self.new ≡ self.old) }

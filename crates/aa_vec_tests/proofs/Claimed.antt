@@ -6,12 +6,13 @@ use Rattle.std.proofs.lemmas.Bool.Decides.{nat_tests}
 use Rattle.aa_raw.specs.declared.raw_vec.Growth.{Growth}
 use Rattle.aa_raw.specs.declared.raw_vec.Growth.TheVariants.{Doubling}
 use Rattle.aa_raw.specs.Growth.{amortized}
-use Rattle.aa_vec.specs.Vector.{Vector, len, Holds, MakesRoom}
+use Rattle.aa_vec.specs.Vector.{Vector, len, Becomes, Holds, with_room}
 use Rattle.aa_vec.specs.Extending.{Climbs, stays as no_more, grows as once_more, asked_for, ExtendsAll, ItemsLeft, gives_item, lower_by, TellsExactly}
 use Rattle.aa_vec.specs.Draining.{TakesRange, KeepsRest, drain_vec, drain_head, drain_rest, drain_tail, range_len, taken_front, taken_back, drains_first, drains_last}
-use Rattle.aa_vec.specs.Splicing.{cut_off, MakesRoomTwice, SplicesAll, SplicesByAll, tail_moves}
+use Rattle.aa_vec.specs.Splicing.{cut_off, SplicesAll, SplicesByAll, tail_moves}
 use Rattle.aa_vec.specs.declared.vec.drain.Drain.{Drain}
-use Rattle.aa_vec.proofs.Climbing.{Climbs-fits, SameBlock-trans}
+use Rattle.aa_vec.proofs.Climbing.{MakesRoom, MakesRoomTwice, MakesRoom-stays, MakesRoom-grows, Climbs-fits, SameBlock-refl, SameBlock-trans}
+use Rattle.aa_vec.proofs.Becoming.{GrowsTo-becomes}
 use Rattle.aa_vec.proofs.Counted.{items_lower}
 use Rattle.aa_vec.proofs.Drains.{keeps-then}
 use Rattle.aa_vec.proofs.SplicedItems.{SplicesAll-items, items-written}
@@ -19,17 +20,13 @@ use Rattle.aa_vec.proofs.SplicedItems.{SplicesAll-items, items-written}
 module _ {T A : Type 0} {g : Growth} (v w : Vector T A) (c n k : ℕ) (places : v.capacity ≡ c) (grows : v.growth ≡ g) (room : MakesRoom 4 v n k w) where
   -- room that is there is kept
   pub kept_at : k ≤ c - n → (w.capacity ≡ c) × (w.growth ≡ g) × (w.grown ≡ v.grown)
-  kept_at fits = elim room [
-    | inl r ↦ (r.1.capacity ∙ places, r.1.growth ∙ grows, r.1.grown)
-    | inr r ↦ absurd (omega (arith, r.0, fits, places))
-  ]
+  kept_at fits = let b = MakesRoom-stays 4 n k v w room (omega (arith, fits, places)) in (b.capacity ∙ places, b.growth ∙ grows, b.grown)
 
   -- and else a block of elements of 4 bytes grows, or takes what is needed
   pub grows_to : c - n < k → (w.capacity ≡ amortized g c (n + k) 4) × (w.growth ≡ g) × (w.grown ≡ v.grown + n)
-  grows_to lacks = elim room [
-    | inl r ↦ absurd (omega (arith, r.0, lacks, places))
-    | inr r ↦ (r.1.capacity ∙ ap (λ h. amortized h v.capacity (n + k) 4) grows ∙ ap (λ m. amortized g m (n + k) 4) places, r.1.growth ∙ grows, r.1.grown)
-  ]
+  grows_to lacks =
+      let b = MakesRoom-grows 4 n k v w room (omega (arith, lacks, places)) in
+      (b.0 ∙ ap (λ h. amortized h v.capacity (n + k) 4) grows ∙ ap (λ m. amortized g m (n + k) 4) places, room.growth ∙ grows, b.1)
 
 -- the two in the middle of four, in four places, are replaced by three, of which h are told once two are placed
 module _ {A : Type 0} {old : Vector ℕ A} {iter given : ItemsLeft ℕ} {d : Drain ℕ A} {new : Vector ℕ A} (drains : TakesRange old 1 3 d)
@@ -89,17 +86,17 @@ module _ {A : Type 0} {old : Vector ℕ A} {iter given : ItemsLeft ℕ} {d : Dra
   pub told_some : (hint : Option ℕ) (h c : ℕ) → given.hint ≡ hint → lower_by hint 1 ≡ h → 0 < h → amortized Doubling 4 (4 + h) 4 ≡ c → 4 + h ≤ c → (new.capacity ≡ c) × (new.written ≡ old.written + (3 + tail_moves 2 h 3 * 1))
   told_some hint h c has told some is enough =
       let at_two : lower_by iter.hint 1 ≡ h = ap (λ i. lower_by i.hint 1) same ∙ ap (λ m. lower_by m 1) has ∙ told in
-      let r = five_room h at_two in
-      let mid = grows_to (drain_vec d) r.0 4 4 h (places h at_two) (doubles h at_two) r.1 (omega (arith, some)) in
-      ((kept_at r.0 new c (4 + h) (1 - h) (mid.0 ∙ is) mid.1 r.2 (omega (arith, some, enough))).0, five_written h at_two)
+      let roomy : Vector ℕ A = with_room 4 (drain_vec d) 4 h in
+      let mid = grows_to (drain_vec d) roomy 4 4 h (places h at_two) (doubles h at_two) (SameBlock-refl roomy) (omega (arith, some)) in
+      ((kept_at roomy new c (4 + h) (1 - h) (mid.0 ∙ is) mid.1 (five_room h at_two) (omega (arith, some, enough))).0, five_written h at_two)
 
   -- none
   pub told_none : given.hint ≡ Some 0 → (new.capacity ≡ 8) × (new.written ≡ old.written + 4)
   told_none has =
       let at_two : lower_by iter.hint 1 ≡ 0 = ap (λ i. lower_by i.hint 1) same ∙ ap (λ m. lower_by m 1) has in
-      let r = five_room 0 at_two in
-      let mid = kept_at (drain_vec d) r.0 4 4 0 (places 0 at_two) (doubles 0 at_two) r.1 (omega arith) in
-      ((grows_to r.0 new 4 4 1 mid.0 mid.1 r.2 (omega arith)).0, five_written 0 at_two)
+      let roomy : Vector ℕ A = with_room 4 (drain_vec d) 4 0 in
+      let mid = kept_at (drain_vec d) roomy 4 4 0 (places 0 at_two) (doubles 0 at_two) (SameBlock-refl roomy) (omega arith) in
+      ((grows_to roomy new 4 4 1 mid.0 mid.1 (five_room 0 at_two) (omega arith)).0, five_written 0 at_two)
 
 -- how many places k pushes onto an empty vector of elements of 4 bytes lead to, and how many elements they move by growth
 abbrev pub reached : Growth → ℕ → ℕ × ℕ
@@ -115,11 +112,14 @@ module _ {T A : Type 0} (g : Growth) (old : Vector T A) where
     pub grown : v.grown ≡ old.grown + (reached g k).1
 
   -- one more
-  pub IsPushed-next : (k : ℕ) (v w : Vector T A) (x : T) → IsPushed k v → w.items ≡ v.items ++ x ∷ [] → MakesRoom 4 v (len v) 1 w → IsPushed (k + 1) w
-  IsPushed-next k v w x p items room = subst (λ n. IsPushed n w) (omega arith) (by_test (nat_lt k (reached g k).0) refl)
+  pub IsPushed-next : (k : ℕ) (v w : Vector T A) (x : T) → IsPushed k v → Becomes (with_room 4 v (len v) 1) (v.items ++ x ∷ []) 1 1 w → IsPushed (k + 1) w
+  IsPushed-next k v w x p pushed = subst (λ n. IsPushed n w) (omega arith) (by_test (nat_lt k (reached g k).0) refl)
     where
+      room : MakesRoom 4 v (len v) 1 w
+      room = (GrowsTo-becomes v (v.items ++ x ∷ []) 1 1 w 4 1 pushed).room
+
       counts : len w ≡ suc k
-      counts = let count = p.count in omega (arith, ap length items, length-append v.items (x ∷ []))
+      counts = let count = p.count in omega (arith, ap (λ u. length u.items) pushed, length-append v.items (x ∷ []))
 
       by_test : (b : Bool) → nat_lt k (reached g k).0 ≡ b → IsPushed (suc k) w
       by_test true e =

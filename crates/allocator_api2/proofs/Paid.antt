@@ -2,7 +2,8 @@
 use Rattle.allocator_api2.proofs.Common.{◌≡◌, ℕ, ◌+◌, ◌*◌, ◌-◌, ◌<◌, ◌≤◌, min, max, List, length, Option, None, ap, subst, ◌∙◌, arith, inl, inr, Growth, Doubling, Sparing, least_of, Vector, len, SameBlock, GrowsTo, moves_each, Climbs, lower_by, Climbs-rises}
 use Rattle.aa_raw.specs.Growth.{amortized}
 use Rattle.aa_vec.specs.Extending.{stays, grows, asked_for}
-use Rattle.aa_vec.proofs.Climbing.{Climbs-growth}
+use Rattle.std.proofs.lemmas.Bool.{cases_lt}
+use Rattle.aa_vec.proofs.Climbing.{Climbs-growth, MakesRoom-fits, MakesRoom-rises, MakesRoom-stays, MakesRoom-grows, amortized-enough}
 use Rattle.allocator_api2.proofs.Steps.{Change}
 
 -- c places were not enough for `needed` elements: of what was moved by then, the new capacity pays all but the last move
@@ -13,10 +14,6 @@ grown_pays Sparing paid g c n needed m h lt p = omega arith
 all_pays : (G : Growth) (paid g c n k : ℕ) → n ≤ k → c ≤ k → g ≤ paid + (moves_each G - 1) * c → g + n ≤ paid + moves_each G * k
 all_pays Doubling paid g c n k h lt p = omega arith
 all_pays Sparing paid g c n k h lt p = omega arith
-
-pub amortized-enough : (G : Growth) (c needed m : ℕ) → needed ≤ amortized G c needed m
-amortized-enough Doubling c needed m = omega arith
-amortized-enough Sparing c needed m = omega arith
 
 least_of-le : (size : ℕ) → least_of size ≤ 8
 least_of-le size = grind arith
@@ -52,19 +49,18 @@ module _ {T A : Type 0} (size : ℕ) (G : Growth) (paid : ℕ) where
   IsPaid-grows : (n k : ℕ) (old : Vector T A) (xs : List T) (new : Vector T A) → IsPaid n old → length xs ≡ len old + k → GrowsTo size old k xs new → IsPaid (n + k) new
   IsPaid-grows n k old xs new p e g =
       let l : len new ≡ len old + k = ap length g.items ∙ e in
-      elim g.room [
-        | inl h ↦ IsPaid-same n k old new p h.1 (omega arith) (omega (arith, p.fits, h.0))
-        | inr h ↦
-            let b = h.1 in
+      elim (cases_lt old.capacity (len old + k)) [
+        | inr le ↦ IsPaid-same n k old new p (MakesRoom-stays size (len old) k old new g.room (omega (arith, le))) (omega arith) (omega (arith, p.fits, le))
+        | inl lt ↦
             let m : ℕ = least_of size in
-            let c : new.capacity ≡ amortized G old.capacity (len old + k) m = b.capacity ∙ ap (λ x. amortized x old.capacity (len old + k) m) p.growth in
-            let lt : old.capacity < len old + k = omega (arith, p.fits, h.0) in
+            let b = MakesRoom-grows size (len old) k old new g.room (omega (arith, lt, p.fits)) in
+            let c : new.capacity ≡ amortized G old.capacity (len old + k) m = b.0 ∙ ap (λ x. amortized x old.capacity (len old + k) m) p.growth in
             record {
-              growth = b.growth ∙ p.growth;
+              growth = g.room.growth ∙ p.growth;
               fits = rw (l, c) (amortized-enough G old.capacity (len old + k) m);
               counted = omega (arith, p.counted);
-              places = rw (b.grown, c) (grown_pays G paid old.grown old.capacity (len old) (len old + k) m p.fits lt p.places);
-              moved = rw b.grown (all_pays G paid old.grown old.capacity (len old) (n + k) (omega (arith, p.counted)) (omega (arith, p.counted)) p.places);
+              places = rw (b.1, c) (grown_pays G paid old.grown old.capacity (len old) (len old + k) m p.fits lt p.places);
+              moved = rw b.1 (all_pays G paid old.grown old.capacity (len old) (n + k) (omega (arith, p.counted)) (omega (arith, p.counted)) p.places);
             }
       ]
 
@@ -73,17 +69,16 @@ module _ {T A : Type 0} (size : ℕ) (G : Growth) (paid : ℕ) where
       → u.grown ≤ paid + (moves_each G - 1) * u.capacity → u.grown ≤ paid + moves_each G * k
       → (v.grown ≤ paid + (moves_each G - 1) * v.capacity) × (v.grown ≤ paid + moves_each G * k)
   climb_paid lower needed k u v (stays b) h g p q = (rw (b.grown, b.capacity) p, rw b.grown q)
-  climb_paid lower needed k u v (grows {mid = mid} lt (inl m) r) h g p q =
-      climb_paid lower needed k mid v r h (m.1.growth ∙ g) (rw (m.1.grown, m.1.capacity) p) (rw m.1.grown q)
-  climb_paid lower needed k u v (grows {mid = mid} lt (inr m) r) h g p q =
-      let b = m.1 in let c : ℕ = u.capacity in let more : ℕ = asked_for lower (needed - c) in let least : ℕ = least_of size in
-      let places : mid.capacity ≡ amortized G c (c + more) least = b.capacity ∙ ap (λ x. amortized x c (c + more) least) g in
+  climb_paid lower needed k u v (grows {mid = mid} lt m r) h g p q =
+      let c : ℕ = u.capacity in let more : ℕ = asked_for lower (needed - c) in let least : ℕ = least_of size in
+      let some : c < c + more = omega arith in
+      let b = MakesRoom-grows size c more u mid m (omega arith) in
+      let places : mid.capacity ≡ amortized G c (c + more) least = b.0 ∙ ap (λ x. amortized x c (c + more) least) g in
       let rises : mid.capacity ≤ v.capacity = Climbs-rises size lower needed r in
-      let enough : c + more ≤ mid.capacity = rw places (amortized-enough G c (c + more) least) in
-      let some : c < c + more = omega (arith, m.0) in
-      climb_paid lower needed k mid v r h (b.growth ∙ g)
-      (rw (b.grown, places) (grown_pays G paid u.grown c c (c + more) least (omega arith) some p))
-      (rw b.grown (all_pays G paid u.grown c c k (omega (arith, h, lt, rises, enough)) (omega (arith, h, lt, rises, enough)) p))
+      let enough : c + more ≤ mid.capacity = MakesRoom-fits size c more u mid m (MakesRoom-rises size c more u mid m) in
+      climb_paid lower needed k mid v r h (m.growth ∙ g)
+      (rw (b.1, places) (grown_pays G paid u.grown c c (c + more) least (omega arith) some p))
+      (rw b.1 (all_pays G paid u.grown c c k (omega (arith, h, lt, rises, enough)) (omega (arith, h, lt, rises, enough)) p))
 
   IsPaid-climbs : (lower : ℕ → ℕ) (needed n k : ℕ) (old new : Vector T A) → IsPaid n old → Climbs size lower needed old new → len new ≡ len old + k → len new ≤ new.capacity → min needed new.capacity ≤ len new → IsPaid (n + k) new
   IsPaid-climbs lower needed n k old new p c l f h =
@@ -115,13 +110,13 @@ module _ {T A : Type 0} (size : ℕ) where
   -- a climb that is told no more than are to come asks for no more than it needs
   climb_placed : (needed most : ℕ) (u v : Vector T A) → Climbs size (lower_by None) needed u v → min needed v.capacity ≤ most → u.capacity ≤ max 8 (2 * most) → v.capacity ≤ max 8 (2 * most)
   climb_placed needed most u v (stays b) h p = rw b.capacity p
-  climb_placed needed most u v (grows {mid = mid} lt (inl m) r) h p = climb_placed needed most mid v r h (rw m.1.capacity p)
-  climb_placed needed most u v (grows {mid = mid} lt (inr m) r) h p =
-      let b = m.1 in let c : ℕ = u.capacity in let more : ℕ = asked_for (lower_by None) (needed - c) in let least : ℕ = least_of size in
+  climb_placed needed most u v (grows {mid = mid} lt m r) h p =
+      let c : ℕ = u.capacity in let more : ℕ = asked_for (lower_by None) (needed - c) in let least : ℕ = least_of size in
+      let some : c < c + more = omega arith in
       let rises : mid.capacity ≤ v.capacity = Climbs-rises size (lower_by None) needed r in
-      let enough : c + more ≤ mid.capacity = rw b.capacity (amortized-enough u.growth c (c + more) least) in
-      let some : c < c + more = omega (arith, m.0) in
-      climb_placed needed most mid v r h (rw b.capacity (amortized-within u.growth c (c + more) least most some (omega (arith, h, lt, rises, enough)) (least_of-le size)))
+      let enough : c + more ≤ mid.capacity = MakesRoom-fits size c more u mid m (MakesRoom-rises size c more u mid m) in
+      let b = (MakesRoom-grows size c more u mid m (omega arith)).0 in
+      climb_placed needed most mid v r h (rw b (amortized-within u.growth c (c + more) least most some (omega (arith, h, lt, rises, enough)) (least_of-le size)))
 
   IsPlaced-climbs : (needed most : ℕ) (old new : Vector T A) → IsPlaced most old → Climbs size (lower_by None) needed old new → len new ≤ new.capacity → min needed new.capacity ≤ len new → IsPlaced (max most (len new)) new
   IsPlaced-climbs needed most old new p c f h =
@@ -130,14 +125,12 @@ module _ {T A : Type 0} (size : ℕ) where
   IsPlaced-grows : (most k : ℕ) (old : Vector T A) (xs : List T) (new : Vector T A) → IsPlaced most old → length xs ≡ len old + k → GrowsTo size old k xs new → IsPlaced (max most (len new)) new
   IsPlaced-grows most k old xs new p e g =
       let l : len new ≡ len old + k = ap length g.items ∙ e in
-      elim g.room [
-        | inl r ↦ record { fits = omega (arith, p.fits, r.0, r.1.capacity); capacity = omega (arith, r.1.capacity, p.capacity) }
-        | inr r ↦
-            let m : ℕ = least_of size in
-            record {
-              fits = rw (l, r.1.capacity) (amortized-enough old.growth old.capacity (len old + k) m);
-              capacity = rw (l, r.1.capacity) (amortized-within old.growth old.capacity (len old + k) m (max most (len old + k)) (omega (arith, p.fits, r.0)) (omega arith) (least_of-le size));
-            }
+      let fits : len new ≤ new.capacity = omega (arith, l, MakesRoom-fits size (len old) k old new g.room (omega (arith, p.fits, MakesRoom-rises size (len old) k old new g.room))) in
+      elim (cases_lt old.capacity (len old + k)) [
+        | inr le ↦ record { fits = fits; capacity = omega (arith, (MakesRoom-stays size (len old) k old new g.room (omega (arith, le))).capacity, p.capacity) }
+        | inl lt ↦
+            let b = (MakesRoom-grows size (len old) k old new g.room (omega (arith, lt, p.fits))).0 in
+            record { fits = fits; capacity = rw (l, b) (amortized-within old.growth old.capacity (len old + k) (least_of size) (max most (len old + k)) lt (omega arith) (least_of-le size)) }
       ]
 
   pub IsPlaced-change : (hint : Option ℕ) → hint ≡ None → (most k : ℕ) (old new : Vector T A) → IsPlaced most old → Change size hint old k new → IsPlaced (max most (len new)) new

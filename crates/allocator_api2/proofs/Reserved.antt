@@ -2,17 +2,13 @@
 use Rattle.allocator_api2.proofs.Common.{◌≡◌, ℕ, ◌+◌, ◌-◌, ◌≤◌, List, [], ◌∷◌, length, ap, ◌∙◌, refl, arith, inl, inr, AllByRecursion, least_of, Vector, len, HasRoom, GrowsTo, Within, Reply, Done, Back, Refused, Range, Answers}
 use Rattle.std.proofs.lemmas.List.{length-append}
 use Rattle.allocator_api2.specs.Laws.{IsDone, PushesWithin, ReserveHolds}
-use Rattle.allocator_api2.proofs.Paid.{amortized-enough}
+use Rattle.aa_vec.proofs.Climbing.{MakesRoom-has}
 
 module _ {T A : Type 0} (size : ℕ) where
   -- a vector that made room for k more has it
   HasRoom-made : (old : Vector T A) (k : ℕ) (xs : List T) (new : Vector T A) → length xs ≡ len old → GrowsTo size old k xs new → HasRoom new k
   HasRoom-made old k xs new e g =
-      let l : len new ≡ len old = ap length g.items ∙ e in
-      elim g.room [
-        | inl h ↦ omega (arith, l, h.0, h.1.capacity)
-        | inr h ↦ omega (arith, l, h.1.capacity, amortized-enough old.growth old.capacity (len old + k) (least_of size))
-      ]
+      omega (arith, ap length g.items ∙ e, MakesRoom-has size (len old) k old new g.room)
 
   -- a push within the capacity finds room, and leaves room for one fewer
   push_done : (k : ℕ) (main side : Vector T A) (x : T) (reply : Reply T) (main' side' : Vector T A)

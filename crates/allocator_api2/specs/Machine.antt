@@ -202,7 +202,7 @@ module _ {T A : Type 0} (size : ℕ) where
   MakesOfMain main (Truncate n) Done main' = Holds main (take n main.items) main'
   MakesOfMain main Clear Done main' = Holds main [] main'
   MakesOfMain main (Reserve k) Done main' = GrowsTo size main k main.items main'
-  MakesOfMain main (ReserveExact k) Done main' = GrowsExactly size main k main.items main'
+  MakesOfMain main (ReserveExact k) Done main' = GrowsExactly main k main.items main'
   MakesOfMain main (ShrinkTo k) Done main' = ShrinksTo size main (max (len main) k) main'
   MakesOfMain main (Extend items hint) Done main' =
       ExtendsAll size (lower_by hint) main main.items items.items main'

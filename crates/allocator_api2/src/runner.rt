@@ -169,6 +169,7 @@ fn turn_round<T, A: Allocator>(rows: &mut Vec<T, A>)
 }
 
 // Puts a value behind the last one of a vector that has room for it.
+#[tactic(auto, using(aa_vec::proofs::Becoming::became))]
 pub(crate) fn append_within<T: Drop, A: Allocator>(list: &mut Vec<T, A>, value: T)
     requires { HasRoom list.old 1 }
     ensures { Holds list.old (list.old.items ++ value ∷ []) list.new }

@@ -233,6 +233,7 @@ fn next_count(done: usize, left: usize) -> usize
 }
 
 // Puts copies of all of `source` behind the last element of a vector that has room for them.
+#[tactic(auto, using(aa_vec::proofs::Becoming::became))]
 fn put_copies<T: Copy, A: Allocator>(made: &mut Vec<T, A>, source: &[T])
     requires room { HasRoom made.old (length source.now) }
     ensures items { Holds made.old (made.old.items ++ source.now) made.new }
@@ -246,6 +247,7 @@ fn put_copies<T: Copy, A: Allocator>(made: &mut Vec<T, A>, source: &[T])
 
 // Puts copies of its own first `count` elements behind the last one of a vector that has room for
 // them.
+#[tactic(auto, using(aa_vec::proofs::Becoming::became))]
 fn put_again<T: Copy, A: Allocator>(made: &mut Vec<T, A>, count: usize)
     requires within { count ≤ len made.old }
     requires room { HasRoom made.old count }

@@ -1,47 +1,27 @@
 -- What the walks over a pool's shelf have in common. Assumes `Logic`.
---     shelf_val, shelf_own      the machine value of a shelf's fields, and what they own by themselves.        shelf_told, shelf_made, shelf_typed     what such a value tells, how it is made, and its type
+--     generics      the type arguments of a shelf's functions, and of a pool's
+--     shelf_val, shelf_own      the machine value of a shelf's fields, and what they own by themselves.        shelf_told, shelf_made     what such a value tells, and how it is made
 --     opens_shelf, shuts_shelf      a shelf behind a `&` is reached with the thread's token, and left again
 --     holding_token, proved_alone       a contract beside that token, and a walk that has it
---     differs, equals, fills       what the tests of a size and an alignment tell
---     param_at          one of a function's parameters
+--     fills       what the tests of a size and an alignment tell
 --     left_block        what runs behind a block of code
---     carves, regrants      the room of a block has room for a pointer in it, and is room for any type of its layout
---     ready, readies        so a block that was given back can be kept
-use Rattle.ex_allocators.proofs.Common.{◌≡◌, ℕ, zero, suc, ◌+◌, ◌-◌, ◌*◌, ◌/◌, ◌^◌, ◌<◌, List, [], ◌∷◌, ◌++◌, refl, sym, subst, ◌∙◌, arith, lit<, w64, T, Bool, true, false, not, eqb, Ura, Ty, Fn, Body, ty_ptr, ty_array, Val, vint, has_ty, WT, full_share, ent, emp, sep, fst∗, apply∗, Lft, Share, Fml, fsep, fex, fwand, fat, froom, flft, ftok, every, capped_is, size, align, capped, Dv, Env, Wp, WpFn, after_seq, Logic, sem, Post, any_q, ‵, raw, ◌⊛◌, later, ◌$◌, ◌∵◌, !, qed, by, move, drop, use0, use1, use2, split, join, fsplit, fjoin, fjoin3, fpick, fpack, rewrite, await, done, yes, hidden_shr, unhide, RattleType, owns, Ptr, block_ptr, null_ptr, ptr_val, Slot, plain, types_at, Ended, alive, triple_of, Stays, Goes, Goes-dropped, stay_dropped, walk_of, owned_block, Ghosts, IsKept, Fills, right_to, kept_blocks}
-use Rattle.std.proofs.Common.{T_not, eqb→eq}
-use lib.Dec.{eqb_refl}
-use mir.Syntax.{Callee, ty_int, ty_struct, tcons, tnil}
-use mir.Val.{vstruct, vcons, vnil, of_list}
-use base.Logic.{wand, via, snd∗}
-use base.Fml.{Incl-refl}
-use base.Mask.{less}
-use prog.Capped.{capped_small}
+--     carves      the room of a block has room for a pointer in it
+--     regrants, readies      so a free block can be granted again, and one that was given back can be kept
+pub use Rattle.ex_watched.proofs.Walk.{◌≡◌, ℕ, ◌+◌, ◌<◌, ◌^◌, Bool, List, [], ◌∷◌, refl, ap, w64, true, false, Ok, Err, T, arith, lit<, subst, suc, sym, ◌*◌, ◌++◌, ◌-◌, ◌/◌, ◌∙◌, block_if_ok, owned_block, full_share, usize, Ghosts, Answer, answer_val, Answer-typed, Answer-Ok, Answer-err, after, head, inside, is_not, is_so, leaves, proved_at, Ura, inst_fn, Args, Dict, a_type, dnil, dcons, Fn, Body, Ty, ty_array, ty_ptr, Callee, ty_int, ty_struct, tcons, tnil, Val, vint, vptr, vbool, WT, has_ty, vstruct, vcons, vnil, of_list, Fml, Lft, Share, ftrue, fsep, flft, fat, fex, froom, ftok, fwand, Incl-refl, SProp, ent, emp, sep, fst∗, never, apply∗, wand, via, snd∗, every, less, ◌⊑◌, fact, fact_i, fact_use, tables, Running, Carries, bare_tables, Dv, capped_is, capped_small, size, align, capped, over, ◌≼⁺◌, Env, Wp, after_seq, WpFn, Calls, Loops, Tables, after_block, alloc_all, pass_all, free_all, look_at, get, through, sets, sets_last, env, ‵, raw, ◌⊛◌, some, later, ◌$◌, ◌∵◌, !, qed, move, keep, drop, use0, use1, use2, split, split3, join, fsplit, fjoin, feq_i, await, done, prop, at_ret, any_q, Sq, Post, regoal, by, fjoin3, fpack, fpick, fsplit3, rewrite, post, Item, Goal, Seq, Step, Soaks, step, use3, frame, assume, Logic, sem, na_acc_in, agg, whole, look_in, store_in, sub, stop, fld, addr, lit, no_more, and_then, of_opd, first, branches, skips, exec, returns, returns_within, enter, assigns, bin, blocks, false_lit, load, true_lit, neg_lit, init, look, Ises, Are, owns_show, showss, Typed, hidden_shr, cell_at, unhide, bounded, param, RattleType, owns, RawPtr, Ptr, block_ptr, null_ptr, ptr_val, in_a_block, rawptr_Lawful, types_at, nothing, heard, Ended, Clauses, closing, on_entry, alive, triple_of, Meets, entered, Stays, walk_of, AllGo, walk_Meets, dropped, gone, trues, spent}
 use prog.Model.{Model}
-use prog.Routine.{over, ◌≼⁺◌}
-use prog.Wp.{Calls, Loops, Tables, after_block}
-use contract.Beside.{Carries}
-use contract.Monad.{fact_use}
 use contract.Named.{bare_unfolds}
-use contract.Running.{Running, tables_of, bare_tables}
+use contract.Running.{tables_of}
 use sound.WpLaws.{WpFn-mono}
-use types.Na.{na_acc_in}
-use types.Kit.{post, Item, Goal, Seq, Step, Soaks, step, use3, frame, assume}
-use denote.Laws.{Ises, Are, owns_show, showss}
-use denote.Memory.{cell_at}
-use denote.RawPtr.{RawPtr}
 use denote.RawPtr.Room.{room_cut, room_glue, past}
-use denote.Builtin.{usize, unit}
 use denote.Shadow.{shadow, makes_shadow, pure_l}
 use denote.Struct.Struct.{Struct}
-use denote.Triple.Clauses.{Clauses, closing}
-use denote.Triple.Entry.{on_entry}
 use denote.Triple.Handed.{holding, hands}
-use denote.Triple.Spec.{Meets}
-use denote.Triple.Table.{entered}
-use denote.Triple.Walked.{AllGo, walk_Meets}
-use Rattle.ex_allocators.specs.Shelves.{holds_at}
+pub use Rattle.ex_allocators.specs.Shelves.{Fills, IsKept, block_unless, free_block, holds_at, kept_blocks, right_to, stack}
 use Rattle.ex_allocators.specs.contracts.shelf.Shelf as shelf
-use Rattle.ex_allocators.specs.contracts.shelf.Shelf.TheInside as inside
+use Rattle.ex_allocators.specs.contracts.shelf.Shelf.TheInside as within
+
+abbrev pub generics : RattleType → Dict → Dict → Args
+generics B d drops = bounded (a_type ∷ []) (B, tt) (dcons d (dcons drops dnil))
 
 abbrev pub shelf_type : Ty
 shelf_type = ty_struct [] (tcons ty_ptr (tcons (ty_int w64) (tcons (ty_int w64) (tcons (ty_struct [] tnil) tnil))))
@@ -68,17 +48,9 @@ shelf_made 𝓛 p n m fit =
     makes_shadow 𝓛 (shelf_own p n m (shelf_val p n m ∷ [])) (λ _. (tt, (tt, ((tt, tt), ((tt, tt), ((λ _. (tt, tt)), tt))))))
     ((ptr_val p ∷ [], (vint w64 n ∷ [], (vint w64 m ∷ [], (vstruct vnil ∷ [], tt)))), (refl, (refl, ((refl, fit.0), ((refl, fit.1), ((tt, (refl, tt)), tt))))))
 
-pub ptr_typed : (p : Ptr) → T (has_ty ty_ptr (ptr_val p)) × WT (ptr_val p)
-ptr_typed (block_ptr b o) = (tt, tt)
-ptr_typed null_ptr = (tt, record { fits = lit< tt })
-
-pub shelf_typed : (p : Ptr) (n m : ℕ) → Fit n m → T (has_ty shelf_type (shelf_val p n m)) × WT (shelf_val p n m)
-shelf_typed (block_ptr b o) n m fit = (tt, (tt, (record { fits = fit.0 }, (record { fits = fit.1 }, (tt, tt)))))
-shelf_typed null_ptr n m fit = (tt, (record { fits = lit< tt }, (record { fits = fit.0 }, (record { fits = fit.1 }, (tt, tt)))))
-
 module _ (B : RattleType) (g : Ghosts B.Denot) (c : (shelf.the_row B g).Denot) (b o : ℕ) where
   abbrev F : RattleType
-  F = inside.the_row B g
+  F = within.the_row B g
 
   abbrev pub stacked : Ptr → ℕ → ℕ → Fml
   stacked p n m = kept_blocks (g.dealloc_token c) m n p
@@ -119,40 +91,11 @@ module _ (B : RattleType) (g : Ghosts B.Denot) (c : (shelf.the_row B g).Denot) (
         use2 𝓛 (later (‵ (flft κ q) ⊛ ‵ (ftok every))) (apply∗ 𝓤 (sep 𝓤 (sem 𝓛 P) (A.tok (less every (b, o)))) (H.⇛ (sep 𝓤 (A.lft κ q) (A.tok every)))) $
         await t z $ split t $ s)
 
-pub differs : (a b : ℕ) → T (not (eqb a b)) → a ≡ b → ⊥
-differs a b t e = T_not (eqb a b) t (subst (λ (k : ℕ). T (eqb a k)) e (eqb_refl a))
-
-pub equals : (a b : ℕ) → T (not (not (eqb a b))) → a ≡ b
-equals a b t = eqb→eq a b (twice (eqb a b) t)
-  where
-    twice : (x : Bool) → T (not (not x)) → T x
-    twice true s = tt
-    twice false s = absurd s
-
 exact : (k n : ℕ) → capped k ≡ n → n < 2 ^ 63 → k ≡ n
 exact k n e small = let short = capped_small k (subst (λ (j : ℕ). j < 2 ^ 63) (sym e) small) in sym (capped_is k (omega (arith, short))) ∙ e
 
 pub fills : (τ : Ty) (m n a : ℕ) → IsKept m → m ≡ n → a ≡ 8 → (capped (size τ) ≡ n) × (capped (align τ) ≡ a) → Fills τ m
 fills τ m n a kept same eight is = (exact (size τ) m (is.0 ∙ sym same) kept.2, exact (align τ) 8 (is.1 ∙ eight) (lit< tt))
-
--- the k-th parameter
-abbrev pub param_at : {n : ℕ} → ℕ → List (Slot n) → Slot n
-param_at k [] = plain (λ _. unit)
-param_at zero (s ∷ ss) = s
-param_at (suc k) (s ∷ ss) = param_at k ss
-
--- of a size and of a pointer nothing is left at the return
-abbrev Size : Slot 2
-Size = plain (λ _. usize)
-
-pub size_goes : {M : Type 1} {𝓤 : Ura M} (𝓛 : Logic 𝓤) → Goes 𝓛 2 Size yes (stay_dropped Size yes)
-size_goes 𝓛 = Goes-dropped 𝓛 2 Size yes (λ κs x f. refl)
-
-abbrev Pointer : Slot 2
-Pointer = plain (λ _. RawPtr)
-
-pub pointer_goes : {M : Type 1} {𝓤 : Ura M} (𝓛 : Logic 𝓤) → Goes 𝓛 2 Pointer yes (stay_dropped Pointer yes)
-pointer_goes 𝓛 = Goes-dropped 𝓛 2 Pointer yes (λ κs x f. refl)
 
 module _ {M : Type 1} {𝓤 : Ura M} (𝓛 : Logic 𝓤) (E : Ended) (stays : Stays E.signature.params E.kept) (c : Clauses 𝓤 E) where
   open 𝓛 use {H, A}
@@ -187,51 +130,41 @@ module _ {M : Type 1} {𝓤 : Ura M} (𝓛 : Logic 𝓤) where
   abbrev pub left_block : Calls 𝓤 H → Loops 𝓤 H → Env 𝓤 H → Body → Post 𝓤 H → Post 𝓤 H
   left_block C Λ E b q = any_q (after_block 𝓤 H (post 𝓤 H (any_q (after_seq 𝓤 H (Wp 𝓤 H C Λ E b (post 𝓤 H q)) (post 𝓤 H q)))))
 
-module _ {M : Type 1} {𝓤 : Ura M} (𝓛 : Logic 𝓤) (b o : ℕ) where
-  open 𝓛 use {H}
-
-  pub carves : (σ : Ty) (n : ℕ) → Fills σ n → IsKept n
+  pub carves : (b o : ℕ) (σ : Ty) (n : ℕ) → Fills σ n → IsKept n
       → ent 𝓤 (H.room σ b o) (sep 𝓤 (H.room ty_ptr b o) (wand 𝓤 (H.room ty_ptr b o) (H.room σ b o)))
-  carves σ n fills kept =
-      let words = n / 8 in let k = words - 1 in
-      let big = kept.0 in let even = kept.1 in let filled = fills.0 in
-      let sum : words ≡ 1 + k = omega arith in
-      let whole : words * 8 ≡ size σ = omega arith in
-      let Words = λ (j : ℕ). H.room (ty_array ty_ptr j) b o in
-      let Head = H.room ty_ptr b o in let Whole = H.room σ b o in
+  carves b o σ n fills kept =
+      let k = n / 8 - 1 in let big = kept.0 in let even = kept.1 in let filled = fills.0 in let whole : (1 + k) * 8 ≡ size σ = omega arith in
+      let Words = λ (j : ℕ). H.room (ty_array ty_ptr j) b o in let Head = H.room ty_ptr b o in let Whole = H.room σ b o in
       qed 𝓛 (raw Whole ∷ []) ∵
-      use1 𝓛 (raw (Words words) ⊛ raw (wand 𝓤 (Words words) Whole))
-      (𝓛.laws.room_as σ (ty_array ty_ptr words) b o whole (subst (λ (a : ℕ). Dv 8 a) (sym fills.1) tt)) $ split ! $
-      rewrite ! 0 (λ (j : ℕ). raw (Words j)) sum refl $
+      use1 𝓛 (raw (Words (1 + k)) ⊛ raw (wand 𝓤 (Words (1 + k)) Whole))
+      (𝓛.laws.room_as σ (ty_array ty_ptr (1 + k)) b o whole (subst (λ (a : ℕ). Dv 8 a) (sym fills.1) tt)) $ split ! $
       use1 𝓛 (raw (Words 1) ⊛ raw (H.room (ty_array ty_ptr k) b (past ty_ptr 1 o))) (room_cut 𝓛 ty_ptr 1 k b o) $ split ! $
       use1 𝓛 (raw Head ⊛ raw (wand 𝓤 Head (Words 1))) (𝓛.laws.room_as (ty_array ty_ptr 1) ty_ptr b o refl tt) $ split ! $
       frame ! $ assume ! (raw Head) $ use2 𝓛 (raw (Words 1)) (apply∗ 𝓤 Head (Words 1)) $
-      use2 𝓛 (raw (Words (1 + k))) (room_glue 𝓛 ty_ptr 1 k b o) $ rewrite ! 0 (λ (j : ℕ). raw (Words j)) (sym sum) refl $
-      by ! (apply∗ 𝓤 (Words words) Whole)
+      use2 𝓛 (raw (Words (1 + k))) (room_glue 𝓛 ty_ptr 1 k b o) $ by ! (apply∗ 𝓤 (Words (1 + k)) Whole)
 
-  pub regrants : (t : Ty → Ptr → Fml) (n : ℕ) (σ τ : Ty) → Fills σ n → Fills τ n
-      → ent 𝓤 (sep 𝓤 (H.room σ b o) (sem 𝓛 (t σ (block_ptr b o)))) (sep 𝓤 (H.room τ b o) (sem 𝓛 (right_to t τ (block_ptr b o))))
-  regrants t n σ τ from to =
-      let p : Ptr = block_ptr b o in
+  -- a free block lends its word, and is then granted for a type of its layout
+  pub regrants : (b o : ℕ) (t : Ty → Ptr → Fml) (n : ℕ) (next : Ptr) (τ : Ty) → Fills τ n → ent 𝓤 (sem 𝓛 (free_block t n (b, o) next))
+      (sep 𝓤 (H.at full_share ty_ptr b o (ptr_val next)) (wand 𝓤 (H.at full_share ty_ptr b o (ptr_val next)) (sem 𝓛 (owned_block (right_to t) τ (block_ptr b o)))))
+  regrants b o t n next τ to =
+      let p : Ptr = block_ptr b o in let Word = H.at full_share ty_ptr b o (ptr_val next) in
       let Alike : Ty → Type 0 = λ σ. (size σ ≡ size τ) × (align σ ≡ align τ) in
-      qed 𝓛 (‵ (froom σ b o) ∷ ‵ (t σ p) ∷ []) ∵
+      qed 𝓛 (‵ (free_block t n (b, o) next) ∷ []) ∵ fpick ! (λ σ. fpick ! (λ from. fsplit3 ! $ frame ! $ assume ! (raw Word) $
+      use1 𝓛 (‵ (froom ty_ptr b o)) (𝓛.laws.at_room ty_ptr b o (ptr_val next)) $ use2 𝓛 (‵ (froom σ b o)) (apply∗ 𝓤 (H.room ty_ptr b o) (H.room σ b o)) $
       use1 𝓛 (‵ (froom τ b o) ⊛ ‵ (fwand (froom τ b o) (froom σ b o)))
       (𝓛.laws.room_as σ τ b o (to.0 ∙ sym from.0) (subst (λ (a : ℕ × ℕ). Dv a.0 a.1) (λ i. (sym to.1 i, sym from.1 i)) tt)) $ split ! $
-      frame ! $ drop ! $ fpack ! (Alike σ) (λ _. t σ p) (from.0 ∙ sym to.0, from.1 ∙ sym to.1) $
-      fpack ! Ty (λ σ'. fex (Alike σ') (λ _. t σ' p)) σ $ done !
+      move ! (2 ∷ []) $ fpack ! (Alike σ) (λ _. t σ p) (from.0 ∙ sym to.0, from.1 ∙ sym to.1) $
+      fpack ! Ty (λ σ'. fex (Alike σ') (λ _. t σ' p)) σ $ move ! (1 ∷ 0 ∷ []) $ fjoin ! $ keep ! (0 ∷ []) $ done !))
 
-  -- a block that was given back: room for a pointer, what makes it room for the type that it was granted for, and the right to free it
-  abbrev pub ready : (t : Ty → Ptr → Fml) → ℕ → Fml
-  ready t n = fex Ty (λ σ. fex (Fills σ n) (λ _. fsep (froom ty_ptr b o) (fsep (fwand (froom ty_ptr b o) (froom σ b o)) (t σ (block_ptr b o)))))
-
-  pub readies : (t : Ty → Ptr → Fml) (n : ℕ) (τ : Ty) → Fills τ n → IsKept n → ent 𝓤 (sem 𝓛 (owned_block (right_to t) τ (block_ptr b o))) (sem 𝓛 (ready t n))
-  readies t n τ fills kept =
-      let p : Ptr = block_ptr b o in
-      let Room : Ty → Fml = λ σ. froom σ b o in
+  -- a block that was given back lends room for a word, and is then free
+  pub readies : (b o : ℕ) (t : Ty → Ptr → Fml) (n : ℕ) (next : Ptr) (τ : Ty) → Fills τ n → IsKept n → ent 𝓤 (sem 𝓛 (owned_block (right_to t) τ (block_ptr b o)))
+      (sep 𝓤 (H.room ty_ptr b o) (wand 𝓤 (H.at full_share ty_ptr b o (ptr_val next)) (sem 𝓛 (free_block t n (b, o) next))))
+  readies b o t n next τ fills kept =
+      let p : Ptr = block_ptr b o in let Word : Fml = fat full_share ty_ptr b o (ptr_val next) in let Room : Ty → Fml = λ σ. froom σ b o in
       qed 𝓛 (‵ (owned_block (right_to t) τ p) ∷ []) ∵ fsplit ! $ move ! (1 ∷ []) $ fpick ! (λ σ. fpick ! (λ alike. move ! (1 ∷ []) $
       let filled : Fills σ n = (alike.0 ∙ fills.0, alike.1 ∙ fills.1) in
       use1 𝓛 (‵ (Room σ) ⊛ ‵ (fwand (Room σ) (Room τ)))
       (𝓛.laws.room_as τ σ b o alike.0 (subst (λ (a : ℕ × ℕ). Dv a.0 a.1) (λ i. (sym filled.1 i, sym fills.1 i)) tt)) $ split ! $ move ! (1 ∷ []) $ drop ! $
-      use1 𝓛 (‵ (Room ty_ptr) ⊛ ‵ (fwand (Room ty_ptr) (Room σ))) (carves σ n filled kept) $ split ! $ fjoin3 ! $
-      fpack ! (Fills σ n) (λ _. fsep (Room ty_ptr) (fsep (fwand (Room ty_ptr) (Room σ)) (t σ p))) filled $
-      fpack ! Ty (λ σ. fex (Fills σ n) (λ _. fsep (Room ty_ptr) (fsep (fwand (Room ty_ptr) (Room σ)) (t σ p)))) σ $ done !))
+      use1 𝓛 (‵ (Room ty_ptr) ⊛ ‵ (fwand (Room ty_ptr) (Room σ))) (carves b o σ n filled kept) $ split ! $ frame ! $ assume ! (‵ Word) $ fjoin3 ! $
+      fpack ! (Fills σ n) (λ _. fsep Word (fsep (fwand (Room ty_ptr) (Room σ)) (t σ p))) filled $
+      fpack ! Ty (λ σ. fex (Fills σ n) (λ _. fsep Word (fsep (fwand (Room ty_ptr) (Room σ)) (t σ p)))) σ $ done !))

@@ -1,3 +1,2 @@
-pub mod Carried
 pub mod Fews
 pub mod Spilled

@@ -1,49 +1,29 @@
 -- What a small vector is once its items were moved into the block.
-use Rattle.std.proofs.Common.{◌≡◌, ℕ, ◌+◌, ◌<◌, ◌≤◌, Bool, true, false, List, [], ◌++◌, length, sym, ap, ◌∙◌, arith, inl, inr}
+use Rattle.std.proofs.Common.{◌≡◌, ℕ, ◌+◌, Bool, true, false, List, [], ◌++◌, length, sym, ap, ◌∙◌, arith}
 use Rattle.std.specs.Prelude.{nat_le, if◌then◌else◌}
 use Rattle.std.proofs.lemmas.Bool.Decides.{nat_tests}
-use Rattle.allocator_api2.specs.Growth.{amortized, least_of}
-use Rattle.allocator_api2.specs.Vector.{Vector, len, GrowsTo, MakesRoom, SameBlock, Writes}
+use Rattle.allocator_api2.specs.Vector.{Vector, len, GrowsTo, SameBlock, Writes, with_room}
 use Rattle.allocator_api2.specs.declared.raw_vec.Growth.TheVariants.{Doubling}
 use Rattle.ex_inline.specs.Inlined.{Inlined, block_of, grown_to, in_block}
 
-enough : (n c a b : ℕ) → n ≤ c → (if nat_le n c then a else b) ≡ a
-enough n c a b h = grind (arith, nat_tests)
+module _ {T A : Type 0} (size needed : ℕ) (heap roomy : Vector T A) (none : heap.items ≡ []) (room : SameBlock (with_room size heap (len heap) needed) roomy) where
+  capacity : heap.growth ≡ Doubling → roomy.capacity ≡ (if nat_le needed heap.capacity then heap.capacity else grown_to size heap.capacity needed)
+  capacity doubles = grind (arith, nat_tests, doubles, room, ap length none)
 
-too_few : (n c a b : ℕ) → c < n → (if nat_le n c then a else b) ≡ b
-too_few n c a b h = grind (arith, nat_tests)
-
-module _ {T A : Type 0} (size needed : ℕ) (heap roomy : Vector T A) (none : heap.items ≡ []) where
-  capacity : heap.growth ≡ Doubling → MakesRoom size heap (len heap) needed roomy → roomy.capacity ≡ (if nat_le needed heap.capacity then heap.capacity else grown_to size heap.capacity needed)
-  capacity doubles room =
-      let all : length heap.items + needed ≡ needed = omega (arith, ap length none) in
-      elim room [
-        | inl h ↦ h.1.capacity ∙ sym (enough needed heap.capacity heap.capacity (grown_to size heap.capacity needed) (omega (arith, h.0)))
-        | inr h ↦ h.1.capacity ∙ ap (λ g. amortized g heap.capacity (length heap.items + needed) (least_of size)) doubles ∙ ap (λ k. grown_to size heap.capacity k) all
-            ∙ sym (too_few needed heap.capacity heap.capacity (grown_to size heap.capacity needed) (omega (arith, h.0, ap length none)))
-      ]
-
-  grown : MakesRoom size heap (len heap) needed roomy → roomy.grown ≡ heap.grown
-  grown room = elim room [ inl h ↦ h.1.grown | inr h ↦ omega (arith, h.1.grown, ap length none) ]
-
-  alloc : MakesRoom size heap (len heap) needed roomy → roomy.alloc ≡ heap.alloc
-  alloc room = elim room [ inl h ↦ h.1.alloc | inr h ↦ h.1.alloc ]
+  grown : roomy.grown ≡ heap.grown
+  grown = grind (arith, nat_tests, room, ap length none)
 
 -- the items that stood in place were moved into the block that was made for them
 pub spilled : {T A : Type 0} (size needed : ℕ) (b : Bool) (few : List T) (heap roomy poured : Vector T A) → b ≡ false → heap.items ≡ [] → heap.growth ≡ Doubling → GrowsTo size heap needed heap.items roomy → Writes heap 0 0 roomy
     → poured.items ≡ roomy.items ++ few → SameBlock roomy poured → Writes roomy (length few) (length few) poured
     → let before : Inlined T A = record { items = if b then heap.items else few; spilled = b; block = heap.capacity; moved = heap.grown + heap.written; alloc = heap.alloc } in (s : Inlined T A) → before ≡ s → block_of poured ≡ in_block size needed s
-spilled {T} {A} size needed b few heap roomy poured off none doubles grows reserved items block writes s seen =
-    let before : Inlined T A = record { items = if b then heap.items else few; spilled = b; block = heap.capacity; moved = heap.grown + heap.written; alloc = heap.alloc } in
-    let shown : few ≡ (if b then heap.items else few) = sym (ap (λ c. if c then heap.items else few) off) in
-    let same : poured.items ≡ (if b then heap.items else few) = items ∙ ap (λ ys. ys ++ few) (grows.items ∙ none) ∙ shown in
-    let more : poured.grown + poured.written ≡ heap.grown + heap.written + length (if b then heap.items else few) =
-    omega (arith, block.grown, grown size needed heap roomy none grows.room, reserved.written, writes.written, ap length shown) in
-    let moved_there : block_of poured ≡ in_block size needed before =
-    λ i. record {
-      items = same i;
+spilled size needed true few heap roomy poured off none doubles grows reserved items block writes s seen = cc
+spilled size needed false few heap roomy poured off none doubles grows reserved items block writes s seen =
+    let more : poured.grown + poured.written ≡ heap.grown + heap.written + length few = omega (arith, block.grown, grown size needed heap roomy none grows.room, reserved.written, writes.written) in
+    rw (← seen) (λ i. record {
+      items = (items ∙ ap (λ ys. ys ++ few) (grows.items ∙ none)) i;
       spilled = true;
-      block = (block.capacity ∙ capacity size needed heap roomy none doubles grows.room) i;
+      block = (block.capacity ∙ capacity size needed heap roomy none grows.room doubles) i;
       moved = more i;
-      alloc = (block.alloc ∙ alloc size needed heap roomy none grows.room) i;
-    } in moved_there ∙ ap (in_block size needed) seen
+      alloc = (block.alloc ∙ grows.room.alloc) i;
+    })

@@ -106,7 +106,7 @@ impl<T, const N: usize> Few<T, N> {
     }
 
     /// Puts `item` at `index`, and moves those from there on up by one.
-    #[tactic(auto, using(crate::proofs::Carried::carried))]
+    #[tactic(auto, using(crate::proofs::Fews::carried))]
     pub fn insert(&mut self, index: usize, item: T)
     where
         T: Drop,
@@ -123,7 +123,7 @@ impl<T, const N: usize> Few<T, N> {
     }
 
     /// Takes the item at `index`, and moves those behind it down by one.
-    #[tactic(auto, using(crate::proofs::Carried::carried))]
+    #[tactic(auto, using(crate::proofs::Fews::carried))]
     pub fn remove(&mut self, index: usize) -> T
         requires { index < length self.old }
         ensures value { slice_get self.old index ≡ Some result }

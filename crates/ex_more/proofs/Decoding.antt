@@ -1,6 +1,8 @@
 -- Bytes are the records of at most one list.
-use Rattle.std.proofs.Common.{◌≡◌, ℕ, zero, suc, ◌<◌, ◌≤◌, get_or, List, [], ◌∷◌, ◌++◌, length, take, drop, refl, sym, ◌∙◌, ap, subst, arith, append_assoc, length-append}
-use Rattle.std.proofs.lemmas.List.{take_at, drop_at, append-nil, length-take-le, take-append-drop}
+use Rattle.std.proofs.Common.{inl, inr, ◌≡◌, ℕ, ◌<◌, ◌≤◌, get_or, List, [], ◌∷◌, ◌++◌, length, take, drop, refl, sym, ◌∙◌, ap, arith, append_assoc, length-append}
+use Rattle.std.proofs.lemmas.List.{get_or-take, length-take, take_at, drop_at, append-nil, length-take-le, take-append-drop}
+use Rattle.std.proofs.lemmas.Bool.{cases_lt}
+use lib.ListN.{get_or-eq_default}
 use Rattle.std.proofs.lemmas.List.Concat.{flat_map-cons}
 use Rattle.std.proofs.lemmas.Nat.{from_le_bytes-to_le_bytes_8, le_bytes_8}
 use Rattle.std.specs.Int.{w64, to_le_bytes, from_le_bytes}
@@ -56,16 +58,11 @@ those_records bytes rest rs d none all fits e =
     sym (cut.1 ∙ empty cut.0 cut.2)
 
 in_byte : (bs : List ℕ) (k : ℕ) → ((i : ℕ) → get_or bs i 0 < 256) → (i : ℕ) → get_or (take k bs) i 0 < 256
-in_byte [] zero h i = omega (arith)
-in_byte [] (suc k) h i = omega arith
-in_byte (b ∷ bs) zero h i = omega arith
-in_byte (b ∷ bs) (suc k) h zero = h zero
-in_byte (b ∷ bs) (suc k) h (suc i) = in_byte bs k (λ j. h (suc j)) i
+in_byte bs k h i = elim (cases_lt i k) [ inl l ↦ rw (get_or-take k bs i 0 l) (h i) | inr l ↦ rw (get_or-eq_default (take k bs) 0 {n = i} (omega (arith, l, length-take k bs))) (omega arith) ]
 
 -- the bytes of a record that was cut off
 pub cut_off : (bytes head tail a b : List ℕ) (n : ℕ) → ((i : ℕ) → get_or bytes i 0 < 256) → 8 ≤ length bytes → head ≡ take 8 bytes → tail ≡ drop 8 bytes → n ≡ from_le_bytes w64 head → length a ≡ n → tail ≡ a ++ b → encoded a ++ b ≡ bytes
 cut_off bytes head tail a b n range enough first rest count long cut =
     let eight : length head ≡ 8 = ap length first ∙ length-take-le 8 bytes enough in
-    let P : List ℕ → Type 0 = λ xs. (i : ℕ) → get_or xs i 0 < 256 in
-    let front : to_le_bytes w64 (length a) ≡ head = le_bytes_8 head (length a) eight (subst P (sym first) (in_byte bytes 8 range)) (long ∙ count) in
+    let front : to_le_bytes w64 (length a) ≡ head = le_bytes_8 head (length a) eight (rw first (in_byte bytes 8 range)) (long ∙ count) in
     append_assoc (to_le_bytes w64 (length a)) a b ∙ ap (λ xs. xs ++ (a ++ b)) (front ∙ first) ∙ ap (λ xs. take 8 bytes ++ xs) (sym cut ∙ rest) ∙ take-append-drop 8 bytes

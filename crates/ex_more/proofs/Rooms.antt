@@ -1,18 +1,12 @@
 -- What is put into the room that a vector made.
-use Rattle.std.proofs.Common.{◌≡◌, ℕ, ◌+◌, ◌-◌, ◌≤◌, List, ◌++◌, length, ap, ◌∙◌, arith, inl, inr, append_assoc, length-append}
+use Rattle.std.proofs.Common.{◌≡◌, ℕ, ◌+◌, ◌-◌, ◌≤◌, List, ◌++◌, length, ap, ◌∙◌, arith, append_assoc, length-append}
 use Rattle.allocator_api2.proofs.Callers.{callers}
 use Rattle.allocator_api2.specs.Vector.{Vector, SameBlock, GrowsTo, Holds, HasRoom}
 
 module _ {T A : Type 0} (size n : ℕ) (old mid : Vector T A) (made : GrowsTo size old n old.items mid) where
   -- what is put in the block that it left
   GrowsTo_then : (new : Vector T A) (zs : List T) → SameBlock mid new → new.items ≡ zs → GrowsTo size old n zs new
-  GrowsTo_then new zs b is = record {
-    items = is;
-    room = elim made.room [
-      | inl r ↦ inl (r.0, record { capacity = b.capacity ∙ r.1.capacity; growth = b.growth ∙ r.1.growth; grown = b.grown ∙ r.1.grown; alloc = b.alloc ∙ r.1.alloc })
-      | inr r ↦ inr (r.0, record { has_size = r.1.has_size; capacity = b.capacity ∙ r.1.capacity; growth = b.growth ∙ r.1.growth; grown = b.grown ∙ r.1.grown; alloc = b.alloc ∙ r.1.alloc })
-    ];
-  }
+  GrowsTo_then new zs b is = record { items = is; room = search (callers, made.room, b) }
 
   module _ (next : Vector T A) (xs : List T) (first : Holds mid (mid.items ++ xs) next) where
     -- the second of two lists fits, where room was made for both
@@ -24,8 +18,7 @@ module _ {T A : Type 0} (size n : ℕ) (old mid : Vector T A) (made : GrowsTo si
     -- and both are there
     pub GrowsTo_both : (new : Vector T A) (ys zs : List T) → Holds next (next.items ++ ys) new → xs ++ ys ≡ zs → GrowsTo size old n (old.items ++ zs) new
     GrowsTo_both new ys zs second e =
-        GrowsTo_then new (old.items ++ zs)
-        (record { capacity = second.block.capacity ∙ first.block.capacity; growth = second.block.growth ∙ first.block.growth; grown = second.block.grown ∙ first.block.grown; alloc = second.block.alloc ∙ first.block.alloc })
+        GrowsTo_then new (old.items ++ zs) (grind (arith, first.block, second.block))
         (second.items ∙ ap (λ ws. ws ++ ys) (first.items ∙ ap (λ ws. ws ++ xs) made.items) ∙ append_assoc old.items xs ys ∙ ap (λ ws. old.items ++ ws) e)
 
 pub ruleset rooms = (HasRoom_second, GrowsTo_both)

@@ -274,7 +274,7 @@ fn close<T, A: Allocator>(block: &mut RawVec<T, A>, from: usize, count: usize, o
 }
 
 // Puts the first `by` of the first `len` values behind the others.
-#[tactic(auto, using(allocator_api2::proofs::Blocks::shown))]
+#[tactic(auto, using(crate::proofs::Rings::rewritten))]
 fn turn<T, A: Allocator>(block: &mut RawVec<T, A>, len: usize, by: usize)
     requires { IsRun block.old.places 0 len × (by ≤ len) }
     ensures there { IsRun block.new.places 0 len }

@@ -1,8 +1,7 @@
 -- Tags of one group, sixteen asked at once.
-use Rattle.std.proofs.Common.{◌≡◌, ◌≢◌, ℕ, suc, ◌*◌, ◌+◌, ◌-◌, ◌<◌, ◌≤◌, Bool, true, false, cond, not, eqb, List, [], ◌∷◌, length, map, get_or, replicate, refl, sym, ◌∙◌, ap, subst, arith, inl, inr}
+use Rattle.std.proofs.Common.{◌≡◌, ◌≢◌, ℕ, ◌-◌, ◌<◌, ◌≤◌, Bool, cond, not, eqb, List, [], ◌∷◌, length, map, get_or, replicate, refl, sym, ◌∙◌, ap, arith}
 use Rattle.std.specs.Prelude.{◌^◌, ◌%◌}
 use Rattle.std.specs.List.{prefix_len}
-use Rattle.std.proofs.lemmas.Bool.{cases_lt}
 use Rattle.std.proofs.lemmas.List.Sums.{prefix_len_passes, prefix_len_stops}
 use Rattle.std.proofs.lemmas.Simd.{bitmask_splat, leading_from_mask_l, trailing_mask_l}
 use lib.Lanes.{mask_l, zip2, top}
@@ -14,18 +13,9 @@ use mir.Val.{bits, hbits}
 abbrev pub compared : List ℕ → ℕ → ℕ
 compared ts t = mask_l (map (top (hbits w8)) (zip2 (λ a b. cond (eqb a b) (2 ^ bits w8 - 1) 0) ts (replicate 16 t))) % 2 ^ 64
 
-differs : (a b : ℕ) → not (eqb a b) ≡ true → a ≢ b
-differs a b h e = grind (arith, h, e)
-
-equals : (a b : ℕ) → not (eqb a b) ≡ false → a ≡ b
-equals a b h = grind (arith, h)
-
 none_set : {X : Type 0} (p : X → Bool) (xs : List X) → length xs ≤ prefix_len (λ x. not (p x)) xs → mask_l (map p xs) ≡ 0
 none_set p [] h = refl
-none_set p (x ∷ xs) h = elim (p x) as (λ b. suc (length xs) ≤ cond (not b) (1 + prefix_len (λ y. not (p y)) xs) 0 → cond b 1 0 + 2 * mask_l (map p xs) ≡ 0) [
-  | true ↦ λ l. absurd (omega (arith, l))
-  | false ↦ λ l. omega (arith, none_set p xs (omega (arith, l)))
-] h
+none_set p (x ∷ xs) h = grind (arith, none_set p xs)
 
 module _ (ts : List ℕ) (t : ℕ) (long : length ts ≡ 16) where
   mask : compared ts t ≡ mask_l (map (λ x. eqb x t) ts)
@@ -34,7 +24,7 @@ module _ (ts : List ℕ) (t : ℕ) (long : length ts ≡ 16) where
   pub no_lane : compared ts t ≡ 0 → (l : ℕ) → l < 12 → get_or ts l 0 ≢ t
   no_lane none l b =
       let all = leading_from_mask_l (λ x. eqb x t) ts (sym mask ∙ none) in
-      differs (get_or ts l 0) t (prefix_len_passes (λ x. not (eqb x t)) ts l 0 (omega (arith, all, long, b)))
+      grind (arith, prefix_len_passes (λ x. not (eqb x t)) ts l 0 (omega (arith, all)))
 
   -- the lowest bit is that of the first lane with the tag
   pub record IsFirst (l : ℕ) : Type 0 where
@@ -44,13 +34,13 @@ module _ (ts : List ℕ) (t : ℕ) (long : length ts ≡ 16) where
   pub first_lane : (compared ts t ≡ 0 → ⊥) → IsFirst (count_trailing_zeros 64 (compared ts t))
   first_lane some =
       let p : ℕ → Bool = λ x. eqb x t in
-      let set : 0 < mask_l (map p ts) = elim (cases_lt 0 (mask_l (map p ts))) [ inl a ↦ a | inr b ↦ absurd (some (mask ∙ omega (arith, b))) ] in
-      let at : count_trailing_zeros 64 (compared ts t) ≡ prefix_len (λ x. not (p x)) ts = ap (count_trailing_zeros 64) mask ∙ trailing_mask_l p 64 ts (omega (arith, long)) set in
-      let within : prefix_len (λ x. not (p x)) ts < length ts = elim (cases_lt (prefix_len (λ x. not (p x)) ts) (length ts)) [ inl a ↦ a | inr b ↦ absurd (omega (arith, set, none_set p ts b)) ] in
-      subst IsFirst (sym at) (record {
-        tag = equals (get_or ts (prefix_len (λ x. not (p x)) ts) 0) t (prefix_len_stops (λ x. not (p x)) ts 0 within);
-        before = λ j l. differs (get_or ts j 0) t (prefix_len_passes (λ x. not (p x)) ts j 0 l);
+      let set : 0 < mask_l (map p ts) = grind (arith, some, mask) in
+      let at : count_trailing_zeros 64 (compared ts t) ≡ prefix_len (λ x. not (p x)) ts = ap (count_trailing_zeros 64) mask ∙ trailing_mask_l p 64 ts (omega arith) set in
+      let within : prefix_len (λ x. not (p x)) ts < length ts = grind (arith, none_set p ts) in
+      rw at (record {
+        tag = grind (arith, prefix_len_stops (λ x. not (p x)) ts 0 within);
+        before = λ j l. grind (arith, prefix_len_passes (λ x. not (p x)) ts j 0 l);
       })
 
   pub late_lane : (compared ts t ≡ 0 → ⊥) → 12 ≤ count_trailing_zeros 64 (compared ts t) → (l : ℕ) → l < 12 → get_or ts l 0 ≢ t
-  late_lane some late l b = (first_lane some).before l (omega (arith, late, b))
+  late_lane some late l b = (first_lane some).before l (omega arith)

@@ -57,6 +57,7 @@ impl Group {
     }
 
     /// The first free lane.
+    #[tactic(auto, using(crate::proofs::Lanes::of_lanes))]
     #[inline(always)]
     pub fn free_lane(&self) -> Option<usize>
         ensures some { IfSome result (λ l. (l < 12) × (tag_at self.now l ≡ 0)) }
@@ -85,6 +86,7 @@ impl Group {
     }
 
     /// Writes a lane.
+    #[tactic(auto, using(crate::proofs::Lanes::of_lanes))]
     #[inline(always)]
     pub fn write(&mut self, lane: usize, tag: u8, place: u32)
         requires { lane < 12 }

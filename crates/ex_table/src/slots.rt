@@ -81,6 +81,7 @@ pub struct Spot {
 }
 
 /// The number that a key is looked for by.
+#[tactic(auto, unfolding(crate::specs::Slots::hash_by))]
 #[inline(always)]
 pub fn hash_of<K: Eq + Hash, S: BuildHasher>(builder: &S, key: &K) -> u64
     ensures { result ≡ hashes S.BuildHasher S.Hasher.Hasher K.hash_input builder.now key.now }

@@ -87,6 +87,7 @@ impl<K: Eq + Hash + Drop, V: Drop, S: BuildHasher, A: Allocator + Clone> Table<K
     }
 
     /// How many keys there are. No key is there twice.
+    #[tactic(auto, using(crate::proofs::Counts::held_entries))]
     pub fn len(&self) -> usize
         ensures len { result ≡ length self.now.entries }
         ensures once { IsMap K.eq self.now.entries }

@@ -1,1 +1,2 @@
-mod Watching
+pub mod Walk
+pub mod Watching

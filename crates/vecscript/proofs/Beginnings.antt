@@ -1,5 +1,5 @@
 -- A text of which a beginning is written.
-use Rattle.vecscript.proofs.Common.{◌≡◌, ◌∙◌, refl, inl, inr, ℕ, Bool, true, false, sym, List, [], ◌∷◌, ◌++◌, take, drop, length, arith, append_assoc, append-nil, take-append-drop, Option, None, Some, IfSome, Result, Ok, Err, codes, Appends, AppendsBeginning}
+use Rattle.vecscript.proofs.Common.{◌≡◌, ◌∙◌, inl, inr, ℕ, Bool, true, false, sym, List, [], ◌∷◌, ◌++◌, take, drop, length, arith, append_assoc, append-nil, take-append-drop, Option, Result, Ok, Err, codes, Appends}
 use Rattle.std.proofs.Common.{true≢false}
 use Rattle.std.proofs.KnownBytes.{Appends-trans}
 use Rattle.std.specs.Fmt.Cut.{IsTextOrCut}
@@ -29,29 +29,12 @@ pub HasWritten-all : (old new : Option (List ℕ)) (text rest : List ℕ) → Ha
 HasWritten-all old new text [] had none = rw (had.place, append-nil had.front) had.grew
 HasWritten-all old new text (x ∷ xs) had none = absurd (omega arith)
 
--- a beginning of what a known text leads to
-pub IfSome-begun : {X : Type 0} (Means : X → Type 0) (Leads : X → List ℕ → Type 0) (known : Option X) (answer : List ℕ) (old new : Option (List ℕ))
-    → IfSome known Means → ((x : X) → Means x → Leads x answer) → AppendsBeginning old new answer
-    → IfSome known (λ x. (answer : List ℕ) × Leads x answer × AppendsBeginning old new answer)
-IfSome-begun Means Leads None answer old new means leads begun = tt
-IfSome-begun Means Leads (Some x) answer old new means leads begun = (answer, leads x means, begun)
-
 -- a text that does not end in dots was not cut
 pub whole-text : (E : ℕ → ℕ → Bool) (known kept : List ℕ) → pointwise E (codes "...") (codes "...") ≡ true → IsTextOrCut 64 known kept
     → false ≡ ends_with E kept (codes "...") → kept ≡ known
 whole-text E known kept same (inl whole) ends = whole
 whole-text E known kept same (inr dots) ends =
     absurd (true≢false (sym (rw dots at ends ∙ same)))
-
--- a beginning of a line's text is one of the line, and so is all of the text and a beginning of its end
-pub AppendsBeginning-within : (old new : Option (List ℕ)) (text more : List ℕ) → AppendsBeginning old new text → AppendsBeginning old new (text ++ more)
-AppendsBeginning-within old new text more begun =
-    (begun.0, begun.1 ++ more, rw (begun.2, append_assoc begun.0 begun.1 more) refl, begun.3)
-
-pub AppendsBeginning-on : (old mid new : Option (List ℕ)) (text more : List ℕ) → Appends old mid text → AppendsBeginning mid new more
-    → AppendsBeginning old new (text ++ more)
-AppendsBeginning-on old mid new text more whole begun =
-    (text ++ begun.0, begun.1, rw (append_assoc text begun.0 begun.1, ← begun.2) refl, Appends-trans old mid new text begun.0 whole begun.3)
 
 pub OnOk-holds : {X Y : Type 0} (P : Type 0) (r : Result X Y) → true ≡ is_ok r → OnOk r P → P
 OnOk-holds P (Ok x) ok p = p

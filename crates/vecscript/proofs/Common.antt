@@ -1,16 +1,17 @@
 -- The names from elsewhere that several proofs here cite, passed on.
 pub use Rattle.aa_vec.specs.Vector.{Vector}
 pub use Rattle.allocator_api2.specs.Machine.{Calls, State, state_of}
-pub use Rattle.allocator_api2.specs.Run.{IsRun, RunsTo, Turn}
+pub use Rattle.allocator_api2.specs.Run.{IsRun, Turn}
 pub use Rattle.allocator_api2.specs.declared.runner.Command.{Command}
 pub use Rattle.allocator_api2.specs.declared.runner.Command.TheVariants.{ExtractIf, Push, SplitOff}
 pub use Rattle.allocator_api2.specs.declared.runner.Reply.{Reply}
-pub use Rattle.std.proofs.Common.{Bool, List, [], ap, arith, drop, false, filter, get_or, inl, inr, length, length-drop, length-take, map, nat_lt, one-add, refl, rules, subst, suc, sym, take, true, zero, ℕ, ◌++◌, ◌+◌, ◌-◌, ◌<◌, ◌==◌, ◌^◌, ◌∙◌, ◌∷◌, ◌≡◌, ◌≢◌, ◌≤◌}
-pub use Rattle.std.proofs.lemmas.Bool.{eqb-true}
+pub use Rattle.std.proofs.Common.{Bool, List, [], ap, arith, drop, false, filter, get_or, inl, inr, length, length-drop, length-take, map, nat_lt, one-add, refl, ⊎_elim, rules, subst, sym, take, true, ℕ, ◌++◌, ◌+◌, ◌-◌, ◌<◌, ◌==◌, ◌^◌, ◌∙◌, ◌∷◌, ◌≡◌, ◌≢◌, ◌≤◌}
+pub use Rattle.std.proofs.lemmas.Bool.{cases_Bool}
 pub use Rattle.std.proofs.lemmas.Bool.Decides.{nat_tests}
 pub use Rattle.std.proofs.lemmas.Int.Digits.{digits_value_more}
-pub use Rattle.std.proofs.lemmas.List.{append-nil, append_assoc, drop_all, length-append, map-append, take-append-drop, take_all, take_rest}
+pub use Rattle.std.proofs.lemmas.List.{append-nil, append_assoc, length-append, map-append, take-append-drop, take_all, take_rest}
 pub use Rattle.std.proofs.lemmas.List.Elements.{All-append}
+pub use Rattle.std.proofs.lemmas.Option.{IfSome_then}
 pub use Rattle.std.specs.Char.{is_ascii_digit}
 pub use Rattle.std.specs.Global.{Global}
 pub use Rattle.std.specs.Io.KnownBytes.{Appends}

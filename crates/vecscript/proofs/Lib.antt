@@ -1,7 +1,6 @@
 pub mod Common
 pub mod Beginnings
-pub mod Mapped
-pub mod Named
+pub mod Decimals
 pub mod Numbers
 pub mod Parts
 pub mod Pieces

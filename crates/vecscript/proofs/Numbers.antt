@@ -1,75 +1,54 @@
 -- The number that the bytes before a line's first blank write, taken from its front.
-use Rattle.vecscript.proofs.Common.{◌≡◌, ℕ, zero, suc, ◌+◌, ◌-◌, ◌^◌, ◌<◌, ◌≤◌, true, false, List, [], ◌∷◌, length, get_or, take, drop, refl, arith, length-take, is_ascii_digit, position_or_len, AllDigits, digits_value, nat_tests, digits_value_more, take_all, drop_all, is_blank}
+use Rattle.vecscript.proofs.Common.{◌≡◌, ℕ, ◌+◌, ◌-◌, ◌<◌, ◌≤◌, true, false, List, refl, length, get_or, take, arith, length-take, length-drop, is_ascii_digit, position_or_len, AllDigits, digits_value, nat_tests, digits_value_more, take_all, take_rest, is_blank}
 use Rattle.std.proofs.Common.{◌*◌}
 use Rattle.std.specs.Char.{digit_value}
-use Rattle.std.specs.Int.{IsInRange}
-use Rattle.std.proofs.lemmas.List.{drop_more, take-take, get_or-take}
-use Rattle.std.proofs.lemmas.Str.Parse.{digit_from_value, digit_at, digits_value-take-le}
+use Rattle.std.proofs.lemmas.List.{take-take, get_or-take}
+use Rattle.std.proofs.lemmas.List.Sums.{passes_at_first, position_or_len_is}
+use Rattle.std.proofs.lemmas.Str.Parse.{digit_at, digits_value-take-le}
 
 -- what a digit counts for
-pub digit_is : (b : ℕ) → is_ascii_digit b ≡ true → digit_value b ≡ b - 48
-digit_is b passes = grind (arith, nat_tests)
+pub digit_is : (b : ℕ) → is_ascii_digit b ≡ true → (digit_value b ≡ b - 48) × (digit_value b < 10)
+digit_is b passes = (grind (arith, nat_tests), grind (arith, nat_tests))
 
-pub digit_below : (b : ℕ) → is_ascii_digit b ≡ true → digit_value b < 10
-digit_below b passes = grind (arith, nat_tests)
+-- digits are no blanks
+no_blank : (xs : List ℕ) (i k : ℕ) → AllDigits 10 (take i xs) → i ≤ length xs → k < i → is_blank (get_or xs k 0) ≡ false
+no_blank xs i k digits within below = grind (arith, nat_tests, digit_at (take i xs) k digits, get_or-take i xs k 0, length-take i xs)
 
--- and it is no blank
-digit_goes_on : (b : ℕ) → digit_value b < 10 → is_blank b ≡ false
-digit_goes_on b below = let range = digit_from_value b below in grind (arith, nat_tests)
+-- where the first bytes are digits, and a blank follows them or nothing does, they are the word
+pub word_is : (xs : List ℕ) (i : ℕ) → AllDigits 10 (take i xs) → i ≤ length xs → (i < length xs → is_blank (get_or xs i 0) ≡ true)
+    → (take i xs ≡ take (position_or_len is_blank xs) xs) × (position_or_len is_blank xs ≡ i)
+word_is xs i digits within ends =
+    let at = position_or_len_is is_blank xs i 0 within (λ k below. no_blank xs i k digits within below) ends in
+    (rw at refl, at)
 
--- where the first bytes are digits, the first blank is behind them
-blank_behind : (xs : List ℕ) (i : ℕ) → AllDigits 10 (take i xs) → i ≤ length xs
-    → position_or_len is_blank xs ≡ i + position_or_len is_blank (drop i xs)
-blank_behind xs zero digits within = omega arith
-blank_behind [] (suc i) digits within = absurd (omega arith)
-blank_behind (x ∷ xs) (suc i) digits within =
-    let behind = blank_behind xs i digits.1 (omega arith) in
-    rw (digit_goes_on x digits.0) (omega arith)
-
--- at once, where a blank follows them or nothing does
-pub blank_next : (xs : List ℕ) (i : ℕ) → AllDigits 10 (take i xs) → i < length xs → is_blank (get_or xs i 0) ≡ true
-    → position_or_len is_blank xs ≡ i
-blank_next xs i digits inside blank =
-    let behind = blank_behind xs i digits (omega arith) in
-    let here : position_or_len is_blank (drop i xs) ≡ 0 = rw (drop_more xs i 0 inside, blank) refl in
-    omega arith
-
-pub blank_none : (xs : List ℕ) (i : ℕ) → AllDigits 10 (take i xs) → i ≡ length xs → position_or_len is_blank xs ≡ i
-blank_none xs i digits at_end =
-    let behind = blank_behind xs i digits (omega arith) in
-    let here : position_or_len is_blank (drop i xs) ≡ 0 = rw (drop_all i xs (omega arith)) refl in
-    omega arith
-
--- and later where a byte follows that is none
-blank_later : (xs : List ℕ) (i : ℕ) → AllDigits 10 (take i xs) → i < length xs → is_blank (get_or xs i 0) ≡ false
+-- and it is longer where a byte follows that is none
+word_later : (xs : List ℕ) (i : ℕ) → AllDigits 10 (take i xs) → i < length xs → is_blank (get_or xs i 0) ≡ false
     → i < position_or_len is_blank xs
-blank_later xs i digits inside other =
-    let behind = blank_behind xs i digits (omega arith) in
-    let here : 0 < position_or_len is_blank (drop i xs) = rw (drop_more xs i 0 inside, other) (omega arith) in
-    omega arith
+word_later xs i digits inside other = grind (arith, no_blank xs i (position_or_len is_blank xs) digits (omega arith), passes_at_first is_blank xs 0)
 
--- a byte that is no digit and no blank is a part of the word
-pub other_in_word : (xs : List ℕ) (i : ℕ) → AllDigits 10 (take i xs) → i < length xs → is_ascii_digit (get_or xs i 0) ≡ false
-    → is_blank (get_or xs i 0) ≡ false → ¬ (AllDigits 10 (take (position_or_len is_blank xs) xs))
-other_in_word xs i digits inside other goes_on all =
-    let later = blank_later xs i digits inside goes_on in
-    let digit = digit_at (take (position_or_len is_blank xs) xs) i all (omega (arith, length-take (position_or_len is_blank xs) xs)) in
-    let same = get_or-take (position_or_len is_blank xs) xs i 0 later in
-    let range : IsInRange 48 57 (get_or xs i 0) = rw same at digit in
-    grind (arith, nat_tests)
-
--- where the first digits write too large a number, all of the word does
-pub too_large : (xs : List ℕ) (i : ℕ) → AllDigits 10 (take i xs) → i < length xs → is_ascii_digit (get_or xs i 0) ≡ true
-    → 2 ^ 64 ≤ digits_value 10 (take i xs) * 10 + digit_value (get_or xs i 0)
-    → ¬ (digits_value 10 (take (position_or_len is_blank xs) xs) < 2 ^ 64)
-too_large xs i digits inside digit large fits =
-    let later = blank_later xs i digits inside (digit_goes_on (get_or xs i 0) (digit_below (get_or xs i 0) digit)) in
+-- which is a digit where the word has no other bytes
+pub digit_or_blank : (xs : List ℕ) (i : ℕ) → AllDigits 10 (take i xs) → i < length xs → AllDigits 10 (take (position_or_len is_blank xs) xs)
+    → is_blank (get_or xs i 0) ≡ false → is_ascii_digit (get_or xs i 0) ≡ true
+digit_or_blank xs i digits inside all other =
+    let later = word_later xs i digits inside other in
     let word = take (position_or_len is_blank xs) xs in
-    let front : digits_value 10 (take (i + 1) word) ≡ digits_value 10 (take (i + 1) xs) =
-    rw (take-take (i + 1) (position_or_len is_blank xs) xs (omega arith)) refl in
-    omega (arith, digits_value_more 10 xs i inside, digits_value-take-le 10 word (i + 1) (omega arith))
+    grind (arith, nat_tests, digit_at word i all (omega (arith, length-take (position_or_len is_blank xs) xs)), get_or-take (position_or_len is_blank xs) xs i 0 later)
+
+-- and then the word writes no smaller number
+pub no_smaller : (xs : List ℕ) (i : ℕ) → AllDigits 10 (take i xs) → i < length xs → is_ascii_digit (get_or xs i 0) ≡ true
+    → digits_value 10 (take i xs) * 10 + digit_value (get_or xs i 0) ≤ digits_value 10 (take (position_or_len is_blank xs) xs)
+no_smaller xs i digits inside digit =
+    let later = word_later xs i digits inside (grind (arith, nat_tests)) in
+    let word = take (position_or_len is_blank xs) xs in
+    let front = take-take (i + 1) (position_or_len is_blank xs) xs (omega arith) in
+    grind (arith, digits_value_more 10 xs i inside, digits_value-take-le 10 word (i + 1), front)
+
+-- what is known once the bytes so far are digits
+pub ruleset digits = (word_is, digit_or_blank, no_smaller, digit_is, take_rest)
 
 -- digits have no blank among them
 pub digits_whole : (word : List ℕ) → AllDigits 10 word → position_or_len is_blank word ≡ length word
-digits_whole word digits =
-    blank_none word (length word) (rw (take_all (length word) word (omega arith)) digits) refl
+digits_whole word digits = grind (arith, word_is word (length word), take_all (length word) word)
+
+-- what is known of a word by itself
+pub ruleset whole_word = (digits_whole, take_all, length-drop)

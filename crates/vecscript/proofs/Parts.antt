@@ -1,5 +1,5 @@
 -- A list cut at the elements that pass a test, taken from its front.
-use Rattle.vecscript.proofs.Common.{◌≡◌, ℕ, Bool, true, false, List, [], ◌∷◌, take, drop, refl, one-add, slice_split, position_or_len}
+use Rattle.vecscript.proofs.Common.{◌≡◌, ℕ, Bool, true, false, List, [], ◌∷◌, take, drop, refl, ⊎_elim, cases_Bool, one-add, slice_split, position_or_len}
 
 -- what stands before the first element that passes, and what begins there
 abbrev pub front : (ℕ → Bool) → List ℕ → List ℕ
@@ -16,9 +16,5 @@ more_parts p (x ∷ xs) = slice_split p xs
 pub slice_split-front : (p : ℕ → Bool) (xs : List ℕ)
     → slice_split p xs ≡ front p xs ∷ more_parts p (following p xs)
 slice_split-front p [] = refl
-slice_split-front p (x ∷ xs) = by_test (p x) refl (slice_split-front p xs)
-  where
-    by_test : (b : Bool) → p x ≡ b → slice_split p xs ≡ front p xs ∷ more_parts p (following p xs)
-        → slice_split p (x ∷ xs) ≡ front p (x ∷ xs) ∷ more_parts p (following p (x ∷ xs))
-    by_test true e more = rw e refl
-    by_test false e more = rw (e, more, one-add) refl
+slice_split-front p (x ∷ xs) =
+    ⊎_elim (λ (e : p x ≡ true). rw e refl) (λ (e : p x ≡ false). rw (e, slice_split-front p xs, one-add) refl) (cases_Bool (p x))

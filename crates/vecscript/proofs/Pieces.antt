@@ -1,123 +1,75 @@
 -- A script of which some pieces were run, one after the other.
-use Rattle.vecscript.proofs.Common.{◌≡◌, ◌∙◌, ℕ, List, [], ◌∷◌, ◌++◌, length, refl, sym, ap, subst, rules, arith, Global, lines, append_assoc, append-nil, map-append, Vector, Command, Reply, State, Calls, state_of, Turn, IsRun, RunsTo, HasNoBad, AreBehind, command_lines, growth_in, replies_text, element_size, MayAnswer}
+use Rattle.vecscript.proofs.Common.{◌≡◌, ℕ, List, [], ◌∷◌, ◌++◌, length, refl, ap, subst, arith, Global, lines, append_assoc, append-nil, map-append, Vector, State, Calls, state_of, Turn, IsRun, AreBehind, element_size}
 use Rattle.std.proofs.lemmas.Grind.{flat_map-append}
 use Rattle.aa_vec.specs.Copies.{IsMade}
 use Rattle.allocator_api2.specs.declared.raw_vec.Growth.{Growth}
 use Rattle.allocator_api2.specs.Machine.{IsPossible}
-use Rattle.vecscript.proofs.Read.{Mean-append}
-use Rattle.vecscript.proofs.Sparing.{HasNoBad-append, HasNoBad-behind, Mean-behind}
-use Rattle.vecscript.specs.Print.{line_of, reply_text, printed}
+use Rattle.vecscript.proofs.Read.{HasNoBad-append, Mean-append}
+use Rattle.vecscript.proofs.Sparing.{HasNoBad-blank, Mean-blank}
+use Rattle.vecscript.specs.Print.{line_of, reply_text}
 use Rattle.vecscript.specs.Runs.{Answers}
 
--- two runs, one behind the other, are one
-module _ {T A K S : Type 0} (size : ℕ) (calls : Calls T A K S) where
-  IsRun-append : (old : State T A K S) (ts : List (Turn T A K S)) (mid : State T A K S) (us : List (Turn T A K S)) (new : State T A K S)
-      → IsRun size calls old ts mid → IsRun size calls mid us new → IsRun size calls old (ts ++ us) new
-  IsRun-append old [] mid us new r s = let From : State T A K S → Type 0 = λ m. IsRun size calls m us new in subst From r s
+module _ {K S : Type 0} (calls : Calls ℕ Global K S) where
+  -- two runs, one behind the other, are one
+  IsRun-append : (old : State ℕ Global K S) (ts : List (Turn ℕ Global K S)) (mid : State ℕ Global K S) (us : List (Turn ℕ Global K S)) (new : State ℕ Global K S)
+      → IsRun element_size calls old ts mid → IsRun element_size calls mid us new → IsRun element_size calls old (ts ++ us) new
+  IsRun-append old [] mid us new r s = let From : State ℕ Global K S → Type 0 = λ m. IsRun element_size calls m us new in subst From r s
   IsRun-append old (t ∷ ts) mid us new r s = (r.0, r.1, IsRun-append t.after ts mid us new r.2 s)
 
-  RunsTo-append : (old mid new : State T A K S) (commands later : List (Command T A)) (replies more : List (Reply T))
-      → RunsTo size calls old commands replies mid → RunsTo size calls mid later more new
-      → RunsTo size calls old (commands ++ later) (replies ++ more) new
-  RunsTo-append old mid new commands later replies more r s =
-      let told = r.commands_are in
-      let told_later = s.commands_are in
-      let given = r.replies_are in
-      let given_later = s.replies_are in
-      record {
-        possible = r.possible;
-        turns = r.turns ++ s.turns;
-        run = IsRun-append old r.turns mid s.turns new r.run s.run;
-        commands_are = rw map-append (λ i. told i ++ told_later i);
-        replies_are = rw map-append (λ i. given i ++ given_later i);
-      }
-
--- nothing has no lines
-empty-lines : (xs : List ℕ) → length xs ≡ 0 → lines xs ≡ []
-empty-lines [] none = refl
-empty-lines (x ∷ xs) none = absurd (omega arith)
-
-module _ {K S : Type 0} (calls : Calls ℕ Global K S) where
-  -- of these lines those before the rest were run
+  -- of these lines those before the rest are blank, or were run
   pub record HasAnswered (old : State ℕ Global K S) (all : List (List ℕ)) (rest answer : List ℕ) (now : State ℕ Global K S) : Type 0 where
     pub before : List (List ℕ)
     pub place : all ≡ before ++ lines rest
     pub run : Answers calls old before [] answer now
 
   -- no line was run
-  pub HasAnswered-start : (growth : Growth) (main side : Vector ℕ Global) (keep : K) (same : S) (text : List ℕ)
-      → IsMade element_size 0 growth [] 0 main → IsMade element_size 0 growth [] 0 side
-      → HasAnswered (state_of main side keep same) (lines text) text [] (state_of main side keep same)
-  HasAnswered-start growth main side keep same text main_new side_new =
-      let main_items = main_new.items in
-      let main_capacity = main_new.capacity in
-      let side_items = side_new.items in
-      let side_capacity = side_new.capacity in
-      let possible : IsPossible main side =
+  pub HasAnswered-start : (growth : Growth) (main side : Vector ℕ Global) (keep : K) (same : S) (count : ℕ) (text : List ℕ) (all : List (List ℕ))
+      → AreBehind count (lines text) all → IsMade element_size 0 growth [] 0 main → IsMade element_size 0 growth [] 0 side
+      → HasAnswered (state_of main side keep same) all text [] (state_of main side keep same)
+  HasAnswered-start growth main side keep same count text all behind main_new side_new =
+      let possible : IsPossible main side = omega (arith, ap length main_new.items, ap length side_new.items) in
       record {
-        main_possible = record { within = omega (arith, ap length main_items); countable = omega arith };
-        side_possible = record { within = omega (arith, ap length side_items); countable = omega arith };
-      } in
-      record {
-        before = [];
-        place = refl;
+        before = behind.0;
+        place = behind.3;
         run = record {
-          good = record { all_good = search rules };
+          good = HasNoBad-blank behind.0 behind.1;
           commands = [];
-          meant = tt;
+          meant = Mean-blank behind.0 behind.1;
           replies = [];
           run = record { possible = possible; turns = []; run = refl; commands_are = refl; replies_are = refl };
           shown = refl;
         };
       }
 
-  module _ (old : State ℕ Global K S) (all : List (List ℕ)) (rest answer : List ℕ) (now : State ℕ Global K S)
-      (had : HasAnswered old all rest answer now) where
-    -- a piece more was run
-    pub HasAnswered-next : (piece others answer' : List ℕ) (new : State ℕ Global K S) → Answers calls now (lines piece) answer answer' new
-        → lines rest ≡ lines piece ++ lines others → HasAnswered old all others answer' new
-    HasAnswered-next piece others answer' new more cut =
-        let run = had.run in
-        let shown : answer ++ replies_text more.replies ≡ replies_text run.replies ++ replies_text more.replies = ap (λ a. a ++ replies_text more.replies) run.shown in
-        record {
-          before = had.before ++ lines piece;
-          place = rw (append_assoc had.before (lines piece) (lines others), ← cut) had.place;
+  -- a piece more was run
+  pub HasAnswered-next : (old : State ℕ Global K S) (all : List (List ℕ)) (rest answer : List ℕ) (now : State ℕ Global K S)
+      → HasAnswered old all rest answer now → (piece others answer' : List ℕ) (new : State ℕ Global K S) → Answers calls now (lines piece) answer answer' new
+      → lines rest ≡ lines piece ++ lines others → HasAnswered old all others answer' new
+  HasAnswered-next old all rest answer now had piece others answer' new more cut =
+      let run = had.run in
+      let r = run.run in
+      let s = more.run in
+      record {
+        before = had.before ++ lines piece;
+        place = rw (append_assoc had.before (lines piece) (lines others), ← cut) had.place;
+        run = record {
+          good = HasNoBad-append had.before (lines piece) run.good more.good;
+          commands = run.commands ++ more.commands;
+          meant = Mean-append had.before (lines piece) run.commands more.commands run.meant more.meant;
+          replies = run.replies ++ more.replies;
           run = record {
-            good = HasNoBad-append had.before (lines piece) run.good more.good;
-            commands = run.commands ++ more.commands;
-            meant = Mean-append had.before (lines piece) run.commands more.commands run.meant more.meant;
-            replies = run.replies ++ more.replies;
-            run = RunsTo-append element_size calls old now new run.commands more.commands run.replies more.replies run.run more.run;
-            shown = more.shown ∙ shown ∙ sym (flat_map-append (λ reply. line_of (reply_text reply)) run.replies more.replies);
+            possible = r.possible;
+            turns = r.turns ++ s.turns;
+            run = IsRun-append old r.turns now s.turns new r.run s.run;
+            commands_are = rw (map-append, r.commands_are, s.commands_are) refl;
+            replies_are = rw (map-append, r.replies_are, s.replies_are) refl;
           };
-        }
+          shown = rw (flat_map-append (λ reply. line_of (reply_text reply)) run.replies more.replies, more.shown, run.shown) refl;
+        };
+      }
 
-    -- none is left
-    module _ (script : List (List ℕ)) (count : ℕ) (behind : AreBehind count all (command_lines script)) (last : length rest ≡ 0) where
-      all_is : all ≡ had.before
-      all_is = rw (empty-lines rest last, append-nil had.before) at had.place
-
-      pub HasAnswered-good : HasNoBad (command_lines script)
-      HasAnswered-good = HasNoBad-behind count all (command_lines script) behind (rw all_is had.run.good)
-
-      pub HasAnswered-end : (growth : Growth) (alloc : Global) (main side : Vector ℕ Global) (keep : K) (same : S) (answer' : List ℕ)
-          → growth ≡ growth_in script → old ≡ state_of main side keep same
-          → IsMade element_size 0 growth [] 0 main × (main.alloc ≡ alloc) → IsMade element_size 0 growth [] 0 side × (side.alloc ≡ alloc)
-          → answer' ≡ answer ++ printed [] now.main.items now.main.capacity now.side.items now.side.capacity
-          → MayAnswer calls alloc keep same script answer'
-      HasAnswered-end growth alloc main side keep same answer' grows begun main_new side_new told =
-          let run = had.run in
-          record {
-            commands = run.commands;
-            meant = Mean-behind count all (command_lines script) behind run.commands (rw all_is run.meant);
-            prints = record {
-              main = main;
-              side = side;
-              replies = run.replies;
-              last = now;
-              main_new = rw grows at main_new;
-              side_new = rw grows at side_new;
-              run = rw begun at run.run;
-              is_text = rw run.shown at told;
-            };
-          }
+  -- none is left
+  pub HasAnswered-end : (old : State ℕ Global K S) (all : List (List ℕ)) (rest answer : List ℕ) (now : State ℕ Global K S)
+      → HasAnswered old all rest answer now → length rest ≡ 0 → Answers calls old all [] answer now
+  HasAnswered-end old all [] answer now had last = rw (had.place, append-nil had.before) had.run
+  HasAnswered-end old all (x ∷ xs) answer now had last = absurd (omega arith)

@@ -434,6 +434,7 @@ fn hint(word: &[u8]) -> Option<Option<usize>>
 }
 
 // The number that the word writes in decimal digits, if it fits.
+#[tactic(auto, using(crate::proofs::Numbers::whole_word))]
 fn number(word: &[u8]) -> Option<usize>
     ensures { SomeIff result (IsNumeral 10 word.now × (digits_value 10 word.now < 2 ^ 64))
         (digits_value 10 word.now) }
@@ -451,6 +452,7 @@ fn number(word: &[u8]) -> Option<usize>
 
 // The number that the bytes before the line's first blank write, and what follows them, if each is
 // a decimal digit and the number fits. No digits write 0.
+#[tactic(auto, using(crate::proofs::Numbers::digits))]
 fn first_number(line: &[u8]) -> Option<(u64, &[u8])>
     ensures some { IfSome result (λ r. let word = take (position_or_len is_blank line.now) line.now in
         AllDigits 10 word × (r.0 ≡ digits_value 10 word)
@@ -486,6 +488,7 @@ impl<'a> Iterator for Words<'a> {
 
     ghost remaining = { item_count (λ words. words_of words.rest.now) };
 
+    #[tactic(auto, using(crate::proofs::Words::first_word))]
     fn next(&mut self) -> Option<&'a [u8]> {
         let (_, line) = self.rest.split_at(blank_count(self.rest));
         let (word, rest) = line.split_at(word_length(line));
@@ -521,6 +524,7 @@ impl Words<'_> {
     }
 
     // The number that the next word writes, if there is one and it writes one.
+    #[tactic(auto, using(crate::proofs::Words::first_word))]
     fn number(&mut self) -> Option<usize>
         ensures some { IfSome result (λ n. (word : List ℕ)
             × (words_of self.old.rest.now ≡ word ∷ words_of self.new.rest.now)

@@ -108,6 +108,7 @@ const WIDTH: usize = 11;
 
 // Puts the element behind a space in front of the bytes from an index on, and tells where they
 // begin.
+#[tactic(auto, using(crate::proofs::Decimals::decimals))]
 fn lay_out(x: u32, buffer: &mut [u8], end: usize) -> usize
     requires { (WIDTH ≤ end) × (end ≤ length buffer.old) }
     ensures start { result ≤ end }

@@ -38,6 +38,7 @@ pub(crate) fn count_kept<T, F: FnMut(&mut T) -> bool>(
 
 // The same in one run.
 #[inline]
+#[tactic(auto, using(crate::proofs::Asking::asks))]
 pub(crate) fn kept_run<T, F: FnMut(&mut T) -> bool>(
     elements: &mut [T],
     stays: bool,
@@ -88,6 +89,7 @@ fn ask_stays<T, F: FnMut(&mut T) -> bool>(f: &mut F, element: &mut T, stays: boo
 // Asks the elements behind the first in order, each beside the one before it, up to the first
 // repeat. It answers how many are kept before it. The second is asked by itself, as above.
 #[inline]
+#[tactic(auto, using(crate::proofs::Asking::chains))]
 pub(crate) fn distinct_run<T, F: FnMut(&mut T, &mut T) -> bool>(
     elements: &mut [T],
     same: &mut F,

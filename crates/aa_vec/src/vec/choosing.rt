@@ -198,6 +198,7 @@ impl<T, A: Allocator> Vec<T, A> {
 
     // Asks the element after the gap beside the last item.
     #[inline(always)]
+    #[tactic(auto, using(crate::proofs::Gaps::beside))]
     fn ask_last<F: FnMut(&mut T, &mut T) -> bool>(&mut self, gap: usize, same: &mut F) -> bool
         requires some { 0 < len self.old }
         requires stands { StandsBehind self.old gap 1 }
@@ -216,6 +217,7 @@ impl<T, A: Allocator> Vec<T, A> {
 // the first element that goes none is moved.
 
 // `retain_by`.
+#[tactic(auto, using(crate::proofs::Retaining::ended))]
 fn retained<'a, T: Drop, A: Allocator, F: FnMut(&mut T) -> bool>(
     mut list: Vec<T, A>,
     keep: &'a mut F,
@@ -238,6 +240,7 @@ fn retained<'a, T: Drop, A: Allocator, F: FnMut(&mut T) -> bool>(
 
 // `dedup_within`. While the loop runs, two elements or more are left to ask, so that nothing else
 // tests whether one stands behind the next.
+#[tactic(auto, using(crate::proofs::Deduplicating::ended))]
 fn deduplicated<'a, T: Drop, A: Allocator, F: FnMut(&mut T, &mut T) -> bool>(
     mut list: Vec<T, A>,
     same: &'a mut F,
@@ -276,6 +279,7 @@ fn deduplicated<'a, T: Drop, A: Allocator, F: FnMut(&mut T, &mut T) -> bool>(
 // first `kept` down to the last item, and drops the one behind them, if there is one. It answers
 // the next place. None, one and two are far less work than a run.
 #[inline(always)]
+#[tactic(auto, using(crate::proofs::Stands::first_stand))]
 fn passed<T: Drop, A: Allocator>(
     mut list: Vec<T, A>,
     gap: usize,
@@ -310,6 +314,7 @@ fn passed<T: Drop, A: Allocator>(
 
 // The same where there are two of them or more, so that one stands behind the first.
 #[inline(always)]
+#[tactic(auto, using(crate::proofs::Stands::first_stand))]
 fn passed_inside<T: Drop, A: Allocator>(
     mut list: Vec<T, A>,
     gap: usize,
@@ -333,6 +338,7 @@ fn passed_inside<T: Drop, A: Allocator>(
 
 // The same of any number, and after any gap.
 #[inline(always)]
+#[tactic(auto, using(crate::proofs::Stands::first_stand))]
 fn first_passed<T: Drop, A: Allocator>(
     mut list: Vec<T, A>,
     gap: usize,

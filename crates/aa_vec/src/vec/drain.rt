@@ -35,6 +35,7 @@ impl<T, A: Allocator> Vec<T, A> {
     /// Takes the elements of the range out of the vector, which ends before them at once. They come
     /// from either end of what this answers; its drop closes the gap. The capacity stays; it takes
     /// no memory. It stands for `Vec::drain`.
+    #[tactic(auto, using(crate::proofs::Drains::ranges))]
     pub fn drain(&mut self, range: Range<usize>) -> Drain<'_, T, A>
         requires { (range.start ≤ range.end) × (range.end ≤ len self.old) }
         ensures lender { drain_lender result ≡ self.entry.ghost_name }
@@ -99,7 +100,7 @@ impl<'a, T: Drop, A: Allocator> Iterator for Drain<'a, T, A> {
     ghost remaining = { item_count drain_rest };
 
     /// Takes the first item. At the end it answers `None`, and so for good.
-    #[tactic(auto, using(crate::proofs::Drains::from_ends), unfolding(crate::specs::Draining::drain_rest, crate::specs::Draining::drain_tail))]
+    #[tactic(auto, using(crate::proofs::Drains::from_ends))]
     fn next(&mut self) -> Option<T> {
         let first = self.front;
         if first == self.back {
@@ -130,7 +131,7 @@ impl<'a, T: Drop, A: Allocator> DoubleEndedIterator for Drain<'a, T, A> {
     ghost next_back_gives = { drains_last };
 
     /// Takes the last item. At the end it answers `None`, and so for good.
-    #[tactic(auto, using(crate::proofs::Drains::from_ends), unfolding(crate::specs::Draining::drain_rest, crate::specs::Draining::drain_tail))]
+    #[tactic(auto, using(crate::proofs::Drains::from_ends))]
     fn next_back(&mut self) -> Option<T> {
         if self.front == self.back {
             return None;

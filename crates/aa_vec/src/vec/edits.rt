@@ -1,7 +1,7 @@
 //! Edits at a position, and elements taken away.
-ghost use Rattle.std.specs.Prelude.{◌≡◌, ◌+◌, ◌-◌, ◌<◌, ◌≤◌, [], ◌∷◌, ◌++◌, take, insert, remove, swap_remove, slice_get, Some, IfErr, OnOk, OnErr, IsOk, if◌then◌else◌, ◌==◌};
+ghost use Rattle.std.specs.Prelude.{◌≡◌, ◌+◌, ◌-◌, ◌<◌, ◌≤◌, [], ◌∷◌, ◌++◌, length, take, insert, remove, swap_remove, slice_get, Some, IfErr, OnOk, OnErr, IsOk, if◌then◌else◌, ◌==◌};
 ghost use Rattle.std.specs.Mem.{type_size};
-ghost use Rattle.aa_vec.specs.Vector.{len, HasRoom, LacksRoom, GrowsTo, Holds, Writes, run_count};
+ghost use Rattle.aa_vec.specs.Vector.{len, HasRoom, LacksRoom, Becomes, Holds, Writes, run_count, with_room};
 
 use crate::vec::Vec;
 use aa_raw::collections::Refused;
@@ -11,11 +11,10 @@ impl<T, A: Allocator> Vec<T, A> {
     /// Puts `value` behind the last element where the vector is not full, and hands it back where
     /// it is. It takes no memory. It stands for `Vec::push_within_capacity`.
     #[inline]
-    #[tactic(auto, using(aa_raw::proofs::Calls::at_ends))]
+    #[tactic(auto, using(aa_raw::proofs::Calls::at_ends, crate::proofs::Becoming::becomes))]
     pub fn push_within_capacity(&mut self, value: T) -> Result<(), T>
         ensures fits { OnOk result (len self.old < self.old.capacity) }
-        ensures pushed { OnOk result (Holds self.old (self.old.items ++ value ∷ []) self.new) }
-        ensures writes { OnOk result (Writes self.old 1 1 self.new) }
+        ensures pushed { OnOk result (Becomes self.old (self.old.items ++ value ∷ []) 1 1 self.new) }
         ensures full { OnErr result (len self.old ≡ self.old.capacity) }
         ensures handed_back { IfErr result (λ x. x ≡ value) }
         ensures unchanged { OnErr result (self.new ≡ self.old) }
@@ -37,10 +36,10 @@ impl<T, A: Allocator> Vec<T, A> {
     pub fn insert(&mut self, index: usize, element: T) -> Result<(), Refused<T>>
         requires { index ≤ len self.old }
         ensures fits { HasRoom self.old 1 → IsOk result }
-        ensures inserted { OnOk result
-            (GrowsTo (type_size T.row) self.old 1 (insert self.old.items index element) self.new) }
-        ensures writes { let moved = len self.old - index in
-            OnOk result (Writes self.old (moved + 1) (run_count moved + 1) self.new) }
+        ensures inserted { let moved = length self.old.items - index in
+            let roomy = with_room (type_size T.row) self.old (length self.old.items) 1 in
+            OnOk result (Becomes roomy (insert self.old.items index element) (moved + 1)
+            (run_count moved + 1) self.new) }
         ensures refused { IfErr result (λ r. LacksRoom (type_size T.row) self.old 1 r.error) }
         ensures handed_back { IfErr result (λ r. r.source ≡ element) }
         ensures unchanged { OnErr result (self.new ≡ self.old) }
@@ -60,13 +59,12 @@ impl<T, A: Allocator> Vec<T, A> {
 
     /// Takes the element at `index`, which is below the length, and moves those behind it down by
     /// one. The capacity stays. It stands for `Vec::remove`.
-    #[tactic(auto, using(aa_raw::proofs::Positions::at_positions))]
+    #[tactic(auto, using(aa_raw::proofs::Positions::at_positions, crate::proofs::Becoming::becomes))]
     pub fn remove(&mut self, index: usize) -> T
         requires { index < len self.old }
         ensures value { slice_get self.old.items index ≡ Some result }
-        ensures items { Holds self.old (remove self.old.items index) self.new }
-        ensures writes { let moved = len self.old - index - 1 in
-            Writes self.old moved (run_count moved) self.new }
+        ensures removed { let moved = length self.old.items - index - 1 in
+            Becomes self.old (remove self.old.items index) moved (run_count moved) self.new }
     {
         let last = self.len - 1;
         let value = self.block.take(index);
@@ -77,13 +75,12 @@ impl<T, A: Allocator> Vec<T, A> {
 
     /// Takes the element at `index`, which is below the length, and puts the last element there.
     /// The capacity stays. It stands for `Vec::swap_remove`.
-    #[tactic(auto, using(aa_raw::proofs::Positions::at_positions))]
+    #[tactic(auto, using(aa_raw::proofs::Positions::at_positions, crate::proofs::Becoming::becomes))]
     pub fn swap_remove(&mut self, index: usize) -> T
         requires { index < len self.old }
         ensures value { slice_get self.old.items index ≡ Some result }
-        ensures items { Holds self.old (swap_remove self.old.items index result) self.new }
-        ensures writes { let moved = run_count (len self.old - index - 1) in
-            Writes self.old moved moved self.new }
+        ensures removed { let moved = run_count (length self.old.items - index - 1) in
+            Becomes self.old (swap_remove self.old.items index result) moved moved self.new }
     {
         let last = self.len - 1;
         let value = self.block.take(index);

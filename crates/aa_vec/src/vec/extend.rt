@@ -1,5 +1,5 @@
 //! Items of an iterator, put behind the elements.
-ghost use Rattle.std.specs.Prelude.{◌≡◌, ◌+◌, ◌-◌, ◌≤◌, ◌++◌, List, map, IfOk, IfErr, OnOk, IsOk};
+ghost use Rattle.std.specs.Prelude.{length, ◌≡◌, ◌+◌, ◌-◌, ◌≤◌, ◌++◌, List, map, IfOk, IfErr, OnOk, IsOk};
 ghost use Rattle.std.specs.Mem.{type_size};
 ghost use Rattle.std.specs.Iterator.{IsFinite, IsNearerEnd, Drains, size};
 ghost use Rattle.std.specs.Iterator.Runs.{WholeRun};
@@ -90,7 +90,8 @@ impl<T, A: Allocator> Vec<T, A> {
         ensures fits { HasRoom self.old (size (I.remaining iter)) → IsOk result }
         ensures room { OnOk result (ExtendsByAll I.next_gives (TellsExactly I.lower_of)
             (type_size T.row) iter self.old self.new) }
-        ensures writes { let n = len self.new - len self.old in Writes self.old n n self.new }
+        ensures writes { let n = length self.new.items - length self.old.items in
+            (self.new.written ≡ self.old.written + n) × (self.new.runs ≡ self.old.runs + n) }
         ensures refused { IfErr result (λ e. ExtendsByFront I.next_gives (TellsExactly I.lower_of)
             (type_size T.row) iter self.old e self.new) }
     {
@@ -116,7 +117,8 @@ impl<T, A: Allocator> Vec<T, A> {
         ensures fits { HasRoom self.old (size (I.remaining iter.old)) → IsOk result }
         ensures room { OnOk result (ExtendsByAll I.next_gives (TellsExactly I.lower_of)
             (type_size T.row) iter.old self.old self.new) }
-        ensures writes { let n = len self.new - len self.old in Writes self.old n n self.new }
+        ensures writes { let n = length self.new.items - length self.old.items in
+            (self.new.written ≡ self.old.written + n) × (self.new.runs ≡ self.old.runs + n) }
         ensures refused { IfErr result (λ e. ExtendsByFront I.next_gives (TellsExactly I.lower_of)
             (type_size T.row) iter.old self.old e self.new) }
         ensures leaves { LeavesIter I.next_gives (TellsExactly I.lower_of)
@@ -142,7 +144,8 @@ impl<T, A: Allocator> Vec<T, A> {
         ensures fits { HasRoom self.old (size (I.remaining iter)) → IsOk result }
         ensures room { OnOk result (ExtendsByAll I.next_gives (TellsAtMost I.remaining)
             (type_size T.row) iter self.old self.new) }
-        ensures writes { let n = len self.new - len self.old in Writes self.old n n self.new }
+        ensures writes { let n = length self.new.items - length self.old.items in
+            (self.new.written ≡ self.old.written + n) × (self.new.runs ≡ self.old.runs + n) }
         ensures refused { IfErr result (λ e. ExtendsByFront I.next_gives (TellsAtMost I.remaining)
             (type_size T.row) iter self.old e self.new) }
     {
@@ -165,7 +168,8 @@ impl<T, A: Allocator> Vec<T, A> {
         ensures fits { HasRoom self.old (size (I.remaining iter.old)) → IsOk result }
         ensures room { OnOk result (ExtendsByAll I.next_gives (TellsAtMost I.remaining)
             (type_size T.row) iter.old self.old self.new) }
-        ensures writes { let n = len self.new - len self.old in Writes self.old n n self.new }
+        ensures writes { let n = length self.new.items - length self.old.items in
+            (self.new.written ≡ self.old.written + n) × (self.new.runs ≡ self.old.runs + n) }
         ensures refused { IfErr result (λ e. ExtendsByFront I.next_gives (TellsAtMost I.remaining)
             (type_size T.row) iter.old self.old e self.new) }
         ensures leaves { LeavesIter I.next_gives (TellsAtMost I.remaining)
@@ -192,7 +196,8 @@ impl<T, A: Allocator> Vec<T, A> {
         ensures fits { HasRoom self.old (size (I.remaining iter)) → IsOk result }
         ensures room { OnOk result (ExtendsByAll (CopiesOf I.next_gives) (TellsAtMost I.remaining)
             (type_size T.row) iter self.old self.new) }
-        ensures writes { let n = len self.new - len self.old in Writes self.old n n self.new }
+        ensures writes { let n = length self.new.items - length self.old.items in
+            (self.new.written ≡ self.old.written + n) × (self.new.runs ≡ self.old.runs + n) }
         ensures refused { IfErr result
             (λ e. ExtendsByFront (CopiesOf I.next_gives) (TellsAtMost I.remaining)
             (type_size T.row) iter self.old e self.new) }
@@ -220,7 +225,8 @@ impl<T, A: Allocator> Vec<T, A> {
         ensures fits { HasRoom self.old (size (I.remaining iter.old)) → IsOk result }
         ensures room { OnOk result (ExtendsByAll (CopiesOf I.next_gives) (TellsAtMost I.remaining)
             (type_size T.row) iter.old self.old self.new) }
-        ensures writes { let n = len self.new - len self.old in Writes self.old n n self.new }
+        ensures writes { let n = length self.new.items - length self.old.items in
+            (self.new.written ≡ self.old.written + n) × (self.new.runs ≡ self.old.runs + n) }
         ensures refused { IfErr result
             (λ e. ExtendsByFront (CopiesOf I.next_gives) (TellsAtMost I.remaining)
             (type_size T.row) iter.old self.old e self.new) }

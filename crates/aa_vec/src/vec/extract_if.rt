@@ -111,6 +111,7 @@ impl<'a, T, A: Allocator> ExtractBy<'a, T, A> {
     /// Asks `f` of the elements that were not asked yet, in order, up to the first at which it
     /// answers true, and takes that one out. At the end it answers `None`, and so for good, and
     /// asks nothing.
+    #[tactic(auto, using(crate::proofs::Extracts::picked))]
     pub fn next_by<F: FnMut(&mut T) -> bool>(&mut self, f: &mut F) -> Option<T>
         requires { IsCallableInOrder (CalledAtMut F.FnMut) (TakesMut F.FnMut) f.old
             (extract_rest self.old) }

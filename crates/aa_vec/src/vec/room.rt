@@ -31,7 +31,7 @@ impl<T, A: Allocator> Vec<T, A> {
     pub fn try_reserve_exact(&mut self, additional: usize) -> Result<(), TryReserveError>
         ensures fits { HasRoom self.old additional → IsOk result }
         ensures made { OnOk result
-            (GrowsExactly (type_size T.row) self.old additional self.old.items self.new) }
+            (GrowsExactly self.old additional self.old.items self.new) }
         ensures writes { Writes self.old 0 0 self.new }
         ensures refused { IfErr result (LacksExactRoom self.old additional) }
         ensures unchanged { OnErr result (self.new ≡ self.old) }
@@ -56,7 +56,7 @@ impl<T, A: Allocator> Vec<T, A> {
     pub fn reserve_exact(&mut self, additional: usize) -> Result<(), TryReserveError>
         ensures fits { HasRoom self.old additional → IsOk result }
         ensures made { OnOk result
-            (GrowsExactly (type_size T.row) self.old additional self.old.items self.new) }
+            (GrowsExactly self.old additional self.old.items self.new) }
         ensures writes { Writes self.old 0 0 self.new }
         ensures refused { IfErr result (LacksExactRoom self.old additional) }
         ensures unchanged { OnErr result (self.new ≡ self.old) }

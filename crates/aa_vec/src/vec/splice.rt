@@ -1,5 +1,5 @@
 //! `Splice`: a range of a vector, replaced by items.
-ghost use Rattle.std.specs.Prelude.{◌≡◌, ℕ, ◌+◌, ◌-◌, ◌<◌, ◌≤◌, ◌++◌, List, [], length, Some, IfErr, OnOk, IsOk};
+ghost use Rattle.std.specs.Prelude.{◌≡◌, ℕ, ◌+◌, ◌-◌, ◌*◌, ◌<◌, ◌≤◌, ◌++◌, List, [], length, Some, IfErr, OnOk, IsOk};
 ghost use Rattle.std.specs.Mem.{type_size};
 ghost use Rattle.std.specs.Iterator.{IsFinite};
 ghost use Rattle.aa_vec.specs.Vector.{len, HasRoom};
@@ -70,7 +70,7 @@ impl<'a, I: Iterator, A: Allocator> Splice<'a, I, A> {
     ghost use Rattle.aa_vec.specs.Splices.{splice_range, splices_first, splices_last};
 
     /// Takes the first element of the range. At the end it answers `None`.
-    #[tactic(auto, using(crate::proofs::Drains::from_ends), unfolding(crate::specs::Draining::drain_rest, crate::specs::Draining::drain_tail))]
+    #[tactic(auto, using(crate::proofs::Drains::from_ends))]
     pub fn next(&mut self) -> Option<I::Item>
         ensures { splices_first self.old result self.new }
     {
@@ -83,7 +83,7 @@ impl<'a, I: Iterator, A: Allocator> Splice<'a, I, A> {
     }
 
     /// Takes the last element of the range. At the end it answers `None`.
-    #[tactic(auto, using(crate::proofs::Drains::from_ends), unfolding(crate::specs::Draining::drain_rest, crate::specs::Draining::drain_tail))]
+    #[tactic(auto, using(crate::proofs::Drains::from_ends))]
     pub fn next_back(&mut self) -> Option<I::Item>
         ensures { splices_last self.old result self.new }
     {
@@ -210,10 +210,8 @@ where
 {
     ghost use Rattle.std.specs.Iterator.{Drains, size};
     ghost use Rattle.std.specs.Iterator.Runs.{WholeRun};
-    ghost use Rattle.aa_vec.specs.Draining.{drain_vec, drain_tail, range_len};
-    ghost use Rattle.aa_vec.specs.Splicing.{SplicesWithin};
-    ghost use Rattle.aa_vec.specs.Splices.{splice_range, splice_iter, spliced_with};
-    ghost use Rattle.aa_vec.specs.Splices.{FitsTold, SpliceDone, SpliceRefused};
+    ghost use Rattle.aa_vec.specs.Splicing.{SplicesByAll, SplicesByFront, TellsOnceFull, span};
+    ghost use Rattle.aa_vec.specs.Splices.{splice_gap, splice_iter, spliced_with};
 
     /// Drops what was not taken of the range, and leaves the vector what is before the range, the
     /// items, which end, and what is behind it. With nothing behind the range the items are put
@@ -238,19 +236,24 @@ where
             × (self.exit.0.now.items ≡ spliced_with self.entry xs)) }
         ensures runs { OnOk result (WholeRun I.next_gives (splice_iter self.entry)
             (λ p. self.exit.0.now.items ≡ spliced_with self.entry p.items)) }
-        ensures fits_gap { size (I.remaining (splice_iter self.entry))
-            < range_len (splice_range self.entry) → IsOk result }
-        ensures fits_end { let d = splice_range self.entry in drain_tail d ≡ []
-            → HasRoom (drain_vec d) (size (I.remaining (splice_iter self.entry))) → IsOk result }
-        ensures fits_told { (h : ℕ) → FitsTold (TellsExactly I.lower_of) self.entry h result }
-        ensures room { OnOk result (SpliceDone (TellsExactly I.lower_of) (type_size I.Item.row)
-            self.entry self.exit.0.now) }
-        ensures writes { let d = splice_range self.entry in
-            SplicesWithin (drain_vec d) (drain_tail d) self.exit.0.now }
-        ensures refused { let d = splice_range self.entry in
-            let fails = ¬ (A.is_infallible (drain_vec d).alloc) in
-            IfErr result (λ e. SpliceRefused (TellsExactly I.lower_of) fails
-            (type_size I.Item.row) self.entry e self.exit.0.now) }
+        ensures fits_gap { size (I.remaining (splice_iter self.entry)) < (splice_gap self.entry).gap
+            → IsOk result }
+        ensures fits_end { let s = splice_gap self.entry in s.tail ≡ []
+            → HasRoom s.block (size (I.remaining (splice_iter self.entry))) → IsOk result }
+        ensures fits_told { (h : ℕ) → let s = splice_gap self.entry in let iter = splice_iter self.entry in
+            TellsOnceFull I.next_gives (TellsExactly I.lower_of) iter s.gap h
+            → size (I.remaining iter) ≤ s.gap + h → span s + h ≤ s.block.capacity → IsOk result }
+        ensures room { OnOk result (SplicesByAll I.next_gives (TellsExactly I.lower_of)
+            (type_size I.Item.row) (splice_iter self.entry) (splice_gap self.entry)
+            self.exit.0.now) }
+        ensures writes { let s = splice_gap self.entry in let new = self.exit.0.now in
+            let placed = length new.items - (length s.block.items + length s.tail) in
+            (new.written ≤ s.block.written + (placed + 2 * length s.tail))
+            × (new.runs ≤ s.block.runs + (placed + 2)) }
+        ensures refused { let s = splice_gap self.entry in
+            let fails = ¬ (A.is_infallible s.block.alloc) in
+            IfErr result (λ e. SplicesByFront I.next_gives (TellsExactly I.lower_of)
+            (type_size I.Item.row) (splice_iter self.entry) s fails e self.exit.0.now) }
     {
         self.end_by::<ByLower>()
     }
@@ -262,10 +265,8 @@ where
 {
     ghost use Rattle.std.specs.Iterator.{Drains, size};
     ghost use Rattle.std.specs.Iterator.Runs.{WholeRun};
-    ghost use Rattle.aa_vec.specs.Draining.{drain_vec, drain_tail, range_len};
-    ghost use Rattle.aa_vec.specs.Splicing.{SplicesWithin};
-    ghost use Rattle.aa_vec.specs.Splices.{splice_range, splice_iter, spliced_with};
-    ghost use Rattle.aa_vec.specs.Splices.{FitsTold, SpliceDone, SpliceRefused};
+    ghost use Rattle.aa_vec.specs.Splicing.{SplicesByAll, SplicesByFront, TellsOnceFull, span};
+    ghost use Rattle.aa_vec.specs.Splices.{splice_gap, splice_iter, spliced_with};
 
     /// The same, with the lower bound of `size_hint` in place of `lower`, and with nothing behind
     /// the range as by `extend`. It stands for the drop of `Splice`.
@@ -277,19 +278,24 @@ where
             × (self.exit.0.now.items ≡ spliced_with self.entry xs)) }
         ensures runs { OnOk result (WholeRun I.next_gives (splice_iter self.entry)
             (λ p. self.exit.0.now.items ≡ spliced_with self.entry p.items)) }
-        ensures fits_gap { size (I.remaining (splice_iter self.entry))
-            < range_len (splice_range self.entry) → IsOk result }
-        ensures fits_end { let d = splice_range self.entry in drain_tail d ≡ []
-            → HasRoom (drain_vec d) (size (I.remaining (splice_iter self.entry))) → IsOk result }
-        ensures fits_told { (h : ℕ) → FitsTold (TellsAtMost I.remaining) self.entry h result }
-        ensures room { OnOk result (SpliceDone (TellsAtMost I.remaining) (type_size I.Item.row)
-            self.entry self.exit.0.now) }
-        ensures writes { let d = splice_range self.entry in
-            SplicesWithin (drain_vec d) (drain_tail d) self.exit.0.now }
-        ensures refused { let d = splice_range self.entry in
-            let fails = ¬ (A.is_infallible (drain_vec d).alloc) in
-            IfErr result (λ e. SpliceRefused (TellsAtMost I.remaining) fails
-            (type_size I.Item.row) self.entry e self.exit.0.now) }
+        ensures fits_gap { size (I.remaining (splice_iter self.entry)) < (splice_gap self.entry).gap
+            → IsOk result }
+        ensures fits_end { let s = splice_gap self.entry in s.tail ≡ []
+            → HasRoom s.block (size (I.remaining (splice_iter self.entry))) → IsOk result }
+        ensures fits_told { (h : ℕ) → let s = splice_gap self.entry in let iter = splice_iter self.entry in
+            TellsOnceFull I.next_gives (TellsAtMost I.remaining) iter s.gap h
+            → size (I.remaining iter) ≤ s.gap + h → span s + h ≤ s.block.capacity → IsOk result }
+        ensures room { OnOk result (SplicesByAll I.next_gives (TellsAtMost I.remaining)
+            (type_size I.Item.row) (splice_iter self.entry) (splice_gap self.entry)
+            self.exit.0.now) }
+        ensures writes { let s = splice_gap self.entry in let new = self.exit.0.now in
+            let placed = length new.items - (length s.block.items + length s.tail) in
+            (new.written ≤ s.block.written + (placed + 2 * length s.tail))
+            × (new.runs ≤ s.block.runs + (placed + 2)) }
+        ensures refused { let s = splice_gap self.entry in
+            let fails = ¬ (A.is_infallible s.block.alloc) in
+            IfErr result (λ e. SplicesByFront I.next_gives (TellsAtMost I.remaining)
+            (type_size I.Item.row) (splice_iter self.entry) s fails e self.exit.0.now) }
     {
         self.end_by::<ByHint>()
     }

@@ -15,6 +15,7 @@ use aa_vec::vec::Vec;
 use aa_vec::vec::items::Items;
 use std::alloc::Allocator;
 
+#[tactic(auto, using(aa_vec::proofs::Becoming::became))]
 pub(crate) fn push<T, A: Allocator>(main: &mut Vec<T, A>, value: T) -> Reply<T>
 where
     T: Drop,
@@ -26,6 +27,7 @@ where
     }
 }
 
+#[tactic(auto, using(aa_vec::proofs::Becoming::became))]
 pub(crate) fn within<T, A: Allocator>(main: &mut Vec<T, A>, value: T) -> Reply<T>
     ensures { DoesOnMain (type_size T.row) main.old (Within value) result main.new }
 {
@@ -44,6 +46,7 @@ pub(crate) fn pop<T, A: Allocator>(main: &mut Vec<T, A>) -> Reply<T>
     }
 }
 
+#[tactic(auto, using(aa_vec::proofs::Becoming::became))]
 pub(crate) fn insert<T: Drop, A: Allocator>(
     main: &mut Vec<T, A>,
     index: usize,
@@ -60,6 +63,7 @@ pub(crate) fn insert<T: Drop, A: Allocator>(
     }
 }
 
+#[tactic(auto, using(aa_vec::proofs::Becoming::became))]
 pub(crate) fn remove<T, A: Allocator>(main: &mut Vec<T, A>, index: usize) -> Reply<T>
     ensures { DoesOnMain (type_size T.row) main.old (Remove index) result main.new }
 {
@@ -69,6 +73,7 @@ pub(crate) fn remove<T, A: Allocator>(main: &mut Vec<T, A>, index: usize) -> Rep
     Reply::Item(main.remove(index))
 }
 
+#[tactic(auto, using(aa_vec::proofs::Becoming::became))]
 pub(crate) fn swap_remove<T, A: Allocator>(main: &mut Vec<T, A>, index: usize) -> Reply<T>
     ensures { DoesOnMain (type_size T.row) main.old (SwapRemove index) result main.new }
 {

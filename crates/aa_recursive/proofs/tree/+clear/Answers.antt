@@ -1,23 +1,23 @@
-use Rattle.std.proofs.Common.{◌+◌, ◌<◌, ◌≢◌, length, length-set, get_or, get_or-set_other, refl, sym, arith, ap, ◌∙◌}
+use Rattle.std.proofs.Common.{◌<◌, ◌≢◌, ◌∙◌, length, length-set, get_or-set_other, refl, arith, ap}
 use Rattle.aa_recursive.specs.Trees.{nodes, with_values}
-use Rattle.aa_recursive.specs.declared.tree.Tree.{Tree, out-Tree}
-use Rattle.aa_recursive.specs.declared.tree.Tree.TheOpen.{Tree-F}
+use Rattle.aa_recursive.specs.declared.tree.Tree.{out-Tree}
 use Rattle.aa_recursive.specs.declared.tree.Tree.TheViews.{out-roll-Tree}
-use Rattle.aa_recursive.proofs.Nodes.{changed_from, changed_next, changed_whole}
+use Rattle.aa_recursive.proofs.Nodes.{changed_next, changed_whole}
 use Rattle.aa_recursive.proofs.tree.+clear.Goals as goal
 
 pub loop-i-preserved : goal.loop-i-preserved
 loop-i-preserved g t c =
-    let lt : c.loop-i.i < length (out-Tree _ c.loop-i.tree).below.items = omega (arith, c.loop-i-test.true, c.loop-i.invariant.0, c.loop-i.invariant.2) in (
-      ap (λ (x : Tree-F _ (Tree _)). length x.below.items) (out-roll-Tree _ _) ∙ length-set _ _ _ ∙ c.loop-i.invariant.0,
-      (λ k d le. ap (λ (x : Tree-F _ (Tree _)). get_or x.below.items k d) (out-roll-Tree _ _) ∙ (let ne : k ≢ c.loop-i.i = λ e. absurd (omega (arith, e, le)) in rw get_or-set_other (c.loop-i.invariant.1 k d (omega (arith, le))))),
-      c.loop-i.invariant.2,
-      ap (λ (x : Tree-F _ (Tree _)). x.value) (out-roll-Tree _ _) ∙ c.loop-i.invariant.3,
-      ap (λ (x : Tree-F _ (Tree _)). changed_from (λ _. 0) (c.loop-i.i + 1) x.below.items) (out-roll-Tree _ _)
-          ∙ changed_next (λ _. 0) c.loop-i.i (out-Tree _ c.loop-i.tree).below.items c.index_mut.result.now c.clear.new.tree lt (c.clear.ensures ∙ ap (λ t. with_values (λ _. 0) (nodes t)) c.index_mut.ensures.value) ∙ c.loop-i.invariant.4,
+    let inv = simp out-roll-Tree at c.loop-i.invariant in
+    let lt : c.loop-i.i < length (out-Tree _ c.loop-i.tree).below.items = omega (arith, c.loop-i-test.true, inv.0, inv.2) in
+    simp out-roll-Tree (
+      length-set _ _ _ ∙ inv.0,
+      (λ k d le. let ne : k ≢ c.loop-i.i = omega (arith, le) in get_or-set_other (out-Tree _ c.loop-i.tree).below.items c.loop-i.i k c.clear.new.tree d ne ∙ inv.1 k d (omega (arith, le))),
+      inv.2,
+      inv.3,
+      changed_next (λ _. 0) c.loop-i.i (out-Tree _ c.loop-i.tree).below.items c.index_mut.result.now c.clear.new.tree lt (c.clear.ensures ∙ ap (λ t. with_values (λ _. 0) (nodes t)) c.index_mut.ensures.value) ∙ inv.4,
     )
 
 pub returns : goal.returns
 returns g t c =
-    changed_whole (λ _. 0) c.args.tree.now c.loop-i.tree c.loop-i.i 0 _ _ c.loop-i.invariant.3 refl (sym (ap (λ (x : Tree-F _ (Tree _)). x.below.items) (out-roll-Tree _ _))) refl
+    changed_whole (λ _. 0) c.args.tree.now c.loop-i.tree c.loop-i.i 0 _ _ c.loop-i.invariant.3 refl (simp out-roll-Tree) refl
     c.loop-i.invariant.0 (omega (arith, c.loop-i-test.false, c.loop-i.invariant.0, c.loop-i.invariant.2)) c.loop-i.invariant.4

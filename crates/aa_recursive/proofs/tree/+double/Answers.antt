@@ -1,7 +1,5 @@
 use Rattle.std.proofs.Common.{◌^◌, ◌-◌, ◌*◌, length, sym, arith, ap, ◌∙◌}
 use Rattle.std.specs.Prelude.{min}
-use Rattle.aa_recursive.specs.declared.tree.Tree.{Tree}
-use Rattle.aa_recursive.specs.declared.tree.Tree.TheOpen.{Tree-F}
 use Rattle.aa_recursive.specs.declared.tree.Tree.TheViews.{out-roll-Tree}
 use Rattle.aa_recursive.proofs.Nodes.{changed_whole, refilled}
 use Rattle.aa_recursive.proofs.tree.+double.Goals as goal
@@ -10,7 +8,5 @@ pub returns : goal.returns
 returns g t c =
     let before = c.as_mut_slice-child-items.ensures.value in let inv = c.loop-child.invariant in
     changed_whole (λ n. min (n * 2) (2 ^ 64 - 1)) c.args.tree.now _ c.loop-child.child-index c.saturating_mul-tree.result c.loop-child.child-items c.as_mut_slice-child-items.result.now
-    (ap (λ (x : Tree-F _ (Tree _)). x.value) (out-roll-Tree _ _) ∙ ap (λ (x : Tree-F _ (Tree _)). x.value) (out-roll-Tree _ _))
-    (ap (λ (x : Tree-F _ (Tree _)). x.below.items) (out-roll-Tree _ _) ∙ refilled _ _ _ (inv.2 ∙ ap length before))
-    (sym (before ∙ ap (λ (x : Tree-F _ (Tree _)). x.below.items) (out-roll-Tree _ _)))
+    (simp out-roll-Tree) (simp out-roll-Tree (refilled _ _ _ (simp out-roll-Tree at (inv.2 ∙ ap length before)))) (sym (simp out-roll-Tree at before))
     c.saturating_mul-tree.ensures inv.2 (omega (arith, c.loop-child-test.false, inv.2)) inv.1

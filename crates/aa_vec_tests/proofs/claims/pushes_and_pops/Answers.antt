@@ -4,5 +4,4 @@ use Rattle.aa_vec_tests.proofs.claims.pushes_and_pops.Goals as goal
 
 pub fill-preserved : goal.fill-preserved
 fill-preserved g c =
-    let p = c.in_ok-push.ensures.pushed in
-    IsPushed-next Doubling c.args.v.now c.fill.x c.fill.v c.push.new.self c.fill.x c.fill.invariant p.items p.room
+    IsPushed-next Doubling c.args.v.now c.fill.x c.fill.v c.push.new.self c.fill.x c.fill.invariant c.in_ok-push.ensures.pushed

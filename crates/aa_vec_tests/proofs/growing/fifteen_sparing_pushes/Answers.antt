@@ -4,5 +4,4 @@ use Rattle.aa_vec_tests.proofs.growing.fifteen_sparing_pushes.Goals as goal
 
 pub each-preserved : goal.each-preserved
 each-preserved g c =
-    let p = c.in_ok-push.ensures.pushed in
-    IsPushed-next Sparing c.args.v.now c.each.x c.each.v c.push.new.self c.each.x c.each.invariant p.items p.room
+    IsPushed-next Sparing c.args.v.now c.each.x c.each.v c.push.new.self c.each.x c.each.invariant c.in_ok-push.ensures.pushed

@@ -1,8 +1,8 @@
-use Rattle.vecscript.proofs.Read.{HasRead}
+use Rattle.vecscript.proofs.Read.{AreRead, HasSeen}
 use Rattle.vecscript.proofs.lines.commands.Given as goal
 
 abbrev pub invariant-loop-index : goal.invariant-loop-index
 invariant-loop-index l =
     (goal.iterator-loop-index).can_next l.index-iterator ×
     (goal.iterator-loop-index).is_finite l.index-iterator ×
-    HasRead l.text l.index-iterator.iter.rest.now l.index-iterator.count l.commands.items
+    HasSeen (AreRead l.commands.items) l.text l.index-iterator.iter.rest.now l.index-iterator.count

@@ -1,4 +1,4 @@
-use Rattle.vecscript.proofs.Common.{◌≡◌, length, lines, state_of}
+use Rattle.vecscript.proofs.Common.{◌≡◌, length, lines, state_of, command_lines}
 use Rattle.allocator_api2.specs.Machine.{calls_of}
 use Rattle.vecscript.proofs.Pieces.{HasAnswered}
 use Rattle.vecscript.proofs.script.answer.Given as goal
@@ -6,7 +6,7 @@ use Rattle.vecscript.proofs.script.answer.Given as goal
 abbrev pub invariant-pieces : goal.invariant-pieces
 invariant-pieces g l =
     HasAnswered (calls_of (λ a b. b ≡ a) g.K.FnMut g.S.FnMut)
-    (state_of l.initial.main l.initial.side l.initial.keep l.initial.same) (lines l.commands) l.rest l.answer.items
+    (state_of l.initial.main l.initial.side l.initial.keep l.initial.same) (command_lines (lines l.fn.text.items)) l.rest l.answer.items
     (state_of l.main l.side l.keep l.same)
 
 abbrev pub decreases-pieces : goal.decreases-pieces

@@ -1,16 +1,6 @@
 use Rattle.aa_vec.proofs.Common.{◌<◌, refl, sym, ap, subst, ◌∙◌, arith, CalledAtPairMut, length-run, StandsBehind, behind_items, AsksLast, Vector, len, view_of}
-use Rattle.aa_vec.proofs.Gaps.{filled, last-filled, last-item, taken-value, before, run-rewritten, length-rewritten, drop-rewritten}
+use Rattle.aa_vec.proofs.Gaps.{last-item, taken-value, before, run-rewritten, length-rewritten, drop-rewritten}
 use Rattle.aa_vec.proofs.vec.Vec.ask_last.Goals as goal
-
-pub overflow_sub-len : goal.overflow_sub-len
-overflow_sub-len g c = omega (arith, c.requires.some, length-run c.self.inside.block.places 0 c.self.inside.len c.self.invariant, ap len c.self.view_is)
-
-pub pair_with-requires-clause-filled : goal.pair_with-requires-clause-filled
-pair_with-requires-clause-filled g c =
-    let v = c.self.inside in
-    let some : 0 < v.len = omega (arith, c.requires.some, length-run v.block.places 0 v.len c.self.invariant, ap len c.self.view_is) in
-    let stands : StandsBehind (view_of v) c.args.gap 1 = subst (λ w. StandsBehind w c.args.gap 1) (sym c.self.view_is) c.requires.stands in
-    (filled v c.self.invariant c.args.gap stands, last-filled v c.self.invariant some c.args.gap stands, λ e. absurd (omega (arith, e, some)))
 
 pub pair_with-requires-clause-callable : goal.pair_with-requires-clause-callable
 pair_with-requires-clause-callable g c x y e f =

@@ -1,4 +1,4 @@
-use Rattle.aa_vec.proofs.Drains.{keeps-along, runs-in_order, runs-in_reverse, range_held, range_drains}
+use Rattle.aa_vec.proofs.Drains.{range_held, range_drains}
 use Rattle.aa_vec.proofs.vec.Vec.drain.Goals as goal
 
 pub invariant_of-result-clause-held : goal.invariant_of-result-clause-held
@@ -6,12 +6,3 @@ invariant_of-result-clause-held g c = range_held c.args.self.now c.set_back-tota
 
 pub returns-clause-drains : goal.returns-clause-drains
 returns-clause-drains g c = range_drains c.args.self.now c.set_back-total.new.self c.args.range.start c.args.range.end c.set_back-total.result c.requires c.set_back-total.ensures.count c.set_back-total.ensures.set_back c.args.self _ _
-
-pub returns-clause-stays : goal.returns-clause-stays
-returns-clause-stays g c = keeps-along _
-
-pub returns-clause-runs : goal.returns-clause-runs
-returns-clause-runs g c = runs-in_order
-
-pub returns-clause-runs_back : goal.returns-clause-runs_back
-returns-clause-runs_back g c = runs-in_reverse

@@ -1,15 +1,5 @@
-use Rattle.std.proofs.Common.{rules, ◌+◌, ◌<◌, ◌^◌, arith}
-use Rattle.aa_vec.proofs.Gaps.{seen, there, within, IsFront-relent}
+use Rattle.aa_vec.proofs.Gaps.{seen, IsFront-relent}
 use Rattle.aa_vec.proofs.vec.Vec.spare_behind.Goals as goal
-
-pub overflow_add-self-inside : goal.overflow_add-self-inside
-overflow_add-self-inside g c =
-    let stands = seen c.self.inside c.args.self.now c.self.view_is c.args.gap c.args.count c.requires.stands in
-    let fits : c.self.inside.len + c.args.gap < 2 ^ 64 = omega (arith, within c.self.inside c.self.invariant c.args.gap c.args.count stands, c.capacity-within.ensures.count, c.capacity-within.type_inv) in
-    search rules
-
-pub slice_mut-requires : goal.slice_mut-requires
-slice_mut-requires g c = there c.self.inside c.self.invariant c.args.gap c.args.count (seen c.self.inside c.args.self.now c.self.view_is c.args.gap c.args.count c.requires.stands)
 
 pub invariant_of-self : goal.invariant_of-self
 invariant_of-self g c = IsFront-relent c.self.inside c.self.invariant c.args.gap c.args.count (seen c.self.inside c.args.self.now c.self.view_is c.args.gap c.args.count c.requires.stands) c.slice_mut.result.now c.count_kept.new.elements c.slice_mut.ensures.value

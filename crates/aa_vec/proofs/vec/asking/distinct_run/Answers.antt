@@ -1,28 +1,15 @@
-use Rattle.aa_vec.proofs.Common.{rules, ◌≡◌, ◌-◌, ℕ, length, subst, arith, CalledAtPairMut, TakesPairMut, ChainsAlong}
-use Rattle.aa_vec.proofs.Asking.{HasChained-none, HasChained-more, ChainsAlong-here, ChainsAlong-end, next_pair}
+use Rattle.aa_vec.proofs.Common.{rules, arith, CalledAtPairMut, TakesPairMut}
+use Rattle.aa_vec.proofs.Asking.{Gone-none, HasChained-more, ChainsAlong-here, ChainsAlong-end}
 use Rattle.aa_vec.proofs.vec.asking.distinct_run.Goals as goal
 
-pub ask_neighbours-requires-clause-callable : goal.ask_neighbours-requires-clause-callable
-ask_neighbours-requires-clause-callable g c = next_pair (CalledAtPairMut g.F.FnMut) (TakesPairMut g.F.FnMut) _ _ 0 c.args.same.now c.args.elements.now (HasChained-none (CalledAtPairMut g.F.FnMut) (TakesPairMut g.F.FnMut) c.args.same.now c.args.elements.now (omega (arith, c.requires.some)) c.requires.callable)
-
-pub returns-then-ask_neighbours-clause-asked : goal.returns-then-ask_neighbours-clause-asked
-returns-then-ask_neighbours-clause-asked g c = ChainsAlong-here (CalledAtPairMut g.F.FnMut) (TakesPairMut g.F.FnMut) _ _ 0 c.args.same.now c.args.elements.now (HasChained-none (CalledAtPairMut g.F.FnMut) (TakesPairMut g.F.FnMut) c.args.same.now c.args.elements.now (omega (arith, c.requires.some)) c.requires.callable) c.ask_neighbours.result _ _ c.ask_neighbours.ensures (search rules)
-
 pub each-init : goal.each-init
-each-init g c = HasChained-more (CalledAtPairMut g.F.FnMut) (TakesPairMut g.F.FnMut) _ _ 0 c.args.same.now c.args.elements.now (HasChained-none (CalledAtPairMut g.F.FnMut) (TakesPairMut g.F.FnMut) c.args.same.now c.args.elements.now (omega (arith, c.requires.some)) c.requires.callable) c.ask_neighbours.result _ _ c.ask_neighbours.ensures (search rules)
-
-pub ask_neighbours-requires-in-each-clause-callable : goal.ask_neighbours-requires-in-each-clause-callable
-ask_neighbours-requires-in-each-clause-callable g c = next_pair (CalledAtPairMut g.F.FnMut) (TakesPairMut g.F.FnMut) _ _ c.each.kept c.each.same c.each.elements c.each.invariant
+each-init g c = HasChained-more (CalledAtPairMut g.F.FnMut) (TakesPairMut g.F.FnMut) (Gone-none 1 _ _ c.args.same.now c.args.elements.now (omega (arith, c.requires.some)) c.requires.callable) c.ask_neighbours.ensures (search rules)
 
 pub returns-then-ask_neighbours-2-clause-asked : goal.returns-then-ask_neighbours-2-clause-asked
-returns-then-ask_neighbours-2-clause-asked g c = ChainsAlong-here (CalledAtPairMut g.F.FnMut) (TakesPairMut g.F.FnMut) _ _ c.each.kept c.each.same c.each.elements c.each.invariant c.ask_neighbours-in-each.result _ _ c.ask_neighbours-in-each.ensures (search rules)
+returns-then-ask_neighbours-2-clause-asked g c = ChainsAlong-here (CalledAtPairMut g.F.FnMut) (TakesPairMut g.F.FnMut) c.each.invariant c.ask_neighbours-in-each.ensures (search rules)
 
 pub each-preserved : goal.each-preserved
-each-preserved g c = HasChained-more (CalledAtPairMut g.F.FnMut) (TakesPairMut g.F.FnMut) _ _ c.each.kept c.each.same c.each.elements c.each.invariant c.ask_neighbours-in-each.result _ _ c.ask_neighbours-in-each.ensures (search rules)
+each-preserved g c = HasChained-more (CalledAtPairMut g.F.FnMut) (TakesPairMut g.F.FnMut) c.each.invariant c.ask_neighbours-in-each.ensures (search rules)
 
 pub returns-clause-asked : goal.returns-clause-asked
-returns-clause-asked g c =
-    let n : ℕ = length c.args.elements.now - 1 in
-    let all : c.each.kept ≡ n = omega (arith, c.each-test.false, c.each.auto.elements, c.each.invariant.within) in
-    subst (λ i. ChainsAlong (CalledAtPairMut g.F.FnMut) c.args.same.now c.args.elements.now i c.each.same c.each.elements) all
-    (ChainsAlong-end (CalledAtPairMut g.F.FnMut) (TakesPairMut g.F.FnMut) _ _ c.each.kept c.each.same c.each.elements c.each.invariant (omega (arith, c.each-test.false, c.each.auto.elements, c.each.invariant.within)))
+returns-clause-asked g c = ChainsAlong-end (CalledAtPairMut g.F.FnMut) (TakesPairMut g.F.FnMut) c.each.invariant (omega (arith, c.each-test.false)) (omega (arith, c.each.auto.elements, c.requires.some))

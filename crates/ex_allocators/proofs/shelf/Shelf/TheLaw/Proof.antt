@@ -1,12 +1,6 @@
 -- A `&` to a shelf is made of a borrow of it: the borrow itself, for one call at a time. Assumes `Logic`.
-use mathlib.Core.List.{[], ◌∷◌}
-use Rattle.ex_allocators.proofs.Common.{full_share, Fml, ‵, raw, later, ◌$◌, ◌∵◌, !, qed, use1, await, updating, at_once, done, RattleType, Ghosts}
-use base.Fml.{fbor}
-use types.Logic.{lfts}
-use types.Na.{na_bor, bor_na}
+use Rattle.ex_watched.proofs.Walk.{[], ◌∷◌, full_share, Ghosts, Fml, fbor, ‵, raw, later, ◌$◌, ◌∵◌, !, qed, use1, await, updating, at_once, done, lfts, bor_na, na_bor, part_at, part_of, Laws, RattleType, alive}
 use denote.Hidden.{guarded_shr_laws}
-use denote.Memory.{part_at, part_of}
-use denote.Param.Laws.{Laws}
 use Rattle.ex_allocators.specs.contracts.shelf.Shelf as shelf
 use Rattle.ex_allocators.proofs.shelf.Shelf.TheLaw.Statement.{statement}
 

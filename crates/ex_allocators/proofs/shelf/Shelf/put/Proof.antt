@@ -1,24 +1,18 @@
 -- The block leads to the one that was on top. Assumes `Logic`.
-use Rattle.ex_allocators.proofs.Common.{◌≡◌, ℕ, suc, ◌+◌, ◌-◌, ◌^◌, ◌<◌, List, [], ◌∷◌, ◌++◌, refl, sym, ap, ◌∙◌, arith, w64, Bool, true, false, Ty, Fn, Args, ty_ptr, a_type, dcons, dnil, Val, vptr, vint, vbool, inst_fn, full_share, SProp, never, fst∗, Lft, Share, Fml, ftrue, fsep, fwand, fex, fat, froom, flft, ftok, every, size, align, capped, Env, WpFn, ◌⊑◌, fact, sem, ‵, raw, ◌⊛◌, prop, at_ret, Sq, ◌$◌, ◌∵◌, !, qed, by, move, keep, use1, split, split3, join, rewrite, regoal, fsplit, fsplit3, fjoin, fjoin3, fpick, fpack, feq_i, whole, sub, look_in, store_in, stop, fld, load, lit, true_lit, false_lit, bin, addr, of_opd, assigns, first, blocks, skips, branches, exec, returns, returns_within, enter, alloc_all, pass_all, free_all, look_at, get, through, sets, sets_last, env, yes, param, bounded, RattleType, owns, Ptr, block_ptr, null_ptr, ptr_val, in_a_block, types_at, nothing, heard, Stays, stay_dropped, walk_of, Goes-dropped, owned_block, leaves, after, head, inside, Fills, IsKept, right_to, block_unless, stack}
-use types.Run.{neg_lit, init}
-use Rattle.ex_allocators.proofs.Shelving.{pointer_goes, size_goes, param_at, ptr_typed, opens_shelf, shuts_shelf, holding_token, proved_alone, left_block, differs, equals, fills, ready, readies}
-use Rattle.ex_allocators.specs.Shelves.{free_block}
+use Rattle.ex_allocators.proofs.Shelving.{◌≡◌, ℕ, ◌+◌, ◌<◌, ◌^◌, Bool, List, [], ◌∷◌, refl, ap, w64, true, false, arith, suc, sym, ◌++◌, ◌-◌, ◌∙◌, owned_block, full_share, after, head, inside, is_not, is_so, leaves, inst_fn, Fn, Ty, ty_ptr, Val, vint, vptr, vbool, Fml, Lft, Share, ftrue, fsep, flft, fex, froom, ftok, SProp, fst∗, never, apply∗, wand, every, ◌⊑◌, fact, size, align, capped, Env, WpFn, alloc_all, pass_all, free_all, look_at, get, through, sets, sets_last, env, ‵, raw, ◌⊛◌, ◌$◌, ◌∵◌, !, qed, move, keep, use0, use1, use2, split, split3, join, fsplit, fjoin, feq_i, prop, at_ret, Sq, Post, regoal, by, fpack, fpick, rewrite, sem, whole, look_in, store_in, sub, stop, fld, addr, lit, of_opd, first, branches, skips, exec, returns, returns_within, enter, assigns, bin, blocks, false_lit, load, true_lit, neg_lit, init, param, RattleType, owns, Ptr, block_ptr, null_ptr, ptr_val, in_a_block, rawptr_Lawful, types_at, nothing, heard, walk_of, dropped, gone, trues, spent, IsKept, block_unless, free_block, right_to, stack, generics, opens_shelf, shuts_shelf, fills, holding_token, proved_alone, left_block, readies}
 use Rattle.ex_allocators.specs.contracts.shelf.Shelf.put as puts
-use Rattle.ex_allocators.specs.contracts.shelf.Shelf.put.Key.{name}
 use Rattle.ex_allocators.proofs.shelf.Shelf.put.Statement.{statement}
 use Rattle.ex_allocators.proofs.shelf.Shelf.put.Code as code
-use Rattle.ex_allocators.proofs.shelf.Shelf.put.Code.{code}
 
 pub put_spec : {M : Type 1} → statement M
-unfolding code
+unfolding code.code
 put_spec 𝓤 𝓛 𝓜 𝓡 wired B L g d dd met md =
     let E = puts.ended B g d dd in let c₀ = puts.clauses B g d dd 𝓛 𝓜.mem 𝓡.returns in
-    let generics : Args = bounded (a_type ∷ []) (B, tt) (dcons d (dcons dd dnil)) in
-    let fn : Fn = inst_fn generics code.function in
-    let stays : Stays E.signature.params E.kept = (stay_dropped _ yes, (stay_dropped _ yes, (stay_dropped _ yes, (stay_dropped _ yes, tt)))) in
+    let fn : Fn = inst_fn (generics B d dd) code.function in
+    let stays = dropped E.signature.params E.kept in
     let c = holding_token 𝓛 E stays c₀ in
-    proved_alone 𝓛 E stays c₀ 𝓜 𝓡 (Goes-dropped 𝓛 2 (param_at 0 E.signature.params) yes (λ κs x f. refl), (pointer_goes 𝓛, (size_goes 𝓛, (size_goes 𝓛, tt))))
-    (name generics) fn (wired.0.0 (name generics) refl) (λ C Λ z are.
+    proved_alone 𝓛 E stays c₀ 𝓜 𝓡 ((λ κs x f vs ok. gone 𝓛), ((λ κs x f vs ok. gone 𝓛), ((λ κs x f vs ok. gone 𝓛), ((λ κs x f vs ok. gone 𝓛), tt))))
+    (puts.Key.name (generics B d dd)) fn (wired.0.0 (puts.Key.name (generics B d dd)) refl) (λ C Λ z are.
     let Post : Val → SProp 𝓤 = (walk_of 𝓛 E stays c).post z in
     let κ : Lft = z.0.0.0 in let q : Share = z.0.1.0 in let Z : RattleType = param 0 B in
     let at = z.0.3.0.ref_ptr in let heap = z.0.3.0.now in let from : Ptr = z.0.3.1.0 in let s = z.0.3.1.1.0 in let al = z.0.3.1.1.1.0 in
@@ -30,8 +24,7 @@ put_spec 𝓤 𝓛 𝓜 𝓡 wired B L g d dd met md =
     in_a_block ! from (λ r. owned_block (right_to t) τ r) (fst∗ 𝓤 (never 𝓤) (sem 𝓛 (right_to t τ null_ptr))) (λ b o placed.
     let ends : (x : Bool) → Sq 𝓛 (‵ (flft κ q) ∷ ‵ (ftok every) ∷ ‵ Other ∷ ‵ (block_unless x (right_to t) τ (block_ptr b o)) ∷ []) (prop (Post (vbool x))) = λ x.
     rewrite ! 3 (λ (r : Ptr). ‵ (block_unless x (right_to t) τ r)) (sym placed) refl $ move ! (1 ∷ 3 ∷ []) $ join ! $
-    feq_i ! (List Val) (vbool x ∷ []) (vbool x ∷ []) refl $ nothing ! $ nothing ! $ fjoin ! $ nothing ! $ fjoin ! $ nothing ! $ fjoin ! $ nothing ! $ fjoin ! $
-    nothing ! $ move ! (5 ∷ 0 ∷ []) $ join ! $ move ! (4 ∷ 0 ∷ []) $ join ! $ move ! (0 ∷ 1 ∷ 2 ∷ 3 ∷ []) $
+    feq_i ! (List Val) (vbool x ∷ []) (vbool x ∷ []) refl $ use0 𝓛 (‵ (trues 𝓛 4)) (spent 𝓛 4) $ nothing ! $ move ! (5 ∷ 0 ∷ []) $ join ! $ move ! (4 ∷ 0 ∷ []) $ join ! $ move ! (0 ∷ 1 ∷ 2 ∷ 3 ∷ []) $
     by ! (leaves 𝓛 E stays c z (vbool x) x (tt, (tt, (tt, (tt, tt)))) (tt, (tt, (tt, (tt, tt))))) in
     move ! (3 ∷ []) $ split ! $ split3 ! $ move ! (3 ∷ []) $ fsplit ! $ fsplit ! $ keep ! (1 ∷ 3 ∷ 7 ∷ 4 ∷ 6 ∷ []) $
     regoal ! (λ (us : List Val). prop (WpFn 𝓤 𝓛.H C Λ fn us Post)) (λ i. are.0.0 i ++ ((are.1.0 ∙ ap (λ (r : Ptr). ptr_val r ∷ []) placed) i ++ (are.1.1.0.0 i ++ (are.1.1.1.0.0 i ++ [])))) refl $
@@ -58,24 +51,24 @@ put_spec 𝓤 𝓛 𝓜 𝓡 wired B L g d dd met md =
     first ! $ branches ! (get ! refl)
     (λ _. sets ! (of_opd ! (false_lit !)) refl (tt, tt) $ shuts_shelf Z g heap at.0 at.1 ! tt p n m fit $
     returns_within ! Post refl (look_at ! 0 refl) $ free_all ! refl $ ends false)
-    (λ space. let below = differs n (2 ^ 64 - 1) space in let more : n + 1 < 2 ^ 64 = omega (arith, fit.0) in let next : suc n ≡ n + 1 = omega arith in
+    (λ space. let below = is_not n (2 ^ 64 - 1) space in let more : n + 1 < 2 ^ 64 = omega (arith, fit.0) in let next : suc n ≡ n + 1 = omega arith in
     move ! (1 ∷ []) $ fpick ! (λ kept. move ! (4 ∷ []) $
-    use1 𝓛 (‵ (ready 𝓛 b o t m)) (readies 𝓛 b o t m τ (fills τ m s al kept (equals m s same) (equals al 8 eight) fits) kept) $ fpick ! (λ σ. fpick ! (λ filled. fsplit3 ! $
-    -- [room for the word; the way to the whole room; the right; the free blocks; the fields; the way back; the other token]
+    use1 𝓛 (‵ (froom ty_ptr b o) ⊛ raw (wand 𝓤 (𝓛.H.at full_share ty_ptr b o (ptr_val p)) (sem 𝓛 (free_block t m (b, o) p))))
+    (readies 𝓛 b o t m p τ (fills τ m s al kept (is_so m s same) (is_so al 8 eight) fits) kept) $ split ! $
+    -- [room for the word; the way to a free block; the other free blocks; the fields; the way back; the other token]
     skips ! $ exec ! C Λ En (after 8 (inside (head (after 2 fn.body)))) Then $
     sets ! (of_opd ! (get ! refl)) refl (tt, tt) $
-    sets ! (of_opd ! (load ! (through ! refl (fld ! refl (stop !))) (look_in ! 4 (sub ! 0 refl (whole !))))) refl (ptr_typed p) $
-    assigns ! (of_opd ! (get ! refl)) (through ! refl (stop !)) (init ! 0 refl (ptr_typed p)) $
-    assigns ! (of_opd ! (get ! refl)) (through ! refl (fld ! refl (stop !))) (store_in ! 4 (sub ! 0 refl (whole !)) (tt, tt)) $
+    sets ! (of_opd ! (load ! (through ! refl (fld ! refl (stop !))) (look_in ! 3 (sub ! 0 refl (whole !))))) refl ((rawptr_Lawful 𝓛).typed p _ refl).0 $
+    assigns ! (of_opd ! (get ! refl)) (through ! refl (stop !)) (init ! 0 refl ((rawptr_Lawful 𝓛).typed p _ refl).0) $
+    assigns ! (of_opd ! (get ! refl)) (through ! refl (fld ! refl (stop !))) (store_in ! 3 (sub ! 0 refl (whole !)) (tt, tt)) $
     sets ! (bin ! (get ! refl) (lit ! tt) (record { fits = more })) refl (tt, record { fits = more }) $
-    assigns ! (of_opd ! (get ! refl)) (through ! refl (fld ! refl (stop !))) (store_in ! 4 (sub ! 1 refl (whole !)) (tt, record { fits = more })) $
+    assigns ! (of_opd ! (get ! refl)) (through ! refl (fld ! refl (stop !))) (store_in ! 3 (sub ! 1 refl (whole !)) (tt, record { fits = more })) $
     sets_last ! (of_opd ! (true_lit !)) refl (tt, tt) $
     exec ! C Λ En (after 3 fn.body) (at_ret En Post) $ sets ! (of_opd ! (get ! refl)) refl (tt, tt) $
-    let Links : Ty → Fml = λ σ. fsep (fat full_share ty_ptr b o (ptr_val p)) (fsep (fwand (froom ty_ptr b o) (froom σ b o)) (t σ (block_ptr b o))) in
     let Stack : ℕ × ℕ → Ptr → Fml = λ spot next. fsep (free_block t m spot next) (stack t m n next) in
-    fjoin3 ! $ fpack ! (Fills σ m) (λ _. Links σ) filled $ fpack ! Ty (λ σ. fex (Fills σ m) (λ _. Links σ)) σ $ fjoin ! $
+    use2 𝓛 (‵ (free_block t m (b, o) p)) (apply∗ 𝓤 (𝓛.H.at full_share ty_ptr b o (ptr_val p)) (sem 𝓛 (free_block t m (b, o) p))) $ fjoin ! $
     fpack ! Ptr (Stack (b, o)) p $ fpack ! (block_ptr b o ≡ block_ptr b o) (λ _. fex Ptr (Stack (b, o))) refl $
     fpack ! (ℕ × ℕ) (λ spot. fex (block_ptr b o ≡ block_ptr spot.0 spot.1) (λ _. fex Ptr (Stack spot))) (b, o) $
     rewrite ! 0 (λ (k : ℕ). ‵ (stack t m k (block_ptr b o))) next refl $ fpack ! (IsKept m) (λ _. stack t m (n + 1) (block_ptr b o)) kept $
     move ! (1 ∷ 0 ∷ 2 ∷ []) $ shuts_shelf Z g heap at.0 at.1 ! tt (block_ptr b o) (n + 1) m (more, fit.1) $
-    returns ! (look_at ! 0 refl) $ free_all ! refl $ nothing ! $ move ! (1 ∷ 2 ∷ 3 ∷ 0 ∷ []) $ ends true)))))))))))
+    returns ! (look_at ! 0 refl) $ free_all ! refl $ nothing ! $ move ! (1 ∷ 2 ∷ 3 ∷ 0 ∷ []) $ ends true)))))))))

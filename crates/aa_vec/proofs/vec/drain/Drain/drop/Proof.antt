@@ -1,29 +1,21 @@
 -- `drop` hands the reference on to `drop_and_close`, for good: so it owes no drain at the return.
-use Rattle.aa_vec.proofs.Walks.{◌-◌, sym, subst, [], ◌∷◌, List, Args, dcons, dnil, a_type, inst_fn, Val, vunit, id⊢, ftrue, ‵, raw, ◌⊛◌, some, later, ◌$◌, ◌∵◌, !, qed, move, keep, use0, use1, group, split, join, fsplit, fjoin, feq_l, feq_i, pick, await, suffices, done, whole, sub, enter, stop, fld, of_opd, addr, unit_lit, and_then, no_more, returns, alloc_all, pass_all, free_all, look_at, get, get_in, through, sets, lands_as, fact, tables, unit, yes, bounded, owns, nothing, heard, only, fields, vals, tells, lawful, calls_at, Ended, lasts, alive, triple_of, framed, Stays, walk_of, ends_at, proved, refl, ap}
-use Rattle.aa_vec.proofs.Common.{fact_i, emp, Vector, Moves, Drain}
-use Rattle.aa_vec.proofs.GivenUp.{words, only_said, goes, opened}
-use Rattle.aa_vec.proofs.HandedOn.{Decl, Row, Lws, asks}
-use Rattle.aa_vec.proofs.Drains.{count_behind}
+use Rattle.aa_vec.proofs.Walks.{◌-◌, [], ◌∷◌, List, Args, dcons, dnil, a_type, inst_fn, Val, vunit, id⊢, ftrue, ‵, raw, ◌⊛◌, some, later, ◌$◌, ◌∵◌, !, qed, move, keep, use0, use1, group, split, join, fsplit, fjoin, feq_l, feq_i, pick, await, suffices, done, whole, sub, enter, stop, fld, of_opd, addr, unit_lit, and_then, no_more, returns, alloc_all, pass_all, free_all, look_at, get, get_in, through, sets, lands_as, fact, tables, unit, yes, bounded, owns, nothing, heard, only, fields, vals, tells, lawful, calls_at, Ended, lasts, alive, triple_of, framed, Stays, walk_of, ends_at, proved, refl, ap, fact_i, emp, row, Vector}
+use Rattle.aa_vec.proofs.HandedOn.{Decl, Lws, asks, words, only_said, goes, opened}
+use Rattle.aa_vec.proofs.Drains.{closes}
 use Rattle.aa_vec.specs.Behind.{DropsAndCloses}
-use Rattle.aa_vec.specs.Draining.{Closes, drain_tail}
 use Rattle.aa_vec.specs.contracts.vec.drain.Drain.drop as f
 use Rattle.aa_vec.proofs.vec.drain.Drain.drop.Statement.{statement}
 use Rattle.aa_vec.proofs.vec.drain.Drain.drop.Code as code
 use Rattle.aa_vec.specs.contracts.vec.Vec.drop_and_close as g
 use Rattle.aa_vec.proofs.vec.Vec.drop_and_close.Met.{met}
 
--- what `drop_and_close` says, and what `drop` says
-closes : {X Y : Type 0} (d : Drain X Y) (w : Vector X Y) → DropsAndCloses d.vec.now d.end (d.total - d.end) w → Closes d w
-unfolding drain_tail
-closes d w h = record { holds = h.holds; writes = subst (λ n. Moves d.vec.now d.end n w) (sym (count_behind d)) h.writes }
-
 pub drop_spec : {M : Type 1} → statement M
 drop_spec 𝓤 𝓛 𝓜 𝓡 wired T A LT LA G-A dA dT dD metA metT metD =
     let E : Ended = f.ended T A G-A dA dT dD in
-    let stayed : Stays E.signature.params E.kept = (only_said 3 (Row T A G-A) yes, tt) in
+    let stayed : Stays E.signature.params E.kept = (only_said 3 (λ κs. row (Decl T A G-A κs)) yes, tt) in
     let c = f.clauses T A G-A dA dT dD 𝓛 𝓜.mem 𝓡.returns in
     let args : Args = bounded (a_type ∷ a_type ∷ []) (T, (A, tt)) (dcons dA (dcons dT (dcons dD dnil))) in
-    proved 𝓛 E stayed c 𝓜 𝓡 (goes 3 (Row T A G-A) yes 𝓛, tt) (f.Key.name args) (inst_fn args code.function) (code.unfolded 𝓤 𝓛.H 𝓜 𝓡 wired (T, (A, tt)) dA dT dD)
+    proved 𝓛 E stayed c 𝓜 𝓡 (goes 3 (λ κs. row (Decl T A G-A κs)) yes 𝓛, tt) (f.Key.name args) (inst_fn args code.function) (code.unfolded 𝓤 𝓛.H 𝓜 𝓡 wired (T, (A, tt)) dA dT dD)
     (λ κs. (vals (Decl T A G-A κs) (Lws T A G-A κs), tt)) (λ κs. (tells (Decl T A G-A κs) (Lws T A G-A κs), tt)) (λ κs qs bounds a _ are.
     let d = a.0 in let Dl = Decl T A G-A κs in let us : List Val = vals Dl (Lws T A G-A κs) d in
     let t = ((lawful Dl (Lws T A G-A κs) 𝓛).typed d us are.0).0 in
@@ -31,10 +23,9 @@ drop_spec 𝓤 𝓛 𝓜 𝓡 wired T A LT LA G-A dA dT dD metA metT metD =
     let S = g.signature T A G-A dA dD dT in
     let G = triple_of 𝓛 S (g.spec T A G-A dA dD dT 𝓛 𝓜.mem 𝓡.returns) in
     let z : G.Ghost = ((κs, qs, bounds, Dl.to d, words Dl (Lws T A G-A κs) d), tt) in
-    let Asked = (g.clauses T A G-A dA dD dT 𝓛 𝓜.mem 𝓡.returns κs z.0.3).requires tt in
-    qed 𝓛 ((raw (alive 𝓛 E.signature κs qs) ⊛ ‵ ((Row T A G-A κs).own_val d us) ⊛ ‵ ftrue) ∷ raw ((c κs a).requires tt) ∷ []) ∵
+    qed 𝓛 ((raw (alive 𝓛 E.signature κs qs) ⊛ ‵ ((row Dl).own_val d us) ⊛ ‵ ftrue) ∷ raw ((c κs a).requires tt) ∷ []) ∵
     split ! $ move ! (1 ∷ []) $ split ! $ use1 𝓛 (‵ (owns (fields Dl) (Dl.to d) z.0.4)) (opened Dl (Lws T A G-A κs) 𝓛 d us) $
-    move ! (3 ∷ []) $ use1 𝓛 (raw Asked) (asks 𝓤 T A κs d.ordered d.held) $ keep ! (3 ∷ 1 ∷ 0 ∷ []) $ join ! $ join ! $ use1 𝓛 (raw (G.pre z)) (id⊢ 𝓤 _) $
+    move ! (3 ∷ []) $ use1 𝓛 (raw _) (asks 𝓤 T A κs d.ordered d.held) $ keep ! (3 ∷ 1 ∷ 0 ∷ []) $ join ! $ join ! $ use1 𝓛 (raw (G.pre z)) (id⊢ 𝓤 _) $
     enter ! _ _ _ _ _ $ alloc_all ! (λ l. pass_all ! refl (t, tt) $
     sets ! (of_opd ! (get_in ! (fld ! refl (stop !)) (sub ! 0 refl (whole !)))) refl (tt, tt) $
     sets ! (of_opd ! (get_in ! (fld ! refl (stop !)) (sub ! 1 refl (whole !)))) refl (tt, t.1.1.0) $
@@ -53,5 +44,5 @@ drop_spec 𝓤 𝓛 𝓜 𝓡 wired T A LT LA G-A dA dT dD metA metT metD =
     -- [the last values of `drop_and_close`; the tokens]
     fsplit ! $ keep ! (0 ∷ 2 ∷ []) $ nothing ! $ move ! (1 ∷ 0 ∷ []) $ fjoin ! $ nothing ! $ move ! (1 ∷ 0 ∷ []) $ fjoin ! $
     feq_i ! _ (vunit ∷ []) _ refl $ move ! (2 ∷ 1 ∷ 0 ∷ []) $ group ! 3 $
-    use0 𝓛 (raw (fact 𝓤 (Closes d ws.0))) (fact_i 𝓤 _ (emp 𝓤) (closes d ws.0 said)) $
+    use0 𝓛 (raw (fact 𝓤 _)) (fact_i 𝓤 _ (emp 𝓤) (closes d ws.0 said)) $
     move ! (1 ∷ 0 ∷ []) $ suffices ! _ (ends_at 𝓛 E stayed c y vunit tt ((ws.0, tt), tt) (tt, tt)) $ done !)))))))

@@ -1,8 +1,6 @@
 -- `drop` hands the reference on to `close_kept`, for good: so it owes no range at the return.
-use Rattle.aa_vec.proofs.Walks.{◌-◌, [], ◌∷◌, List, Args, dcons, dnil, a_type, inst_fn, Val, vunit, id⊢, ftrue, ‵, raw, ◌⊛◌, some, later, ◌$◌, ◌∵◌, !, qed, move, keep, use0, use1, group, split, join, fsplit, fjoin, feq_l, feq_i, pick, await, suffices, done, whole, sub, enter, stop, fld, of_opd, addr, unit_lit, and_then, no_more, returns, alloc_all, pass_all, free_all, look_at, get, get_in, through, sets, lands_as, fact, tables, unit, yes, bounded, owns, nothing, heard, only, fields, vals, tells, lawful, calls_at, Ended, lasts, alive, triple_of, framed, Stays, walk_of, ends_at, proved, refl, ap}
-use Rattle.aa_vec.proofs.Common.{fact_i, emp, ClosesTwice, Vector, ClosesExtract}
-use Rattle.aa_vec.proofs.GivenUp.{words, only_said, goes, opened}
-use Rattle.aa_vec.proofs.HandedOn.{DeclBy, RowBy, LwsBy, asks}
+use Rattle.aa_vec.proofs.Walks.{◌-◌, [], ◌∷◌, List, Args, dcons, dnil, a_type, inst_fn, Val, vunit, id⊢, ftrue, ‵, raw, ◌⊛◌, some, later, ◌$◌, ◌∵◌, !, qed, move, keep, use0, use1, group, split, join, fsplit, fjoin, feq_l, feq_i, pick, await, suffices, done, whole, sub, enter, stop, fld, of_opd, addr, unit_lit, and_then, no_more, returns, alloc_all, pass_all, free_all, look_at, get, get_in, through, sets, lands_as, fact, tables, unit, yes, bounded, owns, nothing, heard, only, fields, vals, tells, lawful, calls_at, Ended, lasts, alive, triple_of, framed, Stays, walk_of, ends_at, proved, refl, ap, fact_i, emp, row, Vector, ClosesTwice, ClosesExtract}
+use Rattle.aa_vec.proofs.HandedOn.{DeclBy, LwsBy, asks, words, only_said, goes, opened}
 use Rattle.aa_vec.proofs.Extracts.{closes_extract}
 use Rattle.aa_vec.specs.contracts.vec.extract_if.ExtractBy.drop as f
 use Rattle.aa_vec.proofs.vec.extract_if.ExtractBy.drop.Statement.{statement}
@@ -13,10 +11,10 @@ use Rattle.aa_vec.proofs.vec.Vec.close_kept.Met.{met}
 pub drop_spec : {M : Type 1} → statement M
 drop_spec 𝓤 𝓛 𝓜 𝓡 wired T A LT LA G-A dA dT dD metA metT metD =
     let E : Ended = f.ended T A G-A dA dT dD in
-    let stayed : Stays E.signature.params E.kept = (only_said 3 (RowBy T A G-A) yes, tt) in
+    let stayed : Stays E.signature.params E.kept = (only_said 3 (λ κs. row (DeclBy T A G-A κs)) yes, tt) in
     let c = f.clauses T A G-A dA dT dD 𝓛 𝓜.mem 𝓡.returns in
     let args : Args = bounded (a_type ∷ a_type ∷ []) (T, (A, tt)) (dcons dA (dcons dT (dcons dD dnil))) in
-    proved 𝓛 E stayed c 𝓜 𝓡 (goes 3 (RowBy T A G-A) yes 𝓛, tt) (f.Key.name args) (inst_fn args code.function) (code.unfolded 𝓤 𝓛.H 𝓜 𝓡 wired (T, (A, tt)) dA dT dD)
+    proved 𝓛 E stayed c 𝓜 𝓡 (goes 3 (λ κs. row (DeclBy T A G-A κs)) yes 𝓛, tt) (f.Key.name args) (inst_fn args code.function) (code.unfolded 𝓤 𝓛.H 𝓜 𝓡 wired (T, (A, tt)) dA dT dD)
     (λ κs. (vals (DeclBy T A G-A κs) (LwsBy T A G-A κs), tt)) (λ κs. (tells (DeclBy T A G-A κs) (LwsBy T A G-A κs), tt)) (λ κs qs bounds a _ are.
     let d = a.0 in let Dl = DeclBy T A G-A κs in let us : List Val = vals Dl (LwsBy T A G-A κs) d in
     let t = ((lawful Dl (LwsBy T A G-A κs) 𝓛).typed d us are.0).0 in
@@ -24,10 +22,9 @@ drop_spec 𝓤 𝓛 𝓜 𝓡 wired T A LT LA G-A dA dT dD metA metT metD =
     let S = g.signature T A G-A dA dD in
     let G = triple_of 𝓛 S (g.spec T A G-A dA dD 𝓛 𝓜.mem 𝓡.returns) in
     let z : G.Ghost = ((κs, qs, bounds, Dl.to d, words Dl (LwsBy T A G-A κs) d), tt) in
-    let Asked = (g.clauses T A G-A dA dD 𝓛 𝓜.mem 𝓡.returns κs z.0.3).requires tt in
-    qed 𝓛 ((raw (alive 𝓛 E.signature κs qs) ⊛ ‵ ((RowBy T A G-A κs).own_val d us) ⊛ ‵ ftrue) ∷ raw ((c κs a).requires tt) ∷ []) ∵
+    qed 𝓛 ((raw (alive 𝓛 E.signature κs qs) ⊛ ‵ ((row Dl).own_val d us) ⊛ ‵ ftrue) ∷ raw ((c κs a).requires tt) ∷ []) ∵
     split ! $ move ! (1 ∷ []) $ split ! $ use1 𝓛 (‵ (owns (fields Dl) (Dl.to d) z.0.4)) (opened Dl (LwsBy T A G-A κs) 𝓛 d us) $
-    move ! (3 ∷ []) $ use1 𝓛 (raw Asked) (asks 𝓤 T A κs d.ordered d.held) $ keep ! (3 ∷ 1 ∷ 0 ∷ []) $ join ! $ join ! $ use1 𝓛 (raw (G.pre z)) (id⊢ 𝓤 _) $
+    move ! (3 ∷ []) $ use1 𝓛 (raw _) (asks 𝓤 T A κs d.ordered d.held) $ keep ! (3 ∷ 1 ∷ 0 ∷ []) $ join ! $ join ! $ use1 𝓛 (raw (G.pre z)) (id⊢ 𝓤 _) $
     enter ! _ _ _ _ _ $ alloc_all ! (λ l. pass_all ! refl (t, tt) $
     sets ! (of_opd ! (get_in ! (fld ! refl (stop !)) (sub ! 0 refl (whole !)))) refl (tt, tt) $
     sets ! (of_opd ! (get_in ! (fld ! refl (stop !)) (sub ! 1 refl (whole !)))) refl (tt, t.1.1.0) $

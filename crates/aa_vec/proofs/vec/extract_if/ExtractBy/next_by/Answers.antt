@@ -1,20 +1,11 @@
 use Rattle.aa_vec.proofs.Common.{CalledAtMut, TakesMut}
 use Rattle.aa_vec.specs.Extracting.{extract_rest}
-use Rattle.aa_vec.proofs.Extracts.{may_spare, rest_stand, picked_ordered, picked_held, picked_extracts}
+use Rattle.aa_vec.proofs.Extracts.{may_spare, picked_held}
 use Rattle.aa_vec.proofs.vec.extract_if.ExtractBy.next_by.Goals as goal
-
-pub pick-stay-requires-clause-stands : goal.pick-stay-requires-clause-stands
-pick-stay-requires-clause-stands g c = (c.args.self.now.held.0, rest_stand c.args.self.now)
 
 pub pick-stay-requires-clause-callable : goal.pick-stay-requires-clause-callable
 unfolding extract_rest
 pick-stay-requires-clause-callable g c = may_spare (CalledAtMut g.F.FnMut) (TakesMut g.F.FnMut) c.args.f.now _ c.requires.along
 
-pub invariant_of-self-clause-ordered : goal.invariant_of-self-clause-ordered
-invariant_of-self-clause-ordered g c = let p = c.pick-stay in picked_ordered c.args.self.now (CalledAtMut g.F.FnMut) c.args.f.now p.result.0 p.result.1 p.result.2 p.new.f p.new.self p.ensures
-
 pub invariant_of-self-clause-held : goal.invariant_of-self-clause-held
 invariant_of-self-clause-held g c = let p = c.pick-stay in picked_held c.args.self.now (CalledAtMut g.F.FnMut) c.args.f.now p.result.0 p.result.1 p.result.2 p.new.f p.new.self p.ensures
-
-pub returns : goal.returns
-returns g c = let p = c.pick-stay in picked_extracts c.args.self.now (CalledAtMut g.F.FnMut) c.args.f.now p.result.0 p.result.1 p.result.2 p.new.f p.new.self p.ensures _ _
