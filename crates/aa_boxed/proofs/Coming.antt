@@ -1,5 +1,5 @@
 -- Items that come of an iterator, and are put into a block.
-use Rattle.aa_boxed.proofs.Common.{AllocError, Begun, Doubling, Err, IfErr, IfOk, LacksRoom, List, None, Ok, Option, Result, Slice, Some, Stops, TryReserveError, WholeRun, Yields, YieldsThen, [], amortized, ap, arith, asked_with, ended, eq-eqb, eqb_tells, if◌then◌else◌, inl, inr, least_of, length, length-append, nat_tests, refl, rules, sized, subst, sym, total_runs, usize_max, with_next, ℕ, ◌++◌, ◌+◌, ◌<◌, ◌==◌, ◌∙◌, ◌∷◌, ◌≡◌, ◌≢◌, ◌≤◌}
+use Rattle.aa_boxed.proofs.Common.{AllocError, Begun, Doubling, Err, IfErr, IfOk, LacksRoom, List, None, Ok, Option, Result, Slice, Some, Stops, TryReserveError, WholeRun, Yields, YieldsThen, [], amortized, ap, arith, asked_with, ended, if◌then◌else◌, inl, inr, least_of, length, length-append, nat_tests, refl, rules, sized, subst, sym, total_runs, usize_max, with_next, ℕ, ◌++◌, ◌+◌, ◌<◌, ◌==◌, ◌∙◌, ◌∷◌, ◌≡◌, ◌≤◌}
 
 -- n items that filled their room are no fewer than a new block has places for
 over_start : (size n : ℕ) → (size ≡ 0 → usize_max ≤ n) → n < sized size 0 → ⊥

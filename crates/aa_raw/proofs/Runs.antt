@@ -1,5 +1,5 @@
 -- Lemmas on the values in a run of places.
-use Rattle.aa_raw.proofs.Common.{IsFilled, IsRun, List, None, Option, Some, [], add-zero, ap, append_assoc, arith, cases_lt, drop, drop-append-le, drop-drop, drop-set-lt, drop-take, drop_at, drop_more, get_or, get_or-drop, get_or-set_same, get_or-take, inl, inr, is_some, length, length-append, length-drop, length-map, length-replicate, length-set, length-take, length-take-le, list_all, map, moved, places, refl, replicate, rules, run, same_lists, set_split, slice_set, somes, subst, suc, sym, take, take-add, take-append-drop, take-append-le, take-take, take_at, true, with_run, ℕ, ◌++◌, ◌+◌, ◌-◌, ◌<◌, ◌∙◌, ◌∷◌, ◌≡◌, ◌≤◌}
+use Rattle.aa_raw.proofs.Common.{IsFilled, IsRun, List, None, Option, Some, [], add-zero, ap, append_assoc, arith, cases_lt, drop, drop-append-le, drop-drop, drop-set-lt, drop-take, drop_at, drop_more, get_or, get_or-drop, get_or-set_same, get_or-take, inl, inr, is_some, length, length-append, length-drop, length-map, length-set, length-take-le, list_all, map, moved, places, refl, rules, run, same_lists, set_split, slice_set, somes, subst, suc, sym, take, take-add, take-append-drop, take-append-le, take-take, take_at, true, with_run, ℕ, ◌++◌, ◌+◌, ◌-◌, ◌<◌, ◌∙◌, ◌∷◌, ◌≡◌, ◌≤◌}
 use Rattle.aa_raw.proofs.Places.{length-moved, length-with_run, run_filled}
 pub use Rattle.aa_raw.proofs.Places.{length-cut as cut-long}
 

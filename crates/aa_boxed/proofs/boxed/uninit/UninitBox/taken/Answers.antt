@@ -1,4 +1,4 @@
-use Rattle.aa_boxed.proofs.{Block, Doubling, IsForOne, List, None, Option, arith, drop, empty_places, endless-empty, fresh, is_none, length, length-empty_places, length-replicate, list_all, nat_tests, none_there, refl, replicate, sized-empty, subst, suc, sym, true, usize_max, zero, ℕ, ◌<◌, ◌∙◌, ◌≡◌}
+use Rattle.aa_boxed.proofs.{Block, Doubling, IsForOne, None, Option, arith, drop, empty_places, endless-empty, fresh, is_none, length, length-empty_places, list_all, nat_tests, none_there, refl, replicate, sized-empty, subst, suc, true, usize_max, zero, ℕ, ◌<◌, ◌≡◌}
 use Rattle.aa_boxed.proofs.boxed.uninit.UninitBox.taken.Goals as goal
 
 -- A block that is to be a box's.
