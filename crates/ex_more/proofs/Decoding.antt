@@ -57,12 +57,11 @@ those_records bytes rest rs d none all fits e =
     ] in
     sym (cut.1 ∙ empty cut.0 cut.2)
 
-in_byte : (bs : List ℕ) (k : ℕ) → ((i : ℕ) → get_or bs i 0 < 256) → (i : ℕ) → get_or (take k bs) i 0 < 256
-in_byte bs k h i = elim (cases_lt i k) [ inl l ↦ rw (get_or-take k bs i 0 l) (h i) | inr l ↦ rw (get_or-eq_default (take k bs) 0 {n = i} (omega (arith, l, length-take k bs))) (omega arith) ]
-
 -- the bytes of a record that was cut off
 pub cut_off : (bytes head tail a b : List ℕ) (n : ℕ) → ((i : ℕ) → get_or bytes i 0 < 256) → 8 ≤ length bytes → head ≡ take 8 bytes → tail ≡ drop 8 bytes → n ≡ from_le_bytes w64 head → length a ≡ n → tail ≡ a ++ b → encoded a ++ b ≡ bytes
 cut_off bytes head tail a b n range enough first rest count long cut =
     let eight : length head ≡ 8 = ap length first ∙ length-take-le 8 bytes enough in
-    let front : to_le_bytes w64 (length a) ≡ head = le_bytes_8 head (length a) eight (rw first (in_byte bytes 8 range)) (long ∙ count) in
+    let low : (i : ℕ) → get_or (take 8 bytes) i 0 < 256 = λ i.
+    elim (cases_lt i 8) [ inl l ↦ rw (get_or-take 8 bytes i 0 l) (range i) | inr l ↦ rw (get_or-eq_default (take 8 bytes) 0 {n = i} (omega (arith, l, length-take 8 bytes))) (omega arith) ] in
+    let front : to_le_bytes w64 (length a) ≡ head = le_bytes_8 head (length a) eight (rw first low) (long ∙ count) in
     append_assoc (to_le_bytes w64 (length a)) a b ∙ ap (λ xs. xs ++ (a ++ b)) (front ∙ first) ∙ ap (λ xs. take 8 bytes ++ xs) (sym cut ∙ rest) ∙ take-append-drop 8 bytes
