@@ -78,15 +78,9 @@ fn items_are_dropped_once(rt: HostRuntime) -> Result<(), Fail> {
     assert!(rt; drops.get() == 1);
     drop(items);
     assert!(rt; drops.get() == 2);
-    Ok(())
-}
-
-#[test]
-fn items_that_are_counted_are_dropped(rt: HostRuntime) -> Result<(), Fail> {
-    let drops = Cell::new(0);
     let items = two_counted(rt.alloc(), &drops)?;
     assert!(rt; items.count() == 2);
-    assert!(rt; drops.get() == 2);
+    assert!(rt; drops.get() == 4);
     Ok(())
 }
 

@@ -39,19 +39,13 @@ fn elements_without_size_become_a_slice_and_come_back(rt: HostRuntime) -> Result
 
 #[test]
 fn each_element_of_an_array_is_dropped_once(rt: HostRuntime) -> Result<(), Fail> {
-    let drops = Cell::new(0);
-    let one = Counted {
-        value: 1,
-        drops: &drops,
-    };
-    let two = Counted {
-        value: 2,
-        drops: &drops,
-    };
-    let list = there_and_back(rt.alloc(), [one, two])?;
-    assert!(rt; drops.get() == 0);
+    let count = Cell::new(0);
+    let drops = &count;
+    let two = [Counted { value: 1, drops }, Counted { value: 2, drops }];
+    let list = there_and_back(rt.alloc(), two)?;
+    let before = drops.get();
     drop(list);
-    assert!(rt; drops.get() == 2);
+    assert!(rt; (before, drops.get()) == (0, 2));
     Ok(())
 }
 

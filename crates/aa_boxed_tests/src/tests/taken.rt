@@ -86,11 +86,17 @@ fn texts(alloc: Global) -> Result<[BoxedText; 3], TryReserveError> {
     ])
 }
 
+// A text of one byte, with room for one more.
+fn letter(heap: &Faulty<Global>) -> Result<String<&Faulty<Global>>, Fail> {
+    let mut all = String::with_capacity(heap, 2)?;
+    all.push_str("a")?;
+    Ok(all)
+}
+
 #[test]
 fn refused_texts_take_no_further_one(rt: HostRuntime) -> Result<(), Fail> {
     let heap = Faulty::new(rt.alloc());
-    let mut all: String<&Faulty<Global>> = String::with_capacity(&heap, 2)?;
-    all.push_str("a")?;
+    let mut all = letter(&heap)?;
     let calls = Cell::new(0);
     let iter = Asked {
         iter: texts(rt.alloc())?.into_iter(),
@@ -105,8 +111,7 @@ fn refused_texts_take_no_further_one(rt: HostRuntime) -> Result<(), Fail> {
 #[test]
 fn refused_texts_leave_the_others(rt: HostRuntime) -> Result<(), Fail> {
     let heap = Faulty::new(rt.alloc());
-    let mut all: String<&Faulty<Global>> = String::with_capacity(&heap, 2)?;
-    all.push_str("a")?;
+    let mut all = letter(&heap)?;
     let mut iter = texts(rt.alloc())?.into_iter();
     heap.refuse(0, 1);
     assert!(rt; append_texts_by(&mut all, &mut iter).is_err());
