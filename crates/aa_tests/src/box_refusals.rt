@@ -55,20 +55,12 @@ fn what_a_box_took_comes_back(rt: HostRuntime) -> Result<(), Fail> {
 }
 
 #[test]
-fn a_box_of_a_unit_needs_no_memory(rt: HostRuntime) -> Result<(), Fail> {
+fn units_and_an_empty_text_need_no_memory(rt: HostRuntime) -> Result<(), Fail> {
     let heap = Faulty::new(rt.alloc());
     heap.refuse(0, u64::MAX);
     let b = Box::new_in((), &heap)?;
     drop(b.clone()?);
     Box::into_inner(b);
-    assert!(rt; (heap.requests(), heap.frees()) == (0, 0));
-    Ok(())
-}
-
-#[test]
-fn a_slice_of_units_and_an_empty_text_need_no_memory(rt: HostRuntime) -> Result<(), Fail> {
-    let heap = Faulty::new(rt.alloc());
-    heap.refuse(0, u64::MAX);
     let units = BoxedSlice::from_slice(&heap, &[(), ()])?;
     assert!(rt; units.into_vec().capacity() == usize::MAX);
     assert!(rt; BoxedText::from_text(&heap, "")?.as_str() == "");

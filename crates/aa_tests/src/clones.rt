@@ -32,12 +32,6 @@ fn each_request_of_a_clone_of_the_trait_is_refused_in_turn(rt: HostRuntime) -> R
     assert!(rt; refuses_each(&heap, &items, 4));
     drop(items);
     assert!(rt; is_given_back(&heap));
-    Ok(())
-}
-
-#[test]
-fn each_request_of_a_clone_of_a_box_is_refused_in_turn(rt: HostRuntime) -> Result<(), Fail> {
-    let heap = Faulty::new(rt.alloc());
     let list = held(&heap, &[1, 2, 3], 3)?.into_boxed_slice()?;
     assert!(rt; refuses_each(&heap, &list, 4));
     drop(list);

@@ -13,21 +13,17 @@ const BEHIND_TWO: [u32; 12] = [1, 2, 10, 11, 12, 13, 14, 15, 16, 17, 18, 19];
 
 #[test]
 fn an_extension_asks_once_for_what_is_told(rt: HostRuntime) -> Result<(), Fail> {
-    let heap = Faulty::new(rt.alloc());
-    let mut v = numbers(&heap, &[1, 2], 2)?;
-    v.extend(10..20)?;
-    assert!(rt; stands(&v, &BEHIND_TWO, 12));
-    assert!(rt; heap.requests() == 2);
-    Ok(())
-}
-
-#[test]
-fn an_extension_by_copies_asks_once_for_what_is_told(rt: HostRuntime) -> Result<(), Fail> {
-    let heap = Faulty::new(rt.alloc());
-    let mut v = numbers(&heap, &[1, 2], 2)?;
-    v.extend_copied(TEN.iter())?;
-    assert!(rt; stands(&v, &BEHIND_TWO, 12));
-    assert!(rt; heap.requests() == 2);
+    for copied in [false, true] {
+        let heap = Faulty::new(rt.alloc());
+        let mut v = numbers(&heap, &[1, 2], 2)?;
+        if copied {
+            v.extend_copied(TEN.iter())?;
+        } else {
+            v.extend(10..20)?;
+        }
+        assert!(rt; stands(&v, &BEHIND_TWO, 12), "copied: {copied}");
+        assert!(rt; heap.requests() == 2, "copied: {copied}");
+    }
     Ok(())
 }
 

@@ -56,6 +56,15 @@ enum Choice {
     DedupBy,
     DedupByKey,
     DedupWithinKey,
+    DedupWithin(Manner),
+}
+
+// How a closure of an element and the last one kept answers.
+#[derive(Clone, Copy)]
+enum Manner {
+    Near,
+    AddsUp,
+    ByTurns,
 }
 
 // Notes that a closure was asked of this number.
@@ -94,10 +103,34 @@ fn chosen(choice: Choice, v: &mut Vec<u32>, asked: &mut Vec<u32>) {
             note(asked, *x);
             *x / 10
         }),
+        Choice::DedupWithin(manner) => deduplicated(manner, v, asked),
     }
 }
 
-const CHOICES: [(Choice, &[u32], &[u32], &[u32]); 9] = [
+// Notes both, and answers in a manner that may write to the last one kept, or change its answers.
+#[tactic(auto, using(aa_vec::proofs::Callers::callers))]
+fn deduplicated(manner: Manner, v: &mut Vec<u32>, asked: &mut Vec<u32>) {
+    let mut again = true;
+    v.dedup_within(&mut |x: &mut u32, last: &mut u32| {
+        note(asked, *x);
+        note(asked, *last);
+        match manner {
+            Manner::Near => x.wrapping_sub(*last) <= 2,
+            Manner::AddsUp if *x < 5 => {
+                *last = x.wrapping_add(*last);
+                true
+            }
+            Manner::AddsUp => false,
+            Manner::ByTurns => {
+                again = !again;
+                again
+            }
+        }
+    });
+}
+
+// The elements, which are asked of, and which are left.
+const CHOICES: [(Choice, &[u32], &[u32], &[u32]); 14] = [
     (Choice::Doubled, &[1, 2, 3, 4], &[1, 2, 3, 4], &[2, 6, 8]),
     (
         Choice::Retain,
@@ -127,6 +160,26 @@ const CHOICES: [(Choice, &[u32], &[u32], &[u32]); 9] = [
         &[10, 20, 12],
     ),
     (Choice::DedupWithinKey, &[10], &[], &[10]),
+    (
+        Choice::DedupWithin(Manner::Near),
+        &[1, 3, 5],
+        &[3, 1, 5, 1],
+        &[1, 5],
+    ),
+    (
+        Choice::DedupWithin(Manner::AddsUp),
+        &[1, 2, 3, 10],
+        &[2, 1, 3, 3, 10, 6],
+        &[6, 10],
+    ),
+    (
+        Choice::DedupWithin(Manner::ByTurns),
+        &[1, 2, 3, 4, 5],
+        &[2, 1, 3, 2, 4, 2, 5, 4],
+        &[1, 2, 4],
+    ),
+    (Choice::DedupWithin(Manner::Near), &[4], &[], &[4]),
+    (Choice::DedupWithin(Manner::Near), &[], &[], &[]),
 ];
 
 #[test]
@@ -136,66 +189,6 @@ fn each_element_is_asked_for_once_in_order(rt: HostRuntime) -> Result<(), Fail> 
         let mut noted = list(rt.alloc(), &[], 8)?;
         chosen(choice, &mut v, &mut noted);
         assert!(rt; stands(&v, left, 7), "{left:?}");
-        assert!(rt; noted.as_slice() == asked, "{left:?}");
-    }
-    Ok(())
-}
-
-// How a closure of an element and the last one kept answers.
-#[derive(Clone, Copy)]
-enum Manner {
-    Near,
-    AddsUp,
-    ByTurns,
-}
-
-// Notes both, and answers in a manner that may write to the last one kept, or change its answers.
-#[tactic(auto, using(aa_vec::proofs::Callers::callers))]
-fn deduplicated(manner: Manner, v: &mut Vec<u32>, asked: &mut Vec<u32>) {
-    let mut again = true;
-    v.dedup_within(&mut |x: &mut u32, last: &mut u32| {
-        note(asked, *x);
-        note(asked, *last);
-        match manner {
-            Manner::Near => x.wrapping_sub(*last) <= 2,
-            Manner::AddsUp if *x < 5 => {
-                *last = x.wrapping_add(*last);
-                true
-            }
-            Manner::AddsUp => false,
-            Manner::ByTurns => {
-                again = !again;
-                again
-            }
-        }
-    });
-}
-
-const PAIRS: [(Manner, &[u32], &[u32], &[u32]); 5] = [
-    (Manner::Near, &[1, 3, 5], &[3, 1, 5, 1], &[1, 5]),
-    (
-        Manner::AddsUp,
-        &[1, 2, 3, 10],
-        &[2, 1, 3, 3, 10, 6],
-        &[6, 10],
-    ),
-    (
-        Manner::ByTurns,
-        &[1, 2, 3, 4, 5],
-        &[2, 1, 3, 2, 4, 2, 5, 4],
-        &[1, 2, 4],
-    ),
-    (Manner::Near, &[4], &[], &[4]),
-    (Manner::Near, &[], &[], &[]),
-];
-
-#[test]
-fn each_is_asked_beside_the_last_one_kept(rt: HostRuntime) -> Result<(), Fail> {
-    for (manner, items, asked, left) in PAIRS {
-        let mut v = list(rt.alloc(), items, 5)?;
-        let mut noted = list(rt.alloc(), &[], 8)?;
-        deduplicated(manner, &mut v, &mut noted);
-        assert!(rt; stands(&v, left, 5), "{left:?}");
         assert!(rt; noted.as_slice() == asked, "{left:?}");
     }
     Ok(())

@@ -30,10 +30,13 @@ impl Manner {
     }
 }
 
-// The numbers from 0 to 4, of whose number `hint` is told.
+// The numbers from `next` up to `end`, of whose number `hint` is told. Where it pauses, each third
+// number is an end, behind which the others are given.
 #[derive(Drop)]
 struct Liar {
     next: u32,
+    end: u32,
+    pauses: bool,
     hint: usize,
     manner: Manner,
 }
@@ -41,17 +44,20 @@ struct Liar {
 impl Iterator for Liar {
     type Item = u32;
 
-    ghost remaining = { λ s. at_most (5 - s.next) };
+    ghost remaining = { λ s. at_most (s.end - s.next) };
 
     fn next(&mut self) -> Option<u32> {
         let x = self.next;
-        if x >= 5 {
+        if x >= self.end {
             return None;
         }
         let (hint, manner) = self.manner.next_hint(self.hint);
         self.next = x + 1;
         self.hint = hint;
         self.manner = manner;
+        if self.pauses && x % 3 == 0 {
+            return None;
+        }
         Some(x)
     }
 }
@@ -64,9 +70,12 @@ impl Hinted for Liar {
     }
 }
 
+// The numbers from 0 to 4.
 fn told(hint: usize, manner: Manner) -> Liar {
     Liar {
         next: 0,
+        end: 5,
+        pauses: false,
         hint,
         manner,
     }
@@ -121,83 +130,49 @@ fn splices_to(
     Ok(answered && stands(&v, left, capacity))
 }
 
+// In the middle, and at the end.
 #[test]
 fn untrue_hints_of_a_splice_decide_the_room_alone(rt: HostRuntime) -> Result<(), Fail> {
     let all = [1, 0, 1, 2, 3, 4, 4].as_slice();
     let full = [1, 0, 1, 4].as_slice();
-    for (hint, manner, fits, left, capacity) in [
-        (0, Manner::Stays, true, all, 8),
-        (1, Manner::Stays, true, all, 8),
-        (100, Manner::Stays, true, all, 104),
-        (usize::MAX, Manner::Stays, false, full, 4),
-        (4, Manner::CountsDown, true, all, 8),
-        (6, Manner::CountsDown, true, all, 8),
-        (100, Manner::CountsDown, true, all, 102),
-        (9, Manner::TurnsTo(0), true, all, 13),
-        (0, Manner::TurnsTo(9), true, all, 8),
-        (1, Manner::TurnsTo(usize::MAX), true, all, 8),
-        (0, Manner::TurnsTo(usize::MAX), false, full, 4),
-        (usize::MAX, Manner::TurnsTo(0), false, full, 4),
+    let all_behind = [1, 2, 0, 1, 2, 3, 4].as_slice();
+    let full_behind = [1, 2, 0, 1].as_slice();
+    for (from, hint, manner, fits, left, capacity) in [
+        (1, 0, Manner::Stays, true, all, 8),
+        (1, 1, Manner::Stays, true, all, 8),
+        (1, 100, Manner::Stays, true, all, 104),
+        (1, usize::MAX, Manner::Stays, false, full, 4),
+        (1, 4, Manner::CountsDown, true, all, 8),
+        (1, 6, Manner::CountsDown, true, all, 8),
+        (1, 100, Manner::CountsDown, true, all, 102),
+        (1, 9, Manner::TurnsTo(0), true, all, 13),
+        (1, 0, Manner::TurnsTo(9), true, all, 8),
+        (1, 1, Manner::TurnsTo(usize::MAX), true, all, 8),
+        (1, 0, Manner::TurnsTo(usize::MAX), false, full, 4),
+        (1, usize::MAX, Manner::TurnsTo(0), false, full, 4),
+        (2, 0, Manner::Stays, true, all_behind, 8),
+        (2, 100, Manner::Stays, true, all_behind, 105),
+        (2, usize::MAX, Manner::Stays, false, full_behind, 4),
+        (2, 9, Manner::TurnsTo(usize::MAX), false, full_behind, 4),
+        (2, usize::MAX, Manner::TurnsTo(9), true, all_behind, 14),
     ] {
         let items = told(hint, manner);
         assert!(rt;
-            splices_to(rt.alloc(), 1, items, fits, left, capacity)?,
-            "{hint} told"
+            splices_to(rt.alloc(), from, items, fits, left, capacity)?,
+            "{hint} told from {from} on"
         );
     }
     Ok(())
 }
 
-#[test]
-fn untrue_hints_of_a_splice_at_the_end(rt: HostRuntime) -> Result<(), Fail> {
-    let all = [1, 2, 0, 1, 2, 3, 4].as_slice();
-    let full = [1, 2, 0, 1].as_slice();
-    for (hint, manner, fits, left, capacity) in [
-        (0, Manner::Stays, true, all, 8),
-        (100, Manner::Stays, true, all, 105),
-        (usize::MAX, Manner::Stays, false, full, 4),
-        (9, Manner::TurnsTo(usize::MAX), false, full, 4),
-        (usize::MAX, Manner::TurnsTo(9), true, all, 14),
-    ] {
-        let items = told(hint, manner);
-        assert!(rt;
-            splices_to(rt.alloc(), 2, items, fits, left, capacity)?,
-            "{hint} told"
-        );
-    }
-    Ok(())
-}
-
-// The numbers from `next` up to 9, of which each third is an end, behind which the others are
-// given.
-#[derive(Drop)]
-struct Pausing {
-    next: u32,
-}
-
-impl Iterator for Pausing {
-    type Item = u32;
-
-    ghost remaining = { λ s. at_most (9 - s.next) };
-
-    fn next(&mut self) -> Option<u32> {
-        let x = self.next;
-        if x >= 9 {
-            return None;
-        }
-        self.next = x + 1;
-        if x % 3 == 0 {
-            return None;
-        }
-        Some(x)
-    }
-}
-
-impl Hinted for Pausing {
-    ghost lower_of = { λ s. 9 - s.next };
-
-    fn lower(&self) -> usize {
-        9usize.saturating_sub(self.next as usize)
+// The numbers from this one up to 9, with pauses. As many are told as there are up to 9.
+fn pausing(next: u32) -> Liar {
+    Liar {
+        next,
+        end: 9,
+        pauses: true,
+        hint: 9usize.saturating_sub(next as usize),
+        manner: Manner::CountsDown,
     }
 }
 
@@ -205,14 +180,14 @@ impl Hinted for Pausing {
 fn behind_an_end_nothing_is_asked(rt: HostRuntime) -> Result<(), Fail> {
     for capacity in [0, 1, 2, 3, 4, 9] {
         let mut v: Vec<u32> = Vec::with_capacity(rt.alloc(), capacity)?;
-        let mut items = Pausing { next: 1 };
+        let mut items = pausing(1);
         v.extend_by(&mut items)?;
         assert!(rt; v.as_slice() == [1, 2].as_slice());
         assert!(rt; items.next == 4);
         v.extend_hinted_by(&mut items)?;
         assert!(rt; v.as_slice() == [1, 2, 4, 5].as_slice());
         assert!(rt; items.next == 7);
-        items.next = 6;
+        items = pausing(6);
         v.extend_by(&mut items)?;
         assert!(rt; (v.len(), items.next) == (4, 7));
     }
@@ -231,11 +206,11 @@ fn a_splice_asks_nothing_behind_an_end(rt: HostRuntime) -> Result<(), Fail> {
     ] {
         let mut v = list(rt.alloc(), &[7, 7, 7, 7], 4)?;
         assert!(rt; from <= to && to <= v.len());
-        v.splice(from..to, Pausing { next: first }).finish()?;
+        v.splice(from..to, pausing(first)).finish()?;
         assert!(rt; v.as_slice() == left);
         let mut w = list(rt.alloc(), &[7, 7, 7, 7], 4)?;
         assert!(rt; to <= w.len());
-        let range = w.splice(from..to, Pausing { next: first });
+        let range = w.splice(from..to, pausing(first));
         range.finish_hinted()?;
         assert!(rt; w.as_slice() == left);
     }

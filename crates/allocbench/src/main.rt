@@ -199,7 +199,8 @@ fn line<R: Print + Clock>(
     let second = fastest(rt, &counting, case, count, repeat)?;
     let third = fastest(rt, &pool, case, count, repeat)?;
     println!(rt;
-        "{name} {count}: Global {global}, Budget {first}, Counting {second}, Pool {third} tenths of a nanosecond"
+        "{name} {count}: Global {global}, Budget {first}, Counting {second}, Pool {third} tenths \
+         of a nanosecond"
     )?;
     Ok(())
 }

@@ -9,13 +9,12 @@ type Small<'a> = InlineVec<u64, &'a Faulty<Global>, 3>;
 
 // Whether the vector has these items.
 fn has(v: &Small<'_>, items: &[u64]) -> bool {
-    let mut same = v.len() == items.len() && v.is_empty() == items.is_empty();
-    let mut shown = v.iter();
+    let mut same = v.iter().copied().eq(items.iter().copied());
     for i in 0..items.len() {
-        let item = Some(items[i]);
-        same = shown.next().copied() == item && v.get(i).copied() == item && same;
+        same = v.get(i).copied() == Some(items[i]) && same;
     }
-    same && shown.next().is_none() && v.get(items.len()).is_none()
+    same && v.get(items.len()).is_none()
+        && (v.len(), v.is_empty()) == (items.len(), items.is_empty())
 }
 
 #[test]

@@ -133,9 +133,7 @@ fn a_reserved_text_takes_what_fits(rt: HostRuntime) -> Result<(), Fail> {
     let mut text: TextBuilder<&Faulty<_>> = TextBuilder::new_in(&heap);
     text.reserve(24)?;
     heap.refuse(0, 1000);
-    for part in ["24 bytes ", "are in all here"] {
-        assert!(rt; text.push_str(part).is_ok());
-    }
+    assert!(rt; text.push_str("24 bytes ").is_ok() && text.push_str("are in all here").is_ok());
     assert!(rt; text.as_str() == "24 bytes are in all here" && heap.refused() == 0);
     assert!(rt; text.push_u64(7).is_err());
     Ok(())

@@ -3,6 +3,7 @@ use aa_faulty::Faulty;
 use aa_faulty::counted::Counted;
 use std::alloc::Global;
 use std::cell::Cell;
+use std::ops::Range;
 
 // A ring over an allocator that may refuse.
 type Small<'a> = Ring<u64, &'a Faulty<Global>>;
@@ -18,14 +19,21 @@ fn has(ring: &Small<'_>, items: &[u64]) -> bool {
     same && shown.next().is_none() && ring.get(items.len()).is_none()
 }
 
+// Whether the ring takes these items at its back.
+fn takes(ring: &mut Small<'_>, items: Range<u64>) -> bool {
+    let mut all = true;
+    for item in items {
+        all = ring.push_back(item).is_ok() && all;
+    }
+    all
+}
+
 #[test]
 fn items_come_and_go_at_both_ends(rt: HostRuntime) {
     let heap = Faulty::new(rt.alloc());
     let mut ring: Small<'_> = Ring::new_in(&heap);
     assert!(rt; (ring.pop_front(), ring.pop_back()) == (None, None));
-    for item in 0u64..6 {
-        assert!(rt; ring.push_back(item).is_ok());
-    }
+    assert!(rt; takes(&mut ring, 0..6));
     assert!(rt;
         (ring.pop_front(), ring.pop_front(), ring.pop_back()) == (Some(0), Some(1), Some(5))
     );
@@ -56,9 +64,7 @@ fn a_long_queue_keeps_its_order(rt: HostRuntime) {
 fn a_refusal_changes_nothing(rt: HostRuntime) {
     let heap = Faulty::new(rt.alloc());
     let mut ring: Small<'_> = Ring::new_in(&heap);
-    for item in 0u64..4 {
-        assert!(rt; ring.push_back(item).is_ok());
-    }
+    assert!(rt; takes(&mut ring, 0..4));
     assert!(rt; ring.pop_front() == Some(0) && ring.push_back(4).is_ok());
     heap.refuse(0, 1000);
     match ring.push_front(5) {
@@ -76,9 +82,7 @@ fn a_refusal_changes_nothing(rt: HostRuntime) {
 fn items_are_turned_into_one_slice(rt: HostRuntime) {
     let heap = Faulty::new(rt.alloc());
     let mut ring: Small<'_> = Ring::new_in(&heap);
-    for item in 0u64..4 {
-        assert!(rt; ring.push_back(item).is_ok());
-    }
+    assert!(rt; takes(&mut ring, 0..4));
     assert!(rt; ring.pop_front() == Some(0) && ring.pop_front() == Some(1));
     assert!(rt; ring.push_back(4).is_ok() && has(&ring, &[2, 3, 4]));
     ring.make_contiguous();

@@ -9,6 +9,43 @@
 //! instructions of the preparation can be told from those of the case.
 #![tactic(auto)]
 
+// For each item one call, up to the first that is refused: whether none was, and the piece that is
+// taken first, if one is, was there. It stands in the function of a case, so that the compiler sees
+// the same loop over either vector.
+macro_rules! each_is_granted {
+    ($piece:ident of $part:expr, $item:pat in $items:expr, $call:expr) => {{
+        let Some($piece) = $part else {
+            return false;
+        };
+        each_is_granted!($item in $items, $call)
+    }};
+    ($item:pat in $items:expr, $call:expr) => {{
+        for $item in $items {
+            if $call.is_err() {
+                return false;
+            }
+        }
+        true
+    }};
+}
+
+// The same where each number that is put in is followed by one that is taken out; their sum is put
+// in at the end.
+macro_rules! in_and_out {
+    ($number:ty, $item:pat in $items:expr, $put:expr, $take:expr, |$sum:ident| $last:expr) => {{
+        let mut $sum: $number = 0;
+        for $item in $items {
+            if $put.is_err() {
+                return false;
+            }
+            if let Some(x) = $take {
+                $sum = $sum.wrapping_add(x);
+            }
+        }
+        $last.is_ok()
+    }};
+}
+
 mod bench;
 mod case;
 mod checksum;

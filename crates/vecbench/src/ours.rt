@@ -192,12 +192,7 @@ impl<E: Element> Pair<E> {
 fn fill<E: Element>(list: &mut Vec<E>, count: u32, runs: u32) -> bool
     requires { 0 < runs }
 {
-    for i in 0..count {
-        if list.push(E::of(i / runs)).is_err() {
-            return false;
-        }
-    }
-    true
+    each_is_granted!(i in 0..count, list.push(E::of(i / runs)))
 }
 
 // The elements of `count` numbers from 1 to `greatest`, in no regular order.
@@ -257,12 +252,7 @@ fn fill_text(text: &mut GapBuffer<u16>, count: u32) -> bool {
 
 #[inline(never)]
 fn push<E: Element>(list: &mut Vec<E>, count: u32) -> bool {
-    for i in 0..count {
-        if list.push(E::of(i)).is_err() {
-            return false;
-        }
-    }
-    true
+    each_is_granted!(i in 0..count, list.push(E::of(i)))
 }
 
 #[inline(never)]
@@ -309,16 +299,7 @@ fn clone<E: Element>(list: &Vec<E>, copy: &mut Vec<E>) -> bool {
 
 #[inline(never)]
 fn push_pop(list: &mut Vec<u32>, count: u32) -> bool {
-    let mut sum: u32 = 0;
-    for i in 0..count {
-        if list.push(i).is_err() {
-            return false;
-        }
-        if let Some(x) = list.pop() {
-            sum = sum.wrapping_add(x);
-        }
-    }
-    list.push(sum).is_ok()
+    in_and_out!(u32, i in 0..count, list.push(i), list.pop(), |sum| list.push(sum))
 }
 
 #[inline(never)]
@@ -326,12 +307,7 @@ fn push_reserved(list: &mut Vec<u32>, count: u32) -> bool {
     if list.reserve(count as usize).is_err() {
         return false;
     }
-    for i in 0..count {
-        if list.push(i).is_err() {
-            return false;
-        }
-    }
-    true
+    each_is_granted!(i in 0..count, list.push(i))
 }
 
 #[inline(never)]
@@ -341,16 +317,7 @@ fn push_full(list: &mut Vec<u32>) -> bool {
 
 #[inline(never)]
 fn insert_front(list: &mut Vec<u64>) -> bool {
-    let mut sum: u64 = 0;
-    for i in 0..100 {
-        if list.insert(0, i).is_err() {
-            return false;
-        }
-        if let Some(x) = list.pop() {
-            sum = sum.wrapping_add(x);
-        }
-    }
-    list.push(sum).is_ok()
+    in_and_out!(u64, i in 0..100, list.insert(0, i), list.pop(), |sum| list.push(sum))
 }
 
 #[inline(never)]
@@ -429,28 +396,12 @@ fn swap_remove(list: &mut Vec<u32>, count: u32) -> bool {
 
 #[inline(never)]
 fn pieces_of_4(list: &mut Vec<u8>, source: &[u8], count: u32) -> bool {
-    let Some(piece) = source.get(0..4) else {
-        return false;
-    };
-    for _ in 0..count {
-        if list.extend_from_slice_copied(piece).is_err() {
-            return false;
-        }
-    }
-    true
+    each_is_granted!(piece of source.get(0..4), _ in 0..count, list.extend_from_slice_copied(piece))
 }
 
 #[inline(never)]
 fn pieces_of_20(list: &mut Vec<u8>, source: &[u8], count: u32) -> bool {
-    let Some(piece) = source.get(0..20) else {
-        return false;
-    };
-    for _ in 0..count {
-        if list.extend_from_slice_copied(piece).is_err() {
-            return false;
-        }
-    }
-    true
+    each_is_granted!(piece of source.get(0..20), _ in 0..count, list.extend_from_slice_copied(piece))
 }
 
 // The bytes of `source` are the lengths.
@@ -469,15 +420,7 @@ fn pieces_mixed(list: &mut Vec<u8>, source: &[u8]) -> bool {
 
 #[inline(never)]
 fn write_pieces(list: &mut Vec<u8>, source: &[u8], count: u32) -> bool {
-    let Some(piece) = source.get(0..7) else {
-        return false;
-    };
-    for _ in 0..count {
-        if list.write_all(piece).is_err() {
-            return false;
-        }
-    }
-    true
+    each_is_granted!(piece of source.get(0..7), _ in 0..count, list.write_all(piece))
 }
 
 #[inline(never)]
@@ -604,16 +547,7 @@ fn splice_in_place(list: &mut Vec<u32>, count: u32) -> bool {
 
 #[inline(never)]
 fn splice_front(list: &mut Vec<u64>) -> bool {
-    let mut sum: u64 = 0;
-    for i in 0..100 {
-        if list.splice(0..0, i..i + 1).finish().is_err() {
-            return false;
-        }
-        if let Some(x) = list.pop() {
-            sum = sum.wrapping_add(x);
-        }
-    }
-    list.push(sum).is_ok()
+    in_and_out!(u64, i in 0..100, list.splice(0..0, i..i + 1).finish(), list.pop(), |sum| list.push(sum))
 }
 
 #[inline(never)]
@@ -630,10 +564,5 @@ fn insert_middle(list: &mut Vec<u16>) -> bool {
 
 #[inline(never)]
 fn gap_insert(text: &mut GapBuffer<u16>) -> bool {
-    for i in 0..1000 {
-        if text.insert(i).is_err() {
-            return false;
-        }
-    }
-    true
+    each_is_granted!(i in 0..1000, text.insert(i))
 }

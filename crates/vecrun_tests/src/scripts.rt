@@ -319,14 +319,20 @@ fn writes_in_parts(rt: HostRuntime) {
     assert!(rt; (text(&told), text(&output.inner), answer) == ("", ANSWER, 0));
 }
 
+// The text so often.
+fn repeated(alloc: Global, text: &[u8], count: u32) -> Result<Vec<u8>, Fail> {
+    let mut all = Vec::new(alloc);
+    for _ in 0..count {
+        all.extend_from_slice(text)?;
+    }
+    Ok(all)
+}
+
 // The answer takes several writes.
 #[test]
 fn fails_in_a_long_answer(rt: HostRuntime) -> Result<(), Fail> {
-    let (mut pops, mut answer) = (Vec::new(rt.alloc()), Vec::new(rt.alloc()));
-    for _ in 0..4000 {
-        pops.extend_from_slice(b"pop\n")?;
-        answer.extend_from_slice(b"none\n")?;
-    }
+    let pops = repeated(rt.alloc(), b"pop\n", 4000)?;
+    let mut answer = repeated(rt.alloc(), b"none\n", 4000)?;
     answer.extend_from_slice(EMPTY_LISTS.as_bytes())?;
     for (calls, status) in [(0, 3), (1, 3), (4, 3), (9, 0)] {
         let inner = Vec::new(rt.alloc());
@@ -347,13 +353,9 @@ fn fails_in_a_long_answer(rt: HostRuntime) -> Result<(), Fail> {
 // It is run in several pieces.
 #[test]
 fn runs_a_long_script(rt: HostRuntime) -> Result<(), Fail> {
-    let (mut lines, mut answer) = (Vec::new(rt.alloc()), Vec::new(rt.alloc()));
-    for _ in 0..1000 {
-        lines.extend_from_slice(b"push 7\r\n\nextend - 8 9\npop\nsplit_off 1\n")?;
-        answer.extend_from_slice(b"done\ndone\nitem 9\ndone\n")?;
-        lines.extend_from_slice(b"clear\n")?;
-        answer.extend_from_slice(b"done\n")?;
-    }
+    let script = b"push 7\r\n\nextend - 8 9\npop\nsplit_off 1\nclear\n";
+    let lines = repeated(rt.alloc(), script, 1000)?;
+    let mut answer = repeated(rt.alloc(), b"done\ndone\nitem 9\ndone\ndone\n", 1000)?;
     answer.extend_from_slice(b"main len=0 cap=4:\nside len=1 cap=1: 8\n")?;
     assert!(rt; answers(rt.alloc(), lines.as_slice(), answer.as_slice(), b"", 0));
     Ok(())

@@ -99,12 +99,7 @@ fn fill_keys(keys: &mut Vec<u64>, count: u32, least: u64) -> bool {
 
 #[inline(never)]
 fn table_insert(table: &mut Numbers, keys: &[u64]) -> bool {
-    for key in keys {
-        if table.insert(*key, *key >> 1).is_err() {
-            return false;
-        }
-    }
-    true
+    each_is_granted!(key in keys, table.insert(*key, *key >> 1))
 }
 
 #[inline(never)]
@@ -143,26 +138,12 @@ fn table_remove(table: &mut Numbers, keys: &[u64]) -> u64 {
 
 #[inline(never)]
 fn ring_queue(queue: &mut Queue, count: u32) -> bool {
-    let mut sum: u32 = 0;
-    for i in 0..count {
-        if queue.push_back(i).is_err() {
-            return false;
-        }
-        if let Some(x) = queue.pop_front() {
-            sum = sum.wrapping_add(x);
-        }
-    }
-    queue.push_back(sum).is_ok()
+    in_and_out!(u32, i in 0..count, queue.push_back(i), queue.pop_front(), |sum| queue.push_back(sum))
 }
 
 #[inline(never)]
 fn ring_push(queue: &mut Queue, count: u32) -> bool {
-    for i in 0..count {
-        if queue.push_back(i).is_err() {
-            return false;
-        }
-    }
-    true
+    each_is_granted!(i in 0..count, queue.push_back(i))
 }
 
 // A vector of eight items for each eight numbers.
