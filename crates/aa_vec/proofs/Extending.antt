@@ -1,7 +1,9 @@
 -- A vector that items of an iterator are put behind.
-use Rattle.aa_vec.proofs.Common.{◌≡◌, ℕ, zero, suc, ◌+◌, ◌-◌, ◌<◌, ◌≤◌, List, [], ◌∷◌, ◌++◌, length, Option, Some, None, Ok, append_assoc, refl, sym, ap, ◌∙◌, subst, arith, length-append, min, map, Count, Yields, Drains, append-nil, TryReserveError, usize_max, Vector, len, HasRoom, LacksRoom, GrowsTo, Holds, Writes, Placed, FillsGap, Climbs, stays, asked_for, YieldsTelling, ExtendsByAll, ExtendsByFront, Extended, CopiesOf}
+use Rattle.aa_vec.proofs.Common.{◌≡◌, ℕ, zero, suc, ◌+◌, ◌-◌, ◌<◌, ◌≤◌, List, [], ◌∷◌, ◌++◌, length, Option, Some, None, Ok, append_assoc, refl, sym, ap, ◌∙◌, subst, arith, length-append, min, map, Count, Yields, Drains, append-nil, TryReserveError, usize_max, Vector, len, HasRoom, LacksRoom, GrowsTo, Holds, Writes, Placed, FillsGap, Climbs, stays, asked_for, YieldsTelling, ExtendsByAll, ExtendsByFront, Extended, LeavesIter, CopiesOf, Result, Err, count_of}
 use Rattle.std.specs.Borrow.{Bor}
+use Rattle.std.specs.Prelude.{IsOk}
 use Rattle.std.specs.Iterator.Runs.{WholeRun}
+use Rattle.aa_vec.proofs.Answered.{on_ok, if_err}
 use Rattle.std.proofs.iter.runs.Consumers.{total_runs}
 use Rattle.aa_vec.proofs.Climbing.{MakesRoom, SameBlock-refl, MakesRoom-fits, MakesRoom-rises, Climbs-same, Climbs-more, Climbs-rises, Climbs-counted, Climbs-growth, Climbs-alloc}
 
@@ -38,6 +40,13 @@ module _ {S T : Type 0} (steps : S → Option T → S → Type 0) (Tells : S →
       (r.0, subst Q (append_assoc front (x ∷ []) xs) r.1, λ k. r.2 (suc k) ∙ ap r.0 (omega arith))
 
   module _ {A : Type 0} (size : ℕ) (iter : S) (old : Vector T A) where
+    -- an extension, by what it leaves of the iterator
+    pub Extended-left : (left : S → Count) (after : S) (r : Result Unit TryReserveError) (new : Vector T A) → LeavesIter steps Tells size iter old after r new → (HasRoom old (count_of (left iter)) → IsOk r) → Writes old (len new - len old) (len new - len old) new
+        → Extended steps Tells left size iter old r new
+    Extended-left left after r new l fits writes =
+        let ran = on_ok r l.ended (λ e. let x = e.0 in (x.added, (x.ends.0, (x.last, Yields-told x.lower iter x.added x.last x.told, x.ends.1)), x.items)) in
+        record { items = ran; runs = on_ok r ran (whole_run steps iter (λ xs. new.items ≡ old.items ++ xs)); fits = fits; room = on_ok r l.ended (λ e. e.0); writes = writes; refused = if_err r l.stopped (λ _ e. e.0) }
+
     -- of what came from iter, which is now s, `front` was placed, and the vector is v
     pub record Placing (s : S) (v : Vector T A) : Type 0 where
       pub front : List T
@@ -72,36 +81,21 @@ module _ {S T : Type 0} (steps : S → Option T → S → Type 0) (Tells : S →
       Placing-writes placed e = record { written = omega (arith, p.written, count, e); runs = omega (arith, p.runs, count, e) }
 
       -- no item is to come
-      pub Placing-end : (u : S) → steps s None u → (all : ExtendsByAll steps Tells size iter old v) × (all.ends.0 ≡ u)
-      Placing-end u h = (
-        record {
-          added = p.front;
-          lower = p.lower;
-          last = s;
-          told = p.told;
-          ends = (u, h);
-          within = p.within;
-          climbs = p.climbs;
-          enough = omega (arith, p.fits, count);
-          items = p.items;
-        },
-        refl,
-      )
-
-      pub Placing-drains : (u : S) → steps s None u → (xs : List T) × Drains steps iter xs × (v.items ≡ old.items ++ xs)
-      Placing-drains u h = (p.front, (u, (s, Yields-told p.lower iter p.front s p.told, h)), p.items)
-
-      pub Placing-extended : (left : S → Count) (u : S) → steps s None u → Extended steps Tells left size iter old (Ok tt) v
-      Placing-extended left u h =
-          let ran = Placing-drains u h in
-          record {
-            items = ran;
-            runs = whole_run steps iter (λ xs. v.items ≡ old.items ++ xs) ran;
-            fits = λ _. refl;
-            room = (Placing-end u h).0;
-            writes = Placing-writes (len v - len old) refl;
-            refused = tt;
-          }
+      pub Placing-end : (left : S → Count) (u : S) → steps s None u → Extended steps Tells left size iter old (Ok tt) v × LeavesIter steps Tells size iter old u (Ok tt) v
+      Placing-end left u h =
+          let all : ExtendsByAll steps Tells size iter old v = record {
+            added = p.front;
+            lower = p.lower;
+            last = s;
+            told = p.told;
+            ends = (u, h);
+            within = p.within;
+            climbs = p.climbs;
+            enough = omega (arith, p.fits, count);
+            items = p.items;
+          } in
+          let l : LeavesIter steps Tells size iter old u (Ok tt) v = record { ended = (all, refl); stopped = tt } in
+          (Extended-left left u (Ok tt) v l (λ _. refl) (Placing-writes (len v - len old) refl), l)
 
       -- items came that found free places
       pub Placing-filled : ((s : S) → (n : ℕ) × Tells s n) → (left : ℕ) (t : S) (new : Vector T A) → Placed steps s v (v.capacity - len v) 0 left t new → Placing t new
@@ -171,27 +165,24 @@ module _ {S T : Type 0} (steps : S → Option T → S → Type 0) (Tells : S →
               runs = omega (arith, writes.runs, z.runs, p.runs, longer);
             }
 
-        -- or room for it was refused
-        pub Placing-refused : (k : ℕ) → k ≡ min (n + 1) usize_max → (error : TryReserveError) → LacksRoom size v k error → (front : ExtendsByFront steps Tells size iter old error v) × (front.last ≡ t)
-        Placing-refused k e error lacks = (
-          record {
-            front = p.front;
-            item = x;
-            lower = next_lower;
-            last = t;
-            told = YieldsTelling-more p.lower n iter p.front s x t p.told step tells;
-            within = p.within;
-            climbs = subst (λ m. Climbs size next_lower m old v) (omega (arith, longer)) climbed;
-            items = p.items;
-            full = full;
-            lacks = subst (λ j. LacksRoom size v j error) e lacks;
-          },
-          refl,
-        )
-
-      -- more came than fit at the start, where v is full and another item came of the `left` that were to come
-      pub Placing-over : len v ≡ v.capacity → (left all : ℕ) → 0 < left → len v + left ≤ len old + all → HasRoom old all → ⊥
-      Placing-over full left all some few h = absurd (omega (arith, h, full, some, few, count, Climbs-rises size p.lower (len old + length p.front) p.climbs))
+        -- or room for it was refused, where all of the `most` that were to come would have fitted at the start
+        pub Placing-refused : (left : S → Count) (k : ℕ) → k ≡ min (n + 1) usize_max → (error : TryReserveError) → LacksRoom size v k error → len v < len old + count_of (left iter)
+            → Extended steps Tells left size iter old (Err error) v × LeavesIter steps Tells size iter old t (Err error) v
+        Placing-refused left k e error lacks most =
+            let front : ExtendsByFront steps Tells size iter old error v = record {
+              front = p.front;
+              item = x;
+              lower = next_lower;
+              last = t;
+              told = YieldsTelling-more p.lower n iter p.front s x t p.told step tells;
+              within = p.within;
+              climbs = subst (λ m. Climbs size next_lower m old v) (omega (arith, longer)) climbed;
+              items = p.items;
+              full = full;
+              lacks = subst (λ j. LacksRoom size v j error) e lacks;
+            } in
+            let l : LeavesIter steps Tells size iter old t (Err error) v = record { ended = tt; stopped = (front, refl) } in
+            (Extended-left left t (Err error) v l (λ h. absurd (omega (arith, h, full, most, Climbs-rises size p.lower (len old + length p.front) p.climbs))) (Placing-writes (len v - len old) refl), l)
 
 module _ {S T : Type 0} (steps : S → Option (Bor T) → S → Type 0) where
   -- the references that were given

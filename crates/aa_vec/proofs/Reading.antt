@@ -1,7 +1,6 @@
 -- What an extension by an iterator says of another one, which it reads and gives back.
-use Rattle.aa_vec.proofs.Common.{◌≡◌, ℕ, List, [], ◌∷◌, ◌++◌, Option, Some, None, Result, Ok, Err, IfErr, refl, sym, ap, ◌∙◌, subst, OnOk, Drains, TryReserveError, Vector, YieldsTelling, ExtendsByAll, ExtendsByFront, LeavesIter}
+use Rattle.aa_vec.proofs.Common.{◌≡◌, ℕ, List, [], ◌∷◌, ◌++◌, Option, Some, None, Result, Ok, Err, IfErr, refl, sym, ap, ◌∙◌, subst, TryReserveError, Vector, YieldsTelling, ExtendsByAll, ExtendsByFront, LeavesIter}
 use Rattle.aa_vec.proofs.Answered.{on_ok, if_err}
-use Rattle.aa_vec.proofs.Extending.{Yields-told}
 
 -- each call of the one is one of the other, in the state that it holds, under a name that stays
 pub record Reads {S U N T : Type 0} (steps : S → Option T → S → Type 0) (seen : U → Option T → U → Type 0) (Tells : S → ℕ → Type 0) (Told : U → ℕ → Type 0)
@@ -56,16 +55,6 @@ module _ {S U N T : Type 0} (steps : S → Option T → S → Type 0) (seen : U 
           refl,
           told.0,
         )
-
-    module _ (result : Result Unit TryReserveError) where
-      pub room_read : OnOk result (ExtendsByAll steps Tells size iter old new) → OnOk result (ExtendsByAll seen Told size (held iter) old new)
-      room_read e = on_ok result e (λ x. (all_read x).0)
-
-      pub items_read : OnOk result (ExtendsByAll steps Tells size iter old new) → OnOk result ((xs : List T) × Drains seen (held iter) xs × (new.items ≡ old.items ++ xs))
-      items_read e = on_ok result (room_read e) (λ x. (x.added, (x.ends.0, (x.last, Yields-told seen Told x.lower (held iter) x.added x.last x.told, x.ends.1)), x.items))
-
-      pub refused_read : IfErr result (λ e. ExtendsByFront steps Tells size iter old e new) → IfErr result (λ e. ExtendsByFront seen Told size (held iter) old e new)
-      refused_read e = if_err result e (λ error x. (front_read error x).0)
 
     -- the other one is left as `end`, which is what the first still holds, if that is known by the same name
     module _ (after : S) (end : U) (tied : name after ≡ name iter → end ≡ held after) where
