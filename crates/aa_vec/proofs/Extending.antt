@@ -5,7 +5,7 @@ use Rattle.std.specs.Prelude.{IsOk}
 use Rattle.std.specs.Iterator.Runs.{WholeRun}
 use Rattle.aa_vec.proofs.Answered.{on_ok, if_err}
 use Rattle.std.proofs.iter.runs.Consumers.{total_runs}
-use Rattle.aa_vec.proofs.Climbing.{MakesRoom, SameBlock-refl, MakesRoom-fits, MakesRoom-rises, Climbs-same, Climbs-more, Climbs-rises, Climbs-counted, Climbs-growth, Climbs-alloc}
+use Rattle.aa_vec.proofs.Climbing.{MakesRoom, SameBlock-refl, MakesRoom-fits, MakesRoom-rises, Climbs-same, Climbs-more, Climbs-rises, Climbs-counted, Climbs-keeps}
 
 -- the items that came, as one run
 pub whole_run : {S A : Type 0} (steps : S → Option A → S → Type 0) (s : S) (P : List A → Type 0) → (xs : List A) × Drains steps s xs × P xs → WholeRun steps s (λ p. P p.items)
@@ -148,8 +148,7 @@ module _ {S T : Type 0} (steps : S → Option T → S → Type 0) (Tells : S →
         pub Placing-grown : (k : ℕ) → k ≡ min (n + 1) usize_max → (w new : Vector T A) → GrowsTo size v k v.items w → Writes v 0 0 w → Holds w (w.items ++ x ∷ []) new → Writes w 1 1 new → Placing t new
         Placing-grown k e w new g z holds writes =
             let asked : k ≡ asked_for next_lower (len old + length next_front - v.capacity) = e ∙ ap (asked_for next_lower) (sym one_left) in
-            let m : MakesRoom size v v.capacity (asked_for next_lower (len old + length next_front - v.capacity)) w =
-            subst (λ j. MakesRoom size v j (asked_for next_lower (len old + length next_front - v.capacity)) w) full (subst (λ j. MakesRoom size v (len v) j w) asked g.room) in
+            let m : MakesRoom size v v.capacity (asked_for next_lower (len old + length next_front - v.capacity)) w = rw (← asked) (subst (λ j. MakesRoom size v j k w) full g.room) in
             let room : len w < w.capacity = omega (arith, e, full, ap length g.items, MakesRoom-fits size (len v) k v w g.room) in
             let climbs : Climbs size next_lower (len old + length next_front) old w = Climbs-more size next_lower (len old + length next_front) climbed (omega (arith, full, count, longer)) m in
             let i : new.items ≡ old.items ++ next_front = holds.items ∙ ap (λ ys. ys ++ x ∷ []) (g.items ∙ p.items) ∙ append_assoc old.items p.front (x ∷ []) in
@@ -197,13 +196,8 @@ module _ {S T : Type 0} (steps : S → Option (Bor T) → S → Type 0) where
       let read = Yields-read s d.0 d.1.1.0 d.1.1.1 in
       (read.0, (d.1.0, (d.1.1.0, read.1, d.1.1.2)), d.2 ∙ ap (λ zs. xs ++ zs) read.2)
 
-module _ {S T A : Type 0} (steps : S → Option T → S → Type 0) (Tells : S → ℕ → Type 0) (size : ℕ) (iter : S) where
-  -- what all extensions keep
-  module _ (old new : Vector T A) (e : ExtendsByAll steps Tells size iter old new) where
-    pub ExtendsByAll-growth : new.growth ≡ old.growth
-    ExtendsByAll-growth = Climbs-growth size e.lower (len old + length e.added) e.climbs
+-- what all extensions keep
+pub ExtendsByAll-keeps : {S T A : Type 0} (steps : S → Option T → S → Type 0) (Tells : S → ℕ → Type 0) (size : ℕ) (iter : S) (old new : Vector T A) → ExtendsByAll steps Tells size iter old new → (new.growth ≡ old.growth) × (new.alloc ≡ old.alloc)
+ExtendsByAll-keeps steps Tells size iter old new e = Climbs-keeps size e.lower (len old + length e.added) e.climbs
 
-    pub ExtendsByAll-alloc : new.alloc ≡ old.alloc
-    ExtendsByAll-alloc = Climbs-alloc size e.lower (len old + length e.added) e.climbs
-
-pub ruleset extended = (ExtendsByAll-growth, ExtendsByAll-alloc)
+pub ruleset extended = (ExtendsByAll-keeps)

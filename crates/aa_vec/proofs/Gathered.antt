@@ -1,10 +1,10 @@
 -- Items gathered in a vector of their own, and what was asked for where they could not be.
-use Rattle.aa_vec.proofs.Common.{◌≡◌, ℕ, ◌+◌, ◌-◌, ◌<◌, ◌≤◌, List, [], ◌∷◌, ◌++◌, length, Option, None, refl, sym, ap, cases_lt, ◌∙◌, subst, arith, inl, inr, length-append, min, eqb_tells, append-nil, TryReserveError, Doubling, amortized, least_of, usize_max, Vector, len, IsNew, LacksRoom, GrowsTo, Holds, Climbs, stays, grows, asked_for, ExtendsFull, ExtendsByAll, ExtendsByFront, Gathers, GathersShort}
+use Rattle.aa_vec.proofs.Common.{◌≡◌, ℕ, ◌+◌, ◌-◌, ◌<◌, ◌≤◌, List, [], ◌∷◌, ◌++◌, length, Option, None, refl, suc, sym, ap, cases_lt, ◌∙◌, subst, arith, inl, inr, length-append, min, append-nil, TryReserveError, Doubling, amortized, least_of, usize_max, Vector, len, IsNew, LacksRoom, GrowsTo, Holds, Climbs, stays, grows, asked_for, ExtendsFull, ExtendsByAll, ExtendsByFront, Gathers, GathersShort}
 use Rattle.aa_raw.specs.Refusals.{IsRefusedAt}
 use Rattle.aa_vec.specs.Splicing.{LacksVector, LacksOthers}
 use Rattle.aa_vec.specs.Filling.{Told}
-use Rattle.aa_vec.proofs.Climbing.{full_of, MakesRoom, MakesRoom-stays, SameBlock-refl, Climbs-counted}
-use Rattle.aa_vec.proofs.Counted.{ExtendsFull-told}
+use Rattle.aa_vec.proofs.Climbing.{MakesRoom, MakesRoom-stays, SameBlock-refl, Climbs-counted}
+use Rattle.aa_vec.proofs.Counted.{ExtendsFull-told, front_first}
 use Rattle.aa_vec.proofs.Lists.{equal, unequal}
 use Rattle.aa_vec.proofs.Telling.{told_first}
 
@@ -46,33 +46,24 @@ module _ {S T A : Type 0} (steps : S → Option T → S → Type 0) (Tells : S �
     made_new : IsNew size 0 made.alloc made
     made_new = record { items = new.items; capacity = new.capacity; growth = new.growth; grown = new.grown; written = new.written; runs = new.runs; alloc = refl }
 
+    no_places : made.capacity < wanted → made.capacity ≡ 0
+    no_places h = new.capacity ∙ unequal size 0 usize_max 0 (λ z. absurd (omega (arith, h, is, new.capacity ∙ equal size 0 usize_max 0 z)))
+
     -- its first growth was
     pub GathersShort-first : (error : TryReserveError) → LacksRoom size made wanted error → GathersShort steps Tells size s first fails old error s
     GathersShort-first error lacks =
-        let no_places : made.capacity ≡ 0 = elim (eqb_tells size 0) [
-          | inl h ↦ absurd (omega (arith, lacks.full, ap length new.items, is, new.capacity, equal size 0 usize_max 0 h.1))
-          | inr h ↦ new.capacity ∙ unequal size 0 usize_max 0 h.1
-        ] in
-        record {
-          rest = [];
-          told = none_taken;
-          stops = refl;
-          lacks = inr (
-            made,
-            made,
-            made_new,
-            record {
-              front = [];
-              others = first ∷ [];
-              begins = refl;
-              climbs = stays (SameBlock-refl made);
-              short = omega (arith, no_places);
-              items = new.items;
-              full = omega (arith, no_places);
-              lacks = subst (λ k. LacksRoom size made k error) is lacks;
-            },
-          );
-        }
+        let none : made.capacity ≡ 0 = no_places (omega (arith, lacks.full, ap length new.items)) in
+        let full : ExtendsFull size (λ _. n) made [] (first ∷ []) error made = record {
+          front = [];
+          others = first ∷ [];
+          begins = refl;
+          climbs = stays (SameBlock-refl made);
+          short = omega (arith, none);
+          items = new.items;
+          full = omega (arith, none);
+          lacks = rw (← is) lacks;
+        } in
+        record { rest = []; told = none_taken; stops = refl; lacks = inr (made, made, made_new, full) }
 
     -- `first` was put there, and others behind it
     module _ (v : Vector T A) (g : GrowsTo size made wanted made.items v) (w : Vector T A) (put : Holds v (v.items ++ first ∷ []) w) where
@@ -83,51 +74,32 @@ module _ {S T A : Type 0} (steps : S → Option T → S → Type 0) (Tells : S �
       Gathers-all x t by =
           let e = by.0 in
           let f = told_first steps Tells e.lower s e.added e.last e.told n tells in
-          let P : S → Type 0 = λ k. steps e.last None k in
-          record { rest = e.added; told = record { lower = f.0; last = e.last; first = f.4; each = f.2 }; ends = subst P by.1 e.ends.1; items = e.items ∙ ap (λ ys. ys ++ e.added) one }
+          record { rest = e.added; told = record { lower = f.0; last = e.last; first = f.4; each = f.2 }; ends = rw (← by.1) e.ends.1; items = e.items ∙ ap (λ ys. ys ++ e.added) one }
 
       pub GathersShort-more : (x : Vector T A) (error : TryReserveError) (t : S) → (e : ExtendsByFront steps Tells size s w error x) × (e.last ≡ t) → GathersShort steps Tells size s first fails old error t
       GathersShort-more x error t by =
           let e = by.0 in
-          let nil : List T = [] in
           let taken : List T = e.front ++ e.item ∷ [] in
-          let all : List T = first ∷ taken in
-          let f = told_first steps Tells e.lower s taken e.last e.told n tells in
-          let same : (k : ℕ) → (length w.items ≤ v.capacity → k < length taken) → e.lower k ≡ f.0 (k + length nil) = λ k h. f.1 k (h (omega (arith, e.within, put.block.capacity))) ∙ ap f.0 (omega arith) in
-          let full : ExtendsFull size f.0 v w.items taken error x = ExtendsFull-told size e.lower f.0 put.block w.items taken nil same taken (sym (append-nil taken)) error x (full_of steps Tells size s w x error e) in
-          let needed : length w.items + length taken ≡ length nil + length all = omega (arith, ap length one) in
-          let rest : Climbs size f.0 (length nil + length all) v x = subst (λ k. Climbs size f.0 k v x) needed full.climbs in
-          let none : len made ≡ 0 = ap length new.items in
-          let climbs : Climbs size f.0 (length nil + length all) made x = elim (cases_lt made.capacity (len made + wanted)) [
-            | inr h ↦
-                let b = MakesRoom-stays size (len made) wanted made v g.room h in
-                Climbs-counted size f.0 f.0 (length nil + length all) 0 (length nil + length all) b (omega arith) (λ k _. ap f.0 (omega arith)) rest
+          let f = front_first steps Tells size s put.block error e n tells in
+          let needed : ℕ = 0 + suc (length taken) in
+          let rest : Climbs size f.0 needed v x = subst (λ k. Climbs size f.0 k v x) (omega (arith, ap length one)) f.4.climbs in
+          let climbs : Climbs size f.0 needed made x = elim (cases_lt made.capacity (len made + wanted)) [
+            | inr h ↦ Climbs-counted size f.0 f.0 needed 0 needed (MakesRoom-stays size (len made) wanted made v g.room h) (omega arith) (λ k _. ap f.0 (omega arith)) rest
             | inl h ↦
-                let no_places : made.capacity ≡ 0 = new.capacity ∙ unequal size 0 usize_max 0 (λ z. absurd (omega (arith, h, is, none, new.capacity ∙ equal size 0 usize_max 0 z))) in
-                let asked : wanted ≡ asked_for f.0 (length nil + length all - made.capacity) = is ∙ ap (λ k. min (k + 1) usize_max) (sym f.3 ∙ ap f.0 (omega (arith, no_places))) in
-                let m : MakesRoom size made made.capacity (asked_for f.0 (length nil + length all - made.capacity)) v =
-                subst (λ k. MakesRoom size made made.capacity k v) asked (subst (λ k. MakesRoom size made k wanted v) {x = len made} {y = made.capacity} (omega (arith, none, no_places)) g.room) in
-                grows (omega (arith, no_places)) m rest
+                let none : made.capacity ≡ 0 = no_places (omega (arith, h, ap length new.items)) in
+                let asked : wanted ≡ asked_for f.0 (needed - made.capacity) = is ∙ ap (λ k. min (k + 1) usize_max) (sym f.1 ∙ ap f.0 (omega (arith, none))) in
+                grows (omega (arith, none)) (rw (← asked) (subst (λ k. MakesRoom size made k wanted v) {x = len made} {y = made.capacity} (omega (arith, ap length new.items, none)) g.room)) rest
           ] in
-          record {
-            rest = taken;
-            told = record { lower = f.0; last = e.last; first = f.4; each = f.2 };
-            stops = by.1;
-            lacks = inr (
-              made,
-              x,
-              made_new,
-              record {
-                front = first ∷ full.front;
-                others = full.others;
-                begins = ap (λ ys. first ∷ ys) full.begins;
-                climbs = climbs;
-                short = omega (arith, full.short, needed);
-                items = full.items ∙ ap (λ ys. ys ++ full.front) one;
-                full = omega (arith, full.full, ap length one);
-                lacks = full.lacks;
-              },
-            );
-          }
+          let full : ExtendsFull size f.0 made [] (first ∷ taken) error x = record {
+            front = first ∷ f.4.front;
+            others = f.4.others;
+            begins = ap (λ ys. first ∷ ys) f.4.begins;
+            climbs = climbs;
+            short = omega (arith, f.4.short, ap length one);
+            items = f.4.items ∙ ap (λ ys. ys ++ f.4.front) one;
+            full = omega (arith, f.4.full, ap length one);
+            lacks = f.4.lacks;
+          } in
+          record { rest = taken; told = record { lower = f.0; last = e.last; first = f.2; each = f.3 }; stops = by.1; lacks = inr (made, x, made_new, full) }
 
 pub ruleset gathered = (GathersShort-clone)

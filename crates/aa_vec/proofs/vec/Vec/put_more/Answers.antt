@@ -1,4 +1,4 @@
-use Rattle.aa_vec.proofs.Common.{None, subst, arith, err_from_is_err_and}
+use Rattle.aa_vec.proofs.Common.{arith, err_from_is_err_and}
 use Rattle.aa_vec.proofs.Replacing.{Puts-none, Puts-told, Puts-rest}
 use Rattle.aa_vec.proofs.vec.Vec.put_more.Goals as goal
 
@@ -24,6 +24,5 @@ returns-in-Some g c =
 pub returns-in-None : goal.returns-in-None
 returns-in-None g c =
     let f = c.fill_and_close.ensures.fills in
-    let P : g.row.I.Denot → Type 0 = λ k. g.I.Iterator.next_gives k None c.next.new.self in
     Puts-told _ _ _ _ _ c.args.self.now c.args.told c.args.count c.requires.count.1 c.widen.new.self c.in_ok-widen.ensures.widened _ _ c.fill_and_close.new.self f
-    _ (subst P (f.stops.full c.if-fill_and_close-ne0.false) c.in-None.ensures.steps)
+    _ (rw (f.stops.full c.if-fill_and_close-ne0.false) at c.in-None.ensures.steps)
