@@ -6,11 +6,8 @@ use Rattle.aa_vec.proofs.Telling.{told_first}
 -- another function tells the same of `taken`, behind which `more` is to come; and the vector was another in the same block
 module _ {T A : Type 0} (size : ℕ) (lower by : ℕ → ℕ) {u v : Vector T A} (b : SameBlock u v) (head taken more : List T)
     (same : (k : ℕ) → (length head ≤ u.capacity → k < length taken) → lower k ≡ by (k + length more)) where
-  climbs-told : (all : ℕ) (new : Vector T A) → length head + length taken + length more ≡ all → Climbs size lower (length head + length taken) v new → Climbs size by all u new
-  climbs-told all new e = Climbs-counted size lower by (length head + length taken) (length more) all b e (λ k l. same k (λ within. omega (arith, l, within)))
-
   pub ExtendsAll-told : (new : Vector T A) → more ≡ [] → ExtendsAll size lower v head taken new → ExtendsAll size by u head taken new
-  ExtendsAll-told new none x = record { climbs = climbs-told (length head + length taken) new (omega (arith, ap length none)) x.climbs; enough = x.enough; items = x.items }
+  ExtendsAll-told new none x = record { climbs = Climbs-counted size lower by (length head + length taken) (length more) (length head + length taken) b (omega (arith, ap length none)) (λ k l. same k (λ within. omega (arith, l, within))) x.climbs; enough = x.enough; items = x.items }
 
   pub ExtendsFull-told : (all : List T) → all ≡ taken ++ more → (error : TryReserveError) (new : Vector T A) → ExtendsFull size lower v head taken error new → ExtendsFull size by u head all error new
   ExtendsFull-told all e error new x =
@@ -24,7 +21,7 @@ module _ {T A : Type 0} (size : ℕ) (lower by : ℕ → ℕ) {u v : Vector T A}
         front = x.front;
         others = others;
         begins = e ∙ ap (λ ys. ys ++ more) x.begins ∙ append_assoc x.front x.others more;
-        climbs = climbs-told (length head + length all) new (omega (arith, all_is)) x.climbs;
+        climbs = Climbs-counted size lower by (length head + length taken) (length more) (length head + length all) b (omega (arith, all_is)) (λ k l. same k (λ within. omega (arith, l, within))) x.climbs;
         short = omega (arith, x.short, all_is);
         items = x.items;
         full = x.full;

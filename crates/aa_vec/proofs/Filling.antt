@@ -108,14 +108,11 @@ module _ {T A : Type 0} (size : ℕ) (old w x : Vector T A) (gap n : ℕ) (few :
   at_end : len w - (k - n) ≡ n
   at_end = omega (arith, few, same_len, e)
 
-  shorter : len x ≡ len old - n
-  shorter = ap length sets.holds.items ∙ length-take (k - n) w.items ∙ omega (arith, few, same_len, e)
-
   pub widen_stands : StandsBehind x 0 n
   widen_stands = subst (StandsBehind x 0) at_end sets.stands
 
   pub widen_room : len x + gap + n ≤ x.capacity
-  widen_room = omega (arith, MakesRoom-fits size (len old) gap old w g.room, shorter, few, sets.holds.block.capacity)
+  widen_room = omega (arith, MakesRoom-fits size (len old) gap old w g.room, ap length sets.holds.items, length-take (k - n) w.items, same_len, e, few, sets.holds.block.capacity)
 
   pub Widens-opened : (y : Vector T A) → OpensGap x gap n y → Widens size old gap n y
   Widens-opened y o =

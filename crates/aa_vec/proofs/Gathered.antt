@@ -1,7 +1,7 @@
 -- Items gathered in a vector of their own, and what was asked for where they could not be.
 use Rattle.aa_vec.proofs.Common.{◌≡◌, ℕ, ◌+◌, ◌-◌, ◌<◌, ◌≤◌, List, [], ◌∷◌, ◌++◌, length, Option, None, refl, suc, sym, ap, cases_lt, ◌∙◌, subst, arith, inl, inr, length-append, min, append-nil, TryReserveError, Doubling, amortized, least_of, usize_max, Vector, len, IsNew, LacksRoom, GrowsTo, Holds, Climbs, stays, grows, asked_for, ExtendsFull, ExtendsByAll, ExtendsByFront, Gathers, GathersShort}
 use Rattle.aa_raw.specs.Refusals.{IsRefusedAt}
-use Rattle.aa_vec.specs.Splicing.{LacksVector, LacksOthers}
+use Rattle.aa_vec.specs.Splicing.{LacksOthers}
 use Rattle.aa_vec.specs.Filling.{Told}
 use Rattle.aa_vec.proofs.Climbing.{MakesRoom, MakesRoom-stays, SameBlock-refl, Climbs-counted}
 use Rattle.aa_vec.proofs.Counted.{ExtendsFull-told, front_first}
@@ -11,27 +11,18 @@ use Rattle.aa_vec.proofs.Telling.{told_first}
 -- another function tells the same of the items, behind which `more` is to come
 module _ {T A : Type 0} (size : ℕ) (lower by : ℕ → ℕ) (items : List T) (some : 0 < length items) where
   module _ (more : List T) (same : (k : ℕ) → k < length items → lower k ≡ by (k + length more)) (error : TryReserveError) where
-    LacksVector-told : (fails fails' : Type 0) → (fails → fails') → LacksVector A fails size lower items error → LacksVector A fails' size by (items ++ more) error
-    LacksVector-told fails fails' f l =
-        let asked : asked_for lower (length items) ≡ asked_for by (length (items ++ more)) =
-        ap (λ n. min (n + 1) usize_max) (same (length items - 1) (omega (arith, some)) ∙ ap by (omega (arith, some, length-append items more))) in
-        elim l [
-          | inl h ↦ inl (f h.0, subst (λ k. IsRefusedAt error (amortized Doubling 0 k (least_of size))) asked h.1)
-          | inr h ↦ inr (h.0, h.1, h.2, ExtendsFull-told size lower by (SameBlock-refl h.0) [] items more (λ k l. same k (l (omega arith))) (items ++ more) refl error h.1 h.3)
-        ]
-
     pub LacksOthers-told : (fails fails' whole whole' : Type 0) → (fails → fails') → (whole → whole') → (whole → more ≡ []) → (v : Vector T A) → LacksOthers fails whole size lower v items error
         → LacksOthers fails' whole' size by v (items ++ more) error
-    LacksOthers-told fails fails' whole whole' f w none v l = elim l [
-      | inl h ↦ inl (LacksVector-told fails fails' f h)
-      | inr h ↦ inr (w h.0, subst (λ k. LacksRoom size v k error) (omega (arith, length-append items more, ap length (none h.0))) h.1)
-    ]
+    LacksOthers-told fails fails' whole whole' f w none v (inl (inl h)) =
+        let asked = ap (λ n. min (n + 1) usize_max) (same (length items - 1) (omega (arith, some)) ∙ ap by (omega (arith, some, length-append items more))) in
+        inl (inl (f h.0, subst (λ k. IsRefusedAt error (amortized Doubling 0 k (least_of size))) asked h.1))
+    LacksOthers-told fails fails' whole whole' f w none v (inl (inr h)) = inl (inr (h.0, h.1, h.2, ExtendsFull-told size lower by (SameBlock-refl h.0) [] items more (λ k l. same k (l (omega arith))) (items ++ more) refl error h.1 h.3))
+    LacksOthers-told fails fails' whole whole' f w none v (inr h) = inr (w h.0, subst (λ k. LacksRoom size v k error) (omega (arith, length-append items more, ap length (none h.0))) h.1)
 
   pub LacksOthers-same : ((k : ℕ) → k < length items → lower k ≡ by k) → (fails fails' whole : Type 0) → (fails → fails') → (v : Vector T A) (error : TryReserveError) → LacksOthers fails whole size lower v items error
       → LacksOthers fails' whole size by v items error
   LacksOthers-same same fails fails' whole f v error l =
-      let nil : List T = [] in
-      subst (λ ys. LacksOthers fails' whole size by v ys error) (append-nil items) (LacksOthers-told nil (λ k h. same k h ∙ ap by (omega arith)) error fails fails' whole whole f (λ w. w) (λ _. refl) v l)
+      subst (λ ys. LacksOthers fails' whole size by v ys error) (append-nil items) (LacksOthers-told [] (λ k h. same k h ∙ ap by (omega arith)) error fails fails' whole whole f (λ w. w) (λ _. refl) v l)
 
 -- n is told behind `first`
 module _ {S T A : Type 0} (steps : S → Option T → S → Type 0) (Tells : S → ℕ → Type 0) (fails : Type 0) (size : ℕ) (s : S) (first : T) (old : Vector T A) (n : ℕ) (tells : Tells s n) (wanted : ℕ) (is : wanted ≡ min (n + 1) usize_max) where
@@ -102,4 +93,4 @@ module _ {S T A : Type 0} (steps : S → Option T → S → Type 0) (Tells : S �
           } in
           record { rest = taken; told = record { lower = f.0; last = e.last; first = f.2; each = f.3 }; stops = by.1; lacks = inr (made, x, made_new, full) }
 
-pub ruleset gathered = (GathersShort-clone)
+pub ruleset gathered = (GathersShort-clone, GathersShort-first)

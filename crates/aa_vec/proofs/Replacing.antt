@@ -1,6 +1,5 @@
 -- Items put before the last ones of a vector, in room made for those that were told, and then for the others.
 use Rattle.aa_vec.proofs.Common.{◌≡◌, ℕ, ◌+◌, ◌-◌, ◌*◌, ◌<◌, ◌≤◌, List, [], ◌∷◌, ◌++◌, length, take, drop, Option, Some, None, append_assoc, refl, sym, ap, ◌∙◌, subst, arith, inl, inr, length-append, length-drop, length-take, Result, Ok, Err, IfErr, OnOk, Count, Yields, count_of, take-append-drop, take_at, drop_at, nat_tests, TryReserveError, Vector, len, Holds, Writes, LacksRoom, run_count, moved_over, ClosesGap, behind_items, tail_moves, Widens, FillsAndCloses, Gathers, GathersShort, PutsAll, Puts}
-use Rattle.std.proofs.Math.Nat.{add-mul}
 use Rattle.aa_vec.specs.Filling.{PutsRest, LacksRest, PutsWithin}
 use Rattle.aa_vec.proofs.Closed.{moved_none, moved_some, moved_most, one_run}
 use Rattle.aa_vec.proofs.Climbing.{MakesRoom, MakesRoom-same, MakesRoom-fits, with_room-fits, SameBlock-refl, SameBlock-trans}
@@ -18,8 +17,7 @@ put_between {X} head mid tail ys zs n e l =
     let k : ℕ = length zs - n in
     let halves : zs ≡ xs ++ tail = e ∙ sym (append_assoc head mid tail) in
     let cut : length xs ≡ k = omega (arith, ap length halves, length-append xs tail, l) in
-    ap (λ us. take k us ++ (ys ++ drop k us)) halves ∙ ap (λ us. us ++ (ys ++ drop k (xs ++ tail))) (take_at xs tail k cut) ∙ ap (λ us. xs ++ (ys ++ us)) (drop_at xs tail k cut)
-    ∙ append_assoc head mid (ys ++ tail) ∙ ap (λ us. head ++ us) (sym (append_assoc mid ys tail))
+    rw (← cut, halves, take_at xs tail (length xs) refl, drop_at xs tail (length xs) refl) (simp append_assoc)
 
 -- how often the tail is moved where n items fill the gap and m more come
 moves_full : (gap h n m : ℕ) → n ≡ gap + m → tail_moves gap h n ≡ run_count h + run_count (m - h) + run_count (h - m)
@@ -32,14 +30,9 @@ moves_beyond gap h n m e = moves_full gap h n m e ∙ sym (moves_full 0 h m m (o
 pub moves_few : (gap h n : ℕ) → n < gap → tail_moves gap h n ≡ 1
 moves_few gap h n l = unequal (gap - n) 0 (run_count h + run_count (n - gap - h) + run_count (h - (n - gap))) 1 (λ e. absurd (omega (arith, l, e)))
 
--- the elements that are written where a tail of m is moved so often
-run_times : (n m : ℕ) → run_count n * m ≡ moved_over n m
-run_times n m = grind (arith, nat_tests)
-
+-- the elements that are written where a tail of n is moved so often
 moves_times : (h k n : ℕ) → tail_moves 0 h k * n ≡ moved_over h n + moved_over (k - h) n + moved_over (h - k) n
-moves_times h k n =
-    rw (moves_full 0 h k k (omega arith), add-mul (run_count h + run_count (k - h)) (run_count (h - k)) n, add-mul (run_count h) (run_count (k - h)) n)
-    (omega (arith, run_times h n, run_times (k - h) n, run_times (h - k) n))
+moves_times h k n = rw (moves_full 0 h k k (omega arith)) (grind (arith, nat_tests))
 
 -- where no more come than were told
 pub moves_told : (told left k n : ℕ) → k + left ≡ told → moved_over told n + (k + moved_over left n) ≡ k + tail_moves 0 told k * n
@@ -75,10 +68,7 @@ module _ {S T A : Type 0} (steps : S → Option T → S → Type 0) (Tells : S �
             closes.holds.items ∙ ap (λ ys. ys ++ behind_items w 0 n) (holds.items ∙ ap (λ ys. ys ++ new) wid.items) ∙ append_assoc head new (behind_items w 0 n)
             ∙ ap (λ ys. head ++ (new ++ ys)) (still_are v w (length new) 0 n behind ∙ wid.elements);
         room = SameBlock-trans wid.room (SameBlock-trans holds.block closes.holds.block);
-        writes = record {
-          written = omega (arith, closes.writes.written, writes.written, wid.writes.written, moved_some (length new) n some);
-          runs = omega (arith, closes.writes.runs, writes.runs, wid.writes.runs, moved_some (length new) 1 some, ap run_count (moved_some (length new) n some));
-        };
+        writes = omega (arith, closes.writes.written, closes.writes.runs, writes.written, writes.runs, wid.writes.written, wid.writes.runs, moved_some (length new) n some, moved_some (length new) 1 some, ap run_count (moved_some (length new) n some));
       }
 
   -- they could not be gathered, or there was no room for them
@@ -119,11 +109,7 @@ module _ {S T A : Type 0} (steps : S → Option T → S → Type 0) (Tells : S �
     z_written = omega (arith, f.writes.written, wid.writes.written)
 
     within : PutsWithin old n z
-    within = record {
-      longer = omega (arith, z_len);
-      written = omega (arith, z_written, z_len, moved_most told n, moved_most left n);
-      runs = omega (arith, f.writes.runs, wid.writes.runs, z_len, one_run (moved_over told n), one_run (moved_over left n));
-    }
+    within = omega (arith, z_len, z_written, f.writes.runs, wid.writes.runs, moved_most told n, moved_most left n, one_run (moved_over told n), one_run (moved_over left n))
 
     -- no further item is to come
     pub Puts-told : {fails : Type 0} (end : S) → steps f.last None end → Puts steps Tells fails size s old told n remaining (Ok tt) z end
@@ -179,11 +165,7 @@ module _ {S T A : Type 0} (steps : S → Option T → S → Type 0) (Tells : S �
         rest_within =
             let longer : len new ≡ len z + length others =
             ap length new_items ∙ length-append head ((came ++ others) ++ tail) ∙ omega (arith, length-append (came ++ others) tail, length-append came others, z_len, head_count, tail_count, few) in
-            record {
-              longer = omega (arith, longer, z_len);
-              written = omega (arith, r.writes.written, z_written, longer, z_len, moved_most told n, moved_none left n full);
-              runs = omega (arith, r.writes.runs, f.writes.runs, wid.writes.runs, longer, z_len, some, one_run (moved_over told n), ap run_count (moved_none left n full), one_run n);
-            }
+            omega (arith, r.writes.written, r.writes.runs, z_written, f.writes.runs, wid.writes.runs, longer, z_len, some, moved_most told n, moved_none left n full, one_run (moved_over told n), ap run_count (moved_none left n full), one_run n)
 
       pub Puts-rest : (P : A → Type 0) → ((k : S) → (m : ℕ) × Tells k m) → (result : Result Unit TryReserveError) (new : Vector T A) (after : S) → OnOk result (PutsRest steps size u z n first new after) → IfErr result (λ e. LacksRest steps Tells (P z.alloc) size u z n first e after × (new ≡ z)) → told < count_of (remaining s)
           → Puts steps Tells (P old.alloc) size s old told n remaining result new after
@@ -208,4 +190,6 @@ module _ {S T A : Type 0} (steps : S → Option T → S → Type 0) (Tells : S �
           })
 
 -- a run put before the last items
+pub ruleset puts = (Puts-told)
+
 pub ruleset runs_put = (still_stand, PutsRest-gathered, LacksRest-gathered, LacksRest-room)

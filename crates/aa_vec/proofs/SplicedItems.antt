@@ -43,29 +43,23 @@ module _ {T A : Type 0} (size : ℕ) (lower by : ℕ → ℕ) {u v : Vector T A}
         }
 
     SplicesShort-told : SplicesShort size lower (gapped v head gap tail) taken fails whole error new → SplicesShort size by (gapped u head gap tail) all fails' whole' error new
-    SplicesShort-told s =
-        elim s [
-          | inl p ↦ inl (p.0, ExtendsFull-told size lower by b head taken more (λ k h. same k (λ within. omega (arith, h within))) all e error new p.1)
-          | inr p ↦ inr (p.0, front_told p.1)
-        ]
+    SplicesShort-told (inl p) = inl (p.0, ExtendsFull-told size lower by b head taken more (λ k h. same k (λ within. omega (arith, h within))) all e error new p.1)
+    SplicesShort-told (inr p) = inr (p.0, front_told p.1)
 
 -- splices by an `Items`
 module _ {T : Type 0} (iter : ItemsLeft T) {A : Type 0} (size : ℕ) (old : Vector T A) (gap : ℕ) (tail : List T) where
   module _ (new : Vector T A) (s : SplicesByAll gives_item (TellsExactly items_lower) size iter (cut_off old gap tail) new) where
-    none : s.last.items ≡ []
-    none = s.ends.1.0.0
-
     whole : s.added ≡ iter.items
-    whole = items-all s.lower iter s.added s.last s.told none
+    whole = items-all s.lower iter s.added s.last s.told s.ends.1.0.0
 
     pub SplicesAll-items : len old ≤ old.capacity → SplicesAll size (lower_by iter.hint) (cut_off old gap tail) iter.items new
     SplicesAll-items within =
         rw (← whole)
-        (SplicesAll-told size s.lower (lower_by iter.hint) (SameBlock-refl old) old.items gap tail s.added s.last.items (λ k h. items-told s.lower iter s.added s.last s.told s.first k (h within)) new none s.splices)
+        (SplicesAll-told size s.lower (lower_by iter.hint) (SameBlock-refl old) old.items gap tail s.added s.last.items (λ k h. items-told s.lower iter s.added s.last s.told s.first k (h within)) new s.ends.1.0.0 s.splices)
 
     pub items-written : new.written ≡ old.written + (length iter.items + tail_moves gap (lower_by iter.hint (length iter.items - gap)) (length iter.items) * length tail)
     items-written =
-        let told : s.lower (length s.added - gap) ≡ lower_by iter.hint (length s.added - gap) = items-told s.lower iter s.added s.last s.told s.first (length s.added - gap) (omega arith) ∙ ap (lower_by iter.hint) (omega (arith, ap length none)) in
+        let told : s.lower (length s.added - gap) ≡ lower_by iter.hint (length s.added - gap) = items-told s.lower iter s.added s.last s.told s.first (length s.added - gap) (omega arith) ∙ ap (lower_by iter.hint) (omega (arith, ap length s.ends.1.0.0)) in
         rw (← whole, ← told) s.written
 
   pub SplicesShort-items : {fails : Type 0} → len old ≤ old.capacity → (error : TryReserveError) (new : Vector T A) → SplicesByFront gives_item (TellsExactly items_lower) size iter (cut_off old gap tail) fails error new

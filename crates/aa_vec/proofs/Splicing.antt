@@ -1,10 +1,9 @@
 -- A range that was replaced by items: what an iterator told of them, and what its phases left.
 use Rattle.aa_vec.proofs.Common.{◌≡◌, ℕ, ◌+◌, ◌-◌, ◌*◌, ◌<◌, ◌≤◌, List, [], ◌∷◌, ◌++◌, length, take, drop, Option, append_assoc, refl, sym, ap, ◌∙◌, subst, arith, inl, inr, length-append, Result, Ok, OnOk, Count, Yields, count_of, append-nil, TryReserveError, Vector, len, HasRoom, SameBlock, run_count, moved_over, behind_items, with_behind, Extended, LeavesIter, cut_off, SplicesByAll, SplicesByFront, tail_moves, FillsAndCloses, PutsAll, Puts}
-use Rattle.std.specs.Prelude.{IsOk}
 use Rattle.aa_vec.specs.Extending.{StopsAt}
 use Rattle.aa_vec.specs.Splicing.{Replaced, SplicesIter, SplicesWithin, TellsOnceFull}
 use Rattle.aa_vec.specs.Filling.{PutsFront}
-use Rattle.aa_vec.proofs.Answered.{on_ok, if_err, done_unless}
+use Rattle.aa_vec.proofs.Answered.{IsOk, on_ok, if_err, done_unless}
 use Rattle.aa_vec.proofs.Closed.{moved_none, moved_some, moved_most, one_run}
 use Rattle.aa_vec.proofs.Climbing.{MakesRoomTwice, MakesRoomTwice-same, SameBlock-trans, MakesRoom-same}
 use Rattle.aa_vec.proofs.Counted.{all_first, front_first}
@@ -112,13 +111,7 @@ module _ {S T A : Type 0} (steps : S → Option T → S → Type 0) (Tells : S �
         gap_came = omega (arith, f.comes.count, full)
 
         given : Yields steps iter came t
-        given = let Q : S → Type 0 = λ k. Yields steps iter came k in subst Q (sym (f.stops.full full)) f.comes.given
-
-        joined : (ys : List T) (new : Vector T A) → new.items ≡ take (len x - n) x.items ++ (ys ++ drop (len x - n) x.items) → new.items ≡ old.items ++ ((came ++ ys) ++ tail)
-        joined ys new e = e ∙ put_between old.items came tail ys x.items n x_items tail_count
-
-        beyond_gap : (ys : List T) → length (came ++ ys) - gap ≡ length ys
-        beyond_gap ys = omega (arith, length-append came ys, gap_came)
+        given = subst (Yields steps iter came) (sym (f.stops.full full)) f.comes.given
 
         whole : len x ≡ len old + gap + length tail
         whole = omega (arith, x_len, gap_came, tail_count)
@@ -128,8 +121,8 @@ module _ {S T A : Type 0} (steps : S → Option T → S → Type 0) (Tells : S �
             let all : List T = came ++ p.added in
             let e = tells_each steps Tells tell t p.added p.last p.given in
             let r = tell_between steps Tells tell iter came t given told tells e.0 p.added p.last e.1 in
-            let over_is : length all - gap ≡ length p.added = beyond_gap p.added in
             let longer : length all ≡ gap + length p.added = omega (arith, length-append came p.added, gap_came) in
+            let over_is : length all - gap ≡ length p.added = omega (arith, longer) in
             let told_is : r.0 (length all - gap) ≡ told = ap r.0 over_is ∙ r.2 in
             let m : MakesRoomTwice size old (len x) told (length p.added - told) new = MakesRoomTwice-same size (len x) told (length p.added - told) x_block p.room in (
               record {
@@ -140,7 +133,7 @@ module _ {S T A : Type 0} (steps : S → Option T → S → Type 0) (Tells : S �
                 told = r.3;
                 ends = (after, p.ends);
                 splices = record {
-                  items = joined p.added new p.items;
+                  items = p.items ∙ put_between old.items came tail p.added x.items n x_items tail_count;
                   at_end = λ e. absurd (omega (arith, ap length e, tail_count, some));
                   in_gap = λ _ l. absurd (omega (arith, l, longer));
                   beyond = λ _ _. rw (told_is, over_is, ← whole) m;
@@ -154,7 +147,7 @@ module _ {S T A : Type 0} (steps : S → Option T → S → Type 0) (Tells : S �
         more_refused error new after p =
             let put : List T = p.front ++ p.others in
             let r = tell_between steps Tells tell iter came t given told tells p.lower put p.last p.given in
-            let told_is : r.0 (length (came ++ put) - gap) ≡ told = ap r.0 (beyond_gap put) ∙ r.2 in
+            let told_is : r.0 (length (came ++ put) - gap) ≡ told = ap r.0 (omega (arith, length-append came put, gap_came)) ∙ r.2 in
             let count : length (came ++ p.front) ≡ gap + length p.front = omega (arith, length-append came p.front, gap_came) in (
               record {
                 taken = came ++ put;
@@ -168,7 +161,7 @@ module _ {S T A : Type 0} (steps : S → Option T → S → Type 0) (Tells : S �
                     front = came ++ p.front;
                     others = p.others;
                     begins = sym (append_assoc came p.front p.others);
-                    items = joined p.front new p.items;
+                    items = p.items ∙ put_between old.items came tail p.front x.items n x_items tail_count;
                     why = elim p.why [
                       | inl h ↦ inl (record { fills = omega (arith, count, h.0, length-append p.front p.others); block = SameBlock-trans x_block h.1; lacks = rw told_is h.2 })
                       | inr h ↦
@@ -193,7 +186,4 @@ module _ {S T A : Type 0} (steps : S → Option T → S → Type 0) (Tells : S �
             (λ h once few room.
                 let is : told ≡ h = once came t told given gap_came tells in
                 done_unless r (if_err r p.few (λ e less. absurd (omega (arith, less (omega (arith, is, room, whole, x_block.capacity)), is, few, goes)))))
-            (record {
-              written = omega (arith, z.written, z.longer, f.writes.written, x_len, tail_count, moved_none left n full);
-              runs = omega (arith, z.runs, z.longer, f.writes.runs, x_len, tail_count, ap run_count (moved_none left n full));
-            })
+            (omega (arith, z.written, z.runs, z.longer, f.writes.written, f.writes.runs, x_len, tail_count, moved_none left n full, ap run_count (moved_none left n full)))

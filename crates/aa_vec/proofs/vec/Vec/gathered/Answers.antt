@@ -1,10 +1,6 @@
 use Rattle.std.specs.Prelude.{⊤}
-use Rattle.aa_vec.proofs.Gathered.{Gathers-all, GathersShort-first, GathersShort-more}
+use Rattle.aa_vec.proofs.Gathered.{Gathers-all, GathersShort-more}
 use Rattle.aa_vec.proofs.vec.Vec.gathered.Goals as goal
-
-pub returns-in-Err-clause-refused : goal.returns-in-Err-clause-refused
-returns-in-Err-clause-refused g c =
-    GathersShort-first _ _ _ _ _ _ c.args.self.now _ c.told.ensures _ c.saturating_add-wanted.ensures _ c.new_in-more.result c.new_in-more.ensures _ c.in-Err.ensures.refused
 
 pub returns-in-Ok-extend_telling-clause-all : goal.returns-in-Ok-extend_telling-clause-all
 returns-in-Ok-extend_telling-clause-all g c =
