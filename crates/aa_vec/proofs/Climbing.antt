@@ -59,9 +59,9 @@ Climbs-counted size lower by needed r all b e same (stays c) = stays (SameBlock-
 Climbs-counted size lower by needed r all {u} {v} {w} b e same (grows {mid = mid} h m rest) =
     let a : asked_for lower (needed - u.capacity) ≡ asked_for by (all - u.capacity) =
     ap (λ n. min (n + 1) usize_max) (same (needed - u.capacity - 1) (omega (arith, h, b.capacity)) ∙ ap by (omega (arith, h, b.capacity, e))) in
-    let up : u.capacity ≤ mid.capacity = omega (arith, MakesRoom-rises size v.capacity (asked_for lower (needed - v.capacity)) v mid m, b.capacity) in
-    grows (omega (arith, h, b.capacity, e)) (subst (λ k. MakesRoom size u u.capacity k mid) a (subst (λ c. MakesRoom size u c (asked_for lower (needed - c)) mid) b.capacity (MakesRoom-same size v.capacity (asked_for lower (needed - v.capacity)) b m)))
-    (Climbs-counted size lower by needed r all (SameBlock-refl mid) e (λ k l. same k (omega (arith, l, up))) rest)
+    grows (omega (arith, h, b.capacity, e))
+    (subst (λ k. MakesRoom size u u.capacity k mid) a (subst (λ c. MakesRoom size u c (asked_for lower (needed - c)) mid) b.capacity (MakesRoom-same size v.capacity (asked_for lower (needed - v.capacity)) b m)))
+    (Climbs-counted size lower by needed r all (SameBlock-refl mid) e (λ k l. same k (omega (arith, l, MakesRoom-rises size v.capacity (asked_for lower (needed - v.capacity)) v mid m, b.capacity))) rest)
 
 module _ {T A : Type 0} (size : ℕ) (lower : ℕ → ℕ) (needed : ℕ) where
   -- a climb ends in whatever is in the same block

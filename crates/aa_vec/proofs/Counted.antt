@@ -7,7 +7,9 @@ use Rattle.aa_vec.proofs.Telling.{told_first}
 module _ {T A : Type 0} (size : ℕ) (lower by : ℕ → ℕ) {u v : Vector T A} (b : SameBlock u v) (head taken more : List T)
     (same : (k : ℕ) → (length head ≤ u.capacity → k < length taken) → lower k ≡ by (k + length more)) where
   pub ExtendsAll-told : (new : Vector T A) → more ≡ [] → ExtendsAll size lower v head taken new → ExtendsAll size by u head taken new
-  ExtendsAll-told new none x = record { climbs = Climbs-counted size lower by (length head + length taken) (length more) (length head + length taken) b (omega (arith, ap length none)) (λ k l. same k (λ within. omega (arith, l, within))) x.climbs; enough = x.enough; items = x.items }
+  ExtendsAll-told new none x =
+      let climbs = Climbs-counted size lower by (length head + length taken) (length more) (length head + length taken) b (omega (arith, ap length none)) (λ k l. same k (λ within. omega (arith, l, within))) x.climbs in
+      record { climbs = climbs; enough = x.enough; items = x.items }
 
   pub ExtendsFull-told : (all : List T) → all ≡ taken ++ more → (error : TryReserveError) (new : Vector T A) → ExtendsFull size lower v head taken error new → ExtendsFull size by u head all error new
   ExtendsFull-told all e error new x =

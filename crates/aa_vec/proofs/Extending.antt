@@ -128,9 +128,7 @@ module _ {S T : Type 0} (steps : S → Option T → S → Type 0) (Tells : S →
         longer = length-append p.front (x ∷ [])
 
         climbed : Climbs size next_lower (len old + length next_front) old v
-        climbed =
-            Climbs-counted size p.lower next_lower (len old + length p.front) 1 (len old + length next_front) (SameBlock-refl old) (omega (arith, longer))
-            (λ k _. let f : suc k ≡ k + 1 = omega arith in ap next_lower f) p.climbs
+        climbed = Climbs-counted size p.lower next_lower (len old + length p.front) 1 (len old + length next_front) (SameBlock-refl old) (omega (arith, longer)) (λ k _. ap next_lower {x = suc k} (omega arith)) p.climbs
 
         -- it is placed in w, which v has grown to
         pub Placing-grown : (k : ℕ) → k ≡ min (n + 1) usize_max → (w new : Vector T A) → GrowsTo size v k v.items w → Writes v 0 0 w → Holds w (w.items ++ x ∷ []) new → Writes w 1 1 new → Placing t new

@@ -7,40 +7,30 @@ use Rattle.aa_vec.proofs.Drained.{still_are, still_stand}
 use Rattle.aa_vec.proofs.Filling.{Yields-join}
 use Rattle.aa_vec.proofs.Extending.{Yields-told}
 use Rattle.aa_vec.proofs.Gathered.{LacksOthers-same}
-use Rattle.aa_vec.proofs.Lists.{equal, unequal}
 use Rattle.aa_vec.proofs.Telling.{tell_between}
 
 -- ys put before the last n of a list whose last parts are known
 pub put_between : {X : Type 0} (head mid tail ys zs : List X) (n : ℕ) → zs ≡ head ++ (mid ++ tail) → length tail ≡ n → take (length zs - n) zs ++ (ys ++ drop (length zs - n) zs) ≡ head ++ ((mid ++ ys) ++ tail)
 put_between {X} head mid tail ys zs n e l =
     let xs : List X = head ++ mid in
-    let k : ℕ = length zs - n in
     let halves : zs ≡ xs ++ tail = e ∙ sym (append_assoc head mid tail) in
-    let cut : length xs ≡ k = omega (arith, ap length halves, length-append xs tail, l) in
+    let cut : length xs ≡ length zs - n = omega (arith, ap length halves, length-append xs tail, l) in
     rw (← cut, halves, take_at xs tail (length xs) refl, drop_at xs tail (length xs) refl) (simp append_assoc)
 
 -- how often the tail is moved where n items fill the gap and m more come
-moves_full : (gap h n m : ℕ) → n ≡ gap + m → tail_moves gap h n ≡ run_count h + run_count (m - h) + run_count (h - m)
-moves_full gap h n m e =
-    let P : ℕ → ℕ = λ k. run_count h + run_count (k - h) + run_count (h - k) in equal (gap - n) 0 (P (n - gap)) 1 (omega (arith, e)) ∙ ap P (omega (arith, e))
-
 pub moves_beyond : (gap h n m : ℕ) → n ≡ gap + m → tail_moves gap h n ≡ tail_moves 0 h m
-moves_beyond gap h n m e = moves_full gap h n m e ∙ sym (moves_full 0 h m m (omega arith))
+moves_beyond gap h n m e = grind (arith, nat_tests)
 
 pub moves_few : (gap h n : ℕ) → n < gap → tail_moves gap h n ≡ 1
-moves_few gap h n l = unequal (gap - n) 0 (run_count h + run_count (n - gap - h) + run_count (h - (n - gap))) 1 (λ e. absurd (omega (arith, l, e)))
+moves_few gap h n l = grind (arith, nat_tests)
 
--- the elements that are written where a tail of n is moved so often
-moves_times : (h k n : ℕ) → tail_moves 0 h k * n ≡ moved_over h n + moved_over (k - h) n + moved_over (h - k) n
-moves_times h k n = rw (moves_full 0 h k k (omega arith)) (grind (arith, nat_tests))
-
--- where no more come than were told
+-- the elements that are written, where no more come than were told
 pub moves_told : (told left k n : ℕ) → k + left ≡ told → moved_over told n + (k + moved_over left n) ≡ k + tail_moves 0 told k * n
-moves_told told left k n e = omega (arith, moves_times told k n, moved_none (k - told) n (omega (arith, e)), ap (λ j. moved_over j n) {x = told - k} {y = left} (omega (arith, e)))
+moves_told told left k n e = grind (arith, nat_tests)
 
 -- where r more come
 pub moves_rest : (told r n : ℕ) → 0 < r → moved_over told n + told + (r + n) ≡ told + r + tail_moves 0 told (told + r) * n
-moves_rest told r n h = omega (arith, moves_times told (told + r) n, moved_some (told + r - told) n (omega (arith, h)), moved_none (told - (told + r)) n (omega arith))
+moves_rest told r n h = grind (arith, nat_tests)
 
 module _ {S T A : Type 0} (steps : S → Option T → S → Type 0) (Tells : S → ℕ → Type 0) (remaining : S → Count) (size : ℕ) (s : S) (old : Vector T A) where
   -- room for as many as were told was refused

@@ -21,11 +21,10 @@ pub Becomes-put : {T A : Type 0} (size : ℕ) (old : Inside T A) (front : IsFron
     → Reserves size old.block old.len 1 (amortized old.block.growth (length old.block.places) (old.len + 1) (least_of size)) b
     → Becomes (with_room size (view_of old) (len (view_of old)) 1) (run old.block.places 0 old.len ++ x ∷ []) 1 1 (view_of (record { block = wrote b (slice_set b.places old.len (Some x)) 1; len = old.len + 1 }))
 Becomes-put {T} {A} size old front b x made =
-    let put : Inside T A = record { block = wrote b (slice_set b.places old.len (Some x)) 1; len = old.len + 1 } in
     Becomes-grows _ _ _ _ _ size 1
     (record {
       items = run-put b.places old.len x (omega (arith, made.room)) ∙ ap (λ xs. xs ++ x ∷ []) (run-reserved size old.block old.len 1 _ b made);
-      room = MakesRoom-block size old front 1 b made (view_of put) (length-set b.places old.len (Some x)) refl refl refl;
+      room = MakesRoom-block size old front 1 b made _ (length-set b.places old.len (Some x)) refl refl refl;
     })
     (record { written = ap (λ n. n + 1) made.written; runs = ap (λ n. n + 1) made.runs })
 

@@ -49,18 +49,15 @@ module _ {T A : Type 0} (size : ℕ) (lower by : ℕ → ℕ) {u v : Vector T A}
 -- splices by an `Items`
 module _ {T : Type 0} (iter : ItemsLeft T) {A : Type 0} (size : ℕ) (old : Vector T A) (gap : ℕ) (tail : List T) where
   module _ (new : Vector T A) (s : SplicesByAll gives_item (TellsExactly items_lower) size iter (cut_off old gap tail) new) where
-    whole : s.added ≡ iter.items
-    whole = items-all s.lower iter s.added s.last s.told s.ends.1.0.0
-
     pub SplicesAll-items : len old ≤ old.capacity → SplicesAll size (lower_by iter.hint) (cut_off old gap tail) iter.items new
     SplicesAll-items within =
-        rw (← whole)
+        rw (← items-all s.lower iter s.added s.last s.told s.ends.1.0.0)
         (SplicesAll-told size s.lower (lower_by iter.hint) (SameBlock-refl old) old.items gap tail s.added s.last.items (λ k h. items-told s.lower iter s.added s.last s.told s.first k (h within)) new s.ends.1.0.0 s.splices)
 
     pub items-written : new.written ≡ old.written + (length iter.items + tail_moves gap (lower_by iter.hint (length iter.items - gap)) (length iter.items) * length tail)
     items-written =
         let told : s.lower (length s.added - gap) ≡ lower_by iter.hint (length s.added - gap) = items-told s.lower iter s.added s.last s.told s.first (length s.added - gap) (omega arith) ∙ ap (lower_by iter.hint) (omega (arith, ap length s.ends.1.0.0)) in
-        rw (← whole, ← told) s.written
+        rw (← items-all s.lower iter s.added s.last s.told s.ends.1.0.0, ← told) s.written
 
   pub SplicesShort-items : {fails : Type 0} → len old ≤ old.capacity → (error : TryReserveError) (new : Vector T A) → SplicesByFront gives_item (TellsExactly items_lower) size iter (cut_off old gap tail) fails error new
       → SplicesShort size (lower_by iter.hint) (cut_off old gap tail) iter.items ⊤ ⊤ error new

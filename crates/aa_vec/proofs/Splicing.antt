@@ -143,7 +143,8 @@ module _ {S T A : Type 0} (steps : S → Option T → S → Type 0) (Tells : S �
               refl,
             )
 
-        more_refused : (error : TryReserveError) (new : Vector T A) (after : S) → PutsFront steps Tells (P x.alloc) size t x told n error new after → (front : SplicesByFront steps Tells size iter (cut_off old gap tail) (P old.alloc) error new) × StopsAt steps front.last after
+        more_refused : (error : TryReserveError) (new : Vector T A) (after : S) → PutsFront steps Tells (P x.alloc) size t x told n error new after
+            → (front : SplicesByFront steps Tells size iter (cut_off old gap tail) (P old.alloc) error new) × StopsAt steps front.last after
         more_refused error new after p =
             let put : List T = p.front ++ p.others in
             let r = tell_between steps Tells tell iter came t given told tells p.lower put p.last p.given in

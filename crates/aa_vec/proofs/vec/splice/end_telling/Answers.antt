@@ -7,7 +7,8 @@ use Rattle.aa_vec.proofs.vec.splice.end_telling.Goals as goal
 pub returns-then-count-eq0 : goal.returns-then-count-eq0
 returns-then-count-eq0 g c =
     let d = c.drop_behind.ensures in let e = c.extend_telling.ensures in
-    let x = Spliced-extended _ _ g.W.Telling.some g.I.Iterator.remaining (λ a. ¬ (g.A.Clone.is_infallible a)) _ _ c.args.vec.now c.args.end _ _ _ c.extend_telling.new.self (omega (arith, c.requires.held.1.0)) (rw d.same at e.extends) (rw d.same at e.leaves) in
+    let x = Spliced-extended _ _ g.W.Telling.some g.I.Iterator.remaining (λ a. ¬ (g.A.Clone.is_infallible a)) _ _ c.args.vec.now c.args.end _ _ _ c.extend_telling.new.self
+    (omega (arith, c.requires.held.1.0)) (rw d.same at e.extends) (rw d.same at e.leaves) in
     rw (c.if-count-eq0.true, run-zero) (record { replaces = x.0; leaves = x.1 })
 
 pub fill_and_close-requires-clause-stands : goal.fill_and_close-requires-clause-stands
