@@ -1,6 +1,6 @@
 -- What follows where a call was done, and where it was refused.
-use Rattle.std.proofs.Common.{refl}
-use Rattle.std.specs.Prelude.{Result, Ok, Err, OnOk, IfErr, IsOk}
+use Rattle.aa_vec.proofs.Common.{refl, Result, Ok, Err, OnOk, IfErr}
+pub use Rattle.std.specs.Prelude.{IsOk}
 
 pub on_ok : {X E P Q : Type 0} → (r : Result X E) → OnOk r P → (P → Q) → OnOk r Q
 on_ok (Ok x) p f = f p

@@ -47,10 +47,8 @@ module _ {F T : Type 0} (step : F → T → F → Type 0) where
   pub filled_new : {A : Type 0} (size n : ℕ) (x : T) (f : F) (old new : Vector T A) → old.items ≡ [] → (len old < n → (last : F) × LengthensBy step size old (n - len old) f last new) → (n ≤ len old → Holds old (take n old.items) new)
       → ((f : F) (y : T) (g : F) → step f y g → y ≡ x) → new.items ≡ replicate n x
   filled_new size n x f old new none fills cut is =
-      let all = filled_same {E = Unit {0}} (Ok tt) size n x f old new fills cut is in
-      let no_length : length old.items ≡ 0 = ap length none in
-      let count : n - len old ≡ n = omega (arith, no_length) in
-      all ∙ ap (λ ys. take n ys ++ replicate (n - len old) x) none ∙ ap (λ ys. ys ++ replicate (n - len old) x) (take-nil n) ∙ ap (λ k. replicate k x) count
+      let count : n - len old ≡ n = omega (arith, ap length none) in
+      filled_same {E = Unit {0}} (Ok tt) size n x f old new fills cut is ∙ rw (count, none, take-nil) refl
 
 -- a test that leaves each element as it was
 module _ {F T A : Type 0} (Asks : F → T → Bool → F → T → Type 0) where

@@ -31,15 +31,13 @@ module _ {T A : Type 0} where
 
   -- there is room for all, and no less than before
   pub MakesRoom-has : (size n k : ℕ) (v w : Vector T A) → MakesRoom size v n k w → k ≤ w.capacity - n
-  MakesRoom-has size n k v w m =
-      let enough = amortized-enough v.growth v.capacity (n + k) (least_of size) in grind (arith, nat_tests)
+  MakesRoom-has size n k v w m = grind (arith, nat_tests, amortized-enough v.growth v.capacity (n + k) (least_of size))
 
   pub MakesRoom-fits : (size n k : ℕ) (v w : Vector T A) → MakesRoom size v n k w → n ≤ w.capacity → n + k ≤ w.capacity
   MakesRoom-fits size n k v w m l = omega (arith, MakesRoom-has size n k v w m)
 
   pub MakesRoom-rises : (size n k : ℕ) (v w : Vector T A) → MakesRoom size v n k w → v.capacity ≤ w.capacity
-  MakesRoom-rises size n k v w m =
-      let enough = amortized-enough v.growth v.capacity (n + k) (least_of size) in grind (arith, nat_tests)
+  MakesRoom-rises size n k v w m = grind (arith, nat_tests, amortized-enough v.growth v.capacity (n + k) (least_of size))
 
   -- where they fit, nothing changes
   pub with_room-fits : (size : ℕ) (v : Vector T A) (n k : ℕ) → k ≤ v.capacity - n → SameBlock (with_room size v n k) v
@@ -62,13 +60,11 @@ pub Climbs-counted : {T A : Type 0} (size : ℕ) (lower by : ℕ → ℕ) (neede
     → ((k : ℕ) → u.capacity + k < needed → lower k ≡ by (k + r)) → Climbs size lower needed v w → Climbs size by all u w
 Climbs-counted size lower by needed r all b e same (stays c) = stays (SameBlock-trans b c)
 Climbs-counted size lower by needed r all {u} {v} {w} b e same (grows {mid = mid} h m rest) =
-    let left : ℕ = needed - u.capacity - 1 in
-    let P : ℕ → Type 0 = λ c. MakesRoom size u c (asked_for lower (needed - c)) mid in
     let a : asked_for lower (needed - u.capacity) ≡ asked_for by (all - u.capacity) =
-    ap (λ n. min (n + 1) usize_max) (same left (omega (arith, h, b.capacity)) ∙ ap by (omega (arith, h, b.capacity, e))) in
-    let up : u.capacity ≤ mid.capacity = omega (arith, MakesRoom-rises size v.capacity (asked_for lower (needed - v.capacity)) v mid m, b.capacity) in
-    grows (omega (arith, h, b.capacity, e)) (subst (λ k. MakesRoom size u u.capacity k mid) a (subst P b.capacity (MakesRoom-same size v.capacity (asked_for lower (needed - v.capacity)) b m)))
-    (Climbs-counted size lower by needed r all (SameBlock-refl mid) e (λ k l. same k (omega (arith, l, up))) rest)
+    ap (λ n. min (n + 1) usize_max) (same (needed - u.capacity - 1) (omega (arith, h, b.capacity)) ∙ ap by (omega (arith, h, b.capacity, e))) in
+    grows (omega (arith, h, b.capacity, e))
+    (subst (λ k. MakesRoom size u u.capacity k mid) a (subst (λ c. MakesRoom size u c (asked_for lower (needed - c)) mid) b.capacity (MakesRoom-same size v.capacity (asked_for lower (needed - v.capacity)) b m)))
+    (Climbs-counted size lower by needed r all (SameBlock-refl mid) e (λ k l. same k (omega (arith, l, MakesRoom-rises size v.capacity (asked_for lower (needed - v.capacity)) v mid m, b.capacity))) rest)
 
 module _ {T A : Type 0} (size : ℕ) (lower : ℕ → ℕ) (needed : ℕ) where
   -- a climb ends in whatever is in the same block
@@ -92,13 +88,12 @@ module _ {T A : Type 0} (size : ℕ) (lower : ℕ → ℕ) (needed : ℕ) where
   Climbs-fits (grows h m r) f = absurd (omega (arith, h, f))
 
   -- what stays through every growth
-  pub Climbs-growth : {u v : Vector T A} → Climbs size lower needed u v → v.growth ≡ u.growth
-  Climbs-growth (stays b) = b.growth
-  Climbs-growth (grows h m r) = Climbs-growth r ∙ m.growth
+  pub Climbs-keeps : {u v : Vector T A} → Climbs size lower needed u v → (v.growth ≡ u.growth) × (v.alloc ≡ u.alloc)
+  Climbs-keeps (stays b) = (b.growth, b.alloc)
+  Climbs-keeps (grows h m r) = let k = Climbs-keeps r in (k.0 ∙ m.growth, k.1 ∙ m.alloc)
 
-  pub Climbs-alloc : {u v : Vector T A} → Climbs size lower needed u v → v.alloc ≡ u.alloc
-  Climbs-alloc (stays b) = b.alloc
-  Climbs-alloc (grows h m r) = Climbs-alloc r ∙ m.alloc
+  pub Climbs-growth : {u v : Vector T A} → Climbs size lower needed u v → v.growth ≡ u.growth
+  Climbs-growth c = (Climbs-keeps c).0
 
   -- where just as many are told as are to come, it makes room for them at once
   pub Climbs-exact : ((n : ℕ) → lower n ≡ n) → {u v : Vector T A} → Climbs size lower needed u v → needed ≤ v.capacity → needed - u.capacity ≤ usize_max → MakesRoom size u u.capacity (needed - u.capacity) v
@@ -106,7 +101,7 @@ module _ {T A : Type 0} (size : ℕ) (lower : ℕ → ℕ) (needed : ℕ) where
   Climbs-exact exact {u} {v} (grows {mid = mid} h m r) enough few =
       let left : ℕ = needed - u.capacity in
       let asked : asked_for lower left ≡ left = ap (λ n. min (n + 1) usize_max) (exact (left - 1)) ∙ omega (arith, h, few) in
-      let made : MakesRoom size u u.capacity left mid = subst (λ k. MakesRoom size u u.capacity k mid) asked m in
+      let made : MakesRoom size u u.capacity left mid = rw asked at m in
       SameBlock-trans made (Climbs-fits r (omega (arith, h, MakesRoom-fits size u.capacity left u mid made (MakesRoom-rises size u.capacity left u mid made))))
 
 -- what came from an iterator is a list that was put there, and what was taken of it is one of which the last found no place

@@ -1,13 +1,12 @@
 -- Clones of elements put behind others, one after another.
-use Rattle.std.proofs.Common.{◌≡◌, ◌≢◌, ℕ, ◌+◌, ◌-◌, ◌<◌, ◌≤◌, List, [], ◌∷◌, ◌++◌, length, take, drop, get_or, replicate, refl, sym, ap, ◌∙◌, subst, arith, inl, inr, append_assoc, append-nil, length-append, length-drop, length-take}
+use Rattle.aa_vec.proofs.Common.{◌≡◌, ℕ, ◌+◌, ◌-◌, ◌<◌, ◌≤◌, List, [], ◌∷◌, ◌++◌, length, take, drop, get_or, replicate, refl, sym, ap, ◌∙◌, subst, arith, inr, length-append, length-drop, length-take, length-replicate, take_all, take_at, TryReserveError, Copies, Adds, Fills, Vector, len, GrowsTo, Holds, SameBlock, Writes}
 use Rattle.std.specs.Prelude.{All}
 use Rattle.std.specs.List.{AllZip}
-use Rattle.std.proofs.lemmas.List.{length-replicate, replicate_more, take_all, take_at, get_or-replicate, get_or_append_left, get_or-drop, get_or-take}
+use Rattle.std.proofs.lemmas.List.{replicate_more, get_or-replicate, get_or_append_left, get_or-drop, get_or-take}
 use Rattle.std.proofs.lemmas.List.Elements.{all_zip_more, same_from_all_zip}
-use Rattle.aa_raw.specs.declared.collections.TryReserveError.{TryReserveError}
 use Rattle.aa_raw.specs.declared.collections.TryReserveErrorKind.TheVariants.{AllocError}
-use Rattle.aa_vec.specs.Copies.{Copies, IsBeginning, Adds, Begins, Undone, Fills, Refuses}
-use Rattle.aa_vec.specs.Vector.{Vector, len, GrowsTo, Holds, SameBlock, Writes, with_items}
+use Rattle.aa_vec.specs.Copies.{IsBeginning, Begins, Undone, Refuses}
+use Rattle.aa_vec.specs.Vector.{with_items}
 use Rattle.aa_vec.proofs.Climbing.{MakesRoom, Holds-more, MakesRoom-has, MakesRoom-same, SameBlock-trans}
 
 -- clones of one value and the value itself, where clones are copies
@@ -15,17 +14,13 @@ pub all-copied : {T : Type 0} (clones : T → T → Type 0) (k : ℕ) (x : T) (y
 all-copied clones k x ys some copies e = ap (λ l. l ++ x ∷ []) (same_from_all_zip clones (replicate (k - 1) x) ys e copies) ∙ replicate_more (k - 1) x ∙ ap (λ n. replicate n x) {x = k - 1 + 1} {y = k} (omega (arith, some))
 
 module _ {T A : Type 0} where
-  -- a call that made room, and then one in the block that there was
-  pub GrowsTo-then : (size : ℕ) (old mid new : Vector T A) (k : ℕ) (xs ys : List T) → GrowsTo size old k xs mid → Holds mid ys new → GrowsTo size old k ys new
-  GrowsTo-then size old mid new k xs ys p q = record { items = q.items; room = SameBlock-trans p.room q.block }
-
   -- room was made, and what was put there is gone
   pub Refuses-undone : (failure : Type 0) (size : ℕ) (old mid new : Vector T A) (k : ℕ) (error : TryReserveError) → GrowsTo size old k old.items mid → Writes old 0 0 mid → Undone mid k new → failure → error.kind ≡ AllocError (len old + k)
       → Refuses failure size old k error new
   Refuses-undone failure size old mid new k error made w u cause number = inr (record {
     cause = cause;
     number = number;
-    left = GrowsTo-then size old mid new k old.items old.items made (record { items = u.holds.items ∙ made.items; block = u.holds.block });
+    left = record { items = u.holds.items ∙ made.items; room = SameBlock-trans made.room u.holds.block };
     done = u.done;
     fewer = u.fewer;
     writes = omega (arith, w.written, w.runs, u.writes.written, u.writes.runs);
@@ -77,7 +72,7 @@ module _ {T A : Type 0} where
   -- the same in a vector that has just made room for all of them
   module _ (size : ℕ) (old mid new : Vector T A) (k : ℕ) (made : GrowsTo size old k old.items mid) where
     pub grown-to : (ys : List T) → Holds mid (mid.items ++ ys) new → GrowsTo size old k (old.items ++ ys) new
-    grown-to ys h = GrowsTo-then size old mid new k old.items (old.items ++ ys) made (record { items = h.items ∙ ap (λ l. l ++ ys) made.items; block = h.block })
+    grown-to ys h = record { items = h.items ∙ ap (λ l. l ++ ys) made.items; room = SameBlock-trans made.room h.block }
 
     pub room-there : len old ≤ old.capacity → k ≤ mid.capacity - len mid
     room-there within = rw made.items (MakesRoom-has size (len old) k old mid made.room)
@@ -85,29 +80,23 @@ module _ {T A : Type 0} where
   pub Resized-copied : (clones : T → T → Type 0) (size : ℕ) (old mid new : Vector T A) (n : ℕ) (x : T) → Copies clones → GrowsTo size old (n - len old) old.items mid → Fills clones mid (n - len old) x new → len old < n
       → GrowsTo size old (n - len old) (take n old.items ++ replicate (n - len old) x) new
   Resized-copied clones size old mid new n x copies made p more =
-      let k : ℕ = n - len old in
-      let P : List T → Type 0 = λ l. GrowsTo size old k (l ++ replicate k x) new in
-      let Q : List T → Type 0 = λ l. GrowsTo size old k (old.items ++ l) new in
-      subst P (sym (take_all n old.items (omega (arith, more)))) (subst Q (all-copied clones k x p.added (omega (arith, more)) copies p.each) (grown-to size old mid new k made (p.added ++ x ∷ []) p.holds))
+      rw (take_all n old.items (omega (arith, more)), ← all-copied clones (n - len old) x p.added (omega (arith, more)) copies p.each) (grown-to size old mid new (n - len old) made (p.added ++ x ∷ []) p.holds)
 
-module _ {T A : Type 0} (size : ℕ) (old cleared : Vector T A) (none : Holds old [] cleared) where
-  -- room that was made once all items were dropped
-  pub GrowsTo-anew : (k : ℕ) (ys : List T) (new : Vector T A) → GrowsTo size cleared k ys new → GrowsTo size (with_items old []) k ys new
-  GrowsTo-anew k ys new p =
-      let same : SameBlock (with_items old []) cleared = record { capacity = none.block.capacity; growth = none.block.growth; grown = none.block.grown; alloc = none.block.alloc } in
-      record { items = p.items; room = subst (λ n. MakesRoom size (with_items old []) n k new) (ap length none.items) (MakesRoom-same size (len cleared) k same p.room) }
+-- room that was made once all items were dropped, and clones of a beginning that were put there
+pub Begins-made : {T A : Type 0} (size : ℕ) (old cleared : Vector T A) → Holds old [] cleared → (mid new : Vector T A) (clones : T → T → Type 0) (failure : Type 0) (xs : List T) (n : ℕ) (error : TryReserveError) → Writes old 0 0 cleared
+    → GrowsTo size cleared (length xs) cleared.items mid → Writes cleared 0 0 mid → n < length xs → Adds clones mid (take n xs) new → failure → error.kind ≡ AllocError (length xs) → Begins clones failure size old xs error new
+Begins-made size old cleared none mid new clones failure xs n error w made v less p cause number =
+    let same : SameBlock (with_items old []) cleared = record { capacity = none.block.capacity; growth = none.block.growth; grown = none.block.grown; alloc = none.block.alloc } in
+    let room = MakesRoom-same size (len cleared) (length xs) same (SameBlock-trans made.room p.holds.block) in
+    record {
+      cause = cause;
+      number = number;
+      done = n;
+      fewer = less;
+      added = p.added;
+      each = p.each;
+      grows = record { items = p.holds.items ∙ ap (λ l. l ++ p.added) (made.items ∙ none.items); room = subst (λ l. MakesRoom size (with_items old []) l (length xs) new) (ap length none.items) room };
+      writes = omega (arith, length-take n xs);
+    }
 
-  pub Begins-made : (mid new : Vector T A) (clones : T → T → Type 0) (failure : Type 0) (xs : List T) (n : ℕ) (error : TryReserveError) → Writes old 0 0 cleared → GrowsTo size cleared (length xs) cleared.items mid → Writes cleared 0 0 mid
-      → n < length xs → Adds clones mid (take n xs) new → failure → error.kind ≡ AllocError (length xs) → Begins clones failure size old xs error new
-  Begins-made mid new clones failure xs n error w made v less p cause number = record {
-    cause = cause;
-    number = number;
-    done = n;
-    fewer = less;
-    added = p.added;
-    each = p.each;
-    grows = GrowsTo-anew (length xs) p.added new (GrowsTo-then size cleared mid new (length xs) cleared.items p.added made (record { items = p.holds.items ∙ ap (λ l. l ++ p.added) (made.items ∙ none.items); block = p.holds.block }));
-    writes = omega (arith, length-take n xs);
-  }
-
-pub ruleset copied = (Adds-take, Adds-same, Adds-own, own-fails, Undone-cut, Resized-copied, length-replicate, length-take)
+pub ruleset copied = (Adds-begun, Begins-made, Adds-take, Adds-same, Adds-own, own-fails, Undone-cut, Resized-copied, length-replicate, length-take)

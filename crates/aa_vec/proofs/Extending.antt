@@ -1,9 +1,10 @@
 -- A vector that items of an iterator are put behind.
-use Rattle.aa_vec.proofs.Common.{◌≡◌, ℕ, zero, suc, ◌+◌, ◌-◌, ◌<◌, ◌≤◌, List, [], ◌∷◌, ◌++◌, length, Option, Some, None, Ok, append_assoc, refl, sym, ap, ◌∙◌, subst, arith, length-append, min, map, Count, Yields, Drains, append-nil, TryReserveError, usize_max, Vector, len, HasRoom, LacksRoom, GrowsTo, Holds, Writes, Placed, FillsGap, Climbs, stays, asked_for, YieldsTelling, ExtendsByAll, ExtendsByFront, Extended, CopiesOf}
+use Rattle.aa_vec.proofs.Common.{◌≡◌, ℕ, zero, suc, ◌+◌, ◌-◌, ◌<◌, ◌≤◌, List, [], ◌∷◌, ◌++◌, length, Option, Some, None, Ok, append_assoc, refl, sym, ap, ◌∙◌, subst, arith, length-append, min, map, Count, Yields, Drains, append-nil, TryReserveError, usize_max, Vector, len, HasRoom, LacksRoom, GrowsTo, Holds, Writes, Placed, FillsGap, Climbs, stays, asked_for, YieldsTelling, ExtendsByAll, ExtendsByFront, Extended, LeavesIter, CopiesOf, Result, Err, count_of}
 use Rattle.std.specs.Borrow.{Bor}
 use Rattle.std.specs.Iterator.Runs.{WholeRun}
+use Rattle.aa_vec.proofs.Answered.{IsOk, on_ok, if_err}
 use Rattle.std.proofs.iter.runs.Consumers.{total_runs}
-use Rattle.aa_vec.proofs.Climbing.{MakesRoom, SameBlock-refl, MakesRoom-fits, MakesRoom-rises, Climbs-same, Climbs-more, Climbs-rises, Climbs-counted, Climbs-growth, Climbs-alloc}
+use Rattle.aa_vec.proofs.Climbing.{MakesRoom, SameBlock-refl, MakesRoom-fits, MakesRoom-rises, Climbs-same, Climbs-more, Climbs-rises, Climbs-counted, Climbs-keeps}
 
 -- the items that came, as one run
 pub whole_run : {S A : Type 0} (steps : S → Option A → S → Type 0) (s : S) (P : List A → Type 0) → (xs : List A) × Drains steps s xs × P xs → WholeRun steps s (λ p. P p.items)
@@ -38,6 +39,13 @@ module _ {S T : Type 0} (steps : S → Option T → S → Type 0) (Tells : S →
       (r.0, subst Q (append_assoc front (x ∷ []) xs) r.1, λ k. r.2 (suc k) ∙ ap r.0 (omega arith))
 
   module _ {A : Type 0} (size : ℕ) (iter : S) (old : Vector T A) where
+    -- an extension, by what it leaves of the iterator
+    pub Extended-left : (left : S → Count) (after : S) (r : Result Unit TryReserveError) (new : Vector T A) → LeavesIter steps Tells size iter old after r new → (HasRoom old (count_of (left iter)) → IsOk r) → Writes old (len new - len old) (len new - len old) new
+        → Extended steps Tells left size iter old r new × LeavesIter steps Tells size iter old after r new
+    Extended-left left after r new l fits writes =
+        let ran = on_ok r l.ended (λ e. let x = e.0 in (x.added, (x.ends.0, (x.last, Yields-told x.lower iter x.added x.last x.told, x.ends.1)), x.items)) in
+        (record { items = ran; runs = on_ok r ran (whole_run steps iter (λ xs. new.items ≡ old.items ++ xs)); fits = fits; room = on_ok r l.ended (λ e. e.0); writes = writes; refused = if_err r l.stopped (λ _ e. e.0) }, l)
+
     -- of what came from iter, which is now s, `front` was placed, and the vector is v
     pub record Placing (s : S) (v : Vector T A) : Type 0 where
       pub front : List T
@@ -47,8 +55,7 @@ module _ {S T : Type 0} (steps : S → Option T → S → Type 0) (Tells : S →
       pub climbs : Climbs size lower (len old + length front) old v
       pub items : v.items ≡ old.items ++ front
       pub fits : len v ≤ v.capacity
-      pub written : v.written ≡ old.written + length front
-      pub runs : v.runs ≡ old.runs + length front
+      pub writes : Writes old (length front) (length front) v
 
     pub Placing-start : len old ≤ old.capacity → Placing iter old
     Placing-start h = record {
@@ -59,49 +66,28 @@ module _ {S T : Type 0} (steps : S → Option T → S → Type 0) (Tells : S →
       climbs = stays (SameBlock-refl old);
       items = sym (append-nil old.items);
       fits = h;
-      written = omega arith;
-      runs = omega arith;
+      writes = omega arith;
     }
 
     module _ (s : S) (v : Vector T A) (p : Placing s v) where
       count : len v ≡ len old + length p.front
       count = ap length p.items ∙ length-append old.items p.front
 
-      -- what the counts say
-      pub Placing-writes : (placed : ℕ) → placed ≡ len v - len old → Writes old placed placed v
-      Placing-writes placed e = record { written = omega (arith, p.written, count, e); runs = omega (arith, p.runs, count, e) }
-
       -- no item is to come
-      pub Placing-end : (u : S) → steps s None u → (all : ExtendsByAll steps Tells size iter old v) × (all.ends.0 ≡ u)
-      Placing-end u h = (
-        record {
-          added = p.front;
-          lower = p.lower;
-          last = s;
-          told = p.told;
-          ends = (u, h);
-          within = p.within;
-          climbs = p.climbs;
-          enough = omega (arith, p.fits, count);
-          items = p.items;
-        },
-        refl,
-      )
-
-      pub Placing-drains : (u : S) → steps s None u → (xs : List T) × Drains steps iter xs × (v.items ≡ old.items ++ xs)
-      Placing-drains u h = (p.front, (u, (s, Yields-told p.lower iter p.front s p.told, h)), p.items)
-
-      pub Placing-extended : (left : S → Count) (u : S) → steps s None u → Extended steps Tells left size iter old (Ok tt) v
-      Placing-extended left u h =
-          let ran = Placing-drains u h in
-          record {
-            items = ran;
-            runs = whole_run steps iter (λ xs. v.items ≡ old.items ++ xs) ran;
-            fits = λ _. refl;
-            room = (Placing-end u h).0;
-            writes = Placing-writes (len v - len old) refl;
-            refused = tt;
-          }
+      pub Placing-end : (left : S → Count) (u : S) → steps s None u → Extended steps Tells left size iter old (Ok tt) v × LeavesIter steps Tells size iter old u (Ok tt) v
+      Placing-end left u h =
+          let all : ExtendsByAll steps Tells size iter old v = record {
+            added = p.front;
+            lower = p.lower;
+            last = s;
+            told = p.told;
+            ends = (u, h);
+            within = p.within;
+            climbs = p.climbs;
+            enough = omega (arith, p.fits, count);
+            items = p.items;
+          } in
+          Extended-left left u (Ok tt) v (record { ended = (all, refl); stopped = tt }) (λ _. refl) (omega (arith, p.writes.written, p.writes.runs, count))
 
       -- items came that found free places
       pub Placing-filled : ((s : S) → (n : ℕ) × Tells s n) → (left : ℕ) (t : S) (new : Vector T A) → Placed steps s v (v.capacity - len v) 0 left t new → Placing t new
@@ -119,8 +105,7 @@ module _ {S T : Type 0} (steps : S → Option T → S → Type 0) (Tells : S →
             climbs = Climbs-same size r.0 (len old + length front) (Climbs-counted size p.lower r.0 (len old + length p.front) (length xs) (len old + length front) (SameBlock-refl old) (omega (arith, longer)) (λ k _. r.2 k) p.climbs) q.holds.block;
             items = e;
             fits = omega (arith, ap length e, length-append old.items front, longer, count, p.fits, q.comes.count, q.holds.block.capacity);
-            written = omega (arith, q.writes.written, p.written, longer);
-            runs = omega (arith, q.writes.runs, p.runs, longer);
+            writes = omega (arith, q.writes.written, q.writes.runs, p.writes.written, p.writes.runs, longer);
           }
 
       -- until no place was left
@@ -143,19 +128,13 @@ module _ {S T : Type 0} (steps : S → Option T → S → Type 0) (Tells : S →
         longer = length-append p.front (x ∷ [])
 
         climbed : Climbs size next_lower (len old + length next_front) old v
-        climbed =
-            Climbs-counted size p.lower next_lower (len old + length p.front) 1 (len old + length next_front) (SameBlock-refl old) (omega (arith, longer))
-            (λ k _. let f : suc k ≡ k + 1 = omega arith in ap next_lower f) p.climbs
-
-        one_left : len old + length next_front - v.capacity ≡ 1
-        one_left = omega (arith, full, count, longer)
+        climbed = Climbs-counted size p.lower next_lower (len old + length p.front) 1 (len old + length next_front) (SameBlock-refl old) (omega (arith, longer)) (λ k _. ap next_lower {x = suc k} (omega arith)) p.climbs
 
         -- it is placed in w, which v has grown to
         pub Placing-grown : (k : ℕ) → k ≡ min (n + 1) usize_max → (w new : Vector T A) → GrowsTo size v k v.items w → Writes v 0 0 w → Holds w (w.items ++ x ∷ []) new → Writes w 1 1 new → Placing t new
         Placing-grown k e w new g z holds writes =
-            let asked : k ≡ asked_for next_lower (len old + length next_front - v.capacity) = e ∙ ap (asked_for next_lower) (sym one_left) in
-            let m : MakesRoom size v v.capacity (asked_for next_lower (len old + length next_front - v.capacity)) w =
-            subst (λ j. MakesRoom size v j (asked_for next_lower (len old + length next_front - v.capacity)) w) full (subst (λ j. MakesRoom size v (len v) j w) asked g.room) in
+            let asked : k ≡ asked_for next_lower (len old + length next_front - v.capacity) = e ∙ ap (asked_for next_lower) {x = 1} (omega (arith, full, count, longer)) in
+            let m : MakesRoom size v v.capacity (asked_for next_lower (len old + length next_front - v.capacity)) w = rw (← asked) (subst (λ j. MakesRoom size v j k w) full g.room) in
             let room : len w < w.capacity = omega (arith, e, full, ap length g.items, MakesRoom-fits size (len v) k v w g.room (omega (arith, full, MakesRoom-rises size (len v) k v w g.room))) in
             let climbs : Climbs size next_lower (len old + length next_front) old w = Climbs-more size next_lower (len old + length next_front) climbed (omega (arith, full, count, longer)) m in
             let i : new.items ≡ old.items ++ next_front = holds.items ∙ ap (λ ys. ys ++ x ∷ []) (g.items ∙ p.items) ∙ append_assoc old.items p.front (x ∷ []) in
@@ -167,31 +146,27 @@ module _ {S T : Type 0} (steps : S → Option T → S → Type 0) (Tells : S →
               climbs = Climbs-same size next_lower (len old + length next_front) climbs holds.block;
               items = i;
               fits = omega (arith, ap length holds.items, length-append w.items (x ∷ []), room, holds.block.capacity);
-              written = omega (arith, writes.written, z.written, p.written, longer);
-              runs = omega (arith, writes.runs, z.runs, p.runs, longer);
+              writes = omega (arith, writes.written, writes.runs, z.written, z.runs, p.writes.written, p.writes.runs, longer);
             }
 
-        -- or room for it was refused
-        pub Placing-refused : (k : ℕ) → k ≡ min (n + 1) usize_max → (error : TryReserveError) → LacksRoom size v k error → (front : ExtendsByFront steps Tells size iter old error v) × (front.last ≡ t)
-        Placing-refused k e error lacks = (
-          record {
-            front = p.front;
-            item = x;
-            lower = next_lower;
-            last = t;
-            told = YieldsTelling-more p.lower n iter p.front s x t p.told step tells;
-            within = p.within;
-            climbs = subst (λ m. Climbs size next_lower m old v) (omega (arith, longer)) climbed;
-            items = p.items;
-            full = full;
-            lacks = subst (λ j. LacksRoom size v j error) e lacks;
-          },
-          refl,
-        )
-
-      -- more came than fit at the start, where v is full and another item came of the `left` that were to come
-      pub Placing-over : len v ≡ v.capacity → (left all : ℕ) → 0 < left → len v + left ≤ len old + all → HasRoom old all → ⊥
-      Placing-over full left all some few h = absurd (omega (arith, h, full, some, few, count, Climbs-rises size p.lower (len old + length p.front) p.climbs))
+        -- or room for it was refused, where more may have come from the start on than were placed
+        pub Placing-refused : (left : S → Count) (k : ℕ) → k ≡ min (n + 1) usize_max → (error : TryReserveError) → LacksRoom size v k error → len v < len old + count_of (left iter)
+            → Extended steps Tells left size iter old (Err error) v × LeavesIter steps Tells size iter old t (Err error) v
+        Placing-refused left k e error lacks more =
+            let front : ExtendsByFront steps Tells size iter old error v = record {
+              front = p.front;
+              item = x;
+              lower = next_lower;
+              last = t;
+              told = YieldsTelling-more p.lower n iter p.front s x t p.told step tells;
+              within = p.within;
+              climbs = subst (λ m. Climbs size next_lower m old v) (omega (arith, longer)) climbed;
+              items = p.items;
+              full = full;
+              lacks = subst (λ j. LacksRoom size v j error) e lacks;
+            } in
+            Extended-left left t (Err error) v (record { ended = tt; stopped = (front, refl) }) (λ h. absurd (omega (arith, h, full, more, Climbs-rises size p.lower (len old + length p.front) p.climbs)))
+            (omega (arith, p.writes.written, p.writes.runs, count))
 
 module _ {S T : Type 0} (steps : S → Option (Bor T) → S → Type 0) where
   -- the references that were given
@@ -206,13 +181,8 @@ module _ {S T : Type 0} (steps : S → Option (Bor T) → S → Type 0) where
       let read = Yields-read s d.0 d.1.1.0 d.1.1.1 in
       (read.0, (d.1.0, (d.1.1.0, read.1, d.1.1.2)), d.2 ∙ ap (λ zs. xs ++ zs) read.2)
 
-module _ {S T A : Type 0} (steps : S → Option T → S → Type 0) (Tells : S → ℕ → Type 0) (size : ℕ) (iter : S) where
-  -- what all extensions keep
-  module _ (old new : Vector T A) (e : ExtendsByAll steps Tells size iter old new) where
-    pub ExtendsByAll-growth : new.growth ≡ old.growth
-    ExtendsByAll-growth = Climbs-growth size e.lower (len old + length e.added) e.climbs
+-- what all extensions keep
+pub ExtendsByAll-keeps : {S T A : Type 0} (steps : S → Option T → S → Type 0) (Tells : S → ℕ → Type 0) (size : ℕ) (iter : S) (old new : Vector T A) → ExtendsByAll steps Tells size iter old new → (new.growth ≡ old.growth) × (new.alloc ≡ old.alloc)
+ExtendsByAll-keeps steps Tells size iter old new e = Climbs-keeps size e.lower (len old + length e.added) e.climbs
 
-    pub ExtendsByAll-alloc : new.alloc ≡ old.alloc
-    ExtendsByAll-alloc = Climbs-alloc size e.lower (len old + length e.added) e.climbs
-
-pub ruleset extended = (ExtendsByAll-growth, ExtendsByAll-alloc)
+pub ruleset extended = (ExtendsByAll-keeps)

@@ -1,7 +1,7 @@
 -- A gap before the elements behind the items of a vector: items are put into it, and it is made.
 use Rattle.aa_vec.proofs.Common.{◌≡◌, ℕ, ◌+◌, ◌-◌, ◌<◌, ◌≤◌, List, [], ◌∷◌, ◌++◌, length, take, drop, Option, Some, None, append_assoc, refl, sym, ap, ◌∙◌, subst, arith, length-append, length-take, if◌then◌else◌, ◌==◌, Yields, append-nil, drop-drop, wrote, IsRun, run, moved, length-moved, length-run, IsRun-long, IsRun-same, run-moved, run-moved-below, Vector, len, Holds, Writes, GrowsTo, view_of, IsFront, StandsBehind, SetsBack, ClosesGap, behind_items, Widens, Placed, FillsGap, FillsAndCloses, Inside}
 use Rattle.aa_vec.specs.Filling.{OpensGap}
-use Rattle.aa_vec.proofs.Climbing.{SameBlock-refl, SameBlock-trans, MakesRoom-fits}
+use Rattle.aa_vec.proofs.Climbing.{SameBlock-refl, SameBlock-trans, MakesRoom-has}
 use Rattle.aa_vec.proofs.Drained.{still_stand, still_are}
 use Rattle.aa_vec.proofs.Gaps.{run-of_drop, IsRun-to_drop, there, elements}
 
@@ -61,20 +61,13 @@ module _ {S T : Type 0} (steps : S → Option T → S → Type 0) where
           writes = record { written = omega (arith, c.writes.written, p.writes.written); runs = omega (arith, c.writes.runs, p.writes.runs) };
         }
 
--- a move over a gap writes nothing where there is no gap
-over_gap_up : (l gap n : ℕ) → (if l == l + gap then 0 else n) ≡ (if gap == 0 then 0 else n)
-over_gap_up l gap n = grind arith
-
 -- the places of a block whose elements behind the items were moved up
-module _ {T A : Type 0} (v : Inside T A) (front : IsFront v) {self : Vector T A} (is : view_of v ≡ self) (gap n : ℕ) (asked : StandsBehind self 0 n) (room : len self + gap + n ≤ self.capacity) where
-  stands : StandsBehind (view_of v) 0 n
-  stands = subst (λ w. StandsBehind w 0 n) (sym is) asked
-
+module _ {T A : Type 0} (v : Inside T A) (front : IsFront v) (gap n : ℕ) (stands : StandsBehind (view_of v) 0 n) (room : len (view_of v) + gap + n ≤ length v.block.places) where
   counted : len (view_of v) ≡ v.len
   counted = length-run v.block.places 0 v.len front
 
   fits : v.len + gap + n ≤ length v.block.places
-  fits = omega (arith, room, counted, ap len is, ap (λ w. w.capacity) is)
+  fits = omega (arith, room, counted)
 
   run_there : IsRun v.block.places v.len n
   run_there = let P : ℕ → Type 0 = λ i. IsRun v.block.places i n in subst P (omega arith) (there v front 0 n stands)
@@ -94,17 +87,16 @@ module _ {T A : Type 0} (v : Inside T A) (front : IsFront v) {self : Vector T A}
   pub IsFront-raised : IsRun raised 0 v.len
   IsFront-raised = IsRun-same v.block.places raised 0 v.len long same-front front
 
-  pub OpensGap-view : OpensGap self gap n (view_of (record { block = wrote v.block raised (if v.len == v.len + gap then 0 else n); len = v.len }))
+  pub OpensGap-view : OpensGap (view_of v) gap n (view_of (record { block = wrote v.block raised (if v.len == v.len + gap then 0 else n); len = v.len }))
   OpensGap-view =
       let deep : drop gap (drop v.len raised) ≡ drop (v.len + gap) raised = drop-drop gap v.len raised in
-      let P : List (Option T) → Type 0 = λ ds. IsRun ds 0 n in
       let up : IsRun raised (v.len + gap) n = IsRun-long raised (v.len + gap) n (ap length same-elements ∙ length-run v.block.places v.len n run_there) (omega (arith, long, fits)) in
-      rw (← is, over_gap_up v.len gap n) (record {
+      -- a move over a gap writes nothing where there is no gap
+      let over : (if v.len == v.len + gap then 0 else n) ≡ (if gap == 0 then 0 else n) = grind arith in
+      rw over (record {
         holds = record { items = same-front; block = record { capacity = long; growth = refl; grown = refl; alloc = refl } };
-        stands = (omega (arith, ap length same-front, counted, long, fits), subst P (sym deep) (IsRun-to_drop raised (v.len + gap) n up));
-        elements =
-            ap (λ ds. run ds 0 n) deep ∙ run-of_drop raised (v.len + gap) n ∙ same-elements ∙ ap (λ i. run v.block.places i n) (omega arith)
-            ∙ sym (elements v front 0 n stands);
+        stands = (omega (arith, ap length same-front, counted, long, fits), rw deep (IsRun-to_drop raised (v.len + gap) n up));
+        elements = rw (deep, run-of_drop raised (v.len + gap) n) (same-elements ∙ ap (λ i. run v.block.places i n) (omega arith) ∙ sym (elements v front 0 n stands));
         writes = record { written = refl; runs = refl };
       })
 
@@ -116,14 +108,11 @@ module _ {T A : Type 0} (size : ℕ) (old w x : Vector T A) (gap n : ℕ) (few :
   at_end : len w - (k - n) ≡ n
   at_end = omega (arith, few, same_len, e)
 
-  shorter : len x ≡ len old - n
-  shorter = ap length sets.holds.items ∙ length-take (k - n) w.items ∙ omega (arith, few, same_len, e)
-
   pub widen_stands : StandsBehind x 0 n
-  widen_stands = let P : ℕ → Type 0 = λ k. StandsBehind x 0 k in subst P at_end sets.stands
+  widen_stands = subst (StandsBehind x 0) at_end sets.stands
 
   pub widen_room : len x + gap + n ≤ x.capacity
-  widen_room = omega (arith, MakesRoom-fits size (len old) gap old w g.room (omega (arith, widen_stands.0, shorter, few, sets.holds.block.capacity)), shorter, few, sets.holds.block.capacity)
+  widen_room = omega (arith, MakesRoom-has size (len old) gap old w g.room, widen_stands.0, ap length sets.holds.items, length-take (k - n) w.items, same_len, e, few, sets.holds.block.capacity)
 
   pub Widens-opened : (y : Vector T A) → OpensGap x gap n y → Widens size old gap n y
   Widens-opened y o =

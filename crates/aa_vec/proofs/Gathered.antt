@@ -1,37 +1,28 @@
 -- Items gathered in a vector of their own, and what was asked for where they could not be.
-use Rattle.aa_vec.proofs.Common.{◌≡◌, ℕ, ◌+◌, ◌-◌, ◌<◌, ◌≤◌, List, [], ◌∷◌, ◌++◌, length, Option, None, refl, sym, ap, cases_lt, ◌∙◌, subst, arith, inl, inr, length-append, min, eqb_tells, append-nil, TryReserveError, Doubling, amortized, least_of, usize_max, Vector, len, IsNew, LacksRoom, GrowsTo, Holds, Climbs, stays, grows, asked_for, ExtendsFull, ExtendsByAll, ExtendsByFront, Gathers, GathersShort}
+use Rattle.aa_vec.proofs.Common.{◌≡◌, ℕ, ◌+◌, ◌-◌, ◌<◌, ◌≤◌, List, [], ◌∷◌, ◌++◌, length, Option, None, refl, suc, sym, ap, cases_lt, ◌∙◌, subst, arith, inl, inr, length-append, min, append-nil, TryReserveError, Doubling, amortized, least_of, usize_max, Vector, len, IsNew, LacksRoom, GrowsTo, Holds, Climbs, stays, grows, asked_for, ExtendsFull, ExtendsByAll, ExtendsByFront, Gathers, GathersShort}
 use Rattle.aa_raw.specs.Refusals.{IsRefusedAt}
-use Rattle.aa_vec.specs.Splicing.{LacksVector, LacksOthers}
+use Rattle.aa_vec.specs.Splicing.{LacksOthers}
 use Rattle.aa_vec.specs.Filling.{Told}
-use Rattle.aa_vec.proofs.Climbing.{full_of, MakesRoom, MakesRoom-stays, SameBlock-refl, Climbs-counted}
-use Rattle.aa_vec.proofs.Counted.{ExtendsFull-told}
+use Rattle.aa_vec.proofs.Climbing.{MakesRoom, MakesRoom-stays, SameBlock-refl, Climbs-counted}
+use Rattle.aa_vec.proofs.Counted.{ExtendsFull-told, front_first}
 use Rattle.aa_vec.proofs.Lists.{equal, unequal}
 use Rattle.aa_vec.proofs.Telling.{told_first}
 
 -- another function tells the same of the items, behind which `more` is to come
 module _ {T A : Type 0} (size : ℕ) (lower by : ℕ → ℕ) (items : List T) (some : 0 < length items) where
   module _ (more : List T) (same : (k : ℕ) → k < length items → lower k ≡ by (k + length more)) (error : TryReserveError) where
-    LacksVector-told : (fails fails' : Type 0) → (fails → fails') → LacksVector A fails size lower items error → LacksVector A fails' size by (items ++ more) error
-    LacksVector-told fails fails' f l =
-        let asked : asked_for lower (length items) ≡ asked_for by (length (items ++ more)) =
-        ap (λ n. min (n + 1) usize_max) (same (length items - 1) (omega (arith, some)) ∙ ap by (omega (arith, some, length-append items more))) in
-        elim l [
-          | inl h ↦ inl (f h.0, subst (λ k. IsRefusedAt error (amortized Doubling 0 k (least_of size))) asked h.1)
-          | inr h ↦ inr (h.0, h.1, h.2, ExtendsFull-told size lower by (SameBlock-refl h.0) [] items more (λ k l. same k (l (omega arith))) (items ++ more) refl error h.1 h.3)
-        ]
-
     pub LacksOthers-told : (fails fails' whole whole' : Type 0) → (fails → fails') → (whole → whole') → (whole → more ≡ []) → (v : Vector T A) → LacksOthers fails whole size lower v items error
         → LacksOthers fails' whole' size by v (items ++ more) error
-    LacksOthers-told fails fails' whole whole' f w none v l = elim l [
-      | inl h ↦ inl (LacksVector-told fails fails' f h)
-      | inr h ↦ inr (w h.0, subst (λ k. LacksRoom size v k error) (omega (arith, length-append items more, ap length (none h.0))) h.1)
-    ]
+    LacksOthers-told fails fails' whole whole' f w none v (inl (inl h)) =
+        let asked = ap (λ n. min (n + 1) usize_max) (same (length items - 1) (omega (arith, some)) ∙ ap by (omega (arith, some, length-append items more))) in
+        inl (inl (f h.0, subst (λ k. IsRefusedAt error (amortized Doubling 0 k (least_of size))) asked h.1))
+    LacksOthers-told fails fails' whole whole' f w none v (inl (inr h)) = inl (inr (h.0, h.1, h.2, ExtendsFull-told size lower by (SameBlock-refl h.0) [] items more (λ k l. same k (l (omega arith))) (items ++ more) refl error h.1 h.3))
+    LacksOthers-told fails fails' whole whole' f w none v (inr h) = inr (w h.0, subst (λ k. LacksRoom size v k error) (omega (arith, length-append items more, ap length (none h.0))) h.1)
 
   pub LacksOthers-same : ((k : ℕ) → k < length items → lower k ≡ by k) → (fails fails' whole : Type 0) → (fails → fails') → (v : Vector T A) (error : TryReserveError) → LacksOthers fails whole size lower v items error
       → LacksOthers fails' whole size by v items error
   LacksOthers-same same fails fails' whole f v error l =
-      let nil : List T = [] in
-      subst (λ ys. LacksOthers fails' whole size by v ys error) (append-nil items) (LacksOthers-told nil (λ k h. same k h ∙ ap by (omega arith)) error fails fails' whole whole f (λ w. w) (λ _. refl) v l)
+      subst (λ ys. LacksOthers fails' whole size by v ys error) (append-nil items) (LacksOthers-told [] (λ k h. same k h ∙ ap by (omega arith)) error fails fails' whole whole f (λ w. w) (λ _. refl) v l)
 
 -- n is told behind `first`
 module _ {S T A : Type 0} (steps : S → Option T → S → Type 0) (Tells : S → ℕ → Type 0) (fails : Type 0) (size : ℕ) (s : S) (first : T) (old : Vector T A) (n : ℕ) (tells : Tells s n) (wanted : ℕ) (is : wanted ≡ min (n + 1) usize_max) where
@@ -46,33 +37,24 @@ module _ {S T A : Type 0} (steps : S → Option T → S → Type 0) (Tells : S �
     made_new : IsNew size 0 made.alloc made
     made_new = record { items = new.items; capacity = new.capacity; growth = new.growth; grown = new.grown; written = new.written; runs = new.runs; alloc = refl }
 
+    no_places : made.capacity < wanted → made.capacity ≡ 0
+    no_places h = new.capacity ∙ unequal size 0 usize_max 0 (λ z. absurd (omega (arith, h, is, new.capacity ∙ equal size 0 usize_max 0 z)))
+
     -- its first growth was
     pub GathersShort-first : (error : TryReserveError) → LacksRoom size made wanted error → GathersShort steps Tells size s first fails old error s
     GathersShort-first error lacks =
-        let no_places : made.capacity ≡ 0 = elim (eqb_tells size 0) [
-          | inl h ↦ absurd (omega (arith, lacks.full, ap length new.items, is, new.capacity, equal size 0 usize_max 0 h.1))
-          | inr h ↦ new.capacity ∙ unequal size 0 usize_max 0 h.1
-        ] in
-        record {
-          rest = [];
-          told = none_taken;
-          stops = refl;
-          lacks = inr (
-            made,
-            made,
-            made_new,
-            record {
-              front = [];
-              others = first ∷ [];
-              begins = refl;
-              climbs = stays (SameBlock-refl made);
-              short = omega (arith, no_places);
-              items = new.items;
-              full = omega (arith, no_places);
-              lacks = subst (λ k. LacksRoom size made k error) is lacks;
-            },
-          );
-        }
+        let none : made.capacity ≡ 0 = no_places (omega (arith, lacks.full, ap length new.items)) in
+        let full : ExtendsFull size (λ _. n) made [] (first ∷ []) error made = record {
+          front = [];
+          others = first ∷ [];
+          begins = refl;
+          climbs = stays (SameBlock-refl made);
+          short = omega (arith, none);
+          items = new.items;
+          full = omega (arith, none);
+          lacks = rw (← is) lacks;
+        } in
+        record { rest = []; told = none_taken; stops = refl; lacks = inr (made, made, made_new, full) }
 
     -- `first` was put there, and others behind it
     module _ (v : Vector T A) (g : GrowsTo size made wanted made.items v) (w : Vector T A) (put : Holds v (v.items ++ first ∷ []) w) where
@@ -83,51 +65,32 @@ module _ {S T A : Type 0} (steps : S → Option T → S → Type 0) (Tells : S �
       Gathers-all x t by =
           let e = by.0 in
           let f = told_first steps Tells e.lower s e.added e.last e.told n tells in
-          let P : S → Type 0 = λ k. steps e.last None k in
-          record { rest = e.added; told = record { lower = f.0; last = e.last; first = f.4; each = f.2 }; ends = subst P by.1 e.ends.1; items = e.items ∙ ap (λ ys. ys ++ e.added) one }
+          record { rest = e.added; told = record { lower = f.0; last = e.last; first = f.4; each = f.2 }; ends = rw (← by.1) e.ends.1; items = e.items ∙ ap (λ ys. ys ++ e.added) one }
 
       pub GathersShort-more : (x : Vector T A) (error : TryReserveError) (t : S) → (e : ExtendsByFront steps Tells size s w error x) × (e.last ≡ t) → GathersShort steps Tells size s first fails old error t
       GathersShort-more x error t by =
           let e = by.0 in
-          let nil : List T = [] in
           let taken : List T = e.front ++ e.item ∷ [] in
-          let all : List T = first ∷ taken in
-          let f = told_first steps Tells e.lower s taken e.last e.told n tells in
-          let same : (k : ℕ) → (length w.items ≤ v.capacity → k < length taken) → e.lower k ≡ f.0 (k + length nil) = λ k h. f.1 k (h (omega (arith, e.within, put.block.capacity))) ∙ ap f.0 (omega arith) in
-          let full : ExtendsFull size f.0 v w.items taken error x = ExtendsFull-told size e.lower f.0 put.block w.items taken nil same taken (sym (append-nil taken)) error x (full_of steps Tells size s w x error e) in
-          let needed : length w.items + length taken ≡ length nil + length all = omega (arith, ap length one) in
-          let rest : Climbs size f.0 (length nil + length all) v x = subst (λ k. Climbs size f.0 k v x) needed full.climbs in
-          let none : len made ≡ 0 = ap length new.items in
-          let climbs : Climbs size f.0 (length nil + length all) made x = elim (cases_lt made.capacity (len made + wanted)) [
-            | inr h ↦
-                let b = MakesRoom-stays size (len made) wanted made v g.room (omega (arith, h)) in
-                Climbs-counted size f.0 f.0 (length nil + length all) 0 (length nil + length all) b (omega arith) (λ k _. ap f.0 (omega arith)) rest
+          let f = front_first steps Tells size s put.block error e n tells in
+          let needed : ℕ = 0 + suc (length taken) in
+          let rest : Climbs size f.0 needed v x = subst (λ k. Climbs size f.0 k v x) (omega (arith, ap length one)) f.4.climbs in
+          let climbs : Climbs size f.0 needed made x = elim (cases_lt made.capacity (len made + wanted)) [
+            | inr h ↦ Climbs-counted size f.0 f.0 needed 0 needed (MakesRoom-stays size (len made) wanted made v g.room (omega (arith, h))) (omega arith) (λ k _. ap f.0 (omega arith)) rest
             | inl h ↦
-                let no_places : made.capacity ≡ 0 = new.capacity ∙ unequal size 0 usize_max 0 (λ z. absurd (omega (arith, h, is, none, new.capacity ∙ equal size 0 usize_max 0 z))) in
-                let asked : wanted ≡ asked_for f.0 (length nil + length all - made.capacity) = is ∙ ap (λ k. min (k + 1) usize_max) (sym f.3 ∙ ap f.0 (omega (arith, no_places))) in
-                let m : MakesRoom size made made.capacity (asked_for f.0 (length nil + length all - made.capacity)) v =
-                subst (λ k. MakesRoom size made made.capacity k v) asked (subst (λ k. MakesRoom size made k wanted v) {x = len made} {y = made.capacity} (omega (arith, none, no_places)) g.room) in
-                grows (omega (arith, no_places)) m rest
+                let none : made.capacity ≡ 0 = no_places (omega (arith, h, ap length new.items)) in
+                let asked : wanted ≡ asked_for f.0 (needed - made.capacity) = is ∙ ap (λ k. min (k + 1) usize_max) (sym f.1 ∙ ap f.0 (omega (arith, none))) in
+                grows (omega (arith, none)) (rw (← asked) (subst (λ k. MakesRoom size made k wanted v) {x = len made} {y = made.capacity} (omega (arith, ap length new.items, none)) g.room)) rest
           ] in
-          record {
-            rest = taken;
-            told = record { lower = f.0; last = e.last; first = f.4; each = f.2 };
-            stops = by.1;
-            lacks = inr (
-              made,
-              x,
-              made_new,
-              record {
-                front = first ∷ full.front;
-                others = full.others;
-                begins = ap (λ ys. first ∷ ys) full.begins;
-                climbs = climbs;
-                short = omega (arith, full.short, needed);
-                items = full.items ∙ ap (λ ys. ys ++ full.front) one;
-                full = omega (arith, full.full, ap length one);
-                lacks = full.lacks;
-              },
-            );
-          }
+          let full : ExtendsFull size f.0 made [] (first ∷ taken) error x = record {
+            front = first ∷ f.4.front;
+            others = f.4.others;
+            begins = ap (λ ys. first ∷ ys) f.4.begins;
+            climbs = climbs;
+            short = omega (arith, f.4.short, ap length one);
+            items = f.4.items ∙ ap (λ ys. ys ++ f.4.front) one;
+            full = omega (arith, f.4.full, ap length one);
+            lacks = f.4.lacks;
+          } in
+          record { rest = taken; told = record { lower = f.0; last = e.last; first = f.2; each = f.3 }; stops = by.1; lacks = inr (made, x, made_new, full) }
 
-pub ruleset gathered = (GathersShort-clone)
+pub ruleset gathered = (GathersShort-clone, GathersShort-first)

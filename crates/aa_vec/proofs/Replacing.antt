@@ -1,6 +1,5 @@
 -- Items put before the last ones of a vector, in room made for those that were told, and then for the others.
-use Rattle.aa_vec.proofs.Common.{◌≡◌, ℕ, ◌+◌, ◌-◌, ◌*◌, ◌<◌, ◌≤◌, List, [], ◌∷◌, ◌++◌, length, take, drop, Option, Some, None, append_assoc, refl, sym, ap, ◌∙◌, subst, arith, inl, inr, length-append, length-drop, length-take, Result, Ok, Err, IfErr, OnOk, Count, Yields, count_of, take-append-drop, take_at, drop_at, eqb_tells, TryReserveError, Vector, len, Holds, Writes, LacksRoom, run_count, moved_over, ClosesGap, behind_items, tail_moves, Widens, FillsAndCloses, Gathers, GathersShort, PutsAll, Puts}
-use Rattle.std.proofs.Math.Nat.{add-mul}
+use Rattle.aa_vec.proofs.Common.{◌≡◌, ℕ, ◌+◌, ◌-◌, ◌*◌, ◌<◌, ◌≤◌, List, [], ◌∷◌, ◌++◌, length, take, drop, Option, Some, None, append_assoc, refl, sym, ap, ◌∙◌, subst, arith, inl, inr, length-append, length-drop, length-take, Result, Ok, Err, IfErr, OnOk, Count, Yields, count_of, take-append-drop, take_at, drop_at, nat_tests, TryReserveError, Vector, len, Holds, Writes, LacksRoom, run_count, moved_over, ClosesGap, behind_items, tail_moves, Widens, FillsAndCloses, Gathers, GathersShort, PutsAll, Puts}
 use Rattle.aa_vec.specs.Filling.{PutsRest, LacksRest, PutsWithin}
 use Rattle.aa_vec.proofs.Closed.{moved_none, moved_some, moved_most, one_run}
 use Rattle.aa_vec.proofs.Climbing.{MakesRoom, MakesRoom-same, with_room-fits, SameBlock-refl, SameBlock-trans}
@@ -8,51 +7,30 @@ use Rattle.aa_vec.proofs.Drained.{still_are, still_stand}
 use Rattle.aa_vec.proofs.Filling.{Yields-join}
 use Rattle.aa_vec.proofs.Extending.{Yields-told}
 use Rattle.aa_vec.proofs.Gathered.{LacksOthers-same}
-use Rattle.aa_vec.proofs.Lists.{equal, unequal}
 use Rattle.aa_vec.proofs.Telling.{tell_between}
 
 -- ys put before the last n of a list whose last parts are known
 pub put_between : {X : Type 0} (head mid tail ys zs : List X) (n : ℕ) → zs ≡ head ++ (mid ++ tail) → length tail ≡ n → take (length zs - n) zs ++ (ys ++ drop (length zs - n) zs) ≡ head ++ ((mid ++ ys) ++ tail)
 put_between {X} head mid tail ys zs n e l =
     let xs : List X = head ++ mid in
-    let k : ℕ = length zs - n in
     let halves : zs ≡ xs ++ tail = e ∙ sym (append_assoc head mid tail) in
-    let cut : length xs ≡ k = omega (arith, ap length halves, length-append xs tail, l) in
-    ap (λ us. take k us ++ (ys ++ drop k us)) halves ∙ ap (λ us. us ++ (ys ++ drop k (xs ++ tail))) (take_at xs tail k cut) ∙ ap (λ us. xs ++ (ys ++ us)) (drop_at xs tail k cut)
-    ∙ append_assoc head mid (ys ++ tail) ∙ ap (λ us. head ++ us) (sym (append_assoc mid ys tail))
+    let cut : length xs ≡ length zs - n = omega (arith, ap length halves, length-append xs tail, l) in
+    rw (← cut, halves, take_at xs tail (length xs) refl, drop_at xs tail (length xs) refl) (simp append_assoc)
 
 -- how often the tail is moved where n items fill the gap and m more come
-moves_full : (gap h n m : ℕ) → n ≡ gap + m → tail_moves gap h n ≡ run_count h + run_count (m - h) + run_count (h - m)
-moves_full gap h n m e =
-    let P : ℕ → ℕ = λ k. run_count h + run_count (k - h) + run_count (h - k) in
-    equal (gap - n) 0 (P (n - gap)) 1 (omega (arith, e)) ∙ ap P (omega (arith, e))
-
 pub moves_beyond : (gap h n m : ℕ) → n ≡ gap + m → tail_moves gap h n ≡ tail_moves 0 h m
-moves_beyond gap h n m e = moves_full gap h n m e ∙ sym (moves_full 0 h m m (omega arith))
+moves_beyond gap h n m e = grind (arith, nat_tests)
 
 pub moves_few : (gap h n : ℕ) → n < gap → tail_moves gap h n ≡ 1
-moves_few gap h n l = unequal (gap - n) 0 (run_count h + run_count (n - gap - h) + run_count (h - (n - gap))) 1 (λ e. absurd (omega (arith, l, e)))
+moves_few gap h n l = grind (arith, nat_tests)
 
--- the elements that are written where a tail of m is moved so often
-run_times : (n m : ℕ) → run_count n * m ≡ moved_over n m
-run_times n m =
-    elim (eqb_tells n 0) [
-      | inl h ↦ ap (λ k. k * m) (moved_none n 1 h.1) ∙ omega arith ∙ sym (moved_none n m h.1)
-      | inr h ↦ ap (λ k. k * m) (moved_some n 1 (omega (arith, h.1))) ∙ omega arith ∙ sym (moved_some n m (omega (arith, h.1)))
-    ]
-
-moves_times : (h k n : ℕ) → tail_moves 0 h k * n ≡ moved_over h n + moved_over (k - h) n + moved_over (h - k) n
-moves_times h k n =
-    ap (λ j. j * n) (moves_full 0 h k k (omega arith)) ∙ add-mul (run_count h + run_count (k - h)) (run_count (h - k)) n ∙ ap (λ j. j + run_count (h - k) * n) (add-mul (run_count h) (run_count (k - h)) n)
-    ∙ omega (arith, run_times h n, run_times (k - h) n, run_times (h - k) n)
-
--- where no more come than were told
+-- the elements that are written, where no more come than were told
 pub moves_told : (told left k n : ℕ) → k + left ≡ told → moved_over told n + (k + moved_over left n) ≡ k + tail_moves 0 told k * n
-moves_told told left k n e = omega (arith, moves_times told k n, moved_none (k - told) n (omega (arith, e)), ap (λ j. moved_over j n) {x = told - k} {y = left} (omega (arith, e)))
+moves_told told left k n e = grind (arith, nat_tests)
 
 -- where r more come
 pub moves_rest : (told r n : ℕ) → 0 < r → moved_over told n + told + (r + n) ≡ told + r + tail_moves 0 told (told + r) * n
-moves_rest told r n h = omega (arith, moves_times told (told + r) n, moved_some (told + r - told) n (omega (arith, h)), moved_none (told - (told + r)) n (omega arith))
+moves_rest told r n h = grind (arith, nat_tests)
 
 module _ {S T A : Type 0} (steps : S → Option T → S → Type 0) (Tells : S → ℕ → Type 0) (remaining : S → Count) (size : ℕ) (s : S) (old : Vector T A) where
   -- room for as many as were told was refused
@@ -80,10 +58,7 @@ module _ {S T A : Type 0} (steps : S → Option T → S → Type 0) (Tells : S �
             closes.holds.items ∙ ap (λ ys. ys ++ behind_items w 0 n) (holds.items ∙ ap (λ ys. ys ++ new) wid.items) ∙ append_assoc head new (behind_items w 0 n)
             ∙ ap (λ ys. head ++ (new ++ ys)) (still_are v w (length new) 0 n behind ∙ wid.elements);
         room = SameBlock-trans wid.room (SameBlock-trans holds.block closes.holds.block);
-        writes = record {
-          written = omega (arith, closes.writes.written, writes.written, wid.writes.written, moved_some (length new) n some);
-          runs = omega (arith, closes.writes.runs, writes.runs, wid.writes.runs, moved_some (length new) 1 some, ap run_count (moved_some (length new) n some));
-        };
+        writes = omega (arith, closes.writes.written, closes.writes.runs, writes.written, writes.runs, wid.writes.written, wid.writes.runs, moved_some (length new) n some, moved_some (length new) 1 some, ap run_count (moved_some (length new) n some));
       }
 
   -- they could not be gathered, or there was no room for them
@@ -124,11 +99,7 @@ module _ {S T A : Type 0} (steps : S → Option T → S → Type 0) (Tells : S �
     z_written = omega (arith, f.writes.written, wid.writes.written)
 
     within : PutsWithin old n z
-    within = record {
-      longer = omega (arith, z_len);
-      written = omega (arith, z_written, z_len, moved_most told n, moved_most left n);
-      runs = omega (arith, f.writes.runs, wid.writes.runs, z_len, one_run (moved_over told n), one_run (moved_over left n));
-    }
+    within = omega (arith, z_len, z_written, f.writes.runs, wid.writes.runs, moved_most told n, moved_most left n, one_run (moved_over told n), one_run (moved_over left n))
 
     -- no further item is to come
     pub Puts-told : {fails : Type 0} (end : S) → steps f.last None end → Puts steps Tells fails size s old told n remaining (Ok tt) z end
@@ -152,11 +123,6 @@ module _ {S T A : Type 0} (steps : S → Option T → S → Type 0) (Tells : S �
       told_came : length came ≡ told
       told_came = omega (arith, f.comes.count, full)
 
-      given_more : (rest : List T) (last : S) → Yields steps u rest last → Yields steps s (came ++ (first ∷ rest)) last
-      given_more rest last y =
-          let P : S → Type 0 = λ k. steps k (Some first) u in
-          Yields-join steps s came f.last (first ∷ rest) last f.comes.given (u, subst P (f.stops.full full) step, y)
-
       -- and were put behind those
       module _ (new : Vector T A) (after : S) (r : PutsRest steps size u z n first new after) where
         abbrev others : List T
@@ -173,39 +139,30 @@ module _ {S T A : Type 0} (steps : S → Option T → S → Type 0) (Tells : S �
 
         all_put : PutsAll steps size s old told n new after
         all_put =
-            let P : ℕ → Type 0 = λ k. MakesRoom size z k (length (came ++ others) - told) new in
-            let Q : ℕ → Type 0 = λ k. MakesRoom size z (len z) k new in
-            let R : ℕ → ℕ = λ k. old.written + (k + tail_moves 0 told k * n) in
+            let at_end : len old + told ≡ len z = omega (arith, z_len, told_came) in
+            let count : length (came ++ others) - told ≡ length others = omega (arith, all_count) in
             record {
               added = came ++ others;
               last = r.comes.1;
-              given = subst (λ ys. Yields steps s (came ++ ys) r.comes.1) (sym r.comes.4) (given_more r.comes.0 r.comes.1 r.comes.2);
+              given = rw r.comes.4 (Yields-join steps s came f.last (first ∷ r.comes.0) r.comes.1 f.comes.given (u, rw (f.stops.full full) at step, r.comes.2));
               ends = r.comes.3;
               items = new_items;
-              room = MakesRoom-same size (len old + told) (length (came ++ others) - told) z_room (subst P (omega (arith, z_len, told_came)) (subst Q (omega (arith, all_count)) r.room));
-              written =
-                  omega (arith, r.writes.written, z_written, told_came, moved_none left n full, moves_rest told (length others) n some)
-                  ∙ ap R (sym all_count);
+              room = MakesRoom-same size (len old + told) (length (came ++ others) - told) z_room (rw (at_end, count) r.room);
+              written = rw all_count (omega (arith, r.writes.written, z_written, told_came, moved_none left n full, moves_rest told (length others) n some));
             }
 
         rest_within : PutsWithin old n new
         rest_within =
             let longer : len new ≡ len z + length others =
             ap length new_items ∙ length-append head ((came ++ others) ++ tail) ∙ omega (arith, length-append (came ++ others) tail, length-append came others, z_len, head_count, tail_count, few) in
-            record {
-              longer = omega (arith, longer, z_len);
-              written = omega (arith, r.writes.written, z_written, longer, z_len, moved_most told n, moved_none left n full);
-              runs = omega (arith, r.writes.runs, f.writes.runs, wid.writes.runs, longer, z_len, some, one_run (moved_over told n), ap run_count (moved_none left n full), one_run n);
-            }
+            omega (arith, r.writes.written, r.writes.runs, z_written, f.writes.runs, wid.writes.runs, longer, z_len, some, moved_most told n, moved_none left n full, one_run (moved_over told n), ap run_count (moved_none left n full), one_run n)
 
       pub Puts-rest : (P : A → Type 0) → ((k : S) → (m : ℕ) × Tells k m) → (result : Result Unit TryReserveError) (new : Vector T A) (after : S) → OnOk result (PutsRest steps size u z n first new after) → IfErr result (λ e. LacksRest steps Tells (P z.alloc) size u z n first e after × (new ≡ z)) → told < count_of (remaining s)
           → Puts steps Tells (P old.alloc) size s old told n remaining result new after
       Puts-rest P tell (Ok x) new after r _ more = record { all = all_put new after r; writes = rest_within new after r; refused = tt; few = tt }
       Puts-rest P tell (Err e) new after _ l more =
-          let Q : S → Type 0 = λ k. Yields steps s came k in
-          let alloc : z.alloc ≡ old.alloc = z_room.alloc in
           let others : List T = first ∷ l.0.rest in
-          let g = tell_between steps Tells tell s came t (subst Q (sym (f.stops.full full)) f.comes.given) (tell t).0 (tell t).1 l.0.told.lower others l.0.told.last (u, step, l.0.told.first, l.0.told.each) in
+          let g = tell_between steps Tells tell s came t (subst (Yields steps s came) (sym (f.stops.full full)) f.comes.given) (tell t).0 (tell t).1 l.0.told.lower others l.0.told.last (u, step, l.0.told.first, l.0.told.each) in
           rw l.1 (record {
             all = tt;
             writes = within;
@@ -217,10 +174,12 @@ module _ {S T A : Type 0} (steps : S → Option T → S → Type 0) (Tells : S �
               given = g.3;
               stops = l.0.stops;
               items = z_items;
-              why = inr (told_came, omega arith, z_room, LacksOthers-same size l.0.told.lower g.0 others (omega arith) g.1 _ _ _ (subst P alloc) z e l.0.lacks);
+              why = inr (told_came, omega arith, z_room, LacksOthers-same size l.0.told.lower g.0 others (omega arith) g.1 _ _ _ (subst P z_room.alloc) z e l.0.lacks);
             };
             few = λ _. more;
           })
 
 -- a run put before the last items
+pub ruleset puts = (Puts-told)
+
 pub ruleset runs_put = (still_stand, PutsRest-gathered, LacksRest-gathered, LacksRest-room)

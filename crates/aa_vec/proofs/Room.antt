@@ -16,15 +16,12 @@ same_test : (n k c a b : ℕ) → n ≤ c → (if nat_le (n + k) c then a else b
 same_test n k c a b h = grind (arith, nat_tests)
 
 module _ {T A : Type 0} (size : ℕ) (old : Inside T A) (front : IsFront old) (k : ℕ) (b : Block T A) where
-  count : len (view_of old) ≡ old.len
-  count = length-run old.block.places 0 old.len front
-
   -- the vector has the room that its block made
   pub MakesRoom-block : Reserves size old.block old.len k (amortized old.block.growth (length old.block.places) (old.len + k) (least_of size)) b
       → (new : Vector T A) → new.capacity ≡ length b.places → new.growth ≡ b.growth → new.grown ≡ b.grown → new.alloc ≡ b.alloc → MakesRoom size (view_of old) (len (view_of old)) k new
   MakesRoom-block made new c h g a =
       let places : ℕ = length old.block.places in
-      rw count (record {
+      rw (length-run old.block.places 0 old.len front) (record {
         capacity = c ∙ made.capacity ∙ same_test old.len k places _ _ (omega (arith, front.0));
         growth = h ∙ made.growth;
         grown = g ∙ made.grown ∙ same_test old.len k places _ _ (omega (arith, front.0));
@@ -36,23 +33,23 @@ pub Becomes-put : {T A : Type 0} (size : ℕ) (old : Inside T A) (front : IsFron
     → Reserves size old.block old.len 1 (amortized old.block.growth (length old.block.places) (old.len + 1) (least_of size)) b
     → Becomes (with_room size (view_of old) (len (view_of old)) 1) (run old.block.places 0 old.len ++ x ∷ []) 1 1 (view_of (record { block = wrote b (slice_set b.places old.len (Some x)) 1; len = old.len + 1 }))
 Becomes-put {T} {A} size old front b x made =
-    let put : Inside T A = record { block = wrote b (slice_set b.places old.len (Some x)) 1; len = old.len + 1 } in
     Becomes-grows _ _ _ _ _ size 1
     (record {
       items = run-put b.places old.len x (omega (arith, made.room)) ∙ ap (λ xs. xs ++ x ∷ []) (run-reserved size old.block old.len 1 _ b made);
-      room = MakesRoom-block size old front 1 b made (view_of put) (length-set b.places old.len (Some x)) refl refl refl;
+      room = MakesRoom-block size old front 1 b made _ (length-set b.places old.len (Some x)) refl refl refl;
     })
     (record { written = ap (λ n. n + 1) made.written; runs = ap (λ n. n + 1) made.runs })
 
 -- and in the middle, behind which the elements are moved up
-pub Becomes-inserted : {T A : Type 0} (size : ℕ) (old : Inside T A) (front : IsFront old) (b : Block T A) (i : ℕ) (x : T) → i ≤ old.len
+pub Becomes-inserted : {T A : Type 0} (size : ℕ) (old : Inside T A) (front : IsFront old) (b : Block T A) (i : ℕ) (x : T) → i ≤ len (view_of old)
     → Reserves size old.block old.len 1 (amortized old.block.growth (length old.block.places) (old.len + 1) (least_of size)) b
     → Becomes (with_room size (view_of old) (len (view_of old)) 1) (insert (run old.block.places 0 old.len) i x) (len (view_of old) - i + 1) (run_count (len (view_of old) - i) + 1)
     (view_of (record { block = wrote (wrote b (moved b.places i (i + 1) (old.len - i)) (if i == i + 1 then 0 else old.len - i)) (slice_set (moved b.places i (i + 1) (old.len - i)) i (Some x)) 1; len = old.len + 1 }))
-Becomes-inserted size old front b i x within made =
+Becomes-inserted size old front b i x asked made =
     let kept : IsRun b.places 0 old.len = IsRun-reserved size old.block old.len 1 _ b made front in
     let room : old.len < length b.places = omega (arith, made.room) in
     let count : len (view_of old) ≡ old.len = length-run old.block.places 0 old.len front in
+    let within : i ≤ old.len = omega (arith, asked, count) in
     let moves : (if i == i + 1 then 0 else old.len - i) ≡ len (view_of old) - i = unequal i (i + 1) 0 (old.len - i) (λ e. absurd (omega (arith, e))) ∙ omega (arith, count) in
     Becomes-grows _ _ _ _ _ size 1
     (record {

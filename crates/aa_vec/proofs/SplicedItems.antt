@@ -15,9 +15,7 @@ module _ {T A : Type 0} (size : ℕ) (lower by : ℕ → ℕ) {u v : Vector T A}
         items = s.items;
         at_end = λ e. ExtendsAll-told size lower by b head taken more (λ k h. same k (λ within. omega (arith, h within))) new none (s.at_end e);
         in_gap = λ some few. SameBlock-trans b (s.in_gap some few);
-        beyond = λ some full.
-            subst (λ h. MakesRoomTwice size u (length head + gap + length tail) h (length taken - gap - h) new) told
-            (MakesRoomTwice-same size _ _ _ b (s.beyond some full));
+        beyond = λ some full. rw (← told) (MakesRoomTwice-same size _ _ _ b (s.beyond some full));
       }
 
   -- of what was taken a beginning was placed
@@ -38,49 +36,34 @@ module _ {T A : Type 0} (size : ℕ) (lower by : ℕ → ℕ) {u v : Vector T A}
             | inr h ↦
                 let is = told (omega (arith, h.0.fills, count)) in
                 inr (
-                  record {
-                    fills = omega (arith, h.0.fills, is);
-                    room = subst (λ k. MakesRoom size u n k new) is (MakesRoom-same size n (lower (length taken - gap)) b h.0.room);
-                    more = omega (arith, h.0.more, length-append s.others more);
-                  },
+                  record { fills = omega (arith, h.0.fills, is); room = rw (← is) (MakesRoom-same size n (lower (length taken - gap)) b h.0.room); more = omega (arith, h.0.more, length-append s.others more) },
                   LacksOthers-told size lower by s.others h.0.more more (λ k l. same k (λ _. omega (arith, l, count))) error _ _ _ _ f w none new h.1,
                 )
           ];
         }
 
     SplicesShort-told : SplicesShort size lower (gapped v head gap tail) taken fails whole error new → SplicesShort size by (gapped u head gap tail) all fails' whole' error new
-    SplicesShort-told s =
-        elim s [
-          | inl p ↦ inl (p.0, ExtendsFull-told size lower by b head taken more (λ k h. same k (λ within. omega (arith, h within))) all e error new p.1)
-          | inr p ↦ inr (p.0, front_told p.1)
-        ]
+    SplicesShort-told (inl p) = inl (p.0, ExtendsFull-told size lower by b head taken more (λ k h. same k (λ within. omega (arith, h within))) all e error new p.1)
+    SplicesShort-told (inr p) = inr (p.0, front_told p.1)
 
 -- splices by an `Items`
 module _ {T : Type 0} (iter : ItemsLeft T) {A : Type 0} (size : ℕ) (old : Vector T A) (gap : ℕ) (tail : List T) where
   module _ (new : Vector T A) (s : SplicesByAll gives_item (TellsExactly items_lower) size iter (cut_off old gap tail) new) where
-    none : s.last.items ≡ []
-    none = s.ends.1.0.0
-
-    whole : s.added ≡ iter.items
-    whole = items-all s.lower iter s.added s.last s.told none
-
     pub SplicesAll-items : len old ≤ old.capacity → SplicesAll size (lower_by iter.hint) (cut_off old gap tail) iter.items new
     SplicesAll-items within =
-        subst (λ xs. SplicesAll size (lower_by iter.hint) (cut_off old gap tail) xs new) whole
-        (SplicesAll-told size s.lower (lower_by iter.hint) (SameBlock-refl old) old.items gap tail s.added s.last.items (λ k h. items-told s.lower iter s.added s.last s.told s.first k (h within)) new none s.splices)
+        rw (← items-all s.lower iter s.added s.last s.told s.ends.1.0.0)
+        (SplicesAll-told size s.lower (lower_by iter.hint) (SameBlock-refl old) old.items gap tail s.added s.last.items (λ k h. items-told s.lower iter s.added s.last s.told s.first k (h within)) new s.ends.1.0.0 s.splices)
 
     pub items-written : new.written ≡ old.written + (length iter.items + tail_moves gap (lower_by iter.hint (length iter.items - gap)) (length iter.items) * length tail)
     items-written =
-        s.written
-        ∙ ap (λ h. old.written + (length s.added + tail_moves gap h (length s.added) * length tail))
-        (items-told s.lower iter s.added s.last s.told s.first (length s.added - gap) (omega arith) ∙ ap (lower_by iter.hint) (omega (arith, ap length none)))
-        ∙ ap (λ xs. old.written + (length xs + tail_moves gap (lower_by iter.hint (length xs - gap)) (length xs) * length tail)) whole
+        let told : s.lower (length s.added - gap) ≡ lower_by iter.hint (length s.added - gap) = items-told s.lower iter s.added s.last s.told s.first (length s.added - gap) (omega arith) ∙ ap (lower_by iter.hint) (omega (arith, ap length s.ends.1.0.0)) in
+        rw (← items-all s.lower iter s.added s.last s.told s.ends.1.0.0, ← told) s.written
 
   pub SplicesShort-items : {fails : Type 0} → len old ≤ old.capacity → (error : TryReserveError) (new : Vector T A) → SplicesByFront gives_item (TellsExactly items_lower) size iter (cut_off old gap tail) fails error new
       → SplicesShort size (lower_by iter.hint) (cut_off old gap tail) iter.items ⊤ ⊤ error new
   SplicesShort-items within error new s =
       SplicesShort-told size s.lower (lower_by iter.hint) (SameBlock-refl old) old.items gap tail s.taken s.last.items (λ k h. items-told s.lower iter s.taken s.last s.told s.first k (h within)) new iter.items
-      (items-rest s.lower iter s.taken s.last s.told).0 error (λ _. tt) (λ _. tt) (λ h. h.1.0.0) s.splices
+      (items-rest s.lower iter s.taken s.last s.told) error (λ _. tt) (λ _. tt) (λ h. h.1.0.0) s.splices
 
 -- a splice of v is one of u, in the same block
 module _ {T A : Type 0} (size : ℕ) (lower : ℕ → ℕ) {u v : Vector T A} (b : SameBlock u v) (head : List T) (gap : ℕ) (tail added : List T) where

@@ -1,23 +1,20 @@
 -- A splice that is given up: its fields, of which the iterator tells no machine value of its own, and what a call asks that is handed them.
 use mathlib.Core.Path.{◌∙◌}
 use Rattle.aa_vec.proofs.Walks.{◌≡◌, refl, sym, ap, subst, List, [], ◌∷◌, Val, sep, id⊢, ‵, ◌∵◌, !, qed, fsplit, feq_l, fact, unit, owns, fields}
-use Rattle.aa_vec.proofs.Common.{Ura, ent, emp, emp∗, via, mono∗, Logic, sem, ◌$◌, by, fpick, ◌⊑◌, Lfts, fact_use, fact_i, Are, Ises, owns_show, showss, param, RattleType, Valss, named_lft, Declared, row, Ghosts}
+pub use Rattle.aa_vec.proofs.Common.{Vector, Ura, ent, emp, emp∗, via, mono∗, Logic, sem, ◌$◌, by, fpick, ◌⊑◌, Lfts, fact_use, fact_i, Are, Ises, owns_show, showss, param, RattleType, Valss, named_lft, Declared, row, Ghosts}
 use lib.Dec.{T}
 use mir.Syntax.{Ty, w64, named}
 use mir.Val.{has_ty, vint, vstruct, of_list, has_tys, WT, WTs}
-pub use base.Logic.{SProp}
-use base.Logic.{ex, ex_i}
+pub use base.Logic.{SProp, ex, ex_i}
 pub use types.Kit.{regoal, prop}
 pub use prog.Wp.{WpFn}
 pub use denote.Exit.{at}
-pub use denote.Laws.{Is, shows}
+pub use denote.Laws.{Is, Typed, shows}
 pub use denote.Steps.{peeks}
 pub use denote.Triple.Clauses.{at_exit}
 pub use Rattle.std.proofs.raw_atomic.Walks.{proved_at}
 pub use Rattle.std.specs.Iterator.{IsFinite}
-pub use Rattle.aa_vec.specs.Vector.{Vector}
 pub use Rattle.aa_vec.proofs.GivenUp.{only_said, goes}
-use denote.Laws.{Typed}
 use denote.Param.{layout}
 use denote.Param.Laws as param_law
 use denote.Param.Shared as shared

@@ -5,9 +5,7 @@ use Rattle.aa_vec.proofs.Lists.{equal, unequal}
 module _ {S T : Type 0} (steps : S → Option T → S → Type 0) (Tells : S → ℕ → Type 0) where
   retell : (lower lower' : ℕ → ℕ) (s : S) (xs : List T) (t : S) → ((k : ℕ) → k < length xs → lower k ≡ lower' k) → YieldsTelling steps Tells lower s xs t → YieldsTelling steps Tells lower' s xs t
   retell lower lower' s [] t same y = y
-  retell lower lower' s (x ∷ xs) t same y =
-      let P : ℕ → Type 0 = λ n. Tells y.0 n in
-      (y.0, y.1, subst P (same (length xs) (omega arith)) y.2, retell lower lower' y.0 xs t (λ k l. same k (omega (arith, l))) y.3)
+  retell lower lower' s (x ∷ xs) t same y = (y.0, y.1, rw (← same (length xs) (omega arith)) y.2, retell lower lower' y.0 xs t (λ k l. same k (omega (arith, l))) y.3)
 
   -- n is told before what was told
   pub told_first : (lower : ℕ → ℕ) (s : S) (xs : List T) (t : S) → YieldsTelling steps Tells lower s xs t → (n : ℕ) → Tells s n
@@ -17,26 +15,21 @@ module _ {S T : Type 0} (steps : S → Option T → S → Type 0) (Tells : S →
       let low : ℕ → ℕ = λ k. if k == m then n else lower k in
       let same : (k : ℕ) → k < m → lower k ≡ low k = λ k l. sym (unequal k m n (lower k) (λ e. absurd (omega (arith, l, e)))) in
       let now : low m ≡ n = equal m m n (lower m) refl in
-      let P : ℕ → Type 0 = λ k. Tells s k in
-      (low, same, retell lower low s xs t same y, now, subst P (sym now) h)
+      (low, same, retell lower low s xs t same y, now, subst (Tells s) (sym now) h)
 
   -- in each state something may be told
   module _ (tell : (s : S) → (n : ℕ) × Tells s n) where
-    pub tells_each : (s : S) (xs : List T) (t : S) → Yields steps s xs t → (lower : ℕ → ℕ) × YieldsTelling steps Tells lower s xs t
-    tells_each s [] t y = (λ _. 0, y)
+    pub tells_each : (s : S) (xs : List T) (t : S) → Yields steps s xs t → (lower : ℕ → ℕ) × YieldsTelling steps Tells lower s xs t × Tells s (lower (length xs))
+    tells_each s [] t y = (λ _. (tell s).0, y, (tell s).1)
     tells_each s (x ∷ xs) t y =
         let r = tells_each y.0 xs t y.2 in
-        let f = told_first r.0 y.0 xs t r.1 (tell y.0).0 (tell y.0).1 in
-        (f.0, (y.0, y.1, f.4, f.2))
+        let f = told_first r.0 s (x ∷ xs) t (y.0, y.1, r.2, r.1) (tell s).0 (tell s).1 in
+        (f.0, f.2, f.4)
 
     -- xs came before what was told, and n is told between
     pub tell_between : (s : S) (xs : List T) (t : S) → Yields steps s xs t → (n : ℕ) → Tells t n → (lower : ℕ → ℕ) (ys : List T) (u : S) → YieldsTelling steps Tells lower t ys u
         → (low : ℕ → ℕ) × ((k : ℕ) → k < length ys → lower k ≡ low k) × (low (length ys) ≡ n) × YieldsTelling steps Tells low s (xs ++ ys) u × Tells s (low (length (xs ++ ys)))
-    tell_between s [] t y n h lower ys u z =
-        let f = told_first lower t ys u z n h in
-        let P : S → Type 0 = λ k. YieldsTelling steps Tells f.0 k ys u in
-        let Q : S → Type 0 = λ k. Tells k (f.0 (length ys)) in
-        (f.0, f.1, f.3, subst P (sym y) f.2, subst Q (sym y) f.4)
+    tell_between s [] t y n h lower ys u z = let f = told_first lower t ys u z n h in rw y (f.0, f.1, f.3, f.2, f.4)
     tell_between s (x ∷ xs) t y n h lower ys u z =
         let r = tell_between y.0 xs t y.2 n h lower ys u z in
         let f = told_first r.0 s (x ∷ xs ++ ys) u (y.0, y.1, r.4, r.3) (tell s).0 (tell s).1 in

@@ -1,4 +1,4 @@
-use Rattle.aa_vec.proofs.Common.{◌<◌, length, Some, refl, ap, arith, length-set, drop-set-lt, length-run}
+use Rattle.aa_vec.proofs.Common.{◌<◌, length, Some, refl, ap, arith, length-set, drop-set-lt, length-run, view_of}
 use Rattle.aa_raw.proofs.Firsts.{run-set, run-at}
 use Rattle.aa_vec.proofs.vec.Vec.item_mut.Goals as goal
 
@@ -9,16 +9,7 @@ returns g c =
     rw (← c.self.view_is) (
       (
         refl,
-        λ w i. record {
-          items = run-set b.places v.len at w c.self.invariant within i;
-          capacity = length-set b.places at (Some w) i;
-          growth = b.growth;
-          grown = b.grown;
-          written = b.written;
-          runs = b.runs;
-          alloc = b.alloc;
-          behind = drop-set-lt v.len b.places at (Some w) within i;
-        },
+        λ w i. record (view_of v) { items = run-set b.places v.len at w c.self.invariant within i; capacity = length-set b.places at (Some w) i; behind = drop-set-lt v.len b.places at (Some w) within i },
       ),
       record { writes_back = tt; value = run-at b.places v.len at c.place_mut.result.now c.self.invariant within c.place_mut.ensures.value },
     )

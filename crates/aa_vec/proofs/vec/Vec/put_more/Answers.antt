@@ -1,4 +1,4 @@
-use Rattle.aa_vec.proofs.Common.{None, subst, arith, err_from_is_err_and}
+use Rattle.aa_vec.proofs.Common.{arith, err_from_is_err_and}
 use Rattle.aa_vec.proofs.Replacing.{Puts-none, Puts-told, Puts-rest}
 use Rattle.aa_vec.proofs.vec.Vec.put_more.Goals as goal
 
@@ -20,10 +20,3 @@ returns-in-Some g c =
     Puts-rest _ _ _ _ _ c.args.self.now c.args.told c.args.count c.requires.count.1 c.widen.new.self c.in_ok-widen.ensures.widened _ _ c.fill_and_close.new.self
     c.fill_and_close.ensures.fills c.if-fill_and_close-ne0.false c.in-Some.first _ c.in-Some.ensures.steps (λ a. ¬ (g.A.Clone.is_infallible a)) g.W.Telling.some c.put_rest.result c.put_rest.new.self _
     c.put_rest.ensures.all c.put_rest.ensures.refused (omega (arith, goes.2, (c.in-Some.ensures.goes.on goes.1).2))
-
-pub returns-in-None : goal.returns-in-None
-returns-in-None g c =
-    let f = c.fill_and_close.ensures.fills in
-    let P : g.row.I.Denot → Type 0 = λ k. g.I.Iterator.next_gives k None c.next.new.self in
-    Puts-told _ _ _ _ _ c.args.self.now c.args.told c.args.count c.requires.count.1 c.widen.new.self c.in_ok-widen.ensures.widened _ _ c.fill_and_close.new.self f
-    _ (subst P (f.stops.full c.if-fill_and_close-ne0.false) c.in-None.ensures.steps)
