@@ -1,5 +1,5 @@
 -- What a vector becomes, as one equation and by its parts.
-use Rattle.aa_vec.proofs.Common.{ℕ, ◌+◌, List, length, ap, Vector, GrowsTo, HasRoom, Holds, Writes, with_room}
+use Rattle.aa_vec.proofs.Common.{ℕ, List, length, ap, Vector, GrowsTo, HasRoom, Holds, Writes, with_room}
 use Rattle.aa_vec.proofs.Climbing.{MakesRoom-stays}
 use Rattle.aa_vec.specs.Vector.{Becomes}
 

@@ -1,5 +1,5 @@
 -- Extensions by an iterator that tells a function of how many items are to come.
-use Rattle.aa_vec.proofs.Common.{◌≡◌, ℕ, ◌+◌, ◌-◌, ◌<◌, ◌≤◌, List, [], ◌∷◌, ◌++◌, length, Option, None, append_assoc, refl, sym, ap, ◌∙◌, subst, arith, inl, inr, length-append, min, cases_lt, append-nil, TryReserveError, usize_max, Vector, len, SameBlock, LacksRoom, Climbs, asked_for, YieldsTelling, ExtendsAll, ExtendsFull, ExtendsByAll, ExtendsByFront, ItemsLeft, gives_item, lower_by, TellsExactly}
+use Rattle.aa_vec.proofs.Common.{◌≡◌, ℕ, ◌+◌, ◌-◌, ◌<◌, ◌≤◌, List, [], ◌∷◌, ◌++◌, length, Option, None, append_assoc, refl, sym, ap, ◌∙◌, subst, arith, inl, inr, length-append, min, cases_lt, append-nil, TryReserveError, usize_max, Vector, len, SameBlock, LacksRoom, asked_for, YieldsTelling, ExtendsAll, ExtendsFull, ExtendsByAll, ExtendsByFront, ItemsLeft, gives_item, lower_by, TellsExactly}
 use Rattle.aa_vec.proofs.Climbing.{all_of, full_of, MakesRoom, SameBlock-refl, Climbs-counted, Climbs-exact}
 use Rattle.aa_vec.proofs.Telling.{told_first}
 

@@ -1,5 +1,5 @@
 -- What an extension by an iterator says of another one, which it reads and gives back.
-use Rattle.aa_vec.proofs.Common.{◌≡◌, ℕ, List, [], ◌∷◌, ◌++◌, Option, Some, None, Result, Ok, Err, IfErr, refl, sym, ap, ◌∙◌, subst, TryReserveError, Vector, YieldsTelling, LeavesIter}
+use Rattle.aa_vec.proofs.Common.{◌≡◌, ℕ, List, [], ◌∷◌, ◌++◌, Option, Some, None, Result, Ok, Err, IfErr, sym, ap, ◌∙◌, subst, TryReserveError, Vector, YieldsTelling, LeavesIter}
 use Rattle.aa_vec.proofs.Answered.{on_ok, if_err}
 
 -- each call of the one is one of the other, in the state that it holds, under a name that stays

@@ -1,5 +1,5 @@
 -- A range that was replaced by items: what an iterator told of them, and what its phases left.
-use Rattle.aa_vec.proofs.Common.{◌≡◌, ℕ, ◌+◌, ◌-◌, ◌*◌, ◌<◌, ◌≤◌, List, [], ◌∷◌, ◌++◌, length, take, drop, Option, append_assoc, refl, sym, ap, ◌∙◌, subst, arith, inl, inr, length-append, Result, Ok, OnOk, Count, Yields, count_of, append-nil, TryReserveError, Vector, len, HasRoom, SameBlock, run_count, moved_over, behind_items, with_behind, Extended, LeavesIter, cut_off, SplicesByAll, SplicesByFront, tail_moves, FillsAndCloses, PutsAll, Puts}
+use Rattle.aa_vec.proofs.Common.{◌≡◌, ℕ, ◌+◌, ◌-◌, ◌*◌, ◌<◌, ◌≤◌, List, [], ◌∷◌, ◌++◌, length, Option, append_assoc, refl, sym, ap, ◌∙◌, subst, arith, inl, inr, length-append, Result, Ok, Count, Yields, count_of, append-nil, TryReserveError, Vector, len, HasRoom, SameBlock, run_count, moved_over, behind_items, with_behind, Extended, LeavesIter, cut_off, SplicesByAll, SplicesByFront, FillsAndCloses, PutsAll, Puts}
 use Rattle.aa_vec.specs.Extending.{StopsAt}
 use Rattle.aa_vec.specs.Splicing.{Replaced, SplicesIter, SplicesWithin, TellsOnceFull}
 use Rattle.aa_vec.specs.Filling.{PutsFront}
@@ -51,18 +51,18 @@ module _ {S T A : Type 0} (steps : S → Option T → S → Type 0) (Tells : S �
         spliced [] after r new
         (record {
           ended = on_ok r l.ended (λ p. let f = all_first steps Tells size iter block p.0 (tell iter).0 (tell iter).1 in (
-              record {
-                added = p.0.added;
-                lower = f.0;
-                last = p.0.last;
-                first = f.1;
-                told = f.2;
-                ends = p.0.ends;
-                splices = record { items = p.0.items ∙ ap (λ ys. old.items ++ ys) (sym (append-nil p.0.added)); at_end = λ _. f.3; in_gap = λ h _. absurd (omega (arith, h)); beyond = λ h _. absurd (omega (arith, h)) };
-                written = omega (arith, z.written, ap length p.0.items, length-append old.items p.0.added);
-              },
-              p.1,
-            ));
+            record {
+              added = p.0.added;
+              lower = f.0;
+              last = p.0.last;
+              first = f.1;
+              told = f.2;
+              ends = p.0.ends;
+              splices = record { items = p.0.items ∙ ap (λ ys. old.items ++ ys) (sym (append-nil p.0.added)); at_end = λ _. f.3; in_gap = λ h _. absurd (omega (arith, h)); beyond = λ h _. absurd (omega (arith, h)) };
+              written = omega (arith, z.written, ap length p.0.items, length-append old.items p.0.added);
+            },
+            p.1,
+          ));
           stopped = if_err r l.stopped (λ error p. let f = front_first steps Tells size iter block error p.0 (tell iter).0 (tell iter).1 in
               (record { taken = p.0.front ++ p.0.item ∷ []; lower = f.0; last = p.0.last; first = f.2; told = f.3; splices = inl (refl, f.4) }, inl p.1));
         })
@@ -185,6 +185,6 @@ module _ {S T A : Type 0} (steps : S → Option T → S → Type 0) (Tells : S �
             (λ few. absurd (omega (arith, few, goes)))
             (λ e _. absurd (omega (arith, ap length e, tail_count, some)))
             (λ h once few room.
-                let is : told ≡ h = once came t told given gap_came tells in
-                done_unless r (if_err r p.few (λ e less. absurd (omega (arith, less (omega (arith, is, room, whole, x_block.capacity)), is, few, goes)))))
+            let is : told ≡ h = once came t told given gap_came tells in
+            done_unless r (if_err r p.few (λ e less. absurd (omega (arith, less (omega (arith, is, room, whole, x_block.capacity)), is, few, goes)))))
             (omega (arith, z.written, z.runs, z.longer, f.writes.written, f.writes.runs, x_len, tail_count, moved_none left n full, ap run_count (moved_none left n full)))

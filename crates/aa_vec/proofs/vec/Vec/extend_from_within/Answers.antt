@@ -1,4 +1,4 @@
-use Rattle.std.proofs.Common.{rules, refl, subst}
+use Rattle.std.proofs.Common.{rules, subst}
 use Rattle.std.specs.Prelude.{All, slice_range}
 use Rattle.aa_vec.proofs.Copied.{Refuses-undone}
 use Rattle.aa_vec.proofs.vec.Vec.extend_from_within.Goals as goal

@@ -1,4 +1,4 @@
-use Rattle.aa_vec.proofs.Common.{◌-◌, ◌<◌, arith, ap, ◌∙◌, length-run, run-zero, ⊤}
+use Rattle.aa_vec.proofs.Common.{◌-◌, ◌<◌, arith, length-run, run-zero, ⊤}
 use Rattle.aa_vec.proofs.Drained.{dropped_are, dropped_stand}
 use Rattle.aa_vec.proofs.Splicing.{Spliced-extended, Spliced-ended, Spliced-more, filled_len}
 use Rattle.aa_vec.proofs.vec.splice.end_telling.Goals as goal
