@@ -6,8 +6,6 @@ module _ {T S : Type 0} (eq : T → T → Bool) (symmetric : (x y : T) → eq x 
   -- the last one kept comes first of what is left, as it was
   first_left : (s t : S) (l : T) (xs left : List T) (answers : List Bool) → ChainsFrom Repeats s l xs answers t left → (others : List T) × (left ≡ l ∷ others) × NeighboursDiffer eq (l ∷ others)
   first_left s t l [] left [] c = ([], c.1, tt)
-  first_left s t l [] left (a ∷ answers) c = absurd c
-  first_left s t l (x ∷ xs) left [] c = absurd c
   first_left s t l (x ∷ xs) left (true ∷ answers) c =
       let told = tests s c.0 x l c.1 c.2 true c.3 in
       first_left c.0 t l xs left answers (subst (λ k. ChainsFrom Repeats c.0 k xs answers t left) told.2 c.4)
@@ -16,6 +14,7 @@ module _ {T S : Type 0} (eq : T → T → Bool) (symmetric : (x y : T) → eq x 
       let rest = first_left c.0 t x xs c.3 answers (subst (λ y. ChainsFrom Repeats c.0 y xs answers t c.3) told.1 c.5) in
       let differ : eq x l ≡ false = sym told.0 in
       (x ∷ rest.0, c.6 ∙ ap (λ k. k ∷ c.3) told.2 ∙ ap (λ ys. l ∷ ys) rest.1, (symmetric l x ∙ differ, differ, rest.2))
+  first_left s t l xs left answers c = absurd c
 
   differ_along : (s t : S) (xs left : List T) (answers : List Bool) → Deduplicated Repeats s xs answers t left → NeighboursDiffer eq left
   differ_along s t [] left answers d = subst (NeighboursDiffer eq) (sym d.2) tt

@@ -1,28 +1,13 @@
 -- What a step of the list machine does to main: it stays in its block, has grown once, or climbed while it was full.
-use Rattle.allocator_api2.proofs.Common.{◌≡◌, ℕ, suc, ◌+◌, ◌-◌, ◌≤◌, min, Bool, List, [], ◌∷◌, length, take, drop, Option, refl, ap, ◌∙◌, arith, ◌⊎◌, inl, inr, length-take, length-drop, Vector, len, SameBlock, GrowsTo, Holds, Command, SplitOff, Push, Within, Pop, Insert, Remove, SwapRemove, Truncate, Clear, Append, Extend, Retain, Dedup, Drain, ExtractIf, Reply, Done, Item, Nothing, Back, Refused, Range, Climbs, ExtendsFull, lower_by, TryReserveError, State, Calls, Step, Answers, asking, AddsOrRemoves, hint_of, added_by}
+use Rattle.allocator_api2.proofs.Common.{◌≡◌, ℕ, suc, ◌+◌, ◌-◌, ◌≤◌, min, Bool, List, [], ◌∷◌, length, take, drop, Option, refl, ap, ◌∙◌, arith, rules, ◌⊎◌, inl, inr, length-take, length-drop, Vector, len, SameBlock, GrowsTo, Holds, Command, SplitOff, Push, Within, Pop, Insert, Remove, SwapRemove, Truncate, Clear, Append, Extend, Retain, Dedup, Drain, ExtractIf, Reply, Done, Item, Nothing, Back, Refused, Range, Climbs, ExtendsFull, lower_by, TryReserveError, State, Calls, Step, Answers, asking, AddsOrRemoves, hint_of, added_by}
 use Rattle.std.proofs.Common.{length-set}
-use Rattle.std.specs.Prelude.{insert, remove, swap_remove, slice_set, slice_index_or}
+use Rattle.std.specs.Prelude.{slice_set, slice_index_or}
 use Rattle.std.proofs.lemmas.List.{length-append}
 use Rattle.aa_vec.specs.Extending.{ExtendsAll}
 use Rattle.aa_vec.proofs.Kept.{length-kept, length-deduplicated}
 use Rattle.allocator_api2.proofs.Extracting.{length-taken_out}
 use Rattle.allocator_api2.proofs.Ranges.{length-left_of}
 use Rattle.allocator_api2.specs.Machine.{InRange, Makes, AnswersRefused, ends_of}
-
-module _ {T : Type 0} where
-  length-insert : (xs : List T) (i : ℕ) (x : T) → i ≤ length xs → length (insert xs i x) ≡ length xs + 1
-  length-insert xs i x h = omega (arith, length-append (take i xs) (x ∷ drop i xs), length-take i xs, length-drop i xs)
-
-  length-remove-le : (xs : List T) (i : ℕ) → length (remove xs i) ≤ length xs
-  length-remove-le xs i = omega (arith, length-append (take i xs) (drop (suc i) xs), length-take i xs, length-drop (suc i) xs)
-
-  length-swap_remove-le : (xs : List T) (i : ℕ) (d : T) → length (swap_remove xs i d) ≤ length xs
-  length-swap_remove-le xs i d =
-      let ys : List T = slice_set xs i (slice_index_or xs (length xs - 1) d) in
-      omega (arith, length-take (length xs - 1) ys, length-set xs i (slice_index_or xs (length xs - 1) d))
-
-  length-take-le : (xs : List T) (n : ℕ) → length (take n xs) ≤ length xs
-  length-take-le xs n = omega (arith, length-take n xs)
 
 module _ {T A : Type 0} (size : ℕ) where
   -- main stayed in its block, with at most k elements more
@@ -74,60 +59,28 @@ module _ {T A : Type 0} (size : ℕ) where
   change_done main side (Within x) Done main' side' a r m =
       let l = ap length m.main_does.1.items ∙ length-append main.items (x ∷ []) in
       inl (record { block = m.main_does.1.block; longest = omega (arith, l); fits = λ f. omega (arith, l, m.main_does.0) })
-  change_done main side (Within x) (Back y) main' side' a r m = same main main' m.main_does.2
   change_done main side Pop (Item y) main' side' a r m =
       let l = ap length m.main_does.0 ∙ length-append main'.items (y ∷ []) in
       shrinks main main'.items main' (omega (arith, l)) (record { items = refl; block = m.main_does.1 })
-  change_done main side Pop Nothing main' side' a r m = same main main' m.main_does.1
-  change_done main side (Insert i x) Done main' side' a r m = adds main 1 _ main' (length-insert main.items i x r) m.main_does
-  change_done main side (Remove i) (Item y) main' side' a r m = shrinks main _ main' (length-remove-le main.items i) m.main_does.1
-  change_done main side (SwapRemove i) (Item y) main' side' a r m = shrinks main _ main' (length-swap_remove-le main.items i y) m.main_does.1
-  change_done main side (Truncate n) Done main' side' a r m = shrinks main _ main' (length-take-le main.items n) m.main_does
+  change_done main side (Insert i x) Done main' side' a r m = adds main 1 _ main' (omega (arith, r, length-append (take i main.items) (x ∷ drop i main.items), length-take i main.items, length-drop i main.items)) m.main_does
+  change_done main side (Remove i) (Item y) main' side' a r m = shrinks main _ main' (omega (arith, length-append (take i main.items) (drop (suc i) main.items), length-take i main.items, length-drop (suc i) main.items)) m.main_does.1
+  change_done main side (SwapRemove i) (Item y) main' side' a r m = shrinks main _ main' (omega (arith, length-take (len main - 1) (slice_set main.items i (slice_index_or main.items (len main - 1) y)), length-set main.items i (slice_index_or main.items (len main - 1) y))) m.main_does.1
+  change_done main side (Truncate n) Done main' side' a r m = shrinks main _ main' (omega (arith, length-take n main.items)) m.main_does
   change_done main side Clear Done main' side' a r m = shrinks main _ main' (omega arith) m.main_does
   change_done main side Append Done main' side' a r m = adds main (len side) _ main' (length-append main.items side.items) m.joined
   change_done main side (Extend items hint) Done main' side' a r m = extends hint main items.items main' m.main_does
   change_done main side (Drain start end front back keep) Done main' side' a r m =
       shrinks main _ main' (length-left_of main.items (ends_of start end front back) keep r.0 r.1) m.leaves
-  change_done main side (Push x) _ main' side' a r m = absurd m.main_does
-  change_done main side (Within x) _ main' side' a r m = absurd m.main_does
-  change_done main side Pop _ main' side' a r m = absurd m.main_does
-  change_done main side (Insert i x) _ main' side' a r m = absurd m.main_does
-  change_done main side (Remove i) _ main' side' a r m = absurd m.main_does
-  change_done main side (SwapRemove i) _ main' side' a r m = absurd m.main_does
-  change_done main side (Truncate n) _ main' side' a r m = absurd m.main_does
-  change_done main side Clear _ main' side' a r m = absurd m.main_does
-  change_done main side Append _ main' side' a r m = absurd m.main_does
-  change_done main side (Extend items hint) _ main' side' a r m = absurd m.main_does
-  change_done main side (Drain start end front back keep) _ main' side' a r m = absurd m.main_does
-  change_done main side (ExtractIf start end count) _ main' side' a r m = absurd m.main_does
-  change_done main side Retain _ main' side' a r m = absurd m.main_does
-  change_done main side Dedup _ main' side' a r m = absurd m.main_does
-  change_done main side command reply main' side' a r m = absurd a
+  change_done main side command reply main' side' a r m = search (rules, same)
 
   -- what one that was refused has left of it
   change_refused : (main side : Vector T A) (command : Command T A) (kind : TryReserveError) (main' side' : Vector T A) → AddsOrRemoves command → AnswersRefused size main side command kind main' side' → Change (hint_of command) main (added_by main side command (Refused kind) main') main'
-  change_refused main side (Push x) kind main' side' a s = same main main' s.leaves.main_does.1
-  change_refused main side (Insert i x) kind main' side' a s = same main main' s.leaves.main_does.1
-  change_refused main side Append kind main' side' a s = same main main' s.leaves.1.main_same
   change_refused main side (Extend items hint) kind main' side' a s = stops hint main items.items kind main' s.leaves.main_does
-  change_refused main side (Drain start end front back keep) kind main' side' a s = same main main' s.leaves.1.main_same
-  change_refused main side (ExtractIf start end count) kind main' side' a s = same main main' s.leaves.1.main_same
-  change_refused main side (Within x) kind main' side' a s = absurd (s.misfits tt)
-  change_refused main side Pop kind main' side' a s = absurd (s.misfits tt)
-  change_refused main side (Remove i) kind main' side' a s = absurd (s.misfits tt)
-  change_refused main side (SwapRemove i) kind main' side' a s = absurd (s.misfits tt)
-  change_refused main side (Truncate n) kind main' side' a s = absurd (s.misfits tt)
-  change_refused main side Clear kind main' side' a s = absurd (s.misfits tt)
-  change_refused main side Retain kind main' side' a s = absurd (s.misfits tt)
-  change_refused main side Dedup kind main' side' a s = absurd (s.misfits tt)
-  change_refused main side command kind main' side' a s = absurd a
+  change_refused main side command kind main' side' a s = search (rules, same)
 
   -- and one whose range lies outside
   change_range : (main side : Vector T A) (command : Command T A) (main' : Vector T A) → AddsOrRemoves command → main' ≡ main → Change (hint_of command) main (added_by main side command Range main') main'
   change_range main side (Extend items hint) main' a e = let none : len main' - len main ≡ 0 = omega (arith, ap len e) in rw none (same main main' e)
-  change_range main side (Push x) main' a e = same main main' e
-  change_range main side (Within x) main' a e = same main main' e
-  change_range main side (Insert i x) main' a e = same main main' e
   change_range main side command main' a e = same main main' e
 
   change_lists : (main side : Vector T A) (command : Command T A) (reply : Reply T) (main' side' : Vector T A) → AddsOrRemoves command → Answers size main side command reply main' side' → Change (hint_of command) main (added_by main side command reply main') main'
@@ -144,9 +97,4 @@ module _ {T A : Type 0} (size : ℕ) where
         let r = s.removes in shrinks old.main _ new.main (length-deduplicated calls.repeats old.same old.main.items r.answers new.same r.left r.asked) r.holds
     change_of old (ExtractIf start end count) answers Done new a s =
         let t = s.takes in shrinks old.main _ new.main (length-taken_out calls.keeps size (asking old.main old.side old.keep) start end count (asking new.main new.side new.keep) s.in_range.0 s.in_range.1 t) t.leaves
-    change_of old (ExtractIf start end count) answers (Item y) new a s = change_lists old.main old.side (ExtractIf start end count) (Item y) new.main new.side a s.lists
-    change_of old (ExtractIf start end count) answers Nothing new a s = change_lists old.main old.side (ExtractIf start end count) Nothing new.main new.side a s.lists
-    change_of old (ExtractIf start end count) answers (Back y) new a s = change_lists old.main old.side (ExtractIf start end count) (Back y) new.main new.side a s.lists
-    change_of old (ExtractIf start end count) answers (Refused kind) new a s = change_lists old.main old.side (ExtractIf start end count) (Refused kind) new.main new.side a s.lists
-    change_of old (ExtractIf start end count) answers Range new a s = change_lists old.main old.side (ExtractIf start end count) Range new.main new.side a s.lists
     change_of old command answers reply new a s = change_lists old.main old.side command reply new.main new.side a s.lists
