@@ -35,21 +35,19 @@ module _ {T A : Type 0} where
       → IsNew size (n * length xs) a new
       → Holds new (repeat n xs) v
       → WritesAtMost new (n * length xs) v
-      → IsMadeWithin size Doubling (repeat n xs) v × (v.alloc ≡ a)
+      → IsMadeWithin size Doubling (repeat n xs) v
   IsMadeWithin-repeated size n xs a new v made held wrote =
-      let long = length-repeat xs n in (
-        record {
-          calls = v.runs;
-          few = omega (arith, long, wrote.runs, made.runs);
-          made =
-              record {
-                items = held.items;
-                capacity = held.block.capacity ∙ made.capacity ∙ ap (sized size) (sym long);
-                grows = held.block.growth ∙ made.growth;
-                grown = held.block.grown ∙ made.grown;
-                written = omega (arith, long, wrote.written, made.written);
-                runs = refl;
-              };
-        },
-        held.block.alloc ∙ made.alloc,
-      )
+      let long = length-repeat xs n in
+      record {
+        calls = v.runs;
+        few = omega (arith, long, wrote.runs, made.runs);
+        made =
+            record {
+              items = held.items;
+              capacity = held.block.capacity ∙ made.capacity ∙ ap (sized size) (sym long);
+              grows = held.block.growth ∙ made.growth;
+              grown = held.block.grown ∙ made.grown;
+              written = omega (arith, long, wrote.written, made.written);
+              runs = refl;
+            };
+      }

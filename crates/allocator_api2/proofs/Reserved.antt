@@ -1,15 +1,10 @@
 -- Room that a reserve made lasts for as many pushes.
-use Rattle.allocator_api2.proofs.Common.{◌≡◌, ℕ, ◌+◌, ◌-◌, ◌≤◌, List, [], ◌∷◌, length, ap, ◌∙◌, refl, arith, rules, AllByRecursion, least_of, Vector, len, HasRoom, GrowsTo, Within, Reply, Done, Back, Range, Answers}
+use Rattle.allocator_api2.proofs.Common.{◌≡◌, ℕ, ◌+◌, ◌-◌, ◌≤◌, List, [], ◌∷◌, length, ap, arith, rules, AllByRecursion, least_of, Vector, len, HasRoom, Within, Reply, Done, Back, Range, Answers}
 use Rattle.std.proofs.lemmas.List.{length-append}
 use Rattle.allocator_api2.specs.Laws.{IsDone, PushesWithin, ReserveHolds}
 use Rattle.aa_vec.proofs.Climbing.{MakesRoom-fits}
 
 module _ {T A : Type 0} (size : ℕ) where
-  -- a vector that made room for k more has it
-  HasRoom-made : (old : Vector T A) (k : ℕ) (xs : List T) (new : Vector T A) → length xs ≡ len old → GrowsTo size old k xs new → HasRoom new k
-  HasRoom-made old k xs new e g =
-      omega (arith, ap length g.items ∙ e, MakesRoom-fits size (len old) k old new g.room)
-
   -- a push within the capacity finds room, and leaves room for one fewer
   push_done : (k : ℕ) (main side : Vector T A) (x : T) (reply : Reply T) (main' side' : Vector T A)
       → HasRoom main (k + 1) → Answers size main side (Within x) reply main' side' → IsDone reply × HasRoom main' k
@@ -31,4 +26,4 @@ module _ {T A : Type 0} (size : ℕ) where
 
   pub reserve_holds : ReserveHolds T A size
   reserve_holds k main side main' side' xs replies s p l =
-      all_done k main' side' xs replies (HasRoom-made main k main.items main' refl s.makes.main_does) p l
+      all_done k main' side' xs replies (omega (arith, ap length s.makes.main_does.items, MakesRoom-fits size (len main) k main main' s.makes.main_does.room)) p l
