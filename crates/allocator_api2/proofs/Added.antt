@@ -1,6 +1,5 @@
 -- What a list of commands added, where each adds at most one element.
-use Rattle.allocator_api2.proofs.Common.{◌≡◌, ℕ, ◌+◌, ◌*◌, ◌≤◌, List, [], ◌∷◌, length, map, sum_by, sym, ap, subst, arith, AllByRecursion, sum_by-cons, Growth, Doubling, Sparing, Vector, Command, Push, Within, Pop, Insert, Remove, SwapRemove, Truncate, Clear, Append, Extend, Retain, Dedup, Drain, ExtractIf, Reply, Done, State, Calls, Turn, AddsOrRemoves, added, added_by, moves_each, RunsWithin}
-use Rattle.std.proofs.lemmas.List.{length-map}
+use Rattle.allocator_api2.proofs.Common.{◌≡◌, ℕ, ◌+◌, ◌*◌, ◌≤◌, List, [], ◌∷◌, length, map, sum_by, sym, ap, subst, arith, AllByRecursion, sum_by-cons, Growth, Doubling, Sparing, Vector, Command, Push, Within, Pop, Insert, Remove, SwapRemove, Truncate, Clear, Append, Extend, Retain, Dedup, Drain, ExtractIf, Reply, Done, State, Calls, Turn, AddsOrRemoves, added, added_by, moves_each, RunsWithin, length-map}
 use Rattle.allocator_api2.specs.Run.{AddsOneAtMost, if_done}
 
 if_done-le : {T : Type 0} (reply : Reply T) (n : ℕ) → if_done reply n ≤ n

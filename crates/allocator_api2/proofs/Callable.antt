@@ -9,15 +9,9 @@ module _ {T A K S : Type 0} (size : ℕ) (calls : Calls T A K S) where
   MayRun-turned s all rest e may = subst (MayRun size calls s) (sym (ap reverse e ∙ reverse-reverse all)) may
 
   module _ (s : State T A K S) (rest later : List (Command T A)) (command : Command T A) (e : rest ≡ later ++ command ∷ []) (may : MayRun size calls s (reverse rest)) where
-    next_first : MayRun size calls s (command ∷ reverse later)
-    next_first = subst (MayRun size calls s) (ap reverse e ∙ reverse-append later (command ∷ [])) may
-
     -- the next may call them, and then those behind it
-    pub MayCall-next : MayCall size calls s command
-    MayCall-next = next_first.0
-
-    pub MayRun-later : (reply : Reply T) (next : State T A K S) → DoesStep size calls s command reply next → IsPossible next.main next.side → MayRun size calls next (reverse later)
-    MayRun-later reply next step possible = next_first.1 step.answers reply next step.step possible
+    pub MayRun-next : MayRun size calls s (command ∷ reverse later)
+    MayRun-next = subst (MayRun size calls s) (ap reverse e ∙ reverse-append later (command ∷ [])) may
 
   -- closures whose good states take every element, and lead to good states alone
   module _ (good_keep : K → Type 0) (good_same : S → Type 0)

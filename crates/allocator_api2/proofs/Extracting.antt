@@ -1,12 +1,11 @@
 -- Elements that a run takes out of a range of main.
-use Rattle.allocator_api2.proofs.Common.{◌≡◌, ℕ, suc, ◌+◌, ◌-◌, ◌<◌, ◌≤◌, Bool, true, false, List, [], ◌∷◌, ◌++◌, length, map, take, drop, Some, None, refl, sym, ap, ◌∙◌, subst, arith, inl, inr, append_assoc, length-append, length-drop, length-take, slice_range, ◌⊎◌, if◌then◌else◌, ◌==◌, append-nil, drop-drop, take-append-drop, Asked, AskedInOrder, Vector, len, HasRoom, Holds, SameBlock-refl, SameBlock-trans, Chosen, asking}
+use Rattle.allocator_api2.proofs.Common.{◌≡◌, ℕ, suc, ◌+◌, ◌-◌, ◌<◌, ◌≤◌, Bool, true, false, List, [], ◌∷◌, ◌++◌, length, map, take, drop, Some, None, refl, sym, ap, ◌∙◌, subst, arith, inl, inr, append_assoc, length-append, length-drop, length-take, slice_range, ◌⊎◌, if◌then◌else◌, ◌==◌, append-nil, drop-drop, take-append-drop, Asked, AskedInOrder, Vector, len, HasRoom, Holds, SameBlock-refl, SameBlock-trans, Chosen, asking, Holds-more, length-map}
 use Rattle.std.specs.Prelude.{filter, not}
-use Rattle.std.proofs.lemmas.List.{drop-append-le, length-map}
+use Rattle.std.proofs.lemmas.List.{drop-append-le}
 use Rattle.std.proofs.lemmas.List.Filters.{length-filter_both}
 use Rattle.aa_vec.specs.Choosing.{EndsTrue, IsCallableInOrder, kept, passed_over}
 use Rattle.aa_vec.specs.Extracting.{ClosesExtract, ExtractedTo, Extracts, ExtractsRange, extract_count, extract_kept, extract_rest, extract_tail}
 use Rattle.aa_vec.specs.declared.vec.extract_if.ExtractBy.{ExtractBy}
-use Rattle.aa_vec.proofs.Climbing.{Holds-more}
 use Rattle.aa_vec.proofs.Extracted.{ExtractedTo-none, Extracted-more, Extracted-end, asked_count, extracts_may}
 use Rattle.allocator_api2.proofs.Taking.{choice_le}
 use Rattle.allocator_api2.specs.Drained.{TakesUpTo}
@@ -83,11 +82,8 @@ module _ {K T : Type 0} (Keeps : K → T → Bool → K → T → Type 0) where
           let tail : extract_tail later ≡ drop n ys = up.extracted.tail ∙ takes.tail ∙ ap (λ i. drop i main.items) (omega (arith, ordered)) ∙ sym (drop-drop n start main.items) in
           (λ i. (up.extracted.rest ∙ ap (drop q) takes.rest) i ++ tail i) ∙ sym (drop-append-le q (take n ys) (drop n ys) (omega (arith, few, middle_long))) ∙ ap (drop q) (take-append-drop n ys) ∙ drop-drop q start main.items
 
-      kept_are : extract_kept later ≡ passed_over told
-      kept_are = up.extracted.kept ∙ ap (λ l. l ++ passed_over told) takes.kept
-
       left_items : main'.items ≡ take start main.items ++ (passed_over told ++ drop (start + q) main.items)
-      left_items = closes.holds.items ∙ (λ i. (up.extracted.head.items ∙ takes.head.items) i ++ (kept_are i ++ rest_are i))
+      left_items = closes.holds.items ∙ (λ i. (up.extracted.head.items ∙ takes.head.items) i ++ ((up.extracted.kept ∙ ap (λ l. l ++ passed_over told) takes.kept) i ++ rest_are i))
 
       enough : (length (kept told) ≡ most) × EndsTrue told ⊎ (length (kept told) < most) × (length told ≡ end - start)
       enough = elim up.enough [

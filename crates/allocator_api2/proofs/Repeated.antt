@@ -23,12 +23,10 @@ module _ {T : Type 0} (xs : List T) where
 module _ {T A : Type 0} where
   -- no times, in an empty vector
   pub Holds-none : (n : ℕ) (xs : List T) (v : Vector T A) → n ≡ 0 → v.items ≡ [] → Holds v (repeat n xs) v
-  Holds-none zero xs v z e = record { items = e; block = SameBlock-refl v }
-  Holds-none (suc n) xs v z e = absurd (omega (arith, z))
+  Holds-none n xs v z e = rw z (record { items = e; block = SameBlock-refl v })
 
   pub Writes-none : (n : ℕ) (xs : List T) (v : Vector T A) → n ≡ 0 → WritesAtMost v (n * length xs) v
-  Writes-none zero xs v z = record { written = omega arith; runs = omega arith }
-  Writes-none (suc n) xs v z = absurd (omega (arith, z))
+  Writes-none n xs v z = rw z (record { written = omega arith; runs = omega arith })
 
   -- what stands in a new vector with room for just that
   pub IsMadeWithin-repeated : (size n : ℕ) (xs : List T) (a : A) (new v : Vector T A)

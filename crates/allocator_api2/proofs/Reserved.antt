@@ -1,8 +1,7 @@
 -- Room that a reserve made lasts for as many pushes.
-use Rattle.allocator_api2.proofs.Common.{◌≡◌, ℕ, ◌+◌, ◌-◌, ◌≤◌, List, [], ◌∷◌, length, ap, arith, rules, AllByRecursion, least_of, Vector, len, HasRoom, Within, Reply, Done, Back, Range, Answers}
+use Rattle.allocator_api2.proofs.Common.{◌≡◌, ℕ, ◌+◌, ◌-◌, ◌≤◌, List, [], ◌∷◌, length, ap, arith, rules, AllByRecursion, least_of, Vector, len, HasRoom, Within, Reply, Done, Back, Range, Answers, MakesRoom-fits}
 use Rattle.std.proofs.lemmas.List.{length-append}
 use Rattle.allocator_api2.specs.Laws.{IsDone, PushesWithin, ReserveHolds}
-use Rattle.aa_vec.proofs.Climbing.{MakesRoom-fits}
 
 module _ {T A : Type 0} (size : ℕ) where
   -- a push within the capacity finds room, and leaves room for one fewer

@@ -1,10 +1,9 @@
 -- Items taken out of a drain, one after the other, and put behind the elements of another vector.
-use Rattle.allocator_api2.proofs.Common.{◌≡◌, ℕ, ◌+◌, ◌-◌, ◌<◌, ◌≤◌, List, [], ◌∷◌, ◌++◌, length, take, drop, reverse, Bool, true, false, Some, refl, sym, ap, subst, ◌∙◌, arith, append_assoc, length-append, length-take, length-drop, length-reverse, slice_range, if◌then◌else◌, ◌==◌, append-nil, drop-drop, take_all, take-append-drop, reverse-append, TakesRange, drain_head, drain_rest, drain_tail, drain_vec, range_len, Vector, len, HasRoom, SameBlock, Holds, SameBlock-refl, SameBlock-trans, TakesFront, TakesBack}
+use Rattle.allocator_api2.proofs.Common.{◌≡◌, ℕ, ◌+◌, ◌-◌, ◌<◌, ◌≤◌, List, [], ◌∷◌, ◌++◌, length, take, drop, reverse, Bool, true, false, Some, refl, sym, ap, subst, ◌∙◌, arith, append_assoc, length-append, length-take, length-drop, length-reverse, slice_range, if◌then◌else◌, ◌==◌, append-nil, drop-drop, take_all, take-append-drop, reverse-append, TakesRange, drain_head, drain_rest, drain_tail, drain_vec, range_len, Vector, len, HasRoom, SameBlock, Holds, SameBlock-refl, SameBlock-trans, TakesFront, TakesBack, Holds-more}
 use Rattle.std.proofs.Math.Seq.{take-add}
 use Rattle.std.proofs.lemmas.List.{drop_all, drop_at, take_at, take-take}
-use Rattle.aa_vec.specs.Draining.{Closes, DrainKeeps, KeepsRest, drain_lender, drains_first, drains_last, taken_back, taken_front}
+use Rattle.aa_vec.specs.Draining.{Closes, KeepsRest, drains_first, drains_last, taken_back, taken_front}
 use Rattle.aa_vec.specs.declared.vec.drain.Drain.{Drain}
-use Rattle.aa_vec.proofs.Climbing.{Holds-more}
 use Rattle.aa_vec.proofs.Drains.{keeps-same, keeps-then}
 use Rattle.allocator_api2.specs.Drained.{Drained}
 use Rattle.allocator_api2.specs.Machine.{ends_at, given_of}
@@ -41,15 +40,13 @@ module _ {T A : Type 0} (d : Drain T A) (side : Vector T A) where
   TakesFront-rest k e s h = ap length h.rest ∙ length-drop k all
 
   pub TakesBack-none : TakesBack d side 0 d side
-  TakesBack-none =
-      let whole : length all - 0 ≡ length all = omega arith in
-      record {
-        keeps = keeps-same d;
-        rest = sym (take_all (length all - 0) all (omega arith));
-        front = refl;
-        back = omega arith;
-        holds = record { items = sym (append-nil side.items) ∙ ap (λ l. side.items ++ reverse l) (sym (drop_all (length all - 0) all (omega arith))); block = SameBlock-refl side };
-      }
+  TakesBack-none = record {
+    keeps = keeps-same d;
+    rest = sym (take_all (length all - 0) all (omega arith));
+    front = refl;
+    back = omega arith;
+    holds = record { items = sym (append-nil side.items) ∙ ap (λ l. side.items ++ reverse l) (sym (drop_all (length all - 0) all (omega arith))); block = SameBlock-refl side };
+  }
 
   pub TakesBack-more : (k : ℕ) (e f : Drain T A) (s t : Vector T A) (x : T) → k < length all → TakesBack d side k e s → drains_last e (Some x) f → Holds s (s.items ++ x ∷ []) t → TakesBack d side (k + 1) f t
   TakesBack-more k e f s t x less h n p =
@@ -91,15 +88,12 @@ module _ {T A : Type 0} (old side : Vector T A) (start end f b : ℕ) (ordered :
   rest_front : drain_rest d1 ≡ drop f middle
   rest_front = fronts.rest ∙ ap (drop f) drains.rest
 
-  left_front : length (drain_rest d1) ≡ m - f
-  left_front = ap length rest_front ∙ length-drop f middle ∙ ap (λ i. i - f) count_middle
-
   rest_back : drain_rest d2 ≡ slice_range middle f (m - b)
-  rest_back = let n : length (drain_rest d1) - b ≡ m - b - f = omega (arith, left_front) in backs.rest ∙ (λ i. take (n i) (rest_front i))
+  rest_back = let n : length (drain_rest d1) - b ≡ m - b - f = omega (arith, ap length rest_front, length-drop f middle, count_middle) in backs.rest ∙ (λ i. take (n i) (rest_front i))
 
   given_back : drop (length (drain_rest d1) - b) (drain_rest d1) ≡ drop (m - b) middle
   given_back =
-      let n : length (drain_rest d1) - b ≡ m - f - b = omega (arith, left_front) in let all : f + (m - f - b) ≡ m - b = omega (arith, few) in
+      let n : length (drain_rest d1) - b ≡ m - f - b = omega (arith, ap length rest_front, length-drop f middle, count_middle) in let all : f + (m - f - b) ≡ m - b = omega (arith, few) in
       (λ i. drop (n i) (rest_front i)) ∙ drop-drop (m - f - b) f middle ∙ ap (λ i. drop i middle) all
 
   side_gave : Holds side (side.items ++ given_of old.items (ends_at start end f b)) s2
@@ -107,15 +101,11 @@ module _ {T A : Type 0} (old side : Vector T A) (start end f b : ℕ) (ordered :
       subst (λ l. Holds side (side.items ++ l) s2) (λ i. take f (drains.rest i) ++ reverse (given_back i))
       (Holds-more side s1 s2 (take f (drain_rest d0)) (reverse (drop (length (drain_rest d1) - b) (drain_rest d1))) fronts.holds backs.holds)
 
-  keeps : DrainKeeps d0 d2
-  keeps = keeps-then d0 d1 d2 fronts.keeps backs.keeps
-
-  pub lender_same : drain_lender d2 ≡ drain_lender d0
-  lender_same = keeps.lender
-
   -- what is before the range and behind it stays
   stays : (drain_head d2 ≡ take start old.items) × (drain_tail d2 ≡ drop end old.items) × SameBlock old (drain_vec d2) × ((drain_vec d2).written ≡ old.written)
-  stays = (keeps.head.items ∙ drains.head.items, keeps.tail ∙ drains.tail, SameBlock-trans drains.head.block keeps.head.block, omega (arith, keeps.writes.written, drains.writes.written))
+  stays =
+      let keeps = keeps-then d0 d1 d2 fronts.keeps backs.keeps in
+      (keeps.head.items ∙ drains.head.items, keeps.tail ∙ drains.tail, SameBlock-trans drains.head.block keeps.head.block, omega (arith, keeps.writes.written, drains.writes.written))
 
   pub Drained-dropped : {k : Bool} (w : Vector T A) → Closes d2 w → k ≡ false → Drained old side (ends_at start end f b) k w s2
   Drained-dropped w c is =

@@ -1,6 +1,6 @@
 use Rattle.allocator_api2.proofs.Common.{◌≡◌, ◌+◌, ◌∷◌, [], length, arith, refl, ap, ◌∙◌, length-reverse, calls_of}
 use Rattle.std.proofs.lemmas.List.{length-append}
-use Rattle.allocator_api2.proofs.Callable.{MayRun-turned, MayRun-later, MayCall-next}
+use Rattle.allocator_api2.proofs.Callable.{MayRun-turned, MayRun-next}
 use Rattle.allocator_api2.proofs.Runs.{HasRun-start, HasRun-more, HasRun-end}
 use Rattle.allocator_api2.proofs.runner.run.Goals as goal
 
@@ -17,7 +17,7 @@ loop-command-init g c =
 
 pub step-reply-requires-clause-callable : goal.step-reply-requires-clause-callable
 step-reply-requires-clause-callable g c =
-    MayCall-next _ (calls_of g.A.Clone.is_clone g.K.FnMut g.S.FnMut) _ _ c.pop.new.self.items c.in-Some.command c.in-Some.ensures.cases c.loop-command.invariant.callable
+    (MayRun-next _ (calls_of g.A.Clone.is_clone g.K.FnMut g.S.FnMut) _ _ c.pop.new.self.items c.in-Some.command c.in-Some.ensures.cases c.loop-command.invariant.callable).0
 
 pub loop-command-preserved : goal.loop-command-preserved
 loop-command-preserved g c =
@@ -29,7 +29,7 @@ loop-command-preserved g c =
     let n : length c.loop-command.rest.items ≡ length c.pop.new.self.items + 1 = ap length e ∙ length-append c.pop.new.self.items (c.in-Some.command ∷ []) in
     let m : length c.append_within.new.list.items ≡ length c.loop-command.replies.items + 1 = ap length more ∙ length-append c.loop-command.replies.items (c.step-reply.result ∷ []) in
     record {
-      callable = MayRun-later _ (calls_of g.A.Clone.is_clone g.K.FnMut g.S.FnMut) _ _ c.pop.new.self.items c.in-Some.command e h.callable _ _ c.step-reply.ensures possible;
+      callable = (MayRun-next _ (calls_of g.A.Clone.is_clone g.K.FnMut g.S.FnMut) _ _ c.pop.new.self.items c.in-Some.command e h.callable).1 _ _ _ c.step-reply.ensures.step possible;
       run = HasRun-more _ _ h.run e c.step-reply.ensures possible more;
       room = omega (arith, b.capacity, h.room);
       stay = record { capacity = b.capacity ∙ h.stay.capacity; growth = b.growth ∙ h.stay.growth; grown = b.grown ∙ h.stay.grown; alloc = b.alloc ∙ h.stay.alloc };
