@@ -4,10 +4,6 @@ use Rattle.aa_vec.specs.Choosing.{MayAskInOrder, MayChainFrom, MayDeduplicate}
 use Rattle.allocator_api2.specs.Run.{MayCall, IsCallableOnRuns}
 
 module _ {T A K S : Type 0} (size : ℕ) (calls : Calls T A K S) where
-  -- the commands stand in turned order
-  pub MayRun-turned : (s : State T A K S) (all rest : List (Command T A)) → rest ≡ reverse all → MayRun size calls s all → MayRun size calls s (reverse rest)
-  MayRun-turned s all rest e may = subst (MayRun size calls s) (sym (ap reverse e ∙ reverse-reverse all)) may
-
   module _ (s : State T A K S) (rest later : List (Command T A)) (command : Command T A) (e : rest ≡ later ++ command ∷ []) (may : MayRun size calls s (reverse rest)) where
     -- the next may call them, and then those behind it
     pub MayRun-next : MayRun size calls s (command ∷ reverse later)
