@@ -36,9 +36,6 @@ module _ {T A : Type 0} (d : Drain T A) (side : Vector T A) where
   pub TakesFront-room : (k n : ℕ) (e : Drain T A) (s : Vector T A) → TakesFront d side k e s → k < n → HasRoom side n → HasRoom s 1
   TakesFront-room k n e s h less room = omega (arith, ap length h.holds.items, length-append side.items (take k all), length-take k all, h.holds.block.capacity, room, less)
 
-  pub TakesFront-rest : (k : ℕ) (e : Drain T A) (s : Vector T A) → TakesFront d side k e s → length (drain_rest e) ≡ length all - k
-  TakesFront-rest k e s h = ap length h.rest ∙ length-drop k all
-
   pub TakesBack-none : TakesBack d side 0 d side
   TakesBack-none = record {
     keeps = keeps-same d;
