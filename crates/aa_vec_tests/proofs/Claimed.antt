@@ -125,9 +125,7 @@ module _ {T A : Type 0} (g : Growth) (old : Vector T A) where
       by_test false e =
           let lacks : (reached g k).0 < len v + 1 = let count = p.count in grind (arith, nat_tests) in
           let d = grows_to v w (reached g k).0 (len v) 1 p.capacity p.growth room lacks in
-          let count = p.count in
-          let grown = p.grown in
-          record { count = counts; growth = d.1; capacity = rw e (d.0 ∙ ap (λ n. amortized g (reached g k).0 (n + 1) 4) count); grown = rw e (omega (arith, d.2)) }
+          record { count = counts; growth = d.1; capacity = rw e (d.0 ∙ ap (λ n. amortized g (reached g k).0 (n + 1) 4) p.count); grown = rw e (omega (arith, d.2, p.grown, p.count)) }
 
 -- a full vector of c places that asks for room for 6 more
 climbs_once : {T A : Type 0} (lower : ℕ → ℕ) (needed c : ℕ) (v w : Vector T A) → v.capacity ≡ c → v.growth ≡ Doubling → c < needed → ((n : ℕ) → asked_for lower n ≡ 6) → needed ≤ w.capacity → Climbs 4 lower needed v w
