@@ -45,9 +45,7 @@ module _ {A : Type 0} {old : Vector ℕ A} {iter given : ItemsLeft ℕ} {d : Dra
   spliced = SplicesAll-items iter 4 (drain_vec d) (range_len d) (drain_tail d) new s (omega (arith, ap length before, drains.head.block.capacity, was.1))
 
   pub five_there : new.items ≡ 1 ∷ 7 ∷ 8 ∷ 9 ∷ 4 ∷ []
-  five_there =
-      spliced.items ∙ ap (λ xs. xs ++ (iter.items ++ drain_tail d)) before
-      ∙ ap (λ ys. (1 ∷ []) ++ (ys ++ drain_tail d)) come ∙ ap (λ zs. (1 ∷ []) ++ ((7 ∷ 8 ∷ 9 ∷ []) ++ zs)) behind
+  five_there = spliced.items ∙ (λ i. before i ++ (come i ++ behind i))
 
   three : length iter.items ≡ 3
   three = ap length come
@@ -72,9 +70,7 @@ module _ {A : Type 0} {old : Vector ℕ A} {iter given : ItemsLeft ℕ} {d : Dra
     pub five_room : MakesRoomTwice 4 (drain_vec d) 4 h (1 - h) new
     five_room =
         let all : length (drain_head d) + range_len d + length (drain_tail d) ≡ 4 = omega (arith, ap length before, ap length behind, drains.range) in
-        let P : ℕ → ℕ → ℕ → Type 0 = λ n k r. MakesRoomTwice 4 (drain_vec d) n k (r - k) new in
-        let made = spliced.beyond (omega (arith, ap length behind)) (omega (arith, three, drains.range)) in
-        subst (λ r. P 4 h r) left_one (subst (λ k. P 4 k (length iter.items - range_len d)) tells (subst (λ n. P n (lower_by iter.hint (length iter.items - range_len d)) (length iter.items - range_len d)) all made))
+        rw (all, tells, left_one) at (spliced.beyond (omega (arith, ap length behind)) (omega (arith, three, drains.range)))
 
     pub places : (drain_vec d).capacity ≡ 4
     places = drains.head.block.capacity ∙ was.1
@@ -112,8 +108,8 @@ module _ {T A : Type 0} (g : Growth) (old : Vector T A) where
     pub grown : v.grown ≡ old.grown + (reached g k).1
 
   -- one more
-  pub IsPushed-next : (k : ℕ) (v w : Vector T A) (x : T) → IsPushed k v → Becomes (with_room 4 v (len v) 1) (v.items ++ x ∷ []) 1 1 w → IsPushed (k + 1) w
-  IsPushed-next k v w x p pushed = subst (λ n. IsPushed n w) (omega arith) (by_test (nat_lt k (reached g k).0) refl)
+  pub pushed_next : (k : ℕ) (v w : Vector T A) (x : T) → IsPushed k v → Becomes (with_room 4 v (len v) 1) (v.items ++ x ∷ []) 1 1 w → IsPushed (k + 1) w
+  pushed_next k v w x p pushed = subst (λ n. IsPushed n w) (omega arith) (by_test (nat_lt k (reached g k).0) refl)
     where
       room : MakesRoom 4 v (len v) 1 w
       room = (GrowsTo-becomes v (v.items ++ x ∷ []) 1 1 w 4 1 pushed).room
@@ -129,9 +125,7 @@ module _ {T A : Type 0} (g : Growth) (old : Vector T A) where
       by_test false e =
           let lacks : (reached g k).0 - len v < 1 = let count = p.count in grind (arith, nat_tests) in
           let d = grows_to v w (reached g k).0 (len v) 1 p.capacity p.growth room lacks in
-          let count = p.count in
-          let grown = p.grown in
-          record { count = counts; growth = d.1; capacity = rw e (d.0 ∙ ap (λ n. amortized g (reached g k).0 (n + 1) 4) count); grown = rw e (omega (arith, d.2)) }
+          record { count = counts; growth = d.1; capacity = rw e (d.0 ∙ ap (λ n. amortized g (reached g k).0 (n + 1) 4) p.count); grown = rw e (omega (arith, d.2, p.grown, p.count)) }
 
 -- a full vector of c places that asks for room for 6 more
 climbs_once : {T A : Type 0} (lower : ℕ → ℕ) (needed c : ℕ) (v w : Vector T A) → v.capacity ≡ c → v.growth ≡ Doubling → c < needed → ((n : ℕ) → asked_for lower n ≡ 6) → needed ≤ w.capacity → Climbs 4 lower needed v w
@@ -183,9 +177,6 @@ middle_stays old new d e f r q items drains first last kept =
     let P : ℕ → ℕ → ℕ → ℕ → Type 0 = λ i j m n. new.written ≡ (drain_vec f).written + ((if i == 0 then 0 else m) + (if i + j == 0 then 0 else n)) in
     let w : P 1 1 1 2 =
     subst (λ i. P i 1 1 2) front (subst (λ j. P (taken_front f) j 1 2) back (subst (λ m. P (taken_front f) (taken_back f) m 2) (ap length b.0) (subst (λ n. P (taken_front f) (taken_back f) (length (drain_rest f)) n) (ap length tail) kept.writes.written))) in (
-      record {
-        items = kept.holds.items ∙ ap (λ xs. xs ++ (drain_rest f ++ drain_tail f)) head ∙ ap (λ xs. (0 ∷ []) ++ (xs ++ drain_tail f)) b.0 ∙ ap (λ xs. (0 ∷ []) ++ ((2 ∷ []) ++ xs)) tail;
-        block = SameBlock-trans drains.head.block (SameBlock-trans keeps.head.block kept.holds.block);
-      },
+      record { items = kept.holds.items ∙ (λ i. head i ++ (b.0 i ++ tail i)); block = SameBlock-trans drains.head.block (SameBlock-trans keeps.head.block kept.holds.block) },
       omega (arith, w, keeps.writes.written, drains.writes.written),
     )

@@ -30,6 +30,7 @@ fn without_two_and_six<A: Allocator>(v: &mut Vec<u32, A>)
 }
 
 // A retain that removes nothing writes nothing.
+#[tactic(auto, using(aa_vec::proofs::Callers::callers))]
 fn all_kept<A: Allocator>(v: &mut Vec<u32, A>)
     ensures items { Holds v.old v.old.items v.new }
     ensures writes { (v.new.written ≡ v.old.written) × (v.new.runs ≤ v.old.runs) }

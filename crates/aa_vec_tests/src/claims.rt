@@ -29,6 +29,7 @@ fn two_by_three<A: Allocator + Clone>(
 }
 
 // Seventeen pushes onto an empty vector: 28 elements are moved by growth.
+#[tactic(auto, using(crate::proofs::Claimed::pushed_next))]
 fn seventeen_pushes<A: Allocator>(v: &mut Vec<u32, A>) -> Result<(), TryReserveError>
     requires { (v.old.items ≡ []) × (v.old.capacity ≡ 0) × (v.old.growth ≡ Doubling) }
     ensures { OnOk result ((v.new.capacity ≡ 32) × (v.new.grown ≡ v.old.grown + 28)) }
@@ -41,6 +42,7 @@ fn seventeen_pushes<A: Allocator>(v: &mut Vec<u32, A>) -> Result<(), TryReserveE
 
 // Four pushes onto an empty vector, and then ten times a push and a pop: four elements are moved by
 // growth.
+#[tactic(auto, using(crate::proofs::Claimed::pushed_next))]
 fn pushes_and_pops<A: Allocator>(v: &mut Vec<u32, A>) -> Result<(), TryReserveError>
     requires { (v.old.items ≡ []) × (v.old.capacity ≡ 0) × (v.old.growth ≡ Doubling) }
     ensures { OnOk result ((v.new.capacity ≡ 8) × (v.new.grown ≡ v.old.grown + 4)) }
@@ -112,6 +114,7 @@ fn middle_kept<A: Allocator>(v: &mut Vec<u32, A>) -> (Option<u32>, Option<u32>)
 }
 
 // Of the second to the fifth of six the even ones are taken out: three are written.
+#[tactic(auto, using(aa_vec::proofs::Callers::callers))]
 fn evens_taken<A: Allocator>(v: &mut Vec<u32, A>) -> (Option<u32>, Option<u32>)
     requires { v.old.items ≡ 1 ∷ 2 ∷ 3 ∷ 4 ∷ 5 ∷ 6 ∷ [] }
     ensures taken { result ≡ (Some 2, Some 4) }

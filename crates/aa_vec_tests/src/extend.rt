@@ -3,7 +3,7 @@ ghost use Rattle.std.specs.Prelude.{◌≡◌, ◌+◌, ◌-◌, ◌≤◌, ◌+
 ghost use Rattle.std.specs.Iterator.{IsFinite, IsNearerEnd};
 ghost use Rattle.std.specs.Mem.{type_size};
 ghost use Rattle.aa_raw.specs.Growth.{usize_max};
-ghost use Rattle.aa_vec.specs.Vector.{len, HasRoom, MakesRoom, Writes};
+ghost use Rattle.aa_vec.specs.Vector.{len, HasRoom, SameBlock, Writes, with_room};
 ghost use Rattle.aa_vec.specs.Extending.{ExtendsAll, ExtendsFull, lower_by};
 
 use crate::lists::{list, numbers, stands, units};
@@ -22,8 +22,8 @@ fn extended<T: Drop, A: Allocator>(
     ensures all { OnOk result
         (ExtendsAll (type_size T.row) (lower_by items.hint) v.old v.old.items items.items v.new) }
     ensures exact { OnOk result (items.hint ≡ None → length items.items ≤ usize_max
-        → MakesRoom (type_size T.row) v.old v.old.capacity
-        (len v.old + length items.items - v.old.capacity) v.new) }
+        → SameBlock (with_room (type_size T.row) v.old v.old.capacity
+        (len v.old + length items.items - v.old.capacity)) v.new) }
     ensures writes { let placed = len v.new - len v.old in Writes v.old placed placed v.new }
     ensures refused { IfErr result (λ e. ExtendsFull (type_size T.row) (lower_by items.hint) v.old
         v.old.items items.items e v.new) }

@@ -96,6 +96,7 @@ fn what_is_made_of_a_vector_grows_as_it_does(rt: HostRuntime) -> Result<(), Fail
 }
 
 // Fifteen pushes onto an empty vector that grows sparingly: 33 elements are moved by growth.
+#[tactic(auto, using(crate::proofs::Claimed::pushed_next))]
 fn fifteen_sparing_pushes<A: Allocator>(v: &mut Vec<u32, A>) -> Result<(), TryReserveError>
     requires { (v.old.items ≡ []) × (v.old.capacity ≡ 0) × (v.old.growth ≡ Sparing) }
     ensures { OnOk result ((v.new.capacity ≡ 21) × (v.new.grown ≡ v.old.grown + 33)) }

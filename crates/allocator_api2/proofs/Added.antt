@@ -1,13 +1,12 @@
 -- What a list of commands added, where each adds at most one element.
-use Rattle.allocator_api2.proofs.Common.{◌≡◌, ℕ, ◌+◌, ◌*◌, ◌≤◌, List, [], ◌∷◌, length, map, sum_by, sym, ap, subst, arith, AllByRecursion, sum_by-cons, Growth, Doubling, Sparing, Vector, Command, Push, Within, Pop, Insert, Remove, SwapRemove, Truncate, Clear, Append, Extend, Retain, Dedup, Drain, ExtractIf, Reply, Done, State, Calls, Turn, AddsOrRemoves, added, added_by, moves_each, RunsWithin}
-use Rattle.std.proofs.lemmas.List.{length-map}
+use Rattle.allocator_api2.proofs.Common.{◌≡◌, ℕ, ◌+◌, ◌*◌, ◌≤◌, List, [], ◌∷◌, length, map, sum_by, sym, ap, subst, arith, AllByRecursion, sum_by-cons, Growth, Doubling, Sparing, Vector, Command, Push, Within, Pop, Insert, Remove, SwapRemove, Truncate, Clear, Append, Extend, Retain, Dedup, Drain, ExtractIf, Reply, Done, State, Calls, Turn, AddsOrRemoves, added, added_by, moves_each, RunsWithin, length-map}
 use Rattle.allocator_api2.specs.Run.{AddsOneAtMost, if_done}
 
 if_done-le : {T : Type 0} (reply : Reply T) (n : ℕ) → if_done reply n ≤ n
 if_done-le Done n = omega arith
 if_done-le _ n = omega arith
 
-moves_each-le : (G : Growth) (grown paid n k : ℕ) → n ≤ k → grown ≤ paid + moves_each G * n → grown ≤ paid + moves_each G * k
+pub moves_each-le : (G : Growth) (grown paid n k : ℕ) → n ≤ k → grown ≤ paid + moves_each G * n → grown ≤ paid + moves_each G * k
 moves_each-le Doubling grown paid n k le h = omega arith
 moves_each-le Sparing grown paid n k le h = omega arith
 
@@ -25,16 +24,9 @@ module _ {T A : Type 0} where
   one_at_most main side (Push x) reply main' a = if_done-le reply 1
   one_at_most main side (Within x) reply main' a = if_done-le reply 1
   one_at_most main side (Insert i x) reply main' a = if_done-le reply 1
-  one_at_most main side Pop reply main' a = omega arith
-  one_at_most main side (Remove i) reply main' a = omega arith
-  one_at_most main side (SwapRemove i) reply main' a = omega arith
-  one_at_most main side (Truncate n) reply main' a = omega arith
-  one_at_most main side Clear reply main' a = omega arith
-  one_at_most main side Retain reply main' a = omega arith
-  one_at_most main side Dedup reply main' a = omega arith
-  one_at_most main side (Drain start end front back keep) reply main' a = omega arith
-  one_at_most main side (ExtractIf start end count) reply main' a = omega arith
-  one_at_most main side command reply main' a = absurd a
+  one_at_most main side Append reply main' a = absurd a
+  one_at_most main side (Extend items hint) reply main' a = absurd a
+  one_at_most main side command reply main' a = omega arith
 
 module _ {T A K S : Type 0} where
   -- no more was added than there were commands

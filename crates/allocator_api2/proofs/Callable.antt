@@ -4,20 +4,10 @@ use Rattle.aa_vec.specs.Choosing.{MayAskInOrder, MayChainFrom, MayDeduplicate}
 use Rattle.allocator_api2.specs.Run.{MayCall, IsCallableOnRuns}
 
 module _ {T A K S : Type 0} (size : ℕ) (calls : Calls T A K S) where
-  -- the commands stand in turned order
-  pub MayRun-turned : (s : State T A K S) (all rest : List (Command T A)) → rest ≡ reverse all → MayRun size calls s all → MayRun size calls s (reverse rest)
-  MayRun-turned s all rest e may = subst (MayRun size calls s) (sym (ap reverse e ∙ reverse-reverse all)) may
-
   module _ (s : State T A K S) (rest later : List (Command T A)) (command : Command T A) (e : rest ≡ later ++ command ∷ []) (may : MayRun size calls s (reverse rest)) where
-    next_first : MayRun size calls s (command ∷ reverse later)
-    next_first = subst (MayRun size calls s) (ap reverse e ∙ reverse-append later (command ∷ [])) may
-
     -- the next may call them, and then those behind it
-    pub MayCall-next : MayCall size calls s command
-    MayCall-next = next_first.0
-
-    pub MayRun-later : (reply : Reply T) (next : State T A K S) → DoesStep size calls s command reply next → IsPossible next.main next.side → MayRun size calls next (reverse later)
-    MayRun-later reply next step possible = next_first.1 step.answers reply next step.step possible
+    pub MayRun-next : MayRun size calls s (command ∷ reverse later)
+    MayRun-next = subst (MayRun size calls s) (ap reverse e ∙ reverse-append later (command ∷ [])) may
 
   -- closures whose good states take every element, and lead to good states alone
   module _ (good_keep : K → Type 0) (good_same : S → Type 0)
@@ -50,15 +40,13 @@ module _ {T A K S : Type 0} (size : ℕ) (calls : Calls T A K S) where
     asked_stays : (k g : K) (xs : List T) (asked : List (Asked T)) → good_keep k → AskedInOrder calls.keeps k xs asked g → good_keep g
     asked_stays k g [] [] good e = subst good_keep (sym e) good
     asked_stays k g (x ∷ xs) (y ∷ ys) good e = asked_stays e.0 g xs ys (keep_stays k e.0 x y.left y.answer good e.1) e.2
-    asked_stays k g [] (y ∷ ys) good e = absurd e
-    asked_stays k g (x ∷ xs) [] good e = absurd e
+    asked_stays k g xs ys good e = absurd e
 
     chained_stays : (s t : S) (l : T) (xs ys : List T) (answers : List Bool) → good_same s → ChainsFrom calls.repeats s l xs answers t ys → good_same t
     chained_stays s t l [] ys [] good e = subst good_same (sym e.0) good
     chained_stays s t l (x ∷ xs) ys (true ∷ answers) good e = chained_stays e.0 t e.2 xs ys answers (same_stays s e.0 x l e.1 e.2 true good e.3) e.4
     chained_stays s t l (x ∷ xs) ys (false ∷ answers) good e = chained_stays e.0 t e.1 xs e.3 answers (same_stays s e.0 x l e.1 e.2 false good e.4) e.5
-    chained_stays s t l [] ys (answer ∷ answers) good e = absurd e
-    chained_stays s t l (x ∷ xs) ys [] good e = absurd e
+    chained_stays s t l xs ys answers good e = absurd e
 
     deduplicated_stays : (s t : S) (xs ys : List T) (answers : List Bool) → good_same s → Deduplicated calls.repeats s xs answers t ys → good_same t
     deduplicated_stays s t [] ys answers good e = subst good_same (sym e.1) good
@@ -70,11 +58,6 @@ module _ {T A K S : Type 0} (size : ℕ) (calls : Calls T A K S) where
     step_stays s next (SplitOff at) answers reply k r step = (subst good_keep (sym step.cut.keep) k, subst good_same (sym step.cut.same) r)
     step_stays s next (ExtractIf start end count) answers Done k r step =
         (asked_stays s.keep next.keep (take (length step.takes.told) (slice_range s.main.items start end)) step.takes.told k step.takes.asked, subst good_same (sym step.same) r)
-    step_stays s next (ExtractIf start end count) answers (Item y) k r step = (subst good_keep (sym step.keep) k, subst good_same (sym step.same) r)
-    step_stays s next (ExtractIf start end count) answers Nothing k r step = (subst good_keep (sym step.keep) k, subst good_same (sym step.same) r)
-    step_stays s next (ExtractIf start end count) answers (Back y) k r step = (subst good_keep (sym step.keep) k, subst good_same (sym step.same) r)
-    step_stays s next (ExtractIf start end count) answers (Refused kind) k r step = (subst good_keep (sym step.keep) k, subst good_same (sym step.same) r)
-    step_stays s next (ExtractIf start end count) answers Range k r step = (subst good_keep (sym step.keep) k, subst good_same (sym step.same) r)
     step_stays s next command answers reply k r step = (subst good_keep (sym step.keep) k, subst good_same (sym step.same) r)
 
     may_run : (s : State T A K S) (commands : List (Command T A)) → good_keep s.keep → good_same s.same → MayRun size calls s commands

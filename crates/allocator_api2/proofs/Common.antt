@@ -3,7 +3,7 @@ pub use Rattle.aa_raw.specs.Growth.{least_of}
 pub use Rattle.aa_raw.specs.declared.collections.TryReserveError.{TryReserveError}
 pub use Rattle.aa_raw.specs.declared.raw_vec.Growth.{Growth}
 pub use Rattle.aa_raw.specs.declared.raw_vec.Growth.TheVariants.{Doubling, Sparing}
-pub use Rattle.aa_vec.proofs.Climbing.{Climbs-rises, SameBlock-refl, SameBlock-trans}
+pub use Rattle.aa_vec.proofs.Climbing.{Climbs-rises, Holds-more, MakesRoom-has, SameBlock-refl, SameBlock-trans}
 pub use Rattle.aa_vec.specs.Choosing.{Asked, AskedInOrder, ChainsFrom, Deduplicated, TakesMut, answers_of}
 pub use Rattle.aa_vec.specs.Copies.{IsMadeWithin, WritesAtMost}
 pub use Rattle.aa_vec.specs.Draining.{TakesRange, drain_head, drain_rest, drain_tail, drain_vec, range_len}
@@ -19,7 +19,7 @@ pub use Rattle.allocator_api2.specs.declared.runner.Command.TheVariants.{Append,
 pub use Rattle.allocator_api2.specs.declared.runner.Reply.{Reply}
 pub use Rattle.allocator_api2.specs.declared.runner.Reply.TheVariants.{Back, Done, Item, Nothing, Range, Refused}
 pub use Rattle.std.proofs.Common.{Bool, List, None, Option, Some, [], ap, append_assoc, arith, drop, false, inl, inr, length, length-append, length-drop, length-take, map, max, min, refl, reverse, rules, subst, suc, sum_by, sym, take, true, zero, ℕ, ◌*◌, ◌++◌, ◌+◌, ◌-◌, ◌<◌, ◌∙◌, ◌∷◌, ◌≡◌, ◌≤◌, ◌⊎◌}
-pub use Rattle.std.proofs.lemmas.List.{append-nil, drop-drop, length-reverse, reverse-append, reverse-reverse, take-append-drop, take_all}
+pub use Rattle.std.proofs.lemmas.List.{append-nil, drop-drop, length-map, length-reverse, reverse-append, reverse-reverse, take-append-drop, take_all}
 pub use Rattle.std.proofs.lemmas.List.Sums.{sum_by-cons}
 pub use Rattle.std.specs.Fn.{CalledAtMut}
 pub use Rattle.std.specs.List.{AllByRecursion, repeat}

@@ -23,33 +23,29 @@ module _ {T : Type 0} (xs : List T) where
 module _ {T A : Type 0} where
   -- no times, in an empty vector
   pub Holds-none : (n : ℕ) (xs : List T) (v : Vector T A) → n ≡ 0 → v.items ≡ [] → Holds v (repeat n xs) v
-  Holds-none zero xs v z e = record { items = e; block = SameBlock-refl v }
-  Holds-none (suc n) xs v z e = absurd (omega (arith, z))
+  Holds-none n xs v z e = rw z (record { items = e; block = SameBlock-refl v })
 
   pub Writes-none : (n : ℕ) (xs : List T) (v : Vector T A) → n ≡ 0 → WritesAtMost v (n * length xs) v
-  Writes-none zero xs v z = record { written = omega arith; runs = omega arith }
-  Writes-none (suc n) xs v z = absurd (omega (arith, z))
+  Writes-none n xs v z = rw z (record { written = omega arith; runs = omega arith })
 
   -- what stands in a new vector with room for just that
   pub IsMadeWithin-repeated : (size n : ℕ) (xs : List T) (a : A) (new v : Vector T A)
       → IsNew size (n * length xs) a new
       → Holds new (repeat n xs) v
       → WritesAtMost new (n * length xs) v
-      → IsMadeWithin size Doubling (repeat n xs) v × (v.alloc ≡ a)
+      → IsMadeWithin size Doubling (repeat n xs) v
   IsMadeWithin-repeated size n xs a new v made held wrote =
-      let long = length-repeat xs n in (
-        record {
-          calls = v.runs;
-          few = omega (arith, long, wrote.runs, made.runs);
-          made =
-              record {
-                items = held.items;
-                capacity = held.block.capacity ∙ made.capacity ∙ ap (sized size) (sym long);
-                grows = held.block.growth ∙ made.growth;
-                grown = held.block.grown ∙ made.grown;
-                written = omega (arith, long, wrote.written, made.written);
-                runs = refl;
-              };
-        },
-        held.block.alloc ∙ made.alloc,
-      )
+      let long = length-repeat xs n in
+      record {
+        calls = v.runs;
+        few = omega (arith, long, wrote.runs, made.runs);
+        made =
+            record {
+              items = held.items;
+              capacity = held.block.capacity ∙ made.capacity ∙ ap (sized size) (sym long);
+              grows = held.block.growth ∙ made.growth;
+              grown = held.block.grown ∙ made.grown;
+              written = omega (arith, long, wrote.written, made.written);
+              runs = refl;
+            };
+      }

@@ -1,15 +1,9 @@
 -- Room that a reserve made lasts for as many pushes.
-use Rattle.allocator_api2.proofs.Common.{◌≡◌, ℕ, ◌+◌, ◌-◌, ◌≤◌, List, [], ◌∷◌, length, ap, ◌∙◌, refl, arith, inl, inr, AllByRecursion, least_of, Vector, len, HasRoom, GrowsTo, Within, Reply, Done, Back, Refused, Range, Answers}
+use Rattle.allocator_api2.proofs.Common.{◌≡◌, ℕ, ◌+◌, ◌-◌, ◌≤◌, List, [], ◌∷◌, length, ap, arith, rules, AllByRecursion, least_of, Vector, len, HasRoom, Within, Reply, Done, Back, Range, Answers, MakesRoom-has}
 use Rattle.std.proofs.lemmas.List.{length-append}
 use Rattle.allocator_api2.specs.Laws.{IsDone, PushesWithin, ReserveHolds}
-use Rattle.aa_vec.proofs.Climbing.{MakesRoom-has}
 
 module _ {T A : Type 0} (size : ℕ) where
-  -- a vector that made room for k more has it
-  HasRoom-made : (old : Vector T A) (k : ℕ) (xs : List T) (new : Vector T A) → length xs ≡ len old → GrowsTo size old k xs new → HasRoom new k
-  HasRoom-made old k xs new e g =
-      omega (arith, ap length g.items ∙ e, MakesRoom-has size (len old) k old new g.room)
-
   -- a push within the capacity finds room, and leaves room for one fewer
   push_done : (k : ℕ) (main side : Vector T A) (x : T) (reply : Reply T) (main' side' : Vector T A)
       → HasRoom main (k + 1) → Answers size main side (Within x) reply main' side' → IsDone reply × HasRoom main' k
@@ -17,20 +11,18 @@ module _ {T A : Type 0} (size : ℕ) where
       let held = s.makes.main_does.1 in
       (tt, omega (arith, h, ap length held.items, length-append main.items (x ∷ []), held.block.capacity))
   push_done k main side x (Back y) main' side' h s = absurd (omega (arith, h, s.makes.main_does.0))
-  push_done k main side x (Refused kind) main' side' h s = absurd (s.misfits tt)
   push_done k main side x Range main' side' h s = absurd (s.outside tt)
-  push_done k main side x _ main' side' h s = absurd s.makes.main_does
+  push_done k main side x reply main' side' h s = search rules
 
   all_done : (k : ℕ) (main side : Vector T A) (xs : List T) (replies : List (Reply T))
       → HasRoom main k → PushesWithin size main side xs replies → length xs ≤ k → AllByRecursion IsDone replies
   all_done k main side [] [] h p l = tt
-  all_done k main side [] (reply ∷ replies) h p l = absurd p
-  all_done k main side (x ∷ xs) [] h p l = absurd p
   all_done k main side (x ∷ xs) (reply ∷ replies) h p l =
       let e : k - 1 + 1 ≡ k = omega (arith, l) in
       let here = push_done (k - 1) main side x reply p.0 p.1 (rw e h) p.2 in
       (here.0, all_done (k - 1) p.0 p.1 xs replies here.1 p.3 (omega (arith, l)))
+  all_done k main side xs replies h p l = absurd p
 
   pub reserve_holds : ReserveHolds T A size
   reserve_holds k main side main' side' xs replies s p l =
-      all_done k main' side' xs replies (HasRoom-made main k main.items main' refl s.makes.main_does) p l
+      all_done k main' side' xs replies (omega (arith, ap length s.makes.main_does.items, MakesRoom-has size (len main) k main main' s.makes.main_does.room)) p l

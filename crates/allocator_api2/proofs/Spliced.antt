@@ -1,5 +1,5 @@
 -- A splice that was refused did not fit.
-use Rattle.allocator_api2.proofs.Common.{◌≡◌, ℕ, ◌+◌, ◌-◌, ◌<◌, ◌≤◌, List, ◌++◌, length, take, drop, ap, ◌∙◌, arith, ◌⊎◌, inl, inr, length-append, length-take, length-drop, ⊤, TryReserveError, Vector, len, SplicesShort}
+use Rattle.allocator_api2.proofs.Common.{◌≡◌, ℕ, ◌+◌, ◌-◌, ◌<◌, ◌≤◌, List, ◌++◌, length, take, drop, ap, ◌∙◌, arith, inl, inr, length-append, length-take, length-drop, ⊤, TryReserveError, Vector, len, SplicesShort}
 use Rattle.aa_vec.specs.Splicing.{SplicesFront}
 use Rattle.allocator_api2.specs.Machine.{FitsRange, without_range}
 use Rattle.allocator_api2.proofs.Stops.{stops-full}
@@ -27,37 +27,22 @@ module _ {T A : Type 0} (size : ℕ) (lower : ℕ → ℕ) (old : Vector T A) (s
     long_new : len new ≡ start + length front.front + (len old - end)
     long_new = omega (arith, ap length front.items, length-append head (front.front ++ tail), length-append front.front tail, long_head, long_tail)
 
-    front_full : ¬ ((length added < gap) ⊎ ((length added - gap ≤ lower (length added - gap)) × (lower (length added - gap) ≤ old.capacity - len old)))
-    front_full fits =
-        elim front.why [
-          | inl w ↦ elim fits [
-            | inl few ↦ absurd (omega (arith, few, count, w.fills))
-            | inr all ↦ absurd (omega (arith, w.lacks.full, w.block.capacity, all.1, long_new, w.fills, ordered, within))
-          ]
-          | inr w ↦ elim fits [
-            | inl few ↦ absurd (omega (arith, few, count, w.0.fills))
-            | inr all ↦ absurd (omega (arith, all.0, count, w.0.fills, w.0.more))
-          ]
-        ]
+    not_fewer : ¬ (length added < gap)
+    not_fewer few = elim front.why [
+      | inl w ↦ absurd (omega (arith, few, count, w.fills))
+      | inr w ↦ absurd (omega (arith, few, count, w.0.fills))
+    ]
 
-  module _ (short : SplicesShort size lower (without_range old start end) added ⊤ ⊤ error new) where
-    pub short-full : ¬ FitsRange old start end (length added) lower
-    short-full fits =
-        elim short [
-          | inl p ↦
-              let last : end ≡ len old = omega (arith, long_tail, ap length p.0, within) in
-              elim fits [
-                | inl h ↦ absurd (stops-full size lower old head added error new p.1 (omega (arith, h.1, long_head)))
-                | inr h ↦ elim h [
-                  | inl g ↦ absurd (omega (arith, g.0, last))
-                  | inr g ↦ absurd (omega (arith, g.0, last))
-                ]
-              ]
-          | inr p ↦ elim fits [
-            | inl h ↦ absurd (omega (arith, h.0, p.0, long_tail))
-            | inr h ↦ elim h [
-              | inl g ↦ absurd (front_full p.1 (inl g.1))
-              | inr g ↦ absurd (front_full p.1 (inr (g.1, g.2)))
-            ]
-          ]
-        ]
+    not_told : length added - gap ≤ lower (length added - gap) → ¬ (lower (length added - gap) ≤ old.capacity - len old)
+    not_told all room = elim front.why [
+      | inl w ↦ absurd (omega (arith, w.lacks.full, w.block.capacity, room, long_new, w.fills, ordered, within))
+      | inr w ↦ absurd (omega (arith, all, count, w.0.fills, w.0.more))
+    ]
+
+  pub short-full : SplicesShort size lower (without_range old start end) added ⊤ ⊤ error new → ¬ FitsRange old start end (length added) lower
+  short-full (inl p) (inl h) = stops-full size lower old head added error new p.1 (omega (arith, h.1, long_head))
+  short-full (inl p) (inr (inl g)) = absurd (omega (arith, g.0, long_tail, ap length p.0))
+  short-full (inl p) (inr (inr g)) = absurd (omega (arith, g.0, long_tail, ap length p.0))
+  short-full (inr p) (inl h) = absurd (omega (arith, h.0, p.0, long_tail))
+  short-full (inr p) (inr (inl g)) = not_fewer p.1 g.1
+  short-full (inr p) (inr (inr g)) = not_told p.1 g.1 g.2

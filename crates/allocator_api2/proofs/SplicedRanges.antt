@@ -20,18 +20,7 @@ module _ {T A : Type 0} (size : ℕ) (old : Vector T A) (start end : ℕ) (order
       (subst (λ g. P (drain_head d) g (drop end old.items)) drains.range (subst (λ t. P (drain_head d) (range_len d) t) drains.tail p))
 
   few : SplicesWithin (drain_vec d) (drain_tail d) new → new.written ≤ old.written + (len new - (start + (len old - end)) + 2 * (len old - end))
-  few w =
-      omega (
-        arith,
-        w.written,
-        drains.writes.written,
-        ap length drains.head.items,
-        length-take start old.items,
-        ap length drains.tail,
-        length-drop end old.items,
-        ordered,
-        within,
-      )
+  few w = omega (arith, ap length drains.head.items, length-take start old.items, ap length drains.tail, length-drop end old.items)
 
   pub Spliced-done : SplicesByAll gives_item (TellsExactly items_lower) size iter (cut_off (drain_vec d) (range_len d) (drain_tail d)) new
       → SplicesWithin (drain_vec d) (drain_tail d) new → DoesOnMain size old (Splice start end items hint) Done new

@@ -1,133 +1,87 @@
--- What a step of the list machine does to main: it stays in its block, has grown once, or climbed while it was full.
-use Rattle.allocator_api2.proofs.Common.{◌≡◌, ℕ, suc, ◌+◌, ◌-◌, ◌≤◌, min, Bool, List, [], ◌∷◌, length, take, drop, Option, refl, ap, ◌∙◌, arith, ◌⊎◌, inl, inr, length-take, length-drop, Vector, len, SameBlock, GrowsTo, Holds, Command, SplitOff, Push, Within, Pop, Insert, Remove, SwapRemove, Truncate, Clear, Append, Extend, Retain, Dedup, Drain, ExtractIf, Reply, Done, Item, Nothing, Back, Refused, Range, Climbs, ExtendsFull, lower_by, TryReserveError, State, Calls, Step, Answers, asking, AddsOrRemoves, hint_of, added_by}
+-- What a step of the list machine does to main: it stays in its block, has grown once, or grew any number of times while it was full.
+use Rattle.allocator_api2.proofs.Common.{◌≡◌, ℕ, suc, ◌+◌, ◌-◌, ◌<◌, ◌≤◌, max, min, Bool, List, [], ◌∷◌, length, take, drop, None, Option, refl, sym, subst, ap, ◌∙◌, arith, rules, inl, inr, length-take, length-drop, Vector, len, SameBlock, GrowsTo, Holds, Command, SplitOff, Push, Within, Pop, Insert, Remove, SwapRemove, Truncate, Clear, Append, Extend, Retain, Dedup, Drain, ExtractIf, Reply, Done, Item, Nothing, Back, Refused, Range, Climbs, ExtendsFull, lower_by, TryReserveError, State, Calls, Step, Answers, asking, AddsOrRemoves, hint_of, added_by}
 use Rattle.std.proofs.Common.{length-set}
-use Rattle.std.specs.Prelude.{insert, remove, swap_remove, slice_set, slice_index_or}
+use Rattle.std.specs.Prelude.{slice_set, slice_index_or}
 use Rattle.std.proofs.lemmas.List.{length-append}
-use Rattle.aa_vec.specs.Extending.{ExtendsAll}
+use Rattle.std.proofs.lemmas.Bool.{cases_lt}
+use Rattle.aa_vec.specs.Extending.{ExtendsAll, asked_for, grows, stays}
+use Rattle.aa_vec.proofs.Climbing.{MakesRoom, MakesRoom-has, MakesRoom-rises, MakesRoom-stays, SameBlock-refl}
 use Rattle.aa_vec.proofs.Kept.{length-kept, length-deduplicated}
 use Rattle.allocator_api2.proofs.Extracting.{length-taken_out}
 use Rattle.allocator_api2.proofs.Ranges.{length-left_of}
 use Rattle.allocator_api2.specs.Machine.{InRange, Makes, AnswersRefused, ends_of}
 
-module _ {T : Type 0} where
-  length-insert : (xs : List T) (i : ℕ) (x : T) → i ≤ length xs → length (insert xs i x) ≡ length xs + 1
-  length-insert xs i x h = omega (arith, length-append (take i xs) (x ∷ drop i xs), length-take i xs, length-drop i xs)
-
-  length-remove-le : (xs : List T) (i : ℕ) → length (remove xs i) ≤ length xs
-  length-remove-le xs i = omega (arith, length-append (take i xs) (drop (suc i) xs), length-take i xs, length-drop (suc i) xs)
-
-  length-swap_remove-le : (xs : List T) (i : ℕ) (d : T) → length (swap_remove xs i d) ≤ length xs
-  length-swap_remove-le xs i d =
-      let ys : List T = slice_set xs i (slice_index_or xs (length xs - 1) d) in
-      omega (arith, length-take (length xs - 1) ys, length-set xs i (slice_index_or xs (length xs - 1) d))
-
-  length-take-le : (xs : List T) (n : ℕ) → length (take n xs) ≤ length xs
-  length-take-le xs n = omega (arith, length-take n xs)
-
 module _ {T A : Type 0} (size : ℕ) where
-  -- main stayed in its block, with at most k elements more
-  pub record StaysInBlock (old : Vector T A) (k : ℕ) (new : Vector T A) : Type 0 where
-    pub block : SameBlock old new
-    pub longest : len new ≤ len old + k
-    pub fits : len old ≤ old.capacity → len new ≤ old.capacity
+  -- old made room any number of times while it had not places for `needed`, and is new; told of no hint, it asked for no more than is needed
+  pub data Moves (hint : Option ℕ) (needed : ℕ) : Vector T A → Vector T A → Type 0 where
+    kept : {old new : Vector T A} → SameBlock old new → Moves hint needed old new
+    grown : {old mid new : Vector T A} (n more : ℕ) → n ≤ old.capacity → old.capacity < n + more → old.capacity < needed → (hint ≡ None → n + more ≤ needed) → MakesRoom size old n more mid
+        → Moves hint needed mid new → Moves hint needed old new
 
-  -- or made room for k more, and has them
-  pub record HasGrown (old : Vector T A) (k : ℕ) (new : Vector T A) : Type 0 where
-    pub items : List T
-    pub count : length items ≡ len old + k
-    pub grows : GrowsTo size old k items new
-
-  -- or grew while it was full, told of items to come, and has k more. What it needed, or what it has places for, it has now
-  pub record HasClimbed (hint : Option ℕ) (old : Vector T A) (k : ℕ) (new : Vector T A) : Type 0 where
+  -- main grew so, and has k elements more at most; what it needed, or what it has places for, it has now
+  pub record Change (hint : Option ℕ) (old : Vector T A) (k : ℕ) (new : Vector T A) : Type 0 where
     pub needed : ℕ
-    pub climbs : Climbs size (lower_by hint) needed old new
-    pub count : len new ≡ len old + k
-    pub fits : len new ≤ new.capacity
+    pub moves : len old ≤ old.capacity → Moves hint needed old new
+    pub longest : len new ≤ len old + k
+    pub fits : len old ≤ old.capacity → len new ≤ new.capacity
     pub full : min needed new.capacity ≤ len new
 
-  abbrev pub Change : Option ℕ → Vector T A → ℕ → Vector T A → Type 0
-  Change hint old k new = StaysInBlock old k new ⊎ (HasGrown old k new ⊎ HasClimbed hint old k new)
-
-  shrinks : {hint : Option ℕ} (old : Vector T A) (xs : List T) (new : Vector T A) → length xs ≤ len old → Holds old xs new → Change hint old 0 new
-  shrinks old xs new h b = inl (record { block = b.block; longest = omega (arith, ap length b.items); fits = λ f. omega (arith, ap length b.items) })
+  holds : {hint : Option ℕ} (old : Vector T A) (k : ℕ) (xs : List T) (new : Vector T A) → length xs ≤ min (len old + k) (max (len old) old.capacity) → Holds old xs new → Change hint old k new
+  holds old k xs new h b = record { needed = len new; moves = λ w. kept b.block; longest = omega (arith, ap length b.items); fits = λ w. omega (arith, ap length b.items, b.block.capacity); full = omega arith }
 
   adds : {hint : Option ℕ} (old : Vector T A) (k : ℕ) (xs : List T) (new : Vector T A) → length xs ≡ len old + k → GrowsTo size old k xs new → Change hint old k new
-  adds old k xs new h g = inr (inl (record { items = xs; count = h; grows = g }))
+  adds {hint} old k xs new h g =
+      let n : ℕ = len old in let l : len new ≡ n + k = ap length g.items ∙ h in
+      let moves : n ≤ old.capacity → Moves hint (n + k) old new = λ w. elim (cases_lt old.capacity (n + k)) [
+        | inr le ↦ kept (MakesRoom-stays size n k old new g.room (omega (arith, le)))
+        | inl lt ↦ grown n k w lt lt (λ none. omega arith) g.room (kept (SameBlock-refl new))
+      ] in
+      record { needed = n + k; moves = moves; longest = omega (arith, l); fits = λ w. omega (arith, l, w, MakesRoom-has size n k old new g.room, MakesRoom-rises size n k old new g.room); full = omega (arith, l) }
+
+  climbed : (hint : Option ℕ) (needed : ℕ) {u v : Vector T A} → Climbs size (lower_by hint) needed u v → Moves hint needed u v
+  climbed hint needed (stays b) = kept b
+  climbed hint needed (grows {old = u} h m r) =
+      grown u.capacity (asked_for (lower_by hint) (needed - u.capacity)) (omega arith) (omega arith) h (λ none. subst (λ x. u.capacity + asked_for (lower_by x) (needed - u.capacity) ≤ needed) (sym none) (omega (arith, h))) m (climbed hint needed r)
 
   extends : (hint : Option ℕ) (old : Vector T A) (added : List T) (new : Vector T A) → ExtendsAll size (lower_by hint) old old.items added new → Change hint old (len new - len old) new
   extends hint old added new e =
-      let l : len new ≡ len old + length added = ap length e.items ∙ length-append old.items added in
-      inr (inr (record { needed = len old + length added; climbs = e.climbs; count = omega (arith, l); fits = omega (arith, l, e.enough); full = omega (arith, l) }))
+      let n : ℕ = len old + length added in let l : len new ≡ n = ap length e.items ∙ length-append old.items added in
+      record { needed = n; moves = λ w. climbed hint n e.climbs; longest = omega arith; fits = λ w. omega (arith, l, e.enough); full = omega (arith, l) }
 
   stops : (hint : Option ℕ) (old : Vector T A) (added : List T) (error : TryReserveError) (new : Vector T A) → ExtendsFull size (lower_by hint) old old.items added error new → Change hint old (len new - len old) new
   stops hint old added error new e =
-      let l : len new ≡ len old + length e.front = ap length e.items ∙ length-append old.items e.front in
-      let full = e.full in
-      inr (inr (record { needed = len old + length added; climbs = e.climbs; count = omega (arith, l); fits = omega (arith, l, full); full = omega (arith, l, full) }))
+      let n : ℕ = len old + length added in let l = ap length e.items ∙ length-append old.items e.front in let full = e.full in
+      record { needed = n; moves = λ w. climbed hint n e.climbs; longest = omega arith; fits = λ w. omega (arith, l, full); full = omega (arith, l, full) }
 
   same : {hint : Option ℕ} (old new : Vector T A) → new ≡ old → Change hint old 0 new
-  same old new e = rw e (shrinks old old.items old (omega arith) (record { items = refl; block = record { capacity = refl; growth = refl; grown = refl; alloc = refl } }))
+  same old new e = rw e (holds old 0 old.items old (omega arith) (record { items = refl; block = SameBlock-refl old }))
 
   -- what a command that was done has made of main
   change_done : (main side : Vector T A) (command : Command T A) (reply : Reply T) (main' side' : Vector T A) → AddsOrRemoves command → InRange main command → Makes size main side command reply main' side' → Change (hint_of command) main (added_by main side command reply main') main'
   change_done main side (Push x) Done main' side' a r m = adds main 1 _ main' (length-append main.items (x ∷ [])) m.main_does
-  change_done main side (Within x) Done main' side' a r m =
-      let l = ap length m.main_does.1.items ∙ length-append main.items (x ∷ []) in
-      inl (record { block = m.main_does.1.block; longest = omega (arith, l); fits = λ f. omega (arith, l, m.main_does.0) })
-  change_done main side (Within x) (Back y) main' side' a r m = same main main' m.main_does.2
-  change_done main side Pop (Item y) main' side' a r m =
-      let l = ap length m.main_does.0 ∙ length-append main'.items (y ∷ []) in
-      shrinks main main'.items main' (omega (arith, l)) (record { items = refl; block = m.main_does.1 })
-  change_done main side Pop Nothing main' side' a r m = same main main' m.main_does.1
-  change_done main side (Insert i x) Done main' side' a r m = adds main 1 _ main' (length-insert main.items i x r) m.main_does
-  change_done main side (Remove i) (Item y) main' side' a r m = shrinks main _ main' (length-remove-le main.items i) m.main_does.1
-  change_done main side (SwapRemove i) (Item y) main' side' a r m = shrinks main _ main' (length-swap_remove-le main.items i y) m.main_does.1
-  change_done main side (Truncate n) Done main' side' a r m = shrinks main _ main' (length-take-le main.items n) m.main_does
-  change_done main side Clear Done main' side' a r m = shrinks main _ main' (omega arith) m.main_does
+  change_done main side (Within x) Done main' side' a r m = holds main 1 _ main' (omega (arith, m.main_does.0, length-append main.items (x ∷ []))) m.main_does.1
+  change_done main side Pop (Item y) main' side' a r m = holds main 0 main'.items main' (omega (arith, ap length m.main_does.0, length-append main'.items (y ∷ []))) (record { items = refl; block = m.main_does.1 })
+  change_done main side (Insert i x) Done main' side' a r m = adds main 1 _ main' (omega (arith, r, length-append (take i main.items) (x ∷ drop i main.items), length-take i main.items, length-drop i main.items)) m.main_does
+  change_done main side (Remove i) (Item y) main' side' a r m = holds main 0 _ main' (omega (arith, length-append (take i main.items) (drop (suc i) main.items), length-take i main.items, length-drop (suc i) main.items)) m.main_does.1
+  change_done main side (SwapRemove i) (Item y) main' side' a r m = holds main 0 _ main' (omega (arith, length-take (len main - 1) (slice_set main.items i (slice_index_or main.items (len main - 1) y)), length-set main.items i (slice_index_or main.items (len main - 1) y))) m.main_does.1
+  change_done main side (Truncate n) Done main' side' a r m = holds main 0 _ main' (omega (arith, length-take n main.items)) m.main_does
+  change_done main side Clear Done main' side' a r m = holds main 0 _ main' (omega arith) m.main_does
   change_done main side Append Done main' side' a r m = adds main (len side) _ main' (length-append main.items side.items) m.joined
   change_done main side (Extend items hint) Done main' side' a r m = extends hint main items.items main' m.main_does
   change_done main side (Drain start end front back keep) Done main' side' a r m =
-      shrinks main _ main' (length-left_of main.items (ends_of start end front back) keep r.0 r.1) m.leaves
-  change_done main side (Push x) _ main' side' a r m = absurd m.main_does
-  change_done main side (Within x) _ main' side' a r m = absurd m.main_does
-  change_done main side Pop _ main' side' a r m = absurd m.main_does
-  change_done main side (Insert i x) _ main' side' a r m = absurd m.main_does
-  change_done main side (Remove i) _ main' side' a r m = absurd m.main_does
-  change_done main side (SwapRemove i) _ main' side' a r m = absurd m.main_does
-  change_done main side (Truncate n) _ main' side' a r m = absurd m.main_does
-  change_done main side Clear _ main' side' a r m = absurd m.main_does
-  change_done main side Append _ main' side' a r m = absurd m.main_does
-  change_done main side (Extend items hint) _ main' side' a r m = absurd m.main_does
-  change_done main side (Drain start end front back keep) _ main' side' a r m = absurd m.main_does
-  change_done main side (ExtractIf start end count) _ main' side' a r m = absurd m.main_does
-  change_done main side Retain _ main' side' a r m = absurd m.main_does
-  change_done main side Dedup _ main' side' a r m = absurd m.main_does
-  change_done main side command reply main' side' a r m = absurd a
+      holds main 0 _ main' (omega (arith, length-left_of main.items (ends_of start end front back) keep r.0 r.1)) m.leaves
+  change_done main side (Within x) (Back y) main' side' a r m = same main main' m.main_does.2
+  change_done main side Pop Nothing main' side' a r m = same main main' m.main_does.1
+  change_done main side command reply main' side' a r m = search rules
 
   -- what one that was refused has left of it
   change_refused : (main side : Vector T A) (command : Command T A) (kind : TryReserveError) (main' side' : Vector T A) → AddsOrRemoves command → AnswersRefused size main side command kind main' side' → Change (hint_of command) main (added_by main side command (Refused kind) main') main'
-  change_refused main side (Push x) kind main' side' a s = same main main' s.leaves.main_does.1
-  change_refused main side (Insert i x) kind main' side' a s = same main main' s.leaves.main_does.1
-  change_refused main side Append kind main' side' a s = same main main' s.leaves.1.main_same
   change_refused main side (Extend items hint) kind main' side' a s = stops hint main items.items kind main' s.leaves.main_does
-  change_refused main side (Drain start end front back keep) kind main' side' a s = same main main' s.leaves.1.main_same
-  change_refused main side (ExtractIf start end count) kind main' side' a s = same main main' s.leaves.1.main_same
-  change_refused main side (Within x) kind main' side' a s = absurd (s.misfits tt)
-  change_refused main side Pop kind main' side' a s = absurd (s.misfits tt)
-  change_refused main side (Remove i) kind main' side' a s = absurd (s.misfits tt)
-  change_refused main side (SwapRemove i) kind main' side' a s = absurd (s.misfits tt)
-  change_refused main side (Truncate n) kind main' side' a s = absurd (s.misfits tt)
-  change_refused main side Clear kind main' side' a s = absurd (s.misfits tt)
-  change_refused main side Retain kind main' side' a s = absurd (s.misfits tt)
-  change_refused main side Dedup kind main' side' a s = absurd (s.misfits tt)
-  change_refused main side command kind main' side' a s = absurd a
+  change_refused main side command kind main' side' a s = search (rules, same)
 
   -- and one whose range lies outside
   change_range : (main side : Vector T A) (command : Command T A) (main' : Vector T A) → AddsOrRemoves command → main' ≡ main → Change (hint_of command) main (added_by main side command Range main') main'
   change_range main side (Extend items hint) main' a e = let none : len main' - len main ≡ 0 = omega (arith, ap len e) in rw none (same main main' e)
-  change_range main side (Push x) main' a e = same main main' e
-  change_range main side (Within x) main' a e = same main main' e
-  change_range main side (Insert i x) main' a e = same main main' e
   change_range main side command main' a e = same main main' e
 
   change_lists : (main side : Vector T A) (command : Command T A) (reply : Reply T) (main' side' : Vector T A) → AddsOrRemoves command → Answers size main side command reply main' side' → Change (hint_of command) main (added_by main side command reply main') main'
@@ -139,14 +93,9 @@ module _ {T A : Type 0} (size : ℕ) where
     pub change_of : (old : State T A K S) (command : Command T A) (answers : List Bool) (reply : Reply T) (new : State T A K S) → AddsOrRemoves command → Step size calls old command answers reply new → Change (hint_of command) old.main (added_by old.main old.side command reply new.main) new.main
     change_of old (SplitOff at) answers reply new a s = absurd a
     change_of old Retain answers reply new a s =
-        let r = s.retains in shrinks old.main _ new.main (length-kept calls.keeps old.keep old.main.items r.told new.keep r.asked) r.holds
+        let r = s.retains in holds old.main 0 _ new.main (omega (arith, length-kept calls.keeps old.keep old.main.items r.told new.keep r.asked)) r.holds
     change_of old Dedup answers reply new a s =
-        let r = s.removes in shrinks old.main _ new.main (length-deduplicated calls.repeats old.same old.main.items r.answers new.same r.left r.asked) r.holds
+        let r = s.removes in holds old.main 0 _ new.main (omega (arith, length-deduplicated calls.repeats old.same old.main.items r.answers new.same r.left r.asked)) r.holds
     change_of old (ExtractIf start end count) answers Done new a s =
-        let t = s.takes in shrinks old.main _ new.main (length-taken_out calls.keeps size (asking old.main old.side old.keep) start end count (asking new.main new.side new.keep) s.in_range.0 s.in_range.1 t) t.leaves
-    change_of old (ExtractIf start end count) answers (Item y) new a s = change_lists old.main old.side (ExtractIf start end count) (Item y) new.main new.side a s.lists
-    change_of old (ExtractIf start end count) answers Nothing new a s = change_lists old.main old.side (ExtractIf start end count) Nothing new.main new.side a s.lists
-    change_of old (ExtractIf start end count) answers (Back y) new a s = change_lists old.main old.side (ExtractIf start end count) (Back y) new.main new.side a s.lists
-    change_of old (ExtractIf start end count) answers (Refused kind) new a s = change_lists old.main old.side (ExtractIf start end count) (Refused kind) new.main new.side a s.lists
-    change_of old (ExtractIf start end count) answers Range new a s = change_lists old.main old.side (ExtractIf start end count) Range new.main new.side a s.lists
+        let t = s.takes in holds old.main 0 _ new.main (omega (arith, length-taken_out calls.keeps size (asking old.main old.side old.keep) start end count (asking new.main new.side new.keep) s.in_range.0 s.in_range.1 t)) t.leaves
     change_of old command answers reply new a s = change_lists old.main old.side command reply new.main new.side a s.lists

@@ -1,15 +1,15 @@
 -- Items taken out of a drain, one after the other, and put behind the elements of another vector.
-use Rattle.allocator_api2.proofs.Common.{◌≡◌, ℕ, ◌+◌, ◌-◌, ◌<◌, ◌≤◌, List, [], ◌∷◌, ◌++◌, length, take, drop, reverse, Bool, true, false, Some, refl, sym, ap, ◌∙◌, arith, append_assoc, length-append, length-take, length-drop, slice_range, if◌then◌else◌, ◌==◌, append-nil, drop-drop, take_all, take-append-drop, reverse-append, TakesRange, drain_head, drain_rest, drain_tail, drain_vec, range_len, Vector, len, SameBlock, Holds, SameBlock-refl, SameBlock-trans, TakesFront, TakesBack}
+use Rattle.allocator_api2.proofs.Common.{◌≡◌, ℕ, ◌+◌, ◌-◌, ◌<◌, ◌≤◌, List, [], ◌∷◌, ◌++◌, length, take, drop, reverse, Bool, true, false, Some, refl, sym, ap, subst, ◌∙◌, arith, append_assoc, length-append, length-take, length-drop, length-reverse, slice_range, if◌then◌else◌, ◌==◌, append-nil, drop-drop, take_all, take-append-drop, reverse-append, TakesRange, drain_head, drain_rest, drain_tail, drain_vec, range_len, Vector, len, HasRoom, SameBlock, Holds, SameBlock-refl, SameBlock-trans, TakesFront, TakesBack, Holds-more}
 use Rattle.std.proofs.Math.Seq.{take-add}
 use Rattle.std.proofs.lemmas.List.{drop_all, drop_at, take_at, take-take}
-use Rattle.aa_vec.specs.Draining.{Closes, DrainKeeps, KeepsRest, drain_lender, drains_first, drains_last, taken_back, taken_front}
+use Rattle.aa_vec.specs.Draining.{Closes, KeepsRest, drains_first, drains_last, taken_back, taken_front}
 use Rattle.aa_vec.specs.declared.vec.drain.Drain.{Drain}
 use Rattle.aa_vec.proofs.Drains.{keeps-same, keeps-then}
 use Rattle.allocator_api2.specs.Drained.{Drained}
 use Rattle.allocator_api2.specs.Machine.{ends_at, given_of}
 
 -- a choice is no more than the greater
-choice_le : (t : Bool) (a b : ℕ) → a ≤ b → (if t then a else b) ≤ b
+pub choice_le : (t : Bool) (a b : ℕ) → a ≤ b → (if t then a else b) ≤ b
 choice_le true a b h = h
 choice_le false a b h = omega arith
 
@@ -29,22 +29,21 @@ module _ {T A : Type 0} (d : Drain T A) (side : Vector T A) where
         rest = ap (drop 1) (sym here) ∙ drop-drop 1 k all;
         front = omega (arith, n.1.1, h.front);
         back = n.1.2 ∙ h.back;
-        holds = record {
-          items = p.items ∙ ap (λ l. l ++ x ∷ []) h.holds.items ∙ append_assoc side.items (take k all) (x ∷ []) ∙ ap (λ l. side.items ++ l) (sym more);
-          block = SameBlock-trans h.holds.block p.block;
-        };
+        holds = subst (λ l. Holds side (side.items ++ l) t) (sym more) (Holds-more side s t (take k all) (x ∷ []) h.holds p);
       }
 
+  -- and there is room for one more
+  pub TakesFront-room : (k n : ℕ) (e : Drain T A) (s : Vector T A) → TakesFront d side k e s → k < n → HasRoom side n → HasRoom s 1
+  TakesFront-room k n e s h less room = omega (arith, ap length h.holds.items, length-append side.items (take k all), length-take k all, h.holds.block.capacity, room, less)
+
   pub TakesBack-none : TakesBack d side 0 d side
-  TakesBack-none =
-      let whole : length all - 0 ≡ length all = omega arith in
-      record {
-        keeps = keeps-same d;
-        rest = sym (take_all (length all - 0) all (omega arith));
-        front = refl;
-        back = omega arith;
-        holds = record { items = sym (append-nil side.items) ∙ ap (λ l. side.items ++ reverse l) (sym (drop_all (length all - 0) all (omega arith))); block = SameBlock-refl side };
-      }
+  TakesBack-none = record {
+    keeps = keeps-same d;
+    rest = sym (take_all (length all - 0) all (omega arith));
+    front = refl;
+    back = omega arith;
+    holds = record { items = sym (append-nil side.items) ∙ ap (λ l. side.items ++ reverse l) (sym (drop_all (length all - 0) all (omega arith))); block = SameBlock-refl side };
+  }
 
   pub TakesBack-more : (k : ℕ) (e f : Drain T A) (s t : Vector T A) (x : T) → k < length all → TakesBack d side k e s → drains_last e (Some x) f → Holds s (s.items ++ x ∷ []) t → TakesBack d side (k + 1) f t
   TakesBack-more k e f s t x less h n p =
@@ -61,11 +60,15 @@ module _ {T A : Type 0} (d : Drain T A) (side : Vector T A) where
         rest = first;
         front = n.1.1 ∙ h.front;
         back = omega (arith, n.1.2, h.back);
-        holds = record {
-          items = p.items ∙ ap (λ l. l ++ x ∷ []) h.holds.items ∙ append_assoc side.items (reverse (drop a all)) (x ∷ []) ∙ ap (λ l. side.items ++ l) (sym turned);
-          block = SameBlock-trans h.holds.block p.block;
-        };
+        holds = subst (λ l. Holds side (side.items ++ l) t) (sym turned) (Holds-more side s t (reverse (drop a all)) (x ∷ []) h.holds p);
       }
+
+  pub TakesBack-room : (k n : ℕ) (e : Drain T A) (s : Vector T A) → TakesBack d side k e s → k < n → HasRoom side n → HasRoom s 1
+  TakesBack-room k n e s h less room =
+      let a : ℕ = length all - k in omega (arith, ap length h.holds.items, length-append side.items (reverse (drop a all)), length-reverse (drop a all), length-drop a all, h.holds.block.capacity, room, less)
+
+-- what a loop over a drain wants
+pub ruleset takes = (TakesFront-none, TakesFront-room, TakesBack-none, TakesBack-room)
 
 -- a range is taken out of `old`, f and b of it from either end put behind the elements of `side`, and then it is closed
 module _ {T A : Type 0} (old side : Vector T A) (start end f b : ℕ) (ordered : start ≤ end) (within : end ≤ len old) (few : f + b ≤ end - start)
@@ -82,73 +85,39 @@ module _ {T A : Type 0} (old side : Vector T A) (start end f b : ℕ) (ordered :
   rest_front : drain_rest d1 ≡ drop f middle
   rest_front = fronts.rest ∙ ap (drop f) drains.rest
 
-  left_front : length (drain_rest d1) ≡ m - f
-  left_front = ap length rest_front ∙ length-drop f middle ∙ ap (λ i. i - f) count_middle
-
   rest_back : drain_rest d2 ≡ slice_range middle f (m - b)
-  rest_back =
-      let n : m - f - b ≡ m - b - f = omega arith in
-      backs.rest ∙ ap (λ i. take (i - b) (drain_rest d1)) left_front ∙ ap (take (m - f - b)) rest_front ∙ ap (λ i. take i (drop f middle)) n
+  rest_back = let n : length (drain_rest d1) - b ≡ m - b - f = omega (arith, ap length rest_front, length-drop f middle, count_middle) in backs.rest ∙ (λ i. take (n i) (rest_front i))
 
   given_back : drop (length (drain_rest d1) - b) (drain_rest d1) ≡ drop (m - b) middle
   given_back =
-      let n : f + (m - f - b) ≡ m - b = omega (arith, few) in
-      ap (λ i. drop (i - b) (drain_rest d1)) left_front ∙ ap (drop (m - f - b)) rest_front ∙ drop-drop (m - f - b) f middle ∙ ap (λ i. drop i middle) n
+      let n : length (drain_rest d1) - b ≡ m - f - b = omega (arith, ap length rest_front, length-drop f middle, count_middle) in let all : f + (m - f - b) ≡ m - b = omega (arith, few) in
+      (λ i. drop (n i) (rest_front i)) ∙ drop-drop (m - f - b) f middle ∙ ap (λ i. drop i middle) all
 
   side_gave : Holds side (side.items ++ given_of old.items (ends_at start end f b)) s2
   side_gave =
-      let first : s1.items ≡ side.items ++ take f middle = fronts.holds.items ∙ ap (λ l. side.items ++ take f l) drains.rest in
-      record {
-        items = backs.holds.items ∙ ap (λ l. l ++ reverse (drop (length (drain_rest d1) - b) (drain_rest d1))) first ∙ append_assoc side.items (take f middle) (reverse (drop (length (drain_rest d1) - b) (drain_rest d1)))
-            ∙ ap (λ l. side.items ++ (take f middle ++ reverse l)) given_back;
-        block = SameBlock-trans fronts.holds.block backs.holds.block;
-      }
+      subst (λ l. Holds side (side.items ++ l) s2) (λ i. take f (drains.rest i) ++ reverse (given_back i))
+      (Holds-more side s1 s2 (take f (drain_rest d0)) (reverse (drop (length (drain_rest d1) - b) (drain_rest d1))) fronts.holds backs.holds)
 
-  keeps : DrainKeeps d0 d2
-  keeps = keeps-then d0 d1 d2 fronts.keeps backs.keeps
-
-  head_are : drain_head d2 ≡ take start old.items
-  head_are = keeps.head.items ∙ drains.head.items
-
-  tail_are : drain_tail d2 ≡ drop end old.items
-  tail_are = keeps.tail ∙ drains.tail
-
-  block_same : SameBlock old (drain_vec d2)
-  block_same = SameBlock-trans drains.head.block keeps.head.block
-
-  wrote_none : (drain_vec d2).written ≡ old.written
-  wrote_none = omega (arith, keeps.writes.written, drains.writes.written)
-
-  pub lender_same : drain_lender d2 ≡ drain_lender d0
-  lender_same = keeps.lender
+  -- what is before the range and behind it stays
+  stays : (drain_head d2 ≡ take start old.items) × (drain_tail d2 ≡ drop end old.items) × SameBlock old (drain_vec d2) × ((drain_vec d2).written ≡ old.written)
+  stays =
+      let keeps = keeps-then d0 d1 d2 fronts.keeps backs.keeps in
+      (keeps.head.items ∙ drains.head.items, keeps.tail ∙ drains.tail, SameBlock-trans drains.head.block keeps.head.block, omega (arith, keeps.writes.written, drains.writes.written))
 
   pub Drained-dropped : {k : Bool} (w : Vector T A) → Closes d2 w → k ≡ false → Drained old side (ends_at start end f b) k w s2
   Drained-dropped w c is =
       rw is (record {
-        left = record { items = c.holds.items ∙ ap (λ l. l ++ drain_tail d2) head_are ∙ ap (λ l. take start old.items ++ l) tail_are; block = SameBlock-trans block_same c.holds.block };
+        left = record { items = c.holds.items ∙ (λ i. stays.0 i ++ stays.1 i); block = SameBlock-trans stays.2 c.holds.block };
         gave = side_gave;
-        written = omega (arith, c.writes.written, wrote_none, choice_le (range_len d2 == 0) 0 (length (drain_tail d2)) (omega arith), ap length tail_are, length-drop end old.items);
+        written = omega (arith, c.writes.written, stays.3, choice_le (range_len d2 == 0) 0 (length (drain_tail d2)) (omega arith), ap length stays.1, length-drop end old.items);
       })
 
   pub Drained-kept : {k : Bool} (w : Vector T A) → KeepsRest d2 w → k ≡ true → Drained old side (ends_at start end f b) k w s2
   Drained-kept w c is =
+      let front = choice_le (taken_front d2 == 0) 0 (length (drain_rest d2)) (omega arith) in
+      let back = choice_le (taken_front d2 + taken_back d2 == 0) 0 (length (drain_tail d2)) (omega arith) in
       rw is (record {
-        left = record {
-          items = c.holds.items ∙ ap (λ l. l ++ (drain_rest d2 ++ drain_tail d2)) head_are ∙ ap (λ l. take start old.items ++ (l ++ drain_tail d2)) rest_back ∙ ap (λ l. take start old.items ++ (slice_range middle f (m - b) ++ l)) tail_are;
-          block = SameBlock-trans block_same c.holds.block;
-        };
+        left = record { items = c.holds.items ∙ (λ i. stays.0 i ++ (rest_back i ++ stays.1 i)); block = SameBlock-trans stays.2 c.holds.block };
         gave = side_gave;
-        written = omega (
-          arith,
-          c.writes.written,
-          wrote_none,
-          choice_le (taken_front d2 == 0) 0 (length (drain_rest d2)) (omega arith),
-          choice_le (taken_front d2 + taken_back d2 == 0) 0 (length (drain_tail d2)) (omega arith),
-          ap length tail_are,
-          length-drop end old.items,
-          ap length rest_back,
-          length-take (m - b - f) (drop f middle),
-          length-drop f middle,
-          count_middle,
-        );
+        written = omega (arith, c.writes.written, stays.3, front, back, ap length stays.1, length-drop end old.items, ap length rest_back, length-take (m - b - f) (drop f middle), length-drop f middle, count_middle);
       })

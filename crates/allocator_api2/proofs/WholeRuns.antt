@@ -15,13 +15,10 @@ module _ {T A K S : Type 0} (size : ℕ) (calls : Calls T A K S) where
       omega (arith, r.1.writes)
 
   -- what is added is paid for, step by step
-  paid_step : (G : Growth) (paid n : ℕ) (old : State T A K S) (command : Command T A) (answers : List Bool) (reply : Reply T) (new : State T A K S) → IsPaid size G paid n old.main → AddsOrRemoves command → Step size calls old command answers reply new → IsPaid size G paid (n + added_by old.main old.side command reply new.main) new.main
-  paid_step G paid n old command answers reply new p a s = IsPaid-change size G paid (hint_of command) n _ old.main new.main p (change_of size calls old command answers reply new a s)
-
   paid_run : (G : Growth) (paid n : ℕ) (old : State T A K S) (ts : List (Turn T A K S)) (new : State T A K S) → IsRun size calls old ts new → IsPaid size G paid n old.main → AllByRecursion AddsOrRemoves (map (λ t. t.command) ts) → IsPaid size G paid (n + sum_by added ts) new.main
   paid_run G paid n old [] new r p a = rw (r, add-zero) p
   paid_run G paid n old (t ∷ ts) new r p a =
-      let q : IsPaid size G paid (n + added t) t.after.main = paid_step G paid n t.before t.command t.answers t.reply t.after (rw r.0 p) a.0 r.1.step in
+      let q : IsPaid size G paid (n + added t) t.after.main = IsPaid-change size G paid (hint_of t.command) n _ t.before.main t.after.main (rw r.0 p) (change_of size calls t.before t.command t.answers t.reply t.after a.0 r.1.step) in
       let e : n + sum_by added (t ∷ ts) ≡ n + added t + sum_by added ts = omega (arith, sum_by-cons added t ts) in
       subst (λ k. IsPaid size G paid k new.main) (sym e) (paid_run G paid (n + added t) t.after ts new r.2 q a.1)
 

@@ -62,6 +62,7 @@ fn drain_into<T: Drop, A: Allocator>(
 
 // Takes so many items from the front, and puts them behind the last element of a vector that has
 // room for them.
+#[tactic(auto, using(crate::proofs::Taking::takes))]
 fn take_front<T: Drop, A: Allocator>(
     items: &mut Drain<'_, T, A>,
     side: &mut Vec<T, A>,
@@ -79,6 +80,7 @@ fn take_front<T: Drop, A: Allocator>(
 }
 
 // The same from the back: the last item first.
+#[tactic(auto, using(crate::proofs::Taking::takes))]
 fn take_back<T: Drop, A: Allocator>(items: &mut Drain<'_, T, A>, side: &mut Vec<T, A>, count: usize)
     requires { (count ≤ length (drain_rest items.old)) × HasRoom side.old count }
     ensures { TakesBack items.old side.old count items.new side.new }

@@ -61,6 +61,7 @@ fn extract_into<T: Drop, A: Allocator, K: FnMut(&mut T) -> bool>(
 }
 
 // The same from a range out of which elements are taken.
+#[tactic(auto, using(crate::proofs::Extracting::choosing))]
 fn take_chosen<T: Drop, A: Allocator, K: FnMut(&mut T) -> bool>(
     range: &mut ExtractBy<'_, T, A>,
     side: &mut Vec<T, A>,

@@ -1,12 +1,8 @@
-use Rattle.std.proofs.Common.{rules, ◌≡◌, ◌+◌, [], ◌∷◌}
-use Rattle.aa_vec.specs.Vector.{Holds}
+use Rattle.std.proofs.Common.{rules}
 use Rattle.aa_vec_tests.proofs.Claimed.{middle_stays}
 use Rattle.aa_vec_tests.proofs.claims.middle_kept.Goals as goal
 
 pub returns : goal.returns
 returns g c =
-    let old = c.args.v.now in
-    let new = c.keep_rest.new.self.0 in
-    let left : Holds old (0 ∷ 2 ∷ 4 ∷ 5 ∷ []) new × (new.written ≡ old.written + 3) =
-    middle_stays old new c.drain-range.result c.next-first.new.self c.next_back-last.new.self c.next-first.result c.next_back-last.result c.requires c.drain-range.ensures.drains c.next-first.ensures.steps c.next_back-last.ensures.steps c.keep_rest.ensures in
+    let left = middle_stays c.args.v.now c.keep_rest.new.self.0 c.drain-range.result c.next-first.new.self c.next_back-last.new.self c.next-first.result c.next_back-last.result c.requires c.drain-range.ensures.drains c.next-first.ensures.steps c.next_back-last.ensures.steps c.keep_rest.ensures in
     search rules

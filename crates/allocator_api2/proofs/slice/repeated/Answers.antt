@@ -11,8 +11,8 @@ returns-clause-made g c =
     let count : c.in-Some.count ≡ n * length xs = let h = c.in-Some.ensures in search rules in
     let new : IsNew size (n * length xs) c.args.alloc room = subst (λ k. IsNew size k c.args.alloc room) count c.in_ok-made.ensures.made in
     elim c.if-n-gt0.branch [
-      | then-n-gt0 w ↦ subst P (sym w.made-is) (IsMadeWithin-repeated size n xs c.args.alloc room w.put_repeated.new.made new w.put_repeated.ensures.items w.put_repeated.ensures.writes).0
+      | then-n-gt0 w ↦ subst P (sym w.made-is) (IsMadeWithin-repeated size n xs c.args.alloc room w.put_repeated.new.made new w.put_repeated.ensures.items w.put_repeated.ensures.writes)
       | else-n-gt0 w ↦
           let none : n ≡ 0 = omega (arith, w.if-n-gt0.false) in
-          subst P (sym w.made-is) (IsMadeWithin-repeated size n xs c.args.alloc room room new (Holds-none n xs room none new.items) (Writes-none n xs room none)).0
+          subst P (sym w.made-is) (IsMadeWithin-repeated size n xs c.args.alloc room room new (Holds-none n xs room none new.items) (Writes-none n xs room none))
     ]

@@ -1,4 +1,4 @@
-use Rattle.allocator_api2.proofs.Common.{rules, type_size, param, drain_vec, Does, Splice, Done, Refused}
+use Rattle.allocator_api2.proofs.Common.{rules, drain_vec}
 use Rattle.aa_vec.specs.Splices.{splice_range, splice_iter}
 use Rattle.allocator_api2.proofs.SplicedRanges.{Spliced-done, Spliced-refused}
 use Rattle.allocator_api2.proofs.runner.commands.splice.Goals as goal
@@ -7,14 +7,12 @@ pub returns-in-Ok : goal.returns-in-Ok
 returns-in-Ok g c = λ side.
     let s = c.splice-range.result in
     let new = c.finish_hinted.new.self.0 in
-    let done : Does (type_size (param 0 g.row.T)) c.args.main.now side (Splice c.args.start c.args.end c.args.items c.args.hint) Done new side =
-    Spliced-done _ c.args.main.now c.args.start c.args.end (search rules) (search rules) c.len.ensures.within c.args.items c.args.hint (splice_range s) c.splice-range.ensures.drains (splice_iter s) (search rules) new c.in-Ok.ensures.room (record { written = c.finish_hinted.ensures.writes.0; runs = c.finish_hinted.ensures.writes.1 }) side in
+    let done = Spliced-done _ c.args.main.now c.args.start c.args.end (search rules) (search rules) c.len.ensures.within c.args.items c.args.hint (splice_range s) c.splice-range.ensures.drains (splice_iter s) (search rules) new c.in-Ok.ensures.room (record { written = c.finish_hinted.ensures.writes.0; runs = c.finish_hinted.ensures.writes.1 }) side in
     search rules
 
 pub returns-in-Err : goal.returns-in-Err
 returns-in-Err g c = λ side.
     let s = c.splice-range.result in
     let new = c.finish_hinted.new.self.0 in
-    let refused : Does (type_size (param 0 g.row.T)) c.args.main.now side (Splice c.args.start c.args.end c.args.items c.args.hint) (Refused c.in-Err.error) new side =
-    Spliced-refused _ c.args.main.now c.args.start c.args.end (search rules) (search rules) c.len.ensures.within c.args.items c.args.hint (splice_range s) c.splice-range.ensures.drains (splice_iter s) (search rules) new {fails = ¬ (g.A.Clone.is_infallible (drain_vec (splice_range s)).alloc)} c.in-Err.error c.in-Err.ensures.refused (record { written = c.finish_hinted.ensures.writes.0; runs = c.finish_hinted.ensures.writes.1 }) side in
+    let refused = Spliced-refused _ c.args.main.now c.args.start c.args.end (search rules) (search rules) c.len.ensures.within c.args.items c.args.hint (splice_range s) c.splice-range.ensures.drains (splice_iter s) (search rules) new {fails = ¬ (g.A.Clone.is_infallible (drain_vec (splice_range s)).alloc)} c.in-Err.error c.in-Err.ensures.refused (record { written = c.finish_hinted.ensures.writes.0; runs = c.finish_hinted.ensures.writes.1 }) side in
     search rules

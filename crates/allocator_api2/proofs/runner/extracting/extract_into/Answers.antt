@@ -1,12 +1,10 @@
-use Rattle.allocator_api2.proofs.Common.{rules, ◌≡◌, CalledAtMut, Chosen, asking}
-use Rattle.aa_vec.specs.Extracting.{extract_lender}
+use Rattle.allocator_api2.proofs.Common.{rules, CalledAtMut}
 use Rattle.allocator_api2.proofs.Extracting.{chosen}
 use Rattle.allocator_api2.proofs.runner.extracting.extract_into.Goals as goal
 
 pub returns : goal.returns
 returns g c =
-    let done : Chosen (CalledAtMut g.K.FnMut) (asking c.args.main.now c.args.side.now c.args.keep.now) c.args.start c.args.end c.args.most (asking c.drop-range.new.self.0 c.take_chosen.new.side c.take_chosen.new.keep) =
-    chosen (CalledAtMut g.K.FnMut) c.args.main.now c.args.side.now c.args.keep.now c.args.start c.args.end c.args.most c.requires.range c.extract_by-range.result c.extract_by-range.ensures.takes
+    let done = chosen (CalledAtMut g.K.FnMut) c.args.main.now c.args.side.now c.args.keep.now c.args.start c.args.end c.args.most c.requires.range c.extract_by-range.result c.extract_by-range.ensures.takes
     c.take_chosen.new.keep c.take_chosen.new.range c.take_chosen.new.side c.take_chosen.ensures c.drop-range.new.self.0 c.drop-range.ensures in
-    let lender : extract_lender c.take_chosen.new.range ≡ extract_lender c.extract_by-range.result = c.take_chosen.ensures.extracted.lender in
+    let lender = c.take_chosen.ensures.extracted.lender in
     search rules
