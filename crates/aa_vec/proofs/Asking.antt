@@ -1,10 +1,6 @@
 -- A slice of which a closure was asked in order, up to one place.
 use mathlib.Core.Bool.{beq}
-use Rattle.aa_vec.proofs.Common.{◌≡◌, not, ℕ, suc, ◌+◌, ◌<◌, ◌≤◌, Bool, true, false, List, [], ◌∷◌, ◌++◌, length, take, drop, get_or, sym, ap, ◌∙◌, subst, refl, arith, append_assoc, length-append, length-drop, slice_set, if◌then◌else◌, drop_all, take-append-drop, drop-set, drop-append-le, take_at, drop_at, length-take-le, nat_tests, MayAskInOrder, MayChainFrom, MayDeduplicate, StaysAt, AsksUntil, ChainsAlong}
-use Rattle.aa_vec.specs.Until.{AsksNeighbours}
-use Rattle.std.proofs.Common.{zero-add}
-use Rattle.std.proofs.Math.Seq.{drop-cons}
-use Rattle.std.proofs.lemmas.List.{take-set, take-append-le}
+use Rattle.aa_vec.proofs.Common.{◌≡◌, not, ℕ, suc, ◌+◌, ◌<◌, ◌≤◌, Bool, true, false, List, [], ◌∷◌, ◌++◌, length, take, drop, get_or, sym, ap, ◌∙◌, subst, refl, arith, append_assoc, length-append, length-drop, slice_set, if◌then◌else◌, drop_all, take-append-drop, drop-set, drop-append-le, take_at, drop_at, length-take-le, nat_tests, MayAskInOrder, MayChainFrom, MayDeduplicate, StaysAt, AsksUntil, ChainsAlong, AsksNeighbours, zero-add, drop-cons, take-set, take-append-le}
 
 module _ {T : Type 0} (ys : List T) (i : ℕ) (d : T) (h : i < length ys) where
   -- the elements from the index on

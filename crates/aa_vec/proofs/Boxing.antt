@@ -1,7 +1,6 @@
 -- A vector with room for its elements and no more.
-use Rattle.aa_vec.proofs.Common.{◌≡◌, ℕ, ◌*◌, ◌^◌, ◌<◌, ◌≤◌, length, sym, ap, ◌∙◌, arith, inl, inr, nat_tests, usize_max, Block, IsRun, length-run, view_of}
+use Rattle.aa_vec.proofs.Common.{◌≡◌, ℕ, ◌*◌, ◌^◌, ◌<◌, ◌≤◌, length, sym, ap, ◌∙◌, arith, inl, inr, nat_tests, usize_max, Block, IsRun, length-run, view_of, same_or_not}
 use Rattle.std.proofs.Math.Nat.{le-mul_of_pos_right}
-use Rattle.aa_raw.proofs.Places.{same_or_not}
 use Rattle.aa_boxed.specs.Room.{IsJustFor}
 use Rattle.aa_boxed.specs.Slice.{Slice, slice_of}
 use Rattle.aa_vec.specs.Boxes.{IsUnboxed}

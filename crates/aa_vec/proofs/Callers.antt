@@ -1,10 +1,9 @@
 -- What a caller of the vector closes its goals by: the room there is, calls in one block one after another, and closures whose
 -- answers hang on the elements alone.
-use Rattle.aa_vec.proofs.Common.{◌≡◌, ℕ, zero, suc, ◌-◌, ◌<◌, ◌≤◌, Bool, true, false, List, [], ◌∷◌, ◌++◌, length, take, replicate, refl, sym, ap, ◌∙◌, arith, inl, inr, filter, ◌==◌, if◌then◌else◌, Result, Ok, Err, OnOk, FoldsTo, usize_max, Retains, kept, MayCallTimes, LengthensBy, Vector, len, sized, GrowsTo, HasRoom, Holds, cases_lt, append-nil, map-id, take_all}
+use Rattle.aa_vec.proofs.Common.{◌≡◌, ℕ, zero, suc, ◌-◌, ◌<◌, ◌≤◌, Bool, true, false, List, [], ◌∷◌, ◌++◌, length, take, replicate, refl, sym, ap, ◌∙◌, arith, inl, inr, filter, ◌==◌, if◌then◌else◌, Result, Ok, Err, OnOk, FoldsTo, usize_max, Retains, kept, MayCallTimes, LengthensBy, Vector, len, sized, GrowsTo, HasRoom, Holds, cases_lt, append-nil, map-id, take_all, take-nil}
 use Rattle.aa_vec.proofs.Callable.{IsCallableInOrder-any, IsCallableAlong-any}
 use Rattle.aa_vec.proofs.Climbing.{MakesRoom-has, SameBlock-trans}
 use Rattle.aa_vec.proofs.Steady.{asked-steady, asked-reading, kept-steady}
-use Rattle.std.proofs.Math.Seq.{take-nil}
 
 -- new room for n elements has room for n
 pub sized_room : (size n : ℕ) → n ≤ usize_max → n ≤ sized size n

@@ -1,6 +1,5 @@
 -- Lemmas on a vector that grew while it was full.
-use Rattle.aa_vec.proofs.Common.{◌≡◌, ℕ, ◌+◌, ◌-◌, ◌<◌, ◌≤◌, List, ◌++◌, append_assoc, refl, ap, ◌∙◌, subst, arith, min, usize_max, Growth, Doubling, Sparing, amortized, least_of, Vector, SameBlock, Holds, with_room, Climbs, stays, grows, asked_for, ExtendsAll, ExtendsFull, ExtendsByAll, ExtendsByFront, TryReserveError, Option, [], ◌∷◌, length, length-append}
-use Rattle.std.proofs.lemmas.Bool.Decides.{nat_tests}
+use Rattle.aa_vec.proofs.Common.{◌≡◌, ℕ, ◌+◌, ◌-◌, ◌<◌, ◌≤◌, List, ◌++◌, append_assoc, refl, ap, ◌∙◌, subst, arith, min, usize_max, Growth, Doubling, Sparing, amortized, least_of, Vector, SameBlock, Holds, with_room, Climbs, stays, grows, asked_for, ExtendsAll, ExtendsFull, ExtendsByAll, ExtendsByFront, TryReserveError, Option, [], ◌∷◌, length, length-append, nat_tests}
 
 -- a growth asks for no less than what is needed
 pub amortized-enough : (G : Growth) (c needed m : ℕ) → needed ≤ amortized G c needed m
@@ -91,9 +90,6 @@ module _ {T A : Type 0} (size : ℕ) (lower : ℕ → ℕ) (needed : ℕ) where
   pub Climbs-keeps : {u v : Vector T A} → Climbs size lower needed u v → (v.growth ≡ u.growth) × (v.alloc ≡ u.alloc)
   Climbs-keeps (stays b) = (b.growth, b.alloc)
   Climbs-keeps (grows h m r) = let k = Climbs-keeps r in (k.0 ∙ m.growth, k.1 ∙ m.alloc)
-
-  pub Climbs-growth : {u v : Vector T A} → Climbs size lower needed u v → v.growth ≡ u.growth
-  Climbs-growth c = (Climbs-keeps c).0
 
   -- where just as many are told as are to come, it makes room for them at once
   pub Climbs-exact : ((n : ℕ) → lower n ≡ n) → {u v : Vector T A} → Climbs size lower needed u v → needed ≤ v.capacity → needed - u.capacity ≤ usize_max → MakesRoom size u u.capacity (needed - u.capacity) v

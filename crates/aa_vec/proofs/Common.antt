@@ -1,49 +1,52 @@
 -- The names from elsewhere that several proofs here cite, passed on.
-pub use Rattle.aa_raw.proofs.Places.{length-moved}
-pub use Rattle.aa_raw.proofs.Runs.{IsRun-long, IsRun-part, IsRun-same, IsRun-set-above, drop-with, length-run, run-drop, run-filled, run-is, run-moved, run-moved-below, run-set-above, run-split, run-take, run-zero}
-pub use Rattle.aa_raw.specs.Block.{Block, wrote}
+pub use Rattle.aa_raw.proofs.Calls.{IsRun-reserved, IsRun-rest, IsRun-with-below, run-of_none, run-put, run-reserved, run-take_first, run-transferred}
+pub use Rattle.aa_raw.proofs.Places.{below_or_not, length-moved, length-with_run, same_or_not}
+pub use Rattle.aa_raw.proofs.Runs.{IsRun-long, IsRun-part, IsRun-same, IsRun-set-above, cut-long, drop-with, first-filled, length-run, run-drop, run-filled, run-is, run-moved, run-moved-below, run-none, run-one, run-push, run-set-above, run-split, run-take, run-with-below, run-zero}
+pub use Rattle.aa_raw.specs.Block.{Block, Reserves, with_places, wrote}
 pub use Rattle.aa_raw.specs.Closures.{TakesPairMut}
 pub use Rattle.aa_raw.specs.Growth.{amortized, least_of, usize_max}
-pub use Rattle.aa_raw.specs.Places.{IsRun, moved, run}
+pub use Rattle.aa_raw.specs.Places.{IsRun, moved, run, with_run}
 pub use Rattle.aa_raw.specs.declared.collections.TryReserveError.{TryReserveError}
 pub use Rattle.aa_raw.specs.declared.raw_vec.Growth.{Growth}
 pub use Rattle.aa_raw.specs.declared.raw_vec.Growth.TheVariants.{Doubling, Sparing}
 pub use Rattle.aa_vec.specs.Arrays.{flattened}
-pub use Rattle.aa_vec.specs.Behind.{ClosesGap, ClosesTwice, DropsBehind, LeavesBehind, SetsBack, StandsBehind, behind_items, with_behind}
+pub use Rattle.aa_vec.specs.Behind.{ClosesGap, ClosesTwice, DropsAndCloses, DropsBehind, LeavesBehind, SetsBack, StandsBehind, behind_items, with_behind}
 pub use Rattle.aa_vec.specs.Choosing.{Asked, AskedInOrder, ChainsFrom, Deduplicated, Deduplicates, EndsTrue, IsCallableAlong, IsCallableInOrder, MayAskInOrder, MayChainFrom, MayDeduplicate, Retains, TakesMut, answers_of, kept, kept_behind_removed, passed_over, removed_count}
-pub use Rattle.aa_vec.specs.Copies.{Adds, Copies, Fills, LengthensBy, MayCallTimes}
-pub use Rattle.aa_vec.specs.Extending.{Climbs, CopiesOf, Extended, ExtendsAll, ExtendsByAll, ExtendsByFront, ExtendsFull, ItemsLeft, LeavesIter, TellsExactly, YieldsTelling, asked_for, gives_item, grows, lower_by, stays}
-pub use Rattle.aa_vec.specs.Extracting.{ClosesExtract, Extracts, ExtractsRange, extract_kept, extract_rest}
-pub use Rattle.aa_vec.specs.Filling.{FillsAndCloses, FillsGap, Gathers, GathersShort, Placed, Puts, PutsAll, Widens}
+pub use Rattle.aa_vec.specs.Copies.{Adds, AddsAnswers, Begins, Copies, Fills, IsBeginning, IsMade, IsMadeOfOne, LengthensBy, MayCallTimes, Refuses, Undone, WritesAtMost}
+pub use Rattle.aa_vec.specs.Extending.{Climbs, CopiesOf, Extended, ExtendsAll, ExtendsByAll, ExtendsByFront, ExtendsFull, ItemsLeft, LeavesIter, StopsAt, TellsAtMost, TellsExactly, YieldsTelling, asked_for, gives_item, grows, lower_by, stays}
+pub use Rattle.aa_vec.specs.Extracting.{ClosesExtract, Extracted, ExtractedTo, Extracts, ExtractsAlong, ExtractsRange, extract_count, extract_head, extract_kept, extract_rest, extract_tail, extract_vec}
+pub use Rattle.aa_vec.specs.Filling.{FillsAndCloses, FillsGap, Gathers, GathersShort, LacksRest, OpensGap, Placed, Puts, PutsAll, PutsFront, PutsRest, PutsWithin, Told, Widens}
 pub use Rattle.aa_vec.specs.Inner.{IsFront, view_of}
-pub use Rattle.aa_vec.specs.Splicing.{SplicesByAll, SplicesByFront, cut_off, tail_moves}
-pub use Rattle.aa_vec.specs.Until.{AsksBehind, AsksLast, AsksUntil, ChainsAlong, ChainsBehind, ChainsUntil, Picks, StaysAt, TakesNext}
-pub use Rattle.aa_vec.specs.Vector.{GrowsTo, HasRoom, Holds, IsNew, LacksRoom, Moves, SameBlock, Vector, Writes, len, moved_over, run_count, sized, with_room}
+pub use Rattle.aa_vec.specs.Splicing.{LacksOthers, Replaced, SplicesAll, SplicesByAll, SplicesByFront, SplicesFront, SplicesIter, SplicesShort, SplicesWithin, TellsOnceFull, cut_off, gapped, tail_moves}
+pub use Rattle.aa_vec.specs.Until.{AsksBehind, AsksLast, AsksNeighbours, AsksUntil, ChainsAlong, ChainsBehind, ChainsOn, ChainsUntil, KeepsDown, Picks, StaysAt, TakesNext}
+pub use Rattle.aa_vec.specs.Vector.{Becomes, GrowsTo, HasRoom, Holds, IsNew, LacksRoom, Moves, SameBlock, Vector, Writes, len, moved_over, run_count, sized, with_items, with_room}
 pub use Rattle.aa_vec.specs.declared.vec.Vec.TheInside.{Inside}
 pub use Rattle.aa_vec.specs.declared.vec.drain.Drain.{Drain}
 pub use Rattle.aa_vec.specs.declared.vec.extract_if.ExtractBy.{ExtractBy}
 pub use Rattle.aa_vec.specs.declared.vec.extract_if.ExtractIf.{ExtractIf}
-pub use Rattle.std.proofs.Common.{Bool, List, MutBor, None, Option, Some, [], ap, append_assoc, arith, drop, false, get_or, inl, inr, length, length-append, length-drop, length-set, length-take, map, not, refl, replicate, rules, subst, suc, sym, take, true, zero, ℕ, ◌*◌, ◌++◌, ◌+◌, ◌-◌, ◌<◌, ◌^◌, ◌∙◌, ◌∷◌, ◌≡◌, ◌≤◌}
+pub use Rattle.std.proofs.Common.{Bool, List, MutBor, None, Option, Some, [], ap, append_assoc, arith, drop, false, get_or, inl, inr, length, length-append, length-drop, length-set, length-take, map, not, refl, replicate, rules, subst, suc, sym, take, true, zero, zero-add, ℕ, ◌*◌, ◌++◌, ◌+◌, ◌-◌, ◌<◌, ◌^◌, ◌∙◌, ◌∷◌, ◌≡◌, ◌≤◌}
+pub use Rattle.std.proofs.Math.Seq.{drop-cons, take-nil}
 pub use Rattle.std.proofs.lemmas.Bool.{cases_lt}
 pub use Rattle.std.proofs.lemmas.Bool.Decides.{eqb_tells, nat_tests}
-pub use Rattle.std.proofs.lemmas.List.{append-nil, drop-append-le, drop-drop, drop-map, drop-set, drop-set-add, drop-set-lt, drop-take, drop_all, drop_at, length-map, length-replicate, length-take-le, map-id, take-append-drop, take_all, take_at}
-pub use Rattle.std.proofs.lemmas.List.Elements.{filter-append}
+pub use Rattle.std.proofs.lemmas.List.{append-nil, drop-append-le, drop-drop, drop-map, drop-set, drop-set-add, drop-set-lt, drop-take, drop_all, drop_at, get_or-drop, get_or-replicate, get_or-take, get_or_append_left, length-map, length-replicate, length-take-le, map-append, map-id, replicate_more, same_from_push, take-append-drop, take-append-le, take-set, take_all, take_at}
+pub use Rattle.std.proofs.lemmas.List.Elements.{all_zip_more, filter-append, length_all_zip, same_from_all_zip}
 pub use Rattle.std.proofs.lemmas.Result.{err_from_is_err_and}
 pub use Rattle.std.specs.Fn.{CalledAtMut, CalledAtPairMut}
-pub use Rattle.std.specs.Iterator.{Count, Drains, Yields, size, size as count_of}
-pub use Rattle.std.specs.List.{FoldsTo}
+pub use Rattle.std.specs.Iterator.{Count, Drains, IsFinite, IsNearerEnd, MakesProgress, Yields, at_most, size, size as count_of}
+pub use Rattle.std.specs.Iterator.Runs.{WholeRun, YieldsInOrder, YieldsInReverse}
+pub use Rattle.std.specs.List.{AllZip, FoldsTo, dedup, dedup_from, length_refill, refill}
 pub use Rattle.std.specs.Mem.{type_size}
-pub use Rattle.std.specs.Prelude.{Err, IfErr, MatchOption, Ok, OnOk, Result, cond, filter, if◌then◌else◌, min, slice_set, ⊤, ◌==◌}
+pub use Rattle.std.specs.Prelude.{All, Err, IfErr, MatchOption, Ok, OnOk, Result, cond, count_by, filter, if◌then◌else◌, insert, min, nat_le, slice_range, slice_set, ⊤, ◌==◌}
 pub use Rattle.std.specs.declared.alloc.Allocator.{Ghosts}
 pub use base.Logic.{emp, emp∗, ent, id⊢, mono∗, sep, via}
 pub use borrow.Rule.Reborrow.{re_v}
 pub use contract.BorrowLft.{◌⊑◌}
 pub use contract.Lifetimes.{Lfts}
 pub use contract.Monad.{fact, fact_i, fact_use}
-pub use denote.Laws.{Are, Ises, owns_show, showss}
+pub use denote.Laws.{Are, Ises, all_tell, owns_show, showss, valss}
 pub use denote.Param.{param}
 pub use denote.RattleType.{RattleType, Valss}
-pub use denote.Signature.{named_lft}
+pub use denote.Signature.{named_lft, plain}
 pub use denote.Struct.Declared.{Declared, row}
 pub use seplogic.Ra.Ura.{Ura}
 pub use types.Kit.{by, fpick, ◌$◌}

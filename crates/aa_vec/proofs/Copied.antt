@@ -1,12 +1,6 @@
 -- Clones of elements put behind others, one after another.
-use Rattle.aa_vec.proofs.Common.{◌≡◌, ℕ, ◌+◌, ◌-◌, ◌<◌, ◌≤◌, List, [], ◌∷◌, ◌++◌, length, take, drop, get_or, replicate, refl, sym, ap, ◌∙◌, subst, arith, inr, length-append, length-drop, length-take, length-replicate, take_all, take_at, TryReserveError, Copies, Adds, Fills, Vector, len, GrowsTo, Holds, SameBlock, Writes}
-use Rattle.std.specs.Prelude.{All}
-use Rattle.std.specs.List.{AllZip}
-use Rattle.std.proofs.lemmas.List.{replicate_more, get_or-replicate, get_or_append_left, get_or-drop, get_or-take}
-use Rattle.std.proofs.lemmas.List.Elements.{all_zip_more, same_from_all_zip}
+use Rattle.aa_vec.proofs.Common.{◌≡◌, ℕ, ◌+◌, ◌-◌, ◌<◌, ◌≤◌, List, [], ◌∷◌, ◌++◌, length, take, drop, get_or, replicate, refl, sym, ap, ◌∙◌, subst, arith, inr, length-append, length-drop, length-take, length-replicate, take_all, take_at, TryReserveError, Copies, Adds, Fills, Vector, len, GrowsTo, Holds, SameBlock, Writes, All, AllZip, replicate_more, get_or-replicate, get_or_append_left, get_or-drop, get_or-take, all_zip_more, same_from_all_zip, IsBeginning, Begins, Undone, Refuses, with_items}
 use Rattle.aa_raw.specs.declared.collections.TryReserveErrorKind.TheVariants.{AllocError}
-use Rattle.aa_vec.specs.Copies.{IsBeginning, Begins, Undone, Refuses}
-use Rattle.aa_vec.specs.Vector.{with_items}
 use Rattle.aa_vec.proofs.Climbing.{MakesRoom, Holds-more, MakesRoom-has, MakesRoom-same, SameBlock-trans}
 
 -- clones of one value and the value itself, where clones are copies
@@ -99,4 +93,4 @@ Begins-made size old cleared none mid new clones failure xs n error w made v les
       writes = omega (arith, length-take n xs);
     }
 
-pub ruleset copied = (Adds-begun, Begins-made, Adds-take, Adds-same, Adds-own, own-fails, Undone-cut, Resized-copied, length-replicate, length-take)
+pub ruleset copied = (Begins-made, Adds-take, Adds-same, Adds-own, own-fails, Undone-cut, Resized-copied, length-replicate, length-take)

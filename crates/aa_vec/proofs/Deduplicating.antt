@@ -1,6 +1,5 @@
 -- Elements asked beside the last one kept, of which those that stay were moved down.
-use Rattle.aa_vec.proofs.Common.{IsCallableAlong, ◌≡◌, ℕ, zero, suc, ◌+◌, ◌-◌, ◌≤◌, ◌<◌, Bool, true, false, not, List, [], ◌∷◌, ◌++◌, length, map, take, drop, refl, sym, ap, ◌∙◌, subst, arith, append_assoc, length-append, StandsBehind, SetsBack, behind_items, kept_behind_removed, removed_count, ChainsFrom, Deduplicated, MayChainFrom, MayDeduplicate, Deduplicates, ChainsUntil, ChainsBehind, Vector, len}
-use Rattle.std.proofs.lemmas.List.{same_from_push}
+use Rattle.aa_vec.proofs.Common.{IsCallableAlong, ◌≡◌, ℕ, zero, suc, ◌+◌, ◌-◌, ◌≤◌, ◌<◌, Bool, true, false, not, List, [], ◌∷◌, ◌++◌, length, map, take, drop, refl, sym, ap, ◌∙◌, subst, arith, append_assoc, length-append, StandsBehind, SetsBack, behind_items, kept_behind_removed, removed_count, ChainsFrom, Deduplicated, MayChainFrom, MayDeduplicate, Deduplicates, ChainsUntil, ChainsBehind, Vector, len, same_from_push}
 use Rattle.aa_vec.proofs.Chains.{same_end, split_last}
 use Rattle.aa_vec.proofs.Closed.{marks}
 use Rattle.aa_vec.proofs.Stages.{Turn, Stage, Turned, turned, start-len, stage-start, stage-ended}

@@ -1,11 +1,7 @@
 -- Steps of a drain.
-use Rattle.aa_vec.proofs.Common.{re_v, ◌≡◌, ℕ, ◌+◌, ◌-◌, ◌<◌, ◌≤◌, List, [], ◌∷◌, ◌++◌, length, take, drop, Option, Some, None, refl, sym, ap, ◌∙◌, subst, arith, length-append, length-drop, length-set, length-take, MutBor, slice_set, drop-drop, drop-set-add, drop-set-lt, drop-take, IsRun, run, run-split, run-set-above, IsRun-part, IsRun-set-above, length-run, StandsBehind, SetsBack, behind_items, Vector, len, ClosesTwice, Moves, Drain}
-use Rattle.std.specs.Prelude.{slice_range}
-use Rattle.std.specs.Iterator.Runs.{YieldsInOrder, YieldsInReverse}
+use Rattle.aa_vec.proofs.Common.{re_v, ◌≡◌, ℕ, ◌+◌, ◌-◌, ◌<◌, ◌≤◌, List, [], ◌∷◌, ◌++◌, length, take, drop, Option, Some, None, refl, sym, ap, ◌∙◌, subst, arith, length-append, length-drop, length-set, length-take, MutBor, slice_set, drop-drop, drop-set-add, drop-set-lt, drop-take, IsRun, run, run-split, run-set-above, IsRun-part, IsRun-set-above, length-run, StandsBehind, SetsBack, behind_items, Vector, len, ClosesTwice, Moves, Drain, slice_range, YieldsInOrder, YieldsInReverse, run-none, DropsAndCloses}
 use Rattle.std.proofs.iter.runs.Sources.{from_front, from_back, as_is, as_is_back}
-use Rattle.aa_raw.proofs.Runs.{run-none}
 use Rattle.aa_vec.proofs.Gaps.{run-of_drop, IsRun-to_drop}
-use Rattle.aa_vec.specs.Behind.{DropsAndCloses}
 use Rattle.aa_vec.specs.Draining.{Closes, KeepsRest, TakesRange, DrainKeeps, DrainKeepsAlong, drain_rest, drain_tail, drains_first, drains_last}
 use Rattle.aa_vec.proofs.Climbing.{SameBlock-refl, SameBlock-trans}
 use Rattle.aa_vec.proofs.Drained.{part_stand, later_part}

@@ -1,7 +1,6 @@
 -- A vector that items of an iterator are put behind.
-use Rattle.aa_vec.proofs.Common.{◌≡◌, ℕ, zero, suc, ◌+◌, ◌-◌, ◌<◌, ◌≤◌, List, [], ◌∷◌, ◌++◌, length, Option, Some, None, Ok, append_assoc, refl, sym, ap, ◌∙◌, subst, arith, length-append, min, map, Count, Yields, Drains, append-nil, TryReserveError, usize_max, Vector, len, HasRoom, LacksRoom, GrowsTo, Holds, Writes, Placed, FillsGap, Climbs, stays, asked_for, YieldsTelling, ExtendsByAll, ExtendsByFront, Extended, LeavesIter, CopiesOf, Result, Err, count_of}
+use Rattle.aa_vec.proofs.Common.{◌≡◌, ℕ, zero, suc, ◌+◌, ◌-◌, ◌<◌, ◌≤◌, List, [], ◌∷◌, ◌++◌, length, Option, Some, None, Ok, append_assoc, refl, sym, ap, ◌∙◌, subst, arith, length-append, min, map, Count, Yields, Drains, append-nil, TryReserveError, usize_max, Vector, len, HasRoom, LacksRoom, GrowsTo, Holds, Writes, Placed, FillsGap, Climbs, stays, asked_for, YieldsTelling, ExtendsByAll, ExtendsByFront, Extended, LeavesIter, CopiesOf, Result, Err, count_of, WholeRun}
 use Rattle.std.specs.Borrow.{Bor}
-use Rattle.std.specs.Iterator.Runs.{WholeRun}
 use Rattle.aa_vec.proofs.Answered.{IsOk, on_ok, if_err}
 use Rattle.std.proofs.iter.runs.Consumers.{total_runs}
 use Rattle.aa_vec.proofs.Climbing.{MakesRoom, SameBlock-refl, MakesRoom-fits, Climbs-same, Climbs-more, Climbs-rises, Climbs-counted, Climbs-keeps}

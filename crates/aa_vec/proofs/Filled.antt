@@ -1,7 +1,5 @@
 -- A new vector of n clones of one value.
-use Rattle.aa_vec.proofs.Common.{◌≡◌, ℕ, ◌-◌, ◌<◌, List, [], ◌∷◌, ◌++◌, length, replicate, sym, ap, ◌∙◌, subst, arith, length-append, if◌then◌else◌, ◌==◌, length-replicate, Doubling, Copies, Fills, Vector, IsNew}
-use Rattle.std.proofs.lemmas.List.Elements.{length_all_zip}
-use Rattle.aa_vec.specs.Copies.{IsMade, IsMadeOfOne}
+use Rattle.aa_vec.proofs.Common.{◌≡◌, ℕ, ◌-◌, ◌<◌, List, [], ◌∷◌, ◌++◌, length, replicate, sym, ap, ◌∙◌, subst, arith, length-append, if◌then◌else◌, ◌==◌, length-replicate, Doubling, Copies, Fills, Vector, IsNew, length_all_zip, IsMade, IsMadeOfOne}
 use Rattle.aa_vec.proofs.Copied.{all-copied}
 use Rattle.aa_vec.proofs.Lists.{unequal}
 

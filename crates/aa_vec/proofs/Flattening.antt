@@ -1,6 +1,5 @@
 -- Arrays whose elements are moved behind those of a vector, one array after another.
-use Rattle.aa_vec.proofs.Common.{append-nil, ◌≡◌, ℕ, ◌+◌, ◌-◌, ◌*◌, ◌<◌, ◌≤◌, List, ◌++◌, Option, None, Some, get_or, ap, ◌∙◌, arith, append_assoc, length-append, slice_set, nat_tests, usize_max, IsRun, run, flattened, sized}
-use Rattle.aa_raw.proofs.Calls.{run-of_none, run-take_first}
+use Rattle.aa_vec.proofs.Common.{append-nil, ◌≡◌, ℕ, ◌+◌, ◌-◌, ◌*◌, ◌<◌, ◌≤◌, List, ◌++◌, Option, None, Some, get_or, ap, ◌∙◌, arith, append_assoc, length-append, slice_set, nat_tests, usize_max, IsRun, run, flattened, sized, run-of_none, run-take_first}
 
 -- room as large as it is to be is as large as that again
 pub sized-again : (size n : ℕ) → sized size (sized size n) ≡ sized size n

@@ -1,10 +1,8 @@
 -- A struct by value that a function takes apart, and whose `&mut` it hands on for good. At the return it owes no struct, and so none of the facts of the struct's ghost fields.
 use Rattle.aa_vec.proofs.Walks.{ℕ, subst, List, [], ◌∷◌, Val, ‵, ◌∵◌, !, qed, fsplit, owns, fields}
-use Rattle.aa_vec.proofs.Common.{Ura, ent, sep, emp, emp∗, via, mono∗, id⊢, Logic, sem, ◌$◌, by, fpick, Lfts, fact, fact_use, fact_i, Are, Ises, owns_show, showss, RattleType, Valss, Declared, row}
+use Rattle.aa_vec.proofs.Common.{Ura, ent, sep, emp, emp∗, via, mono∗, id⊢, Logic, sem, ◌$◌, by, fpick, Lfts, fact, fact_use, fact_i, Are, Ises, owns_show, showss, RattleType, Valss, Declared, row, all_tell, valss, plain}
 use types.Kit.{drop}
 use denote.Exit.{Kept, left}
-use denote.Laws.{all_tell, valss}
-use denote.Signature.{plain}
 use denote.Struct.Laws as laws
 use denote.Triple.Walked.{Stay, Goes}
 

@@ -1,7 +1,5 @@
 -- Runs of elements that pass from one vector to another.
-use Rattle.aa_vec.proofs.Common.{◌≡◌, ℕ, ◌+◌, ◌-◌, ◌≤◌, List, ◌++◌, length, take, drop, Option, sym, ap, ◌∙◌, arith, IsRun, run, drop-drop, drop-with, run-drop}
-use Rattle.aa_raw.specs.Places.{with_run}
-use Rattle.aa_raw.proofs.Calls.{IsRun-rest, run-transferred}
+use Rattle.aa_vec.proofs.Common.{◌≡◌, ℕ, ◌+◌, ◌-◌, ◌≤◌, List, ◌++◌, length, take, drop, Option, sym, ap, ◌∙◌, arith, IsRun, run, drop-drop, drop-with, run-drop, with_run, IsRun-rest, run-transferred}
 
 module _ {X : Type 0} where
   -- the last k - at of k values put behind the first n places of another block

@@ -1,12 +1,7 @@
 -- Room that the block made for a vector.
-use Rattle.aa_vec.proofs.Common.{◌≡◌, ℕ, ◌+◌, ◌-◌, ◌<◌, ◌≤◌, [], ◌∷◌, ◌++◌, Some, length, refl, ap, ◌∙◌, arith, if◌then◌else◌, ◌==◌, slice_set, Block, wrote, IsRun, run, moved, amortized, least_of, length-run, Vector, len, run_count, with_room, view_of, IsFront, Inside}
-use Rattle.std.specs.Prelude.{insert, nat_le}
-use Rattle.std.proofs.lemmas.Bool.Decides.{nat_tests}
+use Rattle.aa_vec.proofs.Common.{◌≡◌, ℕ, ◌+◌, ◌-◌, ◌<◌, ◌≤◌, [], ◌∷◌, ◌++◌, Some, length, refl, ap, ◌∙◌, arith, if◌then◌else◌, ◌==◌, slice_set, Block, wrote, IsRun, run, moved, amortized, least_of, length-run, Vector, len, run_count, with_room, view_of, IsFront, Inside, insert, nat_le, nat_tests, Reserves, run-put, run-reserved, IsRun-reserved, Becomes}
 use Rattle.std.proofs.lemmas.List.{length-set}
-use Rattle.aa_raw.specs.Block.{Reserves}
-use Rattle.aa_raw.proofs.Calls.{run-put, run-reserved, IsRun-reserved}
 use Rattle.aa_raw.proofs.Positions.{run-inserted, length-inserted}
-use Rattle.aa_vec.specs.Vector.{Becomes}
 use Rattle.aa_vec.proofs.Becoming.{Becomes-grows}
 use Rattle.aa_vec.proofs.Climbing.{MakesRoom}
 use Rattle.aa_vec.proofs.Lists.{unequal}

@@ -1,6 +1,5 @@
 -- Elements that a test takes out of a range: what comes, one after another, and what the vector has at the end.
-use Rattle.aa_vec.proofs.Common.{◌≡◌, ℕ, ◌-◌, Bool, not, List, [], ◌∷◌, ◌++◌, length, map, take, drop, Option, Some, None, sym, ap, ◌∙◌, subst, arith, append_assoc, filter, Result, Ok, Err, OnOk, Yields, Drains, append-nil, map-id, take-append-drop, take_all, drop_all, filter-append, Asked, kept, passed_over, Extracts, ExtractsRange, ClosesExtract, extract_kept, extract_rest, Vector, len, ExtractBy, ExtractIf}
-use Rattle.aa_vec.specs.Extracting.{ExtractsAlong, extract_head, extract_tail}
+use Rattle.aa_vec.proofs.Common.{◌≡◌, ℕ, ◌-◌, Bool, not, List, [], ◌∷◌, ◌++◌, length, map, take, drop, Option, Some, None, sym, ap, ◌∙◌, subst, arith, append_assoc, filter, Result, Ok, Err, OnOk, Yields, Drains, append-nil, map-id, take-append-drop, take_all, drop_all, filter-append, Asked, kept, passed_over, Extracts, ExtractsRange, ClosesExtract, extract_kept, extract_rest, Vector, len, ExtractBy, ExtractIf, ExtractsAlong, extract_head, extract_tail}
 use Rattle.aa_vec.specs.Sifting.{still_taken, left_at_end}
 use Rattle.aa_vec.proofs.Callable.{IsCallableInOrder-any}
 use Rattle.aa_vec.proofs.Extracted.{extracts_fewer}
@@ -101,18 +100,13 @@ module _ {F T A : Type 0} (Asks : F → T → Bool → F → T → Type 0) (test
   Extracts_filter old n s xs range all d steady = drained steady s d.1.0 xs d.0 d.1.1 d.1.2 ∙ Range_taken test old n s.by range all
 
   -- and goes behind the elements of another
-  pub Extends_filter : {E : Type 0} (r : Result Unit E) (old : Vector T A) (n : ℕ) (s : ExtractIf T F A) (zs new : List T) → OnOk r ((xs : List T) × Drains Steps s xs × (new ≡ zs ++ xs)) → ExtractsRange old 0 n s.by → n ≡ len old
-      → ((f : F) (x : T) (answer : Bool) (g : F) (y : T) → Asks f x answer g y → (answer ≡ test x) × (y ≡ x)) → OnOk r (new ≡ zs ++ filter test old.items)
-  Extends_filter (Err e) old n s zs new all range whole steady = tt
-  Extends_filter (Ok u) old n s zs new all range whole steady = all.2 ∙ ap (λ l. zs ++ l) (Extracts_filter old n s all.0 range whole all.1 steady)
-
-  -- the same in the search's order: of the iterator as a call gave it, whose record names what is asked
-  pub Extends_along : {E : Type 0} (r : Result Unit E) (old : Vector T A) (n : ℕ) (s : ExtractIf T F A) (zs new : List T) → ExtractsAlong Asks s → ExtractsRange old 0 n s.by → n ≡ len old
+  pub Extends_filter : {E : Type 0} (r : Result Unit E) (old : Vector T A) (n : ℕ) (s : ExtractIf T F A) (zs new : List T) → ExtractsAlong Asks s → ExtractsRange old 0 n s.by → n ≡ len old
       → OnOk r ((xs : List T) × Drains Steps s xs × (new ≡ zs ++ xs)) → ((f : F) (x : T) (answer : Bool) (g : F) (y : T) → Asks f x answer g y → (answer ≡ test x) × (y ≡ x)) → OnOk r (new ≡ zs ++ filter test old.items)
-  Extends_along r old n s zs new along range whole all steady = Extends_filter r old n s zs new all range whole steady
+  Extends_filter (Err e) old n s zs new along range whole all steady = tt
+  Extends_filter (Ok u) old n s zs new along range whole all steady = all.2 ∙ ap (λ l. zs ++ l) (Extracts_filter old n s all.0 range whole all.1 steady)
 
 -- what a loop over such a range wants
 pub ruleset sifts = (IsCallableInOrder-any, extracts_fewer, taken-more, left-more, taken-end, left-end)
 
 -- what an extension by such elements wants
-pub ruleset takes = (IsCallableInOrder-any, Extends_along)
+pub ruleset takes = (IsCallableInOrder-any, Extends_filter)

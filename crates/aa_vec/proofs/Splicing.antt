@@ -1,8 +1,5 @@
 -- A range that was replaced by items: what an iterator told of them, and what its phases left.
-use Rattle.aa_vec.proofs.Common.{◌≡◌, ℕ, ◌+◌, ◌-◌, ◌*◌, ◌<◌, ◌≤◌, List, [], ◌∷◌, ◌++◌, length, Option, append_assoc, refl, sym, ap, ◌∙◌, subst, arith, inl, inr, length-append, Result, Ok, Count, Yields, count_of, append-nil, TryReserveError, Vector, len, HasRoom, SameBlock, run_count, moved_over, behind_items, with_behind, Extended, LeavesIter, cut_off, SplicesByAll, SplicesByFront, FillsAndCloses, PutsAll, Puts}
-use Rattle.aa_vec.specs.Extending.{StopsAt}
-use Rattle.aa_vec.specs.Splicing.{Replaced, SplicesIter, SplicesWithin, TellsOnceFull}
-use Rattle.aa_vec.specs.Filling.{PutsFront}
+use Rattle.aa_vec.proofs.Common.{◌≡◌, ℕ, ◌+◌, ◌-◌, ◌*◌, ◌<◌, ◌≤◌, List, [], ◌∷◌, ◌++◌, length, Option, append_assoc, refl, sym, ap, ◌∙◌, subst, arith, inl, inr, length-append, Result, Ok, Count, Yields, count_of, append-nil, TryReserveError, Vector, len, HasRoom, SameBlock, run_count, moved_over, behind_items, with_behind, Extended, LeavesIter, cut_off, SplicesByAll, SplicesByFront, FillsAndCloses, PutsAll, Puts, StopsAt, Replaced, SplicesIter, SplicesWithin, TellsOnceFull, PutsFront}
 use Rattle.aa_vec.proofs.Answered.{IsOk, on_ok, if_err, done_unless}
 use Rattle.aa_vec.proofs.Closed.{moved_none, moved_some, moved_most, one_run}
 use Rattle.aa_vec.proofs.Climbing.{MakesRoomTwice, MakesRoomTwice-same, SameBlock-trans, MakesRoom-same}

@@ -1,6 +1,5 @@
 -- Closures whose answers hang on the elements alone: what they leave of a list is a function of it.
-use Rattle.aa_vec.proofs.Common.{◌≡◌, Bool, true, false, not, List, [], ◌∷◌, map, refl, ap, ◌∙◌, subst, arith, cond, filter, Asked, AskedInOrder, ChainsFrom, Deduplicated, answers_of, kept, kept_behind_removed, removed_count}
-use Rattle.std.specs.List.{dedup, dedup_from}
+use Rattle.aa_vec.proofs.Common.{◌≡◌, Bool, true, false, not, List, [], ◌∷◌, map, refl, ap, ◌∙◌, subst, arith, cond, filter, Asked, AskedInOrder, ChainsFrom, Deduplicated, answers_of, kept, kept_behind_removed, removed_count, dedup, dedup_from}
 use Rattle.aa_vec.proofs.Closed.{counted}
 
 -- what an element is told by p, and left as by h

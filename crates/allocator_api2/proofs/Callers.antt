@@ -4,4 +4,4 @@
 pub use Rattle.aa_vec.proofs.Becoming.{became}
 pub use Rattle.aa_vec.proofs.Callers.{callers, all_same, filled_new, Retains_filter, Retains_filter_reading}
 pub use Rattle.aa_vec.proofs.Counted.{items-all}
-pub use Rattle.aa_vec.proofs.Sifting.{sifts, left-end, Extracts_filter, Extends_filter, Extends_along, takes}
+pub use Rattle.aa_vec.proofs.Sifting.{sifts, left-end, Extracts_filter, Extends_filter, takes}

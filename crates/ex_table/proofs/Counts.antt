@@ -71,19 +71,12 @@ module _ {K V : Type 0} (eq : K → K → Bool) where
     pub held : is_held s ≡ true
     pub value : value_of s ≡ Some w
 
-  pub with_value-held : (s : Slot K V) (k : K) (w : V) → is_key eq k s ≡ true → Rewritten k w (with_value s w)
-  with_value-held s k w e = grind arith
-
   -- the entries with another value for a key
   pub entries-written : (ss : List (Slot K V)) (k : K) (i : ℕ) (s : Slot K V) (v : V) → i < length ss → is_key eq k (slot_at ss i) ≡ true → count_by (is_key eq k) ss ≤ 1 → s ≡ slot_at ss i
       → entries_of (set ss i (with_value s v)) ≡ set_value (eq k) (entries_of ss) v
   entries-written [] k i s v h e c is = absurd (omega arith)
   entries-written (t ∷ ss) k zero s v h e c is = grind (arith, is, e)
   entries-written (t ∷ ss) k (suc i) s v h e c is = grind (arith, count-some (is_key eq k) Gone ss i (omega arith) e, entries-written ss k i s v (omega arith) e, count-cons (is_key eq k) t ss)
-
-  -- a key that is nowhere is not in this slot
-  pub key_unseen : (ss : List (Slot K V)) (k : K) (i : ℕ) → i < length ss → count_by (is_key eq k) ss ≡ 0 → is_key eq k (slot_at ss i) ≡ false
-  key_unseen ss k i h none = grind (arith, count-some (is_key eq k) Gone ss i h)
 
   module _ (E : IsEquivalence eq) where
     -- keys that are equal are in the same slots

@@ -27,9 +27,6 @@ module _ (g : Group) (long : length g.tags ≡ 16) where
 
 -- a lane of a group was written
 module _ (gs : List Group) (at : ℕ) (new : Group) (within : at < length gs) where
-  pub free-set : free_lanes (set gs at new) + free (group_at gs at) ≡ free_lanes gs + free new
-  free-set = sum_by-set free gs at new (record { tags = []; places = [] }) within
-
   abbrev way : (hash step : ℕ) → ℕ
   way hash = after (length gs) (home_of (length gs) hash)
 

@@ -1,6 +1,4 @@
-use Rattle.aa_vec.proofs.Common.{rules}
-use Rattle.std.specs.Iterator.{IsNearerEnd}
-use Rattle.aa_vec.specs.Extending.{CopiesOf, TellsAtMost}
+use Rattle.aa_vec.proofs.Common.{rules, IsNearerEnd, CopiesOf, TellsAtMost}
 use Rattle.aa_vec.proofs.Answered.{on_ok}
 use Rattle.aa_vec.proofs.Extending.{Drains-read, Extended-left, whole_run}
 use Rattle.aa_vec.proofs.Reading.{LeavesIter-read, stopped_read}

@@ -1,5 +1,4 @@
-use Rattle.aa_vec.proofs.Common.{◌+◌, ◌≤◌, type_size, size, len}
-use Rattle.std.specs.Iterator.{IsFinite}
+use Rattle.aa_vec.proofs.Common.{◌+◌, ◌≤◌, type_size, size, len, IsFinite}
 use Rattle.aa_vec.proofs.Extending.{Placing}
 use Rattle.aa_vec.proofs.vec.Vec.extend_telling.Given as goal
 

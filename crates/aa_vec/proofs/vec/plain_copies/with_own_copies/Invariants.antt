@@ -1,5 +1,4 @@
-use Rattle.aa_vec.proofs.Common.{◌++◌, take, drop, Holds}
-use Rattle.aa_vec.specs.Copies.{WritesAtMost}
+use Rattle.aa_vec.proofs.Common.{◌++◌, take, drop, Holds, WritesAtMost}
 use Rattle.aa_vec.proofs.vec.plain_copies.with_own_copies.Given as goal
 
 abbrev pub invariant-each : goal.invariant-each
