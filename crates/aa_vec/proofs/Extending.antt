@@ -3,7 +3,7 @@ use Rattle.aa_vec.proofs.Common.{◌≡◌, ℕ, zero, suc, ◌+◌, ◌-◌, �
 use Rattle.std.specs.Borrow.{Bor}
 use Rattle.aa_vec.proofs.Answered.{IsOk, on_ok, if_err}
 use Rattle.std.proofs.iter.runs.Consumers.{total_runs}
-use Rattle.aa_vec.proofs.Climbing.{MakesRoom, SameBlock-refl, MakesRoom-fits, Climbs-same, Climbs-more, Climbs-rises, Climbs-counted, Climbs-keeps}
+use Rattle.aa_vec.proofs.Climbing.{MakesRoom, SameBlock-refl, MakesRoom-fits, MakesRoom-rises, Climbs-same, Climbs-more, Climbs-rises, Climbs-counted, Climbs-keeps}
 
 -- the items that came, as one run
 pub whole_run : {S A : Type 0} (steps : S → Option A → S → Type 0) (s : S) (P : List A → Type 0) → (xs : List A) × Drains steps s xs × P xs → WholeRun steps s (λ p. P p.items)
