@@ -1,4 +1,5 @@
-use Rattle.vecscript.proofs.Common.{◌≡◌, inl, [], arith}
+use Rattle.vecscript.proofs.Common.{◌≡◌, inl, [], ap, arith}
+use Rattle.allocator_api2.specs.Vector.{Vector}
 use Rattle.vecscript.proofs.Read.{AreRead, HasSeen-start, HasSeen-next, AreRead-next, HasNoBad-none, with_command}
 use Rattle.vecscript.proofs.lines.commands.Goals as goal
 
@@ -18,7 +19,7 @@ loop-index-preserved-in-Continue-branch-4 c =
     let read = HasSeen-next _ (AreRead (with_command c.loop-index.commands.items c.in_ok-command.field-0)) _ _ c.next.new.self.iter.rest.now _ _ _ had lines_left counts
     (AreRead-next c.in-Some.line.now c.loop-index.commands.items c.in_ok-command.field-0 c.in_ok-command.ensures.ok) in
     let more : c.push.new.self.items ≡ with_command c.loop-index.commands.items c.in_ok-command.field-0 =
-    rw c.in-Some-2.is c.in_ok-push.ensures.pushed.items in
+    rw c.in-Some-2.is (ap (λ (v : Vector _ _). v.items) c.in_ok-push.ensures.pushed) in
     ((tt, tt, inl (omega arith)), tt, rw more read)
 
 pub loop-index-preserved : goal.loop-index-preserved

@@ -1,4 +1,5 @@
-use Rattle.vecscript.proofs.Common.{◌^◌, inr, refl, Writes}
+use Rattle.vecscript.proofs.Common.{◌^◌, ap, inr, refl, Writes}
+use Rattle.allocator_api2.specs.Vector.{Vector}
 use Rattle.vecscript.proofs.Taken.{HasTaken-next, HasTaken-stuck}
 use Rattle.vecscript.proofs.lines.elements.Goals as goal
 
@@ -6,7 +7,7 @@ use Rattle.vecscript.proofs.lines.elements.Goals as goal
 pub each-preserved : goal.each-preserved
 each-preserved c =
     let (word, next, written) = c.in-Some.ensures.some in
-    rw c.in_ok-push-in-Some.ensures.pushed.items (HasTaken-next (Writes (2 ^ 32)) _ _ _ word _ _ c.each.invariant next written)
+    rw (ap (λ (v : Vector _ _). v.items) c.in_ok-push-in-Some.ensures.pushed) (HasTaken-next (Writes (2 ^ 32)) _ _ _ word _ _ c.each.invariant next written)
 
 -- or it is no element, and then the line says none
 pub returns-in-None : goal.returns-in-None
