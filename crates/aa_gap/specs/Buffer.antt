@@ -74,7 +74,7 @@ module _ {T A : Type 0} where
 
   -- k more elements fit
   abbrev pub HasRoom : Buffer T A → ℕ → Type 0
-  HasRoom b k = Room.HasRoom b.capacity (len b) k
+  HasRoom b k = k ≤ b.capacity - len b
 
   -- how many places a growth of b asks for, of `size` bytes each, that needs n
   abbrev pub wanted : (size : ℕ) → Buffer T A → (n : ℕ) → ℕ

@@ -2,7 +2,7 @@
 use Rattle.std.specs.Prelude.{◌≡◌, ℕ, ◌+◌, ◌-◌, ◌<◌, ◌≤◌, List, ◌++◌, length, take, replicate, Option, None, if◌then◌else◌, ◌==◌, nat_le, Result, IfErr, OnOk, IsOk}
 use Rattle.aa_raw.specs.Growth.{amortized, least_of, usize_max}
 use Rattle.aa_raw.specs.Places.{empty_places, moved, with_run}
-use Rattle.aa_raw.specs.Room.{HasRoom, LacksRoom, run_count}
+use Rattle.aa_raw.specs.Room.{LacksRoom, run_count}
 use Rattle.aa_raw.specs.declared.collections.TryReserveError.{TryReserveError}
 use Rattle.aa_raw.specs.declared.raw_vec.Growth.{Growth}
 use Rattle.aa_raw.specs.declared.raw_vec.Room.{Room}
@@ -118,6 +118,6 @@ module _ {X A : Type 0} where
   -- where they fit it was granted, and a refusal changed nothing
   pub record Reserved (size : ℕ) (old : Block X A) (n k wanted : ℕ)
       (result : Result Unit TryReserveError) (new : Block X A) : Type 0 where
-    pub fits : HasRoom (length old.places) n k → IsOk result
+    pub fits : k ≤ length old.places - n → IsOk result
     pub made : OnOk result (Reserves size old n k wanted new)
     pub refused : IfErr result (λ e. (new ≡ old) × LacksRoom (length old.places) n k wanted e)

@@ -1,5 +1,5 @@
 -- What stands in the places of a block.
-use Rattle.std.specs.Prelude.{◌≡◌, ℕ, ◌+◌, ◌*◌, ◌^◌, ◌<◌, ◌≤◌, true, get_or, List, [], ◌∷◌, ◌++◌, length, take, drop, replicate, Option, Some, None, is_some, if◌then◌else◌, ◌==◌}
+use Rattle.std.specs.Prelude.{◌≡◌, ℕ, ◌+◌, ◌*◌, ◌^◌, ◌<◌, ◌≤◌, true, get_or, List, [], ◌∷◌, ◌++◌, length, take, drop, replicate, filter_map, Option, None, is_some, if◌then◌else◌, ◌==◌}
 use Rattle.std.specs.List.{list_all}
 use Rattle.aa_raw.specs.Growth.{usize_max}
 use denote.RattleType.{RattleType}
@@ -29,9 +29,7 @@ module _ {X : Type 0} where
 
   -- the values that are there
   abbrev pub somes : List (Option X) → List X
-  somes [] = []
-  somes (None ∷ cs) = somes cs
-  somes (Some x ∷ cs) = x ∷ somes cs
+  somes cs = filter_map (λ c. c) cs
 
   -- the values in the n places from the index from on
   unfoldable pub run : List (Option X) → ℕ → ℕ → List X

@@ -14,10 +14,6 @@ run_count n = if n == 0 then 0 else 1
 abbrev pub moved_over : (gap n : ℕ) → ℕ
 moved_over gap n = if gap == 0 then 0 else n
 
--- beside n elements, k more fit into `capacity` places
-abbrev pub HasRoom : (capacity n k : ℕ) → Type 0
-HasRoom capacity n k = k ≤ capacity - n
-
 -- k more than n elements did not fit into `capacity` places, and a growth to `wanted` places was
 -- refused with this error
 pub record LacksRoom (capacity n k wanted : ℕ) (error : TryReserveError) : Type 0 where

@@ -1,10 +1,10 @@
 -- Growth that keeps two runs of a block. A run is a place, and how many places from there on hold
 -- its values.
 use Rattle.std.specs.Prelude.{◌≡◌, ℕ, ◌+◌, ◌<◌, ◌≤◌, ◌-◌, ◌⊎◌, ◌++◌, take, drop, replicate, None, length, if◌then◌else◌, nat_le, Result, IfErr, OnOk, IsOk}
-use Rattle.aa_raw.specs.Block.{Block}
-use Rattle.aa_raw.specs.Growth.{amortized, least_of, usize_max}
+use Rattle.aa_raw.specs.Block.{Block, wanted}
+use Rattle.aa_raw.specs.Growth.{usize_max}
 use Rattle.aa_raw.specs.Places.{IsRun, run, with_run}
-use Rattle.aa_raw.specs.Room.{HasRoom, LacksRoom}
+use Rattle.aa_raw.specs.Room.{LacksRoom}
 use Rattle.aa_raw.specs.declared.collections.TryReserveError.{TryReserveError}
 
 -- no place is in both runs
@@ -31,10 +31,6 @@ module _ {X A : Type 0} where
         alloc = b.alloc;
       }
 
-  -- how many places of `size` bytes a growth of b asks for that needs n
-  abbrev pub asked_for : (size : ℕ) → Block X A → (n : ℕ) → ℕ
-  asked_for size b n = amortized b.growth (length b.places) n (least_of size)
-
   -- old made room for k more than its two runs have and is new: where they fit it is unchanged,
   -- else it grew to `wanted` places of `size` bytes, and the second run begins at the place `to`
   pub record ReservesRuns (size : ℕ) (old : Block X A) (first second : ℕ × ℕ) (k wanted to : ℕ)
@@ -58,12 +54,11 @@ module _ {X A : Type 0} where
   -- fit it was granted, and a refusal changed nothing
   pub record ReservedRuns (size : ℕ) (old : Block X A) (first second : ℕ × ℕ) (k to : ℕ)
       (result : Result Unit TryReserveError) (new : Block X A) : Type 0 where
-    pub fits : HasRoom (length old.places) (both first second) k → IsOk result
-    pub made : let wanted = asked_for size old (both first second + k) in
-        OnOk result (ReservesRuns size old first second k wanted to new)
-    pub refused : let wanted = asked_for size old (both first second + k) in
-        IfErr result
-        (λ e. (new ≡ old) × LacksRoom (length old.places) (both first second) k wanted e)
+    pub fits : k ≤ length old.places - both first second → IsOk result
+    pub made : let c = wanted size old (both first second + k) in
+        OnOk result (ReservesRuns size old first second k c to new)
+    pub refused : let c = wanted size old (both first second + k) in
+        IfErr result (λ e. (new ≡ old) × LacksRoom (length old.places) (both first second) k c e)
 
   -- old had no room for k more than its two runs have
   abbrev pub IsFull : (old : Block X A) → (first second : ℕ × ℕ) → (k : ℕ) → Type 0

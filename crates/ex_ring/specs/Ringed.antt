@@ -1,5 +1,5 @@
 -- What contracts see of a ring.
-use Rattle.std.specs.Prelude.{ℕ, ◌+◌, ◌-◌, List, [], length, nat_le, if◌then◌else◌}
+use Rattle.std.specs.Prelude.{◌≡◌, ℕ, ◌+◌, ◌-◌, ◌≤◌, List, [], length, nat_le, if◌then◌else◌}
 use Rattle.allocator_api2.specs.Growth.{amortized, least_of}
 use Rattle.allocator_api2.specs.Room as Room
 use Rattle.allocator_api2.specs.declared.collections.TryReserveError.{TryReserveError}
@@ -21,7 +21,7 @@ module _ {T A : Type 0} where
 
   -- k more items fit
   abbrev pub HasRoom : Ringed T A → ℕ → Type 0
-  HasRoom r k = Room.HasRoom r.capacity (length r.items) k
+  HasRoom r k = k ≤ r.capacity - length r.items
 
   -- r with other items, after n were written
   abbrev pub wrote : Ringed T A → List T → (n : ℕ) → Ringed T A
