@@ -1,5 +1,5 @@
 -- What stands in the places of a block.
-use Rattle.std.specs.Prelude.{◌≡◌, ℕ, ◌+◌, ◌*◌, ◌^◌, ◌<◌, ◌≤◌, true, get_or, List, [], ◌∷◌, ◌++◌, length, take, drop, replicate, filter_map, Option, None, is_some, if◌then◌else◌, ◌==◌}
+use Rattle.std.specs.Prelude.{◌≡◌, ℕ, ◌+◌, ◌*◌, ◌^◌, ◌<◌, ◌≤◌, true, get_or, List, ◌++◌, length, take, drop, replicate, filter_map, Option, None, is_some, if◌then◌else◌, ◌==◌}
 use Rattle.std.specs.List.{list_all}
 use Rattle.aa_raw.specs.Growth.{usize_max}
 use denote.RattleType.{RattleType}

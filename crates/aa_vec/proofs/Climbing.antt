@@ -1,5 +1,5 @@
 -- Lemmas on a vector that grew while it was full.
-use Rattle.aa_vec.proofs.Common.{◌≡◌, ℕ, ◌+◌, ◌-◌, ◌<◌, ◌≤◌, List, ◌++◌, append_assoc, refl, ap, ◌∙◌, subst, arith, min, usize_max, Growth, Doubling, Sparing, amortized, least_of, Vector, SameBlock, Holds, with_room, Climbs, stays, grows, asked_for, ExtendsAll, ExtendsFull, ExtendsByAll, ExtendsByFront, TryReserveError, Option, [], ◌∷◌, length, length-append, nat_tests}
+use Rattle.aa_vec.proofs.Common.{◌≡◌, ℕ, ◌+◌, ◌-◌, ◌<◌, ◌≤◌, List, ◌++◌, append_assoc, refl, ap, ◌∙◌, subst, arith, min, usize_max, Growth, Doubling, Sparing, amortized, least_of, Vector, SameBlock, Holds, with_room, Climbs, stays, grows, ExtendsAll, ExtendsFull, ExtendsByAll, ExtendsByFront, TryReserveError, Option, [], ◌∷◌, length, length-append, nat_tests, asked_with}
 
 -- a growth asks for no less than what is needed
 pub amortized-enough : (G : Growth) (c needed m : ℕ) → needed ≤ amortized G c needed m
@@ -59,11 +59,11 @@ pub Climbs-counted : {T A : Type 0} (size : ℕ) (lower by : ℕ → ℕ) (neede
     → ((k : ℕ) → u.capacity + k < needed → lower k ≡ by (k + r)) → Climbs size lower needed v w → Climbs size by all u w
 Climbs-counted size lower by needed r all b e same (stays c) = stays (SameBlock-trans b c)
 Climbs-counted size lower by needed r all {u} {v} {w} b e same (grows {mid = mid} h m rest) =
-    let a : asked_for lower (needed - u.capacity) ≡ asked_for by (all - u.capacity) =
+    let a : asked_with (lower (needed - u.capacity - 1)) ≡ asked_with (by (all - u.capacity - 1)) =
     ap (λ n. min (n + 1) usize_max) (same (needed - u.capacity - 1) (omega (arith, h, b.capacity)) ∙ ap by (omega (arith, h, b.capacity, e))) in
     grows (omega (arith, h, b.capacity, e))
-    (subst (λ k. MakesRoom size u u.capacity k mid) a (subst (λ c. MakesRoom size u c (asked_for lower (needed - c)) mid) b.capacity (MakesRoom-same size v.capacity (asked_for lower (needed - v.capacity)) b m)))
-    (Climbs-counted size lower by needed r all (SameBlock-refl mid) e (λ k l. same k (omega (arith, l, MakesRoom-rises size v.capacity (asked_for lower (needed - v.capacity)) v mid m, b.capacity))) rest)
+    (subst (λ k. MakesRoom size u u.capacity k mid) a (subst (λ c. MakesRoom size u c (asked_with (lower (needed - c - 1))) mid) b.capacity (MakesRoom-same size v.capacity (asked_with (lower (needed - v.capacity - 1))) b m)))
+    (Climbs-counted size lower by needed r all (SameBlock-refl mid) e (λ k l. same k (omega (arith, l, MakesRoom-rises size v.capacity (asked_with (lower (needed - v.capacity - 1))) v mid m, b.capacity))) rest)
 
 module _ {T A : Type 0} (size : ℕ) (lower : ℕ → ℕ) (needed : ℕ) where
   -- a climb ends in whatever is in the same block
@@ -72,14 +72,14 @@ module _ {T A : Type 0} (size : ℕ) (lower : ℕ → ℕ) (needed : ℕ) where
   Climbs-same (grows h m r) c = grows h m (Climbs-same r c)
 
   -- and goes on by one more growth
-  pub Climbs-more : {u v w : Vector T A} → Climbs size lower needed u v → v.capacity < needed → MakesRoom size v v.capacity (asked_for lower (needed - v.capacity)) w → Climbs size lower needed u w
+  pub Climbs-more : {u v w : Vector T A} → Climbs size lower needed u v → v.capacity < needed → MakesRoom size v v.capacity (asked_with (lower (needed - v.capacity - 1))) w → Climbs size lower needed u w
   Climbs-more {w = w} (stays b) l m = Climbs-counted size lower lower needed 0 needed b (omega arith) (λ k _. ap lower (omega arith)) (grows l m (stays (SameBlock-refl w)))
   Climbs-more (grows h n r) l m = grows h n (Climbs-more r l m)
 
   -- the capacity never falls
   pub Climbs-rises : {u v : Vector T A} → Climbs size lower needed u v → u.capacity ≤ v.capacity
   Climbs-rises (stays b) = omega (arith, b.capacity)
-  Climbs-rises {u} {v} (grows {mid = mid} h m r) = omega (arith, MakesRoom-rises size u.capacity (asked_for lower (needed - u.capacity)) u mid m, Climbs-rises r)
+  Climbs-rises {u} {v} (grows {mid = mid} h m r) = omega (arith, MakesRoom-rises size u.capacity (asked_with (lower (needed - u.capacity - 1))) u mid m, Climbs-rises r)
 
   -- where all fit, there is no growth
   pub Climbs-fits : {u v : Vector T A} → Climbs size lower needed u v → needed ≤ u.capacity → SameBlock u v
@@ -96,7 +96,7 @@ module _ {T A : Type 0} (size : ℕ) (lower : ℕ → ℕ) (needed : ℕ) where
   Climbs-exact exact {u} {v} (stays b) enough few = SameBlock-trans (with_room-fits size u u.capacity (needed - u.capacity) (omega (arith, enough, b.capacity))) b
   Climbs-exact exact {u} {v} (grows {mid = mid} h m r) enough few =
       let left : ℕ = needed - u.capacity in
-      let asked : asked_for lower left ≡ left = ap (λ n. min (n + 1) usize_max) (exact (left - 1)) ∙ omega (arith, h, few) in
+      let asked : asked_with (lower (left - 1)) ≡ left = ap (λ n. min (n + 1) usize_max) (exact (left - 1)) ∙ omega (arith, h, few) in
       let made : MakesRoom size u u.capacity left mid = rw asked at m in
       SameBlock-trans made (Climbs-fits r (omega (arith, h, MakesRoom-fits size u.capacity left u mid made (MakesRoom-rises size u.capacity left u mid made))))
 

@@ -5,7 +5,8 @@ pub use Rattle.aa_raw.proofs.Runs.{IsRun-long, IsRun-part, IsRun-same, IsRun-set
 pub use Rattle.aa_raw.specs.Block.{Block, Reserves, with_places, wrote}
 pub use Rattle.aa_raw.specs.Closures.{TakesPairMut}
 pub use Rattle.aa_raw.specs.Growth.{amortized, least_of, usize_max}
-pub use Rattle.aa_raw.specs.Places.{IsRun, moved, run, with_run}
+pub use Rattle.aa_raw.specs.Places.{IsRun}
+unfoldable pub use Rattle.aa_raw.specs.Places.{moved, run, with_run}
 pub use Rattle.aa_raw.specs.declared.collections.TryReserveError.{TryReserveError}
 pub use Rattle.aa_raw.specs.declared.raw_vec.Growth.{Growth}
 pub use Rattle.aa_raw.specs.declared.raw_vec.Growth.TheVariants.{Doubling, Sparing}
@@ -13,7 +14,7 @@ pub use Rattle.aa_vec.specs.Arrays.{flattened}
 pub use Rattle.aa_vec.specs.Behind.{ClosesGap, ClosesTwice, DropsAndCloses, DropsBehind, LeavesBehind, SetsBack, StandsBehind, behind_items, with_behind}
 pub use Rattle.aa_vec.specs.Choosing.{Asked, AskedInOrder, ChainsFrom, Deduplicated, Deduplicates, EndsTrue, IsCallableAlong, IsCallableInOrder, MayAskInOrder, MayChainFrom, MayDeduplicate, Retains, TakesMut, answers_of, kept, kept_behind_removed, passed_over, removed_count}
 pub use Rattle.aa_vec.specs.Copies.{Adds, AddsAnswers, Begins, Copies, Fills, IsBeginning, IsMade, IsMadeOfOne, LengthensBy, MayCallTimes, Refuses, Undone, WritesAtMost}
-pub use Rattle.aa_vec.specs.Extending.{Climbs, CopiesOf, Extended, ExtendsAll, ExtendsByAll, ExtendsByFront, ExtendsFull, ItemsLeft, LeavesIter, StopsAt, TellsAtMost, TellsExactly, YieldsTelling, asked_for, gives_item, grows, lower_by, stays}
+pub use Rattle.aa_vec.specs.Extending.{Climbs, CopiesOf, Extended, ExtendsAll, ExtendsByAll, ExtendsByFront, ExtendsFull, ItemsLeft, LeavesIter, StopsAt, TellsAtMost, TellsExactly, YieldsTelling, asked_with, gives_item, grows, lower_by, stays}
 pub use Rattle.aa_vec.specs.Extracting.{ClosesExtract, Extracted, ExtractedTo, Extracts, ExtractsAlong, ExtractsRange, extract_count, extract_head, extract_kept, extract_rest, extract_tail, extract_vec}
 pub use Rattle.aa_vec.specs.Filling.{FillsAndCloses, FillsGap, Gathers, GathersShort, LacksRest, OpensGap, Placed, Puts, PutsAll, PutsFront, PutsRest, PutsWithin, Told, Widens}
 pub use Rattle.aa_vec.specs.Inner.{IsFront, view_of}

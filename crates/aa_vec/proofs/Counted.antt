@@ -1,5 +1,5 @@
 -- Extensions by an iterator that tells a function of how many items are to come.
-use Rattle.aa_vec.proofs.Common.{◌≡◌, ℕ, ◌+◌, ◌-◌, ◌<◌, ◌≤◌, List, [], ◌∷◌, ◌++◌, length, Option, None, append_assoc, refl, sym, ap, ◌∙◌, subst, arith, inl, inr, length-append, min, cases_lt, append-nil, TryReserveError, usize_max, Vector, len, SameBlock, LacksRoom, asked_for, YieldsTelling, ExtendsAll, ExtendsFull, ExtendsByAll, ExtendsByFront, ItemsLeft, gives_item, lower_by, TellsExactly}
+use Rattle.aa_vec.proofs.Common.{◌≡◌, ℕ, ◌+◌, ◌-◌, ◌<◌, ◌≤◌, List, [], ◌∷◌, ◌++◌, length, Option, None, append_assoc, refl, sym, ap, ◌∙◌, subst, arith, inl, inr, length-append, min, cases_lt, append-nil, TryReserveError, usize_max, Vector, len, SameBlock, LacksRoom, YieldsTelling, ExtendsAll, ExtendsFull, ExtendsByAll, ExtendsByFront, ItemsLeft, gives_item, lower_by, TellsExactly, asked_with}
 use Rattle.aa_vec.proofs.Climbing.{all_of, full_of, MakesRoom, SameBlock-refl, Climbs-counted, Climbs-exact}
 use Rattle.aa_vec.proofs.Telling.{told_first}
 
@@ -17,7 +17,7 @@ module _ {T A : Type 0} (size : ℕ) (lower by : ℕ → ℕ) {u v : Vector T A}
       let taken_is : length taken ≡ length x.front + length x.others = ap length x.begins ∙ length-append x.front x.others in
       let all_is : length all ≡ length taken + length more = ap length e ∙ length-append taken more in
       let some : 0 < length x.others = omega (arith, x.short, x.full, taken_is) in
-      let asked : asked_for lower (length x.others) ≡ asked_for by (length others) =
+      let asked : asked_with (lower (length x.others - 1)) ≡ asked_with (by (length others - 1)) =
       ap (λ n. min (n + 1) usize_max) (same (length x.others - 1) (λ _. omega (arith, some, taken_is)) ∙ ap by (omega (arith, some, length-append x.others more))) in
       record {
         front = x.front;

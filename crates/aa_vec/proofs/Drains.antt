@@ -38,7 +38,7 @@ module _ {T A : Type 0} where
   rest_is d = refl
 
   pub tail_is : (d : Drain T A) → drain_tail d ≡ behind_items d.vec.now d.end (d.total - d.end)
-  unfolding drain_tail
+  unfolding run
   tail_is d = refl
 
   -- how many they are
@@ -47,7 +47,7 @@ module _ {T A : Type 0} where
   count_left d = length-run (drop d.front d.vec.now.behind) 0 (d.back - d.front) d.held.0.1
 
   pub count_behind : (d : Drain T A) → length (drain_tail d) ≡ d.total - d.end
-  unfolding drain_tail
+  unfolding run
   count_behind d = length-run (drop d.end d.vec.now.behind) 0 (d.total - d.end) d.held.1.1
 
   -- what is left of a range once its first item was taken
@@ -70,7 +70,7 @@ module _ {T A : Type 0} where
     range_held = (part_stand new 0 total all 0 (n - 0) (omega arith) (omega (arith, count, range)), part_stand new 0 total all n (total - n) (omega arith) (omega (arith, count, range)))
 
     pub range_drains : (lent : MutBor (Vector T A)) (ordered : (0 ≤ n) × (n ≤ n) × (n ≤ total)) (held : StandsBehind new 0 (n - 0) × StandsBehind new n (total - n)) → TakesRange old a b (record { vec = re_v new lent; front = 0; back = n; end = n; total = total; ordered = ordered; held = held })
-    unfolding drain_rest drain_tail
+    unfolding drain_rest run
     range_drains lent ordered held = record {
       head = sets.holds;
       writes = sets.writes;
@@ -115,12 +115,12 @@ pub ruleset from_ends = (rest_is, tail_is, run-next, IsRun-next, run-last, IsRun
 
 -- what `drop_and_close` says, and what `drop` says
 pub closes : {X Y : Type 0} (d : Drain X Y) (w : Vector X Y) → DropsAndCloses d.vec.now d.end (d.total - d.end) w → Closes d w
-unfolding drain_tail
+unfolding run
 closes d w h = record { holds = h.holds; writes = subst (λ n. Moves d.vec.now d.end n w) (sym (count_behind d)) h.writes }
 
 -- what `close_gaps` says, and what `keep_rest` says
 pub keeps : {X Y : Type 0} (d : Drain X Y) (w : Vector X Y) → ClosesTwice d.vec.now d.front (d.back - d.front) d.end (d.total - d.end) w → KeepsRest d w
-unfolding drain_rest drain_tail
+unfolding drain_rest run
 keeps d w h =
     let taken : d.end - (d.back - d.front) ≡ d.front + (d.end - d.back) = omega (arith, d.ordered) in
     record { holds = h.holds; writes = rw (count_left d, count_behind d, ← taken) h.writes }

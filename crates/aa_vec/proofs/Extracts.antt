@@ -1,5 +1,5 @@
 -- Calls that take elements out of a range.
-use Rattle.aa_vec.proofs.Common.{re_v, ◌≡◌, ℕ, ◌+◌, ◌-◌, ◌≤◌, Bool, false, not, List, [], ◌∷◌, ◌++◌, length, drop, Option, Some, None, refl, sym, ap, ◌∙◌, subst, arith, length-append, MutBor, MatchOption, take-append-drop, run-zero, StandsBehind, SetsBack, ClosesTwice, behind_items, EndsTrue, MayAskInOrder, kept, ClosesExtract, ExtractsRange, Extracts, StaysAt, Picks, Vector, len, Holds, Moves, ExtractBy}
+use Rattle.aa_vec.proofs.Common.{re_v, ◌≡◌, ℕ, ◌+◌, ◌-◌, ◌≤◌, Bool, false, not, List, [], ◌∷◌, ◌++◌, length, drop, Option, Some, None, refl, sym, ap, ◌∙◌, subst, arith, length-append, MutBor, MatchOption, take-append-drop, run-zero, StandsBehind, SetsBack, ClosesTwice, behind_items, EndsTrue, MayAskInOrder, kept, ClosesExtract, ExtractsRange, Extracts, StaysAt, Picks, Vector, len, Holds, Moves, ExtractBy, run}
 use Rattle.aa_vec.specs.Draining.{drain_rest, drain_tail}
 use Rattle.aa_vec.specs.Extracting.{extract_kept, extract_rest, extract_tail}
 use Rattle.aa_vec.proofs.Drained.{still_stand, still_are, part_stand, later_part}
@@ -18,7 +18,7 @@ module _ {F T : Type 0} (Asks : F → T → Bool → F → T → Type 0) (Takes 
 module _ {T A : Type 0} (old new : Vector T A) (a b total : ℕ) (range : (a ≤ b) × (b ≤ len old)) (set_count : a + total ≡ len old) (sets : SetsBack old a new) where
   pub range_extracts : (lent : MutBor (Vector T A)) (ordered : (0 ≤ 0) × (0 ≤ b - a) × (b - a ≤ total)) (held : StandsBehind new 0 0 × StandsBehind new 0 (total - 0))
       → ExtractsRange old a b (record { vec = re_v new lent; kept = 0; front = 0; end = b - a; total = total; ordered = ordered; held = held })
-  unfolding extract_kept extract_rest extract_tail drain_rest drain_tail
+  unfolding extract_kept extract_rest extract_tail drain_rest run
   range_extracts lent ordered held =
       let takes = range_drains old new a b total range set_count sets lent (omega arith, omega arith, ordered.2) (range_held old new a b total range set_count sets) in
       record {

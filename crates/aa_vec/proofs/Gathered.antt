@@ -1,5 +1,5 @@
 -- Items gathered in a vector of their own, and what was asked for where they could not be.
-use Rattle.aa_vec.proofs.Common.{◌≡◌, ℕ, ◌+◌, ◌-◌, ◌<◌, List, [], ◌∷◌, ◌++◌, length, Option, refl, suc, sym, ap, cases_lt, ◌∙◌, subst, arith, inl, inr, length-append, min, append-nil, TryReserveError, Doubling, amortized, least_of, usize_max, Vector, len, IsNew, LacksRoom, GrowsTo, Holds, Climbs, stays, grows, asked_for, ExtendsFull, ExtendsByAll, ExtendsByFront, Gathers, GathersShort, LacksOthers, Told}
+use Rattle.aa_vec.proofs.Common.{◌≡◌, ℕ, ◌+◌, ◌-◌, ◌<◌, List, [], ◌∷◌, ◌++◌, length, Option, refl, suc, sym, ap, cases_lt, ◌∙◌, subst, arith, inl, inr, length-append, min, append-nil, TryReserveError, Doubling, amortized, least_of, usize_max, Vector, len, IsNew, LacksRoom, GrowsTo, Holds, Climbs, stays, grows, ExtendsFull, ExtendsByAll, ExtendsByFront, Gathers, GathersShort, LacksOthers, Told, asked_with}
 use Rattle.aa_raw.specs.Refusals.{IsRefusedAt}
 use Rattle.aa_vec.proofs.Climbing.{MakesRoom, MakesRoom-stays, SameBlock-refl, Climbs-counted}
 use Rattle.aa_vec.proofs.Counted.{ExtendsFull-told, front_first}
@@ -76,7 +76,7 @@ module _ {S T A : Type 0} (steps : S → Option T → S → Type 0) (Tells : S �
             | inr h ↦ Climbs-counted size f.0 f.0 needed 0 needed (MakesRoom-stays size (len made) wanted made v g.room (omega (arith, h))) (omega arith) (λ k _. ap f.0 (omega arith)) rest
             | inl h ↦
                 let none : made.capacity ≡ 0 = no_places (omega (arith, h, ap length new.items)) in
-                let asked : wanted ≡ asked_for f.0 (needed - made.capacity) = is ∙ ap (λ k. min (k + 1) usize_max) (sym f.1 ∙ ap f.0 (omega (arith, none))) in
+                let asked : wanted ≡ asked_with (f.0 (needed - made.capacity - 1)) = is ∙ ap (λ k. min (k + 1) usize_max) (sym f.1 ∙ ap f.0 (omega (arith, none))) in
                 grows (omega (arith, none)) (rw (← asked) (subst (λ k. MakesRoom size made k wanted v) {x = len made} {y = made.capacity} (omega (arith, ap length new.items, none)) g.room)) rest
           ] in
           let full : ExtendsFull size f.0 made [] (first ∷ taken) error x = record {

@@ -1,5 +1,5 @@
 -- What a contract sees of a `Drain`: the vector as it is lent, and what is left of the range.
-use Rattle.std.specs.Prelude.{◌≡◌, ℕ, ◌+◌, ◌-◌, List, [], ◌∷◌, ◌++◌, length, take, drop, slice_range, Option, MatchOption}
+use Rattle.std.specs.Prelude.{◌≡◌, ℕ, ◌+◌, ◌-◌, List, [], ◌∷◌, ◌++◌, length, take, drop, slice_range, filter_map, Option, MatchOption}
 use Rattle.std.specs.Borrow.{GName}
 use Rattle.std.specs.Iterator.{Yields}
 use Rattle.aa_vec.specs.Behind.{behind_items}
@@ -23,9 +23,9 @@ module _ {T A : Type 0} where
   unfoldable pub drain_rest : Drain T A → List T
   drain_rest d = behind_items d.vec.now d.front (d.back - d.front)
 
-  -- the elements behind the range
-  unfoldable pub drain_tail : Drain T A → List T
-  drain_tail d = behind_items d.vec.now d.end (d.total - d.end)
+  -- the elements behind the range: they stand in the places from `end` up to `total`
+  abbrev pub drain_tail : Drain T A → List T
+  drain_tail d = filter_map (λ c. c) (slice_range d.vec.now.behind d.end d.total)
 
   -- how many elements the range had
   abbrev pub range_len : Drain T A → ℕ

@@ -5,7 +5,7 @@ use Rattle.std.specs.Borrow.{Bor}
 use Rattle.std.specs.Iterator.{Count, YieldsFirst, Drains, size as count}
 use Rattle.std.specs.Iterator.Runs.{WholeRun}
 use Rattle.aa_raw.specs.declared.collections.TryReserveError.{TryReserveError}
-pub use Rattle.aa_boxed.specs.Telling.{TellsAtMost}
+pub use Rattle.aa_boxed.specs.Telling.{TellsAtMost, asked_with}
 use Rattle.aa_vec.specs.Vector.{Vector, len, HasRoom, IsNew, LacksRoom, SameBlock, Writes, with_room}
 
 -- what an `Items` has: the items that are to come, in order, and the number that it tells of them
@@ -22,18 +22,14 @@ abbrev pub lower_by : Option ℕ → (left : ℕ) → ℕ
 lower_by None left = left
 lower_by (Some hint) left = hint
 
--- what a full vector asks room for: `left` items find no place, the first of them is taken, and
--- `lower` of the others is told
-abbrev pub asked_for : (lower : ℕ → ℕ) → (left : ℕ) → ℕ
-asked_for lower left = min (lower (left - 1) + 1) (2 ^ 64 - 1)
-
 module _ {T A : Type 0} where
   -- old, of elements of `size` bytes, grew while it was full and had not room for `needed`, any
-  -- number of times, and is new
+  -- number of times, and is new. Each time it asked room for the first that found no place and as
+  -- many as were told then: `lower k`, where k others found none
   pub data Climbs (size : ℕ) (lower : ℕ → ℕ) (needed : ℕ) : Vector T A → Vector T A → Type 0 where
     stays : {old new : Vector T A} → SameBlock old new → Climbs size lower needed old new
     grows : {old mid new : Vector T A} → old.capacity < needed
-        → SameBlock (with_room size old old.capacity (asked_for lower (needed - old.capacity))) mid
+        → SameBlock (with_room size old old.capacity (asked_with (lower (needed - old.capacity - 1)))) mid
         → Climbs size lower needed mid new
         → Climbs size lower needed old new
 
@@ -56,7 +52,7 @@ module _ {T A : Type 0} where
     pub short : new.capacity < length xs + length added
     pub items : new.items ≡ xs ++ front
     pub full : length xs + length front ≡ new.capacity
-    pub lacks : LacksRoom size new (asked_for lower (length others)) error
+    pub lacks : LacksRoom size new (asked_with (lower (length others - 1))) error
 
 -- a call that gave a `&` gave a value equal to what stands there
 abbrev pub CopiesOf : {S T : Type 0} → (S → Option (Bor T) → S → Type 0) → S → Option T → S → Type 0
@@ -106,7 +102,7 @@ module _ {S T : Type 0} (next_gives : S → Option T → S → Type 0) (Tells : 
       pub climbs : Climbs size lower (length old.items + (length front + 1)) old new
       pub items : new.items ≡ old.items ++ front
       pub full : length new.items ≡ new.capacity
-      pub lacks : LacksRoom size new (asked_for lower 1) error
+      pub lacks : LacksRoom size new (asked_with (lower 0)) error
 
   module _ {A : Type 0} (size : ℕ) (iter : S) (alloc : A) where
     -- v was new, and was extended by all that came from `iter`

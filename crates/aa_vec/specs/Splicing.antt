@@ -9,7 +9,7 @@ use Rattle.aa_raw.specs.Growth.{amortized, least_of}
 use Rattle.aa_raw.specs.Refusals.{IsRefusedAt}
 use Rattle.aa_vec.specs.Vector.{Vector, len, HasRoom, IsNew, SameBlock, LacksRoom, run_count, with_room}
 use Rattle.aa_vec.specs.Behind.{behind_items}
-use Rattle.aa_vec.specs.Extending.{ExtendsAll, ExtendsFull, StopsAt, YieldsTelling, asked_for}
+use Rattle.aa_vec.specs.Extending.{ExtendsAll, ExtendsFull, StopsAt, YieldsTelling, asked_with}
 
 -- a vector out of which a range was taken, in its block: the elements before the range, how many
 -- places it has, and the elements behind it
@@ -36,7 +36,7 @@ abbrev pub LacksVector : {T : Type 0} (A fails : Type 0) (size : ℕ) (lower : �
     → TryReserveError → Type 0
 LacksVector {T = T} A fails size lower items error =
     (fails × IsRefusedAt error
-    (amortized Doubling 0 (asked_for lower (length items)) (least_of size)))
+    (amortized Doubling 0 (asked_with (lower (length items - 1))) (least_of size)))
     ⊎ ((made : Vector T A) × (full : Vector T A) × IsNew size 0 made.alloc made
     × ExtendsFull size lower made [] items error full)
 

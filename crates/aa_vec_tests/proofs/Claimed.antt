@@ -7,7 +7,7 @@ use Rattle.aa_raw.specs.declared.raw_vec.Growth.{Growth}
 use Rattle.aa_raw.specs.declared.raw_vec.Growth.TheVariants.{Doubling}
 use Rattle.aa_raw.specs.Growth.{amortized}
 use Rattle.aa_vec.specs.Vector.{Vector, len, Becomes, Holds, with_room}
-use Rattle.aa_vec.specs.Extending.{Climbs, stays as no_more, grows as once_more, asked_for, ExtendsAll, ItemsLeft, gives_item, lower_by, TellsExactly}
+use Rattle.aa_vec.specs.Extending.{Climbs, stays as no_more, grows as once_more, ExtendsAll, ItemsLeft, gives_item, lower_by, TellsExactly}
 use Rattle.aa_vec.specs.Draining.{TakesRange, KeepsRest, drain_vec, drain_head, drain_rest, drain_tail, range_len, taken_front, taken_back, drains_first, drains_last}
 use Rattle.aa_vec.specs.Splicing.{cut_off, SplicesAll, SplicesByAll, tail_moves}
 use Rattle.aa_vec.specs.declared.vec.drain.Drain.{Drain}
@@ -128,11 +128,11 @@ module _ {T A : Type 0} (g : Growth) (old : Vector T A) where
           record { count = counts; growth = d.1; capacity = rw e (d.0 ∙ ap (λ n. amortized g (reached g k).0 (n + 1) 4) p.count); grown = rw e (omega (arith, d.2, p.grown, p.count)) }
 
 -- a full vector of c places that asks for room for 6 more
-climbs_once : {T A : Type 0} (lower : ℕ → ℕ) (needed c : ℕ) (v w : Vector T A) → v.capacity ≡ c → v.growth ≡ Doubling → c < needed → ((n : ℕ) → asked_for lower n ≡ 6) → needed ≤ w.capacity → Climbs 4 lower needed v w
+climbs_once : {T A : Type 0} (lower : ℕ → ℕ) (needed c : ℕ) (v w : Vector T A) → v.capacity ≡ c → v.growth ≡ Doubling → c < needed → ((n : ℕ) → asked_with (lower (n - 1)) ≡ 6) → needed ≤ w.capacity → Climbs 4 lower needed v w
     → (mid : Vector T A) × (mid.capacity ≡ amortized Doubling c (c + 6) 4) × (mid.growth ≡ Doubling) × (mid.grown ≡ v.grown + c) × Climbs 4 lower needed mid w
 climbs_once lower needed c v w is doubles short six enough (no_more b) = absurd (omega (arith, b.capacity, is, short, enough))
 climbs_once lower needed c v w is doubles short six enough (once_more {mid = mid} h m r) =
-    let asks : ℕ = asked_for lower (needed - v.capacity) in
+    let asks : ℕ = asked_with (lower (needed - v.capacity - 1)) in
     let d = grows_to v mid c v.capacity asks is doubles m (omega (arith, is, six (needed - v.capacity))) in
     (mid, d.0 ∙ ap (λ k. amortized Doubling c (k + asks) 4) is ∙ ap (λ k. amortized Doubling c (c + k) 4) (six (needed - v.capacity)), d.1, d.2 ∙ ap (λ k. v.grown + k) is, r)
 

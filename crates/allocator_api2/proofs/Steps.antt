@@ -4,7 +4,7 @@ use Rattle.std.proofs.Common.{length-set}
 use Rattle.std.specs.Prelude.{slice_set, slice_index_or}
 use Rattle.std.proofs.lemmas.List.{length-append}
 use Rattle.std.proofs.lemmas.Bool.{cases_lt}
-use Rattle.aa_vec.specs.Extending.{ExtendsAll, asked_for, grows, stays}
+use Rattle.aa_vec.specs.Extending.{ExtendsAll, grows, stays}
 use Rattle.aa_vec.proofs.Climbing.{MakesRoom, MakesRoom-has, MakesRoom-rises, MakesRoom-stays, SameBlock-refl}
 use Rattle.aa_vec.proofs.Kept.{length-kept, length-deduplicated}
 use Rattle.allocator_api2.proofs.Extracting.{length-taken_out}
@@ -41,7 +41,7 @@ module _ {T A : Type 0} (size : ℕ) where
   climbed : (hint : Option ℕ) (needed : ℕ) {u v : Vector T A} → Climbs size (lower_by hint) needed u v → Moves hint needed u v
   climbed hint needed (stays b) = kept b
   climbed hint needed (grows {old = u} h m r) =
-      grown u.capacity (asked_for (lower_by hint) (needed - u.capacity)) (omega arith) (omega arith) h (λ none. subst (λ x. u.capacity + asked_for (lower_by x) (needed - u.capacity) ≤ needed) (sym none) (omega (arith, h))) m (climbed hint needed r)
+      grown u.capacity (asked_with ((lower_by hint) (needed - u.capacity - 1))) (omega arith) (omega arith) h (λ none. subst (λ x. u.capacity + asked_with ((lower_by x) (needed - u.capacity - 1)) ≤ needed) (sym none) (omega (arith, h))) m (climbed hint needed r)
 
   extends : (hint : Option ℕ) (old : Vector T A) (added : List T) (new : Vector T A) → ExtendsAll size (lower_by hint) old old.items added new → Change hint old (len new - len old) new
   extends hint old added new e =

@@ -211,7 +211,7 @@ where
     ghost use Rattle.std.specs.Iterator.{Drains, size};
     ghost use Rattle.std.specs.Iterator.Runs.{WholeRun};
     ghost use Rattle.aa_vec.specs.Splicing.{SplicesByAll, SplicesByFront, TellsOnceFull, span};
-    ghost use Rattle.aa_vec.specs.Splices.{splice_gap, splice_iter, spliced_with};
+    ghost use Rattle.aa_vec.specs.Splices.{splice_gap, splice_iter, splice_kept};
 
     /// Drops what was not taken of the range, and leaves the vector what is before the range, the
     /// items, which end, and what is behind it. With nothing behind the range the items are put
@@ -231,11 +231,12 @@ where
     pub fn finish_hinted(self) -> Result<(), TryReserveError>
         requires may_ask { I.can_next (splice_iter self) }
         requires ends { IsFinite (I.remaining (splice_iter self)) }
-        ensures items { OnOk result ((xs : List I.Item)
+        ensures items { let kept = splice_kept self.entry in OnOk result ((xs : List I.Item)
             × Drains I.next_gives (splice_iter self.entry) xs
-            × (self.exit.0.now.items ≡ spliced_with self.entry xs)) }
-        ensures runs { OnOk result (WholeRun I.next_gives (splice_iter self.entry)
-            (λ p. self.exit.0.now.items ≡ spliced_with self.entry p.items)) }
+            × (self.exit.0.now.items ≡ kept.0 ++ (xs ++ kept.1))) }
+        ensures runs { let kept = splice_kept self.entry in
+            OnOk result (WholeRun I.next_gives (splice_iter self.entry)
+            (λ p. self.exit.0.now.items ≡ kept.0 ++ (p.items ++ kept.1))) }
         ensures fits_gap { size (I.remaining (splice_iter self.entry)) < (splice_gap self.entry).gap
             → IsOk result }
         ensures fits_end { let s = splice_gap self.entry in s.tail ≡ []
@@ -266,18 +267,19 @@ where
     ghost use Rattle.std.specs.Iterator.{Drains, size};
     ghost use Rattle.std.specs.Iterator.Runs.{WholeRun};
     ghost use Rattle.aa_vec.specs.Splicing.{SplicesByAll, SplicesByFront, TellsOnceFull, span};
-    ghost use Rattle.aa_vec.specs.Splices.{splice_gap, splice_iter, spliced_with};
+    ghost use Rattle.aa_vec.specs.Splices.{splice_gap, splice_iter, splice_kept};
 
     /// The same, with the lower bound of `size_hint` in place of `lower`, and with nothing behind
     /// the range as by `extend`. It stands for the drop of `Splice`.
     pub fn finish(self) -> Result<(), TryReserveError>
         requires may_ask { I.can_next (splice_iter self) }
         requires ends { IsFinite (I.remaining (splice_iter self)) }
-        ensures items { OnOk result ((xs : List I.Item)
+        ensures items { let kept = splice_kept self.entry in OnOk result ((xs : List I.Item)
             × Drains I.next_gives (splice_iter self.entry) xs
-            × (self.exit.0.now.items ≡ spliced_with self.entry xs)) }
-        ensures runs { OnOk result (WholeRun I.next_gives (splice_iter self.entry)
-            (λ p. self.exit.0.now.items ≡ spliced_with self.entry p.items)) }
+            × (self.exit.0.now.items ≡ kept.0 ++ (xs ++ kept.1))) }
+        ensures runs { let kept = splice_kept self.entry in
+            OnOk result (WholeRun I.next_gives (splice_iter self.entry)
+            (λ p. self.exit.0.now.items ≡ kept.0 ++ (p.items ++ kept.1))) }
         ensures fits_gap { size (I.remaining (splice_iter self.entry)) < (splice_gap self.entry).gap
             → IsOk result }
         ensures fits_end { let s = splice_gap self.entry in s.tail ≡ []
