@@ -177,7 +177,6 @@ impl<T, A: Allocator> GapBuffer<T, A> {
         ensures { self.new ≡ put self.old item }
     {
         let start = self.start;
-        let _within = self.block.capacity();
         self.block.put(start, item);
         self.start = start + 1;
     }
@@ -235,8 +234,7 @@ impl<T, A: Allocator> GapBuffer<T, A> {
         ensures refused { IfErr result (LacksRoom (type_size T.row) self.old additional) }
         ensures unchanged { OnErr result (self.new ≡ self.old) }
     {
-        // It tells the prover how many places elements without size have.
-        let _places = self.capacity();
+        self.block.known();
         if additional <= self.free() {
             return Ok(());
         }
@@ -301,7 +299,6 @@ impl<T, A: Allocator> GapBuffer<T, A> {
     {
         let start = self.start - by;
         let end = self.end - by;
-        let _within = self.block.capacity();
         self.block.move_run(start, end, by);
         self.start = start;
         self.end = end;
@@ -315,7 +312,7 @@ impl<T, A: Allocator> GapBuffer<T, A> {
             let after = drop by self.old.after in
             self.new ≡ wrote (with_parts self.old before after) (travel self.old by) }
     {
-        let _within = self.block.capacity();
+        self.block.known();
         self.block.move_run(self.end, self.start, by);
         self.start += by;
         self.end += by;

@@ -164,6 +164,17 @@ impl<T, A: Allocator> RawVec<T, A> {
         capacity
     }
 
+    /// Does nothing when the program runs. It tells the prover that there are at most `usize::MAX`
+    /// places, and how many there may be. The original has no such call.
+    #[inline(always)]
+    pub fn known(&self)
+        ensures few { length self.now.places ≤ usize_max }
+        ensures may_be { IsCapacity T.row (length self.now.places) }
+    {
+        self.claim.known();
+        let _capacity = self.capacity;
+    }
+
     /// The allocator under the block. It stands for `RawVec::allocator`.
     pub fn allocator(&self) -> &A
         ensures { result.now ≡ self.now.alloc }
@@ -217,8 +228,7 @@ impl<T, A: Allocator> RawVec<T, A> {
         requires { IsRun self.old.places from count }
         ensures { self.new ≡ without self.old from count }
     {
-        // It does nothing but tell the prover that places are at most `usize::MAX`.
-        let _within = self.capacity;
+        self.known();
         'each: for dropped in 0..count {
             drop(self.take(from + dropped));
         }
@@ -308,7 +318,6 @@ impl<T, A: Allocator> RawVec<T, A> {
         if from == to {
             return;
         }
-        let _capacity = self.capacity;
         self.row.move_run(from, to, count);
         self.written.add(count);
         if count != 0 {
@@ -326,7 +335,6 @@ impl<T, A: Allocator> RawVec<T, A> {
         if from == to {
             return;
         }
-        let _capacity = self.capacity;
         self.row.lower_run(from, to, count);
         self.written.add(count);
         if count != 0 {
@@ -343,7 +351,6 @@ impl<T, A: Allocator> RawVec<T, A> {
             self.new ≡ wrote self.old (with_run self.old.places to count values) count }
         ensures there { other.new ≡ without other.old from count }
     {
-        let _capacities = (self.capacity, other.capacity);
         self.row.take_run(to, &mut other.row, from, count);
         self.written.add(count);
         if count != 0 {
@@ -553,7 +560,6 @@ impl<T, A: Allocator> RawVec<T, A> {
         ensures moved { IsTrue result → self.new ≡ shrunk_to self.old len capacity }
         ensures kept { result ≡ false → (self.new ≡ self.old) × (0 < capacity) }
     {
-        let _capacity = self.capacity;
         match row_of(&self.alloc, capacity) {
             Ok((mut row, claim)) => {
                 row.take_run(0, &mut self.row, 0, len);

@@ -2,6 +2,7 @@
 ghost use Rattle.std.specs.Prelude.{◌≡◌, ◌+◌, ◌*◌, ◌^◌, ◌<◌, ◌≤◌, [], ◌∷◌, ◌++◌, length, IfOk, IfErr, IfNone, OnOk, OnErr, IsOk, IsTrue, ◌↔◌, MatchOption};
 ghost use Rattle.std.specs.Mem.{type_size};
 ghost use Rattle.std.specs.Borrow.{sem};
+ghost use Rattle.aa_raw.specs.Growth.{usize_max};
 ghost use Rattle.aa_raw.specs.Places.{IsCapacity};
 ghost use Rattle.aa_raw.specs.Refusals.{RefusesBlock};
 ghost use Rattle.aa_vec.specs.Copies.{IsMade};
@@ -127,8 +128,7 @@ impl<T, A: Allocator> Vec<T, A> {
         ensures within { len self.now ≤ self.now.capacity }
         ensures small { result * type_size T.row < 2 ^ 63 }
     {
-        // It does nothing but tell the prover that places are at most `usize::MAX`.
-        let _within = self.block.capacity();
+        self.block.known();
         self.len
     }
 
@@ -148,6 +148,18 @@ impl<T, A: Allocator> Vec<T, A> {
         ensures may_be { IsCapacity T.row result }
     {
         self.block.capacity()
+    }
+
+    /// Does nothing when the program runs. It tells the prover that there are at most `usize::MAX`
+    /// places, how many there may be, and no more elements than them. The original has no such
+    /// call.
+    #[inline(always)]
+    pub fn known(&self)
+        ensures within { len self.now ≤ self.now.capacity }
+        ensures few { self.now.capacity ≤ usize_max }
+        ensures may_be { IsCapacity T.row self.now.capacity }
+    {
+        self.block.known();
     }
 
     /// The allocator under the vector. It stands for `Vec::allocator`.

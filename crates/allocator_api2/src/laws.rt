@@ -15,8 +15,7 @@ use std::hash::Hash;
 pub fn length_within_capacity<T, A: Allocator>(v: &Vec<T, A>)
     ensures { len v.now ≤ v.now.capacity }
 {
-    // It does nothing but tell the prover that places are at most `usize::MAX`.
-    let _within = v.capacity();
+    v.known();
 }
 
 /// After a reserve of k more that was done, the next k commands of a run, all of them pushes within

@@ -184,9 +184,8 @@ pub(crate) fn append_within<T: Drop, A: Allocator>(list: &mut Vec<T, A>, value: 
 fn find_possible<T, A: Allocator>(main: &Vec<T, A>, side: &Vec<T, A>)
     ensures { IsPossible main.now side.now }
 {
-    // It does nothing but tell the prover that places are at most `usize::MAX`.
-    let _main = main.capacity();
-    let _side = side.capacity();
+    main.known();
+    side.known();
 }
 
 // One command.

@@ -56,7 +56,6 @@ impl<T, A: Allocator> Ring<T, A> {
         ensures count { result ≡ length self.now.items }
         ensures within { result ≤ self.now.capacity }
     {
-        let _within = self.block.capacity();
         self.count + self.wrapped
     }
 
@@ -72,7 +71,6 @@ impl<T, A: Allocator> Ring<T, A> {
     pub fn get(&self, index: usize) -> Option<&T>
         ensures { option_copied result ≡ slice_get self.now.items index }
     {
-        let _within = self.block.capacity();
         if index < self.count {
             return Some(self.block.place(self.front + index));
         }
@@ -177,7 +175,6 @@ impl<T, A: Allocator> Ring<T, A> {
             (λ x. self.old.items ≡ x ∷ self.new.items) }
         ensures rest { self.new ≡ wrote self.old self.new.items 0 }
     {
-        let _within = self.block.capacity();
         if self.count > 0 {
             let item = self.block.take(self.front);
             self.front += 1;
@@ -201,7 +198,6 @@ impl<T, A: Allocator> Ring<T, A> {
             (λ x. self.old.items ≡ self.new.items ++ x ∷ []) }
         ensures rest { self.new ≡ wrote self.old self.new.items 0 }
     {
-        let _within = self.block.capacity();
         if self.wrapped != 0 {
             self.wrapped -= 1;
             return Some(self.block.take(self.wrapped));

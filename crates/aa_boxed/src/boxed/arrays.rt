@@ -72,8 +72,6 @@ impl<T, A: Allocator> BoxedSlice<T, A> {
         ensures { result ≡ self.items }
     {
         let (mut block, _len) = self.into_block();
-        // It does nothing but tell the prover that places are at most `usize::MAX`.
-        let _capacity = block.capacity();
         block.take_array()
     }
 }

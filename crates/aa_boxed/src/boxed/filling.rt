@@ -62,8 +62,7 @@ impl<T, A: Allocator> Filling<T, A> {
         ensures { self.new ≡ with_next self.old item }
     {
         let len = self.len;
-        // It does nothing but tell the prover that places are at most `usize::MAX`.
-        let _within = self.block.capacity();
+        self.block.known();
         self.block.put(len, item);
         self.len = len + 1;
     }
@@ -106,7 +105,6 @@ impl<T, A: Allocator> Filling<T, A> {
     {
         let mut filling = self;
         let len = filling.len;
-        let _within = filling.block.capacity();
         match filling.block.shrink_to_fit(len, len) {
             Ok(()) => Ok(filling.whole()),
             Err(error) => Err(error),
@@ -122,8 +120,7 @@ impl<T, A: Allocator> Filling<T, A> {
         ensures { self.new ≡ with_all self.old source.now }
     {
         let len = self.len;
-        // It does nothing but tell the prover that places are at most `usize::MAX`.
-        let _within = self.block.capacity();
+        self.block.known();
         self.block.put_copies(len, source);
         self.len = len + source.len();
     }

@@ -76,7 +76,7 @@ impl<T, A: Allocator> RawVec<T, A> {
         ensures count { result ≡ both first second }
         ensures within { result ≤ length self.now.places }
     {
-        let _places = self.capacity();
+        self.known();
         first.1 + second.1
     }
 
@@ -126,7 +126,6 @@ impl<T, A: Allocator> RawVec<T, A> {
         ensures grown { IsTrue result → self.new ≡ grown_with self.old first second to capacity }
         ensures kept { result ≡ false → self.new ≡ self.old }
     {
-        let _capacity = self.capacity;
         match row_of(&self.alloc, capacity) {
             Ok((mut row, claim)) => {
                 row.take_run(0, &mut self.row, first.0, first.1);

@@ -29,8 +29,6 @@ impl<T: Clone, A: Allocator + Clone> IntoIter<T, A> {
             return Err(TryReserveErrorKind::AllocError { capacity }.into());
         };
         let mut block = RawVec::with_capacity_in(capacity, alloc)?;
-        // It does nothing but tell the prover that places are at most `usize::MAX`.
-        let _within = block.capacity();
         let put = put_clones(&mut block, items);
         let made = IntoIter::from_block(block, put);
         if put == capacity {

@@ -64,8 +64,7 @@ impl<T, A: Allocator> Vec<T, A> {
         ensures writes { Writes self.old N (run_count N) self.new }
     {
         let len = self.len;
-        // It does nothing but tell the prover that places are at most `usize::MAX`.
-        let _within = self.block.capacity();
+        self.block.known();
         self.block.put_array(len, items);
         self.len = len + N;
     }
@@ -77,7 +76,6 @@ impl<T, A: Allocator> Vec<T, A> {
         ensures { result ≡ self.items }
     {
         let Vec { mut block, len: _ } = self;
-        let _capacity = block.capacity();
         block.take_array()
     }
 }
@@ -140,7 +138,7 @@ impl<T, A: Allocator, const N: usize> Vec<[T; N], A> {
             IfErr result (LacksRoomForAll sure N (type_size T.row) self.now) }
     {
         self.check_number()?;
-        let _within = self.capacity();
+        self.known();
         empty_over(self.allocator(), self.growth(), self.flat_capacity())
     }
 
@@ -183,7 +181,6 @@ impl<T, A: Allocator, const N: usize> Vec<[T; N], A> {
     {
         let Vec { mut block, len } = self;
         let mut flat = flat;
-        let _within = block.capacity();
         'each: for i in 0..len {
             flat.put_block(block.take(i));
         }

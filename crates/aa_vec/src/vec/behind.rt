@@ -28,8 +28,7 @@ impl<T, A: Allocator> Vec<T, A> {
         ensures { ClosesGap self.old gap count self.new }
     {
         let len = self.len;
-        // It does nothing but tell the prover that places are at most `usize::MAX`.
-        let _within = self.block.capacity();
+        self.block.known();
         self.len = len + count;
         self.block.move_down(len + gap, len, count);
     }
@@ -54,7 +53,7 @@ impl<T, A: Allocator> Vec<T, A> {
         ensures value { behind_items self.old gap 1 ≡ result ∷ [] }
         ensures after { self.new ≡ with_behind self.old (slice_set self.old.behind gap None) }
     {
-        let _within = self.block.capacity();
+        self.block.known();
         self.block.take(self.len + gap)
     }
 
@@ -64,7 +63,7 @@ impl<T, A: Allocator> Vec<T, A> {
         requires { StandsBehind self.now gap count }
         ensures { result.now ≡ behind_items self.now gap count }
     {
-        let _within = self.block.capacity();
+        self.block.known();
         self.block.slice(self.len + gap, count)
     }
 
@@ -77,7 +76,7 @@ impl<T, A: Allocator> Vec<T, A> {
         ensures { DropsBehind self.old gap count self.new }
     {
         let len = self.len;
-        let _within = self.block.capacity();
+        self.block.known();
         self.block.drop_run(len + gap, count);
     }
 

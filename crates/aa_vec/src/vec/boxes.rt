@@ -21,8 +21,6 @@ impl<T, A: Allocator> Vec<T, A> {
         ensures refused { IfErr result (λ r. HandsBack (type_size T.row) self r) }
     {
         let mut vec = self;
-        // It does nothing but tell the prover that places are at most `usize::MAX`.
-        let _within = vec.block.capacity();
         match vec.shrink_to_fit() {
             Ok(()) => Ok(vec.whole()),
             Err(error) => Err(Refused { source: vec, error }),
@@ -59,7 +57,7 @@ impl<T, A: Allocator> SliceIntoVec<T, A> for BoxedSlice<T, A> {
 
     fn into_vec(self) -> Vec<T, A> {
         let (block, len) = self.into_block();
-        let _within = block.capacity();
+        block.known();
         Vec { block, len }
     }
 }

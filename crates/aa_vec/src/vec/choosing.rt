@@ -139,8 +139,7 @@ impl<T, A: Allocator> Vec<T, A> {
         ensures { AsksBehind (CalledAtMut F.FnMut) keep.old self.old gap count
             result keep.new self.new }
     {
-        // It does nothing but tell the prover that places are at most `usize::MAX`.
-        let _within = self.block.capacity();
+        self.block.known();
         count_kept(self.block.slice_mut(self.len + gap, count), true, keep)
     }
 
@@ -192,7 +191,7 @@ impl<T, A: Allocator> Vec<T, A> {
         ensures asked { ChainsOn (CalledAtPairMut F.FnMut) same.old self.old gap count
             result same.new self.new }
     {
-        let _within = self.block.capacity();
+        self.block.known();
         distinct_run(self.block.slice_mut(self.len + gap, count), same)
     }
 
@@ -208,7 +207,7 @@ impl<T, A: Allocator> Vec<T, A> {
             result same.new self.new }
     {
         let len = self.len;
-        let _within = self.block.capacity();
+        self.block.known();
         self.block.pair_with(len + gap, len - 1, same)
     }
 }

@@ -32,8 +32,7 @@ impl<T: Clone, A: Allocator> Vec<T, A> {
         if let Err(error) = self.try_reserve(count) {
             return Err(error);
         }
-        // It does nothing but tell the prover that places are at most `usize::MAX`.
-        let _within = self.capacity();
+        self.known();
         if self.push_clones(other) {
             return Ok(());
         }
@@ -66,7 +65,7 @@ impl<T: Clone, A: Allocator> Vec<T, A> {
         if let Err(error) = self.try_reserve(count) {
             return Err(error);
         }
-        let _within = self.capacity();
+        self.known();
         if self.push_own(range.start, count) {
             return Ok(());
         }
@@ -309,7 +308,7 @@ impl<T, A: Allocator> Vec<T, A> {
         ensures behind { self.new.behind ≡ drop 1 self.old.behind }
     {
         let len = self.len;
-        let _within = self.block.capacity();
+        self.block.known();
         self.block.put(len, value);
         self.len = len + 1;
     }
@@ -327,7 +326,6 @@ fn with_beginning<T: Clone, A: Allocator>(mut list: Vec<T, A>, source: &[T]) -> 
     ensures pushed { Adds T.is_clone list (take result.1 source.now) result.0 }
     ensures refused { result.1 < length source.now → ¬ (All T.is_infallible source.now) }
 {
-    let _within = list.capacity();
     let count = source.len();
     'each: for pushed in 0..count {
         match source[pushed].clone() {
@@ -350,7 +348,6 @@ fn with_own<T: Clone, A: Allocator>(mut list: Vec<T, A>, own: (usize, usize)) ->
         → ¬ (All T.is_infallible (take own.1 (drop own.0 list.items))) }
 {
     let (from, count) = own;
-    let _within = list.capacity();
     'each: for pushed in 0..count {
         match list.as_slice()[from + pushed].clone() {
             Ok(copy) => list.put_next(copy),
@@ -370,7 +367,6 @@ fn with_same<T: Clone, A: Allocator>(mut list: Vec<T, A>, same: (&T, usize)) -> 
     ensures refused { result.1 < same.entry.1 → ¬ (T.is_infallible same.entry.0.now) }
 {
     let (value, count) = same;
-    let _within = list.capacity();
     'each: for pushed in 0..count {
         match value.clone() {
             Ok(copy) => list.put_next(copy),
@@ -393,7 +389,6 @@ fn with_answers<'a, T, A: Allocator, F: FnMut() -> T>(
     ensures added { AddsAnswers F.step list calls.entry.1 calls.entry.0.now result.1.now result.0 }
 {
     let (f, count) = calls;
-    let _within = list.capacity();
     'each: for _filled in 0..count {
         let value = answer_of(f);
         list.put_next(value);

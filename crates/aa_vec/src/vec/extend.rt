@@ -58,8 +58,7 @@ impl<T, A: Allocator> Vec<T, A> {
             iter.old self.old iter.new result self.new }
         ensures goes { IfErr result (λ _. IsNearerEnd I.can_next I.remaining iter.old iter.new) }
     {
-        // It does nothing but tell the prover that no more elements are there than places.
-        let _within = self.free();
+        self.known();
         'full: loop {
             if self.fill_up(iter) != 0 {
                 return Ok(());

@@ -98,8 +98,7 @@ impl<T, A: Allocator> Vec<T, A> {
         ensures { AsksBehind (StaysAt false (CalledAtMut F.FnMut)) f.old self.old gap
             count result f.new self.new }
     {
-        // It does nothing but tell the prover that places are at most `usize::MAX`.
-        let _within = self.block.capacity();
+        self.block.known();
         count_kept(self.block.slice_mut(self.len + gap, count), false, f)
     }
 }

@@ -64,8 +64,7 @@ impl<T, A: Allocator> Vec<T, A> {
         ensures { OpensGap self.old gap count self.new }
     {
         let len = self.len;
-        // It does nothing but tell the prover that places are at most `usize::MAX`.
-        let _within = self.block.capacity();
+        self.block.known();
         self.block.move_run(len, len + gap, count);
     }
 

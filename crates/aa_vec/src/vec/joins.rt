@@ -64,8 +64,7 @@ impl<T, A: Allocator> Vec<T, A> {
     {
         let len = self.len;
         let count = other.len - at;
-        // It does nothing but tell the prover that places are at most `usize::MAX`.
-        let _within = self.block.capacity();
+        self.block.known();
         self.block.transfer(len, &mut other.block, at, count);
         other.len = at;
         self.len = len + count;
@@ -98,7 +97,6 @@ impl<T, A: Allocator> Vec<T, A> {
             });
         }
         let mut tail = self.empty_like(len - at)?;
-        let _within = tail.capacity();
         tail.take_from(self, at);
         Ok(tail)
     }

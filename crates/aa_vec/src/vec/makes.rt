@@ -53,8 +53,6 @@ impl<T: Clone, A: Allocator> Vec<T, A> {
     {
         let capacity = slice.len();
         let mut made = Vec::with_capacity_in(capacity, alloc)?;
-        // It does nothing but tell the prover that places are at most `usize::MAX`.
-        let _within = made.capacity();
         if made.push_clones(slice) {
             return Ok(made);
         }
@@ -74,7 +72,6 @@ impl<T: Clone, A: Allocator> Vec<T, A> {
             (RefusesClones (1 < n → T.is_infallible element) n (type_size T.row)) }
     {
         let mut made = Vec::with_capacity_in(n, alloc)?;
-        let _within = made.capacity();
         if n == 0 {
             return Ok(made);
         }
@@ -102,7 +99,6 @@ impl<T: Clone, A: Allocator> Vec<T, A> {
     {
         let capacity = self.len();
         let mut made = self.empty_like(capacity)?;
-        let _within = made.capacity();
         if made.push_clones(self.as_slice()) {
             return Ok(made);
         }

@@ -35,8 +35,6 @@ impl<T: Copy, A: Allocator> Vec<T, A> {
         ensures refused { IfErr result (RefusesBlock (length slice.now) (type_size T.row)) }
     {
         let mut made = Vec::with_capacity_in(slice.len(), alloc)?;
-        // It does nothing but tell the prover that places are at most `usize::MAX`.
-        let _within = made.capacity();
         made.put_copies(slice);
         Ok(made)
     }
@@ -52,7 +50,6 @@ impl<T: Copy, A: Allocator> Vec<T, A> {
             (RefusesClones (A.is_infallible self.now.alloc) (len self.now) (type_size T.row)) }
     {
         let mut made = self.empty_like(self.len())?;
-        let _within = made.capacity();
         made.put_copies(self.as_slice());
         Ok(made)
     }
@@ -69,7 +66,6 @@ impl<T: Copy, A: Allocator> Vec<T, A> {
         ensures refused { IfErr result (LacksRoom (type_size T.row) self.old (length other.now)) }
         ensures unchanged { OnErr result (self.new ≡ self.old) }
     {
-        let _within = self.capacity();
         if let Err(error) = self.try_reserve(other.len()) {
             return Err(error);
         }
@@ -90,7 +86,6 @@ impl<T: Copy, A: Allocator> Vec<T, A> {
             (LacksRoom (type_size T.row) self.old (range.end - range.start)) }
         ensures unchanged { OnErr result (self.new ≡ self.old) }
     {
-        let _within = self.capacity();
         let count = range.end - range.start;
         if let Err(error) = self.try_reserve(count) {
             return Err(error);
@@ -108,8 +103,7 @@ impl<T: Copy, A: Allocator> Vec<T, A> {
         ensures writes { WritesAtMost self.old (length source.now) self.new }
     {
         let len = self.len;
-        // It does nothing but tell the prover that places are at most `usize::MAX`.
-        let _within = self.block.capacity();
+        self.block.known();
         self.block.put_copies(len, source);
         self.len = len + source.len();
     }
@@ -141,7 +135,6 @@ fn with_own_copies<T: Copy, A: Allocator>(
     ensures writes { WritesAtMost list own.1 result.0 }
 {
     let (from, count) = own;
-    let _within = list.capacity();
     'each: for at in 0..count {
         let item = list.as_slice()[from + at];
         list.put_next(item);
