@@ -83,6 +83,7 @@ pub(crate) fn swap_remove<T, A: Allocator>(main: &mut Vec<T, A>, index: usize) -
     Reply::Item(main.swap_remove(index))
 }
 
+#[tactic(auto, using(aa_vec::proofs::Becoming::became))]
 pub(crate) fn truncate<T: Drop, A: Allocator>(main: &mut Vec<T, A>, len: usize) -> Reply<T>
     ensures { DoesOnMain (type_size T.row) main.old (Truncate len) result main.new }
 {
@@ -90,6 +91,7 @@ pub(crate) fn truncate<T: Drop, A: Allocator>(main: &mut Vec<T, A>, len: usize) 
     Reply::Done
 }
 
+#[tactic(auto, using(aa_vec::proofs::Becoming::became))]
 pub(crate) fn clear<T: Drop, A: Allocator>(main: &mut Vec<T, A>) -> Reply<T>
     ensures { DoesOnMain (type_size T.row) main.old Clear result main.new }
 {
