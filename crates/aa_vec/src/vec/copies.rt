@@ -15,6 +15,7 @@ impl<T: Clone, A: Allocator> Vec<T, A> {
     /// before the first clone, as `try_reserve` does and refused as that is. Where a clone is
     /// refused, the clones made so far are dropped, the capacity stays as it is then, and the error
     /// is `AllocError` with the length asked for. It stands for `Vec::extend_from_slice`.
+    #[tactic(auto, using(crate::proofs::Becoming::became))]
     pub fn extend_from_slice(&mut self, other: &[T]) -> Result<(), TryReserveError>
         ensures fits { HasRoom self.old (length other.now)
             → All T.is_infallible other.now → IsOk result }

@@ -18,7 +18,7 @@ impl<T, A: Allocator> Vec<T, A> {
     /// keeps its capacity. It takes memory only where they do not fit, and grows then with room to
     /// spare. A refusal is as that of `try_reserve`, and changes neither vector. It stands for
     /// `Vec::append`.
-    #[tactic(auto, using(crate::proofs::Becoming::becomes))]
+    #[tactic(auto, using(crate::proofs::Becoming::becomes, crate::proofs::Becoming::became))]
     pub fn append(&mut self, other: &mut Self) -> Result<(), TryReserveError>
         ensures fits { HasRoom self.old (len other.old) → IsOk result }
         ensures joined { let moved = length other.old.items in
