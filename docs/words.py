@@ -24,20 +24,6 @@ class Word:
     def sentence(self):
         return " ".join(self.comment)
 
-    def signature(self):
-        """What stands between the colon behind its name and its body."""
-        head = re.split(r"\bwhere\b|\n\s*" + re.escape(self.name) + r"\s", self.text)[0]
-        return parted(head.split(self.name, 1)[1], ":")[2].strip()
-
-    def is_view(self):
-        """Whether it is what is seen of a struct that has no `Model`: a function of the struct as it is declared that answers a
-        value. A reader takes it as a field, by its comment: its body names private fields."""
-        first, arrow, _ = parted(self.signature(), "→")
-        place = self.file.scope.get((NAME.findall(first) or [""])[0])
-        if not arrow or not place or not place[1].startswith("declared.") or self.signature().endswith("Type 0"):
-            return False
-        return any(re.search(rf"\bstruct {place[2]}\b", f.read_text(encoding="utf-8")) for f in (TOP / "crates" / place[0] / "src").rglob("*.rt"))
-
     def parameters(self):
         """How many parameters it takes, but for those in braces: its own, and those of the modules that it stands in."""
         head = re.split(r"\bwhere\b|\n\s*" + re.escape(self.name) + r"\s", self.text)[0]
@@ -187,15 +173,13 @@ def cited(text, scope, own=None):
                 yield word
 
 
-def reached(text, scope, beyond_views=True):
-    """All definitions that a clause reaches, by those that it cites; without those that only the bodies of views cite."""
+def reached(text, scope):
+    """All definitions that a clause reaches, by those that it cites."""
     seen, left = [], list(cited(text, scope))
     while left:
         word = left.pop()
         if word not in seen:
             seen.append(word)
-            if not beyond_views and word.is_view():
-                continue
             left += [it for it in cited(word.text, word.file.scope, word.file) if it is not word]
     return seen
 

@@ -1,6 +1,6 @@
 -- Calls that take elements out of a range.
 use Rattle.aa_vec.proofs.Common.{re_v, ◌≡◌, ℕ, ◌+◌, ◌-◌, ◌≤◌, Bool, false, not, List, [], ◌∷◌, ◌++◌, length, drop, Option, Some, None, refl, sym, ap, ◌∙◌, subst, arith, length-append, MutBor, MatchOption, take-append-drop, run-zero, StandsBehind, SetsBack, ClosesTwice, behind_items, EndsTrue, MayAskInOrder, kept, ClosesExtract, ExtractsRange, Extracts, StaysAt, Picks, Vector, len, Holds, Moves, ExtractBy, run}
-use Rattle.aa_vec.specs.Draining.{drain_rest, drain_tail}
+use Rattle.aa_vec.specs.Draining.{drain_rest}
 use Rattle.aa_vec.specs.Extracting.{extract_kept, extract_rest, extract_tail}
 use Rattle.aa_vec.proofs.Drained.{still_stand, still_are, part_stand, later_part}
 use Rattle.aa_vec.proofs.Drains.{range_held, range_drains}

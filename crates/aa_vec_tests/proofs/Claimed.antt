@@ -7,7 +7,7 @@ use Rattle.aa_raw.specs.declared.raw_vec.Growth.{Growth}
 use Rattle.aa_raw.specs.declared.raw_vec.Growth.TheVariants.{Doubling}
 use Rattle.aa_raw.specs.Growth.{amortized}
 use Rattle.aa_vec.specs.Vector.{Vector, len, Becomes, Holds, with_room}
-use Rattle.aa_vec.specs.Extending.{Climbs, stays as no_more, grows as once_more, ExtendsAll, ItemsLeft, gives_item, lower_by, TellsExactly}
+use Rattle.aa_vec.specs.Extending.{Climbs, stays as no_more, grows as once_more, ExtendsAll, asked_with, ItemsLeft, gives_item, lower_by, TellsExactly}
 use Rattle.aa_vec.specs.Draining.{TakesRange, KeepsRest, drain_vec, drain_head, drain_rest, drain_tail, range_len, taken_front, taken_back, drains_first, drains_last}
 use Rattle.aa_vec.specs.Splicing.{cut_off, SplicesAll, SplicesByAll, tail_moves}
 use Rattle.aa_vec.specs.declared.vec.drain.Drain.{Drain}

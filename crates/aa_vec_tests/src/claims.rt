@@ -1,5 +1,6 @@
 //! Callers whose contracts say what worked examples write, and what they move by growth.
-ghost use Rattle.std.specs.Prelude.{◌≡◌, ◌+◌, [], ◌∷◌, length, None, Some, OnOk};
+ghost use Rattle.std.specs.Prelude.{◌≡◌, ◌+◌, ◌-◌, ◌<◌, [], ◌∷◌, length, None, Some, OnOk};
+ghost use Rattle.std.specs.Mem.{type_size};
 ghost use Rattle.aa_raw.specs.declared.raw_vec.Growth.TheVariants.{Doubling};
 ghost use Rattle.aa_vec.specs.Vector.{Holds};
 
@@ -125,4 +126,18 @@ fn evens_taken<A: Allocator>(v: &mut Vec<u32, A>) -> (Option<u32>, Option<u32>)
     let first = range.next_by(&mut is_even);
     let second = range.next_by(&mut is_even);
     (first, second)
+}
+
+// Where room has to be made the elements have a size: without one there are all places there can be.
+fn grows_by_size_alone<T, A: Allocator>(
+    v: &mut Vec<T, A>,
+    additional: usize,
+) -> Result<(), TryReserveError>
+    ensures { OnOk result (v.old.capacity - length v.old.items < additional
+        → 0 < type_size T.row) }
+{
+    let _before = v.capacity();
+    v.try_reserve(additional)?;
+    let _after = v.capacity();
+    Ok(())
 }
