@@ -1,5 +1,5 @@
 -- What a vector becomes, as one equation and by its parts.
-use Rattle.aa_vec.proofs.Common.{ℕ, List, length, ap, Vector, GrowsTo, HasRoom, Holds, Writes, with_room, Becomes}
+use Rattle.aa_vec.proofs.Common.{◌≡◌, ℕ, List, length, ap, Vector, GrowsTo, HasRoom, Holds, Writes, with_room, Becomes}
 use Rattle.aa_vec.proofs.Climbing.{MakesRoom-stays}
 
 module _ {T A : Type 0} (old : Vector T A) (xs : List T) (n k : ℕ) (new : Vector T A) where
@@ -28,6 +28,10 @@ module _ {T A : Type 0} (old : Vector T A) (xs : List T) (n k : ℕ) (new : Vect
 
     pub Holds-within : Becomes (with_room size old (length old.items) more) xs n k new → HasRoom old more → Holds old xs new
     Holds-within e fits = Holds-fits (GrowsTo-becomes e) fits
+
+-- vectors with the same fields
+pub same_fields : {T A : Type 0} (v w : Vector T A) → v.items ≡ w.items → v.capacity ≡ w.capacity → v.growth ≡ w.growth → v.grown ≡ w.grown → v.written ≡ w.written → v.runs ≡ w.runs → v.alloc ≡ w.alloc → v.behind ≡ w.behind → v ≡ w
+same_fields v w xs c h g n k a b = λ i. record { items = xs i; capacity = c i; growth = h i; grown = g i; written = n i; runs = k i; alloc = a i; behind = b i }
 
 -- an equation from what a call did, and back
 pub ruleset becomes = (Becomes-holds, Becomes-grows)

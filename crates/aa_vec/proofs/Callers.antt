@@ -1,6 +1,7 @@
 -- What a caller of the vector closes its goals by: the room there is, calls in one block one after another, and closures whose
 -- answers hang on the elements alone.
 use Rattle.aa_vec.proofs.Common.{◌≡◌, ℕ, zero, suc, ◌-◌, ◌<◌, ◌≤◌, Bool, true, false, List, [], ◌∷◌, ◌++◌, length, take, replicate, refl, sym, ap, ◌∙◌, arith, inl, inr, filter, ◌==◌, if◌then◌else◌, Result, Ok, Err, OnOk, FoldsTo, usize_max, Retains, kept, MayCallTimes, LengthensBy, Vector, len, sized, GrowsTo, HasRoom, Holds, cases_lt, append-nil, map-id, take_all, take-nil}
+use Rattle.aa_vec.proofs.Becoming.{became}
 use Rattle.aa_vec.proofs.Callable.{IsCallableInOrder-any, IsCallableAlong-any}
 use Rattle.aa_vec.proofs.Climbing.{MakesRoom-has, SameBlock-trans}
 use Rattle.aa_vec.proofs.Steady.{asked-steady, asked-reading, kept-steady}
@@ -60,4 +61,4 @@ module _ {F T A : Type 0} (Asks : F → T → Bool → F → T → Type 0) where
   Retains_filter_reading test f old g new r reads =
       r.holds.items ∙ ap kept (asked-reading Asks test f reads old.items r.told g r.asked) ∙ kept-steady test (λ x. x) old.items ∙ map-id (filter test old.items)
 
-pub ruleset callers = (sized_room, HasRoom_grown, SameBlock-trans, Holds_then, IsCallableInOrder-any, IsCallableAlong-any, MayCallTimes_any, LengthensBy_same, filled_same, Retains_filter, Retains_filter_reading)
+pub ruleset callers = (became, sized_room, HasRoom_grown, SameBlock-trans, Holds_then, IsCallableInOrder-any, IsCallableAlong-any, MayCallTimes_any, LengthensBy_same, filled_same, Retains_filter, Retains_filter_reading)

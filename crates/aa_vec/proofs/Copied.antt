@@ -1,6 +1,7 @@
 -- Clones of elements put behind others, one after another.
-use Rattle.aa_vec.proofs.Common.{◌≡◌, ℕ, ◌+◌, ◌-◌, ◌<◌, ◌≤◌, List, [], ◌∷◌, ◌++◌, length, take, drop, get_or, replicate, refl, sym, ap, ◌∙◌, subst, arith, inr, length-append, length-drop, length-take, length-replicate, take_all, take_at, TryReserveError, Copies, Adds, Fills, Vector, len, GrowsTo, Holds, SameBlock, Writes, All, AllZip, replicate_more, get_or-replicate, get_or_append_left, get_or-drop, get_or-take, all_zip_more, same_from_all_zip, IsBeginning, Begins, Undone, Refuses, with_items}
+use Rattle.aa_vec.proofs.Common.{◌≡◌, ℕ, ◌+◌, ◌-◌, ◌<◌, ◌≤◌, List, [], ◌∷◌, ◌++◌, length, take, drop, get_or, replicate, refl, sym, ap, ◌∙◌, subst, arith, inr, length-append, length-drop, length-take, length-replicate, take_all, take_at, TryReserveError, Copies, Adds, Fills, Vector, len, GrowsTo, Holds, SameBlock, Writes, All, AllZip, replicate_more, get_or-replicate, get_or_append_left, get_or-drop, get_or-take, all_zip_more, same_from_all_zip, IsBeginning, Begins, Undone, Refuses, with_items, Becomes, with_room}
 use Rattle.aa_raw.specs.declared.collections.TryReserveErrorKind.TheVariants.{AllocError}
+use Rattle.aa_vec.proofs.Becoming.{GrowsTo-becomes, Writes-grown}
 use Rattle.aa_vec.proofs.Climbing.{MakesRoom, Holds-more, MakesRoom-has, MakesRoom-same, SameBlock-trans}
 
 -- clones of one value and the value itself, where clones are copies
@@ -9,9 +10,9 @@ all-copied clones k x ys some copies e = ap (λ l. l ++ x ∷ []) (same_from_all
 
 module _ {T A : Type 0} where
   -- room was made, and what was put there is gone
-  pub Refuses-undone : (failure : Type 0) (size : ℕ) (old mid new : Vector T A) (k : ℕ) (error : TryReserveError) → GrowsTo size old k old.items mid → Writes old 0 0 mid → Undone mid k new → failure → error.kind ≡ AllocError (len old + k)
+  pub Refuses-undone : (failure : Type 0) (size : ℕ) (old mid new : Vector T A) (k : ℕ) (error : TryReserveError) → Becomes (with_room size old (len old) k) old.items 0 0 mid → Undone mid k new → failure → error.kind ≡ AllocError (len old + k)
       → Refuses failure size old k error new
-  Refuses-undone failure size old mid new k error made w u cause number = inr (record {
+  Refuses-undone failure size old mid new k error e u cause number = let made = GrowsTo-becomes old old.items 0 0 mid size k e in let w = Writes-grown old old.items 0 0 mid size k e in inr (record {
     cause = cause;
     number = number;
     left = record { items = u.holds.items ∙ made.items; room = SameBlock-trans made.room u.holds.block };

@@ -1,8 +1,9 @@
 -- A vector that items of an iterator are put behind.
-use Rattle.aa_vec.proofs.Common.{◌≡◌, ℕ, zero, suc, ◌+◌, ◌-◌, ◌<◌, ◌≤◌, List, [], ◌∷◌, ◌++◌, length, Option, Some, None, Ok, append_assoc, refl, sym, ap, ◌∙◌, subst, arith, length-append, min, map, Count, Yields, Drains, append-nil, TryReserveError, usize_max, Vector, len, HasRoom, LacksRoom, GrowsTo, Holds, Writes, Placed, FillsGap, Climbs, stays, YieldsTelling, ExtendsByAll, ExtendsByFront, Extended, LeavesIter, CopiesOf, Result, Err, count_of, WholeRun, asked_with}
+use Rattle.aa_vec.proofs.Common.{◌≡◌, ℕ, zero, suc, ◌+◌, ◌-◌, ◌<◌, ◌≤◌, List, [], ◌∷◌, ◌++◌, length, Option, Some, None, Ok, append_assoc, refl, sym, ap, ◌∙◌, subst, arith, length-append, min, map, Count, Yields, Drains, append-nil, TryReserveError, usize_max, Vector, len, HasRoom, LacksRoom, GrowsTo, Holds, Writes, Placed, FillsGap, Climbs, stays, YieldsTelling, ExtendsByAll, ExtendsByFront, Extended, LeavesIter, CopiesOf, Result, Err, count_of, WholeRun, asked_with, Becomes, with_room}
 use Rattle.std.specs.Borrow.{Bor}
 use Rattle.aa_vec.proofs.Answered.{IsOk, on_ok, if_err}
 use Rattle.std.proofs.iter.runs.Consumers.{total_runs}
+use Rattle.aa_vec.proofs.Becoming.{GrowsTo-becomes, Writes-grown}
 use Rattle.aa_vec.proofs.Climbing.{MakesRoom, SameBlock-refl, MakesRoom-fits, MakesRoom-rises, Climbs-same, Climbs-more, Climbs-rises, Climbs-counted, Climbs-keeps}
 
 -- the items that came, as one run
@@ -130,8 +131,9 @@ module _ {S T : Type 0} (steps : S → Option T → S → Type 0) (Tells : S →
         climbed = Climbs-counted size p.lower next_lower (len old + length p.front) 1 (len old + length next_front) (SameBlock-refl old) (omega (arith, longer)) (λ k _. ap next_lower {x = suc k} (omega arith)) p.climbs
 
         -- it is placed in w, which v has grown to
-        pub Placing-grown : (k : ℕ) → k ≡ min (n + 1) usize_max → (w new : Vector T A) → GrowsTo size v k v.items w → Writes v 0 0 w → Holds w (w.items ++ x ∷ []) new → Writes w 1 1 new → Placing t new
-        Placing-grown k e w new g z holds writes =
+        pub Placing-grown : (k : ℕ) → k ≡ min (n + 1) usize_max → (w new : Vector T A) → Becomes (with_room size v (len v) k) v.items 0 0 w → Holds w (w.items ++ x ∷ []) new → Writes w 1 1 new → Placing t new
+        Placing-grown k e w new made holds writes =
+            let g = GrowsTo-becomes v v.items 0 0 w size k made in let z = Writes-grown v v.items 0 0 w size k made in
             let asked : k ≡ asked_with (next_lower (len old + length next_front - v.capacity - 1)) = e ∙ ap (λ n. asked_with (next_lower (n - 1))) {x = 1} (omega (arith, full, count, longer)) in
             let m : MakesRoom size v v.capacity (asked_with (next_lower (len old + length next_front - v.capacity - 1))) w = rw (← asked) (subst (λ j. MakesRoom size v j k w) full g.room) in
             let room : len w < w.capacity = omega (arith, e, full, ap length g.items, MakesRoom-fits size (len v) k v w g.room (omega (arith, full, MakesRoom-rises size (len v) k v w g.room))) in

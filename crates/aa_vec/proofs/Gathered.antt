@@ -1,6 +1,7 @@
 -- Items gathered in a vector of their own, and what was asked for where they could not be.
-use Rattle.aa_vec.proofs.Common.{◌≡◌, ℕ, ◌+◌, ◌-◌, ◌<◌, List, [], ◌∷◌, ◌++◌, length, Option, refl, suc, sym, ap, cases_lt, ◌∙◌, subst, arith, inl, inr, length-append, min, append-nil, TryReserveError, Doubling, amortized, least_of, usize_max, Vector, len, IsNew, LacksRoom, GrowsTo, Holds, Climbs, stays, grows, ExtendsFull, ExtendsByAll, ExtendsByFront, Gathers, GathersShort, LacksOthers, Told, asked_with}
+use Rattle.aa_vec.proofs.Common.{◌≡◌, ℕ, ◌+◌, ◌-◌, ◌<◌, List, [], ◌∷◌, ◌++◌, length, Option, refl, suc, sym, ap, cases_lt, ◌∙◌, subst, arith, inl, inr, length-append, min, append-nil, TryReserveError, Doubling, amortized, least_of, usize_max, Vector, len, IsNew, LacksRoom, GrowsTo, Holds, Climbs, stays, grows, ExtendsFull, ExtendsByAll, ExtendsByFront, Gathers, GathersShort, LacksOthers, Told, asked_with, Becomes, with_room}
 use Rattle.aa_raw.specs.Refusals.{IsRefusedAt}
+use Rattle.aa_vec.proofs.Becoming.{GrowsTo-becomes}
 use Rattle.aa_vec.proofs.Climbing.{MakesRoom, MakesRoom-stays, SameBlock-refl, Climbs-counted}
 use Rattle.aa_vec.proofs.Counted.{ExtendsFull-told, front_first}
 use Rattle.aa_vec.proofs.Lists.{equal, unequal}
@@ -55,7 +56,10 @@ module _ {S T A : Type 0} (steps : S → Option T → S → Type 0) (Tells : S �
         record { rest = []; told = none_taken; stops = refl; lacks = inr (made, made, made_new, full) }
 
     -- `first` was put there, and others behind it
-    module _ (v : Vector T A) (g : GrowsTo size made wanted made.items v) (w : Vector T A) (put : Holds v (v.items ++ first ∷ []) w) where
+    module _ (v : Vector T A) (roomy : Becomes (with_room size made (len made) wanted) made.items 0 0 v) (w : Vector T A) (put : Holds v (v.items ++ first ∷ []) w) where
+      g : GrowsTo size made wanted made.items v
+      g = GrowsTo-becomes made made.items 0 0 v size wanted roomy
+
       one : w.items ≡ first ∷ []
       one = put.items ∙ ap (λ ys. ys ++ first ∷ []) (g.items ∙ new.items)
 

@@ -48,6 +48,10 @@ module _ {T A : Type 0} where
         grown = if nat_le k (v.capacity - n) then v.grown else v.grown + n;
       }
 
+  -- v with room for n elements of `size` bytes, or with as many places as before if those are fewer
+  abbrev pub with_less : (size : ℕ) → Vector T A → (n : ℕ) → Vector T A
+  with_less size v n = record v { capacity = min v.capacity (sized size n) }
+
   -- k more than old has did not fit, and a growth with room to spare was refused with this error
   abbrev pub LacksRoom : (size : ℕ) → Vector T A → (k : ℕ) → TryReserveError → Type 0
   LacksRoom size old k error =
@@ -83,28 +87,10 @@ module _ {T A : Type 0} where
     pub items : new.items ≡ xs
     pub room : SameBlock (with_room size old (length old.items) k) new
 
-  -- the same, with room for k more and no others
-  pub record GrowsExactly (old : Vector T A) (k : ℕ) (xs : List T) (new : Vector T A) : Type 0 where
-    pub items : new.items ≡ xs
-    pub room : SameBlock (with_exact_room old (length old.items) k) new
-
   -- new has the items xs, in the block of old
   pub record Holds (old : Vector T A) (xs : List T) (new : Vector T A) : Type 0 where
     pub items : new.items ≡ xs
     pub block : SameBlock old new
-
-  -- new has the items of old, in c places
-  pub record Shrinks (old : Vector T A) (c : ℕ) (new : Vector T A) : Type 0 where
-    pub items : new.items ≡ old.items
-    pub capacity : new.capacity ≡ c
-    pub growth : new.growth ≡ old.growth
-    pub grown : new.grown ≡ old.grown
-    pub alloc : new.alloc ≡ old.alloc
-
-  -- new has the items of old, in room for n elements of `size` bytes, or in as many places as
-  -- before if those are fewer
-  abbrev pub ShrinksTo : (size : ℕ) → Vector T A → (n : ℕ) → Vector T A → Type 0
-  ShrinksTo size old n new = Shrinks old (min old.capacity (sized size n)) new
 
   -- n elements were written into places, by k calls of the block
   pub record Writes (old : Vector T A) (n k : ℕ) (new : Vector T A) : Type 0 where

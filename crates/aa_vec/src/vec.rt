@@ -6,7 +6,7 @@ ghost use Rattle.aa_raw.specs.Growth.{usize_max};
 ghost use Rattle.aa_raw.specs.Places.{IsCapacity};
 ghost use Rattle.aa_raw.specs.Refusals.{RefusesBlock};
 ghost use Rattle.aa_vec.specs.Copies.{IsMade};
-ghost use Rattle.aa_vec.specs.Vector.{Vector, len, HasRoom, LacksRoom, IsNew, SameBlock, Holds, Writes, Becomes, with_room};
+ghost use Rattle.aa_vec.specs.Vector.{Vector, len, HasRoom, LacksRoom, IsNew, Becomes, with_room};
 ghost use Rattle.aa_vec.specs.Inner.{view_of, IsFront};
 
 pub use aa_boxed::slices::same;
@@ -221,12 +221,12 @@ impl<T, A: Allocator> Vec<T, A> {
 
     /// Takes the last element, if there is one. The capacity stays. It stands for `Vec::pop`.
     #[inline]
+    #[tactic(auto, using(aa_raw::proofs::Calls::at_ends, crate::proofs::Becoming::becomes))]
     pub fn pop(&mut self) -> Option<T>
         ensures cases { MatchOption result (self.old.items ≡ [])
             (λ y. self.old.items ≡ self.new.items ++ y ∷ []) }
         ensures empty { IfNone result (self.new ≡ self.old) }
-        ensures block { SameBlock self.old self.new }
-        ensures writes { Writes self.old 0 0 self.new }
+        ensures left { Becomes self.old self.new.items 0 0 self.new }
     {
         if self.len == 0 {
             return None;

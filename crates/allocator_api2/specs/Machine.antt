@@ -8,7 +8,7 @@ use Rattle.aa_raw.specs.declared.collections.TryReserveError.{TryReserveError}
 use Rattle.aa_raw.specs.declared.collections.TryReserveErrorKind.TheVariants.{AllocError}
 use Rattle.aa_raw.specs.Refusals.{IsRefusedAt}
 use Rattle.aa_raw.specs.Growth.{usize_max}
-use Rattle.aa_vec.specs.Vector.{Vector, len, HasRoom, LacksRoom, LacksExactRoom, GrowsTo, GrowsExactly, ShrinksTo, SameBlock, Holds}
+use Rattle.aa_vec.specs.Vector.{Vector, len, HasRoom, LacksRoom, LacksExactRoom, GrowsTo, SameBlock, Holds, with_exact_room, with_less}
 use Rattle.aa_vec.specs.Splits.{Splits}
 use Rattle.aa_vec.specs.Choosing.{Asked, AskedInOrder, EndsTrue, TakesMut, Retains, Deduplicates, answers_of, kept, passed_over}
 use Rattle.aa_vec.specs.Extending.{ExtendsAll, ExtendsFull, lower_by}
@@ -202,8 +202,10 @@ module _ {T A : Type 0} (size : ℕ) where
   MakesOfMain main (Truncate n) Done main' = Holds main (take n main.items) main'
   MakesOfMain main Clear Done main' = Holds main [] main'
   MakesOfMain main (Reserve k) Done main' = GrowsTo size main k main.items main'
-  MakesOfMain main (ReserveExact k) Done main' = GrowsExactly main k main.items main'
-  MakesOfMain main (ShrinkTo k) Done main' = ShrinksTo size main (max (len main) k) main'
+  MakesOfMain main (ReserveExact k) Done main' =
+      Holds (with_exact_room main (len main) k) main.items main'
+  MakesOfMain main (ShrinkTo k) Done main' =
+      Holds (with_less size main (max (len main) k)) main.items main'
   MakesOfMain main (Extend items hint) Done main' =
       ExtendsAll size (lower_by hint) main main.items items.items main'
   MakesOfMain main (ExtendFromWithin from to) Done main' =

@@ -2,7 +2,8 @@
 use Rattle.std.proofs.Common.{◌≡◌, ℕ, ◌+◌, Bool, true, false, List, [], ◌++◌, length, sym, ap, ◌∙◌, arith}
 use Rattle.std.specs.Prelude.{nat_le, if◌then◌else◌}
 use Rattle.std.proofs.lemmas.Bool.Decides.{nat_tests}
-use Rattle.allocator_api2.specs.Vector.{Vector, len, GrowsTo, SameBlock, Writes, with_room}
+use Rattle.allocator_api2.proofs.Callers.{became}
+use Rattle.allocator_api2.specs.Vector.{Vector, len, GrowsTo, SameBlock, Writes, Becomes, with_room}
 use Rattle.allocator_api2.specs.declared.raw_vec.Growth.TheVariants.{Doubling}
 use Rattle.ex_inline.specs.Inlined.{Inlined, block_of, grown_to, in_block}
 
@@ -14,11 +15,13 @@ module _ {T A : Type 0} (size needed : ℕ) (heap roomy : Vector T A) (none : he
   grown = grind (arith, nat_tests, room, ap length none)
 
 -- the items that stood in place were moved into the block that was made for them
-pub spilled : {T A : Type 0} (size needed : ℕ) (b : Bool) (few : List T) (heap roomy poured : Vector T A) → b ≡ false → heap.items ≡ [] → heap.growth ≡ Doubling → GrowsTo size heap needed heap.items roomy → Writes heap 0 0 roomy
+pub spilled : {T A : Type 0} (size needed : ℕ) (b : Bool) (few : List T) (heap roomy poured : Vector T A) → b ≡ false → heap.items ≡ [] → heap.growth ≡ Doubling → Becomes (with_room size heap (len heap) needed) heap.items 0 0 roomy
     → poured.items ≡ roomy.items ++ few → SameBlock roomy poured → Writes roomy (length few) (length few) poured
     → let before : Inlined T A = record { items = if b then heap.items else few; spilled = b; block = heap.capacity; moved = heap.grown + heap.written; alloc = heap.alloc } in (s : Inlined T A) → before ≡ s → block_of poured ≡ in_block size needed s
-spilled size needed true few heap roomy poured off none doubles grows reserved items block writes s seen = cc
-spilled size needed false few heap roomy poured off none doubles grows reserved items block writes s seen =
+spilled size needed true few heap roomy poured off none doubles made items block writes s seen = cc
+spilled size needed false few heap roomy poured off none doubles made items block writes s seen =
+    let grows : GrowsTo size heap needed heap.items roomy = search became in
+    let reserved : Writes heap 0 0 roomy = search became in
     let more : poured.grown + poured.written ≡ heap.grown + heap.written + length few = omega (arith, block.grown, grown size needed heap roomy none grows.room, reserved.written, writes.written) in
     rw (← seen) (λ i. record {
       items = (items ∙ ap (λ ys. ys ++ few) (grows.items ∙ none)) i;

@@ -22,7 +22,7 @@ pub fn write_record<W: Write>(writer: &mut W, entry: &[u8]) -> Written<()>
 
 /// Puts a record behind the bytes of a vector. It is there whole, or not at all; where there is
 /// room it takes no memory.
-#[tactic(auto, using(crate::proofs::Rooms::rooms))]
+#[tactic(auto, using(crate::proofs::Rooms::rooms, allocator_api2::proofs::Callers::became))]
 pub fn push_record<A: Allocator>(log: &mut Vec<u8, A>, entry: &[u8]) -> Result<(), TryReserveError>
     ensures fits { HasRoom log.old (length (encoded entry.now)) → IsOk result }
     ensures pushed { OnOk result

@@ -15,7 +15,7 @@ impl<T, A: Allocator> Vec<T, A> {
     /// `shrink_to_fit`; so it takes memory only where the length is neither 0 nor the capacity, and
     /// elements have a size. A refusal hands the vector back as it was: `AllocError` with the
     /// length. It stands for `Vec::into_boxed_slice`, which aborts on a refusal.
-    #[tactic(auto, using(aa_raw::proofs::Calls::at_ends))]
+    #[tactic(auto, using(aa_raw::proofs::Calls::at_ends, crate::proofs::Becoming::became))]
     pub fn into_boxed_slice(self) -> Result<BoxedSlice<T, A>, Refused<Self>>
         ensures made { IfOk result (λ b. b ≡ boxed self) }
         ensures refused { IfErr result (λ r. HandsBack (type_size T.row) self r) }

@@ -15,6 +15,7 @@ impl<T: Clone, A: Allocator> Vec<T, A> {
     /// before the first clone, as `try_reserve` does and refused as that is. Where a clone is
     /// refused, the clones made so far are dropped, the capacity stays as it is then, and the error
     /// is `AllocError` with the length asked for. It stands for `Vec::extend_from_slice`.
+    #[tactic(auto, using(crate::proofs::Becoming::became))]
     pub fn extend_from_slice(&mut self, other: &[T]) -> Result<(), TryReserveError>
         ensures fits { HasRoom self.old (length other.now)
             → All T.is_infallible other.now → IsOk result }
@@ -44,7 +45,7 @@ impl<T: Clone, A: Allocator> Vec<T, A> {
 
     /// Puts a clone of each element of the range behind the last one; it is refused as
     /// `extend_from_slice` is. It stands for `Vec::extend_from_within`.
-    #[tactic(auto, using(crate::proofs::Copied::copied))]
+    #[tactic(auto, using(crate::proofs::Copied::copied, crate::proofs::Becoming::became))]
     pub fn extend_from_within(&mut self, range: Range<usize>) -> Result<(), TryReserveError>
         requires { (range.start ≤ range.end) × (range.end ≤ len self.old) }
         ensures fits { HasRoom self.old (range.end - range.start)
@@ -79,7 +80,7 @@ impl<T: Clone, A: Allocator> Vec<T, A> {
     /// clones of `value`, and with `value` itself in the last place. It makes room for all of them
     /// before the first clone, and is refused as `extend_from_slice` is. It stands for
     /// `Vec::resize`.
-    #[tactic(auto, using(crate::proofs::Copied::copied))]
+    #[tactic(auto, using(crate::proofs::Copied::copied, crate::proofs::Becoming::became))]
     pub fn resize(&mut self, new_len: usize, value: T) -> Result<(), TryReserveError>
         ensures fits { HasRoom self.old (new_len - len self.old)
             → (len self.old + 1 < new_len → T.is_infallible value) → IsOk result }
@@ -116,7 +117,7 @@ impl<T: Clone, A: Allocator> Vec<T, A> {
     /// room for all of them before the first clone; a refusal leaves clones of a beginning of
     /// `other`, or nothing, and is `CapacityOverflow`, or `AllocError` with a capacity of at least
     /// the length of `other`. It stands for the original's `Clone::clone_from`.
-    #[tactic(auto, using(crate::proofs::Copied::copied))]
+    #[tactic(auto, using(crate::proofs::Copied::copied, crate::proofs::Becoming::became))]
     pub fn assign_from(&mut self, other: &Self) -> Result<(), TryReserveError>
         ensures fits { len other.now ≤ self.old.capacity
             → All T.is_infallible other.now.items → IsOk result }
@@ -156,6 +157,7 @@ impl<T: Clone, A: Allocator> Vec<T, A> {
 
     // Puts a clone of each element of `source` behind the last one, or of none where a clone is
     // refused.
+    #[tactic(auto, using(crate::proofs::Becoming::became))]
     pub(crate) fn push_clones(&mut self, source: &[T]) -> bool
         requires room { HasRoom self.old (length source.now) }
         ensures pushed { IsTrue result → Adds T.is_clone self.old source.now self.new }
@@ -171,7 +173,7 @@ impl<T: Clone, A: Allocator> Vec<T, A> {
     }
 
     // The same with `count` of its own elements, from the index `from` on.
-    #[tactic(auto, using(crate::proofs::Copied::copied))]
+    #[tactic(auto, using(crate::proofs::Copied::copied, crate::proofs::Becoming::became))]
     fn push_own(&mut self, from: usize, count: usize) -> bool
         requires range { from + count ≤ len self.old }
         requires room { HasRoom self.old count }
@@ -190,7 +192,7 @@ impl<T: Clone, A: Allocator> Vec<T, A> {
     }
 
     // The same with `count` clones of one value.
-    #[tactic(auto, using(crate::proofs::Copied::copied))]
+    #[tactic(auto, using(crate::proofs::Copied::copied, crate::proofs::Becoming::became))]
     fn push_same(&mut self, value: &T, count: usize) -> bool
         requires room { HasRoom self.old count }
         ensures pushed { IsTrue result
@@ -228,7 +230,7 @@ impl<T, A: Allocator> Vec<T, A> {
     /// what `f` answers, called once for each new place, in order. It makes room for all of them
     /// before the first call, as `try_reserve` does and refused as that is; then `f` is not called.
     /// It stands for `Vec::resize_with`.
-    #[tactic(auto, using(crate::proofs::Turns::turns))]
+    #[tactic(auto, using(crate::proofs::Turns::turns, crate::proofs::Becoming::became))]
     pub fn resize_with<F: FnMut() -> T>(
         &mut self,
         new_len: usize,
@@ -256,7 +258,7 @@ impl<T, A: Allocator> Vec<T, A> {
     /// called once for each new place, in order. This is `resize_with` by a closure that is lent,
     /// so that the caller knows what becomes of it: where the vector is cut, or no room is made,
     /// `f` is not called.
-    #[tactic(auto, using(crate::proofs::Turns::turns))]
+    #[tactic(auto, using(crate::proofs::Turns::turns, crate::proofs::Becoming::became))]
     pub fn resize_by<F: FnMut() -> T>(
         &mut self,
         new_len: usize,

@@ -1,7 +1,7 @@
 //! Edits at a position, and elements taken away.
 ghost use Rattle.std.specs.Prelude.{◌≡◌, ◌+◌, ◌-◌, ◌<◌, ◌≤◌, [], ◌∷◌, ◌++◌, length, take, insert, remove, swap_remove, slice_get, Some, IfErr, OnOk, OnErr, IsOk, if◌then◌else◌, ◌==◌};
 ghost use Rattle.std.specs.Mem.{type_size};
-ghost use Rattle.aa_vec.specs.Vector.{len, HasRoom, LacksRoom, Becomes, Holds, Writes, run_count, with_room};
+ghost use Rattle.aa_vec.specs.Vector.{len, HasRoom, LacksRoom, Becomes, run_count, with_room};
 
 use crate::vec::Vec;
 use aa_raw::collections::Refused;
@@ -93,12 +93,11 @@ impl<T, A: Allocator> Vec<T, A> {
 
     /// Drops all but the first `len` elements; where there are no more than that, it does nothing.
     /// The capacity stays. It stands for `Vec::truncate`.
-    #[tactic(auto, using(aa_raw::proofs::Calls::in_runs))]
+    #[tactic(auto, using(aa_raw::proofs::Calls::in_runs, crate::proofs::Becoming::becomes))]
     pub fn truncate(&mut self, len: usize)
     where
         T: Drop,
-        ensures items { Holds self.old (take len self.old.items) self.new }
-        ensures writes { Writes self.old 0 0 self.new }
+        ensures truncated { Becomes self.old (take len self.old.items) 0 0 self.new }
     {
         if self.len <= len {
             return;
@@ -112,8 +111,7 @@ impl<T, A: Allocator> Vec<T, A> {
     pub fn clear(&mut self)
     where
         T: Drop,
-        ensures items { Holds self.old [] self.new }
-        ensures writes { Writes self.old 0 0 self.new }
+        ensures cleared { Becomes self.old [] 0 0 self.new }
     {
         self.truncate(0);
     }

@@ -70,7 +70,7 @@ impl<T, A: Allocator> Vec<T, A> {
 
     // Makes room for as many more elements as the gap has places, and moves the last `count`
     // elements up behind it.
-    #[tactic(auto, using(crate::proofs::Filling::gaps))]
+    #[tactic(auto, using(crate::proofs::Filling::gaps, crate::proofs::Becoming::became))]
     fn widen(&mut self, gap: usize, count: usize) -> Result<(), TryReserveError>
         requires { count ≤ len self.old }
         ensures fits { HasRoom self.old gap → IsOk result }
@@ -87,7 +87,7 @@ impl<T, A: Allocator> Vec<T, A> {
 
     // A vector of `first` and the items of `iter`, over a clone of the allocator: a new one,
     // extended as is told of them.
-    #[tactic(auto, using(crate::proofs::Gathered::gathered))]
+    #[tactic(auto, using(crate::proofs::Gathered::gathered, crate::proofs::Becoming::became))]
     fn gathered<W: Telling<I>, I: Iterator<Item = T>>(
         &self,
         first: T,

@@ -1,9 +1,9 @@
 //! Whole runs of elements that pass from one vector to another.
-ghost use Rattle.std.specs.Prelude.{◌≡◌, ◌-◌, ◌<◌, ◌≤◌, [], ◌++◌, take, drop, IfOk, IfErr, OnOk, OnErr, IsOk};
+ghost use Rattle.std.specs.Prelude.{◌≡◌, ◌-◌, ◌<◌, ◌≤◌, [], ◌++◌, take, drop, IfOk, IfErr, OnOk, OnErr, IsOk, length};
 ghost use Rattle.std.specs.Mem.{type_size};
 ghost use Rattle.aa_raw.specs.Block.{fresh};
 ghost use Rattle.aa_raw.specs.Refusals.{RefusesClones};
-ghost use Rattle.aa_vec.specs.Vector.{len, HasRoom, LacksRoom, GrowsTo, Holds, Writes, run_count};
+ghost use Rattle.aa_vec.specs.Vector.{len, HasRoom, LacksRoom, Becomes, Holds, Writes, run_count, with_room};
 ghost use Rattle.aa_vec.specs.Copies.{IsMade};
 ghost use Rattle.aa_vec.specs.Splits.{Splits, split_room};
 
@@ -18,14 +18,14 @@ impl<T, A: Allocator> Vec<T, A> {
     /// keeps its capacity. It takes memory only where they do not fit, and grows then with room to
     /// spare. A refusal is as that of `try_reserve`, and changes neither vector. It stands for
     /// `Vec::append`.
+    #[tactic(auto, using(crate::proofs::Becoming::becomes, crate::proofs::Becoming::became))]
     pub fn append(&mut self, other: &mut Self) -> Result<(), TryReserveError>
         ensures fits { HasRoom self.old (len other.old) → IsOk result }
-        ensures joined { OnOk result (GrowsTo (type_size T.row) self.old
-            (len other.old) (self.old.items ++ other.old.items) self.new) }
-        ensures emptied { OnOk result (Holds other.old [] other.new) }
-        ensures writes { OnOk result
-            (Writes self.old (len other.old) (run_count (len other.old)) self.new) }
-        ensures takes { Writes other.old 0 0 other.new }
+        ensures joined { let moved = length other.old.items in
+            let roomy = with_room (type_size T.row) self.old (length self.old.items) moved in
+            OnOk result (Becomes roomy (self.old.items ++ other.old.items) moved (run_count moved)
+            self.new) }
+        ensures emptied { OnOk result (Becomes other.old [] 0 0 other.new) }
         ensures refused { IfErr result (LacksRoom (type_size T.row) self.old (len other.old)) }
         ensures unchanged { OnErr result (self.new ≡ self.old) }
         ensures stays { OnErr result (other.new ≡ other.old) }

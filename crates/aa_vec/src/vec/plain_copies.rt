@@ -58,6 +58,7 @@ impl<T: Copy, A: Allocator> Vec<T, A> {
     /// and then changes nothing. It stands for what the original's `extend_from_slice` compiles to
     /// for such elements.
     #[inline(always)]
+    #[tactic(auto, using(crate::proofs::Becoming::became))]
     pub fn extend_from_slice_copied(&mut self, other: &[T]) -> Result<(), TryReserveError>
         ensures fits { HasRoom self.old (length other.now) → IsOk result }
         ensures extended { OnOk result (GrowsTo (type_size T.row) self.old
@@ -76,6 +77,7 @@ impl<T: Copy, A: Allocator> Vec<T, A> {
     /// `extend_from_within` for elements that are `Copy`, which is refused only as `try_reserve`
     /// is, and then changes nothing. It stands for what the original's `extend_from_within`
     /// compiles to for such elements.
+    #[tactic(auto, using(crate::proofs::Becoming::became))]
     pub fn extend_from_within_copied(&mut self, range: Range<usize>) -> Result<(), TryReserveError>
         requires { (range.start ≤ range.end) × (range.end ≤ len self.old) }
         ensures fits { HasRoom self.old (range.end - range.start) → IsOk result }

@@ -1,15 +1,15 @@
 //! Room for more elements, and giving room back.
-ghost use Rattle.std.specs.Prelude.{◌≡◌, max, IfErr, OnOk, OnErr, IsOk};
+ghost use Rattle.std.specs.Prelude.{◌≡◌, length, max, IfErr, OnOk, OnErr, IsOk};
 ghost use Rattle.std.specs.Mem.{type_size};
 ghost use Rattle.aa_raw.specs.Room.{NeedsBlock};
-ghost use Rattle.aa_vec.specs.Vector.{len, HasRoom, GrowsTo, GrowsExactly, LacksRoom, LacksExactRoom, ShrinksTo, Writes};
+ghost use Rattle.aa_vec.specs.Vector.{len, HasRoom, LacksRoom, LacksExactRoom, Becomes, with_room, with_exact_room, with_less};
 ghost use Rattle.aa_raw.specs.declared.collections.TryReserveErrorKind.TheVariants.{AllocError};
 
 use crate::vec::Vec;
 use aa_raw::collections::TryReserveError;
 use std::alloc::Allocator;
 
-#[tactic(auto, using(aa_raw::proofs::Calls::with_room))]
+#[tactic(auto, using(aa_raw::proofs::Calls::with_room, crate::proofs::Becoming::same_fields))]
 impl<T, A: Allocator> Vec<T, A> {
     /// Makes room for `additional` more elements. Where they fit, it does nothing; else it takes
     /// memory and grows with room to spare. A refusal changes nothing: `CapacityOverflow` where the
@@ -17,9 +17,9 @@ impl<T, A: Allocator> Vec<T, A> {
     /// capacity asked for. It stands for `Vec::try_reserve`.
     pub fn try_reserve(&mut self, additional: usize) -> Result<(), TryReserveError>
         ensures fits { HasRoom self.old additional → IsOk result }
-        ensures made { OnOk result
-            (GrowsTo (type_size T.row) self.old additional self.old.items self.new) }
-        ensures writes { Writes self.old 0 0 self.new }
+        ensures made {
+            let roomy = with_room (type_size T.row) self.old (length self.old.items) additional in
+            OnOk result (Becomes roomy self.old.items 0 0 self.new) }
         ensures refused { IfErr result (LacksRoom (type_size T.row) self.old additional) }
         ensures unchanged { OnErr result (self.new ≡ self.old) }
     {
@@ -30,9 +30,9 @@ impl<T, A: Allocator> Vec<T, A> {
     /// `try_reserve`. It stands for `Vec::try_reserve_exact`.
     pub fn try_reserve_exact(&mut self, additional: usize) -> Result<(), TryReserveError>
         ensures fits { HasRoom self.old additional → IsOk result }
-        ensures made { OnOk result
-            (GrowsExactly self.old additional self.old.items self.new) }
-        ensures writes { Writes self.old 0 0 self.new }
+        ensures made {
+            let roomy = with_exact_room self.old (length self.old.items) additional in
+            OnOk result (Becomes roomy self.old.items 0 0 self.new) }
         ensures refused { IfErr result (LacksExactRoom self.old additional) }
         ensures unchanged { OnErr result (self.new ≡ self.old) }
     {
@@ -42,9 +42,9 @@ impl<T, A: Allocator> Vec<T, A> {
     /// The same as `try_reserve`. It stands for `Vec::reserve`, which aborts on a refusal.
     pub fn reserve(&mut self, additional: usize) -> Result<(), TryReserveError>
         ensures fits { HasRoom self.old additional → IsOk result }
-        ensures made { OnOk result
-            (GrowsTo (type_size T.row) self.old additional self.old.items self.new) }
-        ensures writes { Writes self.old 0 0 self.new }
+        ensures made {
+            let roomy = with_room (type_size T.row) self.old (length self.old.items) additional in
+            OnOk result (Becomes roomy self.old.items 0 0 self.new) }
         ensures refused { IfErr result (LacksRoom (type_size T.row) self.old additional) }
         ensures unchanged { OnErr result (self.new ≡ self.old) }
     {
@@ -55,9 +55,9 @@ impl<T, A: Allocator> Vec<T, A> {
     /// refusal.
     pub fn reserve_exact(&mut self, additional: usize) -> Result<(), TryReserveError>
         ensures fits { HasRoom self.old additional → IsOk result }
-        ensures made { OnOk result
-            (GrowsExactly self.old additional self.old.items self.new) }
-        ensures writes { Writes self.old 0 0 self.new }
+        ensures made {
+            let roomy = with_exact_room self.old (length self.old.items) additional in
+            OnOk result (Becomes roomy self.old.items 0 0 self.new) }
         ensures refused { IfErr result (LacksExactRoom self.old additional) }
         ensures unchanged { OnErr result (self.new ≡ self.old) }
     {
@@ -69,9 +69,9 @@ impl<T, A: Allocator> Vec<T, A> {
     /// of that many places, and none for 0. A refusal changes nothing: `AllocError` with the
     /// capacity asked for. It stands for `Vec::shrink_to`, which aborts on a refusal.
     pub fn shrink_to(&mut self, capacity: usize) -> Result<(), TryReserveError>
-        ensures shrunk { OnOk result
-            (ShrinksTo (type_size T.row) self.old (max (len self.old) capacity) self.new) }
-        ensures writes { Writes self.old 0 0 self.new }
+        ensures shrunk {
+            let less = with_less (type_size T.row) self.old (max (length self.old.items) capacity) in
+            OnOk result (Becomes less self.old.items 0 0 self.new) }
         ensures only_for_memory { OnErr result
             (NeedsBlock (type_size T.row) self.old.capacity (max (len self.old) capacity)) }
         ensures number { IfErr result (λ e. e.kind ≡ AllocError (max (len self.old) capacity)) }
@@ -84,9 +84,9 @@ impl<T, A: Allocator> Vec<T, A> {
     /// Gives back the places behind the elements, as `shrink_to(0)`. It stands for
     /// `Vec::shrink_to_fit`, which aborts on a refusal.
     pub fn shrink_to_fit(&mut self) -> Result<(), TryReserveError>
-        ensures shrunk { OnOk result
-            (ShrinksTo (type_size T.row) self.old (len self.old) self.new) }
-        ensures writes { Writes self.old 0 0 self.new }
+        ensures shrunk {
+            let less = with_less (type_size T.row) self.old (length self.old.items) in
+            OnOk result (Becomes less self.old.items 0 0 self.new) }
         ensures only_for_memory { OnErr result
             (NeedsBlock (type_size T.row) self.old.capacity (len self.old)) }
         ensures number { IfErr result (λ e. e.kind ≡ AllocError (len self.old)) }

@@ -37,6 +37,7 @@ pub(crate) fn within<T, A: Allocator>(main: &mut Vec<T, A>, value: T) -> Reply<T
     }
 }
 
+#[tactic(auto, using(aa_vec::proofs::Becoming::became))]
 pub(crate) fn pop<T, A: Allocator>(main: &mut Vec<T, A>) -> Reply<T>
     ensures { DoesOnMain (type_size T.row) main.old Pop result main.new }
 {
@@ -83,6 +84,7 @@ pub(crate) fn swap_remove<T, A: Allocator>(main: &mut Vec<T, A>, index: usize) -
     Reply::Item(main.swap_remove(index))
 }
 
+#[tactic(auto, using(aa_vec::proofs::Becoming::became))]
 pub(crate) fn truncate<T: Drop, A: Allocator>(main: &mut Vec<T, A>, len: usize) -> Reply<T>
     ensures { DoesOnMain (type_size T.row) main.old (Truncate len) result main.new }
 {
@@ -90,6 +92,7 @@ pub(crate) fn truncate<T: Drop, A: Allocator>(main: &mut Vec<T, A>, len: usize) 
     Reply::Done
 }
 
+#[tactic(auto, using(aa_vec::proofs::Becoming::became))]
 pub(crate) fn clear<T: Drop, A: Allocator>(main: &mut Vec<T, A>) -> Reply<T>
     ensures { DoesOnMain (type_size T.row) main.old Clear result main.new }
 {
@@ -97,6 +100,7 @@ pub(crate) fn clear<T: Drop, A: Allocator>(main: &mut Vec<T, A>) -> Reply<T>
     Reply::Done
 }
 
+#[tactic(auto, using(aa_vec::proofs::Becoming::became))]
 pub(crate) fn reserve<T, A: Allocator>(main: &mut Vec<T, A>, additional: usize) -> Reply<T>
     ensures { DoesOnMain (type_size T.row) main.old (Reserve additional) result main.new }
 {
@@ -106,6 +110,7 @@ pub(crate) fn reserve<T, A: Allocator>(main: &mut Vec<T, A>, additional: usize) 
     }
 }
 
+#[tactic(auto, using(aa_vec::proofs::Becoming::became))]
 pub(crate) fn reserve_exact<T, A: Allocator>(main: &mut Vec<T, A>, additional: usize) -> Reply<T>
     ensures { DoesOnMain (type_size T.row) main.old (ReserveExact additional) result main.new }
 {
@@ -115,6 +120,7 @@ pub(crate) fn reserve_exact<T, A: Allocator>(main: &mut Vec<T, A>, additional: u
     }
 }
 
+#[tactic(auto, using(aa_vec::proofs::Becoming::became))]
 pub(crate) fn shrink_to<T, A: Allocator>(main: &mut Vec<T, A>, capacity: usize) -> Reply<T>
     ensures { DoesOnMain (type_size T.row) main.old (ShrinkTo capacity) result main.new }
 {
@@ -145,6 +151,7 @@ pub(crate) fn split_off<T: Drop, A: Allocator + Clone + Drop>(
     }
 }
 
+#[tactic(auto, using(aa_vec::proofs::Becoming::became))]
 pub(crate) fn append<T, A: Allocator>(main: &mut Vec<T, A>, side: &mut Vec<T, A>) -> Reply<T>
     ensures { Does (type_size T.row) main.old side.old Append result main.new side.new }
 {

@@ -13,6 +13,7 @@ use aa_vec::vec::{Drain, Vec};
 use std::alloc::Allocator;
 
 // Tests the range, makes room in side for what is asked for, and then takes it.
+#[tactic(auto, using(aa_vec::proofs::Becoming::became))]
 pub(crate) fn drain<T: Drop, A: Allocator>(
     main: &mut Vec<T, A>,
     side: &mut Vec<T, A>,

@@ -14,6 +14,7 @@ use aa_vec::vec::{ExtractBy, Vec};
 use std::alloc::Allocator;
 
 // Tests the range, makes room in side for as many as may be taken, and then takes them.
+#[tactic(auto, using(aa_vec::proofs::Becoming::became))]
 pub(crate) fn extract<T: Drop, A: Allocator, K: FnMut(&mut T) -> bool>(
     main: &mut Vec<T, A>,
     side: &mut Vec<T, A>,

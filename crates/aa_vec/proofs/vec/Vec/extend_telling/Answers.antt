@@ -1,4 +1,4 @@
-use Rattle.aa_vec.proofs.Common.{◌<◌, ap, arith, length, length-append, ◌∷◌, [], err_from_is_err_and}
+use Rattle.aa_vec.proofs.Common.{◌<◌, Vector, len, ap, arith, length, length-append, ◌∷◌, [], rules, err_from_is_err_and}
 use Rattle.aa_vec.proofs.Extending.{Placing-start, Placing-filled, Placing-full, Placing-grown, Placing-refused, Placing-end}
 use Rattle.aa_vec.proofs.vec.Vec.extend_telling.Goals as goal
 
@@ -16,8 +16,8 @@ full-preserved g c =
       finite = on.1;
       placing =
           Placing-grown _ _ _ _ _ _ _ p.0 p.1 c.in-Some.x _ c.in-Some.ensures.steps c.told.result c.told.ensures c.saturating_add.result c.saturating_add.ensures
-          c.try_reserve.new.self c.put_next.new.self r.made r.writes put.items put.writes;
-      fewer = omega (arith, i.fewer, gone.2, on.2, p.2, i.placing.fits, ap length put.items.items, length-append c.try_reserve.new.self.items (c.in-Some.x ∷ []), ap length r.made.items);
+          c.try_reserve.new.self c.put_next.new.self r.made put.items put.writes;
+      fewer = omega (arith, i.fewer, gone.2, on.2, p.2, i.placing.fits, ap length put.items.items, length-append c.try_reserve.new.self.items (c.in-Some.x ∷ []), ap (λ (v : Vector _ _). len v) r.made);
     }
 
 pub returns-in_err-try_reserve : goal.returns-in_err-try_reserve

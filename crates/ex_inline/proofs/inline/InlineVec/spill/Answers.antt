@@ -6,4 +6,4 @@ pub returns-clause-made : goal.returns-clause-made
 returns-clause-made g c =
     let off = ap (λ s. s.spilled) c.self.view_is ∙ c.requires.0 in
     spilled _ c.args.needed c.self.inside.spilled c.self.inside.few c.self.inside.heap c.try_reserve.new.self c.pour.new.into off (c.self.invariant.1 off) c.self.invariant.0
-    c.in_ok-try_reserve.ensures.made c.try_reserve.ensures.writes c.pour.ensures.items c.pour.ensures.block c.pour.ensures.writes _ c.self.view_is
+    c.in_ok-try_reserve.ensures.made c.pour.ensures.items c.pour.ensures.block c.pour.ensures.writes _ c.self.view_is
