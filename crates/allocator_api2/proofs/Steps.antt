@@ -4,7 +4,7 @@ use Rattle.std.proofs.Common.{length-set}
 use Rattle.std.specs.Prelude.{slice_set, slice_index_or}
 use Rattle.std.proofs.lemmas.List.{length-append}
 use Rattle.std.proofs.lemmas.Bool.{cases_lt}
-use Rattle.aa_vec.specs.Extending.{ExtendsAll, grows, stays}
+use Rattle.aa_vec.specs.Extending.{ExtendsAll, asked_with, grows, stays}
 use Rattle.aa_vec.proofs.Climbing.{MakesRoom, MakesRoom-has, MakesRoom-rises, MakesRoom-stays, SameBlock-refl}
 use Rattle.aa_vec.proofs.Kept.{length-kept, length-deduplicated}
 use Rattle.allocator_api2.proofs.Extracting.{length-taken_out}
