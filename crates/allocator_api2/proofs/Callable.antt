@@ -1,14 +1,9 @@
--- Closures that may be called as a run calls them: along the commands that are still to come, and whatever they are given.
-use Rattle.allocator_api2.proofs.Common.{◌≡◌, ℕ, Bool, true, false, List, [], ◌∷◌, ◌++◌, length, reverse, take, sym, ap, ◌∙◌, subst, ⊤, slice_range, reverse-append, reverse-reverse, Asked, AskedInOrder, ChainsFrom, Deduplicated, Command, SplitOff, Retain, Dedup, ExtractIf, Reply, Done, Item, Nothing, Back, Refused, Range, State, Calls, IsPossible, Step, DoesStep, MayRun}
+-- Closures that may be called as a run calls them: in states that stay good, and whatever they are given.
+use Rattle.allocator_api2.proofs.Common.{ℕ, Bool, true, false, List, [], ◌∷◌, length, take, sym, subst, ⊤, slice_range, Asked, AskedInOrder, ChainsFrom, Deduplicated, Command, SplitOff, Retain, Dedup, ExtractIf, Reply, Done, State, Calls, Step, MayRun}
 use Rattle.aa_vec.specs.Choosing.{MayAskInOrder, MayChainFrom, MayDeduplicate}
 use Rattle.allocator_api2.specs.Run.{MayCall, IsCallableOnRuns}
 
 module _ {T A K S : Type 0} (size : ℕ) (calls : Calls T A K S) where
-  module _ (s : State T A K S) (rest later : List (Command T A)) (command : Command T A) (e : rest ≡ later ++ command ∷ []) (may : MayRun size calls s (reverse rest)) where
-    -- the next may call them, and then those behind it
-    pub MayRun-next : MayRun size calls s (command ∷ reverse later)
-    MayRun-next = subst (MayRun size calls s) (ap reverse e ∙ reverse-append later (command ∷ [])) may
-
   -- closures whose good states take every element, and lead to good states alone
   module _ (good_keep : K → Type 0) (good_same : S → Type 0)
       (keep_takes : (k : K) (x : T) → good_keep k → calls.takes_keep k x)

@@ -19,7 +19,7 @@ pub use Rattle.allocator_api2.specs.declared.runner.Command.TheVariants.{Append,
 pub use Rattle.allocator_api2.specs.declared.runner.Reply.{Reply}
 pub use Rattle.allocator_api2.specs.declared.runner.Reply.TheVariants.{Back, Done, Item, Nothing, Range, Refused}
 pub use Rattle.std.proofs.Common.{Bool, List, None, Option, Some, [], ap, append_assoc, arith, drop, false, inl, inr, length, length-append, length-drop, length-take, map, max, min, refl, reverse, rules, subst, suc, sum_by, sym, take, true, zero, ℕ, ◌*◌, ◌++◌, ◌+◌, ◌-◌, ◌<◌, ◌∙◌, ◌∷◌, ◌≡◌, ◌≤◌, ◌⊎◌}
-pub use Rattle.std.proofs.lemmas.List.{append-nil, drop-drop, length-map, length-reverse, reverse-append, reverse-reverse, take-append-drop, take_all}
+pub use Rattle.std.proofs.lemmas.List.{append-nil, drop-drop, length-map, length-reverse, reverse-append, take-append-drop, take_all}
 pub use Rattle.std.proofs.lemmas.List.Sums.{sum_by-cons}
 pub use Rattle.std.specs.Fn.{CalledAtMut}
 pub use Rattle.std.specs.List.{AllByRecursion, repeat}

@@ -1,5 +1,5 @@
 -- A run that is not at its end.
-use Rattle.allocator_api2.proofs.Common.{ℕ, ◌≡◌, List, [], ◌∷◌, ◌++◌, map, reverse, sym, ap, subst, ◌∙◌, append_assoc, refl, AllByRecursion, reverse-append, append-nil, reverse-reverse, Command, Reply, State, Calls, IsPossible, DoesStep, Turn, IsRun, RunsWithin, AddsOrRemoves, IsUnhinted}
+use Rattle.allocator_api2.proofs.Common.{ℕ, ◌≡◌, List, [], ◌∷◌, ◌++◌, map, sym, ap, subst, ◌∙◌, append_assoc, refl, AllByRecursion, append-nil, Command, Reply, State, Calls, IsPossible, DoesStep, Turn, IsRun, RunsWithin, AddsOrRemoves, IsUnhinted}
 use Rattle.std.proofs.lemmas.List.{map-append}
 use Rattle.allocator_api2.proofs.WholeRuns.{moves_law, places_law, writes_law}
 
@@ -9,33 +9,33 @@ module _ {T A K S : Type 0} (size : ℕ) (calls : Calls T A K S) where
   IsRun-more old [] mid t r s = (s.0 ∙ r, s.1, refl)
   IsRun-more old (u ∷ ts) mid t r s = (r.0, r.1, IsRun-more u.after ts mid t r.2 s)
 
-  -- of all commands those of `rest`, in turned order, are still to come
+  -- of all commands those of `rest` are still to come
   pub record HasRun (old : State T A K S) (all : List (Command T A)) (before : List (Reply T)) (rest : List (Command T A)) (replies : List (Reply T)) (now : State T A K S) : Type 0 where
     pub turns : List (Turn T A K S)
     pub run : IsRun size calls old turns now
-    pub commands_are : map (λ t. t.command) turns ++ reverse rest ≡ all
+    pub commands_are : map (λ t. t.command) turns ++ rest ≡ all
     pub replies_are : replies ≡ before ++ map (λ t. t.reply) turns
     pub began : IsPossible old.main old.side
 
-  pub HasRun-start : (old : State T A K S) (all : List (Command T A)) (before : List (Reply T)) (rest : List (Command T A)) → rest ≡ reverse all → IsPossible old.main old.side → HasRun old all before rest before old
-  HasRun-start old all before rest e possible =
-      record { turns = []; run = refl; commands_are = ap reverse e ∙ reverse-reverse all; replies_are = sym (append-nil before); began = possible }
+  pub HasRun-start : (old : State T A K S) (all : List (Command T A)) (before : List (Reply T)) → IsPossible old.main old.side → HasRun old all before all before old
+  HasRun-start old all before possible =
+      record { turns = []; run = refl; commands_are = refl; replies_are = sym (append-nil before); began = possible }
 
-  pub HasRun-more : {old : State T A K S} {all : List (Command T A)} {before replies replies' : List (Reply T)} {rest rest' : List (Command T A)} {now new : State T A K S} {command : Command T A} {reply : Reply T} → HasRun old all before rest replies now → rest ≡ rest' ++ command ∷ [] → DoesStep size calls now command reply new → IsPossible new.main new.side → replies' ≡ replies ++ reply ∷ [] → HasRun old all before rest' replies' new
-  HasRun-more {old = old} {before = before} {rest = rest} {rest' = rest'} {now = now} {new} {command} {reply} h e s possible e' =
+  pub HasRun-more : {old : State T A K S} {all : List (Command T A)} {before replies replies' : List (Reply T)} {rest : List (Command T A)} {now new : State T A K S} {command : Command T A} {reply : Reply T} → HasRun old all before (command ∷ rest) replies now → DoesStep size calls now command reply new → IsPossible new.main new.side → replies' ≡ replies ++ reply ∷ [] → HasRun old all before rest replies' new
+  HasRun-more {old = old} {before = before} {now = now} {new} {command} {reply} h s possible e =
       let t : Turn T A K S = record { before = now; command = command; answers = s.answers; reply = reply; after = new } in
       record {
         began = h.began;
         turns = h.turns ++ t ∷ [];
         run = IsRun-more old h.turns now t h.run (refl, record { step = s.step; writes = s.writes; possible = possible }, refl);
-        commands_are = rw map-append (rw append_assoc (let e2 : reverse rest ≡ command ∷ reverse rest' = ap reverse e ∙ reverse-append rest' (command ∷ []) in rw (← e2) h.commands_are));
-        replies_are = rw map-append (e' ∙ (ap (λ xs. xs ++ reply ∷ []) h.replies_are ∙ append_assoc before _ (reply ∷ [])));
+        commands_are = rw (map-append, append_assoc) h.commands_are;
+        replies_are = rw map-append (e ∙ (ap (λ xs. xs ++ reply ∷ []) h.replies_are ∙ append_assoc before _ (reply ∷ [])));
       }
 
   -- a run with no command to come
-  pub HasRun-end : {old : State T A K S} {all : List (Command T A)} {before replies : List (Reply T)} {rest : List (Command T A)} {now : State T A K S} → HasRun old all before rest replies now → rest ≡ [] → (answered : List (Reply T)) × (replies ≡ before ++ answered) × RunsWithin size calls old all answered now
-  HasRun-end {old = old} {all = all} {now = now} h e =
-      let are : map (λ t. t.command) h.turns ≡ all = sym (append-nil _) ∙ subst (λ xs. map (λ t. t.command) h.turns ++ reverse xs ≡ all) e h.commands_are in (
+  pub HasRun-end : {old : State T A K S} {all : List (Command T A)} {before replies : List (Reply T)} {now : State T A K S} → HasRun old all before [] replies now → (answered : List (Reply T)) × (replies ≡ before ++ answered) × RunsWithin size calls old all answered now
+  HasRun-end {old = old} {all = all} {now = now} h =
+      let are : map (λ t. t.command) h.turns ≡ all = sym (append-nil _) ∙ h.commands_are in (
         map (λ t. t.reply) h.turns,
         h.replies_are,
         record {

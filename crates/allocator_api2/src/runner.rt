@@ -1,5 +1,5 @@
 //! `run`: a list of commands on two vectors, and the list machine that its contract speaks of.
-ghost use Rattle.std.specs.Prelude.{reverse, ◌≡◌, List, [], ◌∷◌, ◌++◌, length};
+ghost use Rattle.std.specs.Prelude.{◌≡◌, List, [], ◌∷◌, ◌++◌, length};
 ghost use Rattle.std.specs.Mem.{type_size};
 ghost use Rattle.aa_vec.specs.Copies.{Copies};
 ghost use Rattle.aa_vec.specs.Vector.{HasRoom, Holds, SameBlock};
@@ -151,21 +151,12 @@ where
         (state_of main.new side.new keep.new same.new) }
     ensures replies_stay { SameBlock replies.old replies.new }
 {
-    let mut rest = commands;
-    turn_round(&mut rest);
     find_possible(main, side);
-    while let Some(command) = rest.pop() {
+    for command in commands {
         let reply = step(main, side, command, keep, same);
         find_possible(main, side);
         append_within(replies, reply);
     }
-}
-
-// The elements in the other order.
-fn turn_round<T, A: Allocator>(rows: &mut Vec<T, A>)
-    ensures { rows.new.items ≡ reverse rows.old.items }
-{
-    rows.as_mut_slice().reverse();
 }
 
 // Puts a value behind the last one of a vector that has room for it.
