@@ -2,8 +2,8 @@
 pub use Rattle.aa_boxed.specs.Boxed.{held}
 pub use Rattle.aa_boxed.specs.Room.{IsForOne, IsJustFor}
 pub use Rattle.aa_boxed.specs.Slice.{Begun, Slice, Stops, ended, slice_of, with_next}
-pub use Rattle.aa_boxed.specs.SliceInner.{IsWhole}
-pub use Rattle.aa_boxed.specs.Telling.{asked_with}
+pub use Rattle.aa_boxed.specs.BoxedSliceInner.{IsWhole}
+pub use Rattle.aa_boxed.specs.Hints.{asked_with}
 pub use Rattle.aa_boxed.specs.Text.{StopsAtText, Text}
 pub use Rattle.aa_boxed.specs.contracts.boxed.Box.{the_row}
 pub use Rattle.aa_raw.proofs.Beyond.{IsRun-forgot, forgot, length-forgot, none-forgot, none_there}

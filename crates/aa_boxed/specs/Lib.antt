@@ -1,11 +1,11 @@
 pub mod Boxed
 pub mod Room
-pub mod Inner
-pub mod Lends
-pub mod Telling
+pub mod BoxInner
+pub mod BoxLends
+pub mod Hints
 pub mod Slice
-pub mod SliceInner
-pub mod SliceLends
+pub mod BoxedSliceInner
+pub mod BoxedSliceLends
 pub mod Text
 pub mod Arrays
 pub mod formers

@@ -9,7 +9,7 @@ use Rattle.aa_raw.specs.declared.raw_vec.Growth.{Growth}
 use Rattle.aa_raw.specs.declared.raw_vec.Growth.TheVariants.{Doubling}
 use Rattle.aa_raw.specs.Block.{Block}
 use Rattle.aa_raw.specs.Places.{run}
-use Rattle.aa_boxed.specs.Telling.{asked_with}
+use Rattle.aa_boxed.specs.Hints.{asked_with}
 
 -- a list in a block that has room for it and no more; the block keeps how it grows for the vector
 -- that the list may become

@@ -42,7 +42,7 @@ impl<T, A: Allocator> Model for Box<T, A> {
 
     ghost Value = { Boxed T A };
 
-    ghost use Rattle.aa_boxed.specs.Inner.{view_of};
+    ghost use Rattle.aa_boxed.specs.BoxInner.{view_of};
 
     ghost view = { view_of };
 }
@@ -211,7 +211,7 @@ impl<T, A: Allocator> Deref for Box<T, A> {
 }
 
 impl<T, A: Allocator> DerefMut for Box<T, A> {
-    ghost use Rattle.aa_boxed.specs.Lends.{lends_value};
+    ghost use Rattle.aa_boxed.specs.BoxLends.{lends_value};
 
     ghost deref_mut_gives = { λ b x. x ≡ b.value };
 

@@ -1,7 +1,7 @@
 -- The names from elsewhere that proofs here cite, passed on.
 pub use Rattle.aa_gap.specs.Buffer.{Buffer, GrowsWithin, cursor, distance, empty, gap, inserted, len, run_count, text, travel}
 pub use Rattle.aa_gap.specs.Editing.{Costs, Edits, with_edit, with_edits}
-pub use Rattle.aa_gap.specs.Inner.{HasGap}
+pub use Rattle.aa_gap.specs.GapBufferInner.{HasGap}
 pub use Rattle.aa_gap.specs.Page.{Page, all_edited, edited, inserts, page, runs_by, total, written_by}
 pub use Rattle.aa_gap.specs.declared.gap_buffer.Edit.{Edit}
 pub use Rattle.aa_gap.specs.declared.gap_buffer.Edit.TheVariants.{DeleteBack, DeleteForward, Insert, MoveTo}

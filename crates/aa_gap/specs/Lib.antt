@@ -1,5 +1,5 @@
 pub mod Buffer
-pub mod Inner
+pub mod GapBufferInner
 pub mod Page
 pub mod Editing
 pub mod Taken

@@ -7,7 +7,7 @@ ghost use Rattle.aa_raw.specs.Places.{IsCapacity};
 ghost use Rattle.aa_raw.specs.Refusals.{RefusesBlock};
 ghost use Rattle.aa_gap.specs.Buffer.{Buffer, empty, text, cursor, len, gap, travel, with_parts, wrote, moved_to, with_room, put, inserted, HasRoom, LacksRoom};
 ghost use Rattle.aa_gap.specs.Taken.{IsPartedIn};
-ghost use Rattle.aa_gap.specs.Inner.{view_of, IsParted};
+ghost use Rattle.aa_gap.specs.GapBufferInner.{view_of, IsParted};
 
 use aa_raw::collections::{Refused, TryReserveError};
 use aa_raw::raw_vec::{Growth, RawVec};

@@ -1,11 +1,11 @@
 -- The names from elsewhere that proofs here cite, passed on.
 pub use Rattle.aa_raw.specs.Block.{Block, Reserves, fresh, shrunk_to, with_places, wrote}
 pub use Rattle.aa_raw.specs.Clones.{HoldsClones}
-pub use Rattle.aa_raw.specs.Fields.{view_of}
+pub use Rattle.aa_raw.specs.RawVecInner.{view_of}
 pub use Rattle.aa_raw.specs.Growth.{sized, usize_max}
-pub use Rattle.aa_raw.specs.Holding.{each, few_bytes, roomy, row_lends, row_owns, spot, spot_seen, token_for}
-pub use Rattle.aa_raw.specs.LeftFields.{IsBetween}
-pub use Rattle.aa_raw.specs.Lends.{holding}
+pub use Rattle.aa_raw.specs.Ownership.{each, few_bytes, roomy, row_lends, row_owns, spot, spot_seen, token_for}
+pub use Rattle.aa_raw.specs.IntoIterInner.{IsBetween}
+pub use Rattle.aa_raw.specs.RowLends.{holding}
 unfoldable pub use Rattle.aa_raw.specs.Places.{IsCapacity, IsFilled, IsRun, empty_places, endless_places, moved, run, somes, with_run}
 pub use Rattle.aa_raw.specs.TwoRuns.{AreApart, AreJoined, AreParted, IsFull, ReservesRuns, both, grown_with}
 pub use Rattle.aa_raw.specs.contracts.tally.Tally.{the_row as tally_row}

@@ -14,7 +14,7 @@ use denote.RattleType.{RattleType}
 use denote.Memory.{lone, part_of, raw_all}
 use denote.RawPtr.{Ptr, block_ptr, null_ptr}
 use denote.HoleLaws.{Alike}
-use Rattle.aa_raw.specs.Holding.{each, spot, spot_seen, few_bytes, row_owns, row_lends, claim_owns, roomy}
+use Rattle.aa_raw.specs.Ownership.{each, spot, spot_seen, few_bytes, row_owns, row_lends, claim_owns, roomy}
 
 module _ (R S : RattleType) (h : R.Denot → S.Denot) (a : Alike R S h) where
   abbrev over_places : List (Option R.Denot) → List (Option S.Denot)

@@ -77,7 +77,7 @@ impl<T, A: Allocator> Model for RawVec<T, A> {
 
     ghost Value = { Block T A };
 
-    ghost use Rattle.aa_raw.specs.Fields.{view_of, IsWhole};
+    ghost use Rattle.aa_raw.specs.RawVecInner.{view_of, IsWhole};
 
     ghost view = { view_of };
 

@@ -6,7 +6,7 @@ ghost use Rattle.std.specs.Mem.{type_size};
 ghost use Rattle.std.specs.Borrow.{sem};
 ghost use denote.RawPtr.{Ptr};
 ghost use Rattle.aa_raw.specs.Places.{IsRun, IsFilled, IsCapacity, moved, with_run};
-ghost use Rattle.aa_raw.specs.Holding.{row_owns, row_lends, claim_owns, roomy};
+ghost use Rattle.aa_raw.specs.Ownership.{row_owns, row_lends, claim_owns, roomy};
 
 use crate::size::element_size;
 use core::slots::Slots;
@@ -51,7 +51,7 @@ impl<T, A: Allocator> Claim<T, A> {
 }
 
 impl<T> Row<T> {
-    ghost use Rattle.aa_raw.specs.Lends.{lends_at, lends_from};
+    ghost use Rattle.aa_raw.specs.RowLends.{lends_at, lends_from};
 
     /// Puts `item` into a place. A value that stood there is forgotten.
     #[inline(always)]

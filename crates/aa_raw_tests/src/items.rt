@@ -1,13 +1,13 @@
 //! The items of a block, from either end.
 ghost use Rattle.std.specs.Prelude.{◌≡◌, IfOk};
 
-use aa_faulty::counted::Counted;
 use aa_raw::collections::TryReserveError;
 use aa_raw::raw_vec::RawVec;
 use aa_raw::vec::into_iter::IntoIter;
 use std::alloc::{AllocError, Global};
 use std::cell::Cell;
 use std::test::Fail;
+use test_allocators::counted::Counted;
 
 // The items 1 and 2.
 fn one_and_two(alloc: Global) -> Result<IntoIter<u32, Global>, TryReserveError> {

@@ -1,11 +1,11 @@
 //! Growth that keeps two runs of a block, and its refusals.
 ghost use Rattle.std.specs.Prelude.{◌≡◌, [], ◌∷◌, Some, None, IfOk};
 
-use aa_faulty::Faulty;
 use aa_raw::collections::{TryReserveError, TryReserveErrorKind};
 use aa_raw::raw_vec::RawVec;
 use std::alloc::{Allocator, Global};
 use std::test::Fail;
+use test_allocators::Faulty;
 
 // A block `12 13 _ 10 11`, as a queue has that went around.
 fn around<A: Allocator>(alloc: A) -> Result<RawVec<u32, A>, TryReserveError>

@@ -1,6 +1,6 @@
 -- A slice of which a closure was asked in order, up to one place.
 use mathlib.Core.Bool.{beq}
-use Rattle.aa_vec.proofs.Common.{◌≡◌, not, ℕ, suc, ◌+◌, ◌<◌, ◌≤◌, Bool, true, false, List, [], ◌∷◌, ◌++◌, length, take, drop, get_or, sym, ap, ◌∙◌, subst, refl, arith, append_assoc, length-append, length-drop, slice_set, if◌then◌else◌, drop_all, take-append-drop, drop-set, drop-append-le, take_at, drop_at, length-take-le, nat_tests, MayAskInOrder, MayChainFrom, MayDeduplicate, StaysAt, AsksUntil, ChainsAlong, AsksNeighbours, zero-add, drop-cons, take-set, take-append-le}
+use Rattle.aa_vec.proofs.Common.{◌≡◌, not, ℕ, suc, ◌+◌, ◌<◌, ◌≤◌, Bool, true, false, List, [], ◌∷◌, ◌++◌, length, take, drop, get_or, sym, ap, ◌∙◌, subst, refl, arith, append_assoc, length-append, length-drop, slice_set, if◌then◌else◌, drop_all, take-append-drop, drop-set, drop-append-le, take_at, drop_at, length-take-le, nat_tests, MayAskInOrder, MayChainFrom, MayDeduplicate, StaysWhen, AsksUntil, ChainsAlong, AsksNeighbours, zero-add, drop-cons, take-set, take-append-le}
 
 module _ {T : Type 0} (ys : List T) (i : ℕ) (d : T) (h : i < length ys) where
   -- the elements from the index on
@@ -51,7 +51,7 @@ module _ {F T : Type 0} (low : ℕ) (Until : F → List T → ℕ → F → List
 
 module _ {F T : Type 0} (Calls : F → T → Bool → F → T → Type 0) (Takes : F → T → Type 0) (stays : Bool) where
   abbrev Asks : F → T → Bool → F → T → Type 0
-  Asks = StaysAt stays Calls
+  Asks = StaysWhen stays Calls
 
   abbrev pub HasAsked : F → List T → ℕ → F → List T → Type 0
   HasAsked = Gone 0 (AsksUntil Asks) (MayAskInOrder Asks Takes)

@@ -1,5 +1,5 @@
 -- Lemmas on a vector that grew while it was full.
-use Rattle.aa_vec.proofs.Common.{◌≡◌, ℕ, ◌+◌, ◌-◌, ◌<◌, ◌≤◌, List, ◌++◌, append_assoc, refl, ap, ◌∙◌, subst, arith, min, usize_max, Growth, Doubling, Sparing, amortized, least_of, Vector, SameBlock, Holds, with_room, Climbs, stays, grows, ExtendsAll, ExtendsFull, ExtendsByAll, ExtendsByFront, TryReserveError, Option, [], ◌∷◌, length, length-append, nat_tests, asked_with}
+use Rattle.aa_vec.proofs.Common.{◌≡◌, ℕ, ◌+◌, ◌-◌, ◌<◌, ◌≤◌, List, ◌++◌, append_assoc, refl, ap, ◌∙◌, subst, arith, min, usize_max, Growth, Doubling, Sparing, amortized, least_of, Vector, SameBlock, Holds, with_room, GrowsInSteps, stays, grows, ExtendsAll, ExtendsFull, ExtendsByAll, ExtendsByFront, TryReserveError, Option, [], ◌∷◌, length, length-append, nat_tests, asked_with}
 
 -- a growth asks for no less than what is needed
 pub amortized-enough : (G : Growth) (c needed m : ℕ) → needed ≤ amortized G c needed m
@@ -55,50 +55,50 @@ module _ {T A : Type 0} where
 
 -- the same climb from another vector in the same block, where r items more are to come after those that were counted, and the bounds agree
 -- from the capacity on
-pub Climbs-counted : {T A : Type 0} (size : ℕ) (lower by : ℕ → ℕ) (needed r all : ℕ) {u v w : Vector T A} → SameBlock u v → needed + r ≡ all
-    → ((k : ℕ) → u.capacity + k < needed → lower k ≡ by (k + r)) → Climbs size lower needed v w → Climbs size by all u w
-Climbs-counted size lower by needed r all b e same (stays c) = stays (SameBlock-trans b c)
-Climbs-counted size lower by needed r all {u} {v} {w} b e same (grows {mid = mid} h m rest) =
+pub GrowsInSteps-counted : {T A : Type 0} (size : ℕ) (lower by : ℕ → ℕ) (needed r all : ℕ) {u v w : Vector T A} → SameBlock u v → needed + r ≡ all
+    → ((k : ℕ) → u.capacity + k < needed → lower k ≡ by (k + r)) → GrowsInSteps size lower needed v w → GrowsInSteps size by all u w
+GrowsInSteps-counted size lower by needed r all b e same (stays c) = stays (SameBlock-trans b c)
+GrowsInSteps-counted size lower by needed r all {u} {v} {w} b e same (grows {mid = mid} h m rest) =
     let a : asked_with (lower (needed - u.capacity - 1)) ≡ asked_with (by (all - u.capacity - 1)) =
     ap (λ n. min (n + 1) usize_max) (same (needed - u.capacity - 1) (omega (arith, h, b.capacity)) ∙ ap by (omega (arith, h, b.capacity, e))) in
     grows (omega (arith, h, b.capacity, e))
     (subst (λ k. MakesRoom size u u.capacity k mid) a (subst (λ c. MakesRoom size u c (asked_with (lower (needed - c - 1))) mid) b.capacity (MakesRoom-same size v.capacity (asked_with (lower (needed - v.capacity - 1))) b m)))
-    (Climbs-counted size lower by needed r all (SameBlock-refl mid) e (λ k l. same k (omega (arith, l, MakesRoom-rises size v.capacity (asked_with (lower (needed - v.capacity - 1))) v mid m, b.capacity))) rest)
+    (GrowsInSteps-counted size lower by needed r all (SameBlock-refl mid) e (λ k l. same k (omega (arith, l, MakesRoom-rises size v.capacity (asked_with (lower (needed - v.capacity - 1))) v mid m, b.capacity))) rest)
 
 module _ {T A : Type 0} (size : ℕ) (lower : ℕ → ℕ) (needed : ℕ) where
   -- a climb ends in whatever is in the same block
-  pub Climbs-same : {u v w : Vector T A} → Climbs size lower needed u v → SameBlock v w → Climbs size lower needed u w
-  Climbs-same (stays b) c = stays (SameBlock-trans b c)
-  Climbs-same (grows h m r) c = grows h m (Climbs-same r c)
+  pub GrowsInSteps-same : {u v w : Vector T A} → GrowsInSteps size lower needed u v → SameBlock v w → GrowsInSteps size lower needed u w
+  GrowsInSteps-same (stays b) c = stays (SameBlock-trans b c)
+  GrowsInSteps-same (grows h m r) c = grows h m (GrowsInSteps-same r c)
 
   -- and goes on by one more growth
-  pub Climbs-more : {u v w : Vector T A} → Climbs size lower needed u v → v.capacity < needed → MakesRoom size v v.capacity (asked_with (lower (needed - v.capacity - 1))) w → Climbs size lower needed u w
-  Climbs-more {w = w} (stays b) l m = Climbs-counted size lower lower needed 0 needed b (omega arith) (λ k _. ap lower (omega arith)) (grows l m (stays (SameBlock-refl w)))
-  Climbs-more (grows h n r) l m = grows h n (Climbs-more r l m)
+  pub GrowsInSteps-more : {u v w : Vector T A} → GrowsInSteps size lower needed u v → v.capacity < needed → MakesRoom size v v.capacity (asked_with (lower (needed - v.capacity - 1))) w → GrowsInSteps size lower needed u w
+  GrowsInSteps-more {w = w} (stays b) l m = GrowsInSteps-counted size lower lower needed 0 needed b (omega arith) (λ k _. ap lower (omega arith)) (grows l m (stays (SameBlock-refl w)))
+  GrowsInSteps-more (grows h n r) l m = grows h n (GrowsInSteps-more r l m)
 
   -- the capacity never falls
-  pub Climbs-rises : {u v : Vector T A} → Climbs size lower needed u v → u.capacity ≤ v.capacity
-  Climbs-rises (stays b) = omega (arith, b.capacity)
-  Climbs-rises {u} {v} (grows {mid = mid} h m r) = omega (arith, MakesRoom-rises size u.capacity (asked_with (lower (needed - u.capacity - 1))) u mid m, Climbs-rises r)
+  pub GrowsInSteps-rises : {u v : Vector T A} → GrowsInSteps size lower needed u v → u.capacity ≤ v.capacity
+  GrowsInSteps-rises (stays b) = omega (arith, b.capacity)
+  GrowsInSteps-rises {u} {v} (grows {mid = mid} h m r) = omega (arith, MakesRoom-rises size u.capacity (asked_with (lower (needed - u.capacity - 1))) u mid m, GrowsInSteps-rises r)
 
   -- where all fit, there is no growth
-  pub Climbs-fits : {u v : Vector T A} → Climbs size lower needed u v → needed ≤ u.capacity → SameBlock u v
-  Climbs-fits (stays b) f = b
-  Climbs-fits (grows h m r) f = absurd (omega (arith, h, f))
+  pub GrowsInSteps-fits : {u v : Vector T A} → GrowsInSteps size lower needed u v → needed ≤ u.capacity → SameBlock u v
+  GrowsInSteps-fits (stays b) f = b
+  GrowsInSteps-fits (grows h m r) f = absurd (omega (arith, h, f))
 
   -- what stays through every growth
-  pub Climbs-keeps : {u v : Vector T A} → Climbs size lower needed u v → (v.growth ≡ u.growth) × (v.alloc ≡ u.alloc)
-  Climbs-keeps (stays b) = (b.growth, b.alloc)
-  Climbs-keeps (grows h m r) = let k = Climbs-keeps r in (k.0 ∙ m.growth, k.1 ∙ m.alloc)
+  pub GrowsInSteps-keeps : {u v : Vector T A} → GrowsInSteps size lower needed u v → (v.growth ≡ u.growth) × (v.alloc ≡ u.alloc)
+  GrowsInSteps-keeps (stays b) = (b.growth, b.alloc)
+  GrowsInSteps-keeps (grows h m r) = let k = GrowsInSteps-keeps r in (k.0 ∙ m.growth, k.1 ∙ m.alloc)
 
   -- where just as many are told as are to come, it makes room for them at once
-  pub Climbs-exact : ((n : ℕ) → lower n ≡ n) → {u v : Vector T A} → Climbs size lower needed u v → needed ≤ v.capacity → needed - u.capacity ≤ usize_max → MakesRoom size u u.capacity (needed - u.capacity) v
-  Climbs-exact exact {u} {v} (stays b) enough few = SameBlock-trans (with_room-fits size u u.capacity (needed - u.capacity) (omega (arith, enough, b.capacity))) b
-  Climbs-exact exact {u} {v} (grows {mid = mid} h m r) enough few =
+  pub GrowsInSteps-exact : ((n : ℕ) → lower n ≡ n) → {u v : Vector T A} → GrowsInSteps size lower needed u v → needed ≤ v.capacity → needed - u.capacity ≤ usize_max → MakesRoom size u u.capacity (needed - u.capacity) v
+  GrowsInSteps-exact exact {u} {v} (stays b) enough few = SameBlock-trans (with_room-fits size u u.capacity (needed - u.capacity) (omega (arith, enough, b.capacity))) b
+  GrowsInSteps-exact exact {u} {v} (grows {mid = mid} h m r) enough few =
       let left : ℕ = needed - u.capacity in
       let asked : asked_with (lower (left - 1)) ≡ left = ap (λ n. min (n + 1) usize_max) (exact (left - 1)) ∙ omega (arith, h, few) in
       let made : MakesRoom size u u.capacity left mid = rw asked at m in
-      SameBlock-trans made (Climbs-fits r (omega (arith, h, MakesRoom-fits size u.capacity left u mid made (MakesRoom-rises size u.capacity left u mid made))))
+      SameBlock-trans made (GrowsInSteps-fits r (omega (arith, h, MakesRoom-fits size u.capacity left u mid made (MakesRoom-rises size u.capacity left u mid made))))
 
 -- what came from an iterator is a list that was put there, and what was taken of it is one of which the last found no place
 module _ {S T A : Type 0} (steps : S → Option T → S → Type 0) (Tells : S → ℕ → Type 0) (size : ℕ) (iter : S) (old new : Vector T A) where
@@ -113,7 +113,7 @@ module _ {S T A : Type 0} (steps : S → Option T → S → Type 0) (Tells : S �
         front = e.front;
         others = e.item ∷ [];
         begins = refl;
-        climbs = subst (λ n. Climbs size e.lower n old new) (omega (arith, count)) e.climbs;
+        climbs = subst (λ n. GrowsInSteps size e.lower n old new) (omega (arith, count)) e.climbs;
         short = omega (arith, count, full, e.full);
         items = e.items;
         full = omega (arith, full, e.full);

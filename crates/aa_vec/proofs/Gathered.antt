@@ -1,11 +1,11 @@
 -- Items gathered in a vector of their own, and what was asked for where they could not be.
-use Rattle.aa_vec.proofs.Common.{◌≡◌, ℕ, ◌+◌, ◌-◌, ◌<◌, List, [], ◌∷◌, ◌++◌, length, Option, refl, suc, sym, ap, cases_lt, ◌∙◌, subst, arith, inl, inr, length-append, min, append-nil, TryReserveError, Doubling, amortized, least_of, usize_max, Vector, len, IsNew, LacksRoom, GrowsTo, Holds, Climbs, stays, grows, ExtendsFull, ExtendsByAll, ExtendsByFront, Gathers, GathersShort, LacksOthers, Told, asked_with, Becomes, with_room}
+use Rattle.aa_vec.proofs.Common.{◌≡◌, ℕ, ◌+◌, ◌-◌, ◌<◌, List, [], ◌∷◌, ◌++◌, length, Option, refl, suc, sym, ap, cases_lt, ◌∙◌, subst, arith, inl, inr, length-append, min, append-nil, TryReserveError, Doubling, amortized, least_of, usize_max, Vector, len, IsNew, LacksRoom, GrowsTo, Holds, GrowsInSteps, stays, grows, ExtendsFull, ExtendsByAll, ExtendsByFront, Gathers, GathersShort, LacksOthers, Told, asked_with, Becomes, with_room}
 use Rattle.aa_raw.specs.Refusals.{IsRefusedAt}
 use Rattle.aa_vec.proofs.Becoming.{GrowsTo-becomes}
-use Rattle.aa_vec.proofs.Climbing.{MakesRoom, MakesRoom-stays, SameBlock-refl, Climbs-counted}
+use Rattle.aa_vec.proofs.Climbing.{MakesRoom, MakesRoom-stays, SameBlock-refl, GrowsInSteps-counted}
 use Rattle.aa_vec.proofs.Counted.{ExtendsFull-told, front_first}
 use Rattle.aa_vec.proofs.Lists.{equal, unequal}
-use Rattle.aa_vec.proofs.Telling.{told_first}
+use Rattle.aa_vec.proofs.HintLemmas.{told_first}
 
 -- another function tells the same of the items, behind which `more` is to come
 module _ {T A : Type 0} (size : ℕ) (lower by : ℕ → ℕ) (items : List T) (some : 0 < length items) where
@@ -75,9 +75,9 @@ module _ {S T A : Type 0} (steps : S → Option T → S → Type 0) (Tells : S �
           let taken : List T = e.front ++ e.item ∷ [] in
           let f = front_first steps Tells size s put.block error e n tells in
           let needed : ℕ = 0 + suc (length taken) in
-          let rest : Climbs size f.0 needed v x = subst (λ k. Climbs size f.0 k v x) (omega (arith, ap length one)) f.4.climbs in
-          let climbs : Climbs size f.0 needed made x = elim (cases_lt made.capacity (len made + wanted)) [
-            | inr h ↦ Climbs-counted size f.0 f.0 needed 0 needed (MakesRoom-stays size (len made) wanted made v g.room (omega (arith, h))) (omega arith) (λ k _. ap f.0 (omega arith)) rest
+          let rest : GrowsInSteps size f.0 needed v x = subst (λ k. GrowsInSteps size f.0 k v x) (omega (arith, ap length one)) f.4.climbs in
+          let climbs : GrowsInSteps size f.0 needed made x = elim (cases_lt made.capacity (len made + wanted)) [
+            | inr h ↦ GrowsInSteps-counted size f.0 f.0 needed 0 needed (MakesRoom-stays size (len made) wanted made v g.room (omega (arith, h))) (omega arith) (λ k _. ap f.0 (omega arith)) rest
             | inl h ↦
                 let none : made.capacity ≡ 0 = no_places (omega (arith, h, ap length new.items)) in
                 let asked : wanted ≡ asked_with (f.0 (needed - made.capacity - 1)) = is ∙ ap (λ k. min (k + 1) usize_max) (sym f.1 ∙ ap f.0 (omega (arith, none))) in

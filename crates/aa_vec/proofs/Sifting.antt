@@ -2,7 +2,7 @@
 use Rattle.aa_vec.proofs.Common.{◌≡◌, ℕ, ◌-◌, Bool, not, List, [], ◌∷◌, ◌++◌, length, map, take, drop, Option, Some, None, sym, ap, ◌∙◌, subst, arith, append_assoc, filter, Result, Ok, Err, OnOk, Yields, Drains, append-nil, map-id, take-append-drop, take_all, drop_all, filter-append, Asked, kept, passed_over, Extracts, ExtractsRange, ClosesExtract, extract_kept, extract_rest, Vector, len, ExtractBy, ExtractIf, ExtractsAlong, extract_head, extract_tail}
 use Rattle.aa_vec.specs.Sifting.{still_taken, left_at_end}
 use Rattle.aa_vec.proofs.Callable.{IsCallableInOrder-any}
-use Rattle.aa_vec.proofs.Extracted.{extracts_fewer}
+use Rattle.aa_vec.proofs.ExtractRuns.{extracts_fewer}
 use Rattle.aa_vec.proofs.Steady.{asked-steady, told_by, chosen-steady}
 
 -- a list in two parts, of which the first was asked: those that were told so, and what comes behind them

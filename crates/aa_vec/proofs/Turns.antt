@@ -2,7 +2,7 @@
 use Rattle.aa_vec.proofs.Common.{append-nil, ◌≡◌, ℕ, suc, ◌+◌, ◌-◌, ◌<◌, List, [], ◌∷◌, ◌++◌, length, refl, sym, ap, ◌∙◌, subst, arith, length-append, Result, Ok, Err, OnOk, FoldsTo, LengthensBy, MayCallTimes, Vector, len, GrowsTo, HasRoom, Holds, Writes, AddsAnswers}
 use Rattle.std.proofs.lemmas.Fn.{FoldsTo-push}
 use Rattle.aa_vec.proofs.Climbing.{Holds-more, SameBlock-refl}
-use Rattle.aa_vec.proofs.Copied.{grown-to, room-there}
+use Rattle.aa_vec.proofs.CopiesLemmas.{grown-to, room-there}
 
 module _ {T A F : Type 0} (takes : F → Type 0) (step : F → T → F → Type 0) where
   -- f was called k times of `total`, and is g; what it answered stands behind the items of old

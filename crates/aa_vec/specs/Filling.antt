@@ -6,8 +6,8 @@ use Rattle.std.specs.declared.iter.Iterator.{Ghosts}
 use Rattle.aa_raw.specs.declared.collections.TryReserveError.{TryReserveError}
 use Rattle.aa_vec.specs.Vector.{Vector, len, HasRoom, SameBlock, LacksRoom, Holds, Writes, Moves, with_room, run_count, moved_over}
 use Rattle.aa_vec.specs.Behind.{StandsBehind, behind_items}
-use Rattle.aa_vec.specs.Extending.{YieldsTelling, StopsAt}
-use Rattle.aa_vec.specs.Splicing.{LacksVector, LacksOthers, tail_moves}
+use Rattle.aa_vec.specs.Extend.{YieldsTelling, EndsAt}
+use Rattle.aa_vec.specs.SpliceItems.{LacksVector, LacksOthers, tail_moves}
 
 module _ {T A : Type 0} where
   -- the n elements behind the items were moved up by the gap
@@ -134,7 +134,7 @@ module _ {S T A : Type 0} (next_gives : S → Option T → S → Type 0) (Tells 
   pub record LacksRest (n : ℕ) (first : T) (error : TryReserveError) (after : S) : Type 0 where
     pub rest : List T
     pub told : Told next_gives Tells s rest
-    pub stops : StopsAt next_gives told.last after
+    pub stops : EndsAt next_gives told.last after
     pub lacks : LacksOthers fails ((end : S) × next_gives told.last None end) size told.lower old
         (first ∷ rest) error
 
@@ -147,7 +147,7 @@ module _ {S T A : Type 0} (next_gives : S → Option T → S → Type 0) (Tells 
       pub lower : ℕ → ℕ
       pub last : S
       pub given : YieldsTelling next_gives Tells lower s (front ++ others) last
-      pub stops : StopsAt next_gives last after
+      pub stops : EndsAt next_gives last after
       pub items : new.items
           ≡ take (len old - n) old.items ++ (front ++ drop (len old - n) old.items)
       pub why :

@@ -16,9 +16,9 @@ pub record TakesNext {T A : Type 0} (old : Vector T A) (gap at end kept : ℕ) (
   pub none : at + kept ≡ end → (new ≡ closed) × (next ≡ end)
 
 -- an element stays where a closure gives this answer
-abbrev pub StaysAt : {F T : Type 0} → Bool → (F → T → Bool → F → T → Type 0) → F
+abbrev pub StaysWhen : {F T : Type 0} → Bool → (F → T → Bool → F → T → Type 0) → F
     → T → Bool → F → T → Type 0
-StaysAt answer Asks f x stays g y = Asks f x (if answer then stays else not stays) g y
+StaysWhen answer Asks f x stays g y = Asks f x (if answer then stays else not stays) g y
 
 module _ {F T : Type 0} (Asks : F → T → Bool → F → T → Type 0) where
   -- from f on, the first k of xs were asked and stay; one behind them, if there is one, was asked

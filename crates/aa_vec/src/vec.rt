@@ -7,7 +7,7 @@ ghost use Rattle.aa_raw.specs.Places.{IsCapacity};
 ghost use Rattle.aa_raw.specs.Refusals.{RefusesBlock};
 ghost use Rattle.aa_vec.specs.Copies.{IsMade};
 ghost use Rattle.aa_vec.specs.Vector.{Vector, len, HasRoom, LacksRoom, IsNew, Becomes, with_room};
-ghost use Rattle.aa_vec.specs.Inner.{view_of, IsFront};
+ghost use Rattle.aa_vec.specs.VecInner.{view_of, IsFront};
 
 pub use aa_boxed::slices::same;
 use aa_raw::collections::{Refused, TryReserveError};
@@ -15,7 +15,7 @@ use aa_raw::raw_vec::{Growth, RawVec};
 pub use aa_raw::vec::into_iter;
 pub use aa_raw::vec::into_iter::IntoIter;
 pub use arrays::ArrayIntoVec;
-pub use boxes::SliceIntoVec;
+pub use boxed::SliceIntoVec;
 pub use drain::Drain;
 pub use extract_if::{ExtractBy, ExtractIf};
 pub use hints::cautious;
@@ -25,28 +25,28 @@ use std::alloc::{Allocator, Global};
 use std::default::Default;
 use std::marker::Model;
 
-mod access;
+mod append;
 mod arrays;
 mod asking;
-mod behind;
-mod boxes;
+mod boxed;
 mod bytes;
 mod choosing;
-mod compared;
+mod clones;
+mod compare;
 mod copies;
 pub mod drain;
 mod edits;
 mod extend;
 pub mod extract_if;
-mod filling;
+mod gap;
 mod hints;
+mod index;
 mod into;
 pub mod items;
-mod joins;
 mod makes;
-mod plain_copies;
-mod room;
+mod reserve;
 pub mod splice;
+mod tail;
 mod telling;
 
 /// A growable list over the allocator `A`. It stands for `allocator_api2::vec::Vec`; a call that
@@ -85,7 +85,7 @@ impl<T> Vec<T, Global> {
 
 #[tactic(auto, using(aa_raw::proofs::Calls::at_ends))]
 impl<T, A: Allocator> Vec<T, A> {
-    ghost use Rattle.aa_vec.specs.Lends.{lends_items};
+    ghost use Rattle.aa_vec.specs.VecLends.{lends_items};
 
     /// An empty vector. It takes no memory. It stands for `Vec::new_in`.
     pub fn new_in(alloc: A) -> Self

@@ -3,7 +3,7 @@ use Rattle.std.proofs.Common.{◌≡◌, ℕ, zero, suc, ◌+◌, ◌≤◌, ◌
 use Rattle.std.specs.Prelude.{MatchOption, slice_range, if◌then◌else◌, ◌==◌}
 use Rattle.std.proofs.lemmas.List.{length-map, reverse-append}
 use Rattle.aa_vec.specs.Choosing.{Asked, AskedInOrder, EndsTrue, kept, passed_over}
-use Rattle.aa_vec.specs.Extracting.{Extracts, ExtractsRange, ClosesExtract, extract_count, extract_head, extract_kept, extract_rest, extract_tail, extract_vec}
+use Rattle.aa_vec.specs.Extract.{Extracts, ExtractsRange, ClosesExtract, extract_count, extract_head, extract_kept, extract_rest, extract_tail, extract_vec}
 use Rattle.aa_vec.specs.Vector.{Vector, Holds}
 use Rattle.aa_vec.specs.declared.vec.extract_if.ExtractBy.{ExtractBy}
 use Rattle.aa_vec.proofs.Climbing.{SameBlock-trans}

@@ -2,12 +2,12 @@
 //! become one list.
 use crate::lists::{list, stands};
 use aa_boxed::boxed::Box;
-use aa_faulty::counted::Counted;
 use aa_raw::collections::{TryReserveError, TryReserveErrorKind};
 use aa_vec::vec::{ArrayIntoVec, SliceIntoVec, Vec};
 use std::alloc::Global;
 use std::cell::Cell;
 use std::test::Fail;
+use test_allocators::counted::Counted;
 
 // A vector of another length is handed back.
 #[test]

@@ -1,12 +1,12 @@
 //! What no clause says of the calls that join, split and copy: each once, and clones that are
 //! refused.
 use crate::lists::{list, numbers, stands};
-use aa_faulty::refusing::Refusing;
 use aa_raw::collections::TryReserveErrorKind;
 use aa_vec::vec::Vec;
 use std::alloc::{AllocError, Global};
 use std::clone::Clone;
 use std::test::Fail;
+use test_allocators::refusing::Refusing;
 
 // A value whose clone is refused at 9.
 #[derive(PartialEq, Debug, Drop)]

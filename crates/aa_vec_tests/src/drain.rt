@@ -27,7 +27,7 @@ fn ends_of<T: Drop, A: Allocator>(
 }
 
 // The first of a range; the others stay.
-#[tactic(auto, using(aa_vec::proofs::Drains::first_taken))]
+#[tactic(auto, using(aa_vec::proofs::DrainLemmas::first_taken))]
 fn first_of<T: Drop, A: Allocator>(v: &mut Vec<T, A>, from: usize, to: usize) -> Option<T>
     requires { (from < to) × (to ≤ len v.old) }
     ensures { Holds v.old (take from v.old.items

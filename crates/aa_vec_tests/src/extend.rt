@@ -4,14 +4,14 @@ ghost use Rattle.std.specs.Iterator.{IsFinite, IsNearerEnd};
 ghost use Rattle.std.specs.Mem.{type_size};
 ghost use Rattle.aa_raw.specs.Growth.{usize_max};
 ghost use Rattle.aa_vec.specs.Vector.{len, HasRoom, SameBlock, Writes, with_room};
-ghost use Rattle.aa_vec.specs.Extending.{ExtendsAll, ExtendsFull, lower_by};
+ghost use Rattle.aa_vec.specs.Extend.{ExtendsAll, ExtendsFull, lower_by};
 
 use crate::lists::{list, numbers, stands, units};
-use aa_faulty::refusing::Refusing;
 use aa_raw::collections::{TryReserveError, TryReserveErrorKind};
 use aa_vec::vec::{Hinted, Items, Vec};
 use std::alloc::Allocator;
 use std::test::Fail;
+use test_allocators::refusing::Refusing;
 
 // An extension by `Items` is one by all of its items, and what its hint tells decides the capacity.
 fn extended<T: Drop, A: Allocator>(

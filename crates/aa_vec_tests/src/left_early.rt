@@ -4,7 +4,6 @@ ghost use Rattle.std.specs.Prelude.{◌≤◌};
 ghost use Rattle.aa_vec.specs.Vector.{len};
 
 use crate::lists::{counted_up, units};
-use aa_faulty::counted::Counted;
 use aa_raw::collections::TryReserveError;
 use aa_vec::vec::{Drain, IntoIter, Items, Vec};
 use std::alloc::Global;
@@ -12,6 +11,7 @@ use std::cell::Cell;
 use std::mem::forget;
 use std::rc::Rc;
 use std::test::Fail;
+use test_allocators::counted::Counted;
 
 /// How a range is left.
 #[derive(Clone, Copy)]

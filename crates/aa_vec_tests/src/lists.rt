@@ -1,9 +1,9 @@
 //! Lists that the tests start from, and how they are compared.
-use aa_faulty::counted::Counted;
 use aa_vec::vec::Vec;
 use std::alloc::Global;
 use std::cell::Cell;
 use std::test::Fail;
+use test_allocators::counted::Counted;
 
 /// The numbers of a slice, with room for `capacity`.
 pub(crate) fn list(alloc: Global, items: &[u32], capacity: usize) -> Result<Vec<u32>, Fail> {

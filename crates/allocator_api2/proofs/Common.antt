@@ -3,15 +3,15 @@ pub use Rattle.aa_raw.specs.Growth.{least_of}
 pub use Rattle.aa_raw.specs.declared.collections.TryReserveError.{TryReserveError}
 pub use Rattle.aa_raw.specs.declared.raw_vec.Growth.{Growth}
 pub use Rattle.aa_raw.specs.declared.raw_vec.Growth.TheVariants.{Doubling, Sparing}
-pub use Rattle.aa_vec.proofs.Climbing.{Climbs-rises, Holds-more, MakesRoom-has, SameBlock-refl, SameBlock-trans}
+pub use Rattle.aa_vec.proofs.Climbing.{GrowsInSteps-rises, Holds-more, MakesRoom-has, SameBlock-refl, SameBlock-trans}
 pub use Rattle.aa_vec.specs.Choosing.{Asked, AskedInOrder, ChainsFrom, Deduplicated, TakesMut, answers_of}
 pub use Rattle.aa_vec.specs.Copies.{IsMadeWithin, WritesAtMost}
-pub use Rattle.aa_vec.specs.Draining.{TakesRange, drain_head, drain_rest, drain_tail, drain_vec, range_len}
-pub use Rattle.aa_vec.specs.Extending.{Climbs, ExtendsFull, lower_by}
-pub use Rattle.aa_vec.specs.Splicing.{SplicesShort}
+pub use Rattle.aa_vec.specs.Drain.{TakesRange, drain_head, drain_rest, drain_tail, drain_vec, range_len}
+pub use Rattle.aa_vec.specs.Extend.{GrowsInSteps, ExtendsFull, lower_by}
+pub use Rattle.aa_vec.specs.SpliceItems.{SplicesShort}
 pub use Rattle.aa_vec.specs.Vector.{GrowsTo, HasRoom, Holds, IsNew, SameBlock, Vector, len}
 pub use Rattle.allocator_api2.specs.Commands.{Does, DoesOnMain, DoesStep}
-pub use Rattle.allocator_api2.specs.Drained.{Chosen, TakesBack, TakesFront}
+pub use Rattle.allocator_api2.specs.RangeCommands.{Chosen, TakesBack, TakesFront}
 pub use Rattle.allocator_api2.specs.Machine.{Answers, Calls, IsPossible, State, Step, asking, calls_of, state_of}
 pub use Rattle.allocator_api2.specs.Run.{AddsOrRemoves, IsRun, IsUnhinted, MayRun, RunsWithin, Turn, added, added_by, hint_of, moves_each}
 pub use Rattle.allocator_api2.specs.declared.runner.Command.{Command}

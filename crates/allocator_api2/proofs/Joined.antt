@@ -1,7 +1,7 @@
 -- What was cut is whole again when it is joined.
 use Rattle.allocator_api2.proofs.Common.{◌≡◌, ℕ, zero, suc, ◌<◌, take, drop, refl, ap, ◌∙◌, arith, take-append-drop, Vector}
 use Rattle.allocator_api2.specs.Laws.{CutIsJoined}
-use Rattle.aa_vec.specs.Splits.{Splits}
+use Rattle.aa_vec.specs.Split.{Splits}
 
 module _ {T A : Type 0} (size : ℕ) (old head tail : Vector T A) where
   parts_are : (at : ℕ) → Splits size old at head tail → (head.items ≡ take at old.items) × (tail.items ≡ drop at old.items)

@@ -4,7 +4,7 @@ pub mod Callable
 pub mod Taking
 pub mod WholeRuns
 pub mod Differ
-pub mod Extracting
+pub mod ExtractParts
 pub mod Joined
 pub mod Paid
 pub mod Ranges
@@ -12,8 +12,8 @@ pub mod Repeated
 pub mod Reserved
 pub mod Runs
 pub mod Steps
-pub mod Spliced
-pub mod SplicedRanges
+pub mod SpliceRefusals
+pub mod SpliceRanges
 pub mod Stops
 pub mod Taken
 pub mod Blocks

@@ -1,13 +1,13 @@
 -- What a step of the list machine does to main: it stays in its block, has grown once, or grew any number of times while it was full.
-use Rattle.allocator_api2.proofs.Common.{◌≡◌, ℕ, suc, ◌+◌, ◌-◌, ◌<◌, ◌≤◌, max, min, Bool, List, [], ◌∷◌, length, take, drop, None, Option, refl, sym, subst, ap, ◌∙◌, arith, rules, inl, inr, length-take, length-drop, Vector, len, SameBlock, GrowsTo, Holds, Command, SplitOff, Push, Within, Pop, Insert, Remove, SwapRemove, Truncate, Clear, Append, Extend, Retain, Dedup, Drain, ExtractIf, Reply, Done, Item, Nothing, Back, Refused, Range, Climbs, ExtendsFull, lower_by, TryReserveError, State, Calls, Step, Answers, asking, AddsOrRemoves, hint_of, added_by}
+use Rattle.allocator_api2.proofs.Common.{◌≡◌, ℕ, suc, ◌+◌, ◌-◌, ◌<◌, ◌≤◌, max, min, Bool, List, [], ◌∷◌, length, take, drop, None, Option, refl, sym, subst, ap, ◌∙◌, arith, rules, inl, inr, length-take, length-drop, Vector, len, SameBlock, GrowsTo, Holds, Command, SplitOff, Push, Within, Pop, Insert, Remove, SwapRemove, Truncate, Clear, Append, Extend, Retain, Dedup, Drain, ExtractIf, Reply, Done, Item, Nothing, Back, Refused, Range, GrowsInSteps, ExtendsFull, lower_by, TryReserveError, State, Calls, Step, Answers, asking, AddsOrRemoves, hint_of, added_by}
 use Rattle.std.proofs.Common.{length-set}
 use Rattle.std.specs.Prelude.{slice_set, slice_index_or}
 use Rattle.std.proofs.lemmas.List.{length-append}
 use Rattle.std.proofs.lemmas.Bool.{cases_lt}
-use Rattle.aa_vec.specs.Extending.{ExtendsAll, asked_with, grows, stays}
+use Rattle.aa_vec.specs.Extend.{ExtendsAll, asked_with, grows, stays}
 use Rattle.aa_vec.proofs.Climbing.{MakesRoom, MakesRoom-has, MakesRoom-rises, MakesRoom-stays, SameBlock-refl}
 use Rattle.aa_vec.proofs.Kept.{length-kept, length-deduplicated}
-use Rattle.allocator_api2.proofs.Extracting.{length-taken_out}
+use Rattle.allocator_api2.proofs.ExtractParts.{length-taken_out}
 use Rattle.allocator_api2.proofs.Ranges.{length-left_of}
 use Rattle.allocator_api2.specs.Machine.{InRange, Makes, AnswersRefused, ends_of}
 
@@ -38,7 +38,7 @@ module _ {T A : Type 0} (size : ℕ) where
       ] in
       record { needed = n + k; moves = moves; longest = omega (arith, l); fits = λ w. omega (arith, l, w, MakesRoom-has size n k old new g.room, MakesRoom-rises size n k old new g.room); full = omega (arith, l) }
 
-  climbed : (hint : Option ℕ) (needed : ℕ) {u v : Vector T A} → Climbs size (lower_by hint) needed u v → Moves hint needed u v
+  climbed : (hint : Option ℕ) (needed : ℕ) {u v : Vector T A} → GrowsInSteps size (lower_by hint) needed u v → Moves hint needed u v
   climbed hint needed (stays b) = kept b
   climbed hint needed (grows {old = u} h m r) =
       grown u.capacity (asked_with ((lower_by hint) (needed - u.capacity - 1))) (omega arith) (omega arith) h (λ none. subst (λ x. u.capacity + asked_with ((lower_by x) (needed - u.capacity - 1)) ≤ needed) (sym none) (omega (arith, h))) m (climbed hint needed r)

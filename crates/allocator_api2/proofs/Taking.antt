@@ -2,10 +2,10 @@
 use Rattle.allocator_api2.proofs.Common.{◌≡◌, ℕ, ◌+◌, ◌-◌, ◌<◌, ◌≤◌, List, [], ◌∷◌, ◌++◌, length, take, drop, reverse, Bool, true, false, Some, refl, sym, ap, subst, ◌∙◌, arith, append_assoc, length-append, length-take, length-drop, length-reverse, slice_range, if◌then◌else◌, ◌==◌, append-nil, drop-drop, take_all, take-append-drop, reverse-append, TakesRange, drain_head, drain_rest, drain_tail, drain_vec, range_len, Vector, len, HasRoom, SameBlock, Holds, SameBlock-refl, SameBlock-trans, TakesFront, TakesBack, Holds-more}
 use Rattle.std.proofs.Math.Seq.{take-add}
 use Rattle.std.proofs.lemmas.List.{drop_all, drop_at, take_at, take-take}
-use Rattle.aa_vec.specs.Draining.{Closes, KeepsRest, drains_first, drains_last, taken_back, taken_front}
+use Rattle.aa_vec.specs.Drain.{Closes, KeepsRest, drains_first, drains_last, taken_back, taken_front}
 use Rattle.aa_vec.specs.declared.vec.drain.Drain.{Drain}
-use Rattle.aa_vec.proofs.Drains.{keeps-same, keeps-then}
-use Rattle.allocator_api2.specs.Drained.{Drained}
+use Rattle.aa_vec.proofs.DrainLemmas.{keeps-same, keeps-then}
+use Rattle.allocator_api2.specs.RangeCommands.{Drained}
 use Rattle.allocator_api2.specs.Machine.{ends_at, given_of}
 
 -- a choice is no more than the greater

@@ -9,10 +9,10 @@ use Rattle.aa_raw.specs.declared.collections.TryReserveErrorKind.TheVariants.{Al
 use Rattle.aa_raw.specs.Refusals.{IsRefusedAt}
 use Rattle.aa_raw.specs.Growth.{usize_max}
 use Rattle.aa_vec.specs.Vector.{Vector, len, HasRoom, LacksRoom, LacksExactRoom, GrowsTo, SameBlock, Holds, with_exact_room, with_less}
-use Rattle.aa_vec.specs.Splits.{Splits}
+use Rattle.aa_vec.specs.Split.{Splits}
 use Rattle.aa_vec.specs.Choosing.{Asked, AskedInOrder, EndsTrue, TakesMut, Retains, Deduplicates, answers_of, kept, passed_over}
-use Rattle.aa_vec.specs.Extending.{ExtendsAll, ExtendsFull, lower_by}
-use Rattle.aa_vec.specs.Splicing.{Gapped, gapped, SplicesAll, SplicesShort}
+use Rattle.aa_vec.specs.Extend.{ExtendsAll, ExtendsFull, lower_by}
+use Rattle.aa_vec.specs.SpliceItems.{Gapped, gapped, SplicesAll, SplicesShort}
 use Rattle.allocator_api2.specs.declared.runner.Command.{Command}
 use Rattle.allocator_api2.specs.declared.runner.Command.TheVariants.{Push, Within, Pop, Insert, Remove, SwapRemove, Truncate, Clear, Reserve, ReserveExact, ShrinkTo, SplitOff, Append, Extend, ExtendFromWithin, Resize, Retain, Dedup, Drain, ExtractIf, Splice}
 use Rattle.allocator_api2.specs.declared.runner.Reply.{Reply}

@@ -4,10 +4,10 @@
 use crate::pattern::{Large, Wide};
 use crate::random::Random;
 use crate::sets::{Set, Spot, Store, Text};
-use aa_faulty::Faulty;
 use allocator_api2::vec::Vec;
 use std::alloc::{Allocator, Global};
 use std::fmt;
+use test_allocators::Faulty;
 
 /// What an exercise without a fault did.
 #[derive(Clone, Copy, PartialEq, Eq, Debug)]

@@ -1,8 +1,8 @@
 use crate::inline::InlineVec;
-use aa_faulty::Faulty;
-use aa_faulty::counted::Counted;
 use std::alloc::Global;
 use std::cell::Cell;
+use test_allocators::Faulty;
+use test_allocators::counted::Counted;
 
 // Up to three items in place, over an allocator that may refuse.
 type Small<'a> = InlineVec<u64, &'a Faulty<Global>, 3>;

@@ -6,7 +6,7 @@ use Rattle.std.proofs.lemmas.Bool.Decides.{nat_tests}
 use Rattle.std.proofs.lemmas.List.{append-nil, drop_at, length-map, length-reverse, length-take-le, reverse-append, reverse-reverse, take-append-drop, take-append-le, take-take, take_at}
 use Rattle.allocator_api2.specs.Places.{IsFilled, IsRun, run, with_run}
 use Rattle.allocator_api2.proofs.Blocks.{apart, two_runs, shown, length-run, run-push, IsRun-push, run-pop, IsRun-pop, run-shift, IsRun-shift, run-unshift, IsRun-unshift, run-none, IsRun-nil, run-set-above, run-set-below, run-set-same, IsRun-set-above, IsRun-set-below, first-filled, last-filled}
-use Rattle.ex_ring.specs.Inner.{HasParts}
+use Rattle.ex_ring.specs.RingInner.{HasParts}
 
 module _ {X : Type 0} where
   -- the items: the first ones, and those behind them

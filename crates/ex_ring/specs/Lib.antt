@@ -1,3 +1,3 @@
 pub mod Ringed
-pub mod Inner
+pub mod RingInner
 pub mod Paid

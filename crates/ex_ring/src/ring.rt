@@ -27,7 +27,7 @@ impl<T, A: Allocator> Model for Ring<T, A> {
 
     ghost Value = { Ringed T A };
 
-    ghost use Rattle.ex_ring.specs.Inner.{view_of, IsRing};
+    ghost use Rattle.ex_ring.specs.RingInner.{view_of, IsRing};
 
     ghost view = { view_of };
 

@@ -1,9 +1,9 @@
 use crate::ring::Ring;
-use aa_faulty::Faulty;
-use aa_faulty::counted::Counted;
 use std::alloc::Global;
 use std::cell::Cell;
 use std::ops::Range;
+use test_allocators::Faulty;
+use test_allocators::counted::Counted;
 
 // A ring over an allocator that may refuse.
 type Small<'a> = Ring<u64, &'a Faulty<Global>>;

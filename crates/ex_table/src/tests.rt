@@ -1,9 +1,9 @@
 use crate::table::Table;
-use aa_faulty::Faulty;
 use allocator_api2::boxed::BoxedText;
 use std::alloc::Global;
 use std::hash::{BuildHasher, BuildHasherDefault, FoldHasher, Hasher};
 use std::ops::Range;
+use test_allocators::Faulty;
 
 // A table over an allocator that may refuse.
 type Small<'a> = Table<u64, u64, BuildHasherDefault<FoldHasher>, &'a Faulty<Global>>;

@@ -8,7 +8,7 @@ ghost use Rattle.aa_raw.specs.Growth.{amortized, least_of, sized, usize_max};
 ghost use Rattle.aa_raw.specs.Refusals.{RefusesBlock};
 ghost use Rattle.aa_raw.specs.Room.{LacksRoom};
 ghost use Rattle.aa_boxed.specs.Slice.{Begun, none_begun, with_all, with_next, ended};
-ghost use Rattle.aa_boxed.specs.SliceInner.{begun_of, IsFront};
+ghost use Rattle.aa_boxed.specs.BoxedSliceInner.{begun_of, IsFront};
 
 use crate::boxed::slice::BoxedSlice;
 use aa_raw::collections::{TryReserveError, TryReserveErrorKind};

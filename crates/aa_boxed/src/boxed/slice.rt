@@ -12,9 +12,9 @@ ghost use Rattle.aa_raw.specs.Refusals.{RefusesBlock, RefusesClones};
 ghost use Rattle.aa_raw.specs.declared.raw_vec.Growth.TheVariants.{Doubling};
 ghost use Rattle.aa_boxed.specs.Room.{IsJustFor};
 ghost use Rattle.aa_boxed.specs.Slice.{new_slice, slice_of, Stops};
-ghost use Rattle.aa_boxed.specs.Telling.{TellsAtMost};
+ghost use Rattle.aa_boxed.specs.Hints.{TellsAtMost};
 ghost use Rattle.aa_boxed.specs.Slice.{Slice};
-ghost use Rattle.aa_boxed.specs.SliceInner.{view_of, IsWhole};
+ghost use Rattle.aa_boxed.specs.BoxedSliceInner.{view_of, IsWhole};
 
 use crate::boxed::filling::Filling;
 use aa_raw::collections::{TryReserveError, TryReserveErrorKind};
@@ -60,7 +60,7 @@ impl<T> BoxedSlice<T, Global> {
 }
 
 impl<T, A: Allocator> BoxedSlice<T, A> {
-    ghost use Rattle.aa_boxed.specs.SliceLends.{lends_items};
+    ghost use Rattle.aa_boxed.specs.BoxedSliceLends.{lends_items};
 
     /// A copy of `source`. It takes memory where there are elements and they have a size. A refusal
     /// is `CapacityOverflow`, or `AllocError` with the length of `source`. It stands for

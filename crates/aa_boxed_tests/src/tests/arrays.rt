@@ -1,10 +1,10 @@
 //! Arrays that become boxed slices, and boxed slices that become boxes of arrays.
 use aa_boxed::boxed::{Box, BoxedSlice};
-use aa_faulty::counted::Counted;
 use aa_raw::collections::TryReserveError;
 use std::alloc::Global;
 use std::cell::Cell;
 use std::test::Fail;
+use test_allocators::counted::Counted;
 
 // Makes a slice of an array, a boxed array of that, and a slice again.
 fn there_and_back<T: Drop>(

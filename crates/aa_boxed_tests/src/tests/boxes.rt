@@ -1,10 +1,10 @@
 //! What no clause says: sizes, printed texts, that calls succeed, and each public call once.
 use aa_boxed::boxed::{Box, BoxedSlice, UninitBox};
-use aa_faulty::counted::Counted;
 use std::alloc::{AllocError, Global};
 use std::cell::Cell;
 use std::mem::size_of;
 use std::test::Fail;
+use test_allocators::counted::Counted;
 
 const _: () = prove!(size_of::<Box<u64, Global>>() == 24);
 

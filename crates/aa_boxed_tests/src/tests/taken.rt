@@ -1,11 +1,11 @@
 //! How many items are taken of an iterator where memory is refused.
 use aa_boxed::boxed::{BoxedSlice, BoxedText, append_texts, append_texts_by};
-use aa_faulty::Faulty;
 use aa_raw::collections::{TryReserveError, TryReserveErrorKind};
 use std::alloc::Global;
 use std::cell::Cell;
 use std::string::String;
 use std::test::Fail;
+use test_allocators::Faulty;
 
 // An iterator whose calls of `next` are counted, and that tells nothing of how many items are to
 // come.

@@ -1,12 +1,12 @@
 //! Elements that count how often such an element is dropped.
 use crate::tests::texts::edited_twice;
-use aa_faulty::Faulty;
-use aa_faulty::counted::Counted;
 use aa_gap::gap_buffer::{Edit, GapBuffer};
 use aa_raw::collections::TryReserveError;
 use std::alloc::Global;
 use std::cell::Cell;
 use std::test::Fail;
+use test_allocators::Faulty;
+use test_allocators::counted::Counted;
 
 // Three of them, the cursor behind the first.
 fn three(alloc: Global, drops: &Cell<u32>) -> Result<GapBuffer<Counted<'_>>, TryReserveError> {

@@ -1,10 +1,10 @@
 //! Each request for memory refused in turn.
 use crate::tests::texts::{edited_twice, nine_put, reads};
-use aa_faulty::Faulty;
 use aa_gap::gap_buffer::{Edit, GapBuffer};
 use aa_raw::collections::TryReserveErrorKind;
 use std::alloc::Global;
 use std::test::Fail;
+use test_allocators::Faulty;
 
 #[test]
 fn a_refused_insert_hands_its_value_back(rt: HostRuntime) -> Result<(), Fail> {

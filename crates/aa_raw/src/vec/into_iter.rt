@@ -3,9 +3,9 @@ ghost use Rattle.std.specs.Prelude.{◌≡◌, ◌-◌, ◌≤◌, [], length, S
 ghost use Rattle.std.specs.Borrow.{sem};
 ghost use Rattle.std.specs.Iterator.{YieldsFirst, YieldsLast, UpTo, item_count};
 ghost use Rattle.std.specs.Iterator.SizeHint.{IsWithinCount};
-ghost use Rattle.aa_raw.specs.Left.{Left, gives_first, gives_last};
+ghost use Rattle.aa_raw.specs.IntoIter.{Left, gives_first, gives_last};
 ghost use Rattle.aa_raw.specs.Places.{IsRun, run};
-ghost use Rattle.aa_raw.specs.LeftFields.{left_of, IsBetween};
+ghost use Rattle.aa_raw.specs.IntoIterInner.{left_of, IsBetween};
 
 use crate::raw_vec::RawVec;
 use std::alloc::{Allocator, Global};
@@ -31,7 +31,7 @@ impl<T, A: Allocator> Model for IntoIter<T, A> {
 }
 
 impl<T, A: Allocator> IntoIter<T, A> {
-    ghost use Rattle.aa_raw.specs.LeftLends.{lends_left};
+    ghost use Rattle.aa_raw.specs.IntoIterLends.{lends_left};
 
     /// The values in the first `len` places of `block`, which takes over the block. The original
     /// has no such call: a vector there takes itself apart.

@@ -10,7 +10,7 @@ ghost use Rattle.aa_vec.specs.Vector.{len, sized, Holds, Writes, run_count};
 ghost use Rattle.aa_vec.specs.Copies.{IsMade};
 ghost use Rattle.aa_vec.specs.Arrays.{flattened, LacksRoomForAll, StaysNested};
 
-use crate::vec::joins::empty_over;
+use crate::vec::append::empty_over;
 use crate::vec::{SliceIntoVec, Vec};
 use aa_boxed::boxed::Box;
 use aa_raw::collections::{Refused, TryReserveError, TryReserveErrorKind};

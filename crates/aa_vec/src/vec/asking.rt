@@ -3,7 +3,7 @@ ghost use Rattle.std.specs.Prelude.{◌≡◌, ◌+◌, ◌<◌, true, List, ◌
 ghost use Rattle.std.specs.Fn.{CalledAtMut, CalledAtPairMut, ComparesKeys};
 ghost use Rattle.aa_raw.specs.Closures.{TakesPairMut};
 ghost use Rattle.aa_vec.specs.Choosing.{TakesMut, TakesForKeys, MayAskInOrder, MayDeduplicate};
-ghost use Rattle.aa_vec.specs.Until.{StaysAt, AsksUntil, AsksNeighbours, ChainsAlong};
+ghost use Rattle.aa_vec.specs.Until.{StaysWhen, AsksUntil, AsksNeighbours, ChainsAlong};
 
 // Asks the elements in order, up to the first at which the answer is not `stays`. It answers how
 // many are kept before it. The first two are asked one by one: where one of them goes, that is far
@@ -14,9 +14,9 @@ pub(crate) fn count_kept<T, F: FnMut(&mut T) -> bool>(
     stays: bool,
     keep: &mut F,
 ) -> usize
-    requires { MayAskInOrder (StaysAt stays (CalledAtMut F.FnMut))
+    requires { MayAskInOrder (StaysWhen stays (CalledAtMut F.FnMut))
         (TakesMut F.FnMut) keep.old elements.old }
-    ensures { AsksUntil (StaysAt stays (CalledAtMut F.FnMut))
+    ensures { AsksUntil (StaysWhen stays (CalledAtMut F.FnMut))
         keep.old elements.old result keep.new elements.new }
 {
     // It does nothing but tell the prover that a slice has at most `usize::MAX` elements.
@@ -44,9 +44,9 @@ pub(crate) fn kept_run<T, F: FnMut(&mut T) -> bool>(
     stays: bool,
     keep: &mut F,
 ) -> usize
-    requires { MayAskInOrder (StaysAt stays (CalledAtMut F.FnMut))
+    requires { MayAskInOrder (StaysWhen stays (CalledAtMut F.FnMut))
         (TakesMut F.FnMut) keep.old elements.old }
-    ensures { AsksUntil (StaysAt stays (CalledAtMut F.FnMut)) keep.old elements.old
+    ensures { AsksUntil (StaysWhen stays (CalledAtMut F.FnMut)) keep.old elements.old
         result keep.new elements.new }
 {
     let count = elements.len();
@@ -81,7 +81,7 @@ fn ask<T, R, F: FnMut(&mut T) -> R>(f: &mut F, element: &mut T) -> R
 #[inline(always)]
 fn ask_stays<T, F: FnMut(&mut T) -> bool>(f: &mut F, element: &mut T, stays: bool) -> bool
     requires { TakesMut F.FnMut f.old element.old }
-    ensures { StaysAt stays (CalledAtMut F.FnMut) f.old element.old result f.new element.new }
+    ensures { StaysWhen stays (CalledAtMut F.FnMut) f.old element.old result f.new element.new }
 {
     ask(f, element) == stays
 }

@@ -1,407 +1,145 @@
-//! Clones of elements, put behind the last one.
-ghost use Rattle.std.specs.Prelude.{◌≡◌, ◌+◌, ◌-◌, ◌<◌, ◌≤◌, [], ◌∷◌, ◌++◌, false, length, take, drop, slice_range, replicate, All, IsTrue, IfErr, OnOk, OnErr, IsOk};
+//! Copies of elements that are `Copy`. Each call is a second one beside that for `Clone`, since a
+//! call can't tell the two apart: it can't be refused for a clone. Where a clone is a plain copy it
+//! is no faster.
+ghost use Rattle.std.specs.Prelude.{◌≡◌, ◌+◌, ◌-◌, ◌<◌, ◌≤◌, ◌++◌, length, take, drop, slice_range, IfOk, IfErr, OnOk, OnErr, IsOk};
 ghost use Rattle.std.specs.Mem.{type_size};
-ghost use Rattle.aa_vec.specs.Vector.{len, HasRoom, LacksRoom, GrowsTo, Holds, Writes, with_items};
-ghost use Rattle.aa_vec.specs.Copies.{Copies, IsBeginning, Adds, AddsAnswers, Fills, Undone, Extends, Lengthens, LengthensBy, MayCallTimes, Refuses, StopsAssigning};
+ghost use Rattle.aa_raw.specs.Refusals.{RefusesBlock, RefusesClones};
+ghost use Rattle.aa_raw.specs.declared.raw_vec.Growth.TheVariants.{Doubling};
+ghost use Rattle.aa_vec.specs.Vector.{len, HasRoom, LacksRoom, GrowsTo, Holds};
+ghost use Rattle.aa_vec.specs.Copies.{WritesAtMost, IsMadeWithin};
 
 use crate::vec::Vec;
-use aa_raw::collections::{TryReserveError, TryReserveErrorKind};
+use aa_raw::collections::TryReserveError;
 use core::mem::replace_with;
-use std::alloc::Allocator;
+use std::alloc::{Allocator, Global};
 use std::ops::Range;
 
-impl<T: Clone, A: Allocator> Vec<T, A> {
-    /// Puts a clone of each element of `other` behind the last one. It makes room for all of them
-    /// before the first clone, as `try_reserve` does and refused as that is. Where a clone is
-    /// refused, the clones made so far are dropped, the capacity stays as it is then, and the error
-    /// is `AllocError` with the length asked for. It stands for `Vec::extend_from_slice`.
-    #[tactic(auto, using(crate::proofs::Becoming::became))]
-    pub fn extend_from_slice(&mut self, other: &[T]) -> Result<(), TryReserveError>
-        ensures fits { HasRoom self.old (length other.now)
-            → All T.is_infallible other.now → IsOk result }
-        ensures extended { OnOk result
-            (Extends T.is_clone (type_size T.row) self.old other.now self.new) }
-        ensures copied { Copies T.is_clone → OnOk result (GrowsTo (type_size T.row) self.old
-            (length other.now) (self.old.items ++ other.now) self.new) }
-        ensures writes { OnOk result
-            (Writes self.old (length other.now) (length other.now) self.new) }
-        ensures refused { IfErr result (λ e. Refuses (¬ (All T.is_infallible other.now))
-            (type_size T.row) self.old (length other.now) e self.new) }
+impl<T: Copy> Vec<T, Global> {
+    /// `from_slice` for elements that are `Copy`, which is refused only where memory is. It stands
+    /// for what the original's `From<&[T]>` compiles to for such elements.
+    pub fn from_slice_copied(alloc: Global, slice: &[T]) -> Result<Self, TryReserveError>
+        ensures made { IfOk result (IsMadeWithin (type_size T.row) Doubling slice.now) }
+        ensures alloc { IfOk result (λ v. v.alloc ≡ alloc) }
+        ensures refused { IfErr result (RefusesBlock (length slice.now) (type_size T.row)) }
     {
-        let len = self.len();
-        let count = other.len();
-        if let Err(error) = self.try_reserve(count) {
-            return Err(error);
-        }
-        self.known();
-        if self.push_clones(other) {
-            return Ok(());
-        }
-        Err(TryReserveErrorKind::AllocError {
-            capacity: len + count,
-        }
-        .into())
+        Vec::from_slice_copied_in(slice, alloc)
+    }
+}
+
+impl<T: Copy, A: Allocator> Vec<T, A> {
+    /// `from_slice_in` for elements that are `Copy`, which is refused only where memory is. The
+    /// original has no such call.
+    pub fn from_slice_copied_in(slice: &[T], alloc: A) -> Result<Self, TryReserveError>
+        ensures made { IfOk result (IsMadeWithin (type_size T.row) Doubling slice.now) }
+        ensures alloc { IfOk result (λ v. v.alloc ≡ alloc) }
+        ensures refused { IfErr result (RefusesBlock (length slice.now) (type_size T.row)) }
+    {
+        let mut made = Vec::with_capacity_in(slice.len(), alloc)?;
+        made.put_copies(slice);
+        Ok(made)
     }
 
-    /// Puts a clone of each element of the range behind the last one; it is refused as
-    /// `extend_from_slice` is. It stands for `Vec::extend_from_within`.
-    #[tactic(auto, using(crate::proofs::Copied::copied, crate::proofs::Becoming::became))]
-    pub fn extend_from_within(&mut self, range: Range<usize>) -> Result<(), TryReserveError>
-        requires { (range.start ≤ range.end) × (range.end ≤ len self.old) }
-        ensures fits { HasRoom self.old (range.end - range.start)
-            → All T.is_infallible (slice_range self.old.items range.start range.end) → IsOk result }
-        ensures extended { OnOk result (Extends T.is_clone (type_size T.row) self.old
-            (slice_range self.old.items range.start range.end) self.new) }
-        ensures copied { Copies T.is_clone
-            → OnOk result (GrowsTo (type_size T.row) self.old (range.end - range.start)
-            (self.old.items ++ slice_range self.old.items range.start range.end) self.new) }
-        ensures writes { OnOk result
-            (Writes self.old (range.end - range.start) (range.end - range.start) self.new) }
-        ensures refused { let own = slice_range self.old.items range.start range.end in
-            IfErr result (λ e. Refuses (¬ (All T.is_infallible own))
-            (type_size T.row) self.old (range.end - range.start) e self.new) }
+    /// `clone` for elements that are `Copy`, which is refused only where memory or the allocator's
+    /// clone is. It stands for what the original's `Clone` compiles to for such elements.
+    pub fn clone_copied(&self) -> Result<Self, TryReserveError>
+    where
+        A: Clone,
+        ensures made { IfOk result (IsMadeWithin (type_size T.row) self.now.growth self.now.items) }
+        ensures alloc { IfOk result (λ v. A.is_clone self.now.alloc v.alloc) }
+        ensures refused { IfErr result
+            (RefusesClones (A.is_infallible self.now.alloc) (len self.now) (type_size T.row)) }
     {
-        let len = self.len();
+        let mut made = self.empty_like(self.len())?;
+        made.put_copies(self.as_slice());
+        Ok(made)
+    }
+
+    /// `extend_from_slice` for elements that are `Copy`, which is refused only as `try_reserve` is,
+    /// and then changes nothing. It stands for what the original's `extend_from_slice` compiles to
+    /// for such elements.
+    #[inline(always)]
+    #[tactic(auto, using(crate::proofs::Becoming::became))]
+    pub fn extend_from_slice_copied(&mut self, other: &[T]) -> Result<(), TryReserveError>
+        ensures fits { HasRoom self.old (length other.now) → IsOk result }
+        ensures extended { OnOk result (GrowsTo (type_size T.row) self.old
+            (length other.now) (self.old.items ++ other.now) self.new) }
+        ensures writes { OnOk result (WritesAtMost self.old (length other.now) self.new) }
+        ensures refused { IfErr result (LacksRoom (type_size T.row) self.old (length other.now)) }
+        ensures unchanged { OnErr result (self.new ≡ self.old) }
+    {
+        if let Err(error) = self.try_reserve(other.len()) {
+            return Err(error);
+        }
+        self.put_copies(other);
+        Ok(())
+    }
+
+    /// `extend_from_within` for elements that are `Copy`, which is refused only as `try_reserve`
+    /// is, and then changes nothing. It stands for what the original's `extend_from_within`
+    /// compiles to for such elements.
+    #[tactic(auto, using(crate::proofs::Becoming::became))]
+    pub fn extend_from_within_copied(&mut self, range: Range<usize>) -> Result<(), TryReserveError>
+        requires { (range.start ≤ range.end) × (range.end ≤ len self.old) }
+        ensures fits { HasRoom self.old (range.end - range.start) → IsOk result }
+        ensures extended { OnOk result (GrowsTo (type_size T.row) self.old (range.end - range.start)
+            (self.old.items ++ slice_range self.old.items range.start range.end) self.new) }
+        ensures writes { OnOk result (WritesAtMost self.old (range.end - range.start) self.new) }
+        ensures refused { IfErr result
+            (LacksRoom (type_size T.row) self.old (range.end - range.start)) }
+        ensures unchanged { OnErr result (self.new ≡ self.old) }
+    {
         let count = range.end - range.start;
         if let Err(error) = self.try_reserve(count) {
             return Err(error);
         }
-        self.known();
-        if self.push_own(range.start, count) {
-            return Ok(());
-        }
-        Err(TryReserveErrorKind::AllocError {
-            capacity: len + count,
-        }
-        .into())
-    }
-
-    /// Cuts the vector to `new_len` elements as `truncate` does, or fills it up to that many: with
-    /// clones of `value`, and with `value` itself in the last place. It makes room for all of them
-    /// before the first clone, and is refused as `extend_from_slice` is. It stands for
-    /// `Vec::resize`.
-    #[tactic(auto, using(crate::proofs::Copied::copied, crate::proofs::Becoming::became))]
-    pub fn resize(&mut self, new_len: usize, value: T) -> Result<(), TryReserveError>
-        ensures fits { HasRoom self.old (new_len - len self.old)
-            → (len self.old + 1 < new_len → T.is_infallible value) → IsOk result }
-        ensures cut { new_len ≤ len self.old
-            → Holds self.old (take new_len self.old.items) self.new }
-        ensures cut_done { new_len ≤ len self.old → IsOk result }
-        ensures filled { OnOk result (len self.old < new_len → Lengthens T.is_clone
-            (type_size T.row) self.old (new_len - len self.old) value self.new) }
-        ensures copied { let more = new_len - len self.old in
-            Copies T.is_clone → OnOk result (GrowsTo (type_size T.row) self.old more
-            (take new_len self.old.items ++ replicate more value) self.new) }
-        ensures writes { OnOk result
-            (Writes self.old (new_len - len self.old) (new_len - len self.old) self.new) }
-        ensures only_longer { OnErr result (len self.old < new_len) }
-        ensures refused { IfErr result
-            (λ e. Refuses ((len self.old + 1 < new_len) × (¬ (T.is_infallible value)))
-            (type_size T.row) self.old (new_len - len self.old) e self.new) }
-    {
-        let len = self.len();
-        if new_len <= len {
-            self.truncate(new_len);
-            return Ok(());
-        }
-        if let Err(error) = self.try_reserve(new_len - len) {
-            return Err(error);
-        }
-        if self.fill(new_len - len, value) {
-            return Ok(());
-        }
-        Err(TryReserveErrorKind::AllocError { capacity: new_len }.into())
-    }
-
-    /// Drops all elements, and puts a clone of each element of `other` in their place. It makes
-    /// room for all of them before the first clone; a refusal leaves clones of a beginning of
-    /// `other`, or nothing, and is `CapacityOverflow`, or `AllocError` with a capacity of at least
-    /// the length of `other`. It stands for the original's `Clone::clone_from`.
-    #[tactic(auto, using(crate::proofs::Copied::copied, crate::proofs::Becoming::became))]
-    pub fn assign_from(&mut self, other: &Self) -> Result<(), TryReserveError>
-        ensures fits { len other.now ≤ self.old.capacity
-            → All T.is_infallible other.now.items → IsOk result }
-        ensures assigned { OnOk result (Extends T.is_clone (type_size T.row)
-            (with_items self.old []) other.now.items self.new) }
-        ensures copied { Copies T.is_clone → OnOk result (GrowsTo (type_size T.row)
-            (with_items self.old []) (len other.now) other.now.items self.new) }
-        ensures writes { OnOk result (Writes self.old (len other.now) (len other.now) self.new) }
-        ensures begun { Copies T.is_clone
-            → OnErr result (IsBeginning other.now.items self.new.items) }
-        ensures refused { IfErr result (λ e. StopsAssigning T.is_clone
-            (¬ (All T.is_infallible other.now.items))
-            (type_size T.row) self.old other.now.items e self.new) }
-    {
-        self.clear();
-        let source = other.as_slice();
-        let count = source.len();
-        if let Err(error) = self.try_reserve(count) {
-            return Err(error);
-        }
-        if self.push_beginning(source) == count {
-            return Ok(());
-        }
-        Err(TryReserveErrorKind::AllocError { capacity: count }.into())
-    }
-
-    // Puts clones of the elements of `source` behind the last one, up to the first clone that is
-    // refused. It answers how many.
-    pub(crate) fn push_beginning(&mut self, source: &[T]) -> usize
-        requires room { HasRoom self.old (length source.now) }
-        ensures within { result ≤ length source.now }
-        ensures pushed { Adds T.is_clone self.old (take result source.now) self.new }
-        ensures refused { result < length source.now → ¬ (All T.is_infallible source.now) }
-    {
-        replace_with(self, source, with_beginning)
-    }
-
-    // Puts a clone of each element of `source` behind the last one, or of none where a clone is
-    // refused.
-    #[tactic(auto, using(crate::proofs::Becoming::became))]
-    pub(crate) fn push_clones(&mut self, source: &[T]) -> bool
-        requires room { HasRoom self.old (length source.now) }
-        ensures pushed { IsTrue result → Adds T.is_clone self.old source.now self.new }
-        ensures refused { result ≡ false → ¬ (All T.is_infallible source.now) }
-        ensures undone { result ≡ false → Undone self.old (length source.now) self.new }
-    {
-        let len = self.len();
-        if self.push_beginning(source) == source.len() {
-            return true;
-        }
-        self.truncate(len);
-        false
-    }
-
-    // The same with `count` of its own elements, from the index `from` on.
-    #[tactic(auto, using(crate::proofs::Copied::copied, crate::proofs::Becoming::became))]
-    fn push_own(&mut self, from: usize, count: usize) -> bool
-        requires range { from + count ≤ len self.old }
-        requires room { HasRoom self.old count }
-        ensures pushed { IsTrue result
-            → Adds T.is_clone self.old (take count (drop from self.old.items)) self.new }
-        ensures refused { result ≡ false
-            → ¬ (All T.is_infallible (take count (drop from self.old.items))) }
-        ensures undone { result ≡ false → Undone self.old count self.new }
-    {
-        let len = self.len();
-        if replace_with(self, (from, count), with_own) == count {
-            return true;
-        }
-        self.truncate(len);
-        false
-    }
-
-    // The same with `count` clones of one value.
-    #[tactic(auto, using(crate::proofs::Copied::copied, crate::proofs::Becoming::became))]
-    fn push_same(&mut self, value: &T, count: usize) -> bool
-        requires room { HasRoom self.old count }
-        ensures pushed { IsTrue result
-            → Adds T.is_clone self.old (replicate count value.now) self.new }
-        ensures refused { result ≡ false → ¬ (T.is_infallible value.now) }
-        ensures undone { result ≡ false → Undone self.old count self.new }
-    {
-        let len = self.len();
-        if replace_with(self, (value, count), with_same) == count {
-            return true;
-        }
-        self.truncate(len);
-        false
-    }
-
-    // Puts `count` elements behind the last one, clones of `value` and then `value` itself, or none
-    // where a clone is refused.
-    pub(crate) fn fill(&mut self, count: usize, value: T) -> bool
-        requires some { 0 < count }
-        requires room { HasRoom self.old count }
-        ensures filled { IsTrue result → Fills T.is_clone self.old count value self.new }
-        ensures refused { result ≡ false → (1 < count) × (¬ (T.is_infallible value)) }
-        ensures undone { result ≡ false → Undone self.old count self.new }
-    {
-        if !self.push_same(&value, count - 1) {
-            return false;
-        }
-        self.put_next(value);
-        true
-    }
-}
-
-impl<T, A: Allocator> Vec<T, A> {
-    /// Cuts the vector to `new_len` elements as `truncate` does, or fills it up to that many with
-    /// what `f` answers, called once for each new place, in order. It makes room for all of them
-    /// before the first call, as `try_reserve` does and refused as that is; then `f` is not called.
-    /// It stands for `Vec::resize_with`.
-    #[tactic(auto, using(crate::proofs::Turns::turns, crate::proofs::Becoming::became))]
-    pub fn resize_with<F: FnMut() -> T>(
-        &mut self,
-        new_len: usize,
-        mut f: F,
-    ) -> Result<(), TryReserveError>
-    where
-        T: Drop,
-        requires callable { MayCallTimes (λ g. F.pre g) F.step (new_len - len self.old) f }
-        ensures fits { HasRoom self.old (new_len - len self.old) → IsOk result }
-        ensures cut { new_len ≤ len self.old
-            → Holds self.old (take new_len self.old.items) self.new }
-        ensures cut_done { new_len ≤ len self.old → IsOk result }
-        ensures filled { OnOk result (len self.old < new_len → (last : F) × LengthensBy F.step
-            (type_size T.row) self.old (new_len - len self.old) f last self.new) }
-        ensures writes { OnOk result
-            (Writes self.old (new_len - len self.old) (new_len - len self.old) self.new) }
-        ensures refused { IfErr result
-            (LacksRoom (type_size T.row) self.old (new_len - len self.old)) }
-        ensures unchanged { OnErr result (self.new ≡ self.old) }
-    {
-        self.resize_by(new_len, &mut f)
-    }
-
-    /// Cuts the vector to `new_len` elements, or fills it up to that many with what `f` answers,
-    /// called once for each new place, in order. This is `resize_with` by a closure that is lent,
-    /// so that the caller knows what becomes of it: where the vector is cut, or no room is made,
-    /// `f` is not called.
-    #[tactic(auto, using(crate::proofs::Turns::turns, crate::proofs::Becoming::became))]
-    pub fn resize_by<F: FnMut() -> T>(
-        &mut self,
-        new_len: usize,
-        f: &mut F,
-    ) -> Result<(), TryReserveError>
-    where
-        T: Drop,
-        requires callable { MayCallTimes (λ g. F.pre g) F.step (new_len - len self.old) f.old }
-        ensures fits { HasRoom self.old (new_len - len self.old) → IsOk result }
-        ensures cut { new_len ≤ len self.old
-            → Holds self.old (take new_len self.old.items) self.new }
-        ensures cut_done { new_len ≤ len self.old → IsOk result }
-        ensures cut_alone { new_len ≤ len self.old → f.new ≡ f.old }
-        ensures filled { OnOk result (len self.old < new_len → LengthensBy F.step
-            (type_size T.row) self.old (new_len - len self.old) f.old f.new self.new) }
-        ensures writes { OnOk result
-            (Writes self.old (new_len - len self.old) (new_len - len self.old) self.new) }
-        ensures refused { IfErr result
-            (LacksRoom (type_size T.row) self.old (new_len - len self.old)) }
-        ensures unchanged { OnErr result (self.new ≡ self.old) }
-        ensures not_called { OnErr result (f.new ≡ f.old) }
-    {
-        let len = self.len();
-        if len < new_len {
-            self.try_reserve(new_len - len)?;
-            self.push_answers(new_len - len, f);
-            return Ok(());
-        }
-        self.truncate(new_len);
+        self.put_own_copies(range.start, count);
         Ok(())
     }
 
-    // Puts `count` elements behind the last one, of which each is what `f` answers.
-    fn push_answers<F: FnMut() -> T>(&mut self, count: usize, f: &mut F)
-        requires room { HasRoom self.old count }
-        requires callable { MayCallTimes (λ g. F.pre g) F.step count f.old }
-        ensures { AddsAnswers F.step self.old count f.old f.new self.new }
-    {
-        let _f = replace_with(self, (f, count), with_answers);
-    }
-
-    // Puts `value` behind the last element of a vector that is not full.
-    #[inline]
-    #[tactic(auto, using(aa_raw::proofs::Calls::at_ends))]
-    pub(crate) fn put_next(&mut self, value: T)
-        requires room { len self.old < self.old.capacity }
-        ensures items { Holds self.old (self.old.items ++ value ∷ []) self.new }
-        ensures writes { Writes self.old 1 1 self.new }
-        ensures behind { self.new.behind ≡ drop 1 self.old.behind }
+    // Puts copies of all of `source` behind the last element of a vector that has room for them.
+    #[inline(always)]
+    #[tactic(auto, using(aa_raw::proofs::Calls::in_runs))]
+    fn put_copies(&mut self, source: &[T])
+        requires room { HasRoom self.old (length source.now) }
+        ensures items { Holds self.old (self.old.items ++ source.now) self.new }
+        ensures writes { WritesAtMost self.old (length source.now) self.new }
     {
         let len = self.len;
         self.block.known();
-        self.block.put(len, value);
-        self.len = len + 1;
+        self.block.put_copies(len, source);
+        self.len = len + source.len();
+    }
+
+    // Puts copies of `count` of its own elements, from the index `from` on, behind the last one of
+    // a vector that has room for them.
+    fn put_own_copies(&mut self, from: usize, count: usize)
+        requires range { from + count ≤ len self.old }
+        requires room { HasRoom self.old count }
+        ensures items { Holds self.old
+            (self.old.items ++ take count (drop from self.old.items)) self.new }
+        ensures writes { WritesAtMost self.old count self.new }
+    {
+        replace_with(self, (from, count), with_own_copies)
     }
 }
 
-// The loops own the vector that they fill: nothing that is stored in its places can then change its
-// fields, which stay in registers. Each puts clones behind the last element, up to the first that
-// is refused, and answers how many.
+// The loop owns the vector that it fills: nothing that is stored in its places can then change its
+// fields, which stay in registers, and it compiles to copies of many elements at once.
 
-// Clones of the elements of `source`.
-#[tactic(auto, using(crate::proofs::Copied::copied))]
-fn with_beginning<T: Clone, A: Allocator>(mut list: Vec<T, A>, source: &[T]) -> (Vec<T, A>, usize)
-    requires room { HasRoom list (length source.now) }
-    ensures within { result.1 ≤ length source.now }
-    ensures pushed { Adds T.is_clone list (take result.1 source.now) result.0 }
-    ensures refused { result.1 < length source.now → ¬ (All T.is_infallible source.now) }
-{
-    let count = source.len();
-    'each: for pushed in 0..count {
-        match source[pushed].clone() {
-            Ok(copy) => list.put_next(copy),
-            Err(_) => return (list, pushed),
-        }
-    }
-    (list, count)
-}
-
-// Clones of as many of its own elements as the second number says, from the index on that the first
-// is.
-#[tactic(auto, using(crate::proofs::Copied::copied))]
-fn with_own<T: Clone, A: Allocator>(mut list: Vec<T, A>, own: (usize, usize)) -> (Vec<T, A>, usize)
+// `put_own_copies`, from the first number on, and as many as the second says.
+fn with_own_copies<T: Copy, A: Allocator>(
+    mut list: Vec<T, A>,
+    own: (usize, usize),
+) -> (Vec<T, A>, ())
     requires range { own.0 + own.1 ≤ len list }
     requires room { HasRoom list own.1 }
-    ensures within { result.1 ≤ own.1 }
-    ensures pushed { Adds T.is_clone list (take result.1 (drop own.0 list.items)) result.0 }
-    ensures refused { result.1 < own.1
-        → ¬ (All T.is_infallible (take own.1 (drop own.0 list.items))) }
+    ensures items { Holds list (list.items ++ take own.1 (drop own.0 list.items)) result.0 }
+    ensures writes { WritesAtMost list own.1 result.0 }
 {
     let (from, count) = own;
-    'each: for pushed in 0..count {
-        match list.as_slice()[from + pushed].clone() {
-            Ok(copy) => list.put_next(copy),
-            Err(_) => return (list, pushed),
-        }
+    'each: for at in 0..count {
+        let item = list.as_slice()[from + at];
+        list.put_next(item);
     }
-    (list, count)
-}
-
-// As many clones of one value as the number says.
-#[tactic(auto, using(crate::proofs::Copied::copied))]
-fn with_same<T: Clone, A: Allocator>(mut list: Vec<T, A>, same: (&T, usize)) -> (Vec<T, A>, usize)
-    requires room { HasRoom list same.1 }
-    ensures within { result.1 ≤ same.entry.1 }
-    ensures pushed { Adds T.is_clone list
-        (take result.1 (replicate same.entry.1 same.entry.0.now)) result.0 }
-    ensures refused { result.1 < same.entry.1 → ¬ (T.is_infallible same.entry.0.now) }
-{
-    let (value, count) = same;
-    'each: for pushed in 0..count {
-        match value.clone() {
-            Ok(copy) => list.put_next(copy),
-            Err(_) => return (list, pushed),
-        }
-    }
-    (list, count)
-}
-
-// As many values as the number says, of which each is what the closure answers. It hands the
-// closure back.
-#[tactic(auto, using(crate::proofs::Turns::turns))]
-fn with_answers<'a, T, A: Allocator, F: FnMut() -> T>(
-    mut list: Vec<T, A>,
-    calls: (&'a mut F, usize),
-) -> (Vec<T, A>, &'a mut F)
-    requires room { HasRoom list calls.1 }
-    requires callable { MayCallTimes (λ g. F.pre g) F.step calls.1 calls.0.now }
-    ensures same_reference { result.1.ghost_name ≡ calls.entry.0.ghost_name }
-    ensures added { AddsAnswers F.step list calls.entry.1 calls.entry.0.now result.1.now result.0 }
-{
-    let (f, count) = calls;
-    'each: for _filled in 0..count {
-        let value = answer_of(f);
-        list.put_next(value);
-    }
-    (list, f)
-}
-
-// One call of a closure that makes values.
-fn answer_of<T, F: FnMut() -> T>(f: &mut F) -> T
-    requires { F.pre f.old }
-    ensures { F.step f.old result f.new }
-{
-    f()
+    (list, ())
 }

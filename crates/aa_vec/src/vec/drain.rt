@@ -30,12 +30,12 @@ pub struct Drain<'a, T, A: Allocator = Global> {
 
 impl<T, A: Allocator> Vec<T, A> {
     ghost use Rattle.std.specs.Iterator.Runs.{YieldsInOrder, YieldsInReverse};
-    ghost use Rattle.aa_vec.specs.Draining.{drain_lender, drain_rest, TakesRange, DrainKeepsAlong, drains_first, drains_last};
+    ghost use Rattle.aa_vec.specs.Drain.{drain_lender, drain_rest, TakesRange, DrainKeepsAlong, drains_first, drains_last};
 
     /// Takes the elements of the range out of the vector, which ends before them at once. They come
     /// from either end of what this answers; its drop closes the gap. The capacity stays; it takes
     /// no memory. It stands for `Vec::drain`.
-    #[tactic(auto, using(crate::proofs::Drains::ranges))]
+    #[tactic(auto, using(crate::proofs::DrainLemmas::ranges))]
     pub fn drain(&mut self, range: Range<usize>) -> Drain<'_, T, A>
         requires { (range.start ≤ range.end) × (range.end ≤ len self.old) }
         ensures lender { drain_lender result ≡ self.entry.ghost_name }
@@ -57,10 +57,10 @@ impl<T, A: Allocator> Vec<T, A> {
 }
 
 impl<'a, T, A: Allocator> Drain<'a, T, A> {
-    ghost use Rattle.aa_vec.specs.Draining.{drain_vec, drain_rest, KeepsRest};
+    ghost use Rattle.aa_vec.specs.Drain.{drain_vec, drain_rest, KeepsRest};
 
     /// The items still to come, in order. It stands for `Drain::as_slice`.
-    #[tactic(auto, unfolding(crate::specs::Draining::drain_rest))]
+    #[tactic(auto, unfolding(crate::specs::Drain::drain_rest))]
     pub fn as_slice(&self) -> &[T]
         ensures { result.now ≡ drain_rest self.now }
     {
@@ -91,7 +91,7 @@ impl<'a, T, A: Allocator> Drain<'a, T, A> {
 }
 
 impl<'a, T: Drop, A: Allocator> Iterator for Drain<'a, T, A> {
-    ghost use Rattle.aa_vec.specs.Draining.{drain_rest, drains_first};
+    ghost use Rattle.aa_vec.specs.Drain.{drain_rest, drains_first};
 
     type Item = T;
 
@@ -100,7 +100,7 @@ impl<'a, T: Drop, A: Allocator> Iterator for Drain<'a, T, A> {
     ghost remaining = { item_count drain_rest };
 
     /// Takes the first item. At the end it answers `None`, and so for good.
-    #[tactic(auto, using(crate::proofs::Drains::from_ends))]
+    #[tactic(auto, using(crate::proofs::DrainLemmas::from_ends))]
     fn next(&mut self) -> Option<T> {
         let first = self.front;
         if first == self.back {
@@ -111,7 +111,7 @@ impl<'a, T: Drop, A: Allocator> Iterator for Drain<'a, T, A> {
     }
 
     /// How many items are left, exactly.
-    #[tactic(auto, using(crate::proofs::Drains::count_left))]
+    #[tactic(auto, using(crate::proofs::DrainLemmas::count_left))]
     fn size_hint(&self) -> (usize, Option<usize>)
         ensures lower { IsWithinCount result.0 (item_count drain_rest self.now) }
         ensures upper { IfSome result.1 (UpTo (item_count drain_rest self.now)) }
@@ -126,12 +126,12 @@ impl<'a, T: Drop, A: Allocator> Iterator for Drain<'a, T, A> {
 }
 
 impl<'a, T: Drop, A: Allocator> DoubleEndedIterator for Drain<'a, T, A> {
-    ghost use Rattle.aa_vec.specs.Draining.{drains_last};
+    ghost use Rattle.aa_vec.specs.Drain.{drains_last};
 
     ghost next_back_gives = { drains_last };
 
     /// Takes the last item. At the end it answers `None`, and so for good.
-    #[tactic(auto, using(crate::proofs::Drains::from_ends))]
+    #[tactic(auto, using(crate::proofs::DrainLemmas::from_ends))]
     fn next_back(&mut self) -> Option<T> {
         if self.front == self.back {
             return None;
@@ -143,7 +143,7 @@ impl<'a, T: Drop, A: Allocator> DoubleEndedIterator for Drain<'a, T, A> {
 }
 
 impl<'a, T: Drop, A: Allocator> ExactSizeIterator for Drain<'a, T, A> {
-    #[tactic(auto, using(crate::proofs::Drains::count_left))]
+    #[tactic(auto, using(crate::proofs::DrainLemmas::count_left))]
     fn len(&self) -> usize {
         self.back - self.front
     }
@@ -158,7 +158,7 @@ impl<'a, T: fmt::Debug, A: Allocator> fmt::Debug for Drain<'a, T, A> {
 }
 
 impl<'a, T: Drop, A: Allocator> Drop for Drain<'a, T, A> {
-    ghost use Rattle.aa_vec.specs.Draining.{Closes};
+    ghost use Rattle.aa_vec.specs.Drain.{Closes};
 
     /// Drops the items still to come, and closes the gap.
     fn drop(self)

@@ -6,9 +6,9 @@ ghost use Rattle.std.specs.Iterator.Runs.{WholeRun};
 ghost use Rattle.std.specs.Borrow.{Bor};
 ghost use Rattle.aa_vec.specs.Vector.{len, sized, HasRoom, Writes};
 ghost use Rattle.aa_vec.specs.Filling.{FillsGap, GoesOn};
-ghost use Rattle.aa_vec.specs.Extending.{Extended, ExtendsByAll, ExtendsByFront, LeavesIter};
-ghost use Rattle.aa_vec.specs.Extending.{MadeByAll, StopsAtFront, LeavesIterMaking, CopiesOf};
-ghost use Rattle.aa_vec.specs.Extending.{TellsAtMost, TellsExactly};
+ghost use Rattle.aa_vec.specs.Extend.{Extended, ExtendsByAll, ExtendsByFront, LeavesIter};
+ghost use Rattle.aa_vec.specs.Extend.{MadeByAll, StopsAtFront, LeavesIterMaking, CopiesOf};
+ghost use Rattle.aa_vec.specs.Extend.{TellsAtMost, TellsExactly};
 
 use crate::vec::Vec;
 use crate::vec::items::Hinted;
@@ -263,7 +263,7 @@ impl<T, A: Allocator> Vec<T, A> {
     /// `from_iter_in` by an iterator that is lent: no item is taken from it but those that found a
     /// place and, on a refusal, one. The original has no such call.
     #[inline]
-    #[tactic(auto, using(crate::proofs::Extending::extended))]
+    #[tactic(auto, using(crate::proofs::ExtendLemmas::extended))]
     pub fn from_iter_in_by<I: Iterator<Item = T>>(
         iter: &mut I,
         alloc: A,

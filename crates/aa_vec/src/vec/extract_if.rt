@@ -3,7 +3,7 @@ ghost use Rattle.std.specs.Prelude.{◌-◌, ◌≤◌, false};
 ghost use Rattle.std.specs.Fn.{CalledAtMut};
 ghost use Rattle.aa_vec.specs.Behind.{StandsBehind, behind_items};
 ghost use Rattle.aa_vec.specs.Choosing.{TakesMut, MayAskInOrder, IsCallableInOrder};
-ghost use Rattle.aa_vec.specs.Until.{StaysAt, AsksBehind, KeepsDown, Picks};
+ghost use Rattle.aa_vec.specs.Until.{StaysWhen, AsksBehind, KeepsDown, Picks};
 ghost use Rattle.aa_vec.specs.Vector.{len};
 
 use crate::vec::Vec;
@@ -42,7 +42,7 @@ impl<T, A: Allocator> Vec<T, A> {
     ) -> (usize, usize, Option<T>)
         requires ordered { (kept ≤ front) × (front ≤ end) }
         requires stands { StandsBehind self.old 0 kept × StandsBehind self.old front (end - front) }
-        requires callable { MayAskInOrder (StaysAt false (CalledAtMut F.FnMut))
+        requires callable { MayAskInOrder (StaysWhen false (CalledAtMut F.FnMut))
             (TakesMut F.FnMut) f.old (behind_items self.old front (end - front)) }
         ensures { Picks (CalledAtMut F.FnMut) f.old self.old kept front end result.0 result.1
             result.2 f.new self.new }
@@ -66,9 +66,9 @@ impl<T, A: Allocator> Vec<T, A> {
     // than a run.
     fn pass_over<F: FnMut(&mut T) -> bool>(&mut self, gap: usize, count: usize, f: &mut F) -> usize
         requires stands { StandsBehind self.old gap count }
-        requires callable { MayAskInOrder (StaysAt false (CalledAtMut F.FnMut))
+        requires callable { MayAskInOrder (StaysWhen false (CalledAtMut F.FnMut))
             (TakesMut F.FnMut) f.old (behind_items self.old gap count) }
-        ensures { KeepsDown (StaysAt false (CalledAtMut F.FnMut)) f.old self.old gap
+        ensures { KeepsDown (StaysWhen false (CalledAtMut F.FnMut)) f.old self.old gap
             count result f.new self.new }
     {
         let stay = self.spare_behind(gap, count, f);
@@ -93,9 +93,9 @@ impl<T, A: Allocator> Vec<T, A> {
         f: &mut F,
     ) -> usize
         requires stands { StandsBehind self.old gap count }
-        requires callable { MayAskInOrder (StaysAt false (CalledAtMut F.FnMut))
+        requires callable { MayAskInOrder (StaysWhen false (CalledAtMut F.FnMut))
             (TakesMut F.FnMut) f.old (behind_items self.old gap count) }
-        ensures { AsksBehind (StaysAt false (CalledAtMut F.FnMut)) f.old self.old gap
+        ensures { AsksBehind (StaysWhen false (CalledAtMut F.FnMut)) f.old self.old gap
             count result f.new self.new }
     {
         self.block.known();
@@ -105,12 +105,12 @@ impl<T, A: Allocator> Vec<T, A> {
 
 impl<'a, T, A: Allocator> ExtractBy<'a, T, A> {
     ghost use Rattle.std.specs.Prelude.{◌≡◌, length};
-    ghost use Rattle.aa_vec.specs.Extracting.{extract_rest, Extracts};
+    ghost use Rattle.aa_vec.specs.Extract.{extract_rest, Extracts};
 
     /// Asks `f` of the elements that were not asked yet, in order, up to the first at which it
     /// answers true, and takes that one out. At the end it answers `None`, and so for good, and
     /// asks nothing.
-    #[tactic(auto, using(crate::proofs::Extracts::picked))]
+    #[tactic(auto, using(crate::proofs::ExtractLemmas::picked))]
     pub fn next_by<F: FnMut(&mut T) -> bool>(&mut self, f: &mut F) -> Option<T>
         requires { IsCallableInOrder (CalledAtMut F.FnMut) (TakesMut F.FnMut) f.old
             (extract_rest self.old) }
@@ -123,7 +123,7 @@ impl<'a, T, A: Allocator> ExtractBy<'a, T, A> {
     }
 
     /// How many elements were not asked yet.
-    #[tactic(auto, using(crate::proofs::Extracts::rest_count))]
+    #[tactic(auto, using(crate::proofs::ExtractLemmas::rest_count))]
     pub fn left(&self) -> usize
         ensures { result ≡ length (extract_rest self.now) }
     {
@@ -132,7 +132,7 @@ impl<'a, T, A: Allocator> ExtractBy<'a, T, A> {
 }
 
 impl<'a, T, A: Allocator> Drop for ExtractBy<'a, T, A> {
-    ghost use Rattle.aa_vec.specs.Extracting.{ClosesExtract};
+    ghost use Rattle.aa_vec.specs.Extract.{ClosesExtract};
 
     // Moves down what was not asked, and what is behind the range.
     fn drop(self)
@@ -161,7 +161,7 @@ pub struct ExtractIf<'a, T, F, A: Allocator = Global> {
 
 impl<T, A: Allocator> Vec<T, A> {
     ghost use Rattle.std.specs.Prelude.{◌≡◌};
-    ghost use Rattle.aa_vec.specs.Extracting.{ExtractsRange, ExtractsAlong, extract_lender};
+    ghost use Rattle.aa_vec.specs.Extract.{ExtractsRange, ExtractsAlong, extract_lender};
 
     /// Takes the elements of the range out of the vector at which `f` answers true. `f` is asked of
     /// each in order, as it is taken, and what it leaves of the others stays. The capacity stays;
@@ -205,7 +205,7 @@ impl<'a, T, F: FnMut(&mut T) -> bool + Drop, A: Allocator> Iterator for ExtractI
     ghost use Rattle.std.specs.Prelude.{◌≡◌, length, Some, IfSome};
     ghost use Rattle.std.specs.Iterator.{UpTo, at_most};
     ghost use Rattle.std.specs.Iterator.SizeHint.{IsWithinCount};
-    ghost use Rattle.aa_vec.specs.Extracting.{extract_rest, Extracts};
+    ghost use Rattle.aa_vec.specs.Extract.{extract_rest, Extracts};
 
     type Item = T;
 

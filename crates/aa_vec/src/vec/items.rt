@@ -2,7 +2,7 @@
 ghost use Rattle.std.specs.Prelude.{◌≡◌, ℕ, length, None, IfSome};
 ghost use Rattle.std.specs.Iterator.{UpTo, item_count};
 ghost use Rattle.std.specs.Iterator.SizeHint.{IsWithinCount};
-ghost use Rattle.aa_vec.specs.Extending.{gives_item, lower_by};
+ghost use Rattle.aa_vec.specs.Extend.{gives_item, lower_by};
 
 use crate::vec::Vec;
 use std::alloc::{Allocator, Global};
@@ -29,7 +29,7 @@ pub struct Items<T, A: Allocator = Global> {
 
 impl<T, A: Allocator> Model for Items<T, A> {
     ghost use Rattle.std.specs.Prelude.{reverse};
-    ghost use Rattle.aa_vec.specs.Extending.{ItemsLeft};
+    ghost use Rattle.aa_vec.specs.Extend.{ItemsLeft};
 
     ghost Value = { ItemsLeft T };
 

@@ -4,8 +4,8 @@ ghost use Rattle.std.specs.Mem.{type_size};
 ghost use Rattle.std.specs.Iterator.{IsFinite};
 ghost use Rattle.aa_vec.specs.Vector.{len, HasRoom};
 ghost use Rattle.aa_vec.specs.Behind.{StandsBehind};
-ghost use Rattle.aa_vec.specs.Extending.{TellsAtMost, TellsExactly};
-ghost use Rattle.aa_vec.specs.Splicing.{Replaced, SplicesIter, without_behind};
+ghost use Rattle.aa_vec.specs.Extend.{TellsAtMost, TellsExactly};
+ghost use Rattle.aa_vec.specs.SpliceItems.{Replaced, SplicesIter, without_behind};
 
 use crate::vec::Vec;
 use crate::vec::items::Hinted;
@@ -34,8 +34,8 @@ pub struct Splice<'a, I: Iterator, A: Allocator = Global> {
 }
 
 impl<T, A: Allocator> Vec<T, A> {
-    ghost use Rattle.aa_vec.specs.Draining.{TakesRange, drain_lender};
-    ghost use Rattle.aa_vec.specs.Splices.{splice_range, splice_iter};
+    ghost use Rattle.aa_vec.specs.Drain.{TakesRange, drain_lender};
+    ghost use Rattle.aa_vec.specs.Splice.{splice_range, splice_iter};
 
     /// Takes the elements of the range out of the vector, which ends before them at once. They come
     /// from either end of what this answers; its `finish` puts the items of `iter` in their place.
@@ -66,11 +66,11 @@ impl<T, A: Allocator> Vec<T, A> {
 }
 
 impl<'a, I: Iterator, A: Allocator> Splice<'a, I, A> {
-    ghost use Rattle.aa_vec.specs.Draining.{drain_rest};
-    ghost use Rattle.aa_vec.specs.Splices.{splice_range, splices_first, splices_last};
+    ghost use Rattle.aa_vec.specs.Drain.{drain_rest};
+    ghost use Rattle.aa_vec.specs.Splice.{splice_range, splices_first, splices_last};
 
     /// Takes the first element of the range. At the end it answers `None`.
-    #[tactic(auto, using(crate::proofs::Drains::from_ends))]
+    #[tactic(auto, using(crate::proofs::DrainLemmas::from_ends))]
     pub fn next(&mut self) -> Option<I::Item>
         ensures { splices_first self.old result self.new }
     {
@@ -83,7 +83,7 @@ impl<'a, I: Iterator, A: Allocator> Splice<'a, I, A> {
     }
 
     /// Takes the last element of the range. At the end it answers `None`.
-    #[tactic(auto, using(crate::proofs::Drains::from_ends))]
+    #[tactic(auto, using(crate::proofs::DrainLemmas::from_ends))]
     pub fn next_back(&mut self) -> Option<I::Item>
         ensures { splices_last self.old result self.new }
     {
@@ -96,7 +96,7 @@ impl<'a, I: Iterator, A: Allocator> Splice<'a, I, A> {
     }
 
     /// How many elements of the range are left.
-    #[tactic(auto, using(crate::proofs::Drains::count_left))]
+    #[tactic(auto, using(crate::proofs::DrainLemmas::count_left))]
     pub fn len(&self) -> usize
         ensures { result ≡ length (drain_rest (splice_range self.now)) }
     {
@@ -161,7 +161,7 @@ impl<'a, I: Iterator, A: Allocator + Clone> Splice<'a, I, A>
 where
     I::Item: Drop,
 {
-    ghost use Rattle.aa_vec.specs.Splices.{splice_gap, splice_iter};
+    ghost use Rattle.aa_vec.specs.Splice.{splice_gap, splice_iter};
 
     // The two calls that end a splice are this, as `W` tells of the items.
     fn end_by<W: Telling<I>>(self) -> Result<(), TryReserveError>
@@ -210,8 +210,8 @@ where
 {
     ghost use Rattle.std.specs.Iterator.{Drains, size};
     ghost use Rattle.std.specs.Iterator.Runs.{WholeRun};
-    ghost use Rattle.aa_vec.specs.Splicing.{SplicesByAll, SplicesByFront, TellsOnceFull, span};
-    ghost use Rattle.aa_vec.specs.Splices.{splice_gap, splice_iter, splice_kept};
+    ghost use Rattle.aa_vec.specs.SpliceItems.{SplicesByAll, SplicesByFront, TellsOnceFull, span};
+    ghost use Rattle.aa_vec.specs.Splice.{splice_gap, splice_iter, splice_kept};
 
     /// Drops what was not taken of the range, and leaves the vector what is before the range, the
     /// items, which end, and what is behind it. With nothing behind the range the items are put
@@ -266,8 +266,8 @@ where
 {
     ghost use Rattle.std.specs.Iterator.{Drains, size};
     ghost use Rattle.std.specs.Iterator.Runs.{WholeRun};
-    ghost use Rattle.aa_vec.specs.Splicing.{SplicesByAll, SplicesByFront, TellsOnceFull, span};
-    ghost use Rattle.aa_vec.specs.Splices.{splice_gap, splice_iter, splice_kept};
+    ghost use Rattle.aa_vec.specs.SpliceItems.{SplicesByAll, SplicesByFront, TellsOnceFull, span};
+    ghost use Rattle.aa_vec.specs.Splice.{splice_gap, splice_iter, splice_kept};
 
     /// The same, with the lower bound of `size_hint` in place of `lower`, and with nothing behind
     /// the range as by `extend`. It stands for the drop of `Splice`.

@@ -1,7 +1,7 @@
 //! Who tells how many items of an iterator are to come: what extensions and splices ask.
 ghost use Rattle.std.specs.Prelude.{◌≡◌, ℕ};
 ghost use Rattle.std.proofs.Common.{refl, zero-le};
-ghost use Rattle.aa_vec.specs.Extending.{CopiesOf, TellsAtMost, TellsExactly};
+ghost use Rattle.aa_vec.specs.Extend.{CopiesOf, TellsAtMost, TellsExactly};
 
 use crate::vec::items::Hinted;
 

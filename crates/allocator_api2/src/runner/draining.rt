@@ -1,10 +1,10 @@
 //! The command `Drain` of `run`, and its parts.
 ghost use Rattle.std.specs.Prelude.{◌+◌, ◌-◌, ◌≤◌, length};
 ghost use Rattle.std.specs.Mem.{type_size};
-ghost use Rattle.aa_vec.specs.Draining.{drain_rest};
+ghost use Rattle.aa_vec.specs.Drain.{drain_rest};
 ghost use Rattle.aa_vec.specs.Vector.{len, HasRoom};
 ghost use Rattle.allocator_api2.specs.Commands.{Does};
-ghost use Rattle.allocator_api2.specs.Drained.{Drained, TakesFront, TakesBack};
+ghost use Rattle.allocator_api2.specs.RangeCommands.{Drained, TakesFront, TakesBack};
 ghost use Rattle.allocator_api2.specs.Machine.{ends_at};
 ghost use Rattle.allocator_api2.specs.declared.runner.Command.{Command};
 

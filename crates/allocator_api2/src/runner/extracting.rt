@@ -3,10 +3,10 @@ ghost use Rattle.std.specs.Prelude.{◌≡◌, ◌+◌, ◌-◌, ◌≤◌, min,
 ghost use Rattle.std.specs.Fn.{CalledAtMut};
 ghost use Rattle.std.specs.Mem.{type_size};
 ghost use Rattle.aa_vec.specs.Choosing.{TakesMut, IsCallableInOrder};
-ghost use Rattle.aa_vec.specs.Extracting.{extract_rest};
+ghost use Rattle.aa_vec.specs.Extract.{extract_rest};
 ghost use Rattle.aa_vec.specs.Vector.{len, HasRoom};
 ghost use Rattle.allocator_api2.specs.Commands.{TakesChosen};
-ghost use Rattle.allocator_api2.specs.Drained.{Chosen, TakesUpTo};
+ghost use Rattle.allocator_api2.specs.RangeCommands.{Chosen, TakesUpTo};
 ghost use Rattle.allocator_api2.specs.Machine.{asking};
 
 use crate::runner::{Reply, append_within};
@@ -62,7 +62,7 @@ fn extract_into<T: Drop, A: Allocator, K: FnMut(&mut T) -> bool>(
 }
 
 // The same from a range out of which elements are taken.
-#[tactic(auto, using(crate::proofs::Extracting::choosing))]
+#[tactic(auto, using(crate::proofs::ExtractParts::choosing))]
 fn take_chosen<T: Drop, A: Allocator, K: FnMut(&mut T) -> bool>(
     range: &mut ExtractBy<'_, T, A>,
     side: &mut Vec<T, A>,

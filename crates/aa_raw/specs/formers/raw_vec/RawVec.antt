@@ -16,7 +16,7 @@ use Rattle.std.specs.Option.{option_map}
 use Rattle.std.specs.declared.alloc.Allocator.{Ghosts}
 use Rattle.aa_raw.specs.Held.{slots, w_slots, slots_recoded, pair_recoded}
 use Rattle.aa_raw.specs.Block.{Block}
-use Rattle.aa_raw.specs.Fields.{IsWhole}
+use Rattle.aa_raw.specs.RawVecInner.{IsWhole}
 use Rattle.aa_raw.specs.declared.raw_vec.Growth.{Growth}
 use Rattle.aa_raw.specs.declared.raw_vec.Growth.TheVariants.{Doubling}
 use Rattle.aa_raw.specs.declared.tally.Tally.{Tally}

@@ -1,4 +1,4 @@
-use Rattle.aa_vec.specs.Draining.{DrainKeeps}
+use Rattle.aa_vec.specs.Drain.{DrainKeeps}
 use Rattle.aa_vec_tests.proofs.drain.first_large.Given as goal
 
 abbrev pub invariant-loop-x : goal.invariant-loop-x

@@ -23,7 +23,7 @@ use Rattle.aa_raw.specs.declared.raw_vec.Growth.{Growth}
 use Rattle.aa_raw.specs.declared.raw_vec.Growth.TheVariants.{Doubling}
 use Rattle.aa_raw.specs.formers.raw_vec.RawVec as raw
 use Rattle.aa_boxed.specs.Slice.{Slice}
-use Rattle.aa_boxed.specs.SliceInner.{IsWhole}
+use Rattle.aa_boxed.specs.BoxedSliceInner.{IsWhole}
 use Rattle.aa_boxed.specs.declared.boxed.slice.BoxedSlice.TheInside.{Inside}
 use Rattle.aa_boxed.specs.declared.boxed.slice.BoxedSlice.TheView.{view, invariant}
 use Rattle.aa_boxed.specs.contracts.boxed.slice.BoxedSlice as C

@@ -15,8 +15,8 @@ use denote.Param.Weighed.{Weighed, most, List-puts}
 use denote.Model.Placed as placed
 use Rattle.std.specs.declared.alloc.Allocator.{Ghosts}
 use Rattle.aa_raw.specs.Held.{slots, pair_recoded}
-use Rattle.aa_raw.specs.Left.{Left}
-use Rattle.aa_raw.specs.LeftFields.{IsBetween}
+use Rattle.aa_raw.specs.IntoIter.{Left}
+use Rattle.aa_raw.specs.IntoIterInner.{IsBetween}
 use Rattle.aa_raw.specs.Mapped.{first_none_over, others_over, run_over, IsRun-over, IsRun-under, IsRun-once, run_held}
 use Rattle.aa_raw.specs.Places.{run}
 use Rattle.aa_raw.specs.declared.vec.into_iter.IntoIter.TheInside.{Inside}

@@ -1,5 +1,5 @@
 use Rattle.aa_vec.proofs.Common.{◌<◌, length, ap, ◌∙◌, arith, Vector}
-use Rattle.aa_vec.proofs.Copied.{Adds-begun}
+use Rattle.aa_vec.proofs.CopiesLemmas.{Adds-begun}
 use Rattle.aa_vec.proofs.vec.Vec.assign_from.Goals as goal
 
 pub returns-clause-begun : goal.returns-clause-begun

@@ -1,6 +1,6 @@
 use Rattle.aa_vec.proofs.Common.{rules, IsNearerEnd, CopiesOf, TellsAtMost}
 use Rattle.aa_vec.proofs.Answered.{on_ok}
-use Rattle.aa_vec.proofs.Extending.{Drains-read, Extended-left, whole_run}
+use Rattle.aa_vec.proofs.ExtendLemmas.{Drains-read, Extended-left, whole_run}
 use Rattle.aa_vec.proofs.Reading.{LeavesIter-read, stopped_read}
 use Rattle.aa_vec.proofs.vec.Vec.extend_copied_by.Goals as goal
 

@@ -1,5 +1,5 @@
 use Rattle.aa_vec.proofs.Common.{◌<◌, Vector, len, ap, arith, length, length-append, ◌∷◌, [], rules, err_from_is_err_and}
-use Rattle.aa_vec.proofs.Extending.{Placing-start, Placing-filled, Placing-full, Placing-grown, Placing-refused, Placing-end}
+use Rattle.aa_vec.proofs.ExtendLemmas.{Placing-start, Placing-filled, Placing-full, Placing-grown, Placing-refused, Placing-end}
 use Rattle.aa_vec.proofs.vec.Vec.extend_telling.Goals as goal
 
 pub full-init : goal.full-init

@@ -1,5 +1,5 @@
 use Rattle.aa_vec.proofs.Common.{◌+◌, ◌≤◌, type_size, size, len, IsFinite}
-use Rattle.aa_vec.proofs.Extending.{Placing}
+use Rattle.aa_vec.proofs.ExtendLemmas.{Placing}
 use Rattle.aa_vec.proofs.vec.Vec.extend_telling.Given as goal
 
 abbrev pub invariant-full : goal.invariant-full

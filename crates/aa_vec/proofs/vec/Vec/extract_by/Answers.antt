@@ -1,4 +1,4 @@
-use Rattle.aa_vec.proofs.Extracts.{range_extracts}
+use Rattle.aa_vec.proofs.ExtractLemmas.{range_extracts}
 use Rattle.aa_vec.proofs.vec.Vec.extract_by.Goals as goal
 
 pub returns-clause-takes : goal.returns-clause-takes

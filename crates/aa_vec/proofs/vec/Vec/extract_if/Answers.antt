@@ -1,5 +1,5 @@
 use Rattle.std.specs.Fn.{CalledAtMut}
-use Rattle.aa_vec.proofs.Extracted.{extracts_along}
+use Rattle.aa_vec.proofs.ExtractRuns.{extracts_along}
 use Rattle.aa_vec.proofs.vec.Vec.extract_if.Goals as goal
 
 pub returns-clause-extracts : goal.returns-clause-extracts

@@ -1,5 +1,5 @@
 use Rattle.aa_vec.proofs.Common.{ℕ, ◌-◌, Option, sym, ◌∙◌, subst, arith, CalledAtMut, SetsBack, Picks, len}
-use Rattle.aa_vec.proofs.Extracting.{joined_stand, next_stand, Picks-none, Picks-taken}
+use Rattle.aa_vec.proofs.ExtractTurns.{joined_stand, next_stand, Picks-none, Picks-taken}
 use Rattle.aa_vec.proofs.Stands.{first_stand}
 use Rattle.aa_vec.proofs.vec.Vec.pick.Goals.{then-stay-count, else-stay-count}
 use Rattle.aa_vec.proofs.vec.Vec.pick.Goals as goal

@@ -1,4 +1,4 @@
-use Rattle.aa_vec.proofs.Drains.{range_held, range_drains}
+use Rattle.aa_vec.proofs.DrainLemmas.{range_held, range_drains}
 use Rattle.aa_vec.proofs.vec.Vec.splice.Goals as goal
 
 pub invariant_of-result-clause-held : goal.invariant_of-result-clause-held

@@ -1,6 +1,6 @@
 use Rattle.aa_vec.proofs.Common.{◌-◌, ◌<◌, arith, length-run, run-zero, ⊤}
-use Rattle.aa_vec.proofs.Drained.{dropped_are, dropped_stand}
-use Rattle.aa_vec.proofs.Splicing.{Spliced-extended, Spliced-ended, Spliced-more, filled_len}
+use Rattle.aa_vec.proofs.BehindLemmas.{dropped_are, dropped_stand}
+use Rattle.aa_vec.proofs.SpliceLemmas.{Spliced-extended, Spliced-ended, Spliced-more, filled_len}
 use Rattle.aa_vec.proofs.vec.splice.end_telling.Goals as goal
 
 -- nothing is behind the range

@@ -1,6 +1,6 @@
 use Rattle.allocator_api2.proofs.Common.{rules, drain_vec}
-use Rattle.aa_vec.specs.Splices.{splice_range, splice_iter}
-use Rattle.allocator_api2.proofs.SplicedRanges.{Spliced-done, Spliced-refused}
+use Rattle.aa_vec.specs.Splice.{splice_range, splice_iter}
+use Rattle.allocator_api2.proofs.SpliceRanges.{Spliced-done, Spliced-refused}
 use Rattle.allocator_api2.proofs.runner.commands.splice.Goals as goal
 
 pub returns-in-Ok : goal.returns-in-Ok

@@ -1,4 +1,4 @@
-use Rattle.allocator_api2.specs.Drained.{TakesBack}
+use Rattle.allocator_api2.specs.RangeCommands.{TakesBack}
 use Rattle.allocator_api2.proofs.runner.draining.take_back.Given as goal
 
 abbrev pub invariant-each : goal.invariant-each

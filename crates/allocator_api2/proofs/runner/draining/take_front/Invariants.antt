@@ -1,4 +1,4 @@
-use Rattle.allocator_api2.specs.Drained.{TakesFront}
+use Rattle.allocator_api2.specs.RangeCommands.{TakesFront}
 use Rattle.allocator_api2.proofs.runner.draining.take_front.Given as goal
 
 abbrev pub invariant-each : goal.invariant-each

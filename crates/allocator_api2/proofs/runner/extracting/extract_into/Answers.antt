@@ -1,5 +1,5 @@
 use Rattle.allocator_api2.proofs.Common.{rules, CalledAtMut}
-use Rattle.allocator_api2.proofs.Extracting.{chosen}
+use Rattle.allocator_api2.proofs.ExtractParts.{chosen}
 use Rattle.allocator_api2.proofs.runner.extracting.extract_into.Goals as goal
 
 pub returns : goal.returns

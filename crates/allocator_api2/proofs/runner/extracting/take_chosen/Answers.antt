@@ -1,5 +1,5 @@
 use Rattle.allocator_api2.proofs.Common.{arith, CalledAtMut, TakesMut}
-use Rattle.allocator_api2.proofs.Extracting.{TakesUpTo-end, TakesUpTo-all}
+use Rattle.allocator_api2.proofs.ExtractParts.{TakesUpTo-end, TakesUpTo-all}
 use Rattle.allocator_api2.proofs.runner.extracting.take_chosen.Goals as goal
 
 pub returns-in-None : goal.returns-in-None

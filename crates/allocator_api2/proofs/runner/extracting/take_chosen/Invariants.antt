@@ -1,5 +1,5 @@
 use Rattle.allocator_api2.proofs.Common.{CalledAtMut, TakesMut}
-use Rattle.allocator_api2.proofs.Extracting.{TakenSoFar}
+use Rattle.allocator_api2.proofs.ExtractParts.{TakenSoFar}
 use Rattle.allocator_api2.proofs.runner.extracting.take_chosen.Given as goal
 
 abbrev pub invariant-each : goal.invariant-each

@@ -1,7 +1,7 @@
 -- `keep_rest` hands the reference on to `close_gaps`, for good: so it owes no drain at the return.
 use Rattle.aa_vec.proofs.Walks.{◌-◌, [], ◌∷◌, List, Args, dcons, dnil, a_type, inst_fn, Val, vunit, id⊢, ftrue, ‵, raw, ◌⊛◌, some, later, ◌$◌, ◌∵◌, !, qed, move, keep, use0, use1, group, split, join, fsplit, fjoin, feq_l, feq_i, pick, await, suffices, done, whole, sub, enter, stop, fld, of_opd, addr, unit_lit, and_then, no_more, returns, alloc_all, pass_all, free_all, look_at, get, get_in, through, sets, lands_as, fact, tables, unit, yes, bounded, owns, nothing, heard, only, fields, vals, tells, lawful, calls_at, Ended, lasts, alive, triple_of, framed, Stays, walk_of, ends_at, proved, refl, ap, fact_i, emp, row, Vector, ClosesTwice}
-use Rattle.aa_vec.proofs.HandedOn.{Decl, Lws, asks, words, only_said, goes, opened}
-use Rattle.aa_vec.proofs.Drains.{keeps}
+use Rattle.aa_vec.proofs.DrainFields.{Decl, Lws, asks, words, only_said, goes, opened}
+use Rattle.aa_vec.proofs.DrainLemmas.{keeps}
 use Rattle.aa_vec.specs.contracts.vec.drain.Drain.keep_rest as f
 use Rattle.aa_vec.proofs.vec.drain.Drain.keep_rest.Statement.{statement}
 use Rattle.aa_vec.proofs.vec.drain.Drain.keep_rest.Code as code

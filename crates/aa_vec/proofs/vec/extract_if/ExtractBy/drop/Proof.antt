@@ -1,7 +1,7 @@
 -- `drop` hands the reference on to `close_kept`, for good: so it owes no range at the return.
 use Rattle.aa_vec.proofs.Walks.{◌-◌, [], ◌∷◌, List, Args, dcons, dnil, a_type, inst_fn, Val, vunit, id⊢, ftrue, ‵, raw, ◌⊛◌, some, later, ◌$◌, ◌∵◌, !, qed, move, keep, use0, use1, group, split, join, fsplit, fjoin, feq_l, feq_i, pick, await, suffices, done, whole, sub, enter, stop, fld, of_opd, addr, unit_lit, and_then, no_more, returns, alloc_all, pass_all, free_all, look_at, get, get_in, through, sets, lands_as, fact, tables, unit, yes, bounded, owns, nothing, heard, only, fields, vals, tells, lawful, calls_at, Ended, lasts, alive, triple_of, framed, Stays, walk_of, ends_at, proved, refl, ap, fact_i, emp, row, Vector, ClosesTwice, ClosesExtract}
-use Rattle.aa_vec.proofs.HandedOn.{DeclBy, LwsBy, asks, words, only_said, goes, opened}
-use Rattle.aa_vec.proofs.Extracts.{closes_extract}
+use Rattle.aa_vec.proofs.DrainFields.{DeclBy, LwsBy, asks, words, only_said, goes, opened}
+use Rattle.aa_vec.proofs.ExtractLemmas.{closes_extract}
 use Rattle.aa_vec.specs.contracts.vec.extract_if.ExtractBy.drop as f
 use Rattle.aa_vec.proofs.vec.extract_if.ExtractBy.drop.Statement.{statement}
 use Rattle.aa_vec.proofs.vec.extract_if.ExtractBy.drop.Code as code

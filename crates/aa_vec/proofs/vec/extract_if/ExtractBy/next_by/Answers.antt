@@ -1,6 +1,6 @@
 use Rattle.aa_vec.proofs.Common.{CalledAtMut, TakesMut}
-use Rattle.aa_vec.specs.Extracting.{extract_rest}
-use Rattle.aa_vec.proofs.Extracts.{may_spare, picked_held}
+use Rattle.aa_vec.specs.Extract.{extract_rest}
+use Rattle.aa_vec.proofs.ExtractLemmas.{may_spare, picked_held}
 use Rattle.aa_vec.proofs.vec.extract_if.ExtractBy.next_by.Goals as goal
 
 pub pick-stay-requires-clause-callable : goal.pick-stay-requires-clause-callable

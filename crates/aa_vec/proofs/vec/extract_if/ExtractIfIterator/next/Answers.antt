@@ -1,5 +1,5 @@
 use Rattle.aa_vec.proofs.Common.{CalledAtMut, TakesMut}
-use Rattle.aa_vec.proofs.Extracted.{extracts_progress}
+use Rattle.aa_vec.proofs.ExtractRuns.{extracts_progress}
 use Rattle.aa_vec.proofs.vec.extract_if.ExtractIfIterator.next.Goals as goal
 
 pub returns-clause-goes : goal.returns-clause-goes

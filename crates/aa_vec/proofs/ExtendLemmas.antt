@@ -1,0 +1,189 @@
+-- A vector that items of an iterator are put behind.
+use Rattle.aa_vec.proofs.Common.{◌≡◌, ℕ, zero, suc, ◌+◌, ◌-◌, ◌<◌, ◌≤◌, List, [], ◌∷◌, ◌++◌, length, Option, Some, None, Ok, append_assoc, refl, sym, ap, ◌∙◌, subst, arith, length-append, min, map, Count, Yields, Drains, append-nil, TryReserveError, usize_max, Vector, len, HasRoom, LacksRoom, GrowsTo, Holds, Writes, Placed, FillsGap, GrowsInSteps, stays, YieldsTelling, ExtendsByAll, ExtendsByFront, Extended, LeavesIter, CopiesOf, Result, Err, count_of, WholeRun, asked_with, Becomes, with_room}
+use Rattle.std.specs.Borrow.{Bor}
+use Rattle.aa_vec.proofs.Answered.{IsOk, on_ok, if_err}
+use Rattle.std.proofs.iter.runs.Consumers.{total_runs}
+use Rattle.aa_vec.proofs.Becoming.{GrowsTo-becomes, Writes-grown}
+use Rattle.aa_vec.proofs.Climbing.{MakesRoom, SameBlock-refl, MakesRoom-fits, MakesRoom-rises, GrowsInSteps-same, GrowsInSteps-more, GrowsInSteps-rises, GrowsInSteps-counted, GrowsInSteps-keeps}
+
+-- the items that came, as one run
+pub whole_run : {S A : Type 0} (steps : S → Option A → S → Type 0) (s : S) (P : List A → Type 0) → (xs : List A) × Drains steps s xs × P xs → WholeRun steps s (λ p. P p.items)
+whole_run steps s P d = total_runs steps s (Unit {0}) P (d.0, λ _. d.1, d.2) tt
+
+-- what was told, where one more item has come, behind which n is told
+abbrev pub told_behind : (n : ℕ) → (lower : ℕ → ℕ) → ℕ → ℕ
+told_behind n lower zero = n
+told_behind n lower (suc k) = lower k
+
+module _ {S T : Type 0} (steps : S → Option T → S → Type 0) (Tells : S → ℕ → Type 0) where
+  pub YieldsTelling-more : (lower : ℕ → ℕ) (n : ℕ) (s : S) (xs : List T) (t : S) (x : T) (u : S) → YieldsTelling steps Tells lower s xs t → steps t (Some x) u → Tells u n → YieldsTelling steps Tells (told_behind n lower) s (xs ++ x ∷ []) u
+  YieldsTelling-more lower n s [] t x u y p h = (u, subst (λ k. steps k (Some x) u) (sym y) p, h, refl)
+  YieldsTelling-more lower n s (z ∷ xs) t x u y p h =
+      let e : suc (length xs) ≡ length (xs ++ x ∷ []) = omega (arith, length-append xs (x ∷ [])) in
+      (y.0, y.1, subst (λ k. Tells y.0 (told_behind n lower k)) e y.2, YieldsTelling-more lower n y.0 xs t x u y.3 p h)
+
+  pub Yields-told : (lower : ℕ → ℕ) (s : S) (xs : List T) (t : S) → YieldsTelling steps Tells lower s xs t → Yields steps s xs t
+  Yields-told lower s [] t y = y
+  Yields-told lower s (x ∷ xs) t y = (y.0, y.1, Yields-told lower y.0 xs t y.3)
+
+  -- the same of items that followed, where each state tells some number
+  told_on : ((s : S) → (n : ℕ) × Tells s n) → (lower : ℕ → ℕ) (s : S) (front : List T) (t : S) (xs : List T) (u : S) → YieldsTelling steps Tells lower s front t → Yields steps t xs u
+      → (next : ℕ → ℕ) × YieldsTelling steps Tells next s (front ++ xs) u × ((k : ℕ) → lower k ≡ next (k + length xs))
+  told_on some lower s front t [] u y z =
+      let Q : List T → Type 0 = λ l. YieldsTelling steps Tells lower s l u in
+      (lower, subst Q (sym (append-nil front)) (subst (YieldsTelling steps Tells lower s front) z y), λ k. ap lower (omega arith))
+  told_on some lower s front t (x ∷ xs) u y z =
+      let n = some z.0 in
+      let r = told_on some (told_behind n.0 lower) s (front ++ x ∷ []) z.0 xs u (YieldsTelling-more lower n.0 s front t x z.0 y z.1 n.1) z.2 in
+      let Q : List T → Type 0 = λ l. YieldsTelling steps Tells r.0 s l u in
+      (r.0, subst Q (append_assoc front (x ∷ []) xs) r.1, λ k. r.2 (suc k) ∙ ap r.0 (omega arith))
+
+  module _ {A : Type 0} (size : ℕ) (iter : S) (old : Vector T A) where
+    -- an extension, by what it leaves of the iterator
+    pub Extended-left : (left : S → Count) (after : S) (r : Result Unit TryReserveError) (new : Vector T A) → LeavesIter steps Tells size iter old after r new → (HasRoom old (count_of (left iter)) → IsOk r) → Writes old (len new - len old) (len new - len old) new
+        → Extended steps Tells left size iter old r new × LeavesIter steps Tells size iter old after r new
+    Extended-left left after r new l fits writes =
+        let ran = on_ok r l.ended (λ e. let x = e.0 in (x.added, (x.ends.0, (x.last, Yields-told x.lower iter x.added x.last x.told, x.ends.1)), x.items)) in
+        (record { items = ran; runs = on_ok r ran (whole_run steps iter (λ xs. new.items ≡ old.items ++ xs)); fits = fits; room = on_ok r l.ended (λ e. e.0); writes = writes; refused = if_err r l.stopped (λ _ e. e.0) }, l)
+
+    -- of what came from iter, which is now s, `front` was placed, and the vector is v
+    pub record Placing (s : S) (v : Vector T A) : Type 0 where
+      pub front : List T
+      pub lower : ℕ → ℕ
+      pub told : YieldsTelling steps Tells lower iter front s
+      pub within : len old ≤ old.capacity
+      pub climbs : GrowsInSteps size lower (len old + length front) old v
+      pub items : v.items ≡ old.items ++ front
+      pub fits : len v ≤ v.capacity
+      pub writes : Writes old (length front) (length front) v
+
+    pub Placing-start : len old ≤ old.capacity → Placing iter old
+    Placing-start h = record {
+      front = [];
+      lower = λ _. 0;
+      told = refl;
+      within = h;
+      climbs = stays (SameBlock-refl old);
+      items = sym (append-nil old.items);
+      fits = h;
+      writes = omega arith;
+    }
+
+    module _ (s : S) (v : Vector T A) (p : Placing s v) where
+      count : len v ≡ len old + length p.front
+      count = ap length p.items ∙ length-append old.items p.front
+
+      -- no item is to come
+      pub Placing-end : (left : S → Count) (u : S) → steps s None u → Extended steps Tells left size iter old (Ok tt) v × LeavesIter steps Tells size iter old u (Ok tt) v
+      Placing-end left u h =
+          let all : ExtendsByAll steps Tells size iter old v = record {
+            added = p.front;
+            lower = p.lower;
+            last = s;
+            told = p.told;
+            ends = (u, h);
+            within = p.within;
+            climbs = p.climbs;
+            enough = omega (arith, p.fits, count);
+            items = p.items;
+          } in
+          Extended-left left u (Ok tt) v (record { ended = (all, refl); stopped = tt }) (λ _. refl) (omega (arith, p.writes.written, p.writes.runs, count))
+
+      -- items came that found free places
+      pub Placing-filled : ((s : S) → (n : ℕ) × Tells s n) → (left : ℕ) (t : S) (new : Vector T A) → Placed steps s v (v.capacity - len v) 0 left t new → Placing t new
+      Placing-filled some left t new q =
+          let xs : List T = q.comes.added in
+          let r = told_on some p.lower iter p.front s xs t p.told q.comes.given in
+          let front : List T = p.front ++ xs in
+          let longer : length front ≡ length p.front + length xs = length-append p.front xs in
+          let e : new.items ≡ old.items ++ front = q.holds.items ∙ ap (λ ys. ys ++ xs) p.items ∙ append_assoc old.items p.front xs in
+          record {
+            front = front;
+            lower = r.0;
+            told = r.1;
+            within = p.within;
+            climbs = GrowsInSteps-same size r.0 (len old + length front) (GrowsInSteps-counted size p.lower r.0 (len old + length p.front) (length xs) (len old + length front) (SameBlock-refl old) (omega (arith, longer)) (λ k _. r.2 k) p.climbs) q.holds.block;
+            items = e;
+            fits = omega (arith, ap length e, length-append old.items front, longer, count, p.fits, q.comes.count, q.holds.block.capacity);
+            writes = omega (arith, q.writes.written, q.writes.runs, p.writes.written, p.writes.runs, longer);
+          }
+
+      -- until no place was left
+      pub Placing-full : ((s : S) → (n : ℕ) × Tells s n) → (left : ℕ) (t : S) (new : Vector T A) → left ≡ 0 → FillsGap steps s v (v.capacity - len v) 0 left t new
+          → Placing t new × (len new ≡ new.capacity) × (len new ≡ v.capacity)
+      Placing-full some left t new e f =
+          let q = f.placed in
+          let long : len new ≡ v.capacity = omega (arith, e, ap length q.holds.items, length-append v.items q.comes.added, q.comes.count, p.fits) in
+          (subst (λ u. Placing u new) (sym (f.stops.full e)) (Placing-filled some left f.last new q), long ∙ sym q.holds.block.capacity, long)
+
+      -- v is full, and one more item x came, behind which n is told
+      module _ (full : len v ≡ v.capacity) (x : T) (t : S) (step : steps s (Some x) t) (n : ℕ) (tells : Tells t n) where
+        abbrev next_front : List T
+        next_front = p.front ++ x ∷ []
+
+        abbrev next_lower : ℕ → ℕ
+        next_lower = told_behind n p.lower
+
+        longer : length next_front ≡ length p.front + 1
+        longer = length-append p.front (x ∷ [])
+
+        climbed : GrowsInSteps size next_lower (len old + length next_front) old v
+        climbed = GrowsInSteps-counted size p.lower next_lower (len old + length p.front) 1 (len old + length next_front) (SameBlock-refl old) (omega (arith, longer)) (λ k _. ap next_lower {x = suc k} (omega arith)) p.climbs
+
+        -- it is placed in w, which v has grown to
+        pub Placing-grown : (k : ℕ) → k ≡ min (n + 1) usize_max → (w new : Vector T A) → Becomes (with_room size v (len v) k) v.items 0 0 w → Holds w (w.items ++ x ∷ []) new → Writes w 1 1 new → Placing t new
+        Placing-grown k e w new made holds writes =
+            let g = GrowsTo-becomes v v.items 0 0 w size k made in let z = Writes-grown v v.items 0 0 w size k made in
+            let asked : k ≡ asked_with (next_lower (len old + length next_front - v.capacity - 1)) = e ∙ ap (λ n. asked_with (next_lower (n - 1))) {x = 1} (omega (arith, full, count, longer)) in
+            let m : MakesRoom size v v.capacity (asked_with (next_lower (len old + length next_front - v.capacity - 1))) w = rw (← asked) (subst (λ j. MakesRoom size v j k w) full g.room) in
+            let room : len w < w.capacity = omega (arith, e, full, ap length g.items, MakesRoom-fits size (len v) k v w g.room (omega (arith, full, MakesRoom-rises size (len v) k v w g.room))) in
+            let climbs : GrowsInSteps size next_lower (len old + length next_front) old w = GrowsInSteps-more size next_lower (len old + length next_front) climbed (omega (arith, full, count, longer)) m in
+            let i : new.items ≡ old.items ++ next_front = holds.items ∙ ap (λ ys. ys ++ x ∷ []) (g.items ∙ p.items) ∙ append_assoc old.items p.front (x ∷ []) in
+            record {
+              front = next_front;
+              lower = next_lower;
+              told = YieldsTelling-more p.lower n iter p.front s x t p.told step tells;
+              within = p.within;
+              climbs = GrowsInSteps-same size next_lower (len old + length next_front) climbs holds.block;
+              items = i;
+              fits = omega (arith, ap length holds.items, length-append w.items (x ∷ []), room, holds.block.capacity);
+              writes = omega (arith, writes.written, writes.runs, z.written, z.runs, p.writes.written, p.writes.runs, longer);
+            }
+
+        -- or room for it was refused, where more may have come from the start on than were placed
+        pub Placing-refused : (left : S → Count) (k : ℕ) → k ≡ min (n + 1) usize_max → (error : TryReserveError) → LacksRoom size v k error → len v < len old + count_of (left iter)
+            → Extended steps Tells left size iter old (Err error) v × LeavesIter steps Tells size iter old t (Err error) v
+        Placing-refused left k e error lacks more =
+            let front : ExtendsByFront steps Tells size iter old error v = record {
+              front = p.front;
+              item = x;
+              lower = next_lower;
+              last = t;
+              told = YieldsTelling-more p.lower n iter p.front s x t p.told step tells;
+              within = p.within;
+              climbs = subst (λ m. GrowsInSteps size next_lower m old v) (omega (arith, longer)) climbed;
+              items = p.items;
+              full = full;
+              lacks = subst (λ j. LacksRoom size v j error) e lacks;
+            } in
+            Extended-left left t (Err error) v (record { ended = tt; stopped = (front, refl) }) (λ h. absurd (omega (arith, h, full, more, GrowsInSteps-rises size p.lower (len old + length p.front) p.climbs)))
+            (omega (arith, p.writes.written, p.writes.runs, count))
+
+module _ {S T : Type 0} (steps : S → Option (Bor T) → S → Type 0) where
+  -- the references that were given
+  Yields-read : (s : S) (xs : List T) (t : S) → Yields (CopiesOf steps) s xs t → (rs : List (Bor T)) × Yields steps s rs t × (xs ≡ map (λ r. r.now) rs)
+  Yields-read s [] t y = ([], y, refl)
+  Yields-read s (x ∷ xs) t y =
+      let others = Yields-read y.0 xs t y.2 in
+      (y.1.0 ∷ others.0, (y.0, y.1.1, others.1), ap (λ z. z ∷ xs) y.1.2 ∙ ap (λ zs. y.1.0.now ∷ zs) others.2)
+
+  pub Drains-read : (s : S) (xs ys : List T) → (zs : List T) × Drains (CopiesOf steps) s zs × (ys ≡ xs ++ zs) → (rs : List (Bor T)) × Drains steps s rs × (ys ≡ xs ++ map (λ r. r.now) rs)
+  Drains-read s xs ys d =
+      let read = Yields-read s d.0 d.1.1.0 d.1.1.1 in
+      (read.0, (d.1.0, (d.1.1.0, read.1, d.1.1.2)), d.2 ∙ ap (λ zs. xs ++ zs) read.2)
+
+-- what all extensions keep
+pub ExtendsByAll-keeps : {S T A : Type 0} (steps : S → Option T → S → Type 0) (Tells : S → ℕ → Type 0) (size : ℕ) (iter : S) (old new : Vector T A) → ExtendsByAll steps Tells size iter old new → (new.growth ≡ old.growth) × (new.alloc ≡ old.alloc)
+ExtendsByAll-keeps steps Tells size iter old new e = GrowsInSteps-keeps size e.lower (len old + length e.added) e.climbs
+
+pub ruleset extended = (ExtendsByAll-keeps)

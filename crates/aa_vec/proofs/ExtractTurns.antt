@@ -1,0 +1,183 @@
+-- Elements that a closure takes out of a range.
+use Rattle.aa_vec.proofs.Common.{◌≡◌, ℕ, zero, suc, ◌+◌, ◌-◌, ◌<◌, ◌≤◌, Bool, true, false, List, [], ◌∷◌, ◌++◌, length, map, take, drop, Option, Some, None, refl, sym, ap, ◌∙◌, subst, arith, inr, append_assoc, length-append, length-drop, slice_set, MatchOption, drop-append-le, drop-drop, drop-map, drop-set-lt, drop_all, drop_at, length-map, length-take-le, take_at, StandsBehind, SetsBack, ClosesGap, behind_items, with_behind, Asked, AskedInOrder, EndsTrue, kept, passed_over, StaysWhen, AsksUntil, AsksBehind, Picks, Vector, len, KeepsDown}
+use Rattle.aa_vec.proofs.Climbing.{SameBlock-trans}
+use Rattle.aa_vec.proofs.BehindLemmas.{still_stand, still_are, same_holds}
+use Rattle.aa_vec.proofs.Retaining.{Follows, follows}
+use Rattle.aa_vec.proofs.Stands.{count, first_are, first_stand, left_are, left_stand, moved_items, others_are, others_stand, parts}
+
+module _ {F T : Type 0} (Asks : F → T → Bool → F → T → Type 0) where
+  -- those that were not asked are as they were
+  until-others : (f h : F) (xs : List T) (k : ℕ) (left : List T) → AsksUntil Asks f xs k h left → drop (suc k) left ≡ drop (suc k) xs
+  until-others f h [] zero left u = ap (drop 1) u.1
+  until-others f h [] (suc k) left u = absurd u
+  until-others f h (x ∷ xs) zero left u = ap (drop 1) u.2
+  until-others f h (x ∷ xs) (suc k) left u = ap (drop (suc (suc k))) u.5 ∙ until-others u.0 h xs k u.2 u.4
+
+  module _ {A : Type 0} {f : F} {old : Vector T A} {gap n k : ℕ} {g : F} {new : Vector T A} (asked : AsksBehind Asks f old gap n k g new) (stands : StandsBehind old gap n) where
+    goes_on : Follows Asks (λ s x. Unit {0}) f (behind_items old gap n) k g asked.left
+    goes_on = follows Asks (λ s x. Unit {0}) f g (behind_items old gap n) k asked.left asked.until
+
+    pub asked_within : k ≤ n
+    asked_within = omega (arith, goes_on.within, count old gap n stands)
+
+    pub asked_long : length asked.left ≡ n
+    asked_long = goes_on.long ∙ count old gap n stands
+
+    pub asked_stand : StandsBehind new gap n
+    asked_stand = left_stand old gap n stands new asked.left asked_long asked.leaves
+
+    -- those that stay
+    pub asked_first : StandsBehind new gap k
+    asked_first = first_stand new gap n asked_stand k asked_within
+
+    pub asked_down : {i : ℕ} {down : Vector T A} → k ≡ i → ClosesGap new gap i down → KeepsDown Asks f old gap n i g down
+    asked_down {i} e closes = record { left = new; asks = subst (λ i. AsksBehind Asks f old gap n i g new) e asked; closes = closes }
+
+module _ {F T : Type 0} (Keeps : F → T → Bool → F → T → Type 0) where
+  abbrev Asks : F → T → Bool → F → T → Type 0
+  Asks = StaysWhen false Keeps
+
+  -- what those were told that were asked in one call: those that stay, and the one that was taken out, if there was one
+  record ToldTo (f : F) (xs : List T) (stay : ℕ) (left : List T) (g : F) : Type 0 where
+    pub told : List (Asked T)
+    pub asked : AskedInOrder Keeps f (take (length told) xs) told g
+    pub count : length told ≡ stay + length (kept told)
+    pub items : kept told ≡ take 1 (drop stay left)
+    pub stays : passed_over told ≡ take stay left
+    pub few : length (passed_over told) ≡ stay
+    pub ends : (x : T) → kept told ≡ x ∷ [] → (front : List (Asked T)) × (told ≡ front ++ record { answer = true; left = x } ∷ [])
+
+  told_to : (f g : F) (xs : List T) (stay : ℕ) (left : List T) → AsksUntil Asks f xs stay g left → ToldTo f xs stay left g
+  told_to f g [] zero left u = rw u.1 (record { told = []; asked = u.0; count = refl; items = refl; stays = refl; few = refl; ends = λ x none. absurd (omega (arith, ap length none)) })
+  told_to f g [] (suc stay) left u = absurd u
+  told_to f g (z ∷ xs) zero left u = rw u.2 (record { told = record { answer = true; left = u.0 } ∷ []; asked = (g, u.1, refl); count = refl; items = refl; stays = refl; few = refl; ends = λ x same. ([], cc) })
+  told_to f g (z ∷ xs) (suc stay) left u =
+      let r = told_to u.0 g xs stay u.2 u.4 in
+      let first : Asked T = record { answer = false; left = u.1 } in
+      rw u.5 (record {
+        told = first ∷ r.told;
+        asked = (u.0, u.3, r.asked);
+        count = omega (arith, r.count);
+        items = r.items;
+        stays = ap (λ l. u.1 ∷ l) r.stays;
+        few = omega (arith, r.few);
+        ends = λ x same. let e = r.ends x same in (first ∷ e.0, ap (λ l. first ∷ l) e.1);
+      })
+
+module _ {T A : Type 0} {old joined : Vector T A} {low : ℕ} (front end : ℕ) (ordered : (low ≤ front) × (front ≤ end)) (before : StandsBehind old 0 low) (stands : StandsBehind old front (end - front)) (joins : ClosesGap old 0 low joined) where
+  abbrev gap : ℕ
+  gap = front - low
+
+  abbrev n : ℕ
+  n = end - front
+
+  apart : drop gap joined.behind ≡ drop front old.behind
+  apart = ap (drop gap) joins.behind ∙ drop-drop gap low old.behind ∙ ap (λ i. drop i old.behind) (omega (arith, ordered.0))
+
+  -- the first are items, and the next may be asked
+  pub joined_stand : StandsBehind joined (front - low) (end - front)
+  joined_stand =
+      let long : len joined ≡ len old + low = omega (arith, ap length joins.holds.items, length-append old.items (behind_items old 0 low), count old 0 low before) in
+      still_stand old joined front gap n stands (omega (arith, stands.0, long, joins.holds.block.capacity, ordered.0)) apart
+
+  module _ {F : Type 0} (Keeps : F → T → Bool → F → T → Type 0) {f g : F} {stay : ℕ} {down : Vector T A} (keeps : KeepsDown (StaysWhen false Keeps) f joined (front - low) (end - front) stay g down) where
+    abbrev left : List T
+    left = keeps.asks.left
+
+    until : AsksUntil (StaysWhen false Keeps) f (behind_items old front n) stay g left
+    until = subst (λ xs. AsksUntil (StaysWhen false Keeps) f xs stay g left) (still_are old joined front gap n apart) keeps.asks.until
+
+    told : ToldTo Keeps f (behind_items old front n) stay left g
+    told = told_to Keeps f g (behind_items old front n) stay left until
+
+    long : length left ≡ n
+    long = asked_long (StaysWhen false Keeps) keeps.asks joined_stand
+
+    pub asked_few : stay ≤ n
+    asked_few = asked_within (StaysWhen false Keeps) keeps.asks joined_stand
+
+    now_stand : StandsBehind keeps.left gap n
+    now_stand = asked_stand (StaysWhen false Keeps) keeps.asks joined_stand
+
+    now_are : behind_items keeps.left gap n ≡ left
+    now_are = left_are joined gap n joined_stand keeps.left left long keeps.asks.leaves
+
+    pub next_stand : StandsBehind down gap (n - stay)
+    next_stand = others_stand keeps.left gap n now_stand stay asked_few down keeps.closes
+
+    -- what stands behind those that stay, and behind those that were there
+    others_in : (xs : List T) → length xs ≡ n → (k : ℕ) → k ≤ n → drop k (map Some xs ++ drop n (drop front old.behind)) ≡ map Some (drop k xs) ++ drop n (drop front old.behind)
+    others_in xs e k h = let some : T → Option T = λ x. Some x in drop-append-le k (map some xs) (drop n (drop front old.behind)) (omega (arith, h, e, length-map xs some)) ∙ ap (λ ds. ds ++ drop n (drop front old.behind)) (drop-map some k xs)
+
+    rest : (j : ℕ) → stay + j ≤ n → drop (stay + j) left ≡ drop (stay + j) (behind_items old front n) → drop j (drop gap down.behind) ≡ drop (front + (stay + j)) old.behind
+    rest j h e =
+        ap (drop j) (keeps.closes.behind ∙ ap (drop stay) (keeps.asks.leaves.behind ∙ ap (λ ds. map Some left ++ drop n ds) apart)) ∙ drop-drop j stay (map Some left ++ drop n (drop front old.behind))
+        ∙ others_in left long (stay + j) h ∙ ap (λ l. map Some l ++ drop n (drop front old.behind)) e ∙ sym (others_in (behind_items old front n) (count old front n stands) (stay + j) h)
+        ∙ ap (drop (stay + j)) (sym (parts old front n stands)) ∙ drop-drop (stay + j) front old.behind
+
+    -- and the items are set back
+    module _ (w : Vector T A) (places : List (Option T)) (differs : w ≡ with_behind down places) (new : Vector T A) (set : SetsBack w (len old) new) where
+      abbrev stays : List T
+      stays = behind_items old 0 low ++ take stay left
+
+      items : w.items ≡ old.items ++ stays
+      items = ap (λ v. v.items) differs ∙ moved_items keeps.left gap n now_stand stay asked_few down keeps.closes ∙ ap (λ v. v.items ++ take stay (behind_items keeps.left gap n)) keeps.asks.leaves.same
+          ∙ ap (λ l. joined.items ++ take stay l) now_are ∙ ap (λ l. l ++ take stay left) joins.holds.items ∙ append_assoc old.items (behind_items old 0 low) (take stay left)
+
+      back : drop (len old) w.items ≡ stays
+      back = ap (drop (len old)) items ∙ drop_at old.items stays (len old) refl
+
+      back_long : length stays ≡ low + stay
+      back_long = omega (arith, length-append (behind_items old 0 low) (take stay left), count old 0 low before, length-take-le stay left (omega (arith, asked_few, long)))
+
+      set_count : len w - len old ≡ low + stay
+      set_count = omega (arith, ap length back, back_long, length-drop (len old) w.items)
+
+      above : (j : ℕ) → drop (low + stay + j) new.behind ≡ drop j w.behind
+      above j =
+          let some : T → Option T = λ x. Some x in
+          sym (drop-drop j (low + stay) new.behind) ∙ ap (drop j) (ap (drop (low + stay)) (set.behind ∙ ap (λ l. map some l ++ w.behind) back) ∙ drop_at (map some stays) w.behind (low + stay) (length-map stays some ∙ back_long))
+
+      picked : (next : ℕ) (item : Option T) → next ≡ front + (stay + length (kept told.told)) → (low + stay ≤ next) × (front ≤ next) × (next ≤ end) → drop next new.behind ≡ drop next old.behind
+          → MatchOption item ((kept told.told ≡ []) × (next ≡ end)) (λ x. (kept told.told ≡ x ∷ []) × EndsTrue told.told) → Picks Keeps f old low front end stay next item g new
+      picked next item e inside same cases = record {
+        told = told.told;
+        asked = told.asked;
+        cases = cases;
+        counts = (sym told.few, omega (arith, e, told.count));
+        holds = record {
+          items = set.holds.items ∙ ap (take (len old)) items ∙ take_at old.items stays (len old) refl;
+          block = SameBlock-trans joins.holds.block (SameBlock-trans (same_holds joined keeps.left _ keeps.asks.leaves.same).block (SameBlock-trans keeps.closes.holds.block (SameBlock-trans (same_holds down w places differs).block set.holds.block)));
+        };
+        stands = subst (StandsBehind new 0) set_count set.stands;
+        stayed = ap (behind_items new 0) (sym set_count) ∙ set.elements ∙ back ∙ ap (λ l. behind_items old 0 low ++ l) (sym told.stays);
+        within = inside;
+        above = same;
+        writes = record {
+          written = omega (arith, joins.writes.written, ap (λ v. v.written) keeps.asks.leaves.same, keeps.closes.writes.written, ap (λ v. v.written) differs, set.writes.written);
+          runs = omega (arith, joins.writes.runs, ap (λ v. v.runs) keeps.asks.leaves.same, keeps.closes.writes.runs, ap (λ v. v.runs) differs, set.writes.runs);
+        };
+      }
+
+    -- none is left to be asked
+    pub Picks-none : n ≤ stay → {new : Vector T A} → SetsBack down (len old) new → Picks Keeps f old low front end stay end None g new
+    Picks-none all {new} set =
+        let e : stay ≡ n = omega (arith, all, asked_few) in
+        let none : kept told.told ≡ [] = told.items ∙ ap (take 1) (drop_all stay left (omega (arith, long, e))) in
+        let there : low + stay + gap ≡ end = omega (arith, e, ordered.0, ordered.1) in
+        let same : drop (stay + 0) left ≡ drop (stay + 0) (behind_items old front n) = drop_all (stay + 0) left (omega (arith, long, e)) ∙ sym (drop_all (stay + 0) (behind_items old front n) (omega (arith, count old front n stands, e))) in
+        picked down down.behind refl new set end None (omega (arith, e, ordered.1, ap length none)) (omega (arith, there), ordered.1, omega arith)
+        (ap (λ i. drop i new.behind) (sym there) ∙ above down down.behind refl new set gap ∙ rest 0 (omega (arith, e)) same ∙ ap (λ i. drop i old.behind) (omega (arith, e, ordered.1))) (none, refl)
+
+    -- the next one was taken out
+    pub Picks-taken : stay < n → {x : T} {w : Vector T A} → behind_items down (front - low) 1 ≡ x ∷ [] → w ≡ with_behind down (slice_set down.behind (front - low) None) → {new : Vector T A} → SetsBack w (len old) new
+        → Picks Keeps f old low front end stay (front + stay + 1) (Some x) g new
+    Picks-taken less {x} {w} value taken {new} set =
+        let next : ℕ = front + stay + 1 in
+        let there : low + stay + (gap + 1) ≡ next = omega (arith, ordered.0) in
+        let one : kept told.told ≡ x ∷ [] = told.items ∙ ap (take 1) (ap (drop stay) (sym now_are) ∙ sym (others_are keeps.left gap n now_stand stay asked_few down keeps.closes)) ∙ sym (first_are down gap (n - stay) next_stand 1 (omega (arith, less))) ∙ value in
+        let same : drop (stay + 1) left ≡ drop (stay + 1) (behind_items old front n) = let one_more : suc stay ≡ stay + 1 = omega arith in subst (λ i. drop i left ≡ drop i (behind_items old front n)) one_more (until-others (StaysWhen false Keeps) f g (behind_items old front n) stay left until) in
+        let last = told.ends x one in
+        picked w (slice_set down.behind gap None) taken new set next (Some x) (omega (arith, ap length one)) (omega (arith, there), omega arith, omega (arith, less))
+        (ap (λ i. drop i new.behind) (sym there) ∙ above w (slice_set down.behind gap None) taken new set (gap + 1) ∙ ap (λ v. drop (gap + 1) v.behind) taken ∙ drop-set-lt (gap + 1) down.behind gap None (omega arith)
+        ∙ sym (drop-drop 1 gap down.behind) ∙ rest 1 (omega (arith, less)) same ∙ ap (λ i. drop i old.behind) (omega arith)) (one, inr (last.0, x, last.1))

@@ -1,5 +1,0 @@
-use Rattle.aa_vec.proofs.Common.{take, drop, Adds}
-use Rattle.aa_vec.proofs.vec.copies.with_own.Given as goal
-
-abbrev pub invariant-each : goal.invariant-each
-invariant-each g l = Adds g.T.Clone.is_clone l.fn.list (take l.pushed (drop l.from l.fn.list.items)) l.list

@@ -1,0 +1,50 @@
+-- What a contract sees of a `Splice`: the range, as a `Drain` has it, and the items that are to
+-- come in its place.
+use Rattle.std.specs.Prelude.{◌≡◌, List, slice_range, filter_map, Option}
+use Rattle.std.specs.declared.iter.Iterator.{Ghosts}
+use Rattle.aa_vec.specs.Drain.{drains_first, drains_last}
+use Rattle.aa_vec.specs.SpliceItems.{Gapped}
+use Rattle.aa_vec.specs.declared.vec.drain.Drain.{Drain}
+use Rattle.aa_vec.specs.declared.vec.splice.Splice.{Splice}
+
+module _ {I A T : Type 0} {g : Ghosts I T} where
+  -- the range, as a drain of it
+  abbrev pub splice_range : Splice I A T g → Drain T A
+  splice_range s = record {
+    vec = s.vec;
+    front = s.front;
+    back = s.back;
+    end = s.end;
+    total = s.total;
+    ordered = s.ordered;
+    held = s.held;
+  }
+
+  -- what is to come in its place
+  abbrev pub splice_iter : Splice I A T g → I
+  splice_iter s = s.iter
+
+  -- the elements before the range, and those behind it: the first are the items of the vector, the
+  -- others stand in the places from `end` up to `total` behind them
+  abbrev pub splice_kept : Splice I A T g → List T × List T
+  splice_kept s = (s.vec.now.items, filter_map (λ c. c) (slice_range s.vec.now.behind s.end s.total))
+
+  -- the vector without the range: those elements, and how many the range had
+  abbrev pub splice_gap : Splice I A T g → Gapped T A
+  splice_gap s =
+      record {
+        block = s.vec.now;
+        head = (splice_kept s).0;
+        gap = s.end;
+        tail = (splice_kept s).1;
+      }
+
+  -- r was taken from the front of the range of s, which is t afterwards, or nothing was left
+  abbrev pub splices_first : Splice I A T g → Option T → Splice I A T g → Type 0
+  splices_first s r t =
+      drains_first (splice_range s) r (splice_range t) × (splice_iter t ≡ splice_iter s)
+
+  -- the same from the back
+  abbrev pub splices_last : Splice I A T g → Option T → Splice I A T g → Type 0
+  splices_last s r t =
+      drains_last (splice_range s) r (splice_range t) × (splice_iter t ≡ splice_iter s)

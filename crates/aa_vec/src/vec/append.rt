@@ -1,0 +1,164 @@
+//! Whole runs of elements that pass from one vector to another.
+ghost use Rattle.std.specs.Prelude.{◌≡◌, ◌-◌, ◌<◌, ◌≤◌, [], ◌++◌, take, drop, IfOk, IfErr, OnOk, OnErr, IsOk, length};
+ghost use Rattle.std.specs.Mem.{type_size};
+ghost use Rattle.aa_raw.specs.Block.{fresh};
+ghost use Rattle.aa_raw.specs.Refusals.{RefusesClones};
+ghost use Rattle.aa_vec.specs.Vector.{len, HasRoom, LacksRoom, Becomes, Holds, Writes, run_count, with_room};
+ghost use Rattle.aa_vec.specs.Copies.{IsMade};
+ghost use Rattle.aa_vec.specs.Split.{Splits, split_room};
+
+use crate::vec::Vec;
+use aa_raw::collections::{TryReserveError, TryReserveErrorKind};
+use aa_raw::raw_vec::{Growth, RawVec};
+use std::alloc::Allocator;
+use std::mem::replace;
+
+impl<T, A: Allocator> Vec<T, A> {
+    /// Moves all elements of `other` behind those of this vector; `other` is empty afterwards and
+    /// keeps its capacity. It takes memory only where they do not fit, and grows then with room to
+    /// spare. A refusal is as that of `try_reserve`, and changes neither vector. It stands for
+    /// `Vec::append`.
+    #[tactic(auto, using(crate::proofs::Becoming::becomes, crate::proofs::Becoming::became))]
+    pub fn append(&mut self, other: &mut Self) -> Result<(), TryReserveError>
+        ensures fits { HasRoom self.old (len other.old) → IsOk result }
+        ensures joined { let moved = length other.old.items in
+            let roomy = with_room (type_size T.row) self.old (length self.old.items) moved in
+            OnOk result (Becomes roomy (self.old.items ++ other.old.items) moved (run_count moved)
+            self.new) }
+        ensures emptied { OnOk result (Becomes other.old [] 0 0 other.new) }
+        ensures refused { IfErr result (LacksRoom (type_size T.row) self.old (len other.old)) }
+        ensures unchanged { OnErr result (self.new ≡ self.old) }
+        ensures stays { OnErr result (other.new ≡ other.old) }
+    {
+        if let Err(error) = self.try_reserve(other.len()) {
+            return Err(error);
+        }
+        self.fill_from(other);
+        Ok(())
+    }
+
+    // Moves all elements of `more`, which fit, behind the last one.
+    pub(crate) fn fill_from(&mut self, more: &mut Self)
+        requires { HasRoom self.old (len more.old) }
+        ensures holds { Holds self.old (self.old.items ++ more.old.items) self.new }
+        ensures behind { self.new.behind ≡ drop (len more.old) self.old.behind }
+        ensures writes { Writes self.old (len more.old) (run_count (len more.old)) self.new }
+        ensures emptied { Holds more.old [] more.new }
+        ensures takes { Writes more.old 0 0 more.new }
+    {
+        self.take_from(more, 0);
+    }
+
+    // Moves the elements of `other` from the index `at` on, which fit, behind the last one.
+    #[inline]
+    #[tactic(auto, using(aa_raw::proofs::Calls::in_runs, crate::proofs::Joining::transferred))]
+    fn take_from(&mut self, other: &mut Self, at: usize)
+        requires within { at ≤ len other.old }
+        requires room { HasRoom self.old (len other.old - at) }
+        ensures holds { Holds self.old (self.old.items ++ drop at other.old.items) self.new }
+        ensures behind { self.new.behind ≡ drop (len other.old - at) self.old.behind }
+        ensures writes { Writes self.old (len other.old - at)
+            (run_count (len other.old - at)) self.new }
+        ensures left { Holds other.old (take at other.old.items) other.new }
+        ensures takes { Writes other.old 0 0 other.new }
+    {
+        let len = self.len;
+        let count = other.len - at;
+        self.block.known();
+        self.block.transfer(len, &mut other.block, at, count);
+        other.len = at;
+        self.len = len + count;
+    }
+
+    /// Takes the elements from `at`, which is at most the length, into a vector of their own, over
+    /// a clone of the allocator and with room for no more than them. `split_off(0)` hands over the
+    /// old block, and this vector takes a new one of the same capacity. A refusal changes nothing:
+    /// `AllocError` with the capacity asked for, also where the allocator's clone is refused, or
+    /// `CapacityOverflow`. It stands for `Vec::split_off`.
+    #[tactic(auto, using(aa_raw::proofs::Calls::with_room))]
+    pub fn split_off(&mut self, at: usize) -> Result<Self, TryReserveError>
+    where
+        A: Clone,
+        requires { at ≤ len self.old }
+        ensures splits { IfOk result (λ v. Splits (type_size T.row) self.old at self.new v) }
+        ensures tail_alloc { IfOk result (λ v. 0 < at → A.is_clone self.old.alloc v.alloc) }
+        ensures head_alloc { OnOk result (at ≡ 0 → A.is_clone self.old.alloc self.new.alloc) }
+        ensures refused { IfErr result (RefusesClones (A.is_infallible self.old.alloc)
+            (split_room self.old at) (type_size T.row)) }
+        ensures unchanged { OnErr result (self.new ≡ self.old) }
+    {
+        let len = self.len;
+        if at == 0 {
+            let block = self.block_like(self.block.capacity())?;
+            self.len = 0;
+            return Ok(Vec {
+                block: replace(&mut self.block, block),
+                len,
+            });
+        }
+        let mut tail = self.empty_like(len - at)?;
+        tail.take_from(self, at);
+        Ok(tail)
+    }
+
+    // An empty vector that grows as this one, with room for `capacity` elements, over a clone of
+    // its allocator.
+    pub(crate) fn empty_like(&self, capacity: usize) -> Result<Self, TryReserveError>
+    where
+        A: Clone,
+        ensures made { IfOk result (IsMade (type_size T.row) capacity self.now.growth [] 0) }
+        ensures alloc { IfOk result (λ v. A.is_clone self.now.alloc v.alloc) }
+        ensures refused { IfErr result
+            (RefusesClones (A.is_infallible self.now.alloc) capacity (type_size T.row)) }
+    {
+        empty_over(self.allocator(), self.growth(), capacity)
+    }
+
+    // A block of `capacity` empty places that grows as this vector, over a clone of its allocator.
+    fn block_like(&self, capacity: usize) -> Result<RawVec<T, A>, TryReserveError>
+    where
+        A: Clone,
+        ensures made { IfOk result
+            (λ b. b ≡ fresh (type_size T.row) capacity self.now.growth b.alloc) }
+        ensures alloc { IfOk result (λ b. A.is_clone self.now.alloc b.alloc) }
+        ensures refused { IfErr result
+            (RefusesClones (A.is_infallible self.now.alloc) capacity (type_size T.row)) }
+    {
+        block_over(self.block.allocator(), self.block.growth(), capacity)
+    }
+}
+
+// An empty vector that grows so, with room for `capacity` elements, over a clone of the allocator.
+#[tactic(auto, using(aa_raw::proofs::Calls::with_room))]
+pub(crate) fn empty_over<T, A: Allocator + Clone>(
+    alloc: &A,
+    growth: Growth,
+    capacity: usize,
+) -> Result<Vec<T, A>, TryReserveError>
+    ensures made { IfOk result (IsMade (type_size T.row) capacity growth [] 0) }
+    ensures alloc { IfOk result (λ v. A.is_clone alloc.now v.alloc) }
+    ensures refused { IfErr result
+        (RefusesClones (A.is_infallible alloc.now) capacity (type_size T.row)) }
+{
+    let block = block_over(alloc, growth, capacity)?;
+    Ok(Vec { block, len: 0 })
+}
+
+// A block of `capacity` empty places that grows so, over a clone of the allocator.
+fn block_over<T, A: Allocator + Clone>(
+    alloc: &A,
+    growth: Growth,
+    capacity: usize,
+) -> Result<RawVec<T, A>, TryReserveError>
+    ensures made { IfOk result (λ b. b ≡ fresh (type_size T.row) capacity growth b.alloc) }
+    ensures alloc { IfOk result (λ b. A.is_clone alloc.now b.alloc) }
+    ensures refused { IfErr result
+        (RefusesClones (A.is_infallible alloc.now) capacity (type_size T.row)) }
+{
+    let Ok(alloc) = alloc.clone() else {
+        return Err(TryReserveErrorKind::AllocError { capacity }.into());
+    };
+    let mut block = RawVec::new_growing_in(growth, alloc);
+    block.try_reserve_exact(0, capacity)?;
+    Ok(block)
+}

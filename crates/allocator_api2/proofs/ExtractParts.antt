@@ -1,0 +1,105 @@
+-- Elements that a run takes out of a range of main.
+use Rattle.allocator_api2.proofs.Common.{◌≡◌, ℕ, suc, ◌+◌, ◌-◌, ◌<◌, ◌≤◌, Bool, true, false, List, [], ◌∷◌, ◌++◌, length, map, take, drop, Some, None, refl, sym, ap, ◌∙◌, subst, arith, inl, inr, append_assoc, length-append, length-drop, length-take, slice_range, ◌⊎◌, if◌then◌else◌, ◌==◌, append-nil, drop-drop, take-append-drop, Asked, AskedInOrder, Vector, len, HasRoom, Holds, SameBlock-refl, SameBlock-trans, Chosen, asking, Holds-more, length-map}
+use Rattle.std.specs.Prelude.{filter, not}
+use Rattle.std.proofs.lemmas.List.{drop-append-le}
+use Rattle.std.proofs.lemmas.List.Filters.{length-filter_both}
+use Rattle.aa_vec.specs.Choosing.{EndsTrue, IsCallableInOrder, kept, passed_over}
+use Rattle.aa_vec.specs.Extract.{ClosesExtract, ExtractedTo, Extracts, ExtractsRange, extract_count, extract_kept, extract_rest, extract_tail}
+use Rattle.aa_vec.specs.declared.vec.extract_if.ExtractBy.{ExtractBy}
+use Rattle.aa_vec.proofs.ExtractRuns.{ExtractedTo-none, Extracted-more, Extracted-end, asked_count, extracts_may}
+use Rattle.allocator_api2.proofs.Taking.{choice_le}
+use Rattle.allocator_api2.specs.RangeCommands.{TakesUpTo}
+use Rattle.allocator_api2.specs.Machine.{Asking, TakesOut}
+
+passed_few : {T : Type 0} (told : List (Asked T)) → length (passed_over told) ≤ length told
+passed_few {T} told = omega (arith, length-map (filter (λ (t : Asked T). not t.answer) told) (λ t. t.left), length-filter_both (λ (t : Asked T). t.answer) (λ t. not t.answer) (λ t. refl) told)
+
+module _ {K T : Type 0} (Keeps : K → T → Bool → K → T → Type 0) where
+  module _ {A : Type 0} where
+    pub length-taken_out : (size : ℕ) (old : Asking T A K) (start end count : ℕ) (new : Asking T A K) → start ≤ end → end ≤ len old.main → (t : TakesOut Keeps size old start end count new)
+        → length (take start old.main.items ++ (passed_over t.told ++ drop (start + length t.told) old.main.items)) ≤ len old.main
+    length-taken_out size old start end count new low high t =
+        let main : Vector T A = old.main in let q : ℕ = length t.told in let middle : List T = slice_range main.items start end in
+        omega (arith, passed_few t.told, asked_count Keeps old.keep new.keep (take q middle) t.told t.asked, length-append {A = T}, length-take {A = T}, length-drop {A = T})
+
+    -- so many elements were taken, and stand behind those of side; others may be asked
+    pub record TakenSoFar (Takes : K → T → Type 0) (k : K) (range : ExtractBy T A) (side : Vector T A) (count : ℕ) (h : K) (later : ExtractBy T A) (new : Vector T A) : Type 0 where
+      pub given : List T
+      pub extracted : ExtractedTo Keeps k range given h later
+      pub many : length given ≡ count
+      pub holds : Holds side (side.items ++ given) new
+      pub may : IsCallableInOrder Keeps Takes h (extract_rest later)
+
+    module _ (Takes : K → T → Type 0) (k : K) (range : ExtractBy T A) (side : Vector T A) where
+      pub TakenSoFar-none : IsCallableInOrder Keeps Takes k (extract_rest range) → TakenSoFar Takes k range side 0 k range side
+      TakenSoFar-none may = record { given = []; extracted = ExtractedTo-none Keeps k range; many = refl; holds = record { items = sym (append-nil side.items); block = SameBlock-refl side }; may = may }
+
+      module _ (count : ℕ) (h g : K) (t w : ExtractBy T A) (mid : Vector T A) (now : TakenSoFar Takes k range side count h t mid) where
+        pub TakenSoFar-more : (x : T) (new : Vector T A) → Extracts Keeps h t (Some x) g w → Holds mid (mid.items ++ x ∷ []) new → TakenSoFar Takes k range side (count + 1) g w new
+        TakenSoFar-more x new next put = record {
+          given = now.given ++ x ∷ [];
+          extracted = Extracted-more Keeps k h g range t w now.given now.extracted.extracted x next;
+          many = omega (arith, now.many, length-append now.given (x ∷ []));
+          holds = Holds-more side mid new now.given (x ∷ []) now.holds put;
+          may = extracts_may Keeps h g t w x next Takes now.may;
+        }
+
+        -- none was left
+        pub TakesUpTo-end : (most : ℕ) → count < most → Extracts Keeps h t None g w → TakesUpTo Keeps k range side most g w mid
+        TakesUpTo-end most less next = record { given = now.given; extracted = Extracted-end Keeps k h g range t w now.given now.extracted.extracted next; enough = inr (omega (arith, now.many, less), next.cases.1); holds = now.holds }
+
+      module _ (count most : ℕ) (h : K) (t : ExtractBy T A) (mid : Vector T A) (now : TakenSoFar Takes k range side count h t mid) where
+        -- as many as were to be taken
+        pub TakesUpTo-all : count ≤ most → most ≤ count → TakesUpTo Keeps k range side most h t mid
+        TakesUpTo-all few all = record { given = now.given; extracted = now.extracted.extracted; enough = inl (omega (arith, now.many, few, all), now.extracted.ends); holds = now.holds }
+
+        pub room_left : count < most → HasRoom side most → HasRoom mid 1
+        room_left less room = omega (arith, ap length now.holds.items, length-append side.items now.given, now.many, now.holds.block.capacity, room, less)
+
+    -- and the range is closed
+    module _ (main side : Vector T A) (k : K) (start end most : ℕ) (ordered : (start ≤ end) × (end ≤ len main)) (range : ExtractBy T A) (takes : ExtractsRange main start end range) (k' : K) (later : ExtractBy T A) (side' : Vector T A) (up : TakesUpTo Keeps k range side most k' later side') (main' : Vector T A) (closes : ClosesExtract later main') where
+      abbrev told : List (Asked T)
+      told = up.extracted.told
+
+      abbrev q : ℕ
+      q = length told
+
+      abbrev middle : List T
+      middle = slice_range main.items start end
+
+      middle_long : length middle ≡ end - start
+      middle_long = omega (arith, length-take (end - start) (drop start main.items), length-drop start main.items, ordered)
+
+      asked : AskedInOrder Keeps k (take q middle) told k'
+      asked = subst (λ l. AskedInOrder Keeps k (take q l) told k') takes.rest up.extracted.asked
+
+      few : q ≤ end - start
+      few = omega (arith, asked_count Keeps k k' (take q middle) told asked, length-take q middle, middle_long)
+
+      rest_are : extract_rest later ++ extract_tail later ≡ drop (start + q) main.items
+      rest_are =
+          let n : ℕ = end - start in let ys : List T = drop start main.items in
+          let tail : extract_tail later ≡ drop n ys = up.extracted.tail ∙ takes.tail ∙ ap (λ i. drop i main.items) (omega (arith, ordered)) ∙ sym (drop-drop n start main.items) in
+          (λ i. (up.extracted.rest ∙ ap (drop q) takes.rest) i ++ tail i) ∙ sym (drop-append-le q (take n ys) (drop n ys) (omega (arith, few, middle_long))) ∙ ap (drop q) (take-append-drop n ys) ∙ drop-drop q start main.items
+
+      left_items : main'.items ≡ take start main.items ++ (passed_over told ++ drop (start + q) main.items)
+      left_items = closes.holds.items ∙ (λ i. (up.extracted.head.items ∙ takes.head.items) i ++ ((up.extracted.kept ∙ ap (λ l. l ++ passed_over told) takes.kept) i ++ rest_are i))
+
+      enough : (length (kept told) ≡ most) × EndsTrue told ⊎ (length (kept told) < most) × (length told ≡ end - start)
+      enough = elim up.enough [
+        | inl all ↦ inl (ap length (sym up.extracted.items) ∙ all.0, all.1)
+        | inr less ↦ inr (omega (arith, less.0, ap length up.extracted.items), omega (arith, few, middle_long, ap length less.1, ap length up.extracted.rest, length-drop q (extract_rest range), ap length takes.rest))
+      ]
+
+      pub chosen : Chosen Keeps (asking main side k) start end most (asking main' side' k')
+      chosen = let choice = choice_le (extract_count later == 0) 0 (length (extract_rest later) + length (extract_tail later)) (omega arith) in record {
+        told = told;
+        asked = asked;
+        enough = enough;
+        left = record { items = left_items; block = SameBlock-trans takes.head.block (SameBlock-trans up.extracted.head.block closes.holds.block) };
+        gave = record { items = up.holds.items ∙ ap (λ l. side.items ++ l) up.extracted.items; block = up.holds.block };
+        written = omega (arith, closes.writes.written, choice, up.extracted.written, takes.writes.written, ap length left_items, ap length rest_are, length-append {A = T}, length-take {A = T}, ordered);
+      }
+
+-- what a loop that takes such elements wants
+pub ruleset choosing = (TakenSoFar-none, TakenSoFar-more, room_left)

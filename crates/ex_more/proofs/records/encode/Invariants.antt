@@ -1,6 +1,0 @@
-use Rattle.std.proofs.Common.{◌≡◌, take, map}
-use Rattle.ex_more.specs.Records.{encoding}
-use Rattle.ex_more.proofs.records.encode.Given as goal
-
-abbrev pub invariant-loop-entry : goal.invariant-loop-entry
-invariant-loop-entry g l = l.bytes.items ≡ encoding (map (λ r. r.now) (take l.entry-index l.records))

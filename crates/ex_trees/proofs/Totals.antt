@@ -1,0 +1,27 @@
+-- The equations of `total` and of `height`, and a tree whose push was refused.
+use Rattle.std.proofs.Common.{◌≡◌, ℕ, suc, ◌+◌, List, [], ◌∷◌, ◌++◌, map, ap, ◌∙◌, arith}
+use Rattle.aa_vec.specs.Vector.{Vector}
+use Rattle.ex_trees.specs.Trees.{total_step, total, total_of_all, height, height_step, greatest}
+use Rattle.ex_trees.specs.declared.tree.Tree.{Tree}
+use Rattle.ex_trees.specs.declared.tree.Tree.TheOpen.{Tree-F}
+use Rattle.ex_trees.specs.declared.tree.Tree.TheViews.{out-Tree, roll-Tree, roll-out-Tree}
+use Rattle.ex_trees.specs.declared.tree.Tree.TheFolds.{fold-roll-Tree, fold_out-Tree}
+
+module _ {A : Type 0} where
+  pub total_roll : (x : Tree-F A (Tree A)) → total (roll-Tree A x) ≡ x.value + total_of_all x.below.items
+  total_roll = fold-roll-Tree A ℕ total_step
+
+  pub total_out : (t : Tree A) → total t ≡ (out-Tree A t).value + total_of_all (out-Tree A t).below.items
+  total_out = fold_out-Tree A ℕ total_step
+
+  pub total_of_all_push : (ts : List (Tree A)) (t : Tree A) → total_of_all (ts ++ (t ∷ [])) ≡ total_of_all ts + total t
+  total_of_all_push [] t = omega arith
+  total_of_all_push (u ∷ ts) t = omega (arith, total_of_all_push ts t)
+
+  pub height_out : (t : Tree A) → height t ≡ suc (greatest (map height (out-Tree A t).below.items))
+  height_out = fold_out-Tree A ℕ height_step
+
+  pub refused_leaves : (t : Tree A) (below : Vector (Tree A) A) → below ≡ (out-Tree A t).below → roll-Tree A (record { below = below; value = (out-Tree A t).value }) ≡ t
+  refused_leaves t below same = ap (λ v. roll-Tree A (record { below = v; value = (out-Tree A t).value })) same ∙ roll-out-Tree A t
+
+pub ruleset totals = (total_roll, total_out, total_of_all_push, refused_leaves)

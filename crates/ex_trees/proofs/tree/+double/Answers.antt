@@ -1,0 +1,12 @@
+use Rattle.std.proofs.Common.{◌^◌, ◌-◌, ◌*◌, length, sym, arith, ap, ◌∙◌}
+use Rattle.std.specs.Prelude.{min}
+use Rattle.ex_trees.specs.declared.tree.Tree.TheViews.{out-roll-Tree}
+use Rattle.ex_trees.proofs.Nodes.{changed_whole, refilled}
+use Rattle.ex_trees.proofs.tree.+double.Goals as goal
+
+pub returns : goal.returns
+returns g t c =
+    let before = c.as_mut_slice-child-items.ensures.value in let inv = c.loop-child.invariant in
+    changed_whole (λ n. min (n * 2) (2 ^ 64 - 1)) c.args.tree.now _ c.loop-child.child-index c.saturating_mul-tree.result c.loop-child.child-items c.as_mut_slice-child-items.result.now
+    (simp out-roll-Tree) (simp out-roll-Tree (refilled _ _ _ (simp out-roll-Tree at (inv.2 ∙ ap length before)))) (sym (simp out-roll-Tree at before))
+    c.saturating_mul-tree.ensures inv.2 (omega (arith, c.loop-child-test.false, inv.2)) inv.1

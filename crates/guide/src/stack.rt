@@ -1,0 +1,88 @@
+//! A collection of its own, on the block: its items stand at the first places.
+ghost use Rattle.std.specs.Prelude.{◌≡◌, [], ◌∷◌, ◌++◌, IfErr, MatchOption, OnOk};
+
+use allocator_api2::collections::Refused;
+use allocator_api2::raw_vec::RawVec;
+use std::alloc::{Allocator, Global};
+use std::marker::Model;
+
+/// A stack: a list to contracts.
+pub struct Stack<T, A: Allocator = Global> {
+    block: RawVec<T, A>,
+    len: usize,
+}
+
+impl<T, A: Allocator> Model for Stack<T, A> {
+    ghost use Rattle.guide.specs.Stack.{Stacked};
+
+    ghost Value = { Stacked T };
+
+    ghost use Rattle.guide.specs.StackInner.{view_of, IsFront};
+
+    ghost view = { view_of };
+
+    ghost invariant = { IsFront };
+}
+
+#[tactic(auto, using(allocator_api2::proofs::Blocks::at_ends))]
+impl<T, A: Allocator> Stack<T, A> {
+    #[tactic(auto, using(allocator_api2::proofs::Blocks::with_room))]
+    pub fn new_in(alloc: A) -> Self
+        ensures { result.items ≡ [] }
+    {
+        Stack {
+            block: RawVec::new_in(alloc),
+            len: 0,
+        }
+    }
+
+    #[tactic(auto, using(allocator_api2::proofs::Blocks::at_ends, allocator_api2::proofs::Blocks::with_room))]
+    pub fn push(&mut self, item: T) -> Result<(), Refused<T>>
+        ensures pushed { OnOk result (self.new.items ≡ self.old.items ++ item ∷ []) }
+        ensures refused { IfErr result (λ r. (r.source ≡ item) × (self.new ≡ self.old)) }
+    {
+        if let Err(error) = self.block.try_reserve(self.len, 1) {
+            return Err(Refused {
+                source: item,
+                error,
+            });
+        }
+        self.block.put(self.len, item);
+        self.len += 1;
+        Ok(())
+    }
+
+    pub fn pop(&mut self) -> Option<T>
+        ensures { MatchOption result ((self.old.items ≡ []) × (self.new ≡ self.old))
+            (λ x. self.old.items ≡ self.new.items ++ x ∷ []) }
+    {
+        if self.len == 0 {
+            return None;
+        }
+        self.len -= 1;
+        Some(self.block.take(self.len))
+    }
+
+    // The items behind the first move down by one place.
+    #[tactic(auto, using(allocator_api2::proofs::Blocks::at_positions))]
+    pub fn pop_first(&mut self) -> Option<T>
+        ensures { MatchOption result ((self.old.items ≡ []) × (self.new ≡ self.old))
+            (λ x. self.old.items ≡ x ∷ self.new.items) }
+    {
+        if self.len == 0 {
+            return None;
+        }
+        let last = self.len - 1;
+        let first = self.block.take(0);
+        self.block.move_run(1, 0, last);
+        self.len = last;
+        Some(first)
+    }
+}
+
+impl<T: Drop, A: Allocator> Drop for Stack<T, A> {
+    fn drop(self) {
+        let Stack { mut block, len } = self;
+        block.drop_run(0, len);
+    }
+}
