@@ -136,8 +136,8 @@ fn grows_by_size_alone<T, A: Allocator>(
     ensures { OnOk result (v.old.capacity - length v.old.items < additional
         → 0 < type_size T.row) }
 {
-    let _before = v.capacity();
+    v.known();
     v.try_reserve(additional)?;
-    let _after = v.capacity();
+    v.known();
     Ok(())
 }

@@ -211,6 +211,7 @@ fn put_repeated<T: Copy, A: Allocator>(made: &mut Vec<T, A>, source: &[T], n: us
     ensures items { Holds made.old (repeat n source.now) made.new }
     ensures writes { WritesAtMost made.old (n * length source.now) made.new }
 {
+    made.known();
     put_copies(made, source);
     let mut done = 1;
     'each: while done < n {

@@ -56,6 +56,7 @@ impl<T, A: Allocator> Ring<T, A> {
         ensures count { result ≡ length self.now.items }
         ensures within { result ≤ self.now.capacity }
     {
+        self.block.known();
         self.count + self.wrapped
     }
 
@@ -71,6 +72,7 @@ impl<T, A: Allocator> Ring<T, A> {
     pub fn get(&self, index: usize) -> Option<&T>
         ensures { option_copied result ≡ slice_get self.now.items index }
     {
+        self.block.known();
         if index < self.count {
             return Some(self.block.place(self.front + index));
         }
@@ -175,6 +177,7 @@ impl<T, A: Allocator> Ring<T, A> {
             (λ x. self.old.items ≡ x ∷ self.new.items) }
         ensures rest { self.new ≡ wrote self.old self.new.items 0 }
     {
+        self.block.known();
         if self.count > 0 {
             let item = self.block.take(self.front);
             self.front += 1;
@@ -198,6 +201,7 @@ impl<T, A: Allocator> Ring<T, A> {
             (λ x. self.old.items ≡ self.new.items ++ x ∷ []) }
         ensures rest { self.new ≡ wrote self.old self.new.items 0 }
     {
+        self.block.known();
         if self.wrapped != 0 {
             self.wrapped -= 1;
             return Some(self.block.take(self.wrapped));

@@ -30,6 +30,7 @@ pub fn push_record<A: Allocator>(log: &mut Vec<u8, A>, entry: &[u8]) -> Result<(
         (log.old.items ++ encoded entry.now) log.new) }
     ensures refused { OnErr result (log.new ≡ log.old) }
 {
+    log.known();
     let count = (entry.len() as u64).to_le_bytes();
     let Some(more) = entry.len().checked_add(count.len()) else {
         return Err(TryReserveErrorKind::CapacityOverflow.into());
