@@ -4,7 +4,7 @@ ghost use Rattle.std.specs.Iterator.{UpTo, item_count};
 ghost use Rattle.std.specs.Iterator.SizeHint.{IsWithinCount};
 ghost use Rattle.aa_vec.specs.Extend.{gives_item, lower_by};
 
-use crate::vec::Vec;
+use crate::vec::{IntoIter, Vec};
 use std::alloc::{Allocator, Global};
 use std::marker::Model;
 
@@ -23,17 +23,16 @@ pub trait Hinted: Iterator {
 /// original has no such type.
 #[derive(Drop)]
 pub struct Items<T, A: Allocator = Global> {
-    rest: Vec<T, A>,
+    rest: IntoIter<T, A>,
     hint: Option<usize>,
 }
 
 impl<T, A: Allocator> Model for Items<T, A> {
-    ghost use Rattle.std.specs.Prelude.{reverse};
     ghost use Rattle.aa_vec.specs.Extend.{ItemsLeft};
 
     ghost Value = { ItemsLeft T };
 
-    ghost view = { λ s. record { items = reverse s.rest.items; hint = s.hint } };
+    ghost view = { λ s. record { items = s.rest.items; hint = s.hint } };
 }
 
 impl<T, A: Allocator> Items<T, A> {
@@ -42,8 +41,7 @@ impl<T, A: Allocator> Items<T, A> {
     pub fn new(items: Vec<T, A>, hint: Option<usize>) -> Self
         ensures { result ≡ record { items = items.items; hint = hint } }
     {
-        let mut rest = items;
-        rest.as_mut_slice().reverse();
+        let rest = items.into_iter();
         Items { rest, hint }
     }
 }
@@ -58,7 +56,7 @@ impl<T: Drop, A: Allocator> Iterator for Items<T, A> {
     /// Takes the first item, if one is left, and else answers `None` for good.
     #[inline]
     fn next(&mut self) -> Option<T> {
-        self.rest.pop()
+        self.rest.next()
     }
 
     /// No bounds, `(0, None)`, so that nothing untrue is told here; `lower` has the hint.
