@@ -1,6 +1,6 @@
 -- What a vector becomes, as one equation and by its parts.
 use Rattle.aa_vec.proofs.Common.{◌≡◌, ℕ, List, length, ap, Vector, GrowsTo, HasRoom, Holds, Writes, with_room, Becomes}
-use Rattle.aa_vec.proofs.Climbing.{MakesRoom-stays}
+use Rattle.aa_vec.proofs.GrowthLemmas.{MakesRoom-stays}
 
 module _ {T A : Type 0} (old : Vector T A) (xs : List T) (n k : ℕ) (new : Vector T A) where
   pub Becomes-holds : Holds old xs new → Writes old n k new → Becomes old xs n k new

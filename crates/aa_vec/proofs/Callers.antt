@@ -3,7 +3,7 @@
 use Rattle.aa_vec.proofs.Common.{◌≡◌, ℕ, zero, suc, ◌-◌, ◌<◌, ◌≤◌, Bool, true, false, List, [], ◌∷◌, ◌++◌, length, take, replicate, refl, sym, ap, ◌∙◌, arith, inl, inr, filter, ◌==◌, if◌then◌else◌, Result, Ok, Err, OnOk, FoldsTo, usize_max, Retains, kept, MayCallTimes, LengthensBy, Vector, len, sized, GrowsTo, HasRoom, Holds, cases_lt, append-nil, map-id, take_all, take-nil}
 use Rattle.aa_vec.proofs.Becoming.{became}
 use Rattle.aa_vec.proofs.Callable.{IsCallableInOrder-any, IsCallableAlong-any}
-use Rattle.aa_vec.proofs.Climbing.{MakesRoom-has, SameBlock-trans}
+use Rattle.aa_vec.proofs.GrowthLemmas.{MakesRoom-has, SameBlock-trans}
 use Rattle.aa_vec.proofs.Steady.{asked-steady, asked-reading, kept-steady}
 
 -- new room for n elements has room for n

@@ -2,7 +2,7 @@
 use Rattle.aa_vec.proofs.Common.{◌≡◌, ℕ, ◌+◌, ◌-◌, ◌<◌, ◌≤◌, List, [], ◌∷◌, ◌++◌, length, take, drop, get_or, replicate, refl, sym, ap, ◌∙◌, subst, arith, inr, length-append, length-drop, length-take, length-replicate, take_all, take_at, TryReserveError, Copies, Adds, Fills, Vector, len, GrowsTo, Holds, SameBlock, Writes, All, AllZip, replicate_more, get_or-replicate, get_or_append_left, get_or-drop, get_or-take, all_zip_more, same_from_all_zip, IsBeginning, Begins, Undone, Refuses, with_items, Becomes, with_room}
 use Rattle.aa_raw.specs.declared.collections.TryReserveErrorKind.TheVariants.{AllocError}
 use Rattle.aa_vec.proofs.Becoming.{GrowsTo-becomes, Writes-grown}
-use Rattle.aa_vec.proofs.Climbing.{MakesRoom, Holds-more, MakesRoom-has, MakesRoom-same, SameBlock-trans}
+use Rattle.aa_vec.proofs.GrowthLemmas.{MakesRoom, Holds-more, MakesRoom-has, MakesRoom-same, SameBlock-trans}
 
 -- clones of one value and the value itself, where clones are copies
 pub all-copied : {T : Type 0} (clones : T → T → Type 0) (k : ℕ) (x : T) (ys : List T) → 0 < k → Copies clones → AllZip clones (replicate (k - 1) x) ys → ys ++ x ∷ [] ≡ replicate k x

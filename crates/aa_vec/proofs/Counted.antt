@@ -1,6 +1,6 @@
 -- Extensions by an iterator that tells a function of how many items are to come.
 use Rattle.aa_vec.proofs.Common.{◌≡◌, ℕ, ◌+◌, ◌-◌, ◌<◌, ◌≤◌, List, [], ◌∷◌, ◌++◌, length, Option, None, append_assoc, refl, sym, ap, ◌∙◌, subst, arith, inl, inr, length-append, min, cases_lt, append-nil, TryReserveError, usize_max, Vector, len, SameBlock, LacksRoom, YieldsTelling, ExtendsAll, ExtendsFull, ExtendsByAll, ExtendsByFront, ItemsLeft, gives_item, lower_by, TellsExactly, asked_with}
-use Rattle.aa_vec.proofs.Climbing.{all_of, full_of, MakesRoom, SameBlock-refl, GrowsInSteps-counted, GrowsInSteps-exact}
+use Rattle.aa_vec.proofs.GrowthLemmas.{all_of, full_of, MakesRoom, SameBlock-refl, GrowsInSteps-counted, GrowsInSteps-exact}
 use Rattle.aa_vec.proofs.HintLemmas.{told_first}
 
 -- another function tells the same of `taken`, behind which `more` is to come; and the vector was another in the same block
@@ -8,8 +8,8 @@ module _ {T A : Type 0} (size : ℕ) (lower by : ℕ → ℕ) {u v : Vector T A}
     (same : (k : ℕ) → (length head ≤ u.capacity → k < length taken) → lower k ≡ by (k + length more)) where
   pub ExtendsAll-told : (new : Vector T A) → more ≡ [] → ExtendsAll size lower v head taken new → ExtendsAll size by u head taken new
   ExtendsAll-told new none x =
-      let climbs = GrowsInSteps-counted size lower by (length head + length taken) (length more) (length head + length taken) b (omega (arith, ap length none)) (λ k l. same k (λ within. omega (arith, l, within))) x.climbs in
-      record { climbs = climbs; enough = x.enough; items = x.items }
+      let in_steps = GrowsInSteps-counted size lower by (length head + length taken) (length more) (length head + length taken) b (omega (arith, ap length none)) (λ k l. same k (λ within. omega (arith, l, within))) x.in_steps in
+      record { in_steps = in_steps; enough = x.enough; items = x.items }
 
   pub ExtendsFull-told : (all : List T) → all ≡ taken ++ more → (error : TryReserveError) (new : Vector T A) → ExtendsFull size lower v head taken error new → ExtendsFull size by u head all error new
   ExtendsFull-told all e error new x =
@@ -23,7 +23,7 @@ module _ {T A : Type 0} (size : ℕ) (lower by : ℕ → ℕ) {u v : Vector T A}
         front = x.front;
         others = others;
         begins = e ∙ ap (λ ys. ys ++ more) x.begins ∙ append_assoc x.front x.others more;
-        climbs = GrowsInSteps-counted size lower by (length head + length taken) (length more) (length head + length all) b (omega (arith, all_is)) (λ k l. same k (λ within. omega (arith, l, within))) x.climbs;
+        in_steps = GrowsInSteps-counted size lower by (length head + length taken) (length more) (length head + length all) b (omega (arith, all_is)) (λ k l. same k (λ within. omega (arith, l, within))) x.in_steps;
         short = omega (arith, x.short, all_is);
         items = x.items;
         full = x.full;
@@ -85,4 +85,4 @@ module _ {T A : Type 0} (size : ℕ) (iter : ItemsLeft T) (old : Vector T A) whe
   pub ExtendsAll-counted : (new : Vector T A) → ExtendsByAll gives_item (TellsExactly items_lower) size iter old new → iter.hint ≡ None → length iter.items ≤ usize_max → MakesRoom size old old.capacity (len old + length iter.items - old.capacity) new
   ExtendsAll-counted new e none few =
       let x = ExtendsAll-items new e in
-      GrowsInSteps-exact size (lower_by iter.hint) (len old + length iter.items) (λ n. ap (λ hint. lower_by hint n) none) x.climbs x.enough (omega (arith, few, e.within))
+      GrowsInSteps-exact size (lower_by iter.hint) (len old + length iter.items) (λ n. ap (λ hint. lower_by hint n) none) x.in_steps x.enough (omega (arith, few, e.within))

@@ -3,7 +3,7 @@ use Rattle.aa_vec.proofs.Common.{re_v, ◌≡◌, ℕ, ◌+◌, ◌-◌, ◌<◌
 use Rattle.std.proofs.iter.runs.Sources.{from_front, from_back, as_is, as_is_back}
 use Rattle.aa_vec.proofs.Gaps.{run-of_drop, IsRun-to_drop}
 use Rattle.aa_vec.specs.Drain.{Closes, KeepsRest, TakesRange, DrainKeeps, DrainKeepsAlong, drain_rest, drain_tail, drains_first, drains_last}
-use Rattle.aa_vec.proofs.Climbing.{SameBlock-refl, SameBlock-trans}
+use Rattle.aa_vec.proofs.GrowthLemmas.{SameBlock-refl, SameBlock-trans}
 use Rattle.aa_vec.proofs.BehindLemmas.{part_stand, later_part}
 use Rattle.aa_vec.proofs.Stands.{first_are}
 

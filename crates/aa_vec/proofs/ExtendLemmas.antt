@@ -4,7 +4,7 @@ use Rattle.std.specs.Borrow.{Bor}
 use Rattle.aa_vec.proofs.Answered.{IsOk, on_ok, if_err}
 use Rattle.std.proofs.iter.runs.Consumers.{total_runs}
 use Rattle.aa_vec.proofs.Becoming.{GrowsTo-becomes, Writes-grown}
-use Rattle.aa_vec.proofs.Climbing.{MakesRoom, SameBlock-refl, MakesRoom-fits, MakesRoom-rises, GrowsInSteps-same, GrowsInSteps-more, GrowsInSteps-rises, GrowsInSteps-counted, GrowsInSteps-keeps}
+use Rattle.aa_vec.proofs.GrowthLemmas.{MakesRoom, SameBlock-refl, MakesRoom-fits, MakesRoom-rises, GrowsInSteps-same, GrowsInSteps-more, GrowsInSteps-rises, GrowsInSteps-counted, GrowsInSteps-keeps}
 
 -- the items that came, as one run
 pub whole_run : {S A : Type 0} (steps : S → Option A → S → Type 0) (s : S) (P : List A → Type 0) → (xs : List A) × Drains steps s xs × P xs → WholeRun steps s (λ p. P p.items)
@@ -52,7 +52,7 @@ module _ {S T : Type 0} (steps : S → Option T → S → Type 0) (Tells : S →
       pub lower : ℕ → ℕ
       pub told : YieldsTelling steps Tells lower iter front s
       pub within : len old ≤ old.capacity
-      pub climbs : GrowsInSteps size lower (len old + length front) old v
+      pub in_steps : GrowsInSteps size lower (len old + length front) old v
       pub items : v.items ≡ old.items ++ front
       pub fits : len v ≤ v.capacity
       pub writes : Writes old (length front) (length front) v
@@ -63,7 +63,7 @@ module _ {S T : Type 0} (steps : S → Option T → S → Type 0) (Tells : S →
       lower = λ _. 0;
       told = refl;
       within = h;
-      climbs = stays (SameBlock-refl old);
+      in_steps = stays (SameBlock-refl old);
       items = sym (append-nil old.items);
       fits = h;
       writes = omega arith;
@@ -83,7 +83,7 @@ module _ {S T : Type 0} (steps : S → Option T → S → Type 0) (Tells : S →
             told = p.told;
             ends = (u, h);
             within = p.within;
-            climbs = p.climbs;
+            in_steps = p.in_steps;
             enough = omega (arith, p.fits, count);
             items = p.items;
           } in
@@ -102,7 +102,7 @@ module _ {S T : Type 0} (steps : S → Option T → S → Type 0) (Tells : S →
             lower = r.0;
             told = r.1;
             within = p.within;
-            climbs = GrowsInSteps-same size r.0 (len old + length front) (GrowsInSteps-counted size p.lower r.0 (len old + length p.front) (length xs) (len old + length front) (SameBlock-refl old) (omega (arith, longer)) (λ k _. r.2 k) p.climbs) q.holds.block;
+            in_steps = GrowsInSteps-same size r.0 (len old + length front) (GrowsInSteps-counted size p.lower r.0 (len old + length p.front) (length xs) (len old + length front) (SameBlock-refl old) (omega (arith, longer)) (λ k _. r.2 k) p.in_steps) q.holds.block;
             items = e;
             fits = omega (arith, ap length e, length-append old.items front, longer, count, p.fits, q.comes.count, q.holds.block.capacity);
             writes = omega (arith, q.writes.written, q.writes.runs, p.writes.written, p.writes.runs, longer);
@@ -127,8 +127,8 @@ module _ {S T : Type 0} (steps : S → Option T → S → Type 0) (Tells : S →
         longer : length next_front ≡ length p.front + 1
         longer = length-append p.front (x ∷ [])
 
-        climbed : GrowsInSteps size next_lower (len old + length next_front) old v
-        climbed = GrowsInSteps-counted size p.lower next_lower (len old + length p.front) 1 (len old + length next_front) (SameBlock-refl old) (omega (arith, longer)) (λ k _. ap next_lower {x = suc k} (omega arith)) p.climbs
+        grown_in_steps : GrowsInSteps size next_lower (len old + length next_front) old v
+        grown_in_steps = GrowsInSteps-counted size p.lower next_lower (len old + length p.front) 1 (len old + length next_front) (SameBlock-refl old) (omega (arith, longer)) (λ k _. ap next_lower {x = suc k} (omega arith)) p.in_steps
 
         -- it is placed in w, which v has grown to
         pub Placing-grown : (k : ℕ) → k ≡ min (n + 1) usize_max → (w new : Vector T A) → Becomes (with_room size v (len v) k) v.items 0 0 w → Holds w (w.items ++ x ∷ []) new → Writes w 1 1 new → Placing t new
@@ -137,14 +137,14 @@ module _ {S T : Type 0} (steps : S → Option T → S → Type 0) (Tells : S →
             let asked : k ≡ asked_with (next_lower (len old + length next_front - v.capacity - 1)) = e ∙ ap (λ n. asked_with (next_lower (n - 1))) {x = 1} (omega (arith, full, count, longer)) in
             let m : MakesRoom size v v.capacity (asked_with (next_lower (len old + length next_front - v.capacity - 1))) w = rw (← asked) (subst (λ j. MakesRoom size v j k w) full g.room) in
             let room : len w < w.capacity = omega (arith, e, full, ap length g.items, MakesRoom-fits size (len v) k v w g.room (omega (arith, full, MakesRoom-rises size (len v) k v w g.room))) in
-            let climbs : GrowsInSteps size next_lower (len old + length next_front) old w = GrowsInSteps-more size next_lower (len old + length next_front) climbed (omega (arith, full, count, longer)) m in
+            let in_steps : GrowsInSteps size next_lower (len old + length next_front) old w = GrowsInSteps-more size next_lower (len old + length next_front) grown_in_steps (omega (arith, full, count, longer)) m in
             let i : new.items ≡ old.items ++ next_front = holds.items ∙ ap (λ ys. ys ++ x ∷ []) (g.items ∙ p.items) ∙ append_assoc old.items p.front (x ∷ []) in
             record {
               front = next_front;
               lower = next_lower;
               told = YieldsTelling-more p.lower n iter p.front s x t p.told step tells;
               within = p.within;
-              climbs = GrowsInSteps-same size next_lower (len old + length next_front) climbs holds.block;
+              in_steps = GrowsInSteps-same size next_lower (len old + length next_front) in_steps holds.block;
               items = i;
               fits = omega (arith, ap length holds.items, length-append w.items (x ∷ []), room, holds.block.capacity);
               writes = omega (arith, writes.written, writes.runs, z.written, z.runs, p.writes.written, p.writes.runs, longer);
@@ -161,12 +161,12 @@ module _ {S T : Type 0} (steps : S → Option T → S → Type 0) (Tells : S →
               last = t;
               told = YieldsTelling-more p.lower n iter p.front s x t p.told step tells;
               within = p.within;
-              climbs = subst (λ m. GrowsInSteps size next_lower m old v) (omega (arith, longer)) climbed;
+              in_steps = subst (λ m. GrowsInSteps size next_lower m old v) (omega (arith, longer)) grown_in_steps;
               items = p.items;
               full = full;
               lacks = subst (λ j. LacksRoom size v j error) e lacks;
             } in
-            Extended-left left t (Err error) v (record { ended = tt; stopped = (front, refl) }) (λ h. absurd (omega (arith, h, full, more, GrowsInSteps-rises size p.lower (len old + length p.front) p.climbs)))
+            Extended-left left t (Err error) v (record { ended = tt; stopped = (front, refl) }) (λ h. absurd (omega (arith, h, full, more, GrowsInSteps-rises size p.lower (len old + length p.front) p.in_steps)))
             (omega (arith, p.writes.written, p.writes.runs, count))
 
 module _ {S T : Type 0} (steps : S → Option (Bor T) → S → Type 0) where
@@ -184,6 +184,6 @@ module _ {S T : Type 0} (steps : S → Option (Bor T) → S → Type 0) where
 
 -- what all extensions keep
 pub ExtendsByAll-keeps : {S T A : Type 0} (steps : S → Option T → S → Type 0) (Tells : S → ℕ → Type 0) (size : ℕ) (iter : S) (old new : Vector T A) → ExtendsByAll steps Tells size iter old new → (new.growth ≡ old.growth) × (new.alloc ≡ old.alloc)
-ExtendsByAll-keeps steps Tells size iter old new e = GrowsInSteps-keeps size e.lower (len old + length e.added) e.climbs
+ExtendsByAll-keeps steps Tells size iter old new e = GrowsInSteps-keeps size e.lower (len old + length e.added) e.in_steps
 
 pub ruleset extended = (ExtendsByAll-keeps)

@@ -2,7 +2,7 @@
 use Rattle.aa_vec.proofs.Common.{◌≡◌, ℕ, suc, ◌+◌, ◌-◌, ◌<◌, ◌≤◌, Bool, true, not, List, [], ◌∷◌, ◌++◌, length, map, take, drop, Option, Some, None, refl, sym, ap, ◌∙◌, subst, arith, inl, inr, append_assoc, length-append, length-drop, length-take, filter, Yields, append-nil, drop-drop, filter-append, length-map, Asked, AskedInOrder, MayAskInOrder, IsCallableInOrder, kept, passed_over, Extracts, extract_kept, extract_rest, ExtractBy, ExtractIf, MakesProgress, at_most, map-append, Extracted, ExtractedTo, ExtractsAlong, extract_count, extract_vec}
 use lib.Seq.{take-add}
 use Rattle.std.proofs.lemmas.List.Filters.{length-filter_both}
-use Rattle.aa_vec.proofs.Climbing.{SameBlock-refl, SameBlock-trans}
+use Rattle.aa_vec.proofs.GrowthLemmas.{SameBlock-refl, SameBlock-trans}
 use Rattle.aa_vec.proofs.Closed.{few_runs, moved_most}
 
 pub kept-append : {T : Type 0} (told more : List (Asked T)) → kept (told ++ more) ≡ kept told ++ kept more

@@ -1,6 +1,6 @@
 -- Elements that a closure takes out of a range.
 use Rattle.aa_vec.proofs.Common.{◌≡◌, ℕ, zero, suc, ◌+◌, ◌-◌, ◌<◌, ◌≤◌, Bool, true, false, List, [], ◌∷◌, ◌++◌, length, map, take, drop, Option, Some, None, refl, sym, ap, ◌∙◌, subst, arith, inr, append_assoc, length-append, length-drop, slice_set, MatchOption, drop-append-le, drop-drop, drop-map, drop-set-lt, drop_all, drop_at, length-map, length-take-le, take_at, StandsBehind, SetsBack, ClosesGap, behind_items, with_behind, Asked, AskedInOrder, EndsTrue, kept, passed_over, StaysWhen, AsksUntil, AsksBehind, Picks, Vector, len, KeepsDown}
-use Rattle.aa_vec.proofs.Climbing.{SameBlock-trans}
+use Rattle.aa_vec.proofs.GrowthLemmas.{SameBlock-trans}
 use Rattle.aa_vec.proofs.BehindLemmas.{still_stand, still_are, same_holds}
 use Rattle.aa_vec.proofs.Retaining.{Follows, follows}
 use Rattle.aa_vec.proofs.Stands.{count, first_are, first_stand, left_are, left_stand, moved_items, others_are, others_stand, parts}

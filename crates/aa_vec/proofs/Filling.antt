@@ -1,6 +1,6 @@
 -- A gap before the elements behind the items of a vector: items are put into it, and it is made.
 use Rattle.aa_vec.proofs.Common.{◌≡◌, ℕ, ◌+◌, ◌-◌, ◌<◌, ◌≤◌, List, [], ◌∷◌, ◌++◌, length, take, drop, Option, Some, None, append_assoc, refl, sym, ap, ◌∙◌, subst, arith, length-append, length-take, if◌then◌else◌, ◌==◌, Yields, append-nil, drop-drop, wrote, IsRun, run, moved, length-moved, length-run, IsRun-long, IsRun-same, run-moved, run-moved-below, Vector, len, Holds, Writes, GrowsTo, view_of, IsFront, StandsBehind, SetsBack, ClosesGap, behind_items, Widens, Placed, FillsGap, FillsAndCloses, Inside, OpensGap}
-use Rattle.aa_vec.proofs.Climbing.{SameBlock-refl, SameBlock-trans, MakesRoom-has}
+use Rattle.aa_vec.proofs.GrowthLemmas.{SameBlock-refl, SameBlock-trans, MakesRoom-has}
 use Rattle.aa_vec.proofs.BehindLemmas.{still_stand, still_are}
 use Rattle.aa_vec.proofs.Gaps.{run-of_drop, IsRun-to_drop, there, elements}
 

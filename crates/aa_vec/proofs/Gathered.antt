@@ -2,7 +2,7 @@
 use Rattle.aa_vec.proofs.Common.{◌≡◌, ℕ, ◌+◌, ◌-◌, ◌<◌, List, [], ◌∷◌, ◌++◌, length, Option, refl, suc, sym, ap, cases_lt, ◌∙◌, subst, arith, inl, inr, length-append, min, append-nil, TryReserveError, Doubling, amortized, least_of, usize_max, Vector, len, IsNew, LacksRoom, GrowsTo, Holds, GrowsInSteps, stays, grows, ExtendsFull, ExtendsByAll, ExtendsByFront, Gathers, GathersShort, LacksOthers, Told, asked_with, Becomes, with_room}
 use Rattle.aa_raw.specs.Refusals.{IsRefusedAt}
 use Rattle.aa_vec.proofs.Becoming.{GrowsTo-becomes}
-use Rattle.aa_vec.proofs.Climbing.{MakesRoom, MakesRoom-stays, SameBlock-refl, GrowsInSteps-counted}
+use Rattle.aa_vec.proofs.GrowthLemmas.{MakesRoom, MakesRoom-stays, SameBlock-refl, GrowsInSteps-counted}
 use Rattle.aa_vec.proofs.Counted.{ExtendsFull-told, front_first}
 use Rattle.aa_vec.proofs.Lists.{equal, unequal}
 use Rattle.aa_vec.proofs.HintLemmas.{told_first}
@@ -47,7 +47,7 @@ module _ {S T A : Type 0} (steps : S → Option T → S → Type 0) (Tells : S �
           front = [];
           others = first ∷ [];
           begins = refl;
-          climbs = stays (SameBlock-refl made);
+          in_steps = stays (SameBlock-refl made);
           short = omega (arith, none);
           items = new.items;
           full = omega (arith, none);
@@ -75,8 +75,8 @@ module _ {S T A : Type 0} (steps : S → Option T → S → Type 0) (Tells : S �
           let taken : List T = e.front ++ e.item ∷ [] in
           let f = front_first steps Tells size s put.block error e n tells in
           let needed : ℕ = 0 + suc (length taken) in
-          let rest : GrowsInSteps size f.0 needed v x = subst (λ k. GrowsInSteps size f.0 k v x) (omega (arith, ap length one)) f.4.climbs in
-          let climbs : GrowsInSteps size f.0 needed made x = elim (cases_lt made.capacity (len made + wanted)) [
+          let rest : GrowsInSteps size f.0 needed v x = subst (λ k. GrowsInSteps size f.0 k v x) (omega (arith, ap length one)) f.4.in_steps in
+          let in_steps : GrowsInSteps size f.0 needed made x = elim (cases_lt made.capacity (len made + wanted)) [
             | inr h ↦ GrowsInSteps-counted size f.0 f.0 needed 0 needed (MakesRoom-stays size (len made) wanted made v g.room (omega (arith, h))) (omega arith) (λ k _. ap f.0 (omega arith)) rest
             | inl h ↦
                 let none : made.capacity ≡ 0 = no_places (omega (arith, h, ap length new.items)) in
@@ -87,7 +87,7 @@ module _ {S T A : Type 0} (steps : S → Option T → S → Type 0) (Tells : S �
             front = first ∷ f.4.front;
             others = f.4.others;
             begins = ap (λ ys. first ∷ ys) f.4.begins;
-            climbs = climbs;
+            in_steps = in_steps;
             short = omega (arith, f.4.short, ap length one);
             items = f.4.items ∙ ap (λ ys. ys ++ f.4.front) one;
             full = omega (arith, f.4.full, ap length one);

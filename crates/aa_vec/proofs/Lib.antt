@@ -1,7 +1,7 @@
 pub mod Becoming
 pub mod Common
 pub mod Boxing
-pub mod Climbing
+pub mod GrowthLemmas
 pub mod CopiesLemmas
 pub mod Counted
 pub mod ExtendLemmas

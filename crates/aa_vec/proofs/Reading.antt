@@ -25,7 +25,7 @@ module _ {S U N T : Type 0} (steps : S → Option T → S → Type 0) (seen : U 
               told = told.1;
               ends = (held e.ends.0, none.1);
               within = e.within;
-              climbs = e.climbs;
+              in_steps = e.in_steps;
               enough = e.enough;
               items = e.items;
             },
@@ -40,7 +40,7 @@ module _ {S U N T : Type 0} (steps : S → Option T → S → Type 0) (seen : U 
               last = held e.last;
               told = told.1;
               within = e.within;
-              climbs = e.climbs;
+              in_steps = e.in_steps;
               items = e.items;
               full = e.full;
               lacks = e.lacks;

@@ -1,7 +1,7 @@
 -- Items put before the last ones of a vector, in room made for those that were told, and then for the others.
 use Rattle.aa_vec.proofs.Common.{◌≡◌, ℕ, ◌+◌, ◌-◌, ◌*◌, ◌<◌, ◌≤◌, List, [], ◌∷◌, ◌++◌, length, take, drop, Option, Some, None, append_assoc, refl, sym, ap, ◌∙◌, subst, arith, inl, inr, length-append, length-drop, length-take, Result, Ok, Err, IfErr, OnOk, Count, Yields, count_of, take-append-drop, take_at, drop_at, nat_tests, TryReserveError, Vector, len, Holds, Writes, LacksRoom, run_count, moved_over, ClosesGap, behind_items, tail_moves, Widens, FillsAndCloses, Gathers, GathersShort, PutsAll, Puts, PutsRest, LacksRest, PutsWithin}
 use Rattle.aa_vec.proofs.Closed.{moved_none, moved_some, moved_most, one_run}
-use Rattle.aa_vec.proofs.Climbing.{MakesRoom, MakesRoom-same, with_room-fits, SameBlock-refl, SameBlock-trans}
+use Rattle.aa_vec.proofs.GrowthLemmas.{MakesRoom, MakesRoom-same, with_room-fits, SameBlock-refl, SameBlock-trans}
 use Rattle.aa_vec.proofs.BehindLemmas.{still_are, still_stand}
 use Rattle.aa_vec.proofs.Filling.{Yields-join}
 use Rattle.aa_vec.proofs.ExtendLemmas.{Yields-told}

@@ -3,7 +3,7 @@ use Rattle.aa_vec.proofs.Common.{◌≡◌, ℕ, ◌+◌, ◌-◌, ◌<◌, ◌�
 use Rattle.std.proofs.lemmas.List.{length-set}
 use Rattle.aa_raw.proofs.Positions.{run-inserted, length-inserted}
 use Rattle.aa_vec.proofs.Becoming.{Becomes-grows}
-use Rattle.aa_vec.proofs.Climbing.{MakesRoom}
+use Rattle.aa_vec.proofs.GrowthLemmas.{MakesRoom}
 use Rattle.aa_vec.proofs.Lists.{unequal}
 
 -- beside n of c places, k more fit

@@ -1,6 +1,6 @@
 -- Splices by an `Items`, which tells a function of how many items are left, and splices of a vector in the same block.
 use Rattle.aa_vec.proofs.Common.{◌≡◌, ℕ, ◌+◌, ◌-◌, ◌*◌, ◌≤◌, List, [], ◌++◌, length, append_assoc, refl, sym, ap, ◌∙◌, subst, arith, inl, inr, length-append, append-nil, TryReserveError, Vector, len, SameBlock, LacksRoom, ItemsLeft, gives_item, lower_by, TellsExactly, cut_off, SplicesByAll, SplicesByFront, tail_moves, ⊤, gapped, SplicesAll, SplicesFront, SplicesShort}
-use Rattle.aa_vec.proofs.Climbing.{MakesRoom-same, MakesRoomTwice-same, SameBlock-refl, SameBlock-trans}
+use Rattle.aa_vec.proofs.GrowthLemmas.{MakesRoom-same, MakesRoomTwice-same, SameBlock-refl, SameBlock-trans}
 use Rattle.aa_vec.proofs.Gathered.{LacksOthers-told}
 use Rattle.aa_vec.proofs.Counted.{items_lower, items-rest, items-told, items-all, ExtendsAll-told, ExtendsFull-told}
 

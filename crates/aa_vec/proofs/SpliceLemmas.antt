@@ -2,7 +2,7 @@
 use Rattle.aa_vec.proofs.Common.{◌≡◌, ℕ, ◌+◌, ◌-◌, ◌*◌, ◌<◌, ◌≤◌, List, [], ◌∷◌, ◌++◌, length, Option, append_assoc, refl, sym, ap, ◌∙◌, subst, arith, inl, inr, length-append, Result, Ok, Count, Yields, count_of, append-nil, TryReserveError, Vector, len, HasRoom, SameBlock, run_count, moved_over, behind_items, with_behind, Extended, LeavesIter, cut_off, SplicesByAll, SplicesByFront, FillsAndCloses, PutsAll, Puts, EndsAt, Replaced, SplicesIter, SplicesWithin, TellsOnceFull, PutsFront}
 use Rattle.aa_vec.proofs.Answered.{IsOk, on_ok, if_err, done_unless}
 use Rattle.aa_vec.proofs.Closed.{moved_none, moved_some, moved_most, one_run}
-use Rattle.aa_vec.proofs.Climbing.{MakesRoomTwice, MakesRoomTwice-same, SameBlock-trans, MakesRoom-same}
+use Rattle.aa_vec.proofs.GrowthLemmas.{MakesRoomTwice, MakesRoomTwice-same, SameBlock-trans, MakesRoom-same}
 use Rattle.aa_vec.proofs.Counted.{all_first, front_first}
 use Rattle.aa_vec.proofs.ExtendLemmas.{Yields-told, whole_run}
 use Rattle.aa_vec.proofs.Gathered.{LacksOthers-same}

@@ -2,7 +2,7 @@
 -- says of all that are yet to be asked, where these items stay so far: the answers, which are true where an element stays, and then
 -- the closure's state and all the items. `May` is that they may be asked.
 use Rattle.aa_vec.proofs.Common.{None, drop-set-lt, ◌≡◌, ℕ, ◌+◌, ◌-◌, ◌<◌, ◌≤◌, Bool, List, [], ◌++◌, length, take, drop, sym, ap, ◌∙◌, subst, arith, inl, inr, min, drop_all, length-take-le, run-zero, StandsBehind, SetsBack, ClosesGap, behind_items, with_behind, kept_behind_removed, removed_count, TakesNext, Vector, len, SameBlock, Writes, moved_over, below_or_not}
-use Rattle.aa_vec.proofs.Climbing.{SameBlock-trans}
+use Rattle.aa_vec.proofs.GrowthLemmas.{SameBlock-trans}
 use Rattle.aa_vec.proofs.Closed.{still, still-none, few_runs, no_run, marks, marks-are, marks-written}
 use Rattle.aa_vec.proofs.Stands.{count, first_stand, moved_items, moved_len, others_are, others_stand}
 use Rattle.aa_vec.proofs.BehindLemmas.{later_part, part_stand, still_are, still_stand}

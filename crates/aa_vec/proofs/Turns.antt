@@ -1,7 +1,7 @@
 -- A closure that is called once for each new place.
 use Rattle.aa_vec.proofs.Common.{append-nil, ◌≡◌, ℕ, suc, ◌+◌, ◌-◌, ◌<◌, List, [], ◌∷◌, ◌++◌, length, refl, sym, ap, ◌∙◌, subst, arith, length-append, Result, Ok, Err, OnOk, FoldsTo, LengthensBy, MayCallTimes, Vector, len, GrowsTo, HasRoom, Holds, Writes, AddsAnswers}
 use Rattle.std.proofs.lemmas.Fn.{FoldsTo-push}
-use Rattle.aa_vec.proofs.Climbing.{Holds-more, SameBlock-refl}
+use Rattle.aa_vec.proofs.GrowthLemmas.{Holds-more, SameBlock-refl}
 use Rattle.aa_vec.proofs.CopiesLemmas.{grown-to, room-there}
 
 module _ {T A F : Type 0} (takes : F → Type 0) (step : F → T → F → Type 0) where

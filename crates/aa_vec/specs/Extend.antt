@@ -33,11 +33,11 @@ module _ {T A : Type 0} where
         → GrowsInSteps size lower needed mid new
         → GrowsInSteps size lower needed old new
 
-  -- new has xs and all of `added` behind them, in the block of old or the first that old climbed to
-  -- with places for all
+  -- new has xs and all of `added` behind them, in the block of old or the first that it grew to with
+  -- places for all
   pub record ExtendsAll (size : ℕ) (lower : ℕ → ℕ) (old : Vector T A) (xs added : List T)
       (new : Vector T A) : Type 0 where
-    pub climbs : GrowsInSteps size lower (length xs + length added) old new
+    pub in_steps : GrowsInSteps size lower (length xs + length added) old new
     pub enough : length xs + length added ≤ new.capacity
     pub items : new.items ≡ xs ++ added
 
@@ -48,7 +48,7 @@ module _ {T A : Type 0} where
     pub front : List T
     pub others : List T
     pub begins : added ≡ front ++ others
-    pub climbs : GrowsInSteps size lower (length xs + length added) old new
+    pub in_steps : GrowsInSteps size lower (length xs + length added) old new
     pub short : new.capacity < length xs + length added
     pub items : new.items ≡ xs ++ front
     pub full : length xs + length front ≡ new.capacity
@@ -86,7 +86,7 @@ module _ {S T : Type 0} (next_gives : S → Option T → S → Type 0) (Tells : 
       pub told : YieldsTelling lower iter added last
       pub ends : (end : S) × next_gives last None end
       pub within : length old.items ≤ old.capacity
-      pub climbs : GrowsInSteps size lower (length old.items + length added) old new
+      pub in_steps : GrowsInSteps size lower (length old.items + length added) old new
       pub enough : length old.items + length added ≤ new.capacity
       pub items : new.items ≡ old.items ++ added
 
@@ -99,7 +99,7 @@ module _ {S T : Type 0} (next_gives : S → Option T → S → Type 0) (Tells : 
       pub last : S
       pub told : YieldsTelling lower iter (front ++ item ∷ []) last
       pub within : length old.items ≤ old.capacity
-      pub climbs : GrowsInSteps size lower (length old.items + (length front + 1)) old new
+      pub in_steps : GrowsInSteps size lower (length old.items + (length front + 1)) old new
       pub items : new.items ≡ old.items ++ front
       pub full : length new.items ≡ new.capacity
       pub lacks : LacksRoom size new (asked_with (lower 0)) error

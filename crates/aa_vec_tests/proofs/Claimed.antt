@@ -11,7 +11,7 @@ use Rattle.aa_vec.specs.Extend.{GrowsInSteps, stays as no_more, grows as once_mo
 use Rattle.aa_vec.specs.Drain.{TakesRange, KeepsRest, drain_vec, drain_head, drain_rest, drain_tail, range_len, taken_front, taken_back, drains_first, drains_last}
 use Rattle.aa_vec.specs.SpliceItems.{cut_off, SplicesAll, SplicesByAll, tail_moves}
 use Rattle.aa_vec.specs.declared.vec.drain.Drain.{Drain}
-use Rattle.aa_vec.proofs.Climbing.{MakesRoom, MakesRoomTwice, MakesRoom-stays, MakesRoom-grows, GrowsInSteps-fits, SameBlock-refl, SameBlock-trans}
+use Rattle.aa_vec.proofs.GrowthLemmas.{MakesRoom, MakesRoomTwice, MakesRoom-stays, MakesRoom-grows, GrowsInSteps-fits, SameBlock-refl, SameBlock-trans}
 use Rattle.aa_vec.proofs.Becoming.{GrowsTo-becomes}
 use Rattle.aa_vec.proofs.Counted.{items_lower}
 use Rattle.aa_vec.proofs.DrainLemmas.{keeps-then}
@@ -128,10 +128,10 @@ module _ {T A : Type 0} (g : Growth) (old : Vector T A) where
           record { count = counts; growth = d.1; capacity = rw e (d.0 ∙ ap (λ n. amortized g (reached g k).0 (n + 1) 4) p.count); grown = rw e (omega (arith, d.2, p.grown, p.count)) }
 
 -- a full vector of c places that asks for room for 6 more
-climbs_once : {T A : Type 0} (lower : ℕ → ℕ) (needed c : ℕ) (v w : Vector T A) → v.capacity ≡ c → v.growth ≡ Doubling → c < needed → ((n : ℕ) → asked_with (lower (n - 1)) ≡ 6) → needed ≤ w.capacity → GrowsInSteps 4 lower needed v w
+grows_once : {T A : Type 0} (lower : ℕ → ℕ) (needed c : ℕ) (v w : Vector T A) → v.capacity ≡ c → v.growth ≡ Doubling → c < needed → ((n : ℕ) → asked_with (lower (n - 1)) ≡ 6) → needed ≤ w.capacity → GrowsInSteps 4 lower needed v w
     → (mid : Vector T A) × (mid.capacity ≡ amortized Doubling c (c + 6) 4) × (mid.growth ≡ Doubling) × (mid.grown ≡ v.grown + c) × GrowsInSteps 4 lower needed mid w
-climbs_once lower needed c v w is doubles short six enough (no_more b) = absurd (omega (arith, b.capacity, is, short, enough))
-climbs_once lower needed c v w is doubles short six enough (once_more {mid = mid} h m r) =
+grows_once lower needed c v w is doubles short six enough (no_more b) = absurd (omega (arith, b.capacity, is, short, enough))
+grows_once lower needed c v w is doubles short six enough (once_more {mid = mid} h m r) =
     let asks : ℕ = asked_with (lower (needed - v.capacity - 1)) in
     let d = grows_to v mid c v.capacity asks is doubles m (omega (arith, is, six (needed - v.capacity))) in
     (mid, d.0 ∙ ap (λ k. amortized Doubling c (k + asks) 4) is ∙ ap (λ k. amortized Doubling c (c + k) 4) (six (needed - v.capacity)), d.1, d.2 ∙ ap (λ k. v.grown + k) is, r)
@@ -142,12 +142,12 @@ pub seventeen_told : {A : Type 0} (old new : Vector ℕ A) (iter : ItemsLeft ℕ
 seventeen_told old new iter none places doubles count five x =
     let five_each : ℕ → ℕ = lower_by (Some 5) in
     let needed : length old.items + length iter.items ≡ 17 = omega (arith, ap length none, count) in
-    let climbs : GrowsInSteps 4 five_each 17 old new =
-    subst (λ n. GrowsInSteps 4 five_each n old new) needed (subst (λ h. GrowsInSteps 4 (lower_by h) (length old.items + length iter.items) old new) five x.climbs) in
+    let in_steps : GrowsInSteps 4 five_each 17 old new =
+    subst (λ n. GrowsInSteps 4 five_each n old new) needed (subst (λ h. GrowsInSteps 4 (lower_by h) (length old.items + length iter.items) old new) five x.in_steps) in
     let enough : 17 ≤ new.capacity = omega (arith, needed, x.enough) in
-    let a = climbs_once five_each 17 0 old new places doubles (omega arith) (λ n. refl) enough climbs in
-    let b = climbs_once five_each 17 6 a.0 new a.1 a.2 (omega arith) (λ n. refl) enough a.4 in
-    let d = climbs_once five_each 17 12 b.0 new b.1 b.2 (omega arith) (λ n. refl) enough b.4 in
+    let a = grows_once five_each 17 0 old new places doubles (omega arith) (λ n. refl) enough in_steps in
+    let b = grows_once five_each 17 6 a.0 new a.1 a.2 (omega arith) (λ n. refl) enough a.4 in
+    let d = grows_once five_each 17 12 b.0 new b.1 b.2 (omega arith) (λ n. refl) enough b.4 in
     let same = GrowsInSteps-fits 4 five_each 17 d.4 (omega (arith, d.1)) in
     (same.capacity ∙ d.1, omega (arith, same.grown, d.3, b.3, a.3))
 

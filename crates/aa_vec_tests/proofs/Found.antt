@@ -6,7 +6,7 @@ use Rattle.aa_vec.specs.Choosing.{Asked, AskedInOrder, EndsTrue, kept, passed_ov
 use Rattle.aa_vec.specs.Extract.{Extracts, ExtractsRange, ClosesExtract, extract_count, extract_head, extract_kept, extract_rest, extract_tail, extract_vec}
 use Rattle.aa_vec.specs.Vector.{Vector, Holds}
 use Rattle.aa_vec.specs.declared.vec.extract_if.ExtractBy.{ExtractBy}
-use Rattle.aa_vec.proofs.Climbing.{SameBlock-trans}
+use Rattle.aa_vec.proofs.GrowthLemmas.{SameBlock-trans}
 use Rattle.aa_vec.proofs.Steady.{asked-steady, told_by}
 
 abbrev last_answer : List (Asked ℕ) → Bool

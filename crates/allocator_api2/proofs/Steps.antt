@@ -5,7 +5,7 @@ use Rattle.std.specs.Prelude.{slice_set, slice_index_or}
 use Rattle.std.proofs.lemmas.List.{length-append}
 use Rattle.std.proofs.lemmas.Bool.{cases_lt}
 use Rattle.aa_vec.specs.Extend.{ExtendsAll, asked_with, grows, stays}
-use Rattle.aa_vec.proofs.Climbing.{MakesRoom, MakesRoom-has, MakesRoom-rises, MakesRoom-stays, SameBlock-refl}
+use Rattle.aa_vec.proofs.GrowthLemmas.{MakesRoom, MakesRoom-has, MakesRoom-rises, MakesRoom-stays, SameBlock-refl}
 use Rattle.aa_vec.proofs.Kept.{length-kept, length-deduplicated}
 use Rattle.allocator_api2.proofs.ExtractParts.{length-taken_out}
 use Rattle.allocator_api2.proofs.Ranges.{length-left_of}
@@ -38,20 +38,20 @@ module _ {T A : Type 0} (size : ℕ) where
       ] in
       record { needed = n + k; moves = moves; longest = omega (arith, l); fits = λ w. omega (arith, l, w, MakesRoom-has size n k old new g.room, MakesRoom-rises size n k old new g.room); full = omega (arith, l) }
 
-  climbed : (hint : Option ℕ) (needed : ℕ) {u v : Vector T A} → GrowsInSteps size (lower_by hint) needed u v → Moves hint needed u v
-  climbed hint needed (stays b) = kept b
-  climbed hint needed (grows {old = u} h m r) =
-      grown u.capacity (asked_with ((lower_by hint) (needed - u.capacity - 1))) (omega arith) (omega arith) h (λ none. subst (λ x. u.capacity + asked_with ((lower_by x) (needed - u.capacity - 1)) ≤ needed) (sym none) (omega (arith, h))) m (climbed hint needed r)
+  grown_in_steps : (hint : Option ℕ) (needed : ℕ) {u v : Vector T A} → GrowsInSteps size (lower_by hint) needed u v → Moves hint needed u v
+  grown_in_steps hint needed (stays b) = kept b
+  grown_in_steps hint needed (grows {old = u} h m r) =
+      grown u.capacity (asked_with ((lower_by hint) (needed - u.capacity - 1))) (omega arith) (omega arith) h (λ none. subst (λ x. u.capacity + asked_with ((lower_by x) (needed - u.capacity - 1)) ≤ needed) (sym none) (omega (arith, h))) m (grown_in_steps hint needed r)
 
   extends : (hint : Option ℕ) (old : Vector T A) (added : List T) (new : Vector T A) → ExtendsAll size (lower_by hint) old old.items added new → Change hint old (len new - len old) new
   extends hint old added new e =
       let n : ℕ = len old + length added in let l : len new ≡ n = ap length e.items ∙ length-append old.items added in
-      record { needed = n; moves = λ w. climbed hint n e.climbs; longest = omega arith; fits = λ w. omega (arith, l, e.enough); full = omega (arith, l) }
+      record { needed = n; moves = λ w. grown_in_steps hint n e.in_steps; longest = omega arith; fits = λ w. omega (arith, l, e.enough); full = omega (arith, l) }
 
   stops : (hint : Option ℕ) (old : Vector T A) (added : List T) (error : TryReserveError) (new : Vector T A) → ExtendsFull size (lower_by hint) old old.items added error new → Change hint old (len new - len old) new
   stops hint old added error new e =
       let n : ℕ = len old + length added in let l = ap length e.items ∙ length-append old.items e.front in let full = e.full in
-      record { needed = n; moves = λ w. climbed hint n e.climbs; longest = omega arith; fits = λ w. omega (arith, l, full); full = omega (arith, l, full) }
+      record { needed = n; moves = λ w. grown_in_steps hint n e.in_steps; longest = omega arith; fits = λ w. omega (arith, l, full); full = omega (arith, l, full) }
 
   same : {hint : Option ℕ} (old new : Vector T A) → new ≡ old → Change hint old 0 new
   same old new e = rw e (holds old 0 old.items old (omega arith) (record { items = refl; block = SameBlock-refl old }))

@@ -5,5 +5,5 @@ module _ {T A : Type 0} (size : ℕ) (lower : ℕ → ℕ) (old : Vector T A) (x
   -- the items did not fit
   pub stops-full : ¬ (length added ≤ old.capacity - length xs)
   stops-full room =
-      let higher : old.capacity ≤ new.capacity = GrowsInSteps-rises size lower (length xs + length added) full.climbs in
+      let higher : old.capacity ≤ new.capacity = GrowsInSteps-rises size lower (length xs + length added) full.in_steps in
       absurd (omega (arith, full.short, full.full, higher, room))

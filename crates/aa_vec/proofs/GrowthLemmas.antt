@@ -53,7 +53,7 @@ module _ {T A : Type 0} where
   pub Holds-more : (old mid new : Vector T A) (xs ys : List T) → Holds old (old.items ++ xs) mid → Holds mid (mid.items ++ ys) new → Holds old (old.items ++ (xs ++ ys)) new
   Holds-more old mid new xs ys p q = record { items = q.items ∙ ap (λ l. l ++ ys) p.items ∙ append_assoc old.items xs ys; block = SameBlock-trans p.block q.block }
 
--- the same climb from another vector in the same block, where r items more are to come after those that were counted, and the bounds agree
+-- the same grow from another vector in the same block, where r items more are to come after those that were counted, and the bounds agree
 -- from the capacity on
 pub GrowsInSteps-counted : {T A : Type 0} (size : ℕ) (lower by : ℕ → ℕ) (needed r all : ℕ) {u v w : Vector T A} → SameBlock u v → needed + r ≡ all
     → ((k : ℕ) → u.capacity + k < needed → lower k ≡ by (k + r)) → GrowsInSteps size lower needed v w → GrowsInSteps size by all u w
@@ -66,7 +66,7 @@ GrowsInSteps-counted size lower by needed r all {u} {v} {w} b e same (grows {mid
     (GrowsInSteps-counted size lower by needed r all (SameBlock-refl mid) e (λ k l. same k (omega (arith, l, MakesRoom-rises size v.capacity (asked_with (lower (needed - v.capacity - 1))) v mid m, b.capacity))) rest)
 
 module _ {T A : Type 0} (size : ℕ) (lower : ℕ → ℕ) (needed : ℕ) where
-  -- a climb ends in whatever is in the same block
+  -- a grow ends in whatever is in the same block
   pub GrowsInSteps-same : {u v w : Vector T A} → GrowsInSteps size lower needed u v → SameBlock v w → GrowsInSteps size lower needed u w
   GrowsInSteps-same (stays b) c = stays (SameBlock-trans b c)
   GrowsInSteps-same (grows h m r) c = grows h m (GrowsInSteps-same r c)
@@ -103,7 +103,7 @@ module _ {T A : Type 0} (size : ℕ) (lower : ℕ → ℕ) (needed : ℕ) where
 -- what came from an iterator is a list that was put there, and what was taken of it is one of which the last found no place
 module _ {S T A : Type 0} (steps : S → Option T → S → Type 0) (Tells : S → ℕ → Type 0) (size : ℕ) (iter : S) (old new : Vector T A) where
   pub all_of : (e : ExtendsByAll steps Tells size iter old new) → ExtendsAll size e.lower old old.items e.added new
-  all_of e = record { climbs = e.climbs; enough = e.enough; items = e.items }
+  all_of e = record { in_steps = e.in_steps; enough = e.enough; items = e.items }
 
   pub full_of : (error : TryReserveError) (e : ExtendsByFront steps Tells size iter old error new) → ExtendsFull size e.lower old old.items (e.front ++ e.item ∷ []) error new
   full_of error e =
@@ -113,7 +113,7 @@ module _ {S T A : Type 0} (steps : S → Option T → S → Type 0) (Tells : S �
         front = e.front;
         others = e.item ∷ [];
         begins = refl;
-        climbs = subst (λ n. GrowsInSteps size e.lower n old new) (omega (arith, count)) e.climbs;
+        in_steps = subst (λ n. GrowsInSteps size e.lower n old new) (omega (arith, count)) e.in_steps;
         short = omega (arith, count, full, e.full);
         items = e.items;
         full = omega (arith, full, e.full);
