@@ -139,7 +139,8 @@ impl<T, A: Allocator> Vec<T, A> {
         ensures { AsksBehind (CalledAtMut F.FnMut) keep.old self.old gap count
             result keep.new self.new }
     {
-        self.block.known();
+        // As `known`; but the loops that this becomes part of are faster where the capacity is read.
+        let _within = self.block.capacity();
         count_kept(self.block.slice_mut(self.len + gap, count), true, keep)
     }
 
@@ -191,7 +192,7 @@ impl<T, A: Allocator> Vec<T, A> {
         ensures asked { ChainsOn (CalledAtPairMut F.FnMut) same.old self.old gap count
             result same.new self.new }
     {
-        self.block.known();
+        let _within = self.block.capacity();
         distinct_run(self.block.slice_mut(self.len + gap, count), same)
     }
 
@@ -207,7 +208,7 @@ impl<T, A: Allocator> Vec<T, A> {
             result same.new self.new }
     {
         let len = self.len;
-        self.block.known();
+        let _within = self.block.capacity();
         self.block.pair_with(len + gap, len - 1, same)
     }
 }

@@ -28,7 +28,8 @@ impl<T, A: Allocator> Vec<T, A> {
         ensures { ClosesGap self.old gap count self.new }
     {
         let len = self.len;
-        self.block.known();
+        // As `known`; but the loops that this becomes part of are faster where the capacity is read.
+        let _within = self.block.capacity();
         self.len = len + count;
         self.block.move_down(len + gap, len, count);
     }
@@ -53,7 +54,7 @@ impl<T, A: Allocator> Vec<T, A> {
         ensures value { behind_items self.old gap 1 ≡ result ∷ [] }
         ensures after { self.new ≡ with_behind self.old (slice_set self.old.behind gap None) }
     {
-        self.block.known();
+        let _within = self.block.capacity();
         self.block.take(self.len + gap)
     }
 
@@ -63,7 +64,7 @@ impl<T, A: Allocator> Vec<T, A> {
         requires { StandsBehind self.now gap count }
         ensures { result.now ≡ behind_items self.now gap count }
     {
-        self.block.known();
+        let _within = self.block.capacity();
         self.block.slice(self.len + gap, count)
     }
 
@@ -76,7 +77,7 @@ impl<T, A: Allocator> Vec<T, A> {
         ensures { DropsBehind self.old gap count self.new }
     {
         let len = self.len;
-        self.block.known();
+        let _within = self.block.capacity();
         self.block.drop_run(len + gap, count);
     }
 
