@@ -1,4 +1,4 @@
--- `Box` as a type that may hold the type that holds it: its value is what it holds.
+-- A `Box` inside a recursive type: it holds its value, and nothing else.
 use Rattle.std.specs.Prelude.{◌≡◌, true, get_or, List, [], ◌∷◌, map, drop, Option, Some, None, is_some, is_none}
 use Rattle.std.specs.List.{list_all}
 use Rattle.std.specs.Option.{option_map}

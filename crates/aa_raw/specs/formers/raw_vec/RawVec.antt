@@ -1,4 +1,4 @@
--- `RawVec` as a type that may hold the type that holds it: its places hold what it holds.
+-- A `RawVec` inside a recursive type: it holds what stands in its places.
 use Rattle.std.specs.Prelude.{ℕ, []}
 use mathlib.Core.Path.{refl, sym, ◌∙◌}
 use mathlib.Core.Former.{Former, this, const, pair, via}

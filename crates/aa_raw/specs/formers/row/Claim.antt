@@ -1,4 +1,4 @@
--- `Claim` as a type that may hold the type that holds it: it holds no element.
+-- A `Claim` inside a recursive type: it holds no value.
 use Rattle.std.specs.Prelude.{ℕ}
 use mathlib.Core.Path.{refl}
 use mathlib.Core.Former.{Former, this, const, via}

@@ -1,4 +1,4 @@
--- `Row` as a type that may hold the type that holds it.
+-- A `Row` inside a recursive type: it holds what stands in its places.
 use Rattle.std.specs.Prelude.{[]}
 use mathlib.Core.Path.{refl, sym}
 use mathlib.Core.Former.{Former, this, const, pair, via}

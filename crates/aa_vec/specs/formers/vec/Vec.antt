@@ -1,4 +1,4 @@
--- `Vec` as a type that may hold the type that holds it: its items and what stands in the places behind them are what it holds.
+-- A `Vec` inside a recursive type: it holds its items, and what stands in the places behind them.
 use Rattle.std.specs.Prelude.{◌≡◌, ℕ, zero, suc, true, List, [], ◌∷◌, ◌++◌, map, take, drop, Option, Some, None, is_some}
 use Rattle.std.specs.List.{list_all}
 use Rattle.std.specs.Option.{option_map}

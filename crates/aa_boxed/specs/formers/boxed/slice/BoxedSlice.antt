@@ -1,4 +1,4 @@
--- `BoxedSlice` as a type that may hold the type that holds it: its items are what it holds.
+-- A `BoxedSlice` inside a recursive type: it holds its items, and nothing else.
 use Rattle.std.specs.Prelude.{◌≡◌, ℕ, List, [], map, length, Option}
 use Rattle.std.specs.Option.{option_map}
 use Rattle.std.proofs.Common.{arith}

@@ -1,4 +1,4 @@
--- `IntoIter` as a type that may hold the type that holds it: the items that are left are what it holds.
+-- An `IntoIter` inside a recursive type: it holds the items that are left.
 use Rattle.std.specs.Prelude.{◌≡◌, ℕ, ◌-◌, [], List}
 use Rattle.std.proofs.Common.{arith}
 use mathlib.Core.Path.{refl, sym, ◌∙◌}
