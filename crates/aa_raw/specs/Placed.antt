@@ -1,6 +1,7 @@
--- What a row and a claim hold only places what their elements own, lend and are coded by.
---     N-placed      where S at `h x` is laid out, owns and lends as R at x, the formula N is the
---                   same of both
+-- In what a row and a claim hold, their elements are only put in their places: how these are laid
+-- out, and what they own and lend, is all that counts.
+--     N-placed      N says the same of S at `h x` as of R at x, where the two are laid out alike,
+--                   and own and lend alike
 use Rattle.std.specs.Prelude.{◌≡◌, ℕ, suc, ◌+◌, ◌*◌, ◌^◌, List, [], ◌∷◌, map, length, Option, Some, None}
 use Rattle.std.specs.Option.{option_map}
 use mathlib.Core.Path.{refl}
