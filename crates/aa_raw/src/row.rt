@@ -8,7 +8,8 @@ ghost use denote.RawPtr.{Ptr};
 ghost use Rattle.aa_raw.specs.Places.{IsRun, IsFilled, IsCapacity, moved, with_run};
 ghost use Rattle.aa_raw.specs.Ownership.{row_owns, row_lends, claim_owns, roomy};
 
-use crate::size::element_size;
+use crate::size::{element_size, is_long};
+use core::ptr::copy_nonoverlapping;
 use core::slots::Slots;
 use std::alloc::{AllocError, Allocator};
 use std::marker::{Model, PhantomData};
@@ -229,6 +230,25 @@ impl<T> Row<T> {
         other.join(source);
     }
 
+    /// The same with one copy of memory, however few the values are.
+    #[inline(always)]
+    #[tactic(auto, using(crate::proofs::Places::put_runs))]
+    pub(crate) fn take_at_once(&mut self, to: usize, other: &mut Row<T>, from: usize, count: usize)
+        requires here { to + count ≤ length self.old.places }
+        requires there { IsRun other.old.places from count }
+        ensures here { (self.new.ptr ≡ self.old.ptr)
+            × (self.new.places
+            ≡ with_run self.old.places to count (take count (drop from other.old.places))) }
+        ensures there { (other.new.ptr ≡ other.old.ptr)
+            × (other.new.places ≡ with_run other.old.places from count (replicate count None)) }
+    {
+        let row = self.cut(to);
+        let source = other.cut(from);
+        let (row, source) = copy_apart(row, source, count);
+        self.join(row);
+        other.join(source);
+    }
+
     // Takes the places from `at` on off the end, as a row of their own.
     #[inline(always)]
     fn cut(&mut self, at: usize) -> Row<T>
@@ -340,6 +360,9 @@ fn raise_in_arrays<T>(row: Row<T>, by: usize, count: usize) -> Row<T>
         × (length row.places < 2 ^ 64) }
     ensures { (result.ptr ≡ row.ptr) × (result.places ≡ moved row.places 0 by count) }
 {
+    if is_long::<T>(by) && is_long::<T>(count) {
+        return raise_in_pieces(row, by, count);
+    }
     match element_size::<T>() {
         1 | 2 => raise_by_arrays::<T, 64>(row, by, count),
         3 | 4 => raise_by_arrays::<T, 32>(row, by, count),
@@ -353,6 +376,9 @@ fn lower_in_arrays<T>(row: Row<T>, by: usize, count: usize) -> Row<T>
     requires { (0 < by) × IsRun row.places by count × (length row.places < 2 ^ 64) }
     ensures { (result.ptr ≡ row.ptr) × (result.places ≡ moved row.places by 0 count) }
 {
+    if is_long::<T>(by) && is_long::<T>(count) {
+        return lower_in_pieces(row, by, count);
+    }
     match element_size::<T>() {
         1 | 2 => lower_by_arrays::<T, 64>(row, by, count),
         3 | 4 => lower_by_arrays::<T, 32>(row, by, count),
@@ -391,6 +417,69 @@ fn lower_by_arrays<T, const N: usize>(mut row: Row<T>, by: usize, count: usize) 
     }
     let rest = row.cut(at);
     row.join(move_down(rest, by, count - at));
+    row
+}
+
+// The loop of `raise` in pieces of `by` values, the last first. A piece and the places that it goes
+// to do not overlap.
+#[cold]
+#[inline(never)]
+#[tactic(auto, using(crate::proofs::Calls::raised_in_arrays))]
+fn raise_in_pieces<T>(mut row: Row<T>, by: usize, count: usize) -> Row<T>
+    requires { (0 < by) × IsRun row.places 0 count × (by + count ≤ length row.places)
+        × (length row.places < 2 ^ 64) }
+    ensures { (result.ptr ≡ row.ptr) × (result.places ≡ moved row.places 0 by count) }
+{
+    let mut left = count;
+    'up: while by <= left {
+        left -= by;
+        row = raise_apart(row, left, by + left, by);
+    }
+    raise_apart(row, 0, by, left)
+}
+
+// The loop of `lower` in such pieces, the first first.
+#[cold]
+#[inline(never)]
+#[tactic(auto, using(crate::proofs::Calls::lowered_in_arrays))]
+fn lower_in_pieces<T>(mut row: Row<T>, by: usize, count: usize) -> Row<T>
+    requires { (0 < by) × IsRun row.places by count × (length row.places < 2 ^ 64) }
+    ensures { (result.ptr ≡ row.ptr) × (result.places ≡ moved row.places by 0 count) }
+{
+    let mut at = 0;
+    'down: while by <= count - at {
+        row = lower_apart(row, by + at, at, by);
+        at += by;
+    }
+    let rest = row.cut(at);
+    row.join(lower_apart(rest, by, 0, count - at));
+    row
+}
+
+// Moves the `count` values from `from` on up to the places from `to` on, with one copy of memory.
+#[inline(always)]
+#[tactic(auto, using(crate::proofs::Places::apart_moves))]
+fn raise_apart<T>(mut row: Row<T>, from: usize, to: usize, count: usize) -> Row<T>
+    requires { IsRun row.places from count × (from + count ≤ to)
+        × (to + count ≤ length row.places) }
+    ensures { (result.ptr ≡ row.ptr) × (result.places ≡ moved row.places from to count) }
+{
+    let mut high = row.cut(to);
+    high.take_at_once(0, &mut row, from, count);
+    row.join(high);
+    row
+}
+
+// The same down.
+#[inline(always)]
+#[tactic(auto, using(crate::proofs::Places::apart_moves))]
+fn lower_apart<T>(mut row: Row<T>, from: usize, to: usize, count: usize) -> Row<T>
+    requires { IsRun row.places from count × (to + count ≤ from) }
+    ensures { (result.ptr ≡ row.ptr) × (result.places ≡ moved row.places from to count) }
+{
+    let mut high = row.cut(from);
+    row.take_at_once(to, &mut high, 0, count);
+    row.join(high);
     row
 }
 
@@ -441,6 +530,9 @@ fn move_across<T>(
     ensures there { (result.1.ptr ≡ source.ptr)
         × (result.1.places ≡ with_run source.places from count (replicate count None)) }
 {
+    if is_long::<T>(count) {
+        return move_across_at_once(row, to, source, from, count);
+    }
     match element_size::<T>() {
         1 | 2 => move_across_by_arrays::<T, 64>(row, to, source, from, count),
         3 | 4 => move_across_by_arrays::<T, 32>(row, to, source, from, count),
@@ -496,6 +588,41 @@ fn move_each_across<T>(
         let item = source.read(from + i);
         row.write(to + i, item);
     }
+    (row, source)
+}
+
+// `move_across` with one copy of memory.
+#[cold]
+#[inline(never)]
+fn move_across_at_once<T>(
+    mut row: Row<T>,
+    to: usize,
+    mut source: Row<T>,
+    from: usize,
+    count: usize,
+) -> (Row<T>, Row<T>)
+    requires here { to + count ≤ length row.places }
+    requires there { IsRun source.places from count }
+    ensures here { (result.0.ptr ≡ row.ptr)
+        × (result.0.places ≡ with_run row.places to count (take count (drop from source.places))) }
+    ensures there { (result.1.ptr ≡ source.ptr)
+        × (result.1.places ≡ with_run source.places from count (replicate count None)) }
+{
+    row.take_at_once(to, &mut source, from, count);
+    (row, source)
+}
+
+// Moves the first `count` values of `source` to the first places of `row`, with one copy of memory.
+#[inline(always)]
+fn copy_apart<T>(row: Row<T>, source: Row<T>, count: usize) -> (Row<T>, Row<T>)
+    requires here { count ≤ length row.places }
+    requires there { IsRun source.places 0 count }
+    ensures here { (result.0.ptr ≡ row.ptr)
+        × (result.0.places ≡ take count source.places ++ drop count row.places) }
+    ensures there { (result.1.ptr ≡ source.ptr)
+        × (result.1.places ≡ replicate count None ++ drop count source.places) }
+{
+    unsafe { copy_nonoverlapping(source.ptr, row.ptr, count) };
     (row, source)
 }
 
