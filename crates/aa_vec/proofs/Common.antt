@@ -18,7 +18,7 @@ pub use Rattle.aa_vec.specs.Extend.{GrowsInSteps, CopiesOf, Extended, ExtendsAll
 pub use Rattle.aa_vec.specs.Extract.{ClosesExtract, Extracted, ExtractedTo, Extracts, ExtractsAlong, ExtractsRange, extract_count, extract_head, extract_kept, extract_rest, extract_tail, extract_vec}
 pub use Rattle.aa_vec.specs.Filling.{FillsAndCloses, FillsGap, Gathers, GathersShort, LacksRest, OpensGap, Placed, Puts, PutsAll, PutsFront, PutsRest, PutsWithin, Told, Widens}
 pub use Rattle.aa_vec.specs.VecInner.{IsFront, view_of}
-pub use Rattle.aa_vec.specs.SpliceItems.{LacksOthers, Replaced, SplicesAll, SplicesByAll, SplicesByFront, SplicesFront, SplicesIter, SplicesShort, SplicesWithin, TellsOnceFull, cut_off, gapped, tail_moves}
+pub use Rattle.aa_vec.specs.SpliceItems.{LacksOthers, Replaced, SplicesAll, SplicesByAll, SplicesByFront, SplicesFront, SplicesIter, SplicesShort, SplicesWithin, TellsNoneAtEnd, TellsOnceFull, cut_off, gapped, tail_moves}
 pub use Rattle.aa_vec.specs.Until.{AsksBehind, AsksLast, AsksNeighbours, AsksUntil, ChainsAlong, ChainsBehind, ChainsOn, ChainsUntil, KeepsDown, Picks, StaysWhen, TakesNext}
 pub use Rattle.aa_vec.specs.Vector.{Becomes, GrowsTo, HasRoom, Holds, IsNew, LacksRoom, Moves, SameBlock, Vector, Writes, len, moved_over, run_count, sized, with_items, with_room}
 pub use Rattle.aa_vec.specs.declared.vec.Vec.TheInside.{Inside}

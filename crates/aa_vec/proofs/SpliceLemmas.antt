@@ -1,5 +1,5 @@
 -- A range that was replaced by items: what an iterator told of them, and what its phases left.
-use Rattle.aa_vec.proofs.Common.{◌≡◌, ℕ, ◌+◌, ◌-◌, ◌*◌, ◌<◌, ◌≤◌, List, [], ◌∷◌, ◌++◌, length, Option, append_assoc, refl, sym, ap, ◌∙◌, subst, arith, inl, inr, length-append, Result, Ok, Count, Yields, count_of, append-nil, TryReserveError, Vector, len, HasRoom, SameBlock, run_count, moved_over, behind_items, with_behind, Extended, LeavesIter, cut_off, SplicesByAll, SplicesByFront, FillsAndCloses, PutsAll, Puts, EndsAt, Replaced, SplicesIter, SplicesWithin, TellsOnceFull, PutsFront}
+use Rattle.aa_vec.proofs.Common.{◌≡◌, ℕ, ◌+◌, ◌-◌, ◌*◌, ◌<◌, ◌≤◌, List, [], ◌∷◌, ◌++◌, length, Option, append_assoc, refl, sym, ap, ◌∙◌, subst, arith, inl, inr, length-append, Result, Ok, Count, Yields, count_of, append-nil, TryReserveError, Vector, len, HasRoom, SameBlock, run_count, moved_over, behind_items, with_behind, Extended, LeavesIter, cut_off, SplicesByAll, SplicesByFront, FillsAndCloses, PutsAll, Puts, EndsAt, Replaced, SplicesIter, SplicesWithin, TellsNoneAtEnd, TellsOnceFull, PutsFront, IsFinite}
 use Rattle.aa_vec.proofs.Answered.{IsOk, on_ok, if_err, done_unless}
 use Rattle.aa_vec.proofs.Closed.{moved_none, moved_some, moved_most, one_run}
 use Rattle.aa_vec.proofs.GrowthLemmas.{MakesRoomTwice, MakesRoomTwice-same, SameBlock-trans, MakesRoom-same}
@@ -16,14 +16,15 @@ module _ {S T A : Type 0} (steps : S → Option T → S → Type 0) (Tells : S �
     abbrev pub Spliced : Type 0
     Spliced = Replaced steps Tells left_of (P old.alloc) size iter (cut_off old gap tail) r new × SplicesIter steps Tells size iter (cut_off old gap tail) (P old.alloc) after r new
 
-    spliced : SplicesIter steps Tells size iter (cut_off old gap tail) (P old.alloc) after r new → (count_of (left_of iter) < gap → IsOk r) → (tail ≡ [] → HasRoom old (count_of (left_of iter)) → IsOk r)
+    spliced : SplicesIter steps Tells size iter (cut_off old gap tail) (P old.alloc) after r new → (count_of (left_of iter) < gap → IsOk r) → (TellsNoneAtEnd Tells left_of → count_of (left_of iter) ≤ gap → IsOk r) → (tail ≡ [] → HasRoom old (count_of (left_of iter)) → IsOk r)
         → ((h : ℕ) → TellsOnceFull steps Tells iter gap h → count_of (left_of iter) ≤ gap + h → len old + gap + length tail + h ≤ old.capacity → IsOk r) → SplicesWithin old tail new → Spliced
-    spliced s fits_gap fits_end fits_told writes =
+    spliced s fits_gap fits_full fits_end fits_told writes =
         let ran = on_ok r s.ended (λ x. let a = x.0 in (a.added, (a.ends.0, (a.last, Yields-told steps Tells a.lower iter a.added a.last a.told, a.ends.1)), a.splices.items)) in (
           record {
             items = ran;
             runs = on_ok r ran (whole_run steps iter (λ xs. new.items ≡ old.items ++ (xs ++ tail)));
             fits_gap = fits_gap;
+            fits_full = fits_full;
             fits_end = fits_end;
             fits_told = fits_told;
             room = on_ok r s.ended (λ x. x.0);
@@ -64,6 +65,7 @@ module _ {S T A : Type 0} (steps : S → Option T → S → Type 0) (Tells : S �
               (record { taken = p.0.front ++ p.0.item ∷ []; lower = f.0; last = p.0.last; first = f.2; told = f.3; splices = inl (refl, f.4) }, inl p.1));
         })
         (λ few. e.fits (omega (arith, few, fits)))
+        (λ _ few. e.fits (omega (arith, few, fits)))
         (λ _ room. e.fits room)
         (λ h _ few room. e.fits (omega (arith, few, room)))
         (record { written = omega (arith, z.written); runs = omega (arith, z.runs) })
@@ -99,7 +101,7 @@ module _ {S T A : Type 0} (steps : S → Option T → S → Type 0) (Tells : S �
             splices = record { items = x_items; at_end = λ e. absurd (omega (arith, ap length e, tail_count, some)); in_gap = λ _ _. x_block; beyond = λ _ l. absurd (omega (arith, l, few)) };
             written = omega (arith, f.writes.written, tail_count, moved_some left n h, ap (λ k. k * length tail) (moves_few gap (b.0 (length came - gap)) (length came) few));
           } in
-          spliced tail t (Ok tt) x (record { ended = (all, refl); stopped = tt }) (λ _. refl) (λ _ _. refl) (λ _ _ _ _. refl)
+          spliced tail t (Ok tt) x (record { ended = (all, refl); stopped = tt }) (λ _. refl) (λ _ _. refl) (λ _ _. refl) (λ _ _ _ _. refl)
           (record { written = omega (arith, f.writes.written, x_len, tail_count, moved_most left n); runs = omega (arith, f.writes.runs, x_len, tail_count, one_run (moved_over left n)) })
 
       -- the gap is full, `told` is told then, and the others were put behind
@@ -174,12 +176,16 @@ module _ {S T A : Type 0} (steps : S → Option T → S → Type 0) (Tells : S �
               p.stops,
             )
 
-        pub Spliced-more : (after : S) (r : Result Unit TryReserveError) (new : Vector T A) → Puts steps Tells (P x.alloc) size t x told n left_of r new after → gap + count_of (left_of t) ≤ count_of (left_of iter) → Spliced tail after r new
-        Spliced-more after r new p goes =
+        pub Spliced-more : (after : S) (r : Result Unit TryReserveError) (new : Vector T A) → Puts steps Tells (P x.alloc) size t x told n left_of r new after → IsFinite (left_of t) → gap + count_of (left_of t) ≤ count_of (left_of iter) → Spliced tail after r new
+        Spliced-more after r new p ends goes =
             let z = p.writes in
             spliced tail after r new
             (record { ended = on_ok r p.all (more_spliced new after); stopped = if_err r p.refused (λ e front. more_refused e new after front) })
             (λ few. absurd (omega (arith, few, goes)))
+            (λ tells_none few.
+            let none : count_of (left_of t) ≡ 0 = omega (arith, few, goes) in
+            let is : told ≡ 0 = tells_none t told ends none tells in
+            done_unless r (if_err r p.few (λ e less. absurd (omega (arith, less (omega (arith, is)), none)))))
             (λ e _. absurd (omega (arith, ap length e, tail_count, some)))
             (λ h once few room.
             let is : told ≡ h = once came t told given gap_came tells in

@@ -1,7 +1,7 @@
 -- A range of a vector that is replaced by items, one by one, as an iterator gives them, in the room
 -- that it tells.
 use Rattle.std.specs.Prelude.{◌≡◌, ℕ, ◌+◌, ◌-◌, ◌*◌, ◌<◌, ◌≤◌, List, [], ◌++◌, length, Option, None, if◌then◌else◌, ◌==◌, ◌⊎◌, Result, IfErr, OnOk, IsOk}
-use Rattle.std.specs.Iterator.{Count, Yields, Drains, size as count}
+use Rattle.std.specs.Iterator.{Count, IsFinite, Yields, Drains, size as count}
 use Rattle.std.specs.Iterator.Runs.{WholeRun}
 use Rattle.aa_raw.specs.declared.collections.TryReserveError.{TryReserveError}
 use Rattle.aa_raw.specs.declared.raw_vec.Growth.TheVariants.{Doubling}
@@ -159,6 +159,11 @@ abbrev pub TellsOnceFull : {S T : Type 0} → (S → Option T → S → Type 0) 
 TellsOnceFull {S = S} {T = T} next_gives Tells s gap h =
     (xs : List T) (t : S) (n : ℕ) → Yields next_gives s xs t → length xs ≡ gap → Tells t n → n ≡ h
 
+-- an iterator of which nothing is left tells 0
+abbrev pub TellsNoneAtEnd : {S : Type 0} → (S → ℕ → Type 0) → (remaining : S → Count) → Type 0
+TellsNoneAtEnd {S = S} Tells remaining =
+    (s : S) (n : ℕ) → IsFinite (remaining s) → count (remaining s) ≡ 0 → Tells s n → n ≡ 0
+
 -- items of `iter`, of which `remaining` bounds how many are to come, were put in place of the range
 -- of old, which is new, with this result
 pub record Replaced {S T A : Type 0} (next_gives : S → Option T → S → Type 0)
@@ -169,6 +174,7 @@ pub record Replaced {S T A : Type 0} (next_gives : S → Option T → S → Type
   pub runs : OnOk result
       (WholeRun next_gives iter (λ p. new.items ≡ old.head ++ (p.items ++ old.tail)))
   pub fits_gap : count (remaining iter) < old.gap → IsOk result
+  pub fits_full : TellsNoneAtEnd Tells remaining → count (remaining iter) ≤ old.gap → IsOk result
   pub fits_end : old.tail ≡ [] → HasRoom old.block (count (remaining iter)) → IsOk result
   pub fits_told : (h : ℕ) → TellsOnceFull next_gives Tells iter old.gap h
       → count (remaining iter) ≤ old.gap + h → span old + h ≤ old.block.capacity → IsOk result

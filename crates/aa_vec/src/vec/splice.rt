@@ -266,11 +266,13 @@ where
 {
     ghost use Rattle.std.specs.Iterator.{Drains, size};
     ghost use Rattle.std.specs.Iterator.Runs.{WholeRun};
-    ghost use Rattle.aa_vec.specs.SpliceItems.{SplicesByAll, SplicesByFront, TellsOnceFull, span};
+    ghost use Rattle.aa_vec.specs.SpliceItems.{SplicesByAll, SplicesByFront};
     ghost use Rattle.aa_vec.specs.Splice.{splice_gap, splice_iter, splice_kept};
 
     /// The same, with the lower bound of `size_hint` in place of `lower`, and with nothing behind
-    /// the range as by `extend`. It stands for the drop of `Splice`.
+    /// the range as by `extend`. It takes no memory either where as many items come as the range
+    /// had. It stands for the drop of `Splice`.
+    #[tactic(auto, using(crate::proofs::HintLemmas::tells_none_at_end))]
     pub fn finish(self) -> Result<(), TryReserveError>
         requires may_ask { I.can_next (splice_iter self) }
         requires ends { IsFinite (I.remaining (splice_iter self)) }
@@ -280,13 +282,10 @@ where
         ensures runs { let kept = splice_kept self.entry in
             OnOk result (WholeRun I.next_gives (splice_iter self.entry)
             (λ p. self.exit.0.now.items ≡ kept.0 ++ (p.items ++ kept.1))) }
-        ensures fits_gap { size (I.remaining (splice_iter self.entry)) < (splice_gap self.entry).gap
+        ensures fits_gap { size (I.remaining (splice_iter self.entry)) ≤ (splice_gap self.entry).gap
             → IsOk result }
         ensures fits_end { let s = splice_gap self.entry in s.tail ≡ []
             → HasRoom s.block (size (I.remaining (splice_iter self.entry))) → IsOk result }
-        ensures fits_told { (h : ℕ) → let s = splice_gap self.entry in let iter = splice_iter self.entry in
-            TellsOnceFull I.next_gives (TellsAtMost I.remaining) iter s.gap h
-            → size (I.remaining iter) ≤ s.gap + h → span s + h ≤ s.block.capacity → IsOk result }
         ensures room { OnOk result (SplicesByAll I.next_gives (TellsAtMost I.remaining)
             (type_size I.Item.row) (splice_iter self.entry) (splice_gap self.entry)
             self.exit.0.now) }

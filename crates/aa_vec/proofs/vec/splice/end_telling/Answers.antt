@@ -37,5 +37,5 @@ returns g c =
     let a = c.args in let d = c.drop_behind.ensures in let full = c.if-fill_and_close-ne0.false in
     let kept = dropped_are a.vec.now c.drop_behind.new.self a.vec.now a.front (a.back - a.front) a.end (a.total - a.end) (omega (arith, c.requires.ordered)) d in
     let x = Spliced-more _ _ g.W.Telling.some g.I.Iterator.remaining (λ a. ¬ (g.A.Clone.is_infallible a)) _ _ a.vec.now _ _ _ _ kept (length-run _ 0 _ c.requires.held.1.1) (omega (arith, c.if-count-eq0.false)) _ _ c.fill_and_close.new.self
-    (rw d.same at c.fill_and_close.ensures.fills) full c.told-told.result c.told-told.ensures _ c.put_more.result c.put_more.new.self c.put_more.ensures (c.fill_and_close.ensures.goes full).2 in
+    (rw d.same at c.fill_and_close.ensures.fills) full c.told-told.result c.told-told.ensures _ c.put_more.result c.put_more.new.self c.put_more.ensures (c.fill_and_close.ensures.goes full).1 (c.fill_and_close.ensures.goes full).2 in
     record { replaces = x.0; leaves = x.1 }
