@@ -59,10 +59,10 @@ module _ {T : Type 0} (iter : ItemsLeft T) {A : Type 0} (size : ℕ) (old : Vect
         rw (← items-all s.lower iter s.added s.last s.told s.ends.1.0.0, ← told) s.written
 
   pub SplicesShort-items : {fails : Type 0} → len old ≤ old.capacity → (error : TryReserveError) (new : Vector T A) → SplicesByFront gives_item (TellsExactly items_lower) size iter (cut_off old gap tail) fails error new
-      → SplicesShort size (lower_by iter.hint) (cut_off old gap tail) iter.items ⊤ ⊤ error new
+      → SplicesShort size (lower_by iter.hint) (cut_off old gap tail) iter.items fails ⊤ error new
   SplicesShort-items within error new s =
       SplicesShort-told size s.lower (lower_by iter.hint) (SameBlock-refl old) old.items gap tail s.taken s.last.items (λ k h. items-told s.lower iter s.taken s.last s.told s.first k (h within)) new iter.items
-      (items-rest s.lower iter s.taken s.last s.told) error (λ _. tt) (λ _. tt) (λ h. h.1.0.0) s.splices
+      (items-rest s.lower iter s.taken s.last s.told) error (λ f. f) (λ _. tt) (λ h. h.1.0.0) s.splices
 
 -- a splice of v is one of u, in the same block
 module _ {T A : Type 0} (size : ℕ) (lower : ℕ → ℕ) {u v : Vector T A} (b : SameBlock u v) (head : List T) (gap : ℕ) (tail added : List T) where

@@ -115,8 +115,9 @@ impl<T: Clone, A: Allocator> Vec<T, A> {
 
     /// Drops all elements, and puts a clone of each element of `other` in their place. It makes
     /// room for all of them before the first clone; a refusal leaves clones of a beginning of
-    /// `other`, or nothing, and is `CapacityOverflow`, or `AllocError` with a capacity of at least
-    /// the length of `other`. It stands for the original's `Clone::clone_from`.
+    /// `other`, or nothing, and is `CapacityOverflow`, or `AllocError` with the capacity asked for,
+    /// and, where a clone was refused, with the length of `other`. It stands for the original's
+    /// `Clone::clone_from`.
     #[tactic(auto, using(crate::proofs::CopiesLemmas::copied, crate::proofs::Becoming::became))]
     pub fn assign_from(&mut self, other: &Self) -> Result<(), TryReserveError>
         ensures fits { len other.now ≤ self.old.capacity
