@@ -1,6 +1,7 @@
 -- The names from elsewhere that several proofs here cite, passed on.
 pub use Rattle.aa_raw.specs.Growth.{least_of}
 pub use Rattle.aa_raw.specs.declared.collections.TryReserveError.{TryReserveError}
+pub use Rattle.aa_raw.specs.declared.collections.TryReserveErrorKind.{TryReserveErrorKind}
 pub use Rattle.aa_raw.specs.declared.raw_vec.Growth.{Growth}
 pub use Rattle.aa_raw.specs.declared.raw_vec.Growth.TheVariants.{Doubling, Sparing}
 pub use Rattle.aa_vec.proofs.GrowthLemmas.{GrowsInSteps-rises, Holds-more, MakesRoom-has, SameBlock-refl, SameBlock-trans}

@@ -6,6 +6,7 @@ pub mod WholeRuns
 pub mod Differ
 pub mod ExtractParts
 pub mod Joined
+pub mod ByKind
 pub mod Paid
 pub mod Ranges
 pub mod Repeated

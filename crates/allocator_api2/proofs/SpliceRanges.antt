@@ -1,11 +1,32 @@
 -- A range that was taken out of a vector and replaced by an `Items`.
-use Rattle.allocator_api2.proofs.Common.{◌≡◌, ℕ, ◌+◌, ◌*◌, ◌-◌, ◌≤◌, List, length, take, drop, Option, refl, ap, subst, arith, length-take, length-drop, ⊤, TryReserveError, Vector, len, TakesRange, drain_vec, drain_head, drain_tail, range_len, lower_by, SplicesShort, DoesOnMain, Splice, Done, Refused}
+use Rattle.allocator_api2.proofs.Common.{◌≡◌, ℕ, ◌+◌, ◌*◌, ◌-◌, ◌≤◌, List, length, take, drop, Option, refl, ap, subst, arith, inl, inr, length-take, length-drop, ⊤, TryReserveError, TryReserveErrorKind, Vector, len, TakesRange, drain_vec, drain_head, drain_tail, range_len, lower_by, SplicesShort, DoesOnMain, Splice, Done, Refused}
 use Rattle.aa_vec.specs.Extend.{ItemsLeft, gives_item, TellsExactly}
-use Rattle.aa_vec.specs.SpliceItems.{cut_off, gapped, SplicesAll, SplicesByAll, SplicesByFront, SplicesWithin}
+use Rattle.aa_vec.specs.SpliceItems.{Gapped, cut_off, gapped, SplicesAll, SplicesByAll, SplicesByFront, SplicesWithin}
 use Rattle.aa_vec.specs.declared.vec.drain.Drain.{Drain}
 use Rattle.aa_vec.proofs.Counted.{items_lower}
 use Rattle.aa_vec.proofs.SpliceByItems.{SplicesAll-items, SplicesShort-items, SplicesAll-from, SplicesShort-from}
+use Rattle.allocator_api2.proofs.ByKind.{told_by_kind}
 use Rattle.allocator_api2.proofs.SpliceRefusals.{short-full}
+use Rattle.allocator_api2.specs.Machine.{without_range}
+
+-- what was refused where something may have failed, or not
+module _ {T A fails : Type 0} (size : ℕ) (lower : ℕ → ℕ) (old : Gapped T A) (added : List T) (error : TryReserveError) (new : Vector T A) where
+  short-may_fail : SplicesShort size lower old added fails ⊤ error new → SplicesShort size lower old added ⊤ ⊤ error new
+  short-may_fail (inl p) = inl p
+  short-may_fail (inr p) =
+      inr (
+        p.0,
+        record {
+          front = p.1.front;
+          others = p.1.others;
+          begins = p.1.begins;
+          items = p.1.items;
+          why = elim p.1.why [
+            | inl h ↦ inl h
+            | inr h ↦ inr (h.0, elim h.1 [ inl l ↦ inl (elim l [ inl c ↦ inl (tt, c.1) | inr m ↦ inr m ]) | inr r ↦ inr r ])
+          ];
+        },
+      )
 
 module _ {T A : Type 0} (size : ℕ) (old : Vector T A) (start end : ℕ) (ordered : start ≤ end) (within : end ≤ len old) (room : len old ≤ old.capacity)
     (items : Vector T A) (hint : Option ℕ) (d : Drain T A) (drains : TakesRange old start end d)
@@ -34,20 +55,17 @@ module _ {T A : Type 0} (size : ℕ) (old : Vector T A) (start end : ℕ) (order
         writes = few w;
       }
 
-  pub Spliced-refused : {fails : Type 0} (kind : TryReserveError) → SplicesByFront gives_item (TellsExactly items_lower) size iter (cut_off (drain_vec d) (range_len d) (drain_tail d)) fails kind new
+  pub Spliced-refused : {fails : Type 0} (error : TryReserveError) (kind : TryReserveErrorKind) → kind ≡ error.kind → SplicesByFront gives_item (TellsExactly items_lower) size iter (cut_off (drain_vec d) (range_len d) (drain_tail d)) fails error new
       → SplicesWithin (drain_vec d) (drain_tail d) new → DoesOnMain size old (Splice start end items hint) (Refused kind) new
-  Spliced-refused {fails = fails} kind s w side =
+  Spliced-refused {fails = fails} error kind is s w side =
       let xs : List T = items.items in
-      let by_items = subst (λ j. SplicesByFront gives_item (TellsExactly items_lower) size j (cut_off (drain_vec d) (range_len d) (drain_tail d)) fails kind new) all s in
-      let lent = SplicesShort-items (record { items = xs; hint = hint }) size (drain_vec d) (range_len d) (drain_tail d) places kind new by_items in
-      let spliced = SplicesShort-from size (lower_by hint) drains.head.block (drain_head d) (range_len d) (drain_tail d) xs kind new lent in
-      let short = of_range (λ h g t. SplicesShort size (lower_by hint) (gapped old h g t) xs ⊤ ⊤ kind new) spliced in
+      let by_items = subst (λ j. SplicesByFront gives_item (TellsExactly items_lower) size j (cut_off (drain_vec d) (range_len d) (drain_tail d)) fails error new) all s in
+      let lent = SplicesShort-items (record { items = xs; hint = hint }) size (drain_vec d) (range_len d) (drain_tail d) places error new by_items in
+      let spliced = SplicesShort-from size (lower_by hint) drains.head.block (drain_head d) (range_len d) (drain_tail d) xs error new lent in
+      let short = of_range (λ h g t. SplicesShort size (lower_by hint) (gapped old h g t) xs fails ⊤ error new) spliced in
       record {
         answers =
-            record {
-              in_range = (ordered, within);
-              misfits = short-full size (lower_by hint) old start end ordered within xs kind new short;
-              leaves = record { side_stays = refl; main_does = short };
-            };
+            told_by_kind error is (ordered, within) (short-full size (lower_by hint) old start end ordered within xs error new short)
+            (record { side_stays = refl; main_does = short-may_fail size (lower_by hint) (without_range old start end) xs error new short });
         writes = few w;
       }

@@ -1,5 +1,5 @@
 -- A splice that was refused did not fit.
-use Rattle.allocator_api2.proofs.Common.{◌≡◌, ℕ, ◌+◌, ◌-◌, ◌<◌, ◌≤◌, List, ◌++◌, length, take, drop, ap, ◌∙◌, arith, inl, inr, length-append, length-take, length-drop, ⊤, TryReserveError, Vector, len, SplicesShort}
+use Rattle.allocator_api2.proofs.Common.{◌≡◌, ℕ, ◌+◌, ◌-◌, ◌<◌, ◌≤◌, List, ◌++◌, length, take, drop, ap, ◌∙◌, arith, inl, inr, length-append, length-take, length-drop, TryReserveError, Vector, len, SplicesShort}
 use Rattle.aa_vec.specs.SpliceItems.{SplicesFront}
 use Rattle.allocator_api2.specs.Machine.{FitsRange, without_range}
 use Rattle.allocator_api2.proofs.Stops.{stops-full}
@@ -20,7 +20,7 @@ module _ {T A : Type 0} (size : ℕ) (lower : ℕ → ℕ) (old : Vector T A) (s
   long_tail : length tail ≡ len old - end
   long_tail = length-drop end old.items
 
-  module _ (front : SplicesFront size lower (without_range old start end) added ⊤ ⊤ error new) where
+  module _ {fails whole : Type 0} (front : SplicesFront size lower (without_range old start end) added fails whole error new) where
     count : length added ≡ length front.front + length front.others
     count = ap length front.begins ∙ length-append front.front front.others
 
@@ -39,7 +39,7 @@ module _ {T A : Type 0} (size : ℕ) (lower : ℕ → ℕ) (old : Vector T A) (s
       | inr w ↦ absurd (omega (arith, all, count, w.0.fills, w.0.more))
     ]
 
-  pub short-full : SplicesShort size lower (without_range old start end) added ⊤ ⊤ error new → ¬ FitsRange old start end (length added) lower
+  pub short-full : {fails whole : Type 0} → SplicesShort size lower (without_range old start end) added fails whole error new → ¬ FitsRange old start end (length added) lower
   short-full (inl p) (inl h) = stops-full size lower old head added error new p.1 (omega (arith, h.1, long_head))
   short-full (inl p) (inr (inl g)) = absurd (omega (arith, g.0, long_tail, ap length p.0))
   short-full (inl p) (inr (inr g)) = absurd (omega (arith, g.0, long_tail, ap length p.0))

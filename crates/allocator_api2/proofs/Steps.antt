@@ -1,5 +1,5 @@
 -- What a step of the list machine does to main: it stays in its block, has grown once, or grew any number of times while it was full.
-use Rattle.allocator_api2.proofs.Common.{◌≡◌, ℕ, suc, ◌+◌, ◌-◌, ◌<◌, ◌≤◌, max, min, Bool, List, [], ◌∷◌, length, take, drop, None, Option, refl, sym, subst, ap, ◌∙◌, arith, rules, inl, inr, length-take, length-drop, Vector, len, SameBlock, GrowsTo, Holds, Command, SplitOff, Push, Within, Pop, Insert, Remove, SwapRemove, Truncate, Clear, Append, Extend, Retain, Dedup, Drain, ExtractIf, Reply, Done, Item, Nothing, Back, Refused, Range, GrowsInSteps, ExtendsFull, lower_by, TryReserveError, State, Calls, Step, Answers, asking, AddsOrRemoves, hint_of, added_by}
+use Rattle.allocator_api2.proofs.Common.{◌≡◌, ℕ, suc, ◌+◌, ◌-◌, ◌<◌, ◌≤◌, max, min, Bool, List, [], ◌∷◌, length, take, drop, None, Option, refl, sym, subst, ap, ◌∙◌, arith, rules, inl, inr, length-take, length-drop, Vector, len, SameBlock, GrowsTo, Holds, Command, SplitOff, Push, Within, Pop, Insert, Remove, SwapRemove, Truncate, Clear, Append, Extend, Retain, Dedup, Drain, ExtractIf, Reply, Done, Item, Nothing, Back, Refused, Range, GrowsInSteps, ExtendsFull, lower_by, TryReserveError, TryReserveErrorKind, State, Calls, Step, Answers, asking, AddsOrRemoves, hint_of, added_by}
 use Rattle.std.proofs.Common.{length-set}
 use Rattle.std.specs.Prelude.{slice_set, slice_index_or}
 use Rattle.std.proofs.lemmas.List.{length-append}
@@ -9,7 +9,7 @@ use Rattle.aa_vec.proofs.GrowthLemmas.{MakesRoom, MakesRoom-has, MakesRoom-rises
 use Rattle.aa_vec.proofs.Kept.{length-kept, length-deduplicated}
 use Rattle.allocator_api2.proofs.ExtractParts.{length-taken_out}
 use Rattle.allocator_api2.proofs.Ranges.{length-left_of}
-use Rattle.allocator_api2.specs.Machine.{InRange, Makes, AnswersRefused, ends_of}
+use Rattle.allocator_api2.specs.Machine.{InRange, Makes, AnswersRefused, ends_of, error_of}
 
 module _ {T A : Type 0} (size : ℕ) where
   -- old made room any number of times while it had not places for `needed`, and is new; told of no hint, it asked for no more than is needed
@@ -75,8 +75,8 @@ module _ {T A : Type 0} (size : ℕ) where
   change_done main side command reply main' side' a r m = search rules
 
   -- what one that was refused has left of it
-  change_refused : (main side : Vector T A) (command : Command T A) (kind : TryReserveError) (main' side' : Vector T A) → AddsOrRemoves command → AnswersRefused size main side command kind main' side' → Change (hint_of command) main (added_by main side command (Refused kind) main') main'
-  change_refused main side (Extend items hint) kind main' side' a s = stops hint main items.items kind main' s.leaves.main_does
+  change_refused : (main side : Vector T A) (command : Command T A) (kind : TryReserveErrorKind) (main' side' : Vector T A) → AddsOrRemoves command → AnswersRefused size main side command kind main' side' → Change (hint_of command) main (added_by main side command (Refused kind) main') main'
+  change_refused main side (Extend items hint) kind main' side' a s = stops hint main items.items (error_of kind) main' s.leaves.main_does
   change_refused main side command kind main' side' a s = search (rules, same)
 
   -- and one whose range lies outside

@@ -5,6 +5,7 @@ use Rattle.std.specs.Prelude.{◌≡◌, ℕ, ◌+◌, ◌-◌, ◌<◌, ◌≤�
 use Rattle.std.specs.Fn.{CalledAtMut, CalledAtPairMut}
 use Rattle.aa_raw.specs.Closures.{TakesPairMut}
 use Rattle.aa_raw.specs.declared.collections.TryReserveError.{TryReserveError}
+use Rattle.aa_raw.specs.declared.collections.TryReserveErrorKind.{TryReserveErrorKind}
 use Rattle.aa_raw.specs.declared.collections.TryReserveErrorKind.TheVariants.{AllocError}
 use Rattle.aa_raw.specs.Refusals.{IsRefusedAt}
 use Rattle.aa_raw.specs.Growth.{usize_max}
@@ -25,6 +26,10 @@ pub record Ends : Type 0 where
   pub end : ℕ
   pub front : ℕ
   pub back : ℕ
+
+-- the error of this kind
+abbrev pub error_of : TryReserveErrorKind → TryReserveError
+error_of kind = record { kind = kind }
 
 -- the two vectors, and the states of the two closures
 pub record State (T A K S : Type 0) : Type 0 where
@@ -269,12 +274,12 @@ module _ {T A : Type 0} (size : ℕ) where
     pub outside : ¬ InRange main command
     pub stays : Unchanged main side main' side'
 
-  -- memory or a clone was refused
+  -- memory or a clone was refused, with an error of this kind
   pub record AnswersRefused (main side : Vector T A) (command : Command T A)
-      (error : TryReserveError) (main' side' : Vector T A) : Type 0 where
+      (kind : TryReserveErrorKind) (main' side' : Vector T A) : Type 0 where
     pub in_range : InRange main command
     pub misfits : ¬ Fits main side command
-    pub leaves : Leaves main side command error main' side'
+    pub leaves : Leaves main side command (error_of kind) main' side'
 
   -- the command was done
   pub record AnswersDone (main side : Vector T A) (command : Command T A) (reply : Reply T)
@@ -286,8 +291,8 @@ module _ {T A : Type 0} (size : ℕ) where
   abbrev pub Answers : (main side : Vector T A) → Command T A → Reply T → (main' side' : Vector T A)
       → Type 0
   Answers main side command Range main' side' = AnswersRange main side command main' side'
-  Answers main side command (Refused error) main' side' =
-      AnswersRefused main side command error main' side'
+  Answers main side command (Refused kind) main' side' =
+      AnswersRefused main side command kind main' side'
   Answers main side command reply main' side' = AnswersDone main side command reply main' side'
 
 -- v has no more elements than places, and no more places than can be counted

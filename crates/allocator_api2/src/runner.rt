@@ -7,7 +7,7 @@ ghost use Rattle.allocator_api2.specs.Commands.{DoesStep};
 ghost use Rattle.allocator_api2.specs.Machine.{state_of, calls_of, IsPossible};
 ghost use Rattle.allocator_api2.specs.Run.{RunsWithin, MayCall, IsCallableOnRuns};
 
-use aa_raw::collections::TryReserveError;
+use aa_raw::collections::TryReserveErrorKind;
 use aa_vec::vec::Vec;
 use std::alloc::{Allocator, Global};
 
@@ -112,8 +112,8 @@ pub enum Reply<T> {
     Nothing,
     /// The element comes back, since there was no room within the capacity.
     Back(T),
-    /// Memory or a clone was refused, with this error.
-    Refused(TryReserveError),
+    /// Memory or a clone was refused, with an error of this kind.
+    Refused(TryReserveErrorKind),
     /// An index or a range lies outside the list; nothing was done.
     Range,
 }

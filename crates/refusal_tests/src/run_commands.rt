@@ -168,7 +168,7 @@ pub(crate) fn is_reply<T: Number>(reply: &Reply<T>, answer: Answer) -> bool {
         | (Reply::Nothing, Answer::Nothing)
         | (Reply::Range, Answer::Range) => true,
         (Reply::Item(x), Answer::Item(y)) | (Reply::Back(x), Answer::Back(y)) => x.number() == y,
-        (Reply::Refused(error), answer) => is_refusal(error.kind(), answer),
+        (Reply::Refused(kind), answer) => is_refusal(*kind, answer),
         _ => false,
     }
 }

@@ -22,7 +22,7 @@ reply_text Done = codes "done"
 reply_text (Item x) = codes "item " ++ decimal x
 reply_text Nothing = codes "none"
 reply_text (Back x) = codes "back " ++ decimal x
-reply_text (Refused error) = refusal_text error.kind
+reply_text (Refused kind) = refusal_text kind
 reply_text Range = codes "range"
 
 -- the replies, a line each

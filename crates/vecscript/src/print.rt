@@ -30,7 +30,7 @@ fn print_reply(output: &mut Text, reply: &Reply<u32>) -> io::Result<()>
         Reply::Item(x) => print_numbered(output, b"item", *x),
         Reply::Nothing => print_bytes(output, b"none\n"),
         Reply::Back(x) => print_numbered(output, b"back", *x),
-        Reply::Refused(error) => match error.kind() {
+        Reply::Refused(kind) => match kind {
             TryReserveErrorKind::CapacityOverflow => print_bytes(output, b"refused capacity\n"),
             TryReserveErrorKind::AllocError { .. } => print_bytes(output, b"refused memory\n"),
         },

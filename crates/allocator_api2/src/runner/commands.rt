@@ -15,7 +15,7 @@ use aa_vec::vec::Vec;
 use aa_vec::vec::items::Items;
 use std::alloc::Allocator;
 
-#[tactic(auto, using(aa_vec::proofs::Becoming::became))]
+#[tactic(auto, using(aa_vec::proofs::Becoming::became, crate::proofs::ByKind::told))]
 pub(crate) fn push<T, A: Allocator>(main: &mut Vec<T, A>, value: T) -> Reply<T>
 where
     T: Drop,
@@ -23,7 +23,7 @@ where
 {
     match main.push(value) {
         Ok(()) => Reply::Done,
-        Err(refused) => Reply::Refused(refused.error),
+        Err(refused) => Reply::Refused(refused.error.kind()),
     }
 }
 
@@ -47,7 +47,7 @@ pub(crate) fn pop<T, A: Allocator>(main: &mut Vec<T, A>) -> Reply<T>
     }
 }
 
-#[tactic(auto, using(aa_vec::proofs::Becoming::became))]
+#[tactic(auto, using(aa_vec::proofs::Becoming::became, crate::proofs::ByKind::told))]
 pub(crate) fn insert<T: Drop, A: Allocator>(
     main: &mut Vec<T, A>,
     index: usize,
@@ -60,7 +60,7 @@ pub(crate) fn insert<T: Drop, A: Allocator>(
     }
     match main.insert(index, value) {
         Ok(()) => Reply::Done,
-        Err(refused) => Reply::Refused(refused.error),
+        Err(refused) => Reply::Refused(refused.error.kind()),
     }
 }
 
@@ -100,36 +100,37 @@ pub(crate) fn clear<T: Drop, A: Allocator>(main: &mut Vec<T, A>) -> Reply<T>
     Reply::Done
 }
 
-#[tactic(auto, using(aa_vec::proofs::Becoming::became))]
+#[tactic(auto, using(aa_vec::proofs::Becoming::became, crate::proofs::ByKind::told))]
 pub(crate) fn reserve<T, A: Allocator>(main: &mut Vec<T, A>, additional: usize) -> Reply<T>
     ensures { DoesOnMain (type_size T.row) main.old (Reserve additional) result main.new }
 {
     match main.try_reserve(additional) {
         Ok(()) => Reply::Done,
-        Err(error) => Reply::Refused(error),
+        Err(error) => Reply::Refused(error.kind()),
     }
 }
 
-#[tactic(auto, using(aa_vec::proofs::Becoming::became))]
+#[tactic(auto, using(aa_vec::proofs::Becoming::became, crate::proofs::ByKind::told))]
 pub(crate) fn reserve_exact<T, A: Allocator>(main: &mut Vec<T, A>, additional: usize) -> Reply<T>
     ensures { DoesOnMain (type_size T.row) main.old (ReserveExact additional) result main.new }
 {
     match main.try_reserve_exact(additional) {
         Ok(()) => Reply::Done,
-        Err(error) => Reply::Refused(error),
+        Err(error) => Reply::Refused(error.kind()),
     }
 }
 
-#[tactic(auto, using(aa_vec::proofs::Becoming::became))]
+#[tactic(auto, using(aa_vec::proofs::Becoming::became, crate::proofs::ByKind::told))]
 pub(crate) fn shrink_to<T, A: Allocator>(main: &mut Vec<T, A>, capacity: usize) -> Reply<T>
     ensures { DoesOnMain (type_size T.row) main.old (ShrinkTo capacity) result main.new }
 {
     match main.shrink_to(capacity) {
         Ok(()) => Reply::Done,
-        Err(error) => Reply::Refused(error),
+        Err(error) => Reply::Refused(error.kind()),
     }
 }
 
+#[tactic(auto, using(crate::proofs::ByKind::told))]
 pub(crate) fn split_off<T: Drop, A: Allocator + Clone + Drop>(
     main: &mut Vec<T, A>,
     side: &mut Vec<T, A>,
@@ -147,17 +148,17 @@ pub(crate) fn split_off<T: Drop, A: Allocator + Clone + Drop>(
             *side = tail;
             Reply::Done
         }
-        Err(error) => Reply::Refused(error),
+        Err(error) => Reply::Refused(error.kind()),
     }
 }
 
-#[tactic(auto, using(aa_vec::proofs::Becoming::became))]
+#[tactic(auto, using(aa_vec::proofs::Becoming::became, crate::proofs::ByKind::told))]
 pub(crate) fn append<T, A: Allocator>(main: &mut Vec<T, A>, side: &mut Vec<T, A>) -> Reply<T>
     ensures { Does (type_size T.row) main.old side.old Append result main.new side.new }
 {
     match main.append(side) {
         Ok(()) => Reply::Done,
-        Err(error) => Reply::Refused(error),
+        Err(error) => Reply::Refused(error.kind()),
     }
 }
 
@@ -170,10 +171,11 @@ pub(crate) fn extend<T: Drop, A: Allocator + Drop>(
 {
     match main.extend_hinted(Items::new(items, hint)) {
         Ok(()) => Reply::Done,
-        Err(error) => Reply::Refused(error),
+        Err(error) => Reply::Refused(error.kind()),
     }
 }
 
+#[tactic(auto, using(crate::proofs::ByKind::told))]
 pub(crate) fn extend_from_within<T: Clone + Drop, A: Allocator>(
     main: &mut Vec<T, A>,
     from: usize,
@@ -187,10 +189,11 @@ pub(crate) fn extend_from_within<T: Clone + Drop, A: Allocator>(
     }
     match main.extend_from_within(from..to) {
         Ok(()) => Reply::Done,
-        Err(error) => Reply::Refused(error),
+        Err(error) => Reply::Refused(error.kind()),
     }
 }
 
+#[tactic(auto, using(crate::proofs::ByKind::told))]
 pub(crate) fn resize<T: Clone + Drop, A: Allocator>(
     main: &mut Vec<T, A>,
     len: usize,
@@ -201,7 +204,7 @@ pub(crate) fn resize<T: Clone + Drop, A: Allocator>(
 {
     match main.resize(len, value) {
         Ok(()) => Reply::Done,
-        Err(error) => Reply::Refused(error),
+        Err(error) => Reply::Refused(error.kind()),
     }
 }
 
@@ -248,6 +251,6 @@ pub(crate) fn splice<T: Drop, A: Allocator + Clone + Drop>(
     let range = main.splice(start..end, Items::new(items, hint));
     match range.finish_hinted() {
         Ok(()) => Reply::Done,
-        Err(error) => Reply::Refused(error),
+        Err(error) => Reply::Refused(error.kind()),
     }
 }

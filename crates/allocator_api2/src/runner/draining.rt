@@ -13,7 +13,7 @@ use aa_vec::vec::{Drain, Vec};
 use std::alloc::Allocator;
 
 // Tests the range, makes room in side for what is asked for, and then takes it.
-#[tactic(auto, using(aa_vec::proofs::Becoming::became))]
+#[tactic(auto, using(aa_vec::proofs::Becoming::became, crate::proofs::ByKind::told))]
 pub(crate) fn drain<T: Drop, A: Allocator>(
     main: &mut Vec<T, A>,
     side: &mut Vec<T, A>,
@@ -32,7 +32,7 @@ pub(crate) fn drain<T: Drop, A: Allocator>(
     let first = front.min(end - start);
     let last = back.min(end - start - first);
     if let Err(error) = side.try_reserve(first + last) {
-        return Reply::Refused(error);
+        return Reply::Refused(error.kind());
     }
     drain_into(main, side, start, end, first, last, keep);
     Reply::Done

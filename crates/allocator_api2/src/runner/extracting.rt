@@ -14,7 +14,7 @@ use aa_vec::vec::{ExtractBy, Vec};
 use std::alloc::Allocator;
 
 // Tests the range, makes room in side for as many as may be taken, and then takes them.
-#[tactic(auto, using(aa_vec::proofs::Becoming::became))]
+#[tactic(auto, using(aa_vec::proofs::Becoming::became, crate::proofs::ByKind::told))]
 pub(crate) fn extract<T: Drop, A: Allocator, K: FnMut(&mut T) -> bool>(
     main: &mut Vec<T, A>,
     side: &mut Vec<T, A>,
@@ -34,7 +34,7 @@ pub(crate) fn extract<T: Drop, A: Allocator, K: FnMut(&mut T) -> bool>(
     }
     let most = take.min(end - start);
     if let Err(error) = side.try_reserve(most) {
-        return Reply::Refused(error);
+        return Reply::Refused(error.kind());
     }
     extract_into(main, side, start, end, most, keep);
     Reply::Done

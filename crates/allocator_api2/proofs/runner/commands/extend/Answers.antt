@@ -1,5 +1,6 @@
 use Rattle.std.proofs.Common.{rules}
 use Rattle.aa_vec.proofs.Counted.{ExtendsAll-items, ExtendsFull-items}
+use Rattle.allocator_api2.proofs.ByKind.{told_by_kind}
 use Rattle.allocator_api2.proofs.Stops.{stops-full}
 use Rattle.allocator_api2.proofs.runner.commands.extend.Goals as goal
 
@@ -12,4 +13,4 @@ pub returns-in-Err : goal.returns-in-Err
 returns-in-Err g c =
     let extended = rw c.new.ensures at (ExtendsFull-items _ _ _ _ _ c.in-Err.ensures.refused) in
     let misfits = stops-full _ _ _ _ _ _ _ extended in
-    search (rules, extended, misfits)
+    search (rules, extended, misfits, told_by_kind)
