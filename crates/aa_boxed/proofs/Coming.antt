@@ -1,5 +1,5 @@
 -- Items that come of an iterator, and are put into a block.
-use Rattle.aa_boxed.proofs.Common.{AllocError, Begun, Doubling, Err, IfErr, IfOk, LacksRoom, List, None, Ok, Option, Result, Slice, Some, Stops, TryReserveError, WholeRun, Yields, YieldsThen, [], amortized, ap, arith, asked_with, ended, if◌then◌else◌, inl, inr, least_of, length, length-append, nat_tests, refl, rules, sized, subst, sym, total_runs, usize_max, with_next, ℕ, ◌++◌, ◌+◌, ◌<◌, ◌==◌, ◌∙◌, ◌∷◌, ◌≡◌, ◌≤◌}
+use Rattle.aa_boxed.proofs.Common.{AllocError, Begun, Doubling, Err, IfErr, IfOk, LacksRoom, List, None, Ok, Option, Result, Slice, Some, Stops, StopsAtEnd, TryReserveError, WholeRun, Yields, YieldsThen, [], amortized, ap, arith, asked_with, ended, if◌then◌else◌, inl, least_of, length, length-append, nat_tests, refl, rules, sized, subst, sym, total_runs, usize_max, with_next, ℕ, ◌++◌, ◌+◌, ◌<◌, ◌==◌, ◌∙◌, ◌∷◌, ◌≡◌, ◌≤◌}
 
 -- n items that filled their room are no fewer than a new block has places for
 over_start : (size n : ℕ) → (size ≡ 0 → usize_max ≤ n) → n < sized size 0 → ⊥
@@ -26,10 +26,10 @@ module _ {S T : Type 0} (steps : S → Option T → S → Type 0) where
     whole_run_of (Err error) e = tt
 
     -- at the end a block of just their number was refused
-    pub stops_at_end : (Tells : S → ℕ → Type 0) (size : ℕ) (r : Result (Slice T A) TryReserveError)
-        → IfErr r (λ e. (0 < length f.items) × (0 < size) × (e.kind ≡ AllocError (length f.items))) → IfErr r (λ e. Stops steps Tells size iter e s)
-    stops_at_end Tells size (Ok b) e = tt
-    stops_at_end Tells size (Err error) e = inr (record { taken = f.items; came = d; some = e.0; has_size = e.1; number = e.2 })
+    pub stops_at_end : (Tells : S → ℕ → Type 0) (size : ℕ) (Q : TryReserveError → Type 0) → ((e : TryReserveError) → StopsAtEnd steps Tells size iter e s → Q e)
+        → (r : Result (Slice T A) TryReserveError) → IfErr r (λ e. (0 < length f.items) × (0 < size) × (e.kind ≡ AllocError (length f.items))) → IfErr r Q
+    stops_at_end Tells size Q q (Ok b) e = tt
+    stops_at_end Tells size Q q (Err error) e = q error (record { taken = f.items; came = d; some = e.0; has_size = e.1; number = e.2 })
 
   module _ {A : Type 0} (left : S → ℕ) (size : ℕ) (iter : S) (alloc : A) where
     -- what came from iter, which is now s, was put into f

@@ -1,10 +1,10 @@
 -- The names from elsewhere that proofs here cite, passed on.
 pub use Rattle.aa_boxed.specs.Boxed.{held}
 pub use Rattle.aa_boxed.specs.Room.{IsForOne, IsJustFor}
-pub use Rattle.aa_boxed.specs.Slice.{Begun, Slice, Stops, ended, slice_of, with_next}
+pub use Rattle.aa_boxed.specs.Slice.{Begun, Slice, Stops, StopsAtEnd, ended, slice_of, with_next}
 pub use Rattle.aa_boxed.specs.BoxedSliceInner.{IsWhole}
 pub use Rattle.aa_boxed.specs.Hints.{asked_with}
-pub use Rattle.aa_boxed.specs.Text.{StopsAtText, Text}
+pub use Rattle.aa_boxed.specs.Text.{LacksBytes, PutsTexts, StopsAtText, Text, room_after, room_for}
 pub use Rattle.aa_boxed.specs.contracts.boxed.Box.{the_row}
 pub use Rattle.aa_raw.proofs.Beyond.{IsRun-forgot, forgot, length-forgot, none-forgot, none_there}
 pub use Rattle.aa_raw.proofs.Common.{AllZip, AllZip-push, Block, IsRun, Logic, SProp, Ura, emp, empty_places, ent, eqb_tells, ex, fact, fresh, length-replicate, list_all, nat_tests, param, run, sep, sized, take_at_read, type_size, usize_max, via, wand, with_run, wrote}
@@ -20,7 +20,8 @@ pub use Rattle.aa_raw.specs.declared.raw_vec.Growth.TheVariants.{Doubling}
 pub use Rattle.std.proofs.Common.{Err, IfErr, IfOk, IfSome, IsUtf8, List, None, Ok, Option, Result, Some, String, [], ap, append-nil, append_assoc, arith, drop, eq-eqb, flat_map, get_or, if◌then◌else◌, inl, inr, is_none, is_some, length, length-append, map, refl, replicate, rules, subst, suc, sym, take, true, zero, ℕ, ◌++◌, ◌+◌, ◌<◌, ◌==◌, ◌∙◌, ◌∷◌, ◌≡◌, ◌≢◌, ◌≤◌}
 pub use Rattle.std.proofs.iter.runs.Consumers.{total_runs}
 pub use Rattle.std.proofs.lemmas.Result.{err_from_is_err_and}
-pub use Rattle.std.proofs.lemmas.Str.{IsUtf8-had}
+pub use Rattle.std.proofs.lemmas.List.{take_all}
+pub use Rattle.std.proofs.lemmas.Str.{IsUtf8-append, IsUtf8-had}
 pub use Rattle.std.specs.Borrow.{GName, RattleType, follows_if, follows_so, sem}
 pub use Rattle.std.specs.Io.{StartsWith}
 pub use Rattle.std.specs.Io.BufRead.{FillKeeps}

@@ -1,9 +1,9 @@
 //! `BoxedSlice`: a list in a block that has room for it and no more.
-ghost use Rattle.std.specs.Prelude.{◌≡◌, ◌<◌, ◌≤◌, [], None, length, All, IfOk, IfErr, IsOk};
+ghost use Rattle.std.specs.Prelude.{◌≡◌, ◌<◌, ◌≤◌, ◌⊎◌, [], None, length, All, IfOk, IfErr, IsOk};
 ghost use Rattle.std.specs.List.{AllZip};
 ghost use Rattle.std.specs.Mem.{type_size};
 ghost use Rattle.std.specs.Borrow.{sem};
-ghost use Rattle.std.specs.Iterator.{IsFinite, Drains, YieldsThen, size};
+ghost use Rattle.std.specs.Iterator.{IsFinite, IsNearerEnd, Drains, YieldsThen, size};
 ghost use Rattle.std.specs.Iterator.Runs.{WholeRun};
 ghost use Rattle.aa_raw.specs.Clones.{Copies};
 ghost use Rattle.aa_raw.specs.Growth.{sized};
@@ -11,7 +11,7 @@ ghost use Rattle.aa_raw.specs.Places.{IsRun};
 ghost use Rattle.aa_raw.specs.Refusals.{RefusesBlock, RefusesClones};
 ghost use Rattle.aa_raw.specs.declared.raw_vec.Growth.TheVariants.{Doubling};
 ghost use Rattle.aa_boxed.specs.Room.{IsJustFor};
-ghost use Rattle.aa_boxed.specs.Slice.{new_slice, slice_of, Stops};
+ghost use Rattle.aa_boxed.specs.Slice.{new_slice, slice_of, Stops, StopsAtEnd};
 ghost use Rattle.aa_boxed.specs.Hints.{TellsAtMost};
 ghost use Rattle.aa_boxed.specs.Slice.{Slice};
 ghost use Rattle.aa_boxed.specs.BoxedSliceInner.{view_of, IsWhole};
@@ -119,6 +119,11 @@ impl<T, A: Allocator> BoxedSlice<T, A> {
         ensures refused { IfErr result
             (λ e. Stops I.next_gives (TellsAtMost I.remaining) (type_size T.row)
             iter.old e iter.new) }
+        ensures goes { IfErr result
+            (λ e. IsNearerEnd I.can_next I.remaining iter.old iter.new
+            ⊎ StopsAtEnd I.next_gives (TellsAtMost I.remaining) (type_size T.row)
+            iter.old e iter.new) }
+        ensures stays_finite { IsFinite (I.remaining iter.new) }
     {
         let mut filling = Filling::with_room(Growth::Doubling, 0, alloc)?;
         while let Some(x) = iter.next() {

@@ -1,15 +1,15 @@
 //! `BoxedText`: text in a block that has room for it and no more.
 ghost use Rattle.std.specs.Prelude.{◌≡◌, ◌+◌, ◌<◌, ◌≤◌, ◌++◌, List, [], length, flat_map, None, IfOk, IfErr, OnOk, OnErr, MatchResult, IsUtf8};
-ghost use Rattle.std.specs.Iterator.{IsFinite, Drains, YieldsThen};
+ghost use Rattle.std.specs.Iterator.{IsFinite, IsNearerEnd, Drains, YieldsThen};
 ghost use Rattle.std.specs.String.{string_bytes, string_capacity};
-ghost use Rattle.aa_raw.specs.Growth.{usize_max};
 ghost use Rattle.aa_raw.specs.Refusals.{IsRefusedAt};
 ghost use Rattle.aa_raw.specs.declared.raw_vec.Growth.TheVariants.{Doubling};
-ghost use Rattle.aa_raw.specs.declared.collections.TryReserveErrorKind.TheVariants.{CapacityOverflow};
-ghost use Rattle.aa_boxed.specs.Text.{Text, bytes_of, new_text, text_of_slice, StopsAtText};
+ghost use Rattle.aa_boxed.specs.Text.{Text, bytes_of, new_text, text_of_slice};
+ghost use Rattle.aa_boxed.specs.Text.{room_for, LacksBytes, PutsTexts, StopsAtText};
 
 use crate::boxed::slice::BoxedSlice;
 use aa_raw::collections::{TryReserveError, TryReserveErrorKind};
+use core::mem::replace_with;
 use std::alloc::{Allocator, Global};
 use std::default::Default;
 use std::marker::Model;
@@ -122,8 +122,7 @@ pub fn append_texts<S: Allocator, A: Allocator, I: Iterator<Item = BoxedText<A>>
     requires may_ask { I.can_next iter }
     requires ends { IsFinite (I.remaining iter) }
     ensures appended { OnOk result
-        ((ts : List (Text A)) × Drains I.next_gives iter ts
-        × (string_bytes text.new ≡ string_bytes text.old ++ flat_map (λ t. t.bytes) ts)) }
+        ((ts : List (Text A)) × Drains I.next_gives iter ts × PutsTexts ts text.old text.new) }
     ensures refused { IfErr result
         (λ e. (after : I) × StopsAtText I.next_gives iter text.old e text.new after) }
     ensures rises { string_capacity text.old ≤ string_capacity text.new }
@@ -143,9 +142,10 @@ pub fn append_texts_by<S: Allocator, A: Allocator, I: Iterator<Item = BoxedText<
     requires ends { IsFinite (I.remaining iter.old) }
     ensures appended { OnOk result
         ((ts : List (Text A)) × YieldsThen I.next_gives iter.old ts None iter.new
-        × (string_bytes text.new ≡ string_bytes text.old ++ flat_map (λ t. t.bytes) ts)) }
+        × PutsTexts ts text.old text.new) }
     ensures refused { IfErr result
         (λ e. StopsAtText I.next_gives iter.old text.old e text.new iter.new) }
+    ensures goes { IfErr result (λ _. IsNearerEnd I.can_next I.remaining iter.old iter.new) }
     ensures rises { string_capacity text.old ≤ string_capacity text.new }
 {
     while let Some(next) = iter.next() {
@@ -157,26 +157,55 @@ pub fn append_texts_by<S: Allocator, A: Allocator, I: Iterator<Item = BoxedText<
     Ok(())
 }
 
-// Puts `more` behind `text`, or changes nothing where that is refused.
+// Puts `more` behind `text`, or changes nothing where room for it is refused.
 fn append_text<S: Allocator>(text: &mut String<S>, more: &str) -> Result<(), TryReserveError>
     ensures appended { OnOk result (string_bytes text.new ≡ string_bytes text.old ++ more.now) }
-    ensures kept { IfErr result (λ e. string_bytes text.new ≡ string_bytes text.old) }
-    ensures lacks { IfErr result
-        (λ e. string_capacity text.new < length (string_bytes text.old) + length more.now) }
-    ensures number { IfErr result
-        (λ e. IsRefusedAt e (length (string_bytes text.old) + length more.now)) }
-    ensures overflow { let wanted = length (string_bytes text.old) + length more.now in
-        IfErr result (λ e. usize_max < wanted → e.kind ≡ CapacityOverflow) }
+    ensures room { OnOk result (string_capacity text.new
+        ≡ room_for (string_capacity text.old) (length (string_bytes text.old)) (length more.now)) }
+    ensures kept { OnErr result (string_bytes text.new ≡ string_bytes text.old) }
+    ensures stays { OnErr result (string_capacity text.new ≡ string_capacity text.old) }
+    ensures lacks { IfErr result (LacksBytes text.new (length more.now)) }
     ensures rises { string_capacity text.old ≤ string_capacity text.new }
 {
-    if text.try_reserve(more.len()).is_err() {
-        return match text.as_bytes().len().checked_add(more.len()) {
-            Some(capacity) => Err(TryReserveErrorKind::AllocError { capacity }.into()),
-            None => Err(TryReserveErrorKind::CapacityOverflow.into()),
-        };
+    make_room(text, more.len())?;
+    replace_with(text, more, with_behind);
+    Ok(())
+}
+
+// Makes room for `additional` bytes behind `text`, with as much to spare as a vector's growth.
+fn make_room<S: Allocator>(text: &mut String<S>, additional: usize) -> Result<(), TryReserveError>
+    ensures bytes { string_bytes text.new ≡ string_bytes text.old }
+    ensures room { OnOk result (string_capacity text.new
+        ≡ room_for (string_capacity text.old) (length (string_bytes text.old)) additional) }
+    ensures fits { OnOk result
+        (length (string_bytes text.old) + additional ≤ string_capacity text.new) }
+    ensures stays { OnErr result (string_capacity text.new ≡ string_capacity text.old) }
+    ensures lacks { IfErr result (LacksBytes text.new additional) }
+    ensures rises { string_capacity text.old ≤ string_capacity text.new }
+{
+    let (len, capacity) = (text.len(), text.capacity());
+    if additional <= capacity - len {
+        return Ok(());
     }
-    match text.push_str(more) {
+    let Some(required) = len.checked_add(additional) else {
+        return Err(TryReserveErrorKind::CapacityOverflow.into());
+    };
+    let wanted = (capacity * 2).max(required).max(8);
+    match text.try_reserve_exact(wanted - len) {
         Ok(()) => Ok(()),
-        Err(_) => unreachable!(),
+        Err(_) => Err(TryReserveErrorKind::AllocError { capacity: wanted }.into()),
     }
+}
+
+// The text with `more` behind it, in the same room.
+fn with_behind<S: Allocator>(text: String<S>, more: &str) -> (String<S>, ())
+    requires { length (string_bytes text) + length more.now ≤ string_capacity text }
+    ensures bytes { string_bytes result.0 ≡ string_bytes text ++ more.now }
+    ensures room { string_capacity result.0 ≡ string_capacity text }
+{
+    let mut bytes = text.into_bytes();
+    for byte in more.as_bytes() {
+        bytes.push_reserved(*byte);
+    }
+    (unsafe { String::from_utf8_unchecked(bytes) }, ())
 }

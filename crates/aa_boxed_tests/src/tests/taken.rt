@@ -1,7 +1,10 @@
 //! How many items are taken of an iterator where memory is refused.
+ghost use Rattle.std.specs.Prelude.{None, IfErr};
+ghost use Rattle.std.specs.Iterator.{IsFinite, IsNearerEnd};
+
 use aa_boxed::boxed::{BoxedSlice, BoxedText, append_texts, append_texts_by};
 use aa_raw::collections::{TryReserveError, TryReserveErrorKind};
-use std::alloc::Global;
+use std::alloc::{Allocator, Global};
 use std::cell::Cell;
 use std::string::String;
 use std::test::Fail;
@@ -93,6 +96,40 @@ fn letter(heap: &Faulty<Global>) -> Result<String<&Faulty<Global>>, Fail> {
     Ok(all)
 }
 
+// The texts that find room behind the first of two strings, and what is left of them behind the
+// other; whoever is refused there too may go on again.
+fn append_over<I: Iterator<Item = BoxedText<A>>, A: Allocator, S: Allocator, R: Allocator>(
+    first: &mut String<S>,
+    other: &mut String<R>,
+    iter: &mut I,
+) -> Result<(), TryReserveError>
+    requires may_ask { I.can_next iter.old }
+    requires ends { IsFinite (I.remaining iter.old) }
+    ensures { IfErr result (λ _. IsNearerEnd I.can_next I.remaining iter.old iter.new) }
+{
+    match append_texts_by(first, iter) {
+        Ok(()) => Ok(()),
+        Err(_) => append_texts_by(other, iter),
+    }
+}
+
+// The items in a block of the first allocator, or those that it leaves in one of the other. That an
+// iterator may be asked after its end counts where it is at its end when it is refused.
+fn slice_over<I: Iterator<Item = T>, T: Drop, A: Allocator>(
+    iter: &mut I,
+    first: A,
+    other: A,
+) -> Result<BoxedSlice<T, A>, TryReserveError>
+    requires may_ask { I.can_next iter.old }
+    requires ends { IsFinite (I.remaining iter.old) }
+    requires again { (s t : I) → I.next_gives s None t → I.can_next t }
+{
+    match BoxedSlice::from_iter_in_by(iter, first) {
+        Ok(slice) => Ok(slice),
+        Err(_) => BoxedSlice::from_iter_in_by(iter, other),
+    }
+}
+
 #[test]
 fn refused_texts_take_no_further_one(rt: HostRuntime) -> Result<(), Fail> {
     let heap = Faulty::new(rt.alloc());
@@ -117,5 +154,24 @@ fn refused_texts_leave_the_others(rt: HostRuntime) -> Result<(), Fail> {
     assert!(rt; append_texts_by(&mut all, &mut iter).is_err());
     append_texts_by(&mut all, &mut iter)?;
     assert!(rt; all.as_str() == "abd");
+    Ok(())
+}
+
+#[test]
+fn what_is_left_of_an_iterator_goes_on(rt: HostRuntime) -> Result<(), Fail> {
+    let heap = Faulty::new(rt.alloc());
+    let mut all = letter(&heap)?;
+    let mut other = String::new(rt.alloc());
+    heap.refuse(0, 1);
+    append_over(&mut all, &mut other, &mut texts(rt.alloc())?.into_iter())?;
+    assert!(rt; (all.as_str(), other.as_str()) == ("ab", "d"));
+    let spare = Faulty::new(rt.alloc());
+    heap.refuse(1, 1);
+    let mut iter = Asked {
+        iter: 0..9u32,
+        calls: &Cell::new(0),
+    };
+    let slice = slice_over(&mut iter, &heap, &spare)?;
+    assert!(rt; slice.as_slice() == [5, 6, 7, 8].as_slice());
     Ok(())
 }
