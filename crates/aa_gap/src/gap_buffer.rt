@@ -64,8 +64,8 @@ impl<T, A: Allocator> GapBuffer<T, A> {
     }
 
     /// An empty text with room for exactly `capacity` elements. It takes memory where `capacity` is
-    /// above 0 and elements have a size. A refusal is `CapacityOverflow` where the bytes pass
-    /// `isize::MAX`, and else `AllocError` with this capacity.
+    /// above 0 and elements have a size. A refusal is `CapacityOverflow`, or `AllocError` with this
+    /// capacity.
     pub fn with_capacity_in(capacity: usize, alloc: A) -> Result<Self, TryReserveError>
         ensures made { IfOk result
             (λ v. v ≡ empty (sized (type_size T.row) capacity) Growth.Doubling alloc) }
@@ -199,8 +199,8 @@ impl<T, A: Allocator> GapBuffer<T, A> {
 
     /// Puts `item` before the cursor. It takes memory only where there is no free place, and grows
     /// then with room to spare. A refusal hands the item back and changes nothing:
-    /// `CapacityOverflow` where the length passes `usize::MAX` or the bytes pass `isize::MAX`, else
-    /// `AllocError` with the capacity asked for.
+    /// `CapacityOverflow`, for sure where the length would pass `usize::MAX`, or `AllocError` with
+    /// the capacity asked for.
     #[inline(always)]
     pub fn insert(&mut self, item: T) -> Result<(), Refused<T>>
         ensures fits { HasRoom self.old 1 → IsOk result }

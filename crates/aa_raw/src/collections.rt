@@ -7,7 +7,10 @@ use std::convert::From;
 use std::error::Error;
 use std::fmt;
 
-/// Why a reserve was refused. It stands for `allocator_api2::collections::TryReserveErrorKind`.
+/// Why a reserve was refused. Contracts say which of the two it is where a length would pass
+/// `usize::MAX`, and where the allocator alone can refuse; else tests show it. Bytes that pass
+/// `isize::MAX` are the first (`overflows` in `refusal_tests`), a refusing allocator gives the
+/// second (all others there). It stands for `allocator_api2::collections::TryReserveErrorKind`.
 #[derive(Clone, Copy, PartialEq, Eq, Debug, Drop)]
 pub enum TryReserveErrorKind {
     /// The capacity that was needed passes `usize::MAX` elements, or its bytes pass `isize::MAX`.

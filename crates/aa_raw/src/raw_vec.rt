@@ -127,8 +127,8 @@ impl<T, A: Allocator> RawVec<T, A> {
     }
 
     /// A block of `capacity` empty places. Where elements have a size and `capacity` is above 0 it
-    /// takes memory; a refusal is `CapacityOverflow` where the bytes pass `isize::MAX`, and else
-    /// `AllocError` with this capacity. It stands for `RawVec::with_capacity_in`.
+    /// takes memory; a refusal is `CapacityOverflow`, or `AllocError` with this capacity. It stands
+    /// for `RawVec::with_capacity_in`.
     #[tactic(auto, using(crate::proofs::Reserving::made_empty))]
     pub fn with_capacity_in(capacity: usize, alloc: A) -> Result<Self, TryReserveError>
         ensures made { IfOk result
@@ -402,9 +402,9 @@ impl<T, A: Allocator> RawVec<T, A> {
 
     /// Makes room for `additional` more than the first `len` places, which are filled. Where they
     /// fit, it does nothing; else it takes a new block with room to spare, moves the `len` values
-    /// there and gives the old block back. A refusal changes nothing: `CapacityOverflow` where
-    /// `len + additional` passes `usize::MAX` or the bytes pass `isize::MAX`, else `AllocError`
-    /// with the capacity asked for. It stands for `RawVec::try_reserve`.
+    /// there and gives the old block back. A refusal changes nothing: `CapacityOverflow`, for sure
+    /// where `len + additional` passes `usize::MAX`, or `AllocError` with the capacity asked for.
+    /// It stands for `RawVec::try_reserve`.
     #[inline(always)]
     pub fn try_reserve(&mut self, len: usize, additional: usize) -> Result<(), TryReserveError>
         requires { IsRun self.old.places 0 len }
@@ -619,9 +619,9 @@ fn made<T, A: Allocator>(
 }
 
 /// The refusal of a first growth to `required` elements, by a block that doubles: for who could not
-/// make that block, since the clone of its allocator was refused. `CapacityOverflow` where the
-/// bytes pass `isize::MAX`, else `AllocError` with the capacity that the growth would have asked
-/// for. It takes no memory. The original has no such call.
+/// make that block, since the clone of its allocator was refused. `CapacityOverflow`, or
+/// `AllocError` with the capacity that the growth would have asked for. It takes no memory. The
+/// original has no such call.
 pub fn first_refusal<T>(required: usize) -> TryReserveError
     ensures { IsRefusedAt result
         (amortized Growth.Doubling 0 required (least_of (type_size T.row))) }

@@ -109,9 +109,8 @@ impl<T, A: Allocator> Vec<T, A> {
     }
 
     /// An empty vector with room for exactly `capacity` elements. It takes memory where `capacity`
-    /// is above 0 and elements have a size. A refusal is `CapacityOverflow` where the bytes pass
-    /// `isize::MAX`, and else `AllocError` with this capacity. It stands for
-    /// `Vec::with_capacity_in`.
+    /// is above 0 and elements have a size. A refusal is `CapacityOverflow`, or `AllocError` with
+    /// this capacity. It stands for `Vec::with_capacity_in`.
     #[tactic(auto, using(aa_raw::proofs::Calls::with_room))]
     pub fn with_capacity_in(capacity: usize, alloc: A) -> Result<Self, TryReserveError>
         ensures made { IfOk result (λ v. IsNew (type_size T.row) capacity alloc v) }
@@ -195,8 +194,8 @@ impl<T, A: Allocator> Vec<T, A> {
 
     /// Puts `value` behind the last element. It takes memory only where the vector is full, and
     /// grows then with room to spare. A refusal hands the value back and changes nothing:
-    /// `CapacityOverflow` where the length passes `usize::MAX` or the bytes pass `isize::MAX`, else
-    /// `AllocError` with the capacity asked for. It stands for `Vec::push`.
+    /// `CapacityOverflow`, for sure where the length would pass `usize::MAX`, or `AllocError` with
+    /// the capacity asked for. It stands for `Vec::push`.
     #[inline]
     #[tactic(auto, using(aa_raw::proofs::Calls::with_room))]
     pub fn push(&mut self, value: T) -> Result<(), Refused<T>>

@@ -61,7 +61,7 @@ pub trait SliceExt<T> {
 
     /// A vector of a clone of each element, with room for no more. It takes memory before the first
     /// clone, where there are elements and they have a size. Where that or a clone is refused,
-    /// nothing is made: `AllocError` with the number of elements, or `CapacityOverflow`. It stands
+    /// nothing is made: `CapacityOverflow`, or `AllocError` with the number of elements. It stands
     /// for `SliceExt::to_vec_in2`, which aborts on a refusal.
     fn to_vec_in2<A: Allocator>(&self, alloc: A) -> Result<Vec<T, A>, TryReserveError>
     where
@@ -77,9 +77,8 @@ pub trait SliceExt<T> {
 
     /// A vector of the elements `n` times over on the global allocator, in order, with room for no
     /// more. It takes memory where there are elements to put and they have a size. A refusal is
-    /// `CapacityOverflow` where their number passes `usize::MAX` or their bytes pass `isize::MAX`,
-    /// and else `AllocError` with their number. It stands for `SliceExt::repeat`, which aborts on a
-    /// refusal.
+    /// `CapacityOverflow`, for sure where their number passes `usize::MAX`, or `AllocError` with
+    /// their number. It stands for `SliceExt::repeat`, which aborts on a refusal.
     fn repeat(&self, alloc: Global, n: usize) -> Result<Vec<T, Global>, TryReserveError>
     where
         T: Repeat,

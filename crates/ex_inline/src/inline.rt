@@ -105,8 +105,8 @@ impl<T: Drop, A: Allocator, const N: usize> InlineVec<T, A, N> {
 
     /// Puts `item` behind the others. It takes no memory where one more has room: in place while
     /// there are fewer than `N` and none has moved yet, else in the block. A refusal hands the item
-    /// back and changes nothing: `CapacityOverflow` where the length passes `usize::MAX` or the
-    /// bytes pass `isize::MAX`, else `AllocError` with the capacity asked for.
+    /// back and changes nothing: `CapacityOverflow`, for sure where the length would pass
+    /// `usize::MAX`, or `AllocError` with the capacity asked for.
     pub fn push(&mut self, item: T) -> Result<(), Refused<T>>
         ensures fits { HasRoom N self.old → IsOk result }
         ensures pushed { let roomy = with_room (type_size T.row) N self.old in
@@ -191,8 +191,7 @@ impl<T: Drop, A: Allocator, const N: usize> InlineVec<T, A, N> {
 
     /// The items as a vector, which doubles. It takes memory only where they stand in place and
     /// there are any, and moves each of those once. A refusal hands the small vector back as it
-    /// was: `CapacityOverflow` where the bytes pass `isize::MAX`, else `AllocError` with the
-    /// capacity asked for.
+    /// was: `CapacityOverflow`, or `AllocError` with the capacity asked for.
     pub fn into_vec(self) -> Result<Vec<T, A>, Refused<Self>>
         ensures fits { self.spilled ≡ true → IsOk result }
         ensures made { IfOk result (λ v. block_of v ≡ all_in_block (type_size T.row) self) }

@@ -215,8 +215,8 @@ impl<T, A: Allocator> Ring<T, A> {
 
     /// Makes room for `additional` more items. Where they fit, it does nothing. Else it takes a new
     /// block with room to spare, and moves each item there once. A refusal changes nothing:
-    /// `CapacityOverflow` where the length passes `usize::MAX` or the bytes pass `isize::MAX`, else
-    /// `AllocError` with the capacity asked for.
+    /// `CapacityOverflow`, for sure where the length would pass `usize::MAX`, or `AllocError` with
+    /// the capacity asked for.
     #[tactic(auto, using(crate::proofs::Rings::roomy))]
     pub fn reserve(&mut self, additional: usize) -> Result<(), TryReserveError>
         ensures fits { HasRoom self.old additional → IsOk result }

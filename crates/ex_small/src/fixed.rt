@@ -33,8 +33,8 @@ impl<T, A: Allocator> Model for Fixed<T, A> {
 #[tactic(auto, using(allocator_api2::proofs::Blocks::at_ends))]
 impl<T, A: Allocator> Fixed<T, A> {
     /// No values, and room for `capacity` of them; values without size have room for `usize::MAX`.
-    /// It takes memory here alone. A refusal is `CapacityOverflow` where the bytes pass
-    /// `isize::MAX`, and else `AllocError` with this capacity.
+    /// It takes memory here alone. A refusal is `CapacityOverflow`, or `AllocError` with this
+    /// capacity.
     #[tactic(auto, using(allocator_api2::proofs::Blocks::with_room))]
     pub fn with_capacity_in(capacity: usize, alloc: A) -> Result<Self, TryReserveError>
         ensures made { IfOk result (λ v. v ≡ none_of (sized (type_size T.row) capacity)) }

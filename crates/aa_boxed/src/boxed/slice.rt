@@ -80,9 +80,9 @@ impl<T, A: Allocator> BoxedSlice<T, A> {
     /// The items of `iter`, which ends. It takes each item first, and memory where there is no room
     /// for it, with room to spare for it and the lower bound that `size_hint` then has; at the end
     /// it gives back what is not needed. Where memory is refused, the items that came are dropped.
-    /// While items come, that is `CapacityOverflow` where the length asked for passes `usize::MAX`
-    /// or its bytes `isize::MAX`, or `AllocError` with the capacity asked for; at the end
-    /// `AllocError` with the length. The original has no such call.
+    /// While items come, that is `CapacityOverflow`, for sure where the length asked for passes
+    /// `usize::MAX`, or `AllocError` with the capacity asked for; at the end `AllocError` with the
+    /// length. The original has no such call.
     pub fn from_iter_in<I: Iterator<Item = T>>(iter: I, alloc: A) -> Result<Self, TryReserveError>
     where
         T: Drop,

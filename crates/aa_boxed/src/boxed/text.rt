@@ -113,8 +113,8 @@ impl<A: Allocator> Drop for BoxedText<A> {
 
 /// Puts the texts of `iter`, which ends, behind `text`, each of them whole. It takes memory where
 /// one does not fit. Where that is refused, those before it stay, and it is dropped:
-/// `CapacityOverflow` where the length passes `usize::MAX`, else `AllocError` with the length that
-/// was asked for. It stands for `String`'s `Extend<Box<str, A>>`, which aborts on a refusal.
+/// `CapacityOverflow`, for sure where the length would pass `usize::MAX`, or `AllocError` with the
+/// capacity asked for. It stands for `String`'s `Extend<Box<str, A>>`, which aborts on a refusal.
 pub fn append_texts<S: Allocator, A: Allocator, I: Iterator<Item = BoxedText<A>>>(
     text: &mut String<S>,
     iter: I,

@@ -13,7 +13,7 @@ use std::alloc::{AllocError, Allocator};
 impl<T: Clone, A: Allocator + Clone> IntoIter<T, A> {
     /// A clone of each item that is left, in order, over a clone of the allocator, in room for no
     /// more. It takes memory before the first clone of an item. Where memory or a clone is refused,
-    /// nothing is made: `AllocError` with the number of items, or `CapacityOverflow`. It stands for
+    /// nothing is made: `CapacityOverflow`, or `AllocError` with the number of items. It stands for
     /// the original's `Clone`, which can't be refused.
     pub fn clone(&self) -> Result<Self, TryReserveError>
         ensures made { IfOk result (λ copy. AllZip T.is_clone self.now.items copy.items) }

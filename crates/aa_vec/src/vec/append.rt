@@ -73,8 +73,8 @@ impl<T, A: Allocator> Vec<T, A> {
     /// Takes the elements from `at`, which is at most the length, into a vector of their own, over
     /// a clone of the allocator and with room for no more than them. `split_off(0)` hands over the
     /// old block, and this vector takes a new one of the same capacity. A refusal changes nothing:
-    /// `AllocError` with the capacity asked for, also where the allocator's clone is refused, or
-    /// `CapacityOverflow`. It stands for `Vec::split_off`.
+    /// `CapacityOverflow`, or `AllocError` with the capacity asked for, also where the allocator's
+    /// clone is refused. It stands for `Vec::split_off`.
     #[tactic(auto, using(aa_raw::proofs::Calls::with_room))]
     pub fn split_off(&mut self, at: usize) -> Result<Self, TryReserveError>
     where

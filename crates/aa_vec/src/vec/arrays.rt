@@ -101,8 +101,8 @@ impl<T, A: Allocator, const N: usize> Vec<[T; N], A> {
     /// The elements of all arrays, in order. The allocator is cloned, and they move to a block over
     /// the clone, which has room for as many as the vector's own and grows as it does; the vector's
     /// own is given back. It takes memory where the vector has room for any and they have a size. A
-    /// refusal hands the vector back as it was: `CapacityOverflow` where the number of elements
-    /// passes `usize::MAX`, else `AllocError` with the capacity asked for, also where the
+    /// refusal hands the vector back as it was: `CapacityOverflow`, for sure where the number of
+    /// elements passes `usize::MAX`, or `AllocError` with the capacity asked for, also where the
     /// allocator's clone is refused. It stands for `Vec::into_flattened`, which keeps the block and
     /// panics where the number passes `usize::MAX`.
     pub fn into_flattened(self) -> Result<Vec<T, A>, Refused<Self>>

@@ -28,7 +28,7 @@ impl Vec<u8, Global> {
 
 impl<A: Allocator> Vec<u8, A> {
     /// The bytes of `text`, with room for no more. It takes memory where there are any. A refusal
-    /// is `AllocError` with their number, or `CapacityOverflow`. The original has no such call.
+    /// is `CapacityOverflow`, or `AllocError` with their number. The original has no such call.
     pub fn from_text_in(text: &str, alloc: A) -> Result<Self, TryReserveError>
         ensures made { IfOk result (IsMadeWithin 1 Doubling text.now) }
         ensures alloc { IfOk result (λ v. v.alloc ≡ alloc) }

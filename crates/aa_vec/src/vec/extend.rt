@@ -74,9 +74,9 @@ impl<T, A: Allocator> Vec<T, A> {
     /// Puts the items of `iter`, which ends, behind the last element; it takes each of them first,
     /// and memory only where the vector is full then, with room to spare for that item and as many
     /// as `lower` now tells. A refusal keeps what was placed, drops the item that found no place
-    /// and takes no other: `CapacityOverflow` where the length asked for passes `usize::MAX` or its
-    /// bytes pass `isize::MAX`, else `AllocError` with the capacity asked for. It stands for
-    /// `Vec::extend`, with `lower` in place of `size_hint`.
+    /// and takes no other: `CapacityOverflow`, for sure where the length asked for passes
+    /// `usize::MAX`, or `AllocError` with the capacity asked for. It stands for `Vec::extend`, with
+    /// `lower` in place of `size_hint`.
     pub fn extend_hinted<I: Hinted<Item = T>>(&mut self, iter: I) -> Result<(), TryReserveError>
     where
         T: Drop,

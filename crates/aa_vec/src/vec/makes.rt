@@ -41,8 +41,9 @@ impl<T: Clone> Vec<T, Global> {
 
 impl<T: Clone, A: Allocator> Vec<T, A> {
     /// A vector of a clone of each element of `slice`, with room for no more. It takes memory
-    /// before the first clone. Where that or a clone is refused, nothing is made: `AllocError` with
-    /// the length of `slice`, or `CapacityOverflow`. The original has no such call.
+    /// before the first clone. Where that or a clone is refused, nothing is made:
+    /// `CapacityOverflow`, or `AllocError` with the length of `slice`. The original has no such
+    /// call.
     pub fn from_slice_in(slice: &[T], alloc: A) -> Result<Self, TryReserveError>
         ensures made { IfOk result (IsMadeOf T.is_clone (type_size T.row) Doubling slice.now) }
         ensures alloc { IfOk result (λ v. v.alloc ≡ alloc) }
@@ -61,7 +62,7 @@ impl<T: Clone, A: Allocator> Vec<T, A> {
 
     /// A vector of `n` elements, clones of `element` and `element` itself last, with room for no
     /// more. It takes memory before the first clone. Where that or a clone is refused, nothing is
-    /// made: `AllocError` with the number `n`, or `CapacityOverflow`. It stands for the original's
+    /// made: `CapacityOverflow`, or `AllocError` with the number `n`. It stands for the original's
     /// `from_elem_in`.
     pub fn from_elem_in(element: T, n: usize, alloc: A) -> Result<Self, TryReserveError>
         ensures made { IfOk result (IsMadeOfOne T.is_clone (type_size T.row) element n) }
@@ -83,7 +84,7 @@ impl<T: Clone, A: Allocator> Vec<T, A> {
 
     /// A vector of a clone of each element, over a clone of the allocator, that grows as this one
     /// does, with room for no more than the elements. Where memory or a clone is refused, nothing
-    /// is made: `AllocError` with the length, or `CapacityOverflow`. It stands for the original's
+    /// is made: `CapacityOverflow`, or `AllocError` with the length. It stands for the original's
     /// `Clone`, which can't be refused.
     pub fn clone(&self) -> Result<Self, TryReserveError>
     where

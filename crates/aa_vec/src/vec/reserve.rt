@@ -12,9 +12,9 @@ use std::alloc::Allocator;
 #[tactic(auto, using(aa_raw::proofs::Calls::with_room, crate::proofs::Becoming::same_fields))]
 impl<T, A: Allocator> Vec<T, A> {
     /// Makes room for `additional` more elements. Where they fit, it does nothing; else it takes
-    /// memory and grows with room to spare. A refusal changes nothing: `CapacityOverflow` where the
-    /// length would pass `usize::MAX` or the bytes pass `isize::MAX`, else `AllocError` with the
-    /// capacity asked for. It stands for `Vec::try_reserve`.
+    /// memory and grows with room to spare. A refusal changes nothing: `CapacityOverflow`, for sure
+    /// where the length would pass `usize::MAX`, or `AllocError` with the capacity asked for. It
+    /// stands for `Vec::try_reserve`.
     pub fn try_reserve(&mut self, additional: usize) -> Result<(), TryReserveError>
         ensures fits { HasRoom self.old additional → IsOk result }
         ensures made { let n = length self.old.items in

@@ -223,11 +223,11 @@ where
     /// and nothing is behind it, nor where no more are left, once the range is full, than are told,
     /// and these fit, nor for elements without size. A refusal leaves what is before the range, a
     /// beginning of the items that fills the room there was, and what is behind the range, and
-    /// drops the other items: `CapacityOverflow` where the length asked for passes `usize::MAX` or
-    /// its bytes pass `isize::MAX`, else `AllocError` with the capacity asked for, which while
-    /// items are gathered is that of the new vector. A refused clone of the allocator is answered
-    /// as the first growth of the new vector would be. It stands for the drop of `Splice`, with
-    /// `lower` in place of `size_hint`.
+    /// drops the other items: `CapacityOverflow`, for sure where the length asked for passes
+    /// `usize::MAX`, or `AllocError` with the capacity asked for, which while items are gathered is
+    /// that of the new vector. A refused clone of the allocator is answered as the first growth of
+    /// the new vector would be. It stands for the drop of `Splice`, with `lower` in place of
+    /// `size_hint`.
     pub fn finish_hinted(self) -> Result<(), TryReserveError>
         requires may_ask { I.can_next (splice_iter self) }
         requires ends { IsFinite (I.remaining (splice_iter self)) }
