@@ -1,14 +1,20 @@
 -- Slots as a map.
-use Rattle.ex_table.proofs.Common.{Spot, IsSpot, ◌≡◌, ℕ, Bool, cond, List, get_or, Option, None, sym, ◌∙◌, ap, arith, set, count_by, set_value, Group, Slot, value, Sets, IsMap, is_key, value_of, with_value, entries_of, found, IsSound}
+use Rattle.ex_table.proofs.Common.{Spot, IsSpot, ◌≡◌, ℕ, Bool, cond, List, length, get_or, Option, None, sym, ◌∙◌, ap, arith, set, count_by, set_value, Group, Slot, value, Sets, IsMap, is_key, value_of, with_value, entries_of, found, is_held, IsSound}
 use Rattle.ex_table.specs.Contents.{Filled, SameMap}
 use Rattle.ex_table.specs.Inside.{filled_in}
-use Rattle.ex_table.proofs.Counts.{found-entries, keys-entries, found-absent, found-at, alike-found, entries-written}
+use Rattle.ex_table.proofs.Counts.{found-entries, keys-entries, length-entries, found-absent, found-at, alike-found, entries-written}
 use Rattle.ex_table.proofs.Writing.{slot-read}
 
 -- f is what is seen of the slots
 module _ {K V S : Type 0} (eq : K → K → Bool) (ss : List (Slot K V)) {b : S} {room : ℕ} {f : Filled K V S} (seen : filled_in b ss room ≡ f) where
   sees : (k : K) → value eq f.entries k ≡ found eq ss k
   sees k = ap (λ g. value eq g.entries k) (sym seen) ∙ found-entries eq ss k
+
+  pub seen-len : {n : ℕ} → n ≡ count_by is_held ss → length f.entries ≡ n
+  seen-len held = rw (← seen) (length-entries eq ss ∙ sym held)
+
+  pub seen-room : f.room ≡ room
+  seen-room = sym (ap (λ g. g.room) seen)
 
   pub value-none : (k : K) → count_by (is_key eq k) ss ≡ 0 → value eq f.entries k ≡ None
   value-none k none = sees k ∙ found-absent eq ss k none

@@ -1,5 +1,8 @@
 //! How a key comes into the slots and the groups, and how both become more.
-ghost use Rattle.std.specs.Prelude.{◌≡◌, ℕ, ◌+◌, ◌-◌, ◌*◌, ◌/◌, ◌^◌, ◌<◌, ◌≤◌, [], length, count_by, replicate, IfOk, OnOk, OnErr, IsOk};
+ghost use Rattle.std.specs.Prelude.{◌≡◌, ℕ, ◌+◌, ◌-◌, ◌*◌, ◌/◌, ◌^◌, ◌<◌, ◌≤◌, [], length, count_by, replicate, IfOk, IfErr, OnOk, OnErr, IsOk};
+ghost use Rattle.allocator_api2.specs.Refusals.{IsRefusedAt};
+ghost use Rattle.allocator_api2.specs.declared.collections.TryReserveErrorKind.TheVariants.{CapacityOverflow, AllocError};
+ghost use Rattle.ex_table.specs.Contents.{LacksRoom, asked_for, most_keys, room_for};
 ghost use Rattle.ex_table.specs.Groups.{empty_group, free_lanes, groups_of};
 ghost use Rattle.ex_table.specs.Slots.{is_key, is_held, hashes, AreKeys, IsSound, IsTable, Puts, Keeps, MovesAll};
 
@@ -44,11 +47,34 @@ pub fn put_new<K: Eq + Hash + Drop, V: Drop, S: BuildHasher, A: Allocator>(
     }
 }
 
-// An allocator for so many slots.
-fn cloned<A: Allocator + Clone>(alloc: &A, capacity: usize) -> Result<A, TryReserveError> {
+// The refusal of a table with room for so many keys.
+fn refused(capacity: usize) -> TryReserveError
+    ensures { result.kind ≡ AllocError capacity }
+{
+    TryReserveErrorKind::AllocError { capacity }.into()
+}
+
+// An allocator for a part of a table with room for so many keys.
+fn cloned<A: Allocator + Clone>(alloc: &A, capacity: usize) -> Result<A, TryReserveError>
+    ensures { IfErr result (λ e. e.kind ≡ AllocError capacity) }
+{
     match alloc.clone() {
         Ok(own) => Ok(own),
-        Err(_) => Err(TryReserveErrorKind::AllocError { capacity }.into()),
+        Err(_) => Err(refused(capacity)),
+    }
+}
+
+// Free groups for so many keys.
+fn groups_for<A: Allocator + Clone>(
+    alloc: &A,
+    capacity: usize,
+) -> Result<Vec<Group, A>, TryReserveError>
+    ensures made { IfOk result (λ v. v.items ≡ replicate (capacity / 8) empty_group) }
+    ensures refused { IfErr result (λ e. e.kind ≡ AllocError capacity) }
+{
+    match empty_groups(capacity / KEYS_OF_GROUP, cloned(alloc, capacity)?) {
+        Ok(made) => Ok(made),
+        Err(_) => Err(refused(capacity)),
     }
 }
 
@@ -94,16 +120,17 @@ fn rehash<K: Eq + Hash + Drop, V: Drop, S: BuildHasher, A: Allocator + Clone>(
         (hashes S.BuildHasher S.Hasher.Hasher K.hash_input builder.now)
         slots.old.items slots.new (groups_of groups.new)) }
     ensures total { IfOk result (λ t. t ≡ 8 * length (groups_of groups.new)) }
-    ensures enough { IfOk result (λ t. 2 * keys ≤ t) }
+    ensures asked { IfOk result (λ t. t ≡ asked_for keys) }
+    ensures number { IfErr result (λ e. IsRefusedAt e (asked_for keys)) }
+    ensures overflow { IfErr result (λ e. most_keys < keys → e.kind ≡ CapacityOverflow) }
     ensures refused { OnErr result (slots.new ≡ slots.old) }
     ensures kept { OnErr result (groups.new ≡ groups.old) }
 {
     if keys > MOST_KEYS {
         return Err(TryReserveErrorKind::CapacityOverflow.into());
     }
-    let count = keys / 4 + 1;
-    let total = KEYS_OF_GROUP * count;
-    let mut fresh_groups = empty_groups(count, cloned(slots.allocator(), total)?)?;
+    let total = KEYS_OF_GROUP * (keys / 4 + 1);
+    let mut fresh_groups = groups_for(slots.allocator(), total)?;
     let fresh = Vec::with_capacity_in(total, cloned(slots.allocator(), total)?)?;
     let old = mem::replace(slots, fresh);
     move_all(old, slots, fresh_groups.as_mut_slice(), builder);
@@ -127,6 +154,8 @@ pub fn make_room<K: Eq + Hash + Drop, V: Drop, S: BuildHasher, A: Allocator + Cl
     ensures fits { more ≤ room → IsOk result }
     ensures enough { IfOk result (λ r. more ≤ r) }
     ensures grown { IfOk result (λ r. room ≤ r) }
+    ensures room { IfOk result (λ r. r ≡ room_for held room more) }
+    ensures lacks { IfErr result (LacksRoom held room more) }
     ensures table { IfOk result (IsTable K.eq
         (hashes S.BuildHasher S.Hasher.Hasher K.hash_input builder.now)
         slots.new (groups_of groups.new) held) }

@@ -1,8 +1,8 @@
 //! The table: a finite map from keys to values, by the keys' own equality.
-ghost use Rattle.std.specs.Prelude.{◌≡◌, ◌+◌, ◌<◌, ◌≤◌, [], None, Some, IfOk, IfErr, OnOk, OnErr, IsOk, option_copied, is_some, true, length, ◌==◌};
+ghost use Rattle.std.specs.Prelude.{◌≡◌, ◌+◌, ◌-◌, ◌<◌, ◌≤◌, [], None, Some, IfOk, IfErr, OnOk, OnErr, IsOk, option_copied, is_some, true, false, length, ◌==◌};
 ghost use Rattle.std.specs.Borrow.{sem};
 ghost use Rattle.std.specs.Option.{option_copied_mut};
-ghost use Rattle.ex_table.specs.Contents.{value, Sets, SameMap, IsMap};
+ghost use Rattle.ex_table.specs.Contents.{value, Sets, SameMap, IsMap, LacksRoom, room_for};
 
 use crate::groups::{Group, clear_all, groups_in, release_in};
 use crate::growth::{make_room, put_new};
@@ -102,6 +102,13 @@ impl<K: Eq + Hash + Drop, V: Drop, S: BuildHasher, A: Allocator + Clone> Table<K
         self.len() == 0
     }
 
+    /// How many new keys surely find a place without memory.
+    pub fn room(&self) -> usize
+        ensures { result ≡ self.now.room }
+    {
+        self.room
+    }
+
     /// The value of a key.
     #[inline]
     pub fn get(&self, key: &K) -> Option<&V>
@@ -154,8 +161,8 @@ impl<K: Eq + Hash + Drop, V: Drop, S: BuildHasher, A: Allocator + Clone> Table<K
     }
 
     /// Gives the key this value, and answers the one that it had. A key that is there gives way to
-    /// its equal. It takes memory only for a new key; a refusal hands key and value back and
-    /// changes nothing.
+    /// its equal. It takes memory only for a new key that has no room, as `reserve(1)` does, and is
+    /// refused as that is. A refusal hands key and value back and changes nothing.
     #[inline]
     pub fn insert(&mut self, key: K, item: V) -> Result<Option<V>, Refused<(K, V)>>
         ensures fits { 0 < self.old.room → IsOk result }
@@ -163,10 +170,14 @@ impl<K: Eq + Hash + Drop, V: Drop, S: BuildHasher, A: Allocator + Clone> Table<K
         ensures inserted { OnOk result
             (Sets K.eq self.old.entries key (Some item) self.new.entries) }
         ensures room { OnOk result (self.old.room ≤ self.new.room + 1) }
+        ensures made { IfOk result (λ old. is_some old ≡ false →
+            self.new.room + 1 ≡ room_for (length self.old.entries) self.old.room 1) }
         ensures replaced { IfOk result (λ old. is_some old ≡ true → self.new.room ≡ self.old.room) }
         ensures builder { self.new.builder ≡ self.old.builder }
         ensures back { IfErr result (λ r. r.source ≡ (key, item)) }
         ensures new { OnErr result (value K.eq self.old.entries key ≡ None) }
+        ensures lacks { IfErr result
+            (λ r. LacksRoom (length self.old.entries) self.old.room 1 r.error) }
         ensures refused { OnErr result (self.new ≡ self.old) }
     {
         if let Some(spot) = find(
@@ -211,12 +222,18 @@ impl<K: Eq + Hash + Drop, V: Drop, S: BuildHasher, A: Allocator + Clone> Table<K
         Ok(None)
     }
 
-    /// Makes room for this many new keys, where there is less. A refusal changes nothing: it is
-    /// `CapacityOverflow` where that makes more than 2,000,000,000 keys, else it is of memory.
+    /// Makes room for this many new keys, where there is less: then it takes memory, for more than
+    /// twice the keys that there would be. A refusal changes nothing: `CapacityOverflow` where there
+    /// would be more than 2,000,000,000 keys or the bytes pass `isize::MAX`, else `AllocError` with
+    /// how many keys the room was asked for.
     pub fn reserve(&mut self, additional: usize) -> Result<(), TryReserveError>
         ensures fits { additional ≤ self.old.room → IsOk result }
         ensures room { OnOk result (additional ≤ self.new.room) }
         ensures more { self.old.room ≤ self.new.room }
+        ensures made { OnOk result
+            (self.new.room ≡ room_for (length self.old.entries) self.old.room additional) }
+        ensures lacks { IfErr result
+            (LacksRoom (length self.old.entries) self.old.room additional) }
         ensures same { SameMap K.eq self.old.entries self.new.entries }
         ensures builder { self.new.builder ≡ self.old.builder }
         ensures refused { OnErr result (self.new ≡ self.old) }

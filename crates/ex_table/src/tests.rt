@@ -1,5 +1,6 @@
 use crate::table::Table;
 use allocator_api2::boxed::BoxedText;
+use allocator_api2::collections::TryReserveErrorKind;
 use std::alloc::Global;
 use std::hash::{BuildHasher, BuildHasherDefault, FoldHasher, Hasher};
 use std::ops::Range;
@@ -100,6 +101,81 @@ fn reserved_room_is_there_when_the_heap_refuses(rt: HostRuntime) {
     assert!(rt; takes(&mut table, 5..105));
     assert!(rt; (table.len(), has(&table, 104)) == (105, Some(104)));
     assert!(rt; table.reserve(usize::MAX).is_err());
+}
+
+#[test]
+fn a_reserve_makes_room_for_more_than_it_was_told(rt: HostRuntime) {
+    let heap = Faulty::new(rt.alloc());
+    let mut table: Small<'_> = Table::new_in(&heap);
+    assert!(rt; table.room() == 0 && table.reserve(0).is_ok() && heap.requests() == 0);
+    assert!(rt; takes(&mut table, 0..5));
+    // Room asked for, the room that there is then, and the requests that it made.
+    for (additional, room, requests) in [
+        (0usize, 3usize, 0u64),
+        (3, 3, 0),
+        (4, 19, 2),
+        (19, 19, 0),
+        (100, 211, 2),
+        (100, 211, 0),
+    ] {
+        let before = heap.requests();
+        assert!(rt; table.reserve(additional).is_ok());
+        assert!(rt; table.room() == room, "{additional}");
+        assert!(rt;
+            heap.requests().wrapping_sub(before) == requests,
+            "{additional}"
+        );
+        assert!(rt; (table.len(), has(&table, 4)) == (5, Some(4)));
+    }
+    heap.refuse(0, 1000);
+    assert!(rt; takes(&mut table, 5..216));
+    assert!(rt; (table.len(), table.room()) == (216, 0));
+}
+
+// Why a reserve was refused.
+fn reason(table: &mut Small<'_>, additional: usize) -> Option<TryReserveErrorKind> {
+    match table.reserve(additional) {
+        Ok(()) => None,
+        Err(error) => Some(error.kind()),
+    }
+}
+
+#[test]
+fn a_refusal_has_the_number_asked_for(rt: HostRuntime) {
+    let heap = Faulty::new(rt.alloc());
+    let mut table: Small<'_> = Table::new_in(&heap);
+    assert!(rt; takes(&mut table, 0..8));
+    assert!(rt; table.room() == 0);
+    // Room asked for, and with how many keys, as these are; the block of groups is refused first,
+    // and then that of slots.
+    for skip in 0u64..2 {
+        for (additional, capacity) in [(1usize, 24usize), (3, 24), (4, 32), (1000, 2024)] {
+            heap.refuse(skip, 1);
+            let refused = Some(TryReserveErrorKind::AllocError { capacity });
+            assert!(rt;
+                reason(&mut table, additional) == refused,
+                "{skip} {additional}"
+            );
+        }
+        heap.refuse(skip, 1);
+        match table.insert(8, 8) {
+            Ok(_) => assert!(rt; false),
+            Err(back) => {
+                let refused = TryReserveErrorKind::AllocError { capacity: 24 };
+                assert!(rt; back.error.kind() == refused);
+            }
+        }
+    }
+    heap.refuse(0, 1000);
+    let most = TryReserveErrorKind::AllocError {
+        capacity: 4_000_000_008,
+    };
+    assert!(rt; reason(&mut table, 1_999_999_992) == Some(most));
+    for additional in [1_999_999_993usize, usize::MAX - 8, usize::MAX] {
+        let refused = Some(TryReserveErrorKind::CapacityOverflow);
+        assert!(rt; reason(&mut table, additional) == refused, "{additional}");
+    }
+    assert!(rt; (table.len(), table.room(), has(&table, 7)) == (8, 0, Some(7)));
 }
 
 // Hashers that make one number of all keys.

@@ -1,5 +1,5 @@
 use Rattle.ex_table.proofs.Common.{Some, ap, arith, cond, refl, sym, ◌∙◌, set, value_of}
-use Rattle.ex_table.proofs.Maps.{value-none, value-at, sees-set}
+use Rattle.ex_table.proofs.Maps.{value-none, value-at, sees-set, seen-len, seen-room}
 use Rattle.ex_table.proofs.Writing.{written-held}
 use Rattle.ex_table.proofs.Tables.{there, changed}
 use Rattle.ex_table.proofs.table.Table.insert.Goals as goal
@@ -32,3 +32,13 @@ returns-clause-inserted g c =
     let eq = g.K.PartialEq.eq in
     sees-set eq c.self.inside.slots.items c.self.view_is c.put_new.new.slots.items c.args.key (Some c.args.item)
     (λ q. c.put_new.ensures.puts.values q ∙ ap (cond (eq q c.args.key) (Some c.args.item)) (c.in-Ok.ensures.kept.values q))
+
+pub returns-in-Err-clause-lacks : goal.returns-in-Err-clause-lacks
+returns-in-Err-clause-lacks g c =
+    let eq = g.K.PartialEq.eq in
+    rw (seen-len eq c.self.inside.slots.items c.self.view_is c.self.invariant.held, seen-room eq c.self.inside.slots.items c.self.view_is) c.in-Err.ensures.lacks
+
+pub returns-clause-made : goal.returns-clause-made
+returns-clause-made g c _ =
+    let eq = g.K.PartialEq.eq in
+    rw (seen-len eq c.self.inside.slots.items c.self.view_is c.self.invariant.held, seen-room eq c.self.inside.slots.items c.self.view_is) (omega (arith, c.in-Ok.ensures.room, c.in-Ok.ensures.enough))
