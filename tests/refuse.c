@@ -1,6 +1,6 @@
 /* Makes one call of a program fail: its Nth request for memory, read or write, or has a read or write move one byte alone.
-   `tests/refuse` loads it before the C library. CALL names the call: memory, read or write, with interrupted_ or short_ before the latter two, and NTH its number,
-   from 1; a write to standard error is no write here. When the program ends, the number of such calls goes to file descriptor 9. */
+   `tests/refuse` loads it before the C library. CALL names the call: memory, message, read or write, with interrupted_ or short_ before the latter two, and NTH its number,
+   from 1; a write to standard error is no write here, but a message. When the program ends, the number of such calls goes to file descriptor 9. */
 #define _GNU_SOURCE
 #include <dlfcn.h>
 #include <errno.h>
@@ -53,6 +53,7 @@ ssize_t read(int file, void *buffer, size_t length) {
 }
 
 ssize_t write(int file, const void *buffer, size_t length) {
+    if (file == 2 && chosen("message")) { errno = EIO; return -1; }
     if (file != 2 && chosen("write")) { errno = EIO; return -1; }
     if (file != 2 && chosen("interrupted_write")) { errno = EINTR; return -1; }
     return syscall(SYS_write, file, buffer, file != 2 && length > 1 && chosen("short_write") ? 1 : length);

@@ -1,6 +1,7 @@
 pub mod Common
 pub mod Beginnings
 pub mod Decimals
+pub mod Looks
 pub mod Numbers
 pub mod Parts
 pub mod Pieces

@@ -43,19 +43,19 @@ module _ {K S : Type 0} (calls : Calls ℕ Global K S) where
 
   -- a piece more was run
   pub HasAnswered-next : (old : State ℕ Global K S) (all : List (List ℕ)) (rest answer : List ℕ) (now : State ℕ Global K S)
-      → HasAnswered old all rest answer now → (piece others answer' : List ℕ) (new : State ℕ Global K S) → Answers calls now (lines piece) answer answer' new
-      → lines rest ≡ lines piece ++ lines others → HasAnswered old all others answer' new
+      → HasAnswered old all rest answer now → (piece : List (List ℕ)) (others answer' : List ℕ) (new : State ℕ Global K S) → Answers calls now piece answer answer' new
+      → lines rest ≡ piece ++ lines others → HasAnswered old all others answer' new
   HasAnswered-next old all rest answer now had piece others answer' new more cut =
       let run = had.run in
       let r = run.run in
       let s = more.run in
       record {
-        before = had.before ++ lines piece;
-        place = rw (append_assoc had.before (lines piece) (lines others), ← cut) had.place;
+        before = had.before ++ piece;
+        place = rw (append_assoc had.before piece (lines others), ← cut) had.place;
         run = record {
-          good = HasNoBad-append had.before (lines piece) run.good more.good;
+          good = HasNoBad-append had.before piece run.good more.good;
           commands = run.commands ++ more.commands;
-          meant = Mean-append had.before (lines piece) run.commands more.commands run.meant more.meant;
+          meant = Mean-append had.before piece run.commands more.commands run.meant more.meant;
           replies = run.replies ++ more.replies;
           run = record {
             possible = r.possible;

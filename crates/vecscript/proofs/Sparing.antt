@@ -85,6 +85,12 @@ module _ (count : ℕ) (others all : List (List ℕ)) (behind : AreBehind count 
   found-behind InputOutput found = absurd (found.1 refl)
   found-behind (BadLine number) found = (bad-behind number found.0, search rules)
 
+  -- where none of the others is bad none of all is
+  pub good-behind : (fault : Fault) → (fault ≡ OutOfMemory → HasNoBad others) → behind_of count fault ≡ OutOfMemory → HasNoBad all
+  good-behind OutOfMemory good is = rw behind.3 (HasNoBad-append behind.0 others (HasNoBad-blank behind.0 behind.1) (good refl))
+  good-behind InputOutput good is = let other : InputOutput ≢ OutOfMemory = search rules in absurd (other is)
+  good-behind (BadLine number) good is = let other : BadLine (count + number) ≢ OutOfMemory = search rules in absurd (other is)
+
   -- and its number is that of one of all lines
   pub found-behind-fits : (fault : Fault) → IsFoundAmong others fault → (number : ℕ) → fault ≡ BadLine number → count + number ≤ length all
   found-behind-fits fault found number is =

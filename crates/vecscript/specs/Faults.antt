@@ -1,5 +1,5 @@
 -- What a fault says of the script, and the status that it gives.
-use Rattle.std.specs.Prelude.{◌≡◌, ℕ, ◌+◌, List, ◌++◌, ⊤, Option, IfSome, Result, MatchResult, codes, decimal, ◌↔◌, ◌⊎◌}
+use Rattle.std.specs.Prelude.{◌≡◌, ℕ, ◌+◌, List, ◌++◌, ⊤, Option, IfSome, Result, MatchResult, Bool, MatchBool, codes, decimal, ◌↔◌, ◌⊎◌}
 use Rattle.std.specs.IoError.{error_kind}
 use Rattle.std.specs.Str.Lines.{lines}
 use Rattle.std.specs.declared.io.Error.{Error}
@@ -34,6 +34,10 @@ abbrev pub ReadsOrLacks : {X : Type 0} → ℕ → (X → Type 0) → Result X F
 ReadsOrLacks {X} number P r =
     MatchResult r P
     (λ fault. (fault ≡ OutOfMemory) ⊎ ((fault ≡ BadLine number) × ((x : X) → ¬ (P x))))
+
+-- the answer is whether P says something
+abbrev pub TellsWhether : {X : Type 0} → Bool → (X → Type 0) → Type 0
+TellsWhether {X} b P = MatchBool b ((x : X) × P x) ((x : X) → ¬ (P x))
 
 -- the fault names no line
 abbrev pub NamesNoLine : Fault → Type 0

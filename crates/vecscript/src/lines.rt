@@ -5,8 +5,8 @@ ghost use Rattle.std.specs.List.{AllZip, prefix_len, position_or_len};
 ghost use Rattle.std.specs.Option.{SomeIff};
 ghost use Rattle.std.specs.Str.Lines.{lines, strip_carriage_return};
 ghost use Rattle.std.specs.Str.Parse.{IsNumeral, AllDigits, digits_value};
-ghost use Rattle.vecscript.specs.Faults.{IsFoundAmong, ReadsAs, ReadsOrLacks};
-ghost use Rattle.vecscript.specs.Lines.{is_blank, words_of, IsElement, IsNumber, AreNumberAndElement, AreNumbers, AreThreeNumbers, AreDrain, SaysKept, Writes, IsHint, SaysExtend, SaysSplice, SayAfter, Say, are_sparing, growth_in, command_lines, AreBehind, Mean, IsBad, HasNoBad};
+ghost use Rattle.vecscript.specs.Faults.{IsFoundAmong, ReadsAs, ReadsOrLacks, TellsWhether};
+ghost use Rattle.vecscript.specs.Lines.{is_blank, words_of, IsElement, IsNumber, AreNumberAndElement, AreNumbers, AreThreeNumbers, AreDrain, SaysKept, Writes, IsHint, SaysExtend, SaysSplice, SayAfter, Say, are_sparing, growth_in, command_lines, AreBehind, Mean, IsBad, HasNoBad, IsFirstBad};
 
 use crate::script::Fault;
 use allocator_api2::raw_vec::Growth;
@@ -48,40 +48,97 @@ fn is_sparing(line: &[u8]) -> Option<bool>
 
 /// Why lines could not be run: the first of them that is no known form, or else that memory was
 /// refused.
-pub fn fault(alloc: Global, text: &[u8]) -> Fault
-    ensures { IsFoundAmong (lines text.now) result × (result ≢ Fault.InputOutput) }
+pub fn fault(text: &[u8]) -> Fault
+    ensures found { IsFoundAmong (lines text.now) result × (result ≢ Fault.InputOutput) }
+    ensures refused { result ≡ Fault.OutOfMemory → HasNoBad (lines text.now) }
 {
-    match check(alloc, text) {
-        Ok(()) => Fault::OutOfMemory,
-        Err(fault) => fault,
+    match first_bad(text) {
+        Some(number) => Fault::BadLine(number),
+        None => Fault::OutOfMemory,
     }
 }
 
-/// Looks at the lines, and keeps no command.
-///
-/// It takes memory for the elements of one line at a time. The first line that is no known form is
-/// `Fault::BadLine`, and refused memory is `Fault::OutOfMemory`.
-pub fn check(alloc: Global, text: &[u8]) -> Result<(), Fault>
-    ensures ok { OnOk result (HasNoBad (lines text.now)) }
-    ensures err { IfErr result
-        (λ fault. IsFoundAmong (lines text.now) fault × (fault ≢ Fault.InputOutput)) }
+/// The number of the first line that is no known form, counted from 1. It takes no memory.
+pub fn first_bad(text: &[u8]) -> Option<usize>
+    ensures { MatchOption result (HasNoBad (lines text.now)) (IsFirstBad (lines text.now)) }
 {
     for (index, line) in (Lines { rest: text }).enumerate() {
-        check_line(alloc, index + 1, line)?;
+        if !is_good(line) {
+            return Some(index + 1);
+        }
     }
-    Ok(())
+    None
 }
 
-// Looks at one line.
-fn check_line(alloc: Global, number: usize, line: &[u8]) -> Result<(), Fault>
-    ensures ok { OnOk result (¬ (IsBad line.now)) }
-    ensures err { IfErr result
-        (λ fault. (fault ≡ Fault.OutOfMemory) ⊎ ((fault ≡ Fault.BadLine number) × IsBad line.now)) }
+// Whether the line says a command, or has no words.
+#[inline(never)]
+fn is_good(line: &[u8]) -> bool
+    ensures { MatchBool result (¬ (IsBad line.now)) (IsBad line.now) }
 {
-    match command_of_line(alloc, number, line) {
-        Ok(_) => Ok(()),
-        Err(fault) => Err(fault),
+    let mut words = Words { rest: line };
+    let Some(name) = words.next() else {
+        return true;
+    };
+    says_command(name, Line { number: 0, words })
+}
+
+// Whether a line that begins with this word says a command.
+fn says_command(name: &[u8], line: Line<'_>) -> bool
+    ensures { TellsWhether result (Say (name.now ∷ words_of line.entry.words.rest.now)) }
+{
+    match name {
+        _ if name == b"extend".as_slice() => is_extension(line),
+        _ if name == b"splice".as_slice() => is_replacement(line),
+        _ => is_command(name, line),
     }
+}
+
+// Whether the rest of the line is what the command of this name takes.
+fn is_command(name: &[u8], line: Line<'_>) -> bool
+    ensures { TellsWhether result (SayAfter name.now (words_of line.entry.words.rest.now)) }
+{
+    match command(name, line) {
+        Ok(_) => true,
+        Err(_) => false,
+    }
+}
+
+// Whether the rest of the line is what `extension` takes.
+fn is_extension(mut line: Line<'_>) -> bool
+    ensures { TellsWhether result (SaysExtend (words_of line.entry.words.rest.now)) }
+{
+    let Some(_) = line.words.hint() else {
+        return false;
+    };
+    are_elements(line.words)
+}
+
+// Whether the rest of the line is what `replacement` takes.
+fn is_replacement(mut line: Line<'_>) -> bool
+    ensures { TellsWhether result (SaysSplice (words_of line.entry.words.rest.now)) }
+{
+    let Some(_) = line.words.number() else {
+        return false;
+    };
+    let Some(_) = line.words.number() else {
+        return false;
+    };
+    let Some(_) = line.words.hint() else {
+        return false;
+    };
+    are_elements(line.words)
+}
+
+// Whether all of the words are elements.
+fn are_elements(mut words: Words<'_>) -> bool
+    ensures { TellsWhether result (AllZip (Writes (2 ^ 32)) (words_of words.entry.rest.now)) }
+{
+    'each: while !words.is_empty() {
+        let Some(_) = words.element() else {
+            return false;
+        };
+    }
+    true
 }
 
 // How many bytes of a script are run at a time, with the rest of the last line: few enough for the
@@ -92,11 +149,71 @@ const PIECE: usize = 4096;
 // room for as many such lines at first.
 const SHORT_LINE: usize = 4;
 
-/// The commands of the lines, in order. A line without words is no command, but counts.
-///
-/// It takes memory for the commands. The first line that is no known form is `Fault::BadLine`, and
-/// refused memory is `Fault::OutOfMemory`.
-pub fn commands(alloc: Global, text: &[u8]) -> Result<Vec<Command<u32>, Global>, Fault>
+// How many elements, or places for them, a command may ask for before the lines behind it are
+// looked at.
+const MANY: usize = 1024;
+
+// Whether the command asks for many elements or places by a number. One that has its elements in
+// its line does not.
+fn asks_for_many(command: &Command<u32>) -> bool {
+    match command {
+        Command::Reserve(n) | Command::ReserveExact(n) | Command::Resize(n, _) => *n > MANY,
+        Command::ExtendFromWithin(from, to) => to.saturating_sub(*from) > MANY,
+        Command::Extend { hint: Some(n), .. } | Command::Splice { hint: Some(n), .. } => *n > MANY,
+        _ => false,
+    }
+}
+
+/// The lines of a script that are left to run.
+#[derive(Drop)]
+pub struct Rest<'a> {
+    /// Their text.
+    pub text: &'a [u8],
+    // Whether all of them were looked at.
+    is_seen: bool,
+}
+
+impl<'a> Rest<'a> {
+    /// All lines of the text.
+    pub fn of(text: &'a [u8]) -> Rest<'a>
+        ensures { result.text.now ≡ text.now }
+    {
+        Rest {
+            text,
+            is_seen: false,
+        }
+    }
+
+    /// Takes a piece of the lines from the front: their commands, in order. Before one of them that
+    /// asks for many elements or places, the lines behind are looked at, once for the script, so
+    /// that little is done where one of them is bad.
+    ///
+    /// It takes memory for the commands. An error says that the piece can't be run.
+    pub fn next_commands(&mut self, alloc: Global) -> Result<Vec<Command<u32>, Global>, Fault>
+        ensures ok { IfOk result (λ commands. (piece : List (List ℕ))
+            × (lines self.old.text.now ≡ piece ++ lines self.new.text.now)
+            × HasNoBad piece × Mean piece commands.items) }
+        ensures fewer { OnOk result (0 < length self.old.text.now →
+            length self.new.text.now < length self.old.text.now) }
+    {
+        let (piece, others) = first_lines(self.text);
+        let read = commands(alloc, piece)?;
+        if !self.is_seen && read.as_slice().iter().any(asks_for_many) {
+            if let Some(number) = first_bad(others) {
+                return Err(Fault::BadLine(number));
+            }
+            self.is_seen = true;
+        }
+        self.text = others;
+        Ok(read)
+    }
+}
+
+// The commands of the lines, in order. A line without words is no command, but counts.
+//
+// It takes memory for the commands. The first line that is no known form is `Fault::BadLine`, and
+// refused memory is `Fault::OutOfMemory`.
+fn commands(alloc: Global, text: &[u8]) -> Result<Vec<Command<u32>, Global>, Fault>
     ensures items { IfOk result (λ commands. Mean (lines text.now) commands.items) }
     ensures ok { OnOk result (HasNoBad (lines text.now)) }
     ensures err { IfErr result
@@ -111,9 +228,9 @@ pub fn commands(alloc: Global, text: &[u8]) -> Result<Vec<Command<u32>, Global>,
     Ok(commands)
 }
 
-/// Cuts a text between two lines, behind the first one that ends past a piece's length, or at its
-/// end.
-pub fn first_lines(text: &[u8]) -> (&[u8], &[u8])
+// Cuts a text between two lines, behind the first one that ends past a piece's length, or at its
+// end.
+fn first_lines(text: &[u8]) -> (&[u8], &[u8])
     ensures lines { lines text.now ≡ lines result.0.now ++ lines result.1.now }
     ensures fewer { 0 < length text.now → length result.1.now < length text.now }
 {
@@ -521,6 +638,17 @@ impl Words<'_> {
         } else {
             None
         }
+    }
+
+    // The hint that the next word is, if there is one and it is one.
+    fn hint(&mut self) -> Option<Option<usize>>
+        ensures some { IfSome result (λ h. (word : List ℕ)
+            × (words_of self.old.rest.now ≡ word ∷ words_of self.new.rest.now) × IsHint word h) }
+        ensures none { IfNone result ((word : List ℕ) (rest : List (List ℕ)) (h : Option ℕ)
+            → words_of self.old.rest.now ≡ word ∷ rest → ¬ (IsHint word h)) }
+    {
+        let word = self.next()?;
+        hint(word)
     }
 
     // The number that the next word writes, if there is one and it writes one.

@@ -1,5 +1,5 @@
 //! A script from its first byte to its status.
-ghost use Rattle.std.specs.Prelude.{◌≡◌, ◌≢◌, ◌+◌, ◌^◌, ◌<◌, ◌%◌, ◌==◌, ◌⊎◌, ℕ, List, Some, IfSome, IfOk, OnOk, IfErr};
+ghost use Rattle.std.specs.Prelude.{◌≡◌, ◌≢◌, ◌+◌, ◌++◌, ◌^◌, ◌<◌, ◌%◌, ◌==◌, ◌⊎◌, ℕ, List, length, Some, IfSome, IfOk, OnOk, IfErr};
 ghost use Rattle.std.specs.Io.KnownBytes.{Keeps, Appends};
 ghost use Rattle.std.specs.Str.Lines.{lines};
 ghost use Rattle.aa_vec.specs.Closures.{TakesPairMut};
@@ -14,6 +14,7 @@ ghost use Rattle.vecscript.specs.declared.script.Fault.{Fault};
 ghost use Rattle.vecscript.specs.declared.script.Fault.TheVariants.{OutOfMemory, InputOutput};
 
 use crate::lines;
+use crate::lines::Rest;
 use crate::print::{print_lists, print_replies};
 use crate::reading::Reading;
 use crate::writing::write_text;
@@ -213,8 +214,8 @@ fn read_text<R: Read>(alloc: Global, input: &mut R) -> Result<std::vec::Vec<u8>,
 
 // Runs the commands of the lines on two empty lists, which grow as the script says, a piece of the
 // text at a time: the text of the replies and of the lists, which is all made before any of it is
-// printed. Where a piece can't be run, all lines are looked at, so that a bad one counts before
-// refused memory.
+// printed. Where a piece can't be run, all lines are looked at, which takes no memory: a bad one
+// counts before refused memory.
 fn answer<K, S>(
     alloc: Global,
     text: std::vec::Vec<u8>,
@@ -230,18 +231,26 @@ where
     ensures ok { IfOk result (λ answer. MayAnswer (calls_of ⟦<Global as Clone>⟧.is_clone K.FnMut S.FnMut)
         alloc keep.old same.old (lines text.items) answer.items) }
     ensures err { IfErr result (λ fault. IsFoundIn (Some text.items) fault × (fault ≢ InputOutput)) }
+    ensures refused { IfErr result (λ fault. fault ≡ OutOfMemory →
+        HasNoBad (command_lines (lines text.items))) }
 {
     let (growth, before, commands) = lines::chosen_growth(&text);
     let mut main = Vec::new_growing_in(growth, alloc);
     let mut side = Vec::new_growing_in(growth, alloc);
     let mut answer = std::vec::Vec::new(alloc);
-    let mut rest = commands;
-    'pieces: while !rest.is_empty() {
-        let (piece, others) = lines::first_lines(rest);
-        let Ok(()) = run_piece(alloc, piece, &mut main, &mut side, keep, same, &mut answer) else {
-            return Err(lines::fault(alloc, commands).behind(before));
+    let mut rest = Rest::of(commands);
+    'pieces: while !rest.text.is_empty() {
+        let Ok(()) = run_piece(
+            alloc,
+            &mut rest,
+            &mut main,
+            &mut side,
+            keep,
+            same,
+            &mut answer,
+        ) else {
+            return Err(lines::fault(commands).behind(before));
         };
-        rest = others;
     }
     drop(text);
     match print_lists(&mut answer, &main, &side) {
@@ -250,10 +259,10 @@ where
     }
 }
 
-// Runs the commands of the lines, and puts the text of the replies behind the answer.
+// Runs the commands of a piece of the lines, and puts the text of the replies behind the answer.
 fn run_piece<K, S>(
     alloc: Global,
-    piece: &[u8],
+    rest: &mut Rest<'_>,
     main: &mut Vec<u32, Global>,
     side: &mut Vec<u32, Global>,
     keep: &mut K,
@@ -265,11 +274,15 @@ where
     S: FnMut(&mut u32, &mut u32) -> bool,
     requires keep { (k : K) (x : ℕ) → TakesMut K.FnMut k x }
     requires same { (s : S) (x y : ℕ) → TakesPairMut S.FnMut s x y }
-    ensures { OnOk result (Answers (calls_of ⟦<Global as Clone>⟧.is_clone K.FnMut S.FnMut)
-        (state_of main.old side.old keep.old same.old) (lines piece.now)
+    ensures ok { OnOk result ((piece : List (List ℕ))
+        × (lines rest.old.text.now ≡ piece ++ lines rest.new.text.now)
+        × Answers (calls_of ⟦<Global as Clone>⟧.is_clone K.FnMut S.FnMut)
+        (state_of main.old side.old keep.old same.old) piece
         answer.old.items answer.new.items (state_of main.new side.new keep.new same.new)) }
+    ensures fewer { OnOk result (0 < length rest.old.text.now →
+        length rest.new.text.now < length rest.old.text.now) }
 {
-    let commands = lines::commands(alloc, piece)?;
+    let commands = rest.next_commands(alloc)?;
     let replies = run_all(alloc, commands, main, side, keep, same)?;
     print_replies(answer, replies.as_slice())?;
     Ok(())
@@ -300,20 +313,32 @@ where
     Ok(replies)
 }
 
-// Writes the fault's line, or a beginning of it where a write fails.
+// A fault's line, with its line feed.
+#[derive(Drop)]
+struct FaultLine<'a> {
+    fault: &'a Fault,
+}
+
+impl fmt::Display for FaultLine<'_> {
+    ghost output = { λ line. Some (line_of (fault_text line.fault.now)) };
+
+    fn fmt<W: fmt::Write>(&self, f: &mut fmt::Formatter<W>) -> fmt::Result {
+        write!(f, "{}\n", self.fault)
+    }
+}
+
+// Writes the fault's line at once, or a beginning of it where a write fails.
 fn tell<E: Write>(fault: &Fault, faults: &mut E)
     ensures { AppendsBeginning (E.contents faults.old) (E.contents faults.new)
         (line_of (fault_text fault.now)) }
 {
-    let text = InlineText::<64>::of(fault);
+    let text = InlineText::<64>::of(FaultLine { fault });
     let line = text.as_str().as_bytes();
-    // A text that was cut to fit ends in dots, and no fault's text does.
+    // A text that was cut to fit ends in dots, and no fault's line does.
     if line.ends_with(b"...") {
         return;
     }
-    if write_text(line, faults).is_ok() {
-        let _ = write_text(b"\n", faults);
-    }
+    let _ = write_text(line, faults);
 }
 
 // Writes the text and flushes the output.

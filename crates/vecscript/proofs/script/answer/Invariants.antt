@@ -6,8 +6,8 @@ use Rattle.vecscript.proofs.script.answer.Given as goal
 abbrev pub invariant-pieces : goal.invariant-pieces
 invariant-pieces g l =
     HasAnswered (calls_of (λ a b. b ≡ a) g.K.FnMut g.S.FnMut)
-    (state_of l.initial.main l.initial.side l.initial.keep l.initial.same) (command_lines (lines l.fn.text.items)) l.rest l.answer.items
+    (state_of l.initial.main l.initial.side l.initial.keep l.initial.same) (command_lines (lines l.fn.text.items)) l.rest.text.now l.answer.items
     (state_of l.main l.side l.keep l.same)
 
 abbrev pub decreases-pieces : goal.decreases-pieces
-decreases-pieces g l = length l.rest
+decreases-pieces g l = length l.rest.text.now

@@ -1,6 +1,6 @@
-use Rattle.vecscript.proofs.Common.{inl, arith, HasNoBad}
+use Rattle.vecscript.proofs.Common.{refl, inl, arith, HasNoBad}
 use Rattle.vecscript.proofs.Read.{HasSeen-start, HasSeen-next, HasNoBad-none, HasNoBad-one, HasNoBad-append}
-use Rattle.vecscript.proofs.lines.check.Goals as goal
+use Rattle.vecscript.proofs.lines.first_bad.Goals as goal
 
 -- no line is seen yet
 pub loop-index-init : goal.loop-index-init
@@ -14,6 +14,6 @@ pub loop-index-preserved : goal.loop-index-preserved
 loop-index-preserved c =
     let (lines_left, at, counts, bound) = c.in-Some.ensures.steps in
     let (able, ends, had) = c.loop-index.invariant in
-    let good = HasNoBad-one c.in-Some.line.now c.in_ok-check_line.ensures.ok in
-    let seen = HasSeen-next HasNoBad HasNoBad _ _ _ _ _ _ had lines_left counts (λ ls all. HasNoBad-append ls _ all good) in
+    let seen = HasSeen-next HasNoBad HasNoBad _ _ _ _ _ _ had lines_left counts
+    (λ ls all. HasNoBad-append ls _ all (HasNoBad-one c.in-Some.line.now c.if-not-is_good.ensures)) in
     ((tt, tt, inl (omega arith)), tt, seen)

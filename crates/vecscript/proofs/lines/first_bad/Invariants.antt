@@ -1,6 +1,6 @@
 use Rattle.vecscript.proofs.Common.{HasNoBad}
 use Rattle.vecscript.proofs.Read.{HasSeen}
-use Rattle.vecscript.proofs.lines.check.Given as goal
+use Rattle.vecscript.proofs.lines.first_bad.Given as goal
 
 abbrev pub invariant-loop-index : goal.invariant-loop-index
 invariant-loop-index l =

@@ -1,0 +1,50 @@
+-- Whether words say a command, where none is made.
+use Rattle.vecscript.proofs.Common.{◌≡◌, ◌≢◌, ◌∙◌, ℕ, ◌^◌, Bool, true, false, List, [], ◌∷◌, length, sym, ap, arith, codes, Option, Global, Vector, Command, AllZip, Writes, IsBad, Say, words_of}
+use Rattle.std.specs.Prelude.{MatchBool}
+use Rattle.std.specs.Str.{bytes_eq}
+use Rattle.allocator_api2.specs.declared.raw_vec.Growth.TheVariants.{Doubling}
+use Rattle.allocator_api2.specs.declared.runner.Command.TheVariants.{Extend, Splice}
+use Rattle.vecscript.specs.Faults.{TellsWhether}
+use Rattle.vecscript.specs.Lines.{IsHint, SaysExtend, SaysSplice, SayAfter}
+
+-- a vector of these elements
+abbrev listed : List ℕ → Vector ℕ Global
+listed xs =
+    record { items = xs; capacity = 0; growth = Doubling; grown = 0; written = 0; runs = 0; alloc = record { memory = record { seal = tt } }; behind = [] }
+
+-- the words behind a hint are elements or not
+pub extend-told : (b : Bool) (word : List ℕ) (words all : List (List ℕ)) (hint : Option ℕ) → all ≡ word ∷ words → IsHint word hint
+    → TellsWhether b (AllZip (Writes (2 ^ 32)) words) → TellsWhether b (SaysExtend all)
+extend-told true word words all hint is hinted told = rw is (Extend (listed told.0) hint, (hinted, told.1))
+extend-told false word words all hint is hinted told = rw is never
+  where
+    never : (command : Command ℕ Global) → ¬ (SaysExtend (word ∷ words) command)
+    never (Extend items told_hint) said = told items.items said.1
+    never command said = absurd said
+
+-- and those behind a range and a hint
+pub splice-told : (b : Bool) (v w word : List ℕ) (words all : List (List ℕ)) (start end : ℕ) (hint : Option ℕ) → all ≡ v ∷ w ∷ word ∷ words
+    → Writes (2 ^ 64) v start → Writes (2 ^ 64) w end → IsHint word hint
+    → TellsWhether b (AllZip (Writes (2 ^ 32)) words) → TellsWhether b (SaysSplice all)
+splice-told true v w word words all start end hint is first last hinted told =
+    rw is (Splice start end (listed told.0) hint, (first, last, hinted, told.1))
+splice-told false v w word words all start end hint is first last hinted told = rw is never
+  where
+    never : (command : Command ℕ Global) → ¬ (SaysSplice (v ∷ w ∷ word ∷ words) command)
+    never (Splice from to items told_hint) said = told items.items said.3
+    never command said = absurd said
+
+-- the words after another name
+pub after-told : (name : List ℕ) (rest : List (List ℕ)) → bytes_eq name (codes "extend") ≡ false → bytes_eq name (codes "splice") ≡ false
+    → (b : Bool) → TellsWhether b (SayAfter name rest) → TellsWhether b (Say (name ∷ rest))
+after-told name rest no_extend no_splice b told = rw (no_extend, no_splice) told
+
+-- a line whose words say a command is good, and bad where they say none
+pub good-or-bad : (b : Bool) (line word : List ℕ) (words : List (List ℕ)) → words_of line ≡ word ∷ words
+    → TellsWhether b (Say (word ∷ words)) → MatchBool b (¬ (IsBad line)) (IsBad line)
+good-or-bad true line word words is told = λ bad. bad.says_nothing told.0 (rw is told.1)
+good-or-bad false line word words is told =
+    record {
+      has_words = λ none. omega (arith, ap length (sym none ∙ is));
+      says_nothing = λ command said. told command (rw is at said);
+    }
