@@ -1,10 +1,13 @@
 //! Edits at a position, and elements taken away.
-ghost use Rattle.std.specs.Prelude.{◌≡◌, ◌+◌, ◌-◌, ◌<◌, ◌≤◌, [], ◌∷◌, ◌++◌, length, take, insert, remove, swap_remove, slice_get, Some, IfErr, OnOk, OnErr, IsOk, if◌then◌else◌, ◌==◌};
+ghost use Rattle.std.specs.Prelude.{◌≡◌, ◌+◌, ◌-◌, ◌<◌, ◌≤◌, [], ◌∷◌, ◌++◌, length, take, insert, remove, swap_remove, slice_get, slice_set, get_or, Some, None, IfErr, OnOk, OnErr, IsOk, if◌then◌else◌, ◌==◌};
 ghost use Rattle.std.specs.Mem.{type_size};
+ghost use Rattle.aa_raw.specs.Block.{with_places};
+ghost use Rattle.aa_raw.specs.Places.{IsFilled};
 ghost use Rattle.aa_vec.specs.Vector.{len, HasRoom, LacksRoom, Becomes, run_count, with_room};
 
 use crate::vec::Vec;
 use aa_raw::collections::Refused;
+use aa_raw::raw_vec::RawVec;
 use std::alloc::Allocator;
 
 impl<T, A: Allocator> Vec<T, A> {
@@ -83,10 +86,13 @@ impl<T, A: Allocator> Vec<T, A> {
             Becomes self.old (swap_remove self.old.items index result) moved moved self.new }
     {
         let last = self.len - 1;
-        let value = self.block.take(index);
-        if index < last {
-            self.block.move_one(last, index);
+        if index == last {
+            let value = take_seldom(&mut self.block, index);
+            self.len = last;
+            return value;
         }
+        let value = self.block.take(index);
+        self.block.move_one(last, index);
         self.len = last;
         value
     }
@@ -115,4 +121,15 @@ impl<T, A: Allocator> Vec<T, A> {
     {
         self.truncate(0);
     }
+}
+
+// `take`, out of line, so that the code behind it is for the common case.
+#[cold]
+#[inline(never)]
+fn take_seldom<T, A: Allocator>(block: &mut RawVec<T, A>, at: usize) -> T
+    requires { IsFilled block.old.places at }
+    ensures value { get_or block.old.places at None ≡ Some result }
+    ensures after { block.new ≡ with_places block.old (slice_set block.old.places at None) }
+{
+    block.take(at)
 }
