@@ -95,8 +95,13 @@ unsafe impl<B: Allocator> Allocator for Pool<B> {
     }
 }
 
-/// A clone is a pool of its own, over a clone of `inner`, with nothing kept.
+/// A clone is a pool of its own for blocks of the same size, over a clone of `inner`, with nothing
+/// kept.
 impl<B: Allocator + Clone> Clone for Pool<B> {
+    ghost is_clone = { λ pool twin. (twin.size ≡ pool.size) × B.is_clone pool.inner twin.inner };
+
+    ghost is_infallible = { λ pool. B.is_infallible pool.inner };
+
     fn clone(&self) -> Result<Pool<B>, AllocError> {
         Ok(Pool::new(self.inner.clone()?, self.size))
     }

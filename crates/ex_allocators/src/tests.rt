@@ -172,6 +172,41 @@ fn blocks_given_back_in_any_order_are_used_again(rt: HostRuntime) -> Result<(), 
 }
 
 #[test]
+fn clear_gives_back_what_is_kept(rt: HostRuntime) -> Result<(), Fail> {
+    let heap = Counting::new(rt.alloc());
+    let pool = Pool::new(&heap, 24);
+    let twin = pool.clone()?;
+    assert!(rt; twin.size() == 24);
+    let _used = Box::new_in([0u64; 3], &pool)?;
+    drop(Box::new_in([0u64; 3], &twin)?);
+    // How many blocks are kept, and how many bytes come back with them.
+    for (kept, bytes) in [(0u64, 0u64), (1, 24), (5, 120), (40, 960)] {
+        {
+            let mut boxes: Vec<Box<[u64; 3], &Pool<&Counting<Global>>>, Global> = Vec::new_in(
+                rt.alloc(),
+            );
+            for _ in 0..kept {
+                boxes.push(Box::new_in([0u64; 3], &pool)?)?;
+            }
+        }
+        let before = heap.counts();
+        pool.clear();
+        let after = heap.counts();
+        assert!(rt; after.frees == before.frees.wrapping_add(kept), "{kept}");
+        assert!(rt;
+            after.outstanding.wrapping_add(bytes) == before.outstanding,
+            "{kept}"
+        );
+        // Nothing is left, and what the clone keeps is its own.
+        pool.clear();
+        assert!(rt; heap.counts() == after && after.outstanding == 48, "{kept}");
+    }
+    twin.clear();
+    assert!(rt; heap.counts().frees == 47 && heap.counts().outstanding == 24);
+    Ok(())
+}
+
+#[test]
 fn requests_of_another_layout_are_passed_on(rt: HostRuntime) -> Result<(), Fail> {
     let heap = Counting::new(rt.alloc());
     let pool = Pool::new(&heap, 16);
