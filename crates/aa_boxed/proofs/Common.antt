@@ -9,7 +9,6 @@ pub use Rattle.aa_boxed.specs.contracts.boxed.Box.{the_row}
 pub use Rattle.aa_raw.proofs.Beyond.{IsRun-forgot, forgot, length-forgot, none-forgot, none_there}
 pub use Rattle.aa_raw.proofs.Common.{AllZip, AllZip-push, Block, IsRun, Logic, SProp, Ura, emp, empty_places, ent, eqb_tells, ex, fact, fresh, length-replicate, list_all, nat_tests, param, run, sep, sized, take_at_read, type_size, usize_max, via, wand, with_run, wrote}
 pub use Rattle.aa_raw.proofs.Places.{endless-empty, filled_within, length-empty_places, sized-empty}
-pub use Rattle.aa_raw.proofs.Reserving.{fresh-reserved}
 pub use Rattle.aa_raw.proofs.Runs.{IsRun-with, length-run, run-is, run-one, run-with}
 pub use Rattle.aa_raw.specs.Growth.{amortized, least_of}
 pub use Rattle.aa_raw.specs.Refusals.{IsRefusedAt}

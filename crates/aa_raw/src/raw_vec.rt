@@ -129,20 +129,33 @@ impl<T, A: Allocator> RawVec<T, A> {
     /// A block of `capacity` empty places. Where elements have a size and `capacity` is above 0 it
     /// takes memory; a refusal is `CapacityOverflow`, or `AllocError` with this capacity. It stands
     /// for `RawVec::with_capacity_in`.
-    #[tactic(auto, using(crate::proofs::Reserving::made_empty))]
     pub fn with_capacity_in(capacity: usize, alloc: A) -> Result<Self, TryReserveError>
         ensures made { IfOk result
             (λ v. v ≡ fresh (type_size T.row) capacity Growth.Doubling alloc) }
         ensures refused { IfErr result (RefusesBlock capacity (type_size T.row)) }
     {
+        RawVec::with_capacity_growing_in(Growth::Doubling, capacity, alloc)
+    }
+
+    /// The same for a block that will grow as `growth` says. The original has no such choice.
+    #[tactic(auto, using(crate::proofs::Reserving::made_empty))]
+    pub fn with_capacity_growing_in(
+        growth: Growth,
+        capacity: usize,
+        alloc: A,
+    ) -> Result<Self, TryReserveError>
+        ensures made { IfOk result
+            (λ v. v ≡ fresh (type_size T.row) capacity growth alloc) }
+        ensures refused { IfErr result (RefusesBlock capacity (type_size T.row)) }
+    {
         if capacity == 0 || is_sizeless::<T>() {
-            return Ok(RawVec::new_in(alloc));
+            return Ok(RawVec::new_growing_in(growth, alloc));
         }
         if !fits_in_block::<T>(capacity) {
             return Err(TryReserveErrorKind::CapacityOverflow.into());
         }
         match allocate(&alloc, capacity) {
-            Ok(row) => Ok(made(alloc, Growth::Doubling, capacity, row)),
+            Ok(row) => Ok(made(alloc, growth, capacity, row)),
             Err(_) => Err(TryReserveErrorKind::AllocError { capacity }.into()),
         }
     }

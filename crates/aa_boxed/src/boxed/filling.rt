@@ -3,7 +3,6 @@ ghost use Rattle.std.specs.Prelude.{◌≡◌, ◌≢◌, ◌+◌, ◌<◌, ◌�
 ghost use Rattle.std.specs.Bool.{OnTrue, OnFalse};
 ghost use Rattle.std.specs.List.{AllZip};
 ghost use Rattle.std.specs.Mem.{type_size};
-ghost use Rattle.aa_raw.specs.Block.{fresh};
 ghost use Rattle.aa_raw.specs.Growth.{amortized, least_of, sized, usize_max};
 ghost use Rattle.aa_raw.specs.Refusals.{RefusesBlock};
 ghost use Rattle.aa_raw.specs.Room.{LacksRoom};
@@ -42,7 +41,7 @@ impl<T, A: Allocator> Filling<T, A> {
             (λ f. f ≡ none_begun (sized (type_size T.row) capacity) growth alloc) }
         ensures refused { IfErr result (RefusesBlock capacity (type_size T.row)) }
     {
-        let block = block_for(growth, capacity, alloc)?;
+        let block = RawVec::with_capacity_growing_in(growth, capacity, alloc)?;
         Ok(Filling { block, len: 0 })
     }
 
@@ -153,21 +152,5 @@ impl<T: Drop, A: Allocator> Drop for Filling<T, A> {
     fn drop(self) {
         let Filling { mut block, len } = self;
         block.drop_run(0, len);
-    }
-}
-
-// A block of `capacity` empty places, that grows so.
-fn block_for<T, A: Allocator>(
-    growth: Growth,
-    capacity: usize,
-    alloc: A,
-) -> Result<RawVec<T, A>, TryReserveError>
-    ensures made { IfOk result (λ b. b ≡ fresh (type_size T.row) capacity growth alloc) }
-    ensures refused { IfErr result (RefusesBlock capacity (type_size T.row)) }
-{
-    let mut block = RawVec::new_growing_in(growth, alloc);
-    match block.try_reserve_exact(0, capacity) {
-        Ok(()) => Ok(block),
-        Err(error) => Err(error),
     }
 }

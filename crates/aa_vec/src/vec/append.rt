@@ -158,7 +158,5 @@ fn block_over<T, A: Allocator + Clone>(
     let Ok(alloc) = alloc.clone() else {
         return Err(TryReserveErrorKind::AllocError { capacity }.into());
     };
-    let mut block = RawVec::new_growing_in(growth, alloc);
-    block.try_reserve_exact(0, capacity)?;
-    Ok(block)
+    RawVec::with_capacity_growing_in(growth, capacity, alloc)
 }
