@@ -1,5 +1,5 @@
 -- A range that was taken out of a vector and replaced by an `Items`.
-use Rattle.allocator_api2.proofs.Common.{◌≡◌, ℕ, ◌+◌, ◌*◌, ◌-◌, ◌≤◌, List, length, take, drop, Option, refl, ap, subst, arith, inl, inr, length-take, length-drop, ⊤, TryReserveError, TryReserveErrorKind, Vector, len, TakesRange, drain_vec, drain_head, drain_tail, range_len, lower_by, SplicesShort, DoesOnMain, Splice, Done, Refused}
+use Rattle.allocator_api2.proofs.Common.{◌≡◌, ℕ, ◌+◌, ◌*◌, ◌-◌, ◌≤◌, List, length, take, drop, Option, refl, ap, subst, sym, ◌∙◌, Reply, arith, inl, inr, length-take, length-drop, ⊤, TryReserveError, TryReserveErrorKind, Vector, len, TakesRange, drain_vec, drain_head, drain_tail, range_len, lower_by, SplicesShort, DoesOnMain, Splice, Done, Refused}
 use Rattle.aa_vec.specs.Extend.{ItemsLeft, gives_item, TellsExactly}
 use Rattle.aa_vec.specs.SpliceItems.{Gapped, cut_off, gapped, SplicesAll, SplicesByAll, SplicesByFront, SplicesWithin}
 use Rattle.aa_vec.specs.declared.vec.drain.Drain.{Drain}
@@ -7,7 +7,7 @@ use Rattle.aa_vec.proofs.Counted.{items_lower}
 use Rattle.aa_vec.proofs.SpliceByItems.{SplicesAll-items, SplicesShort-items, SplicesAll-from, SplicesShort-from}
 use Rattle.allocator_api2.proofs.ByKind.{told_by_kind}
 use Rattle.allocator_api2.proofs.SpliceRefusals.{short-full}
-use Rattle.allocator_api2.specs.Machine.{without_range}
+use Rattle.allocator_api2.specs.Machine.{error_of, without_range}
 
 -- what was refused where something may have failed, or not
 module _ {T A fails : Type 0} (size : ℕ) (lower : ℕ → ℕ) (old : Gapped T A) (added : List T) (error : TryReserveError) (new : Vector T A) where
@@ -55,14 +55,28 @@ module _ {T A : Type 0} (size : ℕ) (old : Vector T A) (start end : ℕ) (order
         writes = few w;
       }
 
-  pub Spliced-refused : {fails : Type 0} (error : TryReserveError) (kind : TryReserveErrorKind) → kind ≡ error.kind → SplicesByFront gives_item (TellsExactly items_lower) size iter (cut_off (drain_vec d) (range_len d) (drain_tail d)) fails error new
-      → SplicesWithin (drain_vec d) (drain_tail d) new → DoesOnMain size old (Splice start end items hint) (Refused kind) new
-  Spliced-refused {fails = fails} error kind is s w side =
+  short_of : {fails : Type 0} (error : TryReserveError) → SplicesByFront gives_item (TellsExactly items_lower) size iter (cut_off (drain_vec d) (range_len d) (drain_tail d)) fails error new → SplicesShort size (lower_by hint) (without_range old start end) items.items fails ⊤ error new
+  short_of {fails = fails} error s =
       let xs : List T = items.items in
       let by_items = subst (λ j. SplicesByFront gives_item (TellsExactly items_lower) size j (cut_off (drain_vec d) (range_len d) (drain_tail d)) fails error new) all s in
       let lent = SplicesShort-items (record { items = xs; hint = hint }) size (drain_vec d) (range_len d) (drain_tail d) places error new by_items in
       let spliced = SplicesShort-from size (lower_by hint) drains.head.block (drain_head d) (range_len d) (drain_tail d) xs error new lent in
-      let short = of_range (λ h g t. SplicesShort size (lower_by hint) (gapped old h g t) xs fails ⊤ error new) spliced in
+      of_range (λ h g t. SplicesShort size (lower_by hint) (gapped old h g t) xs fails ⊤ error new) spliced
+
+  -- the allocator's clone may be refused where it is not sure
+  pub Spliced-short : (sure : A → Type 0) (error : TryReserveError) (told : TryReserveErrorKind) → told ≡ error.kind
+      → SplicesByFront gives_item (TellsExactly items_lower) size iter (cut_off (drain_vec d) (range_len d) (drain_tail d)) (¬ (sure (drain_vec d).alloc)) error new
+      → (kind : TryReserveErrorKind) → ◌≡◌ {A = Reply T} (Refused told) (Refused kind) → SplicesShort size (lower_by hint) (without_range old start end) items.items (¬ (sure old.alloc)) ⊤ (error_of kind) new
+  Spliced-short sure error told is s kind answered =
+      let same : told ≡ kind = cc in
+      let short = subst (λ a. SplicesShort size (lower_by hint) (without_range old start end) items.items (¬ (sure a)) ⊤ error new) drains.head.block.alloc (short_of error s) in
+      subst (λ k. SplicesShort size (lower_by hint) (without_range old start end) items.items (¬ (sure old.alloc)) ⊤ (error_of k) new) (sym is ∙ same) short
+
+  pub Spliced-refused : {fails : Type 0} (error : TryReserveError) (kind : TryReserveErrorKind) → kind ≡ error.kind → SplicesByFront gives_item (TellsExactly items_lower) size iter (cut_off (drain_vec d) (range_len d) (drain_tail d)) fails error new
+      → SplicesWithin (drain_vec d) (drain_tail d) new → DoesOnMain size old (Splice start end items hint) (Refused kind) new
+  Spliced-refused {fails = fails} error kind is s w side =
+      let xs : List T = items.items in
+      let short = short_of error s in
       record {
         answers =
             told_by_kind error is (ordered, within) (short-full size (lower_by hint) old start end ordered within xs error new short)

@@ -1,5 +1,5 @@
 -- What a step of the list machine does to main: it stays in its block, has grown once, or grew any number of times while it was full.
-use Rattle.allocator_api2.proofs.Common.{◌≡◌, ℕ, suc, ◌+◌, ◌-◌, ◌<◌, ◌≤◌, max, min, Bool, List, [], ◌∷◌, length, take, drop, None, Option, refl, sym, subst, ap, ◌∙◌, arith, rules, inl, inr, length-take, length-drop, Vector, len, SameBlock, GrowsTo, Holds, Command, SplitOff, Push, Within, Pop, Insert, Remove, SwapRemove, Truncate, Clear, Append, Extend, Retain, Dedup, Drain, ExtractIf, Reply, Done, Item, Nothing, Back, Refused, Range, GrowsInSteps, ExtendsFull, lower_by, TryReserveError, TryReserveErrorKind, State, Calls, Step, Answers, asking, AddsOrRemoves, hint_of, added_by}
+use Rattle.allocator_api2.proofs.Common.{◌≡◌, ℕ, suc, ◌+◌, ◌-◌, ◌<◌, ◌≤◌, max, min, Bool, List, [], ◌∷◌, length, take, drop, None, Option, refl, sym, subst, ap, ◌∙◌, arith, rules, inl, inr, length-take, length-drop, Vector, len, SameBlock, GrowsTo, Holds, Command, Splice, SplitOff, Push, Within, Pop, Insert, Remove, SwapRemove, Truncate, Clear, Append, Extend, Retain, Dedup, Drain, ExtractIf, Reply, Done, Item, Nothing, Back, Refused, Range, GrowsInSteps, ExtendsFull, lower_by, TryReserveError, TryReserveErrorKind, State, Calls, Step, Answers, asking, AddsOrRemoves, hint_of, added_by}
 use Rattle.std.proofs.Common.{length-set}
 use Rattle.std.specs.Prelude.{slice_set, slice_index_or}
 use Rattle.std.proofs.lemmas.List.{length-append}
@@ -92,6 +92,7 @@ module _ {T A : Type 0} (size : ℕ) where
   module _ {K S : Type 0} (calls : Calls T A K S) where
     pub change_of : (old : State T A K S) (command : Command T A) (answers : List Bool) (reply : Reply T) (new : State T A K S) → AddsOrRemoves command → Step size calls old command answers reply new → Change (hint_of command) old.main (added_by old.main old.side command reply new.main) new.main
     change_of old (SplitOff at) answers reply new a s = absurd a
+    change_of old (Splice start end items hint) answers reply new a s = absurd a
     change_of old Retain answers reply new a s =
         let r = s.retains in holds old.main 0 _ new.main (omega (arith, length-kept calls.keeps old.keep old.main.items r.told new.keep r.asked)) r.holds
     change_of old Dedup answers reply new a s =

@@ -1,7 +1,7 @@
 -- The list machine: two lists, each beside a capacity, and what each command makes of them.
 use denote.Ref.{MutBor}
 use denote.Param.Members.{Mut}
-use Rattle.std.specs.Prelude.{◌≡◌, ℕ, ◌+◌, ◌-◌, ◌<◌, ◌≤◌, min, max, Bool, ◌==◌, List, [], ◌∷◌, ◌++◌, length, take, drop, replicate, insert, remove, swap_remove, slice_get, slice_range, reverse, if◌then◌else◌, Some, ◌⊎◌, ⊤}
+use Rattle.std.specs.Prelude.{◌≡◌, ℕ, ◌+◌, ◌-◌, ◌<◌, ◌≤◌, min, max, Bool, ◌==◌, List, [], ◌∷◌, ◌++◌, length, take, drop, replicate, insert, remove, swap_remove, slice_get, slice_range, reverse, if◌then◌else◌, Option, Some, ◌⊎◌, ⊤}
 use Rattle.std.specs.Fn.{CalledAtMut, CalledAtPairMut}
 use Rattle.aa_raw.specs.Closures.{TakesPairMut}
 use Rattle.aa_raw.specs.declared.collections.TryReserveError.{TryReserveError}
@@ -247,7 +247,8 @@ module _ {T A : Type 0} (size : ℕ) where
       LacksCopies size main (to - from) error main'
   LeavesOfMain main (Resize n x) error main' = LacksCopies size main (n - len main) error main'
   LeavesOfMain main (Splice start end items hint) error main' =
-      -- a clone of the allocator may be refused, and no other item is to come
+      -- a clone of the allocator may be refused (`CallsSplice` says when), and no other item is to
+      -- come
       SplicesShort size (lower_by hint) (without_range main start end) items.items ⊤ ⊤ error main'
   -- no other command is refused
   LeavesOfMain main command error main' = ⊥
@@ -316,21 +317,23 @@ pub record Calls (T A K S : Type 0) : Type 1 where
   -- when they may be called
   pub takes_keep : K → T → Type 0
   pub takes_same : S → T → T → Type 0
-  -- a clone of the allocator
+  -- a clone of the allocator, and when none can be refused
   pub clones : A → A → Type 0
+  pub sure : A → Type 0
 
 -- the calls that these closures and this clone may make
-abbrev pub calls_of : {T A K S : Type 0} → (A → A → Type 0)
+abbrev pub calls_of : {T A K S : Type 0} → (A → A → Type 0) → (A → Type 0)
     → Mut K (MutBor T × Unit {0}) (Bool × (MutBor T × Unit {0}))
     → Mut S (MutBor T × (MutBor T × Unit {0})) (Bool × (MutBor T × (MutBor T × Unit {0})))
     → Calls T A K S
-calls_of clones keep same =
+calls_of clones sure keep same =
     record {
       keeps = CalledAtMut keep;
       repeats = CalledAtPairMut same;
       takes_keep = TakesMut keep;
       takes_same = TakesPairMut same;
       clones = clones;
+      sure = sure;
     }
 
 module _ {T A K S : Type 0} (size : ℕ) (calls : Calls T A K S) where
@@ -348,6 +351,17 @@ module _ {T A K S : Type 0} (size : ℕ) (calls : Calls T A K S) where
     pub cut : CallsNone old (SplitOff at) answers reply new
     pub tail_clone : reply ≡ Done → 0 < at → calls.clones old.main.alloc new.side.alloc
     pub head_clone : reply ≡ Done → at ≡ 0 → calls.clones old.main.alloc new.main.alloc
+
+  -- and for a vector of its own, where more items come than were told. No refusal comes of that
+  -- clone where it is sure to succeed
+  pub record CallsSplice (old : State T A K S) (start end : ℕ) (items : Vector T A)
+      (hint : Option ℕ) (answers : List Bool) (reply : Reply T) (new : State T A K S)
+      : Type 0 where
+    pub spliced : CallsNone old (Splice start end items hint) answers reply new
+    pub short : (kind : TryReserveErrorKind) → reply ≡ Refused kind
+        → let fails = ¬ (calls.sure old.main.alloc) in
+        SplicesShort size (lower_by hint) (without_range old.main start end) items.items fails ⊤
+        (error_of kind) new.main
 
   -- `keep` is asked of the elements of main
   pub record CallsKeep (old : State T A K S) (answers : List Bool) (reply : Reply T)
@@ -381,6 +395,8 @@ module _ {T A K S : Type 0} (size : ℕ) (calls : Calls T A K S) where
   abbrev pub Step : State T A K S → Command T A → (answers : List Bool) → Reply T → State T A K S
       → Type 0
   Step old (SplitOff at) answers reply new = CallsClone old at answers reply new
+  Step old (Splice start end items hint) answers reply new =
+      CallsSplice old start end items hint answers reply new
   Step old Retain answers reply new = CallsKeep old answers reply new
   Step old Dedup answers reply new = CallsSame old answers reply new
   Step old (ExtractIf start end count) answers Done new =

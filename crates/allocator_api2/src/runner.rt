@@ -143,10 +143,10 @@ where
     S: FnMut(&mut T, &mut T) -> bool,
     requires room { HasRoom replies.old (length commands.items) }
     requires copies { Copies T.is_clone }
-    requires callable { IsCallableOnRuns (type_size T.row) (calls_of A.is_clone K.FnMut S.FnMut)
+    requires callable { IsCallableOnRuns (type_size T.row) (calls_of A.is_clone A.is_infallible K.FnMut S.FnMut)
         (state_of main.old side.old keep.old same.old) commands.items }
     ensures run { (answered : List (Reply T)) × (replies.new.items ≡ replies.old.items ++ answered)
-        × RunsWithin (type_size T.row) (calls_of A.is_clone K.FnMut S.FnMut)
+        × RunsWithin (type_size T.row) (calls_of A.is_clone A.is_infallible K.FnMut S.FnMut)
         (state_of main.old side.old keep.old same.old) commands.items answered
         (state_of main.new side.new keep.new same.new) }
     ensures replies_stay { SameBlock replies.old replies.new }
@@ -194,9 +194,9 @@ where
     K: FnMut(&mut T) -> bool,
     S: FnMut(&mut T, &mut T) -> bool,
     requires copies { Copies T.is_clone }
-    requires callable { MayCall (type_size T.row) (calls_of A.is_clone K.FnMut S.FnMut)
+    requires callable { MayCall (type_size T.row) (calls_of A.is_clone A.is_infallible K.FnMut S.FnMut)
         (state_of main.old side.old keep.old same.old) command }
-    ensures { DoesStep (type_size T.row) (calls_of A.is_clone K.FnMut S.FnMut)
+    ensures { DoesStep (type_size T.row) (calls_of A.is_clone A.is_infallible K.FnMut S.FnMut)
         (state_of main.old side.old keep.old same.old) command result
         (state_of main.new side.new keep.new same.new) }
 {

@@ -57,13 +57,16 @@ KeepsEven s x answer t y = (answer ≡ (x % 2 == 0)) × (y ≡ x)
 abbrev pub RepeatsEqual : Unit {0} → ℕ → ℕ → Bool → Unit {0} → ℕ → ℕ → Type 0
 RepeatsEqual = Equals (λ x l. x == l)
 
--- the calls that a script's run makes, which may always be made, where the allocator is cloned so
-abbrev pub script_calls : (Global → Global → Type 0) → Calls ℕ Global (Unit {0}) (Unit {0})
-script_calls clones =
+-- the calls that a script's run makes, which may always be made, where the allocator is cloned so,
+-- and then surely
+abbrev pub script_calls : (Global → Global → Type 0) → (Global → Type 0)
+    → Calls ℕ Global (Unit {0}) (Unit {0})
+script_calls clones sure =
     record {
       keeps = KeepsEven;
       repeats = RepeatsEqual;
       takes_keep = λ s x. ⊤;
       takes_same = λ s x l. ⊤;
       clones = clones;
+      sure = sure;
     }

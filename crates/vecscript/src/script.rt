@@ -123,7 +123,8 @@ pub fn script<R: Read, W: Write, E: Write>(
     ensures good { result ≡ 0 →
         IfSome (R.remaining input.old) (λ text. HasNoBad (command_lines (lines text))) }
     ensures printed { result ≡ 0 → IfSome (R.remaining input.old) (λ text. (answer : List ℕ)
-        × MayAnswer (script_calls ⟦<Global as Clone>⟧.is_clone) alloc tt tt (lines text) answer
+        × MayAnswer (script_calls ⟦<Global as Clone>⟧.is_clone
+        ⟦<Global as Clone>⟧.is_infallible) alloc tt tt (lines text) answer
         × Appends (W.contents output.old) (W.contents output.new) answer) }
     ensures bad { result ≡ 1 →
         IfSome (R.remaining input.old)
@@ -136,7 +137,8 @@ pub fn script<R: Read, W: Write, E: Write>(
         Keeps (W.contents output.old) (W.contents output.new) }
     ensures part { Keeps (W.contents output.old) (W.contents output.new)
         ⊎ IfSome (R.remaining input.old) (λ text. (answer : List ℕ)
-        × MayAnswer (script_calls ⟦<Global as Clone>⟧.is_clone) alloc tt tt (lines text) answer
+        × MayAnswer (script_calls ⟦<Global as Clone>⟧.is_clone
+        ⟦<Global as Clone>⟧.is_infallible) alloc tt tt (lines text) answer
         × AppendsBeginning (W.contents output.old) (W.contents output.new) answer) }
     ensures told { result ≢ 0 → (fault : Fault) × (result ≡ status_of fault)
         × IsFoundIn (R.remaining input.old) fault
@@ -183,7 +185,8 @@ where
     ensures ok { OnOk result
         (IfSome (R.remaining input.old) (λ text. HasNoBad (command_lines (lines text)))) }
     ensures printed { OnOk result (IfSome (R.remaining input.old) (λ text. (answer : List ℕ)
-        × MayAnswer (calls_of ⟦<Global as Clone>⟧.is_clone K.FnMut S.FnMut) alloc keep.old same.old
+        × MayAnswer (calls_of ⟦<Global as Clone>⟧.is_clone
+        ⟦<Global as Clone>⟧.is_infallible K.FnMut S.FnMut) alloc keep.old same.old
         (lines text) answer
         × Appends (W.contents output.old) (W.contents output.new) answer)) }
     ensures err { IfErr result (IsFoundIn (R.remaining input.old)) }
@@ -193,7 +196,8 @@ where
         Keeps (W.contents output.old) (W.contents output.new)) }
     ensures part { Keeps (W.contents output.old) (W.contents output.new)
         ⊎ IfSome (R.remaining input.old) (λ text. (answer : List ℕ)
-        × MayAnswer (calls_of ⟦<Global as Clone>⟧.is_clone K.FnMut S.FnMut) alloc keep.old same.old
+        × MayAnswer (calls_of ⟦<Global as Clone>⟧.is_clone
+        ⟦<Global as Clone>⟧.is_infallible K.FnMut S.FnMut) alloc keep.old same.old
         (lines text) answer
         × AppendsBeginning (W.contents output.old) (W.contents output.new) answer) }
 {
@@ -228,7 +232,8 @@ where
     requires keep { (k : K) (x : ℕ) → TakesMut K.FnMut k x }
     requires same { (s : S) (x y : ℕ) → TakesPairMut S.FnMut s x y }
     ensures good { OnOk result (HasNoBad (command_lines (lines text.items))) }
-    ensures ok { IfOk result (λ answer. MayAnswer (calls_of ⟦<Global as Clone>⟧.is_clone K.FnMut S.FnMut)
+    ensures ok { IfOk result (λ answer. MayAnswer (calls_of ⟦<Global as Clone>⟧.is_clone
+        ⟦<Global as Clone>⟧.is_infallible K.FnMut S.FnMut)
         alloc keep.old same.old (lines text.items) answer.items) }
     ensures err { IfErr result (λ fault. IsFoundIn (Some text.items) fault × (fault ≢ InputOutput)) }
     ensures refused { IfErr result (λ fault. fault ≡ OutOfMemory →
@@ -276,7 +281,8 @@ where
     requires same { (s : S) (x y : ℕ) → TakesPairMut S.FnMut s x y }
     ensures ok { OnOk result ((piece : List (List ℕ))
         × (lines rest.old.text.now ≡ piece ++ lines rest.new.text.now)
-        × Answers (calls_of ⟦<Global as Clone>⟧.is_clone K.FnMut S.FnMut)
+        × Answers (calls_of ⟦<Global as Clone>⟧.is_clone
+        ⟦<Global as Clone>⟧.is_infallible K.FnMut S.FnMut)
         (state_of main.old side.old keep.old same.old) piece
         answer.old.items answer.new.items (state_of main.new side.new keep.new same.new)) }
     ensures fewer { OnOk result (0 < length rest.old.text.now →
@@ -303,7 +309,8 @@ where
     requires keep { (k : K) (x : ℕ) → TakesMut K.FnMut k x }
     requires same { (s : S) (x y : ℕ) → TakesPairMut S.FnMut s x y }
     ensures ok { IfOk result
-        (λ replies. RunsTo element_size (calls_of ⟦<Global as Clone>⟧.is_clone K.FnMut S.FnMut)
+        (λ replies. RunsTo element_size (calls_of ⟦<Global as Clone>⟧.is_clone
+        ⟦<Global as Clone>⟧.is_infallible K.FnMut S.FnMut)
         (state_of main.old side.old keep.old same.old) commands.items replies.items
         (state_of main.new side.new keep.new same.new)) }
     ensures err { IfErr result (λ fault. fault ≡ OutOfMemory) }

@@ -1,12 +1,16 @@
 //! What `run` does at each command: the call of the vector that stands for it, after the test of
 //! its indices, and the reply.
-ghost use Rattle.std.specs.Prelude.{◌≡◌, ◌<◌};
+ghost use Rattle.std.specs.Prelude.{◌≡◌, ◌<◌, ⊤};
 ghost use Rattle.std.specs.Fn.{CalledAtMut, CalledAtPairMut};
 ghost use Rattle.std.specs.Mem.{type_size};
 ghost use Rattle.aa_raw.specs.Closures.{TakesPairMut};
 ghost use Rattle.aa_vec.specs.Choosing.{TakesMut, IsCallableInOrder, IsCallableAlong, Retains, Deduplicates};
 ghost use Rattle.aa_vec.specs.Copies.{Copies};
+ghost use Rattle.aa_vec.specs.Extend.{lower_by};
+ghost use Rattle.aa_vec.specs.SpliceItems.{SplicesShort};
+ghost use Rattle.aa_raw.specs.declared.collections.TryReserveErrorKind.{TryReserveErrorKind};
 ghost use Rattle.allocator_api2.specs.Commands.{Does, DoesOnMain};
+ghost use Rattle.allocator_api2.specs.Machine.{error_of, without_range};
 ghost use Rattle.allocator_api2.specs.declared.runner.Command.TheVariants.{Push, Within, Pop, Insert, Remove, SwapRemove, Truncate, Clear, Reserve, ReserveExact, ShrinkTo, SplitOff, Append, Extend, ExtendFromWithin, Resize, Splice};
 ghost use Rattle.allocator_api2.specs.declared.runner.Reply.{Reply};
 
@@ -243,7 +247,11 @@ pub(crate) fn splice<T: Drop, A: Allocator + Clone + Drop>(
     items: Vec<T, A>,
     hint: Option<usize>,
 ) -> Reply<T>
-    ensures { DoesOnMain (type_size T.row) main.old (Splice start end items hint) result main.new }
+    ensures does { DoesOnMain (type_size T.row) main.old (Splice start end items hint)
+        result main.new }
+    ensures short { (kind : TryReserveErrorKind) → result ≡ Reply.Refused kind
+        → SplicesShort (type_size T.row) (lower_by hint) (without_range main.old start end)
+        items.items (¬ (A.is_infallible main.old.alloc)) ⊤ (error_of kind) main.new }
 {
     if start > end || end > main.len() {
         return Reply::Range;

@@ -1,11 +1,12 @@
 use Rattle.vecscript.proofs.Common.{◌≡◌, length, lines, state_of, command_lines}
+use Rattle.std.specs.Prelude.{⊤}
 use Rattle.allocator_api2.specs.Machine.{calls_of}
 use Rattle.vecscript.proofs.Pieces.{HasAnswered}
 use Rattle.vecscript.proofs.script.answer.Given as goal
 
 abbrev pub invariant-pieces : goal.invariant-pieces
 invariant-pieces g l =
-    HasAnswered (calls_of (λ a b. b ≡ a) g.K.FnMut g.S.FnMut)
+    HasAnswered (calls_of (λ a b. b ≡ a) (λ _. ⊤) g.K.FnMut g.S.FnMut)
     (state_of l.initial.main l.initial.side l.initial.keep l.initial.same) (command_lines (lines l.fn.text.items)) l.rest.text.now l.answer.items
     (state_of l.main l.side l.keep l.same)
 
