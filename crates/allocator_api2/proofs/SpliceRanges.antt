@@ -1,5 +1,5 @@
 -- A range that was taken out of a vector and replaced by an `Items`.
-use Rattle.allocator_api2.proofs.Common.{◌≡◌, ℕ, ◌+◌, ◌*◌, ◌-◌, ◌≤◌, List, length, take, drop, Option, refl, ap, subst, sym, ◌∙◌, Reply, arith, inl, inr, length-take, length-drop, ⊤, TryReserveError, TryReserveErrorKind, Vector, len, TakesRange, drain_vec, drain_head, drain_tail, range_len, lower_by, SplicesShort, DoesOnMain, Splice, Done, Refused}
+use Rattle.allocator_api2.proofs.Common.{◌≡◌, ℕ, ◌+◌, ◌*◌, ◌-◌, ◌≤◌, List, length, take, drop, Option, refl, ap, subst, sym, arith, inl, inr, length-take, length-drop, ⊤, TryReserveError, TryReserveErrorKind, Vector, len, TakesRange, drain_vec, drain_head, drain_tail, range_len, lower_by, SplicesShort, DoesOnMain, Splice, Done, Refused}
 use Rattle.aa_vec.specs.Extend.{ItemsLeft, gives_item, TellsExactly}
 use Rattle.aa_vec.specs.SpliceItems.{Gapped, cut_off, gapped, SplicesAll, SplicesByAll, SplicesByFront, SplicesWithin}
 use Rattle.aa_vec.specs.declared.vec.drain.Drain.{Drain}
@@ -66,11 +66,10 @@ module _ {T A : Type 0} (size : ℕ) (old : Vector T A) (start end : ℕ) (order
   -- the allocator's clone may be refused where it is not sure
   pub Spliced-short : (sure : A → Type 0) (error : TryReserveError) (told : TryReserveErrorKind) → told ≡ error.kind
       → SplicesByFront gives_item (TellsExactly items_lower) size iter (cut_off (drain_vec d) (range_len d) (drain_tail d)) (¬ (sure (drain_vec d).alloc)) error new
-      → (kind : TryReserveErrorKind) → ◌≡◌ {A = Reply T} (Refused told) (Refused kind) → SplicesShort size (lower_by hint) (without_range old start end) items.items (¬ (sure old.alloc)) ⊤ (error_of kind) new
-  Spliced-short sure error told is s kind answered =
-      let same : told ≡ kind = cc in
+      → SplicesShort size (lower_by hint) (without_range old start end) items.items (¬ (sure old.alloc)) ⊤ (error_of told) new
+  Spliced-short sure error told is s =
       let short = subst (λ a. SplicesShort size (lower_by hint) (without_range old start end) items.items (¬ (sure a)) ⊤ error new) drains.head.block.alloc (short_of error s) in
-      subst (λ k. SplicesShort size (lower_by hint) (without_range old start end) items.items (¬ (sure old.alloc)) ⊤ (error_of k) new) (sym is ∙ same) short
+      subst (λ k. SplicesShort size (lower_by hint) (without_range old start end) items.items (¬ (sure old.alloc)) ⊤ (error_of k) new) (sym is) short
 
   pub Spliced-refused : {fails : Type 0} (error : TryReserveError) (kind : TryReserveErrorKind) → kind ≡ error.kind → SplicesByFront gives_item (TellsExactly items_lower) size iter (cut_off (drain_vec d) (range_len d) (drain_tail d)) fails error new
       → SplicesWithin (drain_vec d) (drain_tail d) new → DoesOnMain size old (Splice start end items hint) (Refused kind) new

@@ -1,7 +1,7 @@
 -- A command that is answered as the machine may answer it is a step of the machine.
-use Rattle.allocator_api2.proofs.Common.{◌≡◌, ℕ, [], ◌<◌, refl, rules, answers_of, ⊤, Option, TryReserveErrorKind, Refused, SplicesShort, lower_by, Vector, Command, Splice, SplitOff, Retain, Dedup, ExtractIf, Reply, Done, Does, DoesOnMain, DoesStep, Calls, Step, asking, state_of}
+use Rattle.allocator_api2.proofs.Common.{◌≡◌, ℕ, [], ◌<◌, refl, rules, answers_of, ⊤, Option, SplicesShort, lower_by, Vector, Command, Splice, SplitOff, Retain, Dedup, ExtractIf, Reply, Done, Does, DoesOnMain, DoesStep, Calls, Step, asking, state_of}
 use Rattle.aa_vec.specs.Choosing.{Deduplicates, Retains}
-use Rattle.allocator_api2.specs.Machine.{CallsNone, error_of, without_range}
+use Rattle.allocator_api2.specs.Machine.{CallsNone, OnRefused, error_of, without_range}
 use Rattle.allocator_api2.specs.Commands.{TakesChosen}
 
 module _ {T A K S : Type 0} {size : ℕ} {calls : Calls T A K S} {main side main' : Vector T A} {k : K} {s : S} where
@@ -31,9 +31,9 @@ module _ {T A K S : Type 0} {size : ℕ} {calls : Calls T A K S} {main side main
     takes_cut e t tail head = rw e (record { answers = []; step = record { cut = record { none = refl; keep = refl; same = refl; lists = t.answers }; tail_clone = tail; head_clone = head }; writes = t.writes })
 
     pub takes_spliced : {start end : ℕ} {items : Vector T A} {hint : Option ℕ} → told ≡ Splice start end items hint → DoesOnMain size main (Splice start end items hint) reply main'
-        → ((kind : TryReserveErrorKind) → reply ≡ Refused kind → SplicesShort size (lower_by hint) (without_range main start end) items.items (¬ (calls.sure main.alloc)) ⊤ (error_of kind) main')
+        → OnRefused reply (λ kind. SplicesShort size (lower_by hint) (without_range main start end) items.items (¬ (calls.sure main.alloc)) ⊤ (error_of kind) main')
         → DoesStep size calls (state_of main side k s) told reply (state_of main' side k s)
-    takes_spliced e t short = let d = t side in rw e (record { answers = []; step = record { spliced = record { none = refl; keep = refl; same = refl; lists = d.answers }; short = short }; writes = d.writes })
+    takes_spliced e t short = let d = t side in rw e (record { answers = []; step = (record { none = refl; keep = refl; same = refl; lists = d.answers }, short); writes = d.writes })
 
     pub takes_kept : {k' : K} → told ≡ Retain → reply ≡ Done → Retains calls.keeps k main k' main' → DoesStep size calls (state_of main side k s) told reply (state_of main' side k' s)
     takes_kept e done r = rw (e, done) (record { answers = answers_of r.told; step = record { done = refl; side = refl; same = refl; retains = r; asked = refl }; writes = search rules })

@@ -1,7 +1,7 @@
 -- The list machine: two lists, each beside a capacity, and what each command makes of them.
 use denote.Ref.{MutBor}
 use denote.Param.Members.{Mut}
-use Rattle.std.specs.Prelude.{◌≡◌, ℕ, ◌+◌, ◌-◌, ◌<◌, ◌≤◌, min, max, Bool, ◌==◌, List, [], ◌∷◌, ◌++◌, length, take, drop, replicate, insert, remove, swap_remove, slice_get, slice_range, reverse, if◌then◌else◌, Option, Some, ◌⊎◌, ⊤}
+use Rattle.std.specs.Prelude.{◌≡◌, ℕ, ◌+◌, ◌-◌, ◌<◌, ◌≤◌, min, max, Bool, ◌==◌, List, [], ◌∷◌, ◌++◌, length, take, drop, replicate, insert, remove, swap_remove, slice_get, slice_range, reverse, if◌then◌else◌, Some, ◌⊎◌, ⊤}
 use Rattle.std.specs.Fn.{CalledAtMut, CalledAtPairMut}
 use Rattle.aa_raw.specs.Closures.{TakesPairMut}
 use Rattle.aa_raw.specs.declared.collections.TryReserveError.{TryReserveError}
@@ -30,6 +30,11 @@ pub record Ends : Type 0 where
 -- the error of this kind
 abbrev pub error_of : TryReserveErrorKind → TryReserveError
 error_of kind = record { kind = kind }
+
+-- of a refusal this holds of its kind
+abbrev pub OnRefused : {T : Type 0} → Reply T → (TryReserveErrorKind → Type 0) → Type 0
+OnRefused (Refused kind) Holds = Holds kind
+OnRefused reply Holds = ⊤
 
 -- the two vectors, and the states of the two closures
 pub record State (T A K S : Type 0) : Type 0 where
@@ -247,8 +252,7 @@ module _ {T A : Type 0} (size : ℕ) where
       LacksCopies size main (to - from) error main'
   LeavesOfMain main (Resize n x) error main' = LacksCopies size main (n - len main) error main'
   LeavesOfMain main (Splice start end items hint) error main' =
-      -- a clone of the allocator may be refused (`CallsSplice` says when), and no other item is to
-      -- come
+      -- a clone of the allocator may be refused (`Step` says when), and no other item is to come
       SplicesShort size (lower_by hint) (without_range main start end) items.items ⊤ ⊤ error main'
   -- no other command is refused
   LeavesOfMain main command error main' = ⊥
@@ -352,17 +356,6 @@ module _ {T A K S : Type 0} (size : ℕ) (calls : Calls T A K S) where
     pub tail_clone : reply ≡ Done → 0 < at → calls.clones old.main.alloc new.side.alloc
     pub head_clone : reply ≡ Done → at ≡ 0 → calls.clones old.main.alloc new.main.alloc
 
-  -- and for a vector of its own, where more items come than were told. No refusal comes of that
-  -- clone where it is sure to succeed
-  pub record CallsSplice (old : State T A K S) (start end : ℕ) (items : Vector T A)
-      (hint : Option ℕ) (answers : List Bool) (reply : Reply T) (new : State T A K S)
-      : Type 0 where
-    pub spliced : CallsNone old (Splice start end items hint) answers reply new
-    pub short : (kind : TryReserveErrorKind) → reply ≡ Refused kind
-        → let fails = ¬ (calls.sure old.main.alloc) in
-        SplicesShort size (lower_by hint) (without_range old.main start end) items.items fails ⊤
-        (error_of kind) new.main
-
   -- `keep` is asked of the elements of main
   pub record CallsKeep (old : State T A K S) (answers : List Bool) (reply : Reply T)
       (new : State T A K S) : Type 0 where
@@ -391,12 +384,16 @@ module _ {T A K S : Type 0} (size : ℕ) (calls : Calls T A K S) where
     pub asked : answers ≡ answers_of takes.told
 
   -- old may answer the command by this reply, where closures that it calls answer so, and become
-  -- new. `ExtractIf` calls none where it is not done
+  -- new. `ExtractIf` calls none where it is not done. A `Splice` may clone the allocator for a
+  -- vector of its own, and is refused for that only where the clone is not sure
   abbrev pub Step : State T A K S → Command T A → (answers : List Bool) → Reply T → State T A K S
       → Type 0
   Step old (SplitOff at) answers reply new = CallsClone old at answers reply new
   Step old (Splice start end items hint) answers reply new =
-      CallsSplice old start end items hint answers reply new
+      let fails = ¬ (calls.sure old.main.alloc) in
+      CallsNone old (Splice start end items hint) answers reply new
+      × OnRefused reply (λ kind. SplicesShort size (lower_by hint)
+      (without_range old.main start end) items.items fails ⊤ (error_of kind) new.main)
   Step old Retain answers reply new = CallsKeep old answers reply new
   Step old Dedup answers reply new = CallsSame old answers reply new
   Step old (ExtractIf start end count) answers Done new =

@@ -2,13 +2,12 @@
 use Rattle.vecscript.proofs.Common.{ℕ, Bool, true, false, rules, List, [], ◌∷◌, length, take, Option, IfSome, IfSome_then, Global, lines, SplitOff, ExtractIf, Reply, Command, State, Calls, Turn, IsRun, element_size, MayAnswer}
 use Rattle.std.specs.Prelude.{◌≡◌, slice_range, ⊤}
 use Rattle.std.proofs.Common.{subst}
-use Rattle.allocator_api2.specs.declared.collections.TryReserveErrorKind.{TryReserveErrorKind}
 use Rattle.aa_vec.specs.Extend.{lower_by}
 use Rattle.aa_vec.specs.SpliceItems.{SplicesShort}
 use Rattle.aa_vec.specs.Choosing.{Asked, AskedInOrder, Retains, ChainsFrom, Deduplicated, Deduplicates}
 use Rattle.allocator_api2.specs.declared.runner.Command.TheVariants.{Retain, Dedup, Splice}
-use Rattle.allocator_api2.specs.declared.runner.Reply.TheVariants.{Done, Refused}
-use Rattle.allocator_api2.specs.Machine.{Step, TakesOut, asking, error_of, without_range}
+use Rattle.allocator_api2.specs.declared.runner.Reply.TheVariants.{Done}
+use Rattle.allocator_api2.specs.Machine.{Step, TakesOut, OnRefused, asking, error_of, without_range}
 
 module _ {K S : Type 0} (calls told : Calls ℕ Global K S)
     (keeps : (k : K) (x : ℕ) (answer : Bool) (l : K) (y : ℕ) → calls.keeps k x answer l y → told.keeps k x answer l y)
@@ -34,9 +33,9 @@ module _ {K S : Type 0} (calls told : Calls ℕ Global K S)
       → Step element_size calls old command answers reply new → Step element_size told old command answers reply new
   Step-told old (SplitOff at) answers reply new s = search (rules, clones)
   Step-told old (Splice start end items hint) answers reply new s =
-      let n = s.spliced in
-      let short = subst (λ (f : Global → Type 0). (kind : TryReserveErrorKind) → reply ≡ Refused kind → SplicesShort element_size (lower_by hint) (without_range old.main start end) items.items (¬ (f old.main.alloc)) ⊤ (error_of kind) new.main) sure s.short in
-      record { spliced = record { none = n.none; keep = n.keep; same = n.same; lists = n.lists }; short = short }
+      let n = s.0 in
+      let short = subst (λ (f : Global → Type 0). OnRefused reply (λ kind. SplicesShort element_size (lower_by hint) (without_range old.main start end) items.items (¬ (f old.main.alloc)) ⊤ (error_of kind) new.main)) sure s.1 in
+      (record { none = n.none; keep = n.keep; same = n.same; lists = n.lists }, short)
   Step-told old Retain answers reply new s =
       let h = s.retains in
       let kept : Retains told.keeps old.keep old.main new.keep new.main =

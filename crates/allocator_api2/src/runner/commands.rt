@@ -8,9 +8,8 @@ ghost use Rattle.aa_vec.specs.Choosing.{TakesMut, IsCallableInOrder, IsCallableA
 ghost use Rattle.aa_vec.specs.Copies.{Copies};
 ghost use Rattle.aa_vec.specs.Extend.{lower_by};
 ghost use Rattle.aa_vec.specs.SpliceItems.{SplicesShort};
-ghost use Rattle.aa_raw.specs.declared.collections.TryReserveErrorKind.{TryReserveErrorKind};
 ghost use Rattle.allocator_api2.specs.Commands.{Does, DoesOnMain};
-ghost use Rattle.allocator_api2.specs.Machine.{error_of, without_range};
+ghost use Rattle.allocator_api2.specs.Machine.{OnRefused, error_of, without_range};
 ghost use Rattle.allocator_api2.specs.declared.runner.Command.TheVariants.{Push, Within, Pop, Insert, Remove, SwapRemove, Truncate, Clear, Reserve, ReserveExact, ShrinkTo, SplitOff, Append, Extend, ExtendFromWithin, Resize, Splice};
 ghost use Rattle.allocator_api2.specs.declared.runner.Reply.{Reply};
 
@@ -249,9 +248,9 @@ pub(crate) fn splice<T: Drop, A: Allocator + Clone + Drop>(
 ) -> Reply<T>
     ensures does { DoesOnMain (type_size T.row) main.old (Splice start end items hint)
         result main.new }
-    ensures short { (kind : TryReserveErrorKind) → result ≡ Reply.Refused kind
-        → SplicesShort (type_size T.row) (lower_by hint) (without_range main.old start end)
-        items.items (¬ (A.is_infallible main.old.alloc)) ⊤ (error_of kind) main.new }
+    ensures short { let fails = ¬ (A.is_infallible main.old.alloc) in
+        OnRefused result (λ kind. SplicesShort (type_size T.row) (lower_by hint)
+        (without_range main.old start end) items.items fails ⊤ (error_of kind) main.new) }
 {
     if start > end || end > main.len() {
         return Reply::Range;

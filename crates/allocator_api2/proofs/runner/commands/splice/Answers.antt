@@ -18,7 +18,7 @@ returns-in-Err-clause-does g c = λ side.
     search rules
 
 pub returns-in-Err-clause-short : goal.returns-in-Err-clause-short
-returns-in-Err-clause-short g c = λ kind answered.
+returns-in-Err-clause-short g c =
     let s = c.splice-range.result in
-    let short = Spliced-short _ c.args.main.now c.args.start c.args.end (search rules) (search rules) c.len.ensures.within c.args.items c.args.hint (splice_range s) c.splice-range.ensures.drains (splice_iter s) (search rules) c.finish_hinted.new.self.0 g.A.Clone.is_infallible c.in-Err.error c.kind.result c.kind.ensures c.in-Err.ensures.refused kind answered in
+    let short = Spliced-short _ c.args.main.now c.args.start c.args.end (search rules) (search rules) c.len.ensures.within c.args.items c.args.hint (splice_range s) c.splice-range.ensures.drains (splice_iter s) (search rules) c.finish_hinted.new.self.0 g.A.Clone.is_infallible c.in-Err.error c.kind.result c.kind.ensures c.in-Err.ensures.refused in
     search rules
