@@ -48,3 +48,8 @@ good-or-bad false line word words is told =
       has_words = λ none. omega (arith, ap length (sym none ∙ is));
       says_nothing = λ command said. told command (rw is at said);
     }
+
+-- where nothing stands behind the name, the line says what the name says
+pub said-alone : (name rest : List ℕ) (command : Command ℕ Global) → length rest ≡ 0 → Say (name ∷ []) command → Say (name ∷ words_of rest) command
+said-alone name [] command none said = said
+said-alone name (x ∷ xs) command none said = absurd (omega arith)

@@ -146,7 +146,7 @@ fn are_elements(mut words: Words<'_>) -> bool
 const PIECE: usize = 4096;
 
 // How many bytes the shortest command's line has: `pop` and a line feed. The commands of a piece get
-// room for as many such lines at first.
+// room for as many such lines as begin in it.
 const SHORT_LINE: usize = 4;
 
 // How many elements, or places for them, a command may ask for before the lines behind it are
@@ -154,13 +154,27 @@ const SHORT_LINE: usize = 4;
 const MANY: usize = 1024;
 
 // Whether the command asks for many elements or places by a number. One that has its elements in
-// its line does not.
+// its line does not. Most commands are told apart by their kind alone.
 fn asks_for_many(command: &Command<u32>) -> bool {
+    matches!(
+        command,
+        Command::Reserve(_)
+            | Command::ReserveExact(_)
+            | Command::Resize(..)
+            | Command::ExtendFromWithin(..)
+            | Command::Extend { .. }
+            | Command::Splice { .. }
+    ) && number_asked_for(command) > MANY
+}
+
+// How many elements or places the command asks for by a number.
+#[inline(never)]
+fn number_asked_for(command: &Command<u32>) -> usize {
     match command {
-        Command::Reserve(n) | Command::ReserveExact(n) | Command::Resize(n, _) => *n > MANY,
-        Command::ExtendFromWithin(from, to) => to.saturating_sub(*from) > MANY,
-        Command::Extend { hint: Some(n), .. } | Command::Splice { hint: Some(n), .. } => *n > MANY,
-        _ => false,
+        Command::Reserve(n) | Command::ReserveExact(n) | Command::Resize(n, _) => *n,
+        Command::ExtendFromWithin(from, to) => to.saturating_sub(*from),
+        Command::Extend { hint, .. } | Command::Splice { hint, .. } => hint.unwrap_or(0),
+        _ => 0,
     }
 }
 
@@ -219,7 +233,7 @@ fn commands(alloc: Global, text: &[u8]) -> Result<Vec<Command<u32>, Global>, Fau
     ensures err { IfErr result
         (λ fault. IsFoundAmong (lines text.now) fault × (fault ≢ Fault.InputOutput)) }
 {
-    let mut commands = Vec::with_capacity_in(text.len().min(PIECE) / SHORT_LINE, alloc)?;
+    let mut commands = Vec::with_capacity_in(text.len().min(PIECE) / SHORT_LINE + 1, alloc)?;
     for (index, line) in (Lines { rest: text }).enumerate() {
         if let Some(command) = command_of_line(alloc, index + 1, line)? {
             commands.push(command)?;
@@ -317,10 +331,31 @@ fn named_command(alloc: Global, name: &[u8], mut line: Line<'_>) -> Result<Comma
     ensures { ReadsOrLacks line.entry.number
         (Say (name.now ∷ words_of line.entry.words.rest.now)) result }
 {
+    if line.words.rest.is_empty() {
+        if let Some(command) = wordless(name) {
+            return Ok(command);
+        }
+    }
     match name {
         _ if name == b"extend".as_slice() => extension(alloc, line),
         _ if name == b"splice".as_slice() => replacement(alloc, line),
         _ => command(name, line),
+    }
+}
+
+// The command that the name says alone, if it says one. These are known first, where the line ends
+// with the name, since they are the shortest to read.
+#[inline(always)]
+fn wordless(name: &[u8]) -> Option<Command<u32>>
+    ensures { IfSome result (Say (name.now ∷ [])) }
+{
+    match name {
+        _ if name == b"pop".as_slice() => Some(Command::Pop),
+        _ if name == b"clear".as_slice() => Some(Command::Clear),
+        _ if name == b"dedup".as_slice() => Some(Command::Dedup),
+        _ if name == b"append".as_slice() => Some(Command::Append),
+        _ if name == b"retain".as_slice() => Some(Command::Retain),
+        _ => None,
     }
 }
 
