@@ -1,7 +1,7 @@
 -- What the cases are called.
 use Rattle.std.specs.Prelude.{ℕ, List, codes, ◌++◌}
 use Rattle.vecbench.specs.declared.case.Case.{Case}
-use Rattle.vecbench.specs.declared.case.Case.TheVariants.{Sized, Chosen, Pieces as PiecesCase, Held, PushPop, PushReserved, PushFull, InsertFront, RemoveFront, SwapRemove, ExtendFromSlice, Extend, ExtendUnhinted, ExtendThrice, Append, SplitJoin, DrainTaken, DrainDropped, DrainFront, DrainBack, IntoIter, SpliceGrowing, SpliceInPlace, SpliceFront, InsertMiddle, GapInsert}
+use Rattle.vecbench.specs.declared.case.Case.TheVariants.{Sized, Chosen, Pieces as PiecesCase, Held, Used, PushPop, PushReserved, PushFull, FibPush, RetainWide, InsertFront, RemoveFront, SwapRemove, ExtendFromSlice, Extend, ExtendUnhinted, ExtendThrice, Append, SplitJoin, DrainTaken, DrainDropped, DrainFront, DrainBack, IntoIter, SpliceGrowing, SpliceInPlace, SpliceFront, InsertMiddle, GapInsert, GapTyping}
 use Rattle.vecbench.specs.declared.case.Call.{Call}
 use Rattle.vecbench.specs.declared.case.Call.TheVariants.{Push, InsertPop, RemovePush, Clone}
 use Rattle.vecbench.specs.declared.case.Choice.{Choice}
@@ -10,6 +10,8 @@ use Rattle.vecbench.specs.declared.case.Pieces.{Pieces}
 use Rattle.vecbench.specs.declared.case.Pieces.TheVariants.{OfFour, OfTwenty, Mixed, Written}
 use Rattle.vecbench.specs.declared.case.Collection.{Collection}
 use Rattle.vecbench.specs.declared.case.Collection.TheVariants.{TableInsert, TableHit, TableMiss, TableRemove, RingQueue, RingPush, InlineFew}
+use Rattle.vecbench.specs.declared.case.Use.{Use}
+use Rattle.vecbench.specs.declared.case.Use.TheVariants.{Serialise, Tokenize, Lines, Lru, Merge, DedupTexts, TextTable, InsertSorted, Grid, Boxes, Window}
 use Rattle.vecbench.specs.declared.case.Size.{Size}
 use Rattle.vecbench.specs.declared.case.Size.TheVariants.{Four, One, TwentyFour, Zero}
 
@@ -50,14 +52,30 @@ name_of_collection RingQueue = codes "ring_queue"
 name_of_collection RingPush = codes "ring_push"
 name_of_collection InlineFew = codes "inline_few"
 
+abbrev pub name_of_use : Use → List ℕ
+name_of_use Serialise = codes "serialise"
+name_of_use Tokenize = codes "tokenize"
+name_of_use Lines = codes "lines"
+name_of_use Lru = codes "lru"
+name_of_use Merge = codes "merge"
+name_of_use DedupTexts = codes "dedup_texts"
+name_of_use TextTable = codes "text_table"
+name_of_use InsertSorted = codes "insert_sorted"
+name_of_use Grid = codes "grid"
+name_of_use Boxes = codes "boxes"
+name_of_use Window = codes "window"
+
 abbrev pub name_of : Case → List ℕ
 name_of (Sized call size) = name_of_call call ++ suffix_of size
 name_of (Chosen choice) = name_of_choice choice
 name_of (PiecesCase pieces) = name_of_pieces pieces
 name_of (Held collection) = name_of_collection collection
+name_of (Used used) = name_of_use used
 name_of PushPop = codes "push_pop"
 name_of PushReserved = codes "push_reserved"
 name_of PushFull = codes "push_full"
+name_of FibPush = codes "fib_push"
+name_of RetainWide = codes "retain_wide"
 name_of InsertFront = codes "insert_front"
 name_of RemoveFront = codes "remove_front"
 name_of SwapRemove = codes "swap_remove"
@@ -77,3 +95,4 @@ name_of SpliceInPlace = codes "splice_in_place"
 name_of SpliceFront = codes "splice_front"
 name_of InsertMiddle = codes "insert_middle"
 name_of GapInsert = codes "gap_insert"
+name_of GapTyping = codes "gap_typing"

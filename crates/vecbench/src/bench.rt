@@ -165,7 +165,7 @@ fn timed<L: Lists, R: Clock>(clock: &R, alloc: Global, task: Task) -> Result<Mea
     })
 }
 
-// A time for each of so many elements, which is printed in nanoseconds with one decimal.
+// A time for each of so many elements, which is printed in nanoseconds with three decimals.
 #[derive(Clone, Copy, Drop)]
 struct PerElement {
     time: Duration,
@@ -174,9 +174,9 @@ struct PerElement {
 
 impl fmt::Display for PerElement {
     fn fmt<W: fmt::Write>(&self, f: &mut fmt::Formatter<W>) -> fmt::Result {
-        let tenths = self.time.as_nanos().saturating_mul(10) / u128::from(self.count.max(1));
-        let whole = tenths / 10;
-        let tenth = tenths % 10;
-        write!(f, "{whole}.{tenth}")
+        let all = self.time.as_nanos().saturating_mul(1000) / u128::from(self.count.max(1));
+        let whole = all / 1000;
+        let (tenth, hundredth, thousandth) = (all / 100 % 10, all / 10 % 10, all % 10);
+        write!(f, "{whole}.{tenth}{hundredth}{thousandth}")
     }
 }

@@ -1,7 +1,7 @@
 //! The cases, by their names.
 ghost use Rattle.std.specs.Prelude.{◌≡◌, ◌≢◌, ◌++◌, Some, IfSome, IfNone};
 ghost use Rattle.vecbench.specs.Cases.{name_of, name_of_call, suffix_of, name_of_choice};
-ghost use Rattle.vecbench.specs.Cases.{name_of_pieces, name_of_collection};
+ghost use Rattle.vecbench.specs.Cases.{name_of_pieces, name_of_collection, name_of_use};
 
 use std::fmt;
 
@@ -17,12 +17,18 @@ pub enum Case {
     Pieces(Pieces),
     /// Keys or items go into another collection than a vector, or out of it.
     Held(Collection),
+    /// What programs do with vectors.
+    Used(Use),
     /// Pushes a number and pops it.
     PushPop,
     /// Reserves room for numbers and pushes them.
     PushReserved,
     /// Pushes a number onto a full vector, which moves all of it.
     PushFull,
+    /// Pushes the sum of the last two numbers onto an empty vector.
+    FibPush,
+    /// Keeps every other element of 24 bytes.
+    RetainWide,
     /// Inserts before the first `u64` and pops, a hundred times.
     InsertFront,
     /// Removes the first `u64` and pushes, a hundred times.
@@ -62,6 +68,9 @@ pub enum Case {
     InsertMiddle,
     /// The same at the cursor of a gap buffer; over the toolchain's vector as `InsertMiddle`.
     GapInsert,
+    /// Inserts COUNT numbers into a text of as many, in a gap buffer whose cursor jumps before each
+    /// hundredth; over the toolchain's vector a hundred are spliced in at a time.
+    GapTyping,
 }
 
 /// What is timed at each size of the elements.
@@ -129,6 +138,33 @@ pub enum Collection {
     InlineFew,
 }
 
+/// What is timed of what programs do with vectors.
+#[derive(Clone, Copy, PartialEq, Debug, Drop)]
+pub enum Use {
+    /// Writes records of three fields as bytes.
+    Serialise,
+    /// Lists where each word of a text of COUNT bytes begins and ends.
+    Tokenize,
+    /// Reads lines from COUNT bytes, each into a vector of its own.
+    Lines,
+    /// Asks for COUNT keys, of which the 16 last ones are kept in the order of their use.
+    Lru,
+    /// Puts batches of a hundred behind others, a half by a drain and the rest by an append.
+    Merge,
+    /// Drops texts that equal the one before, in runs of three.
+    DedupTexts,
+    /// Writes COUNT rows of two columns, padded with blanks.
+    TextTable,
+    /// Inserts each number at its place in a sorted vector, which is emptied at 1,000.
+    InsertSorted,
+    /// Computes each cell of a grid of a hundred columns from those above and to the left.
+    Grid,
+    /// Makes a vector of boxes and takes them out.
+    Boxes,
+    /// Pushes numbers, and removes the first where there are more than a hundred.
+    Window,
+}
+
 /// How large an element is.
 #[derive(Clone, Copy, PartialEq, Debug, Drop)]
 pub enum Size {
@@ -152,6 +188,8 @@ impl Case {
             "push_pop" => Case::PushPop,
             "push_reserved" => Case::PushReserved,
             "push_full" => Case::PushFull,
+            "fib_push" => Case::FibPush,
+            "retain_wide" => Case::RetainWide,
             "insert_front" => Case::InsertFront,
             "remove_front" => Case::RemoveFront,
             "swap_remove" => Case::SwapRemove,
@@ -171,19 +209,21 @@ impl Case {
             "splice_front" => Case::SpliceFront,
             "insert_middle" => Case::InsertMiddle,
             "gap_insert" => Case::GapInsert,
+            "gap_typing" => Case::GapTyping,
             _ => return grouped(name),
         };
         Some(case)
     }
 }
 
-// The case of this name among those of a choice, of pieces, of a collection or of a size.
+// The case of this name among those of a choice, of pieces, of a collection, of a use or of a size.
 fn grouped(name: &str) -> Option<Case>
     ensures some { IfSome result (λ case. name.now ≡ name_of case) }
     ensures no_choice { IfNone result ((choice : Choice) → name.now ≢ name_of_choice choice) }
     ensures no_pieces { IfNone result ((pieces : Pieces) → name.now ≢ name_of_pieces pieces) }
     ensures no_collection { IfNone result
         ((held : Collection) → name.now ≢ name_of_collection held) }
+    ensures no_use { IfNone result ((used : Use) → name.now ≢ name_of_use used) }
     ensures no_size { IfNone result
         ((call : Call) → (size : Size) → name.now ≢ name_of_call call ++ suffix_of size) }
 {
@@ -195,6 +235,9 @@ fn grouped(name: &str) -> Option<Case>
     }
     if let Some(collection) = held(name) {
         return Some(Case::Held(collection));
+    }
+    if let Some(used) = used(name) {
+        return Some(Case::Used(used));
     }
     let (call, size) = sized(name)?;
     Some(Case::Sized(call, size))
@@ -279,6 +322,28 @@ fn held(name: &str) -> Option<Collection>
     Some(collection)
 }
 
+// The use of this name.
+fn used(name: &str) -> Option<Use>
+    ensures some { IfSome result (λ used. name.now ≡ name_of_use used) }
+    ensures none { IfNone result ((used : Use) → name.now ≢ name_of_use used) }
+{
+    let used = match name {
+        "serialise" => Use::Serialise,
+        "tokenize" => Use::Tokenize,
+        "lines" => Use::Lines,
+        "lru" => Use::Lru,
+        "merge" => Use::Merge,
+        "dedup_texts" => Use::DedupTexts,
+        "text_table" => Use::TextTable,
+        "insert_sorted" => Use::InsertSorted,
+        "grid" => Use::Grid,
+        "boxes" => Use::Boxes,
+        "window" => Use::Window,
+        _ => return None,
+    };
+    Some(used)
+}
+
 impl fmt::Display for Case {
     ghost output = { λ case. Some (name_of case) };
 
@@ -288,9 +353,12 @@ impl fmt::Display for Case {
             Case::Chosen(choice) => write!(f, "{choice}"),
             Case::Pieces(pieces) => write!(f, "{pieces}"),
             Case::Held(collection) => write!(f, "{collection}"),
+            Case::Used(used) => write!(f, "{used}"),
             Case::PushPop => write!(f, "push_pop"),
             Case::PushReserved => write!(f, "push_reserved"),
             Case::PushFull => write!(f, "push_full"),
+            Case::FibPush => write!(f, "fib_push"),
+            Case::RetainWide => write!(f, "retain_wide"),
             Case::InsertFront => write!(f, "insert_front"),
             Case::RemoveFront => write!(f, "remove_front"),
             Case::SwapRemove => write!(f, "swap_remove"),
@@ -310,6 +378,7 @@ impl fmt::Display for Case {
             Case::SpliceFront => write!(f, "splice_front"),
             Case::InsertMiddle => write!(f, "insert_middle"),
             Case::GapInsert => write!(f, "gap_insert"),
+            Case::GapTyping => write!(f, "gap_typing"),
         }
     }
 }
@@ -368,6 +437,26 @@ impl fmt::Display for Collection {
             Collection::RingQueue => write!(f, "ring_queue"),
             Collection::RingPush => write!(f, "ring_push"),
             Collection::InlineFew => write!(f, "inline_few"),
+        }
+    }
+}
+
+impl fmt::Display for Use {
+    ghost output = { λ used. Some (name_of_use used) };
+
+    fn fmt<W: fmt::Write>(&self, f: &mut fmt::Formatter<W>) -> fmt::Result {
+        match self {
+            Use::Serialise => write!(f, "serialise"),
+            Use::Tokenize => write!(f, "tokenize"),
+            Use::Lines => write!(f, "lines"),
+            Use::Lru => write!(f, "lru"),
+            Use::Merge => write!(f, "merge"),
+            Use::DedupTexts => write!(f, "dedup_texts"),
+            Use::TextTable => write!(f, "text_table"),
+            Use::InsertSorted => write!(f, "insert_sorted"),
+            Use::Grid => write!(f, "grid"),
+            Use::Boxes => write!(f, "boxes"),
+            Use::Window => write!(f, "window"),
         }
     }
 }

@@ -46,6 +46,176 @@ macro_rules! in_and_out {
     }};
 }
 
+// What programs do with vectors, over either vector: `$copied` is its call that puts bytes behind.
+macro_rules! serialised {
+    ($bytes:ident, $count:ident, $copied:ident) => {{
+        for i in 0..$count {
+            if $bytes.push(1).is_err()
+                || $bytes.$copied(&i.to_le_bytes()).is_err()
+                || $bytes.$copied(&u64::from(i).to_be_bytes()).is_err()
+            {
+                return false;
+            }
+        }
+        true
+    }};
+}
+
+// A word ends at each byte below 5.
+macro_rules! tokenized {
+    ($places:ident, $source:ident) => {{
+        let mut start: u32 = 0;
+        let mut at: u32 = 0;
+        for byte in $source {
+            if *byte < 5 {
+                if $places.push(start).is_err() || $places.push(at).is_err() {
+                    return false;
+                }
+                start = at.wrapping_add(1);
+            }
+            at = at.wrapping_add(1);
+        }
+        true
+    }};
+}
+
+// A line ends at each byte that is 1.
+macro_rules! lines_read {
+    ($texts:ident, $source:ident, $empty:expr) => {{
+        let mut line = $empty;
+        for byte in $source {
+            if *byte == 1 {
+                if $texts.push(replace(&mut line, $empty)).is_err() {
+                    return false;
+                }
+            } else if line.push(*byte).is_err() {
+                return false;
+            }
+        }
+        true
+    }};
+}
+
+macro_rules! last_used {
+    ($keys:ident, $source:ident) => {{
+        let mut hits: u32 = 0;
+        for byte in $source {
+            let key = u32::from(*byte);
+            let at = place_of($keys.as_slice(), key);
+            if at < $keys.len() {
+                $keys.remove(at);
+                hits = hits.wrapping_add(1);
+            } else if $keys.len() >= 16 {
+                $keys.remove(0);
+            }
+            if $keys.push(key).is_err() {
+                return None;
+            }
+        }
+        Some(hits)
+    }};
+}
+
+macro_rules! merged {
+    ($list:ident, $batch:ident, $count:ident) => {{
+        for i in 0..$count / 100 {
+            if $batch.extend(i..i.saturating_add(100)).is_err() {
+                return false;
+            }
+            let half = $batch.len() / 2;
+            if $list.extend($batch.drain(0..half)).is_err() || $list.append($batch).is_err() {
+                return false;
+            }
+        }
+        true
+    }};
+}
+
+macro_rules! rows_written {
+    ($bytes:ident, $count:ident, $copied:ident) => {{
+        for i in 0..$count {
+            let begin = $bytes.len();
+            if write!($bytes, "{i}").is_err()
+                || $bytes.resize(begin.saturating_add(12), b' ').is_err()
+                || $bytes.$copied(b"| a row").is_err()
+                || $bytes.resize(begin.saturating_add(30), b' ').is_err()
+                || $bytes.push(b'\n').is_err()
+            {
+                return false;
+            }
+        }
+        true
+    }};
+}
+
+macro_rules! inserted_in_order {
+    ($list:ident, $source:ident) => {{
+        for x in $source {
+            if $list.len() >= 1000 {
+                $list.clear();
+            }
+            let at = match $list.as_slice().binary_search(x) {
+                Ok(at) => at,
+                Err(at) => at,
+            };
+            if $list.insert(at.min($list.len()), *x).is_err() {
+                return false;
+            }
+        }
+        true
+    }};
+}
+
+macro_rules! grid_computed {
+    ($list:ident, $count:ident) => {{
+        if $list.resize($count as usize, 1).is_err() {
+            return false;
+        }
+        for i in 100..$count as usize {
+            if i < $list.len() {
+                let sum = $list[i - 100].wrapping_add($list[i - 1]);
+                $list[i] = sum;
+            }
+        }
+        true
+    }};
+}
+
+macro_rules! boxes_summed {
+    ($list:ident, $count:ident, |$value:ident| $boxed:expr) => {{
+        for $value in 0..$count {
+            let Ok(boxed) = $boxed else {
+                return None;
+            };
+            if $list.push(boxed).is_err() {
+                return None;
+            }
+        }
+        let mut sum: u32 = 0;
+        for _ in 0..$count {
+            if let Some(number) = $list.pop() {
+                sum = sum.wrapping_add(*number);
+            }
+        }
+        Some(sum)
+    }};
+}
+
+macro_rules! window_summed {
+    ($list:ident, $count:ident) => {{
+        let mut sum: u32 = 0;
+        for i in 0..$count {
+            if $list.push(i).is_err() {
+                return None;
+            }
+            if $list.len() > 100 {
+                sum = sum.wrapping_add($list.remove(0));
+            }
+        }
+        Some(sum)
+    }};
+}
+
 mod bench;
 mod case;
 mod checksum;

@@ -2,6 +2,7 @@
 ghost use Rattle.std.specs.Prelude.{◌<◌, ◌≤◌};
 
 mod collections;
+mod users;
 
 use crate::bench::Lists;
 use crate::case::{Call, Case, Choice, Pieces, Size};
@@ -9,6 +10,7 @@ use crate::checksum::checksum_from;
 use crate::element::{Element, Wide};
 use crate::lines::Task;
 use crate::ours::collections::Held;
+use crate::ours::users::Users;
 use allocator_api2::gap_buffer::GapBuffer;
 use allocator_api2::vec::Vec;
 use std::alloc::Global;
@@ -31,6 +33,7 @@ pub struct Vectors {
     shorts: Pair<u16>,
     text: GapBuffer<u16>,
     held: Held,
+    users: Users,
 }
 
 // Two vectors of one type of elements.
@@ -53,6 +56,7 @@ impl Lists for Vectors {
             shorts: Pair::new(alloc),
             text: GapBuffer::new_in(alloc),
             held: Held::new(alloc),
+            users: Users::new(alloc),
         };
         if vectors.prepare(task.case, task.count) {
             Some(vectors)
@@ -67,6 +71,7 @@ impl Lists for Vectors {
         match task.case {
             Case::Sized(call, size) => self.run_sized(call, size, count),
             Case::Held(collection) => self.held.run(collection, count),
+            Case::Used(used) => self.users.run(used, count),
             Case::Chosen(choice) => choose(numbers, choice),
             Case::Pieces(pieces) => {
                 put_pieces(&mut self.bytes.list, self.source.as_slice(), pieces, count)
@@ -74,6 +79,8 @@ impl Lists for Vectors {
             Case::PushPop => push_pop(numbers, count),
             Case::PushReserved => push_reserved(numbers, count),
             Case::PushFull => push_full(numbers),
+            Case::FibPush => fib_push(numbers, count),
+            Case::RetainWide => retain_wide(&mut self.wides.list),
             Case::InsertFront => insert_front(&mut self.longs.list),
             Case::RemoveFront => remove_front(&mut self.longs.list),
             Case::SwapRemove => swap_remove(numbers, count),
@@ -98,6 +105,7 @@ impl Lists for Vectors {
             Case::SpliceFront => splice_front(&mut self.longs.list),
             Case::InsertMiddle => insert_middle(&mut self.shorts.list),
             Case::GapInsert => gap_insert(&mut self.text),
+            Case::GapTyping => gap_typing(&mut self.text, count),
         }
     }
 
@@ -110,7 +118,8 @@ impl Lists for Vectors {
         let shorts = self.shorts.checksum(units);
         let before = checksum_from(shorts, self.text.before());
         let text = checksum_from(before, self.text.after());
-        self.held.checksum(text)
+        let held = self.held.checksum(text);
+        self.users.checksum(held)
     }
 }
 
@@ -124,9 +133,11 @@ impl Vectors {
             Case::Sized(call, Size::TwentyFour) => self.wides.prepare(call, count),
             Case::Sized(call, Size::Zero) => self.units.prepare(call, count),
             Case::PushReserved | Case::Extend | Case::ExtendUnhinted => true,
-            Case::SpliceGrowing => true,
+            Case::SpliceGrowing | Case::FibPush => true,
+            Case::RetainWide => fill(&mut self.wides.list, count, 1),
             Case::ExtendThrice => numbers.reserve(count as usize).is_ok(),
             Case::Held(collection) => self.held.prepare(collection, count),
+            Case::Used(used) => self.users.prepare(used, count),
             Case::Chosen(choice) => fill_for(numbers, choice, count),
             Case::Pieces(_) => fill_at_random(&mut self.source, count.max(24), 24),
             Case::PushPop => fill(numbers, 3, 1),
@@ -140,7 +151,7 @@ impl Vectors {
             Case::SplitJoin => fill(&mut self.longs.list, 100, 1),
             Case::DrainBack => fill(&mut self.shorts.list, 1000, 1),
             Case::InsertMiddle => fill(&mut self.shorts.list, count, 1),
-            Case::GapInsert => fill_text(&mut self.text, count),
+            Case::GapInsert | Case::GapTyping => fill_text(&mut self.text, count),
             Case::DrainTaken | Case::DrainDropped => fill(numbers, count.saturating_mul(2), 1),
             Case::ExtendFromSlice => fill(&mut self.source, count, 1),
             Case::Append => fill(&mut self.numbers.other, count, 1),
@@ -316,6 +327,20 @@ fn push_full(list: &mut Vec<u32>) -> bool {
 }
 
 #[inline(never)]
+fn fib_push(list: &mut Vec<u32>, count: u32) -> bool {
+    for _ in 0..count {
+        let next = match list.as_slice() {
+            [.., a, b] => a.wrapping_add(*b),
+            _ => 1,
+        };
+        if list.push(next).is_err() {
+            return false;
+        }
+    }
+    true
+}
+
+#[inline(never)]
 fn insert_front(list: &mut Vec<u64>) -> bool {
     in_and_out!(u64, i in 0..100, list.insert(0, i), list.pop(), |sum| list.push(sum))
 }
@@ -356,6 +381,12 @@ fn retain_random(list: &mut Vec<u32>) -> bool {
 #[inline(never)]
 fn retain_none(list: &mut Vec<u32>) -> bool {
     list.retain(|x| *x == u32::MAX);
+    true
+}
+
+#[inline(never)]
+fn retain_wide(list: &mut Vec<Wide>) -> bool {
+    list.retain(|x| x.number() % 2 == 0);
     true
 }
 
@@ -565,4 +596,20 @@ fn insert_middle(list: &mut Vec<u16>) -> bool {
 #[inline(never)]
 fn gap_insert(text: &mut GapBuffer<u16>) -> bool {
     each_is_granted!(i in 0..1000, text.insert(i))
+}
+
+#[inline(never)]
+fn gap_typing(text: &mut GapBuffer<u16>, count: u32) -> bool {
+    let mut state: u32 = 1;
+    for _ in 0..count / 100 {
+        state = state.wrapping_mul(1_664_525).wrapping_add(1_013_904_223);
+        let at = ((state >> 8) as usize % text.len().max(1)).min(text.len());
+        text.move_to(at);
+        for k in 0..100 {
+            if text.insert(k).is_err() {
+                return false;
+            }
+        }
+    }
+    true
 }

@@ -2,6 +2,7 @@
 ghost use Rattle.std.specs.Prelude.{◌<◌, ◌≤◌};
 
 mod collections;
+mod users;
 
 use crate::bench::Lists;
 use crate::case::{Call, Case, Choice, Pieces, Size};
@@ -9,6 +10,7 @@ use crate::checksum::checksum_from;
 use crate::element::{Element, Wide};
 use crate::lines::Task;
 use crate::standard::collections::Held;
+use crate::standard::users::Users;
 use std::alloc::Global;
 use std::io::Write;
 use std::mem::replace;
@@ -28,6 +30,7 @@ pub struct Vectors {
     // For the inserts in the middle, likewise.
     shorts: Pair<u16>,
     held: Held,
+    users: Users,
 }
 
 // Two vectors of one type of elements.
@@ -49,6 +52,7 @@ impl Lists for Vectors {
             source: Vec::new(alloc),
             shorts: Pair::new(alloc),
             held: Held::new(alloc),
+            users: Users::new(alloc),
         };
         if vectors.prepare(task.case, task.count) {
             Some(vectors)
@@ -63,6 +67,7 @@ impl Lists for Vectors {
         match task.case {
             Case::Sized(call, size) => self.run_sized(call, size, count),
             Case::Held(collection) => self.held.run(collection, count),
+            Case::Used(used) => self.users.run(used, count),
             Case::Chosen(choice) => choose(numbers, choice),
             Case::Pieces(pieces) => {
                 put_pieces(&mut self.bytes.list, self.source.as_slice(), pieces, count)
@@ -70,6 +75,8 @@ impl Lists for Vectors {
             Case::PushPop => push_pop(numbers, count),
             Case::PushReserved => push_reserved(numbers, count),
             Case::PushFull => push_full(numbers),
+            Case::FibPush => fib_push(numbers, count),
+            Case::RetainWide => retain_wide(&mut self.wides.list),
             Case::InsertFront => insert_front(&mut self.longs.list),
             Case::RemoveFront => remove_front(&mut self.longs.list),
             Case::SwapRemove => swap_remove(numbers, count),
@@ -94,6 +101,7 @@ impl Lists for Vectors {
             Case::SpliceFront => splice_front(&mut self.longs.list),
             Case::InsertMiddle => insert_middle(&mut self.shorts.list),
             Case::GapInsert => gap_insert(&mut self.shorts.list),
+            Case::GapTyping => gap_typing(&mut self.shorts.list, count),
         }
     }
 
@@ -104,7 +112,8 @@ impl Lists for Vectors {
         let wides = self.wides.checksum(bytes);
         let units = self.units.checksum(wides);
         let shorts = self.shorts.checksum(units);
-        self.held.checksum(shorts)
+        let held = self.held.checksum(shorts);
+        self.users.checksum(held)
     }
 }
 
@@ -118,9 +127,11 @@ impl Vectors {
             Case::Sized(call, Size::TwentyFour) => self.wides.prepare(call, count),
             Case::Sized(call, Size::Zero) => self.units.prepare(call, count),
             Case::PushReserved | Case::Extend | Case::ExtendUnhinted => true,
-            Case::SpliceGrowing => true,
+            Case::SpliceGrowing | Case::FibPush => true,
+            Case::RetainWide => fill(&mut self.wides.list, count, 1),
             Case::ExtendThrice => numbers.reserve(count as usize).is_ok(),
             Case::Held(collection) => self.held.prepare(collection, count),
+            Case::Used(used) => self.users.prepare(used, count),
             Case::Chosen(choice) => fill_for(numbers, choice, count),
             Case::Pieces(_) => fill_at_random(&mut self.source, count.max(24), 24),
             Case::PushPop => fill(numbers, 3, 1),
@@ -133,7 +144,9 @@ impl Vectors {
             Case::SwapRemove | Case::IntoIter | Case::SpliceInPlace => fill(numbers, count, 1),
             Case::SplitJoin => fill(&mut self.longs.list, 100, 1),
             Case::DrainBack => fill(&mut self.shorts.list, 1000, 1),
-            Case::InsertMiddle | Case::GapInsert => fill(&mut self.shorts.list, count, 1),
+            Case::InsertMiddle | Case::GapInsert | Case::GapTyping => {
+                fill(&mut self.shorts.list, count, 1)
+            }
             Case::DrainTaken | Case::DrainDropped => fill(numbers, count.saturating_mul(2), 1),
             Case::ExtendFromSlice => fill(&mut self.source, count, 1),
             Case::Append => fill(&mut self.numbers.other, count, 1),
@@ -298,6 +311,20 @@ fn push_full(list: &mut Vec<u32>) -> bool {
 }
 
 #[inline(never)]
+fn fib_push(list: &mut Vec<u32>, count: u32) -> bool {
+    for _ in 0..count {
+        let next = match list.as_slice() {
+            [.., a, b] => a.wrapping_add(*b),
+            _ => 1,
+        };
+        if list.push(next).is_err() {
+            return false;
+        }
+    }
+    true
+}
+
+#[inline(never)]
 fn insert_front(list: &mut Vec<u64>) -> bool {
     in_and_out!(u64, i in 0..100, list.insert(0, i), list.pop(), |sum| list.push(sum))
 }
@@ -338,6 +365,12 @@ fn retain_random(list: &mut Vec<u32>) -> bool {
 #[inline(never)]
 fn retain_none(list: &mut Vec<u32>) -> bool {
     list.retain(|x| *x == u32::MAX);
+    true
+}
+
+#[inline(never)]
+fn retain_wide(list: &mut Vec<Wide>) -> bool {
+    list.retain(|x| x.number() % 2 == 0);
     true
 }
 
@@ -548,4 +581,17 @@ fn insert_middle(list: &mut Vec<u16>) -> bool {
 #[inline(never)]
 fn gap_insert(list: &mut Vec<u16>) -> bool {
     insert_middle(list)
+}
+
+#[inline(never)]
+fn gap_typing(list: &mut Vec<u16>, count: u32) -> bool {
+    let mut state: u32 = 1;
+    for _ in 0..count / 100 {
+        state = state.wrapping_mul(1_664_525).wrapping_add(1_013_904_223);
+        let at = ((state >> 8) as usize % list.len().max(1)).min(list.len());
+        if list.splice(at..at, 0..100).is_err() {
+            return false;
+        }
+    }
+    true
 }

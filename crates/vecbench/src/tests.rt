@@ -1,5 +1,5 @@
 //! Which lines are tasks.
-use crate::case::{Call, Case, Choice, Collection, Pieces, Size};
+use crate::case::{Call, Case, Choice, Collection, Pieces, Size, Use};
 use crate::lines::{Mode, Task, task_of};
 
 #[test]
@@ -47,6 +47,7 @@ fn a_name_may_have_a_size(rt: HostRuntime) {
         ("check dedup_by_key 5", Case::Chosen(Choice::DedupByKey)),
         ("check pieces_of_4 5", Case::Pieces(Pieces::OfFour)),
         ("check table_hit 5", Case::Held(Collection::TableHit)),
+        ("check text_table 5", Case::Used(Use::TextTable)),
     ] {
         let task = Task {
             mode: Mode::Check,
