@@ -230,10 +230,28 @@ impl<T> Row<T> {
         other.join(source);
     }
 
-    /// The same with one copy of memory, however few the values are.
+    /// The same in copies of memory, however few the values are.
+    #[inline(always)]
+    pub(crate) fn take_in_parts(&mut self, to: usize, other: &mut Row<T>, from: usize, count: usize)
+        requires here { (to + count ≤ length self.old.places) × (length self.old.places < 2 ^ 64) }
+        requires there { IsRun other.old.places from count × (length other.old.places < 2 ^ 64) }
+        ensures here { (self.new.ptr ≡ self.old.ptr)
+            × (self.new.places
+            ≡ with_run self.old.places to count (take count (drop from other.old.places))) }
+        ensures there { (other.new.ptr ≡ other.old.ptr)
+            × (other.new.places ≡ with_run other.old.places from count (replicate count None)) }
+    {
+        let row = self.cut(0);
+        let source = other.cut(0);
+        let (row, source) = move_across_in_parts(row, to, source, from, count);
+        self.join(row);
+        other.join(source);
+    }
+
+    // The same with one copy of memory.
     #[inline(always)]
     #[tactic(auto, using(crate::proofs::Places::put_runs))]
-    pub(crate) fn take_at_once(&mut self, to: usize, other: &mut Row<T>, from: usize, count: usize)
+    fn take_at_once(&mut self, to: usize, other: &mut Row<T>, from: usize, count: usize)
         requires here { to + count ≤ length self.old.places }
         requires there { IsRun other.old.places from count }
         ensures here { (self.new.ptr ≡ self.old.ptr)
@@ -288,6 +306,9 @@ const FEW: usize = 8;
 
 // How many bytes an element may have of which few are copied in line.
 const SMALL: usize = 8;
+
+// How many bytes are copied to another block at once, at most.
+const PART: usize = 4000;
 
 // Moves the first `count` values up by `by` places.
 fn raise<T>(row: Row<T>, by: usize, count: usize) -> Row<T>
@@ -355,6 +376,7 @@ fn lower_by_one<T>(row: Row<T>, count: usize) -> Row<T>
 
 // `raise` in arrays of 64 to 128 bytes, which are less work than a loop over values. Elements of
 // several words are moved one by one; of those without size the compiler leaves no move.
+#[inline(never)]
 fn raise_in_arrays<T>(row: Row<T>, by: usize, count: usize) -> Row<T>
     requires { (0 < by) × IsRun row.places 0 count × (by + count ≤ length row.places)
         × (length row.places < 2 ^ 64) }
@@ -372,6 +394,7 @@ fn raise_in_arrays<T>(row: Row<T>, by: usize, count: usize) -> Row<T>
 }
 
 // `lower` likewise.
+#[inline(never)]
 fn lower_in_arrays<T>(row: Row<T>, by: usize, count: usize) -> Row<T>
     requires { (0 < by) × IsRun row.places by count × (length row.places < 2 ^ 64) }
     ensures { (result.ptr ≡ row.ptr) × (result.places ≡ moved row.places by 0 count) }
@@ -531,7 +554,7 @@ fn move_across<T>(
         × (result.1.places ≡ with_run source.places from count (replicate count None)) }
 {
     if is_long::<T>(count) {
-        return move_across_at_once(row, to, source, from, count);
+        return move_across_in_parts(row, to, source, from, count);
     }
     match element_size::<T>() {
         1 | 2 => move_across_by_arrays::<T, 64>(row, to, source, from, count),
@@ -591,24 +614,32 @@ fn move_each_across<T>(
     (row, source)
 }
 
-// `move_across` with one copy of memory.
+// `move_across` in copies of memory of up to `PART` bytes each: more at once would go by `rep movsb`,
+// which takes longer where the memory is fresh.
 #[cold]
 #[inline(never)]
-fn move_across_at_once<T>(
+#[tactic(auto, using(crate::proofs::Calls::put_in_arrays))]
+fn move_across_in_parts<T>(
     mut row: Row<T>,
     to: usize,
     mut source: Row<T>,
     from: usize,
     count: usize,
 ) -> (Row<T>, Row<T>)
-    requires here { to + count ≤ length row.places }
-    requires there { IsRun source.places from count }
+    requires here { (to + count ≤ length row.places) × (length row.places < 2 ^ 64) }
+    requires there { IsRun source.places from count × (length source.places < 2 ^ 64) }
     ensures here { (result.0.ptr ≡ row.ptr)
         × (result.0.places ≡ with_run row.places to count (take count (drop from source.places))) }
     ensures there { (result.1.ptr ≡ source.ptr)
         × (result.1.places ≡ with_run source.places from count (replicate count None)) }
 {
-    row.take_at_once(to, &mut source, from, count);
+    let part = PART / element_size::<T>().clamp(1, PART);
+    let mut at = 0;
+    'parts: while part < count - at {
+        row.take_at_once(to + at, &mut source, from + at, part);
+        at += part;
+    }
+    row.take_at_once(to + at, &mut source, from + at, count - at);
     (row, source)
 }
 

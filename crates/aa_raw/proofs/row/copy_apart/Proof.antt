@@ -1,5 +1,5 @@
 -- The first values of a row are moved to the first places of another by one copy of memory. Assumes `Logic`.
-use Rattle.aa_raw.proofs.{ !, Array, El, Goes-blank, Goes-dropped, IsRun, List, None, Place, R, Rw, Some, Spot, SpotsFrom, Stays, T, Tuple, Val, Vals, Valss, WT, WpFn, [], after, agg, alloc_all, and_then, args, array_apart, arith, at_ret, await, block_ptr, blocks, calls_at_last, cells, cut_spots, done, drop as drop_l, el_x, elτ, ends_at, enter, env, exec, fact, feq_i, first, fjoin, fld, flft, fpack, framed, free_all, froom, fsplit3, ftrue, get, get_in, given, has_ty, heard, inst_fn, is, join, join_spots, keep, lands_last, later, learn, length, length-append, length-drop, length-map, length-replicate, length-take, look_at, map, mem, move, no, no_more, nothing, of_opd, owns, pair_val, part_at, pass_all, plain, prop, proved_at, qed, raw, refl, regoal, replicate, returns, rewrite, room_of_row, row_had, row_made, row_of_room, says_two, sets, split, split3, start, stay_dropped, stop, sub, subst, suffices, sym, sz, tables, take, take-append-drop, times_below, ty_array, ty_unit, types_at, uint_vals, use1, use2, usize, values_in, values_of, values_out, vint, vunit, w64, walk_of, whole, whole_array, whole_in, whole_out, word, yes, ‵, ◌$◌, ◌*◌, ◌++◌, ◌+◌, ◌<◌, ◌^◌, ◌∙◌, ◌∵◌, ◌∷◌, ◌≡◌, ◌≤◌, ◌⊑◌, ◌⊛◌, full_share, tuple_type, within, ap, ℕ}
+use Rattle.aa_raw.proofs.{ !, Array, El, Goes-blank, Goes-dropped, IsRun, List, None, Place, R, Rw, Some, Spot, SpotsFrom, Stays, T, Val, Vals, Valss, WT, WpFn, [], after, agg, alloc_all, and_then, ap, args, arith, array_apart, at_ret, await, block_ptr, blocks, calls_at_last, cells, cut_spots, done, drop as drop_l, el_x, elτ, ends_at, enter, env, exec, fact, feq_i, first, fjoin, fld, flft, fpack, framed, free_all, froom, fsplit3, ftrue, full_share, get, get_in, given, has_ty, heard, inst_fn, join, join_spots, keep, lands_last, later, learn, length, length-append, length-drop, length-map, length-replicate, length-take, look_at, map, mem, move, no, no_more, nothing, of_opd, owns, pair_val, part_at, pass_all, plain, prop, proved_at, qed, raw, refl, regoal, replicate, returns, rewrite, room_of_row, row_had, row_made, row_of_room, says_two, sets, split, split3, start, stay_dropped, stop, sub, subst, suffices, sym, sz, tables, take, take-append-drop, times_below, tuple_type, ty_array, ty_unit, types_at, uint_vals, use1, use2, usize, values_in, values_of, values_out, vunit, w64, walk_of, whole, whole_array, whole_in, whole_out, within, word, yes, ‵, ℕ, ◌$◌, ◌*◌, ◌++◌, ◌+◌, ◌^◌, ◌∙◌, ◌∵◌, ◌∷◌, ◌≡◌, ◌≤◌, ◌⊑◌, ◌⊛◌}
 use denote.Index.{row}
 use types.Kit.{use3}
 use denote.Struct.Declared as Declared
