@@ -321,8 +321,8 @@ impl<T, A: Allocator> RawVec<T, A> {
         self.put(to, item);
     }
 
-    /// Moves the `count` values from place `from` on to the places from `to` on, which may overlap
-    /// them. Other values that stood there are forgotten.
+    /// Moves a run of `count` values, of which the first stands in place `from`, to where the first
+    /// is in place `to`. The two may share places. Other values that stood there are forgotten.
     #[inline]
     pub fn move_run(&mut self, from: usize, to: usize, count: usize)
         requires { IsRun self.old.places from count × (to + count ≤ length self.old.places) }

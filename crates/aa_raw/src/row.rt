@@ -128,8 +128,8 @@ impl<T> Row<T> {
         self.join(row);
     }
 
-    // Moves the `N` values from `from` on to the places from `to` on, which may overlap them: all of
-    // them are read before one is written.
+    // Moves the run of `N` values at `from` to where `to` begins. All of them are read before one is
+    // written, so the two may share places.
     #[inline(always)]
     #[tactic(auto, using(crate::proofs::Places::array_moves))]
     fn move_array<const N: usize>(&mut self, from: usize, to: usize)
@@ -181,7 +181,8 @@ impl<T> Row<T> {
             × (self.new.places ≡ with_run self.old.places _from _count (replicate _count None)) }
     {}
 
-    /// Moves the `count` values from `from` on to the places from `to` on, which may overlap them.
+    /// Moves a run of `count` values, of which the first stands at `from`, to where the first is at
+    /// `to`. The two may share places.
     #[inline]
     #[tactic(auto, using(crate::proofs::Places::cut_moves))]
     pub(crate) fn move_run(&mut self, from: usize, to: usize, count: usize)

@@ -297,7 +297,7 @@ fn line_length(text: &[u8]) -> usize
     text.iter().take_while(|byte| **byte != b'\n').count()
 }
 
-// The line without the one carriage return at its end, if it has one.
+// The line's text: a carriage return that ends it is left out, one and no more.
 fn without_carriage_return(line: &[u8]) -> &[u8]
     ensures { result.now ≡ strip_carriage_return line.now }
 {
