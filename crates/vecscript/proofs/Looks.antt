@@ -1,10 +1,11 @@
 -- Whether words say a command, where none is made.
-use Rattle.vecscript.proofs.Common.{◌≡◌, ◌≢◌, ◌∙◌, ℕ, ◌^◌, Bool, true, false, List, [], ◌∷◌, length, sym, ap, arith, codes, Option, Global, Vector, Command, AllZip, Writes, IsBad, Say, words_of}
-use Rattle.std.specs.Prelude.{MatchBool}
+use Rattle.vecscript.proofs.Common.{◌≡◌, ◌∙◌, inl, inr, ℕ, ◌^◌, Bool, true, false, List, [], ◌∷◌, length, sym, ap, arith, codes, Option, Some, Result, Ok, Err, Fault, Global, Vector, Command, AllZip, Writes, IsBad, Say, words_of}
+use Rattle.std.specs.Prelude.{MatchBool, MatchOption, IfErr, ◌⊎◌}
 use Rattle.std.specs.Str.{bytes_eq}
 use Rattle.allocator_api2.specs.declared.raw_vec.Growth.TheVariants.{Doubling}
 use Rattle.allocator_api2.specs.declared.runner.Command.TheVariants.{Extend, Splice}
-use Rattle.vecscript.specs.Faults.{TellsWhether}
+use Rattle.vecscript.specs.Faults.{ReadsOrLacks, TellsWhether}
+use Rattle.vecscript.specs.declared.script.Fault.TheVariants.{BadLine, OutOfMemory}
 use Rattle.vecscript.specs.Lines.{IsHint, SaysExtend, SaysSplice, SayAfter}
 
 -- a vector of these elements
@@ -53,3 +54,17 @@ good-or-bad false line word words is told =
 pub said-alone : (name rest : List ℕ) (command : Command ℕ Global) → length rest ≡ 0 → Say (name ∷ []) command → Say (name ∷ words_of rest) command
 said-alone name [] command none said = said
 said-alone name (x ∷ xs) command none said = absurd (omega arith)
+
+-- words that are read as no command are those of a bad line
+pub bad-unread : (number : ℕ) (line word : List ℕ) (words : List (List ℕ)) → words_of line ≡ word ∷ words → (r : Result (Option (Command ℕ Global)) Fault)
+    → ReadsOrLacks number (λ command. MatchOption command ⊥ (Say (word ∷ words))) r
+    → IfErr r (λ fault. (fault ≡ OutOfMemory) ⊎ ((fault ≡ BadLine number) × IsBad line))
+bad-unread number line word words is (Ok command) read = tt
+bad-unread number line word words is (Err fault) (inl lacks) = inl lacks
+bad-unread number line word words is (Err fault) (inr unread) =
+    let bad : IsBad line =
+    record {
+      has_words = λ none. omega (arith, ap length (sym none ∙ is));
+      says_nothing = λ command said. unread.1 (Some command) (rw is at said);
+    } in
+    inr (unread.0, bad)

@@ -154,27 +154,13 @@ const SHORT_LINE: usize = 4;
 const MANY: usize = 1024;
 
 // Whether the command asks for many elements or places by a number. One that has its elements in
-// its line does not. Most commands are told apart by their kind alone.
+// its line does not.
 fn asks_for_many(command: &Command<u32>) -> bool {
-    matches!(
-        command,
-        Command::Reserve(_)
-            | Command::ReserveExact(_)
-            | Command::Resize(..)
-            | Command::ExtendFromWithin(..)
-            | Command::Extend { .. }
-            | Command::Splice { .. }
-    ) && number_asked_for(command) > MANY
-}
-
-// How many elements or places the command asks for by a number.
-#[inline(never)]
-fn number_asked_for(command: &Command<u32>) -> usize {
     match command {
-        Command::Reserve(n) | Command::ReserveExact(n) | Command::Resize(n, _) => *n,
-        Command::ExtendFromWithin(from, to) => to.saturating_sub(*from),
-        Command::Extend { hint, .. } | Command::Splice { hint, .. } => hint.unwrap_or(0),
-        _ => 0,
+        Command::Reserve(n) | Command::ReserveExact(n) | Command::Resize(n, _) => *n > MANY,
+        Command::ExtendFromWithin(from, to) => to.saturating_sub(*from) > MANY,
+        Command::Extend { hint: Some(n), .. } | Command::Splice { hint: Some(n), .. } => *n > MANY,
+        _ => false,
     }
 }
 
@@ -320,8 +306,18 @@ fn command_of_line(alloc: Global, number: usize, line: &[u8]) -> Result<Option<C
     let mut line = Line { number, words };
     match name {
         b"push" => Ok(Some(Command::Push(line.element()?))),
-        _ => Ok(Some(named_command(alloc, name, line)?)),
+        _ => other_command(alloc, name, line),
     }
+}
+
+// The command of a line that begins with another word. A push does not wait for its room on the
+// stack.
+#[inline(always)]
+fn other_command(alloc: Global, name: &[u8], line: Line<'_>) -> Result<Option<Command<u32>>, Fault>
+    ensures { ReadsOrLacks line.entry.number (λ command. MatchOption command ⊥
+        (Say (name.now ∷ words_of line.entry.words.rest.now))) result }
+{
+    Ok(Some(named_command(alloc, name, line)?))
 }
 
 // The command of a line that begins with this word. It stands apart, so that the code above it

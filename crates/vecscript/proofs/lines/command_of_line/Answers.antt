@@ -1,5 +1,6 @@
 use Rattle.vecscript.proofs.Common.{◌≡◌, ◌∙◌, ◌∷◌, length, refl, sym, ap, rules, arith, codes, IsBad, words_of}
 use Rattle.std.proofs.lemmas.Slice.Eq.{text_from_reads}
+use Rattle.vecscript.proofs.Looks.{bad-unread}
 use Rattle.vecscript.proofs.lines.command_of_line.Goals as goal
 
 -- the word is no element, and then the words are no push
@@ -18,3 +19,7 @@ pub returns-in_ok-element-in-push-clause-ok : goal.returns-in_ok-element-in-push
 returns-in_ok-element-in-push-clause-ok c =
     let name : c.in-Some.name.now ≡ codes "push" = text_from_reads c.in-Some.name.now (codes "push") (omega arith) (search rules) in
     rw (c.in-Some.ensures.steps, name) (c.in_ok-element-in-push.field-0, c.in_ok-element-in-push.ensures, refl)
+
+-- the words are no other command
+pub returns-in_default-name-clause-err : goal.returns-in_default-name-clause-err
+returns-in_default-name-clause-err c = bad-unread c.args.number c.args.line.now _ _ c.in-Some.ensures.steps c.other_command.result c.other_command.ensures
