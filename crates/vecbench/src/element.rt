@@ -38,6 +38,18 @@ impl Element for u64 {
     }
 }
 
+impl Element for usize {
+    ghost number_of = { λ x. x % 2 ^ 32 };
+
+    fn of(number: u32) -> Self {
+        number as usize
+    }
+
+    fn number(&self) -> u32 {
+        (*self % 4_294_967_296) as u32
+    }
+}
+
 impl Element for u8 {
     ghost number_of = { λ x. x };
 

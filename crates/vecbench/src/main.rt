@@ -64,8 +64,8 @@ macro_rules! serialised {
 // A word ends at each byte below 5.
 macro_rules! tokenized {
     ($places:ident, $source:ident) => {{
-        let mut start: u32 = 0;
-        let mut at: u32 = 0;
+        let mut start: usize = 0;
+        let mut at: usize = 0;
         for byte in $source {
             if *byte < 5 {
                 if $places.push(start).is_err() || $places.push(at).is_err() {
@@ -98,9 +98,9 @@ macro_rules! lines_read {
 
 macro_rules! last_used {
     ($keys:ident, $source:ident) => {{
-        let mut hits: u32 = 0;
+        let mut hits: usize = 0;
         for byte in $source {
-            let key = u32::from(*byte);
+            let key = usize::from(*byte);
             let at = place_of($keys.as_slice(), key);
             if at < $keys.len() {
                 $keys.remove(at);
@@ -118,7 +118,7 @@ macro_rules! last_used {
 
 macro_rules! merged {
     ($list:ident, $batch:ident, $count:ident) => {{
-        for i in 0..$count / 100 {
+        for i in 0..$count as usize / 100 {
             if $batch.extend(i..i.saturating_add(100)).is_err() {
                 return false;
             }
@@ -191,10 +191,10 @@ macro_rules! boxes_summed {
                 return None;
             }
         }
-        let mut sum: u32 = 0;
+        let mut sum: usize = 0;
         for _ in 0..$count {
             if let Some(number) = $list.pop() {
-                sum = sum.wrapping_add(*number);
+                sum = sum.wrapping_add(*number as usize);
             }
         }
         Some(sum)
@@ -203,8 +203,8 @@ macro_rules! boxes_summed {
 
 macro_rules! window_summed {
     ($list:ident, $count:ident) => {{
-        let mut sum: u32 = 0;
-        for i in 0..$count {
+        let mut sum: usize = 0;
+        for i in 0..$count as usize {
             if $list.push(i).is_err() {
                 return None;
             }

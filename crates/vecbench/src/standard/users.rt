@@ -13,12 +13,14 @@ use std::mem::replace;
 pub struct Users {
     alloc: Global,
     source: Vec<u8>,
-    numbers: Vec<u32>,
-    others: Vec<u32>,
+    // Not `u32`, so that they share no code with the cases of single calls: that would change what
+    // the compiler inlines.
+    numbers: Vec<usize>,
+    others: Vec<usize>,
     bytes: Vec<u8>,
     texts: Vec<Vec<u8>>,
     boxes: Vec<Box<u32>>,
-    sum: u32,
+    sum: usize,
 }
 
 impl Users {
@@ -82,7 +84,7 @@ impl Users {
         for number in self.boxes.as_slice() {
             all = checksum_from(all, &[**number]);
         }
-        all.wrapping_add(u64::from(self.sum))
+        all.wrapping_add(self.sum as u64)
     }
 }
 
@@ -107,7 +109,7 @@ fn serialise(bytes: &mut Vec<u8>, count: u32) -> bool {
 }
 
 #[inline(never)]
-fn tokenize(places: &mut Vec<u32>, source: &[u8]) -> bool {
+fn tokenize(places: &mut Vec<usize>, source: &[u8]) -> bool {
     tokenized!(places, source)
 }
 
@@ -117,12 +119,12 @@ fn lines(texts: &mut Vec<Vec<u8>>, source: &[u8], alloc: Global) -> bool {
 }
 
 #[inline(never)]
-fn lru(keys: &mut Vec<u32>, source: &[u8]) -> Option<u32> {
+fn lru(keys: &mut Vec<usize>, source: &[u8]) -> Option<usize> {
     last_used!(keys, source)
 }
 
 // The place of the key, or how many keys there are where it is not among them.
-fn place_of(keys: &[u32], key: u32) -> usize {
+fn place_of(keys: &[usize], key: usize) -> usize {
     for (at, other) in keys.iter().enumerate() {
         if *other == key {
             return at;
@@ -132,7 +134,7 @@ fn place_of(keys: &[u32], key: u32) -> usize {
 }
 
 #[inline(never)]
-fn merge(list: &mut Vec<u32>, batch: &mut Vec<u32>, count: u32) -> bool {
+fn merge(list: &mut Vec<usize>, batch: &mut Vec<usize>, count: u32) -> bool {
     merged!(list, batch, count)
 }
 
@@ -148,21 +150,21 @@ fn text_table(bytes: &mut Vec<u8>, count: u32) -> bool {
 }
 
 #[inline(never)]
-fn insert_sorted(list: &mut Vec<u32>, source: &[u32]) -> bool {
+fn insert_sorted(list: &mut Vec<usize>, source: &[usize]) -> bool {
     inserted_in_order!(list, source)
 }
 
 #[inline(never)]
-fn grid(list: &mut Vec<u32>, count: u32) -> bool {
+fn grid(list: &mut Vec<usize>, count: u32) -> bool {
     grid_computed!(list, count)
 }
 
 #[inline(never)]
-fn boxes(list: &mut Vec<Box<u32>>, alloc: Global, count: u32) -> Option<u32> {
+fn boxes(list: &mut Vec<Box<u32>>, alloc: Global, count: u32) -> Option<usize> {
     boxes_summed!(list, count, |value| Box::new(alloc, value))
 }
 
 #[inline(never)]
-fn window(list: &mut Vec<u32>, count: u32) -> Option<u32> {
+fn window(list: &mut Vec<usize>, count: u32) -> Option<usize> {
     window_summed!(list, count)
 }
