@@ -1,0 +1,245 @@
+//! The cases over Rust's own map and queue, and over a gap buffer in plain Rust.
+use super::checksum_from;
+use std::collections::{HashMap, VecDeque};
+use std::hash::{BuildHasherDefault, Hasher};
+
+/// The hasher that the toolchain's map has, for keys of 8 bytes: the product with a fixed number in 128 bits, its halves joined.
+pub struct Folded(u64);
+
+impl Default for Folded {
+    fn default() -> Self {
+        Folded(0x243f_6a88_85a3_08d3)
+    }
+}
+
+impl Hasher for Folded {
+    fn finish(&self) -> u64 {
+        self.0
+    }
+    fn write(&mut self, bytes: &[u8]) {
+        for byte in bytes {
+            self.write_u64(u64::from(*byte));
+        }
+    }
+    #[inline]
+    fn write_u64(&mut self, number: u64) {
+        let product = u128::from(self.0 ^ number) * u128::from(0x9e37_79b9_7f4a_7c15_u64 ^ 16);
+        self.0 = product as u64 ^ (product >> 64) as u64;
+    }
+}
+
+type Numbers = HashMap<u64, u64, BuildHasherDefault<Folded>>;
+
+/// A text in two parts, with its free places at the cursor. An edit there moves nothing.
+#[derive(Default)]
+pub struct GapBuffer {
+    places: Vec<u16>,
+    start: usize,
+    end: usize,
+}
+
+impl GapBuffer {
+    fn len(&self) -> usize {
+        self.start + self.places.len() - self.end
+    }
+
+    #[inline]
+    fn insert(&mut self, number: u16) {
+        if self.start == self.end {
+            self.grow();
+        }
+        self.places[self.start] = number;
+        self.start += 1;
+    }
+
+    // The part before the cursor stays at the beginning, the other goes to the end.
+    #[cold]
+    fn grow(&mut self) {
+        let (old, new) = (self.places.len(), (2 * self.places.len()).max(8));
+        self.places.resize(new, 0);
+        self.places.copy_within(self.end..old, self.end + new - old);
+        self.end += new - old;
+    }
+
+    fn move_to(&mut self, place: usize) {
+        if place < self.start {
+            let moved = self.start - place;
+            self.places.copy_within(place..self.start, self.end - moved);
+            (self.start, self.end) = (place, self.end - moved);
+        } else {
+            let moved = place.min(self.len()) - self.start;
+            self.places.copy_within(self.end..self.end + moved, self.start);
+            (self.start, self.end) = (self.start + moved, self.end + moved);
+        }
+    }
+}
+
+/// What a case of a collection finds and leaves.
+#[derive(Default)]
+pub struct Held {
+    keys: Vec<u64>,
+    table: Numbers,
+    queue: VecDeque<u32>,
+    text: GapBuffer,
+    sum: u64,
+}
+
+impl Held {
+    /// Fills the collection as the case finds it; it answers whether there is such a case.
+    pub fn prepare(&mut self, case: &str, count: u32) -> bool {
+        match case {
+            "table_insert" => fill_keys(&mut self.keys, count, 0),
+            "table_hit" | "table_remove" => self.fill_table(count),
+            "table_miss" => {
+                self.fill_table(count);
+                self.keys.clear();
+                fill_keys(&mut self.keys, count, 1 << 32);
+            }
+            "ring_queue" => ring_push(&mut self.queue, 100),
+            "ring_push" | "inline_few" => (),
+            "gap_insert" | "gap_typing" => {
+                for i in 0..count {
+                    self.text.insert(i as u16);
+                }
+                self.text.move_to(self.text.len() / 2);
+            }
+            _ => return false,
+        }
+        true
+    }
+
+    fn fill_table(&mut self, count: u32) {
+        fill_keys(&mut self.keys, count, 0);
+        table_insert(&mut self.table, &self.keys);
+    }
+
+    /// Runs the case.
+    pub fn run(&mut self, case: &str, count: u32) {
+        match case {
+            "table_insert" => table_insert(&mut self.table, &self.keys),
+            "table_hit" => self.sum = table_hit(&self.table, &self.keys),
+            "table_miss" => self.sum = table_miss(&self.table, &self.keys),
+            "table_remove" => self.sum = table_remove(&mut self.table, &self.keys),
+            "ring_queue" => ring_queue(&mut self.queue, count),
+            "ring_push" => ring_push(&mut self.queue, count),
+            "gap_insert" => gap_insert(&mut self.text),
+            "gap_typing" => gap_typing(&mut self.text, count),
+            _ => self.sum = u64::from(inline_few(count)),
+        }
+    }
+
+    /// The checksum of what the collections hold and gave. Keys are looked up in their order here.
+    pub fn checksum(&self, sum: u64) -> u64 {
+        let GapBuffer { places, start, end } = &self.text;
+        let text = checksum_from(checksum_from(sum, &places[..*start]), &places[*end..]);
+        let (first, others) = self.queue.as_slices();
+        let items = checksum_from(checksum_from(text, first), others);
+        let values = self.keys.iter().fold(self.sum.wrapping_add(self.table.len() as u64), |values, key| {
+            values.wrapping_mul(31).wrapping_add(self.table.get(key).copied().unwrap_or(0))
+        });
+        items.wrapping_add(values)
+    }
+}
+
+fn fill_keys(keys: &mut Vec<u64>, count: u32, least: u64) {
+    let mut state: u32 = 1;
+    for _ in 0..count {
+        state = state.wrapping_mul(1_664_525).wrapping_add(1_013_904_223);
+        keys.push(least + u64::from(state));
+    }
+}
+
+#[inline(never)]
+fn table_insert(table: &mut Numbers, keys: &[u64]) {
+    for key in keys {
+        table.insert(*key, *key >> 1);
+    }
+}
+
+#[inline(never)]
+fn table_hit(table: &Numbers, keys: &[u64]) -> u64 {
+    let mut sum: u64 = 0;
+    for key in keys {
+        if let Some(value) = table.get(key) {
+            sum = sum.wrapping_add(*value);
+        }
+    }
+    sum
+}
+
+#[inline(never)]
+fn table_miss(table: &Numbers, keys: &[u64]) -> u64 {
+    let mut misses: u64 = 0;
+    for key in keys {
+        if !table.contains_key(key) {
+            misses = misses.wrapping_add(1);
+        }
+    }
+    misses
+}
+
+#[inline(never)]
+fn table_remove(table: &mut Numbers, keys: &[u64]) -> u64 {
+    let mut sum: u64 = 0;
+    for key in keys {
+        if let Some(value) = table.remove(key) {
+            sum = sum.wrapping_add(value);
+        }
+    }
+    sum
+}
+
+#[inline(never)]
+fn ring_queue(queue: &mut VecDeque<u32>, count: u32) {
+    let mut sum: u32 = 0;
+    for i in 0..count {
+        queue.push_back(i);
+        if let Some(x) = queue.pop_front() {
+            sum = sum.wrapping_add(x);
+        }
+    }
+    queue.push_back(sum);
+}
+
+#[inline(never)]
+fn ring_push(queue: &mut VecDeque<u32>, count: u32) {
+    for i in 0..count {
+        queue.push_back(i);
+    }
+}
+
+// Rust has no vector with places in itself.
+#[inline(never)]
+fn inline_few(count: u32) -> u32 {
+    let mut sum: u32 = 0;
+    for i in 0..count / 8 {
+        let mut few: Vec<u32> = Vec::new();
+        for k in 0..8 {
+            few.push(i ^ k);
+        }
+        for _ in 0..8 {
+            sum = sum.wrapping_add(few.pop().unwrap_or(0));
+        }
+    }
+    sum
+}
+
+#[inline(never)]
+fn gap_insert(text: &mut GapBuffer) {
+    for i in 0..1000 {
+        text.insert(i);
+    }
+}
+
+// The cursor jumps before each hundredth number, in no regular order.
+#[inline(never)]
+fn gap_typing(text: &mut GapBuffer, count: u32) {
+    let mut state: u32 = 1;
+    for _ in 0..count / 100 {
+        state = state.wrapping_mul(1_664_525).wrapping_add(1_013_904_223);
+        text.move_to((state >> 8) as usize % text.len().max(1));
+        for k in 0..100 {
+            text.insert(k);
+        }
+    }
+}
