@@ -6,6 +6,7 @@ use aa_raw::collections::{TryReserveError, TryReserveErrorKind};
 use aa_vec::vec::{ArrayIntoVec, SliceIntoVec, Vec};
 use std::alloc::Global;
 use std::cell::Cell;
+use std::mem::forget;
 use std::test::Fail;
 use test_allocators::counted::Counted;
 
@@ -79,6 +80,20 @@ fn each_joined_element_is_dropped_once(rt: HostRuntime) {
     }
     assert!(rt; drops.get() == 4);
 }
+
+// No unit is moved by itself.
+#[test]
+fn as_many_units_as_can_be_are_joined_at_once(rt: HostRuntime) -> Result<(), Fail> {
+    let mut v: Vec<[(); MOST]> = Vec::new(rt.alloc());
+    v.push([(); MOST])?;
+    let flat = v.into_flattened().map_err(TryReserveError::from)?;
+    assert!(rt; flat.len() == MOST);
+    forget(flat);
+    Ok(())
+}
+
+// What a length can be at most.
+const MOST: usize = 18446744073709551615;
 
 // Half of what a length can be, and one more.
 const HALF: usize = 9223372036854775808;
