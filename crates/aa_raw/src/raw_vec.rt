@@ -575,7 +575,7 @@ impl<T, A: Allocator> RawVec<T, A> {
     {
         match row_of(&self.alloc, capacity) {
             Ok((mut row, claim)) => {
-                row.take_in_parts(0, &mut self.row, 0, len);
+                row.take_run(0, &mut self.row, 0, len);
                 let old_row = replace(&mut self.row, row);
                 let old_claim = replace(&mut self.claim, claim);
                 give_back(&self.alloc, self.capacity, old_row, old_claim);

@@ -231,24 +231,6 @@ impl<T> Row<T> {
         other.join(source);
     }
 
-    /// The same in copies of memory, however few the values are.
-    #[inline(always)]
-    pub(crate) fn take_in_parts(&mut self, to: usize, other: &mut Row<T>, from: usize, count: usize)
-        requires here { (to + count ≤ length self.old.places) × (length self.old.places < 2 ^ 64) }
-        requires there { IsRun other.old.places from count × (length other.old.places < 2 ^ 64) }
-        ensures here { (self.new.ptr ≡ self.old.ptr)
-            × (self.new.places
-            ≡ with_run self.old.places to count (take count (drop from other.old.places))) }
-        ensures there { (other.new.ptr ≡ other.old.ptr)
-            × (other.new.places ≡ with_run other.old.places from count (replicate count None)) }
-    {
-        let row = self.cut(0);
-        let source = other.cut(0);
-        let (row, source) = move_across_in_parts(row, to, source, from, count);
-        self.join(row);
-        other.join(source);
-    }
-
     // The same with one copy of memory.
     #[inline(always)]
     #[tactic(auto, using(crate::proofs::Places::put_runs))]
@@ -352,7 +334,11 @@ fn lower_many<T>(row: Row<T>, by: usize, count: usize) -> Row<T>
     requires { (0 < by) × IsRun row.places by count × (length row.places < 2 ^ 64) }
     ensures { (result.ptr ≡ row.ptr) × (result.places ≡ moved row.places by 0 count) }
 {
-    lower(row, by, count)
+    if by == 1 {
+        lower_by_one(row, count)
+    } else {
+        lower_in_arrays(row, by, count)
+    }
 }
 
 // Moves the `count` values from place `by` on down to the first place.
@@ -363,7 +349,7 @@ fn lower<T>(row: Row<T>, by: usize, count: usize) -> Row<T>
     if by == 1 {
         lower_by_one(row, count)
     } else {
-        lower_in_arrays(row, by, count)
+        lower_many(row, by, count)
     }
 }
 
@@ -395,7 +381,7 @@ fn raise_in_arrays<T>(row: Row<T>, by: usize, count: usize) -> Row<T>
 }
 
 // `lower` likewise.
-#[inline(never)]
+#[inline(always)]
 fn lower_in_arrays<T>(row: Row<T>, by: usize, count: usize) -> Row<T>
     requires { (0 < by) × IsRun row.places by count × (length row.places < 2 ^ 64) }
     ensures { (result.ptr ≡ row.ptr) × (result.places ≡ moved row.places by 0 count) }
@@ -555,7 +541,7 @@ fn move_across<T>(
         × (result.1.places ≡ with_run source.places from count (replicate count None)) }
 {
     if is_long::<T>(count) {
-        return move_across_in_parts(row, to, source, from, count);
+        return move_many_across(row, to, source, from, count);
     }
     match element_size::<T>() {
         1 | 2 => move_across_by_arrays::<T, 64>(row, to, source, from, count),
@@ -612,6 +598,30 @@ fn move_each_across<T>(
         let item = source.read(from + i);
         row.write(to + i, item);
     }
+    (row, source)
+}
+
+// `move_across` of many, out of line: with one copy of memory where they are no more than a part.
+#[cold]
+#[inline(never)]
+fn move_many_across<T>(
+    mut row: Row<T>,
+    to: usize,
+    mut source: Row<T>,
+    from: usize,
+    count: usize,
+) -> (Row<T>, Row<T>)
+    requires here { (to + count ≤ length row.places) × (length row.places < 2 ^ 64) }
+    requires there { IsRun source.places from count × (length source.places < 2 ^ 64) }
+    ensures here { (result.0.ptr ≡ row.ptr)
+        × (result.0.places ≡ with_run row.places to count (take count (drop from source.places))) }
+    ensures there { (result.1.ptr ≡ source.ptr)
+        × (result.1.places ≡ with_run source.places from count (replicate count None)) }
+{
+    if PART / element_size::<T>().clamp(1, PART) < count {
+        return move_across_in_parts(row, to, source, from, count);
+    }
+    row.take_at_once(to, &mut source, from, count);
     (row, source)
 }
 

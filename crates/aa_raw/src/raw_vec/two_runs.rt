@@ -128,8 +128,8 @@ impl<T, A: Allocator> RawVec<T, A> {
     {
         match row_of(&self.alloc, capacity) {
             Ok((mut row, claim)) => {
-                row.take_in_parts(0, &mut self.row, first.0, first.1);
-                row.take_in_parts(to, &mut self.row, second.0, second.1);
+                row.take_run(0, &mut self.row, first.0, first.1);
+                row.take_run(to, &mut self.row, second.0, second.1);
                 let old_row = replace(&mut self.row, row);
                 let old_claim = replace(&mut self.claim, claim);
                 give_back(&self.alloc, self.capacity, old_row, old_claim);
