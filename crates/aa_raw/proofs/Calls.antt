@@ -178,6 +178,12 @@ module _ {X : Type 0} where
   pub lowered_next : (cs : List (Option X)) (by n k m : ℕ) → IsRun cs by n → k + m ≤ n → IsRun (moved cs by 0 k) (by + k) m
   lowered_next cs by n k m r h = IsRun-moved-above cs by 0 k (by + k) m (omega (arith, r.0)) (omega (arith, r.0)) (omega arith) (omega arith) (IsRun-part cs by n (by + k) m (omega arith) (omega arith) r)
 
+  pub lowered_first : (cs : List (Option X)) (i n k : ℕ) → IsRun cs i n → k ≤ n → IsRun cs i k
+  lowered_first cs i n k r h = IsRun-part cs i n i k (omega arith) (omega arith) r
+
+  pub lowered_left : (cs : List (Option X)) (by at n k : ℕ) → IsRun cs (by + at) n → k ≤ n → IsRun (moved cs (by + at) at k) (by + (at + k)) (n - k)
+  lowered_left cs by at n k r h = IsRun-moved-above cs (by + at) at k (by + (at + k)) (n - k) (omega (arith, r.0)) (omega (arith, r.0)) (omega arith) (omega arith) (IsRun-part cs (by + at) n (by + (at + k)) (n - k) (omega arith) (omega arith) r)
+
   pub raised_next : (cs : List (Option X)) (by n left from m : ℕ) → IsRun cs 0 n → by + n ≤ length cs → left ≤ n → from + m ≤ left → IsRun (moved cs left (by + left) (n - left)) from m
   raised_next cs by n left from m r room h l = IsRun-moved-below cs left (by + left) (n - left) from m (omega (arith, room)) (omega arith) l (omega arith) (IsRun-part cs 0 n from m (omega arith) (omega arith) r)
 
@@ -199,6 +205,11 @@ module _ {X : Type 0} where
   pub lowered_more : (cs : List (Option X)) (by k m : ℕ) → 0 < by → by + (k + m) ≤ length cs → moved (moved cs by 0 k) (by + k) k m ≡ moved cs by 0 (k + m)
   lowered_more cs by k m some fits = let e : k ≡ 0 + k = omega arith in (λ t. moved (moved cs by 0 k) (by + k) (e t) m) ∙ moved_on_down cs by 0 k m some fits
 
+  pub lowered_on : (cs : List (Option X)) (by at n k : ℕ) → 0 < by → k ≤ n → by + at + n ≤ length cs → moved (moved cs (by + at) at k) (by + (at + k)) (at + k) (n - k) ≡ moved cs (by + at) at n
+  lowered_on cs by at n k some h fits =
+      let e : by + (at + k) ≡ by + at + k = omega arith in let all : k + (n - k) ≡ n = omega arith in
+      (λ t. moved (moved cs (by + at) at k) (e t) (at + k) (n - k)) ∙ moved_on_down cs (by + at) at k (n - k) (omega arith) (omega arith) ∙ (λ t. moved cs (by + at) at (all t))
+
   pub raised_more : (cs : List (Option X)) (by n left from m : ℕ) → 0 < by → by + n ≤ length cs → left ≤ n → from + m ≡ left → moved (moved cs left (by + left) (n - left)) from (by + from) m ≡ moved cs from (by + from) (n - from)
   raised_more cs by n left from m some room h low =
       let high : by + from + m ≡ by + left = omega arith in let all : m + (n - left) ≡ n - from = omega arith in
@@ -213,15 +224,8 @@ module _ {X : Type 0} where
       let e : by + 0 ≡ by = omega arith in let all : n - 0 ≡ n = omega arith in
       (λ t. moved (moved cs left (by + left) (n - left)) 0 (sym e t) left) ∙ raised_more cs by n left 0 left some room h (omega arith) ∙ (λ t. moved cs 0 (e t) (all t))
 
-  pub lowered_rest : (cs : List (Option X)) (by n k : ℕ) → IsRun cs by n → k ≤ n → IsRun (drop k (moved cs by 0 k)) by (n - k)
-  lowered_rest cs by n k r h =
-      let e : k + by ≡ by + k = omega arith in let next = lowered_next cs by n k (n - k) r (omega arith) in let long = length-moved cs by 0 k (omega (arith, r.0)) (omega (arith, r.0)) in
-      (omega (arith, length-drop k (moved cs by 0 k), r.0), (λ t. list_all is_some (take (n - k) ((drop-drop by k (moved cs by 0 k) ∙ ap (λ i. drop i (moved cs by 0 k)) e) t))) ∙ next.1)
-
-  pub lowered_all : (cs : List (Option X)) (by n k : ℕ) → 0 < by → by + n ≤ length cs → k ≤ n → take k (moved cs by 0 k) ++ moved (drop k (moved cs by 0 k)) by 0 (n - k) ≡ moved cs by 0 n
-  lowered_all cs by n k some fits h =
-      let all : k + (n - k) ≡ n = omega arith in let long = length-moved cs by 0 k (omega arith) (omega arith) in
-      moved_behind k (moved cs by 0 k) by 0 (n - k) (by + k) k (omega arith) (omega arith) (omega arith) ∙ lowered_more cs by k (n - k) some (omega arith) ∙ ap (moved cs by 0) all
+  pub lowered_all : (cs : List (Option X)) (by n k : ℕ) → 0 < by → by + n ≤ length cs → k ≤ n → moved (moved cs by 0 k) (by + k) k (n - k) ≡ moved cs by 0 n
+  lowered_all cs by n k some fits h = let all : k + (n - k) ≡ n = omega arith in lowered_more cs by k (n - k) some (omega arith) ∙ ap (moved cs by 0) all
 
   pub left_all : (qs : List (Option X)) (from k n : ℕ) → from + n ≤ length qs → k ≤ n → with_run (with_run qs from k (replicate k None)) (from + k) (n - k) (replicate (n - k) None) ≡ with_run qs from n (replicate n None)
   left_all qs from k n fits h = let all : k + (n - k) ≡ n = omega arith in left_more qs from k (n - k) (omega arith) ∙ ap (λ i. with_run qs from i (replicate i None)) all
@@ -230,7 +234,7 @@ module _ {X : Type 0} where
       → with_run (with_run cs to k (take k (drop from qs))) (to + k) (n - k) (take (n - k) (drop (from + k) (with_run qs from k (replicate k None)))) ≡ with_run cs to n (take n (drop from qs))
   put_all cs qs to from k n room fits h = let all : k + (n - k) ≡ n = omega arith in put_more cs qs to from k (n - k) (omega arith) (omega arith) ∙ ap (λ i. with_run cs to i (take i (drop from qs))) all
 
-  pub ruleset lowered_in_arrays = (lengths, length-drop, lowered_next, lowered_more, lowered_rest, lowered_all, moved_none)
+  pub ruleset lowered_in_arrays = (lengths, length-drop, lowered_next, lowered_first, lowered_left, lowered_more, lowered_on, lowered_all, moved_none)
 
   pub ruleset raised_in_arrays = (lengths, raised_next, raised_first, raised_more, raised_none, raised_all)
 

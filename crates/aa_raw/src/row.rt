@@ -369,7 +369,7 @@ fn raise_in_arrays<T>(row: Row<T>, by: usize, count: usize) -> Row<T>
         × (length row.places < 2 ^ 64) }
     ensures { (result.ptr ≡ row.ptr) × (result.places ≡ moved row.places 0 by count) }
 {
-    if is_long::<T>(by) && is_long::<T>(count) {
+    if is_long::<T>(by) {
         return raise_in_pieces(row, by, count);
     }
     match element_size::<T>() {
@@ -386,7 +386,7 @@ fn lower_in_arrays<T>(row: Row<T>, by: usize, count: usize) -> Row<T>
     requires { (0 < by) × IsRun row.places by count × (length row.places < 2 ^ 64) }
     ensures { (result.ptr ≡ row.ptr) × (result.places ≡ moved row.places by 0 count) }
 {
-    if is_long::<T>(by) && is_long::<T>(count) {
+    if is_long::<T>(by) {
         return lower_in_pieces(row, by, count);
     }
     match element_size::<T>() {
@@ -417,7 +417,7 @@ fn raise_by_arrays<T, const N: usize>(mut row: Row<T>, by: usize, count: usize) 
 #[inline(always)]
 #[tactic(auto, using(crate::proofs::Calls::lowered_in_arrays))]
 fn lower_by_arrays<T, const N: usize>(mut row: Row<T>, by: usize, count: usize) -> Row<T>
-    requires { (0 < N) × (0 < by) × IsRun row.places by count × (length row.places < 2 ^ 64) }
+    requires { (0 < N) × (N ≤ 64) × (0 < by) × IsRun row.places by count × (length row.places < 2 ^ 64) }
     ensures { (result.ptr ≡ row.ptr) × (result.places ≡ moved row.places by 0 count) }
 {
     let mut at = 0;
@@ -425,9 +425,48 @@ fn lower_by_arrays<T, const N: usize>(mut row: Row<T>, by: usize, count: usize) 
         row.move_array::<N>(by + at, at);
         at += N;
     }
-    let rest = row.cut(at);
-    row.join(move_down(rest, by, count - at));
+    lower_rest(row, by, at, count - at)
+}
+
+// `lower` of the `left` values that stand behind the first `at`, fewer than 64, in smaller and smaller
+// arrays.
+#[inline(always)]
+#[tactic(auto, using(crate::proofs::Calls::lowered_in_arrays))]
+fn lower_rest<T>(row: Row<T>, by: usize, at: usize, left: usize) -> Row<T>
+    requires run { (0 < by) × IsRun row.places (by + at) left × (length row.places < 2 ^ 64) }
+    requires few { left < 64 }
+    ensures { (result.ptr ≡ row.ptr) × (result.places ≡ moved row.places (by + at) at left) }
+{
+    let (row, at, left) = lower_array::<T, 32>(row, by, at, left);
+    let (row, at, left) = lower_array::<T, 16>(row, by, at, left);
+    let (row, at, left) = lower_array::<T, 8>(row, by, at, left);
+    let (row, at, left) = lower_array::<T, 4>(row, by, at, left);
+    let (row, at, left) = lower_array::<T, 2>(row, by, at, left);
+    let (row, _, _) = lower_array::<T, 1>(row, by, at, left);
     row
+}
+
+// The first `N` of them, where so many are left. It answers how many have moved, and are left.
+#[inline(always)]
+#[tactic(auto, using(crate::proofs::Calls::lowered_in_arrays))]
+fn lower_array<T, const N: usize>(
+    mut row: Row<T>,
+    by: usize,
+    at: usize,
+    left: usize,
+) -> (Row<T>, usize, usize)
+    requires run { (0 < by) × IsRun row.places (by + at) left × (length row.places < 2 ^ 64) }
+    requires few { left < N + N }
+    ensures left { IsRun result.0.places (by + result.1) result.2 × (result.2 < N) }
+    ensures row { (result.0.ptr ≡ row.ptr) × (length result.0.places ≡ length row.places) }
+    ensures then { moved result.0.places (by + result.1) result.1 result.2
+        ≡ moved row.places (by + at) at left }
+{
+    if left < N {
+        return (row, at, left);
+    }
+    row.move_array::<N>(by + at, at);
+    (row, at + N, left - N)
 }
 
 // The loop of `raise` in pieces of `by` values, the last first. A piece and the places that it goes
@@ -461,9 +500,7 @@ fn lower_in_pieces<T>(mut row: Row<T>, by: usize, count: usize) -> Row<T>
         row = lower_apart(row, by + at, at, by);
         at += by;
     }
-    let rest = row.cut(at);
-    row.join(lower_apart(rest, by, 0, count - at));
-    row
+    lower_apart(row, by + at, at, count - at)
 }
 
 // Moves the `count` values from `from` on up to the places from `to` on, with one copy of memory.
