@@ -611,7 +611,8 @@ fn move_across_by_arrays<T, const N: usize>(
         row.take_array::<N>(to + at, &mut source, from + at);
         at += N;
     }
-    move_each_across(row, to + at, source, from + at, count - at)
+    row.take_at_once(to + at, &mut source, from + at, count - at);
+    (row, source)
 }
 
 // The same value by value.
