@@ -143,7 +143,8 @@ where
     S: FnMut(&mut T, &mut T) -> bool,
     requires room { HasRoom replies.old (length commands.items) }
     requires copies { Copies T.is_clone }
-    requires callable { IsCallableOnRuns (type_size T.row) (calls_of A.is_clone A.is_infallible K.FnMut S.FnMut)
+    requires callable { IsCallableOnRuns (type_size T.row)
+        (calls_of A.is_clone A.is_infallible K.FnMut S.FnMut)
         (state_of main.old side.old keep.old same.old) commands.items }
     ensures run { (answered : List (Reply T)) × (replies.new.items ≡ replies.old.items ++ answered)
         × RunsWithin (type_size T.row) (calls_of A.is_clone A.is_infallible K.FnMut S.FnMut)
