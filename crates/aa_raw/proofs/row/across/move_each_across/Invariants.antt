@@ -1,5 +1,5 @@
 use Rattle.aa_raw.proofs.{None, drop, replicate, take, with_run, ◌≡◌}
-use Rattle.aa_raw.proofs.row.move_each_across.Given as goal
+use Rattle.aa_raw.proofs.row.across.move_each_across.Given as goal
 
 abbrev pub invariant-each : goal.invariant-each
 invariant-each g l = record {

@@ -1,5 +1,5 @@
 use Rattle.aa_raw.proofs.{None, drop, replicate, take, with_run, ◌-◌, ◌≡◌, ◌≤◌}
-use Rattle.aa_raw.proofs.row.move_across_in_parts.Given as goal
+use Rattle.aa_raw.proofs.row.across.move_across_in_parts.Given as goal
 
 abbrev pub invariant-parts : goal.invariant-parts
 invariant-parts g l = record {

@@ -1,5 +1,5 @@
 use Rattle.aa_raw.proofs.{None, drop, replicate, take, with_run, ◌-◌, ◌≡◌, ◌≤◌}
-use Rattle.aa_raw.proofs.row.move_across_by_arrays.Given as goal
+use Rattle.aa_raw.proofs.row.across.move_across_by_arrays.Given as goal
 
 abbrev pub invariant-arrays : goal.invariant-arrays
 invariant-arrays g l = record {
