@@ -389,10 +389,28 @@ fn lower_in_arrays<T>(row: Row<T>, by: usize, count: usize) -> Row<T>
     if is_long::<T>(by) {
         return lower_in_pieces(row, by, count);
     }
+    if is_long::<T>(count / 2) {
+        return lower_in_big_arrays(row, by, count);
+    }
     match element_size::<T>() {
         1 | 2 => lower_by_arrays::<T, 64>(row, by, count),
         3 | 4 => lower_by_arrays::<T, 32>(row, by, count),
         5..=SMALL => lower_by_arrays::<T, 16>(row, by, count),
+        _ => move_down(row, by, count),
+    }
+}
+
+// The same in arrays of up to 1,024 bytes. Of those of more than 128 bytes the compiler makes calls
+// of the C library's `memmove`.
+#[inline(never)]
+fn lower_in_big_arrays<T>(row: Row<T>, by: usize, count: usize) -> Row<T>
+    requires { (0 < by) × IsRun row.places by count × (length row.places < 2 ^ 64) }
+    ensures { (result.ptr ≡ row.ptr) × (result.places ≡ moved row.places by 0 count) }
+{
+    match element_size::<T>() {
+        1 | 2 => lower_by_arrays::<T, 512>(row, by, count),
+        3 | 4 => lower_by_arrays::<T, 256>(row, by, count),
+        5..=SMALL => lower_by_arrays::<T, 128>(row, by, count),
         _ => move_down(row, by, count),
     }
 }
@@ -417,7 +435,8 @@ fn raise_by_arrays<T, const N: usize>(mut row: Row<T>, by: usize, count: usize) 
 #[inline(always)]
 #[tactic(auto, using(crate::proofs::Calls::lowered_in_arrays))]
 fn lower_by_arrays<T, const N: usize>(mut row: Row<T>, by: usize, count: usize) -> Row<T>
-    requires { (0 < N) × (N ≤ 64) × (0 < by) × IsRun row.places by count × (length row.places < 2 ^ 64) }
+    requires { (0 < N) × (N ≤ 512) × (0 < by) × IsRun row.places by count
+        × (length row.places < 2 ^ 64) }
     ensures { (result.ptr ≡ row.ptr) × (result.places ≡ moved row.places by 0 count) }
 {
     let mut at = 0;
@@ -428,15 +447,17 @@ fn lower_by_arrays<T, const N: usize>(mut row: Row<T>, by: usize, count: usize) 
     lower_rest(row, by, at, count - at)
 }
 
-// `lower` of the `left` values that stand behind the first `at`, fewer than 64, in smaller and smaller
-// arrays.
+// `lower` of the `left` values that stand behind the first `at`, in smaller and smaller arrays.
 #[inline(always)]
 #[tactic(auto, using(crate::proofs::Calls::lowered_in_arrays))]
 fn lower_rest<T>(row: Row<T>, by: usize, at: usize, left: usize) -> Row<T>
     requires run { (0 < by) × IsRun row.places (by + at) left × (length row.places < 2 ^ 64) }
-    requires few { left < 64 }
+    requires few { left < 512 }
     ensures { (result.ptr ≡ row.ptr) × (result.places ≡ moved row.places (by + at) at left) }
 {
+    let (row, at, left) = lower_array::<T, 256>(row, by, at, left);
+    let (row, at, left) = lower_array::<T, 128>(row, by, at, left);
+    let (row, at, left) = lower_array::<T, 64>(row, by, at, left);
     let (row, at, left) = lower_array::<T, 32>(row, by, at, left);
     let (row, at, left) = lower_array::<T, 16>(row, by, at, left);
     let (row, at, left) = lower_array::<T, 8>(row, by, at, left);
