@@ -310,10 +310,39 @@ fn command_of_line(alloc: Global, number: usize, line: &[u8]) -> Result<Option<C
     }
 }
 
-// The command of a line that begins with another word. A push does not wait for its room on the
-// stack.
+// The command of a line that begins with another word.
 #[inline(always)]
 fn other_command(alloc: Global, name: &[u8], line: Line<'_>) -> Result<Option<Command<u32>>, Fault>
+    ensures { ReadsOrLacks line.entry.number (λ command. MatchOption command ⊥
+        (Say (name.now ∷ words_of line.entry.words.rest.now))) result }
+{
+    if line.words.rest.is_empty() {
+        if let Some(command) = wordless(name) {
+            return Ok(Some(command));
+        }
+    }
+    longer_command(alloc, name, line)
+}
+
+// The command that the name says alone, if it says one. These are known first, where the line ends
+// with the name, since they are the shortest to read.
+#[inline(always)]
+fn wordless(name: &[u8]) -> Option<Command<u32>>
+    ensures { IfSome result (Say (name.now ∷ [])) }
+{
+    match name {
+        b"pop" => Some(Command::Pop),
+        b"clear" => Some(Command::Clear),
+        b"dedup" => Some(Command::Dedup),
+        b"append" => Some(Command::Append),
+        b"retain" => Some(Command::Retain),
+        _ => None,
+    }
+}
+
+// The command of a line that is longer. The others do not wait for its room on the stack.
+#[inline(always)]
+fn longer_command(alloc: Global, name: &[u8], line: Line<'_>) -> Result<Option<Command<u32>>, Fault>
     ensures { ReadsOrLacks line.entry.number (λ command. MatchOption command ⊥
         (Say (name.now ∷ words_of line.entry.words.rest.now))) result }
 {
@@ -327,31 +356,10 @@ fn named_command(alloc: Global, name: &[u8], mut line: Line<'_>) -> Result<Comma
     ensures { ReadsOrLacks line.entry.number
         (Say (name.now ∷ words_of line.entry.words.rest.now)) result }
 {
-    if line.words.rest.is_empty() {
-        if let Some(command) = wordless(name) {
-            return Ok(command);
-        }
-    }
     match name {
         _ if name == b"extend".as_slice() => extension(alloc, line),
         _ if name == b"splice".as_slice() => replacement(alloc, line),
         _ => command(name, line),
-    }
-}
-
-// The command that the name says alone, if it says one. These are known first, where the line ends
-// with the name, since they are the shortest to read.
-#[inline(always)]
-fn wordless(name: &[u8]) -> Option<Command<u32>>
-    ensures { IfSome result (Say (name.now ∷ [])) }
-{
-    match name {
-        _ if name == b"pop".as_slice() => Some(Command::Pop),
-        _ if name == b"clear".as_slice() => Some(Command::Clear),
-        _ if name == b"dedup".as_slice() => Some(Command::Dedup),
-        _ if name == b"append".as_slice() => Some(Command::Append),
-        _ if name == b"retain".as_slice() => Some(Command::Retain),
-        _ => None,
     }
 }
 
