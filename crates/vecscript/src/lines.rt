@@ -153,6 +153,9 @@ const SHORT_LINE: usize = 4;
 // looked at.
 const MANY: usize = 1024;
 
+// How many digits a number above `MANY` has at least.
+const MANY_DIGITS: usize = 4;
+
 // Whether the command asks for many elements or places by a number. One that has its elements in
 // its line does not.
 fn asks_for_many(command: &Command<u32>) -> bool {
@@ -197,8 +200,9 @@ impl<'a> Rest<'a> {
             length self.new.text.now < length self.old.text.now) }
     {
         let (piece, others) = first_lines(self.text);
-        let read = commands(alloc, piece)?;
-        if !self.is_seen && read.as_slice().iter().any(asks_for_many) {
+        let mut may_ask = false;
+        let read = commands(alloc, piece, &mut may_ask)?;
+        if may_ask && !self.is_seen && read.as_slice().iter().any(asks_for_many) {
             if let Some(number) = first_bad(others) {
                 return Err(Fault::BadLine(number));
             }
@@ -209,11 +213,16 @@ impl<'a> Rest<'a> {
     }
 }
 
-// The commands of the lines, in order. A line without words is no command, but counts.
+// The commands of the lines, in order. A line without words is no command, but counts. Where
+// `may_ask` is not set, none of them asks for many elements or places.
 //
 // It takes memory for the commands. The first line that is no known form is `Fault::BadLine`, and
 // refused memory is `Fault::OutOfMemory`.
-fn commands(alloc: Global, text: &[u8]) -> Result<Vec<Command<u32>, Global>, Fault>
+fn commands(
+    alloc: Global,
+    text: &[u8],
+    may_ask: &mut bool,
+) -> Result<Vec<Command<u32>, Global>, Fault>
     ensures items { IfOk result (λ commands. Mean (lines text.now) commands.items) }
     ensures ok { OnOk result (HasNoBad (lines text.now)) }
     ensures err { IfErr result
@@ -221,7 +230,7 @@ fn commands(alloc: Global, text: &[u8]) -> Result<Vec<Command<u32>, Global>, Fau
 {
     let mut commands = Vec::with_capacity_in(text.len().min(PIECE) / SHORT_LINE + 1, alloc)?;
     for (index, line) in (Lines { rest: text }).enumerate() {
-        if let Some(command) = command_of_line(alloc, index + 1, line)? {
+        if let Some(command) = command_of_line(alloc, index + 1, line, may_ask)? {
             commands.push(command)?;
         }
     }
@@ -293,7 +302,12 @@ fn without_carriage_return(line: &[u8]) -> &[u8]
 // The command that the line says, or `None` where it has no words. Most lines are pushes, and are
 // known by their bytes.
 #[inline(always)]
-fn command_of_line(alloc: Global, number: usize, line: &[u8]) -> Result<Option<Command<u32>>, Fault>
+fn command_of_line(
+    alloc: Global,
+    number: usize,
+    line: &[u8],
+    may_ask: &mut bool,
+) -> Result<Option<Command<u32>>, Fault>
     ensures ok { IfOk result
         (λ command. MatchOption command (words_of line.now ≡ []) (Say (words_of line.now))) }
     ensures err { IfErr result
@@ -306,13 +320,18 @@ fn command_of_line(alloc: Global, number: usize, line: &[u8]) -> Result<Option<C
     let mut line = Line { number, words };
     match name {
         b"push" => Ok(Some(Command::Push(line.element()?))),
-        _ => other_command(alloc, name, line),
+        _ => other_command(alloc, name, line, may_ask),
     }
 }
 
 // The command of a line that begins with another word.
 #[inline(always)]
-fn other_command(alloc: Global, name: &[u8], line: Line<'_>) -> Result<Option<Command<u32>>, Fault>
+fn other_command(
+    alloc: Global,
+    name: &[u8],
+    line: Line<'_>,
+    may_ask: &mut bool,
+) -> Result<Option<Command<u32>>, Fault>
     ensures { ReadsOrLacks line.entry.number (λ command. MatchOption command ⊥
         (Say (name.now ∷ words_of line.entry.words.rest.now))) result }
 {
@@ -321,7 +340,7 @@ fn other_command(alloc: Global, name: &[u8], line: Line<'_>) -> Result<Option<Co
             return Ok(Some(command));
         }
     }
-    longer_command(alloc, name, line)
+    longer_command(alloc, name, line, may_ask)
 }
 
 // The command that the name says alone, if it says one. These are known first, where the line ends
@@ -340,12 +359,21 @@ fn wordless(name: &[u8]) -> Option<Command<u32>>
     }
 }
 
-// The command of a line that is longer. The others do not wait for its room on the stack.
+// The command of a line that is longer. The others do not wait for its room on the stack, and none
+// of them asks for many. Nor does this one where its words have no room for so many digits.
 #[inline(always)]
-fn longer_command(alloc: Global, name: &[u8], line: Line<'_>) -> Result<Option<Command<u32>>, Fault>
+fn longer_command(
+    alloc: Global,
+    name: &[u8],
+    line: Line<'_>,
+    may_ask: &mut bool,
+) -> Result<Option<Command<u32>>, Fault>
     ensures { ReadsOrLacks line.entry.number (λ command. MatchOption command ⊥
         (Say (name.now ∷ words_of line.entry.words.rest.now))) result }
 {
+    if line.words.rest.len() > MANY_DIGITS {
+        *may_ask = true;
+    }
     Ok(Some(named_command(alloc, name, line)?))
 }
 
