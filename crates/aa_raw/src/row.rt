@@ -369,7 +369,7 @@ fn raise_in_arrays<T>(row: Row<T>, by: usize, count: usize) -> Row<T>
         × (length row.places < 2 ^ 64) }
     ensures { (result.ptr ≡ row.ptr) × (result.places ≡ moved row.places 0 by count) }
 {
-    if is_long::<T>(by) {
+    if is_long::<T>(by) && is_long::<T>(count) {
         return raise_in_pieces(row, by, count);
     }
     match element_size::<T>() {
@@ -386,9 +386,6 @@ fn lower_in_arrays<T>(row: Row<T>, by: usize, count: usize) -> Row<T>
     requires { (0 < by) × IsRun row.places by count × (length row.places < 2 ^ 64) }
     ensures { (result.ptr ≡ row.ptr) × (result.places ≡ moved row.places by 0 count) }
 {
-    if is_long::<T>(by) {
-        return lower_in_pieces(row, by, count);
-    }
     if is_long::<T>(count / 2) {
         return lower_in_big_arrays(row, by, count);
     }
@@ -400,13 +397,16 @@ fn lower_in_arrays<T>(row: Row<T>, by: usize, count: usize) -> Row<T>
     }
 }
 
-// The same in arrays of up to 1,024 bytes. Of those of more than 128 bytes the compiler makes calls
-// of the C library's `memmove`.
+// The same of long runs, in arrays of up to 1,024 bytes: the compiler makes a call of the C library's
+// `memmove` of each of more than 128 bytes.
 #[inline(never)]
 fn lower_in_big_arrays<T>(row: Row<T>, by: usize, count: usize) -> Row<T>
     requires { (0 < by) × IsRun row.places by count × (length row.places < 2 ^ 64) }
     ensures { (result.ptr ≡ row.ptr) × (result.places ≡ moved row.places by 0 count) }
 {
+    if is_long::<T>(by) {
+        return lower_in_pieces(row, by, count);
+    }
     match element_size::<T>() {
         1 | 2 => lower_by_arrays::<T, 512>(row, by, count),
         3 | 4 => lower_by_arrays::<T, 256>(row, by, count),
