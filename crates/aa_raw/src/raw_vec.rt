@@ -123,7 +123,7 @@ impl<T, A: Allocator> RawVec<T, A> {
     {
         let capacity = if is_sizeless::<T>() { usize::MAX } else { 0 };
         let row = dangle(&alloc, capacity);
-        made(alloc, growth, capacity, row)
+        from_row(alloc, growth, capacity, row)
     }
 
     /// A block of `capacity` empty places. Where elements have a size and `capacity` is above 0 it
@@ -155,7 +155,7 @@ impl<T, A: Allocator> RawVec<T, A> {
             return Err(TryReserveErrorKind::CapacityOverflow.into());
         }
         match allocate(&alloc, capacity) {
-            Ok(row) => Ok(made(alloc, growth, capacity, row)),
+            Ok(row) => Ok(from_row(alloc, growth, capacity, row)),
             Err(_) => Err(TryReserveErrorKind::AllocError { capacity }.into()),
         }
     }
@@ -601,7 +601,7 @@ fn call_at_one_lifetime<'a, T, R, F: FnMut(&mut T, &mut T) -> R>(
 }
 
 // A block over a row that was just made.
-fn made<T, A: Allocator>(
+fn from_row<T, A: Allocator>(
     alloc: A,
     growth: Growth,
     capacity: usize,

@@ -370,7 +370,7 @@ fn raise_in_arrays<T>(row: Row<T>, by: usize, count: usize) -> Row<T>
     ensures { (result.ptr ≡ row.ptr) × (result.places ≡ moved row.places 0 by count) }
 {
     if is_long::<T>(by) && is_long::<T>(count) {
-        return raise_in_pieces(row, by, count);
+        return raise_far(row, by, count);
     }
     match element_size::<T>() {
         1 | 2 => raise_by_arrays::<T, 64>(row, by, count),
@@ -387,7 +387,7 @@ fn lower_in_arrays<T>(row: Row<T>, by: usize, count: usize) -> Row<T>
     ensures { (result.ptr ≡ row.ptr) × (result.places ≡ moved row.places by 0 count) }
 {
     if is_long::<T>(count / 2) {
-        return lower_in_big_arrays(row, by, count);
+        return lower_long(row, by, count);
     }
     match element_size::<T>() {
         1 | 2 => lower_by_arrays::<T, 64>(row, by, count),
@@ -397,8 +397,39 @@ fn lower_in_arrays<T>(row: Row<T>, by: usize, count: usize) -> Row<T>
     }
 }
 
-// The same of long runs, in arrays of up to 1,024 bytes: the compiler makes a call of the C library's
-// `memmove` of each of more than 128 bytes.
+// The same of long runs. By up to twelve places they are moved by a function that knows how many
+// places: of its loop the compiler makes one call of the C library's `memmove`.
+#[inline(never)]
+fn lower_long<T>(row: Row<T>, by: usize, count: usize) -> Row<T>
+    requires { (0 < by) × IsRun row.places by count × (length row.places < 2 ^ 64) }
+    ensures { (result.ptr ≡ row.ptr) × (result.places ≡ moved row.places by 0 count) }
+{
+    match by {
+        2 => lower_by::<T, 2>(row, count),
+        3 => lower_by::<T, 3>(row, count),
+        4 => lower_by::<T, 4>(row, count),
+        5 => lower_by::<T, 5>(row, count),
+        6 => lower_by::<T, 6>(row, count),
+        7 => lower_by::<T, 7>(row, count),
+        8 => lower_by::<T, 8>(row, count),
+        9 => lower_by::<T, 9>(row, count),
+        10 => lower_by::<T, 10>(row, count),
+        11 => lower_by::<T, 11>(row, count),
+        12 => lower_by::<T, 12>(row, count),
+        _ => lower_in_big_arrays(row, by, count),
+    }
+}
+
+// `lower` by `N` places.
+fn lower_by<T, const N: usize>(row: Row<T>, count: usize) -> Row<T>
+    requires { (0 < N) × IsRun row.places N count × (length row.places < 2 ^ 64) }
+    ensures { (result.ptr ≡ row.ptr) × (result.places ≡ moved row.places N 0 count) }
+{
+    move_down(row, N, count)
+}
+
+// The same by any number of places, in arrays of up to 1,024 bytes: the compiler makes such a call of
+// each of more than 128 bytes.
 #[inline(never)]
 fn lower_in_big_arrays<T>(row: Row<T>, by: usize, count: usize) -> Row<T>
     requires { (0 < by) × IsRun row.places by count × (length row.places < 2 ^ 64) }
@@ -415,20 +446,69 @@ fn lower_in_big_arrays<T>(row: Row<T>, by: usize, count: usize) -> Row<T>
     }
 }
 
-// The loop of `raise` in arrays of `N`, the last first, and then what is left.
+// `raise` of long runs by many places: in arrays of up to 4,096 bytes, of each of which the compiler
+// makes a call of the C library's `memmove`, and then in pieces.
+#[cold]
+#[inline(never)]
+fn raise_far<T>(row: Row<T>, by: usize, count: usize) -> Row<T>
+    requires { (0 < by) × IsRun row.places 0 count × (by + count ≤ length row.places)
+        × (length row.places < 2 ^ 64) }
+    ensures { (result.ptr ≡ row.ptr) × (result.places ≡ moved row.places 0 by count) }
+{
+    match element_size::<T>() {
+        1 | 2 => raise_by_big_arrays::<T, 2048>(row, by, count),
+        3 | 4 => raise_by_big_arrays::<T, 1024>(row, by, count),
+        5..=SMALL => raise_by_big_arrays::<T, 512>(row, by, count),
+        _ => raise_in_pieces(row, by, count),
+    }
+}
+
+// `raise` in arrays of `N`, unless pieces have as many, and then in pieces.
 #[inline(always)]
-#[tactic(auto, using(crate::proofs::Calls::raised_in_arrays))]
-fn raise_by_arrays<T, const N: usize>(mut row: Row<T>, by: usize, count: usize) -> Row<T>
+fn raise_by_big_arrays<T, const N: usize>(row: Row<T>, by: usize, count: usize) -> Row<T>
     requires { (0 < N) × (0 < by) × IsRun row.places 0 count × (by + count ≤ length row.places)
         × (length row.places < 2 ^ 64) }
     ensures { (result.ptr ≡ row.ptr) × (result.places ≡ moved row.places 0 by count) }
+{
+    if N <= by {
+        return raise_in_pieces(row, by, count);
+    }
+    let (row, left) = raise_whole_arrays::<T, N>(row, by, count);
+    raise_in_pieces(row, by, left)
+}
+
+// `raise` in arrays of `N`, and then value by value.
+#[inline(always)]
+fn raise_by_arrays<T, const N: usize>(row: Row<T>, by: usize, count: usize) -> Row<T>
+    requires { (0 < N) × (0 < by) × IsRun row.places 0 count × (by + count ≤ length row.places)
+        × (length row.places < 2 ^ 64) }
+    ensures { (result.ptr ≡ row.ptr) × (result.places ≡ moved row.places 0 by count) }
+{
+    let (row, left) = raise_whole_arrays::<T, N>(row, by, count);
+    move_up(row, by, left)
+}
+
+// The loop of `raise` in arrays of `N`, the last first. It answers how many values are left, fewer
+// than `N`.
+#[inline(always)]
+#[tactic(auto, using(crate::proofs::Calls::raised_in_arrays))]
+fn raise_whole_arrays<T, const N: usize>(
+    mut row: Row<T>,
+    by: usize,
+    count: usize,
+) -> (Row<T>, usize)
+    requires { (0 < N) × (0 < by) × IsRun row.places 0 count × (by + count ≤ length row.places)
+        × (length row.places < 2 ^ 64) }
+    ensures left { IsRun result.0.places 0 result.1 × (by + result.1 ≤ length row.places) }
+    ensures row { (result.0.ptr ≡ row.ptr) × (length result.0.places ≡ length row.places) }
+    ensures then { moved result.0.places 0 by result.1 ≡ moved row.places 0 by count }
 {
     let mut left = count;
     'up: while N <= left {
         left -= N;
         row.move_array::<N>(left, by + left);
     }
-    move_up(row, by, left)
+    (row, left)
 }
 
 // The loop of `lower` in arrays of `N`, the first first, and then what is left.

@@ -6,7 +6,7 @@ use super::{Row, SMALL};
 use crate::size::{element_size, is_long};
 
 // How many bytes are copied to another block at once, at most.
-const PART: usize = 4000;
+const PART: usize = 8128;
 
 /// Moves the `count` values from `from` on of `source` to the places from `to` on of `row`, in arrays
 /// as within a row, or from some length on with copies of memory.
@@ -87,9 +87,8 @@ fn move_each_across<T>(
     (row, source)
 }
 
-// `move_across` of many, out of line: with one copy of memory where they are no more than a part.
-#[cold]
-#[inline(never)]
+// `move_across` of many: with one copy of memory where they are no more than a part.
+#[inline(always)]
 fn move_many_across<T>(
     mut row: Row<T>,
     to: usize,

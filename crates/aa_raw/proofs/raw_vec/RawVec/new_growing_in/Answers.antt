@@ -11,4 +11,4 @@ returns g c =
           ap (λ n. replicate {A = Option X} n None) w.capacity-is ∙ sized-empty X size 0 some
     ] in
     let place : List (Option X) → Block X g.row.A.Denot = λ cs. record { places = cs; growth = c.args.growth; grown = 0; written = 0; runs = 0; alloc = c.args.alloc } in
-    c.made.ensures ∙ ap place (c.dangle-row.ensures.0 ∙ empty)
+    c.from_row.ensures ∙ ap place (c.dangle-row.ensures.0 ∙ empty)
