@@ -1,8 +1,8 @@
 -- The names from elsewhere that proofs here cite, passed on.
-pub use Rattle.aa_gap.specs.Buffer.{Buffer, GrowsWithin, cursor, distance, empty, gap, inserted, len, run_count, text, travel}
-pub use Rattle.aa_gap.specs.Editing.{Costs, Edits, with_edit, with_edits}
+pub use Rattle.aa_gap.specs.Buffer.{Buffer, GrowsWithin, cursor, empty, gap, len, moved_over, put, run_count, text, with_room}
+pub use Rattle.aa_gap.specs.Editing.{Edits, with_edit}
 pub use Rattle.aa_gap.specs.GapBufferInner.{HasGap}
-pub use Rattle.aa_gap.specs.Page.{Page, all_edited, edited, inserts, page, runs_by, total, written_by}
+pub use Rattle.aa_gap.specs.Page.{Page, edited, inserts, page, total, written_by}
 pub use Rattle.aa_gap.specs.declared.gap_buffer.Edit.{Edit}
 pub use Rattle.aa_gap.specs.declared.gap_buffer.Edit.TheVariants.{DeleteBack, DeleteForward, Insert, MoveTo}
 pub use Rattle.aa_raw.proofs.BothEnds.{slice_get-behind, slice_get-front}
@@ -20,4 +20,5 @@ pub use Rattle.std.proofs.iter.Next.{Yields-more}
 pub use Rattle.std.proofs.lemmas.List.Edits.{remove-append_right}
 pub use Rattle.std.proofs.lemmas.Result.{err_from_is_err_and}
 pub use Rattle.std.specs.Iterator.{Yields}
+pub use Rattle.std.specs.Prelude.{fold}
 pub use Rattle.std.specs.Slice.{IsItemAt}

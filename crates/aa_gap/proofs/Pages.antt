@@ -1,5 +1,5 @@
 -- What edits take, one after another, where the text fits into its places.
-use Rattle.aa_gap.proofs.Common.{Buffer, Costs, DeleteBack, DeleteForward, Doubling, Edit, Edits, GrowsWithin, Growth, Insert, List, MatchOption, MoveTo, None, Option, Page, Some, Sparing, [], all_edited, amortized, ap, append_assoc, arith, cases_lt, cursor, distance, drop, drop-append_seam, edited, gap, inl, inr, insert, inserted, inserts, least_of, len, length, length-append, length-drop, length-take, length-take-le, min, nat_tests, page, refl, remove, remove-append_right, rules, run_count, runs_by, subst, sym, take, take-append-drop, take-append-le, take-append_seam, text, total, travel, with_edit, with_edits, written_by, ℕ, ◌++◌, ◌+◌, ◌-◌, ◌∙◌, ◌∷◌, ◌≡◌, ◌≤◌}
+use Rattle.aa_gap.proofs.Common.{Buffer, DeleteBack, DeleteForward, Doubling, Edit, Edits, GrowsWithin, Growth, Insert, List, MatchOption, MoveTo, None, Option, Page, Some, Sparing, [], amortized, ap, append_assoc, arith, cases_lt, cursor, drop, drop-append_seam, edited, fold, gap, inl, inr, insert, inserts, least_of, len, length, length-append, length-drop, length-take, length-take-le, min, moved_over, nat_tests, page, put, refl, remove, remove-append_right, rules, run_count, subst, sym, take, take-append-drop, take-append-le, take-append_seam, text, total, with_edit, with_room, written_by, ℕ, ◌++◌, ◌+◌, ◌-◌, ◌∙◌, ◌∷◌, ◌≡◌, ◌≤◌}
 
 -- Edits, one after another, and what they leave of the text machine's page.
 module _ {T : Type 0} where
@@ -25,15 +25,15 @@ module _ {T : Type 0} where
       sym (remove-append_right xs ys (length xs) (length xs) refl (omega arith) ∙ ap (λ i. xs ++ remove ys i) none)
 
 module _ {T A : Type 0} (size : ℕ) where
-  with_edits-push : (b : Buffer T A) (es : List (Edit T)) (e : Edit T) → with_edits size b (es ++ e ∷ []) ≡ with_edit size (with_edits size b es) e
-  with_edits-push b [] e = refl
-  with_edits-push b (d ∷ es) e = with_edits-push (with_edit size b d) es e
+  edits-push : (b : Buffer T A) (es : List (Edit T)) (e : Edit T) → fold (with_edit size) b (es ++ e ∷ []) ≡ with_edit size (fold (with_edit size) b es) e
+  edits-push b [] e = refl
+  edits-push b (d ∷ es) e = edits-push (with_edit size b d) es e
 
   -- one more edit
-  pub with_edits-more : (old mid new : Buffer T A) (es : List (Edit T)) (e : Edit T) → mid ≡ with_edits size old es → new ≡ with_edit size mid e → new ≡ with_edits size old (es ++ e ∷ [])
-  with_edits-more old mid new es e d n = n ∙ ap (λ b. with_edit size b e) d ∙ sym (with_edits-push old es e)
+  pub edits-more : (old mid new : Buffer T A) (es : List (Edit T)) (e : Edit T) → mid ≡ fold (with_edit size) old es → new ≡ with_edit size mid e → new ≡ fold (with_edit size) old (es ++ e ∷ [])
+  edits-more old mid new es e d n = n ∙ ap (λ b. with_edit size b e) d ∙ sym (edits-push old es e)
 
-  page-edit : (b : Buffer T A) (e : Edit T) → page (with_edit size b e) ≡ edited e (page b)
+  page-edit : (b : Buffer T A) (e : Edit T) → page (with_edit size b e) ≡ edited (page b) e
   page-edit b (Insert x) = let t = text-insert b.before b.after x in let n = length-append b.before (x ∷ []) in cc
   page-edit b DeleteBack =
       let t = text-delete_back b.before b.after in
@@ -46,24 +46,8 @@ module _ {T A : Type 0} (size : ℕ) where
       let n : length (take (min q (len b)) (text b)) ≡ min q (length (text b)) = omega (arith, length-take (min q (len b)) (text b)) in
       cc
 
-  pub Edits-edit : (b : Buffer T A) (e : Edit T) → Edits size b (e ∷ []) (with_edit size b e)
-  Edits-edit b (Insert x) = record { exact = refl; leaves = page-edit b (Insert x); alloc = refl; growth = refl; room = grind (arith, nat_tests) }
-  Edits-edit b DeleteBack = record { exact = refl; leaves = page-edit b DeleteBack; alloc = refl; growth = refl; room = omega arith }
-  Edits-edit b DeleteForward = record { exact = refl; leaves = page-edit b DeleteForward; alloc = refl; growth = refl; room = omega arith }
-  Edits-edit b (MoveTo q) = record { exact = refl; leaves = page-edit b (MoveTo q); alloc = refl; growth = refl; room = omega arith }
-
-  Edits-edits : (b : Buffer T A) (es : List (Edit T)) → Edits size b es (with_edits size b es)
-  Edits-edits b [] = record { exact = refl; leaves = refl; alloc = refl; growth = refl; room = omega arith }
-  Edits-edits b (e ∷ es) =
-      let d = Edits-edit b e in let n = Edits-edits (with_edit size b e) es in
-      record { exact = refl; leaves = n.leaves ∙ ap (all_edited es) d.leaves; alloc = n.alloc ∙ d.alloc; growth = n.growth ∙ d.growth; room = omega (arith, d.room, n.room) }
-
-  -- of a text that is known to be another after edits
-  pub Edits-known : (old new : Buffer T A) (es : List (Edit T)) → new ≡ with_edits size old es → Edits size old es new
-  Edits-known old new es e = subst (λ b. Edits size old es b) (sym e) (Edits-edits old es)
-
 -- one edit after another
-pub ruleset one_by_one = (with_edits-more)
+pub ruleset one_by_one = (edits-more)
 
 inserts-more : {T : Type 0} (e : Edit T) (es : List (Edit T)) → inserts (e ∷ es) ≡ inserts (e ∷ []) + inserts es
 inserts-more (Insert x) es = omega arith
@@ -87,24 +71,12 @@ module _ {T A : Type 0} where
   GrowsWithin-push Doubling old mid new m n k longer all d e = (omega (arith, d.0, e.0), omega (arith, d.0, d.1, e.1))
   GrowsWithin-push Sparing old mid new m n k longer all d e = (omega (arith, d.0, e.0), omega (arith, d.0, d.1, e.1))
 
-  -- one edit, and then others
-  Costs-more : (old mid new : Buffer T A) (e : Edit T) (es : List (Edit T)) → page mid ≡ edited e (page old) → mid.growth ≡ old.growth → Costs old (e ∷ []) mid → Costs mid es new → Costs old (e ∷ es) new
-  Costs-more old mid new e es leaves growth d n =
-      let more : (by : Edit T → Page T → ℕ) → total by (e ∷ []) (page old) + total by es (page mid) ≡ total by (e ∷ es) (page old) = λ by. omega (arith, ap (total by es) leaves) in
-      let more_inserts : inserts (e ∷ []) + inserts es ≡ inserts (e ∷ es) = sym (inserts-more e es) in
-      record {
-        longer = omega (arith, d.longer, n.longer, more_inserts);
-        writes = omega (arith, d.writes, n.writes, more written_by);
-        runs = omega (arith, d.runs, n.runs, more runs_by);
-        grown = GrowsWithin-push old.growth old mid new (inserts (e ∷ [])) (inserts es) (inserts (e ∷ es)) d.longer more_inserts d.grown (subst (λ g. GrowsWithin g mid (inserts es) new) growth n.grown);
-      }
-
   -- how much is written and in how many runs where elements pass the gap
-  travel-le : (b : Buffer T A) (n : ℕ) → travel b n ≤ n
-  travel-le b n = grind (arith, nat_tests)
+  moved_over-le : (b : Buffer T A) (n : ℕ) → moved_over (gap b) n ≤ n
+  moved_over-le b n = grind (arith, nat_tests)
 
-  run_count-travel : (b : Buffer T A) (n : ℕ) → run_count (travel b n) ≤ run_count n
-  run_count-travel b n = grind (arith, nat_tests)
+  run_count-moved_over : (b : Buffer T A) (n : ℕ) → run_count (moved_over (gap b) n) ≤ run_count n
+  run_count-moved_over b n = grind (arith, nat_tests)
 
 module _ {T A : Type 0} (size : ℕ) where
   -- the text fits into the places
@@ -117,10 +89,15 @@ module _ {T A : Type 0} (size : ℕ) where
   Fits-edit b DeleteForward h = omega (arith, length-drop 1 b.after)
   Fits-edit b (MoveTo q) h = let at = min q (len b) in omega (arith, length-append b.before b.after, length-take at (text b), length-drop at (text b))
 
-  Costs-edit : (b : Buffer T A) (e : Edit T) → Fits b → Costs b (e ∷ []) (with_edit size b e)
-  Costs-edit b (Insert x) h =
-      let new = inserted size b x in
+  Edits-edit : (b : Buffer T A) (e : Edit T) → Fits b → Edits size b (e ∷ []) (with_edit size b e)
+  Edits-edit b (Insert x) h =
+      let new = put (with_room size b 1) x in
       record {
+        exact = refl;
+        leaves = page-edit size b (Insert x);
+        alloc = refl;
+        growth = refl;
+        room = grind (arith, nat_tests);
         longer = omega (arith, length-append b.before (x ∷ []));
         writes = grind (arith, nat_tests);
         runs = grind (arith, nat_tests);
@@ -130,25 +107,72 @@ module _ {T A : Type 0} (size : ℕ) where
               | inr some ↦ GrowsWithin-stays b.growth b new 1 (grind (arith, nat_tests)) (grind (arith, nat_tests))
             ];
       }
-  Costs-edit b DeleteBack h = let n = length-take (cursor b - 1) b.before in let g = GrowsWithin-stays b.growth b (with_edit size b DeleteBack) 0 refl refl in search (rules, n, g)
-  Costs-edit b DeleteForward h = let n = length-drop 1 b.after in let g = GrowsWithin-stays b.growth b (with_edit size b DeleteForward) 0 refl refl in search (rules, n, g)
-  Costs-edit b (MoveTo q) h =
+  Edits-edit b DeleteBack h =
+      let new = with_edit size b DeleteBack in
+      record {
+        exact = refl;
+        leaves = page-edit size b DeleteBack;
+        alloc = refl;
+        growth = refl;
+        room = omega arith;
+        longer = omega (arith, length-take (cursor b - 1) b.before);
+        writes = omega arith;
+        runs = omega arith;
+        grown = GrowsWithin-stays b.growth b new 0 refl refl;
+      }
+  Edits-edit b DeleteForward h =
+      let new = with_edit size b DeleteForward in
+      record {
+        exact = refl;
+        leaves = page-edit size b DeleteForward;
+        alloc = refl;
+        growth = refl;
+        room = omega arith;
+        longer = omega (arith, length-drop 1 b.after);
+        writes = omega arith;
+        runs = omega arith;
+        grown = GrowsWithin-stays b.growth b new 0 refl refl;
+      }
+  Edits-edit b (MoveTo q) h =
       let long : length (text b) ≡ len b = length-append b.before b.after in
       let at : ℕ = min q (len b) in
-      let far : distance (cursor b) (min q (length (text b))) ≡ distance (cursor b) at = ap (λ n. distance (cursor b) (min q n)) long in
+      let passed : ℕ → ℕ = λ n. (cursor b - n) + (n - cursor b) in
+      let far : passed (min q (length (text b))) ≡ passed at = ap (λ n. passed (min q n)) long in
       record {
+        exact = refl;
+        leaves = page-edit size b (MoveTo q);
+        alloc = refl;
+        growth = refl;
+        room = omega arith;
         longer = omega (arith, long, length-take at (text b), length-drop at (text b));
-        writes = omega (arith, far, travel-le b (distance (cursor b) at));
-        runs = omega (arith, ap run_count far, run_count-travel b (distance (cursor b) at));
+        writes = omega (arith, far, moved_over-le b (passed at));
+        runs = omega (arith, ap run_count far, run_count-moved_over b (passed at));
         grown = GrowsWithin-stays b.growth b (with_edit size b (MoveTo q)) 0 refl refl;
       }
 
-  Costs-edits : (b : Buffer T A) (es : List (Edit T)) → len b ≤ b.capacity → Costs b es (with_edits size b es)
-  Costs-edits b [] h = record { longer = omega arith; writes = omega arith; runs = omega arith; grown = GrowsWithin-stays b.growth b b 0 refl refl }
-  Costs-edits b (e ∷ es) h =
-      let mid = with_edit size b e in let d = Edits-edit size b e in
-      Costs-more b mid (with_edits size mid es) e es d.leaves d.growth (Costs-edit b e h) (Costs-edits mid es (Fits-edit b e h))
+  -- one edit, and then others
+  Edits-more : (old mid new : Buffer T A) (e : Edit T) (es : List (Edit T)) → mid ≡ with_edit size old e → Edits size old (e ∷ []) mid → Edits size mid es new → Edits size old (e ∷ es) new
+  Edits-more old mid new e es is d n =
+      let more : (by : Edit T → Page T → ℕ) → total by (e ∷ []) (page old) + total by es (page mid) ≡ total by (e ∷ es) (page old) = λ by. omega (arith, ap (total by es) d.leaves) in
+      let more_inserts : inserts (e ∷ []) + inserts es ≡ inserts (e ∷ es) = sym (inserts-more e es) in
+      record {
+        exact = n.exact ∙ ap (λ b. fold (with_edit size) b es) is;
+        leaves = n.leaves ∙ ap (λ p. fold edited p es) d.leaves;
+        alloc = n.alloc ∙ d.alloc;
+        growth = n.growth ∙ d.growth;
+        room = omega (arith, d.room, n.room);
+        longer = omega (arith, d.longer, n.longer, more_inserts);
+        writes = omega (arith, d.writes, n.writes, more written_by);
+        runs = omega (arith, d.runs, n.runs, more (λ e p. run_count (written_by e p)));
+        grown = GrowsWithin-push old.growth old mid new (inserts (e ∷ [])) (inserts es) (inserts (e ∷ es)) d.longer more_inserts d.grown (subst (λ g. GrowsWithin g mid (inserts es) new) d.growth n.grown);
+      }
+
+  Edits-edits : (b : Buffer T A) (es : List (Edit T)) → Fits b → Edits size b es (fold (with_edit size) b es)
+  Edits-edits b [] h =
+      record { exact = refl; leaves = refl; alloc = refl; growth = refl; room = omega arith; longer = omega arith; writes = omega arith; runs = omega arith; grown = GrowsWithin-stays b.growth b b 0 refl refl }
+  Edits-edits b (e ∷ es) h =
+      let mid = with_edit size b e in Edits-more b mid (fold (with_edit size) mid es) e es refl (Edits-edit b e h) (Edits-edits mid es (Fits-edit b e h))
 
   -- of a text that is known to be another after edits
-  pub Costs-known : (old new : Buffer T A) (es : List (Edit T)) → len old ≤ old.capacity → new ≡ with_edits size old es → Costs old es new
-  Costs-known old new es h e = subst (λ b. Costs old es b) (sym e) (Costs-edits old es h)
+  pub Edits-known : (old new : Buffer T A) (es : List (Edit T)) → len old ≤ old.capacity → new ≡ fold (with_edit size) old es → Edits size old es new
+  Edits-known old new es h e = subst (λ b. Edits size old es b) (sym e) (Edits-edits old es h)

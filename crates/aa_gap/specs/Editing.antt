@@ -1,43 +1,36 @@
 -- What edits leave of a gap buffer.
-use Rattle.std.specs.Prelude.{◌≡◌, ℕ, ◌+◌, ◌-◌, ◌≤◌, min, List, [], ◌∷◌, ◌++◌, take, drop, Option, None}
+use Rattle.std.specs.Prelude.{◌≡◌, ℕ, ◌+◌, ◌-◌, ◌≤◌, min, List, [], ◌∷◌, ◌++◌, take, drop, fold, Option, None}
 use Rattle.std.specs.Iterator.{Yields, YieldsThen}
 use Rattle.aa_raw.specs.declared.collections.TryReserveError.{TryReserveError}
 use Rattle.aa_gap.specs.declared.gap_buffer.Edit.{Edit}
 use Rattle.aa_gap.specs.declared.gap_buffer.Edit.TheVariants.{Insert, DeleteBack, DeleteForward, MoveTo}
-use Rattle.aa_gap.specs.Buffer.{Buffer, cursor, len, with_parts, moved_to, inserted, GrowsWithin, LacksRoom}
-use Rattle.aa_gap.specs.Page.{page, all_edited, written_by, runs_by, inserts, total}
+use Rattle.aa_gap.specs.Buffer.{Buffer, cursor, len, with_parts, moved_to, with_room, put, run_count, GrowsWithin, LacksRoom}
+use Rattle.aa_gap.specs.Page.{page, edited, written_by, inserts, total}
 
 -- of elements of `size` bytes
 module _ {T A : Type 0} (size : ℕ) where
   -- b after an edit. An insert that finds no free place grows, and no other edit takes memory
   abbrev pub with_edit : Buffer T A → Edit T → Buffer T A
-  with_edit b (Insert x) = inserted size b x
+  with_edit b (Insert x) = put (with_room size b 1) x
   with_edit b DeleteBack = with_parts b (take (cursor b - 1) b.before) b.after
   with_edit b DeleteForward = with_parts b b.before (drop 1 b.after)
   with_edit b (MoveTo q) = moved_to b (min q (len b))
 
-  -- b after edits, one after another
-  abbrev pub with_edits : Buffer T A → List (Edit T) → Buffer T A
-  with_edits b [] = b
-  with_edits b (e ∷ es) = with_edits (with_edit b e) es
-
-  -- new is old after these edits: exactly, with its capacity and all that it counts, and as a page
+  -- new is old after these edits, one after another: exactly, with its capacity and all that it
+  -- counts, and as a page. At most they took an element more for each insert, what they write, a
+  -- run for each edit that writes any, and what growth moved
   pub record Edits (old : Buffer T A) (edits : List (Edit T)) (new : Buffer T A) : Type 0 where
-    pub exact : new ≡ with_edits old edits
-    pub leaves : page new ≡ all_edited edits (page old)
+    pub exact : new ≡ fold with_edit old edits
+    pub leaves : page new ≡ fold edited (page old) edits
     pub alloc : new.alloc ≡ old.alloc
     pub growth : new.growth ≡ old.growth
     pub room : old.capacity ≤ new.capacity
-
-module _ {T A : Type 0} where
-  -- what these edits took at most: an element more for each insert, what they write, in how many
-  -- runs, and what growth moved
-  pub record Costs (old : Buffer T A) (edits : List (Edit T)) (new : Buffer T A) : Type 0 where
     pub longer : len new ≤ len old + inserts edits
     pub writes : new.written ≤ old.written + total written_by edits (page old)
-    pub runs : new.runs ≤ old.runs + total runs_by edits (page old)
+    pub runs : new.runs ≤ old.runs + total (λ e p. run_count (written_by e p)) edits (page old)
     pub grown : GrowsWithin old.growth old (inserts edits) new
 
+module _ {T A : Type 0} where
   module _ {I : Type 0} (steps : I → Option (Edit T) → I → Type 0) (from : I)
       (size : ℕ) (old : Buffer T A) where
     -- all that came from an iterator was done
@@ -45,7 +38,6 @@ module _ {T A : Type 0} where
       pub edits : List (Edit T)
       pub given : YieldsThen steps from edits None to
       pub done : Edits size old edits new
-      pub costs : Costs old edits new
 
     -- what came before an insert was done, which found no room
     pub record EditsUpTo (error : TryReserveError) (to : I) (new : Buffer T A) : Type 0 where
@@ -53,5 +45,4 @@ module _ {T A : Type 0} where
       pub item : T
       pub given : Yields steps from (edits ++ Insert item ∷ []) to
       pub done : Edits size old edits new
-      pub costs : Costs old edits new
       pub lacks : LacksRoom size new 1 error

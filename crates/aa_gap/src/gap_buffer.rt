@@ -1,15 +1,15 @@
 //! `GapBuffer`: a text with a cursor, in one block whose free places stand at the cursor.
-ghost use Rattle.std.specs.Prelude.{◌≡◌, ◌+◌, ◌-◌, ◌*◌, ◌<◌, ◌≤◌, ◌∷◌, ◌++◌, [], length, take, drop, slice_get, option_copied, IfOk, IfErr, OnOk, OnErr, IsOk, MatchOption};
+ghost use Rattle.std.specs.Prelude.{◌≡◌, ◌+◌, ◌-◌, ◌*◌, ◌<◌, ◌≤◌, ◌∷◌, ◌++◌, [], length, take, drop, slice_get, option_copied, IfOk, IfErr, OnOk, OnErr, IsOk, IsTrue, false, MatchOption};
 ghost use Rattle.std.specs.Mem.{type_size};
 ghost use Rattle.std.specs.Iterator.{IsFinite};
 ghost use Rattle.aa_raw.specs.Growth.{sized, usize_max};
 ghost use Rattle.aa_raw.specs.Places.{IsCapacity};
 ghost use Rattle.aa_raw.specs.Refusals.{RefusesBlock};
-ghost use Rattle.aa_gap.specs.Buffer.{Buffer, empty, text, cursor, len, gap, travel, with_parts, wrote, moved_to, with_room, put, inserted, HasRoom, LacksRoom};
+ghost use Rattle.aa_gap.specs.Buffer.{Buffer, empty, text, cursor, len, gap, moved_over, with_parts, wrote, moved_to, with_room, put, HasRoom, LacksRoom};
 ghost use Rattle.aa_gap.specs.Taken.{IsPartedIn};
 ghost use Rattle.aa_gap.specs.GapBufferInner.{view_of, IsParted};
 
-use aa_raw::collections::{Refused, TryReserveError};
+use aa_raw::collections::{Refused, TryReserveError, TryReserveErrorKind};
 use aa_raw::raw_vec::{Growth, RawVec};
 pub use iter::Iter;
 use std::alloc::{Allocator, Global};
@@ -203,9 +203,13 @@ impl<T, A: Allocator> GapBuffer<T, A> {
     /// the capacity asked for.
     #[inline(always)]
     pub fn insert(&mut self, item: T) -> Result<(), Refused<T>>
+        // What fits is put in.
         ensures fits { HasRoom self.old 1 → IsOk result }
         ensures sizeless { type_size T.row ≡ 0 → len self.old < usize_max → HasRoom self.old 1 }
-        ensures inserted { OnOk result (self.new ≡ inserted (type_size T.row) self.old item) }
+        ensures inserted { let roomy = with_room (type_size T.row) self.old 1 in
+            OnOk result (self.new ≡ put roomy item) }
+
+        // A refusal hands the item back, and changes nothing.
         ensures handed_back { IfErr result (λ r. r.source ≡ item) }
         ensures refused { IfErr result (λ r. LacksRoom (type_size T.row) self.old 1 r.error) }
         ensures unchanged { OnErr result (self.new ≡ self.old) }
@@ -226,36 +230,62 @@ impl<T, A: Allocator> GapBuffer<T, A> {
     /// fit.
     #[inline(always)]
     pub fn reserve(&mut self, additional: usize) -> Result<(), TryReserveError>
+        // What fits is granted, and where it is there is room.
         ensures fits { HasRoom self.old additional → IsOk result }
         ensures sizeless { type_size T.row ≡ 0 → len self.old + additional ≤ usize_max
             → HasRoom self.old additional }
         ensures room { OnOk result (HasRoom self.new additional) }
         ensures made { OnOk result (self.new ≡ with_room (type_size T.row) self.old additional) }
+
+        // A refusal changes nothing.
         ensures refused { IfErr result (LacksRoom (type_size T.row) self.old additional) }
         ensures unchanged { OnErr result (self.new ≡ self.old) }
     {
         self.block.known();
-        if additional <= self.free() {
+        if additional <= self.free() || self.make_room(additional) {
             return Ok(());
         }
-        self.make_room(additional)
+        Err(self.refusal(additional))
     }
 
-    // The same where they do not fit.
+    // The growth of a reserve, out of line. It answers in a register, so that the test for room
+    // costs no stack.
     #[cold]
     #[inline(never)]
     #[tactic(auto, using(crate::proofs::Parts::at_both_ends))]
-    fn make_room(&mut self, additional: usize) -> Result<(), TryReserveError>
+    fn make_room(&mut self, additional: usize) -> bool
         requires { gap self.old < additional }
-        ensures made { OnOk result (self.new ≡ with_room (type_size T.row) self.old additional) }
-        ensures refused { IfErr result (LacksRoom (type_size T.row) self.old additional) }
-        ensures unchanged { OnErr result (self.new ≡ self.old) }
+        ensures made { IsTrue result
+            → self.new ≡ with_room (type_size T.row) self.old additional }
+        ensures kept { result ≡ false → self.new ≡ self.old }
     {
         let behind = self.block.capacity() - self.end;
-        self.block
-            .try_reserve_parted((0, self.start), (self.end, behind), additional)?;
-        self.end = self.block.capacity() - behind;
-        Ok(())
+        match self
+            .block
+            .try_reserve_parted((0, self.start), (self.end, behind), additional)
+        {
+            Ok(()) => {
+                self.end = self.block.capacity() - behind;
+                true
+            }
+            Err(_) => false,
+        }
+    }
+
+    // Why `make_room` answered no.
+    #[cold]
+    #[inline(never)]
+    fn refusal(&self, additional: usize) -> TryReserveError
+        requires { gap self.now < additional }
+        ensures { LacksRoom (type_size T.row) self.now additional result }
+    {
+        let Some(required) = self.len().checked_add(additional) else {
+            return TryReserveErrorKind::CapacityOverflow.into();
+        };
+        match self.growth().capacity_for::<T>(self.capacity(), required) {
+            Some(capacity) => TryReserveErrorKind::AllocError { capacity }.into(),
+            None => TryReserveErrorKind::CapacityOverflow.into(),
+        }
     }
 
     /// Takes the element before the cursor, if there is one.
@@ -295,7 +325,8 @@ impl<T, A: Allocator> GapBuffer<T, A> {
         ensures { let at = cursor self.old - by in
             let before = take at self.old.before in
             let after = drop at self.old.before ++ self.old.after in
-            self.new ≡ wrote (with_parts self.old before after) (travel self.old by) }
+            self.new
+            ≡ wrote (with_parts self.old before after) (moved_over (gap self.old) by) }
     {
         let start = self.start - by;
         let end = self.end - by;
@@ -310,7 +341,8 @@ impl<T, A: Allocator> GapBuffer<T, A> {
         requires { by ≤ length self.old.after }
         ensures { let before = self.old.before ++ take by self.old.after in
             let after = drop by self.old.after in
-            self.new ≡ wrote (with_parts self.old before after) (travel self.old by) }
+            self.new
+            ≡ wrote (with_parts self.old before after) (moved_over (gap self.old) by) }
     {
         self.block.known();
         self.block.move_run(self.end, self.start, by);

@@ -1,4 +1,4 @@
-use Rattle.aa_gap.proofs.{Costs-known, Edits-known, Yields, Yields-more, [], err_from_is_err_and, rules, type_size, ◌++◌, ◌∷◌}
+use Rattle.aa_gap.proofs.{Edits-known, Yields, Yields-more, [], err_from_is_err_and, rules, type_size, ◌++◌, ◌∷◌}
 use Rattle.aa_gap.proofs.gap_buffer.GapBuffer.edit_all.Goals as goal
 
 pub returns-in_err-edit-clause-refused : goal.returns-in_err-edit-clause-refused
@@ -11,8 +11,7 @@ returns-in_err-edit-clause-refused g c =
       edits = c.loop-edit.yielded;
       item = r.inserts.0;
       given = rw r.inserts.1 at came;
-      done = rw r.unchanged (Edits-known size old new c.loop-edit.yielded done);
-      costs = rw r.unchanged (Costs-known size old new c.loop-edit.yielded c.len-within.ensures.within done);
+      done = rw r.unchanged (Edits-known size old new c.loop-edit.yielded c.len-within.ensures.within done);
       lacks = rw r.unchanged r.refused;
     })
 
@@ -22,6 +21,5 @@ returns-clause-done g c =
     record {
       edits = c.loop-edit.yielded;
       given = search rules;
-      done = Edits-known size old new c.loop-edit.yielded done;
-      costs = Costs-known size old new c.loop-edit.yielded c.len-within.ensures.within done;
+      done = Edits-known size old new c.loop-edit.yielded c.len-within.ensures.within done;
     }
