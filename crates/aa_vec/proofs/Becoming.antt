@@ -1,6 +1,6 @@
 -- What a vector becomes, as one equation and by its parts.
-use Rattle.aa_vec.proofs.Common.{◌≡◌, ℕ, List, length, ap, Vector, GrowsTo, HasRoom, Holds, Writes, with_room, Becomes}
-use Rattle.aa_vec.proofs.GrowthLemmas.{MakesRoom-stays}
+use Rattle.aa_vec.proofs.Common.{◌≡◌, ℕ, ◌+◌, List, ◌++◌, length, refl, ap, ◌∙◌, subst, append_assoc, arith, Option, Vector, GrowsTo, HasRoom, Holds, SameBlock, Writes, with_room, Becomes, with_behind}
+use Rattle.aa_vec.proofs.GrowthLemmas.{MakesRoom-stays, SameBlock-trans}
 
 module _ {T A : Type 0} (old : Vector T A) (xs : List T) (n k : ℕ) (new : Vector T A) where
   pub Becomes-holds : Holds old xs new → Writes old n k new → Becomes old xs n k new
@@ -8,6 +8,9 @@ module _ {T A : Type 0} (old : Vector T A) (xs : List T) (n k : ℕ) (new : Vect
 
   pub Holds-becomes : Becomes old xs n k new → Holds old xs new
   Holds-becomes e = record { items = ap (λ v. v.items) e; block = record { capacity = ap (λ v. v.capacity) e; growth = ap (λ v. v.growth) e; grown = ap (λ v. v.grown) e; alloc = ap (λ v. v.alloc) e } }
+
+  pub SameBlock-becomes : Becomes old xs n k new → SameBlock old new
+  SameBlock-becomes e = (Holds-becomes e).block
 
   pub Writes-becomes : Becomes old xs n k new → Writes old n k new
   Writes-becomes e = record { written = ap (λ v. v.written) e; runs = ap (λ v. v.runs) e }
@@ -28,6 +31,32 @@ module _ {T A : Type 0} (old : Vector T A) (xs : List T) (n k : ℕ) (new : Vect
 
     pub Holds-within : Becomes (with_room size old (length old.items) more) xs n k new → HasRoom old more → Holds old xs new
     Holds-within e fits = Holds-fits (GrowsTo-becomes e) fits
+
+module _ {T A : Type 0} where
+  -- the places behind the items alone are other than they were
+  pub Becomes-behind : (v w : Vector T A) (places : List (Option T)) → w ≡ with_behind v places → Becomes v v.items 0 0 w
+  Becomes-behind v w places e =
+      let block : SameBlock v w = record { capacity = ap (λ u. u.capacity) e; growth = ap (λ u. u.growth) e; grown = ap (λ u. u.grown) e; alloc = ap (λ u. u.alloc) e } in
+      Becomes-holds v v.items 0 0 w (record { items = ap (λ u. u.items) e; block = block }) (record { written = omega (arith, ap (λ u. u.written) e); runs = omega (arith, ap (λ u. u.runs) e) })
+
+  -- nothing was done
+  pub Becomes-refl : (v : Vector T A) → Becomes v v.items 0 0 v
+  Becomes-refl v = Becomes-behind v v v.behind refl
+
+  -- one call after another
+  pub Becomes-then : (old : Vector T A) (xs : List T) (n k : ℕ) (mid : Vector T A) → Becomes old xs n k mid → (ys : List T) (m l : ℕ) (new : Vector T A) → Becomes mid ys m l new → (a b : ℕ) → n + m ≡ a → k + l ≡ b → Becomes old ys a b new
+  Becomes-then old xs n k mid e ys m l new f a b all calls =
+      Becomes-holds old ys a b new (record { items = ap (λ v. v.items) f; block = SameBlock-trans (SameBlock-becomes old xs n k mid e) (SameBlock-becomes mid ys m l new f) })
+      (record { written = omega (arith, ap (λ v. v.written) e, ap (λ v. v.written) f, all); runs = omega (arith, ap (λ v. v.runs) e, ap (λ v. v.runs) f, calls) })
+
+  -- items put behind others, and those behind the items there were
+  pub Becomes-more : (old mid new : Vector T A) (xs ys : List T) (n k m l a b : ℕ) → Becomes old (old.items ++ xs) n k mid → Becomes mid (mid.items ++ ys) m l new → n + m ≡ a → k + l ≡ b → Becomes old (old.items ++ (xs ++ ys)) a b new
+  Becomes-more old mid new xs ys n k m l a b p q all calls =
+      subst (λ zs. Becomes old zs a b new) (ap (λ v. v.items ++ ys) p ∙ append_assoc old.items xs ys) (Becomes-then old (old.items ++ xs) n k mid p (mid.items ++ ys) m l new q a b all calls)
+
+  -- what was done once room was made
+  pub Becomes-roomy : (old mid new : Vector T A) → Becomes old old.items 0 0 mid → (f : List T → List T) (n : ℕ) → Becomes mid (f mid.items) n n new → Becomes old (f old.items) n n new
+  Becomes-roomy old mid new made f n p = subst (λ l. Becomes old l n n new) (ap (λ v. f v.items) made) (Becomes-then old old.items 0 0 mid made (f mid.items) n n new p n n (omega arith) (omega arith))
 
 -- vectors with the same fields
 pub same_fields : {T A : Type 0} (v w : Vector T A) → v.items ≡ w.items → v.capacity ≡ w.capacity → v.growth ≡ w.growth → v.grown ≡ w.grown → v.written ≡ w.written → v.runs ≡ w.runs → v.alloc ≡ w.alloc → v.behind ≡ w.behind → v ≡ w

@@ -1,6 +1,7 @@
 -- Elements behind the items of a vector that are dropped, taken from either end, or moved down behind others.
-use Rattle.aa_vec.proofs.Common.{◌≡◌, ℕ, ◌+◌, ◌-◌, ◌≤◌, List, drop, replicate, Option, None, refl, sym, ap, ◌∙◌, subst, arith, length-append, drop-drop, drop_at, length-replicate, IsRun, run, length-run, run-drop, IsRun-part, StandsBehind, ClosesGap, DropsBehind, behind_items, with_behind, Vector, len, Holds}
+use Rattle.aa_vec.proofs.Common.{◌≡◌, ℕ, ◌+◌, ◌-◌, ◌≤◌, List, drop, replicate, Option, None, refl, sym, ap, ◌∙◌, subst, arith, length-append, drop-drop, drop_at, length-replicate, IsRun, run, length-run, run-drop, IsRun-part, StandsBehind, ClosesGap, DropsBehind, behind_items, with_behind, Vector, len, ◌++◌, MovesDown, ClosesTwice, Becomes, moved_over, run_count}
 use Rattle.std.proofs.lemmas.List.{append_assoc}
+use Rattle.aa_vec.proofs.Becoming.{Becomes-behind, Becomes-then}
 use Rattle.aa_vec.proofs.Gaps.{further, run-of_drop, IsRun-to_drop}
 
 module _ {T A : Type 0} where
@@ -29,11 +30,6 @@ module _ {T A : Type 0} where
   later_part v gap n m k e stands =
       part_are v gap m stands (gap + n) k (omega arith) (omega (arith, e)) ∙ ap (λ i. run (drop gap v.behind) i k) (omega arith) ∙ sym (run-drop (drop gap v.behind) 0 n n m k (omega arith) e stands.1)
 
-  -- a vector that differs in the places behind its items alone
-  module _ (v w : Vector T A) (places : List (Option T)) (differs : w ≡ with_behind v places) where
-    pub same_holds : Holds v v.items w
-    same_holds = record { items = ap (λ u. u.items) differs; block = record { capacity = ap (λ u. u.capacity) differs; growth = ap (λ u. u.growth) differs; grown = ap (λ u. u.grown) differs; alloc = ap (λ u. u.alloc) differs } }
-
   -- what stands above a run that was dropped, and above one that was moved down
   pub above_dropped : (v w : Vector T A) (gap n end : ℕ) → gap + n ≤ end → DropsBehind v gap n w → drop end w.behind ≡ drop end v.behind
   above_dropped v w gap n end h dropped =
@@ -49,5 +45,20 @@ module _ {T A : Type 0} where
     pub dropped_are : behind_items w end m ≡ behind_items v end m
     dropped_are = still_are v w end end m (above_dropped v w gap n end h dropped)
 
+    -- and a later run is moved down
+    pub MovesDown-dropped : ClosesGap w end m z → MovesDown v end m z
+    MovesDown-dropped closes =
+        let moved : ℕ = moved_over end m in
+        let items : w.items ++ behind_items w end m ≡ v.items ++ behind_items v end m = (λ i. (dropped.same i).items ++ dropped_are i) in
+        subst (λ l. Becomes v l moved (run_count moved) z) items (Becomes-then v v.items 0 0 w (Becomes-behind v w w.behind dropped.same) (w.items ++ behind_items w end m) moved (run_count moved) z closes.becomes moved (run_count moved) (omega arith) (omega arith))
+
+  pub ClosesTwice-lowered : (v w z : Vector T A) (gap n end m : ℕ) → gap + n ≤ end → ClosesGap v gap n w → ClosesGap w (end - n) m z → ClosesTwice v gap n end m z
+  ClosesTwice-lowered v w z gap n end m h first second =
+      let others : behind_items w (end - n) m ≡ behind_items v end m = still_are v w end (end - n) m (above_lowered v w gap n end h first) in
+      let items : w.items ++ behind_items w (end - n) m ≡ v.items ++ (behind_items v gap n ++ behind_items v end m) = (λ i. (first.becomes i).items ++ others i) ∙ append_assoc v.items (behind_items v gap n) (behind_items v end m) in
+      let lower : ℕ = moved_over gap n in let upper : ℕ = moved_over (end - n) m in
+      subst (λ l. Becomes v l (lower + upper) (run_count lower + run_count upper) z) items
+      (Becomes-then v (v.items ++ behind_items v gap n) lower (run_count lower) w first.becomes (w.items ++ behind_items w (end - n) m) upper (run_count upper) z second.becomes (lower + upper) (run_count lower + run_count upper) refl refl)
+
 -- a run dropped or moved down, and a later one moved down
-pub ruleset closing = (above_dropped, above_lowered, length-run, length-append, append_assoc)
+pub ruleset closing = (above_dropped, above_lowered, MovesDown-dropped, ClosesTwice-lowered, length-run, length-append)

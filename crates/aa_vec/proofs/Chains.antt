@@ -1,5 +1,6 @@
 -- Elements behind a gap, asked one after the other beside the last one kept.
-use Rattle.aa_vec.proofs.Common.{◌≡◌, ℕ, suc, ◌+◌, ◌<◌, ◌≤◌, Bool, true, false, List, [], ◌∷◌, ◌++◌, length, map, drop, Some, refl, sym, ap, ◌∙◌, subst, arith, length-append, drop_at, drop_all, length-map, take-append-drop, StandsBehind, LeavesBehind, behind_items, MayChainFrom, MayDeduplicate, ChainsUntil, ChainsAlong, AsksLast, ChainsBehind, Vector, ChainsOn}
+use Rattle.aa_vec.proofs.Common.{◌≡◌, ℕ, suc, ◌+◌, ◌<◌, ◌≤◌, Bool, true, false, List, [], ◌∷◌, ◌++◌, length, map, drop, Some, refl, sym, ap, ◌∙◌, subst, arith, length-append, drop_at, drop_all, length-map, take-append-drop, StandsBehind, LeavesBehind, behind_items, MayChainFrom, MayDeduplicate, ChainsUntil, ChainsAlong, AsksLast, ChainsBehind, Vector, len, Becomes, ChainsOn}
+use Rattle.aa_vec.proofs.Becoming.{Becomes-behind, Becomes-then}
 use Rattle.aa_vec.proofs.Gaps.{lent-is, refilled, LeavesBehind-view, seen, there, within, IsFront-relent}
 use Rattle.aa_vec.proofs.Stands.{count, first_are, parts, replaced_are}
 
@@ -36,7 +37,7 @@ module _ {F T A : Type 0} (Asks : F → T → T → Bool → F → T → T → T
           asked.behind ∙ ap (λ ds. Some asked.next_left ∷ drop 1 ds) was
 
       now_are : behind_items w gap n ≡ asked.next_left ∷ others
-      now_are = replaced_are v gap n stands w (asked.next_left ∷ others) _ (ap length asked.items ∙ same_end asked.front asked.last_left asked.last ∙ sym (ap length asked.had.0)) asked.block.capacity long now_behind
+      now_are = replaced_are v gap n stands w (asked.next_left ∷ others) _ (ap len asked.becomes ∙ same_end asked.front asked.last_left asked.last ∙ sym (ap length asked.had.0)) (ap (λ s. s.capacity) asked.becomes) long now_behind
 
       called : (b : Bool) → answer ≡ b → Asks f asked.next asked.last b g asked.next_left asked.last_left
       called b e = subst (λ a. Asks f asked.next asked.last a g asked.next_left asked.last_left) e asked.called
@@ -57,10 +58,8 @@ module _ {F T A : Type 0} (Asks : F → T → T → Bool → F → T → T → T
           left = left;
           had = asked.had.0;
           until = subst (λ xs. ChainsUntil Asks f asked.last xs k h (asked.last_left ∷ left)) (sym all) until;
-          items = ap (λ s. s.items) leaves.same ∙ asked.items;
+          becomes = let items : List T = asked.front ++ asked.last_left ∷ [] in subst (λ l. Becomes v l 0 0 u) (ap (λ s. s.items) asked.becomes) (Becomes-then v items 0 0 w asked.becomes w.items 0 0 u (Becomes-behind w u u.behind leaves.same) 0 0 (omega arith) (omega arith));
           behind = leaves.behind ∙ ap (λ ds. map Some left ++ ds) still_behind;
-          block = rw leaves.same (record { capacity = asked.block.capacity; growth = asked.block.growth; grown = asked.block.grown; alloc = asked.block.alloc });
-          writes = rw leaves.same (record { written = asked.writes.written; runs = asked.writes.runs });
         }
 
       -- it goes

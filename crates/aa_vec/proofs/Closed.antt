@@ -1,5 +1,5 @@
 -- What is written where gaps are closed: all that stay behind the first that goes, in one run for each that goes.
-use Rattle.aa_vec.proofs.Common.{◌≡◌, ℕ, zero, suc, ◌+◌, ◌-◌, ◌<◌, ◌≤◌, Bool, true, false, not, List, [], ◌∷◌, refl, sym, ap, ◌∙◌, subst, arith, cond, min, kept_behind_removed, removed_count, run_count, moved_over, count_by}
+use Rattle.aa_vec.proofs.Common.{◌≡◌, ℕ, zero, suc, ◌+◌, ◌-◌, ◌<◌, ◌≤◌, Bool, true, false, not, List, [], ◌∷◌, refl, sym, ap, ◌∙◌, subst, arith, cond, min, kept_behind_removed, map, run_count, moved_over, count_by}
 use Rattle.std.proofs.lemmas.List.Sums.{sum_by-cons}
 
 -- how many of those yet to be told will be written: all that stay, once there is a gap
@@ -11,9 +11,23 @@ pub still-none : (gap : ℕ) → still gap [] ≡ 0
 still-none zero = refl
 still-none (suc gap) = refl
 
+-- of elements that stay where it is true, how many go
+abbrev pub removed_count : List Bool → ℕ
+removed_count stays = count_by not stays
+
 -- one answer more
 pub counted : (p : Bool → Bool) (a : Bool) (stays : List Bool) → count_by p (a ∷ stays) ≡ cond (p a) 1 0 + count_by p stays
 counted p a stays = sum_by-cons (λ x. cond (p x) 1 0) a stays
+
+-- the same where the answer is told of each, and where it is true of those that go
+pub removed-told : {X : Type 0} (answer : X → Bool) (told : List X) → removed_count (map answer told) ≡ count_by (λ t. not (answer t)) told
+removed-told answer [] = refl
+removed-told answer (t ∷ told) = omega (arith, counted not (answer t) (map answer told), sum_by-cons (λ s. cond (not (answer s)) 1 0) t told, removed-told answer told)
+
+pub removed-not : (answers : List Bool) → removed_count (map not answers) ≡ count_by (λ goes. goes) answers
+removed-not [] = refl
+removed-not (true ∷ answers) = omega (arith, counted not false (map not answers), counted (λ goes. goes) true answers, removed-not answers)
+removed-not (false ∷ answers) = omega (arith, counted not true (map not answers), counted (λ goes. goes) false answers, removed-not answers)
 
 -- once there is a gap, all that are moved over it are written
 pub moved_some : (gap k : ℕ) → 0 < gap → moved_over gap k ≡ k

@@ -1,39 +1,50 @@
 -- Clones of elements put behind others, one after another.
-use Rattle.aa_vec.proofs.Common.{◌≡◌, ℕ, ◌+◌, ◌-◌, ◌<◌, ◌≤◌, List, [], ◌∷◌, ◌++◌, length, take, drop, get_or, replicate, refl, sym, ap, ◌∙◌, subst, arith, inr, length-append, length-drop, length-take, length-replicate, take_all, take_at, TryReserveError, Copies, Adds, Fills, Vector, len, GrowsTo, Holds, SameBlock, Writes, All, AllZip, replicate_more, get_or-replicate, get_or_append_left, get_or-drop, get_or-take, all_zip_more, same_from_all_zip, IsBeginning, Begins, Undone, Refuses, with_items, Becomes, with_room}
+use Rattle.aa_vec.proofs.Common.{◌≡◌, ℕ, ◌+◌, ◌-◌, ◌<◌, ◌≤◌, List, [], ◌∷◌, ◌++◌, length, take, drop, get_or, replicate, refl, sym, ap, ◌∙◌, subst, arith, inr, length-append, length-drop, length-take, length-replicate, take_all, take_at, append-nil, TryReserveError, Copies, Adds, Fills, Vector, len, GrowsTo, Holds, SameBlock, Writes, All, AllZip, replicate_more, get_or-replicate, get_or_append_left, get_or-drop, get_or-take, all_zip_more, same_from_all_zip, IsBeginning, Begins, Undone, Refuses, with_items, Becomes, with_room}
 use Rattle.aa_raw.specs.declared.collections.TryReserveErrorKind.TheVariants.{AllocError}
-use Rattle.aa_vec.proofs.Becoming.{GrowsTo-becomes, Writes-grown}
-use Rattle.aa_vec.proofs.GrowthLemmas.{MakesRoom, Holds-more, MakesRoom-has, MakesRoom-same, SameBlock-trans}
+use Rattle.aa_vec.proofs.Becoming.{Becomes-holds, Becomes-more, Becomes-roomy, Becomes-then, GrowsTo-becomes, SameBlock-becomes}
+use Rattle.aa_vec.proofs.GrowthLemmas.{MakesRoom, MakesRoom-has, MakesRoom-same, SameBlock-trans, with_room-fits}
 
 -- clones of one value and the value itself, where clones are copies
 pub all-copied : {T : Type 0} (clones : T → T → Type 0) (k : ℕ) (x : T) (ys : List T) → 0 < k → Copies clones → AllZip clones (replicate (k - 1) x) ys → ys ++ x ∷ [] ≡ replicate k x
 all-copied clones k x ys some copies e = ap (λ l. l ++ x ∷ []) (same_from_all_zip clones (replicate (k - 1) x) ys e copies) ∙ replicate_more (k - 1) x ∙ ap (λ n. replicate n x) {x = k - 1 + 1} {y = k} (omega (arith, some))
 
 module _ {T A : Type 0} where
-  -- room was made, and what was put there is gone
+  -- once room was made, what was put there is gone
+  pub Undone-made : (old mid new : Vector T A) → Becomes old old.items 0 0 mid → (k : ℕ) → Undone mid k new → Undone old k new
+  Undone-made old mid new made k u = record { done = u.done; fewer = u.fewer; becomes = Becomes-roomy old mid new made (λ l. l) u.done u.becomes }
+
   pub Refuses-undone : (failure : Type 0) (size : ℕ) (old mid new : Vector T A) (k : ℕ) (error : TryReserveError) → Becomes (with_room size old (len old) k) old.items 0 0 mid → Undone mid k new → failure → error.kind ≡ AllocError (len old + k)
       → Refuses failure size old k error new
-  Refuses-undone failure size old mid new k error e u cause number = let made = GrowsTo-becomes old old.items 0 0 mid size k e in let w = Writes-grown old old.items 0 0 mid size k e in inr (record {
-    cause = cause;
-    number = number;
-    left = record { items = u.holds.items ∙ made.items; room = SameBlock-trans made.room u.holds.block };
-    done = u.done;
-    fewer = u.fewer;
-    writes = omega (arith, w.written, w.runs, u.writes.written, u.writes.runs);
-  })
+  Refuses-undone failure size old mid new k error e u cause number = inr (record { cause = cause; number = number; undone = Undone-made (with_room size old (len old) k) mid new e k u })
 
   module _ (clones : T → T → Type 0) where
+    -- clones put there stand behind the items there were
+    pub Adds-made : (old mid new : Vector T A) → Becomes old old.items 0 0 mid → (xs : List T) → Adds clones mid xs new → Adds clones old xs new
+    Adds-made old mid new made xs p = record { added = p.added; each = p.each; becomes = Becomes-roomy old mid new made (λ l. l ++ p.added) (length xs) p.becomes }
+
+    pub Fills-made : (old mid new : Vector T A) → Becomes old old.items 0 0 mid → (k : ℕ) (x : T) → Fills clones mid k x new → Fills clones old k x new
+    Fills-made old mid new made k x p = record { added = p.added; each = p.each; becomes = Becomes-roomy old mid new made (λ l. l ++ (p.added ++ x ∷ [])) k p.becomes }
+
+    -- of all of a list, and where they are copies
+    pub Adds-all : (old new : Vector T A) (xs : List T) (k : ℕ) → Adds clones old (take k xs) new → k ≡ length xs → Adds clones old xs new
+    Adds-all old new xs k p e = subst (λ l. Adds clones old l new) (take_all k xs (omega (arith, e))) p
+
+    pub Adds-copied : (old new : Vector T A) (xs : List T) → Copies clones → Adds clones old xs new → Becomes old (old.items ++ xs) (length xs) (length xs) new
+    Adds-copied old new xs copies p = subst (λ l. Becomes old (old.items ++ l) (length xs) (length xs) new) (same_from_all_zip clones xs p.added p.each copies) p.becomes
+
     -- a clone of the next item of a list
     pub Adds-take : (old mid new : Vector T A) (xs : List T) (i : ℕ) (x y : T) → Adds clones old (take i xs) mid → i < length xs → x ≡ get_or xs i x → clones x y → Holds mid (mid.items ++ y ∷ []) new → Writes mid 1 1 new → Adds clones old (take (i + 1) xs) new
-    Adds-take old mid new xs i x y p h e c q w = record {
-      added = p.added ++ y ∷ [];
-      each = all_zip_more clones xs p.added i x y h e p.each c;
-      holds = Holds-more old mid new p.added (y ∷ []) p.holds q;
-      writes = omega (arith, length-take i xs, length-take (i + 1) xs);
-    }
+    Adds-take old mid new xs i x y p h e c q w =
+        let count : length (take i xs) + 1 ≡ length (take (i + 1) xs) = omega (arith, length-take i xs, length-take (i + 1) xs, h) in
+        record {
+          added = p.added ++ y ∷ [];
+          each = all_zip_more clones xs p.added i x y h e p.each c;
+          becomes = Becomes-more old mid new p.added (y ∷ []) _ _ 1 1 _ _ p.becomes (Becomes-holds mid (mid.items ++ y ∷ []) 1 1 new q w) count count;
+        }
 
     -- of a list that is a part of the items
     own-item : (old mid : Vector T A) (xs : List T) (from i : ℕ) (x : T) → from + i < len old → x ≡ get_or mid.items (from + i) x → Adds clones old xs mid → x ≡ get_or (drop from old.items) i x
-    own-item old mid xs from i x h e p = e ∙ ap (λ l. get_or l (from + i) x) p.holds.items ∙ get_or_append_left old.items p.added x (from + i) h ∙ sym (get_or-drop from old.items i x)
+    own-item old mid xs from i x h e p = e ∙ ap (λ v. get_or v.items (from + i) x) p.becomes ∙ get_or_append_left old.items p.added x (from + i) h ∙ sym (get_or-drop from old.items i x)
 
     pub Adds-own : (old mid new : Vector T A) (from i : ℕ) (x y : T) → Adds clones old (take i (drop from old.items)) mid → from + i < len old → x ≡ get_or mid.items (from + i) x → clones x y → Holds mid (mid.items ++ y ∷ []) new → Writes mid 1 1 new → Adds clones old (take (i + 1) (drop from old.items)) new
     Adds-own old mid new from i x y p h e c = Adds-take old mid new (drop from old.items) i x y p (omega (arith, h, length-drop from old.items)) (own-item old mid (take i (drop from old.items)) from i x h e p) c
@@ -49,49 +60,78 @@ module _ {T A : Type 0} where
     pub Adds-same : (old mid new : Vector T A) (k i : ℕ) (x y : T) → Adds clones old (take i (replicate k x)) mid → i < k → clones x y → Holds mid (mid.items ++ y ∷ []) new → Writes mid 1 1 new → Adds clones old (take (i + 1) (replicate k x)) new
     Adds-same old mid new k i x y p h = Adds-take old mid new (replicate k x) i x y p (omega (arith, h, length-replicate k x)) (sym (get_or-replicate k i x x h))
 
+    -- and the value itself
+    pub Fills-last : (old mid new : Vector T A) (k : ℕ) (x : T) → 0 < k → Adds clones old (replicate (k - 1) x) mid → Holds mid (mid.items ++ x ∷ []) new → Writes mid 1 1 new → Fills clones old k x new
+    Fills-last old mid new k x some p q w =
+        let count : length (replicate (k - 1) x) + 1 ≡ k = omega (arith, length-replicate (k - 1) x, some) in
+        record { added = p.added; each = p.each; becomes = Becomes-more old mid new p.added (x ∷ []) _ _ 1 1 k k p.becomes (Becomes-holds mid (mid.items ++ x ∷ []) 1 1 new q w) count count }
+
     -- of a beginning of a list, into a vector that was emptied
     pub Adds-begun : (mid new : Vector T A) (xs : List T) (n : ℕ) → Copies clones → Adds clones mid (take n xs) new → mid.items ≡ [] → n < length xs → IsBeginning xs new.items
     Adds-begun mid new xs n copies p none less =
-        let e : new.items ≡ take n xs = p.holds.items ∙ ap (λ l. l ++ p.added) none ∙ same_from_all_zip clones (take n xs) p.added p.each copies in
+        let e : new.items ≡ take n xs = ap (λ v. v.items) p.becomes ∙ ap (λ l. l ++ p.added) none ∙ same_from_all_zip clones (take n xs) p.added p.each copies in
         e ∙ ap (λ k. take k xs) (omega (arith, ap length e, length-take n xs, less))
 
     -- the clones that were put there are dropped
-    pub Undone-cut : (old mid new : Vector T A) (xs : List T) (k : ℕ) → Adds clones old xs mid → Holds mid (take (len old) mid.items) new → Writes mid 0 0 new → length xs < k → Undone old k new
-    Undone-cut old mid new xs k p h w less = record {
-      done = length xs;
-      fewer = less;
-      holds = record { items = h.items ∙ ap (take (len old)) p.holds.items ∙ take_at old.items p.added (len old) refl; block = SameBlock-trans p.holds.block h.block };
-      writes = omega arith;
-    }
+    pub Undone-cut : (old mid new : Vector T A) (xs : List T) (k : ℕ) → Adds clones old xs mid → Becomes mid (take (len old) mid.items) 0 0 new → length xs < k → Undone old k new
+    Undone-cut old mid new xs k p cut less =
+        let n : ℕ = length xs in let items : take (len old) mid.items ≡ old.items = ap (λ v. take (len old) v.items) p.becomes ∙ take_at old.items p.added (len old) refl in
+        record {
+          done = n;
+          fewer = less;
+          becomes = subst (λ l. Becomes old l n n new) items (Becomes-then old (old.items ++ p.added) n n mid p.becomes (take (len old) mid.items) 0 0 new cut n n (omega arith) (omega arith));
+        }
 
-  -- the same in a vector that has just made room for all of them
-  module _ (size : ℕ) (old mid new : Vector T A) (k : ℕ) (made : GrowsTo size old k old.items mid) where
-    pub grown-to : (ys : List T) → Holds mid (mid.items ++ ys) new → GrowsTo size old k (old.items ++ ys) new
-    grown-to ys h = record { items = h.items ∙ ap (λ l. l ++ ys) made.items; room = SameBlock-trans made.room h.block }
+  -- there is room for all of them then
+  pub room-there : (size : ℕ) (old mid : Vector T A) (k : ℕ) → GrowsTo size old k old.items mid → len old ≤ old.capacity → k ≤ mid.capacity - len mid
+  room-there size old mid k made within = rw made.items (MakesRoom-has size (len old) k old mid made.room)
 
-    pub room-there : len old ≤ old.capacity → k ≤ mid.capacity - len mid
-    room-there within = rw made.items (MakesRoom-has size (len old) k old mid made.room)
-
-  pub Resized-copied : (clones : T → T → Type 0) (size : ℕ) (old mid new : Vector T A) (n : ℕ) (x : T) → Copies clones → GrowsTo size old (n - len old) old.items mid → Fills clones mid (n - len old) x new → len old < n
-      → GrowsTo size old (n - len old) (take n old.items ++ replicate (n - len old) x) new
+  -- a vector that was filled up with copies, or cut
+  pub Resized-copied : (clones : T → T → Type 0) (size : ℕ) (old mid new : Vector T A) (n : ℕ) (x : T) → Copies clones → Becomes (with_room size old (len old) (n - len old)) old.items 0 0 mid → Fills clones mid (n - len old) x new → len old < n
+      → Becomes (with_room size old (len old) (n - len old)) (take n old.items ++ replicate (n - len old) x) (n - len old) (n - len old) new
   Resized-copied clones size old mid new n x copies made p more =
-      rw (take_all n old.items (omega (arith, more)), ← all-copied clones (n - len old) x p.added (omega (arith, more)) copies p.each) (grown-to size old mid new (n - len old) made (p.added ++ x ∷ []) p.holds)
+      let k : ℕ = n - len old in
+      let f = Fills-made clones (with_room size old (len old) k) mid new made k x p in
+      rw (take_all n old.items (omega (arith, more)), ← all-copied clones k x f.added (omega (arith, more)) copies f.each) f.becomes
 
--- room that was made once all items were dropped, and clones of a beginning that were put there
-pub Begins-made : {T A : Type 0} (size : ℕ) (old cleared : Vector T A) → Holds old [] cleared → (mid new : Vector T A) (clones : T → T → Type 0) (failure : Type 0) (xs : List T) (n : ℕ) (error : TryReserveError) → Writes old 0 0 cleared
-    → GrowsTo size cleared (length xs) cleared.items mid → Writes cleared 0 0 mid → n < length xs → Adds clones mid (take n xs) new → failure → error.kind ≡ AllocError (length xs) → Begins clones failure size old xs error new
-Begins-made size old cleared none mid new clones failure xs n error w made v less p cause number =
-    let same : SameBlock (with_items old []) cleared = record { capacity = none.block.capacity; growth = none.block.growth; grown = none.block.grown; alloc = none.block.alloc } in
-    let room = MakesRoom-same size (len cleared) (length xs) same (SameBlock-trans made.room p.holds.block) in
-    record {
-      cause = cause;
-      number = number;
-      done = n;
-      fewer = less;
-      added = p.added;
-      each = p.each;
-      grows = record { items = p.holds.items ∙ ap (λ l. l ++ p.added) (made.items ∙ none.items); room = subst (λ l. MakesRoom size (with_items old []) l (length xs) new) (ap length none.items) room };
-      writes = omega (arith, length-take n xs);
-    }
+  pub Resized-cut : (size : ℕ) (old new : Vector T A) (n : ℕ) (x : T) → n ≤ len old → Becomes old (take n old.items) 0 0 new → Becomes (with_room size old (len old) (n - len old)) (take n old.items ++ replicate (n - len old) x) (n - len old) (n - len old) new
+  Resized-cut size old new n x less cut =
+      let k : ℕ = n - len old in let none : k ≡ 0 = omega (arith, less) in
+      let items : take n old.items ≡ take n old.items ++ replicate k x = sym (append-nil (take n old.items)) ∙ ap (λ m. take n old.items ++ replicate m x) (sym none) in
+      let block = SameBlock-trans (with_room-fits size old (len old) k (omega (arith, none))) (SameBlock-becomes old (take n old.items) 0 0 new cut) in
+      Becomes-holds (with_room size old (len old) k) (take n old.items ++ replicate k x) k k new (record { items = ap (λ v. v.items) cut ∙ items; block = record { capacity = block.capacity; growth = block.growth; grown = block.grown; alloc = block.alloc } })
+      (record { written = omega (arith, ap (λ v. v.written) cut, none); runs = omega (arith, ap (λ v. v.runs) cut, none) })
 
-pub ruleset copied = (Begins-made, Adds-take, Adds-same, Adds-own, own-fails, Undone-cut, Resized-copied, length-replicate, length-take)
+  -- room that was made once all items were dropped
+  pub assigned-room : (size k : ℕ) (old cleared mid : Vector T A) → Becomes old [] 0 0 cleared → Becomes (with_room size cleared (len cleared) k) cleared.items 0 0 mid → Becomes (with_room size (with_items old []) 0 k) [] 0 0 mid
+  assigned-room size k old cleared mid c m =
+      let same : SameBlock (with_items old []) cleared = record { capacity = ap (λ v. v.capacity) c; growth = ap (λ v. v.growth) c; grown = ap (λ v. v.grown) c; alloc = ap (λ v. v.alloc) c } in
+      let room = subst (λ l. MakesRoom size (with_items old []) l k mid) (ap len c) (MakesRoom-same size (len cleared) k same (GrowsTo-becomes cleared cleared.items 0 0 mid size k m).room) in
+      Becomes-holds (with_room size (with_items old []) 0 k) [] 0 0 mid (record { items = ap (λ v. v.items) m ∙ ap (λ v. v.items) c; block = room })
+      (record { written = omega (arith, ap (λ v. v.written) m, ap (λ v. v.written) c); runs = omega (arith, ap (λ v. v.runs) m, ap (λ v. v.runs) c) })
+
+  -- and clones of a beginning that were put there
+  pub Begins-made : (size : ℕ) (old cleared mid new : Vector T A) → Becomes old [] 0 0 cleared → (clones : T → T → Type 0) (failure : Type 0) (xs : List T) (n : ℕ) (error : TryReserveError) → Becomes (with_room size cleared (len cleared) (length xs)) cleared.items 0 0 mid
+      → n < length xs → Adds clones mid (take n xs) new → failure → error.kind ≡ AllocError (length xs) → Begins clones failure size old xs error new
+  Begins-made size old cleared mid new c clones failure xs n error m less p cause number =
+      let roomy : Vector T A = with_room size (with_items old []) 0 (length xs) in let count : length (take n xs) ≡ n = omega (arith, length-take n xs, less) in
+      record {
+        cause = cause;
+        number = number;
+        done = n;
+        fewer = less;
+        added = p.added;
+        each = p.each;
+        becomes = subst (λ i. Becomes roomy p.added i i new) count (Becomes-roomy roomy mid new (assigned-room size (length xs) old cleared mid c m) (λ l. l ++ p.added) (length (take n xs)) p.becomes);
+      }
+
+  pub Adds-assigned : (clones : T → T → Type 0) (size : ℕ) (old cleared mid new : Vector T A) → Becomes old [] 0 0 cleared → (xs : List T) → Becomes (with_room size cleared (len cleared) (length xs)) cleared.items 0 0 mid → (k : ℕ) → Adds clones mid (take k xs) new → k ≡ length xs
+      → Adds clones (with_room size (with_items old []) 0 (length xs)) xs new
+  Adds-assigned clones size old cleared mid new c xs m k p all =
+      Adds-made clones (with_room size (with_items old []) 0 (length xs)) mid new (assigned-room size (length xs) old cleared mid c m) xs (Adds-all clones mid new xs k p all)
+
+-- clones, put one by one
+pub ruleset copied = (Adds-take, Adds-same, Adds-own, own-fails, Undone-cut, length-replicate, length-take)
+
+-- and in room that was made for all of them
+pub ruleset cloned = (copied, Begins-made, Adds-assigned, Adds-made, Adds-all, Adds-copied, Fills-last, Fills-made, Refuses-undone, Resized-copied, Resized-cut)

@@ -1,7 +1,9 @@
 -- Elements asked beside the last one kept, of which those that stay were moved down.
-use Rattle.aa_vec.proofs.Common.{IsCallableAlong, ◌≡◌, ℕ, zero, suc, ◌+◌, ◌-◌, ◌≤◌, ◌<◌, Bool, true, false, not, List, [], ◌∷◌, ◌++◌, length, map, take, drop, refl, sym, ap, ◌∙◌, subst, arith, append_assoc, length-append, StandsBehind, SetsBack, behind_items, kept_behind_removed, removed_count, ChainsFrom, Deduplicated, MayChainFrom, MayDeduplicate, Deduplicates, ChainsUntil, ChainsBehind, Vector, len, same_from_push}
+use Rattle.aa_vec.proofs.Common.{IsCallableAlong, ◌≡◌, ℕ, zero, suc, ◌+◌, ◌-◌, ◌≤◌, ◌<◌, Bool, true, false, not, List, [], ◌∷◌, ◌++◌, length, map, take, drop, refl, sym, ap, ◌∙◌, subst, arith, append_assoc, length-append, StandsBehind, SetsBack, behind_items, kept_behind_removed, ChainsFrom, Deduplicated, MayChainFrom, MayDeduplicate, Deduplicates, ChainsUntil, ChainsBehind, Vector, len, Becomes, same_from_push}
+use Rattle.aa_vec.proofs.Becoming.{Becomes-refl}
+use Rattle.aa_vec.proofs.Becoming.{SameBlock-becomes, Writes-becomes}
 use Rattle.aa_vec.proofs.Chains.{same_end, split_last}
-use Rattle.aa_vec.proofs.Closed.{marks}
+use Rattle.aa_vec.proofs.Closed.{marks, removed_count, removed-not}
 use Rattle.aa_vec.proofs.Stages.{Turn, Stage, Turned, turned, start-len, stage-start, stage-ended}
 use Rattle.aa_vec.proofs.Stands.{count, replaced_are, replaced_stand}
 
@@ -75,18 +77,18 @@ module _ {F T : Type 0} (Asks : F → T → T → Bool → F → T → T → Typ
           let r = follows h g asked.last (behind_items v gap n) k ws asked.until in
           let many : length (behind_items v gap n) ≡ n = count v gap n stands in
           let long : length asked.left ≡ n = omega (arith, r.long, many) in
-          let same : len w ≡ len v = ap length asked.items ∙ same_end asked.front asked.last_left asked.last ∙ sym (ap length asked.had) in
+          let same : len w ≡ len v = ap len asked.becomes ∙ same_end asked.front asked.last_left asked.last ∙ sym (ap length asked.had) in
           let front : List T = asked.front ++ r.before in
           let items : w.items ++ take k asked.left ≡ front ++ r.last ∷ [] =
-          ap (λ l. l ++ take k asked.left) asked.items ∙ append_assoc asked.front (asked.last_left ∷ []) (take k asked.left) ∙ ap (λ l. asked.front ++ l) r.are ∙ sym (append_assoc asked.front r.before (r.last ∷ [])) in
+          ap (λ s. s.items ++ take k asked.left) asked.becomes ∙ append_assoc asked.front (asked.last_left ∷ []) (take k asked.left) ∙ ap (λ l. asked.front ++ l) r.are ∙ sym (append_assoc asked.front r.before (r.last ∷ [])) in
           record {
             left = asked.left;
             within = omega (arith, r.within, many);
-            stands = replaced_stand v gap n stands w asked.left _ same asked.block.capacity long asked.behind;
-            are = replaced_are v gap n stands w asked.left _ same asked.block.capacity long asked.behind;
+            stands = replaced_stand v gap n stands w asked.left _ same (ap (λ s. s.capacity) asked.becomes) long asked.behind;
+            are = replaced_are v gap n stands w asked.left _ same (ap (λ s. s.capacity) asked.becomes) long asked.behind;
             long = same;
-            block = asked.block;
-            writes = asked.writes;
+            block = SameBlock-becomes _ _ _ _ _ asked.becomes;
+            writes = Writes-becomes _ _ _ _ _ asked.becomes;
             may = λ m. record {
               some = omega (arith, ap length items, length-append front (r.last ∷ []));
               along = λ fr l e. subst (λ y. MayChainFrom Asks Takes g y (drop 1 (drop k asked.left))) (same_from_push front fr r.last l (sym items ∙ e)).1 (r.may (m.along asked.front asked.last asked.had));
@@ -106,6 +108,10 @@ module _ {F T : Type 0} (Asks : F → T → T → Bool → F → T → T → Typ
                 };
           }
 
+-- there is none
+pub Deduplicates-none : {F T A : Type 0} {Asks : F → T → T → Bool → F → T → T → Type 0} (f : F) (old : Vector T A) → old.items ≡ [] → Deduplicates Asks f old f old
+Deduplicates-none {Asks = Asks} f old none = record { answers = []; left = []; asked = subst (λ xs. Deduplicated Asks f xs [] f []) (sym none) (refl, refl, refl); runs = 0; few = omega arith; becomes = subst (λ l. Becomes old l 0 0 old) none (Becomes-refl old) }
+
 module _ {F T A : Type 0} {Asks : F → T → T → Bool → F → T → T → Type 0} {Takes : F → T → T → Type 0} where
   pub chained-turn : {f h g : F} {old v w : Vector T A} {at end k n : ℕ} → Stage (Told Asks) (May Asks Takes) f (take 1 old.items) (drop 1 old.items) old h v at end → n ≡ len v → ChainsBehind Asks h v (at - n) (end - at) k g w
       → Turned (Told Asks) (May Asks Takes) f (take 1 old.items) (drop 1 old.items) old at end (at - n) k g w
@@ -124,9 +130,9 @@ module _ {F T A : Type 0} {Asks : F → T → T → Bool → F → T → T → T
         answers = r.answers;
         left = w.items;
         asked = whole Asks Takes f old.items q.0 g w.items r;
-        holds = record { items = refl; block = q.4 };
-        written = q.2 ∙ ap (λ s. old.written + kept_behind_removed s) (sym r.stay);
-        runs = subst (λ s. w.runs ≤ old.runs + removed_count s) (sym r.stay) q.3;
+        runs = q.2;
+        few = omega (arith, q.3, ap removed_count r.stay, removed-not r.answers);
+        becomes = subst (λ s. Becomes old w.items (kept_behind_removed s) q.2 w) (sym r.stay) q.4;
       }
 
-pub ruleset ended = (Deduplicates-ended, chained-start)
+pub ruleset ended = (Deduplicates-ended, Deduplicates-none, chained-start)

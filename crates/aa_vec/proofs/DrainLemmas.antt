@@ -1,27 +1,26 @@
 -- Steps of a drain.
-use Rattle.aa_vec.proofs.Common.{re_v, ◌≡◌, ℕ, ◌+◌, ◌-◌, ◌<◌, ◌≤◌, List, [], ◌∷◌, ◌++◌, length, take, drop, Option, Some, None, refl, sym, ap, ◌∙◌, subst, arith, length-append, length-drop, length-set, length-take, MutBor, slice_set, drop-drop, drop-set-add, drop-set-lt, drop-take, IsRun, run, run-split, run-set-above, IsRun-part, IsRun-set-above, length-run, StandsBehind, SetsBack, behind_items, Vector, len, ClosesTwice, Moves, Drain, slice_range, YieldsInOrder, YieldsInReverse, run-none, DropsAndCloses}
+use Rattle.aa_vec.proofs.Common.{re_v, ◌≡◌, ℕ, ◌+◌, ◌-◌, ◌<◌, ◌≤◌, List, [], ◌∷◌, ◌++◌, length, take, drop, Option, Some, None, refl, sym, ap, ◌∙◌, subst, arith, length-append, length-drop, length-set, length-take, MutBor, slice_set, drop-drop, drop-set-add, drop-set-lt, drop-take, IsRun, run, run-split, run-set-above, IsRun-part, IsRun-set-above, length-run, StandsBehind, SetsBack, behind_items, Vector, len, Becomes, ClosesTwice, Drain, slice_range, Yields, YieldsInOrder, YieldsInReverse, run-none, MovesDown, run_count, moved_over}
 use Rattle.std.proofs.iter.runs.Sources.{from_front, from_back, as_is, as_is_back}
 use Rattle.aa_vec.proofs.Gaps.{run-of_drop, IsRun-to_drop}
-use Rattle.aa_vec.specs.Drain.{Closes, KeepsRest, TakesRange, DrainKeeps, DrainKeepsAlong, drain_rest, drain_tail, drains_first, drains_last}
-use Rattle.aa_vec.proofs.GrowthLemmas.{SameBlock-refl, SameBlock-trans}
+use Rattle.aa_vec.specs.Drain.{Closes, KeepsRest, TakesRange, DrainKeeps, drain_rest, drain_tail, drains_first, drains_last}
+use Rattle.aa_vec.proofs.Becoming.{Becomes-refl, Becomes-then}
 use Rattle.aa_vec.proofs.BehindLemmas.{part_stand, later_part}
 use Rattle.aa_vec.proofs.Stands.{first_are}
 
 module _ {T A : Type 0} where
   -- nothing is changed where the drain is
   pub keeps-same : (d : Drain T A) → DrainKeeps d d
-  keeps-same d = record { lender = refl; head = record { items = refl; block = SameBlock-refl d.vec.now }; writes = record { written = omega arith; runs = omega arith }; tail = refl; range = refl }
+  keeps-same d = record { lender = refl; becomes = Becomes-refl d.vec.now; tail = refl; range = refl }
 
   pub keeps-then : (d e f : Drain T A) → DrainKeeps d e → DrainKeeps e f → DrainKeeps d f
   keeps-then d e f h k = record {
     lender = k.lender ∙ h.lender;
-    head = record { items = k.head.items ∙ h.head.items; block = SameBlock-trans h.head.block k.head.block };
-    writes = record { written = omega (arith, k.writes.written, h.writes.written); runs = omega (arith, k.writes.runs, h.writes.runs) };
+    becomes = subst (λ xs. Becomes d.vec.now xs 0 0 f.vec.now) (ap (λ v. v.items) h.becomes) (Becomes-then d.vec.now d.vec.now.items 0 0 e.vec.now h.becomes e.vec.now.items 0 0 f.vec.now k.becomes 0 0 (omega arith) (omega arith));
     tail = k.tail ∙ h.tail;
     range = k.range ∙ h.range;
   }
 
-  pub keeps-along : (d : Drain T A) → DrainKeepsAlong d
+  pub keeps-along : (d : Drain T A) (xs : List T) (later : Drain T A) → Yields drains_first d xs later → DrainKeeps d later
   keeps-along d [] later y = subst (DrainKeeps d) y (keeps-same d)
   keeps-along d (x ∷ xs) later y = keeps-then d y.0 later y.1.0 (keeps-along y.0 xs later y.2)
 
@@ -34,7 +33,7 @@ module _ {T A : Type 0} where
 
   -- what is left, and what is behind the range, as places of the vector's block
   pub rest_is : (d : Drain T A) → drain_rest d ≡ behind_items d.vec.now d.front (d.back - d.front)
-  unfolding drain_rest
+  unfolding drain_rest run
   rest_is d = refl
 
   pub tail_is : (d : Drain T A) → drain_tail d ≡ behind_items d.vec.now d.end (d.total - d.end)
@@ -43,7 +42,7 @@ module _ {T A : Type 0} where
 
   -- how many they are
   pub count_left : (d : Drain T A) → length (drain_rest d) ≡ d.back - d.front
-  unfolding drain_rest
+  unfolding drain_rest run
   count_left d = length-run (drop d.front d.vec.now.behind) 0 (d.back - d.front) d.held.0.1
 
   pub count_behind : (d : Drain T A) → length (drain_tail d) ≡ d.total - d.end
@@ -72,8 +71,7 @@ module _ {T A : Type 0} where
     pub range_drains : (lent : MutBor (Vector T A)) (ordered : (0 ≤ n) × (n ≤ n) × (n ≤ total)) (held : StandsBehind new 0 (n - 0) × StandsBehind new n (total - n)) → TakesRange old a b (record { vec = re_v new lent; front = 0; back = n; end = n; total = total; ordered = ordered; held = held })
     unfolding drain_rest run
     range_drains lent ordered held = record {
-      head = sets.holds;
-      writes = sets.writes;
+      becomes = sets.becomes;
       rest = ap (behind_items new 0) (omega arith) ∙ first_are new 0 total all n (omega (arith, count, range)) ∙ ap (take n) all_are;
       tail = grind (arith, later_part new 0 n total (total - n) (omega (arith, count, range)) all, all_are, drop-drop n a old.items);
       range = refl;
@@ -114,16 +112,17 @@ module _ {X : Type 0} (bs : List (Option X)) (f b : ℕ) (some : f < b) (r : IsR
 pub ruleset from_ends = (rest_is, tail_is, run-next, IsRun-next, run-last, IsRun-end, run-before, IsRun-before, drop-set-lt, run-none, length-set, length-drop, length-append)
 
 -- what `drop_and_close` says, and what `drop` says
-pub closes : {X Y : Type 0} (d : Drain X Y) (w : Vector X Y) → DropsAndCloses d.vec.now d.end (d.total - d.end) w → Closes d w
+pub closes : {X Y : Type 0} (d : Drain X Y) (w : Vector X Y) → MovesDown d.vec.now d.end (d.total - d.end) w → Closes d w
 unfolding run
-closes d w h = record { holds = h.holds; writes = subst (λ n. Moves d.vec.now d.end n w) (sym (count_behind d)) h.writes }
+closes d w h = let P : ℕ → Type 0 = λ n. Becomes d.vec.now (d.vec.now.items ++ drain_tail d) (moved_over d.end n) (run_count (moved_over d.end n)) w in subst P (sym (count_behind d)) h
 
 -- what `close_gaps` says, and what `keep_rest` says
 pub keeps : {X Y : Type 0} (d : Drain X Y) (w : Vector X Y) → ClosesTwice d.vec.now d.front (d.back - d.front) d.end (d.total - d.end) w → KeepsRest d w
 unfolding drain_rest run
 keeps d w h =
     let taken : d.end - (d.back - d.front) ≡ d.front + (d.end - d.back) = omega (arith, d.ordered) in
-    record { holds = h.holds; writes = rw (count_left d, count_behind d, ← taken) h.writes }
+    let P : ℕ → ℕ → ℕ → Type 0 = λ n m g. Becomes d.vec.now (d.vec.now.items ++ (drain_rest d ++ drain_tail d)) (moved_over d.front n + moved_over g m) (run_count (moved_over d.front n) + run_count (moved_over g m)) w in
+    subst (λ g. P (length (drain_rest d)) (length (drain_tail d)) g) taken (subst (λ n. P n (length (drain_tail d)) (d.end - (d.back - d.front))) (sym (count_left d)) (subst (λ m. P (d.back - d.front) m (d.end - (d.back - d.front))) (sym (count_behind d)) h))
 
 -- what follows calls of a range that was taken
 pub ruleset ranges = (keeps-along, runs-in_order, runs-in_reverse)

@@ -1,10 +1,10 @@
 -- A vector that items of an iterator are put behind.
-use Rattle.aa_vec.proofs.Common.{◌≡◌, ℕ, zero, suc, ◌+◌, ◌-◌, ◌<◌, ◌≤◌, List, [], ◌∷◌, ◌++◌, length, Option, Some, None, Ok, append_assoc, refl, sym, ap, ◌∙◌, subst, arith, length-append, min, map, Count, Yields, Drains, append-nil, TryReserveError, usize_max, Vector, len, HasRoom, LacksRoom, GrowsTo, Holds, Writes, Placed, FillsGap, GrowsInSteps, stays, YieldsTelling, ExtendsByAll, ExtendsByFront, Extended, LeavesIter, CopiesOf, Result, Err, count_of, WholeRun, asked_with, Becomes, with_room}
+use Rattle.aa_vec.proofs.Common.{◌≡◌, ℕ, zero, suc, ◌+◌, ◌-◌, ◌<◌, ◌≤◌, List, [], ◌∷◌, ◌++◌, length, Option, Some, None, Ok, append_assoc, refl, sym, ap, ◌∙◌, subst, arith, length-append, min, map, Count, Yields, Drains, append-nil, TryReserveError, usize_max, Vector, len, HasRoom, LacksRoom, Holds, Writes, Placed, FillsGap, GrowsInSteps, stays, YieldsTelling, Takes, ExtendsAll, ExtendsFull, Extended, CopiesOf, Result, Err, OnOk, IfErr, count_of, WholeRun, asked_with, Becomes, with_room}
 use Rattle.std.specs.Borrow.{Bor}
-use Rattle.aa_vec.proofs.Answered.{IsOk, on_ok, if_err}
+use Rattle.aa_vec.proofs.Answered.{IsOk, on_ok}
 use Rattle.std.proofs.iter.runs.Consumers.{total_runs}
 use Rattle.aa_vec.proofs.Becoming.{GrowsTo-becomes, Writes-grown}
-use Rattle.aa_vec.proofs.GrowthLemmas.{MakesRoom, SameBlock-refl, MakesRoom-fits, MakesRoom-rises, GrowsInSteps-same, GrowsInSteps-more, GrowsInSteps-rises, GrowsInSteps-counted, GrowsInSteps-keeps}
+use Rattle.aa_vec.proofs.GrowthLemmas.{MakesRoom, SameBlock-refl, MakesRoom-fits, MakesRoom-rises, GrowsInSteps-same, GrowsInSteps-more, GrowsInSteps-rises, GrowsInSteps-counted}
 
 -- the items that came, as one run
 pub whole_run : {S A : Type 0} (steps : S → Option A → S → Type 0) (s : S) (P : List A → Type 0) → (xs : List A) × Drains steps s xs × P xs → WholeRun steps s (λ p. P p.items)
@@ -17,14 +17,14 @@ told_behind n lower (suc k) = lower k
 
 module _ {S T : Type 0} (steps : S → Option T → S → Type 0) (Tells : S → ℕ → Type 0) where
   pub YieldsTelling-more : (lower : ℕ → ℕ) (n : ℕ) (s : S) (xs : List T) (t : S) (x : T) (u : S) → YieldsTelling steps Tells lower s xs t → steps t (Some x) u → Tells u n → YieldsTelling steps Tells (told_behind n lower) s (xs ++ x ∷ []) u
-  YieldsTelling-more lower n s [] t x u y p h = (u, subst (λ k. steps k (Some x) u) (sym y) p, h, refl)
+  YieldsTelling-more lower n s [] t x u y p h = (y.0, u, subst (λ k. steps k (Some x) u) (sym y.1) p, (h, refl))
   YieldsTelling-more lower n s (z ∷ xs) t x u y p h =
       let e : suc (length xs) ≡ length (xs ++ x ∷ []) = omega (arith, length-append xs (x ∷ [])) in
-      (y.0, y.1, subst (λ k. Tells y.0 (told_behind n lower k)) e y.2, YieldsTelling-more lower n y.0 xs t x u y.3 p h)
+      (subst (λ k. Tells s (told_behind n lower (suc k))) e y.0, y.1, y.2, YieldsTelling-more lower n y.1 xs t x u y.3 p h)
 
   pub Yields-told : (lower : ℕ → ℕ) (s : S) (xs : List T) (t : S) → YieldsTelling steps Tells lower s xs t → Yields steps s xs t
-  Yields-told lower s [] t y = y
-  Yields-told lower s (x ∷ xs) t y = (y.0, y.1, Yields-told lower y.0 xs t y.3)
+  Yields-told lower s [] t y = y.1
+  Yields-told lower s (x ∷ xs) t y = (y.1, y.2, Yields-told lower y.1 xs t y.3)
 
   -- the same of items that followed, where each state tells some number
   told_on : ((s : S) → (n : ℕ) × Tells s n) → (lower : ℕ → ℕ) (s : S) (front : List T) (t : S) (xs : List T) (u : S) → YieldsTelling steps Tells lower s front t → Yields steps t xs u
@@ -39,12 +39,13 @@ module _ {S T : Type 0} (steps : S → Option T → S → Type 0) (Tells : S →
       (r.0, subst Q (append_assoc front (x ∷ []) xs) r.1, λ k. r.2 (suc k) ∙ ap r.0 (omega arith))
 
   module _ {A : Type 0} (size : ℕ) (iter : S) (old : Vector T A) where
-    -- an extension, by what it leaves of the iterator
-    pub Extended-left : (left : S → Count) (after : S) (r : Result Unit TryReserveError) (new : Vector T A) → LeavesIter steps Tells size iter old after r new → (HasRoom old (count_of (left iter)) → IsOk r) → Writes old (len new - len old) (len new - len old) new
-        → Extended steps Tells left size iter old r new × LeavesIter steps Tells size iter old after r new
-    Extended-left left after r new l fits writes =
-        let ran = on_ok r l.ended (λ e. let x = e.0 in (x.added, (x.ends.0, (x.last, Yields-told x.lower iter x.added x.last x.told, x.ends.1)), x.items)) in
-        (record { items = ran; runs = on_ok r ran (whole_run steps iter (λ xs. new.items ≡ old.items ++ xs)); fits = fits; room = on_ok r l.ended (λ e. e.0); writes = writes; refused = if_err r l.stopped (λ _ e. e.0) }, l)
+    -- an extension, by its two outcomes
+    pub Extended-left : (left : S → Count) (after : S) (r : Result Unit TryReserveError) (new : Vector T A) → OnOk r (Takes steps Tells iter (λ lower xs last. steps last None after × ExtendsAll size lower old old.items xs new))
+        → IfErr r (λ e. Takes steps Tells iter (λ lower xs last. (last ≡ after) × (full : ExtendsFull size lower old old.items xs e new) × (length full.others ≡ 1))) → (HasRoom old (count_of (left iter)) → IsOk r)
+        → Writes old (len new - len old) (len new - len old) new → Extended steps Tells left size iter old after r new
+    Extended-left left after r new room refused fits writes =
+        let ran = on_ok r room (λ e. (e.taken, (after, (e.last, Yields-told e.lower iter e.taken e.last e.told, e.went.0)), e.went.1.items)) in
+        record { items = ran; runs = on_ok r ran (whole_run steps iter (λ xs. new.items ≡ old.items ++ xs)); fits = fits; room = room; writes = writes; refused = refused }
 
     -- of what came from iter, which is now s, `front` was placed, and the vector is v
     pub record Placing (s : S) (v : Vector T A) : Type 0 where
@@ -57,11 +58,11 @@ module _ {S T : Type 0} (steps : S → Option T → S → Type 0) (Tells : S →
       pub fits : len v ≤ v.capacity
       pub writes : Writes old (length front) (length front) v
 
-    pub Placing-start : len old ≤ old.capacity → Placing iter old
-    Placing-start h = record {
+    pub Placing-start : (n : ℕ) × Tells iter n → len old ≤ old.capacity → Placing iter old
+    Placing-start first h = record {
       front = [];
-      lower = λ _. 0;
-      told = refl;
+      lower = λ _. first.0;
+      told = (first.1, refl);
       within = h;
       in_steps = stays (SameBlock-refl old);
       items = sym (append-nil old.items);
@@ -74,20 +75,10 @@ module _ {S T : Type 0} (steps : S → Option T → S → Type 0) (Tells : S →
       count = ap length p.items ∙ length-append old.items p.front
 
       -- no item is to come
-      pub Placing-end : (left : S → Count) (u : S) → steps s None u → Extended steps Tells left size iter old (Ok tt) v × LeavesIter steps Tells size iter old u (Ok tt) v
+      pub Placing-end : (left : S → Count) (u : S) → steps s None u → Extended steps Tells left size iter old u (Ok tt) v
       Placing-end left u h =
-          let all : ExtendsByAll steps Tells size iter old v = record {
-            added = p.front;
-            lower = p.lower;
-            last = s;
-            told = p.told;
-            ends = (u, h);
-            within = p.within;
-            in_steps = p.in_steps;
-            enough = omega (arith, p.fits, count);
-            items = p.items;
-          } in
-          Extended-left left u (Ok tt) v (record { ended = (all, refl); stopped = tt }) (λ _. refl) (omega (arith, p.writes.written, p.writes.runs, count))
+          let all : ExtendsAll size p.lower old old.items p.front v = record { within = p.within; in_steps = p.in_steps; enough = omega (arith, p.fits, count); items = p.items } in
+          Extended-left left u (Ok tt) v (record { taken = p.front; lower = p.lower; last = s; told = p.told; went = (h, all) }) tt (λ _. refl) (omega (arith, p.writes.written, p.writes.runs, count))
 
       -- items came that found free places
       pub Placing-filled : ((s : S) → (n : ℕ) × Tells s n) → (left : ℕ) (t : S) (new : Vector T A) → Placed steps s v (v.capacity - len v) 0 left t new → Placing t new
@@ -151,23 +142,21 @@ module _ {S T : Type 0} (steps : S → Option T → S → Type 0) (Tells : S →
             }
 
         -- or room for it was refused, where more may have come from the start on than were placed
-        pub Placing-refused : (left : S → Count) (k : ℕ) → k ≡ min (n + 1) usize_max → (error : TryReserveError) → LacksRoom size v k error → len v < len old + count_of (left iter)
-            → Extended steps Tells left size iter old (Err error) v × LeavesIter steps Tells size iter old t (Err error) v
+        pub Placing-refused : (left : S → Count) (k : ℕ) → k ≡ min (n + 1) usize_max → (error : TryReserveError) → LacksRoom size v k error → len v < len old + count_of (left iter) → Extended steps Tells left size iter old t (Err error) v
         Placing-refused left k e error lacks more =
-            let front : ExtendsByFront steps Tells size iter old error v = record {
+            let stop : ExtendsFull size next_lower old old.items next_front error v = record {
               front = p.front;
-              item = x;
-              lower = next_lower;
-              last = t;
-              told = YieldsTelling-more p.lower n iter p.front s x t p.told step tells;
+              others = x ∷ [];
+              begins = refl;
               within = p.within;
-              in_steps = subst (λ m. GrowsInSteps size next_lower m old v) (omega (arith, longer)) grown_in_steps;
+              in_steps = grown_in_steps;
+              short = omega (arith, full, count, longer);
               items = p.items;
-              full = full;
+              full = omega (arith, full, count);
               lacks = subst (λ j. LacksRoom size v j error) e lacks;
             } in
-            Extended-left left t (Err error) v (record { ended = tt; stopped = (front, refl) }) (λ h. absurd (omega (arith, h, full, more, GrowsInSteps-rises size p.lower (len old + length p.front) p.in_steps)))
-            (omega (arith, p.writes.written, p.writes.runs, count))
+            Extended-left left t (Err error) v tt (record { taken = next_front; lower = next_lower; last = t; told = YieldsTelling-more p.lower n iter p.front s x t p.told step tells; went = (refl, stop, refl) })
+            (λ h. absurd (omega (arith, h, full, more, GrowsInSteps-rises size p.lower (len old + length p.front) p.in_steps))) (omega (arith, p.writes.written, p.writes.runs, count))
 
 module _ {S T : Type 0} (steps : S → Option (Bor T) → S → Type 0) where
   -- the references that were given
@@ -181,9 +170,3 @@ module _ {S T : Type 0} (steps : S → Option (Bor T) → S → Type 0) where
   Drains-read s xs ys d =
       let read = Yields-read s d.0 d.1.1.0 d.1.1.1 in
       (read.0, (d.1.0, (d.1.1.0, read.1, d.1.1.2)), d.2 ∙ ap (λ zs. xs ++ zs) read.2)
-
--- what all extensions keep
-pub ExtendsByAll-keeps : {S T A : Type 0} (steps : S → Option T → S → Type 0) (Tells : S → ℕ → Type 0) (size : ℕ) (iter : S) (old new : Vector T A) → ExtendsByAll steps Tells size iter old new → (new.growth ≡ old.growth) × (new.alloc ≡ old.alloc)
-ExtendsByAll-keeps steps Tells size iter old new e = GrowsInSteps-keeps size e.lower (len old + length e.added) e.in_steps
-
-pub ruleset extended = (ExtendsByAll-keeps)

@@ -1,7 +1,8 @@
 -- Calls that take elements out of a range.
-use Rattle.aa_vec.proofs.Common.{re_v, ◌≡◌, ℕ, ◌+◌, ◌-◌, ◌≤◌, Bool, false, not, List, [], ◌∷◌, ◌++◌, length, drop, Option, Some, None, refl, sym, ap, ◌∙◌, subst, arith, length-append, MutBor, MatchOption, take-append-drop, run-zero, StandsBehind, SetsBack, ClosesTwice, behind_items, EndsTrue, MayAskInOrder, kept, ClosesExtract, ExtractsRange, Extracts, StaysWhen, Picks, Vector, len, Holds, Moves, ExtractBy, run}
+use Rattle.aa_vec.proofs.Common.{re_v, ◌≡◌, ℕ, ◌+◌, ◌-◌, ◌≤◌, Bool, false, not, List, [], ◌∷◌, ◌++◌, length, drop, Option, Some, None, refl, sym, ap, ◌∙◌, subst, arith, length-append, MutBor, MatchOption, take-append-drop, run-zero, StandsBehind, SetsBack, ClosesTwice, behind_items, EndsTrue, MayAskInOrder, kept, ClosesExtract, ExtractsRange, Extracts, StaysWhen, Picks, Vector, len, Becomes, moved_over, run_count, ExtractBy, run}
 use Rattle.aa_vec.specs.Drain.{drain_rest}
 use Rattle.aa_vec.specs.Extract.{extract_kept, extract_rest, extract_tail}
+use Rattle.aa_vec.proofs.Becoming.{Becomes-holds, Holds-becomes}
 use Rattle.aa_vec.proofs.BehindLemmas.{still_stand, still_are, part_stand, later_part}
 use Rattle.aa_vec.proofs.DrainLemmas.{range_held, range_drains}
 use Rattle.aa_vec.proofs.ExtractRuns.{asked_parts}
@@ -22,8 +23,7 @@ module _ {T A : Type 0} (old new : Vector T A) (a b total : ℕ) (range : (a ≤
   range_extracts lent ordered held =
       let takes = range_drains old new a b total range set_count sets lent (omega arith, omega arith, ordered.2) (range_held old new a b total range set_count sets) in
       record {
-        head = sets.holds;
-        writes = sets.writes;
+        becomes = sets.becomes;
         kept = run-zero (drop 0 new.behind) 0;
         rest = takes.rest;
         tail = takes.tail;
@@ -36,7 +36,7 @@ module _ {T A : Type 0} (e : ExtractBy T A) where
   rest_stand = part_stand e.vec.now e.front (e.total - e.front) e.held.1 e.front (e.end - e.front) (omega arith) (omega (arith, e.ordered))
 
   pub rest_count : length (extract_rest e) ≡ e.end - e.front
-  unfolding extract_rest
+  unfolding extract_rest run
   rest_count = count e.vec.now e.front (e.end - e.front) rest_stand
 
   module _ {F : Type 0} (Asks : F → T → Bool → F → T → Type 0) (f : F) (stay next : ℕ) (item : Option T) (g : F) (new : Vector T A) (picks : Picks Asks f e.vec.now e.kept e.front e.end stay next item g new) where
@@ -44,7 +44,7 @@ module _ {T A : Type 0} (e : ExtractBy T A) where
     picked_held = (
       picks.stands,
       still_stand e.vec.now new next next (e.total - next) (part_stand e.vec.now e.front (e.total - e.front) e.held.1 next (e.total - next) (omega (arith, picks.within)) (omega (arith, picks.within, e.ordered)))
-          (omega (arith, e.held.1.0, ap length picks.holds.items, picks.holds.block.capacity, picks.within, e.ordered)) picks.above,
+          (omega (arith, e.held.1.0, ap len picks.becomes, ap (λ v. v.capacity) picks.becomes, picks.within, e.ordered)) picks.above,
     )
 
     -- what is left of the range
@@ -55,7 +55,7 @@ module _ {T A : Type 0} (e : ExtractBy T A) where
 
     pub picked_extracts : (ordered : (e.kept + stay ≤ next) × (next ≤ e.end) × (e.end ≤ e.total)) (held : StandsBehind new 0 (e.kept + stay) × StandsBehind new next (e.total - next))
         → Extracts Asks f e item g (record { vec = re_v new e.vec; kept = e.kept + stay; front = next; end = e.end; total = e.total; ordered = ordered; held = held })
-    unfolding extract_kept extract_rest extract_tail
+    unfolding extract_kept extract_rest extract_tail run
     picked_extracts ordered held =
         let many : next ≡ e.front + length picks.told = picks.counts.1 in
         record {
@@ -67,28 +67,28 @@ module _ {T A : Type 0} (e : ExtractBy T A) where
           rest = still_are e.vec.now new next next (e.end - next) picks.above ∙ ap (λ i. behind_items e.vec.now i (e.end - next)) many
               ∙ later_part e.vec.now e.front (length picks.told) (e.end - e.front) (e.end - next) (omega (arith, many, picks.within)) rest_stand;
           lender = refl;
-          head = picks.holds;
           tail = still_are e.vec.now new e.end e.end (e.total - e.end) (further new.behind e.vec.now.behind next next e.end e.end (omega (arith, picks.within)) refl picks.above);
-          writes = subst (λ m. Moves e.vec.now (e.front - e.kept) m new) picks.counts.0 picks.writes;
+          becomes = subst (λ m. let moved = moved_over (e.front - e.kept) m in Becomes e.vec.now e.vec.now.items moved (run_count moved) new) picks.counts.0 picks.becomes;
         }
 
   -- what was not asked and what is behind the range stand side by side
   closed_parts : behind_items e.vec.now e.front (e.total - e.front) ≡ extract_rest e ++ extract_tail e
-  unfolding extract_rest extract_tail
+  unfolding extract_rest extract_tail run
   closed_parts =
       let all : List T = behind_items e.vec.now e.front (e.total - e.front) in let few : ℕ = e.end - e.front in
       sym (take-append-drop few all) ∙ ap (λ l. l ++ drop few all) (sym (first_are e.vec.now e.front (e.total - e.front) e.held.1 few (omega (arith, e.ordered))))
       ∙ ap (λ l. behind_items e.vec.now e.front few ++ l) (sym (later_part e.vec.now e.front few (e.total - e.front) (e.total - e.end) (omega (arith, e.ordered)) e.held.1) ∙ ap (λ i. behind_items e.vec.now i (e.total - e.end)) (omega (arith, e.ordered)))
 
   pub closes_extract : (w : Vector T A) → ClosesTwice e.vec.now 0 e.kept e.front (e.total - e.front) w → ClosesExtract e w
-  unfolding extract_kept extract_rest extract_tail
+  unfolding extract_kept extract_rest extract_tail run
   closes_extract w closes =
       let moved : length (behind_items e.vec.now e.front (e.end - e.front)) + length (behind_items e.vec.now e.end (e.total - e.end)) ≡ e.total - e.front =
       sym (ap length closed_parts ∙ length-append (behind_items e.vec.now e.front (e.end - e.front)) (behind_items e.vec.now e.end (e.total - e.end))) ∙ count e.vec.now e.front (e.total - e.front) e.held.1 in
-      record {
-        holds = subst (λ l. Holds e.vec.now (e.vec.now.items ++ (behind_items e.vec.now 0 e.kept ++ l)) w) closed_parts closes.holds;
-        writes = subst (λ m. Moves e.vec.now (e.front - e.kept) m w) (sym moved) (record { written = omega (arith, closes.writes.written); runs = omega (arith, closes.writes.runs) });
-      }
+      let Is : List T → ℕ → Type 0 = λ l m. Becomes e.vec.now (e.vec.now.items ++ (behind_items e.vec.now 0 e.kept ++ l)) (moved_over (e.front - e.kept) m) (run_count (moved_over (e.front - e.kept) m)) w in
+      let all : List T = behind_items e.vec.now e.front (e.total - e.front) in
+      let xs : List T = e.vec.now.items ++ (behind_items e.vec.now 0 e.kept ++ all) in let m : ℕ = moved_over (e.front - e.kept) (e.total - e.front) in
+      let once : Is all (e.total - e.front) = Becomes-holds e.vec.now xs m (run_count m) w (Holds-becomes e.vec.now xs (moved_over 0 e.kept + m) (run_count (moved_over 0 e.kept) + run_count m) w closes) (record { written = omega (arith, ap (λ u. u.written) closes); runs = omega (arith, ap (λ u. u.runs) closes) }) in
+      subst (λ m. Is (extract_rest e ++ extract_tail e) m) (sym moved) (subst (λ l. Is l (e.total - e.front)) closed_parts once)
 
 -- a call that asked some of them
 pub ruleset picked = (rest_stand, picked_extracts)

@@ -1,8 +1,8 @@
 -- What calls that take elements out of a range leave, one after the other.
-use Rattle.aa_vec.proofs.Common.{◌≡◌, ℕ, suc, ◌+◌, ◌-◌, ◌<◌, ◌≤◌, Bool, true, not, List, [], ◌∷◌, ◌++◌, length, map, take, drop, Option, Some, None, refl, sym, ap, ◌∙◌, subst, arith, inl, inr, append_assoc, length-append, length-drop, length-take, filter, Yields, append-nil, drop-drop, filter-append, length-map, Asked, AskedInOrder, MayAskInOrder, IsCallableInOrder, kept, passed_over, Extracts, extract_kept, extract_rest, ExtractBy, ExtractIf, MakesProgress, at_most, map-append, Extracted, ExtractedTo, ExtractsAlong, extract_count, extract_vec}
+use Rattle.aa_vec.proofs.Common.{◌≡◌, ℕ, suc, ◌+◌, ◌-◌, ◌<◌, ◌≤◌, Bool, true, not, List, [], ◌∷◌, ◌++◌, length, map, take, drop, Option, Some, None, refl, sym, ap, ◌∙◌, subst, arith, inl, inr, append_assoc, length-append, length-drop, length-take, filter, Yields, append-nil, drop-drop, filter-append, length-map, Asked, AskedInOrder, MayAskInOrder, IsCallableInOrder, kept, passed_over, Extracts, extract_kept, extract_rest, ExtractBy, ExtractIf, MakesProgress, at_most, map-append, Extracted, ExtractsAlong, extract_count, extract_vec, EndsTrue, Becomes, moved_over, run_count}
 use lib.Seq.{take-add}
 use Rattle.std.proofs.lemmas.List.Filters.{length-filter_both}
-use Rattle.aa_vec.proofs.GrowthLemmas.{SameBlock-refl, SameBlock-trans}
+use Rattle.aa_vec.proofs.Becoming.{Becomes-refl, Becomes-then}
 use Rattle.aa_vec.proofs.Closed.{few_runs, moved_most}
 
 pub kept-append : {T : Type 0} (told more : List (Asked T)) → kept (told ++ more) ≡ kept told ++ kept more
@@ -45,15 +45,21 @@ module _ {F T : Type 0} (Asks : F → T → Bool → F → T → Type 0) where
       kept = sym (append-nil (extract_kept s));
       rest = refl;
       lender = refl;
-      head = record { items = refl; block = SameBlock-refl s.vec.now };
       tail = refl;
       count = omega arith;
-      written = omega arith;
+      moved = 0;
+      runs = 0;
+      few = omega arith;
+      becomes = Becomes-refl s.vec.now;
     }
 
-    pub ExtractedTo-none : (f : F) (s : ExtractBy T A) → ExtractedTo Asks f s [] f s
+    -- and no other was asked after the last that was taken out
+    abbrev pub ExtractedTo : F → ExtractBy T A → List T → F → ExtractBy T A → Type 0
+    ExtractedTo f s xs g t = (e : Extracted Asks f s xs g t) × EndsTrue e.told
+
+    pub ExtractedTo-none : (f : F) (s : ExtractBy T A) → ExtractedTo f s [] f s
     unfolding Extracted-none
-    ExtractedTo-none f s = record { extracted = Extracted-none f s; ends = inl refl }
+    ExtractedTo-none f s = (Extracted-none f s, inl refl)
 
     -- and then one call asked some
     module _ (f h g : F) (s t w : ExtractBy T A) (xs : List T) (now : Extracted Asks f s xs h t) where
@@ -73,24 +79,29 @@ module _ {F T : Type 0} (Asks : F → T → Bool → F → T → Type 0) where
                   ∙ ap (λ l. extract_kept s ++ l) (sym (passed-append now.told next.told));
               rest = next.rest ∙ ap (drop (length next.told)) now.rest ∙ drop-drop (length next.told) (length now.told) (extract_rest s) ∙ ap (λ n. drop n (extract_rest s)) (sym (length-append now.told next.told));
               lender = next.lender ∙ now.lender;
-              head = record { items = next.head.items ∙ now.head.items; block = SameBlock-trans now.head.block next.head.block };
               tail = next.tail ∙ now.tail;
               count = omega (arith, next.count, ap length items, now.count, length-append xs taken);
-              written =
+              moved = now.moved + moved_over (extract_count t) (length (passed_over next.told));
+              runs = now.runs + run_count (moved_over (extract_count t) (length (passed_over next.told)));
+              few =
                   let more : length (passed_over all) ≡ length (passed_over now.told) + length (passed_over next.told) = ap length (passed-append now.told next.told) ∙ length-append (passed_over now.told) (passed_over next.told) in
-                  omega (arith, now.written, next.writes.written, moved_most (extract_count t) (length (passed_over next.told)), more);
+                  omega (arith, now.few, moved_most (extract_count t) (length (passed_over next.told)), more);
+              becomes =
+                  let moved : ℕ = moved_over (extract_count t) (length (passed_over next.told)) in
+                  subst (λ l. Becomes s.vec.now l (now.moved + moved) (now.runs + run_count moved) w.vec.now) (ap (λ v. v.items) now.becomes)
+                  (Becomes-then s.vec.now s.vec.now.items now.moved now.runs t.vec.now now.becomes t.vec.now.items moved (run_count moved) w.vec.now next.becomes _ _ refl refl);
             }
 
       -- an element was taken out
-      pub Extracted-more : (x : T) → Extracts Asks h t (Some x) g w → ExtractedTo Asks f s (xs ++ x ∷ []) g w
+      pub Extracted-more : (x : T) → Extracts Asks h t (Some x) g w → ExtractedTo f s (xs ++ x ∷ []) g w
       unfolding Extracted-then
-      Extracted-more x next = record {
-        extracted = Extracted-then (Some x) next (x ∷ []) next.cases.0;
-        ends = elim next.cases.1 [
+      Extracted-more x next = (
+        Extracted-then (Some x) next (x ∷ []) next.cases.0,
+        elim next.cases.1 [
           | inl none ↦ absurd (omega (arith, ap length next.cases.0, ap (λ l. length (kept l)) none))
           | inr last ↦ inr (now.told ++ last.0, last.1, ap (λ l. now.told ++ l) last.2 ∙ sym (append_assoc now.told last.0 (record { answer = true; left = last.1 } ∷ [])))
-        ];
-      }
+        ],
+      )
 
       -- none was left
       pub Extracted-end : Extracts Asks h t None g w → Extracted Asks f s xs g w
@@ -110,18 +121,18 @@ module _ {F T : Type 0} (Asks : F → T → Bool → F → T → Type 0) where
     Steps u r t = Extracts Asks u.f u.by r t.f t.by
 
     -- the same along the calls of `next`
-    along : (s t : ExtractIf T F A) (taken xs : List T) (later : ExtractIf T F A) → ExtractedTo Asks s.f s.by taken t.f t.by → Yields Steps t xs later → ExtractedTo Asks s.f s.by (taken ++ xs) later.f later.by
-    along s t taken [] later now y = subst (λ u. ExtractedTo Asks s.f s.by (taken ++ []) u.f u.by) y (subst (λ l. ExtractedTo Asks s.f s.by l t.f t.by) (sym (append-nil taken)) now)
+    along : (s t : ExtractIf T F A) (taken xs : List T) (later : ExtractIf T F A) → ExtractedTo s.f s.by taken t.f t.by → Yields Steps t xs later → ExtractedTo s.f s.by (taken ++ xs) later.f later.by
+    along s t taken [] later now y = subst (λ u. ExtractedTo s.f s.by (taken ++ []) u.f u.by) y (subst (λ l. ExtractedTo s.f s.by l t.f t.by) (sym (append-nil taken)) now)
     along s t taken (x ∷ xs) later now y =
-        let on = along s y.0 (taken ++ x ∷ []) xs later (Extracted-more s.f t.f y.0.f s.by t.by y.0.by taken now.extracted x y.1) y.2 in
-        subst (λ l. ExtractedTo Asks s.f s.by l later.f later.by) (append_assoc taken (x ∷ []) xs) on
+        let on = along s y.0 (taken ++ x ∷ []) xs later (Extracted-more s.f t.f y.0.f s.by t.by y.0.by taken now.0 x y.1) y.2 in
+        subst (λ l. ExtractedTo s.f s.by l later.f later.by) (append_assoc taken (x ∷ []) xs) on
 
     runs_along : (s : ExtractIf T F A) (xs : List T) (later : ExtractIf T F A) → Yields Steps s xs later → (extract_vec later.by).runs + (extract_count s.by - 1) ≤ (extract_vec s.by).runs + (extract_count later.by - 1)
     runs_along s [] later y = subst (λ u. (extract_vec u.by).runs + (extract_count s.by - 1) ≤ (extract_vec s.by).runs + (extract_count u.by - 1)) y (omega arith)
-    runs_along s (x ∷ xs) later y = omega (arith, runs_along y.0 xs later y.2, y.1.writes.runs, few_runs (extract_count s.by) (length (passed_over y.1.told)), y.1.count, ap length y.1.cases.0)
+    runs_along s (x ∷ xs) later y = omega (arith, runs_along y.0 xs later y.2, ap (λ v. v.runs) y.1.becomes, few_runs (extract_count s.by) (length (passed_over y.1.told)), y.1.count, ap length y.1.cases.0)
 
     pub extracts_along : (s : ExtractIf T F A) → ExtractsAlong Asks s
-    extracts_along s = record { along = λ xs later y. (along s s [] xs later (ExtractedTo-none s.f s.by) y, runs_along s xs later y) }
+    extracts_along s = record { along = λ xs later y. let e = along s s [] xs later (ExtractedTo-none s.f s.by) y in (e.0, e.1, runs_along s xs later y) }
 
     -- a call comes nearer to the end
     pub extracts_progress : (Takes : F → T → Type 0) (s t : ExtractIf T F A) (r : Option T) → Extracts Asks s.f s.by r t.f t.by → IsCallableInOrder Asks Takes s.f (extract_rest s.by)

@@ -1,7 +1,8 @@
 -- Elements that a closure takes out of a range.
-use Rattle.aa_vec.proofs.Common.{◌≡◌, ℕ, zero, suc, ◌+◌, ◌-◌, ◌<◌, ◌≤◌, Bool, true, false, List, [], ◌∷◌, ◌++◌, length, map, take, drop, Option, Some, None, refl, sym, ap, ◌∙◌, subst, arith, inr, append_assoc, length-append, length-drop, slice_set, MatchOption, drop-append-le, drop-drop, drop-map, drop-set-lt, drop_all, drop_at, length-map, length-take-le, take_at, StandsBehind, SetsBack, ClosesGap, behind_items, with_behind, Asked, AskedInOrder, EndsTrue, kept, passed_over, StaysWhen, AsksUntil, AsksBehind, Picks, Vector, len, KeepsDown}
+use Rattle.aa_vec.proofs.Common.{◌≡◌, ℕ, zero, suc, ◌+◌, ◌-◌, ◌<◌, ◌≤◌, Bool, true, false, List, [], ◌∷◌, ◌++◌, length, map, take, drop, Option, Some, None, refl, sym, ap, ◌∙◌, subst, arith, inr, append_assoc, length-append, length-drop, slice_set, MatchOption, drop-append-le, drop-drop, drop-map, drop-set-lt, drop_all, drop_at, length-map, length-take-le, take_at, StandsBehind, SetsBack, ClosesGap, behind_items, with_behind, Asked, AskedInOrder, EndsTrue, kept, passed_over, StaysWhen, AsksUntil, AsksBehind, Picks, Vector, len, KeepsDown, moved_over, run_count}
+use Rattle.aa_vec.proofs.Becoming.{Becomes-behind, Becomes-holds, SameBlock-becomes}
 use Rattle.aa_vec.proofs.GrowthLemmas.{SameBlock-trans}
-use Rattle.aa_vec.proofs.BehindLemmas.{still_stand, still_are, same_holds}
+use Rattle.aa_vec.proofs.BehindLemmas.{still_stand, still_are}
 use Rattle.aa_vec.proofs.Retaining.{Follows, follows}
 use Rattle.aa_vec.proofs.Stands.{count, first_are, first_stand, left_are, left_stand, moved_items, others_are, others_stand, parts}
 
@@ -77,8 +78,8 @@ module _ {T A : Type 0} {old joined : Vector T A} {low : ℕ} (front end : ℕ) 
   -- the first are items, and the next may be asked
   pub joined_stand : StandsBehind joined (front - low) (end - front)
   joined_stand =
-      let long : len joined ≡ len old + low = omega (arith, ap length joins.holds.items, length-append old.items (behind_items old 0 low), count old 0 low before) in
-      still_stand old joined front gap n stands (omega (arith, stands.0, long, joins.holds.block.capacity, ordered.0)) apart
+      let long : len joined ≡ len old + low = omega (arith, ap len joins.becomes, length-append old.items (behind_items old 0 low), count old 0 low before) in
+      still_stand old joined front gap n stands (omega (arith, stands.0, long, ap (λ u. u.capacity) joins.becomes, ordered.0)) apart
 
   module _ {F : Type 0} (Keeps : F → T → Bool → F → T → Type 0) {f g : F} {stay : ℕ} {down : Vector T A} (keeps : KeepsDown (StaysWhen false Keeps) f joined (front - low) (end - front) stay g down) where
     abbrev left : List T
@@ -122,7 +123,7 @@ module _ {T A : Type 0} {old joined : Vector T A} {low : ℕ} (front end : ℕ) 
 
       items : w.items ≡ old.items ++ stays
       items = ap (λ v. v.items) differs ∙ moved_items keeps.left gap n now_stand stay asked_few down keeps.closes ∙ ap (λ v. v.items ++ take stay (behind_items keeps.left gap n)) keeps.asks.leaves.same
-          ∙ ap (λ l. joined.items ++ take stay l) now_are ∙ ap (λ l. l ++ take stay left) joins.holds.items ∙ append_assoc old.items (behind_items old 0 low) (take stay left)
+          ∙ ap (λ l. joined.items ++ take stay l) now_are ∙ ap (λ u. u.items ++ take stay left) joins.becomes ∙ append_assoc old.items (behind_items old 0 low) (take stay left)
 
       back : drop (len old) w.items ≡ stays
       back = ap (drop (len old)) items ∙ drop_at old.items stays (len old) refl
@@ -145,18 +146,17 @@ module _ {T A : Type 0} {old joined : Vector T A} {low : ℕ} (front end : ℕ) 
         asked = told.asked;
         cases = cases;
         counts = (sym told.few, omega (arith, e, told.count));
-        holds = record {
-          items = set.holds.items ∙ ap (take (len old)) items ∙ take_at old.items stays (len old) refl;
-          block = SameBlock-trans joins.holds.block (SameBlock-trans (same_holds joined keeps.left _ keeps.asks.leaves.same).block (SameBlock-trans keeps.closes.holds.block (SameBlock-trans (same_holds down w places differs).block set.holds.block)));
-        };
+        becomes = Becomes-holds old old.items (moved_over gap stay) (run_count (moved_over gap stay)) new (record {
+          items = ap (λ u. u.items) set.becomes ∙ ap (take (len old)) items ∙ take_at old.items stays (len old) refl;
+          block = SameBlock-trans (SameBlock-becomes _ _ _ _ _ joins.becomes) (SameBlock-trans (SameBlock-becomes _ _ _ _ _ (Becomes-behind joined keeps.left _ keeps.asks.leaves.same)) (SameBlock-trans (SameBlock-becomes _ _ _ _ _ keeps.closes.becomes) (SameBlock-trans (SameBlock-becomes _ _ _ _ _ (Becomes-behind down w places differs)) (SameBlock-becomes _ _ _ _ _ set.becomes))));
+        }) (record {
+          written = omega (arith, ap (λ v. v.written) joins.becomes, ap (λ v. v.written) keeps.asks.leaves.same, ap (λ v. v.written) keeps.closes.becomes, ap (λ v. v.written) differs, ap (λ v. v.written) set.becomes);
+          runs = omega (arith, ap (λ v. v.runs) joins.becomes, ap (λ v. v.runs) keeps.asks.leaves.same, ap (λ v. v.runs) keeps.closes.becomes, ap (λ v. v.runs) differs, ap (λ v. v.runs) set.becomes);
+        });
         stands = subst (StandsBehind new 0) set_count set.stands;
         stayed = ap (behind_items new 0) (sym set_count) ∙ set.elements ∙ back ∙ ap (λ l. behind_items old 0 low ++ l) (sym told.stays);
         within = inside;
         above = same;
-        writes = record {
-          written = omega (arith, joins.writes.written, ap (λ v. v.written) keeps.asks.leaves.same, keeps.closes.writes.written, ap (λ v. v.written) differs, set.writes.written);
-          runs = omega (arith, joins.writes.runs, ap (λ v. v.runs) keeps.asks.leaves.same, keeps.closes.writes.runs, ap (λ v. v.runs) differs, set.writes.runs);
-        };
       }
 
     -- none is left to be asked

@@ -15,12 +15,12 @@ module _ {T A : Type 0} (clones : T → T → Type 0) (size n : ℕ) (x : T) (so
         added = p.added;
         each = p.each;
         made = record {
-          items = p.holds.items ∙ ap (λ l. l ++ ys) made.items ∙ sym (whole n ys some);
-          capacity = p.holds.block.capacity ∙ made.capacity;
-          grows = p.holds.block.growth ∙ made.growth;
-          grown = p.holds.block.grown ∙ made.grown;
-          written = omega (arith, count, ap (λ (l : List T). length l) (whole n ys some));
-          runs = omega arith;
+          items = ap (λ v. v.items) p.becomes ∙ ap (λ l. l ++ ys) made.items ∙ sym (whole n ys some);
+          capacity = ap (λ v. v.capacity) p.becomes ∙ made.capacity;
+          grows = ap (λ v. v.growth) p.becomes ∙ made.growth;
+          grown = ap (λ v. v.grown) p.becomes ∙ made.grown;
+          written = omega (arith, ap (λ v. v.written) p.becomes, made.written, count, ap (λ (l : List T). length l) (whole n ys some));
+          runs = omega (arith, ap (λ v. v.runs) p.becomes, made.runs);
         };
       }
 

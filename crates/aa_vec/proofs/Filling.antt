@@ -1,5 +1,6 @@
 -- A gap before the elements behind the items of a vector: items are put into it, and it is made.
 use Rattle.aa_vec.proofs.Common.{◌≡◌, ℕ, ◌+◌, ◌-◌, ◌<◌, ◌≤◌, List, [], ◌∷◌, ◌++◌, length, take, drop, Option, Some, None, append_assoc, refl, sym, ap, ◌∙◌, subst, arith, length-append, length-take, if◌then◌else◌, ◌==◌, Yields, append-nil, drop-drop, wrote, IsRun, run, moved, length-moved, length-run, IsRun-long, IsRun-same, run-moved, run-moved-below, Vector, len, Holds, Writes, GrowsTo, view_of, IsFront, StandsBehind, SetsBack, ClosesGap, behind_items, Widens, Placed, FillsGap, FillsAndCloses, Inside, OpensGap}
+use Rattle.aa_vec.proofs.Becoming.{SameBlock-becomes}
 use Rattle.aa_vec.proofs.GrowthLemmas.{SameBlock-refl, SameBlock-trans, MakesRoom-has}
 use Rattle.aa_vec.proofs.BehindLemmas.{still_stand, still_are}
 use Rattle.aa_vec.proofs.Gaps.{run-of_drop, IsRun-to_drop, there, elements}
@@ -54,10 +55,10 @@ module _ {S T : Type 0} (steps : S → Option T → S → Type 0) where
           stops = f.stops;
           holds = record {
             items =
-                c.holds.items ∙ ap (λ ys. ys ++ behind_items v left n) p.holds.items ∙ append_assoc old.items added (behind_items v left n) ∙ ap (λ ys. old.items ++ (added ++ ys)) p.elements;
-            block = SameBlock-trans p.holds.block c.holds.block;
+                ap (λ u. u.items) c.becomes ∙ ap (λ ys. ys ++ behind_items v left n) p.holds.items ∙ append_assoc old.items added (behind_items v left n) ∙ ap (λ ys. old.items ++ (added ++ ys)) p.elements;
+            block = SameBlock-trans p.holds.block (SameBlock-becomes _ _ _ _ _ c.becomes);
           };
-          writes = record { written = omega (arith, c.writes.written, p.writes.written); runs = omega (arith, c.writes.runs, p.writes.runs) };
+          writes = record { written = omega (arith, ap (λ u. u.written) c.becomes, p.writes.written); runs = omega (arith, ap (λ u. u.runs) c.becomes, p.writes.runs) };
         }
 
 -- the places of a block whose elements behind the items were moved up
@@ -111,17 +112,17 @@ module _ {T A : Type 0} (size : ℕ) (old w x : Vector T A) (gap n : ℕ) (few :
   widen_stands = subst (StandsBehind x 0) at_end sets.stands
 
   pub widen_room : len x + gap + n ≤ x.capacity
-  widen_room = omega (arith, MakesRoom-has size (len old) gap old w g.room, widen_stands.0, ap length sets.holds.items, length-take (k - n) w.items, same_len, e, few, sets.holds.block.capacity)
+  widen_room = omega (arith, MakesRoom-has size (len old) gap old w g.room, widen_stands.0, ap len sets.becomes, length-take (k - n) w.items, same_len, e, few, ap (λ u. u.capacity) sets.becomes)
 
   pub Widens-opened : (y : Vector T A) → OpensGap x gap n y → Widens size old gap n y
   Widens-opened y o =
       let at : k - n ≡ len old - n = omega (arith, same_len, e) in
       record {
-        items = o.holds.items ∙ sets.holds.items ∙ ap (λ i. take i w.items) at ∙ ap (take (len old - n)) g.items;
-        room = SameBlock-trans g.room (SameBlock-trans sets.holds.block o.holds.block);
+        items = o.holds.items ∙ ap (λ u. u.items) sets.becomes ∙ ap (λ i. take i w.items) at ∙ ap (take (len old - n)) g.items;
+        room = SameBlock-trans g.room (SameBlock-trans (SameBlock-becomes _ _ _ _ _ sets.becomes) o.holds.block);
         stands = o.stands;
         elements = o.elements ∙ ap (behind_items x 0) (sym at_end) ∙ sets.elements ∙ ap (λ i. drop i w.items) at ∙ ap (drop (len old - n)) g.items;
-        writes = record { written = omega (arith, o.writes.written, sets.writes.written, z.written); runs = omega (arith, o.writes.runs, sets.writes.runs, z.runs) };
+        writes = record { written = omega (arith, o.writes.written, ap (λ u. u.written) sets.becomes, z.written); runs = omega (arith, o.writes.runs, ap (λ u. u.runs) sets.becomes, z.runs) };
       }
 
 -- a gap, as it is made and filled

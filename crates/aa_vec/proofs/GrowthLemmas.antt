@@ -1,5 +1,5 @@
 -- Lemmas on a vector that grew while it was full.
-use Rattle.aa_vec.proofs.Common.{◌≡◌, ℕ, ◌+◌, ◌-◌, ◌<◌, ◌≤◌, List, ◌++◌, append_assoc, refl, ap, ◌∙◌, subst, arith, min, usize_max, Growth, Doubling, Sparing, amortized, least_of, Vector, SameBlock, Holds, with_room, GrowsInSteps, stays, grows, ExtendsAll, ExtendsFull, ExtendsByAll, ExtendsByFront, TryReserveError, Option, [], ◌∷◌, length, length-append, nat_tests, asked_with}
+use Rattle.aa_vec.proofs.Common.{◌≡◌, ℕ, ◌+◌, ◌-◌, ◌<◌, ◌≤◌, List, ◌++◌, append_assoc, refl, ap, ◌∙◌, subst, arith, min, usize_max, Growth, Doubling, Sparing, amortized, least_of, Vector, SameBlock, Holds, with_room, GrowsInSteps, stays, grows, nat_tests, asked_with}
 
 -- a growth asks for no less than what is needed
 pub amortized-enough : (G : Growth) (c needed m : ℕ) → needed ≤ amortized G c needed m
@@ -99,23 +99,3 @@ module _ {T A : Type 0} (size : ℕ) (lower : ℕ → ℕ) (needed : ℕ) where
       let asked : asked_with (lower (left - 1)) ≡ left = ap (λ n. min (n + 1) usize_max) (exact (left - 1)) ∙ omega (arith, h, few) in
       let made : MakesRoom size u u.capacity left mid = rw asked at m in
       SameBlock-trans made (GrowsInSteps-fits r (omega (arith, h, MakesRoom-fits size u.capacity left u mid made (MakesRoom-rises size u.capacity left u mid made))))
-
--- what came from an iterator is a list that was put there, and what was taken of it is one of which the last found no place
-module _ {S T A : Type 0} (steps : S → Option T → S → Type 0) (Tells : S → ℕ → Type 0) (size : ℕ) (iter : S) (old new : Vector T A) where
-  pub all_of : (e : ExtendsByAll steps Tells size iter old new) → ExtendsAll size e.lower old old.items e.added new
-  all_of e = record { in_steps = e.in_steps; enough = e.enough; items = e.items }
-
-  pub full_of : (error : TryReserveError) (e : ExtendsByFront steps Tells size iter old error new) → ExtendsFull size e.lower old old.items (e.front ++ e.item ∷ []) error new
-  full_of error e =
-      let count = length-append e.front (e.item ∷ []) in
-      let full = ap length e.items ∙ length-append old.items e.front in
-      record {
-        front = e.front;
-        others = e.item ∷ [];
-        begins = refl;
-        in_steps = subst (λ n. GrowsInSteps size e.lower n old new) (omega (arith, count)) e.in_steps;
-        short = omega (arith, count, full, e.full);
-        items = e.items;
-        full = omega (arith, full, e.full);
-        lacks = e.lacks;
-      }

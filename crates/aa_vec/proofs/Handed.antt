@@ -10,7 +10,7 @@ module _ {Q F T : Type 0} (inner : Q → F) (Outer : Q → T → Bool → Q → 
   asked_on q xs told r a = absurd a
 
   pub Retains-on : {A : Type 0} (q : Q) (old : Vector T A) (r : Q) (new : Vector T A) → Retains Outer q old r new → Retains Inner (inner q) old (inner r) new
-  Retains-on q old r new h = record { told = h.told; asked = asked_on q old.items h.told r h.asked; holds = h.holds; written = h.written; runs = h.runs }
+  Retains-on q old r new h = record { told = h.told; asked = asked_on q old.items h.told r h.asked; runs = h.runs; few = h.few; becomes = h.becomes }
 
   module _ (TakesOuter : Q → T → Type 0) (TakesInner : F → T → Type 0) (takes : (q : Q) (x : T) → TakesInner (inner q) x → TakesOuter q x) where
     may_ask_on : (q : Q) (xs : List T) → MayAskInOrder Inner TakesInner (inner q) xs → MayAskInOrder Outer TakesOuter q xs
@@ -34,7 +34,7 @@ module _ {Q F T : Type 0} (inner : Q → F) (Outer : Q → T → T → Bool → 
   deduplicated_on q (x ∷ xs) answers r ys d = chained_on q x xs answers r ys d
 
   pub Deduplicates-on : {A : Type 0} (q : Q) (old : Vector T A) (r : Q) (new : Vector T A) → Deduplicates Outer q old r new → Deduplicates Inner (inner q) old (inner r) new
-  Deduplicates-on q old r new h = record { answers = h.answers; left = h.left; asked = deduplicated_on q old.items h.answers r h.left h.asked; holds = h.holds; written = h.written; runs = h.runs }
+  Deduplicates-on q old r new h = record { answers = h.answers; left = h.left; asked = deduplicated_on q old.items h.answers r h.left h.asked; runs = h.runs; few = h.few; becomes = h.becomes }
 
   -- where the other is lent under a name, that each call keeps, x is what is behind that name in the end
   module _ {N : Type 0} (name : Q → N) (keeps : (q : Q) (x l : T) (answer : Bool) (r : Q) (y k : T) → Outer q x l answer r y k → name r ≡ name q) where

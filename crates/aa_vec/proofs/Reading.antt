@@ -1,55 +1,23 @@
--- What an extension by an iterator says of another one, which it reads and gives back.
-use Rattle.aa_vec.proofs.Common.{◌≡◌, ℕ, List, [], ◌∷◌, ◌++◌, Option, Some, None, Result, Ok, Err, IfErr, sym, ap, ◌∙◌, subst, TryReserveError, Vector, YieldsTelling, LeavesIter}
-use Rattle.aa_vec.proofs.Answered.{on_ok, if_err}
+-- What an iterator told that another one reads and gives back.
+use Rattle.aa_vec.proofs.Common.{◌≡◌, ℕ, List, [], ◌∷◌, Option, Some, Result, Ok, Err, IfErr, sym, ap, ◌∙◌, subst, YieldsTelling, Takes}
 
 -- each call of the one is one of the other, in the state that it holds, under a name that stays
-module _ {S U N T : Type 0} (steps : S → Option T → S → Type 0) (seen : U → Option T → U → Type 0) (Tells : S → ℕ → Type 0) (Told : U → ℕ → Type 0) (held : S → U) (name : S → N)
+module _ {S T U N : Type 0} (steps : S → Option T → S → Type 0) (seen : U → Option T → U → Type 0) (Tells : S → ℕ → Type 0) (Told : U → ℕ → Type 0) (held : S → U) (name : S → N)
     (step : (s : S) (r : Option T) (t : S) → steps s r t → (name t ≡ name s) × seen (held s) r (held t)) (tell : (s : S) (n : ℕ) → Tells s n → Told (held s) n) where
   read : (lower : ℕ → ℕ) (s : S) (xs : List T) (t : S) → YieldsTelling steps Tells lower s xs t → (name t ≡ name s) × YieldsTelling seen Told lower (held s) xs (held t)
-  read lower s [] t y = (ap name (sym y), ap held y)
+  read lower s [] t y = (ap name (sym y.1), (tell s _ y.0, ap held y.1))
   read lower s (x ∷ xs) t y =
-      let p = step s (Some x) y.0 y.1 in
-      let others = read lower y.0 xs t y.3 in
-      (others.0 ∙ p.0, (held y.0, p.1, tell y.0 _ y.2, others.1))
+      let p = step s (Some x) y.1 y.2 in
+      let others = read lower y.1 xs t y.3 in
+      (others.0 ∙ p.0, (tell s _ y.0, held y.1, p.1, others.1))
 
-  -- the other one is left as `end`, which is what the first still holds, if that is known by the same name
-  module _ {A : Type 0} (size : ℕ) (iter : S) (old new : Vector T A) (after : S) (end : U) (tied : name after ≡ name iter → end ≡ held after) where
-    pub LeavesIter-read : (result : Result Unit TryReserveError) → LeavesIter steps Tells size iter old after result new → LeavesIter seen Told size (held iter) old end result new
-    LeavesIter-read result l = record {
-      ended = on_ok result l.ended (λ p.
-          let e = p.0 in let told = read e.lower iter e.added e.last e.told in let none = step e.last None e.ends.0 e.ends.1 in (
-            record {
-              added = e.added;
-              lower = e.lower;
-              last = held e.last;
-              told = told.1;
-              ends = (held e.ends.0, none.1);
-              within = e.within;
-              in_steps = e.in_steps;
-              enough = e.enough;
-              items = e.items;
-            },
-            ap held p.1 ∙ sym (tied (ap name (sym p.1) ∙ none.0 ∙ told.0)),
-          ));
-      stopped = if_err result l.stopped (λ _ p.
-          let e = p.0 in let told = read e.lower iter (e.front ++ e.item ∷ []) e.last e.told in (
-            record {
-              front = e.front;
-              item = e.item;
-              lower = e.lower;
-              last = held e.last;
-              told = told.1;
-              within = e.within;
-              in_steps = e.in_steps;
-              items = e.items;
-              full = e.full;
-              lacks = e.lacks;
-            },
-            ap held p.1 ∙ sym (tied (ap name (sym p.1) ∙ told.0)),
-          ));
-    }
+  -- the other one is left as the first holds it, if that is known by the same name
+  pub Takes-read : {iter : S} {W : (ℕ → ℕ) → List T → S → Type 0} {W' : (ℕ → ℕ) → List T → U → Type 0} → ((lower : ℕ → ℕ) (xs : List T) (s : S) → name s ≡ name iter → W lower xs s → W' lower xs (held s)) → Takes steps Tells iter W → Takes seen Told (held iter) W'
+  Takes-read {iter} f t =
+      let told = read t.lower iter t.taken t.last t.told in
+      record { taken = t.taken; lower = t.lower; last = held t.last; told = told.1; went = f t.lower t.taken t.last told.0 t.went }
 
-    pub stopped_read : (P : U → Type 0) (result : Result Unit TryReserveError) → LeavesIter steps Tells size iter old after result new → IfErr result (λ _. P (held after)) → IfErr result (λ _. P end)
-    stopped_read P (Ok x) l h = tt
-    stopped_read P (Err error) l h =
-        let p = l.stopped in let e = p.0 in subst P (sym (tied (ap name (sym p.1) ∙ (read e.lower iter (e.front ++ e.item ∷ []) e.last e.told).0))) h
+  pub stopped_read : {E : Type 0} {iter after : S} {end : U} (F : E → (ℕ → ℕ) → List T → Type 0) (G : (e : E) (lower : ℕ → ℕ) (xs : List T) → F e lower xs → Type 0) (K : U → Type 0) (tied : name after ≡ name iter → end ≡ held after) (r : Result Unit E)
+      → IfErr r (λ e. Takes steps Tells iter (λ lower xs last. (last ≡ after) × (full : F e lower xs) × G e lower xs full)) → IfErr r (λ _. K (held after)) → IfErr r (λ _. K end)
+  stopped_read F G K tied (Ok x) t h = tt
+  stopped_read F G K tied (Err e) t h = subst K (sym (tied (ap name (sym t.went.0) ∙ (read t.lower _ t.taken t.last t.told).0))) h

@@ -1,12 +1,13 @@
 -- Items put before the last ones of a vector, in room made for those that were told, and then for the others.
 use Rattle.aa_vec.proofs.Common.{◌≡◌, ℕ, ◌+◌, ◌-◌, ◌*◌, ◌<◌, ◌≤◌, List, [], ◌∷◌, ◌++◌, length, take, drop, Option, Some, None, append_assoc, refl, sym, ap, ◌∙◌, subst, arith, inl, inr, length-append, length-drop, length-take, Result, Ok, Err, IfErr, OnOk, Count, Yields, count_of, take-append-drop, take_at, drop_at, nat_tests, TryReserveError, Vector, len, Holds, Writes, LacksRoom, run_count, moved_over, ClosesGap, behind_items, tail_moves, Widens, FillsAndCloses, Gathers, GathersShort, PutsAll, Puts, PutsRest, LacksRest, PutsWithin}
 use Rattle.aa_vec.proofs.Closed.{moved_none, moved_some, moved_most, one_run}
+use Rattle.aa_vec.proofs.Becoming.{SameBlock-becomes}
 use Rattle.aa_vec.proofs.GrowthLemmas.{MakesRoom, MakesRoom-same, with_room-fits, SameBlock-refl, SameBlock-trans}
 use Rattle.aa_vec.proofs.BehindLemmas.{still_are, still_stand}
 use Rattle.aa_vec.proofs.Filling.{Yields-join}
 use Rattle.aa_vec.proofs.ExtendLemmas.{Yields-told}
 use Rattle.aa_vec.proofs.Gathered.{LacksOthers-same}
-use Rattle.aa_vec.proofs.HintLemmas.{tell_between}
+use Rattle.aa_vec.proofs.HintLemmas.{told_before, tell_between}
 
 -- ys put before the last n of a list whose last parts are known
 pub put_between : {X : Type 0} (head mid tail ys zs : List X) (n : ℕ) → zs ≡ head ++ (mid ++ tail) → length tail ≡ n → take (length zs - n) zs ++ (ys ++ drop (length zs - n) zs) ≡ head ++ ((mid ++ ys) ++ tail)
@@ -33,11 +34,11 @@ moves_rest told r n h = grind (arith, nat_tests)
 
 module _ {S T A : Type 0} (steps : S → Option T → S → Type 0) (Tells : S → ℕ → Type 0) (remaining : S → Count) (size : ℕ) (s : S) (old : Vector T A) where
   -- room for as many as were told was refused
-  pub Puts-none : {fails : Type 0} (told n : ℕ) (error : TryReserveError) → LacksRoom size old told error → Puts steps Tells fails size s old told n remaining (Err error) old s
-  Puts-none told n error lacks = record {
+  pub Puts-none : {fails : Type 0} → (k : ℕ) × Tells s k → (told n : ℕ) (error : TryReserveError) → LacksRoom size old told error → Puts steps Tells fails size s old told n remaining (Err error) old s
+  Puts-none first told n error lacks = record {
     all = tt;
     writes = record { longer = omega arith; written = omega arith; runs = omega arith };
-    refused = record { front = []; others = []; lower = λ _. 0; last = s; given = refl; stops = inl refl; items = sym (take-append-drop (len old - n) old.items); why = inl (refl, SameBlock-refl old, lacks) };
+    refused = record { front = []; others = []; lower = λ _. first.0; last = s; given = (first.1, refl); stops = inl refl; items = sym (take-append-drop (len old - n) old.items); why = inl (refl, SameBlock-refl old, lacks) };
     few = λ room. absurd (omega (arith, room, lacks.full));
   }
 
@@ -49,24 +50,24 @@ module _ {S T A : Type 0} (steps : S → Option T → S → Type 0) (Tells : S �
       let new : List T = more.items in
       let head : List T = take (len old - n) old.items in
       let wid : Widens size old (length new) n v = subst (λ j. Widens size old j n v) e widened in
-      let some : 0 < length new = omega (arith, ap length h.items) in
+      let some : 0 < length new = omega (arith, ap length h.went.1) in
       record {
         added = new;
-        comes = (h.rest, h.told.last, Yields-told steps Tells h.told.lower s h.rest h.told.last h.told.each, h.ends, h.items);
+        comes = (h.taken, h.last, Yields-told steps Tells h.lower s h.taken h.last h.told, h.went.0, h.went.1);
         items =
-            closes.holds.items ∙ ap (λ ys. ys ++ behind_items w 0 n) (holds.items ∙ ap (λ ys. ys ++ new) wid.items) ∙ append_assoc head new (behind_items w 0 n)
+            ap (λ u. u.items) closes.becomes ∙ ap (λ ys. ys ++ behind_items w 0 n) (holds.items ∙ ap (λ ys. ys ++ new) wid.items) ∙ append_assoc head new (behind_items w 0 n)
             ∙ ap (λ ys. head ++ (new ++ ys)) (still_are v w (length new) 0 n behind ∙ wid.elements);
-        room = SameBlock-trans wid.room (SameBlock-trans holds.block closes.holds.block);
-        writes = omega (arith, closes.writes.written, closes.writes.runs, writes.written, writes.runs, wid.writes.written, wid.writes.runs, moved_some (length new) n some, moved_some (length new) 1 some, ap run_count (moved_some (length new) n some));
+        room = SameBlock-trans wid.room (SameBlock-trans holds.block (SameBlock-becomes _ _ _ _ _ closes.becomes));
+        writes = omega (arith, ap (λ u. u.written) closes.becomes, ap (λ u. u.runs) closes.becomes, writes.written, writes.runs, wid.writes.written, wid.writes.runs, moved_some (length new) n some, moved_some (length new) 1 some, ap run_count (moved_some (length new) n some));
       }
 
   -- they could not be gathered, or there was no room for them
-  pub LacksRest-gathered : {fails : Type 0} (n : ℕ) (first : T) (error : TryReserveError) (u : S) → GathersShort steps Tells size s first fails old error u → LacksRest steps Tells fails size s old n first error u
-  LacksRest-gathered n first error u g = record { rest = g.rest; told = g.told; stops = inl g.stops; lacks = inl g.lacks }
+  pub LacksRest-gathered : {fails : Type 0} (first : T) (error : TryReserveError) (u : S) → GathersShort steps Tells size s first fails old error u → LacksRest steps Tells fails size s old first error u
+  LacksRest-gathered first error u g = record { taken = g.taken; lower = g.lower; last = g.last; told = g.told; went = (inl g.went.0, elim g.went.1 [ inl h ↦ inl h | inr h ↦ absurd h.0 ]) }
 
-  pub LacksRest-room : {fails : Type 0} (n : ℕ) (first : T) (more : Vector T A) (u : S) → Gathers steps Tells size s first more u → (k : ℕ) → k ≡ len more → (error : TryReserveError) → LacksRoom size old k error
-      → LacksRest steps Tells fails size s old n first error u
-  LacksRest-room n first more u g k e error lacks = record { rest = g.rest; told = g.told; stops = inr g.ends; lacks = inr ((u, g.ends), subst (λ j. LacksRoom size old j error) (e ∙ ap length g.items) lacks) }
+  pub LacksRest-room : {fails : Type 0} (first : T) (more : Vector T A) (u : S) → Gathers steps Tells size s first more u → (k : ℕ) → k ≡ len more → (error : TryReserveError) → LacksRoom size old k error
+      → LacksRest steps Tells fails size s old first error u
+  LacksRest-room first more u g k e error lacks = record { taken = g.taken; lower = g.lower; last = g.last; told = g.told; went = (inr g.went.0, inr ((u, g.went.0), subst (λ j. LacksRoom size old j error) (e ∙ ap length g.went.1) lacks)) }
 
   -- room was made for as many as were told, and `comes.added` was put there
   module _ (told n : ℕ) (few : n ≤ len old) (y : Vector T A) (wid : Widens size old told n y) (left : ℕ) (t : S) (z : Vector T A) (f : FillsAndCloses steps s y told n left t z) where
@@ -156,12 +157,13 @@ module _ {S T A : Type 0} (steps : S → Option T → S → Type 0) (Tells : S �
             ap length new_items ∙ length-append head ((came ++ others) ++ tail) ∙ omega (arith, length-append (came ++ others) tail, length-append came others, z_len, head_count, tail_count, few) in
             omega (arith, r.writes.written, r.writes.runs, z_written, f.writes.runs, wid.writes.runs, longer, z_len, some, moved_most told n, moved_none left n full, one_run (moved_over told n), ap run_count (moved_none left n full), one_run n)
 
-      pub Puts-rest : (P : A → Type 0) → ((k : S) → (m : ℕ) × Tells k m) → (result : Result Unit TryReserveError) (new : Vector T A) (after : S) → OnOk result (PutsRest steps size u z n first new after) → IfErr result (λ e. LacksRest steps Tells (P z.alloc) size u z n first e after × (new ≡ z)) → told < count_of (remaining s)
+      pub Puts-rest : (P : A → Type 0) → ((k : S) → (m : ℕ) × Tells k m) → (result : Result Unit TryReserveError) (new : Vector T A) (after : S) → OnOk result (PutsRest steps size u z n first new after) → IfErr result (λ e. LacksRest steps Tells (P z.alloc) size u z first e after × (new ≡ z)) → told < count_of (remaining s)
           → Puts steps Tells (P old.alloc) size s old told n remaining result new after
       Puts-rest P tell (Ok x) new after r _ more = record { all = all_put new after r; writes = rest_within new after r; refused = tt; few = tt }
       Puts-rest P tell (Err e) new after _ l more =
-          let others : List T = first ∷ l.0.rest in
-          let g = tell_between steps Tells tell s came t (subst (Yields steps s came) (sym (f.stops.full full)) f.comes.given) (tell t).0 (tell t).1 l.0.told.lower others l.0.told.last (u, step, l.0.told.first, l.0.told.each) in
+          let others : List T = first ∷ l.0.taken in
+          let h = told_before steps Tells l.0.lower t first u l.0.taken l.0.last step l.0.told (tell t).0 (tell t).1 in
+          let g = tell_between steps Tells tell s came t (subst (Yields steps s came) (sym (f.stops.full full)) f.comes.given) (tell t).0 (tell t).1 h.0 others l.0.last h.3 in
           rw l.1 (record {
             all = tt;
             writes = within;
@@ -169,11 +171,11 @@ module _ {S T A : Type 0} (steps : S → Option T → S → Type 0) (Tells : S �
               front = came;
               others = others;
               lower = g.0;
-              last = l.0.told.last;
+              last = l.0.last;
               given = g.3;
-              stops = l.0.stops;
+              stops = l.0.went.0;
               items = z_items;
-              why = inr (told_came, omega arith, z_room, LacksOthers-same size l.0.told.lower g.0 others (omega arith) g.1 _ _ _ (subst P z_room.alloc) z e l.0.lacks);
+              why = inr (told_came, omega arith, z_room, LacksOthers-same size l.0.lower g.0 others (omega arith) (λ k less. h.1 k less ∙ g.1 k less) _ _ _ (subst P z_room.alloc) z e l.0.went.1);
             };
             few = λ _. more;
           })

@@ -1,6 +1,6 @@
 -- Elements asked in order, of which those that stay were moved down.
-use Rattle.aa_vec.proofs.Common.{SetsBack, IsCallableInOrder, ◌≡◌, ℕ, zero, suc, ◌+◌, ◌-◌, ◌≤◌, Bool, true, false, List, [], ◌∷◌, ◌++◌, length, take, drop, refl, sym, ap, ◌∙◌, subst, arith, append_assoc, append-nil, StandsBehind, behind_items, Asked, answers_of, kept, kept_behind_removed, removed_count, AskedInOrder, MayAskInOrder, Retains, AsksUntil, AsksBehind, Vector, len}
-use Rattle.aa_vec.proofs.Closed.{marks}
+use Rattle.aa_vec.proofs.Common.{SetsBack, IsCallableInOrder, ◌≡◌, ℕ, zero, suc, ◌+◌, ◌-◌, ◌≤◌, Bool, true, false, List, [], ◌∷◌, ◌++◌, length, take, drop, refl, sym, ap, ◌∙◌, subst, arith, append_assoc, append-nil, StandsBehind, behind_items, Asked, answers_of, kept, kept_behind_removed, AskedInOrder, MayAskInOrder, Retains, AsksUntil, AsksBehind, Vector, len, Becomes}
+use Rattle.aa_vec.proofs.Closed.{marks, removed_count, removed-told}
 use Rattle.aa_vec.proofs.Stages.{Turn, Stage, Turned, turned, stage-start, start-len, stage-ended}
 use Rattle.aa_vec.proofs.Stands.{count, left_are, left_stand}
 
@@ -83,9 +83,9 @@ module _ {F T A : Type 0} {Asks : F → T → Bool → F → T → Type 0} {Take
       record {
         told = r.told;
         asked = r.asked;
-        holds = record { items = r.all; block = q.4 };
-        written = q.2 ∙ ap (λ s. old.written + kept_behind_removed s) (sym r.answers);
-        runs = subst (λ s. w.runs ≤ old.runs + removed_count s) (sym r.answers) q.3;
+        runs = q.2;
+        few = omega (arith, q.3, ap removed_count r.answers, removed-told (λ t. t.answer) r.told);
+        becomes = subst (λ s. Becomes old (kept r.told) (kept_behind_removed s) q.2 w) (sym r.answers) (subst (λ l. Becomes old l (kept_behind_removed q.0) q.2 w) r.all q.4);
       }
 
 pub ruleset ended = (Retains-ended)

@@ -1,5 +1,5 @@
 -- Elements that a test takes out of a range: what comes, one after another, and what the vector has at the end.
-use Rattle.aa_vec.proofs.Common.{◌≡◌, ℕ, ◌-◌, Bool, not, List, [], ◌∷◌, ◌++◌, length, map, take, drop, Option, Some, None, sym, ap, ◌∙◌, subst, arith, append_assoc, filter, Result, Ok, Err, OnOk, Yields, Drains, append-nil, map-id, take-append-drop, take_all, drop_all, filter-append, Asked, kept, passed_over, Extracts, ExtractsRange, ClosesExtract, extract_kept, extract_rest, Vector, len, ExtractBy, ExtractIf, ExtractsAlong, extract_head, extract_tail}
+use Rattle.aa_vec.proofs.Common.{◌≡◌, ℕ, ◌-◌, Bool, not, List, [], ◌∷◌, ◌++◌, length, map, take, drop, Option, Some, None, sym, ap, ◌∙◌, subst, arith, append_assoc, filter, Result, Ok, Err, OnOk, Yields, Drains, append-nil, map-id, take-append-drop, take_all, drop_all, filter-append, Asked, kept, passed_over, Extracts, ExtractsRange, ClosesExtract, extract_kept, extract_rest, Vector, len, ExtractBy, ExtractIf, ExtractsAlong, extract_tail}
 use Rattle.aa_vec.specs.Sifting.{still_taken, left_at_end}
 use Rattle.aa_vec.proofs.Callable.{IsCallableInOrder-any}
 use Rattle.aa_vec.proofs.ExtractRuns.{extracts_fewer}
@@ -32,8 +32,8 @@ module _ {F T A : Type 0} (Asks : F → T → Bool → F → T → Type 0) (test
         ap (λ l. l ++ (filter stays (extract_rest t) ++ behind)) e.kept ∙ append_assoc (extract_kept s) (passed_over e.told) (filter stays (extract_rest t) ++ behind)
         ∙ ap (λ l. extract_kept s ++ l) (sym (append_assoc (passed_over e.told) (filter stays (extract_rest t)) behind)) ∙ ap (λ l. extract_kept s ++ ((passed_over e.told ++ filter stays l) ++ behind)) e.rest
         ∙ ap (λ l. extract_kept s ++ (l ++ behind)) (sym (first_part test not (extract_rest s) (length e.told) e.told is)) in
-        ap (λ l. extract_head t ++ l) middle ∙ ap (λ l. l ++ (extract_kept s ++ (filter stays (extract_rest s) ++ behind))) e.head.items
-        ∙ ap (λ l. extract_head s ++ (extract_kept s ++ (filter stays (extract_rest s) ++ l))) e.tail
+        ap (λ l. t.vec.now.items ++ l) middle ∙ ap (λ l. l ++ (extract_kept s ++ (filter stays (extract_rest s) ++ behind))) (ap (λ v. v.items) e.becomes)
+        ∙ ap (λ l. s.vec.now.items ++ (extract_kept s ++ (filter stays (extract_rest s) ++ l))) e.tail
 
   -- one was taken out
   Extracts_some : (f : F) (s : ExtractBy T A) (x : T) (g : F) (t : ExtractBy T A) → Extracts Asks f s (Some x) g t → still_taken test s ≡ x ∷ still_taken test t
@@ -58,7 +58,7 @@ module _ {T A : Type 0} (test : T → Bool) (old : Vector T A) (n : ℕ) (e : Ex
   Range_left =
       let stays : T → Bool = λ x. not (test x) in
       let none : extract_tail e ≡ [] = r.tail ∙ drop_all n old.items (omega (arith, all)) in
-      ap (λ l. l ++ (extract_kept e ++ (filter stays (extract_rest e) ++ extract_tail e))) r.head.items ∙ ap (λ l. l ++ (filter stays (extract_rest e) ++ extract_tail e)) r.kept
+      ap (λ l. l ++ (extract_kept e ++ (filter stays (extract_rest e) ++ extract_tail e))) (ap (λ v. v.items) r.becomes) ∙ ap (λ l. l ++ (filter stays (extract_rest e) ++ extract_tail e)) r.kept
       ∙ (λ i. filter stays (rest_is i) ++ none i) ∙ append-nil (filter stays old.items)
 
 -- along the calls: ys were taken out, one by one, and then x, which is put behind them
@@ -84,7 +84,7 @@ module _ {F T A : Type 0} (Asks : F → T → Bool → F → T → Type 0) (f : 
     left-end new closes e none was range all steady =
         let stays : T → Bool = λ x. not (test x) in let last = none-of e none in
         let rest : extract_rest t ≡ filter stays (extract_rest t) = last.cases.1 ∙ ap (filter stays) (sym last.cases.1) in
-        closes.holds.items ∙ ap (λ l. extract_head t ++ (extract_kept t ++ (l ++ extract_tail t))) rest ∙ left-more None (left_at_end test start) last was steady ∙ Range_left test old n start range all
+        ap (λ v. v.items) closes ∙ ap (λ l. t.vec.now.items ++ (extract_kept t ++ (l ++ extract_tail t))) rest ∙ left-more None (left_at_end test start) last was steady ∙ Range_left test old n start range all
 
 -- all that comes out of a vector
 module _ {F T A : Type 0} (Asks : F → T → Bool → F → T → Type 0) (test : T → Bool) where

@@ -1,18 +1,18 @@
 -- Splices by an `Items`, which tells a function of how many items are left, and splices of a vector in the same block.
-use Rattle.aa_vec.proofs.Common.{◌≡◌, ℕ, ◌+◌, ◌-◌, ◌*◌, ◌≤◌, List, [], ◌++◌, length, append_assoc, refl, sym, ap, ◌∙◌, subst, arith, inl, inr, length-append, append-nil, TryReserveError, Vector, len, SameBlock, LacksRoom, ItemsLeft, gives_item, lower_by, TellsExactly, cut_off, SplicesByAll, SplicesByFront, tail_moves, ⊤, gapped, SplicesAll, SplicesFront, SplicesShort}
+use Rattle.aa_vec.proofs.Common.{◌≡◌, ℕ, ◌+◌, ◌-◌, ◌*◌, ◌≤◌, List, [], ◌++◌, length, append_assoc, refl, sym, ap, ◌∙◌, subst, arith, inl, inr, length-append, append-nil, TryReserveError, Vector, SameBlock, LacksRoom, ItemsLeft, gives_item, lower_by, TellsExactly, cut_off, SplicesByAll, SplicesByFront, tail_moves, ⊤, gapped, SplicesAll, SplicesFront, SplicesShort}
 use Rattle.aa_vec.proofs.GrowthLemmas.{MakesRoom-same, MakesRoomTwice-same, SameBlock-refl, SameBlock-trans}
 use Rattle.aa_vec.proofs.Gathered.{LacksOthers-told}
 use Rattle.aa_vec.proofs.Counted.{items_lower, items-rest, items-told, items-all, ExtendsAll-told, ExtendsFull-told}
 
 -- another function tells the same of `taken`, behind which `more` is to come; and the vector was another in the same block
 module _ {T A : Type 0} (size : ℕ) (lower by : ℕ → ℕ) {u v : Vector T A} (b : SameBlock u v) (head : List T) (gap : ℕ) (tail taken more : List T)
-    (same : (k : ℕ) → (length head ≤ u.capacity → k ≤ length taken) → lower k ≡ by (k + length more)) (new : Vector T A) where
+    (same : (k : ℕ) → k ≤ length taken → lower k ≡ by (k + length more)) (new : Vector T A) where
   SplicesAll-told : more ≡ [] → SplicesAll size lower (gapped v head gap tail) taken new → SplicesAll size by (gapped u head gap tail) taken new
   SplicesAll-told none s =
-      let told : lower (length taken - gap) ≡ by (length taken - gap) = same (length taken - gap) (λ _. omega arith) ∙ ap by (omega (arith, ap length none)) in
+      let told : lower (length taken - gap) ≡ by (length taken - gap) = same (length taken - gap) (omega arith) ∙ ap by (omega (arith, ap length none)) in
       record {
         items = s.items;
-        at_end = λ e. ExtendsAll-told size lower by b head taken more (λ k h. same k (λ within. omega (arith, h within))) new none (s.at_end e);
+        at_end = λ e. ExtendsAll-told size lower by b head taken more (λ k h. same k (omega (arith, h))) new none (s.at_end e);
         in_gap = λ some few. SameBlock-trans b (s.in_gap some few);
         beyond = λ some full. rw (← told) (MakesRoomTwice-same size _ _ _ b (s.beyond some full));
       }
@@ -23,7 +23,7 @@ module _ {T A : Type 0} (size : ℕ) (lower by : ℕ → ℕ) {u v : Vector T A}
     front_told s =
         let count : length taken ≡ length s.front + length s.others = ap length s.begins ∙ length-append s.front s.others in
         let told : gap ≤ length taken → lower (length taken - gap) ≡ by (length all - gap) =
-        λ h. same (length taken - gap) (λ _. omega arith) ∙ ap by (omega (arith, h, ap length e, length-append taken more)) in
+        λ h. same (length taken - gap) (omega arith) ∙ ap by (omega (arith, h, ap length e, length-append taken more)) in
         let n : ℕ = length head + gap + length tail in
         record {
           front = s.front;
@@ -31,38 +31,43 @@ module _ {T A : Type 0} (size : ℕ) (lower by : ℕ → ℕ) {u v : Vector T A}
           begins = e ∙ ap (λ ys. ys ++ more) s.begins ∙ append_assoc s.front s.others more;
           items = s.items;
           why = elim s.why [
-            | inl h ↦ inl (record { fills = h.fills; block = SameBlock-trans b h.block; lacks = subst (λ k. LacksRoom size new k error) (told (omega (arith, h.fills, count))) h.lacks })
+            | inl h ↦ inl (h.0, SameBlock-trans b h.1, subst (λ k. LacksRoom size new k error) (told (omega (arith, h.0, count))) h.2)
             | inr h ↦
-                let is = told (omega (arith, h.0.fills, count)) in
+                let is = told (omega (arith, h.0, count)) in
                 inr (
-                  record { fills = omega (arith, h.0.fills, is); room = rw (← is) (MakesRoom-same size n (lower (length taken - gap)) b h.0.room); more = omega (arith, h.0.more, length-append s.others more) },
-                  LacksOthers-told size lower by s.others h.0.more more (λ k l. same k (λ _. omega (arith, l, count))) error _ _ _ _ f w none new h.1,
+                  omega (arith, h.0, is),
+                  rw (← is) (MakesRoom-same size n (lower (length taken - gap)) b h.1),
+                  omega (arith, h.2, length-append s.others more),
+                  LacksOthers-told size lower by s.others h.2 more (λ k l. same k (omega (arith, l, count))) error _ _ _ _ f w none new h.3,
                 )
           ];
         }
 
     SplicesShort-told : SplicesShort size lower (gapped v head gap tail) taken fails whole error new → SplicesShort size by (gapped u head gap tail) all fails' whole' error new
-    SplicesShort-told (inl p) = inl (p.0, ExtendsFull-told size lower by b head taken more (λ k h. same k (λ within. omega (arith, h within))) all e error new p.1)
+    SplicesShort-told (inl p) = inl (p.0, ExtendsFull-told size lower by b head taken more (λ k h. same k (omega (arith, h))) all e error new p.1)
     SplicesShort-told (inr p) = inr (p.0, front_told p.1)
 
 -- splices by an `Items`
 module _ {T : Type 0} (iter : ItemsLeft T) {A : Type 0} (size : ℕ) (old : Vector T A) (gap : ℕ) (tail : List T) where
   module _ (new : Vector T A) (s : SplicesByAll gives_item (TellsExactly items_lower) size iter (cut_off old gap tail) new) where
-    pub SplicesAll-items : len old ≤ old.capacity → SplicesAll size (lower_by iter.hint) (cut_off old gap tail) iter.items new
-    SplicesAll-items within =
-        rw (← items-all s.lower iter s.added s.last s.told s.ends.1.0.0)
-        (SplicesAll-told size s.lower (lower_by iter.hint) (SameBlock-refl old) old.items gap tail s.added s.last.items (λ k h. items-told s.lower iter s.added s.last s.told s.first k (h within)) new s.ends.1.0.0 s.splices)
+    abbrev none : s.last.items ≡ []
+    none = s.went.0.1.0.0
+
+    pub SplicesAll-items : SplicesAll size (lower_by iter.hint) (cut_off old gap tail) iter.items new
+    SplicesAll-items =
+        rw (← items-all s.lower iter s.taken s.last s.told none)
+        (SplicesAll-told size s.lower (lower_by iter.hint) (SameBlock-refl old) old.items gap tail s.taken s.last.items (items-told s.lower iter s.taken s.last s.told) new none s.went.1)
 
     pub items-written : new.written ≡ old.written + (length iter.items + tail_moves gap (lower_by iter.hint (length iter.items - gap)) (length iter.items) * length tail)
     items-written =
-        let told : s.lower (length s.added - gap) ≡ lower_by iter.hint (length s.added - gap) = items-told s.lower iter s.added s.last s.told s.first (length s.added - gap) (omega arith) ∙ ap (lower_by iter.hint) (omega (arith, ap length s.ends.1.0.0)) in
-        rw (← items-all s.lower iter s.added s.last s.told s.ends.1.0.0, ← told) s.written
+        let told : s.lower (length s.taken - gap) ≡ lower_by iter.hint (length s.taken - gap) = items-told s.lower iter s.taken s.last s.told (length s.taken - gap) (omega arith) ∙ ap (lower_by iter.hint) (omega (arith, ap length none)) in
+        rw (← items-all s.lower iter s.taken s.last s.told none, ← told) s.went.2
 
-  pub SplicesShort-items : {fails : Type 0} → len old ≤ old.capacity → (error : TryReserveError) (new : Vector T A) → SplicesByFront gives_item (TellsExactly items_lower) size iter (cut_off old gap tail) fails error new
+  pub SplicesShort-items : {fails : Type 0} → (error : TryReserveError) (new : Vector T A) → SplicesByFront gives_item (TellsExactly items_lower) size iter (cut_off old gap tail) fails error new
       → SplicesShort size (lower_by iter.hint) (cut_off old gap tail) iter.items fails ⊤ error new
-  SplicesShort-items within error new s =
-      SplicesShort-told size s.lower (lower_by iter.hint) (SameBlock-refl old) old.items gap tail s.taken s.last.items (λ k h. items-told s.lower iter s.taken s.last s.told s.first k (h within)) new iter.items
-      (items-rest s.lower iter s.taken s.last s.told) error (λ f. f) (λ _. tt) (λ h. h.1.0.0) s.splices
+  SplicesShort-items error new s =
+      SplicesShort-told size s.lower (lower_by iter.hint) (SameBlock-refl old) old.items gap tail s.taken s.last.items (items-told s.lower iter s.taken s.last s.told) new iter.items
+      (items-rest s.lower iter s.taken s.last s.told) error (λ f. f) (λ _. tt) (λ h. h.1.0.0) s.went
 
 -- a splice of v is one of u, in the same block
 module _ {T A : Type 0} (size : ℕ) (lower : ℕ → ℕ) {u v : Vector T A} (b : SameBlock u v) (head : List T) (gap : ℕ) (tail added : List T) where

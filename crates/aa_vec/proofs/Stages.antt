@@ -1,9 +1,10 @@
 -- Turns of a loop in which a closure is asked of elements behind a gap, and those that stay are moved down. `Ends` is what the closure
 -- says of all that are yet to be asked, where these items stay so far: the answers, which are true where an element stays, and then
 -- the closure's state and all the items. `May` is that they may be asked.
-use Rattle.aa_vec.proofs.Common.{None, drop-set-lt, ◌≡◌, ℕ, ◌+◌, ◌-◌, ◌<◌, ◌≤◌, Bool, List, [], ◌++◌, length, take, drop, sym, ap, ◌∙◌, subst, arith, inl, inr, min, drop_all, length-take-le, run-zero, StandsBehind, SetsBack, ClosesGap, behind_items, with_behind, kept_behind_removed, removed_count, TakesNext, Vector, len, SameBlock, Writes, moved_over, below_or_not}
+use Rattle.aa_vec.proofs.Common.{None, drop-set-lt, ◌≡◌, ℕ, ◌+◌, ◌-◌, ◌<◌, ◌≤◌, Bool, List, [], ◌++◌, length, take, drop, sym, ap, ◌∙◌, subst, arith, inl, inr, min, drop_all, length-take-le, run-zero, StandsBehind, SetsBack, ClosesGap, behind_items, with_behind, kept_behind_removed, TakesNext, refl, Vector, len, Becomes, SameBlock, Writes, moved_over, below_or_not}
+use Rattle.aa_vec.proofs.Becoming.{Becomes-holds, SameBlock-becomes}
 use Rattle.aa_vec.proofs.GrowthLemmas.{SameBlock-trans}
-use Rattle.aa_vec.proofs.Closed.{still, still-none, few_runs, no_run, marks, marks-are, marks-written}
+use Rattle.aa_vec.proofs.Closed.{still, still-none, few_runs, no_run, removed_count, marks, marks-are, marks-written}
 use Rattle.aa_vec.proofs.Stands.{count, first_stand, moved_items, moved_len, others_are, others_stand}
 use Rattle.aa_vec.proofs.BehindLemmas.{later_part, part_stand, still_are, still_stand}
 
@@ -28,7 +29,7 @@ module _ {F T A : Type 0} (Ends : F → (items yet : List T) → List Bool → F
       pub ends : (told : List Bool) (g : F) (ys : List T) → Ends h v.items (behind_items v gap left) told g ys
           → (every : List Bool) × Ends f first yet every g ys × (old.written + kept_behind_removed every ≡ v.written + still gap told) × (removed_count every ≡ gap + removed_count told)
       pub block : SameBlock old v
-      pub runs : v.runs ≤ old.runs + (gap - min left 1)
+      pub runs : (old.runs ≤ v.runs) × (v.runs ≤ old.runs + (gap - min left 1))
 
     -- the elements yet to be asked are those in the places from `at` up to `end`
     pub record Stage (h : F) (v : Vector T A) (at end : ℕ) : Type 0 where
@@ -46,15 +47,15 @@ module _ {F T A : Type 0} (Ends : F → (items yet : List T) → List Bool → F
       more : (u z : Vector T A) (i m : ℕ) → ClosesGap w gap k u → z ≡ with_behind u z.behind → StandsBehind z i m → behind_items z i m ≡ drop 1 (drop k t.left) → i ≡ gap + min (n - k) 1 → m ≡ n - (k + 1) → On g z i m
       more u z i m closes same stands are e l =
           let items : z.items ≡ w.items ++ take k t.left = ap (λ s. s.items) same ∙ moved_items w gap n t.stands k t.within u closes ∙ ap (λ xs. w.items ++ take k xs) t.are in
-          let wrote : z.written ≡ v.written + moved_over gap k = omega (arith, ap (λ s. s.written) same, closes.writes.written, t.writes.written) in
+          let wrote : z.written ≡ v.written + moved_over gap k = omega (arith, ap (λ s. s.written) same, ap (λ s. s.written) closes.becomes, t.writes.written) in
           record {
             stands = stands;
             may = rw (items, are) (t.may now.may);
             ends = λ told x ys a.
                 let q = now.ends (marks k n told) x ys (t.ends told x ys (subst (λ xs. Ends g (w.items ++ take k t.left) xs told x ys) are (subst (λ xs. Ends g xs (behind_items z i m) told x ys) items a))) in
                 (q.0, q.1, omega (arith, q.2, wrote, marks-written gap k n t.within told, ap (λ j. still j told) e), omega (arith, q.3, (marks-are k n t.within told).1, e));
-            block = SameBlock-trans (SameBlock-trans now.block t.block) (SameBlock-trans closes.holds.block (record { capacity = ap (λ s. s.capacity) same; growth = ap (λ s. s.growth) same; grown = ap (λ s. s.grown) same; alloc = ap (λ s. s.alloc) same }));
-            runs = omega (arith, ap (λ s. s.runs) same, closes.writes.runs, t.writes.runs, now.runs, few_runs gap k, no_run gap k, e, l, t.within);
+            block = SameBlock-trans (SameBlock-trans now.block t.block) (SameBlock-trans (SameBlock-becomes _ _ _ _ _ closes.becomes) (record { capacity = ap (λ s. s.capacity) same; growth = ap (λ s. s.growth) same; grown = ap (λ s. s.grown) same; alloc = ap (λ s. s.alloc) same }));
+            runs = omega (arith, ap (λ s. s.runs) same, ap (λ s. s.runs) closes.becomes, t.writes.runs, now.runs, few_runs gap k, no_run gap k, e, l, t.within);
           }
 
     -- a turn from there on, where n items stay so far
@@ -115,15 +116,16 @@ module _ {F T A : Type 0} (Ends : F → (items yet : List T) → List Bool → F
 
     -- all were asked
     pub stage-ended : (g : F) (z : Vector T A) (at end : ℕ) → Stage g z at end → at ≡ end → ((yet : List T) → yet ≡ [] → May g z.items yet → Ends g z.items yet [] g z.items)
-        → (every : List Bool) × Ends f first yet every g z.items × (z.written ≡ old.written + kept_behind_removed every) × (z.runs ≤ old.runs + removed_count every) × SameBlock old z
+        → (every : List Bool) × Ends f first yet every g z.items × (runs : ℕ) × (runs ≤ removed_count every) × Becomes old z.items (kept_behind_removed every) runs z
     stage-ended g z at end s e nil =
         let none : behind_items z (at - len z) (end - at) ≡ [] = ap (behind_items z (at - len z)) {x = end - at} {y = 0} (omega (arith, e)) ∙ run-zero (drop (at - len z) z.behind) 0 in
         let q = s.on.ends [] g z.items (nil _ none s.on.may) in
-        (q.0, q.1, omega (arith, q.2, still-none (at - len z)), omega (arith, q.3, s.on.runs), s.on.block)
+        let writes : Writes old (kept_behind_removed q.0) (z.runs - old.runs) z = record { written = omega (arith, q.2, still-none (at - len z)); runs = omega (arith, s.on.runs) } in
+        (q.0, q.1, z.runs - old.runs, omega (arith, q.3, s.on.runs), Becomes-holds old z.items (kept_behind_removed q.0) (z.runs - old.runs) z (record { items = refl; block = s.on.block }) writes)
 
 module _ {F T A : Type 0} (Ends : F → (items yet : List T) → List Bool → F → List T → Type 0) (May : F → (items yet : List T) → Type 0) {old v : Vector T A} {at end : ℕ} (set : SetsBack old at v) (within : at ≤ end) (all : end ≡ len old) where
   pub start-len : at ≡ len v
-  start-len = sym (ap length set.holds.items ∙ length-take-le at old.items (omega (arith, within, all)))
+  start-len = sym (ap len set.becomes ∙ length-take-le at old.items (omega (arith, within, all)))
 
   -- none was asked yet
   pub stage-start : {f : F} → May f (take at old.items) (drop at old.items) → Stage Ends May f (take at old.items) (drop at old.items) old f v at end
@@ -136,9 +138,9 @@ module _ {F T A : Type 0} (Ends : F → (items yet : List T) → List Bool → F
         within = within;
         on = subst (λ i. On Ends May f (take at old.items) (drop at old.items) old f v i (end - at)) none (record {
           stands = subst (StandsBehind v 0) (sym left) set.stands;
-          may = rw (set.holds.items, are) may;
-          ends = λ told g ys a. (told, subst (λ xs. Ends f (take at old.items) xs told g ys) are (subst (λ xs. Ends f xs (behind_items v 0 (end - at)) told g ys) set.holds.items a), omega (arith, set.writes.written), omega arith);
-          block = set.holds.block;
-          runs = omega (arith, set.writes.runs);
+          may = rw (ap (λ s. s.items) set.becomes, are) may;
+          ends = λ told g ys a. (told, subst (λ xs. Ends f (take at old.items) xs told g ys) are (subst (λ xs. Ends f xs (behind_items v 0 (end - at)) told g ys) (ap (λ s. s.items) set.becomes) a), omega (arith, ap (λ s. s.written) set.becomes), omega arith);
+          block = SameBlock-becomes _ _ _ _ _ set.becomes;
+          runs = omega (arith, ap (λ s. s.runs) set.becomes);
         });
       }

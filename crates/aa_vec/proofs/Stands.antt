@@ -1,8 +1,8 @@
 -- What stands behind the items of a vector, after each of the calls that work on it.
-use Rattle.aa_vec.proofs.Common.{◌≡◌, ℕ, ◌+◌, ◌-◌, ◌<◌, ◌≤◌, List, [], ◌∷◌, ◌++◌, length, map, take, drop, Option, Some, None, refl, subst, sym, ap, ◌∙◌, arith, length-append, slice_set, append-nil, drop-drop, drop-set-lt, length-map, take_at, take-append-drop, length-run, run-is, run-take, run-filled, run-zero, IsRun-long, StandsBehind, ClosesGap, LeavesBehind, behind_items, with_behind, Vector, len, Holds, Writes, run_count, moved_over, TakesNext}
-use Rattle.aa_vec.proofs.GrowthLemmas.{SameBlock-refl, SameBlock-trans}
+use Rattle.aa_vec.proofs.Common.{◌≡◌, ℕ, ◌+◌, ◌-◌, ◌<◌, ◌≤◌, List, [], ◌∷◌, ◌++◌, length, map, take, drop, Option, Some, None, refl, subst, sym, ap, ◌∙◌, arith, length-append, slice_set, append-nil, drop-drop, drop-set-lt, length-map, take_at, take-append-drop, length-run, run-is, run-take, run-filled, run-zero, IsRun-long, StandsBehind, ClosesGap, LeavesBehind, behind_items, with_behind, Vector, len, Becomes, Holds, Writes, run_count, moved_over, TakesNext}
+use Rattle.aa_vec.proofs.Becoming.{Becomes-refl, Becomes-behind, Becomes-holds, Becomes-then}
 use Rattle.aa_vec.proofs.Closed.{moved_some}
-use Rattle.aa_vec.proofs.BehindLemmas.{same_holds, still_stand, still_are, part_stand, later_part}
+use Rattle.aa_vec.proofs.BehindLemmas.{still_stand, still_are, part_stand, later_part}
 
 module _ {T A : Type 0} (v : Vector T A) (gap n : ℕ) (stands : StandsBehind v gap n) where
   abbrev pub elements : List T
@@ -43,10 +43,10 @@ module _ {T A : Type 0} (v : Vector T A) (gap n : ℕ) (stands : StandsBehind v 
   -- the gap was closed by the first k of them
   module _ (k : ℕ) (h : k ≤ n) (w : Vector T A) (closes : ClosesGap v gap k w) where
     pub moved_len : len w ≡ len v + k
-    moved_len = grind (arith, closes.holds.items, length-append, length-run (drop gap v.behind) 0 k (first_stand k h).1)
+    moved_len = grind (arith, ap (λ u. u.items) closes.becomes, length-append, length-run (drop gap v.behind) 0 k (first_stand k h).1)
 
     pub moved_items : w.items ≡ v.items ++ take k elements
-    moved_items = closes.holds.items ∙ ap (λ l. v.items ++ l) (first_are k h)
+    moved_items = ap (λ u. u.items) closes.becomes ∙ ap (λ l. v.items ++ l) (first_are k h)
 
     others : drop gap w.behind ≡ drop (gap + k) v.behind
     others = closes.behind ∙ drop-drop k gap v.behind
@@ -55,7 +55,7 @@ module _ {T A : Type 0} (v : Vector T A) (gap n : ℕ) (stands : StandsBehind v 
     others_are = still_are v w (gap + k) gap (n - k) others ∙ later_part v gap k n (n - k) (omega (arith, h)) stands
 
     pub others_stand : StandsBehind w gap (n - k)
-    others_stand = still_stand v w (gap + k) gap (n - k) (part_stand v gap n stands (gap + k) (n - k) (omega arith) (omega (arith, h))) (omega (arith, stands.0, h, moved_len, closes.holds.block.capacity)) others
+    others_stand = still_stand v w (gap + k) gap (n - k) (part_stand v gap n stands (gap + k) (n - k) (omega arith) (omega (arith, h))) (omega (arith, stands.0, h, moved_len, ap (λ u. u.capacity) closes.becomes)) others
 
 no_moves : (gap n : ℕ) → n ≡ 0 → moved_over gap n ≡ 0
 no_moves gap n e = grind (arith, e)
@@ -63,20 +63,23 @@ no_moves gap n e = grind (arith, e)
 -- a gap is closed by none, and by one that was taken and put
 module _ {T A : Type 0} where
   pub closes_none : (v : Vector T A) (gap n : ℕ) → n ≡ 0 → ClosesGap v gap n v
-  closes_none v gap n e = record {
-    holds = record { items = sym (append-nil v.items) ∙ ap (λ l. v.items ++ l) (sym (run-zero (drop gap v.behind) 0)) ∙ ap (λ i. v.items ++ behind_items v gap i) (sym e); block = SameBlock-refl v };
-    behind = ap (λ i. drop i (drop gap v.behind)) (sym e);
-    writes = record { written = omega (arith, no_moves gap n e); runs = omega (arith, ap run_count (no_moves gap n e)) };
-  }
+  closes_none v gap n e =
+      let items : v.items ≡ v.items ++ behind_items v gap n = sym (append-nil v.items) ∙ ap (λ l. v.items ++ l) (sym (run-zero (drop gap v.behind) 0)) ∙ ap (λ i. v.items ++ behind_items v gap i) (sym e) in
+      record {
+        becomes = subst (λ m. Becomes v (v.items ++ behind_items v gap n) m (run_count m) v) (sym (no_moves gap n e)) (subst (λ l. Becomes v l 0 0 v) items (Becomes-refl v));
+        behind = ap (λ i. drop i (drop gap v.behind)) (sym e);
+      }
 
   pub closes_by_one : (old mid new : Vector T A) (gap : ℕ) (x : T) → 0 < gap → behind_items old gap 1 ≡ x ∷ [] → mid ≡ with_behind old (slice_set old.behind gap None) → Holds mid (mid.items ++ x ∷ []) new → Writes mid 1 1 new
       → new.behind ≡ drop 1 mid.behind → ClosesGap old gap 1 new
   closes_by_one old mid new gap x some e taken put wrote behind =
       let one = moved_some gap 1 some in
       record {
-        holds = record { items = put.items ∙ ap (λ v. v.items ++ x ∷ []) taken ∙ ap (λ l. old.items ++ l) (sym e); block = SameBlock-trans (same_holds old mid (slice_set old.behind gap None) taken).block put.block };
+        becomes =
+            let items : mid.items ++ x ∷ [] ≡ old.items ++ behind_items old gap 1 = ap (λ v. v.items ++ x ∷ []) taken ∙ ap (λ l. old.items ++ l) (sym e) in
+            subst (λ m. Becomes old (old.items ++ behind_items old gap 1) m (run_count m) new) (sym one)
+            (subst (λ l. Becomes old l 1 1 new) items (Becomes-then old old.items 0 0 mid (Becomes-behind old mid (slice_set old.behind gap None) taken) (mid.items ++ x ∷ []) 1 1 new (Becomes-holds mid (mid.items ++ x ∷ []) 1 1 new put wrote) 1 1 (omega arith) (omega arith)));
         behind = ap (drop gap) behind ∙ drop-drop gap 1 mid.behind ∙ ap (λ i. drop i mid.behind) (omega arith) ∙ ap (λ v. drop (gap + 1) v.behind) taken ∙ drop-set-lt (gap + 1) old.behind gap None (omega arith) ∙ sym (drop-drop 1 gap old.behind);
-        writes = record { written = omega (arith, wrote.written, ap (λ v. v.written) taken, one); runs = omega (arith, wrote.runs, ap (λ v. v.runs) taken, ap run_count one) };
       }
 
 pub ruleset closing = (closes_none, closes_by_one)

@@ -1,6 +1,6 @@
 -- Closures whose answers hang on the elements alone: what they leave of a list is a function of it.
-use Rattle.aa_vec.proofs.Common.{◌≡◌, Bool, true, false, not, List, [], ◌∷◌, map, refl, ap, ◌∙◌, subst, arith, cond, filter, Asked, AskedInOrder, ChainsFrom, Deduplicated, answers_of, kept, kept_behind_removed, removed_count, dedup, dedup_from}
-use Rattle.aa_vec.proofs.Closed.{counted}
+use Rattle.aa_vec.proofs.Common.{◌≡◌, Bool, true, false, not, List, [], ◌∷◌, map, refl, ap, ◌∙◌, subst, arith, cond, filter, Asked, AskedInOrder, ChainsFrom, Deduplicated, answers_of, kept, kept_behind_removed, dedup, dedup_from}
+use Rattle.aa_vec.proofs.Closed.{counted, removed_count}
 
 -- what an element is told by p, and left as by h
 abbrev pub told_by : {T : Type 0} → (T → Bool) → (T → T) → T → Asked T

@@ -1,8 +1,8 @@
 -- A closure that is called once for each new place.
-use Rattle.aa_vec.proofs.Common.{append-nil, ◌≡◌, ℕ, suc, ◌+◌, ◌-◌, ◌<◌, List, [], ◌∷◌, ◌++◌, length, refl, sym, ap, ◌∙◌, subst, arith, length-append, Result, Ok, Err, OnOk, FoldsTo, LengthensBy, MayCallTimes, Vector, len, GrowsTo, HasRoom, Holds, Writes, AddsAnswers}
+use Rattle.aa_vec.proofs.Common.{append-nil, ◌≡◌, ℕ, suc, ◌+◌, ◌-◌, ◌<◌, List, [], ◌∷◌, ◌++◌, length, refl, sym, ap, ◌∙◌, subst, arith, length-append, Result, Ok, Err, OnOk, FoldsTo, MayCallTimes, Vector, len, HasRoom, Holds, Writes, AddsAnswers, Becomes, with_room}
 use Rattle.std.proofs.lemmas.Fn.{FoldsTo-push}
-use Rattle.aa_vec.proofs.GrowthLemmas.{Holds-more, SameBlock-refl}
-use Rattle.aa_vec.proofs.CopiesLemmas.{grown-to, room-there}
+use Rattle.aa_vec.proofs.Becoming.{Becomes-holds, Becomes-more, Becomes-refl, Becomes-roomy}
+use Rattle.aa_vec.proofs.CopiesLemmas.{room-there}
 
 module _ {T A F : Type 0} (takes : F → Type 0) (step : F → T → F → Type 0) where
   -- f was called k times of `total`, and is g; what it answered stands behind the items of old
@@ -10,8 +10,7 @@ module _ {T A F : Type 0} (takes : F → Type 0) (step : F → T → F → Type 
     pub answers : List T
     pub calls : FoldsTo step f answers g
     pub count : length answers ≡ k
-    pub holds : Holds old (old.items ++ answers) now
-    pub writes : Writes old k k now
+    pub becomes : Becomes old (old.items ++ answers) k k now
     pub more : MayCallTimes takes step (total - k) g
 
   pub Turns-none : (old : Vector T A) (total : ℕ) (f : F) → MayCallTimes takes step total f → Turns old total f 0 old f
@@ -19,8 +18,7 @@ module _ {T A F : Type 0} (takes : F → Type 0) (step : F → T → F → Type 
     answers = [];
     calls = refl;
     count = refl;
-    holds = record { items = sym (append-nil old.items); block = SameBlock-refl old };
-    writes = omega arith;
+    becomes = subst (λ l. Becomes old l 0 0 old) (sym (append-nil old.items)) (Becomes-refl old);
     more = subst (λ n. MayCallTimes takes step n f) {x = total} {y = total - 0} (omega arith) more;
   }
 
@@ -36,31 +34,29 @@ module _ {T A F : Type 0} (takes : F → Type 0) (step : F → T → F → Type 
       answers = t.answers ++ y ∷ [];
       calls = FoldsTo-push step f t.answers g y e t.calls s;
       count = length-append t.answers (y ∷ []) ∙ ap (λ n. n + 1) t.count;
-      holds = Holds-more old now new t.answers (y ∷ []) t.holds q;
-      writes = omega arith;
+      becomes = Becomes-more old now new t.answers (y ∷ []) k k 1 1 (k + 1) (k + 1) t.becomes (Becomes-holds now (now.items ++ y ∷ []) 1 1 new q w) refl refl;
       more = (next h).1 y e s;
     }
 
     pub Turns-room : k < total → HasRoom old total → len now < now.capacity
-    Turns-room h room = omega (arith, h, room, ap length t.holds.items, length-append old.items t.answers, t.count, t.holds.block.capacity)
+    Turns-room h room = omega (arith, h, room, ap len t.becomes, length-append old.items t.answers, t.count, ap (λ v. v.capacity) t.becomes)
 
     pub AddsAnswers-turns : k ≡ total → AddsAnswers step old total f g now
     AddsAnswers-turns e = record {
       answers = t.answers;
       calls = t.calls;
       count = t.count ∙ e;
-      holds = t.holds;
-      writes = subst (λ n. Writes old n n now) e t.writes;
+      becomes = subst (λ n. Becomes old (old.items ++ t.answers) n n now) e t.becomes;
     }
 
   -- in a vector that has just made room for all of them
-  pub LengthensBy-answers : (size : ℕ) (first old new : Vector T A) (k : ℕ) (f g : F) → GrowsTo size first k first.items old → AddsAnswers step old k f g new → LengthensBy step size first k f g new
-  LengthensBy-answers size first old new k f g made adds =
-      record { answers = adds.answers; calls = adds.calls; count = adds.count; grows = grown-to size first old new k made adds.answers adds.holds }
+  pub AddsAnswers-made : (first old new : Vector T A) (k : ℕ) (f g : F) → Becomes first first.items 0 0 old → AddsAnswers step old k f g new → AddsAnswers step first k f g new
+  AddsAnswers-made first old new k f g made adds =
+      record { answers = adds.answers; calls = adds.calls; count = adds.count; becomes = Becomes-roomy first old new made (λ l. l ++ adds.answers) k adds.becomes }
 
 -- by a closure whose last state is not named
-pub LengthensBy-some_last : {T A F E : Type 0} (step : F → T → F → Type 0) (r : Result Unit E) (size n k : ℕ) (old new : Vector T A) (f g : F) → OnOk r (len old < n → LengthensBy step size old k f g new) → OnOk r (len old < n → (last : F) × LengthensBy step size old k f last new)
-LengthensBy-some_last step (Ok u) size n k old new f g fills = λ l. (g, fills l)
-LengthensBy-some_last step (Err e) size n k old new f g fills = tt
+pub AddsAnswers-some_last : {T A F E : Type 0} (step : F → T → F → Type 0) (r : Result Unit E) (n m k : ℕ) (old new : Vector T A) (f g : F) → OnOk r (m < n → AddsAnswers step old k f g new) → OnOk r (m < n → (last : F) × AddsAnswers step old k f last new)
+AddsAnswers-some_last step (Ok u) n m k old new f g fills = λ l. (g, fills l)
+AddsAnswers-some_last step (Err e) n m k old new f g fills = tt
 
-pub ruleset turns = (Turns-none, Turns-may, Turns-next, Turns-room, AddsAnswers-turns, LengthensBy-answers, LengthensBy-some_last, room-there)
+pub ruleset turns = (Turns-none, Turns-may, Turns-next, Turns-room, AddsAnswers-turns, AddsAnswers-made, AddsAnswers-some_last, room-there)

@@ -2,7 +2,7 @@
 -- range and closes the gap.
 use Rattle.std.specs.Prelude.{◌≡◌, ℕ, ◌+◌, ◌-◌, ◌≤◌, List, ◌++◌, take, drop, replicate, map, Option, Some, None}
 use Rattle.aa_raw.specs.Places.{IsRun, run}
-use Rattle.aa_vec.specs.Vector.{Vector, len, Holds, Writes, Moves, run_count, moved_over}
+use Rattle.aa_vec.specs.Vector.{Vector, len, Becomes, run_count, moved_over}
 
 module _ {T A : Type 0} where
   -- n elements stand behind the items of v, after a gap of so many places
@@ -19,18 +19,21 @@ module _ {T A : Type 0} where
 
   -- the items from the index on stand behind the others now
   pub record SetsBack (old : Vector T A) (at : ℕ) (new : Vector T A) : Type 0 where
-    pub holds : Holds old (take at old.items) new
+    pub becomes : Becomes old (take at old.items) 0 0 new
     pub stands : StandsBehind new 0 (len old - at)
     pub elements : behind_items new 0 (len old - at) ≡ drop at old.items
     pub behind : new.behind ≡ map Some (drop at old.items) ++ old.behind
-    pub writes : Writes old 0 0 new
 
-  -- the n elements after the gap were moved down to the items, of which they are the last now; the
-  -- gap is before what stood behind them
+  -- the n elements after the gap were moved down to the items, of which they are the last now
+  abbrev pub MovesDown : (old : Vector T A) → (gap n : ℕ) → (new : Vector T A) → Type 0
+  MovesDown old gap n new =
+      let moved = moved_over gap n in
+      Becomes old (old.items ++ behind_items old gap n) moved (run_count moved) new
+
+  -- and the gap is before what stood behind them
   pub record ClosesGap (old : Vector T A) (gap n : ℕ) (new : Vector T A) : Type 0 where
-    pub holds : Holds old (old.items ++ behind_items old gap n) new
+    pub becomes : MovesDown old gap n new
     pub behind : drop gap new.behind ≡ drop n (drop gap old.behind)
-    pub writes : Moves old gap n new
 
   -- of the n elements after the gap these are left, and all else is as it was
   pub record LeavesBehind (old : Vector T A) (gap n : ℕ) (left : List T)
@@ -44,15 +47,11 @@ module _ {T A : Type 0} where
     pub same : new ≡ with_behind old new.behind
     pub behind : drop gap new.behind ≡ replicate n None ++ drop n (drop gap old.behind)
 
-  -- the n elements after the gap were moved down to the items, of which they are the last now
-  pub record DropsAndCloses (old : Vector T A) (gap n : ℕ) (new : Vector T A) : Type 0 where
-    pub holds : Holds old (old.items ++ behind_items old gap n) new
-    pub writes : Moves old gap n new
-
   -- the n elements after the gap and then the m from the place `end` on were moved down to the
   -- items, of which they are the last now
-  pub record ClosesTwice (old : Vector T A) (gap n end m : ℕ) (new : Vector T A) : Type 0 where
-    pub holds : Holds old (old.items ++ (behind_items old gap n ++ behind_items old end m)) new
-    pub writes : let first = moved_over gap n in
-        let second = moved_over (end - n) m in
-        Writes old (first + second) (run_count first + run_count second) new
+  abbrev pub ClosesTwice : (old : Vector T A) → (gap n end m : ℕ) → (new : Vector T A) → Type 0
+  ClosesTwice old gap n end m new =
+      let first = moved_over gap n in
+      let second = moved_over (end - n) m in
+      Becomes old (old.items ++ (behind_items old gap n ++ behind_items old end m))
+      (first + second) (run_count first + run_count second) new

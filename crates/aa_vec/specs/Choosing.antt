@@ -3,9 +3,9 @@
 -- left them.
 use denote.Ref.{MutBor, Bor}
 use denote.Param.Members.{Mut}
-use Rattle.std.specs.Prelude.{◌≡◌, ℕ, ◌+◌, ◌≤◌, Bool, true, false, not, List, [], ◌∷◌, ◌++◌, ◌⊎◌, map, filter, count_by, ⊤}
+use Rattle.std.specs.Prelude.{◌≡◌, ℕ, ◌≤◌, Bool, true, false, not, List, [], ◌∷◌, ◌++◌, ◌⊎◌, map, filter, count_by, ⊤}
 use Rattle.std.specs.Fn.{CalledAt, CalledAtMut}
-use Rattle.aa_vec.specs.Vector.{Vector, Holds}
+use Rattle.aa_vec.specs.Vector.{Vector, Becomes}
 
 -- f may be called at a `&mut` to x
 abbrev pub TakesMut : {F T R : Type 0} → Mut F (MutBor T × Unit {0}) (R × (MutBor T × Unit {0}))
@@ -58,10 +58,6 @@ kept_behind_removed [] = 0
 kept_behind_removed (true ∷ stays) = kept_behind_removed stays
 kept_behind_removed (false ∷ stays) = count_by (λ s. s) stays
 
--- and how many go
-abbrev pub removed_count : List Bool → ℕ
-removed_count stays = count_by not stays
-
 module _ {F T : Type 0} (Asks : F → T → Bool → F → T → Type 0) where
   -- each element was asked once, in order, from the closure's state f on, which is then g
   abbrev pub AskedInOrder : F → List T → List (Asked T) → F → Type 0
@@ -90,9 +86,10 @@ module _ {F T : Type 0} (Asks : F → T → Bool → F → T → Type 0) where
       (new : Vector T A) : Type 0 where
     pub told : List (Asked T)
     pub asked : AskedInOrder f old.items told g
-    pub holds : Holds old (kept told) new
-    pub written : new.written ≡ old.written + kept_behind_removed (answers_of told)
-    pub runs : new.runs ≤ old.runs + removed_count (answers_of told)
+    pub runs : ℕ
+    pub few : runs ≤ count_by (λ t. not t.answer) told
+    pub becomes : let stays = map (λ t. t.answer) told in
+        Becomes old (kept told) (kept_behind_removed stays) runs new
 
 module _ {F T : Type 0} (Asks : F → T → T → Bool → F → T → T → Type 0) where
   -- l is the last element kept. Each of xs was asked beside the last one kept before it, which goes
@@ -136,6 +133,6 @@ module _ {F T : Type 0} (Asks : F → T → T → Bool → F → T → T → Typ
     pub answers : List Bool
     pub left : List T
     pub asked : Deduplicated f old.items answers g left
-    pub holds : Holds old left new
-    pub written : new.written ≡ old.written + kept_behind_removed (map not answers)
-    pub runs : new.runs ≤ old.runs + removed_count (map not answers)
+    pub runs : ℕ
+    pub few : runs ≤ count_by (λ goes. goes) answers
+    pub becomes : Becomes old left (kept_behind_removed (map not answers)) runs new

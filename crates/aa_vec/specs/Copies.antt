@@ -6,7 +6,7 @@ use Rattle.aa_raw.specs.declared.collections.TryReserveError.{TryReserveError}
 use Rattle.aa_raw.specs.declared.collections.TryReserveErrorKind.TheVariants.{AllocError}
 use Rattle.aa_raw.specs.declared.raw_vec.Growth.{Growth}
 use Rattle.aa_raw.specs.declared.raw_vec.Growth.TheVariants.{Doubling}
-use Rattle.aa_vec.specs.Vector.{Vector, len, sized, GrowsTo, Holds, Writes, LacksRoom, with_items}
+use Rattle.aa_vec.specs.Vector.{Vector, len, sized, Becomes, LacksRoom, with_items, with_room}
 
 -- ys are the first of xs, as many as they are
 abbrev pub IsBeginning : {T : Type 0} → (xs ys : List T) → Type 0
@@ -62,8 +62,7 @@ module _ {T A : Type 0} where
       (new : Vector T A) : Type 0 where
     pub added : List T
     pub each : AllZip clones xs added
-    pub holds : Holds old (old.items ++ added) new
-    pub writes : Writes old (length xs) (length xs) new
+    pub becomes : let n = length xs in Becomes old (old.items ++ added) n n new
 
   -- new has the block of old, and behind old's items k others, written one by one: clones of x, and
   -- x itself last
@@ -71,30 +70,13 @@ module _ {T A : Type 0} where
       (new : Vector T A) : Type 0 where
     pub added : List T
     pub each : AllZip clones (replicate (k - 1) x) added
-    pub holds : Holds old (old.items ++ (added ++ x ∷ [])) new
-    pub writes : Writes old k k new
+    pub becomes : Becomes old (old.items ++ (added ++ x ∷ [])) k k new
 
   -- new has old's items in the block of old, and fewer than k that were written there are gone
   pub record Undone (old : Vector T A) (k : ℕ) (new : Vector T A) : Type 0 where
     pub done : ℕ
     pub fewer : done < k
-    pub holds : Holds old old.items new
-    pub writes : Writes old done done new
-
-  -- new has a clone of each of xs behind old's items, in room that was made for all of them at once
-  pub record Extends (clones : T → T → Type 0) (size : ℕ) (old : Vector T A) (xs : List T)
-      (new : Vector T A) : Type 0 where
-    pub added : List T
-    pub each : AllZip clones xs added
-    pub grows : GrowsTo size old (length xs) (old.items ++ added) new
-
-  -- new has k more items than old, in room that was made for all of them at once: clones of x, and
-  -- x itself last
-  pub record Lengthens (clones : T → T → Type 0) (size : ℕ) (old : Vector T A) (k : ℕ) (x : T)
-      (new : Vector T A) : Type 0 where
-    pub added : List T
-    pub each : AllZip clones (replicate (k - 1) x) added
-    pub grows : GrowsTo size old k (old.items ++ (added ++ x ∷ [])) new
+    pub becomes : Becomes old old.items done done new
 
   -- new has the block of old, and behind old's items k others, written one by one: what f answered,
   -- called once for each, in order. The closure is then g
@@ -103,17 +85,7 @@ module _ {T A : Type 0} where
     pub answers : List T
     pub calls : FoldsTo step f answers g
     pub count : length answers ≡ k
-    pub holds : Holds old (old.items ++ answers) new
-    pub writes : Writes old k k new
-
-  -- new has k more items than old, in room that was made for all of them at once: what f answered,
-  -- called once for each, in order. The closure is then g
-  pub record LengthensBy {F : Type 0} (step : F → T → F → Type 0) (size : ℕ) (old : Vector T A)
-      (k : ℕ) (f g : F) (new : Vector T A) : Type 0 where
-    pub answers : List T
-    pub calls : FoldsTo step f answers g
-    pub count : length answers ≡ k
-    pub grows : GrowsTo size old k (old.items ++ answers) new
+    pub becomes : Becomes old (old.items ++ answers) k k new
 
   -- k more than old has were to be put behind its items, in room for all of them. There was a
   -- failure: they are gone, and the room stays
@@ -121,10 +93,7 @@ module _ {T A : Type 0} where
       (error : TryReserveError) (new : Vector T A) : Type 0 where
     pub cause : failure
     pub number : error.kind ≡ AllocError (len old + k)
-    pub left : GrowsTo size old k old.items new
-    pub done : ℕ
-    pub fewer : done < k
-    pub writes : Writes old done done new
+    pub undone : Undone (with_room size old (len old) k) k new
 
   -- or there was no room for them, and nothing has changed
   abbrev pub Refuses : (failure : Type 0) (size : ℕ) → Vector T A → (k : ℕ) → TryReserveError
@@ -142,15 +111,14 @@ module _ {T A : Type 0} where
     pub fewer : done < length xs
     pub added : List T
     pub each : AllZip clones (take done xs) added
-    pub grows : GrowsTo size (with_items old []) (length xs) added new
-    pub writes : Writes old done done new
+    pub becomes : let roomy = with_room size (with_items old []) 0 (length xs) in
+        Becomes roomy added done done new
 
   -- there was no room for k items, where those of old were dropped. None is left
   pub record LeavesNone (size : ℕ) (old : Vector T A) (k : ℕ) (error : TryReserveError)
       (new : Vector T A) : Type 0 where
     pub lacks : LacksRoom size (with_items old []) k error
-    pub holds : Holds old [] new
-    pub writes : Writes old 0 0 new
+    pub becomes : Becomes old [] 0 0 new
 
   -- either of the two, where clones of xs were to take the place of old's items
   abbrev pub StopsAssigning : (clones : T → T → Type 0) (failure : Type 0) (size : ℕ) → Vector T A

@@ -1,9 +1,7 @@
 -- What a contract sees of a `Drain`: the vector as it is lent, and what is left of the range.
 use Rattle.std.specs.Prelude.{◌≡◌, ℕ, ◌+◌, ◌-◌, List, [], ◌∷◌, ◌++◌, length, take, drop, slice_range, filter_map, Option, MatchOption}
 use Rattle.std.specs.Borrow.{GName}
-use Rattle.std.specs.Iterator.{Yields}
-use Rattle.aa_vec.specs.Behind.{behind_items}
-use Rattle.aa_vec.specs.Vector.{Vector, Holds, Writes, Moves, run_count, moved_over}
+use Rattle.aa_vec.specs.Vector.{Vector, Becomes, run_count, moved_over}
 use Rattle.aa_vec.specs.declared.vec.drain.Drain.{Drain}
 
 module _ {T A : Type 0} where
@@ -15,13 +13,9 @@ module _ {T A : Type 0} where
   abbrev pub drain_vec : Drain T A → Vector T A
   drain_vec d = d.vec.now
 
-  -- the elements before the range
-  abbrev pub drain_head : Drain T A → List T
-  drain_head d = (drain_vec d).items
-
   -- the items still to come
   unfoldable pub drain_rest : Drain T A → List T
-  drain_rest d = behind_items d.vec.now d.front (d.back - d.front)
+  drain_rest d = filter_map (λ c. c) (slice_range d.vec.now.behind d.front d.back)
 
   -- the elements behind the range: they stand in the places from `end` up to `total`
   abbrev pub drain_tail : Drain T A → List T
@@ -41,8 +35,7 @@ module _ {T A : Type 0} where
 
   -- d takes the elements from the index a up to b out of old, and none was taken yet
   pub record TakesRange (old : Vector T A) (a b : ℕ) (d : Drain T A) : Type 0 where
-    pub head : Holds old (take a old.items) (drain_vec d)
-    pub writes : Writes old 0 0 (drain_vec d)
+    pub becomes : Becomes old (take a old.items) 0 0 (drain_vec d)
     pub rest : drain_rest d ≡ slice_range old.items a b
     pub tail : drain_tail d ≡ drop b old.items
     pub range : range_len d ≡ b - a
@@ -52,8 +45,7 @@ module _ {T A : Type 0} where
   -- new has the range and the vector of old, but for what is left of the range
   pub record DrainKeeps (old new : Drain T A) : Type 0 where
     pub lender : drain_lender new ≡ drain_lender old
-    pub head : Holds (drain_vec old) (drain_head old) (drain_vec new)
-    pub writes : Writes (drain_vec old) 0 0 (drain_vec new)
+    pub becomes : Becomes (drain_vec old) (drain_vec old).items 0 0 (drain_vec new)
     pub tail : drain_tail new ≡ drain_tail old
     pub range : range_len new ≡ range_len old
 
@@ -73,22 +65,18 @@ module _ {T A : Type 0} where
       (λ x. (drain_rest s ≡ drain_rest t ++ x ∷ []) × (taken_front t ≡ taken_front s)
       × (taken_back t ≡ taken_back s + 1))
 
-  -- each state that calls of `next` lead to keeps the range and the vector of d, but for what is
-  -- left of the range
-  abbrev pub DrainKeepsAlong : Drain T A → Type 0
-  DrainKeepsAlong d =
-      (xs : List T) (later : Drain T A) → Yields drains_first d xs later → DrainKeeps d later
-
   -- new has what is before the range and what is behind it, which was moved, in one run, if the
   -- range had any element
-  pub record Closes (d : Drain T A) (new : Vector T A) : Type 0 where
-    pub holds : Holds (drain_vec d) (drain_head d ++ drain_tail d) new
-    pub writes : Moves (drain_vec d) (range_len d) (length (drain_tail d)) new
+  abbrev pub Closes : Drain T A → (new : Vector T A) → Type 0
+  Closes d new =
+      let moved = moved_over (range_len d) (length (drain_tail d)) in
+      Becomes (drain_vec d) ((drain_vec d).items ++ drain_tail d) moved (run_count moved) new
 
   -- new has what is before the range, what is left of it, and what is behind it. The second was
   -- moved, in one run, if an item was taken from the front, and the third if any was taken
-  pub record KeepsRest (d : Drain T A) (new : Vector T A) : Type 0 where
-    pub holds : Holds (drain_vec d) (drain_head d ++ (drain_rest d ++ drain_tail d)) new
-    pub writes : let rest = moved_over (taken_front d) (length (drain_rest d)) in
-        let tail = moved_over (taken_front d + taken_back d) (length (drain_tail d)) in
-        Writes (drain_vec d) (rest + tail) (run_count rest + run_count tail) new
+  abbrev pub KeepsRest : Drain T A → (new : Vector T A) → Type 0
+  KeepsRest d new =
+      let rest = moved_over (taken_front d) (length (drain_rest d)) in
+      let tail = moved_over (taken_front d + taken_back d) (length (drain_tail d)) in
+      Becomes (drain_vec d) ((drain_vec d).items ++ (drain_rest d ++ drain_tail d))
+      (rest + tail) (run_count rest + run_count tail) new

@@ -1,12 +1,12 @@
 -- A vector that items are put behind, one by one, as an iterator gives them, and what the iterator
 -- tells of how many are to come.
-use Rattle.std.specs.Prelude.{◌≡◌, ℕ, ◌+◌, ◌-◌, ◌<◌, ◌≤◌, List, [], ◌∷◌, ◌++◌, length, Option, Some, None, ◌⊎◌, Result, IfOk, IfErr, OnOk, IsOk}
+use Rattle.std.specs.Prelude.{◌≡◌, ℕ, ◌+◌, ◌-◌, ◌<◌, ◌≤◌, List, [], ◌∷◌, ◌++◌, length, Option, Some, None, ◌⊎◌, Result, IfErr, OnOk, IsOk}
 use Rattle.std.specs.Borrow.{Bor}
 use Rattle.std.specs.Iterator.{Count, YieldsFirst, Drains, size as count}
 use Rattle.std.specs.Iterator.Runs.{WholeRun}
 use Rattle.aa_raw.specs.declared.collections.TryReserveError.{TryReserveError}
 pub use Rattle.aa_boxed.specs.Hints.{TellsAtMost, asked_with}
-use Rattle.aa_vec.specs.Vector.{Vector, len, HasRoom, IsNew, LacksRoom, SameBlock, Writes, with_room}
+use Rattle.aa_vec.specs.Vector.{Vector, len, HasRoom, LacksRoom, SameBlock, Writes, with_room}
 
 -- what an `Items` has: the items that are to come, in order, and the number that it tells of them
 pub record ItemsLeft (T : Type 0) : Type 0 where
@@ -37,6 +37,7 @@ module _ {T A : Type 0} where
   -- places for all
   pub record ExtendsAll (size : ℕ) (lower : ℕ → ℕ) (old : Vector T A) (xs added : List T)
       (new : Vector T A) : Type 0 where
+    pub within : length xs ≤ old.capacity
     pub in_steps : GrowsInSteps size lower (length xs + length added) old new
     pub enough : length xs + length added ≤ new.capacity
     pub items : new.items ≡ xs ++ added
@@ -48,6 +49,7 @@ module _ {T A : Type 0} where
     pub front : List T
     pub others : List T
     pub begins : added ≡ front ++ others
+    pub within : length xs ≤ old.capacity
     pub in_steps : GrowsInSteps size lower (length xs + length added) old new
     pub short : new.capacity < length xs + length added
     pub items : new.items ≡ xs ++ front
@@ -69,81 +71,36 @@ abbrev pub TellsExactly : {S : Type 0} → (S → ℕ) → S → ℕ → Type 0
 TellsExactly lower_of s n = n ≡ lower_of s
 
 module _ {S T : Type 0} (next_gives : S → Option T → S → Type 0) (Tells : S → ℕ → Type 0) where
-  -- calls from s gave xs and led to t, and after each, with k of xs still to come, the state may
-  -- tell `lower k`
+  -- calls from s gave xs and led to t, and in each state, with k of xs still to come, it may tell
+  -- `lower k`
   abbrev pub YieldsTelling : (lower : ℕ → ℕ) → S → List T → S → Type 0
-  YieldsTelling lower s [] t = s ≡ t
+  YieldsTelling lower s [] t = Tells s (lower 0) × (s ≡ t)
   YieldsTelling lower s (x ∷ xs) t =
-      (j : S) × next_gives s (Some x) j × Tells j (lower (length xs)) × YieldsTelling lower j xs t
+      Tells s (lower (length (x ∷ xs))) × (j : S) × next_gives s (Some x) j
+      × YieldsTelling lower j xs t
 
-  module _ {A : Type 0} (size : ℕ) (iter : S) (old : Vector T A) where
-    -- new is old with all that came from `iter` behind its items, in room asked for as the iterator
-    -- told
-    pub record ExtendsByAll (new : Vector T A) : Type 0 where
-      pub added : List T
-      pub lower : ℕ → ℕ
-      pub last : S
-      pub told : YieldsTelling lower iter added last
-      pub ends : (end : S) × next_gives last None end
-      pub within : length old.items ≤ old.capacity
-      pub in_steps : GrowsInSteps size lower (length old.items + length added) old new
-      pub enough : length old.items + length added ≤ new.capacity
-      pub items : new.items ≡ old.items ++ added
+  -- what came from `iter`: the items that calls gave, what it told of how many were still to come,
+  -- and the state that they led to. Went says where they went, and what is left of it
+  pub record Takes (iter : S)
+      (Went : (lower : ℕ → ℕ) → (taken : List T) → (last : S) → Type 0) : Type 0 where
+    pub taken : List T
+    pub lower : ℕ → ℕ
+    pub last : S
+    pub told : YieldsTelling lower iter taken last
+    pub went : Went lower taken last
 
-    -- new is old with what was taken from `iter`, all but one item, behind its items, and full; room
-    -- for the one, and as many as were told then, was refused
-    pub record ExtendsByFront (error : TryReserveError) (new : Vector T A) : Type 0 where
-      pub front : List T
-      pub item : T
-      pub lower : ℕ → ℕ
-      pub last : S
-      pub told : YieldsTelling lower iter (front ++ item ∷ []) last
-      pub within : length old.items ≤ old.capacity
-      pub in_steps : GrowsInSteps size lower (length old.items + (length front + 1)) old new
-      pub items : new.items ≡ old.items ++ front
-      pub full : length new.items ≡ new.capacity
-      pub lacks : LacksRoom size new (asked_with (lower 0)) error
-
-  module _ {A : Type 0} (size : ℕ) (iter : S) (alloc : A) where
-    -- v was new, and was extended by all that came from `iter`
-    abbrev pub MadeByAll : Vector T A → Type 0
-    MadeByAll v = (new : Vector T A) × IsNew size 0 alloc new × ExtendsByAll size iter new v
-
-    -- a new vector was extended by a beginning, and then room was refused
-    abbrev pub StopsAtFront : TryReserveError → Type 0
-    StopsAtFront error =
-        (new : Vector T A) × (full : Vector T A) × IsNew size 0 alloc new
-        × ExtendsByFront size iter new error full
-
--- items of `iter` were put behind those of old, which is new, with this result, and `after` is what
--- is left of it: nothing was taken but what was placed and, where room was refused, one item more
-pub record LeavesIter {S T A : Type 0} (next_gives : S → Option T → S → Type 0)
-    (Tells : S → ℕ → Type 0) (size : ℕ) (iter : S) (old : Vector T A) (after : S)
-    (result : Result Unit TryReserveError) (new : Vector T A) : Type 0 where
-  pub ended : OnOk result
-      ((all : ExtendsByAll next_gives Tells size iter old new) × (all.ends.0 ≡ after))
-  pub stopped : IfErr result
-      (λ e. (front : ExtendsByFront next_gives Tells size iter old e new) × (front.last ≡ after))
-
--- items of `iter` were put into a new vector over `alloc`, and with this result it is answered, or
--- gone where room was refused; and `after` is what is left of `iter`, as above
-pub record LeavesIterMaking {S T A : Type 0} (next_gives : S → Option T → S → Type 0)
-    (Tells : S → ℕ → Type 0) (size : ℕ) (iter : S) (alloc : A) (after : S)
-    (result : Result (Vector T A) TryReserveError) : Type 0 where
-  pub ended : IfOk result
-      (λ v. (made : MadeByAll next_gives Tells size iter alloc v) × (made.2.ends.0 ≡ after))
-  pub stopped : IfErr result
-      (λ e. (stop : StopsAtFront next_gives Tells size iter alloc e) × (stop.3.last ≡ after))
-
--- items of `iter`, of which `remaining` bounds how many are to come, were put behind those of old,
--- which is new, with this result
+-- items of `iter`, of which `remaining` bounds how many are to come and `after` is what is left,
+-- were put behind those of old, which is new, with this result: nothing was taken but what was
+-- placed and, where room was refused, one item more
 pub record Extended {S T A : Type 0} (next_gives : S → Option T → S → Type 0)
     (Tells : S → ℕ → Type 0) (remaining : S → Count) (size : ℕ) (iter : S) (old : Vector T A)
-    (result : Result Unit TryReserveError) (new : Vector T A) : Type 0 where
+    (after : S) (result : Result Unit TryReserveError) (new : Vector T A) : Type 0 where
   pub items : OnOk result ((xs : List T) × Drains next_gives iter xs
       × (new.items ≡ old.items ++ xs))
   pub runs : OnOk result (WholeRun next_gives iter (λ p. new.items ≡ old.items ++ p.items))
   pub fits : HasRoom old (count (remaining iter)) → IsOk result
-  pub room : OnOk result (ExtendsByAll next_gives Tells size iter old new)
+  pub room : OnOk result (Takes next_gives Tells iter (λ lower xs last.
+      next_gives last None after × ExtendsAll size lower old old.items xs new))
   pub writes : let n = len new - len old in Writes old n n new
-  pub refused : IfErr result (λ e. ExtendsByFront next_gives Tells size iter old e new)
+  pub refused : IfErr result (λ e. Takes next_gives Tells iter (λ lower xs last. (last ≡ after)
+      × (full : ExtendsFull size lower old old.items xs e new) × (length full.others ≡ 1)))

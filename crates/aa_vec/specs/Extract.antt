@@ -1,11 +1,10 @@
 -- What a contract sees of elements that a closure takes out of a range: the vector as it is lent,
 -- the elements that stay, those that were not asked yet, and what is behind the range.
-use Rattle.std.specs.Prelude.{◌≡◌, ℕ, ◌+◌, ◌-◌, ◌≤◌, Bool, List, [], ◌∷◌, ◌++◌, length, take, drop, slice_range, Option, MatchOption}
+use Rattle.std.specs.Prelude.{◌≡◌, ℕ, ◌+◌, ◌-◌, ◌≤◌, Bool, List, [], ◌∷◌, ◌++◌, length, take, drop, slice_range, filter_map, Option, MatchOption}
 use Rattle.std.specs.Borrow.{GName}
 use Rattle.std.specs.Iterator.{Yields}
-use Rattle.aa_vec.specs.Behind.{behind_items}
 use Rattle.aa_vec.specs.Choosing.{Asked, AskedInOrder, EndsTrue, kept, passed_over}
-use Rattle.aa_vec.specs.Vector.{Vector, Holds, Writes, Moves}
+use Rattle.aa_vec.specs.Vector.{Vector, Becomes, run_count, moved_over}
 use Rattle.aa_vec.specs.declared.vec.extract_if.ExtractBy.{ExtractBy}
 use Rattle.aa_vec.specs.declared.vec.extract_if.ExtractIf.{ExtractIf}
 
@@ -22,26 +21,21 @@ module _ {T A : Type 0} where
   abbrev pub extract_count : ExtractBy T A → ℕ
   extract_count e = e.front - e.kept
 
-  -- the elements before the range
-  abbrev pub extract_head : ExtractBy T A → List T
-  extract_head e = (extract_vec e).items
-
   -- those of the range that were asked and stay
   unfoldable pub extract_kept : ExtractBy T A → List T
-  extract_kept e = behind_items e.vec.now 0 e.kept
+  extract_kept e = filter_map (λ c. c) (take e.kept e.vec.now.behind)
 
   -- those that were not asked yet
   unfoldable pub extract_rest : ExtractBy T A → List T
-  extract_rest e = behind_items e.vec.now e.front (e.end - e.front)
+  extract_rest e = filter_map (λ c. c) (slice_range e.vec.now.behind e.front e.end)
 
   -- the elements behind the range
   unfoldable pub extract_tail : ExtractBy T A → List T
-  extract_tail e = behind_items e.vec.now e.end (e.total - e.end)
+  extract_tail e = filter_map (λ c. c) (slice_range e.vec.now.behind e.end e.total)
 
   -- e takes elements from the index a up to b out of old, and none was asked yet
   pub record ExtractsRange (old : Vector T A) (a b : ℕ) (e : ExtractBy T A) : Type 0 where
-    pub head : Holds old (take a old.items) (extract_vec e)
-    pub writes : Writes old 0 0 (extract_vec e)
+    pub becomes : Becomes old (take a old.items) 0 0 (extract_vec e)
     pub kept : extract_kept e ≡ []
     pub rest : extract_rest e ≡ slice_range old.items a b
     pub tail : extract_tail e ≡ drop b old.items
@@ -49,11 +43,13 @@ module _ {T A : Type 0} where
 
   -- new has what is before the range, what stays of it, what was not asked, and what is behind it.
   -- The last two were moved, in one run, if an element was taken out
-  pub record ClosesExtract (e : ExtractBy T A) (new : Vector T A) : Type 0 where
-    pub holds : Holds (extract_vec e)
-        (extract_head e ++ (extract_kept e ++ (extract_rest e ++ extract_tail e))) new
-    pub writes : Moves (extract_vec e) (extract_count e)
-        (length (extract_rest e) + length (extract_tail e)) new
+  abbrev pub ClosesExtract : ExtractBy T A → (new : Vector T A) → Type 0
+  ClosesExtract e new =
+      let others = length (extract_rest e) + length (extract_tail e) in
+      let moved = moved_over (extract_count e) others in
+      Becomes (extract_vec e)
+      ((extract_vec e).items ++ (extract_kept e ++ (extract_rest e ++ extract_tail e)))
+      moved (run_count moved) new
 
 module _ {F T : Type 0} (Asks : F → T → Bool → F → T → Type 0) where
   -- one call from s: the closure was asked of elements that were not asked before, in order, up to
@@ -69,9 +65,9 @@ module _ {F T : Type 0} (Asks : F → T → Bool → F → T → Type 0) where
     pub kept : extract_kept t ≡ extract_kept s ++ passed_over told
     pub rest : extract_rest t ≡ drop (length told) (extract_rest s)
     pub lender : extract_lender t ≡ extract_lender s
-    pub head : Holds (extract_vec s) (extract_head s) (extract_vec t)
     pub tail : extract_tail t ≡ extract_tail s
-    pub writes : Moves (extract_vec s) (extract_count s) (length (passed_over told)) (extract_vec t)
+    pub becomes : let moved = moved_over (extract_count s) (length (passed_over told)) in
+        Becomes (extract_vec s) (extract_vec s).items moved (run_count moved) (extract_vec t)
 
   -- from s on, the closure was asked of elements that were not asked before, in order: xs are those
   -- at which it answered true, as it left them, and those at which it answered false stay, as it
@@ -84,22 +80,18 @@ module _ {F T : Type 0} (Asks : F → T → Bool → F → T → Type 0) where
     pub kept : extract_kept t ≡ extract_kept s ++ passed_over told
     pub rest : extract_rest t ≡ drop (length told) (extract_rest s)
     pub lender : extract_lender t ≡ extract_lender s
-    pub head : Holds (extract_vec s) (extract_head s) (extract_vec t)
     pub tail : extract_tail t ≡ extract_tail s
     pub count : extract_count t ≡ extract_count s + length xs
-    pub written : (extract_vec t).written ≤ (extract_vec s).written + length (passed_over told)
+    pub moved : ℕ
+    pub runs : ℕ
+    pub few : moved ≤ length (passed_over told)
+    pub becomes : Becomes (extract_vec s) (extract_vec s).items moved runs (extract_vec t)
 
-  -- and no other was asked after the last that was taken out
-  pub record ExtractedTo {A : Type 0} (f : F) (s : ExtractBy T A) (xs : List T) (g : F)
-      (t : ExtractBy T A) : Type 0 where
-    pub extracted : Extracted f s xs g t
-    pub ends : EndsTrue extracted.told
-
-  -- so was each state reached that calls of `next` lead to, as long as they give items; each but
-  -- the first of these moved one run at most
+  -- so was each state reached that calls of `next` lead to, as long as they give items; no other was
+  -- asked after the last that was taken out. Each call but the first moved one run at most
   pub record ExtractsAlong {A : Type 0} (s : ExtractIf T F A) : Type 0 where
     pub along : (xs : List T) (later : ExtractIf T F A)
         → Yields (λ u r t. Extracts u.f u.by r t.f t.by) s xs later
-        → ExtractedTo s.f s.by xs later.f later.by
+        → (e : Extracted s.f s.by xs later.f later.by) × EndsTrue e.told
         × (let was = extract_vec s.by in let is = extract_vec later.by in
         is.runs + (extract_count s.by - 1) ≤ was.runs + (extract_count later.by - 1))

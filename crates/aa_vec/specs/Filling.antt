@@ -6,8 +6,8 @@ use Rattle.std.specs.declared.iter.Iterator.{Ghosts}
 use Rattle.aa_raw.specs.declared.collections.TryReserveError.{TryReserveError}
 use Rattle.aa_vec.specs.Vector.{Vector, len, HasRoom, SameBlock, LacksRoom, Holds, Writes, Moves, with_room, run_count, moved_over}
 use Rattle.aa_vec.specs.Behind.{StandsBehind, behind_items}
-use Rattle.aa_vec.specs.Extend.{YieldsTelling, EndsAt}
-use Rattle.aa_vec.specs.SpliceItems.{LacksVector, LacksOthers, tail_moves}
+use Rattle.aa_vec.specs.Extend.{YieldsTelling, EndsAt, Takes}
+use Rattle.aa_vec.specs.SpliceItems.{LacksOthers, tail_moves}
 
 module _ {T A : Type 0} where
   -- the n elements behind the items were moved up by the gap
@@ -76,31 +76,18 @@ pub record PutsWithin {T A : Type 0} (old : Vector T A) (n : ℕ) (new : Vector 
   pub written : let placed = len new - len old in new.written ≤ old.written + (placed + 2 * n)
   pub runs : let placed = len new - len old in new.runs ≤ old.runs + (placed + 2)
 
--- the iterator gave `rest` from s on; before each item it told `lower` of the number still to come
-pub record Told {S T : Type 0} (next_gives : S → Option T → S → Type 0)
-    (Tells : S → ℕ → Type 0) (s : S) (rest : List T) : Type 0 where
-  pub lower : ℕ → ℕ
-  pub last : S
-  pub first : Tells s (lower (length rest))
-  pub each : YieldsTelling next_gives Tells lower s rest last
-
 module _ {S T A : Type 0} (next_gives : S → Option T → S → Type 0)
     (Tells : S → ℕ → Type 0) (size : ℕ) (s : S) (first : T) where
   -- `first` and all that came from s, of which `after` is left, were gathered in a vector
-  pub record Gathers (v : Vector T A) (after : S) : Type 0 where
-    pub rest : List T
-    pub told : Told next_gives Tells s rest
-    pub ends : next_gives told.last None after
-    pub items : v.items ≡ first ∷ rest
+  abbrev pub Gathers : Vector T A → (after : S) → Type 0
+  Gathers v after = Takes next_gives Tells s
+      (λ lower rest last. next_gives last None after × (v.items ≡ first ∷ rest))
 
   -- no vector over a clone of the allocator of old could be made of `first` and what was taken from
   -- s, of which `after` is left
-  pub record GathersShort (fails : Type 0) (old : Vector T A) (error : TryReserveError)
-      (after : S) : Type 0 where
-    pub rest : List T
-    pub told : Told next_gives Tells s rest
-    pub stops : told.last ≡ after
-    pub lacks : LacksVector A fails size told.lower (first ∷ rest) error
+  abbrev pub GathersShort : (fails : Type 0) (old : Vector T A) → TryReserveError → (after : S) → Type 0
+  GathersShort fails old error after = Takes next_gives Tells s
+      (λ lower rest last. (last ≡ after) × LacksOthers fails ⊥ size lower old (first ∷ rest) error)
 
 module _ {S T A : Type 0} (next_gives : S → Option T → S → Type 0) (size : ℕ) (s : S)
     (old : Vector T A) where
@@ -131,12 +118,10 @@ module _ {S T A : Type 0} (next_gives : S → Option T → S → Type 0) (Tells 
     (fails : Type 0) (size : ℕ) (s : S) (old : Vector T A) where
   -- no vector could be made of `first` and what was taken from s, of which `after` is left, or
   -- there was no room for them
-  pub record LacksRest (n : ℕ) (first : T) (error : TryReserveError) (after : S) : Type 0 where
-    pub rest : List T
-    pub told : Told next_gives Tells s rest
-    pub stops : EndsAt next_gives told.last after
-    pub lacks : LacksOthers fails ((end : S) × next_gives told.last None end) size told.lower old
-        (first ∷ rest) error
+  abbrev pub LacksRest : (first : T) → TryReserveError → (after : S) → Type 0
+  LacksRest first error after = Takes next_gives Tells s
+      (λ lower rest last. EndsAt next_gives last after
+      × LacksOthers fails ((end : S) × next_gives last None end) size lower old (first ∷ rest) error)
 
   module _ (told n : ℕ) where
     -- a beginning of what was taken from s, of which `after` is left, was put there; there was no

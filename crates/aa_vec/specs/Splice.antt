@@ -1,6 +1,6 @@
 -- What a contract sees of a `Splice`: the range, as a `Drain` has it, and the items that are to
 -- come in its place.
-use Rattle.std.specs.Prelude.{◌≡◌, List, slice_range, filter_map, Option}
+use Rattle.std.specs.Prelude.{◌≡◌, slice_range, filter_map, Option}
 use Rattle.std.specs.declared.iter.Iterator.{Ghosts}
 use Rattle.aa_vec.specs.Drain.{drains_first, drains_last}
 use Rattle.aa_vec.specs.SpliceItems.{Gapped}
@@ -24,19 +24,15 @@ module _ {I A T : Type 0} {g : Ghosts I T} where
   abbrev pub splice_iter : Splice I A T g → I
   splice_iter s = s.iter
 
-  -- the elements before the range, and those behind it: the first are the items of the vector, the
-  -- others stand in the places from `end` up to `total` behind them
-  abbrev pub splice_kept : Splice I A T g → List T × List T
-  splice_kept s = (s.vec.now.items, filter_map (λ c. c) (slice_range s.vec.now.behind s.end s.total))
-
-  -- the vector without the range: those elements, and how many the range had
+  -- the vector without the range: the elements before it, which are the items of the vector, how
+  -- many places it had, and the elements behind it, in the places from `end` up to `total`
   abbrev pub splice_gap : Splice I A T g → Gapped T A
   splice_gap s =
       record {
         block = s.vec.now;
-        head = (splice_kept s).0;
+        head = s.vec.now.items;
         gap = s.end;
-        tail = (splice_kept s).1;
+        tail = filter_map (λ c. c) (slice_range s.vec.now.behind s.end s.total);
       }
 
   -- r was taken from the front of the range of s, which is t afterwards, or nothing was left

@@ -3,13 +3,14 @@
 use Rattle.std.specs.Prelude.{◌≡◌, ℕ, ◌+◌, ◌-◌, ◌*◌, ◌<◌, ◌≤◌, List, [], ◌++◌, length, Option, None, if◌then◌else◌, ◌==◌, ◌⊎◌, Result, IfErr, OnOk, IsOk}
 use Rattle.std.specs.Iterator.{Count, IsFinite, Yields, Drains, size as count}
 use Rattle.std.specs.Iterator.Runs.{WholeRun}
+use Rattle.std.specs.declared.iter.Iterator.{Ghosts}
 use Rattle.aa_raw.specs.declared.collections.TryReserveError.{TryReserveError}
 use Rattle.aa_raw.specs.declared.raw_vec.Growth.TheVariants.{Doubling}
 use Rattle.aa_raw.specs.Growth.{amortized, least_of}
 use Rattle.aa_raw.specs.Refusals.{IsRefusedAt}
 use Rattle.aa_vec.specs.Vector.{Vector, len, HasRoom, IsNew, SameBlock, LacksRoom, run_count, with_room}
 use Rattle.aa_vec.specs.Behind.{behind_items}
-use Rattle.aa_vec.specs.Extend.{ExtendsAll, ExtendsFull, EndsAt, YieldsTelling, asked_with}
+use Rattle.aa_vec.specs.Extend.{ExtendsAll, ExtendsFull, Takes, asked_with}
 
 -- a vector out of which a range was taken, in its block: the elements before the range, how many
 -- places it has, and the elements behind it
@@ -28,25 +29,20 @@ tail_moves gap h n =
     then run_count h + run_count (n - gap - h) + run_count (h - (n - gap))
     else 1
 
--- items were to be gathered in a vector of their own, over a clone of the allocator, as an
--- extension of a new vector takes them: the clone was refused, with the number that the first
--- growth of that vector would have asked for, or that growth was, or a further one. `fails` says
--- that the clone may be refused
-abbrev pub LacksVector : {T : Type 0} (A fails : Type 0) (size : ℕ) (lower : ℕ → ℕ) → List T
-    → TryReserveError → Type 0
-LacksVector {T = T} A fails size lower items error =
-    (fails × IsRefusedAt error
-    (amortized Doubling 0 (asked_with (lower (length items - 1))) (least_of size)))
-    ⊎ ((made : Vector T A) × (full : Vector T A) × IsNew size 0 made.alloc made
-    × ExtendsFull size lower made [] items error full)
-
 module _ {T A : Type 0} where
-  -- no vector could be made of the others, or, where they are all that is to come, there was no
-  -- room for just them in v
+  -- the others were to be gathered in a vector of their own, over a clone of the allocator, as an
+  -- extension of a new vector takes them: the clone was refused, with the number that the first
+  -- growth of that vector would have asked for, or that growth was, or a further one. Or they are
+  -- all that is to come, and there was no room for just them in v. `fails` says that the clone may
+  -- be refused, and `whole` that they are all
   abbrev pub LacksOthers : (fails whole : Type 0) (size : ℕ) (lower : ℕ → ℕ) → Vector T A → List T
       → TryReserveError → Type 0
   LacksOthers fails whole size lower v others error =
-      LacksVector A fails size lower others error ⊎ (whole × LacksRoom size v (length others) error)
+      ((fails × IsRefusedAt error
+      (amortized Doubling 0 (asked_with (lower (length others - 1))) (least_of size)))
+      ⊎ ((made : Vector T A) × (full : Vector T A) × IsNew size 0 made.alloc made
+      × ExtendsFull size lower made [] others error full))
+      ⊎ (whole × LacksRoom size v (length others) error)
 
   -- v with these elements before the range, so many places, and these behind it
   abbrev pub gapped : Vector T A → (head : List T) → (gap : ℕ) → (tail : List T) → Gapped T A
@@ -82,29 +78,20 @@ module _ {T A : Type 0} where
           SameBlock (with_room size told (span old + told_over)
           (length added - old.gap - told_over)) new
 
-    -- `front` fills the gap, and there was no room for those that were told then
-    pub record StopsAtGap (front : List T) (error : TryReserveError)
-        (new : Vector T A) : Type 0 where
-      pub fills : length front ≡ old.gap
-      pub block : SameBlock old.block new
-      pub lacks : LacksRoom size new told_over error
-
-    -- it fills the room made for those too, and there are others
-    pub record FillsBeyond (front others : List T) (new : Vector T A) : Type 0 where
-      pub fills : length front ≡ old.gap + told_over
-      pub room : SameBlock (with_room size old.block (span old) told_over) new
-      pub more : 0 < length others
-
-    -- with a tail, new has `front`, a beginning of `added`, in place of the range: room for the
-    -- others was refused
+    -- with a tail, new has `front`, a beginning of `added`, in place of the range: it fills the gap,
+    -- and there was no room for those that were told then, or it fills the room made for those too,
+    -- and room for the others was refused
     pub record SplicesFront (fails whole : Type 0) (error : TryReserveError)
         (new : Vector T A) : Type 0 where
       pub front : List T
       pub others : List T
       pub begins : added ≡ front ++ others
       pub items : new.items ≡ old.head ++ (front ++ old.tail)
-      pub why : StopsAtGap front error new
-          ⊎ (FillsBeyond front others new × LacksOthers fails whole size lower new others error)
+      pub why :
+          ((length front ≡ old.gap) × SameBlock old.block new × LacksRoom size new told_over error)
+          ⊎ ((length front ≡ old.gap + told_over)
+          × SameBlock (with_room size old.block (span old) told_over) new × (0 < length others)
+          × LacksOthers fails whole size lower new others error)
 
     -- new has a beginning of `added` in place of the range, and room for the others was refused
     abbrev pub SplicesShort : (fails whole : Type 0) → TryReserveError → Vector T A → Type 0
@@ -121,37 +108,18 @@ module _ {T A : Type 0} where
 module _ {S T : Type 0} (next_gives : S → Option T → S → Type 0) (Tells : S → ℕ → Type 0)
     {A : Type 0} (size : ℕ) (iter : S) (old : Gapped T A) where
   -- new has all that came from `iter` in place of the range, in room asked for as the iterator told
-  pub record SplicesByAll (new : Vector T A) : Type 0 where
-    pub added : List T
-    pub lower : ℕ → ℕ
-    pub last : S
-    pub first : Tells iter (lower (length added))
-    pub told : YieldsTelling next_gives Tells lower iter added last
-    pub ends : (end : S) × next_gives last None end
-    pub splices : SplicesAll size lower old added new
-    pub written : let moves = tail_moves old.gap (told_over size lower old added) (length added) in
-        new.written ≡ old.block.written + (length added + moves * length old.tail)
+  abbrev pub SplicesByAll : Vector T A → Type 0
+  SplicesByAll new =
+      Takes next_gives Tells iter (λ lower xs last.
+      ((end : S) × next_gives last None end) × SplicesAll size lower old xs new
+      × (new.written ≡ old.block.written + (length xs
+      + tail_moves old.gap (told_over size lower old xs) (length xs) * length old.tail)))
 
   -- new has a beginning of what was taken from `iter` in place of the range; more had no room
-  pub record SplicesByFront (fails : Type 0) (error : TryReserveError)
-      (new : Vector T A) : Type 0 where
-    pub taken : List T
-    pub lower : ℕ → ℕ
-    pub last : S
-    pub first : Tells iter (lower (length taken))
-    pub told : YieldsTelling next_gives Tells lower iter taken last
-    pub splices :
-        ((old.tail ≡ []) × ExtendsFull size lower old.block old.head taken error new)
-        ⊎ ((0 < length old.tail)
-        × SplicesFront size lower old taken fails ((end : S) × next_gives last None end) error new)
-
-  -- items were put in place of the range with this result, and `after` is what is left of `iter`:
-  -- nothing was taken but what found a place, and what was gathered where others found none
-  pub record SplicesIter (fails : Type 0) (after : S) (result : Result Unit TryReserveError)
-      (new : Vector T A) : Type 0 where
-    pub ended : OnOk result ((all : SplicesByAll new) × (all.ends.0 ≡ after))
-    pub stopped : IfErr result
-        (λ e. (front : SplicesByFront fails e new) × EndsAt next_gives front.last after)
+  abbrev pub SplicesByFront : (fails : Type 0) → TryReserveError → Vector T A → Type 0
+  SplicesByFront fails error new =
+      Takes next_gives Tells iter (λ lower xs last.
+      SplicesShort size lower old xs fails ((end : S) × next_gives last None end) error new)
 
 -- once the range is full, the iterator tells h
 abbrev pub TellsOnceFull : {S T : Type 0} → (S → Option T → S → Type 0) → (S → ℕ → Type 0) → S
@@ -164,20 +132,20 @@ abbrev pub TellsNoneAtEnd : {S : Type 0} → (S → ℕ → Type 0) → (remaini
 TellsNoneAtEnd {S = S} Tells remaining =
     (s : S) (n : ℕ) → IsFinite (remaining s) → count (remaining s) ≡ 0 → Tells s n → n ≡ 0
 
--- items of `iter`, of which `remaining` bounds how many are to come, were put in place of the range
--- of old, which is new, with this result
-pub record Replaced {S T A : Type 0} (next_gives : S → Option T → S → Type 0)
-    (Tells : S → ℕ → Type 0) (remaining : S → Count) (fails : Type 0) (size : ℕ) (iter : S)
-    (old : Gapped T A) (result : Result Unit TryReserveError) (new : Vector T A) : Type 0 where
+-- items of `iter` were put in place of the range
+-- of old, which is new, with this result. `fails` says that a clone of the allocator may be refused
+pub record Replaced {S T A : Type 0} (g : Ghosts S T) (Tells : S → ℕ → Type 0) (fails : Type 0)
+    (size : ℕ) (iter : S) (old : Gapped T A) (result : Result Unit TryReserveError)
+    (new : Vector T A) : Type 0 where
   pub items : OnOk result
-      ((xs : List T) × Drains next_gives iter xs × (new.items ≡ old.head ++ (xs ++ old.tail)))
+      ((xs : List T) × Drains g.next_gives iter xs × (new.items ≡ old.head ++ (xs ++ old.tail)))
   pub runs : OnOk result
-      (WholeRun next_gives iter (λ p. new.items ≡ old.head ++ (p.items ++ old.tail)))
-  pub fits_gap : count (remaining iter) < old.gap → IsOk result
-  pub fits_full : TellsNoneAtEnd Tells remaining → count (remaining iter) ≤ old.gap → IsOk result
-  pub fits_end : old.tail ≡ [] → HasRoom old.block (count (remaining iter)) → IsOk result
-  pub fits_told : (h : ℕ) → TellsOnceFull next_gives Tells iter old.gap h
-      → count (remaining iter) ≤ old.gap + h → span old + h ≤ old.block.capacity → IsOk result
-  pub room : OnOk result (SplicesByAll next_gives Tells size iter old new)
+      (WholeRun g.next_gives iter (λ p. new.items ≡ old.head ++ (p.items ++ old.tail)))
+  pub fits_gap : count (g.remaining iter) < old.gap → IsOk result
+  pub fits_full : TellsNoneAtEnd Tells g.remaining → count (g.remaining iter) ≤ old.gap → IsOk result
+  pub fits_end : old.tail ≡ [] → HasRoom old.block (count (g.remaining iter)) → IsOk result
+  pub fits_told : (h : ℕ) → TellsOnceFull g.next_gives Tells iter old.gap h
+      → count (g.remaining iter) ≤ old.gap + h → span old + h ≤ old.block.capacity → IsOk result
+  pub room : OnOk result (SplicesByAll g.next_gives Tells size iter old new)
   pub writes : SplicesWithin old.block old.tail new
-  pub refused : IfErr result (λ e. SplicesByFront next_gives Tells size iter old fails e new)
+  pub refused : IfErr result (λ e. SplicesByFront g.next_gives Tells size iter old fails e new)

@@ -2,7 +2,7 @@
 use Rattle.std.specs.Prelude.{◌≡◌, ℕ, zero, suc, ◌≤◌, Bool, true, false, not, List, [], ◌∷◌, ◌++◌, length, map, take, drop, Option, Some, ◌+◌, ◌-◌, ◌<◌, slice_set, None, MatchOption, if◌then◌else◌}
 use Rattle.aa_vec.specs.Behind.{StandsBehind, ClosesGap, LeavesBehind, behind_items, with_behind}
 use Rattle.aa_vec.specs.Choosing.{Asked, AskedInOrder, EndsTrue, kept, passed_over}
-use Rattle.aa_vec.specs.Vector.{Vector, Holds, SameBlock, Writes, Moves}
+use Rattle.aa_vec.specs.Vector.{Vector, Becomes, run_count, moved_over}
 
 -- of the elements of old behind the gap, which are in the places from `at` up to `end`, the first
 -- `kept` were moved down; one behind them, if there is one, was taken out, and `next` is the first
@@ -56,12 +56,12 @@ module _ {F T : Type 0} (Asks : F → T → Bool → F → T → Type 0) where
     pub cases : MatchOption item ((kept told ≡ []) × (next ≡ end))
         (λ x. (kept told ≡ x ∷ []) × EndsTrue told)
     pub counts : (stay ≡ length (passed_over told)) × (next ≡ front + length told)
-    pub holds : Holds old old.items new
+    pub becomes : let moved = moved_over (front - low) stay in
+        Becomes old old.items moved (run_count moved) new
     pub stands : StandsBehind new 0 (low + stay)
     pub stayed : behind_items new 0 (low + stay) ≡ behind_items old 0 low ++ passed_over told
     pub within : (low + stay ≤ next) × (front ≤ next) × (next ≤ end)
     pub above : drop next new.behind ≡ drop next old.behind
-    pub writes : Moves old (front - low) stay new
 
 module _ {F T : Type 0} (Asks : F → T → T → Bool → F → T → T → Type 0) where
   -- from f on, the first k of xs were asked, each beside the one before it, the first beside l, and
@@ -110,10 +110,8 @@ module _ {F T : Type 0} (Asks : F → T → T → Bool → F → T → T → Typ
     pub next_left : T
     pub had : (old.items ≡ front ++ last ∷ []) × (behind_items old gap 1 ≡ next ∷ [])
     pub called : Asks f next last answer g next_left last_left
-    pub items : new.items ≡ front ++ last_left ∷ []
+    pub becomes : Becomes old (front ++ last_left ∷ []) 0 0 new
     pub behind : drop gap new.behind ≡ Some next_left ∷ drop 1 (drop gap old.behind)
-    pub block : SameBlock old new
-    pub writes : Writes old 0 0 new
 
   -- so were the n elements of old behind the gap, the first beside the last item
   pub record ChainsBehind {A : Type 0} (f : F) (old : Vector T A) (gap n k : ℕ) (g : F)
@@ -124,7 +122,5 @@ module _ {F T : Type 0} (Asks : F → T → T → Bool → F → T → T → Typ
     pub left : List T
     pub had : old.items ≡ front ++ last ∷ []
     pub until : ChainsUntil f last (behind_items old gap n) k g (last_left ∷ left)
-    pub items : new.items ≡ front ++ last_left ∷ []
+    pub becomes : Becomes old (front ++ last_left ∷ []) 0 0 new
     pub behind : drop gap new.behind ≡ map Some left ++ drop n (drop gap old.behind)
-    pub block : SameBlock old new
-    pub writes : Writes old 0 0 new

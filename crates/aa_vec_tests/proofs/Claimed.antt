@@ -8,11 +8,11 @@ use Rattle.aa_raw.specs.declared.raw_vec.Growth.TheVariants.{Doubling}
 use Rattle.aa_raw.specs.Growth.{amortized}
 use Rattle.aa_vec.specs.Vector.{Vector, len, Becomes, Holds, with_room}
 use Rattle.aa_vec.specs.Extend.{GrowsInSteps, stays as no_more, grows as once_more, ExtendsAll, asked_with, ItemsLeft, gives_item, lower_by, TellsExactly}
-use Rattle.aa_vec.specs.Drain.{TakesRange, KeepsRest, drain_vec, drain_head, drain_rest, drain_tail, range_len, taken_front, taken_back, drains_first, drains_last}
+use Rattle.aa_vec.specs.Drain.{TakesRange, KeepsRest, drain_vec, drain_rest, drain_tail, range_len, taken_front, taken_back, drains_first, drains_last}
 use Rattle.aa_vec.specs.SpliceItems.{cut_off, SplicesAll, SplicesByAll, tail_moves}
 use Rattle.aa_vec.specs.declared.vec.drain.Drain.{Drain}
 use Rattle.aa_vec.proofs.GrowthLemmas.{MakesRoom, MakesRoomTwice, MakesRoom-stays, MakesRoom-grows, GrowsInSteps-fits, SameBlock-refl, SameBlock-trans}
-use Rattle.aa_vec.proofs.Becoming.{GrowsTo-becomes}
+use Rattle.aa_vec.proofs.Becoming.{GrowsTo-becomes, SameBlock-becomes}
 use Rattle.aa_vec.proofs.Counted.{items_lower}
 use Rattle.aa_vec.proofs.DrainLemmas.{keeps-then}
 use Rattle.aa_vec.proofs.SpliceByItems.{SplicesAll-items, items-written}
@@ -35,14 +35,14 @@ module _ {A : Type 0} {old : Vector ℕ A} {iter given : ItemsLeft ℕ} {d : Dra
   come : iter.items ≡ 7 ∷ 8 ∷ 9 ∷ []
   come = ap (λ i. i.items) same ∙ new_items
 
-  before : drain_head d ≡ 1 ∷ []
-  before = drains.head.items ∙ ap (take 1) was.0
+  before : (drain_vec d).items ≡ 1 ∷ []
+  before = ap (λ v. v.items) drains.becomes ∙ ap (take 1) was.0
 
   behind : drain_tail d ≡ 4 ∷ []
   behind = drains.tail ∙ ap (drop 3) was.0
 
   spliced : SplicesAll 4 (lower_by iter.hint) (cut_off (drain_vec d) (range_len d) (drain_tail d)) iter.items new
-  spliced = SplicesAll-items iter 4 (drain_vec d) (range_len d) (drain_tail d) new s (omega (arith, ap length before, drains.head.block.capacity, was.1))
+  spliced = SplicesAll-items iter 4 (drain_vec d) (range_len d) (drain_tail d) new s
 
   pub five_there : new.items ≡ 1 ∷ 7 ∷ 8 ∷ 9 ∷ 4 ∷ []
   five_there = spliced.items ∙ (λ i. before i ++ (come i ++ behind i))
@@ -65,18 +65,18 @@ module _ {A : Type 0} {old : Vector ℕ A} {iter given : ItemsLeft ℕ} {d : Dra
         let second : moved 2 h (length (drain_tail d)) = subst (λ g. moved g h (length (drain_tail d))) drains.range first in
         let third : moved 2 h 1 = subst (λ t. moved 2 h t) (ap length behind) second in
         let fourth : P 3 = subst P three third in
-        fourth ∙ ap (λ w. w + (3 + tail_moves 2 h 3 * 1)) (omega (arith, drains.writes.written))
+        fourth ∙ ap (λ w. w + (3 + tail_moves 2 h 3 * 1)) (omega (arith, ap (λ v. v.written) drains.becomes))
 
     pub five_room : MakesRoomTwice 4 (drain_vec d) 4 h (1 - h) new
     five_room =
-        let all : length (drain_head d) + range_len d + length (drain_tail d) ≡ 4 = omega (arith, ap length before, ap length behind, drains.range) in
+        let all : len (drain_vec d) + range_len d + length (drain_tail d) ≡ 4 = omega (arith, ap length before, ap length behind, drains.range) in
         rw (all, tells, left_one) at (spliced.beyond (omega (arith, ap length behind)) (omega (arith, three, drains.range)))
 
     pub places : (drain_vec d).capacity ≡ 4
-    places = drains.head.block.capacity ∙ was.1
+    places = ap (λ v. v.capacity) drains.becomes ∙ was.1
 
     pub doubles : (drain_vec d).growth ≡ Doubling
-    doubles = drains.head.block.growth ∙ was.2
+    doubles = ap (λ v. v.growth) drains.becomes ∙ was.2
 
   -- some: as many as there are, or a hundred
   pub told_some : (hint : Option ℕ) (h c : ℕ) → given.hint ≡ hint → lower_by hint 1 ≡ h → 0 < h → amortized Doubling 4 (4 + h) 4 ≡ c → 4 + h ≤ c → (new.capacity ≡ c) × (new.written ≡ old.written + (3 + tail_moves 2 h 3 * 1))
@@ -170,13 +170,16 @@ middle_stays old new d e f r q items drains first last kept =
     let a = one_front d e r first 1 (2 ∷ 3 ∷ []) (drains.rest ∙ ap (λ xs. slice_range xs 1 4) items) in
     let b = one_back e f q last 2 3 a.0 in
     let keeps = keeps-then d e f first.0 last.0 in
-    let head : drain_head f ≡ 0 ∷ [] = keeps.head.items ∙ drains.head.items ∙ ap (take 1) items in
+    let head : (drain_vec f).items ≡ 0 ∷ [] = ap (λ v. v.items) keeps.becomes ∙ ap (λ v. v.items) drains.becomes ∙ ap (take 1) items in
     let tail : drain_tail f ≡ 4 ∷ 5 ∷ [] = keeps.tail ∙ drains.tail ∙ ap (drop 4) items in
     let front : taken_front f ≡ 1 = b.1 ∙ a.1 ∙ ap (λ n. n + 1) drains.none_front in
     let back : taken_back f ≡ 1 = b.2 ∙ ap (λ n. n + 1) (a.2 ∙ drains.none_back) in
     let P : ℕ → ℕ → ℕ → ℕ → Type 0 = λ i j m n. new.written ≡ (drain_vec f).written + ((if i == 0 then 0 else m) + (if i + j == 0 then 0 else n)) in
     let w : P 1 1 1 2 =
-    subst (λ i. P i 1 1 2) front (subst (λ j. P (taken_front f) j 1 2) back (subst (λ m. P (taken_front f) (taken_back f) m 2) (ap length b.0) (subst (λ n. P (taken_front f) (taken_back f) (length (drain_rest f)) n) (ap length tail) kept.writes.written))) in (
-      record { items = kept.holds.items ∙ (λ i. head i ++ (b.0 i ++ tail i)); block = SameBlock-trans drains.head.block (SameBlock-trans keeps.head.block kept.holds.block) },
-      omega (arith, w, keeps.writes.written, drains.writes.written),
+    subst (λ i. P i 1 1 2) front (subst (λ j. P (taken_front f) j 1 2) back (subst (λ m. P (taken_front f) (taken_back f) m 2) (ap length b.0) (subst (λ n. P (taken_front f) (taken_back f) (length (drain_rest f)) n) (ap length tail) (ap (λ v. v.written) kept)))) in (
+      record {
+        items = ap (λ v. v.items) kept ∙ (λ i. head i ++ (b.0 i ++ tail i));
+        block = SameBlock-trans (SameBlock-becomes _ _ _ _ _ drains.becomes) (SameBlock-trans (SameBlock-becomes _ _ _ _ _ keeps.becomes) (SameBlock-becomes _ _ _ _ _ kept));
+      },
+      omega (arith, w, ap (λ v. v.written) keeps.becomes, ap (λ v. v.written) drains.becomes),
     )

@@ -3,9 +3,10 @@ use Rattle.std.proofs.Common.{◌≡◌, ℕ, zero, suc, ◌+◌, ◌≤◌, ◌
 use Rattle.std.specs.Prelude.{MatchOption, slice_range, if◌then◌else◌, ◌==◌}
 use Rattle.std.proofs.lemmas.List.{length-map, reverse-append}
 use Rattle.aa_vec.specs.Choosing.{Asked, AskedInOrder, EndsTrue, kept, passed_over}
-use Rattle.aa_vec.specs.Extract.{Extracts, ExtractsRange, ClosesExtract, extract_count, extract_head, extract_kept, extract_rest, extract_tail, extract_vec}
+use Rattle.aa_vec.specs.Extract.{Extracts, ExtractsRange, ClosesExtract, extract_count, extract_kept, extract_rest, extract_tail, extract_vec}
 use Rattle.aa_vec.specs.Vector.{Vector, Holds}
 use Rattle.aa_vec.specs.declared.vec.extract_if.ExtractBy.{ExtractBy}
+use Rattle.aa_vec.proofs.Becoming.{SameBlock-becomes}
 use Rattle.aa_vec.proofs.GrowthLemmas.{SameBlock-trans}
 use Rattle.aa_vec.proofs.Steady.{asked-steady, told_by}
 
@@ -57,20 +58,20 @@ module _ {F A : Type 0} (Asks : F → ℕ → Bool → F → ℕ → Type 0) (st
   evens_out old new e s t f g h r q items takes first second closes =
       let a = given (2 ∷ 3 ∷ 4 ∷ 5 ∷ []) 1 2 gives_two f g e s r (takes.rest ∙ ap (λ xs. slice_range xs 1 5) items) first in
       let b = given (3 ∷ 4 ∷ 5 ∷ []) 2 4 gives_four g h s t q a.1 second in
-      let head : extract_head t ≡ 1 ∷ [] = second.head.items ∙ first.head.items ∙ takes.head.items ∙ ap (take 1) items in
+      let head : (extract_vec t).items ≡ 1 ∷ [] = ap (λ v. v.items) second.becomes ∙ ap (λ v. v.items) first.becomes ∙ ap (λ v. v.items) takes.becomes ∙ ap (take 1) items in
       let stay : extract_kept t ≡ 3 ∷ [] = second.kept ∙ ap (λ l. l ++ passed_over second.told) (first.kept ∙ ap (λ l. l ++ passed_over first.told) takes.kept ∙ ap passed_over a.0) ∙ ap passed_over b.0 in
       let tail : extract_tail t ≡ 6 ∷ [] = second.tail ∙ first.tail ∙ takes.tail ∙ ap (drop 5) items in
       let one : extract_count s ≡ 1 = omega (arith, first.count, takes.none, ap (λ l. length (kept l)) a.0) in
       let two : extract_count t ≡ 2 = omega (arith, second.count, one, ap (λ l. length (kept l)) b.0) in
       let Says : ℕ → ℕ → Vector ℕ A → Vector ℕ A → Type 0 = λ c n u v. v.written ≡ u.written + (if c == 0 then 0 else n) in
-      let w1 : (extract_vec s).written ≡ (extract_vec e).written + 0 = subst (λ c. Says c (length (passed_over first.told)) (extract_vec e) (extract_vec s)) takes.none first.writes.written in
-      let w2 : (extract_vec t).written ≡ (extract_vec s).written + 1 = subst (λ n. Says 1 n (extract_vec s) (extract_vec t)) (ap (λ l. length (passed_over l)) b.0) (subst (λ c. Says c (length (passed_over second.told)) (extract_vec s) (extract_vec t)) one second.writes.written) in
+      let w1 : (extract_vec s).written ≡ (extract_vec e).written + 0 = subst (λ c. Says c (length (passed_over first.told)) (extract_vec e) (extract_vec s)) takes.none (ap (λ v. v.written) first.becomes) in
+      let w2 : (extract_vec t).written ≡ (extract_vec s).written + 1 = subst (λ n. Says 1 n (extract_vec s) (extract_vec t)) (ap (λ l. length (passed_over l)) b.0) (subst (λ c. Says c (length (passed_over second.told)) (extract_vec s) (extract_vec t)) one (ap (λ v. v.written) second.becomes)) in
       let behind : length (extract_rest t) + length (extract_tail t) ≡ 2 = omega (arith, ap length b.1, ap length tail) in
-      let w3 : new.written ≡ (extract_vec t).written + 2 = subst (λ n. Says 2 n (extract_vec t) new) behind (subst (λ c. Says c (length (extract_rest t) + length (extract_tail t)) (extract_vec t) new) two closes.writes.written) in (
+      let w3 : new.written ≡ (extract_vec t).written + 2 = subst (λ n. Says 2 n (extract_vec t) new) behind (subst (λ c. Says c (length (extract_rest t) + length (extract_tail t)) (extract_vec t) new) two (ap (λ v. v.written) closes)) in (
         (a.2, b.2),
         record {
-          items = closes.holds.items ∙ (λ i. head i ++ (stay i ++ (b.1 i ++ tail i)));
-          block = SameBlock-trans takes.head.block (SameBlock-trans first.head.block (SameBlock-trans second.head.block closes.holds.block));
+          items = ap (λ v. v.items) closes ∙ (λ i. head i ++ (stay i ++ (b.1 i ++ tail i)));
+          block = SameBlock-trans (SameBlock-becomes _ _ _ _ _ takes.becomes) (SameBlock-trans (SameBlock-becomes _ _ _ _ _ first.becomes) (SameBlock-trans (SameBlock-becomes _ _ _ _ _ second.becomes) (SameBlock-becomes _ _ _ _ _ closes)));
         },
-        omega (arith, w1, w2, w3, takes.writes.written),
+        omega (arith, w1, w2, w3, ap (λ v. v.written) takes.becomes),
       )

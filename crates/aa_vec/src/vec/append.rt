@@ -1,15 +1,12 @@
 //! Whole runs of elements that pass from one vector to another.
 ghost use Rattle.std.specs.Prelude.{◌≡◌, ◌-◌, ◌<◌, ◌≤◌, [], ◌++◌, take, drop, IfOk, IfErr, OnOk, OnErr, IsOk, length};
 ghost use Rattle.std.specs.Mem.{type_size};
-ghost use Rattle.aa_raw.specs.Block.{fresh};
 ghost use Rattle.aa_raw.specs.Refusals.{RefusesClones};
 ghost use Rattle.aa_vec.specs.Vector.{len, HasRoom, LacksRoom, Becomes, Holds, Writes, run_count, with_room};
-ghost use Rattle.aa_vec.specs.Copies.{IsMade};
 ghost use Rattle.aa_vec.specs.Split.{Splits, split_room};
 
 use crate::vec::Vec;
-use aa_raw::collections::{TryReserveError, TryReserveErrorKind};
-use aa_raw::raw_vec::{Growth, RawVec};
+use aa_raw::collections::TryReserveError;
 use std::alloc::Allocator;
 use std::mem::replace;
 
@@ -18,6 +15,7 @@ impl<T, A: Allocator> Vec<T, A> {
     /// keeps its capacity. It takes memory only where they do not fit, and grows then with room to
     /// spare. A refusal is as that of `try_reserve`, and changes neither vector. It stands for
     /// `Vec::append`.
+    #[inline]
     #[tactic(auto, using(crate::proofs::Becoming::becomes, crate::proofs::Becoming::became))]
     pub fn append(&mut self, other: &mut Self) -> Result<(), TryReserveError>
         ensures fits { HasRoom self.old (len other.old) → IsOk result }
@@ -100,63 +98,4 @@ impl<T, A: Allocator> Vec<T, A> {
         tail.take_from(self, at);
         Ok(tail)
     }
-
-    // An empty vector that grows as this one, with room for `capacity` elements, over a clone of
-    // its allocator.
-    pub(crate) fn empty_like(&self, capacity: usize) -> Result<Self, TryReserveError>
-    where
-        A: Clone,
-        ensures made { IfOk result (IsMade (type_size T.row) capacity self.now.growth [] 0) }
-        ensures alloc { IfOk result (λ v. A.is_clone self.now.alloc v.alloc) }
-        ensures refused { IfErr result
-            (RefusesClones (A.is_infallible self.now.alloc) capacity (type_size T.row)) }
-    {
-        empty_over(self.allocator(), self.growth(), capacity)
-    }
-
-    // A block of `capacity` empty places that grows as this vector, over a clone of its allocator.
-    fn block_like(&self, capacity: usize) -> Result<RawVec<T, A>, TryReserveError>
-    where
-        A: Clone,
-        ensures made { IfOk result
-            (λ b. b ≡ fresh (type_size T.row) capacity self.now.growth b.alloc) }
-        ensures alloc { IfOk result (λ b. A.is_clone self.now.alloc b.alloc) }
-        ensures refused { IfErr result
-            (RefusesClones (A.is_infallible self.now.alloc) capacity (type_size T.row)) }
-    {
-        block_over(self.block.allocator(), self.block.growth(), capacity)
-    }
-}
-
-// An empty vector that grows so, with room for `capacity` elements, over a clone of the allocator.
-#[tactic(auto, using(aa_raw::proofs::Calls::with_room))]
-pub(crate) fn empty_over<T, A: Allocator + Clone>(
-    alloc: &A,
-    growth: Growth,
-    capacity: usize,
-) -> Result<Vec<T, A>, TryReserveError>
-    ensures made { IfOk result (IsMade (type_size T.row) capacity growth [] 0) }
-    ensures alloc { IfOk result (λ v. A.is_clone alloc.now v.alloc) }
-    ensures refused { IfErr result
-        (RefusesClones (A.is_infallible alloc.now) capacity (type_size T.row)) }
-{
-    let block = block_over(alloc, growth, capacity)?;
-    Ok(Vec { block, len: 0 })
-}
-
-// A block of `capacity` empty places that grows so, over a clone of the allocator.
-fn block_over<T, A: Allocator + Clone>(
-    alloc: &A,
-    growth: Growth,
-    capacity: usize,
-) -> Result<RawVec<T, A>, TryReserveError>
-    ensures made { IfOk result (λ b. b ≡ fresh (type_size T.row) capacity growth b.alloc) }
-    ensures alloc { IfOk result (λ b. A.is_clone alloc.now b.alloc) }
-    ensures refused { IfErr result
-        (RefusesClones (A.is_infallible alloc.now) capacity (type_size T.row)) }
-{
-    let Ok(alloc) = alloc.clone() else {
-        return Err(TryReserveErrorKind::AllocError { capacity }.into());
-    };
-    RawVec::with_capacity_growing_in(growth, capacity, alloc)
 }

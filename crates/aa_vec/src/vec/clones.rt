@@ -1,8 +1,8 @@
 //! Clones of elements, put behind the last one.
-ghost use Rattle.std.specs.Prelude.{◌≡◌, ◌+◌, ◌-◌, ◌<◌, ◌≤◌, [], ◌∷◌, ◌++◌, false, length, take, drop, slice_range, replicate, All, IsTrue, IfErr, OnOk, OnErr, IsOk};
+ghost use Rattle.std.specs.Prelude.{◌≡◌, ◌+◌, ◌-◌, ◌<◌, ◌≤◌, [], ◌++◌, false, length, take, drop, slice_range, replicate, All, IsTrue, IfErr, OnOk, OnErr, IsOk};
 ghost use Rattle.std.specs.Mem.{type_size};
-ghost use Rattle.aa_vec.specs.Vector.{len, HasRoom, LacksRoom, GrowsTo, Holds, Writes, with_items};
-ghost use Rattle.aa_vec.specs.Copies.{Copies, IsBeginning, Adds, AddsAnswers, Fills, Undone, Extends, Lengthens, LengthensBy, MayCallTimes, Refuses, StopsAssigning};
+ghost use Rattle.aa_vec.specs.Vector.{len, HasRoom, LacksRoom, Becomes, with_items, with_room};
+ghost use Rattle.aa_vec.specs.Copies.{Copies, IsBeginning, Adds, AddsAnswers, Fills, Undone, MayCallTimes, Refuses, StopsAssigning};
 
 use crate::vec::Vec;
 use aa_raw::collections::{TryReserveError, TryReserveErrorKind};
@@ -19,12 +19,13 @@ impl<T: Clone, A: Allocator> Vec<T, A> {
     pub fn extend_from_slice(&mut self, other: &[T]) -> Result<(), TryReserveError>
         ensures fits { HasRoom self.old (length other.now)
             → All T.is_infallible other.now → IsOk result }
-        ensures extended { OnOk result
-            (Extends T.is_clone (type_size T.row) self.old other.now self.new) }
-        ensures copied { Copies T.is_clone → OnOk result (GrowsTo (type_size T.row) self.old
-            (length other.now) (self.old.items ++ other.now) self.new) }
-        ensures writes { OnOk result
-            (Writes self.old (length other.now) (length other.now) self.new) }
+        ensures extended { let roomy = with_room (type_size T.row) self.old
+            (len self.old) (length other.now) in
+            OnOk result (Adds T.is_clone roomy other.now self.new) }
+        ensures copied { let n = length other.now in
+            let roomy = with_room (type_size T.row) self.old (len self.old) n in
+            Copies T.is_clone
+            → OnOk result (Becomes roomy (self.old.items ++ other.now) n n self.new) }
         ensures refused { IfErr result (λ e. Refuses (¬ (All T.is_infallible other.now))
             (type_size T.row) self.old (length other.now) e self.new) }
     {
@@ -45,18 +46,19 @@ impl<T: Clone, A: Allocator> Vec<T, A> {
 
     /// Puts a clone of each element of the range behind the last one; it is refused as
     /// `extend_from_slice` is. It stands for `Vec::extend_from_within`.
-    #[tactic(auto, using(crate::proofs::CopiesLemmas::copied, crate::proofs::Becoming::became))]
+    #[tactic(auto, using(crate::proofs::CopiesLemmas::cloned, crate::proofs::Becoming::became))]
     pub fn extend_from_within(&mut self, range: Range<usize>) -> Result<(), TryReserveError>
         requires { (range.start ≤ range.end) × (range.end ≤ len self.old) }
         ensures fits { HasRoom self.old (range.end - range.start)
             → All T.is_infallible (slice_range self.old.items range.start range.end) → IsOk result }
-        ensures extended { OnOk result (Extends T.is_clone (type_size T.row) self.old
-            (slice_range self.old.items range.start range.end) self.new) }
-        ensures copied { Copies T.is_clone
-            → OnOk result (GrowsTo (type_size T.row) self.old (range.end - range.start)
-            (self.old.items ++ slice_range self.old.items range.start range.end) self.new) }
-        ensures writes { OnOk result
-            (Writes self.old (range.end - range.start) (range.end - range.start) self.new) }
+        ensures extended { let own = slice_range self.old.items range.start range.end in
+            let roomy = with_room (type_size T.row) self.old
+            (len self.old) (range.end - range.start) in
+            OnOk result (Adds T.is_clone roomy own self.new) }
+        ensures copied { let own = slice_range self.old.items range.start range.end in
+            let n = range.end - range.start in
+            let roomy = with_room (type_size T.row) self.old (len self.old) n in
+            Copies T.is_clone → OnOk result (Becomes roomy (self.old.items ++ own) n n self.new) }
         ensures refused { let own = slice_range self.old.items range.start range.end in
             IfErr result (λ e. Refuses (¬ (All T.is_infallible own))
             (type_size T.row) self.old (range.end - range.start) e self.new) }
@@ -80,20 +82,21 @@ impl<T: Clone, A: Allocator> Vec<T, A> {
     /// clones of `value`, and with `value` itself in the last place. It makes room for all of them
     /// before the first clone, and is refused as `extend_from_slice` is. It stands for
     /// `Vec::resize`.
-    #[tactic(auto, using(crate::proofs::CopiesLemmas::copied, crate::proofs::Becoming::became))]
+    #[tactic(auto, using(crate::proofs::CopiesLemmas::cloned, crate::proofs::Becoming::became))]
     pub fn resize(&mut self, new_len: usize, value: T) -> Result<(), TryReserveError>
         ensures fits { HasRoom self.old (new_len - len self.old)
             → (len self.old + 1 < new_len → T.is_infallible value) → IsOk result }
         ensures cut { new_len ≤ len self.old
-            → Holds self.old (take new_len self.old.items) self.new }
+            → Becomes self.old (take new_len self.old.items) 0 0 self.new }
         ensures cut_done { new_len ≤ len self.old → IsOk result }
-        ensures filled { OnOk result (len self.old < new_len → Lengthens T.is_clone
-            (type_size T.row) self.old (new_len - len self.old) value self.new) }
+        ensures filled { let more = new_len - len self.old in
+            let roomy = with_room (type_size T.row) self.old (len self.old) more in
+            OnOk result (len self.old < new_len → Fills T.is_clone roomy more value self.new) }
         ensures copied { let more = new_len - len self.old in
-            Copies T.is_clone → OnOk result (GrowsTo (type_size T.row) self.old more
-            (take new_len self.old.items ++ replicate more value) self.new) }
-        ensures writes { OnOk result
-            (Writes self.old (new_len - len self.old) (new_len - len self.old) self.new) }
+            let roomy = with_room (type_size T.row) self.old (len self.old) more in
+            Copies T.is_clone → OnOk result
+            (Becomes roomy (take new_len self.old.items ++ replicate more value)
+            more more self.new) }
         ensures only_longer { OnErr result (len self.old < new_len) }
         ensures refused { IfErr result
             (λ e. Refuses ((len self.old + 1 < new_len) × (¬ (T.is_infallible value)))
@@ -118,15 +121,16 @@ impl<T: Clone, A: Allocator> Vec<T, A> {
     /// `other`, or nothing, and is `CapacityOverflow`, or `AllocError` with the capacity asked for,
     /// and, where a clone was refused, with the length of `other`. It stands for the original's
     /// `Clone::clone_from`.
-    #[tactic(auto, using(crate::proofs::CopiesLemmas::copied, crate::proofs::Becoming::became))]
+    #[tactic(auto, using(crate::proofs::CopiesLemmas::cloned, crate::proofs::Becoming::became))]
     pub fn assign_from(&mut self, other: &Self) -> Result<(), TryReserveError>
         ensures fits { len other.now ≤ self.old.capacity
             → All T.is_infallible other.now.items → IsOk result }
-        ensures assigned { OnOk result (Extends T.is_clone (type_size T.row)
-            (with_items self.old []) other.now.items self.new) }
-        ensures copied { Copies T.is_clone → OnOk result (GrowsTo (type_size T.row)
-            (with_items self.old []) (len other.now) other.now.items self.new) }
-        ensures writes { OnOk result (Writes self.old (len other.now) (len other.now) self.new) }
+        ensures assigned { let roomy = with_room (type_size T.row)
+            (with_items self.old []) 0 (len other.now) in
+            OnOk result (Adds T.is_clone roomy other.now.items self.new) }
+        ensures copied { let n = len other.now in
+            let roomy = with_room (type_size T.row) (with_items self.old []) 0 n in
+            Copies T.is_clone → OnOk result (Becomes roomy other.now.items n n self.new) }
         ensures begun { Copies T.is_clone
             → OnErr result (IsBeginning other.now.items self.new.items) }
         ensures refused { IfErr result (λ e. StopsAssigning T.is_clone
@@ -242,12 +246,12 @@ impl<T, A: Allocator> Vec<T, A> {
         requires callable { MayCallTimes (λ g. F.pre g) F.step (new_len - len self.old) f }
         ensures fits { HasRoom self.old (new_len - len self.old) → IsOk result }
         ensures cut { new_len ≤ len self.old
-            → Holds self.old (take new_len self.old.items) self.new }
+            → Becomes self.old (take new_len self.old.items) 0 0 self.new }
         ensures cut_done { new_len ≤ len self.old → IsOk result }
-        ensures filled { OnOk result (len self.old < new_len → (last : F) × LengthensBy F.step
-            (type_size T.row) self.old (new_len - len self.old) f last self.new) }
-        ensures writes { OnOk result
-            (Writes self.old (new_len - len self.old) (new_len - len self.old) self.new) }
+        ensures filled { let more = new_len - len self.old in
+            let roomy = with_room (type_size T.row) self.old (len self.old) more in
+            OnOk result (len self.old < new_len
+            → (last : F) × AddsAnswers F.step roomy more f last self.new) }
         ensures refused { IfErr result
             (LacksRoom (type_size T.row) self.old (new_len - len self.old)) }
         ensures unchanged { OnErr result (self.new ≡ self.old) }
@@ -270,13 +274,13 @@ impl<T, A: Allocator> Vec<T, A> {
         requires callable { MayCallTimes (λ g. F.pre g) F.step (new_len - len self.old) f.old }
         ensures fits { HasRoom self.old (new_len - len self.old) → IsOk result }
         ensures cut { new_len ≤ len self.old
-            → Holds self.old (take new_len self.old.items) self.new }
+            → Becomes self.old (take new_len self.old.items) 0 0 self.new }
         ensures cut_done { new_len ≤ len self.old → IsOk result }
         ensures cut_alone { new_len ≤ len self.old → f.new ≡ f.old }
-        ensures filled { OnOk result (len self.old < new_len → LengthensBy F.step
-            (type_size T.row) self.old (new_len - len self.old) f.old f.new self.new) }
-        ensures writes { OnOk result
-            (Writes self.old (new_len - len self.old) (new_len - len self.old) self.new) }
+        ensures filled { let more = new_len - len self.old in
+            let roomy = with_room (type_size T.row) self.old (len self.old) more in
+            OnOk result (len self.old < new_len
+            → AddsAnswers F.step roomy more f.old f.new self.new) }
         ensures refused { IfErr result
             (LacksRoom (type_size T.row) self.old (new_len - len self.old)) }
         ensures unchanged { OnErr result (self.new ≡ self.old) }
@@ -299,22 +303,6 @@ impl<T, A: Allocator> Vec<T, A> {
         ensures { AddsAnswers F.step self.old count f.old f.new self.new }
     {
         let _f = replace_with(self, (f, count), with_answers);
-    }
-
-    // Puts `value` behind the last element of a vector that is not full.
-    #[inline]
-    #[tactic(auto, using(aa_raw::proofs::Calls::at_ends))]
-    pub(crate) fn put_next(&mut self, value: T)
-        requires room { len self.old < self.old.capacity }
-        ensures items { Holds self.old (self.old.items ++ value ∷ []) self.new }
-        ensures writes { Writes self.old 1 1 self.new }
-        ensures behind { self.new.behind ≡ drop 1 self.old.behind }
-    {
-        let len = self.len;
-        // As `known`; but the loops that this becomes part of are faster where the capacity is read.
-        let _within = self.block.capacity();
-        self.block.put(len, value);
-        self.len = len + 1;
     }
 }
 

@@ -29,8 +29,11 @@ pub struct Drain<'a, T, A: Allocator = Global> {
 }
 
 impl<T, A: Allocator> Vec<T, A> {
+    ghost use Rattle.std.specs.Prelude.{List};
+    ghost use Rattle.std.specs.Iterator.{Yields};
     ghost use Rattle.std.specs.Iterator.Runs.{YieldsInOrder, YieldsInReverse};
-    ghost use Rattle.aa_vec.specs.Drain.{drain_lender, drain_rest, TakesRange, DrainKeepsAlong, drains_first, drains_last};
+    ghost use Rattle.aa_vec.specs.Drain.{drain_lender, drain_rest, TakesRange, DrainKeeps, drains_first, drains_last};
+    ghost use Rattle.aa_vec.specs.declared.vec.drain.Drain.{Drain};
 
     /// Takes the elements of the range out of the vector, which ends before them at once. They come
     /// from either end of what this answers; its drop closes the gap. The capacity stays; it takes
@@ -40,7 +43,8 @@ impl<T, A: Allocator> Vec<T, A> {
         requires { (range.start ≤ range.end) × (range.end ≤ len self.old) }
         ensures lender { drain_lender result ≡ self.entry.ghost_name }
         ensures drains { TakesRange self.old range.start range.end result }
-        ensures stays { DrainKeepsAlong result }
+        ensures stays { (xs : List T) (later : Drain T A)
+            → Yields drains_first result xs later → DrainKeeps result later }
         ensures runs { YieldsInOrder (drains_first {T = T} {A = A}) drain_rest }
         ensures runs_back { YieldsInReverse (drains_last {T = T} {A = A}) drain_rest }
     {
@@ -60,7 +64,7 @@ impl<'a, T, A: Allocator> Drain<'a, T, A> {
     ghost use Rattle.aa_vec.specs.Drain.{drain_vec, drain_rest, KeepsRest};
 
     /// The items still to come, in order. It stands for `Drain::as_slice`.
-    #[tactic(auto, unfolding(crate::specs::Drain::drain_rest))]
+    #[tactic(auto, using(crate::proofs::DrainLemmas::rest_is))]
     pub fn as_slice(&self) -> &[T]
         ensures { result.now ≡ drain_rest self.now }
     {

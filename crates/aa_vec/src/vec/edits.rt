@@ -37,7 +37,7 @@ impl<T, A: Allocator> Vec<T, A> {
     /// `Vec::insert`.
     #[tactic(auto, using(aa_raw::proofs::Positions::at_positions))]
     pub fn insert(&mut self, index: usize, element: T) -> Result<(), Refused<T>>
-        requires { index ≤ len self.old }
+        requires { index ≤ length self.old.items }
         ensures fits { HasRoom self.old 1 → IsOk result }
         ensures inserted { let moved = length self.old.items - index in
             let roomy = with_room (type_size T.row) self.old (length self.old.items) 1 in

@@ -1,21 +1,24 @@
 //! Items of an iterator, put behind the elements.
-ghost use Rattle.std.specs.Prelude.{length, ◌≡◌, ◌+◌, ◌-◌, ◌≤◌, ◌++◌, List, map, IfOk, IfErr, OnOk, IsOk};
+ghost use Rattle.std.specs.Prelude.{length, ◌≡◌, ◌+◌, ◌-◌, ◌≤◌, ◌++◌, List, map, None, IfOk, IfErr, OnOk, IsOk};
 ghost use Rattle.std.specs.Mem.{type_size};
 ghost use Rattle.std.specs.Iterator.{IsFinite, IsNearerEnd, Drains, size};
 ghost use Rattle.std.specs.Iterator.Runs.{WholeRun};
 ghost use Rattle.std.specs.Borrow.{Bor};
-ghost use Rattle.aa_vec.specs.Vector.{len, sized, HasRoom, Writes};
+ghost use Rattle.aa_vec.specs.Vector.{Vector, len, sized, HasRoom, IsNew};
 ghost use Rattle.aa_vec.specs.Filling.{FillsGap, GoesOn};
-ghost use Rattle.aa_vec.specs.Extend.{Extended, ExtendsByAll, ExtendsByFront, LeavesIter};
-ghost use Rattle.aa_vec.specs.Extend.{MadeByAll, StopsAtFront, LeavesIterMaking, CopiesOf};
+ghost use Rattle.aa_vec.specs.Extend.{Extended, Takes, ExtendsAll, ExtendsFull, CopiesOf};
 ghost use Rattle.aa_vec.specs.Extend.{TellsAtMost, TellsExactly};
 
 use crate::vec::Vec;
-use crate::vec::items::Hinted;
-use crate::vec::telling::{ByHint, ByLower, Reading, Telling};
+use crate::vec::extend::items::Hinted;
+use crate::vec::extend::told::{ByHint, ByLower, Reading, Telling};
 use aa_raw::collections::TryReserveError;
 use aa_raw::raw_vec::Growth;
 use std::alloc::{Allocator, Global};
+
+pub mod hints;
+pub mod items;
+pub(crate) mod told;
 
 impl<T, A: Allocator> Vec<T, A> {
     // How many places are free.
@@ -53,8 +56,6 @@ impl<T, A: Allocator> Vec<T, A> {
         requires may_ask { I.can_next iter.old }
         requires ends { IsFinite (I.remaining iter.old) }
         ensures extends { Extended I.next_gives W.tells I.remaining (type_size T.row)
-            iter.old self.old result self.new }
-        ensures leaves { LeavesIter I.next_gives W.tells (type_size T.row)
             iter.old self.old iter.new result self.new }
         ensures goes { IfErr result (λ _. IsNearerEnd I.can_next I.remaining iter.old iter.new) }
     {
@@ -87,12 +88,15 @@ impl<T, A: Allocator> Vec<T, A> {
         ensures runs { OnOk result
             (WholeRun I.next_gives iter (λ p. self.new.items ≡ self.old.items ++ p.items)) }
         ensures fits { HasRoom self.old (size (I.remaining iter)) → IsOk result }
-        ensures room { OnOk result (ExtendsByAll I.next_gives (TellsExactly I.lower_of)
-            (type_size T.row) iter self.old self.new) }
+        ensures room { (after : I) × OnOk result (Takes I.next_gives
+            (TellsExactly I.lower_of) iter (λ lower xs last. I.next_gives last None after
+            × ExtendsAll (type_size T.row) lower self.old self.old.items xs self.new)) }
         ensures writes { let n = length self.new.items - length self.old.items in
             (self.new.written ≡ self.old.written + n) × (self.new.runs ≡ self.old.runs + n) }
-        ensures refused { IfErr result (λ e. ExtendsByFront I.next_gives (TellsExactly I.lower_of)
-            (type_size T.row) iter self.old e self.new) }
+        ensures refused { (after : I) × IfErr result (λ e. Takes I.next_gives
+            (TellsExactly I.lower_of) iter (λ lower xs last. (last ≡ after)
+            × (full : ExtendsFull (type_size T.row) lower self.old self.old.items xs e self.new)
+            × (length full.others ≡ 1))) }
     {
         let mut rest = iter;
         self.extend_hinted_by(&mut rest)
@@ -114,14 +118,14 @@ impl<T, A: Allocator> Vec<T, A> {
         ensures runs { OnOk result
             (WholeRun I.next_gives iter.old (λ p. self.new.items ≡ self.old.items ++ p.items)) }
         ensures fits { HasRoom self.old (size (I.remaining iter.old)) → IsOk result }
-        ensures room { OnOk result (ExtendsByAll I.next_gives (TellsExactly I.lower_of)
-            (type_size T.row) iter.old self.old self.new) }
+        ensures room { OnOk result (Takes I.next_gives (TellsExactly I.lower_of) iter.old
+            (λ lower xs last. I.next_gives last None iter.new
+            × ExtendsAll (type_size T.row) lower self.old self.old.items xs self.new)) }
         ensures writes { let n = length self.new.items - length self.old.items in
             (self.new.written ≡ self.old.written + n) × (self.new.runs ≡ self.old.runs + n) }
-        ensures refused { IfErr result (λ e. ExtendsByFront I.next_gives (TellsExactly I.lower_of)
-            (type_size T.row) iter.old self.old e self.new) }
-        ensures leaves { LeavesIter I.next_gives (TellsExactly I.lower_of)
-            (type_size T.row) iter.old self.old iter.new result self.new }
+        ensures refused { IfErr result (λ e. Takes I.next_gives (TellsExactly I.lower_of)
+            iter.old (λ lower xs last. (last ≡ iter.new) × (full : ExtendsFull (type_size T.row)
+            lower self.old self.old.items xs e self.new) × (length full.others ≡ 1))) }
         ensures goes { IfErr result (λ _. IsNearerEnd I.can_next I.remaining iter.old iter.new) }
     {
         self.extend_telling::<ByLower, I>(iter)
@@ -141,12 +145,15 @@ impl<T, A: Allocator> Vec<T, A> {
         ensures runs { OnOk result
             (WholeRun I.next_gives iter (λ p. self.new.items ≡ self.old.items ++ p.items)) }
         ensures fits { HasRoom self.old (size (I.remaining iter)) → IsOk result }
-        ensures room { OnOk result (ExtendsByAll I.next_gives (TellsAtMost I.remaining)
-            (type_size T.row) iter self.old self.new) }
+        ensures room { (after : I) × OnOk result (Takes I.next_gives
+            (TellsAtMost I.remaining) iter (λ lower xs last. I.next_gives last None after
+            × ExtendsAll (type_size T.row) lower self.old self.old.items xs self.new)) }
         ensures writes { let n = length self.new.items - length self.old.items in
             (self.new.written ≡ self.old.written + n) × (self.new.runs ≡ self.old.runs + n) }
-        ensures refused { IfErr result (λ e. ExtendsByFront I.next_gives (TellsAtMost I.remaining)
-            (type_size T.row) iter self.old e self.new) }
+        ensures refused { (after : I) × IfErr result (λ e. Takes I.next_gives
+            (TellsAtMost I.remaining) iter (λ lower xs last. (last ≡ after)
+            × (full : ExtendsFull (type_size T.row) lower self.old self.old.items xs e self.new)
+            × (length full.others ≡ 1))) }
     {
         let mut rest = iter;
         self.extend_by(&mut rest)
@@ -165,14 +172,14 @@ impl<T, A: Allocator> Vec<T, A> {
         ensures runs { OnOk result
             (WholeRun I.next_gives iter.old (λ p. self.new.items ≡ self.old.items ++ p.items)) }
         ensures fits { HasRoom self.old (size (I.remaining iter.old)) → IsOk result }
-        ensures room { OnOk result (ExtendsByAll I.next_gives (TellsAtMost I.remaining)
-            (type_size T.row) iter.old self.old self.new) }
+        ensures room { OnOk result (Takes I.next_gives (TellsAtMost I.remaining) iter.old
+            (λ lower xs last. I.next_gives last None iter.new
+            × ExtendsAll (type_size T.row) lower self.old self.old.items xs self.new)) }
         ensures writes { let n = length self.new.items - length self.old.items in
             (self.new.written ≡ self.old.written + n) × (self.new.runs ≡ self.old.runs + n) }
-        ensures refused { IfErr result (λ e. ExtendsByFront I.next_gives (TellsAtMost I.remaining)
-            (type_size T.row) iter.old self.old e self.new) }
-        ensures leaves { LeavesIter I.next_gives (TellsAtMost I.remaining)
-            (type_size T.row) iter.old self.old iter.new result self.new }
+        ensures refused { IfErr result (λ e. Takes I.next_gives (TellsAtMost I.remaining)
+            iter.old (λ lower xs last. (last ≡ iter.new) × (full : ExtendsFull (type_size T.row)
+            lower self.old self.old.items xs e self.new) × (length full.others ≡ 1))) }
         ensures goes { IfErr result (λ _. IsNearerEnd I.can_next I.remaining iter.old iter.new) }
     {
         self.extend_telling::<ByHint, I>(iter)
@@ -193,13 +200,15 @@ impl<T, A: Allocator> Vec<T, A> {
         ensures runs { OnOk result (WholeRun I.next_gives iter
             (λ p. self.new.items ≡ self.old.items ++ map (λ r. r.now) p.items)) }
         ensures fits { HasRoom self.old (size (I.remaining iter)) → IsOk result }
-        ensures room { OnOk result (ExtendsByAll (CopiesOf I.next_gives) (TellsAtMost I.remaining)
-            (type_size T.row) iter self.old self.new) }
+        ensures room { (after : I) × OnOk result (Takes (CopiesOf I.next_gives)
+            (TellsAtMost I.remaining) iter (λ lower xs last. I.next_gives last None after
+            × ExtendsAll (type_size T.row) lower self.old self.old.items xs self.new)) }
         ensures writes { let n = length self.new.items - length self.old.items in
             (self.new.written ≡ self.old.written + n) × (self.new.runs ≡ self.old.runs + n) }
-        ensures refused { IfErr result
-            (λ e. ExtendsByFront (CopiesOf I.next_gives) (TellsAtMost I.remaining)
-            (type_size T.row) iter self.old e self.new) }
+        ensures refused { (after : I) × IfErr result (λ e. Takes (CopiesOf I.next_gives)
+            (TellsAtMost I.remaining) iter (λ lower xs last. (last ≡ after)
+            × (full : ExtendsFull (type_size T.row) lower self.old self.old.items xs e self.new)
+            × (length full.others ≡ 1))) }
     {
         let mut rest = iter;
         self.extend_copied_by(&mut rest)
@@ -222,15 +231,14 @@ impl<T, A: Allocator> Vec<T, A> {
         ensures runs { OnOk result (WholeRun I.next_gives iter.old
             (λ p. self.new.items ≡ self.old.items ++ map (λ r. r.now) p.items)) }
         ensures fits { HasRoom self.old (size (I.remaining iter.old)) → IsOk result }
-        ensures room { OnOk result (ExtendsByAll (CopiesOf I.next_gives) (TellsAtMost I.remaining)
-            (type_size T.row) iter.old self.old self.new) }
+        ensures room { OnOk result (Takes (CopiesOf I.next_gives) (TellsAtMost I.remaining) iter.old
+            (λ lower xs last. I.next_gives last None iter.new
+            × ExtendsAll (type_size T.row) lower self.old self.old.items xs self.new)) }
         ensures writes { let n = length self.new.items - length self.old.items in
             (self.new.written ≡ self.old.written + n) × (self.new.runs ≡ self.old.runs + n) }
-        ensures refused { IfErr result
-            (λ e. ExtendsByFront (CopiesOf I.next_gives) (TellsAtMost I.remaining)
-            (type_size T.row) iter.old self.old e self.new) }
-        ensures leaves { LeavesIter (CopiesOf I.next_gives) (TellsAtMost I.remaining)
-            (type_size T.row) iter.old self.old iter.new result self.new }
+        ensures refused { IfErr result (λ e. Takes (CopiesOf I.next_gives) (TellsAtMost I.remaining)
+            iter.old (λ lower xs last. (last ≡ iter.new) × (full : ExtendsFull (type_size T.row)
+            lower self.old self.old.items xs e self.new) × (length full.others ≡ 1))) }
         ensures goes { IfErr result (λ _. IsNearerEnd I.can_next I.remaining iter.old iter.new) }
     {
         let mut copies = Reading { iter };
@@ -248,13 +256,18 @@ impl<T, A: Allocator> Vec<T, A> {
         ensures items { IfOk result (λ v. Drains I.next_gives iter v.items) }
         ensures runs { IfOk result (λ v. WholeRun I.next_gives iter (λ p. v.items ≡ p.items)) }
         ensures fits { size (I.remaining iter) ≤ sized (type_size T.row) 0 → IsOk result }
-        ensures made { IfOk result (λ v. MadeByAll I.next_gives (TellsAtMost I.remaining)
-            (type_size T.row) iter alloc v) }
+        ensures made { (after : I) × IfOk result (λ v. Takes I.next_gives
+            (TellsAtMost I.remaining) iter (λ lower xs last. I.next_gives last None after
+            × (new : Vector T A) × IsNew (type_size T.row) 0 alloc new
+            × ExtendsAll (type_size T.row) lower new new.items xs v)) }
         ensures growth { IfOk result (λ v. v.growth ≡ Growth.Doubling) }
         ensures alloc { IfOk result (λ v. v.alloc ≡ alloc) }
         ensures writes { IfOk result (λ v. (v.written ≡ len v) × (v.runs ≡ len v)) }
-        ensures refused { IfErr result (λ e. StopsAtFront I.next_gives (TellsAtMost I.remaining)
-            (type_size T.row) iter alloc e) }
+        ensures refused { (after : I) × IfErr result (λ e. Takes I.next_gives
+            (TellsAtMost I.remaining) iter (λ lower xs last. (last ≡ after)
+            × (new : Vector T A) × (stop : Vector T A) × IsNew (type_size T.row) 0 alloc new
+            × (full : ExtendsFull (type_size T.row) lower new new.items xs e stop)
+            × (length full.others ≡ 1))) }
     {
         let mut rest = iter;
         Vec::from_iter_in_by(&mut rest, alloc)
@@ -263,7 +276,6 @@ impl<T, A: Allocator> Vec<T, A> {
     /// `from_iter_in` by an iterator that is lent: no item is taken from it but those that found a
     /// place and, on a refusal, one. The original has no such call.
     #[inline]
-    #[tactic(auto, using(crate::proofs::ExtendLemmas::extended))]
     pub fn from_iter_in_by<I: Iterator<Item = T>>(
         iter: &mut I,
         alloc: A,
@@ -275,15 +287,18 @@ impl<T, A: Allocator> Vec<T, A> {
         ensures items { IfOk result (λ v. Drains I.next_gives iter.old v.items) }
         ensures runs { IfOk result (λ v. WholeRun I.next_gives iter.old (λ p. v.items ≡ p.items)) }
         ensures fits { size (I.remaining iter.old) ≤ sized (type_size T.row) 0 → IsOk result }
-        ensures made { IfOk result (λ v. MadeByAll I.next_gives (TellsAtMost I.remaining)
-            (type_size T.row) iter.old alloc v) }
+        ensures made { IfOk result (λ v. Takes I.next_gives (TellsAtMost I.remaining) iter.old
+            (λ lower xs last. I.next_gives last None iter.new
+            × (new : Vector T A) × IsNew (type_size T.row) 0 alloc new
+            × ExtendsAll (type_size T.row) lower new new.items xs v)) }
         ensures growth { IfOk result (λ v. v.growth ≡ Growth.Doubling) }
         ensures alloc { IfOk result (λ v. v.alloc ≡ alloc) }
         ensures writes { IfOk result (λ v. (v.written ≡ len v) × (v.runs ≡ len v)) }
-        ensures refused { IfErr result (λ e. StopsAtFront I.next_gives (TellsAtMost I.remaining)
-            (type_size T.row) iter.old alloc e) }
-        ensures leaves { LeavesIterMaking I.next_gives (TellsAtMost I.remaining) (type_size T.row)
-            iter.old alloc iter.new result }
+        ensures refused { IfErr result (λ e. Takes I.next_gives (TellsAtMost I.remaining)
+            iter.old (λ lower xs last. (last ≡ iter.new)
+            × (new : Vector T A) × (stop : Vector T A) × IsNew (type_size T.row) 0 alloc new
+            × (full : ExtendsFull (type_size T.row) lower new new.items xs e stop)
+            × (length full.others ≡ 1))) }
         ensures goes { IfErr result (λ _. IsNearerEnd I.can_next I.remaining iter.old iter.new) }
     {
         let mut v = Vec::new_in(alloc);
@@ -305,13 +320,18 @@ impl<T> Vec<T, Global> {
         ensures items { IfOk result (λ v. Drains I.next_gives iter v.items) }
         ensures runs { IfOk result (λ v. WholeRun I.next_gives iter (λ p. v.items ≡ p.items)) }
         ensures fits { size (I.remaining iter) ≤ sized (type_size T.row) 0 → IsOk result }
-        ensures made { IfOk result (λ v. MadeByAll I.next_gives (TellsAtMost I.remaining)
-            (type_size T.row) iter alloc v) }
+        ensures made { (after : I) × IfOk result (λ v. Takes I.next_gives
+            (TellsAtMost I.remaining) iter (λ lower xs last. I.next_gives last None after
+            × (new : Vector T Global) × IsNew (type_size T.row) 0 alloc new
+            × ExtendsAll (type_size T.row) lower new new.items xs v)) }
         ensures growth { IfOk result (λ v. v.growth ≡ Growth.Doubling) }
         ensures alloc { IfOk result (λ v. v.alloc ≡ alloc) }
         ensures writes { IfOk result (λ v. (v.written ≡ len v) × (v.runs ≡ len v)) }
-        ensures refused { IfErr result (λ e. StopsAtFront I.next_gives (TellsAtMost I.remaining)
-            (type_size T.row) iter alloc e) }
+        ensures refused { (after : I) × IfErr result (λ e. Takes I.next_gives
+            (TellsAtMost I.remaining) iter (λ lower xs last. (last ≡ after)
+            × (new : Vector T Global) × (stop : Vector T Global) × IsNew (type_size T.row) 0 alloc new
+            × (full : ExtendsFull (type_size T.row) lower new new.items xs e stop)
+            × (length full.others ≡ 1))) }
     {
         Vec::from_iter_in(iter, alloc)
     }

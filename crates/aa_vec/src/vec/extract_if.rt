@@ -7,7 +7,7 @@ ghost use Rattle.aa_vec.specs.Until.{StaysWhen, AsksBehind, KeepsDown, Picks};
 ghost use Rattle.aa_vec.specs.Vector.{len};
 
 use crate::vec::Vec;
-use crate::vec::asking::count_kept;
+use crate::vec::retain::count_kept;
 use std::alloc::{Allocator, Global};
 use std::iter::FusedIterator;
 use std::ops::Range;

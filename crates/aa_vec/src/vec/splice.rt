@@ -5,11 +5,11 @@ ghost use Rattle.std.specs.Iterator.{IsFinite};
 ghost use Rattle.aa_vec.specs.Vector.{len, HasRoom};
 ghost use Rattle.aa_vec.specs.Behind.{StandsBehind};
 ghost use Rattle.aa_vec.specs.Extend.{TellsAtMost, TellsExactly};
-ghost use Rattle.aa_vec.specs.SpliceItems.{Replaced, SplicesIter, without_behind};
+ghost use Rattle.aa_vec.specs.SpliceItems.{Replaced, without_behind};
 
 use crate::vec::Vec;
-use crate::vec::items::Hinted;
-use crate::vec::telling::{ByHint, ByLower, Telling};
+use crate::vec::extend::items::Hinted;
+use crate::vec::extend::told::{ByHint, ByLower, Telling};
 use aa_raw::collections::TryReserveError;
 use std::alloc::{Allocator, Global};
 use std::fmt;
@@ -139,11 +139,8 @@ where
         × StandsBehind vec.old end (total - end) }
     requires may_ask { I.can_next iter.old }
     requires ends { IsFinite (I.remaining iter.old) }
-    ensures replaces { Replaced I.next_gives W.tells I.remaining (¬ (A.is_infallible vec.old.alloc))
+    ensures { Replaced I.Iterator W.tells (¬ (A.is_infallible vec.old.alloc))
         (type_size I.Item.row) iter.old (without_behind vec.old end total) result vec.new }
-    ensures leaves { SplicesIter I.next_gives W.tells (type_size I.Item.row) iter.old
-        (without_behind vec.old end total) (¬ (A.is_infallible vec.old.alloc)) iter.new result
-        vec.new }
 {
     let count = total - end;
     vec.drop_behind(front, back - front);
@@ -167,7 +164,7 @@ where
     fn end_by<W: Telling<I>>(self) -> Result<(), TryReserveError>
         requires may_ask { I.can_next (splice_iter self) }
         requires ends { IsFinite (I.remaining (splice_iter self)) }
-        ensures { Replaced I.next_gives W.tells I.remaining
+        ensures { Replaced I.Iterator W.tells
             (¬ (A.is_infallible self.entry.vec.now.alloc)) (type_size I.Item.row)
             (splice_iter self.entry) (splice_gap self.entry) result self.exit.0.now }
     {
@@ -196,7 +193,7 @@ where
             × StandsBehind vec.old end (total - end) }
         requires may_ask { I.can_next iter }
         requires ends { IsFinite (I.remaining iter) }
-        ensures { Replaced I.next_gives W.tells I.remaining (¬ (A.is_infallible vec.old.alloc))
+        ensures { Replaced I.Iterator W.tells (¬ (A.is_infallible vec.old.alloc))
             (type_size I.Item.row) iter (without_behind vec.old end total) result vec.new }
     {
         let mut items = iter;
@@ -208,10 +205,9 @@ impl<'a, I: Hinted, A: Allocator + Clone> Splice<'a, I, A>
 where
     I::Item: Drop,
 {
-    ghost use Rattle.std.specs.Iterator.{Drains, size};
+    ghost use Rattle.std.specs.Iterator.{Drains};
     ghost use Rattle.std.specs.Iterator.Runs.{WholeRun};
-    ghost use Rattle.aa_vec.specs.SpliceItems.{SplicesByAll, SplicesByFront, TellsOnceFull, span};
-    ghost use Rattle.aa_vec.specs.Splice.{splice_gap, splice_iter, splice_kept};
+    ghost use Rattle.aa_vec.specs.Splice.{splice_gap, splice_iter};
 
     /// Drops what was not taken of the range, and leaves the vector what is before the range, the
     /// items, which end, and what is behind it. With nothing behind the range the items are put
@@ -231,30 +227,15 @@ where
     pub fn finish_hinted(self) -> Result<(), TryReserveError>
         requires may_ask { I.can_next (splice_iter self) }
         requires ends { IsFinite (I.remaining (splice_iter self)) }
-        ensures items { let kept = splice_kept self.entry in OnOk result ((xs : List I.Item)
+        ensures items { let s = splice_gap self.entry in OnOk result ((xs : List I.Item)
             × Drains I.next_gives (splice_iter self.entry) xs
-            × (self.exit.0.now.items ≡ kept.0 ++ (xs ++ kept.1))) }
-        ensures runs { let kept = splice_kept self.entry in
+            × (self.exit.0.now.items ≡ s.head ++ (xs ++ s.tail))) }
+        ensures runs { let s = splice_gap self.entry in
             OnOk result (WholeRun I.next_gives (splice_iter self.entry)
-            (λ p. self.exit.0.now.items ≡ kept.0 ++ (p.items ++ kept.1))) }
-        ensures fits_gap { size (I.remaining (splice_iter self.entry)) < (splice_gap self.entry).gap
-            → IsOk result }
-        ensures fits_end { let s = splice_gap self.entry in s.tail ≡ []
-            → HasRoom s.block (size (I.remaining (splice_iter self.entry))) → IsOk result }
-        ensures fits_told { (h : ℕ) → let s = splice_gap self.entry in let iter = splice_iter self.entry in
-            TellsOnceFull I.next_gives (TellsExactly I.lower_of) iter s.gap h
-            → size (I.remaining iter) ≤ s.gap + h → span s + h ≤ s.block.capacity → IsOk result }
-        ensures room { OnOk result (SplicesByAll I.next_gives (TellsExactly I.lower_of)
-            (type_size I.Item.row) (splice_iter self.entry) (splice_gap self.entry)
-            self.exit.0.now) }
-        ensures writes { let s = splice_gap self.entry in let new = self.exit.0.now in
-            let placed = length new.items - (length s.block.items + length s.tail) in
-            (new.written ≤ s.block.written + (placed + 2 * length s.tail))
-            × (new.runs ≤ s.block.runs + (placed + 2)) }
-        ensures refused { let s = splice_gap self.entry in
-            let fails = ¬ (A.is_infallible s.block.alloc) in
-            IfErr result (λ e. SplicesByFront I.next_gives (TellsExactly I.lower_of)
-            (type_size I.Item.row) (splice_iter self.entry) s fails e self.exit.0.now) }
+            (λ p. self.exit.0.now.items ≡ s.head ++ (p.items ++ s.tail))) }
+        ensures replaces { Replaced I.Iterator (TellsExactly I.lower_of)
+            (¬ (A.is_infallible (splice_gap self.entry).block.alloc)) (type_size I.Item.row)
+            (splice_iter self.entry) (splice_gap self.entry) result self.exit.0.now }
     {
         self.end_by::<ByLower>()
     }
@@ -266,8 +247,7 @@ where
 {
     ghost use Rattle.std.specs.Iterator.{Drains, size};
     ghost use Rattle.std.specs.Iterator.Runs.{WholeRun};
-    ghost use Rattle.aa_vec.specs.SpliceItems.{SplicesByAll, SplicesByFront};
-    ghost use Rattle.aa_vec.specs.Splice.{splice_gap, splice_iter, splice_kept};
+    ghost use Rattle.aa_vec.specs.Splice.{splice_gap, splice_iter};
 
     /// The same, with the lower bound of `size_hint` in place of `lower`, and with nothing behind
     /// the range as by `extend`. It takes no memory either where as many items come as the range
@@ -276,27 +256,17 @@ where
     pub fn finish(self) -> Result<(), TryReserveError>
         requires may_ask { I.can_next (splice_iter self) }
         requires ends { IsFinite (I.remaining (splice_iter self)) }
-        ensures items { let kept = splice_kept self.entry in OnOk result ((xs : List I.Item)
+        ensures items { let s = splice_gap self.entry in OnOk result ((xs : List I.Item)
             × Drains I.next_gives (splice_iter self.entry) xs
-            × (self.exit.0.now.items ≡ kept.0 ++ (xs ++ kept.1))) }
-        ensures runs { let kept = splice_kept self.entry in
+            × (self.exit.0.now.items ≡ s.head ++ (xs ++ s.tail))) }
+        ensures runs { let s = splice_gap self.entry in
             OnOk result (WholeRun I.next_gives (splice_iter self.entry)
-            (λ p. self.exit.0.now.items ≡ kept.0 ++ (p.items ++ kept.1))) }
+            (λ p. self.exit.0.now.items ≡ s.head ++ (p.items ++ s.tail))) }
         ensures fits_gap { size (I.remaining (splice_iter self.entry)) ≤ (splice_gap self.entry).gap
             → IsOk result }
-        ensures fits_end { let s = splice_gap self.entry in s.tail ≡ []
-            → HasRoom s.block (size (I.remaining (splice_iter self.entry))) → IsOk result }
-        ensures room { OnOk result (SplicesByAll I.next_gives (TellsAtMost I.remaining)
-            (type_size I.Item.row) (splice_iter self.entry) (splice_gap self.entry)
-            self.exit.0.now) }
-        ensures writes { let s = splice_gap self.entry in let new = self.exit.0.now in
-            let placed = length new.items - (length s.block.items + length s.tail) in
-            (new.written ≤ s.block.written + (placed + 2 * length s.tail))
-            × (new.runs ≤ s.block.runs + (placed + 2)) }
-        ensures refused { let s = splice_gap self.entry in
-            let fails = ¬ (A.is_infallible s.block.alloc) in
-            IfErr result (λ e. SplicesByFront I.next_gives (TellsAtMost I.remaining)
-            (type_size I.Item.row) (splice_iter self.entry) s fails e self.exit.0.now) }
+        ensures replaces { Replaced I.Iterator (TellsAtMost I.remaining)
+            (¬ (A.is_infallible (splice_gap self.entry).block.alloc)) (type_size I.Item.row)
+            (splice_iter self.entry) (splice_gap self.entry) result self.exit.0.now }
     {
         self.end_by::<ByHint>()
     }

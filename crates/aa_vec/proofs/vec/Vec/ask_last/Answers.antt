@@ -1,4 +1,5 @@
-use Rattle.aa_vec.proofs.Common.{◌<◌, refl, sym, ap, subst, ◌∙◌, arith, CalledAtPairMut, length-run, StandsBehind, behind_items, AsksLast, Vector, len, view_of}
+use Rattle.aa_vec.proofs.Common.{◌<◌, [], ◌∷◌, ◌++◌, refl, sym, ap, subst, ◌∙◌, arith, CalledAtPairMut, length-run, StandsBehind, behind_items, AsksLast, Vector, len, view_of}
+use Rattle.aa_vec.proofs.Becoming.{Becomes-holds}
 use Rattle.aa_vec.proofs.Gaps.{last-item, taken-value, before, run-rewritten, length-rewritten, drop-rewritten}
 use Rattle.aa_vec.proofs.vec.Vec.ask_last.Goals as goal
 
@@ -25,8 +26,9 @@ returns g c =
       next_left = r.first_left;
       had = (last-item v c.self.invariant some c.args.gap stands r.second r.had.1, taken-value v c.self.invariant c.args.gap stands r.first r.had.0);
       called = r.called;
-      items = run-rewritten v c.self.invariant some c.args.gap stands r.second_left r.first_left;
+      becomes = Becomes-holds (view_of v) (before v c.self.invariant some c.args.gap stands ++ r.second_left ∷ []) 0 0 _ (record {
+        items = run-rewritten v c.self.invariant some c.args.gap stands r.second_left r.first_left;
+        block = record { capacity = length-rewritten v c.self.invariant some c.args.gap stands r.second_left r.first_left; growth = refl; grown = refl; alloc = refl };
+      }) (record { written = omega arith; runs = omega arith });
       behind = drop-rewritten v c.self.invariant some c.args.gap stands r.second_left r.first_left;
-      block = record { capacity = length-rewritten v c.self.invariant some c.args.gap stands r.second_left r.first_left; growth = refl; grown = refl; alloc = refl };
-      writes = record { written = omega arith; runs = omega arith };
     }))

@@ -1,10 +1,10 @@
-use Rattle.aa_vec.proofs.Common.{◌<◌, Vector, len, ap, arith, length, length-append, ◌∷◌, [], rules, err_from_is_err_and}
+use Rattle.aa_vec.proofs.Common.{◌<◌, Vector, len, ap, arith, length, length-append, ◌∷◌, [], err_from_is_err_and}
 use Rattle.aa_vec.proofs.ExtendLemmas.{Placing-start, Placing-filled, Placing-full, Placing-grown, Placing-refused, Placing-end}
 use Rattle.aa_vec.proofs.vec.Vec.extend_telling.Goals as goal
 
 pub full-init : goal.full-init
 full-init g c =
-    record { can = c.requires.may_ask; finite = c.requires.ends; placing = Placing-start _ _ _ _ _ (omega (arith, c.known.ensures.within)); fewer = omega arith }
+    record { can = c.requires.may_ask; finite = c.requires.ends; placing = Placing-start _ _ _ _ _ (g.W.Telling.some _) (omega (arith, c.known.ensures.within)); fewer = omega arith }
 
 pub full-preserved : goal.full-preserved
 full-preserved g c =
@@ -27,17 +27,17 @@ returns-in_err-try_reserve g c =
     let r = c.in_err-try_reserve.ensures in let e = err_from_is_err_and c.from_residual.result c.from_residual.ensures.1 in
     let x = Placing-refused _ _ _ _ _ _ _ p.0 p.1 c.in-Some.x _ c.in-Some.ensures.steps c.told.result c.told.ensures g.I.Iterator.remaining c.saturating_add.result c.saturating_add.ensures _ r.refused
     (omega (arith, on.2, i.fewer, gone.2, p.2, i.placing.fits)) in
-    rw (e.1, e.2, r.unchanged) (record { extends = x.0; leaves = x.1; goes = (on.0, on.1, omega (arith, on.2, i.fewer, gone.2, ap length i.placing.items, length-append c.args.self.now.items i.placing.front)) })
+    rw (e.1, e.2, r.unchanged) (record { extends = x; goes = (on.0, on.1, omega (arith, on.2, i.fewer, gone.2, ap length i.placing.items, length-append c.args.self.now.items i.placing.front)) })
 
 pub returns-in_default : goal.returns-in_default
 returns-in_default g c =
     let p = Placing-full _ _ _ _ _ c.full.iter c.full.self c.full.invariant.placing g.W.Telling.some _ _ _ c.if-fill_up-ne0.false c.fill_up.ensures.fills in
     let x = Placing-end _ _ _ _ _ _ _ p.0 g.I.Iterator.remaining _ c.in_default.ensures.steps in
-    record { extends = x.0; leaves = x.1; goes = tt }
+    record { extends = x; goes = tt }
 
 pub returns-then-fill_up-ne0 : goal.returns-then-fill_up-ne0
 returns-then-fill_up-ne0 g c =
     let some : 0 < c.fill_up.result = omega (arith, c.if-fill_up-ne0.true) in let f = c.fill_up.ensures.fills in
     let p = Placing-filled _ _ _ _ _ c.full.iter c.full.self c.full.invariant.placing g.W.Telling.some _ _ _ f.placed in
     let x = Placing-end _ _ _ _ _ _ _ p g.I.Iterator.remaining _ (f.stops.ended some) in
-    record { extends = x.0; leaves = x.1; goes = tt }
+    record { extends = x; goes = tt }

@@ -1,10 +1,22 @@
+use Rattle.aa_vec.proofs.Common.{◌∙◌}
+use Rattle.aa_vec.proofs.GrowthLemmas.{GrowsInSteps-keeps}
 use Rattle.aa_vec.proofs.vec.Vec.from_iter_in_by.Goals as goal
 
 pub returns-in-Ok-clause-runs : goal.returns-in-Ok-clause-runs
 returns-in-Ok-clause-runs g c = rw c.new_in-v.ensures.items at c.in-Ok.ensures.runs
 
-pub returns-in-Ok-clause-leaves : goal.returns-in-Ok-clause-leaves
-returns-in-Ok-clause-leaves g c = let left = c.in-Ok.ensures.leaves.ended in record { ended = ((_, c.new_in-v.ensures, left.0), left.1); stopped = tt }
+pub returns-in-Ok-clause-made : goal.returns-in-Ok-clause-made
+returns-in-Ok-clause-made g c =
+    let t = c.in-Ok.ensures.room in
+    record { taken = t.taken; lower = t.lower; last = t.last; told = t.told; went = (t.went.0, _, c.new_in-v.ensures, t.went.1) }
 
-pub returns-in-Err-clause-leaves : goal.returns-in-Err-clause-leaves
-returns-in-Err-clause-leaves g c = let left = c.in-Err.ensures.leaves.stopped in record { ended = tt; stopped = ((_, _, c.new_in-v.ensures, left.0), left.1) }
+pub returns-in-Ok-clause-growth : goal.returns-in-Ok-clause-growth
+returns-in-Ok-clause-growth g c = let t = c.in-Ok.ensures.room in (GrowsInSteps-keeps _ t.lower _ t.went.1.in_steps).0 ∙ c.new_in-v.ensures.growth
+
+pub returns-in-Ok-clause-alloc : goal.returns-in-Ok-clause-alloc
+returns-in-Ok-clause-alloc g c = let t = c.in-Ok.ensures.room in (GrowsInSteps-keeps _ t.lower _ t.went.1.in_steps).1 ∙ c.new_in-v.ensures.alloc
+
+pub returns-in-Err-clause-refused : goal.returns-in-Err-clause-refused
+returns-in-Err-clause-refused g c =
+    let t = c.in-Err.ensures.refused in
+    record { taken = t.taken; lower = t.lower; last = t.last; told = t.told; went = (t.went.0, _, _, c.new_in-v.ensures, t.went.1, t.went.2) }

@@ -6,7 +6,7 @@ pub returns-in_err-widen : goal.returns-in_err-widen
 returns-in_err-widen g c =
     let p = err_from_is_err_and c.from_residual.result c.from_residual.ensures.1 in
     let r = c.in_err-widen.ensures.refused in
-    rw (p.1, p.2, r.1) (Puts-none _ _ _ _ _ c.args.self.now c.args.told c.args.count _ r.0)
+    rw (p.1, p.2, r.1) (Puts-none _ _ _ _ _ c.args.self.now (g.W.Telling.some _) c.args.told c.args.count _ r.0)
 
 pub returns-then-fill_and_close-ne0 : goal.returns-then-fill_and_close-ne0
 returns-then-fill_and_close-ne0 g c =

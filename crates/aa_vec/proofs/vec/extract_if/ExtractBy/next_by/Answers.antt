@@ -1,10 +1,10 @@
-use Rattle.aa_vec.proofs.Common.{CalledAtMut, TakesMut}
+use Rattle.aa_vec.proofs.Common.{CalledAtMut, TakesMut, run}
 use Rattle.aa_vec.specs.Extract.{extract_rest}
 use Rattle.aa_vec.proofs.ExtractLemmas.{may_spare, picked_held}
 use Rattle.aa_vec.proofs.vec.extract_if.ExtractBy.next_by.Goals as goal
 
 pub pick-stay-requires-clause-callable : goal.pick-stay-requires-clause-callable
-unfolding extract_rest
+unfolding extract_rest run
 pick-stay-requires-clause-callable g c = may_spare (CalledAtMut g.F.FnMut) (TakesMut g.F.FnMut) c.args.f.now _ c.requires.along
 
 pub invariant_of-self-clause-held : goal.invariant_of-self-clause-held

@@ -1,0 +1,18 @@
+use Rattle.std.proofs.Common.{arith}
+use Rattle.aa_vec.proofs.Filling.{Placed-start, Placed-put}
+use Rattle.aa_vec.proofs.vec.behind.gap.with_gap_filled.Goals as goal
+
+pub loop-left-init : goal.loop-left-init
+loop-left-init g c = record { can = c.requires.may_ask; finite = c.requires.ends; placed = Placed-start _ _ _ _ _ c.requires.stands; fewer = omega arith }
+
+pub loop-left-preserved : goal.loop-left-preserved
+loop-left-preserved g c =
+    let i = c.loop-left.invariant in let on = c.in-Some.ensures.goes.on i.finite in
+    record {
+      can = on.0;
+      finite = on.1;
+      placed =
+          Placed-put _ _ _ _ _ _ _ c.loop-left.list i.placed (omega (arith, c.loop-left-test.true)) c.in-Some.x _ c.in-Some.ensures.steps c.put_next.new.self
+          c.put_next.ensures.items c.put_next.ensures.writes c.put_next.ensures.behind;
+      fewer = omega (arith, i.fewer, on.2, c.loop-left-test.true);
+    }
