@@ -1,10 +1,6 @@
 -- What a list of commands added, where each adds at most one element.
 use Rattle.allocator_api2.proofs.Common.{◌≡◌, ℕ, ◌+◌, ◌*◌, ◌≤◌, List, [], ◌∷◌, length, map, sum_by, sym, ap, subst, arith, AllByRecursion, sum_by-cons, Growth, Doubling, Sparing, Vector, Command, Push, Within, Pop, Insert, Remove, SwapRemove, Truncate, Clear, Append, Extend, Retain, Dedup, Drain, ExtractIf, Reply, Done, State, Calls, Turn, AddsOrRemoves, added, added_by, moves_each, RunsWithin, length-map}
-use Rattle.allocator_api2.specs.Run.{AddsOneAtMost, if_done}
-
-if_done-le : {T : Type 0} (reply : Reply T) (n : ℕ) → if_done reply n ≤ n
-if_done-le Done n = omega arith
-if_done-le _ n = omega arith
+use Rattle.allocator_api2.specs.Run.{AddsOneAtMost}
 
 pub moves_each-le : (G : Growth) (grown paid n k : ℕ) → n ≤ k → grown ≤ paid + moves_each G * n → grown ≤ paid + moves_each G * k
 moves_each-le Doubling grown paid n k le h = omega arith
@@ -21,9 +17,9 @@ module _ {T A : Type 0} where
   all_add_or_remove (command ∷ commands) a = (adds_or_removes command a.0, all_add_or_remove commands a.1)
 
   one_at_most : (main side : Vector T A) (command : Command T A) (reply : Reply T) (main' : Vector T A) → AddsOneAtMost command → added_by main side command reply main' ≤ 1
-  one_at_most main side (Push x) reply main' a = if_done-le reply 1
-  one_at_most main side (Within x) reply main' a = if_done-le reply 1
-  one_at_most main side (Insert i x) reply main' a = if_done-le reply 1
+  one_at_most main side (Push x) Done main' a = omega arith
+  one_at_most main side (Within x) Done main' a = omega arith
+  one_at_most main side (Insert i x) Done main' a = omega arith
   one_at_most main side Append reply main' a = absurd a
   one_at_most main side (Extend items hint) reply main' a = absurd a
   one_at_most main side command reply main' a = omega arith

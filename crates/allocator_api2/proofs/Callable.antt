@@ -1,5 +1,5 @@
 -- Closures that may be called as a run calls them: in states that stay good, and whatever they are given.
-use Rattle.allocator_api2.proofs.Common.{ℕ, Bool, true, false, List, [], ◌∷◌, length, take, sym, subst, ⊤, slice_range, Asked, AskedInOrder, ChainsFrom, Deduplicated, Command, Splice, SplitOff, Retain, Dedup, ExtractIf, Reply, Done, State, Calls, Step, MayRun}
+use Rattle.allocator_api2.proofs.Common.{ℕ, Bool, true, false, List, [], ◌∷◌, length, take, sym, subst, ⊤, slice_range, Asked, AskedInOrder, ChainsFrom, Deduplicated, Command, SplitOff, Retain, Dedup, ExtractIf, Reply, Done, State, Calls, Step, MayRun}
 use Rattle.aa_vec.specs.Choosing.{MayAskInOrder, MayChainFrom, MayDeduplicate}
 use Rattle.allocator_api2.specs.Run.{MayCall, IsCallableOnRuns}
 
@@ -51,7 +51,6 @@ module _ {T A K S : Type 0} (size : ℕ) (calls : Calls T A K S) where
     step_stays s next Retain answers reply k r step = (asked_stays s.keep next.keep s.main.items step.retains.told k step.retains.asked, subst good_same (sym step.same) r)
     step_stays s next Dedup answers reply k r step = (subst good_keep (sym step.keep) k, deduplicated_stays s.same next.same s.main.items step.removes.left step.removes.answers r step.removes.asked)
     step_stays s next (SplitOff at) answers reply k r step = (subst good_keep (sym step.cut.keep) k, subst good_same (sym step.cut.same) r)
-    step_stays s next (Splice start end items hint) answers reply k r step = (subst good_keep (sym step.0.keep) k, subst good_same (sym step.0.same) r)
     step_stays s next (ExtractIf start end count) answers Done k r step =
         (asked_stays s.keep next.keep (take (length step.takes.told) (slice_range s.main.items start end)) step.takes.told k step.takes.asked, subst good_same (sym step.same) r)
     step_stays s next command answers reply k r step = (subst good_keep (sym step.keep) k, subst good_same (sym step.same) r)

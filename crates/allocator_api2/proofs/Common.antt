@@ -7,14 +7,14 @@ pub use Rattle.aa_raw.specs.declared.raw_vec.Growth.TheVariants.{Doubling, Spari
 pub use Rattle.aa_vec.proofs.GrowthLemmas.{GrowsInSteps-rises, Holds-more, MakesRoom-has, SameBlock-refl, SameBlock-trans}
 pub use Rattle.aa_vec.specs.Choosing.{Asked, AskedInOrder, ChainsFrom, Deduplicated, TakesMut, answers_of}
 pub use Rattle.aa_vec.specs.Copies.{IsMadeWithin, WritesAtMost}
-pub use Rattle.aa_vec.specs.Drain.{TakesRange, drain_head, drain_rest, drain_tail, drain_vec, range_len}
+pub use Rattle.aa_vec.specs.Drain.{TakesRange, drain_rest, drain_tail, drain_vec, range_len}
 pub use Rattle.aa_vec.specs.Extend.{GrowsInSteps, ExtendsFull, lower_by}
 pub use Rattle.aa_vec.specs.SpliceItems.{SplicesShort}
 pub use Rattle.aa_vec.specs.Vector.{GrowsTo, HasRoom, Holds, IsNew, SameBlock, Vector, len}
-pub use Rattle.allocator_api2.specs.Commands.{Does, DoesOnMain, DoesStep}
+pub use Rattle.allocator_api2.specs.Commands.{Does, DoesOnMain, DoesStep, asking}
 pub use Rattle.allocator_api2.specs.RangeCommands.{Chosen, TakesBack, TakesFront}
-pub use Rattle.allocator_api2.specs.Machine.{Answers, Calls, IsPossible, State, Step, asking, calls_of, state_of}
-pub use Rattle.allocator_api2.specs.Run.{AddsOrRemoves, IsRun, IsUnhinted, MayRun, RunsWithin, Turn, added, added_by, hint_of, moves_each}
+pub use Rattle.allocator_api2.specs.Machine.{Answers, Calls, IsPossible, State, Step, calls_of, state_of}
+pub use Rattle.allocator_api2.specs.Run.{AddsOrRemoves, IsRun, MayRun, RunsWithin, Turn, added, added_by, hint_of, moves_each}
 pub use Rattle.allocator_api2.specs.declared.runner.Command.{Command}
 pub use Rattle.allocator_api2.specs.declared.runner.Command.TheVariants.{Append, Clear, Dedup, Drain, Extend, ExtractIf, Insert, Pop, Push, Remove, Retain, Splice, SplitOff, SwapRemove, Truncate, Within}
 pub use Rattle.allocator_api2.specs.declared.runner.Reply.{Reply}

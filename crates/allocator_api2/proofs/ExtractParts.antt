@@ -1,22 +1,23 @@
 -- Elements that a run takes out of a range of main.
-use Rattle.allocator_api2.proofs.Common.{◌≡◌, ℕ, suc, ◌+◌, ◌-◌, ◌<◌, ◌≤◌, Bool, true, false, List, [], ◌∷◌, ◌++◌, length, map, take, drop, Some, None, refl, sym, ap, ◌∙◌, subst, arith, inl, inr, append_assoc, length-append, length-drop, length-take, slice_range, ◌⊎◌, if◌then◌else◌, ◌==◌, append-nil, drop-drop, take-append-drop, Asked, AskedInOrder, Vector, len, HasRoom, Holds, SameBlock-refl, SameBlock-trans, Chosen, asking, Holds-more, length-map}
+use Rattle.allocator_api2.proofs.Common.{◌≡◌, ℕ, suc, ◌+◌, ◌-◌, ◌<◌, ◌≤◌, Bool, true, false, List, [], ◌∷◌, ◌++◌, length, map, take, drop, Some, None, refl, sym, ap, ◌∙◌, subst, arith, inl, inr, append_assoc, length-append, length-drop, length-take, slice_range, ◌⊎◌, if◌then◌else◌, ◌==◌, append-nil, drop-drop, take-append-drop, Asked, AskedInOrder, Vector, len, HasRoom, Holds, SameBlock-refl, SameBlock-trans, Chosen, State, asking, Holds-more, length-map}
 use Rattle.std.specs.Prelude.{filter, not}
 use Rattle.std.proofs.lemmas.List.{drop-append-le}
 use Rattle.std.proofs.lemmas.List.Filters.{length-filter_both}
 use Rattle.aa_vec.specs.Choosing.{EndsTrue, IsCallableInOrder, kept, passed_over}
-use Rattle.aa_vec.specs.Extract.{ClosesExtract, ExtractedTo, Extracts, ExtractsRange, extract_count, extract_kept, extract_rest, extract_tail}
+use Rattle.aa_vec.specs.Extract.{ClosesExtract, Extracts, ExtractsRange, extract_count, extract_kept, extract_rest, extract_tail}
 use Rattle.aa_vec.specs.declared.vec.extract_if.ExtractBy.{ExtractBy}
-use Rattle.aa_vec.proofs.ExtractRuns.{ExtractedTo-none, Extracted-more, Extracted-end, asked_count, extracts_may}
+use Rattle.aa_vec.proofs.Becoming.{SameBlock-becomes}
+use Rattle.aa_vec.proofs.ExtractRuns.{ExtractedTo, ExtractedTo-none, Extracted-more, Extracted-end, asked_count, extracts_may}
 use Rattle.allocator_api2.proofs.Taking.{choice_le}
 use Rattle.allocator_api2.specs.RangeCommands.{TakesUpTo}
-use Rattle.allocator_api2.specs.Machine.{Asking, TakesOut}
+use Rattle.allocator_api2.specs.Machine.{TakesOut}
 
 passed_few : {T : Type 0} (told : List (Asked T)) → length (passed_over told) ≤ length told
 passed_few {T} told = omega (arith, length-map (filter (λ (t : Asked T). not t.answer) told) (λ t. t.left), length-filter_both (λ (t : Asked T). t.answer) (λ t. not t.answer) (λ t. refl) told)
 
 module _ {K T : Type 0} (Keeps : K → T → Bool → K → T → Type 0) where
   module _ {A : Type 0} where
-    pub length-taken_out : (size : ℕ) (old : Asking T A K) (start end count : ℕ) (new : Asking T A K) → start ≤ end → end ≤ len old.main → (t : TakesOut Keeps size old start end count new)
+    pub length-taken_out : {S : Type 0} (size : ℕ) (old : State T A K S) (start end count : ℕ) (new : State T A K S) → start ≤ end → end ≤ len old.main → (t : TakesOut Keeps size old start end count new)
         → length (take start old.main.items ++ (passed_over t.told ++ drop (start + length t.told) old.main.items)) ≤ len old.main
     length-taken_out size old start end count new low high t =
         let main : Vector T A = old.main in let q : ℕ = length t.told in let middle : List T = slice_range main.items start end in
@@ -38,7 +39,7 @@ module _ {K T : Type 0} (Keeps : K → T → Bool → K → T → Type 0) where
         pub TakenSoFar-more : (x : T) (new : Vector T A) → Extracts Keeps h t (Some x) g w → Holds mid (mid.items ++ x ∷ []) new → TakenSoFar Takes k range side (count + 1) g w new
         TakenSoFar-more x new next put = record {
           given = now.given ++ x ∷ [];
-          extracted = Extracted-more Keeps k h g range t w now.given now.extracted.extracted x next;
+          extracted = Extracted-more Keeps k h g range t w now.given now.extracted.0 x next;
           many = omega (arith, now.many, length-append now.given (x ∷ []));
           holds = Holds-more side mid new now.given (x ∷ []) now.holds put;
           may = extracts_may Keeps h g t w x next Takes now.may;
@@ -46,12 +47,12 @@ module _ {K T : Type 0} (Keeps : K → T → Bool → K → T → Type 0) where
 
         -- none was left
         pub TakesUpTo-end : (most : ℕ) → count < most → Extracts Keeps h t None g w → TakesUpTo Keeps k range side most g w mid
-        TakesUpTo-end most less next = record { given = now.given; extracted = Extracted-end Keeps k h g range t w now.given now.extracted.extracted next; enough = inr (omega (arith, now.many, less), next.cases.1); holds = now.holds }
+        TakesUpTo-end most less next = record { given = now.given; extracted = Extracted-end Keeps k h g range t w now.given now.extracted.0 next; enough = inr (omega (arith, now.many, less), next.cases.1); holds = now.holds }
 
       module _ (count most : ℕ) (h : K) (t : ExtractBy T A) (mid : Vector T A) (now : TakenSoFar Takes k range side count h t mid) where
         -- as many as were to be taken
         pub TakesUpTo-all : count ≤ most → most ≤ count → TakesUpTo Keeps k range side most h t mid
-        TakesUpTo-all few all = record { given = now.given; extracted = now.extracted.extracted; enough = inl (omega (arith, now.many, few, all), now.extracted.ends); holds = now.holds }
+        TakesUpTo-all few all = record { given = now.given; extracted = now.extracted.0; enough = inl (omega (arith, now.many, few, all), now.extracted.1); holds = now.holds }
 
         pub room_left : count < most → HasRoom side most → HasRoom mid 1
         room_left less room = omega (arith, ap length now.holds.items, length-append side.items now.given, now.many, now.holds.block.capacity, room, less)
@@ -83,7 +84,7 @@ module _ {K T : Type 0} (Keeps : K → T → Bool → K → T → Type 0) where
           (λ i. (up.extracted.rest ∙ ap (drop q) takes.rest) i ++ tail i) ∙ sym (drop-append-le q (take n ys) (drop n ys) (omega (arith, few, middle_long))) ∙ ap (drop q) (take-append-drop n ys) ∙ drop-drop q start main.items
 
       left_items : main'.items ≡ take start main.items ++ (passed_over told ++ drop (start + q) main.items)
-      left_items = closes.holds.items ∙ (λ i. (up.extracted.head.items ∙ takes.head.items) i ++ ((up.extracted.kept ∙ ap (λ l. l ++ passed_over told) takes.kept) i ++ rest_are i))
+      left_items = ap (λ v. v.items) closes ∙ (λ i. (ap (λ v. v.items) up.extracted.becomes ∙ ap (λ v. v.items) takes.becomes) i ++ ((up.extracted.kept ∙ ap (λ l. l ++ passed_over told) takes.kept) i ++ rest_are i))
 
       enough : (length (kept told) ≡ most) × EndsTrue told ⊎ (length (kept told) < most) × (length told ≡ end - start)
       enough = elim up.enough [
@@ -96,9 +97,9 @@ module _ {K T : Type 0} (Keeps : K → T → Bool → K → T → Type 0) where
         told = told;
         asked = asked;
         enough = enough;
-        left = record { items = left_items; block = SameBlock-trans takes.head.block (SameBlock-trans up.extracted.head.block closes.holds.block) };
+        left = record { items = left_items; block = SameBlock-trans (SameBlock-becomes _ _ _ _ _ takes.becomes) (SameBlock-trans (SameBlock-becomes _ _ _ _ _ up.extracted.becomes) (SameBlock-becomes _ _ _ _ _ closes)) };
         gave = record { items = up.holds.items ∙ ap (λ l. side.items ++ l) up.extracted.items; block = up.holds.block };
-        written = omega (arith, closes.writes.written, choice, up.extracted.written, takes.writes.written, ap length left_items, ap length rest_are, length-append {A = T}, length-take {A = T}, ordered);
+        written = omega (arith, ap (λ v. v.written) closes, choice, ap (λ v. v.written) up.extracted.becomes, up.extracted.few, ap (λ v. v.written) takes.becomes, ap length left_items, ap length rest_are, length-append {A = T}, length-take {A = T}, ordered);
       }
 
 -- what a loop that takes such elements wants

@@ -10,5 +10,5 @@ module _ {T A : Type 0} (size : ℕ) (old head tail : Vector T A) where
 
 pub cut_is_joined : {T A : Type 0} (size : ℕ) → CutIsJoined T A size
 cut_is_joined size at main side head tail main' side' cut join =
-    let parts = parts_are size main head tail at cut.makes in
-    join.makes.joined.items ∙ rw (parts.0, parts.1) (take-append-drop at main.items)
+    let parts = parts_are size main head tail at cut.1 in
+    ap (λ v. v.items) join.1.0 ∙ rw (parts.0, parts.1) (take-append-drop at main.items)

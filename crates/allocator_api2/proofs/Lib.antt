@@ -17,5 +17,7 @@ pub mod SpliceRefusals
 pub mod SpliceRanges
 pub mod Stops
 pub mod Taken
+pub mod BlocksMoved
 pub mod Blocks
+pub mod Repeats
 pub mod Callers

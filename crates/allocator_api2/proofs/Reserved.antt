@@ -1,17 +1,18 @@
 -- Room that a reserve made lasts for as many pushes.
-use Rattle.allocator_api2.proofs.Common.{◌≡◌, ℕ, ◌+◌, ◌-◌, ◌≤◌, List, [], ◌∷◌, length, ap, arith, rules, AllByRecursion, least_of, Vector, len, HasRoom, Within, Reply, Done, Back, Range, Answers, MakesRoom-has}
+use Rattle.allocator_api2.proofs.Common.{◌≡◌, ℕ, ◌+◌, ◌-◌, ◌≤◌, List, [], ◌∷◌, ◌++◌, length, ap, arith, rules, AllByRecursion, least_of, Vector, len, HasRoom, Within, Reply, Done, Back, Range, Answers, MakesRoom-has, ⊤}
+use Rattle.aa_vec.proofs.Becoming.{GrowsTo-becomes, Holds-becomes}
 use Rattle.std.proofs.lemmas.List.{length-append}
 use Rattle.allocator_api2.specs.Laws.{IsDone, PushesWithin, ReserveHolds}
 
 module _ {T A : Type 0} (size : ℕ) where
   -- a push within the capacity finds room, and leaves room for one fewer
   push_done : (k : ℕ) (main side : Vector T A) (x : T) (reply : Reply T) (main' side' : Vector T A)
-      → HasRoom main (k + 1) → Answers size main side (Within x) reply main' side' → IsDone reply × HasRoom main' k
+      → HasRoom main (k + 1) → Answers size ⊤ main side (Within x) reply main' side' → IsDone reply × HasRoom main' k
   push_done k main side x Done main' side' h s =
-      let held = s.makes.main_does.1 in
+      let held = Holds-becomes main (main.items ++ x ∷ []) 1 1 main' s.1.0.1 in
       (tt, omega (arith, h, ap length held.items, length-append main.items (x ∷ []), held.block.capacity))
-  push_done k main side x (Back y) main' side' h s = absurd (omega (arith, h, s.makes.main_does.0))
-  push_done k main side x Range main' side' h s = absurd (s.outside tt)
+  push_done k main side x (Back y) main' side' h s = absurd (omega (arith, h, s.1.0.0))
+  push_done k main side x Range main' side' h s = absurd (s.0 tt)
   push_done k main side x reply main' side' h s = search rules
 
   all_done : (k : ℕ) (main side : Vector T A) (xs : List T) (replies : List (Reply T))
@@ -25,4 +26,4 @@ module _ {T A : Type 0} (size : ℕ) where
 
   pub reserve_holds : ReserveHolds T A size
   reserve_holds k main side main' side' xs replies s p l =
-      all_done k main' side' xs replies (omega (arith, ap length s.makes.main_does.items, MakesRoom-has size (len main) k main main' s.makes.main_does.room)) p l
+      let made = GrowsTo-becomes main main.items 0 0 main' size k s.1.0 in all_done k main' side' xs replies (omega (arith, ap length made.items, MakesRoom-has size (len main) k main main' made.room)) p l

@@ -1,7 +1,7 @@
 -- A run that is not at its end.
-use Rattle.allocator_api2.proofs.Common.{ℕ, ◌≡◌, List, [], ◌∷◌, ◌++◌, map, sym, ap, subst, ◌∙◌, append_assoc, refl, AllByRecursion, append-nil, Command, Reply, State, Calls, IsPossible, DoesStep, Turn, IsRun, RunsWithin, AddsOrRemoves, IsUnhinted}
+use Rattle.allocator_api2.proofs.Common.{ℕ, ◌≡◌, List, [], ◌∷◌, ◌++◌, map, sym, ap, subst, ◌∙◌, append_assoc, refl, AllByRecursion, append-nil, Command, Reply, State, Calls, IsPossible, DoesStep, Turn, IsRun, RunsWithin, AddsOrRemoves}
 use Rattle.std.proofs.lemmas.List.{map-append}
-use Rattle.allocator_api2.proofs.WholeRuns.{moves_law, places_law, writes_law}
+use Rattle.allocator_api2.proofs.WholeRuns.{IsUnhinted, moves_law, places_law, writes_law}
 
 module _ {T A K S : Type 0} (size : ℕ) (calls : Calls T A K S) where
   -- one more step at the end of a run

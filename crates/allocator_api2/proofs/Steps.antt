@@ -1,15 +1,17 @@
 -- What a step of the list machine does to main: it stays in its block, has grown once, or grew any number of times while it was full.
-use Rattle.allocator_api2.proofs.Common.{◌≡◌, ℕ, suc, ◌+◌, ◌-◌, ◌<◌, ◌≤◌, max, min, Bool, List, [], ◌∷◌, length, take, drop, None, Option, refl, sym, subst, ap, ◌∙◌, arith, rules, inl, inr, length-take, length-drop, Vector, len, SameBlock, GrowsTo, Holds, Command, Splice, SplitOff, Push, Within, Pop, Insert, Remove, SwapRemove, Truncate, Clear, Append, Extend, Retain, Dedup, Drain, ExtractIf, Reply, Done, Item, Nothing, Back, Refused, Range, GrowsInSteps, ExtendsFull, lower_by, TryReserveError, TryReserveErrorKind, State, Calls, Step, Answers, asking, AddsOrRemoves, hint_of, added_by}
+use Rattle.allocator_api2.proofs.Common.{◌≡◌, ℕ, suc, ◌+◌, ◌-◌, ◌<◌, ◌≤◌, max, min, Bool, List, [], ◌∷◌, length, take, drop, None, Option, refl, sym, subst, ap, ◌∙◌, arith, rules, inl, inr, length-take, length-drop, Vector, len, SameBlock, GrowsTo, Holds, Command, Splice, SplitOff, Push, Within, Pop, Insert, Remove, SwapRemove, Truncate, Clear, Append, Extend, Retain, Dedup, Drain, ExtractIf, Reply, Done, Item, Nothing, Back, Refused, Range, GrowsInSteps, ExtendsFull, lower_by, TryReserveError, TryReserveErrorKind, State, Calls, Step, Answers, AddsOrRemoves, hint_of, added_by}
 use Rattle.std.proofs.Common.{length-set}
 use Rattle.std.specs.Prelude.{slice_set, slice_index_or}
 use Rattle.std.proofs.lemmas.List.{length-append}
 use Rattle.std.proofs.lemmas.Bool.{cases_lt}
 use Rattle.aa_vec.specs.Extend.{ExtendsAll, asked_with, grows, stays}
 use Rattle.aa_vec.proofs.GrowthLemmas.{MakesRoom, MakesRoom-has, MakesRoom-rises, MakesRoom-stays, SameBlock-refl}
+use Rattle.aa_vec.specs.Vector.{Becomes, with_room}
+use Rattle.aa_vec.proofs.Becoming.{GrowsTo-becomes, Holds-becomes}
 use Rattle.aa_vec.proofs.Kept.{length-kept, length-deduplicated}
 use Rattle.allocator_api2.proofs.ExtractParts.{length-taken_out}
 use Rattle.allocator_api2.proofs.Ranges.{length-left_of}
-use Rattle.allocator_api2.specs.Machine.{InRange, Makes, AnswersRefused, ends_of, error_of}
+use Rattle.allocator_api2.specs.Machine.{InRange, Makes, Leaves, ends_of}
 
 module _ {T A : Type 0} (size : ℕ) where
   -- old made room any number of times while it had not places for `needed`, and is new; told of no hint, it asked for no more than is needed
@@ -38,6 +40,13 @@ module _ {T A : Type 0} (size : ℕ) where
       ] in
       record { needed = n + k; moves = moves; longest = omega (arith, l); fits = λ w. omega (arith, l, w, MakesRoom-has size n k old new g.room, MakesRoom-rises size n k old new g.room); full = omega (arith, l) }
 
+  -- the same of an equation
+  becomes : {hint : Option ℕ} (old : Vector T A) (k : ℕ) (xs : List T) (n j : ℕ) (new : Vector T A) → length xs ≤ min (len old + k) (max (len old) old.capacity) → Becomes old xs n j new → Change hint old k new
+  becomes old k xs n j new h e = holds old k xs new h (Holds-becomes old xs n j new e)
+
+  grows_by : {hint : Option ℕ} (old : Vector T A) (k : ℕ) (xs : List T) (n j : ℕ) (new : Vector T A) → length xs ≡ len old + k → Becomes (with_room size old (len old) k) xs n j new → Change hint old k new
+  grows_by old k xs n j new h e = adds old k xs new h (GrowsTo-becomes old xs n j new size k e)
+
   grown_in_steps : (hint : Option ℕ) (needed : ℕ) {u v : Vector T A} → GrowsInSteps size (lower_by hint) needed u v → Moves hint needed u v
   grown_in_steps hint needed (stays b) = kept b
   grown_in_steps hint needed (grows {old = u} h m r) =
@@ -58,45 +67,45 @@ module _ {T A : Type 0} (size : ℕ) where
 
   -- what a command that was done has made of main
   change_done : (main side : Vector T A) (command : Command T A) (reply : Reply T) (main' side' : Vector T A) → AddsOrRemoves command → InRange main command → Makes size main side command reply main' side' → Change (hint_of command) main (added_by main side command reply main') main'
-  change_done main side (Push x) Done main' side' a r m = adds main 1 _ main' (length-append main.items (x ∷ [])) m.main_does
-  change_done main side (Within x) Done main' side' a r m = holds main 1 _ main' (omega (arith, m.main_does.0, length-append main.items (x ∷ []))) m.main_does.1
-  change_done main side Pop (Item y) main' side' a r m = holds main 0 main'.items main' (omega (arith, ap length m.main_does.0, length-append main'.items (y ∷ []))) (record { items = refl; block = m.main_does.1 })
-  change_done main side (Insert i x) Done main' side' a r m = adds main 1 _ main' (omega (arith, r, length-append (take i main.items) (x ∷ drop i main.items), length-take i main.items, length-drop i main.items)) m.main_does
-  change_done main side (Remove i) (Item y) main' side' a r m = holds main 0 _ main' (omega (arith, length-append (take i main.items) (drop (suc i) main.items), length-take i main.items, length-drop (suc i) main.items)) m.main_does.1
-  change_done main side (SwapRemove i) (Item y) main' side' a r m = holds main 0 _ main' (omega (arith, length-take (len main - 1) (slice_set main.items i (slice_index_or main.items (len main - 1) y)), length-set main.items i (slice_index_or main.items (len main - 1) y))) m.main_does.1
-  change_done main side (Truncate n) Done main' side' a r m = holds main 0 _ main' (omega (arith, length-take n main.items)) m.main_does
-  change_done main side Clear Done main' side' a r m = holds main 0 _ main' (omega arith) m.main_does
-  change_done main side Append Done main' side' a r m = adds main (len side) _ main' (length-append main.items side.items) m.joined
-  change_done main side (Extend items hint) Done main' side' a r m = extends hint main items.items main' m.main_does
+  change_done main side (Push x) Done main' side' a r m = grows_by main 1 _ 1 1 main' (length-append main.items (x ∷ [])) m.0
+  change_done main side (Within x) Done main' side' a r m = becomes main 1 _ 1 1 main' (omega (arith, m.0.0, length-append main.items (x ∷ []))) m.0.1
+  change_done main side Pop (Item y) main' side' a r m = becomes main 0 main'.items 0 0 main' (omega (arith, ap length m.0.0, length-append main'.items (y ∷ []))) m.0.1
+  change_done main side (Insert i x) Done main' side' a r m = grows_by main 1 _ _ _ main' (omega (arith, r, length-append (take i main.items) (x ∷ drop i main.items), length-take i main.items, length-drop i main.items)) m.0
+  change_done main side (Remove i) (Item y) main' side' a r m = becomes main 0 _ _ _ main' (omega (arith, length-append (take i main.items) (drop (suc i) main.items), length-take i main.items, length-drop (suc i) main.items)) m.0.1
+  change_done main side (SwapRemove i) (Item y) main' side' a r m = becomes main 0 _ _ _ main' (omega (arith, length-take (len main - 1) (slice_set main.items i (slice_index_or main.items (len main - 1) y)), length-set main.items i (slice_index_or main.items (len main - 1) y))) m.0.1
+  change_done main side (Truncate n) Done main' side' a r m = becomes main 0 _ 0 0 main' (omega (arith, length-take n main.items)) m.0
+  change_done main side Clear Done main' side' a r m = becomes main 0 _ 0 0 main' (omega arith) m.0
+  change_done main side Append Done main' side' a r m = grows_by main (len side) _ _ _ main' (length-append main.items side.items) m.0
+  change_done main side (Extend items hint) Done main' side' a r m = extends hint main items.items main' m.0
   change_done main side (Drain start end front back keep) Done main' side' a r m =
-      holds main 0 _ main' (omega (arith, length-left_of main.items (ends_of start end front back) keep r.0 r.1)) m.leaves
-  change_done main side (Within x) (Back y) main' side' a r m = same main main' m.main_does.2
-  change_done main side Pop Nothing main' side' a r m = same main main' m.main_does.1
+      holds main 0 _ main' (omega (arith, length-left_of main.items (ends_of start end front back) keep r.0 r.1)) m.0
+  change_done main side (Within x) (Back y) main' side' a r m = same main main' m.0.2
+  change_done main side Pop Nothing main' side' a r m = same main main' m.0.1
   change_done main side command reply main' side' a r m = search rules
 
   -- what one that was refused has left of it
-  change_refused : (main side : Vector T A) (command : Command T A) (kind : TryReserveErrorKind) (main' side' : Vector T A) → AddsOrRemoves command → AnswersRefused size main side command kind main' side' → Change (hint_of command) main (added_by main side command (Refused kind) main') main'
-  change_refused main side (Extend items hint) kind main' side' a s = stops hint main items.items (error_of kind) main' s.leaves.main_does
-  change_refused main side command kind main' side' a s = search (rules, same)
+  change_refused : (fails : Type 0) (main side : Vector T A) (command : Command T A) (kind : TryReserveErrorKind) (main' : Vector T A) → AddsOrRemoves command → Leaves size fails main side command (record { kind = kind }) main' → Change (hint_of command) main (added_by main side command (Refused kind) main') main'
+  change_refused fails main side (Extend items hint) kind main' a s = stops hint main items.items (record { kind = kind }) main' s
+  change_refused fails main side command kind main' a s = search (rules, same)
 
   -- and one whose range lies outside
   change_range : (main side : Vector T A) (command : Command T A) (main' : Vector T A) → AddsOrRemoves command → main' ≡ main → Change (hint_of command) main (added_by main side command Range main') main'
   change_range main side (Extend items hint) main' a e = let none : len main' - len main ≡ 0 = omega (arith, ap len e) in rw none (same main main' e)
   change_range main side command main' a e = same main main' e
 
-  change_lists : (main side : Vector T A) (command : Command T A) (reply : Reply T) (main' side' : Vector T A) → AddsOrRemoves command → Answers size main side command reply main' side' → Change (hint_of command) main (added_by main side command reply main') main'
-  change_lists main side command Range main' side' a s = change_range main side command main' a s.stays.main_same
-  change_lists main side command (Refused kind) main' side' a s = change_refused main side command kind main' side' a s
-  change_lists main side command reply main' side' a s = change_done main side command reply main' side' a s.in_range s.makes
+  change_lists : (fails : Type 0) (main side : Vector T A) (command : Command T A) (reply : Reply T) (main' side' : Vector T A) → AddsOrRemoves command → Answers size fails main side command reply main' side' → Change (hint_of command) main (added_by main side command reply main') main'
+  change_lists fails main side command Range main' side' a s = change_range main side command main' a s.1
+  change_lists fails main side command (Refused kind) main' side' a s = change_refused fails main side command kind main' a s.2
+  change_lists fails main side command reply main' side' a s = change_done main side command reply main' side' a s.0 s.1
 
   module _ {K S : Type 0} (calls : Calls T A K S) where
     pub change_of : (old : State T A K S) (command : Command T A) (answers : List Bool) (reply : Reply T) (new : State T A K S) → AddsOrRemoves command → Step size calls old command answers reply new → Change (hint_of command) old.main (added_by old.main old.side command reply new.main) new.main
     change_of old (SplitOff at) answers reply new a s = absurd a
     change_of old (Splice start end items hint) answers reply new a s = absurd a
     change_of old Retain answers reply new a s =
-        let r = s.retains in holds old.main 0 _ new.main (omega (arith, length-kept calls.keeps old.keep old.main.items r.told new.keep r.asked)) r.holds
+        let r = s.retains in holds old.main 0 _ new.main (omega (arith, length-kept calls.keeps old.keep old.main.items r.told new.keep r.asked)) (Holds-becomes _ _ _ _ _ r.becomes)
     change_of old Dedup answers reply new a s =
-        let r = s.removes in holds old.main 0 _ new.main (omega (arith, length-deduplicated calls.repeats old.same old.main.items r.answers new.same r.left r.asked)) r.holds
+        let r = s.removes in holds old.main 0 _ new.main (omega (arith, length-deduplicated calls.repeats old.same old.main.items r.answers new.same r.left r.asked)) (Holds-becomes _ _ _ _ _ r.becomes)
     change_of old (ExtractIf start end count) answers Done new a s =
-        let t = s.takes in holds old.main 0 _ new.main (omega (arith, length-taken_out calls.keeps size (asking old.main old.side old.keep) start end count (asking new.main new.side new.keep) s.in_range.0 s.in_range.1 t)) t.leaves
-    change_of old command answers reply new a s = change_lists old.main old.side command reply new.main new.side a s.lists
+        let t = s.takes in holds old.main 0 _ new.main (omega (arith, length-taken_out calls.keeps size old start end count new s.in_range.0 s.in_range.1 t)) t.leaves
+    change_of old command answers reply new a s = change_lists (¬ (calls.sure old.main.alloc)) old.main old.side command reply new.main new.side a s.lists

@@ -1,12 +1,13 @@
 -- Items taken out of a drain, one after the other, and put behind the elements of another vector.
-use Rattle.allocator_api2.proofs.Common.{◌≡◌, ℕ, ◌+◌, ◌-◌, ◌<◌, ◌≤◌, List, [], ◌∷◌, ◌++◌, length, take, drop, reverse, Bool, true, false, Some, refl, sym, ap, subst, ◌∙◌, arith, append_assoc, length-append, length-take, length-drop, length-reverse, slice_range, if◌then◌else◌, ◌==◌, append-nil, drop-drop, take_all, take-append-drop, reverse-append, TakesRange, drain_head, drain_rest, drain_tail, drain_vec, range_len, Vector, len, HasRoom, SameBlock, Holds, SameBlock-refl, SameBlock-trans, TakesFront, TakesBack, Holds-more}
+use Rattle.allocator_api2.proofs.Common.{◌≡◌, ℕ, ◌+◌, ◌-◌, ◌<◌, ◌≤◌, List, [], ◌∷◌, ◌++◌, length, take, drop, reverse, Bool, true, false, Some, refl, sym, ap, subst, ◌∙◌, arith, append_assoc, length-append, length-take, length-drop, length-reverse, slice_range, if◌then◌else◌, ◌==◌, append-nil, drop-drop, take_all, take-append-drop, reverse-append, TakesRange, drain_rest, drain_tail, drain_vec, range_len, Vector, len, HasRoom, SameBlock, Holds, SameBlock-refl, SameBlock-trans, TakesFront, TakesBack, Holds-more}
 use Rattle.std.proofs.Math.Seq.{take-add}
 use Rattle.std.proofs.lemmas.List.{drop_all, drop_at, take_at, take-take}
 use Rattle.aa_vec.specs.Drain.{Closes, KeepsRest, drains_first, drains_last, taken_back, taken_front}
 use Rattle.aa_vec.specs.declared.vec.drain.Drain.{Drain}
+use Rattle.aa_vec.proofs.Becoming.{SameBlock-becomes}
 use Rattle.aa_vec.proofs.DrainLemmas.{keeps-same, keeps-then}
-use Rattle.allocator_api2.specs.RangeCommands.{Drained}
-use Rattle.allocator_api2.specs.Machine.{ends_at, given_of}
+use Rattle.allocator_api2.specs.RangeCommands.{Drained, ends_at}
+use Rattle.allocator_api2.specs.Machine.{given_of}
 
 -- a choice is no more than the greater
 pub choice_le : (t : Bool) (a b : ℕ) → a ≤ b → (if t then a else b) ≤ b
@@ -99,17 +100,17 @@ module _ {T A : Type 0} (old side : Vector T A) (start end f b : ℕ) (ordered :
       (Holds-more side s1 s2 (take f (drain_rest d0)) (reverse (drop (length (drain_rest d1) - b) (drain_rest d1))) fronts.holds backs.holds)
 
   -- what is before the range and behind it stays
-  stays : (drain_head d2 ≡ take start old.items) × (drain_tail d2 ≡ drop end old.items) × SameBlock old (drain_vec d2) × ((drain_vec d2).written ≡ old.written)
+  stays : ((drain_vec d2).items ≡ take start old.items) × (drain_tail d2 ≡ drop end old.items) × SameBlock old (drain_vec d2) × ((drain_vec d2).written ≡ old.written)
   stays =
       let keeps = keeps-then d0 d1 d2 fronts.keeps backs.keeps in
-      (keeps.head.items ∙ drains.head.items, keeps.tail ∙ drains.tail, SameBlock-trans drains.head.block keeps.head.block, omega (arith, keeps.writes.written, drains.writes.written))
+      (ap (λ v. v.items) keeps.becomes ∙ ap (λ v. v.items) drains.becomes, keeps.tail ∙ drains.tail, SameBlock-trans (SameBlock-becomes _ _ _ _ _ drains.becomes) (SameBlock-becomes _ _ _ _ _ keeps.becomes), omega (arith, ap (λ v. v.written) keeps.becomes, ap (λ v. v.written) drains.becomes))
 
   pub Drained-dropped : {k : Bool} (w : Vector T A) → Closes d2 w → k ≡ false → Drained old side (ends_at start end f b) k w s2
   Drained-dropped w c is =
       rw is (record {
-        left = record { items = c.holds.items ∙ (λ i. stays.0 i ++ stays.1 i); block = SameBlock-trans stays.2 c.holds.block };
+        left = record { items = ap (λ v. v.items) c ∙ (λ i. stays.0 i ++ stays.1 i); block = SameBlock-trans stays.2 (SameBlock-becomes _ _ _ _ _ c) };
         gave = side_gave;
-        written = omega (arith, c.writes.written, stays.3, choice_le (range_len d2 == 0) 0 (length (drain_tail d2)) (omega arith), ap length stays.1, length-drop end old.items);
+        written = omega (arith, ap (λ v. v.written) c, stays.3, choice_le (range_len d2 == 0) 0 (length (drain_tail d2)) (omega arith), ap length stays.1, length-drop end old.items);
       })
 
   pub Drained-kept : {k : Bool} (w : Vector T A) → KeepsRest d2 w → k ≡ true → Drained old side (ends_at start end f b) k w s2
@@ -117,7 +118,7 @@ module _ {T A : Type 0} (old side : Vector T A) (start end f b : ℕ) (ordered :
       let front = choice_le (taken_front d2 == 0) 0 (length (drain_rest d2)) (omega arith) in
       let back = choice_le (taken_front d2 + taken_back d2 == 0) 0 (length (drain_tail d2)) (omega arith) in
       rw is (record {
-        left = record { items = c.holds.items ∙ (λ i. stays.0 i ++ (rest_back i ++ stays.1 i)); block = SameBlock-trans stays.2 c.holds.block };
+        left = record { items = ap (λ v. v.items) c ∙ (λ i. stays.0 i ++ (rest_back i ++ stays.1 i)); block = SameBlock-trans stays.2 (SameBlock-becomes _ _ _ _ _ c) };
         gave = side_gave;
-        written = omega (arith, c.writes.written, stays.3, front, back, ap length stays.1, length-drop end old.items, ap length rest_back, length-take (m - b - f) (drop f middle), length-drop f middle, count_middle);
+        written = omega (arith, ap (λ v. v.written) c, stays.3, front, back, ap length stays.1, length-drop end old.items, ap length rest_back, length-take (m - b - f) (drop f middle), length-drop f middle, count_middle);
       })

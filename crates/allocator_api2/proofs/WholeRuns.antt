@@ -1,9 +1,13 @@
 -- Laws over whole runs.
-use Rattle.allocator_api2.proofs.Common.{◌≡◌, ℕ, ◌+◌, ◌*◌, ◌≤◌, max, Bool, List, [], ◌∷◌, map, length, sum_by, sym, ap, subst, refl, arith, AllByRecursion, sum_by-cons, Growth, len, Command, Reply, State, Calls, Step, Turn, IsRun, AddsOrRemoves, IsUnhinted, hint_of, added, added_by, moves_each}
+use Rattle.allocator_api2.proofs.Common.{◌≡◌, ℕ, ◌+◌, ◌*◌, ◌≤◌, max, Bool, List, [], ◌∷◌, map, length, sum_by, sym, ap, subst, refl, arith, AllByRecursion, sum_by-cons, Growth, None, len, Command, Reply, State, Calls, Step, Turn, IsRun, AddsOrRemoves, hint_of, added, added_by, moves_each}
 use Rattle.std.proofs.Common.{add-zero, zero-add}
 use Rattle.allocator_api2.specs.Run.{cost, greatest_length}
 use Rattle.allocator_api2.proofs.Paid.{IsPaid, IsPaid-change, IsPlaced, IsPlaced-change}
 use Rattle.allocator_api2.proofs.Steps.{change_of}
+
+-- it is told no hint
+abbrev pub IsUnhinted : {T A : Type 0} → Command T A → Type 0
+IsUnhinted command = AddsOrRemoves command × (hint_of command ≡ None)
 
 module _ {T A K S : Type 0} (size : ℕ) (calls : Calls T A K S) where
   pub writes_law : (old : State T A K S) (ts : List (Turn T A K S)) (new : State T A K S) → IsRun size calls old ts new → new.main.written ≤ old.main.written + sum_by cost ts

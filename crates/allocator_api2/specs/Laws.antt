@@ -22,7 +22,7 @@ abbrev pub PushesWithin : {T A : Type 0} (size : ℕ) (main side : Vector T A) �
 PushesWithin size main side [] [] = ⊤
 PushesWithin {T} {A} size main side (x ∷ xs) (reply ∷ replies) =
     (main' : Vector T A) × (side' : Vector T A)
-    × Answers size main side (Within x) reply main' side'
+    × Answers size ⊤ main side (Within x) reply main' side'
     × PushesWithin size main' side' xs replies
 PushesWithin size main side [] (reply ∷ replies) = ⊥
 PushesWithin size main side (x ∷ xs) [] = ⊥
@@ -32,7 +32,7 @@ PushesWithin size main side (x ∷ xs) [] = ⊥
 abbrev pub ReserveHolds : (T A : Type 0) (size : ℕ) → Type 0
 ReserveHolds T A size =
     (k : ℕ) (main side main' side' : Vector T A) (xs : List T) (replies : List (Reply T))
-    → Answers size main side (Reserve k) Done main' side'
+    → Answers size ⊤ main side (Reserve k) Done main' side'
     → PushesWithin size main' side' xs replies
     → length xs ≤ k
     → AllByRecursion IsDone replies
@@ -41,8 +41,8 @@ ReserveHolds T A size =
 abbrev pub CutIsJoined : (T A : Type 0) (size : ℕ) → Type 0
 CutIsJoined T A size =
     (at : ℕ) (main side head tail main' side' : Vector T A)
-    → Answers size main side (SplitOff at) Done head tail
-    → Answers size head tail Append Done main' side'
+    → Answers size ⊤ main side (SplitOff at) Done head tail
+    → Answers size ⊤ head tail Append Done main' side'
     → main'.items ≡ main.items
 
 -- of any two neighbours neither is equal to the other

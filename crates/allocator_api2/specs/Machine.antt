@@ -5,11 +5,10 @@ use Rattle.std.specs.Prelude.{◌≡◌, ℕ, ◌+◌, ◌-◌, ◌<◌, ◌≤�
 use Rattle.std.specs.Fn.{CalledAtMut, CalledAtPairMut}
 use Rattle.aa_raw.specs.Closures.{TakesPairMut}
 use Rattle.aa_raw.specs.declared.collections.TryReserveError.{TryReserveError}
-use Rattle.aa_raw.specs.declared.collections.TryReserveErrorKind.{TryReserveErrorKind}
 use Rattle.aa_raw.specs.declared.collections.TryReserveErrorKind.TheVariants.{AllocError}
 use Rattle.aa_raw.specs.Refusals.{IsRefusedAt}
 use Rattle.aa_raw.specs.Growth.{usize_max}
-use Rattle.aa_vec.specs.Vector.{Vector, len, HasRoom, LacksRoom, LacksExactRoom, GrowsTo, SameBlock, Holds, with_exact_room, with_less}
+use Rattle.aa_vec.specs.Vector.{Vector, len, HasRoom, LacksRoom, LacksExactRoom, GrowsTo, Holds, Becomes, run_count, with_room, with_exact_room, with_less}
 use Rattle.aa_vec.specs.Split.{Splits}
 use Rattle.aa_vec.specs.Choosing.{Asked, AskedInOrder, EndsTrue, TakesMut, Retains, Deduplicates, answers_of, kept, passed_over}
 use Rattle.aa_vec.specs.Extend.{ExtendsAll, ExtendsFull, lower_by}
@@ -27,15 +26,6 @@ pub record Ends : Type 0 where
   pub front : ℕ
   pub back : ℕ
 
--- the error of this kind
-abbrev pub error_of : TryReserveErrorKind → TryReserveError
-error_of kind = record { kind = kind }
-
--- of a refusal this holds of its kind
-abbrev pub OnRefused : {T : Type 0} → Reply T → (TryReserveErrorKind → Type 0) → Type 0
-OnRefused (Refused kind) Holds = Holds kind
-OnRefused reply Holds = ⊤
-
 -- the two vectors, and the states of the two closures
 pub record State (T A K S : Type 0) : Type 0 where
   pub main : Vector T A
@@ -47,28 +37,12 @@ pub record State (T A K S : Type 0) : Type 0 where
 abbrev pub state_of : {T A K S : Type 0} → Vector T A → Vector T A → K → S → State T A K S
 state_of main side keep same = record { main = main; side = side; keep = keep; same = same }
 
--- of these, with the state of the first closure alone
-pub record Asking (T A K : Type 0) : Type 0 where
-  pub main : Vector T A
-  pub side : Vector T A
-  pub keep : K
-
--- these two vectors with this state
-abbrev pub asking : {T A K : Type 0} → Vector T A → Vector T A → K → Asking T A K
-asking main side keep = record { main = main; side = side; keep = keep }
-
--- so many elements from the ends of a range
-abbrev pub ends_at : (start end front back : ℕ) → Ends
-ends_at start end front back = record { start = start; end = end; front = front; back = back }
-
 -- as many of them as the range has, and from the back as many of the others
 abbrev pub ends_of : (start end front back : ℕ) → Ends
 ends_of start end front back =
-    let first = min front (end - start) in ends_at start end first (min back (end - start - first))
-
--- how many are taken
-abbrev pub taken_count : Ends → ℕ
-taken_count ends = ends.front + ends.back
+    let first = min front (end - start) in
+    let last = min back (end - start - first) in
+    record { start = start; end = end; front = first; back = last }
 
 -- what is given where these are taken: those from the front in order, and those from the back, the
 -- last first
@@ -145,37 +119,16 @@ module _ {T A : Type 0} where
   Fits main side Retain = ⊤
   Fits main side Dedup = ⊤
   Fits main side (Drain start end front back keep) =
-      HasRoom side (taken_count (ends_of start end front back))
+      let ends = ends_of start end front back in HasRoom side (ends.front + ends.back)
   Fits main side (ExtractIf start end count) = HasRoom side (min count (end - start))
   Fits main side (Splice start end items hint) =
       FitsRange main start end (len items) (lower_by hint)
 
-  -- what a command does to main alone; side stays
-  pub record OnMain (side side' : Vector T A) (Effect : Type 0) : Type 0 where
-    pub side_stays : side' ≡ side
-    pub main_does : Effect
-
-  -- neither changes
-  pub record Unchanged (main side main' side' : Vector T A) : Type 0 where
-    pub main_same : main' ≡ main
-    pub side_same : side' ≡ side
-
-  -- the elements of side are behind those of main
-  pub record Joins (size : ℕ) (main side main' side' : Vector T A) : Type 0 where
-    pub joined : GrowsTo size main (len side) (main.items ++ side.items) main'
-    pub emptied : Holds side [] side'
-
-  -- what was taken out of the range of main is behind the elements of side
-  pub record MovesRange (size : ℕ) (main side : Vector T A) (ends : Ends) (keep : Bool)
-      (main' side' : Vector T A) : Type 0 where
-    pub leaves : Holds main (left_of main.items ends keep) main'
-    pub gives : GrowsTo size side (taken_count ends) (side.items ++ given_of main.items ends) side'
-
   -- of the range of main the first elements were asked of `keep`, in order. Those at which it
   -- answered true, so many at most, are behind the elements of side; no other was asked after the
   -- last of them, and the others stay
-  pub record TakesOut {K : Type 0} (Keeps : K → T → Bool → K → T → Type 0) (size : ℕ)
-      (old : Asking T A K) (start end count : ℕ) (new : Asking T A K) : Type 0 where
+  pub record TakesOut {K S : Type 0} (Keeps : K → T → Bool → K → T → Type 0) (size : ℕ)
+      (old : State T A K S) (start end count : ℕ) (new : State T A K S) : Type 0 where
     pub told : List (Asked T)
     pub asked : let first = take (length told) (slice_range old.main.items start end) in
         AskedInOrder Keeps old.keep first told new.keep
@@ -198,117 +151,112 @@ module _ {T A : Type 0} (size : ℕ) where
   -- what a command that is done makes of main, where it touches main alone, and its reply
   abbrev pub MakesOfMain : (main : Vector T A) → Command T A → Reply T → (main' : Vector T A)
       → Type 0
-  MakesOfMain main (Push x) Done main' = GrowsTo size main 1 (main.items ++ x ∷ []) main'
+  MakesOfMain main (Push x) Done main' =
+      Becomes (with_room size main (len main) 1) (main.items ++ x ∷ []) 1 1 main'
   MakesOfMain main (Within x) Done main' =
-      (len main < main.capacity) × Holds main (main.items ++ x ∷ []) main'
+      (len main < main.capacity) × Becomes main (main.items ++ x ∷ []) 1 1 main'
   MakesOfMain main (Within x) (Back y) main' = (len main ≡ main.capacity) × (y ≡ x) × (main' ≡ main)
-  MakesOfMain main Pop (Item y) main' = (main.items ≡ main'.items ++ y ∷ []) × SameBlock main main'
+  MakesOfMain main Pop (Item y) main' =
+      (main.items ≡ main'.items ++ y ∷ []) × Becomes main main'.items 0 0 main'
   MakesOfMain main Pop Nothing main' = (main.items ≡ []) × (main' ≡ main)
-  MakesOfMain main (Insert i x) Done main' = GrowsTo size main 1 (insert main.items i x) main'
+  MakesOfMain main (Insert i x) Done main' =
+      let moved = len main - i in
+      Becomes (with_room size main (len main) 1) (insert main.items i x) (moved + 1)
+      (run_count moved + 1) main'
   MakesOfMain main (Remove i) (Item y) main' =
-      (slice_get main.items i ≡ Some y) × Holds main (remove main.items i) main'
+      let moved = len main - i - 1 in
+      (slice_get main.items i ≡ Some y)
+      × Becomes main (remove main.items i) moved (run_count moved) main'
   MakesOfMain main (SwapRemove i) (Item y) main' =
-      (slice_get main.items i ≡ Some y) × Holds main (swap_remove main.items i y) main'
-  MakesOfMain main (Truncate n) Done main' = Holds main (take n main.items) main'
-  MakesOfMain main Clear Done main' = Holds main [] main'
-  MakesOfMain main (Reserve k) Done main' = GrowsTo size main k main.items main'
+      let moved = run_count (len main - i - 1) in
+      (slice_get main.items i ≡ Some y) × Becomes main (swap_remove main.items i y) moved moved main'
+  MakesOfMain main (Truncate n) Done main' = Becomes main (take n main.items) 0 0 main'
+  MakesOfMain main Clear Done main' = Becomes main [] 0 0 main'
+  MakesOfMain main (Reserve k) Done main' =
+      Becomes (with_room size main (len main) k) main.items 0 0 main'
   MakesOfMain main (ReserveExact k) Done main' =
-      Holds (with_exact_room main (len main) k) main.items main'
+      Becomes (with_exact_room main (len main) k) main.items 0 0 main'
   MakesOfMain main (ShrinkTo k) Done main' =
-      Holds (with_less size main (max (len main) k)) main.items main'
+      Becomes (with_less size main (max (len main) k)) main.items 0 0 main'
   MakesOfMain main (Extend items hint) Done main' =
       ExtendsAll size (lower_by hint) main main.items items.items main'
   MakesOfMain main (ExtendFromWithin from to) Done main' =
-      GrowsTo size main (to - from) (main.items ++ take (to - from) (drop from main.items)) main'
+      let more = take (to - from) (drop from main.items) in
+      Becomes (with_room size main (len main) (to - from)) (main.items ++ more) (to - from)
+      (to - from) main'
   MakesOfMain main (Resize n x) Done main' =
-      GrowsTo size main (n - len main) (take n main.items ++ replicate (n - len main) x) main'
+      let k = n - len main in
+      Becomes (with_room size main (len main) k) (take n main.items ++ replicate k x) k k main'
   MakesOfMain main (Splice start end items hint) Done main' =
       SplicesAll size (lower_by hint) (without_range main start end) items.items main'
   -- no other reply is given
   MakesOfMain main command reply main' = ⊥
 
-  -- what a command that is done makes of main and side, and its reply
+  -- what a command that is done makes of main and side, and its reply. What a `Drain` takes out of
+  -- main's range is behind the elements of side
   abbrev pub Makes : (main side : Vector T A) → Command T A → Reply T → (main' side' : Vector T A)
       → Type 0
   Makes main side (SplitOff at) Done main' side' = Splits size main at main' side'
-  Makes main side Append Done main' side' = Joins size main side main' side'
+  Makes main side Append Done main' side' =
+      let k = len side in
+      Becomes (with_room size main (len main) k) (main.items ++ side.items) k (run_count k) main'
+      × Becomes side [] 0 0 side'
   Makes main side (Drain start end front back keep) Done main' side' =
-      MovesRange size main side (ends_of start end front back) keep main' side'
-  Makes main side command reply main' side' =
-      OnMain side side' (MakesOfMain main command reply main')
+      let ends = ends_of start end front back in
+      Holds main (left_of main.items ends keep) main'
+      × GrowsTo size side (ends.front + ends.back) (side.items ++ given_of main.items ends) side'
+  Makes main side command reply main' side' = MakesOfMain main command reply main' × (side' ≡ side)
 
-  -- the error of a refusal, and what it leaves of main, where the command touches main alone
-  abbrev pub LeavesOfMain : (main : Vector T A) → Command T A → TryReserveError
+  -- the error of a refusal, and what it leaves of main. `fails` says that a clone of the allocator
+  -- may be refused, which a `Splice` may make for a vector of its own
+  abbrev pub Leaves : (fails : Type 0) (main side : Vector T A) → Command T A → TryReserveError
       → (main' : Vector T A) → Type 0
-  LeavesOfMain main (Push x) error main' = LacksRoom size main 1 error × (main' ≡ main)
-  LeavesOfMain main (Insert i x) error main' = LacksRoom size main 1 error × (main' ≡ main)
-  LeavesOfMain main (Reserve k) error main' = LacksRoom size main k error × (main' ≡ main)
-  LeavesOfMain main (ReserveExact k) error main' = LacksExactRoom main k error × (main' ≡ main)
-  LeavesOfMain main (ShrinkTo k) error main' =
+  Leaves fails main side (Push x) error main' = LacksRoom size main 1 error × (main' ≡ main)
+  Leaves fails main side (Insert i x) error main' = LacksRoom size main 1 error × (main' ≡ main)
+  Leaves fails main side (Reserve k) error main' = LacksRoom size main k error × (main' ≡ main)
+  Leaves fails main side (ReserveExact k) error main' =
+      LacksExactRoom main k error × (main' ≡ main)
+  Leaves fails main side (ShrinkTo k) error main' =
       (error.kind ≡ AllocError (max (len main) k)) × (main' ≡ main)
-  LeavesOfMain main (Extend items hint) error main' =
+  Leaves fails main side (SplitOff at) error main' =
+      IsRefusedAt error (if at == 0 then main.capacity else len main - at) × (main' ≡ main)
+  Leaves fails main side Append error main' =
+      LacksRoom size main (len side) error × (main' ≡ main)
+  Leaves fails main side (Extend items hint) error main' =
       ExtendsFull size (lower_by hint) main main.items items.items error main'
-  LeavesOfMain main (ExtendFromWithin from to) error main' =
+  Leaves fails main side (ExtendFromWithin from to) error main' =
       LacksCopies size main (to - from) error main'
-  LeavesOfMain main (Resize n x) error main' = LacksCopies size main (n - len main) error main'
-  LeavesOfMain main (Splice start end items hint) error main' =
-      -- a clone of the allocator may be refused (`Step` says when), and no other item is to come
-      SplicesShort size (lower_by hint) (without_range main start end) items.items ⊤ ⊤ error main'
+  Leaves fails main side (Resize n x) error main' =
+      LacksCopies size main (n - len main) error main'
+  Leaves fails main side (Drain start end front back keep) error main' =
+      let ends = ends_of start end front back in
+      LacksRoom size side (ends.front + ends.back) error × (main' ≡ main)
+  Leaves fails main side (ExtractIf start end count) error main' =
+      LacksRoom size side (min count (end - start)) error × (main' ≡ main)
+  Leaves fails main side (Splice start end items hint) error main' =
+      SplicesShort size (lower_by hint) (without_range main start end) items.items fails ⊤ error
+      main'
   -- no other command is refused
-  LeavesOfMain main command error main' = ⊥
+  Leaves fails main side command error main' = ⊥
 
-  -- the error of a refusal, and what it leaves of main and side
-  abbrev pub Leaves : (main side : Vector T A) → Command T A → TryReserveError
+  -- a command that calls no closure may be answered so, and leave this: an index lies outside, or
+  -- memory or a clone was refused, with an error of this kind, or the command was done
+  abbrev pub Answers : (fails : Type 0) (main side : Vector T A) → Command T A → Reply T
       → (main' side' : Vector T A) → Type 0
-  Leaves main side (SplitOff at) error main' side' =
-      IsRefusedAt error (if at == 0 then main.capacity else len main - at)
-      × Unchanged main side main' side'
-  Leaves main side Append error main' side' =
-      LacksRoom size main (len side) error × Unchanged main side main' side'
-  Leaves main side (Drain start end front back keep) error main' side' =
-      LacksRoom size side (taken_count (ends_of start end front back)) error
-      × Unchanged main side main' side'
-  Leaves main side (ExtractIf start end count) error main' side' =
-      LacksRoom size side (min count (end - start)) error × Unchanged main side main' side'
-  Leaves main side command error main' side' =
-      OnMain side side' (LeavesOfMain main command error main')
+  Answers fails main side command Range main' side' =
+      ¬ InRange main command × (main' ≡ main) × (side' ≡ side)
+  Answers fails main side command (Refused kind) main' side' =
+      InRange main command × ¬ Fits main side command
+      × Leaves fails main side command (record { kind = kind }) main' × (side' ≡ side)
+  Answers fails main side command reply main' side' =
+      InRange main command × Makes main side command reply main' side'
 
-  -- an index lies outside
-  pub record AnswersRange (main side : Vector T A) (command : Command T A)
-      (main' side' : Vector T A) : Type 0 where
-    pub outside : ¬ InRange main command
-    pub stays : Unchanged main side main' side'
-
-  -- memory or a clone was refused, with an error of this kind
-  pub record AnswersRefused (main side : Vector T A) (command : Command T A)
-      (kind : TryReserveErrorKind) (main' side' : Vector T A) : Type 0 where
-    pub in_range : InRange main command
-    pub misfits : ¬ Fits main side command
-    pub leaves : Leaves main side command (error_of kind) main' side'
-
-  -- the command was done
-  pub record AnswersDone (main side : Vector T A) (command : Command T A) (reply : Reply T)
-      (main' side' : Vector T A) : Type 0 where
-    pub in_range : InRange main command
-    pub makes : Makes main side command reply main' side'
-
-  -- a command that calls no closure may be answered so, and leave this
-  abbrev pub Answers : (main side : Vector T A) → Command T A → Reply T → (main' side' : Vector T A)
-      → Type 0
-  Answers main side command Range main' side' = AnswersRange main side command main' side'
-  Answers main side command (Refused kind) main' side' =
-      AnswersRefused main side command kind main' side'
-  Answers main side command reply main' side' = AnswersDone main side command reply main' side'
-
--- v has no more elements than places, and no more places than can be counted
-pub record IsVector {T A : Type 0} (v : Vector T A) : Type 0 where
-  pub within : len v ≤ v.capacity
-  pub countable : v.capacity ≤ usize_max
-
--- and so have both vectors
+-- neither vector has more elements than places, or more places than can be counted
 pub record IsPossible {T A : Type 0} (main side : Vector T A) : Type 0 where
-  pub main_possible : IsVector main
-  pub side_possible : IsVector side
+  pub main_within : len main ≤ main.capacity
+  pub main_countable : main.capacity ≤ usize_max
+  pub side_within : len side ≤ side.capacity
+  pub side_countable : side.capacity ≤ usize_max
 
 -- what the calls may do that a run makes of other code: of the two closures, and of the allocator's
 -- clone
@@ -347,7 +295,8 @@ module _ {T A K S : Type 0} (size : ℕ) (calls : Calls T A K S) where
     pub none : answers ≡ []
     pub keep : new.keep ≡ old.keep
     pub same : new.same ≡ old.same
-    pub lists : Answers size old.main old.side command reply new.main new.side
+    pub lists : let fails = ¬ (calls.sure old.main.alloc) in
+        Answers size fails old.main old.side command reply new.main new.side
 
   -- and the allocator is cloned for the new block, where main is cut
   pub record CallsClone (old : State T A K S) (at : ℕ) (answers : List Bool) (reply : Reply T)
@@ -379,21 +328,14 @@ module _ {T A K S : Type 0} (size : ℕ) (calls : Calls T A K S) where
       (new : State T A K S) : Type 0 where
     pub in_range : InRange old.main (ExtractIf start end count)
     pub same : new.same ≡ old.same
-    pub takes : TakesOut calls.keeps size (asking old.main old.side old.keep) start end count
-        (asking new.main new.side new.keep)
+    pub takes : TakesOut calls.keeps size old start end count new
     pub asked : answers ≡ answers_of takes.told
 
   -- old may answer the command by this reply, where closures that it calls answer so, and become
-  -- new. `ExtractIf` calls none where it is not done. A `Splice` may clone the allocator for a
-  -- vector of its own, and is refused for that only where the clone is not sure
+  -- new. `ExtractIf` calls none where it is not done
   abbrev pub Step : State T A K S → Command T A → (answers : List Bool) → Reply T → State T A K S
       → Type 0
   Step old (SplitOff at) answers reply new = CallsClone old at answers reply new
-  Step old (Splice start end items hint) answers reply new =
-      let fails = ¬ (calls.sure old.main.alloc) in
-      CallsNone old (Splice start end items hint) answers reply new
-      × OnRefused reply (λ kind. SplicesShort size (lower_by hint)
-      (without_range old.main start end) items.items fails ⊤ (error_of kind) new.main)
   Step old Retain answers reply new = CallsKeep old answers reply new
   Step old Dedup answers reply new = CallsSame old answers reply new
   Step old (ExtractIf start end count) answers Done new =

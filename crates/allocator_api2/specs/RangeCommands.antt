@@ -6,7 +6,11 @@ use Rattle.aa_vec.specs.Extract.{Extracted, extract_rest}
 use Rattle.aa_vec.specs.Vector.{Vector, len, Holds}
 use Rattle.aa_vec.specs.declared.vec.drain.Drain.{Drain}
 use Rattle.aa_vec.specs.declared.vec.extract_if.ExtractBy.{ExtractBy}
-use Rattle.allocator_api2.specs.Machine.{Asking, Ends, left_of, given_of}
+use Rattle.allocator_api2.specs.Machine.{State, Ends, left_of, given_of}
+
+-- so many elements from the ends of a range
+abbrev pub ends_at : (start end front back : ℕ) → Ends
+ends_at start end front back = record { start = start; end = end; front = front; back = back }
 
 module _ {T A : Type 0} where
   -- so many items were taken from the front of a drain, and stand behind the elements of side, in
@@ -50,7 +54,8 @@ module _ {T A K : Type 0} (Keeps : K → T → Bool → K → T → Type 0) wher
     pub holds : Holds side (side.items ++ given) new
 
   -- at most so many elements were taken out of a range of main, and stand behind those of side
-  pub record Chosen (old : Asking T A K) (start end most : ℕ) (new : Asking T A K) : Type 0 where
+  pub record Chosen {S : Type 0} (old : State T A K S) (start end most : ℕ)
+      (new : State T A K S) : Type 0 where
     pub told : List (Asked T)
     pub asked : let first = take (length told) (slice_range old.main.items start end) in
         AskedInOrder Keeps old.keep first told new.keep

@@ -11,11 +11,6 @@ use Rattle.allocator_api2.specs.declared.runner.Reply.{Reply}
 use Rattle.allocator_api2.specs.declared.runner.Reply.TheVariants.{Done, Back, Range}
 use Rattle.allocator_api2.specs.Machine.{State, Calls, Step, IsPossible, ends_of}
 
--- n where the command was done
-abbrev pub if_done : {T : Type 0} → Reply T → (n : ℕ) → ℕ
-if_done Done n = n
-if_done reply n = 0
-
 module _ {T A : Type 0} where
   -- commands that make no room but for what they add
   abbrev pub AddsOrRemoves : Command T A → Type 0
@@ -47,11 +42,7 @@ module _ {T A : Type 0} where
   hint_of (Splice start end items hint) = hint
   hint_of command = None
 
-  -- those of them that are told no hint
-  abbrev pub IsUnhinted : Command T A → Type 0
-  IsUnhinted command = AddsOrRemoves command × (hint_of command ≡ None)
-
-  -- those of them that add at most one element: all but the two that add a list
+  -- of these, those that add at most one element: all but the two that add a list
   abbrev pub AddsOneAtMost : Command T A → Type 0
   AddsOneAtMost Append = ⊥
   AddsOneAtMost (Extend items hint) = ⊥
@@ -60,46 +51,43 @@ module _ {T A : Type 0} where
   -- how many elements a command added to main. A command that may make room for more than it adds
   -- counts for nothing
   abbrev pub added_by : (main side : Vector T A) → Command T A → Reply T → (main' : Vector T A) → ℕ
-  added_by main side (Push x) reply main' = if_done reply 1
-  added_by main side (Within x) reply main' = if_done reply 1
-  added_by main side (Insert i x) reply main' = if_done reply 1
-  added_by main side Append reply main' = if_done reply (len side)
+  added_by main side (Push x) Done main' = 1
+  added_by main side (Within x) Done main' = 1
+  added_by main side (Insert i x) Done main' = 1
+  added_by main side Append Done main' = len side
   added_by main side (Extend items hint) reply main' = len main' - len main
   added_by main side command reply main' = 0
 
-  -- how many elements of main a command may write
-  abbrev pub cost_of : (main side : Vector T A) → Command T A → List Bool → (main' : Vector T A) → ℕ
-  cost_of main side (Push x) answers main' = 1
-  cost_of main side (Within x) answers main' = 1
-  cost_of main side Pop answers main' = 0
-  cost_of main side (Insert i x) answers main' = len main - i + 1
-  cost_of main side (Remove i) answers main' = len main - i - 1
-  cost_of main side (SwapRemove i) answers main' = 1
-  cost_of main side (Truncate n) answers main' = 0
-  cost_of main side Clear answers main' = 0
-  cost_of main side (Reserve k) answers main' = 0
-  cost_of main side (ReserveExact k) answers main' = 0
-  cost_of main side (ShrinkTo k) answers main' = 0
-  cost_of main side (SplitOff at) answers main' = 0
-  cost_of main side Append answers main' = len side
-  cost_of main side (Extend items hint) answers main' = len main' - len main
-  cost_of main side (ExtendFromWithin from to) answers main' = to - from
-  cost_of main side (Resize n x) answers main' = n - len main
-  cost_of main side Retain answers main' = kept_behind_removed answers
-  cost_of main side Dedup answers main' = kept_behind_removed (map not answers)
-  cost_of main side (Drain start end front back keep) answers main' =
+  -- how many elements of main a command may write, by its reply: none where its range lies outside
+  -- or the element comes back
+  abbrev pub cost_of : (main side : Vector T A) → Command T A → List Bool → Reply T
+      → (main' : Vector T A) → ℕ
+  cost_of main side command answers Range main' = 0
+  cost_of main side command answers (Back x) main' = 0
+  cost_of main side (Push x) answers reply main' = 1
+  cost_of main side (Within x) answers reply main' = 1
+  cost_of main side Pop answers reply main' = 0
+  cost_of main side (Insert i x) answers reply main' = len main - i + 1
+  cost_of main side (Remove i) answers reply main' = len main - i - 1
+  cost_of main side (SwapRemove i) answers reply main' = 1
+  cost_of main side (Truncate n) answers reply main' = 0
+  cost_of main side Clear answers reply main' = 0
+  cost_of main side (Reserve k) answers reply main' = 0
+  cost_of main side (ReserveExact k) answers reply main' = 0
+  cost_of main side (ShrinkTo k) answers reply main' = 0
+  cost_of main side (SplitOff at) answers reply main' = 0
+  cost_of main side Append answers reply main' = len side
+  cost_of main side (Extend items hint) answers reply main' = len main' - len main
+  cost_of main side (ExtendFromWithin from to) answers reply main' = to - from
+  cost_of main side (Resize n x) answers reply main' = n - len main
+  cost_of main side Retain answers reply main' = kept_behind_removed answers
+  cost_of main side Dedup answers reply main' = kept_behind_removed (map not answers)
+  cost_of main side (Drain start end front back keep) answers reply main' =
       let ends = ends_of start end front back in
       len main - end + (if keep then end - start - ends.front - ends.back else 0)
-  cost_of main side (ExtractIf start end count) answers main' = len main' - start
-  cost_of main side (Splice start end items hint) answers main' =
+  cost_of main side (ExtractIf start end count) answers reply main' = len main' - start
+  cost_of main side (Splice start end items hint) answers reply main' =
       len main' - (start + (len main - end)) + 2 * (len main - end)
-
-  -- the same, by its reply: none where it was not done
-  abbrev pub cost_by : (main side : Vector T A) → Command T A → List Bool → Reply T
-      → (main' : Vector T A) → ℕ
-  cost_by main side command answers Range main' = 0
-  cost_by main side command answers (Back x) main' = 0
-  cost_by main side command answers reply main' = cost_of main side command answers main'
 
 -- one step of a run
 pub record Turn (T A K S : Type 0) : Type 0 where
@@ -116,7 +104,7 @@ module _ {T A K S : Type 0} where
 
   -- how many elements of main the turn may write
   abbrev pub cost : Turn T A K S → ℕ
-  cost t = cost_by t.before.main t.before.side t.command t.answers t.reply t.after.main
+  cost t = cost_of t.before.main t.before.side t.command t.answers t.reply t.after.main
 
   -- the greatest length of main after a turn
   abbrev pub greatest_length : List (Turn T A K S) → ℕ
@@ -144,41 +132,28 @@ module _ {T A K S : Type 0} (size : ℕ) (calls : Calls T A K S) where
     pub commands_are : map (λ t. t.command) turns ≡ commands
     pub replies_are : map (λ t. t.reply) turns ≡ replies
 
--- What is proved of every run.
-
 -- how often each added element may be moved by growth
 abbrev pub moves_each : Growth → ℕ
 moves_each Doubling = 2
 moves_each Sparing = 3
 
-module _ {T A K S : Type 0} (old : State T A K S) (commands : List (Command T A))
-    (turns : List (Turn T A K S)) (new : State T A K S) where
-  -- where main began empty and the commands only add or remove, growth moved two elements at most
-  -- for each one added, or three if sparing
-  abbrev pub GrowthBound : Type 0
-  GrowthBound =
-      old.main.items ≡ [] → AllByRecursion AddsOrRemoves commands
-      → new.main.grown ≤ old.main.grown + moves_each old.main.growth * sum_by added turns
-
-  -- from a vector without places, where the commands tell no hint, main has at most 8 places or
-  -- twice its greatest length at the end, whichever way it grows
-  abbrev pub CapacityBound : Type 0
-  CapacityBound =
-      old.main.items ≡ [] → old.main.capacity ≡ 0 → AllByRecursion IsUnhinted commands
-      → new.main.capacity ≤ max 8 (2 * greatest_length turns)
-
-  -- no more elements were written into main's places than the commands cost
-  abbrev pub WriteBound : Type 0
-  WriteBound = new.main.written ≤ old.main.written + sum_by cost turns
-
 module _ {T A K S : Type 0} (size : ℕ) (calls : Calls T A K S) (old : State T A K S)
     (commands : List (Command T A)) where
-  -- a run, and what is proved of it
+  -- a run, and what is proved of every run
   pub record RunsWithin (replies : List (Reply T)) (new : State T A K S) : Type 0 where
     pub run : RunsTo size calls old commands replies new
-    pub growth : GrowthBound old commands run.turns new
-    pub capacity : CapacityBound old commands run.turns new
-    pub writes : WriteBound old commands run.turns new
+    -- where main began empty and the commands only add or remove, growth moved two elements at most
+    -- for each one added, or three if sparing
+    pub growth : old.main.items ≡ [] → AllByRecursion AddsOrRemoves commands
+        → new.main.grown
+        ≤ old.main.grown + moves_each old.main.growth * sum_by added run.turns
+    -- from a vector without places, where these tell no hint, main has at most 8 places or twice
+    -- its greatest length at the end, whichever way it grows
+    pub capacity : old.main.items ≡ [] → old.main.capacity ≡ 0
+        → AllByRecursion (λ command. AddsOrRemoves command × (hint_of command ≡ None)) commands
+        → new.main.capacity ≤ max 8 (2 * greatest_length run.turns)
+    -- no more elements were written into main's places than the commands cost
+    pub writes : new.main.written ≤ old.main.written + sum_by cost run.turns
 
 -- When a run may be told to begin.
 module _ {T A K S : Type 0} (size : ℕ) (calls : Calls T A K S) where

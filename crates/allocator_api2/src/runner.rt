@@ -141,11 +141,14 @@ where
     A: Allocator + Clone + Drop,
     K: FnMut(&mut T) -> bool,
     S: FnMut(&mut T, &mut T) -> bool,
+    // There is room for the replies, a clone is its source, and the closures may be called.
     requires room { HasRoom replies.old (length commands.items) }
     requires copies { Copies T.is_clone }
     requires callable { IsCallableOnRuns (type_size T.row)
         (calls_of A.is_clone A.is_infallible K.FnMut S.FnMut)
         (state_of main.old side.old keep.old same.old) commands.items }
+
+    // A run of the list machine, whose replies stand behind those that were there.
     ensures run { (answered : List (Reply T)) × (replies.new.items ≡ replies.old.items ++ answered)
         × RunsWithin (type_size T.row) (calls_of A.is_clone A.is_infallible K.FnMut S.FnMut)
         (state_of main.old side.old keep.old same.old) commands.items answered
@@ -156,13 +159,13 @@ where
     for command in commands {
         let reply = step(main, side, command, keep, same);
         find_possible(main, side);
-        append_within(replies, reply);
+        push_within(replies, reply);
     }
 }
 
 // Puts a value behind the last one of a vector that has room for it.
 #[tactic(auto, using(aa_vec::proofs::Becoming::became))]
-pub(crate) fn append_within<T: Drop, A: Allocator>(list: &mut Vec<T, A>, value: T)
+pub(crate) fn push_within<T: Drop, A: Allocator>(list: &mut Vec<T, A>, value: T)
     requires { HasRoom list.old 1 }
     ensures { Holds list.old (list.old.items ++ value ∷ []) list.new }
 {

@@ -145,7 +145,7 @@ impl<T> SliceExt<T> for &[T] {
     where
         T: Repeat,
     {
-        T::repeated(*self, n, alloc)
+        T::repeat_in(*self, n, alloc)
     }
 }
 
@@ -154,7 +154,7 @@ impl<T> SliceExt<T> for &[T] {
 pub trait Repeat: Sized {
     /// A vector of the elements of `source` `n` times over, over any allocator; it is refused as
     /// `SliceExt::repeat` is. The original has no such call.
-    fn repeated<A: Allocator>(
+    fn repeat_in<A: Allocator>(
         source: &[Self],
         n: usize,
         alloc: A,
@@ -169,17 +169,17 @@ pub trait Repeat: Sized {
 }
 
 impl<T: Copy> Repeat for T {
-    fn repeated<A: Allocator>(
+    fn repeat_in<A: Allocator>(
         source: &[T],
         n: usize,
         alloc: A,
     ) -> Result<Vec<T, A>, TryReserveError> {
-        repeated(source, n, alloc)
+        repeat_in(source, n, alloc)
     }
 }
 
 // A vector of the elements `n` times over.
-fn repeated<T: Copy, A: Allocator>(
+fn repeat_in<T: Copy, A: Allocator>(
     source: &[T],
     n: usize,
     alloc: A,

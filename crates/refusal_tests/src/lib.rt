@@ -49,7 +49,7 @@
 //! | `SliceExt::to_vec_in`, `to_vec_in2` | 1, and 3 of the elements | `makers` |
 //! | `Vec::from_elem_in` | 1, and 4 for each clone but the last | `makers` |
 //! | `Vec::from_iter_in`, `from_iter_in_by` | 1 | `makers` |
-//! | `Vec::from_slice_copied_in`, `from_text_in`, `Repeat::repeated` | 1 | `makers` |
+//! | `Vec::from_slice_copied_in`, `from_text_in`, `Repeat::repeat_in` | 1 | `makers` |
 //! | `Vec::from_array_in`, `vec_of!` | 1 | `array_refusals` |
 //! | `Vec::into_boxed_slice` | 1 | `box_refusals` |
 //! | `Vec::into_flattened` | 1 | `array_refusals` |

@@ -74,7 +74,7 @@ fn called_with_numbers(call: Call, heap: &Faulty<Global>) -> End {
         Call::TextWithCapacityIn => end_of_made(GapBuffer::<u32, _>::with_capacity_in(5, heap)),
         Call::WithCapacityIn => end_of_made(Vec::<u32, _>::with_capacity_in(5, heap)),
         Call::FromSliceCopiedIn => end_of_made(Vec::from_slice_copied_in(&[1u32, 2, 3], heap)),
-        Call::Repeated(times) => end_of_made(u32::repeated(&[1, 2, 3], times, heap)),
+        Call::Repeated(times) => end_of_made(u32::repeat_in(&[1, 2, 3], times, heap)),
         Call::FromTextIn => end_of_made(Vec::from_text_in("aé", heap)),
         Call::SliceFromSlice => end_of_made(BoxedSlice::from_slice(heap, &[1u32, 2, 3])),
         _ => end_of_made(BoxedText::from_text(heap, "abc")),

@@ -37,8 +37,8 @@ fn made(alloc: Global, call: Make, many: usize) -> End {
         Make::Vector => end_of_made(Vec::<u32>::with_capacity(alloc, many)),
         Make::FromElemIn => end_of_made(Vec::from_elem_in(7u32, many, Refusing)),
         Make::FromElem => end_of_made(Vec::from_elem(alloc, 7u32, many)),
-        Make::Repeated => end_of_made(u32::repeated(&[1, 2], pairs, Refusing)),
-        Make::RepeatedBytes => end_of_made(u8::repeated(&[1, 2], many, Refusing)),
+        Make::Repeated => end_of_made(u32::repeat_in(&[1, 2], pairs, Refusing)),
+        Make::RepeatedBytes => end_of_made(u8::repeat_in(&[1, 2], many, Refusing)),
         Make::Repeat2 => end_of_made(b"ab".as_slice().repeat2(alloc, many)),
     }
 }

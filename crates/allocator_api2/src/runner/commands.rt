@@ -1,21 +1,18 @@
 //! What `run` does at each command: the call of the vector that stands for it, after the test of
 //! its indices, and the reply.
-ghost use Rattle.std.specs.Prelude.{◌≡◌, ◌<◌, ⊤};
+ghost use Rattle.std.specs.Prelude.{◌≡◌, ◌<◌};
 ghost use Rattle.std.specs.Fn.{CalledAtMut, CalledAtPairMut};
 ghost use Rattle.std.specs.Mem.{type_size};
 ghost use Rattle.aa_raw.specs.Closures.{TakesPairMut};
 ghost use Rattle.aa_vec.specs.Choosing.{TakesMut, IsCallableInOrder, IsCallableAlong, Retains, Deduplicates};
 ghost use Rattle.aa_vec.specs.Copies.{Copies};
-ghost use Rattle.aa_vec.specs.Extend.{lower_by};
-ghost use Rattle.aa_vec.specs.SpliceItems.{SplicesShort};
+ghost use Rattle.aa_vec.specs.Vector.{Vector};
 ghost use Rattle.allocator_api2.specs.Commands.{Does, DoesOnMain};
-ghost use Rattle.allocator_api2.specs.Machine.{OnRefused, error_of, without_range};
 ghost use Rattle.allocator_api2.specs.declared.runner.Command.TheVariants.{Push, Within, Pop, Insert, Remove, SwapRemove, Truncate, Clear, Reserve, ReserveExact, ShrinkTo, SplitOff, Append, Extend, ExtendFromWithin, Resize, Splice};
 ghost use Rattle.allocator_api2.specs.declared.runner.Reply.{Reply};
 
 use crate::runner::Reply;
-use aa_vec::vec::Vec;
-use aa_vec::vec::items::Items;
+use aa_vec::vec::{Items, Vec};
 use std::alloc::Allocator;
 
 #[tactic(auto, using(aa_vec::proofs::Becoming::became, crate::proofs::ByKind::told))]
@@ -139,7 +136,8 @@ pub(crate) fn split_off<T: Drop, A: Allocator + Clone + Drop>(
     side: &mut Vec<T, A>,
     at: usize,
 ) -> Reply<T>
-    ensures does { Does (type_size T.row) main.old side.old (SplitOff at) result main.new side.new }
+    ensures does { Does (type_size T.row) ⊥ main.old side.old (SplitOff at)
+        result main.new side.new }
     ensures tail_clone { result ≡ Reply.Done → 0 < at → A.is_clone main.old.alloc side.new.alloc }
     ensures head_clone { result ≡ Reply.Done → at ≡ 0 → A.is_clone main.old.alloc main.new.alloc }
 {
@@ -157,7 +155,7 @@ pub(crate) fn split_off<T: Drop, A: Allocator + Clone + Drop>(
 
 #[tactic(auto, using(aa_vec::proofs::Becoming::became, crate::proofs::ByKind::told))]
 pub(crate) fn append<T, A: Allocator>(main: &mut Vec<T, A>, side: &mut Vec<T, A>) -> Reply<T>
-    ensures { Does (type_size T.row) main.old side.old Append result main.new side.new }
+    ensures { Does (type_size T.row) ⊥ main.old side.old Append result main.new side.new }
 {
     match main.append(side) {
         Ok(()) => Reply::Done,
@@ -178,7 +176,7 @@ pub(crate) fn extend<T: Drop, A: Allocator + Drop>(
     }
 }
 
-#[tactic(auto, using(crate::proofs::ByKind::told))]
+#[tactic(auto, using(aa_vec::proofs::Becoming::becomes, crate::proofs::ByKind::told))]
 pub(crate) fn extend_from_within<T: Clone + Drop, A: Allocator>(
     main: &mut Vec<T, A>,
     from: usize,
@@ -196,7 +194,7 @@ pub(crate) fn extend_from_within<T: Clone + Drop, A: Allocator>(
     }
 }
 
-#[tactic(auto, using(crate::proofs::ByKind::told))]
+#[tactic(auto, using(aa_vec::proofs::Becoming::becomes, crate::proofs::ByKind::told))]
 pub(crate) fn resize<T: Clone + Drop, A: Allocator>(
     main: &mut Vec<T, A>,
     len: usize,
@@ -246,11 +244,9 @@ pub(crate) fn splice<T: Drop, A: Allocator + Clone + Drop>(
     items: Vec<T, A>,
     hint: Option<usize>,
 ) -> Reply<T>
-    ensures does { DoesOnMain (type_size T.row) main.old (Splice start end items hint)
-        result main.new }
-    ensures short { let fails = ¬ (A.is_infallible main.old.alloc) in
-        OnRefused result (λ kind. SplicesShort (type_size T.row) (lower_by hint)
-        (without_range main.old start end) items.items fails ⊤ (error_of kind) main.new) }
+    ensures { let fails = ¬ (A.is_infallible main.old.alloc) in
+        (side : Vector T A) → Does (type_size T.row) fails main.old side
+        (Splice start end items hint) result main.new side }
 {
     if start > end || end > main.len() {
         return Reply::Range;

@@ -4,11 +4,10 @@ ghost use Rattle.std.specs.Mem.{type_size};
 ghost use Rattle.aa_vec.specs.Drain.{drain_rest};
 ghost use Rattle.aa_vec.specs.Vector.{len, HasRoom};
 ghost use Rattle.allocator_api2.specs.Commands.{Does};
-ghost use Rattle.allocator_api2.specs.RangeCommands.{Drained, TakesFront, TakesBack};
-ghost use Rattle.allocator_api2.specs.Machine.{ends_at};
+ghost use Rattle.allocator_api2.specs.RangeCommands.{Drained, TakesFront, TakesBack, ends_at};
 ghost use Rattle.allocator_api2.specs.declared.runner.Command.{Command};
 
-use crate::runner::{Reply, append_within};
+use crate::runner::{Reply, push_within};
 use aa_vec::vec::{Drain, Vec};
 use std::alloc::Allocator;
 
@@ -23,7 +22,7 @@ pub(crate) fn drain<T: Drop, A: Allocator>(
     back: usize,
     keep: bool,
 ) -> Reply<T>
-    ensures { Does (type_size T.row) main.old side.old
+    ensures { Does (type_size T.row) ⊥ main.old side.old
         (Command.Drain start end front back keep) result main.new side.new }
 {
     if start > end || end > main.len() {
@@ -74,7 +73,7 @@ fn take_front<T: Drop, A: Allocator>(
 {
     'each: for _taken in 0..count {
         match items.next() {
-            Some(item) => append_within(side, item),
+            Some(item) => push_within(side, item),
             None => unreachable!(),
         }
     }
@@ -88,7 +87,7 @@ fn take_back<T: Drop, A: Allocator>(items: &mut Drain<'_, T, A>, side: &mut Vec<
 {
     'each: for _taken in 0..count {
         match items.next_back() {
-            Some(item) => append_within(side, item),
+            Some(item) => push_within(side, item),
             None => unreachable!(),
         }
     }

@@ -5,11 +5,10 @@ ghost use Rattle.std.specs.Mem.{type_size};
 ghost use Rattle.aa_vec.specs.Choosing.{TakesMut, IsCallableInOrder};
 ghost use Rattle.aa_vec.specs.Extract.{extract_rest};
 ghost use Rattle.aa_vec.specs.Vector.{len, HasRoom};
-ghost use Rattle.allocator_api2.specs.Commands.{TakesChosen};
+ghost use Rattle.allocator_api2.specs.Commands.{TakesChosen, asking};
 ghost use Rattle.allocator_api2.specs.RangeCommands.{Chosen, TakesUpTo};
-ghost use Rattle.allocator_api2.specs.Machine.{asking};
 
-use crate::runner::{Reply, append_within};
+use crate::runner::{Reply, push_within};
 use aa_vec::vec::{ExtractBy, Vec};
 use std::alloc::Allocator;
 
@@ -77,7 +76,7 @@ fn take_chosen<T: Drop, A: Allocator, K: FnMut(&mut T) -> bool>(
 {
     'each: for _taken in 0..most {
         match range.next_by(keep) {
-            Some(item) => append_within(side, item),
+            Some(item) => push_within(side, item),
             None => return,
         }
     }

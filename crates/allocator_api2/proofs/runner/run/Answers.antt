@@ -17,8 +17,8 @@ pub loop-command-preserved : goal.loop-command-preserved
 loop-command-preserved g c =
     let h = rw c.in-Some.ensures.steps at c.loop-command.invariant in
     let possible = c.find_possible-in-loop-command.ensures in
-    let put = c.append_within.ensures in
-    let m : length c.append_within.new.list.items ≡ length c.loop-command.replies.items + 1 = ap length put.items ∙ length-append c.loop-command.replies.items (c.step-reply.result ∷ []) in
+    let put = c.push_within.ensures in
+    let m : length c.push_within.new.list.items ≡ length c.loop-command.replies.items + 1 = ap length put.items ∙ length-append c.loop-command.replies.items (c.step-reply.result ∷ []) in
     record {
       run = HasRun-more _ _ h.run c.step-reply.ensures possible put.items;
       callable = h.callable.1 _ _ _ c.step-reply.ensures.step possible;

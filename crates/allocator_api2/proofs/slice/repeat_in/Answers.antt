@@ -1,8 +1,8 @@
 use Rattle.allocator_api2.proofs.Common.{rules, ◌≡◌, ◌*◌, length, sym, subst, arith, repeat, type_size, Doubling, Vector, IsNew, IsMadeWithin}
 use denote.Param.{copied}
 use Rattle.allocator_api2.proofs.Repeated.{Holds-none, Writes-none, IsMadeWithin-repeated}
-use Rattle.allocator_api2.proofs.slice.repeated.Goals as goal
-use Rattle.allocator_api2.proofs.slice.repeated.Goals.{then-n-gt0, else-n-gt0}
+use Rattle.allocator_api2.proofs.slice.repeat_in.Goals as goal
+use Rattle.allocator_api2.proofs.slice.repeat_in.Goals.{then-n-gt0, else-n-gt0}
 
 pub returns-clause-made : goal.returns-clause-made
 returns-clause-made g c =
