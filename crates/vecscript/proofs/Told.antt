@@ -1,13 +1,11 @@
 -- A run whose closures are told in other words: where those say what each call does, they say it of the run.
 use Rattle.vecscript.proofs.Common.{ℕ, Bool, true, false, rules, List, [], ◌∷◌, length, take, Option, IfSome, IfSome_then, Global, lines, SplitOff, ExtractIf, Reply, Command, State, Calls, Turn, IsRun, element_size, MayAnswer}
-use Rattle.std.specs.Prelude.{◌≡◌, slice_range, ⊤}
+use Rattle.std.specs.Prelude.{◌≡◌, slice_range}
 use Rattle.std.proofs.Common.{subst}
-use Rattle.aa_vec.specs.Extend.{lower_by}
-use Rattle.aa_vec.specs.SpliceItems.{SplicesShort}
 use Rattle.aa_vec.specs.Choosing.{Asked, AskedInOrder, Retains, ChainsFrom, Deduplicated, Deduplicates}
-use Rattle.allocator_api2.specs.declared.runner.Command.TheVariants.{Retain, Dedup, Splice}
+use Rattle.allocator_api2.specs.declared.runner.Command.TheVariants.{Retain, Dedup}
 use Rattle.allocator_api2.specs.declared.runner.Reply.TheVariants.{Done}
-use Rattle.allocator_api2.specs.Machine.{Step, TakesOut, OnRefused, asking, error_of, without_range}
+use Rattle.allocator_api2.specs.Machine.{Answers as Lists, CallsNone, Step, TakesOut}
 
 module _ {K S : Type 0} (calls told : Calls ℕ Global K S)
     (keeps : (k : K) (x : ℕ) (answer : Bool) (l : K) (y : ℕ) → calls.keeps k x answer l y → told.keeps k x answer l y)
@@ -29,31 +27,34 @@ module _ {K S : Type 0} (calls told : Calls ℕ Global K S)
   deduplicated-told s [] answers r ys d = d
   deduplicated-told s (x ∷ xs) answers r ys d = chained-told s x xs answers r ys d
 
+  none-told : (old : State ℕ Global K S) (command : Command ℕ Global) (answers : List Bool) (reply : Reply ℕ) (new : State ℕ Global K S)
+      → CallsNone element_size calls old command answers reply new → CallsNone element_size told old command answers reply new
+  none-told old command answers reply new s =
+      let lists = subst (λ (f : Global → Type 0). Lists element_size (¬ (f old.main.alloc)) old.main old.side command reply new.main new.side) sure s.lists in
+      record { none = s.none; keep = s.keep; same = s.same; lists = lists }
+
   Step-told : (old : State ℕ Global K S) (command : Command ℕ Global) (answers : List Bool) (reply : Reply ℕ) (new : State ℕ Global K S)
       → Step element_size calls old command answers reply new → Step element_size told old command answers reply new
-  Step-told old (SplitOff at) answers reply new s = search (rules, clones)
-  Step-told old (Splice start end items hint) answers reply new s =
-      let n = s.0 in
-      let short = subst (λ (f : Global → Type 0). OnRefused reply (λ kind. SplicesShort element_size (lower_by hint) (without_range old.main start end) items.items (¬ (f old.main.alloc)) ⊤ (error_of kind) new.main)) sure s.1 in
-      (record { none = n.none; keep = n.keep; same = n.same; lists = n.lists }, short)
+  Step-told old (SplitOff at) answers reply new s =
+      record { cut = none-told old (SplitOff at) answers reply new s.cut; tail_clone = λ done some. clones _ _ (s.tail_clone done some); head_clone = λ done none. clones _ _ (s.head_clone done none) }
   Step-told old Retain answers reply new s =
       let h = s.retains in
       let kept : Retains told.keeps old.keep old.main new.keep new.main =
-      record { told = h.told; asked = asked-told old.keep old.main.items h.told new.keep h.asked; holds = h.holds; written = h.written; runs = h.runs } in
+      record { told = h.told; asked = asked-told old.keep old.main.items h.told new.keep h.asked; runs = h.runs; few = h.few; becomes = h.becomes } in
       record { done = s.done; side = s.side; same = s.same; retains = kept; asked = s.asked }
   Step-told old Dedup answers reply new s =
       let h = s.removes in
       let asked = deduplicated-told old.same old.main.items h.answers new.same h.left h.asked in
       let kept : Deduplicates told.repeats old.same old.main new.same new.main =
-      record { answers = h.answers; left = h.left; asked = asked; holds = h.holds; written = h.written; runs = h.runs } in
+      record { answers = h.answers; left = h.left; asked = asked; runs = h.runs; few = h.few; becomes = h.becomes } in
       record { done = s.done; side = s.side; keep = s.keep; removes = kept; asked = s.asked }
   Step-told old (ExtractIf start end count) answers Done new s =
       let h = s.takes in
       let asked = asked-told old.keep (take (length h.told) (slice_range old.main.items start end)) h.told new.keep h.asked in
-      let taken : TakesOut told.keeps element_size (asking old.main old.side old.keep) start end count (asking new.main new.side new.keep) =
+      let taken : TakesOut told.keeps element_size old start end count new =
       record { told = h.told; asked = asked; enough = h.enough; leaves = h.leaves; gives = h.gives } in
       record { in_range = s.in_range; same = s.same; takes = taken; asked = s.asked }
-  Step-told old command answers reply new s = record { none = s.none; keep = s.keep; same = s.same; lists = s.lists }
+  Step-told old command answers reply new s = none-told old command answers reply new s
 
   IsRun-told : (old : State ℕ Global K S) (turns : List (Turn ℕ Global K S)) (new : State ℕ Global K S) → IsRun element_size calls old turns new → IsRun element_size told old turns new
   IsRun-told old [] new run = run

@@ -585,7 +585,7 @@ impl Line<'_> {
         let end = self.words.number();
         let front = self.words.number();
         let back = self.words.number();
-        let keep = self.words.next().and_then(kept);
+        let keep = self.words.next().and_then(says_keep);
         match (start, end, front, back, keep, self.words.is_empty()) {
             (Some(start), Some(end), Some(front), Some(back), Some(keep), true) => {
                 Ok((start, end, front, back, keep))
@@ -596,7 +596,7 @@ impl Line<'_> {
 }
 
 // Whether what is left of a range stays, if the word says so.
-fn kept(word: &[u8]) -> Option<bool>
+fn says_keep(word: &[u8]) -> Option<bool>
     ensures some { IfSome result (SaysKept word.now) }
     ensures none { IfNone result ((b : Bool) → ¬ (SaysKept word.now b)) }
 {

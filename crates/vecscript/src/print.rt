@@ -60,15 +60,8 @@ pub fn print_lists(
         ++ (line_of (list_text (codes "main") main.now.capacity main.now.items)
         ++ line_of (list_text (codes "side") side.now.capacity side.now.items))) }
 {
-    print_list(output, "main", main)?;
-    print_list(output, "side", side)
-}
-
-fn print_list(output: &mut Text, name: &str, list: &Vec<u32, Global>) -> io::Result<()>
-    ensures { OnOk result (output.new.items ≡ output.old.items
-        ++ line_of (list_text name.now list.now.capacity list.now.items)) }
-{
-    print_line(output, name, list.capacity(), list.as_slice())
+    print_line(output, "main", main.capacity(), main.as_slice())?;
+    print_line(output, "side", side.capacity(), side.as_slice())
 }
 
 fn print_line(output: &mut Text, name: &str, capacity: usize, elements: &[u32]) -> io::Result<()>

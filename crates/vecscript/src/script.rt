@@ -140,6 +140,8 @@ pub fn script<R: Read, W: Write, E: Write>(
         × MayAnswer (script_calls ⟦<Global as Clone>⟧.is_clone
         ⟦<Global as Clone>⟧.is_infallible) alloc tt tt (lines text) answer
         × AppendsBeginning (W.contents output.old) (W.contents output.new) answer) }
+
+    // What is told of a fault.
     ensures told { result ≢ 0 → (fault : Fault) × (result ≡ status_of fault)
         × IsFoundIn (R.remaining input.old) fault
         × AppendsBeginning (E.contents faults.old) (E.contents faults.new)
@@ -182,6 +184,8 @@ where
     S: FnMut(&mut u32, &mut u32) -> bool,
     requires keep { (k : K) (x : ℕ) → TakesMut K.FnMut k x }
     requires same { (s : S) (x y : ℕ) → TakesPairMut S.FnMut s x y }
+
+    // Which lines there are, and what they answer, is known of a reader whose bytes are known.
     ensures ok { OnOk result
         (IfSome (R.remaining input.old) (λ text. HasNoBad (command_lines (lines text)))) }
     ensures printed { OnOk result (IfSome (R.remaining input.old) (λ text. (answer : List ℕ)
@@ -231,10 +235,14 @@ where
     S: FnMut(&mut u32, &mut u32) -> bool,
     requires keep { (k : K) (x : ℕ) → TakesMut K.FnMut k x }
     requires same { (s : S) (x y : ℕ) → TakesPairMut S.FnMut s x y }
+
+    // What is answered where all of it ran.
     ensures good { OnOk result (HasNoBad (command_lines (lines text.items))) }
     ensures ok { IfOk result (λ answer. MayAnswer (calls_of ⟦<Global as Clone>⟧.is_clone
         ⟦<Global as Clone>⟧.is_infallible K.FnMut S.FnMut)
         alloc keep.old same.old (lines text.items) answer.items) }
+
+    // Why it did not.
     ensures err { IfErr result (λ fault. IsFoundIn (Some text.items) fault × (fault ≢ InputOutput)) }
     ensures refused { IfErr result (λ fault. fault ≡ OutOfMemory →
         HasNoBad (command_lines (lines text.items))) }
