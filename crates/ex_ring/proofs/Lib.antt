@@ -1,2 +1,4 @@
+pub mod Extending
 pub mod Paid
 pub mod Rings
+pub mod Turning

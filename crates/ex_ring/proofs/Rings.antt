@@ -3,12 +3,40 @@ use Rattle.std.proofs.Common.{◌≡◌, ℕ, ◌+◌, ◌-◌, ◌<◌, ◌≤�
 use Rattle.std.specs.Prelude.{slice_set, reverse, replicate, is_some}
 use Rattle.std.specs.List.{list_all, refill}
 use Rattle.std.proofs.lemmas.Bool.Decides.{nat_tests}
-use Rattle.std.proofs.lemmas.List.{append-nil, drop_at, length-map, length-reverse, length-take-le, reverse-append, reverse-reverse, take-append-drop, take-append-le, take-take, take_at}
+use Rattle.std.proofs.lemmas.List.{append-nil, drop_at, length-map, length-reverse, length-take-le, reverse-append, reverse-reverse, take-append-drop, set-append_left, set-append_right, take-append-le, take-take, take_at}
 use Rattle.allocator_api2.specs.Places.{IsFilled, IsRun, run, with_run}
-use Rattle.allocator_api2.proofs.Blocks.{apart, two_runs, shown, length-run, run-push, IsRun-push, run-pop, IsRun-pop, run-shift, IsRun-shift, run-unshift, IsRun-unshift, run-none, IsRun-nil, run-set-above, run-set-below, run-set-same, IsRun-set-above, IsRun-set-below, first-filled, last-filled}
+use Rattle.allocator_api2.proofs.Blocks.{apart, two_runs, shown, length-run, run-push, IsRun-push, run-pop, IsRun-pop, run-shift, IsRun-shift, run-unshift, IsRun-unshift, run-none, IsRun-joined, IsRun-part, run-split, IsRun-nil, run-set-above, run-set-below, run-set-same, IsRun-set-above, IsRun-set-below, first-filled, last-filled}
 use Rattle.ex_ring.specs.RingInner.{HasParts}
 
 module _ {X : Type 0} where
+  only_one : (ys : List X) (x : X) → length ys ≡ 1 → slice_set ys 0 x ≡ x ∷ []
+  only_one [] x e = absurd (omega (arith, e))
+  only_one (y ∷ []) x e = refl
+  only_one (y ∷ z ∷ ys) x e = absurd (omega (arith, e))
+
+  -- one of the values of a run, written anew
+  run-rewritten : (cs : List (Option X)) (from n p i : ℕ) (x : X) → from + i ≡ p → i < n → IsRun cs from n → run (slice_set cs p (Some x)) from n ≡ slice_set (run cs from n) i x
+  run-rewritten cs from n p i x e few r =
+      let ds : List (Option X) = slice_set cs p (Some x) in let k : ℕ = n - i - 1 in
+      let before : List X = run cs from i in let here : List X = run cs p 1 in let behind : List X = run cs (p + 1) k in
+      let long : length before ≡ i = length-run cs from i (IsRun-part cs from n from i (omega arith) (omega arith) r) in
+      let one : length here ≡ 1 = length-run cs p 1 (IsRun-part cs from n p 1 (omega arith) (omega arith) r) in
+      let parted : (es : List (Option X)) → run es from n ≡ run es from i ++ (run es p 1 ++ run es (p + 1) k) =
+      λ es. run-split es from p i (k + 1) n e (omega arith) ∙ ap (λ ys. run es from i ++ ys) (run-split es p (p + 1) 1 k (k + 1) refl (omega arith)) in
+      let start : i - i ≡ 0 = omega arith in
+      let left : run ds from n ≡ before ++ (x ∷ behind) =
+      rw (parted ds, run-set-above cs from i p (Some x) (omega (arith, r.0)) (omega arith), run-set-same cs p x (omega (arith, r.0)), run-set-below cs (p + 1) k p (Some x) (omega arith)) refl in
+      left
+      ∙ sym (ap (λ ys. slice_set ys i x) (parted cs) ∙ set-append_right before (here ++ behind) i i x long (omega arith)
+      ∙ ap (λ j. before ++ slice_set (here ++ behind) j x) start ∙ ap (λ ys. before ++ ys) (set-append_left here behind 0 x (omega (arith, one)) ∙ ap (λ ys. ys ++ behind) (only_one here x one)))
+
+  IsRun-rewritten : (cs : List (Option X)) (from n p i : ℕ) (x : X) → from + i ≡ p → i < n → IsRun cs from n → IsRun (slice_set cs p (Some x)) from n
+  IsRun-rewritten cs from n p i x e few r =
+      let ds : List (Option X) = slice_set cs p (Some x) in let k : ℕ = n - i - 1 in let l = r.0 in
+      let here : IsRun ds p 1 = IsRun-push cs p 0 x p 1 (omega arith) refl (omega arith) (IsRun-nil cs p (omega arith)) in
+      IsRun-joined ds from p i (k + 1) n e (omega arith) (IsRun-set-above cs from i p (Some x) (omega arith) (omega arith) (IsRun-part cs from n from i (omega arith) (omega arith) r))
+      (IsRun-joined ds p (p + 1) 1 k (k + 1) refl (omega arith) here (IsRun-set-below cs (p + 1) k p (Some x) (omega arith) (IsRun-part cs from n (p + 1) k (omega arith) (omega arith) r)))
+
   -- the items: the first ones, and those behind them
   abbrev pub parts : List (Option X) → (front count wrapped : ℕ) → List X
   parts cs f n w = run cs f n ++ run cs 0 w
@@ -69,6 +97,27 @@ module _ {X : Type 0} where
       put_around least room =
           let e : f ≡ 0 = omega arith in
           rw (run-set-same cs (length cs - 1) x (omega arith), run-set-above cs 0 n (length cs - 1) (Some x) (omega arith) (omega arith), no_others cs f n w (omega (arith, h.apart)), e)
+
+      -- an item written anew
+      pub set_first : (i : ℕ) → i < n → parts (slice_set cs (f + i) (Some x)) f n w ≡ slice_set (parts cs f n w) i x
+      set_first i few =
+          let l = h.first.0 in let low = h.apart in
+          rw (run-rewritten cs f n (f + i) i x refl few h.first, run-set-above cs 0 w (f + i) (Some x) (omega arith) (omega arith)) (sym (set-append_left (run cs f n) (run cs 0 w) i x (omega (arith, few, length-run cs f n h.first))))
+
+      pub has-set_first : (i : ℕ) → i < n → HasParts (slice_set cs (f + i) (Some x)) f n w
+      has-set_first i few =
+          let l = h.first.0 in let low = h.apart in
+          grind (arith, IsRun-rewritten cs f n (f + i) i x refl few h.first, IsRun-set-above cs 0 w (f + i) (Some x) (omega arith) (omega arith) h.others, length-set cs (f + i) (Some x), h.ends)
+
+      pub set_other : (i : ℕ) → n ≤ i → i - n < w → parts (slice_set cs (i - n) (Some x)) f n w ≡ slice_set (parts cs f n w) i x
+      set_other i all few =
+          let low = h.apart in
+          rw (run-set-below cs f n (i - n) (Some x) (omega arith), run-rewritten cs 0 w (i - n) (i - n) x (omega arith) few h.others) (sym (set-append_right (run cs f n) (run cs 0 w) n i x (length-run cs f n h.first) all))
+
+      pub has-set_other : (i : ℕ) → n ≤ i → i - n < w → HasParts (slice_set cs (i - n) (Some x)) f n w
+      has-set_other i all few =
+          let low = h.apart in
+          grind (arith, IsRun-set-below cs f n (i - n) (Some x) (omega arith) h.first, IsRun-rewritten cs 0 w (i - n) (i - n) x (omega arith) few h.others, length-set cs (i - n) (Some x), h.ends)
 
       -- the first item taken
       pub take_first : 0 < n → get_or cs f None ≡ Some x → x ∷ parts (slice_set cs f None) (f + 1) (n - 1) w ≡ parts cs f n w
@@ -165,6 +214,8 @@ pub ruleset counted = (nat_tests, length-parts)
 
 -- what each call wants
 pub ruleset read = (two_runs, counted)
+
+pub ruleset written_anew = (two_runs, length-parts, set_first, has-set_first, set_other, has-set_other)
 
 pub ruleset roomy = (apart, counted, in_line)
 

@@ -1,3 +1,5 @@
 pub mod Ringed
 pub mod RingInner
 pub mod Paid
+pub mod Lends
+pub mod Extending

@@ -1,5 +1,5 @@
 -- What contracts see of a ring.
-use Rattle.std.specs.Prelude.{◌≡◌, ℕ, ◌+◌, ◌-◌, ◌≤◌, List, [], length, nat_le, if◌then◌else◌}
+use Rattle.std.specs.Prelude.{ℕ, ◌+◌, ◌-◌, ◌≤◌, List, [], length, nat_le, if◌then◌else◌}
 use Rattle.allocator_api2.specs.Growth.{amortized, least_of}
 use Rattle.allocator_api2.specs.Room as Room
 use Rattle.allocator_api2.specs.declared.collections.TryReserveError.{TryReserveError}
@@ -23,7 +23,11 @@ module _ {T A : Type 0} where
   abbrev pub HasRoom : Ringed T A → ℕ → Type 0
   HasRoom r k = k ≤ r.capacity - length r.items
 
-  -- r with other items, after n were written
+  -- r with other items
+  abbrev pub with_items : Ringed T A → List T → Ringed T A
+  with_items r xs = record r { items = xs }
+
+  -- the same, after n were written
   abbrev pub wrote : Ringed T A → List T → (n : ℕ) → Ringed T A
   wrote r xs n = record r { items = xs; written = r.written + n }
 

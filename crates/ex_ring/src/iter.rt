@@ -1,13 +1,15 @@
 //! The items of a ring, one after the other.
-ghost use Rattle.std.specs.Prelude.{◌≡◌, length};
-ghost use Rattle.std.specs.Iterator.{at_most};
-ghost use Rattle.std.specs.Map.Iter.{TakesFirst, deref};
+ghost use Rattle.std.specs.Prelude.{◌≡◌, length, IfSome, Some};
+ghost use Rattle.std.specs.Iterator.{UpTo, YieldsFirst, YieldsLast, at_most, item_count};
+ghost use Rattle.std.specs.Iterator.SizeHint.{IsWithinCount};
+ghost use Rattle.std.specs.Map.Iter.{TakesFirst, TakesLast, deref};
 
 use crate::ring::Ring;
-use std::alloc::Allocator;
+use std::alloc::{Allocator, Global};
+use std::iter::FusedIterator;
 use std::marker::Model;
 
-/// The items that are left, lent in order. A contract sees them as a list.
+/// The items that are left, lent from either end. A contract sees them as a list.
 #[derive(Drop)]
 pub struct Iter<'a, T> {
     first: &'a [T],
@@ -15,11 +17,13 @@ pub struct Iter<'a, T> {
 }
 
 impl<'a, T> Model for Iter<'a, T> {
-    ghost use Rattle.std.specs.Prelude.{List, ◌++◌};
+    ghost use Rattle.std.specs.Prelude.{◌+◌, ◌^◌, ◌<◌, List, ◌++◌, length};
 
     ghost Value = { List T };
 
     ghost view = { λ i. i.first.now ++ i.others.now };
+
+    ghost invariant = { λ i. length i.first.now + length i.others.now < 2 ^ 64 };
 }
 
 impl<T, A: Allocator> Ring<T, A> {
@@ -27,6 +31,8 @@ impl<T, A: Allocator> Ring<T, A> {
     pub fn iter(&self) -> Iter<'_, T>
         ensures { result ≡ self.now.items }
     {
+        // It tells the prover that their number is one of `usize`.
+        let _len = self.len();
         let (first, others) = self.as_slices();
         Iter { first, others }
     }
@@ -53,4 +59,132 @@ impl<'a, T> Iterator for Iter<'a, T> {
         self.others = &others[1..];
         Some(&others[0])
     }
+
+    /// How many items are left, exactly.
+    fn size_hint(&self) -> (usize, Option<usize>)
+        ensures lower { IsWithinCount result.0 (at_most (length self.now)) }
+        ensures upper { IfSome result.1 (UpTo (at_most (length self.now))) }
+        ensures exact { result ≡ (length self.now, Some (length self.now)) }
+    {
+        let left = self.len();
+        (left, Some(left))
+    }
 }
+
+impl<'a, T> DoubleEndedIterator for Iter<'a, T> {
+    ghost next_back_gives = { TakesLast deref };
+
+    /// The last item, if one is left.
+    fn next_back(&mut self) -> Option<&'a T> {
+        let others = self.others;
+        if !others.is_empty() {
+            let last = others.len() - 1;
+            self.others = &others[..last];
+            return Some(&others[last]);
+        }
+        let first = self.first;
+        if first.is_empty() {
+            return None;
+        }
+        let last = first.len() - 1;
+        self.first = &first[..last];
+        Some(&first[last])
+    }
+}
+
+impl<'a, T> ExactSizeIterator for Iter<'a, T> {
+    fn len(&self) -> usize {
+        self.first.len() + self.others.len()
+    }
+}
+
+impl<'a, T> FusedIterator for Iter<'a, T> {}
+
+impl<'a, T, A: Allocator> IntoIterator for &'a Ring<T, A> {
+    type Item = &'a T;
+
+    type IntoIter = Iter<'a, T>;
+
+    ghost into_iter_gives = { λ ring i. i ≡ ring.now.items };
+
+    fn into_iter(self) -> Iter<'a, T> {
+        self.iter()
+    }
+}
+
+/// The items of a ring that are left, taken from either end. Its drop drops them in order and gives
+/// the memory back. A contract sees them as a list.
+#[derive(Drop)]
+pub struct IntoIter<T, A: Allocator = Global> {
+    rest: Ring<T, A>,
+}
+
+impl<T, A: Allocator> Model for IntoIter<T, A> {
+    ghost use Rattle.std.specs.Prelude.{List};
+
+    ghost Value = { List T };
+
+    ghost view = { λ i. i.rest.items };
+}
+
+impl<T, A: Allocator> Ring<T, A> {
+    /// The items, which come from either end of what this answers. It takes over the block and
+    /// takes no memory.
+    pub fn into_iter(self) -> IntoIter<T, A>
+        ensures { result ≡ self.items }
+    {
+        IntoIter { rest: self }
+    }
+}
+
+impl<T: Drop, A: Allocator> IntoIterator for Ring<T, A> {
+    type Item = T;
+
+    type IntoIter = IntoIter<T, A>;
+
+    ghost into_iter_gives = { λ ring i. i ≡ ring.items };
+
+    fn into_iter(self) -> IntoIter<T, A> {
+        Ring::into_iter(self)
+    }
+}
+
+impl<T: Drop, A: Allocator> Iterator for IntoIter<T, A> {
+    type Item = T;
+
+    ghost next_gives = { YieldsFirst (λ rest. rest) };
+
+    ghost remaining = { item_count (λ rest. rest) };
+
+    /// The next item, if one is left.
+    fn next(&mut self) -> Option<T> {
+        self.rest.pop_front()
+    }
+
+    /// How many items are left, exactly.
+    fn size_hint(&self) -> (usize, Option<usize>)
+        ensures lower { IsWithinCount result.0 (item_count (λ rest. rest) self.now) }
+        ensures upper { IfSome result.1 (UpTo (item_count (λ rest. rest) self.now)) }
+        ensures exact { result ≡ (length self.now, Some (length self.now)) }
+    {
+        let left = self.rest.len();
+        (left, Some(left))
+    }
+}
+
+impl<T: Drop, A: Allocator> DoubleEndedIterator for IntoIter<T, A> {
+    ghost next_back_gives = { YieldsLast (λ rest. rest) };
+
+    /// The last item, if one is left.
+    fn next_back(&mut self) -> Option<T> {
+        self.rest.pop_back()
+    }
+}
+
+impl<T: Drop, A: Allocator> ExactSizeIterator for IntoIter<T, A> {
+    fn len(&self) -> usize {
+        self.rest.len()
+    }
+}
+
+impl<T: Drop, A: Allocator> FusedIterator for IntoIter<T, A> {}

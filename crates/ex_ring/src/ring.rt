@@ -1,15 +1,21 @@
 //! `Ring`: a list that takes and gives at both ends.
-ghost use Rattle.std.specs.Prelude.{◌≡◌, ◌+◌, ◌-◌, ◌<◌, ◌≤◌, [], ◌∷◌, ◌++◌, length, take, drop, slice_get, option_copied, IfErr, OnErr, OnOk, IsOk, MatchOption};
+ghost use Rattle.std.specs.Prelude.{◌≡◌, ◌+◌, ◌-◌, ◌<◌, ◌≤◌, [], ◌∷◌, ◌++◌, length, take, drop, slice_get, option_copied, IfErr, IfOk, OnErr, OnOk, IsOk, IsTrue, MatchOption, ◌↔◌};
 ghost use Rattle.std.specs.Mem.{type_size};
 ghost use Rattle.allocator_api2.specs.Block.{with_places};
 ghost use Rattle.allocator_api2.specs.Growth.{sized};
 ghost use Rattle.allocator_api2.specs.Places.{IsRun, run};
+ghost use Rattle.allocator_api2.specs.Refusals.{RefusesBlock};
 ghost use Rattle.ex_ring.specs.Ringed.{empty, wrote, with_room, HasRoom, LacksRoom};
 
 use allocator_api2::collections::{Refused, TryReserveError};
 use allocator_api2::raw_vec::RawVec;
 use std::alloc::{Allocator, Global};
 use std::marker::Model;
+
+mod compare;
+mod lending;
+mod many;
+mod turns;
 
 /// A double-ended queue over the allocator `A`. It is a ring of places, and doubles where it has no
 /// free one.
@@ -43,8 +49,34 @@ impl<T, A: Allocator> Ring<T, A> {
     pub fn new_in(alloc: A) -> Self
         ensures { result ≡ empty (sized (type_size T.row) 0) Doubling alloc }
     {
+        Ring::over(RawVec::new_in(alloc))
+    }
+
+    /// No items, and room for exactly `capacity`. It takes memory where `capacity` is above 0 and
+    /// items have a size. A refusal is `CapacityOverflow`, or `AllocError` with this capacity.
+    #[tactic(auto, using(allocator_api2::proofs::Blocks::with_room))]
+    pub fn with_capacity_in(capacity: usize, alloc: A) -> Result<Self, TryReserveError>
+        ensures made { IfOk result
+            (λ r. r ≡ empty (sized (type_size T.row) capacity) Doubling alloc) }
+        ensures refused { IfErr result (RefusesBlock capacity (type_size T.row)) }
+    {
+        Ok(Ring::over(RawVec::with_capacity_in(capacity, alloc)?))
+    }
+
+    // A ring of none of the places of a block.
+    #[tactic(auto, using(allocator_api2::proofs::Blocks::with_room))]
+    fn over(block: RawVec<T, A>) -> Self
+        ensures { result ≡ record {
+          items = [];
+          capacity = length block.places;
+          growth = block.growth;
+          grown = block.grown;
+          written = block.written;
+          alloc = block.alloc;
+        } }
+    {
         Ring {
-            block: RawVec::new_in(alloc),
+            block,
             front: 0,
             count: 0,
             wrapped: 0,
@@ -58,6 +90,13 @@ impl<T, A: Allocator> Ring<T, A> {
     {
         self.block.known();
         self.count + self.wrapped
+    }
+
+    /// Whether there is no item.
+    pub fn is_empty(&self) -> bool
+        ensures { IsTrue result ↔ (self.now.items ≡ []) }
+    {
+        self.len() == 0
     }
 
     /// How many items there may be before memory is asked for; `usize::MAX` for items without size.
@@ -211,6 +250,20 @@ impl<T, A: Allocator> Ring<T, A> {
         }
         self.count -= 1;
         Some(self.block.take(self.front + self.count))
+    }
+
+    /// Drops all items, in order. The capacity stays.
+    #[tactic(auto, using(allocator_api2::proofs::Blocks::in_runs))]
+    pub fn clear(&mut self)
+    where
+        T: Drop,
+        ensures { self.new ≡ wrote self.old [] 0 }
+    {
+        self.block.drop_run(self.front, self.count);
+        self.block.drop_run(0, self.wrapped);
+        self.front = 0;
+        self.count = 0;
+        self.wrapped = 0;
     }
 
     /// Makes room for `additional` more items. Where they fit, it does nothing. Else it takes a new

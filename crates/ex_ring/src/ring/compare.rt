@@ -1,0 +1,117 @@
+//! Comparisons of rings: those of their items, one by one.
+ghost use Rattle.std.specs.Prelude.{◌≡◌};
+ghost use Rattle.std.specs.Cmp.{on_equiv, on_total, on_po, on_per};
+ghost use Rattle.std.specs.Cmp.Lexicographic.{pointwise, slice_cmp, slice_partial_cmp, lists_equiv, lists_agrees, lists_total, lists_ties, lists_po, lists_per};
+
+use crate::ring::Ring;
+use std::alloc::Allocator;
+use std::cmp::Ordering;
+
+/// Whether the items are equal, one by one, also of rings over different allocators.
+pub fn same<T: PartialEq, A: Allocator, B: Allocator>(left: &Ring<T, A>, right: &Ring<T, B>) -> bool
+    ensures { result ≡ pointwise T.eq left.now.items right.now.items }
+{
+    let mut items = left.iter();
+    let mut others = right.iter();
+    'each: loop {
+        match (items.next(), others.next()) {
+            (None, None) => return true,
+            (Some(item), Some(other)) => {
+                if *item != *other {
+                    return false;
+                }
+            }
+            _ => return false,
+        }
+    }
+}
+
+/// The order of the first items that are not equal, if they have one, or of the lengths where one
+/// ring begins the other.
+pub fn compared_in_part<T: PartialOrd, A: Allocator, B: Allocator>(
+    left: &Ring<T, A>,
+    right: &Ring<T, B>,
+) -> Option<Ordering>
+    ensures { result ≡ slice_partial_cmp T.partial_cmp left.now.items right.now.items }
+{
+    let mut items = left.iter();
+    let mut others = right.iter();
+    'each: loop {
+        match (items.next(), others.next()) {
+            (None, None) => return Some(Ordering::Equal),
+            (None, Some(_)) => return Some(Ordering::Less),
+            (Some(_), None) => return Some(Ordering::Greater),
+            (Some(item), Some(other)) => match item.partial_cmp(other) {
+                Some(Ordering::Equal) => {}
+                unequal => return unequal,
+            },
+        }
+    }
+}
+
+/// The order of the first items that are not equal, or of the lengths where one ring begins the
+/// other.
+pub fn compared<T: Ord, A: Allocator, B: Allocator>(
+    left: &Ring<T, A>,
+    right: &Ring<T, B>,
+) -> Ordering
+    ensures { result ≡ slice_cmp T.cmp left.now.items right.now.items }
+{
+    let mut items = left.iter();
+    let mut others = right.iter();
+    'each: loop {
+        match (items.next(), others.next()) {
+            (None, None) => return Ordering::Equal,
+            (None, Some(_)) => return Ordering::Less,
+            (Some(_), None) => return Ordering::Greater,
+            (Some(item), Some(other)) => match item.cmp(other) {
+                Ordering::Equal => {}
+                unequal => return unequal,
+            },
+        }
+    }
+}
+
+impl<T: PartialEq, A: Allocator> PartialEq for Ring<T, A> {
+    ghost eq = { λ left right. pointwise T.eq left.items right.items };
+
+    ghost laws = { on_per (λ r. r.items) (lists_per T.laws) };
+
+    /// Whether the items are equal, one by one.
+    fn eq(&self, other: &Self) -> bool {
+        same(self, other)
+    }
+}
+
+impl<T: Eq, A: Allocator> Eq for Ring<T, A> {
+    ghost laws = { on_equiv (λ r. r.items) (lists_equiv T.Eq.laws) };
+}
+
+impl<T: PartialOrd, A: Allocator> PartialOrd for Ring<T, A> {
+    ghost partial_cmp = { λ left right. slice_partial_cmp T.partial_cmp left.items right.items };
+
+    ghost laws = { on_po (λ r. r.items) (lists_po T.PartialOrd.laws) };
+
+    /// The order of the first items that are not equal, or of the lengths where one ring begins the
+    /// other.
+    fn partial_cmp(&self, other: &Self) -> Option<Ordering> {
+        compared_in_part(self, other)
+    }
+}
+
+impl<T: Ord, A: Allocator> Ord for Ring<T, A> {
+    ghost cmp = { λ left right. slice_cmp T.cmp left.items right.items };
+
+    ghost total = { on_total (λ r. r.items) (lists_total T.total) };
+
+    ghost matches_eq = { λ left right. lists_ties T.cmp T.matches_eq left.items right.items };
+
+    ghost matches_partial_cmp = { λ left right.
+        lists_agrees T.matches_partial_cmp left.items right.items };
+
+    /// The order of the first items that are not equal, or of the lengths where one ring begins the
+    /// other.
+    fn cmp(&self, other: &Self) -> Ordering {
+        compared(self, other)
+    }
+}
