@@ -1,11 +1,8 @@
--- What slots hold, by counts: no look-ups yet.
-use Rattle.ex_table.proofs.Common.{◌≡◌, ℕ, zero, suc, ◌+◌, ◌<◌, ◌≤◌, Bool, true, false, cond, List, [], ◌∷◌, ◌++◌, length, get_or, Some, None, refl, ap, arith, count_by, set, sum_by-cons, sum_by-set, set_value, value, Slot, Gone, Held, is_key, is_held, value_of, with_value, slot_at, entries_of, found}
+-- What entries hold, by counts: no look-ups yet.
+use Rattle.ex_table.proofs.Common.{◌≡◌, ℕ, zero, suc, ◌+◌, ◌<◌, ◌≤◌, Bool, true, false, cond, List, [], ◌∷◌, ◌++◌, length, get_or, Some, None, refl, ap, arith, count_by, set, slice_get, sum_by-cons, sum_by-set, set_value, value, keys_like, Entry, is_key, key_at, with_value, entries_of, found}
+use Rattle.std.proofs.lemmas.List.{length-map}
 use Rattle.std.proofs.lemmas.List.Sums.{sum_by-append, get_or-le-sum_by}
 use Rattle.std.specs.Cmp.{IsEquivalence}
-use Rattle.ex_table.specs.Contents.{keys_like}
-
-abbrev pub bit : Bool → ℕ
-bit b = cond b 1 0
 
 module _ {X : Type 0} (p : X → Bool) where
   pub count-cons : (x : X) (xs : List X) → count_by p (x ∷ xs) ≡ cond (p x) 1 0 + count_by p xs
@@ -25,72 +22,75 @@ module _ {X : Type 0} (p : X → Bool) where
   pub count-some : (d : X) (xs : List X) (i : ℕ) → i < length xs → p (get_or xs i d) ≡ true → 1 ≤ count_by p xs
   count-some d xs i h e = rw e at (get_or-le-sum_by (λ z. cond (p z) 1 0) xs i d h)
 
+  -- what passes one test passes another
+  pub count-le : (q : X → Bool) (xs : List X) → ((x : X) → p x ≡ true → q x ≡ true) → count_by p xs ≤ count_by q xs
+  count-le q [] h = omega arith
+  count-le q (x ∷ xs) h = grind (arith, count-le q xs h, h x, sum_by-cons (λ y. cond (p y) 1 0) x xs, sum_by-cons (λ y. cond (q y) 1 0) x xs)
+
 module _ {K V : Type 0} (eq : K → K → Bool) where
-  pub found-entries : (ss : List (Slot K V)) (k : K) → value eq (entries_of ss) k ≡ found eq ss k
+  pub found-entries : (es : List (Entry K V)) (k : K) → value eq (entries_of es) k ≡ found eq es k
   found-entries [] k = refl
-  found-entries (s ∷ ss) k = grind (arith, found-entries ss k)
+  found-entries (e ∷ es) k = grind (arith, found-entries es k)
 
-  pub keys-entries : (ss : List (Slot K V)) (k : K) → keys_like eq k (entries_of ss) ≡ count_by (is_key eq k) ss
+  pub keys-entries : (es : List (Entry K V)) (k : K) → keys_like eq k (entries_of es) ≡ count_by (is_key eq k) es
   keys-entries [] k = refl
-  keys-entries (Gone ∷ ss) k = omega (arith, keys-entries ss k, count-cons (is_key eq k) Gone ss)
-  keys-entries (Held q v ∷ ss) k = omega (arith, keys-entries ss k, count-cons (is_key eq k) (Held q v) ss, count-cons (λ (e : K × V). eq k e.0) (q, v) (entries_of ss))
+  keys-entries (e ∷ es) k = omega (arith, keys-entries es k, count-cons (is_key eq k) e es, count-cons (λ (e : K × V). eq k e.0) (e.key, e.value) (entries_of es))
 
-  pub length-entries : (ss : List (Slot K V)) → length (entries_of ss) ≡ count_by is_held ss
-  length-entries [] = refl
-  length-entries (s ∷ ss) = grind (arith, length-entries ss, count-cons is_held s ss)
-
-  pub found-absent : (ss : List (Slot K V)) (k : K) → count_by (is_key eq k) ss ≡ 0 → found eq ss k ≡ None
+  pub found-absent : (es : List (Entry K V)) (k : K) → count_by (is_key eq k) es ≡ 0 → found eq es k ≡ None
   found-absent [] k e = refl
-  found-absent (s ∷ ss) k e = grind (arith, found-absent ss k, count-cons (is_key eq k) s ss)
+  found-absent (e ∷ es) k n = grind (arith, found-absent es k, count-cons (is_key eq k) e es)
 
-  pub found-at : (ss : List (Slot K V)) (k : K) (i : ℕ) → i < length ss → is_key eq k (slot_at ss i) ≡ true → count_by (is_key eq k) ss ≤ 1 → found eq ss k ≡ value_of (slot_at ss i)
-  found-at [] k i h e c = absurd (omega arith)
-  found-at (s ∷ ss) k zero h e c = rw e
-  found-at (s ∷ ss) k (suc i) h e c = grind (arith, count-some (is_key eq k) Gone ss i (omega arith) e, found-at ss k i (omega arith) e, count-cons (is_key eq k) s ss)
+  -- where no entry has the key
+  pub nowhere : (es : List (Entry K V)) (k : K) → ((i : ℕ) → key_at eq k es i ≡ false) → count_by (is_key eq k) es ≡ 0
+  nowhere [] k h = refl
+  nowhere (e ∷ es) k h = grind (arith, nowhere es k (λ i. h (suc i)), h zero, count-cons (is_key eq k) e es)
 
-  pub found-set_other : (ss : List (Slot K V)) (i : ℕ) (s : Slot K V) (k : K) → i < length ss → is_key eq k (slot_at ss i) ≡ false → is_key eq k s ≡ false → found eq (set ss i s) k ≡ found eq ss k
-  found-set_other [] i s k h e f = absurd (omega arith)
-  found-set_other (t ∷ ss) zero s k h e f = rw (e, f)
-  found-set_other (t ∷ ss) (suc i) s k h e f = rw (found-set_other ss i s k (omega arith) e f)
+  pub somewhere : (es : List (Entry K V)) (k : K) (i : ℕ) (e : Entry K V) → slice_get es i ≡ Some e → is_key eq k e ≡ true → 1 ≤ count_by (is_key eq k) es
+  somewhere [] k i e at t = absurd cc
+  somewhere (x ∷ es) k zero e at t = grind (arith, count-cons (is_key eq k) x es)
+  somewhere (x ∷ es) k (suc i) e at t = omega (arith, somewhere es k i e at t, count-cons (is_key eq k) x es)
 
-  pub found-append : (xs ys zs : List (Slot K V)) (k : K) → found eq ys k ≡ found eq zs k → found eq (xs ++ ys) k ≡ found eq (xs ++ zs) k
+  pub found-at : (es : List (Entry K V)) (k : K) (i : ℕ) (e : Entry K V) → slice_get es i ≡ Some e → is_key eq k e ≡ true → count_by (is_key eq k) es ≤ 1 → found eq es k ≡ Some e.value
+  found-at [] k i e at t c = absurd cc
+  found-at (x ∷ es) k zero e at t c = grind arith
+  found-at (x ∷ es) k (suc i) e at t c = grind (arith, somewhere es k i e at t, found-at es k i e at t, count-cons (is_key eq k) x es)
+
+  pub found-set_other : (es : List (Entry K V)) (k : K) (i : ℕ) (e x : Entry K V) → slice_get es i ≡ Some e → is_key eq k e ≡ false → is_key eq k x ≡ false → found eq (set es i x) k ≡ found eq es k
+  found-set_other [] k i e x at n m = refl
+  found-set_other (y ∷ es) k zero e x at n m = grind arith
+  found-set_other (y ∷ es) k (suc i) e x at n m = grind (arith, found-set_other es k i e x at n m)
+
+  pub found-append : (xs ys zs : List (Entry K V)) (k : K) → found eq ys k ≡ found eq zs k → found eq (xs ++ ys) k ≡ found eq (xs ++ zs) k
   found-append [] ys zs k e = e
-  found-append (s ∷ xs) ys zs k e = rw (found-append xs ys zs k e)
+  found-append (x ∷ xs) ys zs k e = rw (found-append xs ys zs k e)
 
-  -- a key that is in none of the slots before
-  pub found-past : (xs ys : List (Slot K V)) (k : K) → count_by (is_key eq k) xs ≡ 0 → found eq (xs ++ ys) k ≡ found eq ys k
+  -- a key that is in none of the entries before
+  pub found-past : (xs ys : List (Entry K V)) (k : K) → count_by (is_key eq k) xs ≡ 0 → found eq (xs ++ ys) k ≡ found eq ys k
   found-past [] ys k e = refl
-  found-past (s ∷ xs) ys k e = grind (arith, found-past xs ys k, count-cons (is_key eq k) s xs)
-
-  pub key-held : (s : Slot K V) (k : K) → is_key eq k s ≡ true → is_held s ≡ true
-  key-held s k e = grind arith
-
-  -- the slot of a key with another value still has it
-  pub record Rewritten (k : K) (w : V) (s : Slot K V) : Type 0 where
-    pub key : is_key eq k s ≡ true
-    pub held : is_held s ≡ true
-    pub value : value_of s ≡ Some w
+  found-past (x ∷ xs) ys k e = grind (arith, found-past xs ys k, count-cons (is_key eq k) x xs)
 
   -- the entries with another value for a key
-  pub entries-written : (ss : List (Slot K V)) (k : K) (i : ℕ) (s : Slot K V) (v : V) → i < length ss → is_key eq k (slot_at ss i) ≡ true → count_by (is_key eq k) ss ≤ 1 → s ≡ slot_at ss i
-      → entries_of (set ss i (with_value s v)) ≡ set_value (eq k) (entries_of ss) v
-  entries-written [] k i s v h e c is = absurd (omega arith)
-  entries-written (t ∷ ss) k zero s v h e c is = grind (arith, is, e)
-  entries-written (t ∷ ss) k (suc i) s v h e c is = grind (arith, count-some (is_key eq k) Gone ss i (omega arith) e, entries-written ss k i s v (omega arith) e, count-cons (is_key eq k) t ss)
+  pub entries-written : (es : List (Entry K V)) (k : K) (i : ℕ) (e : Entry K V) (v : V) → slice_get es i ≡ Some e → is_key eq k e ≡ true → count_by (is_key eq k) es ≤ 1
+      → entries_of (set es i (with_value e v)) ≡ set_value (eq k) (entries_of es) v
+  entries-written [] k i e v at t c = absurd cc
+  entries-written (x ∷ es) k zero e v at t c = grind arith
+  entries-written (x ∷ es) k (suc i) e v at t c = grind (arith, somewhere es k i e at t, entries-written es k i e v at t, count-cons (is_key eq k) x es)
+
+  -- a new key behind the others, in the words of the table's users
+  pub value-push : (es : List (K × V)) (k : K) (v : V) → IsEquivalence eq → keys_like eq k es ≡ 0 → (q : K) → value eq (es ++ (k, v) ∷ []) q ≡ cond (eq q k) (Some v) (value eq es q)
+  value-push [] k v E n q = refl
+  value-push (e ∷ es) k v E n q = grind (arith, value-push es k v E, count-cons (λ (e : K × V). eq k e.0) e es, E.congr, E.symm)
 
   module _ (E : IsEquivalence eq) where
-    -- keys that are equal are in the same slots
-    pub alike : (q k : K) (s : Slot K V) → eq q k ≡ true → is_key eq q s ≡ is_key eq k s
-    alike q k s e = grind (arith, E.congr)
+    -- keys that are equal are in the same entries
+    alike : (q k : K) (x : Entry K V) → eq q k ≡ true → is_key eq q x ≡ is_key eq k x
+    alike q k x e = grind (arith, E.congr)
 
-    pub alike-count : (q k : K) (ss : List (Slot K V)) → eq q k ≡ true → count_by (is_key eq q) ss ≡ count_by (is_key eq k) ss
-    alike-count q k ss e = ap (λ p. count_by p ss) (λ i s. alike q k s e i)
+    pub alike-count : (q k : K) (es : List (Entry K V)) → eq q k ≡ true → count_by (is_key eq q) es ≡ count_by (is_key eq k) es
+    alike-count q k es e = ap (λ p. count_by p es) (λ i x. alike q k x e i)
 
-    pub alike-found : (q k : K) (ss : List (Slot K V)) → eq q k ≡ true → found eq ss q ≡ found eq ss k
+    pub alike-found : (q k : K) (es : List (Entry K V)) → eq q k ≡ true → found eq es q ≡ found eq es k
     alike-found q k [] e = refl
-    alike-found q k (s ∷ ss) e = rw (alike q k s e, alike-found q k ss e)
+    alike-found q k (x ∷ es) e = grind (arith, E.congr, alike-found q k es e)
 
-    pub one-key : (s : Slot K V) (q k : K) → is_key eq q s ≡ true → is_key eq k s ≡ true → eq q k ≡ true
-    one-key s q k e f = grind (arith, E.symm, E.congr)
-
-pub ruleset held_entries = (length-entries)
+pub ruleset counted = (length-map)

@@ -1,11 +1,9 @@
 -- Lanes of groups: what is found in a group, and what writes to one leave.
-use Rattle.ex_table.proofs.Common.{nat_tests, place_at, ◌≡◌, ◌≢◌, ℕ, zero, suc, ◌+◌, ◌-◌, ◌<◌, ◌≤◌, cond, List, [], ◌∷◌, length, refl, ◌∙◌, arith, inl, inr, get_or-set_same, get_or-set_other, count_by, set, length-set, sum_by-cons, sum_by-set, cases_eq, Group, tag_at, free, free_lanes, group_at, tag_of, home_of, after, group_of, IsAt}
-use Rattle.std.proofs.Common.{take}
-use Rattle.std.specs.Prelude.{Option, Some, None, IfNone, nat_lt, ◌==◌}
+use Rattle.ex_table.proofs.Common.{nat_tests, place_at, ◌≡◌, ◌≢◌, ℕ, zero, suc, ◌+◌, ◌-◌, ◌<◌, ◌≤◌, Bool, true, false, cond, List, [], ◌∷◌, length, nat_lt, take, refl, ◌∙◌, arith, inl, inr, get_or-set_same, get_or-set_other, count_by, set, length-set, sum_by-cons, sum_by-set, cases_eq, cases_lt, Group, Writes, tag_at, free, keyless, keyless_lanes, group_at, tag_of, home_of, after, group_of, IsAt}
+use Rattle.std.specs.Prelude.{Option, Some, None, IfNone, ◌==◌}
 use Rattle.std.proofs.lemmas.List.{get_or-take, length-take-le}
 use Rattle.std.proofs.Math.Seq.{take-set-lt}
-use Rattle.ex_table.proofs.Counts.{count-none, count-some, count-set}
-use Rattle.ex_table.specs.Groups.{Writes}
+use Rattle.ex_table.proofs.Counts.{count-none, count-some, count-set, count-le}
 
 module _ (g : Group) (long : length g.tags ≡ 16) where
   lanes : length (take 12 g.tags) ≡ 12
@@ -16,14 +14,35 @@ module _ (g : Group) (long : length g.tags ≡ 16) where
   none-free (Some l) h = tt
   none-free None h = count-none (λ t. t == 0) 0 (take 12 g.tags) (λ l b. grind (arith, nat_tests, lanes, get_or-take 12 g.tags l 0, h l))
 
-  -- where a lane has it, one is
+  -- where each lane has a key, none is keyless
+  pub none-keyless : (o : Option ℕ) → ((l : ℕ) → l < 12 → tag_at g l ≢ 0) → IfNone o ((l : ℕ) → l < 12 → tag_at g l ≢ 1) → IfNone o (keyless g ≡ 0)
+  none-keyless (Some l) f h = tt
+  none-keyless None f h = count-none (λ t. nat_lt t 2) 0 (take 12 g.tags) (λ l b. grind (arith, nat_tests, lanes, get_or-take 12 g.tags l 0, f l, h l))
+
+  -- where a lane passes a test, one does
+  some-lane : (p : ℕ → Bool) (l : ℕ) → l < 12 → p (tag_at g l) ≡ true → 0 < count_by p (take 12 g.tags)
+  some-lane p l b e = grind (arith, count-some p 0 (take 12 g.tags) l, lanes, get_or-take 12 g.tags l 0)
+
   pub one-free : (l : ℕ) → l < 12 → tag_at g l ≡ 0 → 0 < free g
-  one-free l b e = grind (arith, nat_tests, count-some (λ t. t == 0) 0 (take 12 g.tags) l, lanes, get_or-take 12 g.tags l 0)
+  one-free l b e = grind (arith, nat_tests, some-lane (λ t. t == 0) l)
+
+  pub one-keyless : (l : ℕ) → l < 12 → tag_at g l < 2 → 0 < keyless g
+  one-keyless l b e = grind (arith, nat_tests, some-lane (λ t. nat_lt t 2) l)
+
+  written : (p : ℕ → Bool) (lane t : ℕ) → lane < 12 → count_by p (take 12 (set g.tags lane t)) + cond (p (tag_at g lane)) 1 0 ≡ count_by p (take 12 g.tags) + cond (p t) 1 0
+  written p lane t l = grind (arith, take-set-lt 12 g.tags lane t l, get_or-take 12 g.tags lane 0 l, count-set p 0 (take 12 g.tags) lane t, lanes)
 
   pub free-written : (lane t : ℕ) → lane < 12 → count_by (λ x. x == 0) (take 12 (set g.tags lane t)) + cond (tag_at g lane == 0) 1 0 ≡ free g + cond (t == 0) 1 0
-  free-written lane t l = grind (arith, take-set-lt 12 g.tags lane t l, get_or-take 12 g.tags lane 0 l, count-set (λ x. x == 0) 0 (take 12 g.tags) lane t, lanes)
+  free-written = written (λ x. x == 0)
 
-  pub ruleset of_lanes = (get_or-set_same, get_or-set_other, free-written, one-free)
+  pub keyless-written : (lane t : ℕ) → lane < 12 → count_by (λ x. nat_lt x 2) (take 12 (set g.tags lane t)) + cond (nat_lt (tag_at g lane) 2) 1 0 ≡ keyless g + cond (nat_lt t 2) 1 0
+  keyless-written = written (λ x. nat_lt x 2)
+
+  pub ruleset of_lanes = (get_or-set_same, get_or-set_other, free-written, keyless-written, one-free, one-keyless)
+
+-- a free lane has no key
+pub closed : (g : Group) → keyless g ≡ 0 → free g ≡ 0
+closed g none = grind (arith, count-le (λ t. t == 0) (λ t. nat_lt t 2) (take 12 g.tags) (λ t e. grind (arith, nat_tests)))
 
 -- a lane of a group was written
 module _ (gs : List Group) (at : ℕ) (new : Group) (within : at < length gs) where
@@ -37,7 +56,7 @@ module _ (gs : List Group) (at : ℕ) (new : Group) (within : at < length gs) wh
   elsewhere : (hash s : ℕ) → way hash s ≢ at → group_of (set gs at new) hash s ≡ group_of gs hash s
   elsewhere hash s ne = rw (length-set gs at new) (get_or-set_other gs at (way hash s) new (record { tags = []; places = [] }) ne)
 
-  -- what is found is found, where the lane named another slot or none
+  -- what is found is found, where the lane named another entry or none
   pub kept : (lane t p : ℕ) → Writes (group_at gs at) lane t p new → (free (group_at gs at) ≡ 0 → free new ≡ 0)
       → (hash i : ℕ) → (x : IsAt gs hash i)
       → (tag_at (group_at gs at) lane ≡ tag_of hash → place_at (group_at gs at) lane ≡ i → ⊥)
@@ -54,28 +73,42 @@ module _ (gs : List Group) (at : ℕ) (new : Group) (within : at < length gs) wh
         passes = λ s l. grind (arith, there hash s, elsewhere hash s, stays, x.passes s l);
       }
 
-  -- the slot is named by a lane of the first group on the way with a free one
+  -- the entry is named by a lane of the first group on the way that is not like those before it
   pub placed : (hash i step lane : ℕ) → step < length gs → lane < 12 → Writes (group_at gs at) lane (tag_of hash) i new
-      → way hash step ≡ at → 0 < free (group_at gs at)
+      → way hash step ≡ at → ((s : ℕ) → s < step → way hash s ≢ at)
       → ((s : ℕ) → s < step → free (group_of gs hash s) ≡ 0) → IsAt (set gs at new) hash i
-  placed hash i step lane l in_group w e some full = record {
+  placed hash i step lane l in_group w e first full = record {
     steps = step;
     lane = lane;
     within = omega (arith, length-set gs at new);
     in_group = in_group;
     tag = rw (there hash step e) w.tag;
     place = rw (there hash step e) w.place;
-    passes = λ s b. grind (arith, elsewhere hash s, full s b);
+    passes = λ s b. grind (arith, elsewhere hash s (first s b), full s b);
   }
 
-sum-none : (gs : List Group) → ((j : ℕ) → j < length gs → free (group_at gs j) ≡ 0) → free_lanes gs ≡ 0
+sum-none : (gs : List Group) → ((j : ℕ) → j < length gs → keyless (group_at gs j) ≡ 0) → keyless_lanes gs ≡ 0
 sum-none [] h = refl
-sum-none (g ∷ gs) h = omega (arith, sum_by-cons free g gs, h zero, sum-none gs (λ j l. h (suc j) (omega arith)))
+sum-none (g ∷ gs) h = omega (arith, sum_by-cons keyless g gs, h zero, sum-none gs (λ j l. h (suc j) (omega arith)))
 
--- where all groups on the way are full, no lane is free
-pub all-full : (gs : List Group) (hash step : ℕ) → length gs ≤ step → home_of (length gs) hash < length gs → ((s : ℕ) → s < step → free (group_of gs hash s) ≡ 0) → free_lanes gs ≡ 0
+-- where all lanes of the groups on the way have keys, all lanes have
+pub all-full : (gs : List Group) (hash step : ℕ) → length gs ≤ step → home_of (length gs) hash < length gs → ((s : ℕ) → s < step → keyless (group_of gs hash s) ≡ 0) → keyless_lanes gs ≡ 0
 all-full gs hash step l within full = sum-none gs (λ j b.
     let home : ℕ = home_of (length gs) hash in
     let s : ℕ = cond (nat_lt j home) (j + length gs - home) (j - home) in
     let e : after (length gs) home s ≡ j = grind (arith, nat_tests) in
     rw e at (full s (grind (arith, nat_tests))))
+
+-- no lane of a group names the entry for the hash
+abbrev pub NamesNot : Group → (hash i : ℕ) → Type 0
+NamesNot g hash i = (l : ℕ) → l < 12 → tag_at g l ≡ tag_of hash → place_at g l ≢ i
+
+-- the entry is no nearer than the groups that do not name it
+pub as_far : (gs : List Group) (hash i step : ℕ) (x : IsAt gs hash i) → ((s : ℕ) → s < step → NamesNot (group_of gs hash s) hash i) → step ≤ x.steps
+as_far gs hash i step x not = elim (cases_lt x.steps step) [ inl l ↦ absurd (not x.steps l x.lane x.in_group x.tag x.place) | inr r ↦ omega (arith, r) ]
+
+-- nor does the next group
+pub names_more : (gs : List Group) (hash i : ℕ) {at t n : ℕ} → t ≡ tag_of hash → at ≡ after (length gs) (home_of (length gs) hash) n
+    → ((l : ℕ) → l < 12 → tag_at (group_at gs at) l ≡ t → place_at (group_at gs at) l ≢ i)
+    → ((s : ℕ) → s < n → NamesNot (group_of gs hash s) hash i) → (s : ℕ) → s < n + 1 → NamesNot (group_of gs hash s) hash i
+names_more gs hash i {at} {t} {n} tag way here before s b = elim (cases_eq s n) [ inl e ↦ rw (e, ← way, ← tag) here | inr ne ↦ before s (omega (arith, b, ne)) ]

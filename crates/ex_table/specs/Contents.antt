@@ -1,15 +1,14 @@
 -- What a table holds for its users, and how much room it makes.
-use Rattle.std.specs.Prelude.{◌≡◌, ℕ, ◌+◌, ◌-◌, ◌*◌, ◌/◌, ◌<◌, ◌≤◌, nat_lt, Bool, cond, if◌then◌else◌, List, count_by, Option}
+use Rattle.std.specs.Prelude.{◌≡◌, ℕ, ◌+◌, ◌-◌, ◌≤◌, nat_le, Bool, cond, if◌then◌else◌, List, length, count_by, Option}
 use Rattle.std.specs.Map.{lookup}
-use Rattle.allocator_api2.specs.Refusals.{IsRefusedAt}
-use Rattle.allocator_api2.specs.declared.collections.TryReserveError.{TryReserveError}
-use Rattle.allocator_api2.specs.declared.collections.TryReserveErrorKind.TheVariants.{CapacityOverflow}
+use Rattle.allocator_api2.specs.Growth.{amortized}
+use Rattle.allocator_api2.specs.declared.raw_vec.Growth.TheVariants.{Doubling}
 
--- the keys with their values in the order of `iter`, how many new keys surely find a place without
--- memory, and what makes the hashers
+-- the keys with their values in the order of `iter`, for how many keys there is room without memory,
+-- and what makes the hashers
 pub record Filled (K V S : Type 0) : Type 0 where
   pub entries : List (K × V)
-  pub room : ℕ
+  pub capacity : ℕ
   pub builder : S
 
 module _ {K V : Type 0} (eq : K → K → Bool) where
@@ -25,10 +24,6 @@ module _ {K V : Type 0} (eq : K → K → Bool) where
   abbrev pub Sets : List (K × V) → K → Option V → List (K × V) → Type 0
   Sets es k o new = (q : K) → value new q ≡ cond (eq q k) o (value es q)
 
-  -- all keys have the values that they had
-  abbrev pub SameMap : List (K × V) → List (K × V) → Type 0
-  SameMap es new = (q : K) → value new q ≡ value es q
-
   -- no key is there twice
   abbrev pub IsMap : List (K × V) → Type 0
   IsMap es = (k : K) → keys_like k es ≤ 1
@@ -37,18 +32,14 @@ module _ {K V : Type 0} (eq : K → K → Bool) where
 abbrev pub most_keys : ℕ
 most_keys = 2_000_000_000
 
--- for how many keys there is room in a table that is made anew for n: for more than twice as many
-abbrev pub asked_for : (n : ℕ) → ℕ
-asked_for n = 8 * (n / 4 + 1)
+module _ {K V S : Type 0} where
+  -- there is room for k new keys
+  abbrev pub HasRoom : Filled K V S → (k : ℕ) → Type 0
+  HasRoom f k = k ≤ f.capacity - length f.entries
 
--- for how many new keys there is room, beside n keys, once there is room for at least k: no more
--- than before where that was enough
-abbrev pub room_for : (n room k : ℕ) → ℕ
-room_for n room k = if nat_lt room k then asked_for (n + k) - n else room
-
--- k new keys found no room beside n keys, and a table with room for `asked_for (n + k)` was refused
--- with this error
-pub record LacksRoom (n room k : ℕ) (error : TryReserveError) : Type 0 where
-  pub full : room < k
-  pub number : IsRefusedAt error (asked_for (n + k))
-  pub overflow : most_keys < n + k → error.kind ≡ CapacityOverflow
+  -- for how many keys there is room, once there is room for k new ones: for no more than before
+  -- where that was enough, else for twice as many, for all that there would be, or for 8
+  abbrev pub capacity_for : Filled K V S → (k : ℕ) → ℕ
+  capacity_for f k =
+      let n = length f.entries in
+      if nat_le k (f.capacity - n) then f.capacity else amortized Doubling f.capacity (n + k) 8

@@ -22,6 +22,6 @@ lends_value K V S A H g b w a t key r =
     V t r
     (λ x. record {
       entries = set_value (g.eq key) t.now.entries x;
-      room = t.now.room;
+      capacity = t.now.capacity;
       builder = t.now.builder;
     }) t.now

@@ -1,5 +1,5 @@
 pub mod Groups
-pub mod Slots
+pub mod Entries
 pub mod Contents
 pub mod Inside
 pub mod Lends

@@ -1,7 +1,7 @@
-//! Groups of lanes: where a hash is looked for. A lane has a part of a hash, and the slot of the
-//! key that has it; all lanes of a group are asked at once.
-ghost use Rattle.std.specs.Prelude.{◌≡◌, ◌≢◌, ℕ, ◌+◌, ◌*◌, ◌<◌, ◌≤◌, Bool, true, false, length, replicate, IfOk, IfSome, IfNone, ◌==◌};
-ghost use Rattle.ex_table.specs.Groups.{tag_at, place_at, free, free_lanes, empty_group, tag_of, home_of, after, group_at, groups_of, Writes, IsAt};
+//! Groups of lanes: where a hash is looked for. A lane has a part of a hash, and the number of the
+//! entry that has it; all lanes of a group are asked at once.
+ghost use Rattle.std.specs.Prelude.{◌≡◌, ◌≢◌, ℕ, ◌+◌, ◌*◌, ◌/◌, ◌<◌, ◌≤◌, true, length, replicate, IfOk, IfSome, IfNone, ◌==◌};
+ghost use Rattle.ex_table.specs.Groups.{tag_at, place_at, free, keyless, keyless_lanes, empty_group, tag_of, home_of, after, group_at, groups_of, Writes, IsAt};
 
 use allocator_api2::collections::TryReserveError;
 use allocator_api2::vec::Vec;
@@ -18,11 +18,11 @@ pub const KEYS_OF_GROUP: usize = 8;
 // No key has the lane, and no look-up has to go on because of it.
 const FREE: u8 = 0;
 
-// The lane's key is gone, and look-ups go on past its group.
+// The lane's key is gone, and look-ups go on past its group. A new key takes it again.
 const GONE: u8 = 1;
 
-/// Twelve lanes, each with a tag and the number of a slot. The last four tags are of no lane: with
-/// them the tags are as many as are compared at once, and a group has 64 bytes.
+/// Twelve lanes, each with a tag and the number of an entry. The last four tags are of no lane:
+/// with them the tags are as many as are compared at once, and a group has 64 bytes.
 #[derive(Clone, Copy)]
 pub struct Group {
     tags: [u8; 16],
@@ -67,6 +67,20 @@ impl Group {
         self.lane_of(FREE)
     }
 
+    /// A lane that no key has: a free one, or one whose key is gone.
+    #[tactic(auto, using(crate::proofs::Lanes::of_lanes))]
+    #[inline(always)]
+    pub fn keyless_lane(&self) -> Option<usize>
+        ensures some { IfSome result (λ l. (l < 12) × (tag_at self.now l < 2)) }
+        ensures any { IfSome result (λ _. 0 < keyless self.now) }
+        ensures none { IfNone result (keyless self.now ≡ 0) }
+    {
+        match self.lane_of(FREE) {
+            Some(lane) => Some(lane),
+            None => self.lane_of(GONE),
+        }
+    }
+
     /// Whether the lane has this tag.
     #[inline(always)]
     pub fn has_tag(&self, lane: usize, tag: u8) -> bool
@@ -76,13 +90,49 @@ impl Group {
         self.tags[lane] == tag
     }
 
-    /// The slot that the lane names.
+    /// The entry that the lane names.
     #[inline(always)]
     pub fn place(&self, lane: usize) -> usize
         requires { lane < 12 }
         ensures { result ≡ place_at self.now lane }
     {
         self.places[lane] as usize
+    }
+
+    // The lane that has this tag and names this entry, lane by lane.
+    #[cold]
+    #[inline(never)]
+    fn naming_by_lane(&self, tag: u8, place: usize) -> Option<usize>
+        ensures some { IfSome result (λ l. (l < 12) × (tag_at self.now l ≡ tag)
+            × (place_at self.now l ≡ place)) }
+        ensures none { IfNone result ((l : ℕ) → l < 12 → tag_at self.now l ≡ tag
+            → place_at self.now l ≢ place) }
+    {
+        'each: for lane in 0..LANES {
+            if self.has_tag(lane, tag) && self.place(lane) == place {
+                return Some(lane);
+            }
+        }
+        None
+    }
+
+    // The lane that has this tag and names this entry. Mostly it is the first with the tag.
+    #[inline(always)]
+    fn lane_naming(&self, tag: u8, place: usize) -> Option<usize>
+        ensures some { IfSome result (λ l. (l < 12) × (tag_at self.now l ≡ tag)
+            × (place_at self.now l ≡ place)) }
+        ensures none { IfNone result ((l : ℕ) → l < 12 → tag_at self.now l ≡ tag
+            → place_at self.now l ≢ place) }
+    {
+        match self.lane_of(tag) {
+            Some(lane) => {
+                if self.place(lane) == place {
+                    return Some(lane);
+                }
+                self.naming_by_lane(tag, place)
+            }
+            None => None,
+        }
     }
 
     /// Writes a lane.
@@ -97,12 +147,12 @@ impl Group {
     }
 }
 
-/// The part of a hash that a lane has. It is never that of a free lane.
+/// The part of a hash that a lane has. It is never that of a lane without a key.
 #[inline(always)]
 pub fn tag(hash: u64) -> u8
     ensures { result ≡ tag_of hash }
 {
-    ((hash & 255) as u8).max(1)
+    ((hash & 255) as u8).max(2)
 }
 
 /// The group at which a hash is looked for first.
@@ -152,21 +202,19 @@ pub fn empty_groups<A: Allocator>(count: usize, alloc: A) -> Result<Vec<Group, A
     Ok(made)
 }
 
-/// Frees all lanes, and answers for how many keys there is room.
-pub fn clear_all(groups: &mut [Group]) -> usize
-    ensures free { groups.new ≡ replicate (length groups.old) empty_group }
-    ensures room { result ≡ 8 * length groups.old }
+/// Frees all lanes.
+pub fn clear_all(groups: &mut [Group])
+    ensures { groups.new ≡ replicate (length groups.old) empty_group }
 {
     groups.fill_with(|| Group::empty());
-    KEYS_OF_GROUP * groups.len()
 }
 
-/// Names the slot in the first free lane on the way of the hash.
+/// Names the entry in the first lane without a key on the way of the hash.
 #[inline(always)]
 pub fn put(groups: &mut [Group], hash: u64, place: u32)
-    requires { 0 < free_lanes groups.old }
+    requires { 0 < keyless_lanes groups.old }
     ensures len { length groups.new ≡ length groups.old }
-    ensures free { free_lanes groups.new + 1 ≡ free_lanes groups.old }
+    ensures keyless { keyless_lanes groups.new + 1 ≡ keyless_lanes groups.old }
     ensures at { IsAt groups.new hash place }
     ensures others { (h i : ℕ) → IsAt groups.old h i → IsAt groups.new h i }
 {
@@ -175,7 +223,7 @@ pub fn put(groups: &mut [Group], hash: u64, place: u32)
     let from = home(hash, count);
     'each: for step in 0..count {
         let at = group_after(from, step, count);
-        if let Some(lane) = groups[at].free_lane() {
+        if let Some(lane) = groups[at].keyless_lane() {
             groups[at].write(lane, tag, place);
             return;
         }
@@ -183,37 +231,44 @@ pub fn put(groups: &mut [Group], hash: u64, place: u32)
     unreachable!()
 }
 
-// Frees a lane. Where its group is full, look-ups went past it, and go on doing so.
+/// Takes the key from a lane, and answers whether look-ups still go on past it: they went past its
+/// group where that is full, and go on doing so.
 #[inline(always)]
-fn release(groups: &mut [Group], at: usize, lane: usize)
+pub fn release(groups: &mut [Group], at: usize, lane: usize) -> bool
     requires at { at < length groups.old }
     requires lane { lane < 12 }
+    requires held { 2 ≤ tag_at (group_at groups.old at) lane }
     ensures len { length groups.new ≡ length groups.old }
-    ensures free { free_lanes groups.old ≤ free_lanes groups.new }
+    ensures keyless { keyless_lanes groups.new ≡ keyless_lanes groups.old + 1 }
     ensures others { (h i : ℕ) → i ≢ place_at (group_at groups.old at) lane
         → IsAt groups.old h i → IsAt groups.new h i }
 {
     let group = &groups[at];
     let place = group.places[lane];
-    let tag = if group.free_lane().is_some() {
-        FREE
-    } else {
-        GONE
-    };
+    let full = group.free_lane().is_none();
+    let tag = if full { GONE } else { FREE };
     groups[at].write(lane, tag, place);
+    full
 }
 
-/// Frees a lane of a table's groups.
+/// Lets the lane that names an entry on the way of the hash name another.
 #[inline(always)]
-pub fn release_in<A: Allocator>(groups: &mut Option<Vec<Group, A>>, at: usize, lane: usize)
-    requires at { at < length (groups_of groups.old) }
-    requires lane { lane < 12 }
-    ensures len { length (groups_of groups.new) ≡ length (groups_of groups.old) }
-    ensures free { free_lanes (groups_of groups.old) ≤ free_lanes (groups_of groups.new) }
-    ensures others { (h i : ℕ) → i ≢ place_at (group_at (groups_of groups.old) at) lane
-        → IsAt (groups_of groups.old) h i → IsAt (groups_of groups.new) h i }
+pub fn rename(groups: &mut [Group], hash: u64, old: usize, new: u32)
+    requires { IsAt groups.old hash old }
+    ensures len { length groups.new ≡ length groups.old }
+    ensures keyless { keyless_lanes groups.new ≡ keyless_lanes groups.old }
+    ensures at { IsAt groups.new hash new }
+    ensures others { (h i : ℕ) → i ≢ old → IsAt groups.old h i → IsAt groups.new h i }
 {
-    if let Some(made) = groups {
-        release(made.as_mut_slice(), at, lane);
+    let count = groups.len();
+    let tag = tag(hash);
+    let from = home(hash, count);
+    'each: for step in 0..count {
+        let at = group_after(from, step, count);
+        if let Some(lane) = groups[at].lane_naming(tag, old) {
+            groups[at].write(lane, tag, new);
+            return;
+        }
     }
+    unreachable!()
 }

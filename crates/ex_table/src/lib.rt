@@ -2,10 +2,10 @@
 //! library.
 #![tactic(auto)]
 
+pub mod entries;
 pub mod groups;
 pub mod growth;
 pub mod iter;
-pub mod slots;
 pub mod table;
 #[cfg(test)]
 mod tests;

@@ -1,28 +1,36 @@
 //! The table: a finite map from keys to values, by the keys' own equality.
-ghost use Rattle.std.specs.Prelude.{◌≡◌, ◌+◌, ◌-◌, ◌<◌, ◌≤◌, [], None, Some, IfOk, IfErr, OnOk, OnErr, IsOk, option_copied, is_some, true, false, length, ◌==◌};
+ghost use Rattle.std.specs.Prelude.{◌≡◌, ◌+◌, ◌-◌, ◌<◌, ◌≤◌, [], ◌∷◌, ◌++◌, None, Some, IfOk, IfErr, OnOk, OnErr, IsOk, IsSome, option_copied, is_some, map, max, if◌then◌else◌, true, false, length, ◌==◌, count_by};
 ghost use Rattle.std.specs.Borrow.{sem};
 ghost use Rattle.std.specs.Option.{option_copied_mut};
-ghost use Rattle.ex_table.specs.Contents.{value, Sets, SameMap, IsMap, LacksRoom, room_for};
+ghost use Rattle.allocator_api2.specs.declared.collections.TryReserveErrorKind.TheVariants.{AllocError, CapacityOverflow};
+ghost use Rattle.allocator_api2.specs.Room.{LacksRoom};
+ghost use Rattle.ex_table.specs.Contents.{value, keys_like, Sets, IsMap, HasRoom, capacity_for, most_keys};
+ghost use Rattle.ex_table.specs.Entries.{hashes};
 
-use crate::groups::{Group, clear_all, groups_in, release_in};
-use crate::growth::{make_room, put_new};
-use crate::iter::Iter;
-use crate::slots::{Slot, find};
-use allocator_api2::collections::{Refused, TryReserveError};
+use crate::entries::{Entry, find, hash_of, name_all, unname};
+use crate::groups::{Group, clear_all, groups_in, put};
+use crate::growth::{grow, shrink};
+use crate::iter::{IntoIter, Iter, Keys, Values};
+use allocator_api2::collections::{Refused, TryReserveError, TryReserveErrorKind};
 use allocator_api2::vec::Vec;
 use std::alloc::Allocator;
 use std::hash::{BuildHasher, BuildHasherDefault, FoldHasher, Hash};
 use std::marker::Model;
 use std::mem;
+use std::ops::Index;
 
-/// A hash table. A contract sees its keys with their values, the room for new keys, and what makes
-/// the hashers.
+// No table makes room for more keys, so that the number of each entry has 32 bits.
+const MOST_KEYS: usize = 2_000_000_000;
+
+/// A hash table. A contract sees its keys with their values, for how many keys there is room, and
+/// what makes the hashers.
 pub struct Table<K: Eq + Hash, V, S: BuildHasher, A: Allocator> {
-    slots: Vec<Slot<K, V>, A>,
+    entries: Vec<Entry<K, V>, A>,
     groups: Option<Vec<Group, A>>,
     builder: S,
-    len: usize,
-    room: usize,
+    capacity: usize,
+    // how many lanes without a key look-ups have to go past, at most
+    passed: usize,
 }
 
 impl<K: Eq + Hash, V, S: BuildHasher, A: Allocator> Model for Table<K, V, S, A> {
@@ -30,26 +38,26 @@ impl<K: Eq + Hash, V, S: BuildHasher, A: Allocator> Model for Table<K, V, S, A> 
 
     ghost Value = { Filled K V S };
 
-    ghost use Rattle.ex_table.specs.Slots.{hashes, IsTable};
+    ghost use Rattle.ex_table.specs.Entries.{hashes, IsTable};
     ghost use Rattle.ex_table.specs.Inside.{filled_in};
     ghost use Rattle.ex_table.specs.Groups.{groups_of};
 
-    ghost view = { λ t. filled_in t.builder t.slots.items t.room };
+    ghost view = { λ t. filled_in t.builder t.entries.items t.capacity };
 
     ghost invariant = { λ t. IsTable K.eq (hashes S.BuildHasher S.Hasher.Hasher K.hash_input t.builder)
-        t.slots (groups_of t.groups) t.len t.room };
+        t.entries (groups_of t.groups) t.capacity };
 }
 
 impl<K: Eq + Hash + Drop, V: Drop, S: BuildHasher + Drop, A: Allocator> Drop for Table<K, V, S, A> {
     fn drop(self) {
         let Table {
-            slots,
+            entries,
             groups,
             builder,
-            len: _,
-            room: _,
+            capacity: _,
+            passed: _,
         } = self;
-        drop(slots);
+        drop(entries);
         drop(groups);
         drop(builder);
     }
@@ -64,9 +72,23 @@ impl<K: Eq + Hash + Drop, V: Drop, A: Allocator + Clone> Table<
     /// A table with no keys, by the toolchain's hasher. It takes no memory.
     pub fn new_in(alloc: A) -> Self
         ensures entries { result.entries ≡ [] }
-        ensures room { result.room ≡ 0 }
+        ensures capacity { result.capacity ≡ 0 }
     {
         Table::with_hasher_in(BuildHasherDefault::new(), alloc)
+    }
+
+    /// A table with no keys, and room for so many, by the toolchain's hasher. It is refused as
+    /// `reserve` is.
+    pub fn with_capacity_in(capacity: usize, alloc: A) -> Result<Self, TryReserveError>
+        ensures entries { IfOk result (λ t. t.entries ≡ []) }
+        ensures room { IfOk result (λ t. capacity ≤ t.capacity) }
+        ensures made { IfOk result
+            (λ t. t.capacity ≡ if capacity == 0 then 0 else max capacity 8) }
+        ensures lacks { IfErr result (LacksRoom 0 0 capacity (max capacity 8)) }
+    {
+        let mut table = Table::new_in(alloc);
+        table.reserve(capacity)?;
+        Ok(table)
     }
 }
 
@@ -75,38 +97,48 @@ impl<K: Eq + Hash + Drop, V: Drop, S: BuildHasher, A: Allocator + Clone> Table<K
 
     /// A table with no keys, whose hashers this builder makes. It takes no memory.
     pub fn with_hasher_in(builder: S, alloc: A) -> Self
-        ensures { result ≡ record { entries = []; room = 0; builder = builder } }
+        ensures { result ≡ record { entries = []; capacity = 0; builder = builder } }
     {
         Table {
-            slots: Vec::new_in(alloc),
+            entries: Vec::new_in(alloc),
             groups: None,
             builder,
-            len: 0,
-            room: 0,
+            capacity: 0,
+            passed: 0,
         }
     }
 
     /// How many keys there are. No key is there twice.
-    #[tactic(auto, using(crate::proofs::Counts::held_entries))]
+    #[tactic(auto, using(crate::proofs::Counts::counted))]
     pub fn len(&self) -> usize
-        ensures len { result ≡ length self.now.entries }
+        ensures count { result ≡ length self.now.entries }
         ensures once { IsMap K.eq self.now.entries }
+        ensures within { result ≤ self.now.capacity }
     {
-        self.len
+        self.entries.len()
     }
 
-    /// Whether there are no keys.
+    /// Whether there is no key.
+    #[tactic(auto, using(crate::proofs::Counts::counted))]
     pub fn is_empty(&self) -> bool
         ensures { result ≡ (length self.now.entries == 0) }
     {
-        self.len() == 0
+        self.entries.len() == 0
     }
 
-    /// How many new keys surely find a place without memory.
-    pub fn room(&self) -> usize
-        ensures { result ≡ self.now.room }
+    /// For how many keys there is room, those that are there with them.
+    pub fn capacity(&self) -> usize
+        ensures { result ≡ self.now.capacity }
     {
-        self.room
+        self.capacity
+    }
+
+    /// For how many new keys there is room: so many inserts take no memory.
+    #[tactic(auto, using(crate::proofs::Counts::counted))]
+    pub fn room(&self) -> usize
+        ensures { result ≡ self.now.capacity - length self.now.entries }
+    {
+        self.capacity - self.entries.len()
     }
 
     /// The value of a key.
@@ -114,13 +146,9 @@ impl<K: Eq + Hash + Drop, V: Drop, S: BuildHasher, A: Allocator + Clone> Table<K
     pub fn get(&self, key: &K) -> Option<&V>
         ensures { option_copied result ≡ value K.eq self.now.entries key.now }
     {
-        match find(
-            groups_in(&self.groups),
-            self.slots.as_slice(),
-            &self.builder,
-            key,
-        ) {
-            Some(spot) => self.slots[spot.slot].value(),
+        let hash = hash_of(&self.builder, key);
+        match find(groups_in(&self.groups), self.entries.as_slice(), hash, key) {
+            Some(spot) => Some(&self.entries[spot.place].value),
             None => None,
         }
     }
@@ -140,13 +168,9 @@ impl<K: Eq + Hash + Drop, V: Drop, S: BuildHasher, A: Allocator + Clone> Table<K
             K.Hash S.BuildHasher S.Hasher.Hasher A.Allocator self.entry key.now result) }
         ensures value { option_copied_mut result ≡ value K.eq self.old.entries key.now }
     {
-        match find(
-            groups_in(&self.groups),
-            self.slots.as_slice(),
-            &self.builder,
-            key,
-        ) {
-            Some(spot) => Some(self.slots[spot.slot].value_mut()),
+        let hash = hash_of(&self.builder, key);
+        match find(groups_in(&self.groups), self.entries.as_slice(), hash, key) {
+            Some(spot) => Some(self.entries[spot.place].value_mut()),
             None => None,
         }
     }
@@ -156,7 +180,49 @@ impl<K: Eq + Hash + Drop, V: Drop, S: BuildHasher, A: Allocator + Clone> Table<K
         ensures { result ≡ self.now.entries }
     {
         Iter {
-            slots: self.slots.as_slice(),
+            rest: self.entries.as_slice(),
+        }
+    }
+
+    /// The keys, in the order of `iter`.
+    pub fn keys(&self) -> Keys<'_, K, V>
+        ensures { result ≡ map (λ e. e.0) self.now.entries }
+    {
+        Keys { rest: self.iter() }
+    }
+
+    /// The values, in the order of `iter`.
+    pub fn values(&self) -> Values<'_, K, V>
+        ensures { result ≡ map (λ e. e.1) self.now.entries }
+    {
+        Values { rest: self.iter() }
+    }
+
+    // Puts a new key behind the others.
+    #[inline(always)]
+    fn push(&mut self, hash: u64, key: K, item: V)
+        requires hash { hash ≡ hashes S.BuildHasher S.Hasher.Hasher K.hash_input self.old.builder key }
+        requires room { HasRoom self.old 1 }
+        requires absent { keys_like K.eq key self.old.entries ≡ 0 }
+        ensures { self.new ≡ record {
+          entries = self.old.entries ++ (key, item) ∷ [];
+          capacity = self.old.capacity;
+          builder = self.old.builder;
+        } }
+    {
+        let place = self.entries.len() as u32;
+        match &mut self.groups {
+            Some(groups) => put(groups.as_mut_slice(), hash, place),
+            None => unreachable!(),
+        }
+        let entry = Entry {
+            hash,
+            key,
+            value: item,
+        };
+        match self.entries.push_within_capacity(entry) {
+            Ok(()) => {}
+            Err(_) => unreachable!(),
         }
     }
 
@@ -165,124 +231,193 @@ impl<K: Eq + Hash + Drop, V: Drop, S: BuildHasher, A: Allocator + Clone> Table<K
     /// refused as that is. A refusal hands key and value back and changes nothing.
     #[inline]
     pub fn insert(&mut self, key: K, item: V) -> Result<Option<V>, Refused<(K, V)>>
-        ensures fits { 0 < self.old.room → IsOk result }
+        ensures fits { HasRoom self.old 1 → IsOk result }
         ensures old { IfOk result (λ old. old ≡ value K.eq self.old.entries key) }
         ensures inserted { OnOk result
             (Sets K.eq self.old.entries key (Some item) self.new.entries) }
-        ensures room { OnOk result (self.old.room ≤ self.new.room + 1) }
+        ensures one_more { IfOk result (λ old. is_some old ≡ false →
+            length self.new.entries ≡ length self.old.entries + 1) }
+        ensures as_many { IfOk result (λ old. is_some old ≡ true →
+            length self.new.entries ≡ length self.old.entries) }
         ensures made { IfOk result (λ old. is_some old ≡ false →
-            self.new.room + 1 ≡ room_for (length self.old.entries) self.old.room 1) }
-        ensures replaced { IfOk result (λ old. is_some old ≡ true → self.new.room ≡ self.old.room) }
+            self.new.capacity ≡ capacity_for self.old 1) }
+        ensures replaced { IfOk result (λ old. is_some old ≡ true →
+            self.new.capacity ≡ self.old.capacity) }
         ensures builder { self.new.builder ≡ self.old.builder }
         ensures back { IfErr result (λ r. r.source ≡ (key, item)) }
         ensures new { OnErr result (value K.eq self.old.entries key ≡ None) }
         ensures lacks { IfErr result
-            (λ r. LacksRoom (length self.old.entries) self.old.room 1 r.error) }
+            (λ r. LacksRoom self.old.capacity (length self.old.entries) 1 (capacity_for self.old 1)
+            r.error) }
         ensures refused { OnErr result (self.new ≡ self.old) }
     {
-        if let Some(spot) = find(
-            groups_in(&self.groups),
-            self.slots.as_slice(),
-            &self.builder,
-            &key,
-        ) {
-            let old = mem::replace(&mut self.slots[spot.slot], Slot::Held(key, item));
-            return Ok(old.into_value());
+        let hash = hash_of(&self.builder, &key);
+        if let Some(spot) = find(groups_in(&self.groups), self.entries.as_slice(), hash, &key) {
+            let entry = Entry {
+                hash,
+                key,
+                value: item,
+            };
+            let old = mem::replace(&mut self.entries[spot.place], entry);
+            return Ok(Some(old.value));
         }
-        match make_room(
-            &mut self.slots,
-            &mut self.groups,
-            &self.builder,
-            self.len,
-            self.room,
-            1,
-        ) {
-            Ok(room) => self.room = room,
-            Err(error) => {
-                return Err(Refused {
-                    source: (key, item),
-                    error,
-                });
-            }
+        if let Err(error) = self.reserve(1) {
+            return Err(Refused {
+                source: (key, item),
+                error,
+            });
         }
-        match &mut self.groups {
-            Some(groups) => {
-                put_new(
-                    &mut self.slots,
-                    groups.as_mut_slice(),
-                    &self.builder,
-                    key,
-                    item,
-                );
-            }
-            None => unreachable!(),
-        }
-        self.len += 1;
-        self.room -= 1;
+        self.push(hash, key, item);
         Ok(None)
     }
 
-    /// Makes room for this many new keys, where there is less: then it takes memory, for more than
-    /// twice the keys that there would be. A refusal changes nothing: `CapacityOverflow` where there
-    /// would be more than 2,000,000,000 keys or the bytes pass `isize::MAX`, else `AllocError` with
-    /// how many keys the room was asked for.
+    /// Makes room for this many new keys, where there is less: then it takes memory, for twice as
+    /// many keys as there was room for, or for all that there would be. A refusal changes nothing:
+    /// `CapacityOverflow` where there would be more than 2,000,000,000 keys or the bytes pass
+    /// `isize::MAX`, else `AllocError` with how many keys the room was asked for.
+    #[inline]
     pub fn reserve(&mut self, additional: usize) -> Result<(), TryReserveError>
-        ensures fits { additional ≤ self.old.room → IsOk result }
-        ensures room { OnOk result (additional ≤ self.new.room) }
-        ensures more { self.old.room ≤ self.new.room }
-        ensures made { OnOk result
-            (self.new.room ≡ room_for (length self.old.entries) self.old.room additional) }
-        ensures lacks { IfErr result
-            (LacksRoom (length self.old.entries) self.old.room additional) }
-        ensures same { SameMap K.eq self.old.entries self.new.entries }
+        ensures fits { HasRoom self.old additional → IsOk result }
+        ensures made { OnOk result (self.new.capacity ≡ capacity_for self.old additional) }
+        ensures enough { OnOk result (HasRoom self.new additional) }
+        ensures lacks { IfErr result (LacksRoom self.old.capacity (length self.old.entries)
+            additional (capacity_for self.old additional)) }
+        ensures most { IfErr result (λ e. most_keys < length self.old.entries + additional
+            → e.kind ≡ CapacityOverflow) }
+        ensures same { self.new.entries ≡ self.old.entries }
         ensures builder { self.new.builder ≡ self.old.builder }
         ensures refused { OnErr result (self.new ≡ self.old) }
     {
-        self.room = make_room(
-            &mut self.slots,
-            &mut self.groups,
-            &self.builder,
-            self.len,
-            self.room,
-            additional,
-        )?;
+        let len = self.entries.len();
+        if additional <= self.capacity - len {
+            return Ok(());
+        }
+        let keys = len.saturating_add(additional);
+        if keys > MOST_KEYS {
+            return Err(TryReserveErrorKind::CapacityOverflow.into());
+        }
+        let capacity = (2 * self.capacity).max(keys).max(8);
+        grow(&mut self.entries, &mut self.groups, capacity)?;
+        self.capacity = capacity;
+        self.passed = 0;
         Ok(())
     }
 
-    /// Takes the key away, and answers the value that it had. It takes no memory.
+    // Counts a lane that look-ups go past without need. Where these are many, all keys are named
+    // anew.
+    #[cold]
+    #[inline(never)]
+    fn count_passed(&mut self)
+        ensures { self.new ≡ self.old }
+    {
+        self.passed = self.passed.saturating_add(1);
+        if let Some(groups) = &mut self.groups {
+            if self.passed > groups.len() {
+                name_all(groups.as_mut_slice(), self.entries.as_slice());
+                self.passed = 0;
+            }
+        }
+    }
+
+    // The same, where there is one.
+    #[inline(always)]
+    fn pass(&mut self, passed: bool)
+        ensures { self.new ≡ self.old }
+    {
+        if passed {
+            self.count_passed();
+        }
+    }
+
+    /// Takes the key away, and answers the value that it had. It takes no memory, and the room of
+    /// the key is there for another.
     #[inline]
     pub fn remove(&mut self, key: &K) -> Option<V>
         ensures old { result ≡ value K.eq self.old.entries key.now }
         ensures removed { Sets K.eq self.old.entries key.now None self.new.entries }
-        ensures room { self.new.room ≡ self.old.room }
+        ensures one_less { IsSome result
+            → length self.new.entries + 1 ≡ length self.old.entries }
+        ensures capacity { self.new.capacity ≡ self.old.capacity }
         ensures builder { self.new.builder ≡ self.old.builder }
+        ensures absent { result ≡ None → self.new ≡ self.old }
     {
-        match find(
-            groups_in(&self.groups),
-            self.slots.as_slice(),
-            &self.builder,
-            key,
-        ) {
-            Some(spot) => {
-                release_in(&mut self.groups, spot.group, spot.lane);
-                let old = mem::replace(&mut self.slots[spot.slot], Slot::Gone);
-                self.len -= 1;
-                old.into_value()
-            }
-            None => None,
+        let hash = hash_of(&self.builder, key);
+        let Some(spot) = find(groups_in(&self.groups), self.entries.as_slice(), hash, key) else {
+            return None;
+        };
+        let passed = match &mut self.groups {
+            Some(groups) => unname(groups.as_mut_slice(), self.entries.as_slice(), spot),
+            None => unreachable!(),
+        };
+        let entry = self.entries.swap_remove(spot.place);
+        self.pass(passed);
+        Some(entry.value)
+    }
+
+    /// Takes all keys away. The room stays. It takes no memory.
+    pub fn clear(&mut self)
+        ensures { self.new ≡ record {
+          entries = [];
+          capacity = self.old.capacity;
+          builder = self.old.builder;
+        } }
+    {
+        self.entries.clear();
+        self.passed = 0;
+        if let Some(groups) = &mut self.groups {
+            clear_all(groups.as_mut_slice());
         }
     }
 
-    /// Takes all keys away. The slots stay, so that there is no less room. It takes no memory.
-    pub fn clear(&mut self)
-        ensures entries { self.new.entries ≡ [] }
-        ensures room { self.old.room ≤ self.new.room }
+    /// Gives back what room there is beside the keys. It takes memory for that; a refusal changes
+    /// nothing, and has the number of keys.
+    pub fn shrink_to_fit(&mut self) -> Result<(), TryReserveError>
+        ensures entries { self.new.entries ≡ self.old.entries }
+        ensures capacity { OnOk result (self.new.capacity ≡ length self.old.entries) }
         ensures builder { self.new.builder ≡ self.old.builder }
+        ensures number { IfErr result (λ e. e.kind ≡ AllocError (length self.old.entries)) }
+        ensures refused { OnErr result (self.new ≡ self.old) }
     {
-        self.slots.clear();
-        self.len = 0;
-        if let Some(groups) = &mut self.groups {
-            self.room = clear_all(groups.as_mut_slice());
+        shrink(&mut self.entries, &mut self.groups)?;
+        self.capacity = self.entries.len();
+        self.passed = 0;
+        Ok(())
+    }
+}
+
+impl<K: Eq + Hash + Drop, V: Drop, S: BuildHasher + Drop, A: Allocator> Table<K, V, S, A> {
+    /// The keys with their values, each taken out of the table. It takes no memory.
+    pub fn into_iter(self) -> IntoIter<K, V, A>
+        ensures { result ≡ self.entries }
+    {
+        let Table {
+            entries,
+            groups,
+            builder,
+            capacity: _,
+            passed: _,
+        } = self;
+        drop(groups);
+        drop(builder);
+        IntoIter {
+            rest: entries.into_iter(),
+        }
+    }
+}
+
+impl<'k, K: Eq + Hash + Drop, V: Drop, S: BuildHasher, A: Allocator + Clone> Index<&'k K>
+    for Table<K, V, S, A> {
+    type Output = V;
+
+    ghost can_index = { λ t k. IsSome (value K.eq t.entries k.now) };
+
+    ghost index_gives = { λ t k v. value K.eq t.entries k.now ≡ Some v };
+
+    /// The value of a key that has one.
+    fn index(&self, key: &'k K) -> &V {
+        match self.get(key) {
+            Some(value) => value,
+            None => unreachable!(),
         }
     }
 }

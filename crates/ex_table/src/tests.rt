@@ -1,9 +1,11 @@
 use crate::table::Table;
 use allocator_api2::boxed::BoxedText;
 use allocator_api2::collections::TryReserveErrorKind;
+use allocator_api2::vec::Vec;
 use std::alloc::Global;
 use std::hash::{BuildHasher, BuildHasherDefault, FoldHasher, Hasher};
 use std::ops::Range;
+use std::test::Fail;
 use test_allocators::Faulty;
 
 // A table over an allocator that may refuse.
@@ -104,23 +106,25 @@ fn reserved_room_is_there_when_the_heap_refuses(rt: HostRuntime) {
 }
 
 #[test]
-fn a_reserve_makes_room_for_more_than_it_was_told(rt: HostRuntime) {
+fn a_reserve_makes_room_for_twice_as_many_or_for_all(rt: HostRuntime) {
     let heap = Faulty::new(rt.alloc());
     let mut table: Small<'_> = Table::new_in(&heap);
-    assert!(rt; table.room() == 0 && table.reserve(0).is_ok() && heap.requests() == 0);
+    assert!(rt; table.capacity() == 0 && table.reserve(0).is_ok() && heap.requests() == 0);
     assert!(rt; takes(&mut table, 0..5));
     // Room asked for, the room that there is then, and the requests that it made.
     for (additional, room, requests) in [
         (0usize, 3usize, 0u64),
         (3, 3, 0),
-        (4, 19, 2),
-        (19, 19, 0),
-        (100, 211, 2),
-        (100, 211, 0),
+        (4, 11, 2),
+        (11, 11, 0),
+        (100, 100, 2),
+        (100, 100, 0),
+        (101, 205, 2),
     ] {
         let before = heap.requests();
         assert!(rt; table.reserve(additional).is_ok());
         assert!(rt; table.room() == room, "{additional}");
+        assert!(rt; table.capacity() == room.saturating_add(5), "{additional}");
         assert!(rt;
             heap.requests().wrapping_sub(before) == requests,
             "{additional}"
@@ -128,8 +132,51 @@ fn a_reserve_makes_room_for_more_than_it_was_told(rt: HostRuntime) {
         assert!(rt; (table.len(), has(&table, 4)) == (5, Some(4)));
     }
     heap.refuse(0, 1000);
-    assert!(rt; takes(&mut table, 5..216));
-    assert!(rt; (table.len(), table.room()) == (216, 0));
+    assert!(rt; takes(&mut table, 5..210));
+    assert!(rt; (table.len(), table.room()) == (210, 0));
+}
+
+// Whether a key can be taken out and put in again so often, in turn with the others.
+fn come_and_go(table: &mut Small<'_>, keys: u64, times: u64) -> bool {
+    let mut all = true;
+    for turn in 0..times {
+        let key = turn.checked_rem(keys).unwrap_or(0);
+        let out = table.remove(&key) == Some(key);
+        all = out && matches!(table.insert(key, key), Ok(None)) && all;
+    }
+    all
+}
+
+#[test]
+fn at_a_steady_size_no_memory_is_asked_for(rt: HostRuntime) {
+    // How many keys there are, how many of them come and go, and how often.
+    for (count, keys, times) in [(1u64, 1u64, 1000u64), (4, 4, 1000), (1000, 1000, 20_000)] {
+        let heap = Faulty::new(rt.alloc());
+        let mut table: Small<'_> = Table::new_in(&heap);
+        assert!(rt; takes(&mut table, 0..count));
+        let before = heap.requests();
+        heap.refuse(0, 1_000_000);
+        assert!(rt; come_and_go(&mut table, keys, times), "{count}");
+        assert!(rt; heap.requests() == before, "{count}");
+        assert!(rt; table.len() as u64 == count, "{count}");
+    }
+}
+
+#[test]
+fn reserved_keys_never_take_memory(rt: HostRuntime) {
+    let heap = Faulty::new(rt.alloc());
+    let mut table: Small<'_> = Table::new_in(&heap);
+    assert!(rt; table.reserve(2000).is_ok());
+    heap.refuse(0, 1_000_000);
+    assert!(rt; takes(&mut table, 0..1000));
+    assert!(rt; come_and_go(&mut table, 1000, 10_000));
+    assert!(rt; takes(&mut table, 1000..2000));
+    assert!(rt; (table.len(), table.room(), has(&table, 1999)) == (2000, 0, Some(1999)));
+    for key in 0u64..2000 {
+        assert!(rt; table.remove(&key) == Some(key));
+    }
+    assert!(rt; takes(&mut table, 5000..7000));
+    assert!(rt; (table.len(), table.capacity()) == (2000, 2000));
 }
 
 // Why a reserve was refused.
@@ -147,9 +194,9 @@ fn a_refusal_has_the_number_asked_for(rt: HostRuntime) {
     assert!(rt; takes(&mut table, 0..8));
     assert!(rt; table.room() == 0);
     // Room asked for, and with how many keys, as these are; the block of groups is refused first,
-    // and then that of slots.
+    // and then that of entries.
     for skip in 0u64..2 {
-        for (additional, capacity) in [(1usize, 24usize), (3, 24), (4, 32), (1000, 2024)] {
+        for (additional, capacity) in [(1usize, 16usize), (8, 16), (9, 17), (1000, 1008)] {
             heap.refuse(skip, 1);
             let refused = Some(TryReserveErrorKind::AllocError { capacity });
             assert!(rt;
@@ -161,14 +208,14 @@ fn a_refusal_has_the_number_asked_for(rt: HostRuntime) {
         match table.insert(8, 8) {
             Ok(_) => assert!(rt; false),
             Err(back) => {
-                let refused = TryReserveErrorKind::AllocError { capacity: 24 };
+                let refused = TryReserveErrorKind::AllocError { capacity: 16 };
                 assert!(rt; back.error.kind() == refused);
             }
         }
     }
     heap.refuse(0, 1000);
     let most = TryReserveErrorKind::AllocError {
-        capacity: 4_000_000_008,
+        capacity: 2_000_000_000,
     };
     assert!(rt; reason(&mut table, 1_999_999_992) == Some(most));
     for additional in [1_999_999_993usize, usize::MAX - 8, usize::MAX] {
@@ -250,4 +297,57 @@ fn keys_of_one_hash_fill_many_groups(rt: HostRuntime) {
         assert!(rt; !table.contains_key(&key.wrapping_mul(2)));
     }
     assert!(rt; table.len() == 50);
+}
+
+#[test]
+fn iterators_tell_how_many_come(rt: HostRuntime) -> Result<(), Fail> {
+    let heap = Faulty::new(rt.alloc());
+    let mut table: Small<'_> = Table::with_capacity_in(1000, &heap)?;
+    assert!(rt; (table.capacity(), table.room(), table.is_empty()) == (1000, 1000, true));
+    assert!(rt; takes(&mut table, 0..1000) && heap.requests() == 2);
+    assert!(rt; (table.len(), table.iter().len(), table.keys().len()) == (1000, 1000, 1000));
+    assert!(rt; table.iter().size_hint() == (1000, Some(1000)));
+    // Each vector of what comes makes one block.
+    let before = heap.requests();
+    let pairs = Vec::from_iter_in(table.iter(), &heap)?;
+    let keys = Vec::from_iter_in(table.keys(), &heap)?;
+    let values = Vec::from_iter_in(table.values(), &heap)?;
+    assert!(rt; heap.requests().wrapping_sub(before) == 3);
+    assert!(rt; (pairs.len(), keys.capacity(), values.capacity()) == (1000, 1000, 1000));
+    let mut both = table.iter();
+    assert!(rt; (both.next(), both.next_back()) == (Some((&0, &0)), Some((&999, &999))));
+    assert!(rt; both.len() == 998);
+    drop((pairs, keys, values));
+    let mut owned = table.into_iter();
+    assert!(rt; (owned.next(), owned.next_back()) == (Some((0, 0)), Some((999, 999))));
+    assert!(rt; (owned.size_hint(), owned.len()) == ((998, Some(998)), 998));
+    let before = heap.requests();
+    assert!(rt; Vec::from_iter_in(owned, &heap)?.len() == 998);
+    assert!(rt; heap.requests().wrapping_sub(before) == 1);
+    Ok(())
+}
+
+#[test]
+fn what_room_is_left_is_given_back(rt: HostRuntime) -> Result<(), Fail> {
+    let heap = Faulty::new(rt.alloc());
+    let mut table: Small<'_> = Table::with_capacity_in(100, &heap)?;
+    assert!(rt; takes(&mut table, 0..20));
+    heap.refuse(0, 1);
+    let refused = TryReserveErrorKind::AllocError { capacity: 20 };
+    assert!(rt; table.shrink_to_fit().err().map(|e| e.kind()) == Some(refused));
+    assert!(rt; table.capacity() == 100);
+    table.shrink_to_fit()?;
+    assert!(rt; (table.capacity(), table.len()) == (20, 20));
+    assert!(rt; (has(&table, 19), has(&table, 20)) == (Some(19), None));
+    Ok(())
+}
+
+#[test]
+fn a_key_with_a_value_is_an_index(rt: HostRuntime) {
+    let mut table = Table::new_in(rt.alloc());
+    assert!(rt; table.is_empty());
+    if let Ok(None) = table.insert(3u64, 4u64) {
+        assert!(rt; table[&3] == 4);
+    }
+    assert!(rt; table.len() == 1);
 }

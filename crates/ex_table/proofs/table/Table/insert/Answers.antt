@@ -1,44 +1,44 @@
-use Rattle.ex_table.proofs.Common.{Some, ap, arith, cond, refl, sym, ◌∙◌, set, value_of}
-use Rattle.ex_table.proofs.Maps.{value-none, value-at, sees-set, seen-len, seen-room}
-use Rattle.ex_table.proofs.Writing.{written-held}
-use Rattle.ex_table.proofs.Tables.{there, changed}
+use Rattle.ex_table.proofs.Common.{Entry, Some, [], ap, sym, ◌∙◌, ◌++◌, ◌∷◌, arith, refl, set, length-set, value}
+use Rattle.ex_table.proofs.Counts.{value-push}
+use Rattle.ex_table.proofs.Sound.{changed, found-written, named, own, reads, written}
+use Rattle.ex_table.proofs.Maps.{sees-keys, sees-set, value-none, value-at}
 use Rattle.ex_table.proofs.table.Table.insert.Goals as goal
+
+pub find-requires : goal.find-requires
+find-requires g c = rw (c.groups_in.ensures, c.as_slice.ensures) (named c.self.invariant.sound c.args.key c.hash_of-hash.result c.hash_of-hash.ensures)
 
 pub invariant_of-self : goal.invariant_of-self
 invariant_of-self g c =
-    let w = written-held c.self.invariant.sound (there c.groups_in.ensures c.as_slice.ensures c.in-Some.ensures.found) c.replace-old.ensures.after in
-    changed c.self.invariant w refl refl (omega arith) (omega arith)
+    let sound = c.self.invariant.sound in let es = c.self.inside.entries.items in
+    let found = rw c.as_slice.ensures at c.in-Some.ensures.found in let read = reads sound _ _ _ found.within found.here c.index_mut.ensures.value in
+    let entry : Entry g.row.K.Denot g.row.V.Denot = record { hash = c.hash_of-hash.result; key = c.args.key; value = c.args.item } in
+    let same = c.hash_of-hash.ensures ∙ sound.keys.agree c.args.key c.index_mut.result.now.key read.1 ∙ sym (own sound _ _ read.0) in
+    rw c.replace-old.ensures.after (changed c.self.invariant (written sound _ _ _ entry read.0 read.1 (sound.keys.equality.refl c.args.key) same) (omega (arith, c.self.invariant.within, length-set es c.in-Some.spot.place entry)) refl refl)
 
 pub returns-in-Some-clause-old : goal.returns-in-Some-clause-old
 returns-in-Some-clause-old g c =
-    c.into_value.ensures ∙ ap value_of c.replace-old.ensures.value ∙ value-at c.self.invariant.sound c.self.view_is (there c.groups_in.ensures c.as_slice.ensures c.in-Some.ensures.found) c.index_mut.ensures.value
+    let found = rw c.as_slice.ensures at c.in-Some.ensures.found in let read = reads c.self.invariant.sound _ _ _ found.within found.here c.index_mut.ensures.value in
+    ap (λ (e : Entry _ _). Some e.value) c.replace-old.ensures.value ∙ value-at c.self.invariant.sound c.self.view_is _ _ _ read.0 read.1
 
 pub returns-in-Some-clause-inserted : goal.returns-in-Some-clause-inserted
 returns-in-Some-clause-inserted g c =
-    let w = written-held c.self.invariant.sound (there c.groups_in.ensures c.as_slice.ensures c.in-Some.ensures.found) c.replace-old.ensures.after in
-    sees-set g.K.PartialEq.eq c.self.inside.slots.items c.self.view_is (set c.self.inside.slots.items c.in-Some.spot.slot c.replace-old.new.dest) c.args.key (Some c.args.item) w.values
+    let sound = c.self.invariant.sound in let es = c.self.inside.entries.items in
+    let found = rw c.as_slice.ensures at c.in-Some.ensures.found in let read = reads sound _ _ _ found.within found.here c.index_mut.ensures.value in
+    let entry : Entry g.row.K.Denot g.row.V.Denot = record { hash = c.hash_of-hash.result; key = c.args.key; value = c.args.item } in
+    rw c.replace-old.ensures.after (sees-set g.K.PartialEq.eq es c.self.view_is (set es c.in-Some.spot.place entry) c.args.key (Some c.args.item) (found-written sound _ _ _ entry read.0 read.1 (sound.keys.equality.refl c.args.key)))
 
 pub returns-in-Err-clause-new : goal.returns-in-Err-clause-new
-returns-in-Err-clause-new g c = value-none g.K.PartialEq.eq c.self.inside.slots.items c.self.view_is c.args.key (rw c.as_slice.ensures at c.in_default.ensures.absent)
+returns-in-Err-clause-new g c = value-none g.K.PartialEq.eq c.self.inside.entries.items c.self.view_is c.args.key (rw c.as_slice.ensures at c.in_default.ensures.absent)
 
-pub put_new-requires-clause-absent : goal.put_new-requires-clause-absent
-put_new-requires-clause-absent g c = c.in-Ok.ensures.kept.keys c.args.key ∙ (rw c.as_slice.ensures at c.in_default.ensures.absent)
+pub push-requires-clause-absent : goal.push-requires-clause-absent
+push-requires-clause-absent g c =
+    rw c.in_default-reserve.ensures.same (sees-keys g.K.PartialEq.eq c.self.inside.entries.items c.self.view_is c.args.key ∙ (rw c.as_slice.ensures at c.in_default.ensures.absent))
 
 pub returns-clause-old : goal.returns-clause-old
-returns-clause-old g c = sym (value-none g.K.PartialEq.eq c.self.inside.slots.items c.self.view_is c.args.key (rw c.as_slice.ensures at c.in_default.ensures.absent))
+returns-clause-old g c = sym (value-none g.K.PartialEq.eq c.self.inside.entries.items c.self.view_is c.args.key (rw c.as_slice.ensures at c.in_default.ensures.absent))
 
 pub returns-clause-inserted : goal.returns-clause-inserted
-returns-clause-inserted g c =
+returns-clause-inserted g c = λ q.
     let eq = g.K.PartialEq.eq in
-    sees-set eq c.self.inside.slots.items c.self.view_is c.put_new.new.slots.items c.args.key (Some c.args.item)
-    (λ q. c.put_new.ensures.puts.values q ∙ ap (cond (eq q c.args.key) (Some c.args.item)) (c.in-Ok.ensures.kept.values q))
-
-pub returns-in-Err-clause-lacks : goal.returns-in-Err-clause-lacks
-returns-in-Err-clause-lacks g c =
-    let eq = g.K.PartialEq.eq in
-    rw (seen-len eq c.self.inside.slots.items c.self.view_is c.self.invariant.held, seen-room eq c.self.inside.slots.items c.self.view_is) c.in-Err.ensures.lacks
-
-pub returns-clause-made : goal.returns-clause-made
-returns-clause-made g c _ =
-    let eq = g.K.PartialEq.eq in
-    rw (seen-len eq c.self.inside.slots.items c.self.view_is c.self.invariant.held, seen-room eq c.self.inside.slots.items c.self.view_is) (omega (arith, c.in-Ok.ensures.room, c.in-Ok.ensures.enough))
+    let none = sees-keys eq c.self.inside.entries.items c.self.view_is c.args.key ∙ (rw c.as_slice.ensures at c.in_default.ensures.absent) in
+    ap (λ f. value eq f.entries q) c.push.ensures ∙ ap (λ es. value eq (es ++ (c.args.key, c.args.item) ∷ []) q) c.in_default-reserve.ensures.same ∙ value-push eq c.args.self.now.entries c.args.key c.args.item c.self.invariant.sound.keys.equality none q

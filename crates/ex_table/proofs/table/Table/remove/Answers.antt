@@ -1,26 +1,32 @@
-use Rattle.ex_table.proofs.Common.{None, ap, arith, refl, sym, ◌∙◌, set, value_of}
-use Rattle.ex_table.proofs.Maps.{value-none, value-at, sets-none, sees-set}
-use Rattle.ex_table.proofs.Writing.{written-gone}
-use Rattle.ex_table.proofs.Tables.{there, changed}
+use Rattle.ex_table.proofs.Common.{None, Vector, ap, sym, ◌∙◌, arith, length, value}
+use Rattle.ex_table.proofs.Sound.{changed, fewer, found-removed, named, removed, refilled}
+use Rattle.ex_table.proofs.Maps.{sees-set, sets-none, value-none, value-at}
 use Rattle.ex_table.proofs.table.Table.remove.Goals as goal
+
+pub find-requires : goal.find-requires
+find-requires g c = rw (c.groups_in.ensures, c.as_slice.ensures) (named c.self.invariant.sound c.args.key.now c.hash_of-hash.result c.hash_of-hash.ensures)
+
+pub returns-in_default-clause-old : goal.returns-in_default-clause-old
+returns-in_default-clause-old g c = sym (value-none g.K.PartialEq.eq c.self.inside.entries.items c.self.view_is c.args.key.now (rw c.as_slice.ensures at c.in_default.ensures.absent))
+
+pub returns-in_default-clause-removed : goal.returns-in_default-clause-removed
+returns-in_default-clause-removed g c = sets-none c.self.invariant.sound c.self.view_is c.args.key.now (rw c.as_slice.ensures at c.in_default.ensures.absent)
 
 pub invariant_of-self : goal.invariant_of-self
 invariant_of-self g c =
-    let at = there c.groups_in.ensures c.as_slice.ensures c.in-Some.ensures.found in
-    changed c.self.invariant (written-gone c.self.invariant.sound at c.release_in.ensures.others c.replace-old.ensures.after) refl c.release_in.ensures.len c.release_in.ensures.free (omega arith)
+    let sound = c.self.invariant.sound in let entry = c.swap_remove-entry.result in let at = c.swap_remove-entry.ensures.value in let cut = c.swap_remove-entry.ensures.removed in let place = c.in-Some.spot.place in
+    let old = rw at at (rw c.as_slice.ensures at c.in-Some.ensures.found).here in let size = c.unname-passed.ensures.len ∙ ap length c.as_mut_slice.ensures.value in let items = ap (λ (v : Vector _ _). v.items) cut in
+    rw (refilled (length c.in-Some-groups.groups.items) c.as_mut_slice.result.now c.unname-passed.new.groups size) (changed c.self.invariant
+    (rw items (removed sound c.args.key.now place entry entry at old (rw c.as_slice-in-Some-groups.ensures at c.unname-passed.ensures.index)))
+    (rw items (omega (arith, c.self.invariant.within, fewer sound c.args.key.now place entry entry at old)))
+    (ap (λ (v : Vector _ _). v.capacity) cut) (rw c.in-Some-groups.is size))
 
-pub returns-in-Some-clause-old : goal.returns-in-Some-clause-old
-returns-in-Some-clause-old g c =
-    c.into_value.ensures ∙ ap value_of c.replace-old.ensures.value ∙ value-at c.self.invariant.sound c.self.view_is (there c.groups_in.ensures c.as_slice.ensures c.in-Some.ensures.found) c.index_mut.ensures.value
+pub returns-clause-old : goal.returns-clause-old
+returns-clause-old g c =
+    let at = c.swap_remove-entry.ensures.value in value-at c.self.invariant.sound c.self.view_is c.args.key.now _ _ at (rw at at (rw c.as_slice.ensures at c.in-Some.ensures.found).here)
 
-pub returns-in-Some-clause-removed : goal.returns-in-Some-clause-removed
-returns-in-Some-clause-removed g c =
-    let at = there c.groups_in.ensures c.as_slice.ensures c.in-Some.ensures.found in
-    let w = written-gone c.self.invariant.sound at c.release_in.ensures.others c.replace-old.ensures.after in
-    sees-set g.K.PartialEq.eq c.self.inside.slots.items c.self.view_is (set c.self.inside.slots.items c.in-Some.spot.slot c.replace-old.new.dest) c.args.key.now None w.values
-
-pub returns-in-None-clause-old : goal.returns-in-None-clause-old
-returns-in-None-clause-old g c = sym (value-none g.K.PartialEq.eq c.self.inside.slots.items c.self.view_is c.args.key.now (rw c.as_slice.ensures at c.in-None.ensures.absent))
-
-pub returns-in-None-clause-removed : goal.returns-in-None-clause-removed
-returns-in-None-clause-removed g c = sets-none c.self.invariant.sound c.self.view_is c.args.key.now (rw c.as_slice.ensures at c.in-None.ensures.absent)
+pub returns-clause-removed : goal.returns-clause-removed
+returns-clause-removed g c = λ q.
+    let entry = c.swap_remove-entry.result in let at = c.swap_remove-entry.ensures.value in
+    ap (λ f. value g.K.PartialEq.eq f.entries q) c.pass.ensures
+    ∙ sees-set g.K.PartialEq.eq c.self.inside.entries.items c.self.view_is c.swap_remove-entry.new.self.items c.args.key.now None (rw (ap (λ (v : Vector _ _). v.items) c.swap_remove-entry.ensures.removed) (found-removed c.self.invariant.sound c.args.key.now c.in-Some.spot.place entry entry at (rw at at (rw c.as_slice.ensures at c.in-Some.ensures.found).here))) q
