@@ -1,11 +1,50 @@
--- What calls of a `Few` want beside the lemmas on places: a value that is carried through a list, and the last of the first n.
-use Rattle.std.proofs.Common.{◌≡◌, ℕ, zero, suc, ◌-◌, ◌<◌, ◌≤◌, List, [], ◌∷◌, ◌++◌, length, Option, Some, refl, ap, ap₂, arith}
+-- What calls of a `Few` want: items at the first places of an array, and a value that is carried through a list.
+use Rattle.std.proofs.Common.{◌≡◌, ℕ, zero, suc, ◌+◌, ◌-◌, ◌<◌, ◌≤◌, List, [], ◌∷◌, ◌++◌, length, take, drop, get_or, Some, refl, sym, ap, ap₂, ◌∙◌, arith, length-set, length-take-le, take-take, length-append, length-drop}
 use Rattle.std.specs.Prelude.{insert, remove, slice_get, slice_set}
-use Rattle.std.proofs.lemmas.List.{take_all, drop_all}
-use Rattle.allocator_api2.specs.Places.{IsFilled, IsRun}
-use Rattle.allocator_api2.proofs.Blocks.{at_ends, last-filled}
+use Rattle.std.proofs.lemmas.Bool.Decides.{nat_tests}
+use Rattle.std.proofs.lemmas.Grind.{take-set_at}
+use Rattle.std.proofs.lemmas.Option.{get_or_from_slice_get}
+use Rattle.std.proofs.lemmas.List.{drop-append-le, drop-set-lt, drop_all, drop_more, take_all, take_more, take-set-le}
 
 module _ {X : Type 0} where
+  -- one more of the first, and one of them written anew
+  pub take-push : (xs : List X) (n : ℕ) (x : X) → n < length xs → take (n + 1) (slice_set xs n x) ≡ take n xs ++ x ∷ []
+  take-push xs n x room = take-set_at xs n (n + 1) x refl room
+
+  pub take-set_in : (xs : List X) (n i : ℕ) (x : X) → i < n → take n (slice_set xs i x) ≡ slice_set (take n xs) i x
+  take-set_in xs zero i x h = absurd (omega (arith, h))
+  take-set_in [] (suc n) i x h = refl
+  take-set_in (y ∷ xs) (suc n) zero x h = refl
+  take-set_in (y ∷ xs) (suc n) (suc i) x h = ap (λ ys. y ∷ ys) (take-set_in xs n i x (omega (arith, h)))
+
+  pub get-in_front : (xs : List X) (n i : ℕ) (x : X) → i < n → n ≤ length xs → x ≡ get_or xs i x → slice_get (take n xs) i ≡ Some x
+  get-in_front xs zero i x h few e = absurd (omega (arith, h))
+  get-in_front [] (suc n) i x h few e = absurd (omega (arith, few))
+  get-in_front (y ∷ xs) (suc n) zero x h few e = ap Some (sym e)
+  get-in_front (y ∷ xs) (suc n) (suc i) x h few e = get-in_front xs n i x (omega (arith, h)) (omega (arith, few)) e
+
+  -- the last of them taken, where a blank takes its place
+  pub take-pop : (xs : List X) (n : ℕ) (x b : X) → 0 < n → n ≤ length xs → x ≡ get_or xs (n - 1) x → take n xs ≡ take (n - 1) (slice_set xs (n - 1) b) ++ x ∷ []
+  take-pop xs n x b some few e =
+      let next : n - 1 + 1 ≡ n = omega arith in
+      (λ t. take (sym next t) xs) ∙ take_more xs (n - 1) x (omega arith) ∙ ap (λ y. take (n - 1) xs ++ y ∷ []) (sym e) ∙ ap (λ ys. ys ++ x ∷ []) (sym (take-set-le (n - 1) xs (n - 1) b (omega arith)))
+
+  -- one more of a list that another one ends as
+  pub read_ahead : (xs ys : List X) (i : ℕ) (x d : X) → i < length ys → length ys ≡ length xs → drop i ys ≡ drop i xs → x ≡ get_or ys i d → take (i + 1) xs ≡ take i xs ++ x ∷ []
+  read_ahead xs ys i x d few same e is =
+      let here : get_or xs i d ≡ get_or ys i d = ap (λ zs. get_or zs 0 d) (sym (drop_more xs i d (omega (arith, few, same))) ∙ sym e ∙ drop_more ys i d few) in
+      take_more xs i d (omega (arith, few, same)) ∙ ap (λ y. take i xs ++ y ∷ []) (here ∙ sym is)
+
+  -- what is left behind the first i, where the next one is taken, and the last
+  pub left-next : (xs : List X) (i : ℕ) (x b : X) → i < length xs → slice_get xs i ≡ Some x → drop i xs ≡ x ∷ drop (i + 1) (slice_set xs i b)
+  left-next xs i x b few e = drop_more xs i x few ∙ (λ t. get_or_from_slice_get xs i x x e t ∷ sym (drop-set-lt (i + 1) xs i b (omega arith)) t)
+
+  pub left-last : (xs ys : List X) (i : ℕ) (x : X) → i < length xs → xs ≡ ys ++ x ∷ [] → drop i xs ≡ drop i ys ++ x ∷ []
+  left-last xs ys i x some e = ap (drop i) e ∙ drop-append-le i ys (x ∷ []) (omega (arith, some, ap length e, length-append ys (x ∷ [])))
+
+  pub none-left : (xs : List X) (i : ℕ) → length xs ≤ i → drop i xs ≡ []
+  none-left xs i h = drop_all i xs h
+
   -- what stood at k is carried on, where what was carried took its place
   pub carry : (xs : List X) (k : ℕ) (c x : X) → slice_get xs k ≡ Some x → insert (slice_set xs k c) (suc k) x ≡ insert xs k c
   carry [] k c x e = cc
@@ -31,10 +70,8 @@ module _ {X : Type 0} where
   remove-insert (y ∷ xs) zero x h = refl
   remove-insert (y ∷ xs) (suc k) x h = ap (λ ys. y ∷ ys) (remove-insert xs k x (omega arith))
 
-  -- the last of the first n is there
-  pub last-there : (cs : List (Option X)) (n : ℕ) → 0 < n → IsRun cs 0 n → IsFilled cs (n - 1)
-  last-there cs n some r = last-filled cs 0 (n - 1) (n - 1) n (omega arith) (omega arith) r
+pub ruleset in_front = (nat_tests, length-set, length-take-le, take-push, take-set_in, get-in_front, take-pop)
 
 pub ruleset carried = (insert-end, get-insert, remove-insert)
 
-pub ruleset popped = (at_ends, last-there)
+pub ruleset left = (nat_tests, left-next, left-last, none-left, length-drop, length-set)

@@ -1,7 +1,6 @@
 //! `Few`: up to `N` items in place.
-ghost use Rattle.std.specs.Prelude.{◌≡◌, ◌+◌, ◌-◌, ◌<◌, ◌≤◌, [], ◌∷◌, ◌++◌, length, get_or, slice_get, slice_set, insert, remove, is_some, true, Some, None};
-ghost use Rattle.std.specs.List.{list_all};
-ghost use Rattle.allocator_api2.specs.Places.{IsFilled, IsRun, run, somes};
+ghost use Rattle.std.specs.Prelude.{◌≡◌, ◌+◌, ◌-◌, ◌<◌, ◌≤◌, [], ◌∷◌, ◌++◌, length, slice_get, slice_index_or, slice_set, insert, remove, take, Some};
+ghost use Rattle.std.specs.Borrow.{sem};
 ghost use Rattle.allocator_api2.specs.Vector.{HasRoom, SameBlock, Writes};
 
 use allocator_api2::vec::Vec;
@@ -9,69 +8,53 @@ use std::alloc::Allocator;
 use std::marker::Model;
 use std::{array, mem};
 
-/// Up to `N` items in place. A contract sees a list.
+/// Up to `N` items in place. They stand at the first places; each other place holds a blank, a
+/// default of `T`. A contract sees a list.
 #[derive(Drop)]
 pub struct Few<T, const N: usize> {
-    cells: [Option<T>; N],
+    places: [T; N],
     len: usize,
 }
 
 impl<T, const N: usize> Model for Few<T, N> {
-    ghost use Rattle.std.specs.Prelude.{◌≡◌, List, length};
-    ghost use Rattle.allocator_api2.specs.Places.{IsRun, run};
+    ghost use Rattle.std.specs.Prelude.{◌≤◌, List, take};
 
     ghost Value = { List T };
 
-    ghost view = { λ f. run f.cells 0 f.len };
+    ghost view = { λ f. take f.len f.places };
 
-    ghost invariant = { λ f. IsRun f.cells 0 f.len × (length f.cells ≡ N) };
+    ghost invariant = { λ f. f.len ≤ N };
 }
 
-#[tactic(auto, using(allocator_api2::proofs::Blocks::at_ends))]
+#[tactic(auto, using(crate::proofs::Fews::in_front))]
 impl<T, const N: usize> Few<T, N> {
-    /// No items.
-    pub fn new() -> Self
-        ensures { result ≡ [] }
-    {
-        Few {
-            cells: array::from_fn(|_| None),
-            len: 0,
-        }
-    }
+    ghost use Rattle.ex_inline.specs.FewLends.{lends_one};
 
     /// How many items there are.
     pub fn len(&self) -> usize
         ensures count { result ≡ length self.now }
         ensures within { result ≤ N }
     {
-        // It tells the checker where `Option` is.
-        let _none: Option<u8> = None;
         self.len
     }
 
-    /// The item at `index`.
-    #[tactic(auto, using(allocator_api2::proofs::Blocks::at_positions))]
-    pub fn get(&self, index: usize) -> &T
-        requires { index < length self.now }
-        ensures { slice_get self.now index ≡ Some result.now }
+    /// The items.
+    pub fn as_slice(&self) -> &[T]
+        ensures { result.now ≡ self.now }
     {
-        place(&self.cells, index)
+        &self.places[..self.len]
     }
 
-    /// The cells of the items.
-    #[tactic(auto, using(allocator_api2::proofs::Blocks::shown))]
-    pub fn cells(&self) -> &[Option<T>]
-        ensures items { somes result.now ≡ self.now }
-        ensures filled { list_all is_some result.now ≡ true }
+    /// The item at `index`, to write to.
+    pub fn item_mut(&mut self, index: usize) -> &mut T
+        requires { index < length self.old }
+        ensures* writes_back { sem 𝓛 (lends_one T.row N.row self.entry index result) }
+        ensures value { slice_get self.old index ≡ Some result.now }
     {
-        &self.cells[..self.len]
-    }
-
-    /// No cells.
-    pub fn no_cells(&self) -> &[Option<T>]
-        ensures { result.now ≡ [] }
-    {
-        &self.cells[..0]
+        // The two lines tell the prover that the place is one of the array's.
+        let _len = self.len();
+        prove!(index < N);
+        &mut self.places[index]
     }
 
     /// Puts `item` behind the others.
@@ -81,28 +64,17 @@ impl<T, const N: usize> Few<T, N> {
         requires { length self.old < N }
         ensures { self.new ≡ self.old ++ item ∷ [] }
     {
-        put(&mut self.cells, self.len, item);
+        self.places[self.len] = item;
         self.len += 1;
     }
 
-    /// Takes the last item.
-    #[tactic(auto, using(crate::proofs::Fews::popped))]
-    pub fn pop(&mut self) -> T
-        requires { 0 < length self.old }
-        ensures { self.old ≡ self.new ++ result ∷ [] }
-    {
-        self.len -= 1;
-        take(&mut self.cells, self.len)
-    }
-
     /// Puts another item at `index`, and gives the one that stood there.
-    #[tactic(auto, using(allocator_api2::proofs::Blocks::at_positions))]
     pub fn replace(&mut self, index: usize, item: T) -> T
         requires { index < length self.old }
         ensures old { slice_get self.old index ≡ Some result }
         ensures now { self.new ≡ slice_set self.old index item }
     {
-        exchange(&mut self.cells, index, item)
+        exchange(&mut self.places, index, item)
     }
 
     /// Puts `item` at `index`, and moves those from there on up by one.
@@ -120,6 +92,28 @@ impl<T, const N: usize> Few<T, N> {
             carried = self.replace(i, carried);
         }
         self.push(carried);
+    }
+}
+
+#[tactic(auto, using(crate::proofs::Fews::in_front))]
+impl<T: Default, const N: usize> Few<T, N> {
+    /// No items.
+    pub fn new() -> Self
+        ensures { result ≡ [] }
+    {
+        Few {
+            places: array::from_fn(|_| T::default()),
+            len: 0,
+        }
+    }
+
+    /// Takes the last item.
+    pub fn pop(&mut self) -> T
+        requires { 0 < length self.old }
+        ensures { self.old ≡ self.new ++ result ∷ [] }
+    {
+        self.len -= 1;
+        mem::take(&mut self.places[self.len])
     }
 
     /// Takes the item at `index`, and moves those behind it down by one.
@@ -146,27 +140,35 @@ impl<T, const N: usize> Few<T, N> {
         ensures block { SameBlock into.old into.new }
         ensures writes { Writes into.old (length self.old) (length self.old) into.new }
     {
-        pour_first(&mut self.cells, self.len, into);
+        pour_first(&mut self.places, self.len, into);
         self.len = 0;
     }
 }
 
-// Moves the first `len` items behind those of a vector that has room for them.
-#[tactic(auto, using(allocator_api2::proofs::Blocks::at_ends))]
-fn pour_first<T, A: Allocator, const N: usize>(
-    cells: &mut [Option<T>; N],
+// Puts another item at `i`, and gives the one that stood there.
+fn exchange<T, const N: usize>(places: &mut [T; N], i: usize, item: T) -> T
+    requires { i < length places.old }
+    ensures value { result ≡ slice_index_or places.old i result }
+    ensures after { places.new ≡ slice_set places.old i item }
+{
+    mem::replace(&mut places[i], item)
+}
+
+// Moves the first `len` of `places` behind those of a vector that has room for them, and leaves
+// blanks.
+fn pour_first<T: Default, A: Allocator, const N: usize>(
+    places: &mut [T; N],
     len: usize,
     into: &mut Vec<T, A>,
 )
-    requires there { IsRun cells.old 0 len }
+    requires within { len ≤ length places.old }
     requires room { HasRoom into.old len }
-    ensures count { length cells.new ≡ length cells.old }
-    ensures items { into.new.items ≡ into.old.items ++ run cells.old 0 len }
+    ensures items { into.new.items ≡ into.old.items ++ take len places.old }
     ensures block { SameBlock into.old into.new }
     ensures writes { Writes into.old len len into.new }
 {
     'each: for i in 0..len {
-        push_within(into, take(cells, i));
+        push_within(into, mem::take(&mut places[i]));
     }
 }
 
@@ -194,48 +196,5 @@ pub fn insert_within<T: Drop, A: Allocator>(into: &mut Vec<T, A>, index: usize, 
     match into.insert(index, item) {
         Ok(()) => {}
         Err(_) => unreachable!(),
-    }
-}
-
-// Puts an item at `i`.
-fn put<T: Drop, const N: usize>(cells: &mut [Option<T>; N], i: usize, item: T)
-    requires { i < length cells.old }
-    ensures { cells.new ≡ slice_set cells.old i (Some item) }
-{
-    cells[i] = Some(item);
-}
-
-// Takes the item at `i`.
-fn take<T, const N: usize>(cells: &mut [Option<T>; N], i: usize) -> T
-    requires { IsFilled cells.old i }
-    ensures value { get_or cells.old i None ≡ Some result }
-    ensures after { cells.new ≡ slice_set cells.old i None }
-{
-    match mem::replace(&mut cells[i], None) {
-        Some(item) => item,
-        None => unreachable!(),
-    }
-}
-
-// Puts another item at `i`, and gives the one that stood there.
-fn exchange<T, const N: usize>(cells: &mut [Option<T>; N], i: usize, item: T) -> T
-    requires { IsFilled cells.old i }
-    ensures value { get_or cells.old i None ≡ Some result }
-    ensures after { cells.new ≡ slice_set cells.old i (Some item) }
-{
-    match mem::replace(&mut cells[i], Some(item)) {
-        Some(old) => old,
-        None => unreachable!(),
-    }
-}
-
-// The item at `i`.
-fn place<T, const N: usize>(cells: &[Option<T>; N], i: usize) -> &T
-    requires { IsFilled cells.now i }
-    ensures { get_or cells.now i None ≡ Some result.now }
-{
-    match &cells[i] {
-        Some(item) => item,
-        None => unreachable!(),
     }
 }

@@ -1,11 +1,9 @@
 //! `InlineVec`: a vector whose first items stand in place.
-ghost use Rattle.std.specs.Prelude.{◌≡◌, ◌+◌, ◌-◌, ◌<◌, ◌≤◌, true, false, Some, [], ◌∷◌, ◌++◌, length, insert, remove, slice_get, slice_set, is_some, option_copied, IfErr, IfOk, OnErr, OnOk, IsOk, IsTrue, ◌↔◌, MatchOption};
-ghost use Rattle.std.specs.List.{list_all};
+ghost use Rattle.std.specs.Prelude.{◌≡◌, ◌+◌, ◌-◌, ◌<◌, ◌≤◌, true, false, Some, [], ◌∷◌, ◌++◌, length, insert, remove, slice_get, slice_set, option_copied, IfErr, IfOk, OnErr, OnOk, IsOk, IsTrue, ◌↔◌, MatchOption};
 ghost use Rattle.std.specs.Mem.{type_size};
 ghost use Rattle.allocator_api2.specs.Growth.{sized};
-ghost use Rattle.allocator_api2.specs.Places.{somes};
 ghost use Rattle.allocator_api2.specs.declared.raw_vec.Growth.TheVariants.{Doubling};
-ghost use Rattle.ex_inline.specs.Inlined.{capacity, empty, with_items, wrote, in_block, all_in_block, block_of, with_room, HasRoom, LacksBlock, LacksRoom};
+ghost use Rattle.ex_inline.specs.Inlined.{capacity, in_place, with_items, wrote, in_block, all_in_block, block_of, with_room, HasRoom, LacksBlock, LacksRoom};
 
 use crate::few::{Few, insert_within, push_within};
 use allocator_api2::collections::{Refused, TryReserveError, TryReserveErrorKind};
@@ -14,54 +12,43 @@ use std::alloc::Allocator;
 use std::marker::Model;
 use std::mem;
 
+mod many;
+
+// Where the items are, and the allocator.
+#[derive(Drop)]
+pub(crate) enum Data<T, A: Allocator, const N: usize> {
+    InPlace(Few<T, N>, A),
+    InBlock(Vec<T, A>),
+}
+
 /// A vector over the allocator `A`, of which up to `N` items stand in place. Where one more comes,
-/// all move into a block, and stand there from then on.
+/// all move into a block, and stand there from then on. Places without an item hold a blank, a
+/// default of `T`.
 #[derive(Drop)]
 pub struct InlineVec<T, A: Allocator, const N: usize> {
-    few: Few<T, N>,
-    heap: Vec<T, A>,
-    // whether the items stand in `heap`
-    spilled: bool,
+    pub(crate) data: Data<T, A, N>,
 }
 
 impl<T, A: Allocator, const N: usize> Model for InlineVec<T, A, N> {
-    ghost use Rattle.std.specs.Prelude.{◌≡◌, ◌+◌, [], false, if◌then◌else◌};
-    ghost use Rattle.allocator_api2.specs.declared.raw_vec.Growth.TheVariants.{Doubling};
     ghost use Rattle.ex_inline.specs.Inlined.{Inlined};
 
     ghost Value = { Inlined T A };
 
-    ghost view = { λ s. record {
-      items = if s.spilled then s.heap.items else s.few;
-      spilled = s.spilled;
-      block = s.heap.capacity;
-      moved = s.heap.grown + s.heap.written;
-      alloc = s.heap.alloc;
-    } };
+    ghost use Rattle.ex_inline.specs.InlinedInner.{view_of, Doubles};
 
-    ghost invariant = { λ s. (s.heap.growth ≡ Doubling) × (s.spilled ≡ false → s.heap.items ≡ []) };
+    ghost view = { λ s. view_of s.data };
+
+    ghost invariant = { λ s. Doubles s.data };
 }
 
-impl<T: Drop, A: Allocator, const N: usize> InlineVec<T, A, N> {
-    /// No items. It takes no memory.
-    pub fn new_in(alloc: A) -> Self
-        ensures { result ≡ empty (sized (type_size T.row) 0) alloc }
-    {
-        InlineVec {
-            few: Few::new(),
-            heap: Vec::new_in(alloc),
-            spilled: false,
-        }
-    }
-
+impl<T, A: Allocator, const N: usize> InlineVec<T, A, N> {
     /// How many items there are.
     pub fn len(&self) -> usize
         ensures { result ≡ length self.now.items }
     {
-        if self.spilled {
-            self.heap.len()
-        } else {
-            self.few.len()
+        match &self.data {
+            Data::InPlace(few, _) => few.len(),
+            Data::InBlock(heap) => heap.len(),
         }
     }
 
@@ -76,31 +63,100 @@ impl<T: Drop, A: Allocator, const N: usize> InlineVec<T, A, N> {
     pub fn capacity(&self) -> usize
         ensures { result ≡ capacity N self.now }
     {
-        if self.spilled {
-            self.heap.capacity()
-        } else {
-            N
+        match &self.data {
+            Data::InPlace(_, _) => N,
+            Data::InBlock(heap) => heap.capacity(),
         }
     }
 
-    /// Whether the items stand in the block.
+    /// Whether the items stand in a block.
     pub fn spilled(&self) -> bool
         ensures { result ≡ self.now.spilled }
     {
-        self.spilled
+        match &self.data {
+            Data::InPlace(_, _) => false,
+            Data::InBlock(_) => true,
+        }
+    }
+
+    /// The allocator.
+    pub fn allocator(&self) -> &A
+        ensures { result.now ≡ self.now.alloc }
+    {
+        match &self.data {
+            Data::InPlace(_, alloc) => alloc,
+            Data::InBlock(heap) => heap.allocator(),
+        }
+    }
+
+    /// The items, in order.
+    pub fn as_slice(&self) -> &[T]
+        ensures { result.now ≡ self.now.items }
+    {
+        match &self.data {
+            Data::InPlace(few, _) => few.as_slice(),
+            Data::InBlock(heap) => heap.as_slice(),
+        }
     }
 
     /// The item at `index`, the first one at 0, if there is one.
     pub fn get(&self, index: usize) -> Option<&T>
         ensures { option_copied result ≡ slice_get self.now.items index }
     {
-        if self.spilled {
-            return self.heap.as_slice().get(index);
+        self.as_slice().get(index)
+    }
+
+    /// Puts another item at `index`, and gives the one that stood there.
+    pub fn replace(&mut self, index: usize, item: T) -> T
+        requires { index < length self.old.items }
+        ensures old { slice_get self.old.items index ≡ Some result }
+        ensures now { self.new ≡ with_items self.old (slice_set self.old.items index item) }
+    {
+        match &mut self.data {
+            Data::InPlace(few, _) => few.replace(index, item),
+            Data::InBlock(heap) => mem::replace(&mut heap[index], item),
         }
-        if index < self.few.len() {
-            return Some(self.few.get(index));
+    }
+}
+
+impl<T: Default + Drop, A: Allocator + Copy, const N: usize> InlineVec<T, A, N> {
+    /// No items. It takes no memory.
+    pub fn new_in(alloc: A) -> Self
+        ensures { result ≡ in_place [] alloc }
+    {
+        InlineVec {
+            data: Data::InPlace(Few::new(), alloc),
         }
-        None
+    }
+
+    /// Makes room for `additional` more items. Where they fit, in place or in the block, it does
+    /// nothing. Else it takes a block with room to spare, and moves each item there once. A refusal
+    /// changes nothing: `CapacityOverflow`, for sure where the length would pass `usize::MAX`, or
+    /// `AllocError` with the capacity asked for.
+    pub fn reserve(&mut self, additional: usize) -> Result<(), TryReserveError>
+        ensures fits { HasRoom N self.old additional → IsOk result }
+        ensures room { OnOk result (HasRoom N self.new additional) }
+        ensures made { OnOk result
+            (self.new ≡ with_room (type_size T.row) N self.old additional) }
+        ensures items { self.new.items ≡ self.old.items }
+        ensures refused { IfErr result (LacksRoom (type_size T.row) N self.old additional) }
+        ensures unchanged { OnErr result (self.new ≡ self.old) }
+    {
+        match &mut self.data {
+            Data::InBlock(heap) => heap.try_reserve(additional),
+            Data::InPlace(few, alloc) => {
+                let len = few.len();
+                if additional <= N - len {
+                    return Ok(());
+                }
+                let Some(needed) = len.checked_add(additional) else {
+                    return Err(TryReserveErrorKind::CapacityOverflow.into());
+                };
+                let heap = in_a_block(few, *alloc, needed)?;
+                self.data = Data::InBlock(heap);
+                Ok(())
+            }
+        }
     }
 
     /// Puts `item` behind the others. It takes no memory where one more has room: in place while
@@ -108,14 +164,14 @@ impl<T: Drop, A: Allocator, const N: usize> InlineVec<T, A, N> {
     /// back and changes nothing: `CapacityOverflow`, for sure where the length would pass
     /// `usize::MAX`, or `AllocError` with the capacity asked for.
     pub fn push(&mut self, item: T) -> Result<(), Refused<T>>
-        ensures fits { HasRoom N self.old → IsOk result }
-        ensures pushed { let roomy = with_room (type_size T.row) N self.old in
+        ensures fits { HasRoom N self.old 1 → IsOk result }
+        ensures pushed { let roomy = with_room (type_size T.row) N self.old 1 in
             OnOk result (self.new ≡ wrote roomy (self.old.items ++ item ∷ []) 1) }
         ensures handed_back { IfErr result (λ r. r.source ≡ item) }
-        ensures refused { IfErr result (λ r. LacksRoom (type_size T.row) N self.old r.error) }
+        ensures refused { IfErr result (λ r. LacksRoom (type_size T.row) N self.old 1 r.error) }
         ensures unchanged { OnErr result (self.new ≡ self.old) }
     {
-        if let Err(error) = self.make_room() {
+        if let Err(error) = self.reserve(1) {
             return Err(Refused {
                 source: item,
                 error,
@@ -131,41 +187,27 @@ impl<T: Drop, A: Allocator, const N: usize> InlineVec<T, A, N> {
             (λ x. self.old.items ≡ self.new.items ++ x ∷ []) }
         ensures rest { self.new ≡ with_items self.old self.new.items }
     {
-        if self.spilled {
-            return self.heap.pop();
+        match &mut self.data {
+            Data::InPlace(few, _) if few.len() == 0 => None,
+            Data::InPlace(few, _) => Some(few.pop()),
+            Data::InBlock(heap) => heap.pop(),
         }
-        if self.few.len() == 0 {
-            return None;
-        }
-        Some(self.few.pop())
-    }
-
-    /// Puts another item at `index`, and gives the one that stood there.
-    pub fn replace(&mut self, index: usize, item: T) -> T
-        requires { index < length self.old.items }
-        ensures old { slice_get self.old.items index ≡ Some result }
-        ensures now { self.new ≡ with_items self.old (slice_set self.old.items index item) }
-    {
-        if self.spilled {
-            return mem::replace(&mut self.heap[index], item);
-        }
-        self.few.replace(index, item)
     }
 
     /// Puts `item` at `index`, and moves those from there on up by one. It takes memory, and is
     /// refused, as `push` is.
     pub fn insert(&mut self, index: usize, item: T) -> Result<(), Refused<T>>
         requires { index ≤ length self.old.items }
-        ensures fits { HasRoom N self.old → IsOk result }
+        ensures fits { HasRoom N self.old 1 → IsOk result }
         ensures inserted { let behind = length self.old.items - index in
-            let roomy = with_room (type_size T.row) N self.old in
+            let roomy = with_room (type_size T.row) N self.old 1 in
             OnOk result
             (self.new ≡ wrote roomy (insert self.old.items index item) (behind + 1)) }
         ensures handed_back { IfErr result (λ r. r.source ≡ item) }
-        ensures refused { IfErr result (λ r. LacksRoom (type_size T.row) N self.old r.error) }
+        ensures refused { IfErr result (λ r. LacksRoom (type_size T.row) N self.old 1 r.error) }
         ensures unchanged { OnErr result (self.new ≡ self.old) }
     {
-        if let Err(error) = self.make_room() {
+        if let Err(error) = self.reserve(1) {
             return Err(Refused {
                 source: item,
                 error,
@@ -183,10 +225,10 @@ impl<T: Drop, A: Allocator, const N: usize> InlineVec<T, A, N> {
         ensures rest { let behind = length self.old.items - index - 1 in
             self.new ≡ wrote self.old (remove self.old.items index) behind }
     {
-        if self.spilled {
-            return self.heap.remove(index);
+        match &mut self.data {
+            Data::InPlace(few, _) => few.remove(index),
+            Data::InBlock(heap) => heap.remove(index),
         }
-        self.few.remove(index)
     }
 
     /// The items as a vector, which doubles. It takes memory only where they stand in place and
@@ -198,106 +240,68 @@ impl<T: Drop, A: Allocator, const N: usize> InlineVec<T, A, N> {
         ensures doubles { IfOk result (λ v. v.growth ≡ Doubling) }
         ensures handed_back { IfErr result (λ r. r.source ≡ self) }
         ensures refused { let n = length self.items in
-            IfErr result (λ r. LacksBlock (type_size T.row) n self r.error) }
+            IfErr result (λ r. LacksBlock (type_size T.row) n r.error) }
     {
-        let mut small = self;
-        if small.spilled {
-            return Ok(small.into_heap());
-        }
-        let len = small.few.len();
-        match small.spill(len) {
-            Ok(()) => Ok(small.into_heap()),
-            Err(error) => Err(Refused {
-                source: small,
-                error,
-            }),
-        }
-    }
-
-    // The block.
-    fn into_heap(self) -> Vec<T, A>
-        requires { self.spilled ≡ true }
-        ensures made { block_of result ≡ self }
-        ensures doubles { result.growth ≡ Doubling }
-    {
-        let InlineVec {
-            few: _,
-            heap,
-            spilled: _,
-        } = self;
-        heap
-    }
-
-    // The items: the cells of those in place, and those in the block.
-    pub(crate) fn parts(&self) -> (&[Option<T>], &[T])
-        ensures items { somes result.0.now ++ result.1.now ≡ self.now.items }
-        ensures filled { list_all is_some result.0.now ≡ true }
-    {
-        if self.spilled {
-            (self.few.no_cells(), self.heap.as_slice())
-        } else {
-            (self.few.cells(), self.heap.as_slice())
+        let InlineVec { data } = self;
+        match data {
+            Data::InBlock(heap) => Ok(heap),
+            Data::InPlace(few, alloc) => {
+                let mut few = few;
+                let needed = few.len();
+                match in_a_block(&mut few, alloc, needed) {
+                    Ok(heap) => Ok(heap),
+                    Err(error) => Err(Refused {
+                        source: InlineVec {
+                            data: Data::InPlace(few, alloc),
+                        },
+                        error,
+                    }),
+                }
+            }
         }
     }
 
     // Puts `item` behind the others, where there is room.
     fn put_last(&mut self, item: T)
-        requires { HasRoom N self.old }
+        requires { HasRoom N self.old 1 }
         ensures { self.new ≡ wrote self.old (self.old.items ++ item ∷ []) 1 }
     {
-        if self.spilled {
-            push_within(&mut self.heap, item);
-        } else {
-            self.few.push(item);
+        match &mut self.data {
+            Data::InPlace(few, _) => few.push(item),
+            Data::InBlock(heap) => push_within(heap, item),
         }
     }
 
     // Puts `item` at `index`, where there is room.
     fn put(&mut self, index: usize, item: T)
         requires within { index ≤ length self.old.items }
-        requires room { HasRoom N self.old }
+        requires room { HasRoom N self.old 1 }
         ensures { let behind = length self.old.items - index in
             self.new ≡ wrote self.old (insert self.old.items index item) (behind + 1) }
     {
-        if self.spilled {
-            insert_within(&mut self.heap, index, item);
-        } else {
-            self.few.insert(index, item);
+        match &mut self.data {
+            Data::InPlace(few, _) => few.insert(index, item),
+            Data::InBlock(heap) => insert_within(heap, index, item),
         }
     }
+}
 
-    // Makes room for one more item.
-    fn make_room(&mut self) -> Result<(), TryReserveError>
-        ensures fits { HasRoom N self.old → IsOk result }
-        ensures made { OnOk result (self.new ≡ with_room (type_size T.row) N self.old) }
-        ensures room { OnOk result (HasRoom N self.new) }
-        ensures items { self.new.items ≡ self.old.items }
-        ensures refused { IfErr result (LacksRoom (type_size T.row) N self.old) }
-        ensures unchanged { OnErr result (self.new ≡ self.old) }
-    {
-        if self.spilled {
-            return self.heap.try_reserve(1);
-        }
-        if self.few.len() < N {
-            return Ok(());
-        }
-        match N.checked_add(1) {
-            None => Err(TryReserveErrorKind::CapacityOverflow.into()),
-            Some(needed) => self.spill(needed),
-        }
-    }
-
-    // Moves the items into a block of at least `needed` places.
-    fn spill(&mut self, needed: usize) -> Result<(), TryReserveError>
-        requires { (self.old.spilled ≡ false) × (length self.old.items ≤ needed) }
-        ensures made { OnOk result (self.new ≡ in_block (type_size T.row) needed self.old) }
-        ensures refused { IfErr result (LacksBlock (type_size T.row) needed self.old) }
-        ensures fits { needed ≤ self.old.block → IsOk result }
-        ensures unchanged { OnErr result (self.new ≡ self.old) }
-    {
-        self.heap.try_reserve(needed)?;
-        self.few.pour(&mut self.heap);
-        self.spilled = true;
-        Ok(())
-    }
+// The items of `few`, moved into a new block of at least `needed` places.
+fn in_a_block<T: Default + Drop, A: Allocator, const N: usize>(
+    few: &mut Few<T, N>,
+    alloc: A,
+    needed: usize,
+) -> Result<Vec<T, A>, TryReserveError>
+    requires { length few.old ≤ needed }
+    ensures made { IfOk result
+        (λ v. block_of v ≡ in_block (type_size T.row) needed (in_place few.old alloc)) }
+    ensures doubles { IfOk result (λ v. v.growth ≡ Doubling) }
+    ensures refused { IfErr result (LacksBlock (type_size T.row) needed) }
+    ensures fits { needed ≤ sized (type_size T.row) 0 → IsOk result }
+    ensures unchanged { OnErr result (few.new ≡ few.old) }
+{
+    let mut heap = Vec::new_in(alloc);
+    heap.try_reserve(needed)?;
+    few.pour(&mut heap);
+    Ok(heap)
 }

@@ -1,60 +1,178 @@
-//! The items of a small vector, one after the other.
-ghost use Rattle.std.specs.Prelude.{◌≡◌, length};
-ghost use Rattle.std.specs.Iterator.{at_most};
-ghost use Rattle.std.specs.Map.Iter.{TakesFirst, deref};
+//! The items of a small vector: by their index, one after the other, and taken out.
+ghost use Rattle.std.specs.Prelude.{◌≡◌, ◌<◌, length, slice_get, slice_index_or, IfSome, Some};
+ghost use Rattle.std.specs.Borrow.{sem};
+ghost use Rattle.std.specs.Option.{option_copied_mut};
+ghost use Rattle.std.specs.Iterator.{UpTo, YieldsFirst, YieldsLast, item_count};
+ghost use Rattle.std.specs.Iterator.Adapters.{IterYieldsInOrder, IterYieldsInReverse};
+ghost use Rattle.std.specs.Iterator.SizeHint.{IsWithinCount};
+ghost use Rattle.std.specs.Slice.Iter.{iter_rest};
 
-use crate::inline::InlineVec;
+use crate::inline::{Data, InlineVec};
 use std::alloc::Allocator;
+use std::iter::FusedIterator;
 use std::marker::Model;
+use std::mem;
+use std::ops::{Index, IndexMut};
+use std::slice::Iter;
 
-/// The items that are left, lent in order. A contract sees them as a list.
-#[derive(Drop)]
-pub struct Iter<'a, T> {
-    cells: &'a [Option<T>],
-    others: &'a [T],
+impl<T, A: Allocator, const N: usize> InlineVec<T, A, N> {
+    ghost use Rattle.ex_inline.specs.Lends.{lends_item, lends_if_there};
+
+    /// The items in order, from either end.
+    pub fn iter(&self) -> Iter<'_, T>
+        ensures rest { iter_rest result ≡ self.now.items }
+        ensures runs { IterYieldsInOrder T }
+        ensures runs_back { IterYieldsInReverse T }
+    {
+        self.as_slice().iter()
+    }
+
+    // The item at `index`, to write to.
+    fn item_mut(&mut self, index: usize) -> &mut T
+        requires { index < length self.old.items }
+        ensures* writes_back { sem 𝓛
+            (lends_item T.row A.row N.row A.Allocator self.entry index result) }
+        ensures value { slice_get self.old.items index ≡ Some result.now }
+    {
+        match &mut self.data {
+            Data::InPlace(few, _) => few.item_mut(index),
+            Data::InBlock(heap) => &mut heap[index],
+        }
+    }
+
+    /// The item at `index`, the first one at 0, to write to, if there is one.
+    pub fn get_mut(&mut self, index: usize) -> Option<&mut T>
+        ensures* writes_back { sem 𝓛
+            (lends_if_there T.row A.row N.row A.Allocator self.entry index result) }
+        ensures value { option_copied_mut result ≡ slice_get self.old.items index }
+    {
+        if index < self.len() {
+            return Some(self.item_mut(index));
+        }
+        None
+    }
 }
 
-impl<'a, T> Model for Iter<'a, T> {
-    ghost use Rattle.std.specs.Prelude.{◌≡◌, List, ◌++◌, is_some, true};
-    ghost use Rattle.std.specs.List.{list_all};
-    ghost use Rattle.allocator_api2.specs.Places.{somes};
+impl<T, A: Allocator, const N: usize> Index<usize> for InlineVec<T, A, N> {
+    type Output = T;
+
+    ghost can_index = { λ s i. i < length s.items };
+
+    ghost index_gives = { λ s i x. x ≡ slice_index_or s.items i x };
+
+    /// The item at the index, which is below the length.
+    fn index(&self, index: usize) -> &T {
+        &self.as_slice()[index]
+    }
+}
+
+impl<T, A: Allocator, const N: usize> IndexMut<usize> for InlineVec<T, A, N> {
+    ghost use Rattle.ex_inline.specs.Lends.{lends_item};
+
+    /// The item at the index, which is below the length, to write to.
+    fn index_mut(&mut self, index: usize) -> &mut T
+        requires { index < length self.old.items }
+        ensures* writes_back { sem 𝓛
+            (lends_item T.row A.row N.row A.Allocator self.entry index result) }
+        ensures value { result.now ≡ slice_index_or self.old.items index result.now }
+    {
+        self.item_mut(index)
+    }
+}
+
+/// The items of a small vector that are left, taken from either end. Its drop drops them, and gives
+/// the memory back. A contract sees them as a list.
+#[derive(Drop)]
+pub struct IntoIter<T, A: Allocator, const N: usize> {
+    rest: InlineVec<T, A, N>,
+    // how many were taken from the front; blanks stand there
+    front: usize,
+}
+
+impl<T, A: Allocator, const N: usize> Model for IntoIter<T, A, N> {
+    ghost use Rattle.std.specs.Prelude.{◌≤◌, List, drop, length};
 
     ghost Value = { List T };
 
-    ghost view = { λ i. somes i.cells.now ++ i.others.now };
+    ghost view = { λ i. drop i.front i.rest.items };
 
-    ghost invariant = { λ i. list_all is_some i.cells.now ≡ true };
+    ghost invariant = { λ i. i.front ≤ length i.rest.items };
 }
 
-impl<T: Drop, A: Allocator, const N: usize> InlineVec<T, A, N> {
-    /// The items, the first one first.
-    pub fn iter(&self) -> Iter<'_, T>
-        ensures { result ≡ self.now.items }
+impl<T, A: Allocator, const N: usize> InlineVec<T, A, N> {
+    /// The items, which come from either end of what this answers. It takes no memory.
+    pub fn into_iter(self) -> IntoIter<T, A, N>
+        ensures { result ≡ self.items }
     {
-        let (cells, others) = self.parts();
-        Iter { cells, others }
+        IntoIter {
+            rest: self,
+            front: 0,
+        }
     }
 }
 
-impl<'a, T> Iterator for Iter<'a, T> {
-    type Item = &'a T;
+impl<T: Default + Drop, A: Allocator + Copy, const N: usize> IntoIterator for InlineVec<T, A, N> {
+    type Item = T;
 
-    ghost next_gives = { TakesFirst deref };
+    type IntoIter = IntoIter<T, A, N>;
 
-    ghost remaining = { λ left. at_most (length left) };
+    ghost into_iter_gives = { λ s i. i ≡ s.items };
+
+    fn into_iter(self) -> IntoIter<T, A, N> {
+        InlineVec::into_iter(self)
+    }
+}
+
+impl<T: Default + Drop, A: Allocator + Copy, const N: usize> Iterator for IntoIter<T, A, N> {
+    type Item = T;
+
+    ghost next_gives = { YieldsFirst (λ rest. rest) };
+
+    ghost remaining = { item_count (λ rest. rest) };
 
     /// The next item, if one is left.
-    fn next(&mut self) -> Option<&'a T> {
-        let cells = self.cells;
-        if !cells.is_empty() {
-            self.cells = &cells[1..];
-            return cells[0].as_ref();
-        }
-        let others = self.others;
-        if others.is_empty() {
+    #[tactic(auto, using(crate::proofs::Fews::left))]
+    fn next(&mut self) -> Option<T> {
+        let front = self.front;
+        if front == self.rest.len() {
             return None;
         }
-        self.others = &others[1..];
-        Some(&others[0])
+        self.front = front + 1;
+        Some(self.rest.replace(front, T::default()))
+    }
+
+    /// How many items are left, exactly.
+    #[tactic(auto, using(crate::proofs::Fews::left))]
+    fn size_hint(&self) -> (usize, Option<usize>)
+        ensures lower { IsWithinCount result.0 (item_count (λ rest. rest) self.now) }
+        ensures upper { IfSome result.1 (UpTo (item_count (λ rest. rest) self.now)) }
+        ensures exact { result ≡ (length self.now, Some (length self.now)) }
+    {
+        let left = self.rest.len() - self.front;
+        (left, Some(left))
     }
 }
+
+impl<T: Default + Drop, A: Allocator + Copy, const N: usize> DoubleEndedIterator
+    for IntoIter<T, A, N> {
+    ghost next_back_gives = { YieldsLast (λ rest. rest) };
+
+    /// The last item, if one is left.
+    #[tactic(auto, using(crate::proofs::Fews::left))]
+    fn next_back(&mut self) -> Option<T> {
+        if self.front == self.rest.len() {
+            return None;
+        }
+        self.rest.pop()
+    }
+}
+
+impl<T: Default + Drop, A: Allocator + Copy, const N: usize> ExactSizeIterator
+    for IntoIter<T, A, N> {
+    #[tactic(auto, using(crate::proofs::Fews::left))]
+    fn len(&self) -> usize {
+        self.rest.len() - self.front
+    }
+}
+
+impl<T: Default + Drop, A: Allocator + Copy, const N: usize> FusedIterator for IntoIter<T, A, N> {}

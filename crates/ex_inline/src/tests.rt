@@ -1,6 +1,9 @@
 use crate::inline::InlineVec;
+use allocator_api2::vec::Vec;
 use std::alloc::Global;
 use std::cell::Cell;
+use std::mem;
+use std::test::Fail;
 use test_allocators::Faulty;
 use test_allocators::counted::Counted;
 
@@ -9,7 +12,7 @@ type Small<'a> = InlineVec<u64, &'a Faulty<Global>, 3>;
 
 // Whether the vector has these items.
 fn has(v: &Small<'_>, items: &[u64]) -> bool {
-    let mut same = v.iter().copied().eq(items.iter().copied());
+    let mut same = v.as_slice() == items && v.iter().copied().eq(items.iter().copied());
     for i in 0..items.len() {
         same = v.get(i).copied() == Some(items[i]) && same;
     }
@@ -105,13 +108,60 @@ fn each_item_is_dropped_once(rt: HostRuntime) {
     let drops = Cell::new(0);
     for len in 0u32..6 {
         drops.set(0);
-        let mut v: InlineVec<Counted<'_>, &Faulty<Global>, 2> = InlineVec::new_in(&heap);
+        let mut v: InlineVec<Option<Counted<'_>>, &Faulty<Global>, 2> = InlineVec::new_in(&heap);
         for value in 0..len {
             let drops = &drops;
-            assert!(rt; v.push(Counted { value, drops }).is_ok());
+            assert!(rt; v.push(Some(Counted { value, drops })).is_ok());
         }
         drop(v.pop());
         drop(v);
         assert!(rt; drops.get() == len && heap.outstanding() == 0);
     }
+}
+
+#[test]
+fn an_empty_place_takes_what_an_item_takes(rt: HostRuntime) {
+    assert!(rt; mem::size_of::<InlineVec<u64, Global, 4>>() == 48);
+    assert!(rt; mem::size_of::<InlineVec<u8, Global, 16>>() == 40);
+    assert!(rt; mem::size_of::<InlineVec<Option<u64>, Global, 4>>() == 80);
+}
+
+#[test]
+fn many_items_come_and_go(rt: HostRuntime) -> Result<(), Fail> {
+    let heap = Faulty::new(rt.alloc());
+    let mut v: Small<'_> = InlineVec::from_iter_in(0u64..2, &heap)?;
+    v.extend(2..3)?;
+    assert!(rt; has(&v, &[0, 1, 2]) && !v.spilled() && heap.requests() == 0);
+    v.extend(3..1000)?;
+    assert!(rt; (v.len(), v.capacity(), heap.requests()) == (1000, 1000, 1));
+    let copy: Small<'_> = InlineVec::from_slice_in(&[0u64, 1, 2], &heap)?;
+    assert!(rt; has(&copy.clone()?, &[0, 1, 2]) && heap.requests() == 1);
+    let mut items = v.into_iter();
+    assert!(rt; (items.next(), items.next_back(), items.len()) == (Some(0), Some(999), 998));
+    let rest = Vec::from_iter_in(items, &heap)?;
+    assert!(rt; (rest.len(), rest.capacity(), heap.requests()) == (998, 998, 2));
+    assert!(rt; copy.into_iter().rev().eq([2u64, 1, 0].iter().copied()));
+    drop(rest);
+    assert!(rt; heap.outstanding() == 0);
+    Ok(())
+}
+
+#[test]
+fn items_are_written_where_they_stand(rt: HostRuntime) -> Result<(), Fail> {
+    let heap = Faulty::new(rt.alloc());
+    for len in [3u64, 5] {
+        let mut v: Small<'_> = InlineVec::from_iter_in(0..len, &heap)?;
+        if v.len() > 1 {
+            v[1] = 21;
+        }
+        if let Some(place) = v.get_mut(2) {
+            *place = 22;
+        }
+        assert!(rt; (v.get(0), v.get(1), v.get(2)) == (Some(&0), Some(&21), Some(&22)));
+        assert!(rt; v.get_mut(7).is_none());
+        if v.len() > 1 {
+            assert!(rt; v[1] == 21);
+        }
+    }
+    Ok(())
 }

@@ -1,0 +1,51 @@
+-- Items that are pushed behind those of a small vector, one by one.
+use Rattle.std.proofs.Common.{◌≡◌, ℕ, ◌+◌, ◌-◌, ◌<◌, Bool, true, false, List, [], ◌∷◌, ◌++◌, length, refl, sym, ◌∙◌, arith, append_assoc, length-append}
+use Rattle.std.specs.Prelude.{nat_le, if◌then◌else◌}
+use Rattle.std.proofs.lemmas.Bool.Decides.{nat_tests}
+use Rattle.std.proofs.lemmas.List.{append-nil}
+use Rattle.std.proofs.lemmas.List.Elements.{same_from_all_zip}
+use Rattle.allocator_api2.proofs.Blocks.{with_room}
+use Rattle.ex_inline.specs.Extending.{pushed, pushed_all}
+use Rattle.ex_inline.specs.Inlined.{Inlined, capacity, wrote, HasRoom}
+
+module _ {T A : Type 0} (size N : ℕ) where
+  -- one more of them
+  pub pushed_all-push : (s : Inlined T A) (xs : List T) (x : T) → pushed_all size N s (xs ++ x ∷ []) ≡ pushed size N (pushed_all size N s xs) x
+  pushed_all-push s [] x = refl
+  pushed_all-push s (y ∷ xs) x = pushed_all-push (pushed size N s y) xs x
+
+  -- they stand behind the others, in order
+  pub items-pushed_all : (s : Inlined T A) (xs : List T) → (pushed_all size N s xs).items ≡ s.items ++ xs
+  items-pushed_all s [] = sym (append-nil s.items)
+  items-pushed_all s (x ∷ xs) = items-pushed_all (pushed size N s x) xs ∙ append_assoc s.items (x ∷ []) xs
+
+  -- room for m items is room for one and fewer others
+  pub room-pushed : (s : Inlined T A) (x : T) (m n : ℕ) → n < m → HasRoom N s m → HasRoom N (pushed size N s x) n
+  room-pushed s x m n fewer room =
+      let one : nat_le 1 (capacity N s - length s.items) ≡ true = grind (arith, nat_tests, fewer, room) in
+      rw one (omega (arith, length-append s.items (x ∷ []), fewer, room))
+
+-- what was moved, where the items stand in a block
+twice : (b : Bool) (k m n : ℕ) → k + (if b then m else 0) + (if b then n else 0) ≡ k + (if b then m + n else 0)
+twice true k m n = omega arith
+twice false k m n = omega arith
+
+unmoved : (b : Bool) (k : ℕ) → k + (if b then 0 else 0) ≡ k
+unmoved true k = omega arith
+unmoved false k = omega arith
+
+module _ {T A : Type 0} where
+  -- two writes in turn are one
+  pub wrote-wrote : (s : Inlined T A) (xs ys : List T) (m n : ℕ) → wrote (wrote s xs m) ys n ≡ wrote s ys (m + n)
+  wrote-wrote s xs ys m n = λ t. record { items = ys; spilled = s.spilled; block = s.block; moved = twice s.spilled s.moved m n t; alloc = s.alloc }
+
+  pub wrote-none : (s : Inlined T A) → wrote s s.items 0 ≡ s
+  wrote-none s = λ t. record { items = s.items; spilled = s.spilled; block = s.block; moved = unmoved s.spilled s.moved t; alloc = s.alloc }
+
+  -- one of n items that have room, and then the others
+  pub room-wrote : (N : ℕ) (s : Inlined T A) (x : T) (n i : ℕ) → i < n → HasRoom N s (n - i) → HasRoom N (wrote s (s.items ++ x ∷ []) 1) (n - (i + 1))
+  room-wrote N s x n i few room = omega (arith, length-append s.items (x ∷ []), few, room)
+
+pub ruleset pushes = (pushed_all-push, items-pushed_all)
+
+pub ruleset copied = (with_room, same_from_all_zip)

@@ -1,0 +1,9 @@
+use Rattle.std.proofs.Common.{◌+◌, ◌<◌, ◌∷◌, drop, length, sym, ap, ◌∙◌, arith}
+use Rattle.ex_inline.proofs.Fews.{left-next}
+use Rattle.ex_inline.proofs.iter.IntoIterIterator.next.Goals as goal
+
+pub returns-clause-steps : goal.returns-clause-steps
+returns-clause-steps g c =
+    let xs = c.self.inside.rest.items in let i = c.self.inside.front in
+    let few : i < length xs = grind (arith, c.if-front-len.false, c.len.ensures, c.self.invariant) in
+    sym c.self.view_is ∙ left-next xs i c.replace.result c.default.result few c.replace.ensures.old ∙ ap (λ s. c.replace.result ∷ drop (i + 1) s.items) (sym c.replace.ensures.now)
