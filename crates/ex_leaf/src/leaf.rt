@@ -1,0 +1,229 @@
+//! The leaf: a map from keys to values, with its entries in order.
+ghost use Rattle.std.specs.Prelude.{◌≡◌, ℕ, ◌+◌, ◌/◌, ◌<◌, ◌≤◌, ◌↔◌, [], ◌++◌, length, take, drop, slice_get, is_some, true, None, Some, IsOk, IsTrue, IfErr, IfOk, OnErr, OnOk, option_copied};
+ghost use Rattle.std.specs.Borrow.{sem};
+ghost use Rattle.std.specs.Option.{option_copied_mut};
+ghost use Rattle.allocator_api2.specs.Refusals.{IsRefusedAt};
+ghost use Rattle.ex_leaf.specs.Entries.{between, put, rank, value, without, IsAscending, IsAt, IsGap};
+
+use crate::moves::{join, part, put_at, swap_at, take_at};
+use allocator_api2::collections::TryReserveError;
+use allocator_api2::raw_vec::RawVec;
+use std::alloc::Allocator;
+use std::marker::Model;
+
+/// Values by keys, in the order of the keys. A contract sees the entries and how many there may be.
+pub struct Leaf<V, A: Allocator> {
+    block: RawVec<(u64, V), A>,
+    len: usize,
+}
+
+impl<V, A: Allocator> Model for Leaf<V, A> {
+    ghost use Rattle.ex_leaf.specs.Entries.{Ordered};
+
+    ghost Value = { Ordered V };
+
+    ghost use Rattle.ex_leaf.specs.Inside.{seen_of, IsLeaf};
+
+    ghost view = { seen_of };
+
+    ghost invariant = { IsLeaf };
+}
+
+#[tactic(auto, using(allocator_api2::proofs::Blocks::at_ends, crate::proofs::Order::order))]
+impl<V, A: Allocator> Leaf<V, A> {
+    ghost use Rattle.ex_leaf.specs.Lends.{lends_value};
+
+    /// No entries, and room for `capacity`. It takes memory here alone. A refusal has the number
+    /// `capacity`.
+    #[tactic(auto, using(allocator_api2::proofs::Blocks::with_room))]
+    pub fn with_capacity_in(capacity: usize, alloc: A) -> Result<Self, TryReserveError>
+        ensures none { IfOk result (λ l. l.entries ≡ []) }
+        ensures room { IfOk result (λ l. capacity ≤ l.capacity) }
+        ensures number { IfErr result (λ e. IsRefusedAt e capacity) }
+    {
+        let block = RawVec::with_capacity_in(capacity, alloc)?;
+        Ok(Leaf { block, len: 0 })
+    }
+
+    /// How many entries there are.
+    pub fn len(&self) -> usize
+        ensures len { result ≡ length self.now.entries }
+        ensures within { result ≤ self.now.capacity }
+    {
+        self.len
+    }
+
+    /// How many there may be.
+    pub fn capacity(&self) -> usize
+        ensures { result ≡ self.now.capacity }
+    {
+        self.block.capacity()
+    }
+
+    /// The keys with their values, in the order of the keys.
+    #[tactic(auto, using(allocator_api2::proofs::Blocks::shown))]
+    pub fn entries(&self) -> &[(u64, V)]
+        ensures all { result.now ≡ self.now.entries }
+        ensures ascending { IsAscending 0 result.now }
+    {
+        self.block.slice(0, self.len)
+    }
+
+    /// How many keys come before this one.
+    pub fn rank(&self, key: u64) -> usize
+        ensures rank { result ≡ rank key self.now.entries }
+        ensures within { result ≤ length self.now.entries }
+    {
+        rank_of(self.entries(), key)
+    }
+
+    /// The value of a key.
+    pub fn get(&self, key: u64) -> Option<&V>
+        ensures { option_copied result ≡ value key self.now.entries }
+    {
+        let entries = self.entries();
+        match seek(entries, key) {
+            Ok(at) => Some(&entries[at].1),
+            Err(_) => None,
+        }
+    }
+
+    /// The entries whose keys are at least `low` and below `high`, in order.
+    pub fn range(&self, low: u64, high: u64) -> &[(u64, V)]
+        ensures { result.now ≡ between low high self.now.entries }
+    {
+        let from = self.rank(low);
+        let to = self.rank(high).max(from);
+        &self.entries()[from..to]
+    }
+
+    /// The value of a key, to write to.
+    #[tactic(auto, using(allocator_api2::proofs::Blocks::at_positions))]
+    pub fn get_mut(&mut self, key: u64) -> Option<&mut V>
+        ensures* writes_back { sem 𝓛 (lends_value V.row A.row A.Allocator self.entry key result) }
+        ensures value { option_copied_mut result ≡ value key self.old.entries }
+    {
+        match seek(self.entries(), key) {
+            Ok(at) => Some(&mut self.block.place_mut(at).1),
+            Err(_) => None,
+        }
+    }
+
+    /// Gives the key this value, and answers the one that it had. It takes no memory: a new key is
+    /// refused where the leaf is full, which hands the value back and changes nothing.
+    pub fn insert(&mut self, key: u64, item: V) -> Result<Option<V>, V>
+        ensures fits { length self.old.entries < self.old.capacity → IsOk result }
+        ensures there { is_some (value key self.old.entries) ≡ true → IsOk result }
+        ensures old { IfOk result (λ old. old ≡ value key self.old.entries) }
+        ensures put { OnOk result (self.new.entries ≡ put key item self.old.entries) }
+        ensures capacity { self.new.capacity ≡ self.old.capacity }
+        ensures back { IfErr result (λ v. v ≡ item) }
+        ensures refused { OnErr result (self.new ≡ self.old) }
+    {
+        match seek(self.entries(), key) {
+            Ok(at) => {
+                let old = swap_at(&mut self.block, self.len, at, (key, item));
+                Ok(Some(old.1))
+            }
+            Err(at) => {
+                if self.len == self.block.capacity() {
+                    return Err(item);
+                }
+                put_at(&mut self.block, self.len, at, (key, item));
+                self.len += 1;
+                Ok(None)
+            }
+        }
+    }
+
+    /// Takes the key away, and answers the value that it had.
+    pub fn remove(&mut self, key: u64) -> Option<V>
+        ensures old { result ≡ value key self.old.entries }
+        ensures removed { self.new.entries ≡ without key self.old.entries }
+        ensures capacity { self.new.capacity ≡ self.old.capacity }
+    {
+        match seek(self.entries(), key) {
+            Ok(at) => {
+                let old = take_at(&mut self.block, self.len, at);
+                self.len -= 1;
+                Some(old.1)
+            }
+            Err(_) => None,
+        }
+    }
+
+    /// Moves the upper half of the entries to an empty leaf that has room for them.
+    pub fn split(&mut self, right: &mut Self)
+        requires empty { right.old.entries ≡ [] }
+        requires room { length self.old.entries ≤ right.old.capacity }
+        ensures lower { self.new.entries ≡ take (length self.old.entries / 2) self.old.entries }
+        ensures upper { right.new.entries ≡ drop (length self.old.entries / 2) self.old.entries }
+        ensures capacity { self.new.capacity ≡ self.old.capacity }
+        ensures capacity_there { right.new.capacity ≡ right.old.capacity }
+    {
+        let half = self.len / 2;
+        let moved = self.len - half;
+        part(&mut self.block, self.len, half, &mut right.block);
+        self.len = half;
+        right.len = moved;
+    }
+
+    /// Moves all entries of a leaf with greater keys behind those of this one, which has room.
+    pub fn merge(&mut self, right: &mut Self)
+        requires apart { IsAscending 0 (self.old.entries ++ right.old.entries) }
+        requires room { length self.old.entries + length right.old.entries ≤ self.old.capacity }
+        ensures all { self.new.entries ≡ self.old.entries ++ right.old.entries }
+        ensures emptied { right.new.entries ≡ [] }
+        ensures capacity { self.new.capacity ≡ self.old.capacity }
+        ensures capacity_there { right.new.capacity ≡ right.old.capacity }
+    {
+        self.block.known();
+        join(&mut self.block, self.len, &mut right.block, right.len);
+        self.len += right.len;
+        right.len = 0;
+    }
+}
+
+impl<V: Drop, A: Allocator> Drop for Leaf<V, A> {
+    #[tactic(auto, using(allocator_api2::proofs::Blocks::in_runs))]
+    fn drop(self) {
+        let Leaf { mut block, len } = self;
+        block.drop_run(0, len);
+    }
+}
+
+// Where a key is, or where it belongs.
+fn seek<V>(entries: &[(u64, V)], key: u64) -> Result<usize, usize>
+    requires { IsAscending 0 entries.now }
+    ensures found { IfOk result (IsAt key entries.now) }
+    ensures absent { IfErr result (IsGap key entries.now) }
+{
+    let at = rank_of(entries, key);
+    if has_key(entries, at, key) {
+        Ok(at)
+    } else {
+        Err(at)
+    }
+}
+
+// Whether the entry at a position has this key.
+fn has_key<V>(entries: &[(u64, V)], at: usize, key: u64) -> bool
+    ensures within { IsTrue result → at < length entries.now }
+    ensures there { (e : ℕ × V) → slice_get entries.now at ≡ Some e
+        → (IsTrue result ↔ (e.0 ≡ key)) }
+{
+    at < entries.len() && entries[at].0 == key
+}
+
+// How many keys come before this one.
+fn rank_of<V>(entries: &[(u64, V)], key: u64) -> usize
+    ensures rank { result ≡ rank key entries.now }
+    ensures within { result ≤ length entries.now }
+{
+    for i in 0..entries.len() {
+        if entries[i].0 >= key {
+            return i;
+        }
+    }
+    entries.len()
+}
