@@ -1,5 +1,5 @@
 //! Closures that choose.
-ghost use Rattle.std.specs.Prelude.{◌≡◌, ◌==◌, ◌-◌, ◌%◌, ◌++◌, filter, length, nat_lt, not, replicate, take, OnOk};
+ghost use Rattle.std.specs.Prelude.{◌≡◌, ◌==◌, ◌+◌, ◌-◌, ◌%◌, ◌++◌, filter, length, nat_lt, not, replicate, take, OnOk};
 ghost use Rattle.std.specs.List.{dedup};
 
 use allocator_api2::collections::TryReserveError;
@@ -27,6 +27,17 @@ pub fn distinct<A: Allocator>(v: &mut Vec<u64, A>)
     ensures { v.new.items ≡ dedup (λ x y. x == y) v.old.items }
 {
     v.dedup();
+}
+
+/// Leaves one pair of each row with an equal key, and answers how many went.
+#[tactic(auto, using(allocator_api2::proofs::Callers::callers))]
+pub fn distinct_keys<A: Allocator>(v: &mut Vec<(u32, u32), A>) -> usize
+    ensures left { v.new.items ≡ dedup (λ x y. x.0 == y.0) v.old.items }
+    ensures count { result + length v.new.items ≡ length v.old.items }
+{
+    let before = v.len();
+    v.dedup_by_key(|p| p.0);
+    before - v.len()
 }
 
 /// Cuts to `count` elements, or fills up with sevens.

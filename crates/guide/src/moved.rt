@@ -1,5 +1,5 @@
 //! Elements that go from one vector to another, or to the toolchain's own and back.
-ghost use Rattle.std.specs.Prelude.{◌≡◌, ◌*◌, ◌++◌, filter, map, nat_lt, IfOk, OnOk};
+ghost use Rattle.std.specs.Prelude.{◌≡◌, ◌*◌, ◌++◌, filter, flat_map, map, nat_lt, not, IfOk, OnOk};
 
 use allocator_api2::collections::TryReserveError;
 use allocator_api2::vec::Vec;
@@ -16,6 +16,42 @@ pub fn push_each<A: Allocator>(
 {
     for x in from {
         to.push(x)?;
+    }
+    Ok(())
+}
+
+/// Parts a vector: the numbers below `pivot` go behind those of `small`, the others behind those of
+/// `big`.
+pub fn part_at<A: Allocator>(
+    from: Vec<u64, A>,
+    pivot: u64,
+    small: &mut Vec<u64, A>,
+    big: &mut Vec<u64, A>,
+) -> Result<(), TryReserveError>
+    ensures below { OnOk result
+        (small.new.items ≡ small.old.items ++ filter (λ x. nat_lt x pivot) from.items) }
+    ensures others { OnOk result
+        (big.new.items ≡ big.old.items ++ filter (λ x. not (nat_lt x pivot)) from.items) }
+{
+    for x in from {
+        if x < pivot {
+            small.push(x)?;
+        } else {
+            big.push(x)?;
+        }
+    }
+    Ok(())
+}
+
+/// Moves the elements of all rows, in order, behind those of another vector.
+pub fn join_rows<A: Allocator>(
+    rows: Vec<Vec<u32, A>, A>,
+    to: &mut Vec<u32, A>,
+) -> Result<(), TryReserveError>
+    ensures { OnOk result (to.new.items ≡ to.old.items ++ flat_map (λ r. r.items) rows.items) }
+{
+    for mut row in rows {
+        to.append(&mut row)?;
     }
     Ok(())
 }

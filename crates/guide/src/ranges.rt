@@ -1,5 +1,6 @@
 //! Ranges taken out of a vector, and put into one.
-ghost use Rattle.std.specs.Prelude.{◌≡◌, ◌≤◌, ◌++◌, ◌/◌, drop, length, map, take, OnOk, ℕ, List, [], ◌∷◌, slice_range, MatchOption};
+ghost use Rattle.std.specs.Prelude.{◌≡◌, ◌≤◌, ◌++◌, ◌/◌, drop, length, map, take, OnErr, OnOk, ℕ, List, [], ◌∷◌, slice_range, MatchOption};
+ghost use Rattle.allocator_api2.specs.Vector.{HasRoom, Holds};
 
 use allocator_api2::collections::TryReserveError;
 use allocator_api2::vec::Vec;
@@ -63,4 +64,37 @@ pub fn add_halves<A: Allocator>(v: &mut Vec<u32, A>, numbers: &[u32]) -> Result<
     ensures { OnOk result (v.new.items ≡ v.old.items ++ map (λ x. x / 2) numbers.now) }
 {
     v.extend(numbers.iter().map(|x| *x / 2))
+}
+
+/// Turns the numbers to the left by `count`: the first ones go behind the others. A refusal changes
+/// nothing.
+pub fn turn_left<A: Allocator + Clone>(
+    v: &mut Vec<u32, A>,
+    count: usize,
+) -> Result<(), TryReserveError>
+    requires { count ≤ length v.old.items }
+    ensures turned { OnOk result (v.new.items ≡ drop count v.old.items ++ take count v.old.items) }
+    ensures refused { OnErr result (v.new ≡ v.old) }
+{
+    v.known();
+    let mut first = Vec::with_capacity_in(count, v.allocator().clone()?)?;
+    take_first(v, count, &mut first);
+    v.append(&mut first)
+}
+
+// Moves the first `count` numbers behind those of `to`, which has room for them. The range is held
+// in a variable, so that it is known what stays.
+fn take_first<A: Allocator>(v: &mut Vec<u32, A>, count: usize, to: &mut Vec<u32, A>)
+    requires within { count ≤ length v.old.items }
+    requires room { HasRoom to.old count }
+    ensures moved { to.new.items ≡ to.old.items ++ take count v.old.items }
+    ensures left { Holds v.old (drop count v.old.items) v.new }
+{
+    let mut range = v.drain(0..count);
+    while let Some(x) = range.next() {
+        match to.push_within_capacity(x) {
+            Ok(()) => {}
+            Err(_) => unreachable!(),
+        }
+    }
 }

@@ -1,10 +1,11 @@
 //! A collection of its own, on the block: its items stand at the first places.
-ghost use Rattle.std.specs.Prelude.{◌≡◌, [], ◌∷◌, ◌++◌, IfErr, MatchOption, OnOk};
+ghost use Rattle.std.specs.Prelude.{◌≡◌, ◌<◌, [], ◌∷◌, ◌++◌, length, slice_get, slice_set, Some, IfErr, MatchOption, OnOk};
 
 use allocator_api2::collections::Refused;
 use allocator_api2::raw_vec::RawVec;
 use std::alloc::{Allocator, Global};
 use std::marker::Model;
+use std::mem;
 
 /// A stack: a list to contracts.
 pub struct Stack<T, A: Allocator = Global> {
@@ -77,6 +78,16 @@ impl<T, A: Allocator> Stack<T, A> {
         self.block.move_run(1, 0, last);
         self.len = last;
         Some(first)
+    }
+
+    /// Puts an item in the place of another, and answers that one.
+    #[tactic(auto, using(allocator_api2::proofs::Blocks::at_positions))]
+    pub fn replace(&mut self, index: usize, item: T) -> T
+        requires { index < length self.old.items }
+        ensures old { slice_get self.old.items index ≡ Some result }
+        ensures now { self.new.items ≡ slice_set self.old.items index item }
+    {
+        mem::replace(self.block.place_mut(index), item)
     }
 }
 
