@@ -1,12 +1,13 @@
 """Reads the definitions of the crates' specs, and which of them a clause reaches.
 
-`docs/index` writes docs/WORDS.md by it, and `docs/reach` counts by it.
+`docs/index` writes docs/WORDS.md and the pages for a browser by it, and `docs/reach` counts by it.
 """
+import collections
 import functools
 import pathlib
 import re
 
-TOP = pathlib.Path(__file__).resolve().parent.parent
+TOP = pathlib.Path(__file__).resolve().parent.parent.parent
 # The library's crates, from the ground up.
 CRATES = ["aa_raw", "aa_boxed", "aa_vec", "aa_gap", "allocator_api2"]
 HEAD = re.compile(r"^((?:  )*)(?:(abbrev|unfoldable|opaque|irreducible) )?pub (?:(record|data) )?([^\s.:{}()]+)(?=[\s:(]|$)")
@@ -15,10 +16,10 @@ USE = re.compile(r"(?:pub |ghost )*use Rattle\.(\w+)\.specs\.([\w.]+?)(?:\.\{(.*
 
 
 class Word:
-    """A definition of a specs file: its name, comment, head, and all of its text."""
+    """A definition of a specs file: its name, comment, head, all of its text, and the line where that begins."""
 
-    def __init__(self, file, name, comment, text, around):
-        self.file, self.name, self.comment, self.text = file, name, comment, text
+    def __init__(self, file, name, comment, text, around, line):
+        self.file, self.name, self.comment, self.text, self.line = file, name, comment, text, line
         self.around = around  # the heads of the modules that it stands in
 
     def sentence(self):
@@ -29,6 +30,14 @@ class Word:
         head = re.split(r"\bwhere\b|\n\s*" + re.escape(self.name) + r"\s", self.text)[0]
         bound, _, arrows = parted(head.split(self.name, 1)[1], ":")
         return sum(named(part) for part in self.around) + named(bound) + behind(arrows)
+
+
+def sliced(lines, at, indent, name):
+    """The lines of the definition that begins here: those that stand deeper, and the equations that begin with its name."""
+    end = at + 1
+    while end < len(lines) and lines[end].strip() and lines[end].startswith((indent + "  ", indent + name)):
+        end += 1
+    return lines[at:end]
 
 
 def parted(text, mark):
@@ -98,12 +107,9 @@ class File:
             if line.strip().startswith("-- "):
                 comment.append(line.strip()[3:])
             elif found and not line.startswith(("pub use", "pub module")):
-                indent, name, end = found.group(1), found.group(4), at + 1
-                # The body: lines that stand deeper, and the equations that begin with the name.
-                while end < len(lines) and lines[end].strip() and lines[end].startswith((indent + "  ", indent + name)):
-                    end += 1
-                yield name, Word(self, name, comment, "\n".join(lines[at:end]), [it[1] for it in modules])
-                comment, at = [], end
+                text = sliced(lines, at, found.group(1), found.group(4))
+                yield found.group(4), Word(self, found.group(4), comment, "\n".join(text), [it[1] for it in modules], at + 1)
+                comment, at = [], at + len(text)
                 continue
             else:
                 comment = []
@@ -184,21 +190,36 @@ def reached(text, scope):
     return seen
 
 
-def clauses(lines, at):
-    """The clauses from line `at` to the body: word, name and text of each; and the line behind them."""
-    found = []
+# A clause as it stands: `requires` or `ensures`, its name, its text line by line without the clause's own columns, the heading of its
+# group (the `//` lines above the group's first clause), and its line.
+Clause = collections.namedtuple("Clause", "word name lines group line")
+
+
+def told(lines, at):
+    """The clauses from line `at` to the body, as they stand; and the line behind them."""
+    found, group, heading = [], "", []
     while at < len(lines):
         line = lines[at].strip()
         if re.match(r"(requires|ensures)\b", line):
-            text = line
-            while text.count("{") > text.count("}"):
+            group, heading = " ".join(heading) or group, []
+            text, first, columns = [line], at, len(lines[at]) - len(line)
+            while "".join(text).count("{") > "".join(text).count("}"):
                 at += 1
-                text += " " + lines[at].strip()
-            head = re.match(r"(requires|ensures)\*?\s*([a-z_]\w*)?\s*\{(.*)\}\s*;?\s*\{?$", text, re.S)
-            found.append((head.group(1), head.group(2) or "", head.group(3).strip()))
-            if text.endswith((";", "} {")):
+                indent = len(lines[at]) - len(lines[at].lstrip())
+                text.append(" " * max(0, indent - columns - 4) + lines[at].strip())
+            head = re.match(r"(requires|ensures)\*?\s*([a-z_]\w*)?\s*\{(.*)\}\s*;?\s*\{?$", "\n".join(text), re.S)
+            found.append(Clause(head.group(1), head.group(2) or "", head.group(3).strip().split("\n"), group, first + 1))
+            if line.endswith((";", "} {")) or text[-1].endswith((";", "} {")):
                 break
-        elif line == "{" or line.endswith(";") or line.startswith(("pub ", "fn ", "impl", "}")):
+        elif line.startswith("//") and not line.startswith("///"):
+            heading.append(line[2:].strip())
+        elif line in ("{", "{}") or line.endswith(";") or line.startswith(("pub ", "fn ", "impl", "}")):
             break
         at += 1
     return found, at
+
+
+def clauses(lines, at):
+    """The clauses from line `at` to the body: word, name and text of each; and the line behind them."""
+    found, behind_them = told(lines, at)
+    return [(it.word, it.name, " ".join(line.strip() for line in it.lines)) for it in found], behind_them

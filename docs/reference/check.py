@@ -1,0 +1,93 @@
+"""Sees that a folder of pages hangs together: each link and anchor leads somewhere, each item and word is there, nothing is asked of
+anywhere."""
+import html
+import re
+import urllib.parse
+
+from sources import all_modules, hidden_types, text_of
+from text import told_words
+from words import TOP
+
+
+class Page:
+    """The anchors of a page, those that stand twice, what it links to and loads, and links within others."""
+
+    def __init__(self, text):
+        self.ids, self.links, self.loads, self.twice = set(), [], [], []
+        self.nested = re.findall(r"<a [^>]*>(?:(?!</a>)[^\n])*<a [^>]*>", text)
+        for tag, attributes in re.findall(r"<([a-z]\w*)((?:\s[^<>]*)?)>", text):
+            for name, value in re.findall(r'\s(id|href|src)="([^"]*)"', attributes):
+                value = html.unescape(value)
+                if name == "id":
+                    self.twice += [value] if value in self.ids else []
+                    self.ids.add(value)
+                else:
+                    (self.loads if name == "src" or tag == "link" else self.links).append(value)
+
+
+def read(file):
+    """A page; of one that shows a source, the lines are read by themselves."""
+    text = file.read_text(encoding="utf-8")
+    if file.parent.name != "source":
+        return Page(text)
+    before, _, rest = text.partition('<pre class="source">')
+    lines, _, behind = rest.partition("</pre>")
+    page = Page(before + behind)
+    page.ids |= set(re.findall(r'^<a id="(L\d+)"', lines, re.M))
+    return page
+
+
+def faults(folder):
+    """What is wrong with the pages in a folder."""
+    pages = {str(file.relative_to(folder)): read(file) for file in folder.rglob("*.html")}
+    for name, page in pages.items():
+        yield from (f"{name} has a link within a link: {it}" for it in page.nested)
+        yield from (f"{name} has the anchor {it} twice" for it in page.twice)
+        for target in page.links + page.loads:
+            wrong = lost(folder, pages, name, target)
+            if wrong:
+                yield f"{name} links to {target}: {wrong}"
+        for target in page.loads:
+            if re.match(r"(\w+:)?//", target):
+                yield f"{name} asks {target} of elsewhere"
+    yield from missing(pages)
+    style, script = ((folder / it).read_text(encoding="utf-8") for it in ("reference.css", "reference.js"))
+    if re.search(r"url\(|@import", style) or re.search(r"\b(fetch|XMLHttpRequest|import)\b\s*\(", script):
+        yield "the stylesheet or the script asks for something"
+    if script.count("\n") > 200:
+        yield f"the script has {script.count(chr(10))} lines, of 200"
+
+
+def lost(folder, pages, name, target):
+    """Why a link leads nowhere, if it does."""
+    if re.match(r"\w+:", target):
+        return None
+    path, _, anchor = target.partition("#")
+    there = (folder / name).parent / urllib.parse.unquote(path) if path else folder / name
+    if not there.exists():
+        return "no such file"
+    key = str(there.resolve().relative_to(folder.resolve()))
+    if anchor and key in pages and urllib.parse.unquote(anchor) not in pages[key].ids:
+        return "no such anchor"
+    return None
+
+
+def missing(pages):
+    """The public calls, types and words that no page has; found in the sources anew, line by line."""
+    links = [it for name, page in pages.items() if not name.startswith("source/") for it in page.links]
+    named = {urllib.parse.unquote(it) for it in links if it.startswith("source/")}
+    for module in all_modules():
+        hidden, owner, shown = hidden_types(module), "", True
+        for at, line in enumerate(text_of(module.file).split("\n"), 1):
+            if re.match(r"impl\b", line):
+                owner, shown = line, not any(re.search(rf"\b{it}\b", line) for it in hidden)
+            elif line == "}":
+                owner, shown = "", True
+            there = re.match(r"    pub fn (\w+)", line) if owner else re.match(r"pub (?:fn|struct|enum|trait) (\w+)", line) if module.public else None
+            where = f"source/{'.'.join(module.file.relative_to(TOP / 'crates').parts)}.html#L{at}"
+            if there and shown and where not in named:
+                yield f"no page has {there.group(1)} of {module.file.relative_to(TOP)}, line {at}"
+    ids = {it for page in pages.values() for it in page.ids}
+    for word in told_words():
+        if f"{word.file.key[1]}.{word.name}" not in ids:
+            yield f"no page has the word {word.name} of {word.file.path.relative_to(TOP)}"

@@ -1,0 +1,81 @@
+"""Renders the repository's pages of markdown beside the reference."""
+import html
+import re
+
+from carried import modules_in
+from markdown import Renderer
+from tags import link, plain
+from words import TOP
+
+NAMES = {"README.md": "Bozhenaw", "bench/README.md": "Costs", "tests/scripts/README.md": "Stored scripts"}
+FILES = {
+    "README.md": "index.html",
+    "bench/README.md": "costs.html",
+    "tests/scripts/README.md": "scripts.html",
+    "tools/vim/README.md": "EDITOR.html",
+}
+# Pages of text that the pages for a browser say better.
+REPLACED = {"docs/INDEX.md": "items.html", "docs/WORDS.md": "words.html"}
+
+
+def page_name(name):
+    return FILES.get(name) or name.rsplit("/", 1)[-1].replace(".md", ".html")
+
+
+def title_of(name):
+    if name in NAMES:
+        return NAMES[name]
+    return re.match(r"# (.*)", (TOP / name).read_text(encoding="utf-8")).group(1).replace("`", "")
+
+
+class Guide:
+    """One page of markdown: where its links lead, and what its pieces of code are."""
+
+    def __init__(self, name, site):
+        self.name, self.site = name, site
+        self.renderer = Renderer(self.link, site.items.code)
+        self.renderer.block = self.block
+        if name == "docs/SPECIFICATION.md":
+            self.renderer.bracket = self.carried
+
+    def made(self):
+        body = self.renderer.page((TOP / self.name).read_text(encoding="utf-8"))
+        inner = [(anchor, title) for level, anchor, title in self.renderer.headings if level == 2]
+        if len(inner) < 3:
+            return body
+        first, rest = body.split("</h1>", 1) if "</h1>" in body else ("", body)
+        listed = "".join(f'<li><a href="#{anchor}">{self.renderer.bare(title)}</a></li>' for anchor, title in inner)
+        return f'{first}</h1><details class="here" open><summary>On this page</summary><ul>{listed}</ul></details>{rest}'
+
+    def carried(self, bracket):
+        """What carries a rule: each name leads to where it is told."""
+        shown, modules = [], modules_in(self.renderer.title)
+        for name, clauses in self.site.carried.parts(bracket):
+            found = self.site.carried.links(name, clauses, modules) or [(it, None) for it in (name, *clauses)]
+            told = [link(href, plain(it), "w type") if href else plain(it) for it, href in found]
+            head, rest = ("tested", told) if name == "tested" else (told[0], told[1:])
+            shown.append(head + (": " + ", ".join(rest) if rest else ""))
+        return f'<small class="carried">[{"; ".join(shown)}]</small>'
+
+    def link(self, target):
+        """Where a link of this page leads in the folder of pages; none where nothing of it is there."""
+        if re.match(r"\w+:", target):
+            return target
+        path, _, anchor = target.partition("#")
+        if not path:
+            return target
+        there = ((TOP / self.name).parent / path).resolve()
+        name = str(there.relative_to(TOP)) if there.is_relative_to(TOP) else ""
+        end = f"#{anchor}" if anchor else ""
+        if name in REPLACED:
+            return REPLACED[name]
+        if any(name in names for _, names in self.site.guides):
+            return page_name(name) + end
+        if there.suffix == ".svg" and there.exists():
+            return there.name
+        if there.suffix in (".rt", ".antt") and name.startswith("crates/") and there.exists():
+            return self.site.source_link(there)
+        return None
+
+    def block(self, kind, text):
+        return self.site.items.rust(text) if kind == "rust" else html.escape(text, quote=False)

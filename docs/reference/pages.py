@@ -1,0 +1,219 @@
+"""Makes the pages for a browser in a folder: `docs/index --html FOLDER`."""
+import html
+import json
+import shutil
+import textwrap
+
+import guides
+import toolchain
+from carried import Carried
+from items import Items
+from library import LIBRARY, Reference
+from linked import slug
+from sources import text_of
+from tags import code, entry, folded, here, link, piece, plain, section
+from words import CRATES, TOP, cited, files, uses
+
+HERE = TOP / "docs" / "reference"
+# The groups of the table of contents, each with its pages of markdown in order; a page that no group names stands in the last.
+GUIDES = [
+    ("Begin", ["README.md", "docs/CALLING.md", "docs/EXAMPLES.md", "docs/ALLOCATORS.md"]),
+    ("Rules", ["docs/SPECIFICATION.md", "docs/DIFFERENCES.md", "docs/RULESETS.md"]),
+    ("This project", ["docs/DESIGN.md", "docs/DECISIONS.md", "CONTRIBUTING.md", "tools/vim/README.md", "CHANGELOG.md"]),
+    ("Measures and tests", ["bench/README.md", "bench/TRIED.md", "tests/scripts/README.md"]),
+]
+
+
+class Site:
+    """All pages: makes them in memory, and writes them."""
+
+    def __init__(self):
+        self.reference = Reference()
+        self.links, self.library = self.reference.links, self.reference.library
+        self.items = Items(self.reference, self.source_link)
+        self.carried = Carried(self.reference)
+        self.sources, self.pages = {}, {}
+        self.guides = self.guide_pages()
+
+    def guide_pages(self):
+        named = {name for _, names in GUIDES for name in names} | set(guides.REPLACED)
+        there = sorted(f"docs/{it.name}" for it in (TOP / "docs").glob("*.md"))
+        groups = [(title, [it for it in names if (TOP / it).exists()]) for title, names in GUIDES]
+        groups[-1][1].extend(it for it in there if it not in named)
+        return groups
+
+    def source_link(self, file, line=None):
+        """Where a source's line is shown; the source gets a page by this."""
+        name = ".".join(file.relative_to(TOP / "crates").parts) + ".html"
+        self.sources[name] = file
+        return f"source/{name}" + (f"#L{line}" if line else "")
+
+    def make(self):
+        for page in self.library.pages.values():
+            self.add(page.file, page.title, self.items.page(page), "module")
+        self.add("items.html", "Every item", self.items.list_of_all(), "wide")
+        for _, names in self.guides:
+            for name in names:
+                renderer = guides.Guide(name, self)
+                self.add(guides.page_name(name), guides.title_of(name), renderer.made(), "guide")
+        self.words_pages()
+        self.add("toolchain.html", "Words of the toolchain", self.toolchain_page(), "words")
+        for name, file in list(self.sources.items()):
+            self.add(f"source/{name}", str(file.relative_to(TOP)), source_page(file), "source")
+        return self
+
+    def add(self, name, title, body, kind):
+        self.pages[name] = (title, body, kind)
+
+    def words_pages(self):
+        rows, users = [], self.citing()
+        for crate in CRATES:
+            there = [(file, [it for it in file.words.values() if it in self.reference.words]) for file in files().values() if file.crate == crate]
+            there = [(file, words) for file, words in there if words]
+            self.add(f"words-{crate}.html", f"Words of {crate}", self.words_page(crate, there, users), "words")
+            for file, words in there:
+                head = link(f"words-{crate}.html#{slug(file.key[1])}", self.items.unlinked(heading(file)))
+                named = ", ".join(link(self.reference.words[it], plain(it.name), "w own") for it in words)
+                rows.append(f"<li>{head}: {named}</li>")
+        told = f"{len(self.reference.words)} definitions, by file: what clauses of public calls reach, and what an {code('impl')} says of its trait."
+        self.add("words.html", "Words", f'<h1>The words of the contracts</h1><p>{told}</p><ul class="plain">{"".join(rows)}</ul>', "words")
+
+    def words_page(self, crate, there, users):
+        out = [f"<h1>Words of {code(crate)}</h1>"]
+        for file, words in there:
+            title = f'<h2 id="{slug(file.key[1])}">{self.items.prose(heading(file))}</h2>'
+            out.append(f'{title}<p class="where">{self.items.source(file.path, 1)}</p>')
+            out += [self.word(word, users.get(word, [])) for word in words]
+        return "\n".join(out)
+
+    def word(self, word, calls):
+        name = self.reference.words[word].split("#")[1]
+        head = f"<h3>{here(name, code(plain(word.name)))} {self.items.source(word.file.path, word.line)}</h3>"
+        used = folded(f"Calls whose clauses name it: {len(calls)}", f"<p>{', '.join(calls)}</p>") if calls else ""
+        told = f"<p>{self.items.prose(word.sentence())}</p>"
+        return section("word", name, head + told + piece(self.items.definition(word, "definition")) + used)
+
+    def citing(self):
+        """The calls whose clauses name a word, by the word."""
+        found = {}
+        for name, of, kind, what in self.library.entries():
+            if kind in ("call", "function"):
+                scope = uses(text_of(what.section.file).split("\n"))
+                there = link(self.library.href(what), code(plain(f"{of}::{name}" if kind == "call" else name)))
+                for word in dict.fromkeys(it for clause in what.clauses for it in cited(" ".join(clause.lines), scope)):
+                    found.setdefault(word, []).append(there)
+        return found
+
+    def toolchain_page(self):
+        groups = {}
+        for far in self.links.far.values():
+            groups.setdefault(far.place, []).append(far)
+        out = ["<h1>Words of the toolchain</h1>"]
+        out.append("<p>What clauses and definitions here name of the toolchain, with its text as far as the toolchain's folder has it.</p>")
+        if not toolchain.folder():
+            out.append("<p>These pages were made without that folder. So most of its words stand in clauses without a link, with a mark.</p>")
+        for place in sorted(groups, key=lambda it: (it != "sign", it)):
+            title = "Signs, and words of each clause" if place == "sign" else code(plain(place))
+            rows = []
+            for far in sorted(groups[place], key=lambda it: it.name):
+                text = piece(plain(textwrap.dedent(far.text))) if far.text else ""
+                rows.append(entry(code(plain(far.name)), self.items.prose(far.comment) + text, slug(far.key)))
+            out.append(f'<h2>{title}</h2><dl class="contents">{"".join(rows)}</dl>')
+        return "\n".join(out)
+
+    def contents(self, name, root):
+        """The one table of contents, which stands on each page."""
+
+        def row(target, label, deep=False):
+            current = ' aria-current="page"' if target == name else ""
+            return f'<li{" class=deep" if deep else ""}><a href="{root}{target}"{current}>{plain(label)}</a></li>'
+
+        parts = [(title, [row(guides.page_name(it), guides.title_of(it)) for it in names]) for title, names in self.guides]
+        modules = [row(page.file, page.key or LIBRARY, "::" in page.key) for page in self.library.pages.values()]
+        words = [row(f"words-{crate}.html", crate, True) for crate in CRATES]
+        parts[1:1] = [
+            ("Reference", [row("items.html", "Every item"), *modules]),
+            ("Words", [row("words.html", "Every word"), *words, row("toolchain.html", "The toolchain")]),
+        ]
+        return "".join(f"<h2>{title}</h2><ul>{''.join(rows)}</ul>" for title, rows in parts)
+
+    def whole(self, name):
+        title, body, kind = self.pages[name]
+        root = "../" * name.count("/")
+        return TEMPLATE.format(title=html.escape(title), root=root, contents=self.contents(name, root), body=body, kind=kind)
+
+    def data(self):
+        """What the search and the notes of words read."""
+        items, told = [], {}
+        for name, of, kind, what in self.library.entries():
+            items.append([name, of, kind, self.library.href(what), self.items.first_sentence(what.doc).replace("`", "")])
+        for word, href in self.reference.words.items():
+            items.append([word.name, word.file.key[1], "word", href, word.sentence().replace("`", "")])
+            told[href] = [word.name, word.sentence(), textwrap.dedent(word.text)]
+        for far in self.links.far.values():
+            told[f"toolchain.html#{slug(far.key)}"] = [far.name, far.comment, textwrap.dedent(far.text)]
+        for of in self.library.types.values():
+            told[of.href] = [of.name, self.items.first_sentence((of.item or of.section).doc), ""]
+        return f"const ITEMS = {json.dumps(items, ensure_ascii=False)};\nconst WORDS = {json.dumps(told, ensure_ascii=False)};\n"
+
+    def write(self, folder):
+        (folder / "source").mkdir(parents=True, exist_ok=True)
+        for name in self.pages:
+            (folder / name).write_text(self.whole(name), encoding="utf-8")
+        (folder / "data.js").write_text(self.data(), encoding="utf-8")
+        for name in ("reference.css", "reference.js"):
+            shutil.copyfile(HERE / name, folder / name)
+        for picture in sorted((TOP / "docs").glob("*.svg")):
+            shutil.copyfile(picture, folder / picture.name)
+
+
+    def told(self):
+        """How many words of clauses there are, and how many of them are links."""
+        kinds = ("own", "type", "member", "field", "far", "sign", "unlinked", "missing")
+        of = {kind: sum(self.links.counts[where, kind] for where in ("clause", "fact")) for kind in kinds}
+        linked = sum(of[kind] for kind in kinds[:-2])
+        return (
+            f"{len(self.pages)} pages; of {sum(of.values())} words in contracts {linked} are links: {of['own'] + of['type'] + of['member']} to "
+            f"the library's words and types, {of['field']} to fields, {of['far']} to words of the toolchain, {of['sign']} to signs"
+        )
+
+
+def heading(file):
+    return file.title.rstrip(".") or file.key[1]
+
+
+def source_page(file):
+    lines = text_of(file).rstrip("\n").split("\n")
+    rows = "\n".join(f'<a id="L{at}" href="#L{at}">{at:4}</a> {plain(line)}' for at, line in enumerate(lines, 1))
+    return f'<h1>{code(file.relative_to(TOP))}</h1><pre class="source">{rows}</pre>'
+
+
+TEMPLATE = """<!doctype html>
+<html lang="en">
+<head>
+<meta charset="utf-8">
+<meta name="viewport" content="width=device-width, initial-scale=1">
+<title>{title} - Bozhenaw</title>
+<link rel="stylesheet" href="{root}reference.css">
+<script defer src="{root}data.js"></script>
+<script defer src="{root}reference.js"></script>
+</head>
+<body class="{kind}" data-root="{root}">
+<a class="skip" href="#main">To the text</a>
+<header>
+<a class="name" href="{root}index.html">Bozhenaw</a>
+<div class="search" role="search">
+<input id="search" type="search" placeholder="Search items and words ( / )" aria-label="Search items and words" autocomplete="off" spellcheck="false"
+ role="combobox" aria-expanded="false" aria-controls="found" aria-autocomplete="list">
+<ul id="found" role="listbox" aria-label="What was found" hidden></ul>
+</div>
+<a class="menu" href="#contents">Contents</a>
+</header>
+<main id="main" tabindex="-1">
+{body}
+</main>
+<nav id="contents" aria-label="Contents">{contents}</nav>
+<div id="note" role="tooltip" hidden></div>
+</body>
+</html>
+"""

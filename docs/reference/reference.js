@@ -1,0 +1,191 @@
+"use strict";
+// The search box, the notes that words show, and the contents on a narrow screen. All that it reads stands in data.js; it asks
+// nothing of anywhere.
+
+const root = document.body.dataset.root;
+const MOST = 40;
+
+// How well an entry answers what is looked for: the less the better, none where it does not.
+function rank([name, of, , , told], wanted) {
+  const low = name.toLowerCase();
+  if (name === wanted) return 0;
+  if (low === wanted.toLowerCase()) return 1;
+  const path = `${of}::${name}`.toLowerCase();
+  const words = wanted.toLowerCase().split(/\s+/).filter((it) => it);
+  if (words.length === 1) {
+    const word = words[0];
+    if (word.includes("::") && path.endsWith(word)) return 1;
+    if (low.startsWith(word)) return 2;
+    if (low.split("_").includes(word)) return 3;
+    if (low.includes(word)) return 4;
+    if (path.includes(word)) return 5;
+  }
+  const all = `${path} ${told.toLowerCase()}`;
+  return words.every((it) => all.includes(it)) ? 6 : null;
+}
+
+function setUpSearch() {
+  const box = document.getElementById("search");
+  const list = document.getElementById("found");
+  let chosen = -1;
+
+  function options() {
+    return [...list.querySelectorAll('[role="option"]')];
+  }
+
+  function choose(at) {
+    const all = options();
+    chosen = all.length ? (at + all.length) % all.length : -1;
+    all.forEach((it, i) => it.setAttribute("aria-selected", String(i === chosen)));
+    if (chosen >= 0) {
+      box.setAttribute("aria-activedescendant", all[chosen].id);
+      all[chosen].scrollIntoView({ block: "nearest" });
+    } else {
+      box.removeAttribute("aria-activedescendant");
+    }
+  }
+
+  function close() {
+    list.hidden = true;
+    box.setAttribute("aria-expanded", "false");
+    box.removeAttribute("aria-activedescendant");
+    chosen = -1;
+  }
+
+  function option([name, of, kind, href, told], at) {
+    const line = document.createElement("li");
+    line.id = `found-${at}`;
+    line.setAttribute("role", "option");
+    const link = document.createElement("a");
+    link.href = root + href;
+    link.tabIndex = -1;
+    const place = document.createElement("span");
+    place.className = "of";
+    place.textContent = kind === "word" ? `word of ${of}` : `${kind} of ${of}`;
+    const code = document.createElement("code");
+    code.textContent = name;
+    const more = document.createElement("small");
+    more.textContent = told;
+    link.append(place, code, more);
+    line.append(link);
+    return line;
+  }
+
+  function look() {
+    const wanted = box.value.trim();
+    if (!wanted) return close();
+    const found = ITEMS.map((it, at) => [rank(it, wanted), at, it]).filter(([good]) => good !== null);
+    found.sort((a, b) => a[0] - b[0] || a[1] - b[1]);
+    list.replaceChildren(...found.slice(0, MOST).map(([, , it], at) => option(it, at)));
+    if (!found.length) {
+      const none = document.createElement("li");
+      none.className = "none";
+      none.textContent = "Nothing has these words.";
+      list.append(none);
+    }
+    list.hidden = false;
+    box.setAttribute("aria-expanded", "true");
+    choose(found.length ? 0 : -1);
+  }
+
+  box.addEventListener("input", look);
+  box.addEventListener("focus", () => box.value && look());
+  box.addEventListener("keydown", (event) => {
+    if (event.key === "ArrowDown" || event.key === "ArrowUp") {
+      event.preventDefault();
+      if (list.hidden) look();
+      else choose(chosen + (event.key === "ArrowDown" ? 1 : -1));
+    } else if (event.key === "Enter" && chosen >= 0) {
+      event.preventDefault();
+      const link = options()[chosen].querySelector("a");
+      close();
+      box.blur();
+      link.click();
+    } else if (event.key === "Escape") {
+      if (list.hidden) box.value = "";
+      close();
+    }
+  });
+  document.addEventListener("click", (event) => event.target.closest(".search") || close());
+  list.addEventListener("click", close);
+  document.addEventListener("keydown", (event) => {
+    const typing = event.target.closest("input, textarea");
+    if ((event.key === "/" || event.key === "s") && !typing && !event.ctrlKey && !event.metaKey && !event.altKey) {
+      event.preventDefault();
+      box.focus();
+      box.select();
+    }
+  });
+}
+
+function setUpNotes() {
+  const note = document.getElementById("note");
+  let of = null;
+  let leaving = 0;
+
+  function hide() {
+    note.hidden = true;
+    if (of) of.removeAttribute("aria-describedby");
+    of = null;
+  }
+
+  function show(link) {
+    const target = new URL(link.href);
+    const told = WORDS[decodeURI(target.pathname.split("/").pop() + target.hash)] || WORDS[link.getAttribute("href").replace(root, "")];
+    if (!told) return;
+    clearTimeout(leaving);
+    hide();
+    of = link;
+    const [name, comment, text] = told;
+    const line = document.createElement("p");
+    const code = document.createElement("code");
+    code.textContent = name;
+    line.append(code, comment ? `: ${comment}` : "");
+    note.replaceChildren(line);
+    if (text) {
+      const piece = document.createElement("pre");
+      piece.textContent = text;
+      note.append(piece);
+    }
+    note.hidden = false;
+    link.setAttribute("aria-describedby", "note");
+    const at = link.getClientRects()[0];
+    const left = Math.min(at.left, document.documentElement.clientWidth - note.offsetWidth - 8);
+    const below = at.bottom + note.offsetHeight + 8 < window.innerHeight || at.top < note.offsetHeight + 60;
+    note.style.left = `${Math.max(4, left) + window.scrollX}px`;
+    note.style.top = `${(below ? at.bottom + 4 : at.top - note.offsetHeight - 4) + window.scrollY}px`;
+  }
+
+  const leave = () => {
+    clearTimeout(leaving);
+    leaving = setTimeout(hide, 250);
+  };
+  document.addEventListener("mouseover", (event) => {
+    const link = event.target.closest("a.w");
+    if (link && link !== of) show(link);
+    else if (link || event.target.closest("#note")) clearTimeout(leaving);
+    else if (of && of !== document.activeElement) leave();
+  });
+  document.addEventListener("focusin", (event) => {
+    const link = event.target.closest("a.w");
+    if (link) show(link);
+    else if (of) hide();
+  });
+  document.addEventListener("keydown", (event) => event.key === "Escape" && hide());
+}
+
+function setUpContents() {
+  const nav = document.getElementById("contents");
+  const menu = document.querySelector("header .menu");
+  menu.addEventListener("click", (event) => {
+    event.preventDefault();
+    const open = nav.classList.toggle("open");
+    menu.textContent = open ? "Close" : "Contents";
+    if (open) nav.querySelector("a").focus({ preventScroll: true });
+  });
+  document.addEventListener("keydown", (event) => event.key === "Escape" && nav.classList.contains("open") && menu.click());
+}
+
+setUpSearch();
+setUpNotes();
+setUpContents();
