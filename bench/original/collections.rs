@@ -1,4 +1,4 @@
-//! The cases over Rust's own map and queue, and over a gap buffer in plain Rust.
+//! The cases over Rust's own map and queue, and over a gap buffer in plain Rust on its own vector.
 use super::checksum_from;
 use std::collections::{HashMap, VecDeque};
 use std::hash::{BuildHasherDefault, Hasher};
@@ -30,49 +30,11 @@ impl Hasher for Folded {
 
 type Numbers = HashMap<u64, u64, BuildHasherDefault<Folded>>;
 
-/// A text in two parts, with its free places at the cursor. An edit there moves nothing.
-#[derive(Default)]
-pub struct GapBuffer {
-    places: Vec<u16>,
-    start: usize,
-    end: usize,
+fn empty<E>() -> Vec<E> {
+    Vec::new()
 }
 
-impl GapBuffer {
-    fn len(&self) -> usize {
-        self.start + self.places.len() - self.end
-    }
-
-    #[inline]
-    fn insert(&mut self, number: u16) {
-        if self.start == self.end {
-            self.grow();
-        }
-        self.places[self.start] = number;
-        self.start += 1;
-    }
-
-    // The part before the cursor stays at the beginning, the other goes to the end.
-    #[cold]
-    fn grow(&mut self) {
-        let (old, new) = (self.places.len(), (2 * self.places.len()).max(8));
-        self.places.resize(new, 0);
-        self.places.copy_within(self.end..old, self.end + new - old);
-        self.end += new - old;
-    }
-
-    fn move_to(&mut self, place: usize) {
-        if place < self.start {
-            let moved = self.start - place;
-            self.places.copy_within(place..self.start, self.end - moved);
-            (self.start, self.end) = (place, self.end - moved);
-        } else {
-            let moved = place.min(self.len()) - self.start;
-            self.places.copy_within(self.end..self.end + moved, self.start);
-            (self.start, self.end) = (self.start + moved, self.end + moved);
-        }
-    }
-}
+include!("gap.rs");
 
 /// What a case of a collection finds and leaves.
 #[derive(Default)]
@@ -97,12 +59,7 @@ impl Held {
             }
             "ring_queue" => ring_push(&mut self.queue, 100),
             "ring_push" | "inline_few" => (),
-            "gap_insert" | "gap_typing" => {
-                for i in 0..count {
-                    self.text.insert(i as u16);
-                }
-                self.text.move_to(self.text.len() / 2);
-            }
+            "gap_insert" | "gap_typing" => self.text.fill(count),
             _ => return false,
         }
         true
@@ -130,8 +87,7 @@ impl Held {
 
     /// The checksum of what the collections hold and gave. Keys are looked up in their order here.
     pub fn checksum(&self, sum: u64) -> u64 {
-        let GapBuffer { places, start, end } = &self.text;
-        let text = checksum_from(checksum_from(sum, &places[..*start]), &places[*end..]);
+        let text = self.text.checksum(sum);
         let (first, others) = self.queue.as_slices();
         let items = checksum_from(checksum_from(text, first), others);
         let values = self.keys.iter().fold(self.sum.wrapping_add(self.table.len() as u64), |values, key| {
@@ -222,24 +178,4 @@ fn inline_few(count: u32) -> u32 {
         }
     }
     sum
-}
-
-#[inline(never)]
-fn gap_insert(text: &mut GapBuffer) {
-    for i in 0..1000 {
-        text.insert(i);
-    }
-}
-
-// The cursor jumps before each hundredth number, in no regular order.
-#[inline(never)]
-fn gap_typing(text: &mut GapBuffer, count: u32) {
-    let mut state: u32 = 1;
-    for _ in 0..count / 100 {
-        state = state.wrapping_mul(1_664_525).wrapping_add(1_013_904_223);
-        text.move_to((state >> 8) as usize % text.len().max(1));
-        for k in 0..100 {
-            text.insert(k);
-        }
-    }
 }

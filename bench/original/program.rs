@@ -139,20 +139,32 @@ mod original {
 
     fn extract_half(_list: &mut Vec<u32>) {}
 
-    // It has no table, no queue and no gap buffer.
+    // It has no table and no queue. A gap buffer in plain Rust stands on its vector.
     #[derive(Default)]
-    struct Held;
+    struct Held {
+        text: GapBuffer,
+    }
 
     impl Held {
-        fn prepare(&mut self, _case: &str, _count: u32) -> bool {
-            false
+        fn prepare(&mut self, case: &str, count: u32) -> bool {
+            let is_of_text = matches!(case, "gap_insert" | "gap_typing");
+            if is_of_text {
+                self.text.fill(count);
+            }
+            is_of_text
         }
-        fn run(&mut self, _case: &str, _count: u32) {}
+        fn run(&mut self, case: &str, count: u32) {
+            match case {
+                "gap_insert" => gap_insert(&mut self.text),
+                _ => gap_typing(&mut self.text, count),
+            }
+        }
         fn checksum(&self, sum: u64) -> u64 {
-            sum
+            self.text.checksum(sum)
         }
     }
 
+    include!("gap.rs");
     include!("cases.rs");
 }
 
