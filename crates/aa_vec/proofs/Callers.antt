@@ -1,6 +1,6 @@
 -- What a caller of the vector closes its goals by: the room there is, calls in one block one after another, and closures whose
 -- answers hang on the elements alone.
-use Rattle.aa_vec.proofs.Common.{◌≡◌, ℕ, zero, suc, ◌-◌, ◌<◌, ◌≤◌, Bool, true, false, List, [], ◌∷◌, ◌++◌, length, take, replicate, refl, sym, ap, ◌∙◌, arith, inl, inr, filter, ◌==◌, if◌then◌else◌, Result, Ok, Err, OnOk, FoldsTo, usize_max, Retains, kept, MayCallTimes, AddsAnswers, Becomes, with_room, Vector, len, sized, GrowsTo, HasRoom, Holds, cases_lt, append-nil, map-id, take_all, take-nil}
+use Rattle.aa_vec.proofs.Common.{◌≡◌, ℕ, zero, suc, ◌-◌, ◌<◌, ◌≤◌, Bool, true, false, List, [], ◌∷◌, ◌++◌, length, take, replicate, refl, sym, subst, ap, ◌∙◌, arith, inl, inr, filter, ◌==◌, if◌then◌else◌, Result, Ok, Err, OnOk, FoldsTo, usize_max, Retains, kept, MayCallTimes, AddsAnswers, Becomes, Vector, len, sized, GrowsTo, HasRoom, Holds, cases_lt, append-nil, map-id, take_all, take-nil}
 use Rattle.aa_vec.proofs.Becoming.{became}
 use Rattle.aa_vec.proofs.Callable.{IsCallableInOrder-any, IsCallableAlong-any}
 use Rattle.aa_vec.proofs.GrowthLemmas.{MakesRoom-has, SameBlock-trans}
@@ -34,21 +34,23 @@ module _ {F T : Type 0} (step : F → T → F → Type 0) where
   pub AddsAnswers_same : {A : Type 0} (k : ℕ) (x : T) (f g : F) (old new : Vector T A) → AddsAnswers step old k f g new → ((f : F) (y : T) (g : F) → step f y g → y ≡ x) → new.items ≡ old.items ++ replicate k x
   AddsAnswers_same k x f g old new made is = ap (λ v. v.items) made.becomes ∙ ap (λ ys. old.items ++ ys) (all_same x f made.answers g is made.calls ∙ ap (λ n. replicate n x) made.count)
 
-  -- and where a vector is filled up with it, that is the rest
-  pub filled_same : {A E : Type 0} (r : Result Unit E) (size n : ℕ) (x : T) (f : F) (old new : Vector T A) → OnOk r (len old < n → (last : F) × AddsAnswers step (with_room size old (len old) (n - len old)) (n - len old) f last new) → (n ≤ len old → Becomes old (take n old.items) 0 0 new)
-      → ((f : F) (y : T) (g : F) → step f y g → y ≡ x) → OnOk r (new.items ≡ take n old.items ++ replicate (n - len old) x)
-  filled_same (Err e) size n x f old new fills cut is = tt
-  filled_same (Ok u) size n x f old new fills cut is = elim (cases_lt (len old) n) [
-    | inl l ↦ AddsAnswers_same (n - len old) x f (fills l).0 (with_room size old (len old) (n - len old)) new (fills l).1 is ∙ ap (λ ys. ys ++ replicate (n - len old) x) (sym (take_all n old.items (omega (arith, l))))
-    | inr l ↦ ap (λ v. v.items) (cut l) ∙ sym (append-nil (take n old.items)) ∙ ap (λ k. take n old.items ++ replicate k x) (let z : 0 ≡ n - len old = omega (arith, l) in z)
-  ]
+  module _ {A : Type 0} (n : ℕ) (x : T) (f : F) (old roomy new : Vector T A) where
+    -- a vector that is filled up with it to n elements, in room that was made, or else cut
+    pub filled_up : {E : Type 0} (r : Result Unit E) → OnOk r (len old < n → (last : F) × AddsAnswers step roomy (n - len old) f last new) → (n ≤ len old → Becomes old (take n old.items) 0 0 new)
+        → roomy.items ≡ old.items → ((f : F) (y : T) (g : F) → step f y g → y ≡ x) → OnOk r (new.items ≡ take n old.items ++ replicate (n - len old) x)
+    filled_up (Err e) fills cut has is = tt
+    filled_up (Ok u) fills cut has is = elim (cases_lt (len old) n) [
+      | inl l ↦ AddsAnswers_same (n - len old) x f (fills l).0 roomy new (fills l).1 is ∙ ap (λ ys. ys ++ replicate (n - len old) x) (has ∙ sym (take_all n old.items (omega (arith, l))))
+      | inr l ↦ ap (λ v. v.items) (cut l) ∙ sym (append-nil (take n old.items)) ∙ ap (λ k. take n old.items ++ replicate k x) (let z : 0 ≡ n - len old = omega (arith, l) in z)
+    ]
 
-  -- and a vector that had none has so many of it
-  pub filled_new : {A : Type 0} (size n : ℕ) (x : T) (f : F) (old new : Vector T A) → old.items ≡ [] → (len old < n → (last : F) × AddsAnswers step (with_room size old (len old) (n - len old)) (n - len old) f last new) → (n ≤ len old → Becomes old (take n old.items) 0 0 new)
-      → ((f : F) (y : T) (g : F) → step f y g → y ≡ x) → new.items ≡ replicate n x
-  filled_new size n x f old new none fills cut is =
-      let count : n - len old ≡ n = omega (arith, ap length none) in
-      filled_same {E = Unit {0}} (Ok tt) size n x f old new fills cut is ∙ rw (count, none, take-nil) refl
+    -- and one that had none has so many of it
+    pub filled_new : {E : Type 0} (r : Result Unit E) (u : Unit {0}) → OnOk r (len old < n → (last : F) × AddsAnswers step roomy (n - len old) f last new) → (n ≤ len old → Becomes old (take n old.items) 0 0 new)
+        → r ≡ Ok u → old.items ≡ [] → roomy.items ≡ old.items → ((f : F) (y : T) (g : F) → step f y g → y ≡ x) → new.items ≡ replicate n x
+    filled_new {E} r u fills cut done none has is =
+        let count : n - len old ≡ n = omega (arith, ap length none) in
+        let P : Result Unit E → Type 0 = λ r. OnOk r (new.items ≡ take n old.items ++ replicate (n - len old) x) in
+        subst P done (filled_up r fills cut has is) ∙ rw (count, none, take-nil) refl
 
 -- a test that leaves each element as it was
 module _ {F T A : Type 0} (Asks : F → T → Bool → F → T → Type 0) where
@@ -61,4 +63,4 @@ module _ {F T A : Type 0} (Asks : F → T → Bool → F → T → Type 0) where
   Retains_filter_reading test f old g new r reads =
       ap (λ v. v.items) r.becomes ∙ ap kept (asked-reading Asks test f reads old.items r.told g r.asked) ∙ kept-steady test (λ x. x) old.items ∙ map-id (filter test old.items)
 
-pub ruleset callers = (became, sized_room, HasRoom_grown, SameBlock-trans, Holds_then, IsCallableInOrder-any, IsCallableAlong-any, MayCallTimes_any, AddsAnswers_same, filled_same, Retains_filter, Retains_filter_reading)
+pub ruleset callers = (became, sized_room, HasRoom_grown, SameBlock-trans, Holds_then, IsCallableInOrder-any, IsCallableAlong-any, MayCallTimes_any, AddsAnswers_same, filled_up, filled_new, Retains_filter, Retains_filter_reading)
