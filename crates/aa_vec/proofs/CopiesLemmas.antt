@@ -1,5 +1,5 @@
 -- Clones of elements put behind others, one after another.
-use Rattle.aa_vec.proofs.Common.{◌≡◌, ℕ, ◌+◌, ◌-◌, ◌<◌, ◌≤◌, List, [], ◌∷◌, ◌++◌, length, take, drop, get_or, replicate, refl, sym, ap, ◌∙◌, subst, arith, inr, length-append, length-drop, length-take, length-replicate, take_all, take_at, append-nil, TryReserveError, Copies, Adds, Fills, Vector, len, GrowsTo, Holds, SameBlock, Writes, All, AllZip, replicate_more, get_or-replicate, get_or_append_left, get_or-drop, get_or-take, all_zip_more, same_from_all_zip, IsBeginning, Begins, Undone, Refuses, with_items, Becomes, with_room}
+use Rattle.aa_vec.proofs.Common.{◌≡◌, ℕ, ◌+◌, ◌-◌, ◌<◌, ◌≤◌, List, [], ◌∷◌, ◌++◌, length, take, drop, get_or, replicate, refl, sym, ap, ◌∙◌, subst, arith, inr, length-append, length-drop, length-take, length-replicate, take_all, take_at, append-nil, TryReserveError, Copies, Adds, Fills, Vector, len, GrowsTo, SameBlock, All, AllZip, replicate_more, get_or-replicate, get_or_append_left, get_or-drop, get_or-take, all_zip_more, same_from_all_zip, IsBeginning, Begins, Undone, Refuses, with_items, Becomes, with_room}
 use Rattle.aa_raw.specs.declared.collections.TryReserveErrorKind.TheVariants.{AllocError}
 use Rattle.aa_vec.proofs.Becoming.{Becomes-holds, Becomes-more, Becomes-roomy, Becomes-then, GrowsTo-becomes, SameBlock-becomes}
 use Rattle.aa_vec.proofs.GrowthLemmas.{MakesRoom, MakesRoom-has, MakesRoom-same, SameBlock-trans, with_room-fits}
@@ -33,20 +33,20 @@ module _ {T A : Type 0} where
     Adds-copied old new xs copies p = subst (λ l. Becomes old (old.items ++ l) (length xs) (length xs) new) (same_from_all_zip clones xs p.added p.each copies) p.becomes
 
     -- a clone of the next item of a list
-    pub Adds-take : (old mid new : Vector T A) (xs : List T) (i : ℕ) (x y : T) → Adds clones old (take i xs) mid → i < length xs → x ≡ get_or xs i x → clones x y → Holds mid (mid.items ++ y ∷ []) new → Writes mid 1 1 new → Adds clones old (take (i + 1) xs) new
-    Adds-take old mid new xs i x y p h e c q w =
+    pub Adds-take : (old mid new : Vector T A) (xs : List T) (i : ℕ) (x y : T) → Adds clones old (take i xs) mid → i < length xs → x ≡ get_or xs i x → clones x y → Becomes mid (mid.items ++ y ∷ []) 1 1 new → Adds clones old (take (i + 1) xs) new
+    Adds-take old mid new xs i x y p h e c q =
         let count : length (take i xs) + 1 ≡ length (take (i + 1) xs) = omega (arith, length-take i xs, length-take (i + 1) xs, h) in
         record {
           added = p.added ++ y ∷ [];
           each = all_zip_more clones xs p.added i x y h e p.each c;
-          becomes = Becomes-more old mid new p.added (y ∷ []) _ _ 1 1 _ _ p.becomes (Becomes-holds mid (mid.items ++ y ∷ []) 1 1 new q w) count count;
+          becomes = Becomes-more old mid new p.added (y ∷ []) _ _ 1 1 _ _ p.becomes q count count;
         }
 
     -- of a list that is a part of the items
     own-item : (old mid : Vector T A) (xs : List T) (from i : ℕ) (x : T) → from + i < len old → x ≡ get_or mid.items (from + i) x → Adds clones old xs mid → x ≡ get_or (drop from old.items) i x
     own-item old mid xs from i x h e p = e ∙ ap (λ v. get_or v.items (from + i) x) p.becomes ∙ get_or_append_left old.items p.added x (from + i) h ∙ sym (get_or-drop from old.items i x)
 
-    pub Adds-own : (old mid new : Vector T A) (from i : ℕ) (x y : T) → Adds clones old (take i (drop from old.items)) mid → from + i < len old → x ≡ get_or mid.items (from + i) x → clones x y → Holds mid (mid.items ++ y ∷ []) new → Writes mid 1 1 new → Adds clones old (take (i + 1) (drop from old.items)) new
+    pub Adds-own : (old mid new : Vector T A) (from i : ℕ) (x y : T) → Adds clones old (take i (drop from old.items)) mid → from + i < len old → x ≡ get_or mid.items (from + i) x → clones x y → Becomes mid (mid.items ++ y ∷ []) 1 1 new → Adds clones old (take (i + 1) (drop from old.items)) new
     Adds-own old mid new from i x y p h e c = Adds-take old mid new (drop from old.items) i x y p (omega (arith, h, length-drop from old.items)) (own-item old mid (take i (drop from old.items)) from i x h e p) c
 
     -- whose clone is refused
@@ -57,14 +57,14 @@ module _ {T A : Type 0} where
         fails (subst never (sym at) (all i x (omega (arith, h, fits, length-take k xs, length-drop from old.items))))
 
     -- one more clone of the same
-    pub Adds-same : (old mid new : Vector T A) (k i : ℕ) (x y : T) → Adds clones old (take i (replicate k x)) mid → i < k → clones x y → Holds mid (mid.items ++ y ∷ []) new → Writes mid 1 1 new → Adds clones old (take (i + 1) (replicate k x)) new
+    pub Adds-same : (old mid new : Vector T A) (k i : ℕ) (x y : T) → Adds clones old (take i (replicate k x)) mid → i < k → clones x y → Becomes mid (mid.items ++ y ∷ []) 1 1 new → Adds clones old (take (i + 1) (replicate k x)) new
     Adds-same old mid new k i x y p h = Adds-take old mid new (replicate k x) i x y p (omega (arith, h, length-replicate k x)) (sym (get_or-replicate k i x x h))
 
     -- and the value itself
-    pub Fills-last : (old mid new : Vector T A) (k : ℕ) (x : T) → 0 < k → Adds clones old (replicate (k - 1) x) mid → Holds mid (mid.items ++ x ∷ []) new → Writes mid 1 1 new → Fills clones old k x new
-    Fills-last old mid new k x some p q w =
+    pub Fills-last : (old mid new : Vector T A) (k : ℕ) (x : T) → 0 < k → Adds clones old (replicate (k - 1) x) mid → Becomes mid (mid.items ++ x ∷ []) 1 1 new → Fills clones old k x new
+    Fills-last old mid new k x some p q =
         let count : length (replicate (k - 1) x) + 1 ≡ k = omega (arith, length-replicate (k - 1) x, some) in
-        record { added = p.added; each = p.each; becomes = Becomes-more old mid new p.added (x ∷ []) _ _ 1 1 k k p.becomes (Becomes-holds mid (mid.items ++ x ∷ []) 1 1 new q w) count count }
+        record { added = p.added; each = p.each; becomes = Becomes-more old mid new p.added (x ∷ []) _ _ 1 1 k k p.becomes q count count }
 
     -- of a beginning of a list, into a vector that was emptied
     pub Adds-begun : (mid new : Vector T A) (xs : List T) (n : ℕ) → Copies clones → Adds clones mid (take n xs) new → mid.items ≡ [] → n < length xs → IsBeginning xs new.items

@@ -1,5 +1,5 @@
 -- Items put before the last ones of a vector, in room made for those that were told, and then for the others.
-use Rattle.aa_vec.proofs.Common.{◌≡◌, ℕ, ◌+◌, ◌-◌, ◌*◌, ◌<◌, ◌≤◌, List, [], ◌∷◌, ◌++◌, length, take, drop, Option, Some, None, append_assoc, refl, sym, ap, ◌∙◌, subst, arith, inl, inr, length-append, length-drop, length-take, Result, Ok, Err, IfErr, OnOk, Count, Yields, count_of, take-append-drop, take_at, drop_at, nat_tests, TryReserveError, Vector, len, Holds, Writes, LacksRoom, run_count, moved_over, ClosesGap, behind_items, tail_moves, Widens, FillsAndCloses, Gathers, GathersShort, PutsAll, Puts, PutsRest, LacksRest, PutsWithin}
+use Rattle.aa_vec.proofs.Common.{◌≡◌, ℕ, ◌+◌, ◌-◌, ◌*◌, ◌<◌, ◌≤◌, List, [], ◌∷◌, ◌++◌, length, take, drop, Option, Some, None, append_assoc, refl, sym, ap, ◌∙◌, subst, arith, inl, inr, length-append, length-drop, length-take, Result, Ok, Err, IfErr, OnOk, Count, Yields, count_of, take-append-drop, take_at, drop_at, nat_tests, TryReserveError, Vector, len, Becomes, LacksRoom, run_count, moved_over, ClosesGap, behind_items, tail_moves, Widens, FillsAndCloses, Gathers, GathersShort, PutsAll, Puts, PutsRest, LacksRest, PutsWithin}
 use Rattle.aa_vec.proofs.Closed.{moved_none, moved_some, moved_most, one_run}
 use Rattle.aa_vec.proofs.Becoming.{SameBlock-becomes}
 use Rattle.aa_vec.proofs.GrowthLemmas.{MakesRoom, MakesRoom-same, with_room-fits, SameBlock-refl, SameBlock-trans}
@@ -44,9 +44,9 @@ module _ {S T A : Type 0} (steps : S → Option T → S → Type 0) (Tells : S �
 
   -- a run, gathered in a vector, was put before the last n items, behind which nothing was moved
   pub PutsRest-gathered : (n : ℕ) (first : T) (more : Vector T A) (u : S) → Gathers steps Tells size s first more u → (k : ℕ) → k ≡ len more
-      → (v w x : Vector T A) → Widens size old k n v → Holds v (v.items ++ more.items) w → w.behind ≡ drop (len more) v.behind → Writes v (len more) (run_count (len more)) w → ClosesGap w 0 n x
+      → (v w x : Vector T A) → Widens size old k n v → Becomes v (v.items ++ more.items) (len more) (run_count (len more)) w → w.behind ≡ drop (len more) v.behind → ClosesGap w 0 n x
       → PutsRest steps size s old n first x u
-  PutsRest-gathered n first more u h k e v w x widened holds behind writes closes =
+  PutsRest-gathered n first more u h k e v w x widened filled behind closes =
       let new : List T = more.items in
       let head : List T = take (len old - n) old.items in
       let wid : Widens size old (length new) n v = subst (λ j. Widens size old j n v) e widened in
@@ -55,10 +55,10 @@ module _ {S T A : Type 0} (steps : S → Option T → S → Type 0) (Tells : S �
         added = new;
         comes = (h.taken, h.last, Yields-told steps Tells h.lower s h.taken h.last h.told, h.went.0, h.went.1);
         items =
-            ap (λ u. u.items) closes.becomes ∙ ap (λ ys. ys ++ behind_items w 0 n) (holds.items ∙ ap (λ ys. ys ++ new) wid.items) ∙ append_assoc head new (behind_items w 0 n)
+            ap (λ u. u.items) closes.becomes ∙ ap (λ ys. ys ++ behind_items w 0 n) (ap (λ u. u.items) filled ∙ ap (λ ys. ys ++ new) wid.items) ∙ append_assoc head new (behind_items w 0 n)
             ∙ ap (λ ys. head ++ (new ++ ys)) (still_are v w (length new) 0 n behind ∙ wid.elements);
-        room = SameBlock-trans wid.room (SameBlock-trans holds.block (SameBlock-becomes _ _ _ _ _ closes.becomes));
-        writes = omega (arith, ap (λ u. u.written) closes.becomes, ap (λ u. u.runs) closes.becomes, writes.written, writes.runs, wid.writes.written, wid.writes.runs, moved_some (length new) n some, moved_some (length new) 1 some, ap run_count (moved_some (length new) n some));
+        room = SameBlock-trans wid.room (SameBlock-trans (SameBlock-becomes _ _ _ _ _ filled) (SameBlock-becomes _ _ _ _ _ closes.becomes));
+        writes = omega (arith, ap (λ u. u.written) closes.becomes, ap (λ u. u.runs) closes.becomes, ap (λ u. u.written) filled, ap (λ u. u.runs) filled, wid.writes.written, wid.writes.runs, moved_some (length new) n some, moved_some (length new) 1 some, ap run_count (moved_some (length new) n some));
       }
 
   -- they could not be gathered, or there was no room for them

@@ -1,6 +1,6 @@
 -- What stands behind the items of a vector, after each of the calls that work on it.
-use Rattle.aa_vec.proofs.Common.{◌≡◌, ℕ, ◌+◌, ◌-◌, ◌<◌, ◌≤◌, List, [], ◌∷◌, ◌++◌, length, map, take, drop, Option, Some, None, refl, subst, sym, ap, ◌∙◌, arith, length-append, slice_set, append-nil, drop-drop, drop-set-lt, length-map, take_at, take-append-drop, length-run, run-is, run-take, run-filled, run-zero, IsRun-long, StandsBehind, ClosesGap, LeavesBehind, behind_items, with_behind, Vector, len, Becomes, Holds, Writes, run_count, moved_over, TakesNext}
-use Rattle.aa_vec.proofs.Becoming.{Becomes-refl, Becomes-behind, Becomes-holds, Becomes-then}
+use Rattle.aa_vec.proofs.Common.{◌≡◌, ℕ, ◌+◌, ◌-◌, ◌<◌, ◌≤◌, List, [], ◌∷◌, ◌++◌, length, map, take, drop, Option, Some, None, refl, subst, sym, ap, ◌∙◌, arith, length-append, slice_set, append-nil, drop-drop, drop-set-lt, length-map, take_at, take-append-drop, length-run, run-is, run-take, run-filled, run-zero, IsRun-long, StandsBehind, ClosesGap, LeavesBehind, behind_items, with_behind, Vector, len, Becomes, run_count, moved_over, TakesNext}
+use Rattle.aa_vec.proofs.Becoming.{Becomes-refl, Becomes-behind, Becomes-then}
 use Rattle.aa_vec.proofs.Closed.{moved_some}
 use Rattle.aa_vec.proofs.BehindLemmas.{still_stand, still_are, part_stand, later_part}
 
@@ -70,15 +70,15 @@ module _ {T A : Type 0} where
         behind = ap (λ i. drop i (drop gap v.behind)) (sym e);
       }
 
-  pub closes_by_one : (old mid new : Vector T A) (gap : ℕ) (x : T) → 0 < gap → behind_items old gap 1 ≡ x ∷ [] → mid ≡ with_behind old (slice_set old.behind gap None) → Holds mid (mid.items ++ x ∷ []) new → Writes mid 1 1 new
+  pub closes_by_one : (old mid new : Vector T A) (gap : ℕ) (x : T) → 0 < gap → behind_items old gap 1 ≡ x ∷ [] → mid ≡ with_behind old (slice_set old.behind gap None) → Becomes mid (mid.items ++ x ∷ []) 1 1 new
       → new.behind ≡ drop 1 mid.behind → ClosesGap old gap 1 new
-  closes_by_one old mid new gap x some e taken put wrote behind =
+  closes_by_one old mid new gap x some e taken put behind =
       let one = moved_some gap 1 some in
       record {
         becomes =
             let items : mid.items ++ x ∷ [] ≡ old.items ++ behind_items old gap 1 = ap (λ v. v.items ++ x ∷ []) taken ∙ ap (λ l. old.items ++ l) (sym e) in
             subst (λ m. Becomes old (old.items ++ behind_items old gap 1) m (run_count m) new) (sym one)
-            (subst (λ l. Becomes old l 1 1 new) items (Becomes-then old old.items 0 0 mid (Becomes-behind old mid (slice_set old.behind gap None) taken) (mid.items ++ x ∷ []) 1 1 new (Becomes-holds mid (mid.items ++ x ∷ []) 1 1 new put wrote) 1 1 (omega arith) (omega arith)));
+            (subst (λ l. Becomes old l 1 1 new) items (Becomes-then old old.items 0 0 mid (Becomes-behind old mid (slice_set old.behind gap None) taken) (mid.items ++ x ∷ []) 1 1 new put 1 1 (omega arith) (omega arith)));
         behind = ap (drop gap) behind ∙ drop-drop gap 1 mid.behind ∙ ap (λ i. drop i mid.behind) (omega arith) ∙ ap (λ v. drop (gap + 1) v.behind) taken ∙ drop-set-lt (gap + 1) old.behind gap None (omega arith) ∙ sym (drop-drop 1 gap old.behind);
       }
 

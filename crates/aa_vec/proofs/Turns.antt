@@ -1,7 +1,7 @@
 -- A closure that is called once for each new place.
-use Rattle.aa_vec.proofs.Common.{append-nil, ◌≡◌, ℕ, suc, ◌+◌, ◌-◌, ◌<◌, List, [], ◌∷◌, ◌++◌, length, refl, sym, ap, ◌∙◌, subst, arith, length-append, Result, Ok, Err, OnOk, FoldsTo, MayCallTimes, Vector, len, HasRoom, Holds, Writes, AddsAnswers, Becomes, with_room}
+use Rattle.aa_vec.proofs.Common.{append-nil, ◌≡◌, ℕ, suc, ◌+◌, ◌-◌, ◌<◌, List, [], ◌∷◌, ◌++◌, length, refl, sym, ap, ◌∙◌, subst, arith, length-append, Result, Ok, Err, OnOk, FoldsTo, MayCallTimes, Vector, len, HasRoom, AddsAnswers, Becomes, with_room}
 use Rattle.std.proofs.lemmas.Fn.{FoldsTo-push}
-use Rattle.aa_vec.proofs.Becoming.{Becomes-holds, Becomes-more, Becomes-refl, Becomes-roomy}
+use Rattle.aa_vec.proofs.Becoming.{Becomes-more, Becomes-refl, Becomes-roomy}
 use Rattle.aa_vec.proofs.CopiesLemmas.{room-there}
 
 module _ {T A F : Type 0} (takes : F → Type 0) (step : F → T → F → Type 0) where
@@ -29,12 +29,12 @@ module _ {T A F : Type 0} (takes : F → Type 0) (step : F → T → F → Type 
     pub Turns-may : k < total → takes g
     Turns-may h = (next h).0
 
-    pub Turns-next : k < total → (y : T) (e : F) (new : Vector T A) → step g y e → Holds now (now.items ++ y ∷ []) new → Writes now 1 1 new → Turns old total f (k + 1) new e
-    Turns-next h y e new s q w = record {
+    pub Turns-next : k < total → (y : T) (e : F) (new : Vector T A) → step g y e → Becomes now (now.items ++ y ∷ []) 1 1 new → Turns old total f (k + 1) new e
+    Turns-next h y e new s q = record {
       answers = t.answers ++ y ∷ [];
       calls = FoldsTo-push step f t.answers g y e t.calls s;
       count = length-append t.answers (y ∷ []) ∙ ap (λ n. n + 1) t.count;
-      becomes = Becomes-more old now new t.answers (y ∷ []) k k 1 1 (k + 1) (k + 1) t.becomes (Becomes-holds now (now.items ++ y ∷ []) 1 1 new q w) refl refl;
+      becomes = Becomes-more old now new t.answers (y ∷ []) k k 1 1 (k + 1) (k + 1) t.becomes q refl refl;
       more = (next h).1 y e s;
     }
 

@@ -2,7 +2,7 @@
 ghost use Rattle.std.specs.Prelude.{◌≡◌, ◌-◌, ◌<◌, ◌≤◌, [], ◌++◌, take, drop, IfOk, IfErr, OnOk, OnErr, IsOk, length};
 ghost use Rattle.std.specs.Mem.{type_size};
 ghost use Rattle.aa_raw.specs.Refusals.{RefusesClones};
-ghost use Rattle.aa_vec.specs.Vector.{len, HasRoom, LacksRoom, Becomes, Holds, Writes, run_count, with_room};
+ghost use Rattle.aa_vec.specs.Vector.{len, HasRoom, LacksRoom, Becomes, run_count, with_room};
 ghost use Rattle.aa_vec.specs.Split.{Splits, split_room};
 
 use crate::vec::Vec;
@@ -38,27 +38,25 @@ impl<T, A: Allocator> Vec<T, A> {
     // Moves all elements of `more`, which fit, behind the last one.
     pub(crate) fn fill_from(&mut self, more: &mut Self)
         requires { HasRoom self.old (len more.old) }
-        ensures holds { Holds self.old (self.old.items ++ more.old.items) self.new }
+        ensures filled { let moved = len more.old in
+            Becomes self.old (self.old.items ++ more.old.items) moved (run_count moved) self.new }
         ensures behind { self.new.behind ≡ drop (len more.old) self.old.behind }
-        ensures writes { Writes self.old (len more.old) (run_count (len more.old)) self.new }
-        ensures emptied { Holds more.old [] more.new }
-        ensures takes { Writes more.old 0 0 more.new }
+        ensures emptied { Becomes more.old [] 0 0 more.new }
     {
         self.take_from(more, 0);
     }
 
     // Moves the elements of `other` from the index `at` on, which fit, behind the last one.
     #[inline]
-    #[tactic(auto, using(aa_raw::proofs::Calls::in_runs, crate::proofs::Joining::transferred))]
+    #[tactic(auto, using(aa_raw::proofs::Calls::in_runs, crate::proofs::Joining::transferred, crate::proofs::Becoming::becomes))]
     fn take_from(&mut self, other: &mut Self, at: usize)
         requires within { at ≤ len other.old }
         requires room { HasRoom self.old (len other.old - at) }
-        ensures holds { Holds self.old (self.old.items ++ drop at other.old.items) self.new }
+        ensures filled { let moved = len other.old - at in
+            let items = self.old.items ++ drop at other.old.items in
+            Becomes self.old items moved (run_count moved) self.new }
         ensures behind { self.new.behind ≡ drop (len other.old - at) self.old.behind }
-        ensures writes { Writes self.old (len other.old - at)
-            (run_count (len other.old - at)) self.new }
-        ensures left { Holds other.old (take at other.old.items) other.new }
-        ensures takes { Writes other.old 0 0 other.new }
+        ensures left { Becomes other.old (take at other.old.items) 0 0 other.new }
     {
         let len = self.len;
         let count = other.len - at;

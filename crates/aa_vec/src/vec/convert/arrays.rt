@@ -6,7 +6,7 @@ ghost use Rattle.aa_raw.specs.Growth.{usize_max};
 ghost use Rattle.aa_raw.specs.Refusals.{RefusesBlock, RefusesClones};
 ghost use Rattle.aa_raw.specs.declared.collections.TryReserveErrorKind.TheVariants.{CapacityOverflow};
 ghost use Rattle.aa_raw.specs.declared.raw_vec.Growth.TheVariants.{Doubling};
-ghost use Rattle.aa_vec.specs.Vector.{len, sized, Holds, Writes, run_count};
+ghost use Rattle.aa_vec.specs.Vector.{len, sized, Becomes, run_count};
 ghost use Rattle.aa_vec.specs.Copies.{IsMade};
 ghost use Rattle.aa_vec.specs.Arrays.{flattened, LacksRoomForAll, StaysNested};
 
@@ -56,12 +56,11 @@ impl<T, A: Allocator> Vec<T, A> {
 
     // Puts the elements of an array behind the last one.
     #[inline]
-    #[tactic(auto, using(aa_raw::proofs::Calls::in_runs))]
+    #[tactic(auto, using(aa_raw::proofs::Calls::in_runs, crate::proofs::Becoming::becomes))]
     pub(crate) fn put_block<const N: usize>(&mut self, items: [T; N])
         requires long { length items ≡ N }
         requires room { len self.old + N ≤ self.old.capacity }
-        ensures items { Holds self.old (self.old.items ++ items) self.new }
-        ensures writes { Writes self.old N (run_count N) self.new }
+        ensures { Becomes self.old (self.old.items ++ items) N (run_count N) self.new }
     {
         let len = self.len;
         self.block.known();
@@ -172,12 +171,12 @@ impl<T, A: Allocator, const N: usize> Vec<[T; N], A> {
 
     // Moves the elements of all arrays, in order, behind those of a vector that has room for them.
     // The block is given back.
-    #[tactic(auto, using(aa_raw::proofs::Calls::at_ends, crate::proofs::Flattening::poured))]
+    #[tactic(auto, using(aa_raw::proofs::Calls::at_ends, crate::proofs::Flattening::poured, crate::proofs::Becoming::becomes, crate::proofs::Becoming::became))]
     fn pour_into(self, flat: Vec<T, A>) -> Vec<T, A>
         requires room { len flat + len self * N ≤ flat.capacity }
-        ensures items { Holds flat (flat.items ++ flattened self.items) result }
+        ensures poured { let calls = len self * run_count N in
+            Becomes flat (flat.items ++ flattened self.items) (len self * N) calls result }
         ensures long { length (flattened self.items) ≡ len self * N }
-        ensures writes { Writes flat (len self * N) (len self * run_count N) result }
     {
         let Vec { mut block, len } = self;
         let mut flat = flat;

@@ -1,4 +1,5 @@
 use Rattle.aa_vec.proofs.Common.{◌<◌, Vector, len, ap, arith, length, length-append, ◌∷◌, [], err_from_is_err_and}
+use Rattle.aa_vec.proofs.Becoming.{Holds-becomes, Writes-becomes}
 use Rattle.aa_vec.proofs.ExtendLemmas.{Placing-start, Placing-filled, Placing-full, Placing-grown, Placing-refused, Placing-end}
 use Rattle.aa_vec.proofs.vec.Vec.extend_telling.Goals as goal
 
@@ -10,14 +11,14 @@ pub full-preserved : goal.full-preserved
 full-preserved g c =
     let i = c.full.invariant in let gone = c.fill_up.ensures.goes c.if-fill_up-ne0.false in let on = c.in-Some.ensures.goes.on gone.1 in
     let p = Placing-full _ _ _ _ _ c.full.iter c.full.self i.placing g.W.Telling.some _ _ _ c.if-fill_up-ne0.false c.fill_up.ensures.fills in
-    let r = c.in_ok-try_reserve.ensures in let put = c.put_next.ensures in
+    let r = c.in_ok-try_reserve.ensures in let put = c.put_next.ensures.put in
     record {
       can = on.0;
       finite = on.1;
       placing =
           Placing-grown _ _ _ _ _ _ _ p.0 p.1 c.in-Some.x _ c.in-Some.ensures.steps c.told.result c.told.ensures c.saturating_add.result c.saturating_add.ensures
-          c.try_reserve.new.self c.put_next.new.self r.made put.items put.writes;
-      fewer = omega (arith, i.fewer, gone.2, on.2, p.2, i.placing.fits, ap length put.items.items, length-append c.try_reserve.new.self.items (c.in-Some.x ∷ []), ap (λ (v : Vector _ _). len v) r.made);
+          c.try_reserve.new.self c.put_next.new.self r.made (Holds-becomes _ _ _ _ _ put) (Writes-becomes _ _ _ _ _ put);
+      fewer = omega (arith, i.fewer, gone.2, on.2, p.2, i.placing.fits, ap (λ (v : Vector _ _). len v) put, length-append c.try_reserve.new.self.items (c.in-Some.x ∷ []), ap (λ (v : Vector _ _). len v) r.made);
     }
 
 pub returns-in_err-try_reserve : goal.returns-in_err-try_reserve

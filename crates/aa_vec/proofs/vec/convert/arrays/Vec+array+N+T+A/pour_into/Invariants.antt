@@ -1,11 +1,10 @@
-use Rattle.aa_vec.proofs.Common.{◌≡◌, ◌+◌, ◌-◌, ◌*◌, ◌++◌, IsRun, run, flattened, len, SameBlock, Writes, run_count}
+use Rattle.aa_vec.proofs.Common.{◌≡◌, ◌+◌, ◌-◌, ◌*◌, ◌++◌, IsRun, run, flattened, len, Becomes, run_count}
 use Rattle.aa_vec.proofs.vec.convert.arrays.Vec+array+N+T+A.pour_into.Given as goal
 
 abbrev pub invariant-each : goal.invariant-each
 invariant-each g l = record {
   filled : IsRun l.block.places l.i (l.len - l.i);
-  block : SameBlock l.fn.flat l.flat;
   items : l.flat.items ++ flattened (run l.block.places l.i (l.len - l.i)) ≡ l.fn.flat.items ++ flattened l.fn.self.items;
   long : len l.flat ≡ len l.fn.flat + l.i * g.row.N;
-  writes : Writes l.fn.flat (l.i * g.row.N) (l.i * run_count g.row.N) l.flat;
+  becomes : Becomes l.fn.flat l.flat.items (l.i * g.row.N) (l.i * run_count g.row.N) l.flat;
 }
