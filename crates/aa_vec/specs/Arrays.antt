@@ -3,7 +3,6 @@ use Rattle.std.specs.Prelude.{◌≡◌, ℕ, ◌*◌, ◌<◌, ◌≤◌, List,
 use Rattle.std.specs.List.{flat_map}
 use Rattle.aa_raw.specs.Growth.{usize_max}
 use Rattle.aa_raw.specs.Refusals.{IsRefusedAt}
-use Rattle.aa_raw.specs.declared.collections.Refused.{Refused}
 use Rattle.aa_raw.specs.declared.collections.TryReserveError.{TryReserveError}
 use Rattle.aa_raw.specs.declared.collections.TryReserveErrorKind.TheVariants.{CapacityOverflow}
 use Rattle.aa_raw.specs.declared.raw_vec.Growth.TheVariants.{Doubling}
@@ -22,12 +21,6 @@ module _ {T A : Type 0} where
     pub overflow : usize_max < len v * n → error.kind ≡ CapacityOverflow
     pub cause : len v * n ≤ usize_max → sure → (0 < v.capacity * n) × (0 < size)
     pub number : IsRefusedAt error (sized size (v.capacity * n))
-
-  -- such a v was handed back, with this error
-  pub record StaysNested (sure : Type 0) (n size : ℕ) (v : Vector (List T) A)
-      (r : Refused (Vector (List T) A)) : Type 0 where
-    pub source : r.source ≡ v
-    pub lacks : LacksRoomForAll sure n size v r.error
 
   -- v has the elements, of `size` bytes, of the array in b, and no room for more
   pub record IsUnboxedArray (clones : A → A → Type 0) (size : ℕ) (b : Boxed (List T) A)

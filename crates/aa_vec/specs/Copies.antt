@@ -8,10 +8,6 @@ use Rattle.aa_raw.specs.declared.raw_vec.Growth.{Growth}
 use Rattle.aa_raw.specs.declared.raw_vec.Growth.TheVariants.{Doubling}
 use Rattle.aa_vec.specs.Vector.{Vector, len, sized, Becomes, LacksRoom, with_items, with_room}
 
--- ys are the first of xs, as many as they are
-abbrev pub IsBeginning : {T : Type 0} → (xs ys : List T) → Type 0
-IsBeginning xs ys = ys ≡ take (length ys) xs
-
 -- f may be called, and again in each state that a call leaves, k times in all
 abbrev pub MayCallTimes : {F T : Type 0} → (F → Type 0) → (F → T → F → Type 0) → (k : ℕ) → F
     → Type 0
@@ -114,14 +110,9 @@ module _ {T A : Type 0} where
     pub becomes : let roomy = with_room size (with_items old []) 0 (length xs) in
         Becomes roomy added done done new
 
-  -- there was no room for k items, where those of old were dropped. None is left
-  pub record LeavesNone (size : ℕ) (old : Vector T A) (k : ℕ) (error : TryReserveError)
-      (new : Vector T A) : Type 0 where
-    pub lacks : LacksRoom size (with_items old []) k error
-    pub becomes : Becomes old [] 0 0 new
-
-  -- either of the two, where clones of xs were to take the place of old's items
+  -- or there was no room for them, and none is left
   abbrev pub StopsAssigning : (clones : T → T → Type 0) (failure : Type 0) (size : ℕ) → Vector T A
       → (xs : List T) → TryReserveError → Vector T A → Type 0
   StopsAssigning clones failure size old xs error new =
-      LeavesNone size old (length xs) error new ⊎ Begins clones failure size old xs error new
+      (LacksRoom size (with_items old []) (length xs) error × Becomes old [] 0 0 new)
+      ⊎ Begins clones failure size old xs error new

@@ -1,13 +1,9 @@
 -- A vector that is cut in two.
-use Rattle.std.specs.Prelude.{◌≡◌, ℕ, ◌-◌, ◌<◌, [], take, drop, if◌then◌else◌, ◌==◌}
+use Rattle.std.specs.Prelude.{◌≡◌, ℕ, ◌-◌, ◌<◌, [], take, drop}
 use Rattle.aa_vec.specs.Copies.{IsMade}
 use Rattle.aa_vec.specs.Vector.{Vector, len, Becomes, run_count}
 
 module _ {T A : Type 0} where
-  -- how many places the new block is asked for, where v is cut at the index
-  abbrev pub split_room : Vector T A → (at : ℕ) → ℕ
-  split_room v at = if at == 0 then v.capacity else len v - at
-
   -- The first `at` elements stay in old's block, and the others were moved into one with room for
   -- no more. Cut at 0, old goes away with its block, and a new one of the same capacity stands in
   -- its place

@@ -1,9 +1,9 @@
 //! Whole runs of elements that pass from one vector to another.
-ghost use Rattle.std.specs.Prelude.{◌≡◌, ◌-◌, ◌<◌, ◌≤◌, [], ◌++◌, take, drop, IfOk, IfErr, OnOk, OnErr, IsOk, length};
+ghost use Rattle.std.specs.Prelude.{◌≡◌, ◌-◌, ◌<◌, ◌≤◌, [], ◌++◌, take, drop, IfOk, IfErr, OnOk, OnErr, IsOk, length, if◌then◌else◌, ◌==◌};
 ghost use Rattle.std.specs.Mem.{type_size};
 ghost use Rattle.aa_raw.specs.Refusals.{RefusesClones};
 ghost use Rattle.aa_vec.specs.Vector.{len, HasRoom, LacksRoom, Becomes, run_count, with_room};
-ghost use Rattle.aa_vec.specs.Split.{Splits, split_room};
+ghost use Rattle.aa_vec.specs.Split.{Splits};
 
 use crate::vec::Vec;
 use aa_raw::collections::TryReserveError;
@@ -79,8 +79,9 @@ impl<T, A: Allocator> Vec<T, A> {
         ensures splits { IfOk result (λ v. Splits (type_size T.row) self.old at self.new v) }
         ensures tail_alloc { IfOk result (λ v. 0 < at → A.is_clone self.old.alloc v.alloc) }
         ensures head_alloc { OnOk result (at ≡ 0 → A.is_clone self.old.alloc self.new.alloc) }
-        ensures refused { IfErr result (RefusesClones (A.is_infallible self.old.alloc)
-            (split_room self.old at) (type_size T.row)) }
+        ensures refused { let room = if at == 0 then self.old.capacity else len self.old - at in
+            let sure = A.is_infallible self.old.alloc in
+            IfErr result (RefusesClones sure room (type_size T.row)) }
         ensures unchanged { OnErr result (self.new ≡ self.old) }
     {
         let len = self.len;

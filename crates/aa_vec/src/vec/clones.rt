@@ -2,7 +2,7 @@
 ghost use Rattle.std.specs.Prelude.{◌≡◌, ◌+◌, ◌-◌, ◌<◌, ◌≤◌, [], ◌++◌, false, length, take, drop, slice_range, replicate, All, IsTrue, IfErr, OnOk, OnErr, IsOk};
 ghost use Rattle.std.specs.Mem.{type_size};
 ghost use Rattle.aa_vec.specs.Vector.{len, HasRoom, LacksRoom, Becomes, with_items, with_room};
-ghost use Rattle.aa_vec.specs.Copies.{Copies, IsBeginning, Adds, AddsAnswers, Fills, Undone, MayCallTimes, Refuses, StopsAssigning};
+ghost use Rattle.aa_vec.specs.Copies.{Copies, Adds, AddsAnswers, Fills, Undone, MayCallTimes, Refuses, StopsAssigning};
 
 use crate::vec::Vec;
 use aa_raw::collections::{TryReserveError, TryReserveErrorKind};
@@ -132,7 +132,7 @@ impl<T: Clone, A: Allocator> Vec<T, A> {
             let roomy = with_room (type_size T.row) (with_items self.old []) 0 n in
             Copies T.is_clone → OnOk result (Becomes roomy other.now.items n n self.new) }
         ensures begun { Copies T.is_clone
-            → OnErr result (IsBeginning other.now.items self.new.items) }
+            → OnErr result (self.new.items ≡ take (len self.new) other.now.items) }
         ensures refused { IfErr result (λ e. StopsAssigning T.is_clone
             (¬ (All T.is_infallible other.now.items))
             (type_size T.row) self.old other.now.items e self.new) }

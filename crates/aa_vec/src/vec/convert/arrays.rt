@@ -8,7 +8,7 @@ ghost use Rattle.aa_raw.specs.declared.collections.TryReserveErrorKind.TheVarian
 ghost use Rattle.aa_raw.specs.declared.raw_vec.Growth.TheVariants.{Doubling};
 ghost use Rattle.aa_vec.specs.Vector.{len, sized, Becomes, run_count};
 ghost use Rattle.aa_vec.specs.Copies.{IsMade};
-ghost use Rattle.aa_vec.specs.Arrays.{flattened, LacksRoomForAll, StaysNested};
+ghost use Rattle.aa_vec.specs.Arrays.{flattened, LacksRoomForAll};
 
 use crate::vec::new::empty_over;
 use crate::vec::{SliceIntoVec, Vec};
@@ -111,8 +111,9 @@ impl<T, A: Allocator, const N: usize> Vec<[T; N], A> {
             let items = flattened self.items in
             IfOk result (IsMade (type_size T.row) (self.capacity * N) self.growth items calls) }
         ensures alloc { IfOk result (λ v. A.is_clone self.alloc v.alloc) }
+        ensures handed_back { IfErr result (λ r. r.source ≡ self) }
         ensures refused { let sure = A.is_infallible self.alloc in
-            IfErr result (StaysNested sure N (type_size T.row) self) }
+            IfErr result (λ r. LacksRoomForAll sure N (type_size T.row) self r.error) }
     {
         match self.room_for_all() {
             Ok(flat) => Ok(self.pour_into(flat)),
