@@ -1,8 +1,8 @@
 -- Clones of elements put behind others, one after another.
 use Rattle.aa_vec.proofs.Common.{◌≡◌, ℕ, ◌+◌, ◌-◌, ◌<◌, ◌≤◌, List, [], ◌∷◌, ◌++◌, length, take, drop, get_or, replicate, refl, sym, ap, ◌∙◌, subst, arith, inr, length-append, length-drop, length-take, length-replicate, take_all, take_at, append-nil, TryReserveError, Copies, Adds, Fills, Vector, len, GrowsTo, SameBlock, All, AllZip, replicate_more, get_or-replicate, get_or_append_left, get_or-drop, get_or-take, all_zip_more, same_from_all_zip, Begins, Undone, Refuses, with_items, Becomes, with_room}
 use Rattle.aa_raw.specs.declared.collections.TryReserveErrorKind.TheVariants.{AllocError}
-use Rattle.aa_vec.proofs.Becoming.{Becomes-holds, Becomes-more, Becomes-roomy, Becomes-then, GrowsTo-becomes, SameBlock-becomes}
-use Rattle.aa_vec.proofs.GrowthLemmas.{MakesRoom, MakesRoom-has, MakesRoom-same, SameBlock-trans, with_room-fits}
+use Rattle.aa_vec.proofs.Becoming.{Becomes-holds, Becomes-more, Becomes-roomy, Becomes-then, GrowsTo-becomes}
+use Rattle.aa_vec.proofs.GrowthLemmas.{MakesRoom, MakesRoom-has, MakesRoom-same, with_room-same}
 
 -- clones of one value and the value itself, where clones are copies
 pub all-copied : {T : Type 0} (clones : T → T → Type 0) (k : ℕ) (x : T) (ys : List T) → 0 < k → Copies clones → AllZip clones (replicate (k - 1) x) ys → ys ++ x ∷ [] ≡ replicate k x
@@ -16,6 +16,11 @@ module _ {T A : Type 0} where
   pub Refuses-undone : (failure : Type 0) (size : ℕ) (old mid new : Vector T A) (k : ℕ) (error : TryReserveError) → Becomes (with_room size old (len old) k) old.items 0 0 mid → Undone mid k new → failure → error.kind ≡ AllocError (len old + k)
       → Refuses failure size old k error new
   Refuses-undone failure size old mid new k error e u cause number = inr (record { cause = cause; number = number; undone = Undone-made (with_room size old (len old) k) mid new e k u })
+
+  -- and of the vector's own
+  pub Refuses-own : (never : T → Type 0) (size : ℕ) (old mid new : Vector T A) (from k : ℕ) (error : TryReserveError) → Becomes (with_room size old (len old) k) old.items 0 0 mid → Undone mid k new → ¬ (All never (take k (drop from mid.items)))
+      → error.kind ≡ AllocError (len old + k) → Refuses (¬ (All never (take k (drop from old.items)))) size old k error new
+  Refuses-own never size old mid new from k error e u fails number = Refuses-undone _ size old mid new k error e u (subst (λ xs. ¬ (All never (take k (drop from xs)))) (ap (λ v. v.items) e) fails) number
 
   module _ (clones : T → T → Type 0) where
     -- clones put there stand behind the items there were
@@ -96,11 +101,9 @@ module _ {T A : Type 0} where
 
   pub Resized-cut : (size : ℕ) (old new : Vector T A) (n : ℕ) (x : T) → n ≤ len old → Becomes old (take n old.items) 0 0 new → Becomes (with_room size old (len old) (n - len old)) (take n old.items ++ replicate (n - len old) x) (n - len old) (n - len old) new
   Resized-cut size old new n x less cut =
-      let k : ℕ = n - len old in let none : k ≡ 0 = omega (arith, less) in
-      let items : take n old.items ≡ take n old.items ++ replicate k x = sym (append-nil (take n old.items)) ∙ ap (λ m. take n old.items ++ replicate m x) (sym none) in
-      let block = SameBlock-trans (with_room-fits size old (len old) k (omega (arith, none))) (SameBlock-becomes old (take n old.items) 0 0 new cut) in
-      Becomes-holds (with_room size old (len old) k) (take n old.items ++ replicate k x) k k new (record { items = ap (λ v. v.items) cut ∙ items; block = record { capacity = block.capacity; growth = block.growth; grown = block.grown; alloc = block.alloc } })
-      (record { written = omega (arith, ap (λ v. v.written) cut, none); runs = omega (arith, ap (λ v. v.runs) cut, none) })
+      let none : 0 ≡ n - len old = omega (arith, less) in
+      let same : Vector T A → Type 0 = λ v. Becomes v (take n old.items ++ []) 0 0 new in
+      subst (λ k. Becomes (with_room size old (len old) k) (take n old.items ++ replicate k x) k k new) none (subst same (sym (with_room-same size old (len old) 0 (omega arith))) (rw (append-nil (take n old.items)) cut))
 
   -- room that was made once all items were dropped
   pub assigned-room : (size k : ℕ) (old cleared mid : Vector T A) → Becomes old [] 0 0 cleared → Becomes (with_room size cleared (len cleared) k) cleared.items 0 0 mid → Becomes (with_room size (with_items old []) 0 k) [] 0 0 mid
@@ -134,4 +137,4 @@ module _ {T A : Type 0} where
 pub ruleset copied = (Adds-take, Adds-same, Adds-own, own-fails, Undone-cut, length-replicate, length-take)
 
 -- and in room that was made for all of them
-pub ruleset cloned = (copied, Begins-made, Adds-assigned, Adds-made, Adds-all, Adds-copied, Fills-last, Fills-made, Refuses-undone, Resized-copied, Resized-cut)
+pub ruleset cloned = (copied, Begins-made, Adds-assigned, Adds-made, Adds-all, Adds-copied, Fills-last, Fills-made, Adds-begun, Refuses-undone, Refuses-own, Resized-copied, Resized-cut)

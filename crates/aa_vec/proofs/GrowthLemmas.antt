@@ -42,6 +42,9 @@ module _ {T A : Type 0} where
   pub with_room-fits : (size : ℕ) (v : Vector T A) (n k : ℕ) → k ≤ v.capacity - n → SameBlock (with_room size v n k) v
   with_room-fits size v n k h = record { capacity = grind (arith, nat_tests); growth = refl; grown = grind (arith, nat_tests); alloc = refl }
 
+  pub with_room-same : (size : ℕ) (v : Vector T A) (n k : ℕ) → k ≤ v.capacity - n → with_room size v n k ≡ v
+  with_room-same size v n k h = let b = with_room-fits size v n k h in λ i. record v { capacity = sym b.capacity i; grown = sym b.grown i }
+
   pub MakesRoom-stays : (size n k : ℕ) (v w : Vector T A) → MakesRoom size v n k w → k ≤ v.capacity - n → SameBlock v w
   MakesRoom-stays size n k v w m h = record { capacity = grind (arith, nat_tests); growth = m.growth; grown = grind (arith, nat_tests); alloc = m.alloc }
 
