@@ -18,12 +18,15 @@ impl<T, A: Allocator> Vec<T, A> {
     #[inline]
     #[tactic(auto, using(crate::proofs::Becoming::becomes, crate::proofs::Becoming::became))]
     pub fn append(&mut self, other: &mut Self) -> Result<(), TryReserveError>
+        // What fits is moved.
         ensures fits { HasRoom self.old (len other.old) → IsOk result }
         ensures joined { let moved = length other.old.items in
             let roomy = with_room (type_size T.row) self.old (length self.old.items) moved in
             OnOk result (Becomes roomy (self.old.items ++ other.old.items) moved (run_count moved)
             self.new) }
         ensures emptied { OnOk result (Becomes other.old [] 0 0 other.new) }
+
+        // A refusal changes neither.
         ensures refused { IfErr result (LacksRoom (type_size T.row) self.old (len other.old)) }
         ensures unchanged { OnErr result (self.new ≡ self.old) }
         ensures stays { OnErr result (other.new ≡ other.old) }
@@ -76,9 +79,13 @@ impl<T, A: Allocator> Vec<T, A> {
     where
         A: Clone,
         requires { at ≤ len self.old }
+
+        // The two parts, and the allocator of the one that was made.
         ensures splits { IfOk result (λ v. Splits (type_size T.row) self.old at self.new v) }
         ensures tail_alloc { IfOk result (λ v. 0 < at → A.is_clone self.old.alloc v.alloc) }
         ensures head_alloc { OnOk result (at ≡ 0 → A.is_clone self.old.alloc self.new.alloc) }
+
+        // A refusal changes nothing.
         ensures refused { let room = if at == 0 then self.old.capacity else len self.old - at in
             let sure = A.is_infallible self.old.alloc in
             IfErr result (RefusesClones sure room (type_size T.row)) }

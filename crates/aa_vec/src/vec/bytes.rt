@@ -46,13 +46,18 @@ impl<A: Allocator> Write for Vec<u8, A> {
     /// Puts all of `buf` behind the last byte, and answers how many they are. It takes memory as
     /// `try_reserve` does, and only where they do not fit.
     fn write(&mut self, buf: &[u8]) -> Written<usize>
+        // What a writer promises.
         ensures bound { WritesAtMost result buf.now }
         ensures bytes { WriteAppends (Some self.old.items) (Some self.new.items) result buf.now }
+
+        // All bytes are written, and what fits always is.
         ensures count { IfOk result (λ n. n ≡ length buf.now) }
         ensures fits { HasRoom self.old (length buf.now) → IsOk result }
         ensures written { OnOk result
             (GrowsTo 1 self.old (length buf.now) (self.old.items ++ buf.now) self.new) }
         ensures writes { OnOk result (copies.WritesAtMost self.old (length buf.now) self.new) }
+
+        // A refusal changes nothing.
         ensures refused { OnErr result (self.new ≡ self.old) }
         ensures kind { IfErr result (λ e. error_kind e ≡ ErrorKind.OutOfMemory) }
     {
@@ -73,11 +78,14 @@ impl<A: Allocator> Write for Vec<u8, A> {
 
     /// Puts all of `buf` behind the last byte, as `write` does.
     fn write_all(&mut self, buf: &[u8]) -> Written<()>
+        // All bytes are written, and what fits always is.
         ensures bytes { OnOk result (Appends (Some self.old.items) (Some self.new.items) buf.now) }
         ensures fits { HasRoom self.old (length buf.now) → IsOk result }
         ensures written { OnOk result
             (GrowsTo 1 self.old (length buf.now) (self.old.items ++ buf.now) self.new) }
         ensures writes { OnOk result (copies.WritesAtMost self.old (length buf.now) self.new) }
+
+        // A refusal changes nothing.
         ensures refused { OnErr result (self.new ≡ self.old) }
         ensures kind { IfErr result (λ e. error_kind e ≡ ErrorKind.OutOfMemory) }
     {

@@ -84,11 +84,14 @@ impl<T: Clone, A: Allocator> Vec<T, A> {
     /// `Vec::resize`.
     #[tactic(auto, using(crate::proofs::CopiesLemmas::cloned, crate::proofs::Becoming::became))]
     pub fn resize(&mut self, new_len: usize, value: T) -> Result<(), TryReserveError>
+        // What fits is done, and what is cut always is.
         ensures fits { HasRoom self.old (new_len - len self.old)
             → (len self.old + 1 < new_len → T.is_infallible value) → IsOk result }
         ensures cut { new_len ≤ len self.old
             → Becomes self.old (take new_len self.old.items) 0 0 self.new }
         ensures cut_done { new_len ≤ len self.old → IsOk result }
+
+        // What the places hold that are filled up.
         ensures filled { let more = new_len - len self.old in
             let roomy = with_room (type_size T.row) self.old (len self.old) more in
             OnOk result (len self.old < new_len → Fills T.is_clone roomy more value self.new) }
@@ -97,6 +100,8 @@ impl<T: Clone, A: Allocator> Vec<T, A> {
             Copies T.is_clone → OnOk result
             (Becomes roomy (take new_len self.old.items ++ replicate more value)
             more more self.new) }
+
+        // A refusal is one of memory or of a clone.
         ensures only_longer { OnErr result (len self.old < new_len) }
         ensures refused { IfErr result
             (λ e. Refuses ((len self.old + 1 < new_len) × (¬ (T.is_infallible value)))
@@ -244,14 +249,20 @@ impl<T, A: Allocator> Vec<T, A> {
     where
         T: Drop,
         requires callable { MayCallTimes (λ g. F.pre g) F.step (new_len - len self.old) f }
+
+        // What fits is done, and what is cut always is.
         ensures fits { HasRoom self.old (new_len - len self.old) → IsOk result }
         ensures cut { new_len ≤ len self.old
             → Becomes self.old (take new_len self.old.items) 0 0 self.new }
         ensures cut_done { new_len ≤ len self.old → IsOk result }
+
+        // What the places hold that are filled up.
         ensures filled { let more = new_len - len self.old in
             let roomy = with_room (type_size T.row) self.old (len self.old) more in
             OnOk result (len self.old < new_len
             → (last : F) × AddsAnswers F.step roomy more f last self.new) }
+
+        // A refusal changes nothing.
         ensures refused { IfErr result
             (LacksRoom (type_size T.row) self.old (new_len - len self.old)) }
         ensures unchanged { OnErr result (self.new ≡ self.old) }
@@ -272,15 +283,21 @@ impl<T, A: Allocator> Vec<T, A> {
     where
         T: Drop,
         requires callable { MayCallTimes (λ g. F.pre g) F.step (new_len - len self.old) f.old }
+
+        // What fits is done, and what is cut always is.
         ensures fits { HasRoom self.old (new_len - len self.old) → IsOk result }
         ensures cut { new_len ≤ len self.old
             → Becomes self.old (take new_len self.old.items) 0 0 self.new }
         ensures cut_done { new_len ≤ len self.old → IsOk result }
         ensures cut_alone { new_len ≤ len self.old → f.new ≡ f.old }
+
+        // What the places hold that are filled up.
         ensures filled { let more = new_len - len self.old in
             let roomy = with_room (type_size T.row) self.old (len self.old) more in
             OnOk result (len self.old < new_len
             → AddsAnswers F.step roomy more f.old f.new self.new) }
+
+        // A refusal changes nothing.
         ensures refused { IfErr result
             (LacksRoom (type_size T.row) self.old (new_len - len self.old)) }
         ensures unchanged { OnErr result (self.new ≡ self.old) }

@@ -80,10 +80,14 @@ impl<T: Copy, A: Allocator> Vec<T, A> {
     #[tactic(auto, using(crate::proofs::Becoming::became))]
     pub fn extend_from_within_copied(&mut self, range: Range<usize>) -> Result<(), TryReserveError>
         requires { (range.start ≤ range.end) × (range.end ≤ len self.old) }
+
+        // What fits is copied.
         ensures fits { HasRoom self.old (range.end - range.start) → IsOk result }
         ensures extended { OnOk result (GrowsTo (type_size T.row) self.old (range.end - range.start)
             (self.old.items ++ slice_range self.old.items range.start range.end) self.new) }
         ensures writes { OnOk result (WritesAtMost self.old (range.end - range.start) self.new) }
+
+        // A refusal changes nothing.
         ensures refused { IfErr result
             (LacksRoom (type_size T.row) self.old (range.end - range.start)) }
         ensures unchanged { OnErr result (self.new ≡ self.old) }

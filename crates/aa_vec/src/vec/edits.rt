@@ -38,11 +38,15 @@ impl<T, A: Allocator> Vec<T, A> {
     #[tactic(auto, using(aa_raw::proofs::Positions::at_positions))]
     pub fn insert(&mut self, index: usize, element: T) -> Result<(), Refused<T>>
         requires { index ≤ length self.old.items }
+
+        // What fits is put in.
         ensures fits { HasRoom self.old 1 → IsOk result }
         ensures inserted { let moved = length self.old.items - index in
             let roomy = with_room (type_size T.row) self.old (length self.old.items) 1 in
             OnOk result (Becomes roomy (insert self.old.items index element) (moved + 1)
             (run_count moved + 1) self.new) }
+
+        // A refusal hands the element back, and changes nothing.
         ensures refused { IfErr result (λ r. LacksRoom (type_size T.row) self.old 1 r.error) }
         ensures handed_back { IfErr result (λ r. r.source ≡ element) }
         ensures unchanged { OnErr result (self.new ≡ self.old) }
