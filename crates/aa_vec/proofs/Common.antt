@@ -14,11 +14,11 @@ pub use Rattle.aa_vec.specs.Arrays.{flattened}
 pub use Rattle.aa_vec.specs.Behind.{ClosesGap, ClosesTwice, DropsBehind, LeavesBehind, MovesDown, SetsBack, StandsBehind, behind_items, with_behind}
 pub use Rattle.aa_vec.specs.Choosing.{Asked, AskedInOrder, ChainsFrom, Deduplicated, Deduplicates, EndsTrue, IsCallableAlong, IsCallableInOrder, MayAskInOrder, MayChainFrom, MayDeduplicate, Retains, TakesMut, answers_of, kept, kept_behind_removed, passed_over}
 pub use Rattle.aa_vec.specs.Copies.{Adds, AddsAnswers, Begins, Copies, Fills, IsMade, IsMadeOfOne, MayCallTimes, Refuses, Undone, WritesAtMost}
-pub use Rattle.aa_vec.specs.Extend.{GrowsInSteps, CopiesOf, Extended, ExtendsAll, ExtendsFull, ItemsLeft, EndsAt, Takes, TellsAtMost, TellsExactly, YieldsTelling, asked_with, gives_item, grows, lower_by, stays}
+pub use Rattle.aa_vec.specs.Extend.{GrowsInSteps, CopiesOf, Extended, Extends, ItemsLeft, EndsAt, Takes, TellsAtMost, TellsExactly, YieldsTelling, asked_with, gives_item, grows, lower_by, stays}
 pub use Rattle.aa_vec.specs.Extract.{ClosesExtract, Extracted, Extracts, ExtractsAlong, ExtractsRange, extract_count, extract_kept, extract_rest, extract_tail, extract_vec}
-pub use Rattle.aa_vec.specs.Filling.{FillsAndCloses, FillsGap, Gathers, GathersShort, LacksRest, OpensGap, Placed, Puts, PutsAll, PutsFront, PutsRest, PutsWithin, Widens}
+pub use Rattle.aa_vec.specs.Filling.{FillsAndCloses, FillsGap, Gathers, LacksRest, OpensGap, Placed, Puts, PutsAll, PutsFront, PutsRest, Widens}
 pub use Rattle.aa_vec.specs.VecInner.{IsFront, view_of}
-pub use Rattle.aa_vec.specs.SpliceItems.{LacksOthers, Replaced, SplicesAll, SplicesByAll, SplicesByFront, SplicesFront, SplicesShort, SplicesWithin, TellsNoneAtEnd, TellsOnceFull, cut_off, gapped, tail_moves}
+pub use Rattle.aa_vec.specs.SpliceItems.{Gapped, LacksOthers, PutsWithin, Replaced, SplicesAll, SplicesFront, SplicesShort, gapped, tail_moves}
 pub use Rattle.aa_vec.specs.Until.{AsksBehind, AsksLast, AsksNeighbours, AsksUntil, ChainsAlong, ChainsBehind, ChainsOn, ChainsUntil, KeepsDown, Picks, StaysWhen, TakesNext}
 pub use Rattle.aa_vec.specs.Vector.{Becomes, GrowsTo, HasRoom, Holds, IsNew, LacksRoom, Moves, SameBlock, Vector, Writes, len, moved_over, run_count, sized, with_items, with_room}
 pub use Rattle.aa_vec.specs.declared.vec.Vec.TheInside.{Inside}

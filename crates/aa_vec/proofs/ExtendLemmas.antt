@@ -1,10 +1,10 @@
 -- A vector that items of an iterator are put behind.
-use Rattle.aa_vec.proofs.Common.{◌≡◌, ℕ, zero, suc, ◌+◌, ◌-◌, ◌<◌, ◌≤◌, List, [], ◌∷◌, ◌++◌, length, Option, Some, None, Ok, append_assoc, refl, sym, ap, ◌∙◌, subst, arith, length-append, min, map, Count, Yields, Drains, append-nil, TryReserveError, usize_max, Vector, len, HasRoom, LacksRoom, Holds, Writes, Placed, FillsGap, GrowsInSteps, stays, YieldsTelling, Takes, ExtendsAll, ExtendsFull, Extended, CopiesOf, Result, Err, OnOk, IfErr, count_of, WholeRun, asked_with, Becomes, with_room}
+use Rattle.aa_vec.proofs.Common.{◌≡◌, ℕ, zero, suc, ◌+◌, ◌-◌, ◌<◌, ◌≤◌, List, [], ◌∷◌, ◌++◌, length, Option, Some, None, Ok, append_assoc, refl, sym, ap, ◌∙◌, subst, arith, length-append, min, map, Count, Yields, Drains, append-nil, TryReserveError, usize_max, Vector, len, HasRoom, LacksRoom, Holds, Writes, Placed, FillsGap, GrowsInSteps, YieldsTelling, Takes, Extends, Extended, CopiesOf, Result, Err, OnOk, IfErr, count_of, WholeRun, asked_with, Becomes, with_room}
 use Rattle.std.specs.Borrow.{Bor}
 use Rattle.aa_vec.proofs.Answered.{IsOk, on_ok}
 use Rattle.std.proofs.iter.runs.Consumers.{total_runs}
 use Rattle.aa_vec.proofs.Becoming.{GrowsTo-becomes, Writes-grown}
-use Rattle.aa_vec.proofs.GrowthLemmas.{MakesRoom, SameBlock-refl, MakesRoom-fits, MakesRoom-rises, GrowsInSteps-same, GrowsInSteps-more, GrowsInSteps-rises, GrowsInSteps-counted}
+use Rattle.aa_vec.proofs.GrowthLemmas.{MakesRoom, SameBlock-refl, MakesRoom-fits, MakesRoom-rises, GrowsInSteps-same, GrowsInSteps-more, GrowsInSteps-rises, GrowsInSteps-counted, Extends-items, in_block}
 
 -- the items that came, as one run
 pub whole_run : {S A : Type 0} (steps : S → Option A → S → Type 0) (s : S) (P : List A → Type 0) → (xs : List A) × Drains steps s xs × P xs → WholeRun steps s (λ p. P p.items)
@@ -40,11 +40,11 @@ module _ {S T : Type 0} (steps : S → Option T → S → Type 0) (Tells : S →
 
   module _ {A : Type 0} (size : ℕ) (iter : S) (old : Vector T A) where
     -- an extension, by its two outcomes
-    pub Extended-left : (left : S → Count) (after : S) (r : Result Unit TryReserveError) (new : Vector T A) → OnOk r (Takes steps Tells iter (λ lower xs last. steps last None after × ExtendsAll size lower old old.items xs new))
-        → IfErr r (λ e. Takes steps Tells iter (λ lower xs last. (last ≡ after) × (full : ExtendsFull size lower old old.items xs e new) × (length full.others ≡ 1))) → (HasRoom old (count_of (left iter)) → IsOk r)
+    pub Extended-left : (left : S → Count) (after : S) (r : Result Unit TryReserveError) (new : Vector T A) → OnOk r (Takes steps Tells iter (λ lower xs last. steps last None after × Extends size lower old old.items xs (Ok tt) new))
+        → IfErr r (λ e. Takes steps Tells iter (λ lower xs last. (last ≡ after) × (stop : Extends size lower old old.items xs (Err e) new) × (length stop.others ≡ 1))) → (HasRoom old (count_of (left iter)) → IsOk r)
         → Writes old (len new - len old) (len new - len old) new → Extended steps Tells left size iter old after r new
     Extended-left left after r new room refused fits writes =
-        let ran = on_ok r room (λ e. (e.taken, (after, (e.last, Yields-told e.lower iter e.taken e.last e.told, e.went.0)), e.went.1.items)) in
+        let ran = on_ok r room (λ e. (e.taken, (after, (e.last, Yields-told e.lower iter e.taken e.last e.told, e.went.0)), Extends-items e.went.1)) in
         record { items = ran; runs = on_ok r ran (whole_run steps iter (λ xs. new.items ≡ old.items ++ xs)); fits = fits; room = room; writes = writes; refused = refused }
 
     -- of what came from iter, which is now s, `front` was placed, and the vector is v
@@ -64,7 +64,7 @@ module _ {S T : Type 0} (steps : S → Option T → S → Type 0) (Tells : S →
       lower = λ _. first.0;
       told = (first.1, refl);
       within = h;
-      in_steps = stays (SameBlock-refl old);
+      in_steps = in_block (SameBlock-refl old);
       items = sym (append-nil old.items);
       fits = h;
       writes = omega arith;
@@ -77,7 +77,8 @@ module _ {S T : Type 0} (steps : S → Option T → S → Type 0) (Tells : S →
       -- no item is to come
       pub Placing-end : (left : S → Count) (u : S) → steps s None u → Extended steps Tells left size iter old u (Ok tt) v
       Placing-end left u h =
-          let all : ExtendsAll size p.lower old old.items p.front v = record { within = p.within; in_steps = p.in_steps; enough = omega (arith, p.fits, count); items = p.items } in
+          let all : Extends size p.lower old old.items p.front (Ok tt) v =
+          record { front = p.front; others = []; begins = sym (append-nil p.front); within = p.within; in_steps = p.in_steps; items = p.items; fits = omega (arith, p.fits, count); all = refl; refused = tt } in
           Extended-left left u (Ok tt) v (record { taken = p.front; lower = p.lower; last = s; told = p.told; went = (h, all) }) tt (λ _. refl) (omega (arith, p.writes.written, p.writes.runs, count))
 
       -- items came that found free places
@@ -144,16 +145,16 @@ module _ {S T : Type 0} (steps : S → Option T → S → Type 0) (Tells : S →
         -- or room for it was refused, where more may have come from the start on than were placed
         pub Placing-refused : (left : S → Count) (k : ℕ) → k ≡ min (n + 1) usize_max → (error : TryReserveError) → LacksRoom size v k error → len v < len old + count_of (left iter) → Extended steps Tells left size iter old t (Err error) v
         Placing-refused left k e error lacks more =
-            let stop : ExtendsFull size next_lower old old.items next_front error v = record {
+            let stop : Extends size next_lower old old.items next_front (Err error) v = record {
               front = p.front;
               others = x ∷ [];
               begins = refl;
               within = p.within;
               in_steps = grown_in_steps;
-              short = omega (arith, full, count, longer);
               items = p.items;
-              full = omega (arith, full, count);
-              lacks = subst (λ j. LacksRoom size v j error) e lacks;
+              fits = omega (arith, full, count);
+              all = tt;
+              refused = (omega arith, omega (arith, full, count), subst (λ j. LacksRoom size v j error) e lacks);
             } in
             Extended-left left t (Err error) v tt (record { taken = next_front; lower = next_lower; last = t; told = YieldsTelling-more p.lower n iter p.front s x t p.told step tells; went = (refl, stop, refl) })
             (λ h. absurd (omega (arith, h, full, more, GrowsInSteps-rises size p.lower (len old + length p.front) p.in_steps))) (omega (arith, p.writes.written, p.writes.runs, count))

@@ -1,9 +1,9 @@
 -- Items gathered in a vector of their own, and what was asked for where they could not be.
-use Rattle.aa_vec.proofs.Common.{◌≡◌, ℕ, ◌+◌, ◌-◌, ◌<◌, List, [], ◌∷◌, ◌++◌, length, Option, None, refl, suc, sym, ap, cases_lt, ◌∙◌, subst, arith, inl, inr, length-append, min, append-nil, TryReserveError, Doubling, amortized, least_of, usize_max, Vector, len, IsNew, LacksRoom, GrowsTo, Holds, GrowsInSteps, stays, grows, ExtendsAll, ExtendsFull, Takes, Gathers, GathersShort, LacksOthers, asked_with, Becomes, with_room}
+use Rattle.aa_vec.proofs.Common.{◌≡◌, ℕ, ◌+◌, ◌-◌, ◌<◌, List, [], ◌∷◌, ◌++◌, length, Option, None, refl, suc, sym, ap, cases_lt, ◌∙◌, subst, arith, inl, inr, length-append, min, append-nil, TryReserveError, Doubling, amortized, least_of, usize_max, Vector, len, IsNew, LacksRoom, GrowsTo, Holds, GrowsInSteps, Ok, Err, Extends, Takes, Gathers, LacksOthers, LacksRest, asked_with, Becomes, with_room}
 use Rattle.aa_raw.specs.Refusals.{IsRefusedAt}
 use Rattle.aa_vec.proofs.Becoming.{GrowsTo-becomes}
-use Rattle.aa_vec.proofs.GrowthLemmas.{MakesRoom, MakesRoom-stays, SameBlock-refl, GrowsInSteps-counted}
-use Rattle.aa_vec.proofs.Counted.{ExtendsFull-told}
+use Rattle.aa_vec.proofs.GrowthLemmas.{MakesRoom, MakesRoom-stays, SameBlock-refl, Extends-items, GrowsInSteps-counted, GrowsInSteps-first, in_block}
+use Rattle.aa_vec.proofs.Counted.{Extends-told}
 use Rattle.aa_vec.proofs.Lists.{equal, unequal}
 use Rattle.aa_vec.proofs.HintLemmas.{told_first}
 
@@ -15,7 +15,7 @@ module _ {T A : Type 0} (size : ℕ) (lower by : ℕ → ℕ) (items : List T) (
     LacksOthers-told fails fails' whole whole' f w none v (inl (inl h)) =
         let asked = ap (λ n. min (n + 1) usize_max) (same (length items - 1) (omega (arith, some)) ∙ ap by (omega (arith, some, length-append items more))) in
         inl (inl (f h.0, subst (λ k. IsRefusedAt error (amortized Doubling 0 k (least_of size))) asked h.1))
-    LacksOthers-told fails fails' whole whole' f w none v (inl (inr h)) = inl (inr (h.0, h.1, h.2, ExtendsFull-told size lower by (SameBlock-refl h.0) [] items more (λ k l. same k l) (items ++ more) refl error h.1 h.3))
+    LacksOthers-told fails fails' whole whole' f w none v (inl (inr h)) = inl (inr (h.0, h.1, h.2, h.3, Extends-told size lower by (SameBlock-refl h.0) [] items more (λ k l. same k l) (items ++ more) refl (Err error) tt h.1 h.4))
     LacksOthers-told fails fails' whole whole' f w none v (inr h) = inr (w h.0, subst (λ k. LacksRoom size v k error) (omega (arith, length-append items more, ap length (none h.0))) h.1)
 
   pub LacksOthers-same : ((k : ℕ) → k < length items → lower k ≡ by k) → (fails fails' whole : Type 0) → (fails → fails') → (v : Vector T A) (error : TryReserveError) → LacksOthers fails whole size lower v items error
@@ -26,32 +26,29 @@ module _ {T A : Type 0} (size : ℕ) (lower by : ℕ → ℕ) (items : List T) (
 -- n is told behind `first`
 module _ {S T A : Type 0} (steps : S → Option T → S → Type 0) (Tells : S → ℕ → Type 0) (fails : Type 0) (size : ℕ) (s : S) (first : T) (old : Vector T A) (n : ℕ) (tells : Tells s n) (wanted : ℕ) (is : wanted ≡ min (n + 1) usize_max) where
   -- the clone of the allocator was refused
-  pub GathersShort-clone : (error : TryReserveError) → IsRefusedAt error (amortized Doubling 0 wanted (least_of size)) → fails → GathersShort steps Tells size s first fails old error s
-  GathersShort-clone error r f = record { taken = []; lower = λ _. n; last = s; told = (tells, refl); went = (refl, inl (inl (f, subst (λ k. IsRefusedAt error (amortized Doubling 0 k (least_of size))) is r))) }
+  pub LacksRest-clone : (error : TryReserveError) → IsRefusedAt error (amortized Doubling 0 wanted (least_of size)) → fails → LacksRest steps Tells fails size s old first error s
+  LacksRest-clone error r f = record { taken = []; lower = λ _. n; last = s; told = (tells, refl); went = (inl refl, inl (inl (f, subst (λ k. IsRefusedAt error (amortized Doubling 0 k (least_of size))) is r))) }
 
   module _ (a : A) (made : Vector T A) (new : IsNew size 0 a made) where
-    made_new : IsNew size 0 made.alloc made
-    made_new = record { items = new.items; capacity = new.capacity; growth = new.growth; grown = new.grown; written = new.written; runs = new.runs; alloc = refl }
-
     no_places : made.capacity < wanted → made.capacity ≡ 0
     no_places h = new.capacity ∙ unequal size 0 usize_max 0 (λ z. absurd (omega (arith, h, is, new.capacity ∙ equal size 0 usize_max 0 z)))
 
     -- its first growth was
-    pub GathersShort-first : (error : TryReserveError) → LacksRoom size made wanted error → GathersShort steps Tells size s first fails old error s
-    GathersShort-first error lacks =
+    pub LacksRest-first : (error : TryReserveError) → LacksRoom size made wanted error → LacksRest steps Tells fails size s old first error s
+    LacksRest-first error lacks =
         let none : made.capacity ≡ 0 = no_places (omega (arith, lacks.full, ap length new.items)) in
-        let full : ExtendsFull size (λ _. n) made [] (first ∷ []) error made = record {
+        let full : Extends size (λ _. n) made [] (first ∷ []) (Err error) made = record {
           front = [];
           others = first ∷ [];
           begins = refl;
           within = omega arith;
-          in_steps = stays (SameBlock-refl made);
-          short = omega (arith, none);
+          in_steps = in_block (SameBlock-refl made);
           items = new.items;
-          full = omega (arith, none);
-          lacks = rw (← is) lacks;
+          fits = omega arith;
+          all = tt;
+          refused = (omega arith, omega (arith, none), rw (← is) lacks);
         } in
-        record { taken = []; lower = λ _. n; last = s; told = (tells, refl); went = (refl, inl (inr (made, made, made_new, full))) }
+        record { taken = []; lower = λ _. n; last = s; told = (tells, refl); went = (inl refl, inl (inr (made, made, new.capacity, new.growth, full))) }
 
     -- `first` was put there, and others behind it
     module _ (v : Vector T A) (roomy : Becomes (with_room size made (len made) wanted) made.items 0 0 v) (w : Vector T A) (put : Holds v (v.items ++ first ∷ []) w) where
@@ -61,14 +58,14 @@ module _ {S T A : Type 0} (steps : S → Option T → S → Type 0) (Tells : S �
       one : w.items ≡ first ∷ []
       one = put.items ∙ ap (λ ys. ys ++ first ∷ []) (g.items ∙ new.items)
 
-      pub Gathers-all : (x : Vector T A) (t : S) → Takes steps Tells s (λ lower xs last. steps last None t × ExtendsAll size lower w w.items xs x) → Gathers steps Tells size s first x t
-      Gathers-all x t e = record { taken = e.taken; lower = e.lower; last = e.last; told = e.told; went = (e.went.0, e.went.1.items ∙ ap (λ ys. ys ++ e.taken) one) }
+      pub Gathers-all : (x : Vector T A) (t : S) → Takes steps Tells s (λ lower xs last. steps last None t × Extends size lower w w.items xs (Ok tt) x) → Gathers steps Tells s first x t
+      Gathers-all x t e = record { taken = e.taken; lower = e.lower; last = e.last; told = e.told; went = (e.went.0, Extends-items e.went.1 ∙ ap (λ ys. ys ++ e.taken) one) }
 
-      pub GathersShort-more : (x : Vector T A) (error : TryReserveError) (t : S) → Takes steps Tells s (λ lower xs last. (last ≡ t) × (full : ExtendsFull size lower w w.items xs error x) × (length full.others ≡ 1)) → GathersShort steps Tells size s first fails old error t
-      GathersShort-more x error t e =
+      pub LacksRest-more : (x : Vector T A) (error : TryReserveError) (t : S) → Takes steps Tells s (λ lower xs last. (last ≡ t) × (stop : Extends size lower w w.items xs (Err error) x) × (length stop.others ≡ 1)) → LacksRest steps Tells fails size s old first error t
+      LacksRest-more x error t e =
           let taken : List T = e.taken in
           let f = told_first steps Tells e.lower s taken e.last e.told n tells in
-          let stop = ExtendsFull-told size e.lower f.0 put.block w.items taken [] (λ k l. f.1 k l ∙ ap f.0 (omega arith)) taken (sym (append-nil taken)) error x e.went.1 in
+          let stop = Extends-told size e.lower f.0 put.block w.items taken [] (λ k l. f.1 k l ∙ ap f.0 (omega arith)) taken (sym (append-nil taken)) (Err error) tt x e.went.1 in
           let needed : ℕ = 0 + suc (length taken) in
           let rest : GrowsInSteps size f.0 needed v x = subst (λ k. GrowsInSteps size f.0 k v x) (omega (arith, ap length one)) stop.in_steps in
           let in_steps : GrowsInSteps size f.0 needed made x = elim (cases_lt made.capacity (len made + wanted)) [
@@ -76,17 +73,17 @@ module _ {S T A : Type 0} (steps : S → Option T → S → Type 0) (Tells : S �
             | inl h ↦
                 let none : made.capacity ≡ 0 = no_places (omega (arith, h, ap length new.items)) in
                 let asked : wanted ≡ asked_with (f.0 (needed - made.capacity - 1)) = is ∙ ap (λ k. min (k + 1) usize_max) (sym f.2 ∙ ap f.0 (omega (arith, none))) in
-                grows (omega (arith, none)) (rw (← asked) (subst (λ k. MakesRoom size made k wanted v) {x = len made} {y = made.capacity} (omega (arith, ap length new.items, none)) g.room)) rest
+                GrowsInSteps-first size f.0 needed (omega (arith, none)) (rw (← asked) (subst (λ k. MakesRoom size made k wanted v) {x = len made} {y = made.capacity} (omega (arith, ap length new.items, none)) g.room)) rest
           ] in
-          let full : ExtendsFull size f.0 made [] (first ∷ taken) error x = record {
+          let full : Extends size f.0 made [] (first ∷ taken) (Err error) x = record {
             front = first ∷ stop.front;
             others = stop.others;
             begins = ap (λ ys. first ∷ ys) stop.begins;
             within = omega arith;
             in_steps = in_steps;
-            short = omega (arith, stop.short, ap length one);
             items = stop.items ∙ ap (λ ys. ys ++ stop.front) one;
-            full = omega (arith, stop.full, ap length one);
-            lacks = stop.lacks;
+            fits = omega (arith, stop.fits, ap length one);
+            all = tt;
+            refused = (stop.refused.0, omega (arith, stop.refused.1, ap length one), stop.refused.2);
           } in
-          record { taken = taken; lower = f.0; last = e.last; told = f.3; went = (e.went.0, inl (inr (made, x, made_new, full))) }
+          record { taken = taken; lower = f.0; last = e.last; told = f.3; went = (inl e.went.0, inl (inr (made, x, new.capacity, new.growth, full))) }

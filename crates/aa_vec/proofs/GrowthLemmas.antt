@@ -1,5 +1,5 @@
 -- Lemmas on a vector that grew while it was full.
-use Rattle.aa_vec.proofs.Common.{◌≡◌, ℕ, ◌+◌, ◌-◌, ◌<◌, ◌≤◌, List, ◌++◌, append_assoc, refl, ap, ◌∙◌, subst, arith, min, usize_max, Growth, Doubling, Sparing, amortized, least_of, Vector, SameBlock, Holds, with_room, GrowsInSteps, stays, grows, nat_tests, asked_with}
+use Rattle.aa_vec.proofs.Common.{◌≡◌, ℕ, ◌+◌, ◌-◌, ◌<◌, ◌≤◌, List, ◌++◌, length, append_assoc, append-nil, sym, Ok, Extends, refl, ap, ◌∙◌, subst, arith, min, usize_max, Growth, Doubling, Sparing, amortized, least_of, Vector, SameBlock, Holds, with_room, GrowsInSteps, stays, grows, nat_tests, asked_with}
 
 -- a growth asks for no less than what is needed
 pub amortized-enough : (G : Growth) (c needed m : ℕ) → needed ≤ amortized G c needed m
@@ -56,49 +56,92 @@ module _ {T A : Type 0} where
   pub Holds-more : (old mid new : Vector T A) (xs ys : List T) → Holds old (old.items ++ xs) mid → Holds mid (mid.items ++ ys) new → Holds old (old.items ++ (xs ++ ys)) new
   Holds-more old mid new xs ys p q = record { items = q.items ∙ ap (λ l. l ++ ys) p.items ∙ append_assoc old.items xs ys; block = SameBlock-trans p.block q.block }
 
+-- the block of a vector that has grown, by its equation
+module _ {T A : Type 0} where
+  pub block_of : (old new : Vector T A) → new ≡ record old { items = new.items; written = new.written; runs = new.runs; behind = new.behind } → SameBlock old new
+  block_of old new e = record { capacity = ap (λ v. v.capacity) e; growth = ap (λ v. v.growth) e; grown = ap (λ v. v.grown) e; alloc = ap (λ v. v.alloc) e }
+
+  pub in_block : {size : ℕ} {lower : ℕ → ℕ} {needed : ℕ} {old new : Vector T A} → SameBlock old new → GrowsInSteps size lower needed old new
+  in_block {new = new} b = stays (λ i. record { items = new.items; capacity = b.capacity i; growth = b.growth i; grown = b.grown i; written = new.written; runs = new.runs; alloc = b.alloc i; behind = new.behind })
+
+  module _ (size : ℕ) (lower : ℕ → ℕ) (needed : ℕ) (v : Vector T A) where
+    -- what v asks room for while it is full, and what it grows to then
+    abbrev pub asks : ℕ
+    asks = asked_with (lower (needed - v.capacity - 1))
+
+    abbrev pub grown_by : Vector T A
+    grown_by = record v { capacity = amortized v.growth v.capacity (v.capacity + asks) (least_of size); grown = v.grown + v.capacity }
+
+    pub grown_from : (w : Vector T A) → MakesRoom size v v.capacity asks w → SameBlock grown_by w
+    grown_from w m = let b = MakesRoom-grows size v.capacity asks v w m (omega arith) in record { capacity = b.0; growth = m.growth; grown = b.1; alloc = m.alloc }
+
+    pub grown_room : MakesRoom size v v.capacity asks grown_by
+    grown_room =
+        let roomy : Vector T A = with_room size v v.capacity asks in let b = MakesRoom-grows size v.capacity asks v roomy (SameBlock-refl roomy) (omega arith) in
+        record { capacity = sym b.0; growth = refl; grown = sym b.1; alloc = refl }
+
+    pub grown_rises : v.capacity ≤ grown_by.capacity
+    grown_rises = omega (arith, amortized-enough v.growth v.capacity (v.capacity + asks) (least_of size))
+
 -- the same grow from another vector in the same block, where r items more are to come after those that were counted, and the bounds agree
 -- from the capacity on
 pub GrowsInSteps-counted : {T A : Type 0} (size : ℕ) (lower by : ℕ → ℕ) (needed r all : ℕ) {u v w : Vector T A} → SameBlock u v → needed + r ≡ all
     → ((k : ℕ) → u.capacity + k < needed → lower k ≡ by (k + r)) → GrowsInSteps size lower needed v w → GrowsInSteps size by all u w
-GrowsInSteps-counted size lower by needed r all b e same (stays c) = stays (SameBlock-trans b c)
-GrowsInSteps-counted size lower by needed r all {u} {v} {w} b e same (grows {mid = mid} h m rest) =
-    let a : asked_with (lower (needed - u.capacity - 1)) ≡ asked_with (by (all - u.capacity - 1)) =
-    ap (λ n. min (n + 1) usize_max) (same (needed - u.capacity - 1) (omega (arith, h, b.capacity)) ∙ ap by (omega (arith, h, b.capacity, e))) in
-    grows (omega (arith, h, b.capacity, e))
-    (subst (λ k. MakesRoom size u u.capacity k mid) a (subst (λ c. MakesRoom size u c (asked_with (lower (needed - c - 1))) mid) b.capacity (MakesRoom-same size v.capacity (asked_with (lower (needed - v.capacity - 1))) b m)))
-    (GrowsInSteps-counted size lower by needed r all (SameBlock-refl mid) e (λ k l. same k (omega (arith, l, MakesRoom-rises size v.capacity (asked_with (lower (needed - v.capacity - 1))) v mid m, b.capacity))) rest)
+GrowsInSteps-counted size lower by needed r all {v = v} {w = w} b e same (stays c) = in_block (SameBlock-trans b (block_of v w c))
+GrowsInSteps-counted size lower by needed r all {u} {v} {w} b e same (grows h rest) =
+    let a : asks size lower needed v ≡ asks size by all u = ap (λ n. min (n + 1) usize_max) (same (needed - v.capacity - 1) (omega (arith, h, b.capacity)) ∙ ap by (omega (arith, h, b.capacity, e))) in
+    let mid : SameBlock (grown_by size by all u) (grown_by size lower needed v) =
+    record { capacity = λ i. amortized (b.growth i) (b.capacity i) (b.capacity i + a i) (least_of size); growth = b.growth; grown = omega (arith, b.grown, b.capacity); alloc = b.alloc } in
+    grows (omega (arith, h, b.capacity, e)) (GrowsInSteps-counted size lower by needed r all {u = grown_by size by all u} {v = grown_by size lower needed v} {w = w} mid e (λ k l. same k (omega (arith, l, grown_rises size by all u))) rest)
 
 module _ {T A : Type 0} (size : ℕ) (lower : ℕ → ℕ) (needed : ℕ) where
   -- a grow ends in whatever is in the same block
   pub GrowsInSteps-same : {u v w : Vector T A} → GrowsInSteps size lower needed u v → SameBlock v w → GrowsInSteps size lower needed u w
-  GrowsInSteps-same (stays b) c = stays (SameBlock-trans b c)
-  GrowsInSteps-same (grows h m r) c = grows h m (GrowsInSteps-same r c)
+  GrowsInSteps-same {u} {v} (stays b) c = in_block (SameBlock-trans (block_of u v b) c)
+  GrowsInSteps-same (grows h r) c = grows h (GrowsInSteps-same r c)
 
-  -- and goes on by one more growth
-  pub GrowsInSteps-more : {u v w : Vector T A} → GrowsInSteps size lower needed u v → v.capacity < needed → MakesRoom size v v.capacity (asked_with (lower (needed - v.capacity - 1))) w → GrowsInSteps size lower needed u w
-  GrowsInSteps-more {w = w} (stays b) l m = GrowsInSteps-counted size lower lower needed 0 needed b (omega arith) (λ k _. ap lower (omega arith)) (grows l m (stays (SameBlock-refl w)))
-  GrowsInSteps-more (grows h n r) l m = grows h n (GrowsInSteps-more r l m)
+  -- one growth goes before
+  pub GrowsInSteps-first : {u v w : Vector T A} → u.capacity < needed → MakesRoom size u u.capacity (asks size lower needed u) v → GrowsInSteps size lower needed v w → GrowsInSteps size lower needed u w
+  GrowsInSteps-first {u} {v} h m r = grows h (GrowsInSteps-counted size lower lower needed 0 needed (grown_from size lower needed u v m) (omega arith) (λ k _. ap lower (omega arith)) r)
+
+  -- and one follows
+  pub GrowsInSteps-more : {u v w : Vector T A} → GrowsInSteps size lower needed u v → v.capacity < needed → MakesRoom size v v.capacity (asks size lower needed v) w → GrowsInSteps size lower needed u w
+  GrowsInSteps-more {u} {v} {w} (stays b) l m =
+      GrowsInSteps-counted size lower lower needed 0 needed (block_of u v b) (omega arith) (λ k _. ap lower (omega arith)) (GrowsInSteps-first l m (in_block (SameBlock-refl w)))
+  GrowsInSteps-more (grows h r) l m = grows h (GrowsInSteps-more r l m)
 
   -- the capacity never falls
   pub GrowsInSteps-rises : {u v : Vector T A} → GrowsInSteps size lower needed u v → u.capacity ≤ v.capacity
-  GrowsInSteps-rises (stays b) = omega (arith, b.capacity)
-  GrowsInSteps-rises {u} {v} (grows {mid = mid} h m r) = omega (arith, MakesRoom-rises size u.capacity (asked_with (lower (needed - u.capacity - 1))) u mid m, GrowsInSteps-rises r)
+  GrowsInSteps-rises {u} {v} (stays b) = omega (arith, ap (λ x. x.capacity) b)
+  GrowsInSteps-rises {u} {v} (grows h r) = omega (arith, grown_rises size lower needed u, GrowsInSteps-rises r)
 
   -- where all fit, there is no growth
   pub GrowsInSteps-fits : {u v : Vector T A} → GrowsInSteps size lower needed u v → needed ≤ u.capacity → SameBlock u v
-  GrowsInSteps-fits (stays b) f = b
-  GrowsInSteps-fits (grows h m r) f = absurd (omega (arith, h, f))
+  GrowsInSteps-fits {u} {v} (stays b) f = block_of u v b
+  GrowsInSteps-fits (grows h r) f = absurd (omega (arith, h, f))
 
   -- what stays through every growth
   pub GrowsInSteps-keeps : {u v : Vector T A} → GrowsInSteps size lower needed u v → (v.growth ≡ u.growth) × (v.alloc ≡ u.alloc)
-  GrowsInSteps-keeps (stays b) = (b.growth, b.alloc)
-  GrowsInSteps-keeps (grows h m r) = let k = GrowsInSteps-keeps r in (k.0 ∙ m.growth, k.1 ∙ m.alloc)
+  GrowsInSteps-keeps (stays b) = (ap (λ v. v.growth) b, ap (λ v. v.alloc) b)
+  GrowsInSteps-keeps (grows h r) = GrowsInSteps-keeps r
 
   -- where just as many are told as are to come, it makes room for them at once
   pub GrowsInSteps-exact : ((n : ℕ) → lower n ≡ n) → {u v : Vector T A} → GrowsInSteps size lower needed u v → needed ≤ v.capacity → needed - u.capacity ≤ usize_max → MakesRoom size u u.capacity (needed - u.capacity) v
-  GrowsInSteps-exact exact {u} {v} (stays b) enough few = SameBlock-trans (with_room-fits size u u.capacity (needed - u.capacity) (omega (arith, enough, b.capacity))) b
-  GrowsInSteps-exact exact {u} {v} (grows {mid = mid} h m r) enough few =
-      let left : ℕ = needed - u.capacity in
-      let asked : asked_with (lower (left - 1)) ≡ left = ap (λ n. min (n + 1) usize_max) (exact (left - 1)) ∙ omega (arith, h, few) in
-      let made : MakesRoom size u u.capacity left mid = rw asked at m in
-      SameBlock-trans made (GrowsInSteps-fits r (omega (arith, h, MakesRoom-fits size u.capacity left u mid made (MakesRoom-rises size u.capacity left u mid made))))
+  GrowsInSteps-exact exact {u} {v} (stays b) enough few =
+      let c = block_of u v b in SameBlock-trans (with_room-fits size u u.capacity (needed - u.capacity) (omega (arith, enough, c.capacity))) c
+  GrowsInSteps-exact exact {u} {v} (grows h r) enough few =
+      let left : ℕ = needed - u.capacity in let mid : Vector T A = grown_by size lower needed u in
+      let asked : asks size lower needed u ≡ left = ap (λ n. min (n + 1) usize_max) (exact (left - 1)) ∙ omega (arith, h, few) in
+      let made : MakesRoom size u u.capacity left mid = subst (λ k. MakesRoom size u u.capacity k mid) asked (grown_room size lower needed u) in
+      SameBlock-trans made (GrowsInSteps-fits r (omega (arith, h, MakesRoom-fits size u.capacity left u mid made (grown_rises size lower needed u))))
+
+-- all items were put behind the others
+module _ {T A : Type 0} {size : ℕ} {lower : ℕ → ℕ} {old : Vector T A} {xs added : List T} {new : Vector T A} (e : Extends size lower old xs added (Ok tt) new) where
+  front_all : e.front ≡ added
+  front_all = sym (append-nil e.front) ∙ ap (λ ys. e.front ++ ys) (sym e.all) ∙ sym e.begins
+
+  pub Extends-items : new.items ≡ xs ++ added
+  Extends-items = e.items ∙ ap (λ ys. xs ++ ys) front_all
+
+  pub Extends-fits : length xs + length added ≤ new.capacity
+  Extends-fits = omega (arith, e.fits, ap length front_all)

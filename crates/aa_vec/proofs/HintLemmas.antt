@@ -1,9 +1,9 @@
 -- What an iterator told of how many items are to come, put together.
-use Rattle.aa_vec.proofs.Common.{◌≡◌, ℕ, ◌<◌, ◌≤◌, List, [], ◌∷◌, ◌++◌, length, Option, Some, refl, sym, ◌∙◌, subst, arith, length-append, if◌then◌else◌, ◌==◌, Count, Yields, TellsAtMost, TellsNoneAtEnd, YieldsTelling}
+use Rattle.aa_vec.proofs.Common.{◌≡◌, ℕ, ◌<◌, ◌≤◌, List, [], ◌∷◌, ◌++◌, length, Option, Some, refl, sym, ◌∙◌, subst, arith, length-append, if◌then◌else◌, ◌==◌, Count, IsFinite, Yields, count_of, TellsAtMost, YieldsTelling}
 use Rattle.aa_vec.proofs.Lists.{equal, unequal}
 
 -- a lower bound of what is left tells 0 where nothing is
-pub tells_none_at_end : {S : Type 0} (remaining : S → Count) → TellsNoneAtEnd (TellsAtMost remaining) remaining
+pub tells_none_at_end : {S : Type 0} (remaining : S → Count) (s : S) (n : ℕ) → IsFinite (remaining s) → count_of (remaining s) ≡ 0 → TellsAtMost remaining s n → n ≡ 0
 tells_none_at_end remaining s n ends none tells = omega (arith, tells ends, none)
 
 module _ {S T : Type 0} (steps : S → Option T → S → Type 0) (Tells : S → ℕ → Type 0) where

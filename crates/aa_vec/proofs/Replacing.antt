@@ -1,5 +1,5 @@
 -- Items put before the last ones of a vector, in room made for those that were told, and then for the others.
-use Rattle.aa_vec.proofs.Common.{◌≡◌, ℕ, ◌+◌, ◌-◌, ◌*◌, ◌<◌, ◌≤◌, List, [], ◌∷◌, ◌++◌, length, take, drop, Option, Some, None, append_assoc, refl, sym, ap, ◌∙◌, subst, arith, inl, inr, length-append, length-drop, length-take, Result, Ok, Err, IfErr, OnOk, Count, Yields, count_of, take-append-drop, take_at, drop_at, nat_tests, TryReserveError, Vector, len, Becomes, LacksRoom, run_count, moved_over, ClosesGap, behind_items, tail_moves, Widens, FillsAndCloses, Gathers, GathersShort, PutsAll, Puts, PutsRest, LacksRest, PutsWithin}
+use Rattle.aa_vec.proofs.Common.{◌≡◌, ℕ, ◌+◌, ◌-◌, ◌*◌, ◌<◌, ◌≤◌, List, [], ◌∷◌, ◌++◌, length, take, drop, Option, Some, None, append_assoc, refl, sym, ap, ◌∙◌, subst, arith, inl, inr, length-append, length-drop, length-take, Result, Ok, Err, IfErr, OnOk, Count, Yields, count_of, take-append-drop, take_at, drop_at, nat_tests, TryReserveError, Vector, len, Becomes, LacksRoom, run_count, moved_over, ClosesGap, behind_items, tail_moves, Widens, FillsAndCloses, Gathers, PutsAll, Puts, PutsRest, LacksRest, PutsWithin}
 use Rattle.aa_vec.proofs.Closed.{moved_none, moved_some, moved_most, one_run}
 use Rattle.aa_vec.proofs.Becoming.{SameBlock-becomes}
 use Rattle.aa_vec.proofs.GrowthLemmas.{MakesRoom, MakesRoom-same, with_room-fits, SameBlock-refl, SameBlock-trans}
@@ -37,13 +37,13 @@ module _ {S T A : Type 0} (steps : S → Option T → S → Type 0) (Tells : S �
   pub Puts-none : {fails : Type 0} → (k : ℕ) × Tells s k → (told n : ℕ) (error : TryReserveError) → LacksRoom size old told error → Puts steps Tells fails size s old told n remaining (Err error) old s
   Puts-none first told n error lacks = record {
     all = tt;
-    writes = record { longer = omega arith; written = omega arith; runs = omega arith };
+    writes = omega arith;
     refused = record { front = []; others = []; lower = λ _. first.0; last = s; given = (first.1, refl); stops = inl refl; items = sym (take-append-drop (len old - n) old.items); why = inl (refl, SameBlock-refl old, lacks) };
     few = λ room. absurd (omega (arith, room, lacks.full));
   }
 
   -- a run, gathered in a vector, was put before the last n items, behind which nothing was moved
-  pub PutsRest-gathered : (n : ℕ) (first : T) (more : Vector T A) (u : S) → Gathers steps Tells size s first more u → (k : ℕ) → k ≡ len more
+  pub PutsRest-gathered : (n : ℕ) (first : T) (more : Vector T A) (u : S) → Gathers steps Tells s first more u → (k : ℕ) → k ≡ len more
       → (v w x : Vector T A) → Widens size old k n v → Becomes v (v.items ++ more.items) (len more) (run_count (len more)) w → w.behind ≡ drop (len more) v.behind → ClosesGap w 0 n x
       → PutsRest steps size s old n first x u
   PutsRest-gathered n first more u h k e v w x widened filled behind closes =
@@ -61,11 +61,8 @@ module _ {S T A : Type 0} (steps : S → Option T → S → Type 0) (Tells : S �
         writes = omega (arith, ap (λ u. u.written) closes.becomes, ap (λ u. u.runs) closes.becomes, ap (λ u. u.written) filled, ap (λ u. u.runs) filled, wid.writes.written, wid.writes.runs, moved_some (length new) n some, moved_some (length new) 1 some, ap run_count (moved_some (length new) n some));
       }
 
-  -- they could not be gathered, or there was no room for them
-  pub LacksRest-gathered : {fails : Type 0} (first : T) (error : TryReserveError) (u : S) → GathersShort steps Tells size s first fails old error u → LacksRest steps Tells fails size s old first error u
-  LacksRest-gathered first error u g = record { taken = g.taken; lower = g.lower; last = g.last; told = g.told; went = (inl g.went.0, elim g.went.1 [ inl h ↦ inl h | inr h ↦ absurd h.0 ]) }
-
-  pub LacksRest-room : {fails : Type 0} (first : T) (more : Vector T A) (u : S) → Gathers steps Tells size s first more u → (k : ℕ) → k ≡ len more → (error : TryReserveError) → LacksRoom size old k error
+  -- there was no room for them
+  pub LacksRest-room : {fails : Type 0} (first : T) (more : Vector T A) (u : S) → Gathers steps Tells s first more u → (k : ℕ) → k ≡ len more → (error : TryReserveError) → LacksRoom size old k error
       → LacksRest steps Tells fails size s old first error u
   LacksRest-room first more u g k e error lacks = record { taken = g.taken; lower = g.lower; last = g.last; told = g.told; went = (inr g.went.0, inr ((u, g.went.0), subst (λ j. LacksRoom size old j error) (e ∙ ap length g.went.1) lacks)) }
 
@@ -98,7 +95,7 @@ module _ {S T A : Type 0} (steps : S → Option T → S → Type 0) (Tells : S �
     z_written : z.written ≡ old.written + (moved_over told n + (length came + moved_over left n))
     z_written = omega (arith, f.writes.written, wid.writes.written)
 
-    within : PutsWithin old n z
+    within : (len old ≤ len z) × PutsWithin old (len old) n z
     within = omega (arith, z_len, z_written, f.writes.runs, wid.writes.runs, moved_most told n, moved_most left n, one_run (moved_over told n), one_run (moved_over left n))
 
     -- no further item is to come
@@ -151,7 +148,7 @@ module _ {S T A : Type 0} (steps : S → Option T → S → Type 0) (Tells : S �
               written = rw all_count (omega (arith, r.writes.written, z_written, told_came, moved_none left n full, moves_rest told (length others) n some));
             }
 
-        rest_within : PutsWithin old n new
+        rest_within : (len old ≤ len new) × PutsWithin old (len old) n new
         rest_within =
             let longer : len new ≡ len z + length others =
             ap length new_items ∙ length-append head ((came ++ others) ++ tail) ∙ omega (arith, length-append (came ++ others) tail, length-append came others, z_len, head_count, tail_count, few) in
@@ -183,4 +180,4 @@ module _ {S T A : Type 0} (steps : S → Option T → S → Type 0) (Tells : S �
 -- a run put before the last items
 pub ruleset puts = (Puts-told)
 
-pub ruleset runs_put = (still_stand, PutsRest-gathered, LacksRest-gathered, LacksRest-room)
+pub ruleset runs_put = (still_stand, PutsRest-gathered, LacksRest-room)

@@ -1,8 +1,22 @@
 -- Splices by an `Items`, which tells a function of how many items are left, and splices of a vector in the same block.
-use Rattle.aa_vec.proofs.Common.{◌≡◌, ℕ, ◌+◌, ◌-◌, ◌*◌, ◌≤◌, List, [], ◌++◌, length, append_assoc, refl, sym, ap, ◌∙◌, subst, arith, inl, inr, length-append, append-nil, TryReserveError, Vector, SameBlock, LacksRoom, ItemsLeft, gives_item, lower_by, TellsExactly, cut_off, SplicesByAll, SplicesByFront, tail_moves, ⊤, gapped, SplicesAll, SplicesFront, SplicesShort}
+use Rattle.aa_vec.proofs.Common.{◌≡◌, ℕ, ◌+◌, ◌-◌, ◌*◌, ◌≤◌, List, [], ◌++◌, length, append_assoc, refl, sym, ap, ◌∙◌, subst, arith, inl, inr, length-append, append-nil, TryReserveError, Vector, SameBlock, LacksRoom, ItemsLeft, gives_item, lower_by, TellsExactly, Takes, Option, None, Ok, Err, Gapped, tail_moves, ⊤, gapped, SplicesAll, SplicesFront, SplicesShort}
 use Rattle.aa_vec.proofs.GrowthLemmas.{MakesRoom-same, MakesRoomTwice-same, SameBlock-refl, SameBlock-trans}
 use Rattle.aa_vec.proofs.Gathered.{LacksOthers-told}
-use Rattle.aa_vec.proofs.Counted.{items_lower, items-rest, items-told, items-all, ExtendsAll-told, ExtendsFull-told}
+use Rattle.aa_vec.proofs.Counted.{items_lower, items-rest, items-told, items-all, Extends-told}
+
+-- a vector that ends before the range
+abbrev pub cut_off : {T A : Type 0} → Vector T A → (gap : ℕ) → (tail : List T) → Gapped T A
+cut_off v gap tail = gapped v v.items gap tail
+
+-- the two outcomes of a splice
+module _ {S T : Type 0} (steps : S → Option T → S → Type 0) (Tells : S → ℕ → Type 0) {A : Type 0} (size : ℕ) (iter : S) (old : Gapped T A) where
+  abbrev pub SplicesByAll : Vector T A → Type 0
+  SplicesByAll new = Takes steps Tells iter (λ lower xs last.
+      ((end : S) × steps last None end) × SplicesAll size lower old xs new
+      × (new.written ≡ old.block.written + (length xs + tail_moves old.gap (lower (length xs - old.gap)) (length xs) * length old.tail)))
+
+  abbrev pub SplicesByFront : (fails : Type 0) → TryReserveError → Vector T A → Type 0
+  SplicesByFront fails error new = Takes steps Tells iter (λ lower xs last. SplicesShort size lower old xs fails ((end : S) × steps last None end) error new)
 
 -- another function tells the same of `taken`, behind which `more` is to come; and the vector was another in the same block
 module _ {T A : Type 0} (size : ℕ) (lower by : ℕ → ℕ) {u v : Vector T A} (b : SameBlock u v) (head : List T) (gap : ℕ) (tail taken more : List T)
@@ -12,7 +26,7 @@ module _ {T A : Type 0} (size : ℕ) (lower by : ℕ → ℕ) {u v : Vector T A}
       let told : lower (length taken - gap) ≡ by (length taken - gap) = same (length taken - gap) (omega arith) ∙ ap by (omega (arith, ap length none)) in
       record {
         items = s.items;
-        at_end = λ e. ExtendsAll-told size lower by b head taken more (λ k h. same k (omega (arith, h))) new none (s.at_end e);
+        at_end = λ e. Extends-told size lower by b head taken more (λ k h. same k (omega (arith, h))) taken (sym (ap (λ ys. taken ++ ys) none ∙ append-nil taken)) (Ok tt) none new (s.at_end e);
         in_gap = λ some few. SameBlock-trans b (s.in_gap some few);
         beyond = λ some full. rw (← told) (MakesRoomTwice-same size _ _ _ b (s.beyond some full));
       }
@@ -44,7 +58,7 @@ module _ {T A : Type 0} (size : ℕ) (lower by : ℕ → ℕ) {u v : Vector T A}
         }
 
     SplicesShort-told : SplicesShort size lower (gapped v head gap tail) taken fails whole error new → SplicesShort size by (gapped u head gap tail) all fails' whole' error new
-    SplicesShort-told (inl p) = inl (p.0, ExtendsFull-told size lower by b head taken more (λ k h. same k (omega (arith, h))) all e error new p.1)
+    SplicesShort-told (inl p) = inl (p.0, Extends-told size lower by b head taken more (λ k h. same k (omega (arith, h))) all e (Err error) tt new p.1)
     SplicesShort-told (inr p) = inr (p.0, front_told p.1)
 
 -- splices by an `Items`

@@ -1,13 +1,14 @@
 -- A range that was replaced by items: what an iterator told of them, and what its phases left.
-use Rattle.aa_vec.proofs.Common.{◌≡◌, ℕ, ◌+◌, ◌-◌, ◌*◌, ◌<◌, ◌≤◌, List, [], ◌++◌, length, Option, append_assoc, refl, sym, ap, ◌∙◌, subst, arith, inl, inr, length-append, Result, Ok, Count, Yields, count_of, append-nil, TryReserveError, Vector, len, HasRoom, SameBlock, tail_moves, run_count, moved_over, behind_items, with_behind, Extended, OnOk, IfErr, cut_off, SplicesAll, SplicesByAll, SplicesByFront, FillsAndCloses, PutsAll, Puts, Replaced, SplicesWithin, TellsNoneAtEnd, TellsOnceFull, PutsFront, IsFinite}
+use Rattle.aa_vec.proofs.Common.{◌≡◌, ℕ, ◌+◌, ◌-◌, ◌*◌, ◌<◌, ◌≤◌, List, [], ◌++◌, length, Option, append_assoc, refl, sym, ap, ◌∙◌, subst, arith, inl, inr, length-append, Result, Ok, Err, Count, Yields, count_of, append-nil, TryReserveError, Vector, len, HasRoom, SameBlock, tail_moves, run_count, moved_over, behind_items, with_behind, Extended, OnOk, IfErr, SplicesAll, FillsAndCloses, PutsAll, Puts, PutsWithin, Replaced, PutsFront, IsFinite}
 use Rattle.std.specs.declared.iter.Iterator.{Ghosts}
 use Rattle.aa_vec.proofs.Answered.{IsOk, on_ok, if_err, done_unless}
 use Rattle.aa_vec.proofs.Closed.{moved_none, moved_some, moved_most, one_run}
-use Rattle.aa_vec.proofs.GrowthLemmas.{MakesRoomTwice, MakesRoomTwice-same, SameBlock-trans, MakesRoom-same}
-use Rattle.aa_vec.proofs.Counted.{ExtendsAll-told, ExtendsFull-told}
+use Rattle.aa_vec.proofs.GrowthLemmas.{Extends-items, MakesRoomTwice, MakesRoomTwice-same, SameBlock-trans, MakesRoom-same}
+use Rattle.aa_vec.proofs.Counted.{Extends-told}
 use Rattle.aa_vec.proofs.ExtendLemmas.{Yields-told, whole_run}
 use Rattle.aa_vec.proofs.Gathered.{LacksOthers-same}
 use Rattle.aa_vec.proofs.HintLemmas.{tells_each, tell_between}
+use Rattle.aa_vec.proofs.SpliceByItems.{SplicesByAll, SplicesByFront, cut_off}
 use Rattle.aa_vec.proofs.Replacing.{moves_few, moves_beyond, put_between}
 
 -- in each state something may be told
@@ -24,8 +25,9 @@ module _ {S T A : Type 0} (g : Ghosts S T) (Tells : S → ℕ → Type 0) (tell 
 
     -- a splice, by its two outcomes
     spliced : OnOk r (SplicesByAll steps Tells size iter (cut_off old gap tail) new) → IfErr r (λ e. SplicesByFront steps Tells size iter (cut_off old gap tail) (P old.alloc) e new) → (count_of (left_of iter) < gap → IsOk r)
-        → (TellsNoneAtEnd Tells left_of → count_of (left_of iter) ≤ gap → IsOk r) → (tail ≡ [] → HasRoom old (count_of (left_of iter)) → IsOk r)
-        → ((h : ℕ) → TellsOnceFull steps Tells iter gap h → count_of (left_of iter) ≤ gap + h → len old + gap + length tail + h ≤ old.capacity → IsOk r) → SplicesWithin old tail new → Spliced
+        → (((s : S) (n : ℕ) → IsFinite (left_of s) → count_of (left_of s) ≡ 0 → Tells s n → n ≡ 0) → count_of (left_of iter) ≤ gap → IsOk r) → (tail ≡ [] → HasRoom old (count_of (left_of iter)) → IsOk r)
+        → ((h : ℕ) → ((xs : List T) (t : S) (n : ℕ) → Yields steps iter xs t → length xs ≡ gap → Tells t n → n ≡ h) → count_of (left_of iter) ≤ gap + h → len old + gap + length tail + h ≤ old.capacity → IsOk r)
+        → PutsWithin old (len old + length tail) (length tail) new → Spliced
     spliced room refused fits_gap fits_full fits_end fits_told writes =
         let ran = on_ok r room (λ a. (a.taken, (a.went.0.0, (a.last, Yields-told steps Tells a.lower iter a.taken a.last a.told, a.went.0.1)), a.went.1.items)) in record {
           items = ran;
@@ -60,12 +62,12 @@ module _ {S T A : Type 0} (g : Ghosts S T) (Tells : S → ℕ → Type 0) (tell 
           went = (
             (after, t.went.0),
             record {
-              items = t.went.1.items ∙ ap (λ ys. old.items ++ ys) (sym (append-nil t.taken));
-              at_end = λ _. ExtendsAll-told size t.lower t.lower block old.items t.taken [] (λ k _. ap t.lower (omega arith)) new refl t.went.1;
+              items = Extends-items t.went.1 ∙ ap (λ ys. old.items ++ ys) (sym (append-nil t.taken));
+              at_end = λ _. Extends-told size t.lower t.lower block old.items t.taken [] (λ k _. ap t.lower (omega arith)) t.taken (sym (append-nil t.taken)) (Ok tt) refl new t.went.1;
               in_gap = λ h _. absurd (omega (arith, h));
               beyond = λ h _. absurd (omega (arith, h));
             },
-            omega (arith, z.written, ap length t.went.1.items, length-append old.items t.taken),
+            omega (arith, z.written, ap length (Extends-items t.went.1), length-append old.items t.taken),
           );
         }))
         (if_err r e.refused (λ error t. record {
@@ -73,7 +75,7 @@ module _ {S T A : Type 0} (g : Ghosts S T) (Tells : S → ℕ → Type 0) (tell 
           lower = t.lower;
           last = t.last;
           told = t.told;
-          went = inl (refl, ExtendsFull-told size t.lower t.lower block old.items t.taken [] (λ k _. ap t.lower (omega arith)) t.taken (sym (append-nil t.taken)) error new t.went.1);
+          went = inl (refl, Extends-told size t.lower t.lower block old.items t.taken [] (λ k _. ap t.lower (omega arith)) t.taken (sym (append-nil t.taken)) (Err error) tt new t.went.1);
         }))
         (λ few. e.fits (omega (arith, few, fits)))
         (λ _ few. e.fits (omega (arith, few, fits)))
@@ -183,4 +185,4 @@ module _ {S T A : Type 0} (g : Ghosts S T) (Tells : S → ℕ → Type 0) (tell 
             (λ h once few room.
             let is : told ≡ h = once came t told given gap_came tells in
             done_unless r (if_err r p.few (λ e less. absurd (omega (arith, less (omega (arith, is, room, whole, x_block.capacity)), is, few, goes)))))
-            (omega (arith, z.written, z.runs, z.longer, f.writes.written, f.writes.runs, x_len, tail_count, moved_none left n full, ap run_count (moved_none left n full)))
+            (omega (arith, z.1.written, z.1.runs, z.0, f.writes.written, f.writes.runs, x_len, tail_count, moved_none left n full, ap run_count (moved_none left n full)))

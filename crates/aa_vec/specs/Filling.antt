@@ -7,7 +7,7 @@ use Rattle.aa_raw.specs.declared.collections.TryReserveError.{TryReserveError}
 use Rattle.aa_vec.specs.Vector.{Vector, len, HasRoom, SameBlock, LacksRoom, Holds, Writes, Moves, with_room, run_count, moved_over}
 use Rattle.aa_vec.specs.Behind.{StandsBehind, behind_items}
 use Rattle.aa_vec.specs.Extend.{YieldsTelling, EndsAt, Takes}
-use Rattle.aa_vec.specs.SpliceItems.{LacksOthers, tail_moves}
+use Rattle.aa_vec.specs.SpliceItems.{LacksOthers, PutsWithin, tail_moves}
 
 module _ {T A : Type 0} where
   -- the n elements behind the items were moved up by the gap
@@ -70,24 +70,12 @@ module _ {S T A : Type 0} (next_gives : S → Option T → S → Type 0) (s : S)
     pub writes : let moved = moved_over left n in
         Writes old (length comes.added + moved) (length comes.added + run_count moved) new
 
--- each of the items that were put was written once, and each of n others at most twice
-pub record PutsWithin {T A : Type 0} (old : Vector T A) (n : ℕ) (new : Vector T A) : Type 0 where
-  pub longer : len old ≤ len new
-  pub written : let placed = len new - len old in new.written ≤ old.written + (placed + 2 * n)
-  pub runs : let placed = len new - len old in new.runs ≤ old.runs + (placed + 2)
-
 module _ {S T A : Type 0} (next_gives : S → Option T → S → Type 0)
-    (Tells : S → ℕ → Type 0) (size : ℕ) (s : S) (first : T) where
+    (Tells : S → ℕ → Type 0) (s : S) (first : T) where
   -- `first` and all that came from s, of which `after` is left, were gathered in a vector
   abbrev pub Gathers : Vector T A → (after : S) → Type 0
   Gathers v after = Takes next_gives Tells s
       (λ lower rest last. next_gives last None after × (v.items ≡ first ∷ rest))
-
-  -- no vector over a clone of the allocator of old could be made of `first` and what was taken from
-  -- s, of which `after` is left
-  abbrev pub GathersShort : (fails : Type 0) (old : Vector T A) → TryReserveError → (after : S) → Type 0
-  GathersShort fails old error after = Takes next_gives Tells s
-      (λ lower rest last. (last ≡ after) × LacksOthers fails ⊥ size lower old (first ∷ rest) error)
 
 module _ {S T A : Type 0} (next_gives : S → Option T → S → Type 0) (size : ℕ) (s : S)
     (old : Vector T A) where
@@ -146,6 +134,6 @@ module _ {S T A : Type 0} (next_gives : S → Option T → S → Type 0) (Tells 
     pub record Puts (remaining : S → Count) (result : Result Unit TryReserveError)
         (new : Vector T A) (after : S) : Type 0 where
       pub all : OnOk result (PutsAll next_gives size s old told n new after)
-      pub writes : PutsWithin old n new
+      pub writes : (len old ≤ len new) × PutsWithin old (len old) n new
       pub refused : IfErr result (λ e. PutsFront e new after)
       pub few : IfErr result (λ e. HasRoom old told → told < count_of (remaining s))

@@ -1,5 +1,5 @@
 -- What worked examples come to, in numbers.
-use Rattle.std.proofs.Common.{◌≡◌, ℕ, Bool, true, false, nat_lt, zero, suc, ◌+◌, ◌-◌, ◌*◌, ◌<◌, ◌≤◌, List, [], ◌∷◌, ◌++◌, length, take, drop, Option, Some, None, refl, length-append, sym, ap, ◌∙◌, subst, arith, inl, inr}
+use Rattle.std.proofs.Common.{◌≡◌, ℕ, Bool, true, false, nat_lt, zero, suc, ◌+◌, ◌-◌, ◌*◌, ◌<◌, ◌≤◌, List, [], ◌∷◌, ◌++◌, length, take, drop, Option, Some, None, Ok, refl, length-append, sym, ap, ◌∙◌, subst, arith, inl, inr}
 use Rattle.std.specs.Prelude.{slice_range, if◌then◌else◌, ◌==◌}
 use Rattle.std.proofs.lemmas.List.{take_at}
 use Rattle.std.proofs.lemmas.Bool.Decides.{nat_tests}
@@ -7,15 +7,15 @@ use Rattle.aa_raw.specs.declared.raw_vec.Growth.{Growth}
 use Rattle.aa_raw.specs.declared.raw_vec.Growth.TheVariants.{Doubling}
 use Rattle.aa_raw.specs.Growth.{amortized}
 use Rattle.aa_vec.specs.Vector.{Vector, len, Becomes, Holds, with_room}
-use Rattle.aa_vec.specs.Extend.{GrowsInSteps, stays as no_more, grows as once_more, ExtendsAll, asked_with, ItemsLeft, gives_item, lower_by, TellsExactly}
+use Rattle.aa_vec.specs.Extend.{GrowsInSteps, stays as no_more, grows as once_more, Extends, asked_with, ItemsLeft, gives_item, lower_by, TellsExactly}
 use Rattle.aa_vec.specs.Drain.{TakesRange, KeepsRest, drain_vec, drain_rest, drain_tail, range_len, taken_front, taken_back, drains_first, drains_last}
-use Rattle.aa_vec.specs.SpliceItems.{cut_off, SplicesAll, SplicesByAll, tail_moves}
+use Rattle.aa_vec.specs.SpliceItems.{SplicesAll, tail_moves}
 use Rattle.aa_vec.specs.declared.vec.drain.Drain.{Drain}
-use Rattle.aa_vec.proofs.GrowthLemmas.{MakesRoom, MakesRoomTwice, MakesRoom-stays, MakesRoom-grows, GrowsInSteps-fits, SameBlock-refl, SameBlock-trans}
+use Rattle.aa_vec.proofs.GrowthLemmas.{MakesRoom, MakesRoomTwice, MakesRoom-stays, MakesRoom-grows, Extends-fits, GrowsInSteps-fits, SameBlock-refl, SameBlock-trans, asks, grown_by, grown_room}
 use Rattle.aa_vec.proofs.Becoming.{GrowsTo-becomes, SameBlock-becomes}
 use Rattle.aa_vec.proofs.Counted.{items_lower}
 use Rattle.aa_vec.proofs.DrainLemmas.{keeps-then}
-use Rattle.aa_vec.proofs.SpliceByItems.{SplicesAll-items, items-written}
+use Rattle.aa_vec.proofs.SpliceByItems.{SplicesByAll, SplicesAll-items, cut_off, items-written}
 
 module _ {T A : Type 0} {g : Growth} (v w : Vector T A) (c n k : ℕ) (places : v.capacity ≡ c) (grows : v.growth ≡ g) (room : MakesRoom 4 v n k w) where
   -- room that is there is kept
@@ -130,21 +130,21 @@ module _ {T A : Type 0} (g : Growth) (old : Vector T A) where
 -- a full vector of c places that asks for room for 6 more
 grows_once : {T A : Type 0} (lower : ℕ → ℕ) (needed c : ℕ) (v w : Vector T A) → v.capacity ≡ c → v.growth ≡ Doubling → c < needed → ((n : ℕ) → asked_with (lower (n - 1)) ≡ 6) → needed ≤ w.capacity → GrowsInSteps 4 lower needed v w
     → (mid : Vector T A) × (mid.capacity ≡ amortized Doubling c (c + 6) 4) × (mid.growth ≡ Doubling) × (mid.grown ≡ v.grown + c) × GrowsInSteps 4 lower needed mid w
-grows_once lower needed c v w is doubles short six enough (no_more b) = absurd (omega (arith, b.capacity, is, short, enough))
-grows_once lower needed c v w is doubles short six enough (once_more {mid = mid} h m r) =
-    let asks : ℕ = asked_with (lower (needed - v.capacity - 1)) in
-    let d = grows_to v mid c v.capacity asks is doubles m (omega (arith, is, six (needed - v.capacity))) in
-    (mid, d.0 ∙ ap (λ k. amortized Doubling c (k + asks) 4) is ∙ ap (λ k. amortized Doubling c (c + k) 4) (six (needed - v.capacity)), d.1, d.2 ∙ ap (λ k. v.grown + k) is, r)
+grows_once lower needed c v w is doubles short six enough (no_more b) = absurd (omega (arith, ap (λ u. u.capacity) b, is, short, enough))
+grows_once lower needed c v w is doubles short six enough (once_more h r) =
+    let more : ℕ = asks 4 lower needed v in let mid : Vector _ _ = grown_by 4 lower needed v in
+    let d = grows_to v mid c v.capacity more is doubles (grown_room 4 lower needed v) (omega (arith, is, six (needed - v.capacity))) in
+    (mid, d.0 ∙ ap (λ k. amortized Doubling c (k + more) 4) is ∙ ap (λ k. amortized Doubling c (c + k) 4) (six (needed - v.capacity)), d.1, d.2 ∙ ap (λ k. v.grown + k) is, r)
 
 -- an empty vector is extended by 17, of which 5 are told to be left each time
 pub seventeen_told : {A : Type 0} (old new : Vector ℕ A) (iter : ItemsLeft ℕ) → old.items ≡ [] → old.capacity ≡ 0 → old.growth ≡ Doubling → length iter.items ≡ 17 → iter.hint ≡ Some 5
-    → ExtendsAll 4 (lower_by iter.hint) old old.items iter.items new → (new.capacity ≡ 24) × (new.grown ≡ old.grown + 18)
+    → Extends 4 (lower_by iter.hint) old old.items iter.items (Ok tt) new → (new.capacity ≡ 24) × (new.grown ≡ old.grown + 18)
 seventeen_told old new iter none places doubles count five x =
     let five_each : ℕ → ℕ = lower_by (Some 5) in
     let needed : length old.items + length iter.items ≡ 17 = omega (arith, ap length none, count) in
     let in_steps : GrowsInSteps 4 five_each 17 old new =
     subst (λ n. GrowsInSteps 4 five_each n old new) needed (subst (λ h. GrowsInSteps 4 (lower_by h) (length old.items + length iter.items) old new) five x.in_steps) in
-    let enough : 17 ≤ new.capacity = omega (arith, needed, x.enough) in
+    let enough : 17 ≤ new.capacity = omega (arith, needed, Extends-fits x) in
     let a = grows_once five_each 17 0 old new places doubles (omega arith) (λ n. refl) enough in_steps in
     let b = grows_once five_each 17 6 a.0 new a.1 a.2 (omega arith) (λ n. refl) enough a.4 in
     let d = grows_once five_each 17 12 b.0 new b.1 b.2 (omega arith) (λ n. refl) enough b.4 in

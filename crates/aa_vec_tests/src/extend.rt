@@ -1,10 +1,10 @@
 //! What no clause says of extensions: capacities as hints lead to them, and each public call once.
-ghost use Rattle.std.specs.Prelude.{◌≡◌, ◌+◌, ◌-◌, ◌≤◌, ◌++◌, None, length, IfErr, OnOk, IsOk};
+ghost use Rattle.std.specs.Prelude.{◌≡◌, ◌+◌, ◌-◌, ◌≤◌, ◌++◌, None, length, Ok, Err, IfErr, OnOk, IsOk};
 ghost use Rattle.std.specs.Iterator.{IsFinite, IsNearerEnd};
 ghost use Rattle.std.specs.Mem.{type_size};
 ghost use Rattle.aa_raw.specs.Growth.{usize_max};
 ghost use Rattle.aa_vec.specs.Vector.{len, HasRoom, SameBlock, Writes, with_room};
-ghost use Rattle.aa_vec.specs.Extend.{ExtendsAll, ExtendsFull, lower_by};
+ghost use Rattle.aa_vec.specs.Extend.{Extends, lower_by};
 
 use crate::lists::{list, numbers, stands, units};
 use aa_raw::collections::{TryReserveError, TryReserveErrorKind};
@@ -19,14 +19,14 @@ fn extended<T: Drop, A: Allocator>(
     items: Items<T, A>,
 ) -> Result<(), TryReserveError>
     ensures fits { HasRoom v.old (length items.items) → IsOk result }
-    ensures all { OnOk result
-        (ExtendsAll (type_size T.row) (lower_by items.hint) v.old v.old.items items.items v.new) }
+    ensures all { OnOk result (Extends (type_size T.row) (lower_by items.hint) v.old v.old.items
+        items.items (Ok tt) v.new) }
     ensures exact { OnOk result (items.hint ≡ None → length items.items ≤ usize_max
         → SameBlock (with_room (type_size T.row) v.old v.old.capacity
         (len v.old + length items.items - v.old.capacity)) v.new) }
     ensures writes { let placed = len v.new - len v.old in Writes v.old placed placed v.new }
-    ensures refused { IfErr result (λ e. ExtendsFull (type_size T.row) (lower_by items.hint) v.old
-        v.old.items items.items e v.new) }
+    ensures refused { IfErr result (λ e. Extends (type_size T.row) (lower_by items.hint) v.old
+        v.old.items items.items (Err e) v.new) }
 {
     v.extend_hinted(items)
 }

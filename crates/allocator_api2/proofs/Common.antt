@@ -8,7 +8,7 @@ pub use Rattle.aa_vec.proofs.GrowthLemmas.{GrowsInSteps-rises, Holds-more, Makes
 pub use Rattle.aa_vec.specs.Choosing.{Asked, AskedInOrder, ChainsFrom, Deduplicated, TakesMut, answers_of}
 pub use Rattle.aa_vec.specs.Copies.{IsMadeWithin, WritesAtMost}
 pub use Rattle.aa_vec.specs.Drain.{TakesRange, drain_rest, drain_tail, drain_vec, range_len}
-pub use Rattle.aa_vec.specs.Extend.{GrowsInSteps, ExtendsFull, lower_by}
+pub use Rattle.aa_vec.specs.Extend.{GrowsInSteps, Extends, lower_by}
 pub use Rattle.aa_vec.specs.SpliceItems.{SplicesShort}
 pub use Rattle.aa_vec.specs.Vector.{GrowsTo, HasRoom, Holds, IsNew, SameBlock, Vector, len}
 pub use Rattle.allocator_api2.specs.Commands.{Does, DoesOnMain, DoesStep, asking}

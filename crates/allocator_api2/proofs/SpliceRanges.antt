@@ -2,10 +2,10 @@
 use Rattle.allocator_api2.proofs.Common.{◌≡◌, ℕ, ◌+◌, ◌*◌, ◌-◌, ◌≤◌, List, length, take, drop, Option, refl, ap, subst, sym, arith, inl, inr, length-take, length-drop, ⊤, TryReserveError, TryReserveErrorKind, Vector, len, TakesRange, drain_vec, drain_tail, range_len, lower_by, SplicesShort, Does, Reply, Splice, Done, Refused}
 use Rattle.aa_vec.proofs.Becoming.{SameBlock-becomes}
 use Rattle.aa_vec.specs.Extend.{ItemsLeft, gives_item, TellsExactly}
-use Rattle.aa_vec.specs.SpliceItems.{cut_off, gapped, SplicesAll, SplicesByAll, SplicesByFront, SplicesWithin}
+use Rattle.aa_vec.specs.SpliceItems.{PutsWithin, SplicesAll, gapped}
 use Rattle.aa_vec.specs.declared.vec.drain.Drain.{Drain}
 use Rattle.aa_vec.proofs.Counted.{items_lower}
-use Rattle.aa_vec.proofs.SpliceByItems.{SplicesAll-items, SplicesShort-items, SplicesAll-from, SplicesShort-from}
+use Rattle.aa_vec.proofs.SpliceByItems.{SplicesByAll, SplicesByFront, cut_off, SplicesAll-items, SplicesShort-items, SplicesAll-from, SplicesShort-from}
 use Rattle.allocator_api2.proofs.ByKind.{refused_by_kind}
 use Rattle.allocator_api2.proofs.SpliceRefusals.{short-full}
 use Rattle.allocator_api2.specs.Machine.{without_range}
@@ -19,7 +19,7 @@ module _ {T A : Type 0} (size : ℕ) (old : Vector T A) (start end : ℕ) (order
       subst (λ h. P h (end - start) (drop end old.items)) (ap (λ v. v.items) drains.becomes)
       (subst (λ g. P (drain_vec d).items g (drop end old.items)) drains.range (subst (λ t. P (drain_vec d).items (range_len d) t) drains.tail p))
 
-  few : SplicesWithin (drain_vec d) (drain_tail d) new → new.written ≤ old.written + (len new - (start + (len old - end)) + 2 * (len old - end))
+  few : PutsWithin (drain_vec d) (len (drain_vec d) + length (drain_tail d)) (length (drain_tail d)) new → new.written ≤ old.written + (len new - (start + (len old - end)) + 2 * (len old - end))
   few w = omega (arith, ap len drains.becomes, ap (λ v. v.written) drains.becomes, length-take start old.items, ap length drains.tail, length-drop end old.items)
 
   -- what it does of a command of the machine
@@ -27,7 +27,7 @@ module _ {T A : Type 0} (size : ℕ) (old : Vector T A) (start end : ℕ) (order
   Splicing fails reply = (side : Vector T A) → Does size fails old side (Splice start end items hint) reply new side
 
   pub Spliced-done : {fails : Type 0} → SplicesByAll gives_item (TellsExactly items_lower) size iter (cut_off (drain_vec d) (range_len d) (drain_tail d)) new
-      → SplicesWithin (drain_vec d) (drain_tail d) new → Splicing fails Done
+      → PutsWithin (drain_vec d) (len (drain_vec d) + length (drain_tail d)) (length (drain_tail d)) new → Splicing fails Done
   Spliced-done s w side =
       let xs : List T = items.items in
       let by_items = subst (λ j. SplicesByAll gives_item (TellsExactly items_lower) size j (cut_off (drain_vec d) (range_len d) (drain_tail d)) new) all s in
@@ -38,7 +38,7 @@ module _ {T A : Type 0} (size : ℕ) (old : Vector T A) (start end : ℕ) (order
   -- the allocator's clone may be refused where it is not sure
   pub Spliced-refused : (sure : A → Type 0) (error : TryReserveError) (kind : TryReserveErrorKind) → kind ≡ error.kind
       → SplicesByFront gives_item (TellsExactly items_lower) size iter (cut_off (drain_vec d) (range_len d) (drain_tail d)) (¬ (sure (drain_vec d).alloc)) error new
-      → SplicesWithin (drain_vec d) (drain_tail d) new → Splicing (¬ (sure old.alloc)) (Refused kind)
+      → PutsWithin (drain_vec d) (len (drain_vec d) + length (drain_tail d)) (length (drain_tail d)) new → Splicing (¬ (sure old.alloc)) (Refused kind)
   Spliced-refused sure error kind is s w side =
       let xs : List T = items.items in let fails : A → Type 0 = λ a. ¬ (sure a) in
       let by_items = subst (λ j. SplicesByFront gives_item (TellsExactly items_lower) size j (cut_off (drain_vec d) (range_len d) (drain_tail d)) (fails (drain_vec d).alloc) error new) all s in

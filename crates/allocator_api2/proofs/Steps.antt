@@ -1,11 +1,11 @@
 -- What a step of the list machine does to main: it stays in its block, has grown once, or grew any number of times while it was full.
-use Rattle.allocator_api2.proofs.Common.{◌≡◌, ℕ, suc, ◌+◌, ◌-◌, ◌<◌, ◌≤◌, max, min, Bool, List, [], ◌∷◌, length, take, drop, None, Option, refl, sym, subst, ap, ◌∙◌, arith, rules, inl, inr, length-take, length-drop, Vector, len, SameBlock, GrowsTo, Holds, Command, Splice, SplitOff, Push, Within, Pop, Insert, Remove, SwapRemove, Truncate, Clear, Append, Extend, Retain, Dedup, Drain, ExtractIf, Reply, Done, Item, Nothing, Back, Refused, Range, GrowsInSteps, ExtendsFull, lower_by, TryReserveError, TryReserveErrorKind, State, Calls, Step, Answers, AddsOrRemoves, hint_of, added_by}
+use Rattle.allocator_api2.proofs.Common.{◌≡◌, ℕ, suc, ◌+◌, ◌-◌, ◌<◌, ◌≤◌, max, min, Bool, List, [], ◌∷◌, length, take, drop, None, Option, refl, sym, subst, ap, ◌∙◌, arith, rules, inl, inr, length-take, length-drop, Vector, len, SameBlock, GrowsTo, Holds, Command, Splice, SplitOff, Push, Within, Pop, Insert, Remove, SwapRemove, Truncate, Clear, Append, Extend, Retain, Dedup, Drain, ExtractIf, Reply, Done, Item, Nothing, Back, Refused, Range, GrowsInSteps, Extends, lower_by, TryReserveError, TryReserveErrorKind, State, Calls, Step, Answers, AddsOrRemoves, hint_of, added_by}
 use Rattle.std.proofs.Common.{length-set}
-use Rattle.std.specs.Prelude.{slice_set, slice_index_or}
+use Rattle.std.specs.Prelude.{Result, Ok, Err, slice_set, slice_index_or}
 use Rattle.std.proofs.lemmas.List.{length-append}
 use Rattle.std.proofs.lemmas.Bool.{cases_lt}
-use Rattle.aa_vec.specs.Extend.{ExtendsAll, asked_with, grows, stays}
-use Rattle.aa_vec.proofs.GrowthLemmas.{MakesRoom, MakesRoom-has, MakesRoom-rises, MakesRoom-stays, SameBlock-refl}
+use Rattle.aa_vec.specs.Extend.{asked_with, grows, stays}
+use Rattle.aa_vec.proofs.GrowthLemmas.{MakesRoom, MakesRoom-has, MakesRoom-rises, MakesRoom-stays, SameBlock-refl, asks, block_of, grown_room}
 use Rattle.aa_vec.specs.Vector.{Becomes, with_room}
 use Rattle.aa_vec.proofs.Becoming.{GrowsTo-becomes, Holds-becomes}
 use Rattle.aa_vec.proofs.Kept.{length-kept, length-deduplicated}
@@ -48,19 +48,19 @@ module _ {T A : Type 0} (size : ℕ) where
   grows_by old k xs n j new h e = adds old k xs new h (GrowsTo-becomes old xs n j new size k e)
 
   grown_in_steps : (hint : Option ℕ) (needed : ℕ) {u v : Vector T A} → GrowsInSteps size (lower_by hint) needed u v → Moves hint needed u v
-  grown_in_steps hint needed (stays b) = kept b
-  grown_in_steps hint needed (grows {old = u} h m r) =
-      grown u.capacity (asked_with ((lower_by hint) (needed - u.capacity - 1))) (omega arith) (omega arith) h (λ none. subst (λ x. u.capacity + asked_with ((lower_by x) (needed - u.capacity - 1)) ≤ needed) (sym none) (omega (arith, h))) m (grown_in_steps hint needed r)
+  grown_in_steps hint needed {u} {v} (stays b) = kept (block_of u v b)
+  grown_in_steps hint needed (grows {old = u} h r) =
+      grown u.capacity (asks size (lower_by hint) needed u) (omega arith) (omega arith) h (λ none. subst (λ x. u.capacity + asks size (lower_by x) needed u ≤ needed) (sym none) (omega (arith, h))) (grown_room size (lower_by hint) needed u) (grown_in_steps hint needed r)
 
-  extends : (hint : Option ℕ) (old : Vector T A) (added : List T) (new : Vector T A) → ExtendsAll size (lower_by hint) old old.items added new → Change hint old (len new - len old) new
-  extends hint old added new e =
-      let n : ℕ = len old + length added in let l : len new ≡ n = ap length e.items ∙ length-append old.items added in
-      record { needed = n; moves = λ w. grown_in_steps hint n e.in_steps; longest = omega arith; fits = λ w. omega (arith, l, e.enough); full = omega (arith, l) }
+  -- all were put there, or the places that there are were filled
+  ends : (lower : ℕ → ℕ) (old : Vector T A) (added : List T) (r : Result Unit TryReserveError) (new : Vector T A) → Extends size lower old old.items added r new → min (len old + length added) new.capacity ≤ len new
+  ends lower old added (Ok x) new e = omega (arith, ap length e.items ∙ length-append old.items e.front, ap length e.begins ∙ length-append e.front e.others, ap length e.all)
+  ends lower old added (Err x) new e = omega (arith, ap length e.items ∙ length-append old.items e.front, e.refused.1)
 
-  stops : (hint : Option ℕ) (old : Vector T A) (added : List T) (error : TryReserveError) (new : Vector T A) → ExtendsFull size (lower_by hint) old old.items added error new → Change hint old (len new - len old) new
-  stops hint old added error new e =
-      let n : ℕ = len old + length added in let l = ap length e.items ∙ length-append old.items e.front in let full = e.full in
-      record { needed = n; moves = λ w. grown_in_steps hint n e.in_steps; longest = omega arith; fits = λ w. omega (arith, l, full); full = omega (arith, l, full) }
+  extends : (hint : Option ℕ) (old : Vector T A) (added : List T) (r : Result Unit TryReserveError) (new : Vector T A) → Extends size (lower_by hint) old old.items added r new → Change hint old (len new - len old) new
+  extends hint old added r new e =
+      let l = ap length e.items ∙ length-append old.items e.front in
+      record { needed = len old + length added; moves = λ w. grown_in_steps hint _ e.in_steps; longest = omega arith; fits = λ w. omega (arith, l, e.fits); full = ends (lower_by hint) old added r new e }
 
   same : {hint : Option ℕ} (old new : Vector T A) → new ≡ old → Change hint old 0 new
   same old new e = rw e (holds old 0 old.items old (omega arith) (record { items = refl; block = SameBlock-refl old }))
@@ -76,7 +76,7 @@ module _ {T A : Type 0} (size : ℕ) where
   change_done main side (Truncate n) Done main' side' a r m = becomes main 0 _ 0 0 main' (omega (arith, length-take n main.items)) m.0
   change_done main side Clear Done main' side' a r m = becomes main 0 _ 0 0 main' (omega arith) m.0
   change_done main side Append Done main' side' a r m = grows_by main (len side) _ _ _ main' (length-append main.items side.items) m.0
-  change_done main side (Extend items hint) Done main' side' a r m = extends hint main items.items main' m.0
+  change_done main side (Extend items hint) Done main' side' a r m = extends hint main items.items (Ok tt) main' m.0
   change_done main side (Drain start end front back keep) Done main' side' a r m =
       holds main 0 _ main' (omega (arith, length-left_of main.items (ends_of start end front back) keep r.0 r.1)) m.0
   change_done main side (Within x) (Back y) main' side' a r m = same main main' m.0.2
@@ -85,7 +85,7 @@ module _ {T A : Type 0} (size : ℕ) where
 
   -- what one that was refused has left of it
   change_refused : (fails : Type 0) (main side : Vector T A) (command : Command T A) (kind : TryReserveErrorKind) (main' : Vector T A) → AddsOrRemoves command → Leaves size fails main side command (record { kind = kind }) main' → Change (hint_of command) main (added_by main side command (Refused kind) main') main'
-  change_refused fails main side (Extend items hint) kind main' a s = stops hint main items.items (record { kind = kind }) main' s
+  change_refused fails main side (Extend items hint) kind main' a s = extends hint main items.items (Err (record { kind = kind })) main' s
   change_refused fails main side command kind main' a s = search (rules, same)
 
   -- and one whose range lies outside

@@ -1,9 +1,10 @@
 -- What follows where an extension stopped at a refusal.
-use Rattle.allocator_api2.proofs.Common.{ℕ, ◌+◌, ◌-◌, ◌≤◌, List, length, arith, TryReserveError, Vector, ExtendsFull, GrowsInSteps-rises}
+use Rattle.allocator_api2.proofs.Common.{ℕ, ◌+◌, ◌-◌, ◌≤◌, List, length, ap, ◌∙◌, arith, length-append, TryReserveError, Vector, Extends, GrowsInSteps-rises}
+use Rattle.std.specs.Prelude.{Err}
 
-module _ {T A : Type 0} (size : ℕ) (lower : ℕ → ℕ) (old : Vector T A) (xs added : List T) (error : TryReserveError) (new : Vector T A) (full : ExtendsFull size lower old xs added error new) where
+module _ {T A : Type 0} (size : ℕ) (lower : ℕ → ℕ) (old : Vector T A) (xs added : List T) (error : TryReserveError) (new : Vector T A) (stop : Extends size lower old xs added (Err error) new) where
   -- the items did not fit
   pub stops-full : ¬ (length added ≤ old.capacity - length xs)
   stops-full room =
-      let higher : old.capacity ≤ new.capacity = GrowsInSteps-rises size lower (length xs + length added) full.in_steps in
-      absurd (omega (arith, full.short, full.full, higher, room))
+      let higher : old.capacity ≤ new.capacity = GrowsInSteps-rises size lower (length xs + length added) stop.in_steps in
+      absurd (omega (arith, stop.refused.0, stop.refused.1, ap length stop.begins ∙ length-append stop.front stop.others, higher, room))

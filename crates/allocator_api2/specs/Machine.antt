@@ -1,7 +1,7 @@
 -- The list machine: two lists, each beside a capacity, and what each command makes of them.
 use denote.Ref.{MutBor}
 use denote.Param.Members.{Mut}
-use Rattle.std.specs.Prelude.{◌≡◌, ℕ, ◌+◌, ◌-◌, ◌<◌, ◌≤◌, min, max, Bool, ◌==◌, List, [], ◌∷◌, ◌++◌, length, take, drop, replicate, insert, remove, swap_remove, slice_get, slice_range, reverse, if◌then◌else◌, Some, ◌⊎◌, ⊤}
+use Rattle.std.specs.Prelude.{◌≡◌, ℕ, ◌+◌, ◌-◌, ◌<◌, ◌≤◌, min, max, Bool, ◌==◌, List, [], ◌∷◌, ◌++◌, length, take, drop, replicate, insert, remove, swap_remove, slice_get, slice_range, reverse, if◌then◌else◌, Some, ◌⊎◌, Ok, Err, ⊤}
 use Rattle.std.specs.Fn.{CalledAtMut, CalledAtPairMut}
 use Rattle.aa_raw.specs.Closures.{TakesPairMut}
 use Rattle.aa_raw.specs.declared.collections.TryReserveError.{TryReserveError}
@@ -11,7 +11,7 @@ use Rattle.aa_raw.specs.Growth.{usize_max}
 use Rattle.aa_vec.specs.Vector.{Vector, len, HasRoom, LacksRoom, LacksExactRoom, GrowsTo, Holds, Becomes, run_count, with_room, with_exact_room, with_less}
 use Rattle.aa_vec.specs.Split.{Splits}
 use Rattle.aa_vec.specs.Choosing.{Asked, AskedInOrder, EndsTrue, TakesMut, Retains, Deduplicates, answers_of, kept, passed_over}
-use Rattle.aa_vec.specs.Extend.{ExtendsAll, ExtendsFull, lower_by}
+use Rattle.aa_vec.specs.Extend.{Extends, lower_by}
 use Rattle.aa_vec.specs.SpliceItems.{Gapped, gapped, SplicesAll, SplicesShort}
 use Rattle.allocator_api2.specs.declared.runner.Command.{Command}
 use Rattle.allocator_api2.specs.declared.runner.Command.TheVariants.{Push, Within, Pop, Insert, Remove, SwapRemove, Truncate, Clear, Reserve, ReserveExact, ShrinkTo, SplitOff, Append, Extend, ExtendFromWithin, Resize, Retain, Dedup, Drain, ExtractIf, Splice}
@@ -179,7 +179,7 @@ module _ {T A : Type 0} (size : ℕ) where
   MakesOfMain main (ShrinkTo k) Done main' =
       Becomes (with_less size main (max (len main) k)) main.items 0 0 main'
   MakesOfMain main (Extend items hint) Done main' =
-      ExtendsAll size (lower_by hint) main main.items items.items main'
+      Extends size (lower_by hint) main main.items items.items (Ok tt) main'
   MakesOfMain main (ExtendFromWithin from to) Done main' =
       let more = take (to - from) (drop from main.items) in
       Becomes (with_room size main (len main) (to - from)) (main.items ++ more) (to - from)
@@ -223,7 +223,7 @@ module _ {T A : Type 0} (size : ℕ) where
   Leaves fails main side Append error main' =
       LacksRoom size main (len side) error × (main' ≡ main)
   Leaves fails main side (Extend items hint) error main' =
-      ExtendsFull size (lower_by hint) main main.items items.items error main'
+      Extends size (lower_by hint) main main.items items.items (Err error) main'
   Leaves fails main side (ExtendFromWithin from to) error main' =
       LacksCopies size main (to - from) error main'
   Leaves fails main side (Resize n x) error main' =

@@ -1,12 +1,12 @@
 //! Items of an iterator, put behind the elements.
-ghost use Rattle.std.specs.Prelude.{length, ◌≡◌, ◌+◌, ◌-◌, ◌≤◌, ◌++◌, List, map, None, IfOk, IfErr, OnOk, IsOk};
+ghost use Rattle.std.specs.Prelude.{length, ◌≡◌, ◌+◌, ◌-◌, ◌≤◌, ◌++◌, List, map, None, Ok, Err, IfOk, IfErr, OnOk, IsOk};
 ghost use Rattle.std.specs.Mem.{type_size};
 ghost use Rattle.std.specs.Iterator.{IsFinite, IsNearerEnd, Drains, size};
 ghost use Rattle.std.specs.Iterator.Runs.{WholeRun};
 ghost use Rattle.std.specs.Borrow.{Bor};
 ghost use Rattle.aa_vec.specs.Vector.{Vector, len, sized, HasRoom, IsNew};
 ghost use Rattle.aa_vec.specs.Filling.{FillsGap, GoesOn};
-ghost use Rattle.aa_vec.specs.Extend.{Extended, Takes, ExtendsAll, ExtendsFull, CopiesOf};
+ghost use Rattle.aa_vec.specs.Extend.{Extended, Takes, Extends, CopiesOf};
 ghost use Rattle.aa_vec.specs.Extend.{TellsAtMost, TellsExactly};
 
 use crate::vec::Vec;
@@ -90,13 +90,13 @@ impl<T, A: Allocator> Vec<T, A> {
         ensures fits { HasRoom self.old (size (I.remaining iter)) → IsOk result }
         ensures room { (after : I) × OnOk result (Takes I.next_gives
             (TellsExactly I.lower_of) iter (λ lower xs last. I.next_gives last None after
-            × ExtendsAll (type_size T.row) lower self.old self.old.items xs self.new)) }
+            × Extends (type_size T.row) lower self.old self.old.items xs (Ok tt) self.new)) }
         ensures writes { let n = length self.new.items - length self.old.items in
             (self.new.written ≡ self.old.written + n) × (self.new.runs ≡ self.old.runs + n) }
         ensures refused { (after : I) × IfErr result (λ e. Takes I.next_gives
             (TellsExactly I.lower_of) iter (λ lower xs last. (last ≡ after)
-            × (full : ExtendsFull (type_size T.row) lower self.old self.old.items xs e self.new)
-            × (length full.others ≡ 1))) }
+            × (stop : Extends (type_size T.row) lower self.old self.old.items xs (Err e) self.new)
+            × (length stop.others ≡ 1))) }
     {
         let mut rest = iter;
         self.extend_hinted_by(&mut rest)
@@ -120,12 +120,12 @@ impl<T, A: Allocator> Vec<T, A> {
         ensures fits { HasRoom self.old (size (I.remaining iter.old)) → IsOk result }
         ensures room { OnOk result (Takes I.next_gives (TellsExactly I.lower_of) iter.old
             (λ lower xs last. I.next_gives last None iter.new
-            × ExtendsAll (type_size T.row) lower self.old self.old.items xs self.new)) }
+            × Extends (type_size T.row) lower self.old self.old.items xs (Ok tt) self.new)) }
         ensures writes { let n = length self.new.items - length self.old.items in
             (self.new.written ≡ self.old.written + n) × (self.new.runs ≡ self.old.runs + n) }
         ensures refused { IfErr result (λ e. Takes I.next_gives (TellsExactly I.lower_of)
-            iter.old (λ lower xs last. (last ≡ iter.new) × (full : ExtendsFull (type_size T.row)
-            lower self.old self.old.items xs e self.new) × (length full.others ≡ 1))) }
+            iter.old (λ lower xs last. (last ≡ iter.new) × (stop : Extends (type_size T.row)
+            lower self.old self.old.items xs (Err e) self.new) × (length stop.others ≡ 1))) }
         ensures goes { IfErr result (λ _. IsNearerEnd I.can_next I.remaining iter.old iter.new) }
     {
         self.extend_telling::<ByLower, I>(iter)
@@ -147,13 +147,13 @@ impl<T, A: Allocator> Vec<T, A> {
         ensures fits { HasRoom self.old (size (I.remaining iter)) → IsOk result }
         ensures room { (after : I) × OnOk result (Takes I.next_gives
             (TellsAtMost I.remaining) iter (λ lower xs last. I.next_gives last None after
-            × ExtendsAll (type_size T.row) lower self.old self.old.items xs self.new)) }
+            × Extends (type_size T.row) lower self.old self.old.items xs (Ok tt) self.new)) }
         ensures writes { let n = length self.new.items - length self.old.items in
             (self.new.written ≡ self.old.written + n) × (self.new.runs ≡ self.old.runs + n) }
         ensures refused { (after : I) × IfErr result (λ e. Takes I.next_gives
             (TellsAtMost I.remaining) iter (λ lower xs last. (last ≡ after)
-            × (full : ExtendsFull (type_size T.row) lower self.old self.old.items xs e self.new)
-            × (length full.others ≡ 1))) }
+            × (stop : Extends (type_size T.row) lower self.old self.old.items xs (Err e) self.new)
+            × (length stop.others ≡ 1))) }
     {
         let mut rest = iter;
         self.extend_by(&mut rest)
@@ -174,12 +174,12 @@ impl<T, A: Allocator> Vec<T, A> {
         ensures fits { HasRoom self.old (size (I.remaining iter.old)) → IsOk result }
         ensures room { OnOk result (Takes I.next_gives (TellsAtMost I.remaining) iter.old
             (λ lower xs last. I.next_gives last None iter.new
-            × ExtendsAll (type_size T.row) lower self.old self.old.items xs self.new)) }
+            × Extends (type_size T.row) lower self.old self.old.items xs (Ok tt) self.new)) }
         ensures writes { let n = length self.new.items - length self.old.items in
             (self.new.written ≡ self.old.written + n) × (self.new.runs ≡ self.old.runs + n) }
         ensures refused { IfErr result (λ e. Takes I.next_gives (TellsAtMost I.remaining)
-            iter.old (λ lower xs last. (last ≡ iter.new) × (full : ExtendsFull (type_size T.row)
-            lower self.old self.old.items xs e self.new) × (length full.others ≡ 1))) }
+            iter.old (λ lower xs last. (last ≡ iter.new) × (stop : Extends (type_size T.row)
+            lower self.old self.old.items xs (Err e) self.new) × (length stop.others ≡ 1))) }
         ensures goes { IfErr result (λ _. IsNearerEnd I.can_next I.remaining iter.old iter.new) }
     {
         self.extend_telling::<ByHint, I>(iter)
@@ -202,13 +202,13 @@ impl<T, A: Allocator> Vec<T, A> {
         ensures fits { HasRoom self.old (size (I.remaining iter)) → IsOk result }
         ensures room { (after : I) × OnOk result (Takes (CopiesOf I.next_gives)
             (TellsAtMost I.remaining) iter (λ lower xs last. I.next_gives last None after
-            × ExtendsAll (type_size T.row) lower self.old self.old.items xs self.new)) }
+            × Extends (type_size T.row) lower self.old self.old.items xs (Ok tt) self.new)) }
         ensures writes { let n = length self.new.items - length self.old.items in
             (self.new.written ≡ self.old.written + n) × (self.new.runs ≡ self.old.runs + n) }
         ensures refused { (after : I) × IfErr result (λ e. Takes (CopiesOf I.next_gives)
             (TellsAtMost I.remaining) iter (λ lower xs last. (last ≡ after)
-            × (full : ExtendsFull (type_size T.row) lower self.old self.old.items xs e self.new)
-            × (length full.others ≡ 1))) }
+            × (stop : Extends (type_size T.row) lower self.old self.old.items xs (Err e) self.new)
+            × (length stop.others ≡ 1))) }
     {
         let mut rest = iter;
         self.extend_copied_by(&mut rest)
@@ -233,12 +233,12 @@ impl<T, A: Allocator> Vec<T, A> {
         ensures fits { HasRoom self.old (size (I.remaining iter.old)) → IsOk result }
         ensures room { OnOk result (Takes (CopiesOf I.next_gives) (TellsAtMost I.remaining) iter.old
             (λ lower xs last. I.next_gives last None iter.new
-            × ExtendsAll (type_size T.row) lower self.old self.old.items xs self.new)) }
+            × Extends (type_size T.row) lower self.old self.old.items xs (Ok tt) self.new)) }
         ensures writes { let n = length self.new.items - length self.old.items in
             (self.new.written ≡ self.old.written + n) × (self.new.runs ≡ self.old.runs + n) }
         ensures refused { IfErr result (λ e. Takes (CopiesOf I.next_gives) (TellsAtMost I.remaining)
-            iter.old (λ lower xs last. (last ≡ iter.new) × (full : ExtendsFull (type_size T.row)
-            lower self.old self.old.items xs e self.new) × (length full.others ≡ 1))) }
+            iter.old (λ lower xs last. (last ≡ iter.new) × (stop : Extends (type_size T.row)
+            lower self.old self.old.items xs (Err e) self.new) × (length stop.others ≡ 1))) }
         ensures goes { IfErr result (λ _. IsNearerEnd I.can_next I.remaining iter.old iter.new) }
     {
         let mut copies = Reading { iter };
@@ -259,14 +259,14 @@ impl<T, A: Allocator> Vec<T, A> {
         ensures made { (after : I) × IfOk result (λ v. Takes I.next_gives
             (TellsAtMost I.remaining) iter (λ lower xs last. I.next_gives last None after
             × (new : Vector T A) × IsNew (type_size T.row) 0 alloc new
-            × ExtendsAll (type_size T.row) lower new new.items xs v)) }
+            × Extends (type_size T.row) lower new new.items xs (Ok tt) v)) }
         ensures growth { IfOk result (λ v. v.growth ≡ Growth.Doubling) }
         ensures alloc { IfOk result (λ v. v.alloc ≡ alloc) }
         ensures writes { IfOk result (λ v. (v.written ≡ len v) × (v.runs ≡ len v)) }
         ensures refused { (after : I) × IfErr result (λ e. Takes I.next_gives
             (TellsAtMost I.remaining) iter (λ lower xs last. (last ≡ after)
             × (new : Vector T A) × (stop : Vector T A) × IsNew (type_size T.row) 0 alloc new
-            × (full : ExtendsFull (type_size T.row) lower new new.items xs e stop)
+            × (full : Extends (type_size T.row) lower new new.items xs (Err e) stop)
             × (length full.others ≡ 1))) }
     {
         let mut rest = iter;
@@ -290,14 +290,14 @@ impl<T, A: Allocator> Vec<T, A> {
         ensures made { IfOk result (λ v. Takes I.next_gives (TellsAtMost I.remaining) iter.old
             (λ lower xs last. I.next_gives last None iter.new
             × (new : Vector T A) × IsNew (type_size T.row) 0 alloc new
-            × ExtendsAll (type_size T.row) lower new new.items xs v)) }
+            × Extends (type_size T.row) lower new new.items xs (Ok tt) v)) }
         ensures growth { IfOk result (λ v. v.growth ≡ Growth.Doubling) }
         ensures alloc { IfOk result (λ v. v.alloc ≡ alloc) }
         ensures writes { IfOk result (λ v. (v.written ≡ len v) × (v.runs ≡ len v)) }
         ensures refused { IfErr result (λ e. Takes I.next_gives (TellsAtMost I.remaining)
             iter.old (λ lower xs last. (last ≡ iter.new)
             × (new : Vector T A) × (stop : Vector T A) × IsNew (type_size T.row) 0 alloc new
-            × (full : ExtendsFull (type_size T.row) lower new new.items xs e stop)
+            × (full : Extends (type_size T.row) lower new new.items xs (Err e) stop)
             × (length full.others ≡ 1))) }
         ensures goes { IfErr result (λ _. IsNearerEnd I.can_next I.remaining iter.old iter.new) }
     {
@@ -323,14 +323,14 @@ impl<T> Vec<T, Global> {
         ensures made { (after : I) × IfOk result (λ v. Takes I.next_gives
             (TellsAtMost I.remaining) iter (λ lower xs last. I.next_gives last None after
             × (new : Vector T Global) × IsNew (type_size T.row) 0 alloc new
-            × ExtendsAll (type_size T.row) lower new new.items xs v)) }
+            × Extends (type_size T.row) lower new new.items xs (Ok tt) v)) }
         ensures growth { IfOk result (λ v. v.growth ≡ Growth.Doubling) }
         ensures alloc { IfOk result (λ v. v.alloc ≡ alloc) }
         ensures writes { IfOk result (λ v. (v.written ≡ len v) × (v.runs ≡ len v)) }
         ensures refused { (after : I) × IfErr result (λ e. Takes I.next_gives
             (TellsAtMost I.remaining) iter (λ lower xs last. (last ≡ after)
             × (new : Vector T Global) × (stop : Vector T Global) × IsNew (type_size T.row) 0 alloc new
-            × (full : ExtendsFull (type_size T.row) lower new new.items xs e stop)
+            × (full : Extends (type_size T.row) lower new new.items xs (Err e) stop)
             × (length full.others ≡ 1))) }
     {
         Vec::from_iter_in(iter, alloc)

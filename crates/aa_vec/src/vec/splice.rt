@@ -3,9 +3,9 @@ ghost use Rattle.std.specs.Prelude.{◌≡◌, ℕ, ◌+◌, ◌-◌, ◌*◌, �
 ghost use Rattle.std.specs.Mem.{type_size};
 ghost use Rattle.std.specs.Iterator.{IsFinite};
 ghost use Rattle.aa_vec.specs.Vector.{len, HasRoom};
-ghost use Rattle.aa_vec.specs.Behind.{StandsBehind};
+ghost use Rattle.aa_vec.specs.Behind.{StandsBehind, behind_items};
 ghost use Rattle.aa_vec.specs.Extend.{TellsAtMost, TellsExactly};
-ghost use Rattle.aa_vec.specs.SpliceItems.{Replaced, without_behind};
+ghost use Rattle.aa_vec.specs.SpliceItems.{Replaced, gapped};
 
 use crate::vec::Vec;
 use crate::vec::extend::items::Hinted;
@@ -140,7 +140,9 @@ where
     requires may_ask { I.can_next iter.old }
     requires ends { IsFinite (I.remaining iter.old) }
     ensures { Replaced I.Iterator W.tells (¬ (A.is_infallible vec.old.alloc))
-        (type_size I.Item.row) iter.old (without_behind vec.old end total) result vec.new }
+        (type_size I.Item.row) iter.old
+        (gapped vec.old vec.old.items end (behind_items vec.old end (total - end)))
+        result vec.new }
 {
     let count = total - end;
     vec.drop_behind(front, back - front);
@@ -194,7 +196,9 @@ where
         requires may_ask { I.can_next iter }
         requires ends { IsFinite (I.remaining iter) }
         ensures { Replaced I.Iterator W.tells (¬ (A.is_infallible vec.old.alloc))
-            (type_size I.Item.row) iter (without_behind vec.old end total) result vec.new }
+            (type_size I.Item.row) iter
+            (gapped vec.old vec.old.items end (behind_items vec.old end (total - end)))
+            result vec.new }
     {
         let mut items = iter;
         end_telling::<W, I, A>(vec, front, back, end, total, &mut items)

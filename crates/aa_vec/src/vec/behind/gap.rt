@@ -5,7 +5,7 @@ ghost use Rattle.std.specs.Mem.{type_size};
 ghost use Rattle.std.specs.Iterator.{IsFinite, Drains, Yields, size};
 ghost use Rattle.aa_vec.specs.Vector.{len, HasRoom, LacksRoom, Holds, Writes, run_count};
 ghost use Rattle.aa_vec.specs.Behind.{StandsBehind};
-ghost use Rattle.aa_vec.specs.Filling.{OpensGap, Widens, FillsGap, GoesOn, FillsAndCloses, Gathers, GathersShort, PutsRest, LacksRest, Puts};
+ghost use Rattle.aa_vec.specs.Filling.{OpensGap, Widens, FillsGap, GoesOn, FillsAndCloses, Gathers, PutsRest, LacksRest, Puts};
 
 use crate::vec::Vec;
 use crate::vec::extend::told::Telling;
@@ -99,10 +99,10 @@ impl<T, A: Allocator> Vec<T, A> {
         requires may_ask { I.can_next iter.old }
         requires ends { IsFinite (I.remaining iter.old) }
         ensures all { IfOk result
-            (λ v. Gathers I.next_gives W.tells (type_size T.row) iter.old first v iter.new) }
+            (λ v. Gathers I.next_gives W.tells iter.old first v iter.new) }
         ensures refused { IfErr result
-            (λ e. GathersShort I.next_gives W.tells (type_size T.row) iter.old first
-            (¬ (A.is_infallible self.now.alloc)) self.now e iter.new) }
+            (λ e. LacksRest I.next_gives W.tells (¬ (A.is_infallible self.now.alloc))
+            (type_size T.row) iter.old self.now first e iter.new) }
     {
         let wanted = W::told(iter).saturating_add(1);
         let Ok(alloc) = self.allocator().clone() else {

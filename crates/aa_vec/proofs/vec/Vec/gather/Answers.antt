@@ -1,13 +1,13 @@
 use Rattle.aa_vec.proofs.Common.{rules}
 use Rattle.aa_vec.proofs.Becoming.{Holds-becomes}
-use Rattle.aa_vec.proofs.Gathered.{Gathers-all, GathersShort-clone, GathersShort-first, GathersShort-more}
+use Rattle.aa_vec.proofs.Gathered.{Gathers-all, LacksRest-clone, LacksRest-first, LacksRest-more}
 use Rattle.aa_vec.proofs.vec.Vec.gather.Goals as goal
 
 pub returns-in_default-clause-refused : goal.returns-in_default-clause-refused
-returns-in_default-clause-refused g c = GathersShort-clone _ _ _ _ _ _ c.args.self.now _ c.told.ensures _ c.saturating_add-wanted.ensures _ (search rules) (search rules)
+returns-in_default-clause-refused g c = LacksRest-clone _ _ _ _ _ _ c.args.self.now _ c.told.ensures _ c.saturating_add-wanted.ensures _ (search rules) (search rules)
 
 pub returns-in-Err-clause-refused : goal.returns-in-Err-clause-refused
-returns-in-Err-clause-refused g c = GathersShort-first _ _ _ _ _ _ c.args.self.now _ c.told.ensures _ c.saturating_add-wanted.ensures _ c.new_in-more.result c.new_in-more.ensures _ c.in-Err.ensures.refused
+returns-in-Err-clause-refused g c = LacksRest-first _ _ _ _ _ _ c.args.self.now _ c.told.ensures _ c.saturating_add-wanted.ensures _ c.new_in-more.result c.new_in-more.ensures _ c.in-Err.ensures.refused
 
 pub returns-in-Ok-extend_telling-clause-all : goal.returns-in-Ok-extend_telling-clause-all
 returns-in-Ok-extend_telling-clause-all g c =
@@ -16,5 +16,5 @@ returns-in-Ok-extend_telling-clause-all g c =
 
 pub returns-in-Err-extend_telling-clause-refused : goal.returns-in-Err-extend_telling-clause-refused
 returns-in-Err-extend_telling-clause-refused g c =
-    GathersShort-more _ _ _ _ _ _ c.args.self.now _ c.told.ensures _ c.saturating_add-wanted.ensures _ c.new_in-more.result c.new_in-more.ensures
+    LacksRest-more _ _ _ _ _ _ c.args.self.now _ c.told.ensures _ c.saturating_add-wanted.ensures _ c.new_in-more.result c.new_in-more.ensures
     c.try_reserve.new.self c.in_default-try_reserve.ensures.made c.put_next.new.self (Holds-becomes _ _ _ _ _ c.put_next.ensures.put) _ _ _ c.in-Err-extend_telling.ensures.extends.refused
