@@ -17,11 +17,6 @@ module _ {T A : Type 0} where
       → Refuses failure size old k error new
   Refuses-undone failure size old mid new k error e u cause number = inr (record { cause = cause; number = number; undone = Undone-made (with_room size old (len old) k) mid new e k u })
 
-  -- and of the vector's own
-  pub Refuses-own : (never : T → Type 0) (size : ℕ) (old mid new : Vector T A) (from k : ℕ) (error : TryReserveError) → Becomes (with_room size old (len old) k) old.items 0 0 mid → Undone mid k new → ¬ (All never (take k (drop from mid.items)))
-      → error.kind ≡ AllocError (len old + k) → Refuses (¬ (All never (take k (drop from old.items)))) size old k error new
-  Refuses-own never size old mid new from k error e u fails number = Refuses-undone _ size old mid new k error e u (subst (λ xs. ¬ (All never (take k (drop from xs)))) (ap (λ v. v.items) e) fails) number
-
   module _ (clones : T → T → Type 0) where
     -- clones put there stand behind the items there were
     pub Adds-made : (old mid new : Vector T A) → Becomes old old.items 0 0 mid → (xs : List T) → Adds clones mid xs new → Adds clones old xs new
@@ -137,4 +132,4 @@ module _ {T A : Type 0} where
 pub ruleset copied = (Adds-take, Adds-same, Adds-own, own-fails, Undone-cut, length-replicate, length-take)
 
 -- and in room that was made for all of them
-pub ruleset cloned = (copied, Begins-made, Adds-assigned, Adds-made, Adds-all, Adds-copied, Fills-last, Fills-made, Adds-begun, Refuses-undone, Refuses-own, Resized-copied, Resized-cut)
+pub ruleset cloned = (copied, Begins-made, Adds-assigned, Adds-made, Adds-all, Adds-copied, Fills-last, Fills-made, Refuses-undone, Resized-copied, Resized-cut)

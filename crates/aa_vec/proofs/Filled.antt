@@ -26,5 +26,3 @@ module _ {T A : Type 0} (clones : T → T → Type 0) (size n : ℕ) (x : T) (so
 
   pub IsMade-copied : (v : Vector T A) → Copies clones → IsMadeOfOne clones size x n v → IsMade size n Doubling (replicate n x) n v
   IsMade-copied v copies p = let P : List T → Type 0 = λ l. IsMade size n Doubling l n v in subst P (whole n (p.added ++ x ∷ []) some ∙ all-copied clones n x p.added some copies p.each) p.made
-
-pub ruleset filled = (IsMadeOfOne-filled, IsMade-copied)

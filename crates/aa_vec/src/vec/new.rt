@@ -66,7 +66,6 @@ impl<T: Clone, A: Allocator> Vec<T, A> {
     /// more. It takes memory before the first clone. Where that or a clone is refused, nothing is
     /// made: `CapacityOverflow`, or `AllocError` with the number `n`. It stands for the original's
     /// `from_elem_in`.
-    #[tactic(auto, using(crate::proofs::Filled::filled))]
     pub fn from_elem_in(element: T, n: usize, alloc: A) -> Result<Self, TryReserveError>
         ensures made { IfOk result (IsMadeOfOne T.is_clone (type_size T.row) element n) }
         ensures alloc { IfOk result (λ v. v.alloc ≡ alloc) }
