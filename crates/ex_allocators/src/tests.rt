@@ -1,6 +1,5 @@
 use crate::budget::Budget;
 use crate::counting::Counting;
-use crate::exercise::{Report, exercise};
 use crate::pool::Pool;
 use allocator_api2::boxed::Box;
 use allocator_api2::vec::Vec;
@@ -94,52 +93,6 @@ above  65536 bytes: 3
     Ok(())
 }
 
-// Whether an exercise is clean, with nothing left out.
-fn is_clean<A: Allocator + Clone>(books: Global, alloc: &A) -> bool {
-    match exercise(books, alloc, 7, 100) {
-        Ok(report) => {
-            report.steps == 200
-                && report.requests > 200
-                && report.refused > 0
-                && report.outstanding == 0
-        }
-        Err(_) => false,
-    }
-}
-
-#[test]
-fn the_global_allocator_is_right(rt: HostRuntime) {
-    assert!(rt; is_clean(rt.alloc(), &rt.alloc()));
-    assert!(rt; is_clean(rt.alloc(), &&rt.alloc()));
-}
-
-#[test]
-fn a_budget_is_right(rt: HostRuntime) {
-    let heap = Budget::new(rt.alloc(), 1_000_000);
-    assert!(rt; is_clean(rt.alloc(), &heap));
-    assert!(rt; is_clean(rt.alloc(), &&heap));
-    assert!(rt; heap.watch().granted() == 0);
-    let tight = Budget::new(rt.alloc(), 5_000);
-    assert!(rt; is_clean(rt.alloc(), &tight));
-    assert!(rt; tight.watch().granted() == 0);
-}
-
-#[test]
-fn a_counting_one_is_right(rt: HostRuntime) {
-    let heap = Counting::new(rt.alloc());
-    assert!(rt; is_clean(rt.alloc(), &heap));
-    assert!(rt; is_clean(rt.alloc(), &&heap));
-    assert!(rt; heap.counts().outstanding == 0);
-    assert!(rt; heap.counts().requests == heap.counts().frees);
-}
-
-#[test]
-fn an_exercise_is_the_same_each_time(rt: HostRuntime) {
-    let one: Option<Report> = exercise(rt.alloc(), &rt.alloc(), 3, 40).ok();
-    assert!(rt; one.is_some());
-    assert!(rt; one == exercise(rt.alloc(), &rt.alloc(), 3, 40).ok());
-}
-
 #[test]
 fn blocks_given_back_in_any_order_are_used_again(rt: HostRuntime) -> Result<(), Fail> {
     let heap = Counting::new(rt.alloc());
@@ -221,21 +174,6 @@ fn requests_of_another_layout_are_passed_on(rt: HostRuntime) -> Result<(), Fail>
     let pair = Box::new_in((1u64, 2u32), &pool)?;
     assert!(rt; *pair == (1, 2) && heap.counts().requests == 4);
     Ok(())
-}
-
-#[test]
-fn a_pool_is_right(rt: HostRuntime) {
-    let heap = Counting::new(rt.alloc());
-    {
-        let pool = Pool::new(&heap, 8);
-        assert!(rt; is_clean(rt.alloc(), &pool));
-        assert!(rt; is_clean(rt.alloc(), &&pool));
-        let pool = Pool::new(&heap, 24);
-        assert!(rt; is_clean(rt.alloc(), &&pool));
-        let pool = Pool::new(&heap, 4_100);
-        assert!(rt; is_clean(rt.alloc(), &&pool));
-    }
-    assert!(rt; heap.counts().outstanding == 0);
 }
 
 #[test]
