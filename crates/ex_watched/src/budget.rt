@@ -61,19 +61,21 @@ impl Purse {
 }
 
 impl Watch for Purse {
-    fn refuses(&self, size: usize) -> bool
+    fn refuses(&self, size: usize, _align: usize) -> bool
         ensures { self.now.limit < size → IsTrue result }
     {
         self.left() < size
     }
 
-    fn grants(&self, size: usize) {
+    fn grants(&self, size: usize, _align: usize) {
         let granted = self.granted.get().saturating_add(size);
         self.granted.set(granted);
         self.most.set(self.most.get().max(granted));
     }
 
-    fn takes_back(&self, size: usize) {
+    fn misses(&self, _size: usize, _align: usize) {}
+
+    fn takes_back(&self, size: usize, _align: usize) {
         self.granted.set(self.granted.get().saturating_sub(size));
     }
 }

@@ -156,16 +156,18 @@ impl Tally {
 }
 
 impl Watch for Tally {
-    fn refuses(&self, size: usize) -> bool {
+    fn refuses(&self, size: usize, _align: usize) -> bool {
         self.counts.set(self.counts.get().asked(size));
         false
     }
 
-    fn grants(&self, size: usize) {
+    fn grants(&self, size: usize, _align: usize) {
         self.counts.set(self.counts.get().granted(size));
     }
 
-    fn takes_back(&self, size: usize) {
+    fn misses(&self, _size: usize, _align: usize) {}
+
+    fn takes_back(&self, size: usize, _align: usize) {
         self.counts.set(self.counts.get().given_back(size));
     }
 }

@@ -70,7 +70,7 @@ impl<B: Allocator> Watched<B, Plan> {
 }
 
 impl Watch for Plan {
-    fn refuses(&self, _size: usize) -> bool {
+    fn refuses(&self, _size: usize, _align: usize) -> bool {
         let number = self.requests.get();
         self.requests.set(number.saturating_add(1));
         let refused = self.refuse_from.get() <= number && number < self.refuse_until.get();
@@ -80,12 +80,14 @@ impl Watch for Plan {
         refused
     }
 
-    fn grants(&self, size: usize) {
+    fn grants(&self, size: usize, _align: usize) {
         self.outstanding
             .set(self.outstanding.get().saturating_add(size as u64));
     }
 
-    fn takes_back(&self, size: usize) {
+    fn misses(&self, _size: usize, _align: usize) {}
+
+    fn takes_back(&self, size: usize, _align: usize) {
         self.frees.set(self.frees.get().saturating_add(1));
         self.outstanding
             .set(self.outstanding.get().saturating_sub(size as u64));

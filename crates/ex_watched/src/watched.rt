@@ -3,14 +3,18 @@ use std::alloc::{AllocError, Allocator};
 /// What stands between a collection and the allocator that has the memory. A watch decides and
 /// counts. It never sees a block, so it is written without a proof by hand.
 pub trait Watch: Drop {
-    /// Asked before each request for `size` bytes. With `true` it is refused, else it is passed on.
-    fn refuses(&self, size: usize) -> bool;
+    /// Asked before each request for `size` bytes at that alignment. With `true` it is refused, else
+    /// it is passed on.
+    fn refuses(&self, size: usize, align: usize) -> bool;
 
-    /// Told that a block of `size` bytes was granted.
-    fn grants(&self, size: usize);
+    /// Told that such a block was granted.
+    fn grants(&self, size: usize, align: usize);
 
-    /// Told that a block of `size` bytes was given back.
-    fn takes_back(&self, size: usize);
+    /// Told that the inner allocator refused such a request.
+    fn misses(&self, size: usize, align: usize);
+
+    /// Told that such a block was given back.
+    fn takes_back(&self, size: usize, align: usize);
 }
 
 /// An allocator that passes on to `inner` what its watch doesn't refuse.
@@ -20,7 +24,7 @@ pub struct Watched<B: Allocator, W: Watch> {
 }
 
 impl<B: Allocator, W: Watch> Watched<B, W> {
-    /// An allocator over `inner` that asks `watch`.
+    /// An allocator over `inner` that asks `watch`: how an allocator with a watch of one's own is made.
     pub fn with_watch(inner: B, watch: W) -> Watched<B, W> {
         Watched { inner, watch }
     }
@@ -42,18 +46,19 @@ unsafe impl<B: Allocator, W: Watch> Allocator for Watched<B, W> {
     ghost dealloc_token = { λ heap ty ptr. B.dealloc_token heap.inner ty ptr };
 
     fn allocate(&self, size: usize, align: usize) -> Result<*mut u8, AllocError> {
-        if self.watch.refuses(size) {
+        if self.watch.refuses(size, align) {
             return Err(AllocError);
         }
         let Ok(block) = self.inner.allocate(size, align) else {
+            self.watch.misses(size, align);
             return Err(AllocError);
         };
-        self.watch.grants(size);
+        self.watch.grants(size, align);
         Ok(block)
     }
 
     unsafe fn deallocate(&self, ptr: *mut u8, size: usize, align: usize) {
-        self.watch.takes_back(size);
+        self.watch.takes_back(size, align);
         self.inner.deallocate(ptr, size, align);
     }
 }

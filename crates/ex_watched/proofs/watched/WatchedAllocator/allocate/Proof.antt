@@ -15,7 +15,7 @@ allocate_spec 𝓤 𝓛 𝓜 𝓡 wired B W L LW g d gw dw d' dw' inner watch _ 
     let heap : B.Denot = r.now.inner in let at = inner_of Z r.ref_ptr in let eye : W.Denot = r.now.watch in let spot = watch_of Z Y r.ref_ptr in
     let y : Wk.Ghost = ((κs, qs, bounds, a, (shr_vals r, (uint_vals w64 n, (uint_vals w64 al, tt)))), τ) in
     let Fits : Type 0 = (capped (size τ) ≡ n) × (capped (align τ) ≡ al) in
-    let Q = Asks Y 𝓛 𝓜.mem 𝓡.returns in let N = Notes Y 𝓛 𝓜.mem 𝓡.returns in let ask : Q.Ghost = asking Y 𝓛 𝓜.mem 𝓡.returns κ q eye spot n in
+    let Q = Asks Y 𝓛 𝓜.mem 𝓡.returns in let N = Notes Y 𝓛 𝓜.mem 𝓡.returns in let ask : Q.Ghost = asking Y 𝓛 𝓜.mem 𝓡.returns κ q eye spot n al in
     let T = Takes Z 𝓛 𝓜.mem 𝓡.returns in let take : T.Ghost = at_takes Z 𝓛 𝓜.mem 𝓡.returns κ q at heap n al τ in
     let leaves : (x : Answer.Denot) (v : Val) → ent 𝓤 (emp 𝓤) (sem 𝓛 (Answer.own_val x (v ∷ [])))
     → Sq 𝓛 (‵ (block_if_ok (token Z heap) τ x) ∷ ‵ (flft κ q) ∷ (‵ (flft κs.1.0 qs.1.0) ⊛ ‵ (flft κs.1.1.0 qs.1.1.0) ⊛ ‵ ftrue) ∷ []) (prop (Wk.post y v)) = λ x v made.
@@ -32,9 +32,9 @@ allocate_spec 𝓤 𝓛 𝓜 𝓡 wired B W L LW g d gw dw d' dw' inner watch _ 
     let Then : Post 𝓤 𝓛.H = any_q (after_seq 𝓤 𝓛.H (Wp 𝓤 𝓛.H 𝓣.C 𝓣.Λ En (after 6 body) (at_return 𝓤 𝓛.H En (Wk.post y))) (at_return 𝓤 𝓛.H En (Wk.post y))) in
     shr_dup ! W LW.shr_laws eye spot.0 spot.1 κ $ move ! (0 ∷ 2 ∷ []) $
     sets ! (addr ! (through ! refl (fld ! refl (stop !)))) refl (tt, tt) $
-    use2 𝓛 (raw (Q.pre ask)) (asks Y 𝓛 𝓜.mem 𝓡.returns κ q eye spot n lasts n_fits) $
-    calls_at ! (framed 𝓤 𝓛.H 𝓜 𝓣) Q (watch.refuses dw') ask (and_then ! (get ! refl) (and_then ! (get ! refl) (no_more !))) (λ v.
-    ended 𝓛 κ q 2 bool v (λ _. ftrue) _ ! tt (λ no. feq_l ! (λ told. drop ! $ lands_as ! (ap only told) refl (tt, tt) $
+    use2 𝓛 (raw (Q.pre ask)) (asks Y 𝓛 𝓜.mem 𝓡.returns κ q eye spot n al lasts n_fits al_fits) $
+    calls_at ! (framed 𝓤 𝓛.H 𝓜 𝓣) Q (watch.refuses dw') ask (and_then ! (get ! refl) (and_then ! (get ! refl) (and_then ! (get ! refl) (no_more !)))) (λ v.
+    ended 𝓛 κ q 3 bool v (λ _. ftrue) _ ! tt (λ no. feq_l ! (λ told. drop ! $ lands_as ! (ap only told) refl (tt, tt) $
     -- [the token; the `&` to the watch; the `&` to the inner allocator; the other token]
     first ! $ branches ! (get ! refl)
     (λ _. sets ! (agg ! (no_more !)) refl (tt, tt) $ sets ! (agg ! (and_then ! (lit ! tt) (and_then ! (get ! refl) (no_more !)))) refl (Answer-typed false 0 0) $
@@ -51,12 +51,16 @@ allocate_spec 𝓤 𝓛 𝓜 𝓡 wired B W L LW g d gw dw d' dw' inner watch _ 
     sets_last ! (of_opd ! (get_in ! (vrt ! refl (fld ! refl (stop !))) (in_variant ! 0 0 refl refl (whole !)))) refl (tt, tt) $ exec ! 𝓣.C 𝓣.Λ En (after 6 body) (at_ret En (Wk.post y)) $
     -- [the block's room; the right to free it; the token; the `&` to the watch; the other token]
     sets ! (addr ! (through ! refl (fld ! refl (stop !)))) refl (tt, tt) $ move ! (3 ∷ 2 ∷ []) $
-    use2 𝓛 (raw (N.pre ask)) (asks Y 𝓛 𝓜.mem 𝓡.returns κ q eye spot n lasts n_fits) $
-    calls_at ! (framed 𝓤 𝓛.H 𝓜 𝓣) N (watch.grants dw') ask (and_then ! (get ! refl) (and_then ! (get ! refl) (no_more !))) (λ u.
-    ended 𝓛 κ q 2 unit u (λ _. ftrue) _ ! tt (λ _. feq_l ! (λ counted. drop ! $ lands_as ! (ap only counted) refl (tt, tt) $
+    use2 𝓛 (raw (N.pre ask)) (asks Y 𝓛 𝓜.mem 𝓡.returns κ q eye spot n al lasts n_fits al_fits) $
+    calls_at ! (framed 𝓤 𝓛.H 𝓜 𝓣) N (watch.grants dw') ask (and_then ! (get ! refl) (and_then ! (get ! refl) (and_then ! (get ! refl) (no_more !)))) (λ u.
+    ended 𝓛 κ q 3 unit u (λ _. ftrue) _ ! tt (λ _. feq_l ! (λ counted. drop ! $ lands_as ! (ap only counted) refl (tt, tt) $
     sets ! (agg ! (and_then ! (lit ! tt) (and_then ! (get ! refl) (no_more !)))) refl (Answer-typed true b o) $ returns ! (look_at ! 0 refl) $ free_all ! refl $
     move ! (1 ∷ 2 ∷ []) $ fjoin ! $ leaves (Ok (block_ptr b o)) (answer_val true b o) (Answer-Ok 𝓛 b o)))))
     (λ refused. lands_as ! refused refl (Answer-typed false 0 0) $
     first ! $ switches_on ! (get_tag ! (vrt ! refl (fld ! refl (stop !))) (whole !)) $ exec ! 𝓣.C 𝓣.Λ En (arm_body 1 (front (after 5 body))) Then $
+    sets ! (addr ! (through ! refl (fld ! refl (stop !)))) refl (tt, tt) $ move ! (1 ∷ 0 ∷ []) $
+    use2 𝓛 (raw (N.pre ask)) (asks Y 𝓛 𝓜.mem 𝓡.returns κ q eye spot n al lasts n_fits al_fits) $
+    calls_at ! (framed 𝓤 𝓛.H 𝓜 𝓣) N (watch.misses dw') ask (and_then ! (get ! refl) (and_then ! (get ! refl) (and_then ! (get ! refl) (no_more !)))) (λ u.
+    ended 𝓛 κ q 3 unit u (λ _. ftrue) _ ! tt (λ _. feq_l ! (λ counted. drop ! $ lands_as ! (ap only counted) refl (tt, tt) $
     sets ! (agg ! (no_more !)) refl (tt, tt) $ sets ! (agg ! (and_then ! (lit ! tt) (and_then ! (get ! refl) (no_more !)))) refl (Answer-typed false 0 0) $
-    returns_within ! (Wk.post y) refl (look_at ! 0 refl) $ free_all ! refl $ keep ! (0 ∷ 2 ∷ []) $ nothing ! $ leaves (Err (record {})) (answer_val false 0 0) (Answer-err 𝓛))))))))))))
+    returns_within ! (Wk.post y) refl (look_at ! 0 refl) $ free_all ! refl $ keep ! (0 ∷ 1 ∷ []) $ nothing ! $ leaves (Err (record {})) (answer_val false 0 0) (Answer-err 𝓛)))))))))))))))
