@@ -78,6 +78,12 @@ module _ {K V : Type 0} where
       pub held : 2 ≤ tag_at (group_at gs s.group) s.lane
       pub named : place_at (group_at gs s.group) s.lane ≡ s.place
 
+    -- the entry is one of these, and its key is equal to k
+    pub record IsEntry (es : List (Entry K V)) (k : K) (e : Entry K V) : Type 0 where
+      pub place : ℕ
+      pub at : slice_get es place ≡ Some e
+      pub here : is_key k e ≡ true
+
     module _ (h : K → ℕ) where
       -- each key is there once, beside its hash, and a look-up finds it
       pub record IsSound (gs : List Group) (es : List (Entry K V)) : Type 0 where

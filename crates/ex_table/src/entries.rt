@@ -1,8 +1,8 @@
 //! The entries of a table, in which keys stand beside their hashes, and where a key is found.
-ghost use Rattle.std.specs.Prelude.{◌≡◌, ◌*◌, ◌^◌, ◌<◌, ◌≤◌, true, length, count_by, swap_remove, IfSome, IfNone};
+ghost use Rattle.std.specs.Prelude.{◌≡◌, ◌*◌, ◌^◌, ◌<◌, ◌≤◌, true, false, length, count_by, swap_remove, IfSome, IfNone};
 ghost use Rattle.std.specs.Borrow.{sem, Lends};
 ghost use Rattle.ex_table.specs.Groups.{tag_at, place_at, group_at, IsIndex};
-ghost use Rattle.ex_table.specs.Entries.{is_key, key_at, hashes, hashes_of, with_value, Lacks, IsNamed, IsSpot};
+ghost use Rattle.ex_table.specs.Entries.{is_key, key_at, hashes, hashes_of, with_value, Lacks, IsNamed, IsSpot, IsEntry};
 
 use crate::groups::{Group, LANES, clear_all, group_after, home, put, release, rename, tag};
 use std::hash::{BuildHasher, Hash, Hasher};
@@ -161,6 +161,75 @@ pub fn find<K: Eq, V>(groups: &[Group], entries: &[Entry<K, V>], hash: u64, key:
         }
     }
     group_by_group(groups, entries, hash, key)
+}
+
+// The entry at an index, where it has this key.
+#[inline(always)]
+fn entry_with<'e, K: Eq, V>(
+    entries: &'e [Entry<K, V>],
+    at: usize,
+    key: &K,
+) -> Option<&'e Entry<K, V>>
+    ensures some { IfSome result (λ e. IsEntry K.eq entries.now key.now e.now) }
+    ensures none { IfNone result (key_at K.eq key.now entries.now at ≡ false) }
+{
+    match entries.get(at) {
+        Some(entry) => { if *key == entry.key { Some(entry) } else { None } }
+        None => None,
+    }
+}
+
+// The entry of a key, group by group.
+#[cold]
+#[inline(never)]
+fn entry_by_group<'e, K: Eq, V>(
+    groups: &[Group],
+    entries: &'e [Entry<K, V>],
+    hash: u64,
+    key: &K,
+) -> Option<&'e Entry<K, V>>
+    requires { IsNamed K.eq groups.now entries.now hash key.now }
+    ensures found { IfSome result (λ e. IsEntry K.eq entries.now key.now e.now) }
+    ensures absent { IfNone result (count_by (is_key K.eq key.now) entries.now ≡ 0) }
+{
+    match group_by_group(groups, entries, hash, key) {
+        Some(spot) => Some(&entries[spot.place]),
+        None => None,
+    }
+}
+
+/// The entry of a key with this hash. Mostly the first group on its way tells, and then nothing
+/// else is asked of where it is.
+#[inline(always)]
+pub fn entry_of<'e, K: Eq, V>(
+    groups: &[Group],
+    entries: &'e [Entry<K, V>],
+    hash: u64,
+    key: &K,
+) -> Option<&'e Entry<K, V>>
+    requires { IsNamed K.eq groups.now entries.now hash key.now }
+    ensures found { IfSome result (λ e. IsEntry K.eq entries.now key.now e.now) }
+    ensures absent { IfNone result (count_by (is_key K.eq key.now) entries.now ≡ 0) }
+{
+    let count = groups.len();
+    if count == 0 {
+        return None;
+    }
+    let at = home(hash, count);
+    let group = &groups[at];
+    match group.lane_of(tag(hash)) {
+        Some(lane) => {
+            if let Some(entry) = entry_with(entries, group.place(lane), key) {
+                return Some(entry);
+            }
+        }
+        None => {
+            if group.free_lane().is_some() {
+                return None;
+            }
+        }
+    }
+    entry_by_group(groups, entries, hash, key)
 }
 
 /// Names each entry anew, in the lanes that there are. It takes no memory.

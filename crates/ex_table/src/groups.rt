@@ -209,9 +209,10 @@ pub fn clear_all(groups: &mut [Group])
     groups.fill_with(|| Group::empty());
 }
 
-/// Names the entry in the first lane without a key on the way of the hash.
-#[inline(always)]
-pub fn put(groups: &mut [Group], hash: u64, place: u32)
+// Names the entry in the first lane without a key on the way of the hash, group by group.
+#[cold]
+#[inline(never)]
+fn put_by_group(groups: &mut [Group], hash: u64, place: u32)
     requires { 0 < keyless_lanes groups.old }
     ensures len { length groups.new ≡ length groups.old }
     ensures keyless { keyless_lanes groups.new + 1 ≡ keyless_lanes groups.old }
@@ -229,6 +230,24 @@ pub fn put(groups: &mut [Group], hash: u64, place: u32)
         }
     }
     unreachable!()
+}
+
+/// Names the entry in the first lane without a key on the way of the hash. Mostly the first
+/// group has a free one.
+#[inline(always)]
+pub fn put(groups: &mut [Group], hash: u64, place: u32)
+    requires { 0 < keyless_lanes groups.old }
+    ensures len { length groups.new ≡ length groups.old }
+    ensures keyless { keyless_lanes groups.new + 1 ≡ keyless_lanes groups.old }
+    ensures at { IsAt groups.new hash place }
+    ensures others { (h i : ℕ) → IsAt groups.old h i → IsAt groups.new h i }
+{
+    let at = home(hash, groups.len());
+    if let Some(lane) = groups[at].free_lane() {
+        groups[at].write(lane, tag(hash), place);
+        return;
+    }
+    put_by_group(groups, hash, place);
 }
 
 /// Takes the key from a lane, and answers whether look-ups still go on past it: they went past its

@@ -7,7 +7,7 @@ ghost use Rattle.allocator_api2.specs.Room.{LacksRoom};
 ghost use Rattle.ex_table.specs.Contents.{value, keys_like, Sets, IsMap, HasRoom, capacity_for, most_keys};
 ghost use Rattle.ex_table.specs.Entries.{hashes};
 
-use crate::entries::{Entry, find, hash_of, name_all, unname};
+use crate::entries::{Entry, entry_of, find, hash_of, name_all, unname};
 use crate::groups::{Group, clear_all, groups_in, put};
 use crate::growth::{grow, shrink};
 use crate::iter::{IntoIter, Iter, Keys, Values};
@@ -147,8 +147,8 @@ impl<K: Eq + Hash + Drop, V: Drop, S: BuildHasher, A: Allocator + Clone> Table<K
         ensures { option_copied result ≡ value K.eq self.now.entries key.now }
     {
         let hash = hash_of(&self.builder, key);
-        match find(groups_in(&self.groups), self.entries.as_slice(), hash, key) {
-            Some(spot) => Some(&self.entries[spot.place].value),
+        match entry_of(groups_in(&self.groups), self.entries.as_slice(), hash, key) {
+            Some(entry) => Some(&entry.value),
             None => None,
         }
     }
@@ -226,6 +226,22 @@ impl<K: Eq + Hash + Drop, V: Drop, S: BuildHasher, A: Allocator + Clone> Table<K
         }
     }
 
+    // The same, after a growth: a call, so that an insert with room is short.
+    #[cold]
+    #[inline(never)]
+    fn push_late(&mut self, hash: u64, key: K, item: V)
+        requires hash { hash ≡ hashes S.BuildHasher S.Hasher.Hasher K.hash_input self.old.builder key }
+        requires room { HasRoom self.old 1 }
+        requires absent { keys_like K.eq key self.old.entries ≡ 0 }
+        ensures { self.new ≡ record {
+          entries = self.old.entries ++ (key, item) ∷ [];
+          capacity = self.old.capacity;
+          builder = self.old.builder;
+        } }
+    {
+        self.push(hash, key, item);
+    }
+
     /// Gives the key this value, and answers the one that it had. A key that is there gives way to
     /// its equal. It takes memory only for a new key that has no room, as `reserve(1)` does, and is
     /// refused as that is. A refusal hands key and value back and changes nothing.
@@ -261,13 +277,17 @@ impl<K: Eq + Hash + Drop, V: Drop, S: BuildHasher, A: Allocator + Clone> Table<K
             let old = mem::replace(&mut self.entries[spot.place], entry);
             return Ok(Some(old.value));
         }
+        if self.room() > 0 {
+            self.push(hash, key, item);
+            return Ok(None);
+        }
         if let Err(error) = self.reserve(1) {
             return Err(Refused {
                 source: (key, item),
                 error,
             });
         }
-        self.push(hash, key, item);
+        self.push_late(hash, key, item);
         Ok(None)
     }
 

@@ -31,7 +31,19 @@ pub returns-in-Err-clause-new : goal.returns-in-Err-clause-new
 returns-in-Err-clause-new g c = value-none g.K.PartialEq.eq c.self.inside.entries.items c.self.view_is c.args.key (rw c.as_slice.ensures at c.in_default.ensures.absent)
 
 pub push-requires-clause-absent : goal.push-requires-clause-absent
-push-requires-clause-absent g c =
+push-requires-clause-absent g c = sees-keys g.K.PartialEq.eq c.self.inside.entries.items c.self.view_is c.args.key ∙ (rw c.as_slice.ensures at c.in_default.ensures.absent)
+
+pub returns-then-room-gt0-clause-old : goal.returns-then-room-gt0-clause-old
+returns-then-room-gt0-clause-old g c = sym (value-none g.K.PartialEq.eq c.self.inside.entries.items c.self.view_is c.args.key (rw c.as_slice.ensures at c.in_default.ensures.absent))
+
+pub returns-then-room-gt0-clause-inserted : goal.returns-then-room-gt0-clause-inserted
+returns-then-room-gt0-clause-inserted g c = λ q.
+    let eq = g.K.PartialEq.eq in
+    let none = sees-keys eq c.self.inside.entries.items c.self.view_is c.args.key ∙ (rw c.as_slice.ensures at c.in_default.ensures.absent) in
+    ap (λ f. value eq f.entries q) c.push.ensures ∙ value-push eq c.args.self.now.entries c.args.key c.args.item c.self.invariant.sound.keys.equality none q
+
+pub push_late-requires-clause-absent : goal.push_late-requires-clause-absent
+push_late-requires-clause-absent g c =
     rw c.in_default-reserve.ensures.same (sees-keys g.K.PartialEq.eq c.self.inside.entries.items c.self.view_is c.args.key ∙ (rw c.as_slice.ensures at c.in_default.ensures.absent))
 
 pub returns-clause-old : goal.returns-clause-old
@@ -41,4 +53,4 @@ pub returns-clause-inserted : goal.returns-clause-inserted
 returns-clause-inserted g c = λ q.
     let eq = g.K.PartialEq.eq in
     let none = sees-keys eq c.self.inside.entries.items c.self.view_is c.args.key ∙ (rw c.as_slice.ensures at c.in_default.ensures.absent) in
-    ap (λ f. value eq f.entries q) c.push.ensures ∙ ap (λ es. value eq (es ++ (c.args.key, c.args.item) ∷ []) q) c.in_default-reserve.ensures.same ∙ value-push eq c.args.self.now.entries c.args.key c.args.item c.self.invariant.sound.keys.equality none q
+    ap (λ f. value eq f.entries q) c.push_late.ensures ∙ ap (λ es. value eq (es ++ (c.args.key, c.args.item) ∷ []) q) c.in_default-reserve.ensures.same ∙ value-push eq c.args.self.now.entries c.args.key c.args.item c.self.invariant.sound.keys.equality none q

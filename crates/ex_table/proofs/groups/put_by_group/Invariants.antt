@@ -1,5 +1,5 @@
 use Rattle.ex_table.proofs.Common.{◌≡◌, ℕ, ◌<◌, keyless, group_of}
-use Rattle.ex_table.proofs.groups.put.Given as goal
+use Rattle.ex_table.proofs.groups.put_by_group.Given as goal
 
 -- all lanes of each group before had keys, and nothing was written
 abbrev pub invariant-each : goal.invariant-each
