@@ -145,6 +145,25 @@ impl Group {
         self.tags[lane] = tag;
         self.places[lane] = place;
     }
+
+    // Writes the tag of a lane.
+    #[tactic(auto, using(crate::proofs::Lanes::of_lanes))]
+    #[inline(always)]
+    fn retag(&mut self, lane: usize, tag: u8)
+        requires { lane < 12 }
+        ensures { Writes self.old lane tag (place_at self.old lane) self.new }
+    {
+        self.tags[lane] = tag;
+    }
+
+    // Writes which entry a lane names.
+    #[inline(always)]
+    fn point(&mut self, lane: usize, place: u32)
+        requires { lane < 12 }
+        ensures { Writes self.old lane (tag_at self.old lane) place self.new }
+    {
+        self.places[lane] = place;
+    }
 }
 
 /// The part of a hash that a lane has. It is never that of a lane without a key.
@@ -262,17 +281,16 @@ pub fn release(groups: &mut [Group], at: usize, lane: usize) -> bool
     ensures others { (h i : ℕ) → i ≢ place_at (group_at groups.old at) lane
         → IsAt groups.old h i → IsAt groups.new h i }
 {
-    let group = &groups[at];
-    let place = group.places[lane];
-    let full = group.free_lane().is_none();
+    let full = groups[at].free_lane().is_none();
     let tag = if full { GONE } else { FREE };
-    groups[at].write(lane, tag, place);
+    groups[at].retag(lane, tag);
     full
 }
 
-/// Lets the lane that names an entry on the way of the hash name another.
-#[inline(always)]
-pub fn rename(groups: &mut [Group], hash: u64, old: usize, new: u32)
+// Lets the lane that names an entry on the way of the hash name another, group by group.
+#[cold]
+#[inline(never)]
+fn rename_by_group(groups: &mut [Group], hash: u64, old: usize, new: u32)
     requires { IsAt groups.old hash old }
     ensures len { length groups.new ≡ length groups.old }
     ensures keyless { keyless_lanes groups.new ≡ keyless_lanes groups.old }
@@ -290,4 +308,24 @@ pub fn rename(groups: &mut [Group], hash: u64, old: usize, new: u32)
         }
     }
     unreachable!()
+}
+
+/// Lets the lane that names an entry on the way of the hash name another. Mostly it is of
+/// the first group, and the first with the tag.
+#[inline(always)]
+pub fn rename(groups: &mut [Group], hash: u64, old: usize, new: u32)
+    requires { IsAt groups.old hash old }
+    ensures len { length groups.new ≡ length groups.old }
+    ensures keyless { keyless_lanes groups.new ≡ keyless_lanes groups.old }
+    ensures at { IsAt groups.new hash new }
+    ensures others { (h i : ℕ) → i ≢ old → IsAt groups.old h i → IsAt groups.new h i }
+{
+    let at = home(hash, groups.len());
+    if let Some(lane) = groups[at].lane_of(tag(hash)) {
+        if groups[at].place(lane) == old {
+            groups[at].point(lane, new);
+            return;
+        }
+    }
+    rename_by_group(groups, hash, old, new);
 }

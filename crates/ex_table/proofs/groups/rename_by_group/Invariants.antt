@@ -1,6 +1,6 @@
 use Rattle.ex_table.proofs.Common.{◌≡◌, ℕ, ◌<◌, group_of}
 use Rattle.ex_table.proofs.Lanes.{NamesNot}
-use Rattle.ex_table.proofs.groups.rename.Given as goal
+use Rattle.ex_table.proofs.groups.rename_by_group.Given as goal
 
 -- no group before names the entry, and nothing was written
 abbrev pub invariant-each : goal.invariant-each
