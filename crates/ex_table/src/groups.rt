@@ -15,6 +15,9 @@ pub const LANES: usize = 12;
 /// full.
 pub const KEYS_OF_GROUP: usize = 8;
 
+// Of the bits of sixteen tags those of lanes are below it.
+const LANES_ALONE: u64 = 4096;
+
 // No key has the lane, and no look-up has to go on because of it.
 const FREE: u8 = 0;
 
@@ -48,12 +51,13 @@ impl Group {
     {
         let same = u8x16::from_array(self.tags)
             .simd_eq(u8x16::splat(tag))
-            .to_bitmask();
+            .to_bitmask()
+            % LANES_ALONE;
         if same == 0 {
-            return None;
+            None
+        } else {
+            Some(same.trailing_zeros() as usize)
         }
-        let lane = same.trailing_zeros() as usize;
-        if lane < LANES { Some(lane) } else { None }
     }
 
     /// The first free lane.
