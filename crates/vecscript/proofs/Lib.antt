@@ -2,6 +2,7 @@ pub mod Common
 pub mod Beginnings
 pub mod Decimals
 pub mod Looks
+pub mod Named
 pub mod Numbers
 pub mod Parts
 pub mod Pieces

@@ -60,6 +60,26 @@ AreDrain words p =
     × (words ≡ s ∷ t ∷ u ∷ v ∷ w ∷ []) × Writes (2 ^ 64) s p.0 × Writes (2 ^ 64) t p.1
     × Writes (2 ^ 64) u p.2 × Writes (2 ^ 64) v p.3 × SaysKept w p.4
 
+-- the words after one of the rarer names say the command
+abbrev pub SayAfterRarer : List ℕ → List (List ℕ) → Command ℕ Global → Type 0
+SayAfterRarer name rest command =
+    MatchBool (bytes_eq name (codes "shrink_to"))
+    ((n : ℕ) × IsNumber rest n × (command ≡ ShrinkTo n))
+    (MatchBool (bytes_eq name (codes "split_off"))
+    ((n : ℕ) × IsNumber rest n × (command ≡ SplitOff n))
+    (MatchBool (bytes_eq name (codes "append")) ((rest ≡ []) × (command ≡ Append))
+    (MatchBool (bytes_eq name (codes "extend_from_within"))
+    ((p : ℕ × ℕ) × AreNumbers rest p × (command ≡ ExtendFromWithin p.0 p.1))
+    (MatchBool (bytes_eq name (codes "resize"))
+    ((p : ℕ × ℕ) × AreNumberAndElement rest p × (command ≡ Resize p.0 p.1))
+    (MatchBool (bytes_eq name (codes "retain")) ((rest ≡ []) × (command ≡ Retain))
+    (MatchBool (bytes_eq name (codes "dedup")) ((rest ≡ []) × (command ≡ Dedup))
+    (MatchBool (bytes_eq name (codes "drain"))
+    ((p : ℕ × ℕ × ℕ × ℕ × Bool) × AreDrain rest p × (command ≡ Drain p.0 p.1 p.2 p.3 p.4))
+    (MatchBool (bytes_eq name (codes "extract"))
+    ((p : ℕ × ℕ × ℕ) × AreThreeNumbers rest p × (command ≡ ExtractIf p.0 p.1 p.2))
+    ⊥))))))))
+
 -- the words after this name say the command
 abbrev pub SayAfter : List ℕ → List (List ℕ) → Command ℕ Global → Type 0
 SayAfter name rest command =
@@ -77,22 +97,7 @@ SayAfter name rest command =
     (MatchBool (bytes_eq name (codes "reserve")) ((n : ℕ) × IsNumber rest n × (command ≡ Reserve n))
     (MatchBool (bytes_eq name (codes "reserve_exact"))
     ((n : ℕ) × IsNumber rest n × (command ≡ ReserveExact n))
-    (MatchBool (bytes_eq name (codes "shrink_to"))
-    ((n : ℕ) × IsNumber rest n × (command ≡ ShrinkTo n))
-    (MatchBool (bytes_eq name (codes "split_off"))
-    ((n : ℕ) × IsNumber rest n × (command ≡ SplitOff n))
-    (MatchBool (bytes_eq name (codes "append")) ((rest ≡ []) × (command ≡ Append))
-    (MatchBool (bytes_eq name (codes "extend_from_within"))
-    ((p : ℕ × ℕ) × AreNumbers rest p × (command ≡ ExtendFromWithin p.0 p.1))
-    (MatchBool (bytes_eq name (codes "resize"))
-    ((p : ℕ × ℕ) × AreNumberAndElement rest p × (command ≡ Resize p.0 p.1))
-    (MatchBool (bytes_eq name (codes "retain")) ((rest ≡ []) × (command ≡ Retain))
-    (MatchBool (bytes_eq name (codes "dedup")) ((rest ≡ []) × (command ≡ Dedup))
-    (MatchBool (bytes_eq name (codes "drain"))
-    ((p : ℕ × ℕ × ℕ × ℕ × Bool) × AreDrain rest p × (command ≡ Drain p.0 p.1 p.2 p.3 p.4))
-    (MatchBool (bytes_eq name (codes "extract"))
-    ((p : ℕ × ℕ × ℕ) × AreThreeNumbers rest p × (command ≡ ExtractIf p.0 p.1 p.2))
-    ⊥))))))))))))))))))
+    (SayAfterRarer name rest command))))))))))
 
 -- the word is a hyphen where no number is told, and else writes the number
 abbrev pub IsHint : List ℕ → Option ℕ → Type 0

@@ -6,7 +6,7 @@ ghost use Rattle.std.specs.Option.{SomeIff};
 ghost use Rattle.std.specs.Str.Lines.{lines, strip_carriage_return};
 ghost use Rattle.std.specs.Str.Parse.{IsNumeral, AllDigits, digits_value};
 ghost use Rattle.vecscript.specs.Faults.{IsFoundAmong, ReadsAs, ReadsOrLacks, TellsWhether};
-ghost use Rattle.vecscript.specs.Lines.{is_blank, words_of, IsElement, IsNumber, AreNumberAndElement, AreNumbers, AreThreeNumbers, AreDrain, SaysKept, Writes, IsHint, SaysExtend, SaysSplice, SayAfter, Say, are_sparing, growth_in, command_lines, AreBehind, Mean, IsBad, HasNoBad, IsFirstBad};
+ghost use Rattle.vecscript.specs.Lines.{is_blank, words_of, IsElement, IsNumber, AreNumberAndElement, AreNumbers, AreThreeNumbers, AreDrain, SaysKept, Writes, IsHint, SaysExtend, SaysSplice, SayAfter, SayAfterRarer, Say, are_sparing, growth_in, command_lines, AreBehind, Mean, IsBad, HasNoBad, IsFirstBad};
 
 use crate::script::Fault;
 use allocator_api2::raw_vec::Growth;
@@ -411,6 +411,17 @@ fn command(name: &[u8], mut line: Line<'_>) -> Result<Command<u32>, Fault>
         _ if name == b"clear".as_slice() => line.end().map(|()| Command::Clear),
         _ if name == b"reserve".as_slice() => line.number().map(|n| Command::Reserve(n)),
         _ if name == b"reserve_exact".as_slice() => line.number().map(|n| Command::ReserveExact(n)),
+        _ => rarer_command(name, line),
+    }
+}
+
+// The command of one of the names that `command` does not know itself.
+#[inline(always)]
+fn rarer_command(name: &[u8], mut line: Line<'_>) -> Result<Command<u32>, Fault>
+    ensures { ReadsAs line.entry.number
+        (SayAfterRarer name.now (words_of line.entry.words.rest.now)) result }
+{
+    match name {
         _ if name == b"shrink_to".as_slice() => line.number().map(|n| Command::ShrinkTo(n)),
         _ if name == b"split_off".as_slice() => line.number().map(|n| Command::SplitOff(n)),
         _ if name == b"append".as_slice() => line.end().map(|()| Command::Append),
