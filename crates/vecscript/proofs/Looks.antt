@@ -4,7 +4,7 @@ use Rattle.std.specs.Prelude.{MatchBool, MatchOption, IfErr, ◌⊎◌}
 use Rattle.std.specs.Str.{bytes_eq}
 use Rattle.allocator_api2.specs.declared.raw_vec.Growth.TheVariants.{Doubling}
 use Rattle.allocator_api2.specs.declared.runner.Command.TheVariants.{Extend, Splice}
-use Rattle.vecscript.specs.Faults.{ReadsOrLacks, TellsWhether}
+use Rattle.vecscript.specs.Faults.{ReadsAs, ReadsOrLacks, TellsWhether}
 use Rattle.vecscript.specs.declared.script.Fault.TheVariants.{BadLine, OutOfMemory}
 use Rattle.vecscript.specs.Lines.{IsHint, SaysExtend, SaysSplice, SayAfter}
 
@@ -40,15 +40,15 @@ pub after-told : (name : List ℕ) (rest : List (List ℕ)) → bytes_eq name (c
     → (b : Bool) → TellsWhether b (SayAfter name rest) → TellsWhether b (Say (name ∷ rest))
 after-told name rest no_extend no_splice b told = rw (no_extend, no_splice) told
 
+-- a line whose words say no command is bad
+bad-words : (line word : List ℕ) (words : List (List ℕ)) → words_of line ≡ word ∷ words → ((command : Command ℕ Global) → ¬ (Say (word ∷ words) command)) → IsBad line
+bad-words line word words is unsaid = record { has_words = λ none. omega (arith, ap length (sym none ∙ is)); says_nothing = λ command said. unsaid command (rw is at said) }
+
 -- a line whose words say a command is good, and bad where they say none
 pub good-or-bad : (b : Bool) (line word : List ℕ) (words : List (List ℕ)) → words_of line ≡ word ∷ words
     → TellsWhether b (Say (word ∷ words)) → MatchBool b (¬ (IsBad line)) (IsBad line)
 good-or-bad true line word words is told = λ bad. bad.says_nothing told.0 (rw is told.1)
-good-or-bad false line word words is told =
-    record {
-      has_words = λ none. omega (arith, ap length (sym none ∙ is));
-      says_nothing = λ command said. told command (rw is at said);
-    }
+good-or-bad false line word words is told = bad-words line word words is told
 
 -- where nothing stands behind the name, the line says what the name says
 pub said-alone : (name rest : List ℕ) (command : Command ℕ Global) → length rest ≡ 0 → Say (name ∷ []) command → Say (name ∷ words_of rest) command
@@ -61,10 +61,10 @@ pub bad-unread : (number : ℕ) (line word : List ℕ) (words : List (List ℕ))
     → IfErr r (λ fault. (fault ≡ OutOfMemory) ⊎ ((fault ≡ BadLine number) × IsBad line))
 bad-unread number line word words is (Ok command) read = tt
 bad-unread number line word words is (Err fault) (inl lacks) = inl lacks
-bad-unread number line word words is (Err fault) (inr unread) =
-    let bad : IsBad line =
-    record {
-      has_words = λ none. omega (arith, ap length (sym none ∙ is));
-      says_nothing = λ command said. unread.1 (Some command) (rw is at said);
-    } in
-    inr (unread.0, bad)
+bad-unread number line word words is (Err fault) (inr unread) = inr (unread.0, bad-words line word words is (λ command. unread.1 (Some command)))
+
+-- nor those that are read as no push
+pub bad-unpushed : (number : ℕ) (line : List ℕ) (words : List (List ℕ)) → words_of line ≡ codes "push" ∷ words → (r : Result (Command ℕ Global) Fault)
+    → ReadsAs number (SayAfter (codes "push") words) r → IfErr r (λ fault. (fault ≡ OutOfMemory) ⊎ ((fault ≡ BadLine number) × IsBad line))
+bad-unpushed number line words is (Ok command) read = tt
+bad-unpushed number line words is (Err fault) read = inr (read.0, bad-words line (codes "push") words is read.1)

@@ -1,8 +1,9 @@
 //! From the bytes of a script to its commands.
-ghost use Rattle.std.specs.Prelude.{◌≡◌, ◌≢◌, ℕ, ◌+◌, ◌++◌, ◌^◌, ◌<◌, ◌≤◌, ◌==◌, [], length, IfSome, IfNone, Option, MatchOption, Bool, true, false, ◌⊎◌, IfOk, IfErr, OnOk, OnSome, MatchBool, List, ◌∷◌, take, drop};
+ghost use Rattle.std.specs.Prelude.{◌≡◌, ◌≢◌, ℕ, ◌+◌, ◌++◌, ◌^◌, ◌<◌, ◌≤◌, ◌==◌, [], length, IfSome, IfNone, Option, MatchOption, codes, Bool, true, false, ◌⊎◌, IfOk, IfErr, OnOk, OnSome, MatchBool, List, ◌∷◌, take, drop};
 ghost use Rattle.std.specs.Iterator.{YieldsFirstRef, item_count};
 ghost use Rattle.std.specs.List.{AllZip, prefix_len, position_or_len};
 ghost use Rattle.std.specs.Option.{SomeIff};
+ghost use Rattle.std.specs.Str.{bytes_eq};
 ghost use Rattle.std.specs.Str.Lines.{lines, strip_carriage_return};
 ghost use Rattle.std.specs.Str.Parse.{IsNumeral, AllDigits, digits_value};
 ghost use Rattle.vecscript.specs.Faults.{IsFoundAmong, ReadsAs, ReadsOrLacks, TellsWhether};
@@ -317,10 +318,23 @@ fn command_of_line(
     let Some(name) = words.next() else {
         return Ok(None);
     };
-    let mut line = Line { number, words };
+    match pushed(name, number, words.rest) {
+        Some(command) => Ok(Some(command?)),
+        None => other_command(alloc, name, Line { number, words }, may_ask),
+    }
+}
+
+// The push that a line says which begins with this word, if it is `push`, and has this rest.
+#[inline(always)]
+fn pushed(name: &[u8], number: usize, rest: &[u8]) -> Option<Result<Command<u32>, Fault>>
+    ensures { MatchOption result (bytes_eq name.now (codes "push") ≡ false)
+        (λ r. (name.now ≡ codes "push")
+        × ReadsAs number (SayAfter (codes "push") (words_of rest.now)) r) }
+{
+    let words = Words { rest };
     match name {
-        b"push" => Ok(Some(Command::Push(line.element()?))),
-        _ => other_command(alloc, name, line, may_ask),
+        b"push" => Some(Line { number, words }.element().map(|x| Command::Push(x))),
+        _ => None,
     }
 }
 
@@ -398,8 +412,10 @@ fn command(name: &[u8], mut line: Line<'_>) -> Result<Command<u32>, Fault>
     ensures { ReadsAs line.entry.number
         (SayAfter name.now (words_of line.entry.words.rest.now)) result }
 {
+    if let Some(command) = pushed(name, line.number, line.words.rest) {
+        return command;
+    }
     match name {
-        _ if name == b"push".as_slice() => line.element().map(|x| Command::Push(x)),
         _ if name == b"within".as_slice() => line.element().map(|x| Command::Within(x)),
         _ if name == b"pop".as_slice() => line.end().map(|()| Command::Pop),
         _ if name == b"insert".as_slice() => line

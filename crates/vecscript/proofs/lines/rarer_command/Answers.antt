@@ -12,13 +12,10 @@ returns-then-eq-2 c = ReadsAs-named SayAfterRarer _ _ _ c.args.name.now (codes "
 
 pub returns-then-eq-4 : goal.returns-then-eq-4
 returns-then-eq-4 c =
-    ReadsAs-named SayAfterRarer _ _ _ c.args.name.now (codes "extend_from_within") c.numbers.result c.map-then-eq-4.result
-    (search (rules, c.if-eq-4.ensures, c.as_slice-4.ensures)) (λ p. ExtendFromWithin p.0 p.1) refl c.numbers.ensures (search rules)
+    ReadsAs-named SayAfterRarer _ _ _ c.args.name.now (codes "extend_from_within") c.numbers.result c.map-then-eq-4.result (search (rules, c.if-eq-4.ensures, c.as_slice-4.ensures)) (λ p. ExtendFromWithin p.0 p.1) refl c.numbers.ensures (search rules)
 
 pub returns-then-eq-5 : goal.returns-then-eq-5
-returns-then-eq-5 c =
-    ReadsAs-named SayAfterRarer _ _ _ c.args.name.now (codes "resize") c.number_and_element.result c.map-then-eq-5.result
-    (search rules) (λ p. Resize p.0 p.1) refl c.number_and_element.ensures (search rules)
+returns-then-eq-5 c = ReadsAs-named SayAfterRarer _ _ _ c.args.name.now (codes "resize") c.number_and_element.result c.map-then-eq-5.result (search rules) (λ p. Resize p.0 p.1) refl c.number_and_element.ensures (search rules)
 
 pub returns-then-eq-8 : goal.returns-then-eq-8
 returns-then-eq-8 c = ReadsAs-named SayAfterRarer _ _ _ c.args.name.now (codes "drain") c.drain.result c.map-then-eq-8.result (search rules) (λ p. Drain p.0 p.1 p.2 p.3 p.4) refl c.drain.ensures (search rules)
