@@ -69,10 +69,15 @@ impl<T, A: Allocator> Filling<T, A> {
     // Makes room for `additional` items more, with some to spare.
     #[tactic(auto, using(aa_raw::proofs::Calls::with_room))]
     pub(crate) fn reserve(&mut self, additional: usize) -> Result<(), TryReserveError>
+        // The items, the growth and the allocator stay.
         ensures items { self.new.items ≡ self.old.items }
         ensures growth { self.new.growth ≡ self.old.growth }
         ensures alloc { self.new.alloc ≡ self.old.alloc }
+
+        // The capacity never falls.
         ensures capacity { self.old.capacity ≤ self.new.capacity }
+
+        // There is room, or an error tells why not.
         ensures made { OnOk result (length self.old.items + additional ≤ self.new.capacity) }
         ensures refused { let items = length self.old.items in let capacity = self.old.capacity in
             let least = least_of (type_size T.row) in
@@ -129,10 +134,15 @@ impl<T, A: Allocator> Filling<T, A> {
     pub(crate) fn put_clones(&mut self, source: &[T]) -> bool
     where
         T: Clone,
+        // There are no items yet, and there is room.
         requires empty { self.old.items ≡ [] }
         requires room { length source.now ≤ self.old.capacity }
+
+        // All were cloned, or one was refused.
         ensures cloned { OnTrue result (AllZip T.is_clone source.now self.new.items) }
         ensures refused { OnFalse result (¬ (All T.is_infallible source.now)) }
+
+        // The block stays.
         ensures capacity { self.new.capacity ≡ self.old.capacity }
         ensures growth { self.new.growth ≡ self.old.growth }
         ensures alloc { self.new.alloc ≡ self.old.alloc }

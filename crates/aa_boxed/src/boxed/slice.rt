@@ -44,13 +44,20 @@ impl<T> BoxedSlice<T, Global> {
     pub fn from_iter<I: Iterator<Item = T>>(alloc: Global, iter: I) -> Result<Self, TryReserveError>
     where
         T: Drop,
+        // The iterator may be asked, and ends.
         requires may_ask { I.can_next iter }
         requires ends { IsFinite (I.remaining iter) }
+
+        // All items that come, in order.
         ensures fits { size (I.remaining iter) ≤ sized (type_size T.row) 0 → IsOk result }
         ensures ran { IfOk result (λ b. Drains I.next_gives iter b.items) }
         ensures runs { IfOk result (λ b. WholeRun I.next_gives iter (λ p. b.items ≡ p.items)) }
+
+        // The block that they are in.
         ensures growth { IfOk result (λ b. b.growth ≡ Doubling) }
         ensures alloc { IfOk result (λ b. b.alloc ≡ alloc) }
+
+        // A refusal tells where it stopped.
         ensures refused { IfErr result
             (λ e. (after : I)
             × Stops I.next_gives (TellsAtMost I.remaining) (type_size T.row) iter e after) }
@@ -86,13 +93,20 @@ impl<T, A: Allocator> BoxedSlice<T, A> {
     pub fn from_iter_in<I: Iterator<Item = T>>(iter: I, alloc: A) -> Result<Self, TryReserveError>
     where
         T: Drop,
+        // The iterator may be asked, and ends.
         requires may_ask { I.can_next iter }
         requires ends { IsFinite (I.remaining iter) }
+
+        // All items that come, in order.
         ensures fits { size (I.remaining iter) ≤ sized (type_size T.row) 0 → IsOk result }
         ensures ran { IfOk result (λ b. Drains I.next_gives iter b.items) }
         ensures runs { IfOk result (λ b. WholeRun I.next_gives iter (λ p. b.items ≡ p.items)) }
+
+        // The block that they are in.
         ensures growth { IfOk result (λ b. b.growth ≡ Doubling) }
         ensures alloc { IfOk result (λ b. b.alloc ≡ alloc) }
+
+        // A refusal tells where it stopped.
         ensures refused { IfErr result
             (λ e. (after : I)
             × Stops I.next_gives (TellsAtMost I.remaining) (type_size T.row) iter e after) }
@@ -109,13 +123,20 @@ impl<T, A: Allocator> BoxedSlice<T, A> {
     ) -> Result<Self, TryReserveError>
     where
         T: Drop,
+        // The iterator may be asked, and ends.
         requires may_ask { I.can_next iter.old }
         requires ends { IsFinite (I.remaining iter.old) }
+
+        // All items that come, in order.
         ensures fits { size (I.remaining iter.old) ≤ sized (type_size T.row) 0 → IsOk result }
         ensures ran { IfOk result (λ b. YieldsThen I.next_gives iter.old b.items None iter.new) }
         ensures runs { IfOk result (λ b. WholeRun I.next_gives iter.old (λ p. b.items ≡ p.items)) }
+
+        // The block that they are in.
         ensures growth { IfOk result (λ b. b.growth ≡ Doubling) }
         ensures alloc { IfOk result (λ b. b.alloc ≡ alloc) }
+
+        // A refusal tells where it stopped.
         ensures refused { IfErr result
             (λ e. Stops I.next_gives (TellsAtMost I.remaining) (type_size T.row)
             iter.old e iter.new) }

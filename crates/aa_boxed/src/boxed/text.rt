@@ -138,14 +138,21 @@ pub fn append_texts_by<S: Allocator, A: Allocator, I: Iterator<Item = BoxedText<
     text: &mut String<S>,
     iter: &mut I,
 ) -> Result<(), TryReserveError>
+    // The iterator may be asked, and ends.
     requires may_ask { I.can_next iter.old }
     requires ends { IsFinite (I.remaining iter.old) }
+
+    // All texts are put there.
     ensures appended { OnOk result
         ((ts : List (Text A)) × YieldsThen I.next_gives iter.old ts None iter.new
         × PutsTexts ts text.old text.new) }
+
+    // A refusal tells where it stopped.
     ensures refused { IfErr result
         (λ e. StopsAtText I.next_gives iter.old text.old e text.new iter.new) }
     ensures goes { IfErr result (λ _. IsNearerEnd I.can_next I.remaining iter.old iter.new) }
+
+    // The capacity never falls.
     ensures rises { string_capacity text.old ≤ string_capacity text.new }
 {
     while let Some(next) = iter.next() {
@@ -159,12 +166,17 @@ pub fn append_texts_by<S: Allocator, A: Allocator, I: Iterator<Item = BoxedText<
 
 // Puts `more` behind `text`, or changes nothing where room for it is refused.
 fn append_text<S: Allocator>(text: &mut String<S>, more: &str) -> Result<(), TryReserveError>
+    // What it puts there, and the room for it.
     ensures appended { OnOk result (string_bytes text.new ≡ string_bytes text.old ++ more.now) }
     ensures room { OnOk result (string_capacity text.new
         ≡ room_for (string_capacity text.old) (length (string_bytes text.old)) (length more.now)) }
+
+    // A refusal changes nothing.
     ensures kept { OnErr result (string_bytes text.new ≡ string_bytes text.old) }
     ensures stays { OnErr result (string_capacity text.new ≡ string_capacity text.old) }
     ensures lacks { IfErr result (LacksBytes text.new (length more.now)) }
+
+    // The capacity never falls.
     ensures rises { string_capacity text.old ≤ string_capacity text.new }
 {
     make_room(text, more.len())?;
@@ -174,13 +186,18 @@ fn append_text<S: Allocator>(text: &mut String<S>, more: &str) -> Result<(), Try
 
 // Makes room for `additional` bytes behind `text`, with as much to spare as a vector's growth.
 fn make_room<S: Allocator>(text: &mut String<S>, additional: usize) -> Result<(), TryReserveError>
+    // The text is the same, with room behind it.
     ensures bytes { string_bytes text.new ≡ string_bytes text.old }
     ensures room { OnOk result (string_capacity text.new
         ≡ room_for (string_capacity text.old) (length (string_bytes text.old)) additional) }
     ensures fits { OnOk result
         (length (string_bytes text.old) + additional ≤ string_capacity text.new) }
+
+    // A refusal changes nothing.
     ensures stays { OnErr result (string_capacity text.new ≡ string_capacity text.old) }
     ensures lacks { IfErr result (LacksBytes text.new additional) }
+
+    // The capacity never falls.
     ensures rises { string_capacity text.old ≤ string_capacity text.new }
 {
     let (len, capacity) = (text.len(), text.capacity());
