@@ -357,6 +357,7 @@ impl<K: Eq + Hash + Drop, V: Drop, S: BuildHasher, A: Allocator + Clone> Table<K
         ensures removed { Sets K.eq self.old.entries key.now None self.new.entries }
         ensures one_less { IsSome result
             → length self.new.entries + 1 ≡ length self.old.entries }
+        ensures room { IsSome result → HasRoom self.new 1 }
         ensures capacity { self.new.capacity ≡ self.old.capacity }
         ensures builder { self.new.builder ≡ self.old.builder }
         ensures absent { result ≡ None → self.new ≡ self.old }

@@ -1,4 +1,5 @@
-use Rattle.ex_table.proofs.Common.{None, Vector, ap, sym, ◌∙◌, arith, length, value}
+use Rattle.ex_table.proofs.Common.{None, Vector, ap, sym, ◌∙◌, arith, length, pair, value}
+use Rattle.std.proofs.lemmas.List.{length-map}
 use Rattle.ex_table.proofs.Sound.{changed, fewer, found-removed, named, removed, refilled}
 use Rattle.ex_table.proofs.Maps.{sees-set, sets-none, value-none, value-at}
 use Rattle.ex_table.proofs.table.Table.remove.Goals as goal
@@ -30,3 +31,9 @@ returns-clause-removed g c = λ q.
     let entry = c.swap_remove-entry.result in let at = c.swap_remove-entry.ensures.value in
     ap (λ f. value g.K.PartialEq.eq f.entries q) c.pass.ensures
     ∙ sees-set g.K.PartialEq.eq c.self.inside.entries.items c.self.view_is c.swap_remove-entry.new.self.items c.args.key.now None (rw (ap (λ (v : Vector _ _). v.items) c.swap_remove-entry.ensures.removed) (found-removed c.self.invariant.sound c.args.key.now c.in-Some.spot.place entry entry at (rw at at (rw c.as_slice.ensures at c.in-Some.ensures.found).here))) q
+
+pub returns-clause-room : goal.returns-clause-room
+returns-clause-room g c = λ _.
+    let entry = c.swap_remove-entry.result in let at = c.swap_remove-entry.ensures.value in
+    let less = fewer c.self.invariant.sound c.args.key.now c.in-Some.spot.place entry entry at (rw at at (rw c.as_slice.ensures at c.in-Some.ensures.found).here) in
+    omega (arith, ap (λ f. f.capacity) c.pass.ensures, ap (λ f. length f.entries) c.pass.ensures, length-map c.swap_remove-entry.new.self.items pair, ap (λ (v : Vector _ _). length v.items) c.swap_remove-entry.ensures.removed, less, c.self.invariant.within)
