@@ -1,227 +1,278 @@
 //! The proving ground: random calls of vectors, boxes, boxed slices and texts over an allocator,
-//! with a mark in each place.
+//! with a mark in each place, and what the inner allocator got back.
 
-use crate::pattern::{Large, Wide};
+use crate::below::{Below, Ledger, Uneven};
+use crate::course::Course;
+use crate::fault::{Broken, Fault};
+use crate::grown::{Done, Growing};
 use crate::random::Random;
-use crate::sets::{Set, Spot, Store, Text};
+use crate::referee::{Breach, Referee, Refereed};
+use crate::sets::Spot;
+use crate::zoo::Zoo;
 use allocator_api2::vec::Vec;
+use ex_watched::watched::Watched;
 use std::alloc::{Allocator, Global};
-use std::fmt;
-use test_allocators::Faulty;
 
 /// What an exercise without a fault did.
 #[derive(Clone, Copy, PartialEq, Eq, Debug)]
 pub struct Report {
-    /// How many steps there were, those over a clone too.
+    /// How many steps there were.
     pub steps: u64,
-    /// How many blocks were asked for.
+    /// How many blocks were asked for, but by `grow` and `shrink`.
     pub requests: u64,
-    /// How many of these requests the exercise refused itself. They never got to the allocator.
+    /// How many of these requests the exercise turned away. They never got to the allocator.
+    pub turned_away: u64,
+    /// How many the allocator refused.
     pub refused: u64,
     /// How many blocks were given back.
     pub frees: u64,
-    /// How many bytes are still out: none, where nothing leaks.
-    pub outstanding: u64,
+    /// The most bytes that the inner allocator had out while nothing was in use.
+    pub kept: u64,
 }
 
-/// In which way an allocator is wrong.
-#[derive(Clone, Copy, PartialEq, Eq, Debug)]
-pub enum Broken {
-    /// The first place of a block doesn't hold what was written: the block is somebody else's, too.
-    GivenTwice,
-    /// A later place doesn't hold what was written: the block is too small, or another overlaps it.
-    Overlaps,
-    /// With nothing out, a request is refused that was granted at first: what comes back is not
-    /// used again.
-    Forgets,
-    /// The same of a clone of the allocator.
-    CloneForgets,
+/// Exercises an allocator, drops it, and looks at what is left below it. The same `Course` makes the
+/// same steps. The exercise's own books are in `books`.
+pub fn exercise<B: Allocator, A: Allocator>(
+    books: Global,
+    below: &Below<B>,
+    heap: A,
+    course: Course,
+) -> Result<Report, Fault> {
+    let report = exercise_one(books, below, &heap, course)?;
+    drop(heap);
+    all_is_back(below.watch())?;
+    Ok(report)
 }
 
-/// The first fault that an exercise found.
-#[derive(Clone, Copy, PartialEq, Eq, Debug)]
-pub struct Fault {
-    /// In which way the allocator is wrong.
-    pub broken: Broken,
-    /// The step, counted from 0.
-    pub step: u64,
-    /// The bytes of an element of the block in which it showed.
-    pub element: usize,
-    /// How many elements the block has.
-    pub count: usize,
-    /// The first place of it that is wrong.
-    pub place: usize,
+/// Exercises an allocator and then a clone of it, drops both, and looks at what is left below them.
+/// Where it can't be cloned, it is exercised alone.
+pub fn exercise_with_clone<B: Allocator, A: Allocator + Clone>(
+    books: Global,
+    below: &Below<B>,
+    heap: A,
+    course: Course,
+) -> Result<Report, Fault> {
+    let first = exercise_one(books, below, &heap, course)?;
+    let second = match heap.clone() {
+        Ok(twin) => exercise_clone(books, below, twin, course)?,
+        Err(_) => first,
+    };
+    drop(heap);
+    all_is_back(below.watch())?;
+    Ok(Report {
+        steps: first.steps.saturating_add(second.steps),
+        requests: first.requests.saturating_add(second.requests),
+        turned_away: first.turned_away.saturating_add(second.turned_away),
+        refused: first.refused.saturating_add(second.refused),
+        frees: first.frees.saturating_add(second.frees),
+        kept: first.kept.max(second.kept),
+    })
 }
 
-impl fmt::Display for Fault {
-    fn fmt<W: fmt::Write>(&self, f: &mut fmt::Formatter<W>) -> fmt::Result {
-        let (count, element) = (self.count, self.element);
-        write!(f, "step {}: ", self.step)?;
-        match self.broken {
-            Broken::GivenTwice => write!(f, "a block was given out twice: ")?,
-            Broken::Overlaps => write!(f, "a block overlaps from place {}: ", self.place)?,
-            Broken::Forgets => write!(f, "what came back is not used again: ")?,
-            Broken::CloneForgets => write!(f, "what came back to a clone is not used again: ")?,
+// Exercises a clone, whose faults say so.
+fn exercise_clone<B: Allocator, A: Allocator>(
+    books: Global,
+    below: &Below<B>,
+    twin: A,
+    course: Course,
+) -> Result<Report, Fault> {
+    match exercise_one(books, below, &twin, course) {
+        Ok(report) => Ok(report),
+        Err(fault) => Err(Fault {
+            of_clone: true,
+            ..fault
+        }),
+    }
+}
+
+// The bytes of the request that is asked for at the beginning and after each part.
+const PROBE: usize = 4_096;
+
+// Whether that request is granted.
+fn probe<A: Allocator>(heap: &Refereed<A>) -> bool {
+    Vec::<u8, &Refereed<A>>::with_capacity_in(PROBE, heap).is_ok()
+}
+
+// Exercises one handle: three times the same steps.
+fn exercise_one<B: Allocator, A: Allocator>(
+    books: Global,
+    below: &Below<B>,
+    heap: &A,
+    course: Course,
+) -> Result<Report, Fault> {
+    let refereed = Watched::with_watch(heap, Referee::new(course));
+    let granted = probe(&refereed);
+    let first = part(books, below.watch(), &refereed, heap, course, granted)?;
+    let second = part(books, below.watch(), &refereed, heap, course, granted)?;
+    let third = part(books, below.watch(), &refereed, heap, course, granted)?;
+    let referee = refereed.watch();
+    if first < second && second < third {
+        return Err(Fault {
+            step: referee.step(),
+            ..fault_below(Broken::NeverPassesOn, below.watch())
+        });
+    }
+    Ok(Report {
+        steps: referee.step(),
+        requests: referee.asked(),
+        turned_away: referee.turned_away(),
+        refused: referee.refused(),
+        frees: referee.frees(),
+        kept: third,
+    })
+}
+
+// One part: the library's calls, the same request again and again, then `grow` and `shrink`. The
+// answer is how many bytes are out below.
+fn part<A: Allocator>(
+    books: Global,
+    ledger: &Ledger,
+    refereed: &Refereed<A>,
+    heap: &A,
+    course: Course,
+    granted: bool,
+) -> Result<u64, Fault> {
+    walk(books, refereed, course)?;
+    let referee = refereed.watch();
+    answers_as_claimed(referee)?;
+    for _ in 0..course.steps {
+        if granted && !probe(refereed) {
+            return Err(Fault {
+                count: PROBE,
+                ..fault_above(Broken::Forgets, referee)
+            });
         }
-        write!(f, "{count} elements of {element} bytes")
+    }
+    grow_and_shrink(heap, referee, course)?;
+    if let Some(broken) = uneven(ledger) {
+        return Err(Fault {
+            step: referee.step(),
+            ..fault_below(broken, ledger)
+        });
+    }
+    Ok(ledger.bytes())
+}
+
+// Random steps, before each of which a request may be chosen that is turned away.
+fn walk<A: Allocator>(books: Global, heap: &Refereed<A>, course: Course) -> Result<(), Fault> {
+    let mut zoo = Zoo::new(books, heap);
+    let mut random = Random::new(course.seed);
+    let referee = heap.watch();
+    for _ in 0..course.steps {
+        referee.next_step();
+        referee.turn_away(random.draw() % 4, random.draw() % 2);
+        if let Err(spot) = zoo.step(&mut random) {
+            return Err(fault_at(spot, broken_at(spot), referee));
+        }
+        if let Some(breach) = referee.passed() {
+            return Err(fault_of(breach, Broken::PastLimit, referee));
+        }
+    }
+    referee.turn_away(0, 0);
+    match zoo.look() {
+        Ok(()) => Ok(()),
+        Err(spot) => Err(fault_at(spot, broken_at(spot), referee)),
+    }
+}
+
+// Random steps of vectors that call `grow` and `shrink`. Each step is looked at, so a wrong mark is of
+// the call that was made in it.
+fn grow_and_shrink<A: Allocator>(heap: &A, referee: &Referee, course: Course) -> Result<(), Fault> {
+    let mut growing = Growing::new(heap);
+    let mut random = Random::new(course.seed);
+    for _ in 0..course.steps {
+        referee.next_step();
+        let done = growing.step(&mut random);
+        if let Err(spot) = growing.look() {
+            let broken = match done {
+                Done::Made => broken_at(spot),
+                Done::Grown => Broken::GrowLoses,
+                Done::Shrunk => Broken::ShrinkLoses,
+            };
+            return Err(fault_at(spot, broken, referee));
+        }
+    }
+    Ok(())
+}
+
+// Whether all was granted that had to be.
+fn answers_as_claimed(referee: &Referee) -> Result<(), Fault> {
+    if referee.granted() == 0 && referee.refused() > 0 {
+        return Err(fault_above(Broken::GrantsNothing, referee));
+    }
+    match referee.denied() {
+        Some(breach) => Err(fault_of(breach, Broken::Refuses, referee)),
+        None => Ok(()),
+    }
+}
+
+// Whether all that came from the inner allocator went back.
+fn all_is_back(ledger: &Ledger) -> Result<(), Fault> {
+    if let Some(broken) = uneven(ledger) {
+        return Err(fault_below(broken, ledger));
+    }
+    if ledger.blocks() > 0 {
+        return Err(fault_below(Broken::LeaksAtDrop, ledger));
+    }
+    Ok(())
+}
+
+// What is wrong with what the inner allocator got back.
+fn uneven(ledger: &Ledger) -> Option<Broken> {
+    match ledger.uneven() {
+        None => None,
+        Some(Uneven::TooMany) => Some(Broken::PassedOnTwice),
+        Some(Uneven::Sizes) => Some(Broken::OtherSize),
+        Some(Uneven::Alignments) => Some(Broken::OtherAlignment),
+    }
+}
+
+// What a broken mark of a block tells by its place.
+fn broken_at(spot: Spot) -> Broken {
+    if spot.place == 0 && !spot.begins {
+        Broken::GivenTwice
+    } else {
+        Broken::Overlaps
+    }
+}
+
+// A fault of the allocator, beside what was asked of it.
+fn fault_above(broken: Broken, referee: &Referee) -> Fault {
+    Fault {
+        step: referee.step(),
+        requests: referee.granted().saturating_add(referee.refused()),
+        refused: referee.refused(),
+        bytes: referee.bytes() as u64,
+        ..Fault::new(broken)
     }
 }
 
 // The fault of a broken mark.
-fn fault_at(spot: Spot, step: u64) -> Fault {
-    let Spot {
-        element,
-        count,
-        place,
-    } = spot;
-    let broken = if place == 0 {
-        Broken::GivenTwice
-    } else {
-        Broken::Overlaps
-    };
+fn fault_at(spot: Spot, broken: Broken, referee: &Referee) -> Fault {
     Fault {
-        broken,
-        step,
-        element,
-        count,
-        place,
+        element: spot.element,
+        count: spot.count,
+        place: spot.place,
+        ..fault_above(broken, referee)
     }
 }
 
-/// Exercises an allocator and a clone of it, `steps` random steps each: the same for the same seed.
-/// Its own books are in `books`. A refusal by the allocator is no fault, but where nothing is out
-/// and it was granted at first.
-pub fn exercise<A: Allocator + Clone>(
-    books: Global,
-    alloc: &A,
-    seed: u64,
-    steps: u64,
-) -> Result<Report, Fault> {
-    let first = exercise_one(books, &Faulty::new(alloc), seed, steps, Broken::Forgets)?;
-    let Ok(clone) = alloc.clone() else {
-        return Ok(first);
-    };
-    let second = exercise_one(
-        books,
-        &Faulty::new(clone),
-        seed,
-        steps,
-        Broken::CloneForgets,
-    )?;
-    Ok(Report {
-        steps: first.steps.saturating_add(second.steps),
-        requests: first.requests.saturating_add(second.requests),
-        refused: first.refused.saturating_add(second.refused),
-        frees: first.frees.saturating_add(second.frees),
-        outstanding: first.outstanding.saturating_add(second.outstanding),
-    })
-}
-
-// The bytes of the request that is asked for at the beginning and at the end.
-const PROBE: usize = 4_096;
-
-// Exercises one handle. `forgets` is the fault where it doesn't use again what came back.
-fn exercise_one<A: Allocator>(
-    books: Global,
-    heap: &Faulty<A>,
-    seed: u64,
-    steps: u64,
-    forgets: Broken,
-) -> Result<Report, Fault> {
-    let granted = Vec::<u8, &Faulty<A>>::with_capacity_in(PROBE, heap).is_ok();
-    walk(books, heap, seed, steps)?;
-    for step in 0..steps {
-        let again = Vec::<u8, &Faulty<A>>::with_capacity_in(PROBE, heap).is_ok();
-        if granted && !again {
-            return Err(Fault {
-                broken: forgets,
-                step: steps.saturating_add(step),
-                element: 1,
-                count: PROBE,
-                place: 0,
-            });
-        }
-    }
-    Ok(Report {
-        steps,
-        requests: heap.requests(),
-        refused: heap.refused(),
-        frees: heap.frees(),
-        outstanding: heap.outstanding(),
-    })
-}
-
-// All that lives in the allocator, of the alignments 1, 2, 4, 8 and 16.
-#[derive(Drop)]
-struct Zoo<'a, A: Allocator> {
-    none: Set<(), &'a Faulty<A>>,
-    bytes: Set<u8, &'a Faulty<A>>,
-    shorts: Set<u16, &'a Faulty<A>>,
-    numbers: Set<u32, &'a Faulty<A>>,
-    sixteens: Set<u128, &'a Faulty<A>>,
-    wide: Set<Wide, &'a Faulty<A>>,
-    large: Set<Large, &'a Faulty<A>>,
-    text: Text<&'a Faulty<A>>,
-    store: Store<&'a Faulty<A>>,
-}
-
-impl<'a, A: Allocator> Zoo<'a, A> {
-    fn new(books: Global, heap: &'a Faulty<A>) -> Zoo<'a, A> {
-        Zoo {
-            none: Set::new(heap, 1),
-            bytes: Set::new(heap, 2),
-            shorts: Set::new(heap, 3),
-            numbers: Set::new(heap, 4),
-            sixteens: Set::new(heap, 5),
-            wide: Set::new(heap, 6),
-            large: Set::new(heap, 7),
-            text: Text::new(heap),
-            store: Store::new(books),
-        }
-    }
-
-    // A step of one of them.
-    fn step(&mut self, heap: &'a Faulty<A>, random: &mut Random) -> Result<(), Spot> {
-        match random.up_to(8) {
-            0 => self.none.step(random),
-            1 => self.bytes.step(random),
-            2 => self.shorts.step(random),
-            3 => self.numbers.step(random),
-            4 => self.sixteens.step(random),
-            5 => self.wide.step(random),
-            6 => self.large.step(random),
-            7 => self.text.step(random),
-            _ => self.store.step(heap, random),
-        }
-    }
-
-    // A look at all places of all of them.
-    fn look(&self) -> Result<(), Spot> {
-        self.none.look()?;
-        self.bytes.look()?;
-        self.shorts.look()?;
-        self.numbers.look()?;
-        self.sixteens.look()?;
-        self.wide.look()?;
-        self.large.look()?;
-        self.text.look()?;
-        self.store.look()
+// The fault of a claim that didn't hold.
+fn fault_of(breach: Breach, broken: Broken, referee: &Referee) -> Fault {
+    Fault {
+        step: breach.step,
+        count: breach.size,
+        bytes: breach.bytes as u64,
+        blocks: breach.blocks as u64,
+        ..fault_above(broken, referee)
     }
 }
 
-// Random steps, before each of which a request may be chosen that is refused.
-fn walk<A: Allocator>(books: Global, heap: &Faulty<A>, seed: u64, steps: u64) -> Result<(), Fault> {
-    let mut zoo = Zoo::new(books, heap);
-    let mut random = Random::new(seed);
-    for step in 0..steps {
-        heap.refuse(random.draw() % 4, random.draw() % 2);
-        if let Err(spot) = zoo.step(heap, &mut random) {
-            return Err(fault_at(spot, step));
-        }
+// A fault that shows below the allocator.
+fn fault_below(broken: Broken, ledger: &Ledger) -> Fault {
+    Fault {
+        bytes: ledger.bytes(),
+        blocks: ledger.blocks(),
+        ..Fault::new(broken)
     }
-    if let Err(spot) = zoo.look() {
-        return Err(fault_at(spot, steps));
-    }
-    heap.refuse(0, 0);
-    Ok(())
 }

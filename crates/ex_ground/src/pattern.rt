@@ -16,6 +16,11 @@ pub trait Pattern: Copy {
 
     /// Whether each of its bytes is as in the element with this mark.
     fn has(&self, mark: u64) -> bool;
+
+    /// Whether its first bytes are.
+    fn begins(&self, mark: u64) -> bool {
+        self.has(mark)
+    }
 }
 
 /// The index of the first element that hasn't the mark of its place. The first is at place `from`
@@ -116,6 +121,10 @@ impl Pattern for Wide {
         } = *self;
         first == mark && second == mark.wrapping_add(1) && third == mark.wrapping_add(2)
     }
+
+    fn begins(&self, mark: u64) -> bool {
+        self.first == mark
+    }
 }
 
 /// An element of 1,025 bytes.
@@ -136,5 +145,37 @@ impl Pattern for Large {
     fn has(&self, mark: u64) -> bool {
         let byte = u8::marked(mark);
         self.bytes.iter().all(|it| *it == byte)
+    }
+
+    fn begins(&self, mark: u64) -> bool {
+        self.bytes[0] == u8::marked(mark)
+    }
+}
+
+/// An element of 4,096 bytes, of which the first word and the last have the mark.
+#[derive(Clone, Copy)]
+pub struct Page {
+    first: u64,
+    between: [u64; 510],
+    last: u64,
+}
+
+impl Pattern for Page {
+    const BYTES: usize = 4_096;
+
+    fn marked(mark: u64) -> Self {
+        Page {
+            first: mark,
+            between: [0; 510],
+            last: mark.wrapping_add(1),
+        }
+    }
+
+    fn has(&self, mark: u64) -> bool {
+        self.first == mark && self.last == mark.wrapping_add(1)
+    }
+
+    fn begins(&self, mark: u64) -> bool {
+        self.first == mark
     }
 }

@@ -1,6 +1,6 @@
 //! What lives in an allocator while it is exercised.
 
-use crate::pattern::{Pattern, first_wrong, mark};
+use crate::pattern::{Page, Pattern, first_wrong, mark};
 use crate::random::Random;
 use allocator_api2::boxed::{Box, BoxedSlice, BoxedText};
 use allocator_api2::vec::Vec;
@@ -15,16 +15,19 @@ pub struct Spot {
     pub count: usize,
     /// The first wrong one.
     pub place: usize,
+    /// Whether the first bytes of that one are right.
+    pub begins: bool,
 }
 
-// Looks at each place of a block, of which the first `from` are not there.
-fn looked_at<E: Pattern>(items: &[E], tag: u64, from: usize) -> Result<(), Spot> {
+/// Looks at each place of a block, of which the first `from` are not there.
+pub(crate) fn looked_at<E: Pattern>(items: &[E], tag: u64, from: usize) -> Result<(), Spot> {
     match first_wrong(items, tag, from) {
         None => Ok(()),
         Some(place) => Err(Spot {
             element: E::BYTES,
             count: items.len(),
             place,
+            begins: items[place].begins(mark(tag, from.wrapping_add(place))),
         }),
     }
 }
@@ -34,38 +37,52 @@ fn most<E: Pattern>() -> usize {
     if E::BYTES < 100 { 40 } else { 4 }
 }
 
-/// A vector, a boxed slice and a box of the same elements, in each place of which is a mark.
+// The most boxes of one kind, and how many calls of them there are in a step.
+const BOXES: usize = 6;
+
+const CALLS: usize = 12;
+
+// A box, and which one it is.
+#[derive(Drop)]
+struct Numbered<E: Pattern, H: Allocator + Copy> {
+    number: usize,
+    item: Box<E, H>,
+}
+
+/// A vector, a boxed slice and boxes of the same elements, in each place of which is a mark.
 #[derive(Drop)]
 pub struct Set<E: Pattern, H: Allocator + Copy> {
     heap: H,
     tag: u64,
     list: Vec<E, H>,
     fixed: Option<BoxedSlice<E, H>>,
-    one: Option<Box<E, H>>,
+    boxes: Vec<Numbered<E, H>, Global>,
+    made: usize,
 }
 
 impl<E: Pattern, H: Allocator + Copy> Set<E, H> {
     /// No elements yet, whose marks will be made of `tag`.
-    pub fn new(heap: H, tag: u64) -> Set<E, H> {
+    pub fn new(books: Global, heap: H, tag: u64) -> Set<E, H> {
         Set {
             heap,
             tag,
             list: Vec::new_in(heap),
             fixed: None,
-            one: None,
+            boxes: Vec::new_in(books),
+            made: 0,
         }
     }
 
     /// One random call, and a look at all places before and after.
     pub fn step(&mut self, random: &mut Random) -> Result<(), Spot> {
         self.look()?;
-        match random.up_to(8) {
+        match random.up_to(9) {
             0 | 1 | 2 => self.push(random.up_to(most::<E>())),
             3 => self.list.truncate(random.up_to(most::<E>())),
             4 => self.resize(random.up_to(most::<E>())),
             5 => self.cut_and_join(random)?,
-            6 => self.put_in_a_box(),
-            7 => self.put_in_a_slice(),
+            6 | 7 => self.boxes_come_and_go(random)?,
+            8 => self.put_in_a_slice(),
             _ => self.let_go(),
         }
         self.look()
@@ -77,16 +94,23 @@ impl<E: Pattern, H: Allocator + Copy> Set<E, H> {
         if let Some(fixed) = &self.fixed {
             looked_at(fixed.as_slice(), self.tag, 0)?;
         }
-        if let Some(one) = &self.one {
-            if !(**one).has(mark(self.tag, 0)) {
-                return Err(Spot {
-                    element: E::BYTES,
-                    count: 1,
-                    place: 0,
-                });
-            }
+        for it in self.boxes.iter() {
+            self.look_at_box(it)?;
         }
         Ok(())
+    }
+
+    // Looks at one box.
+    fn look_at_box(&self, it: &Numbered<E, H>) -> Result<(), Spot> {
+        if (*it.item).has(mark(self.tag, it.number)) {
+            return Ok(());
+        }
+        Err(Spot {
+            element: E::BYTES,
+            count: 1,
+            place: 0,
+            begins: (*it.item).begins(mark(self.tag, it.number)),
+        })
     }
 
     // Pushes up to `count` elements, as long as there is room for them.
@@ -123,10 +147,26 @@ impl<E: Pattern, H: Allocator + Copy> Set<E, H> {
         looked_at(tail.as_slice(), self.tag, at)
     }
 
+    // Puts elements into boxes, and lets others go, in no order.
+    fn boxes_come_and_go(&mut self, random: &mut Random) -> Result<(), Spot> {
+        for _ in 0..CALLS {
+            let len = self.boxes.len();
+            if len > 0 && (len >= BOXES || random.up_to(2) == 0) {
+                let gone = self.boxes.swap_remove(random.up_to(len - 1));
+                self.look_at_box(&gone)?;
+            } else {
+                self.put_in_a_box();
+            }
+        }
+        Ok(())
+    }
+
     // Puts an element into a box.
     fn put_in_a_box(&mut self) {
-        if let Ok(one) = Box::new_in(E::marked(mark(self.tag, 0)), self.heap) {
-            self.one = Some(one);
+        let number = self.made.wrapping_add(1);
+        self.made = number;
+        if let Ok(item) = Box::new_in(E::marked(mark(self.tag, number)), self.heap) {
+            drop(self.boxes.push(Numbered { number, item }));
         }
     }
 
@@ -143,7 +183,7 @@ impl<E: Pattern, H: Allocator + Copy> Set<E, H> {
     // Gives all blocks back.
     fn let_go(&mut self) {
         self.fixed = None;
-        self.one = None;
+        self.boxes.clear();
         self.list.clear();
         drop(self.list.shrink_to_fit());
     }
@@ -193,6 +233,7 @@ impl<H: Allocator + Copy> Text<H> {
                 element: 1,
                 count: text.as_str().len(),
                 place: 0,
+                begins: false,
             }),
             _ => Ok(()),
         }
@@ -255,4 +296,66 @@ fn filled<H: Allocator>(heap: H, tag: u64, count: usize) -> Vec<u8, H> {
         }
     }
     bytes
+}
+
+// How many great blocks are kept.
+const GREAT: usize = 2;
+
+// A great block.
+#[derive(Drop)]
+struct Pages<H: Allocator> {
+    tag: u64,
+    pages: Vec<Page, H>,
+}
+
+/// Blocks of 16 KiB to a MiB, in books that another allocator has.
+#[derive(Drop)]
+pub struct Great<H: Allocator> {
+    kept: Vec<Pages<H>, Global>,
+}
+
+impl<H: Allocator> Great<H> {
+    /// No block yet.
+    pub fn new(books: Global) -> Great<H> {
+        Great {
+            kept: Vec::new_in(books),
+        }
+    }
+
+    /// Keeps one more, and gives another back once there are many. It looks at that one.
+    pub fn step(&mut self, heap: H, random: &mut Random) -> Result<(), Spot> {
+        let tag = random.draw();
+        let count = random.up_to(252).saturating_add(4);
+        let Ok(mut pages) = Vec::with_capacity_in(count, heap) else {
+            return self.let_go(random);
+        };
+        for place in 0..count {
+            if pages.push(Page::marked(mark(tag, place))).is_err() {
+                break;
+            }
+        }
+        drop(self.kept.push(Pages { tag, pages }));
+        if self.kept.len() > GREAT {
+            return self.let_go(random);
+        }
+        Ok(())
+    }
+
+    // Gives one back, if there is one.
+    fn let_go(&mut self, random: &mut Random) -> Result<(), Spot> {
+        let len = self.kept.len();
+        if len == 0 {
+            return Ok(());
+        }
+        let old = self.kept.swap_remove(random.up_to(len - 1));
+        looked_at(old.pages.as_slice(), old.tag, 0)
+    }
+
+    /// Looks at all blocks.
+    pub fn look(&self) -> Result<(), Spot> {
+        for it in self.kept.iter() {
+            looked_at(it.pages.as_slice(), it.tag, 0)?;
+        }
+        Ok(())
+    }
 }

@@ -1,16 +1,23 @@
-use crate::exercise::{Report, exercise};
+use crate::below::{Below, count_below};
+use crate::course::Course;
+use crate::exercise::{Report, exercise, exercise_with_clone};
 use ex_watched::budget::Budget;
 use ex_watched::counting::Counting;
 use std::alloc::{Allocator, Global};
 
-// Whether an exercise is clean, with nothing left out.
-fn is_clean<A: Allocator + Clone>(books: Global, alloc: &A) -> bool {
-    match exercise(books, alloc, 7, 100) {
+// Whether an exercise of it and a clone is clean, with nothing left out.
+fn is_clean<B: Allocator, A: Allocator + Clone>(
+    books: Global,
+    below: &Below<B>,
+    heap: A,
+    course: Course,
+) -> bool {
+    match exercise_with_clone(books, below, heap, course) {
         Ok(report) => {
-            report.steps == 200
-                && report.requests > 200
-                && report.refused > 0
-                && report.outstanding == 0
+            report.steps == course.steps.saturating_mul(12)
+                && report.requests > report.steps
+                && report.turned_away > 0
+                && report.kept == 0
         }
         Err(_) => false,
     }
@@ -18,33 +25,50 @@ fn is_clean<A: Allocator + Clone>(books: Global, alloc: &A) -> bool {
 
 #[test]
 fn the_global_allocator_is_right(rt: HostRuntime) {
-    assert!(rt; is_clean(rt.alloc(), &rt.alloc()));
-    assert!(rt; is_clean(rt.alloc(), &&rt.alloc()));
+    let below = count_below(rt.alloc());
+    let course = Course {
+        each: usize::MAX,
+        grants: 8_000_000,
+        ..Course::new(7, 60)
+    };
+    assert!(rt; is_clean(rt.alloc(), &below, rt.alloc(), course));
+    assert!(rt; is_clean(rt.alloc(), &below, &below, course));
 }
 
 #[test]
-fn a_budget_is_right(rt: HostRuntime) {
-    let heap = Budget::new(rt.alloc(), 1_000_000);
-    assert!(rt; is_clean(rt.alloc(), &heap));
-    assert!(rt; is_clean(rt.alloc(), &&heap));
-    assert!(rt; heap.watch().granted() == 0);
-    let tight = Budget::new(rt.alloc(), 5_000);
-    assert!(rt; is_clean(rt.alloc(), &tight));
-    assert!(rt; tight.watch().granted() == 0);
+fn a_budget_keeps_its_limit(rt: HostRuntime) {
+    let below = count_below(rt.alloc());
+    for bytes in [1_000_000usize, 5_000] {
+        let course = Course {
+            each: bytes,
+            grants: bytes,
+            bytes,
+            ..Course::new(7, 60)
+        };
+        let heap = Budget::new(&below, bytes);
+        assert!(rt; is_clean(rt.alloc(), &below, heap, course), "{bytes}");
+    }
 }
 
 #[test]
 fn a_counting_one_is_right(rt: HostRuntime) {
-    let heap = Counting::new(rt.alloc());
-    assert!(rt; is_clean(rt.alloc(), &heap));
-    assert!(rt; is_clean(rt.alloc(), &&heap));
-    assert!(rt; heap.counts().outstanding == 0);
-    assert!(rt; heap.counts().requests == heap.counts().frees);
+    let below = count_below(rt.alloc());
+    assert!(rt;
+        exercise(
+            rt.alloc(),
+            &below,
+            Counting::new(&below),
+            Course::new(7, 60)
+        )
+        .is_ok()
+    );
 }
 
 #[test]
 fn an_exercise_is_the_same_each_time(rt: HostRuntime) {
-    let one: Option<Report> = exercise(rt.alloc(), &rt.alloc(), 3, 40).ok();
+    let below = count_below(rt.alloc());
+    let course = Course::new(3, 40);
+    let one: Option<Report> = exercise(rt.alloc(), &below, &below, course).ok();
     assert!(rt; one.is_some());
-    assert!(rt; one == exercise(rt.alloc(), &rt.alloc(), 3, 40).ok());
+    assert!(rt; one == exercise(rt.alloc(), &below, &below, course).ok());
 }

@@ -1,4 +1,4 @@
-//! Tests that exercise the allocators of `ex_allocators`.
+//! The allocators of `ex_allocators`, exercised.
 #![tactic(auto)]
 
 #[cfg(test)]

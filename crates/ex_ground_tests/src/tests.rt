@@ -1,32 +1,23 @@
 use ex_allocators::pool::Pool;
-use ex_ground::exercise::exercise;
-use ex_watched::counting::Counting;
-use std::alloc::{Allocator, Global};
+use ex_ground::below::count_below;
+use ex_ground::course::Course;
+use ex_ground::exercise::exercise_with_clone;
+use std::alloc::Global;
 
-// Whether an exercise is clean, with nothing left out.
-fn is_clean<A: Allocator + Clone>(books: Global, alloc: &A) -> bool {
-    match exercise(books, alloc, 7, 100) {
-        Ok(report) => {
-            report.steps == 200
-                && report.requests > 200
-                && report.refused > 0
-                && report.outstanding == 0
-        }
-        Err(_) => false,
-    }
+// Whether a pool for blocks of that size is right.
+fn is_right(books: Global, size: usize) -> bool {
+    let below = count_below(books);
+    let course = Course {
+        each: 1_048_576,
+        grants: 8_000_000,
+        ..Course::new(7, 40)
+    };
+    exercise_with_clone(books, &below, Pool::new(&below, size), course).is_ok()
 }
 
 #[test]
 fn a_pool_is_right(rt: HostRuntime) {
-    let heap = Counting::new(rt.alloc());
-    {
-        let pool = Pool::new(&heap, 8);
-        assert!(rt; is_clean(rt.alloc(), &pool));
-        assert!(rt; is_clean(rt.alloc(), &&pool));
-        let pool = Pool::new(&heap, 24);
-        assert!(rt; is_clean(rt.alloc(), &&pool));
-        let pool = Pool::new(&heap, 4_100);
-        assert!(rt; is_clean(rt.alloc(), &&pool));
+    for size in [8usize, 24, 4_100] {
+        assert!(rt; is_right(rt.alloc(), size), "{size}");
     }
-    assert!(rt; heap.counts().outstanding == 0);
 }
