@@ -1,5 +1,7 @@
-//! The allocators of `ex_allocators`, exercised.
+//! The allocators of `ex_allocators`, exercised, and the library's collections over them in random
+//! steps, beside plain models.
 #![tactic(auto)]
 
+pub mod models;
 #[cfg(test)]
 mod tests;

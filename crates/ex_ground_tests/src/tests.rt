@@ -1,8 +1,11 @@
+use crate::models::differs;
 use ex_allocators::pool::Pool;
 use ex_ground::below::count_below;
 use ex_ground::course::Course;
 use ex_ground::exercise::exercise_with_clone;
+use ex_watched::budget::Budget;
 use std::alloc::Global;
+use std::test::Fail;
 
 // Whether a pool for blocks of that size is right.
 fn is_right(books: Global, size: usize) -> bool {
@@ -20,4 +23,25 @@ fn a_pool_is_right(rt: HostRuntime) {
     for size in [8usize, 24, 4_100] {
         assert!(rt; is_right(rt.alloc(), size), "{size}");
     }
+}
+
+#[test]
+fn collections_over_a_pool_are_as_their_models(rt: HostRuntime) -> Result<(), Fail> {
+    for seed in 0..4u64 {
+        let pool = Pool::new(rt.alloc(), 8);
+        assert!(rt; differs(rt.alloc(), &pool, seed, 400)?.is_none(), "{seed}");
+    }
+    Ok(())
+}
+
+#[test]
+fn collections_over_a_budget_are_as_their_models(rt: HostRuntime) -> Result<(), Fail> {
+    for seed in 0..4u64 {
+        let budget = Budget::new(rt.alloc(), 2_000);
+        assert!(rt;
+            differs(rt.alloc(), &budget, seed, 400)?.is_none(),
+            "{seed}"
+        );
+    }
+    Ok(())
 }
