@@ -1,5 +1,5 @@
 -- Keys stay in order, and what stands at the rank of a key tells what the entries have of it.
-use Rattle.std.proofs.Common.{◌≡◌, ◌+◌, ◌-◌, ◌≤◌, ◌<◌, ◌++◌, ℕ, suc, zero, List, [], ◌∷◌, Option, Some, None, inl, inr, refl, arith, length, take, drop, add-one, ◌∙◌}
+use Rattle.std.proofs.Common.{◌≡◌, ◌+◌, ◌-◌, ◌≤◌, ◌<◌, ◌++◌, ℕ, suc, zero, List, [], ◌∷◌, Option, Some, None, inl, inr, refl, arith, length, take, drop, add-one, sym, ap, ◌∙◌, length-append, take-append-drop}
 use Rattle.std.specs.Prelude.{slice_get, slice_set, ◌≢◌}
 use Rattle.std.proofs.lemmas.Bool.Decides.{nat_tests}
 use Rattle.std.proofs.lemmas.Bool.{cases_lt}
@@ -153,5 +153,18 @@ module _ {V : Type 0} where
           inserted = λ v. rw place (put-absent key v xs n);
           same = without-absent 0 key xs s n;
         }
+
+-- two parts of a list of which each is known
+module _ {V : Type 0} (n : ℕ) (xs ys zs : List (ℕ × V)) (first : ys ≡ take n xs) (rest : zs ≡ drop n xs) where
+  whole : ys ++ zs ≡ xs
+  whole = (λ i. first i ++ rest i) ∙ take-append-drop n xs
+
+  pub ascending-joined : IsAscending 0 xs → IsAscending 0 (ys ++ zs)
+  ascending-joined s = rw whole s
+
+  pub length-joined : length ys + length zs ≡ length xs
+  length-joined = sym (length-append ys zs) ∙ ap length whole
+
+pub ruleset merged = (ascending-joined, length-joined)
 
 pub ruleset order = (rank-within, ascending-put, ascending-without, ascending-take, ascending-drop, between-ranks)

@@ -61,3 +61,19 @@ fn a_leaf_is_split(rt: HostRuntime) {
         }
     }
 }
+
+#[test]
+#[tactic(auto, using(crate::proofs::Order::merged))]
+fn the_halves_of_a_leaf_are_merged(rt: HostRuntime) {
+    let heap = Faulty::new(rt.alloc());
+    let mut left: Small<'_> = Leaf::with_capacity_in(4, &heap).expect(&rt, "room");
+    let mut right: Small<'_> = Leaf::with_capacity_in(4, &heap).expect(&rt, "room");
+    for key in 0u8..3 {
+        assert!(rt; left.insert(u64::from(key), key) == Ok(None));
+    }
+    assert!(rt; left.entries().len() == 3 && left.len() <= right.capacity());
+    left.split(&mut right);
+    left.merge(&mut right);
+    assert!(rt; left.entries() == [(0, 0), (1, 1), (2, 2)].as_slice());
+    assert!(rt; right.entries() == [].as_slice() && right.len() == 0 && heap.requests() == 2);
+}
