@@ -1,2 +1,4 @@
 mod Pooling
+mod Racking
 mod Shelving
+mod Widening

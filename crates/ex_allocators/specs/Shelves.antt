@@ -1,4 +1,4 @@
--- What a pool's shelf owns: free blocks of n bytes, each of which leads to the next. t is the inner
+-- What a shelf owns: free blocks of n bytes at alignment a, each of which leads to the next. t is the inner
 -- allocator's right to free a block.
 use Rattle.std.specs.Prelude.{◌≡◌, ℕ, zero, suc, ◌%◌, ◌^◌, ◌<◌, ◌≤◌, List, Bool, true, false}
 use mir.Syntax.{Ty, ty_ptr}
@@ -13,24 +13,24 @@ use denote.Sharing.{said}
 use denote.Hidden.{guarded}
 use Rattle.std.specs.Allocator.{owned_block}
 
--- a size of blocks that can be kept: each has room for pointers, and for nothing else
-abbrev pub IsKept : ℕ → Type 0
-IsKept n = (8 ≤ n) × (n % 8 ≡ 0) × (n < 2 ^ 63)
+-- a layout of blocks that can be kept, of n bytes at alignment a: each has room for pointers, and for nothing else
+abbrev pub IsKept : ℕ → ℕ → Type 0
+IsKept n a = (8 ≤ n) × (n % 8 ≡ 0) × (n < 2 ^ 63) × (a % 8 ≡ 0)
 
--- a type of n bytes, aligned as a pointer is
-abbrev pub Fills : Ty → ℕ → Type 0
-Fills τ n = (size τ ≡ n) × (align τ ≡ 8)
+-- a type of n bytes at alignment a
+abbrev pub Fills : Ty → ℕ → ℕ → Type 0
+Fills τ n a = (size τ ≡ n) × (align τ ≡ a)
 
 module _ (t : Ty → Ptr → Fml) where
   -- the right to give a block for a τ at p back: it was granted for a type of the same layout
   abbrev pub right_to : Ty → Ptr → Fml
   right_to τ p = fex Ty (λ σ. fex ((size σ ≡ size τ) × (align σ ≡ align τ)) (λ _. t σ p))
 
-  module _ (n : ℕ) where
+  module _ (n a : ℕ) where
     -- a free block at that place: a pointer to the next one, its other bytes, and its right
     abbrev pub free_block : ℕ × ℕ → Ptr → Fml
     free_block at next =
-        fex Ty (λ σ. fex (Fills σ n) (λ _. fsep (fat full_share ty_ptr at.0 at.1 (ptr_val next))
+        fex Ty (λ σ. fex (Fills σ n a) (λ _. fsep (fat full_share ty_ptr at.0 at.1 (ptr_val next))
         (fsep (fwand (froom ty_ptr at.0 at.1) (froom σ at.0 at.1)) (t σ (block_ptr at.0 at.1)))))
 
     -- k free blocks, from p on
@@ -40,9 +40,9 @@ module _ (t : Ty → Ptr → Fml) where
         fex (ℕ × ℕ) (λ at. fex (p ≡ block_ptr at.0 at.1) (λ _.
         fex Ptr (λ next. fsep (free_block at next) (stack k next))))
 
-    -- the same, of a size that can be kept
+    -- the same, of a layout that can be kept
     abbrev pub kept_blocks : (k : ℕ) → Ptr → Fml
-    kept_blocks k p = fex (IsKept n) (λ _. stack k p)
+    kept_blocks k p = fex (IsKept n a) (λ _. stack k p)
 
 -- a block for a τ at p, unless it was put on the shelf
 abbrev pub block_unless : Bool → (Ty → Ptr → Fml) → Ty → Ptr → Fml

@@ -1,9 +1,17 @@
-//! For authors of allocators: three allocators that people write, each proved safe by the trait's
+//! For authors of allocators: allocators that people write, each proved safe by the trait's
 //! contract.
 #![tactic(auto)]
 
 /// A pool of blocks of one size.
 pub mod pool;
+/// Free blocks of many sizes.
+pub mod rack;
+/// A recycler of blocks of all sizes.
+pub mod recycler;
+#[cfg(test)]
+mod recycler_tests;
+/// A layer that rounds the sizes of requests up.
+pub mod rounded;
 mod shelf;
 #[cfg(test)]
 mod tests;

@@ -2,8 +2,11 @@
 ghost use Rattle.std.specs.Prelude.{◌≡◌};
 ghost use Rattle.ex_allocators.specs.Shelves.{IsKept, right_to};
 
-use crate::shelf::{ALIGN, Shelf};
+use crate::shelf::Shelf;
 use std::alloc::{AllocError, Allocator};
+
+// The alignment of the blocks: that of a type which holds pointers.
+const ALIGN: usize = 8;
 
 /// Keeps blocks of one size that come back, and grants them again without a call of the inner
 /// allocator: what a list or a tree wants, whose nodes are of one size. All other requests are
@@ -12,7 +15,7 @@ pub struct Pool<B: Allocator> {
     inner: B,
     size: usize,
     shelf: Shelf<B>,
-    ghost kept: { IsKept size },
+    ghost kept: { IsKept size 8 },
     ghost ours: { shelf ≡ inner },
 }
 
@@ -22,10 +25,10 @@ impl<B: Allocator> Pool<B> {
     /// to one.
     pub fn new(inner: B, size: usize) -> Pool<B>
         ensures inner { result.inner ≡ inner }
-        ensures size { IsKept size → result.size ≡ size }
+        ensures size { IsKept size 8 → result.size ≡ size }
     {
         let size = size.clamp(ALIGN, isize::MAX as usize) / ALIGN * ALIGN;
-        let shelf = Shelf::new(&inner, size);
+        let shelf = Shelf::new(&inner, size, ALIGN, usize::MAX);
         Pool { inner, size, shelf }
     }
 

@@ -10,16 +10,15 @@ use std::alloc::{AllocError, Allocator};
 use std::marker::{Move, Owns, PhantomData};
 use std::ptr::null_mut;
 
-/// The alignment of the blocks: that of a type which holds pointers.
-pub(crate) const ALIGN: usize = 8;
-
-/// Free blocks of `size` bytes that an allocator `B` granted. The first word of each leads to the
-/// next.
+/// Free blocks of one layout that an allocator `B` granted, `most` of them at most. The first word
+/// of each leads to the next.
 pub(crate) struct Shelf<B: Allocator> {
     // The block that came last, where `count` is not 0.
     top: *mut u8,
     count: usize,
+    most: usize,
     size: usize,
+    align: usize,
     marker: PhantomData<B>,
 }
 
@@ -28,26 +27,34 @@ impl<B: Allocator> Owns for Shelf<B> {
     ghost Value = { B };
 
     ghost shr_at = { λ heap. seen_by_one Fields (λ i.
-        kept_blocks (B.dealloc_token heap) i.size i.count i.top) };
+        kept_blocks (B.dealloc_token heap) i.size i.align i.count i.top) };
 }
 
 impl<B: Allocator> Move for Shelf<B> {
     ghost own_val = { λ heap vs. fex Inside (λ i. fsep (Fields.own_val i vs)
-        (kept_blocks (B.dealloc_token heap) i.size i.count i.top)) };
+        (kept_blocks (B.dealloc_token heap) i.size i.align i.count i.top)) };
 }
 
 impl<B: Allocator> Shelf<B> {
-    /// An empty shelf for blocks of `size` bytes of `_heap`.
-    pub(crate) fn new(_heap: &B, size: usize) -> Shelf<B>
-        requires { IsKept size }
+    /// An empty shelf for at most `most` blocks of `_heap`.
+    pub(crate) fn new(_heap: &B, size: usize, align: usize, most: usize) -> Shelf<B>
+        requires { IsKept size align }
         ensures { result ≡ _heap.now }
     {
         Shelf {
             top: null_mut(),
             count: 0,
+            most,
             size,
+            align,
             marker: PhantomData,
         }
+    }
+
+    /// How many blocks there are.
+    pub(crate) fn count(&self) -> usize {
+        let this = self as *const Shelf<B> as *mut Shelf<B>;
+        unsafe { (*this).count }
     }
 
     /// Takes the block that came last, if there is one and the layout is that of the shelf.
@@ -61,7 +68,7 @@ impl<B: Allocator> Shelf<B> {
             if (*this).size != size {
                 return Err(AllocError);
             }
-            if align != ALIGN {
+            if (*this).align != align {
                 return Err(AllocError);
             }
             let count = (*this).count;
@@ -75,8 +82,8 @@ impl<B: Allocator> Shelf<B> {
         }
     }
 
-    /// Puts a block on top, if its layout is that of the shelf. With `false` it is the caller's
-    /// still.
+    /// Puts a block on top, if its layout is that of the shelf and there is room for it. With
+    /// `false` it is the caller's still.
     pub(crate) unsafe fn put(&self, block: *mut u8, size: usize, align: usize) -> bool
         ghost ty: { Ty }
         requires layout { HasLayout ty size align }
@@ -88,11 +95,11 @@ impl<B: Allocator> Shelf<B> {
             if (*this).size != size {
                 return false;
             }
-            if align != ALIGN {
+            if (*this).align != align {
                 return false;
             }
             let count = (*this).count;
-            if count == usize::MAX {
+            if count >= (*this).most {
                 return false;
             }
             (block as *mut *mut u8).write((*this).top);
@@ -108,7 +115,9 @@ impl<B: Allocator> Drop for Shelf<B> {
         let Shelf {
             top: _,
             count: _,
+            most: _,
             size: _,
+            align: _,
             marker: _,
         } = self;
     }

@@ -1,5 +1,6 @@
 use crate::models::differs;
 use ex_allocators::pool::Pool;
+use ex_allocators::recycler::Recycler;
 use ex_ground::below::count_below;
 use ex_ground::course::Course;
 use ex_ground::exercise::exercise_with_clone;
@@ -7,15 +8,19 @@ use ex_watched::budget::Budget;
 use std::alloc::Global;
 use std::test::Fail;
 
-// Whether a pool for blocks of that size is right.
-fn is_right(books: Global, size: usize) -> bool {
-    let below = count_below(books);
-    let course = Course {
+// What those claim who pass on all that they don't keep.
+fn claims() -> Course {
+    Course {
         each: 1_048_576,
         grants: 8_000_000,
         ..Course::new(7, 40)
-    };
-    exercise_with_clone(books, &below, Pool::new(&below, size), course).is_ok()
+    }
+}
+
+// Whether a pool for blocks of that size is right.
+fn is_right(books: Global, size: usize) -> bool {
+    let below = count_below(books);
+    exercise_with_clone(books, &below, Pool::new(&below, size), claims()).is_ok()
 }
 
 #[test]
@@ -23,6 +28,13 @@ fn a_pool_is_right(rt: HostRuntime) {
     for size in [8usize, 24, 4_100] {
         assert!(rt; is_right(rt.alloc(), size), "{size}");
     }
+}
+
+#[test]
+fn a_recycler_is_right(rt: HostRuntime) {
+    let below = count_below(rt.alloc());
+    let heap = Recycler::new(&below);
+    assert!(rt; exercise_with_clone(rt.alloc(), &below, heap, claims()).is_ok());
 }
 
 #[test]

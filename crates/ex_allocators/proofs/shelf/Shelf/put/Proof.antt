@@ -1,5 +1,6 @@
 -- The block leads to the one that was on top. Assumes `Logic`.
 use Rattle.ex_allocators.proofs.Shelving.{◌≡◌, ℕ, ◌+◌, ◌<◌, ◌^◌, Bool, List, [], ◌∷◌, refl, ap, w64, true, false, arith, suc, sym, ◌++◌, ◌-◌, ◌∙◌, owned_block, full_share, after, head, inside, is_not, is_so, leaves, inst_fn, Fn, Ty, ty_ptr, Val, vint, vptr, vbool, Fml, Lft, Share, ftrue, fsep, flft, fex, froom, ftok, SProp, fst∗, never, apply∗, wand, every, ◌⊑◌, fact, size, align, capped, Env, WpFn, alloc_all, pass_all, free_all, look_at, get, through, sets, sets_last, env, ‵, raw, ◌⊛◌, ◌$◌, ◌∵◌, !, qed, move, keep, use0, use1, use2, split, split3, join, fsplit, fjoin, feq_i, prop, at_ret, Sq, Post, regoal, by, fpack, fpick, rewrite, sem, whole, look_in, store_in, sub, stop, fld, addr, lit, of_opd, first, branches, skips, exec, returns, returns_within, enter, assigns, bin, blocks, false_lit, load, true_lit, neg_lit, init, param, RattleType, owns, Ptr, block_ptr, null_ptr, ptr_val, in_a_block, rawptr_Lawful, types_at, nothing, heard, walk_of, dropped, gone, trues, spent, IsKept, block_unless, free_block, right_to, stack, generics, opens_shelf, shuts_shelf, fills, holding_token, proved_alone, left_block, readies}
+use lib.Dec.{nleb→lt}
 use Rattle.ex_allocators.specs.contracts.shelf.Shelf.put as puts
 use Rattle.ex_allocators.proofs.shelf.Shelf.put.Statement.{statement}
 use Rattle.ex_allocators.proofs.shelf.Shelf.put.Code as code
@@ -32,31 +33,33 @@ put_spec 𝓤 𝓛 𝓜 𝓡 wired B L g d dd met md =
     alloc_all ! (λ l. pass_all ! refl ((tt, tt), ((tt, tt), ((tt, record { fits = are.1.1.0.1 }), ((tt, record { fits = are.1.1.1.0.1 }), tt)))) $
     let En : Env 𝓤 𝓛.H = env fn.locals l in let Then = left_block 𝓛 C Λ En (after 3 fn.body) (at_ret En Post) in
     sets ! (addr ! (through ! refl (stop !))) refl (tt, tt) $ sets ! (of_opd ! (get ! refl)) refl (tt, tt) $
-    opens_shelf Z g heap at.0 at.1 ! tt (λ p n m fit.
+    opens_shelf Z g heap at.0 at.1 ! tt (λ p n k m a fit.
     -- [the fields; the free blocks; the way back; the other token; the block]
     first ! $ blocks ! $
+    sets ! (of_opd ! (load ! (through ! refl (fld ! refl (stop !))) (look_in ! 0 (sub ! 3 refl (whole !))))) refl (tt, record { fits = fit.2 }) $
+    sets ! (bin ! (get ! refl) (get ! refl) tt) refl (tt, tt) $
+    first ! $ branches ! (get ! refl)
+    (λ _. sets ! (of_opd ! (false_lit !)) refl (tt, tt) $ shuts_shelf Z g heap at.0 at.1 ! tt p n k m a fit $
+    returns_within ! Post refl (look_at ! 0 refl) $ free_all ! refl $ ends false)
+    (λ same. skips ! $ exec ! C Λ En (after 3 (inside (head (after 2 fn.body)))) Then $
+    sets ! (of_opd ! (load ! (through ! refl (fld ! refl (stop !))) (look_in ! 0 (sub ! 4 refl (whole !))))) refl (tt, record { fits = fit.3 }) $
+    sets ! (bin ! (get ! refl) (get ! refl) tt) refl (tt, tt) $
+    first ! $ branches ! (get ! refl)
+    (λ _. sets ! (of_opd ! (false_lit !)) refl (tt, tt) $ shuts_shelf Z g heap at.0 at.1 ! tt p n k m a fit $
+    returns_within ! Post refl (look_at ! 0 refl) $ free_all ! refl $ ends false)
+    (λ lined. skips ! $ exec ! C Λ En (after 6 (inside (head (after 2 fn.body)))) Then $
+    sets ! (of_opd ! (load ! (through ! refl (fld ! refl (stop !))) (look_in ! 0 (sub ! 1 refl (whole !))))) refl (tt, record { fits = fit.0 }) $
     sets ! (of_opd ! (load ! (through ! refl (fld ! refl (stop !))) (look_in ! 0 (sub ! 2 refl (whole !))))) refl (tt, record { fits = fit.1 }) $
     sets ! (bin ! (get ! refl) (get ! refl) tt) refl (tt, tt) $
     first ! $ branches ! (get ! refl)
-    (λ _. sets ! (of_opd ! (false_lit !)) refl (tt, tt) $ shuts_shelf Z g heap at.0 at.1 ! tt p n m fit $
+    (λ _. sets ! (of_opd ! (false_lit !)) refl (tt, tt) $ shuts_shelf Z g heap at.0 at.1 ! tt p n k m a fit $
     returns_within ! Post refl (look_at ! 0 refl) $ free_all ! refl $ ends false)
-    (λ same. skips ! $ exec ! C Λ En (after 3 (inside (head (after 2 fn.body)))) Then $
-    sets ! (bin ! (get ! refl) (lit ! tt) tt) refl (tt, tt) $
-    first ! $ branches ! (get ! refl)
-    (λ _. sets ! (of_opd ! (false_lit !)) refl (tt, tt) $ shuts_shelf Z g heap at.0 at.1 ! tt p n m fit $
-    returns_within ! Post refl (look_at ! 0 refl) $ free_all ! refl $ ends false)
-    (λ eight. skips ! $ exec ! C Λ En (after 5 (inside (head (after 2 fn.body)))) Then $
-    sets ! (of_opd ! (load ! (through ! refl (fld ! refl (stop !))) (look_in ! 0 (sub ! 1 refl (whole !))))) refl (tt, record { fits = fit.0 }) $
-    sets ! (bin ! (get ! refl) (neg_lit ! tt) tt) refl (tt, tt) $
-    first ! $ branches ! (get ! refl)
-    (λ _. sets ! (of_opd ! (false_lit !)) refl (tt, tt) $ shuts_shelf Z g heap at.0 at.1 ! tt p n m fit $
-    returns_within ! Post refl (look_at ! 0 refl) $ free_all ! refl $ ends false)
-    (λ space. let below = is_not n (2 ^ 64 - 1) space in let more : n + 1 < 2 ^ 64 = omega (arith, fit.0) in let next : suc n ≡ n + 1 = omega arith in
+    (λ space. let below : n < k = nleb→lt k n space in let more : n + 1 < 2 ^ 64 = omega (arith, fit.1) in let next : suc n ≡ n + 1 = omega arith in
     move ! (1 ∷ []) $ fpick ! (λ kept. move ! (4 ∷ []) $
-    use1 𝓛 (‵ (froom ty_ptr b o) ⊛ raw (wand 𝓤 (𝓛.H.at full_share ty_ptr b o (ptr_val p)) (sem 𝓛 (free_block t m (b, o) p))))
-    (readies 𝓛 b o t m p τ (fills τ m s al kept (is_so m s same) (is_so al 8 eight) fits) kept) $ split ! $
+    use1 𝓛 (‵ (froom ty_ptr b o) ⊛ raw (wand 𝓤 (𝓛.H.at full_share ty_ptr b o (ptr_val p)) (sem 𝓛 (free_block t m a (b, o) p))))
+    (readies 𝓛 b o t m a p τ (fills τ m a s al kept (is_so m s same) (is_so a al lined) fits) kept) $ split ! $
     -- [room for the word; the way to a free block; the other free blocks; the fields; the way back; the other token]
-    skips ! $ exec ! C Λ En (after 8 (inside (head (after 2 fn.body)))) Then $
+    skips ! $ exec ! C Λ En (after 10 (inside (head (after 2 fn.body)))) Then $
     sets ! (of_opd ! (get ! refl)) refl (tt, tt) $
     sets ! (of_opd ! (load ! (through ! refl (fld ! refl (stop !))) (look_in ! 3 (sub ! 0 refl (whole !))))) refl ((rawptr_Lawful 𝓛).typed p _ refl).0 $
     assigns ! (of_opd ! (get ! refl)) (through ! refl (stop !)) (init ! 0 refl ((rawptr_Lawful 𝓛).typed p _ refl).0) $
@@ -65,10 +68,10 @@ put_spec 𝓤 𝓛 𝓜 𝓡 wired B L g d dd met md =
     assigns ! (of_opd ! (get ! refl)) (through ! refl (fld ! refl (stop !))) (store_in ! 3 (sub ! 1 refl (whole !)) (tt, record { fits = more })) $
     sets_last ! (of_opd ! (true_lit !)) refl (tt, tt) $
     exec ! C Λ En (after 3 fn.body) (at_ret En Post) $ sets ! (of_opd ! (get ! refl)) refl (tt, tt) $
-    let Stack : ℕ × ℕ → Ptr → Fml = λ spot next. fsep (free_block t m spot next) (stack t m n next) in
-    use2 𝓛 (‵ (free_block t m (b, o) p)) (apply∗ 𝓤 (𝓛.H.at full_share ty_ptr b o (ptr_val p)) (sem 𝓛 (free_block t m (b, o) p))) $ fjoin ! $
+    let Stack : ℕ × ℕ → Ptr → Fml = λ spot next. fsep (free_block t m a spot next) (stack t m a n next) in
+    use2 𝓛 (‵ (free_block t m a (b, o) p)) (apply∗ 𝓤 (𝓛.H.at full_share ty_ptr b o (ptr_val p)) (sem 𝓛 (free_block t m a (b, o) p))) $ fjoin ! $
     fpack ! Ptr (Stack (b, o)) p $ fpack ! (block_ptr b o ≡ block_ptr b o) (λ _. fex Ptr (Stack (b, o))) refl $
     fpack ! (ℕ × ℕ) (λ spot. fex (block_ptr b o ≡ block_ptr spot.0 spot.1) (λ _. fex Ptr (Stack spot))) (b, o) $
-    rewrite ! 0 (λ (k : ℕ). ‵ (stack t m k (block_ptr b o))) next refl $ fpack ! (IsKept m) (λ _. stack t m (n + 1) (block_ptr b o)) kept $
-    move ! (1 ∷ 0 ∷ 2 ∷ []) $ shuts_shelf Z g heap at.0 at.1 ! tt (block_ptr b o) (n + 1) m (more, fit.1) $
+    rewrite ! 0 (λ (j : ℕ). ‵ (stack t m a j (block_ptr b o))) next refl $ fpack ! (IsKept m a) (λ _. stack t m a (n + 1) (block_ptr b o)) kept $
+    move ! (1 ∷ 0 ∷ 2 ∷ []) $ shuts_shelf Z g heap at.0 at.1 ! tt (block_ptr b o) (n + 1) k m a (more, fit.1, fit.2, fit.3) $
     returns ! (look_at ! 0 refl) $ free_all ! refl $ nothing ! $ move ! (1 ∷ 2 ∷ 3 ∷ 0 ∷ []) $ ends true)))))))))

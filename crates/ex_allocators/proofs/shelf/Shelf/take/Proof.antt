@@ -29,32 +29,33 @@ take_spec 𝓤 𝓛 𝓜 𝓡 wired B L g d dd met md =
     alloc_all ! (λ l. pass_all ! refl ((tt, tt), ((tt, record { fits = are.1.0.1 }), ((tt, record { fits = are.1.1.0.1 }), tt))) $
     let En : Env 𝓤 𝓛.H = env fn.locals l in let Then = left_block 𝓛 C Λ En (after 3 fn.body) (at_ret En Post) in
     sets ! (addr ! (through ! refl (stop !))) refl (tt, tt) $ sets ! (of_opd ! (get ! refl)) refl (tt, tt) $
-    opens_shelf Z g heap at.0 at.1 ! tt (λ p n m fit.
+    opens_shelf Z g heap at.0 at.1 ! tt (λ p n k m a fit.
     -- [the fields; the free blocks; the way back; the other token]
     first ! $ blocks ! $
-    sets ! (of_opd ! (load ! (through ! refl (fld ! refl (stop !))) (look_in ! 0 (sub ! 2 refl (whole !))))) refl (tt, record { fits = fit.1 }) $
+    sets ! (of_opd ! (load ! (through ! refl (fld ! refl (stop !))) (look_in ! 0 (sub ! 3 refl (whole !))))) refl (tt, record { fits = fit.2 }) $
     sets ! (bin ! (get ! refl) (get ! refl) tt) refl (tt, tt) $
     first ! $ branches ! (get ! refl)
     (λ _. sets ! (agg ! (no_more !)) refl (tt, tt) $ sets ! (agg ! (and_then ! (lit ! tt) (and_then ! (get ! refl) (no_more !)))) refl (Answer-typed false 0 0) $
-    shuts_shelf Z g heap at.0 at.1 ! tt p n m fit $ returns_within ! Post refl (look_at ! 0 refl) $ free_all ! refl $ none)
+    shuts_shelf Z g heap at.0 at.1 ! tt p n k m a fit $ returns_within ! Post refl (look_at ! 0 refl) $ free_all ! refl $ none)
     (λ same. skips ! $ exec ! C Λ En (after 3 (inside (head (after 2 fn.body)))) Then $
-    sets ! (bin ! (get ! refl) (lit ! tt) tt) refl (tt, tt) $
+    sets ! (of_opd ! (load ! (through ! refl (fld ! refl (stop !))) (look_in ! 0 (sub ! 4 refl (whole !))))) refl (tt, record { fits = fit.3 }) $
+    sets ! (bin ! (get ! refl) (get ! refl) tt) refl (tt, tt) $
     first ! $ branches ! (get ! refl)
     (λ _. sets ! (agg ! (no_more !)) refl (tt, tt) $ sets ! (agg ! (and_then ! (lit ! tt) (and_then ! (get ! refl) (no_more !)))) refl (Answer-typed false 0 0) $
-    shuts_shelf Z g heap at.0 at.1 ! tt p n m fit $ returns_within ! Post refl (look_at ! 0 refl) $ free_all ! refl $ none)
-    (λ eight. skips ! $ exec ! C Λ En (after 5 (inside (head (after 2 fn.body)))) Then $
+    shuts_shelf Z g heap at.0 at.1 ! tt p n k m a fit $ returns_within ! Post refl (look_at ! 0 refl) $ free_all ! refl $ none)
+    (λ lined. skips ! $ exec ! C Λ En (after 6 (inside (head (after 2 fn.body)))) Then $
     sets ! (of_opd ! (load ! (through ! refl (fld ! refl (stop !))) (look_in ! 0 (sub ! 1 refl (whole !))))) refl (tt, record { fits = fit.0 }) $
     sets ! (bin ! (get ! refl) (lit ! tt) tt) refl (tt, tt) $
     first ! $ branches ! (get ! refl)
     (λ _. sets ! (agg ! (no_more !)) refl (tt, tt) $ sets ! (agg ! (and_then ! (lit ! tt) (and_then ! (get ! refl) (no_more !)))) refl (Answer-typed false 0 0) $
-    shuts_shelf Z g heap at.0 at.1 ! tt p n m fit $ returns_within ! Post refl (look_at ! 0 refl) $ free_all ! refl $ none)
+    shuts_shelf Z g heap at.0 at.1 ! tt p n k m a fit $ returns_within ! Post refl (look_at ! 0 refl) $ free_all ! refl $ none)
     (λ some. let apart = is_not n 0 some in let left : n ≡ suc (n - 1) = omega arith in let fewer : n - 1 < 2 ^ 64 = omega (arith, fit.0) in
-    move ! (1 ∷ []) $ fpick ! (λ kept. rewrite ! 0 (λ (k : ℕ). ‵ (stack t m k p)) left refl $ fpick ! (λ spot. fpick ! (λ here. fpick ! (λ next. fsplit ! $
+    move ! (1 ∷ []) $ fpick ! (λ kept. rewrite ! 0 (λ (j : ℕ). ‵ (stack t m a j p)) left refl $ fpick ! (λ spot. fpick ! (λ here. fpick ! (λ next. fsplit ! $
     let b = spot.0 in let o = spot.1 in let Word : Fml = fat full_share ty_ptr b o (ptr_val next) in let Block : Fml = owned_block (right_to t) τ (block_ptr b o) in
-    use1 𝓛 (‵ Word ⊛ raw (wand 𝓤 (sem 𝓛 Word) (sem 𝓛 Block))) (regrants 𝓛 b o t m next τ (fills τ m s al kept (is_so m s same) (is_so al 8 eight) fits)) $ split ! $
+    use1 𝓛 (‵ Word ⊛ raw (wand 𝓤 (sem 𝓛 Word) (sem 𝓛 Block))) (regrants 𝓛 b o t m a next τ (fills τ m a s al kept (is_so m s same) (is_so a al lined) fits)) $ split ! $
     -- [the word; the way to the block; the other free blocks; the fields; the way back; the other token]
-    rewrite ! 3 (λ (r : Ptr). ‵ (fields Z g heap at.0 at.1 r n m)) here refl $
-    skips ! $ exec ! C Λ En (after 8 (inside (head (after 2 fn.body)))) Then $
+    rewrite ! 3 (λ (r : Ptr). ‵ (fields Z g heap at.0 at.1 r n k m a)) here refl $
+    skips ! $ exec ! C Λ En (after 9 (inside (head (after 2 fn.body)))) Then $
     sets ! (of_opd ! (load ! (through ! refl (fld ! refl (stop !))) (look_in ! 3 (sub ! 0 refl (whole !))))) refl (tt, tt) $
     sets ! (of_opd ! (get ! refl)) refl (tt, tt) $
     sets ! (of_opd ! (load ! (through ! refl (stop !)) (look ! 0 refl))) refl ((rawptr_Lawful 𝓛).typed next _ refl).0 $
@@ -64,7 +65,7 @@ take_spec 𝓤 𝓛 𝓜 𝓡 wired B L g d dd met md =
     sets_last ! (agg ! (and_then ! (lit ! tt) (and_then ! (get ! refl) (no_more !)))) refl (Answer-typed true b o) $
     exec ! C Λ En (after 3 fn.body) (at_ret En Post) $ sets ! (of_opd ! (get ! refl)) refl (Answer-typed true b o) $
     use2 𝓛 (‵ Block) (apply∗ 𝓤 (sem 𝓛 Word) (sem 𝓛 Block)) $
-    move ! (1 ∷ []) $ fpack ! (IsKept m) (λ _. stack t m (n - 1) next) kept $ move ! (2 ∷ 0 ∷ 3 ∷ []) $
-    shuts_shelf Z g heap at.0 at.1 ! tt next (n - 1) m (fewer, fit.1) $ returns ! (look_at ! 0 refl) $ free_all ! refl $
+    move ! (1 ∷ []) $ fpack ! (IsKept m a) (λ _. stack t m a (n - 1) next) kept $ move ! (2 ∷ 0 ∷ 3 ∷ []) $
+    shuts_shelf Z g heap at.0 at.1 ! tt next (n - 1) k m a (fewer, fit.1, fit.2, fit.3) $ returns ! (look_at ! 0 refl) $ free_all ! refl $
     use0 𝓛 (‵ (Answer.own_val (Ok (block_ptr b o)) (answer_val true b o ∷ []))) (Answer-Ok 𝓛 b o) $
     move ! (1 ∷ 2 ∷ 4 ∷ 0 ∷ 3 ∷ []) $ ends (Ok (block_ptr b o)) (answer_val true b o))))))))))))
