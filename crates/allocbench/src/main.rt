@@ -1,5 +1,5 @@
 //! Times vectors and boxes over the allocators of `ex_allocators`, beside the global one: what each
-//! layer costs.
+//! layer costs. Pushes stand beside those onto the toolchain's vector, which grows in place.
 #![tactic(auto)]
 
 use allocator_api2::boxed::Box;
@@ -7,6 +7,7 @@ use allocator_api2::vec::Vec;
 use ex_allocators::budget::Budget;
 use ex_allocators::counting::Counting;
 use ex_allocators::pool::Pool;
+use ex_allocators::recycler::Recycler;
 use std::alloc::{Allocator, Global};
 use std::io::{Error, ErrorKind};
 use std::mem::size_of;
@@ -16,8 +17,10 @@ use std::time::Instant;
 /// What is done over an allocator.
 #[derive(Clone, Copy)]
 enum Case {
-    /// Numbers are pushed onto one vector.
+    /// Numbers of 4 bytes are pushed onto one vector.
     Pushes,
+    /// Elements of 24 bytes are.
+    Pushes24,
     /// Boxes are made and dropped, one after the other.
     Boxes,
     /// Boxes are kept in one vector, and then all dropped.
@@ -30,6 +33,7 @@ impl Case {
     fn name(self) -> &'static str {
         match self {
             Case::Pushes => "pushes",
+            Case::Pushes24 => "pushes_24",
             Case::Boxes => "boxes",
             Case::Kept => "kept",
             Case::List => "list",
@@ -39,7 +43,7 @@ impl Case {
     // How many bytes a block has of which the case wants many.
     fn size(self) -> usize {
         match self {
-            Case::Pushes | Case::Boxes | Case::Kept => size_of::<u64>(),
+            Case::Pushes | Case::Pushes24 | Case::Boxes | Case::Kept => size_of::<u64>(),
             Case::List => size_of::<Node<&Pool<Global>>>(),
         }
     }
@@ -48,9 +52,27 @@ impl Case {
     fn run<A: Allocator + Copy>(self, heap: A, count: u32) -> Option<u64> {
         match self {
             Case::Pushes => pushes(heap, count),
+            Case::Pushes24 => pushes_24(heap, count),
             Case::Boxes => boxes(heap, count),
             Case::Kept => kept(heap, count),
             Case::List => list(heap, count),
+        }
+    }
+
+    // Whether it can be run over the toolchain's vector.
+    fn is_theirs(self) -> bool {
+        match self {
+            Case::Pushes | Case::Pushes24 => true,
+            Case::Boxes | Case::Kept | Case::List => false,
+        }
+    }
+
+    // The same over the toolchain's vector, where it can be.
+    fn run_theirs(self, alloc: Global, count: u32) -> Option<u64> {
+        match self {
+            Case::Pushes => their_pushes(alloc, count),
+            Case::Pushes24 => their_pushes_24(alloc, count),
+            Case::Boxes | Case::Kept | Case::List => None,
         }
     }
 }
@@ -65,10 +87,48 @@ fn pushes<A: Allocator>(heap: A, count: u32) -> Option<u64> {
     Some(sum(list.as_slice()))
 }
 
+fn their_pushes(alloc: Global, count: u32) -> Option<u64> {
+    let mut list: std::vec::Vec<u32> = std::vec::Vec::new(alloc);
+    for number in 0..count {
+        if list.push(number).is_err() {
+            return None;
+        }
+    }
+    Some(sum(list.as_slice()))
+}
+
 fn sum(list: &[u32]) -> u64 {
     let mut sum = 0u64;
     for number in list.iter() {
         sum = sum.wrapping_add(u64::from(*number));
+    }
+    sum
+}
+
+fn pushes_24<A: Allocator>(heap: A, count: u32) -> Option<u64> {
+    let mut list: Vec<[u64; 3], A> = Vec::new_in(heap);
+    for number in 0..count {
+        if list.push([u64::from(number); 3]).is_err() {
+            return None;
+        }
+    }
+    Some(sum_24(list.as_slice()))
+}
+
+fn their_pushes_24(alloc: Global, count: u32) -> Option<u64> {
+    let mut list: std::vec::Vec<[u64; 3]> = std::vec::Vec::new(alloc);
+    for number in 0..count {
+        if list.push([u64::from(number); 3]).is_err() {
+            return None;
+        }
+    }
+    Some(sum_24(list.as_slice()))
+}
+
+fn sum_24(list: &[[u64; 3]]) -> u64 {
+    let mut sum = 0u64;
+    for item in list.iter() {
+        sum = sum.wrapping_add(item[2]);
     }
     sum
 }
@@ -150,28 +210,125 @@ fn list<A: Allocator + Copy>(heap: A, count: u32) -> Option<u64> {
     Some(sum)
 }
 
-// The time of the fastest of so many runs, in tenths of a nanosecond for each element.
-fn fastest<A: Allocator + Copy, R: Clock>(
+// The time of one run.
+fn time_of<A: Allocator + Copy, R: Clock>(
     clock: &R,
     heap: A,
     case: Case,
     count: u32,
-    repeat: u32,
 ) -> Result<u128, Error> {
-    let mut best = u128::MAX;
-    for _ in 0..repeat {
-        let start = Instant::now(clock)?;
-        let done = case.run(heap, count);
-        let time = start.elapsed(clock)?.as_nanos();
-        if done.is_none() {
-            return Err(Error::from(ErrorKind::OutOfMemory));
-        }
-        best = best.min(time);
+    let start = Instant::now(clock)?;
+    let done = case.run(heap, count);
+    let time = start.elapsed(clock)?.as_nanos();
+    if done.is_none() {
+        return Err(Error::from(ErrorKind::OutOfMemory));
     }
-    Ok(best.saturating_mul(10) / u128::from(count.max(1)))
+    Ok(time)
 }
 
-// The line of one case: for each allocator the sum, and its time where there is a repeat.
+// The same over the toolchain's vector.
+fn their_time<R: Clock>(clock: &R, alloc: Global, case: Case, count: u32) -> Result<u128, Error> {
+    let start = Instant::now(clock)?;
+    let done = case.run_theirs(alloc, count);
+    let time = start.elapsed(clock)?.as_nanos();
+    if done.is_none() {
+        return Err(Error::from(ErrorKind::OutOfMemory));
+    }
+    Ok(time)
+}
+
+/// The allocators of a line, beside the global one.
+#[derive(Drop)]
+struct Heaps {
+    budget: Budget<Global>,
+    counting: Counting<Global>,
+    pool: Pool<Global>,
+    recycler: Recycler<Global>,
+}
+
+impl Heaps {
+    fn new(alloc: Global, case: Case) -> Heaps {
+        Heaps {
+            budget: Budget::new(alloc, usize::MAX),
+            counting: Counting::new(alloc),
+            pool: Pool::new(alloc, case.size()),
+            recycler: Recycler::new(alloc),
+        }
+    }
+
+    // Whether all leave the same, twice where blocks are used again.
+    fn agree(&self, alloc: Global, case: Case, count: u32) -> bool {
+        let global = case.run(alloc, count);
+        global.is_some()
+            && case.run(&self.budget, count) == global
+            && case.run(&self.counting, count) == global
+            && case.run(&self.pool, count) == global
+            && case.run(&self.pool, count) == global
+            && case.run(&self.recycler, count) == global
+            && case.run(&self.recycler, count) == global
+            && (!case.is_theirs() || case.run_theirs(alloc, count) == global)
+    }
+}
+
+/// The fastest of so many runs each.
+#[derive(Clone, Copy)]
+struct Times {
+    global: u128,
+    budget: u128,
+    counting: u128,
+    pool: u128,
+    recycler: u128,
+    theirs: u128,
+}
+
+impl Times {
+    fn none() -> Times {
+        Times {
+            global: u128::MAX,
+            budget: u128::MAX,
+            counting: u128::MAX,
+            pool: u128::MAX,
+            recycler: u128::MAX,
+            theirs: u128::MAX,
+        }
+    }
+
+    // After one more run over each.
+    fn after_a_round<R: Clock>(
+        self,
+        clock: &R,
+        alloc: Global,
+        heaps: &Heaps,
+        case: Case,
+        count: u32,
+    ) -> Result<Times, Error> {
+        let global = time_of(clock, alloc, case, count)?;
+        let budget = time_of(clock, &heaps.budget, case, count)?;
+        let counting = time_of(clock, &heaps.counting, case, count)?;
+        let pool = time_of(clock, &heaps.pool, case, count)?;
+        let recycler = time_of(clock, &heaps.recycler, case, count)?;
+        let theirs = if case.is_theirs() {
+            their_time(clock, alloc, case, count)?
+        } else {
+            0
+        };
+        Ok(Times {
+            global: self.global.min(global),
+            budget: self.budget.min(budget),
+            counting: self.counting.min(counting),
+            pool: self.pool.min(pool),
+            recycler: self.recycler.min(recycler),
+            theirs: self.theirs.min(theirs),
+        })
+    }
+}
+
+// In tenths of a nanosecond for each element.
+fn tenths(time: u128, count: u32) -> u128 {
+    time.saturating_mul(10) / u128::from(count.max(1))
+}
+
+// The line of one case: whether all leave the same, or with a repeat the time of each.
 fn line<R: Print + Clock>(
     rt: &R,
     alloc: Global,
@@ -179,29 +336,30 @@ fn line<R: Print + Clock>(
     count: u32,
     repeat: u32,
 ) -> Result<(), Error> {
-    let budget = Budget::new(alloc, usize::MAX);
-    let counting = Counting::new(alloc);
-    let pool = Pool::new(alloc, case.size());
+    let heaps = Heaps::new(alloc, case);
     let name = case.name();
     if repeat == 0 {
-        let global = case.run(alloc, count);
-        let same = global.is_some()
-            && case.run(&budget, count) == global
-            && case.run(&counting, count) == global
-            && case.run(&pool, count) == global
-            && case.run(&pool, count) == global;
-        let requests = counting.counts().requests;
+        let same = heaps.agree(alloc, case, count);
+        let requests = heaps.counting.counts().requests;
         println!(rt; "{name} {count}: the same: {same}, {requests} requests")?;
         return Ok(());
     }
-    let global = fastest(rt, alloc, case, count, repeat)?;
-    let first = fastest(rt, &budget, case, count, repeat)?;
-    let second = fastest(rt, &counting, case, count, repeat)?;
-    let third = fastest(rt, &pool, case, count, repeat)?;
-    println!(rt;
-        "{name} {count}: Global {global}, Budget {first}, Counting {second}, Pool {third} tenths \
-         of a nanosecond"
+    let mut times = Times::none();
+    for _ in 0..repeat {
+        times = times.after_a_round(rt, alloc, &heaps, case, count)?;
+    }
+    print!(rt;
+        "{name} {count}: Global {}, Budget {}, Counting {}, Pool {}, Recycler {}",
+        tenths(times.global, count),
+        tenths(times.budget, count),
+        tenths(times.counting, count),
+        tenths(times.pool, count),
+        tenths(times.recycler, count)
     )?;
+    if case.is_theirs() {
+        print!(rt; ", the toolchain's vector {}", tenths(times.theirs, count))?;
+    }
+    println!(rt; " tenths of a nanosecond")?;
     Ok(())
 }
 
@@ -219,7 +377,13 @@ fn main(rt: HostRuntime) -> Result<(), Error> {
         let Some((count, repeat)) = numbers(text.as_str()) else {
             return Err(Error::from(ErrorKind::InvalidInput));
         };
-        for case in [Case::Pushes, Case::Boxes, Case::Kept, Case::List] {
+        for case in [
+            Case::Pushes,
+            Case::Pushes24,
+            Case::Boxes,
+            Case::Kept,
+            Case::List,
+        ] {
             line(&rt, rt.alloc(), case, count, repeat)?;
         }
     }
