@@ -1,12 +1,23 @@
 -- What calls of a `Few` want: items at the first places of an array, and a value that is carried through a list.
 use Rattle.std.proofs.Common.{◌≡◌, ℕ, zero, suc, ◌+◌, ◌-◌, ◌<◌, ◌≤◌, List, [], ◌∷◌, ◌++◌, length, take, drop, get_or, Some, refl, sym, ap, ap₂, ◌∙◌, arith, length-set, length-take-le, take-take, length-append, length-drop}
 use Rattle.std.specs.Prelude.{insert, remove, slice_get, slice_set}
+use Rattle.ex_inline.specs.FewInner.{in_front}
 use Rattle.std.proofs.lemmas.Bool.Decides.{nat_tests}
 use Rattle.std.proofs.lemmas.Grind.{take-set_at}
 use Rattle.std.proofs.lemmas.Option.{get_or_from_slice_get}
-use Rattle.std.proofs.lemmas.List.{drop-append-le, drop-set-lt, drop_all, drop_more, take_all, take_more, take-set-le}
+use Rattle.std.proofs.lemmas.List.{take_at, drop-append-le, drop-set-lt, drop_all, drop_more, take_all, take_more, take-set-le}
 
 module _ {X : Type 0} where
+  pub front : (xs : List X) (m n : ℕ) → length xs ≡ m → n ≤ m → in_front m n xs ≡ take n xs
+  front xs m n e h = ap (λ k. take k xs) (omega (arith, e, h))
+
+  pub front-none : (xs : List X) (m : ℕ) → length xs ≡ m → in_front m 0 xs ≡ []
+  front-none xs m e = front xs m 0 e (omega arith)
+
+  -- what was lent of them, written anew
+  pub front-lent : (xs ys : List X) (m n : ℕ) → length xs ≡ m → n ≤ m → in_front m n (ys ++ drop n xs) ≡ ys
+  front-lent xs ys m n e h = take_at ys (drop n xs) (length (ys ++ drop n xs) - (m - n)) (omega (arith, e, h, length-append ys (drop n xs), length-drop n xs))
+
   -- one more of the first, and one of them written anew
   pub take-push : (xs : List X) (n : ℕ) (x : X) → n < length xs → take (n + 1) (slice_set xs n x) ≡ take n xs ++ x ∷ []
   take-push xs n x room = take-set_at xs n (n + 1) x refl room
@@ -70,7 +81,7 @@ module _ {X : Type 0} where
   remove-insert (y ∷ xs) zero x h = refl
   remove-insert (y ∷ xs) (suc k) x h = ap (λ ys. y ∷ ys) (remove-insert xs k x (omega arith))
 
-pub ruleset in_front = (nat_tests, length-set, length-take-le, take-push, take-set_in, get-in_front, take-pop)
+pub ruleset in_places = (front, front-none, front-lent, nat_tests, length-set, length-take-le, take-push, take-set_in, get-in_front, take-pop)
 
 pub ruleset carried = (insert-end, get-insert, remove-insert)
 

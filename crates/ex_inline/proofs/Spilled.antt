@@ -1,12 +1,14 @@
 -- What a small vector is once its items were moved into a block.
-use Rattle.std.proofs.Common.{◌≡◌, ℕ, ◌+◌, true, List, ◌++◌, length, ap, ◌∙◌, arith}
+use Rattle.std.proofs.Common.{◌≡◌, ℕ, ◌+◌, ◌-◌, ◌<◌, true, false, List, ◌++◌, length, sym, ap, ◌∙◌, arith}
+use Rattle.std.specs.Prelude.{nat_le, if◌then◌else◌}
 use Rattle.std.proofs.lemmas.Bool.Decides.{nat_tests}
 use Rattle.allocator_api2.proofs.Callers.{became}
-use Rattle.allocator_api2.specs.Vector.{Vector, len, GrowsTo, IsNew, SameBlock, Writes, Becomes, with_room}
-use Rattle.ex_inline.specs.Inlined.{block_of, in_block, in_place}
+use Rattle.allocator_api2.specs.Vector as Vectors
+use Rattle.allocator_api2.specs.Vector.{Vector, len, GrowsTo, IsNew, SameBlock, Writes, Becomes}
+use Rattle.ex_inline.specs.Inlined.{Inlined, block_of, in_block, in_place, with_room}
 
 -- the items that stood in place were moved into a new block with room for `needed`
-pub spilled : {T A : Type 0} (size needed : ℕ) (few : List T) (a : A) (new roomy poured : Vector T A) → IsNew size 0 a new → Becomes (with_room size new (len new) needed) new.items 0 0 roomy
+pub spilled : {T A : Type 0} (size needed : ℕ) (few : List T) (a : A) (new roomy poured : Vector T A) → IsNew size 0 a new → Becomes (Vectors.with_room size new (len new) needed) new.items 0 0 roomy
     → poured.items ≡ roomy.items ++ few → SameBlock roomy poured → Writes roomy (length few) (length few) poured → block_of poured ≡ in_block size needed (in_place few a)
 spilled size needed few a new roomy poured none made items block writes =
     let grows : GrowsTo size new needed new.items roomy = search became in
@@ -22,3 +24,10 @@ spilled size needed few a new roomy poured none made items block writes =
       moved = moved i;
       alloc = (block.alloc ∙ room.alloc ∙ none.alloc) i;
     }
+
+module _ {T A : Type 0} (size N : ℕ) (s : Inlined T A) (few : List T) (a : A) where
+  -- items that did not fit in place were moved into a block with room
+  pub room-made : (k needed : ℕ) (new : Inlined T A) → new ≡ in_block size needed (in_place few a) → in_place few a ≡ s → needed ≡ length few + k → N - length few < k → new ≡ with_room size N s k
+  room-made k needed new made e n full =
+      let lacks : nat_le k (N - length few) ≡ false = grind (arith, nat_tests, full) in
+      made ∙ (λ i. in_block size (n i) (in_place few a)) ∙ sym (ap (λ b. if b then in_place few a else in_block size (length few + k) (in_place few a)) lacks) ∙ ap (λ r. with_room size N r k) e

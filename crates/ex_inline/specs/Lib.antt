@@ -1,5 +1,6 @@
 pub mod Inlined
 pub mod InlinedInner
+pub mod FewInner
 pub mod FewLends
 pub mod Lends
 pub mod Extending

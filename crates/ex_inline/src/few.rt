@@ -17,18 +17,19 @@ pub struct Few<T, const N: usize> {
 }
 
 impl<T, const N: usize> Model for Few<T, N> {
-    ghost use Rattle.std.specs.Prelude.{◌≤◌, List, take};
+    ghost use Rattle.std.specs.Prelude.{◌≤◌, List};
+    ghost use Rattle.ex_inline.specs.FewInner.{in_front};
 
     ghost Value = { List T };
 
-    ghost view = { λ f. take f.len f.places };
+    ghost view = { λ f. in_front N f.len f.places };
 
     ghost invariant = { λ f. f.len ≤ N };
 }
 
-#[tactic(auto, using(crate::proofs::Fews::in_front))]
+#[tactic(auto, using(crate::proofs::Fews::in_places))]
 impl<T, const N: usize> Few<T, N> {
-    ghost use Rattle.ex_inline.specs.FewLends.{lends_one};
+    ghost use Rattle.ex_inline.specs.FewLends.{lends_all, lends_one};
 
     /// How many items there are.
     pub fn len(&self) -> usize
@@ -43,6 +44,14 @@ impl<T, const N: usize> Few<T, N> {
         ensures { result.now ≡ self.now }
     {
         &self.places[..self.len]
+    }
+
+    /// The items, to write to.
+    pub fn as_mut_slice(&mut self) -> &mut [T]
+        ensures* writes_back { sem 𝓛 (lends_all T.row N.row self.entry result) }
+        ensures value { result.now ≡ self.old }
+    {
+        &mut self.places[..self.len]
     }
 
     /// The item at `index`, to write to.
@@ -95,7 +104,7 @@ impl<T, const N: usize> Few<T, N> {
     }
 }
 
-#[tactic(auto, using(crate::proofs::Fews::in_front))]
+#[tactic(auto, using(crate::proofs::Fews::in_places))]
 impl<T: Default, const N: usize> Few<T, N> {
     /// No items.
     pub fn new() -> Self
@@ -163,6 +172,7 @@ fn pour_first<T: Default, A: Allocator, const N: usize>(
 )
     requires within { len ≤ length places.old }
     requires room { HasRoom into.old len }
+    ensures same { length places.new ≡ length places.old }
     ensures items { into.new.items ≡ into.old.items ++ take len places.old }
     ensures block { SameBlock into.old into.new }
     ensures writes { Writes into.old len len into.new }

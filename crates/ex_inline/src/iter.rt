@@ -5,7 +5,7 @@ ghost use Rattle.std.specs.Option.{option_copied_mut};
 ghost use Rattle.std.specs.Iterator.{UpTo, YieldsFirst, YieldsLast, item_count};
 ghost use Rattle.std.specs.Iterator.Adapters.{IterYieldsInOrder, IterYieldsInReverse};
 ghost use Rattle.std.specs.Iterator.SizeHint.{IsWithinCount};
-ghost use Rattle.std.specs.Slice.Iter.{iter_rest};
+ghost use Rattle.std.specs.Slice.Iter.{iter_rest, iter_mut_rest};
 
 use crate::inline::{Data, InlineVec};
 use std::alloc::Allocator;
@@ -13,10 +13,10 @@ use std::iter::FusedIterator;
 use std::marker::Model;
 use std::mem;
 use std::ops::{Index, IndexMut};
-use std::slice::Iter;
+use std::slice::{Iter, IterMut};
 
 impl<T, A: Allocator, const N: usize> InlineVec<T, A, N> {
-    ghost use Rattle.ex_inline.specs.Lends.{lends_item, lends_if_there};
+    ghost use Rattle.ex_inline.specs.Lends.{lends_item, lends_if_there, lends_items, lends_all};
 
     /// The items in order, from either end.
     pub fn iter(&self) -> Iter<'_, T>
@@ -25,6 +25,26 @@ impl<T, A: Allocator, const N: usize> InlineVec<T, A, N> {
         ensures runs_back { IterYieldsInReverse T }
     {
         self.as_slice().iter()
+    }
+
+    /// The items, to write to.
+    pub fn as_mut_slice(&mut self) -> &mut [T]
+        ensures* writes_back { sem 𝓛
+            (lends_items T.row A.row N.row A.Allocator self.entry result) }
+        ensures value { result.now ≡ self.old.items }
+    {
+        match &mut self.data {
+            Data::InPlace(few, _) => few.as_mut_slice(),
+            Data::InBlock(heap) => heap.as_mut_slice(),
+        }
+    }
+
+    /// The items in order, from either end, to write to.
+    pub fn iter_mut(&mut self) -> IterMut<'_, T>
+        ensures* writes_back { sem 𝓛 (lends_all T.row A.row N.row A.Allocator self.entry result) }
+        ensures rest { iter_mut_rest result ≡ self.old.items }
+    {
+        self.as_mut_slice().iter_mut()
     }
 
     // The item at `index`, to write to.

@@ -165,3 +165,17 @@ fn items_are_written_where_they_stand(rt: HostRuntime) -> Result<(), Fail> {
     }
     Ok(())
 }
+
+#[test]
+fn all_items_are_written_at_once(rt: HostRuntime) -> Result<(), Fail> {
+    let heap = Faulty::new(rt.alloc());
+    for len in [3u64, 5] {
+        let mut v: Small<'_> = InlineVec::from_iter_in(0..len, &heap)?;
+        v.as_mut_slice().reverse();
+        for item in v.iter_mut() {
+            *item = item.wrapping_add(10);
+        }
+        assert!(rt; v.get(0).copied() == Some(len.wrapping_add(9)) && v.get(2).is_some());
+    }
+    Ok(())
+}
