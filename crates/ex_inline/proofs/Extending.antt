@@ -1,5 +1,5 @@
 -- Items that are pushed behind those of a small vector, one by one.
-use Rattle.std.proofs.Common.{◌≡◌, ℕ, ◌+◌, ◌-◌, ◌<◌, Bool, true, false, List, [], ◌∷◌, ◌++◌, length, refl, sym, ◌∙◌, arith, append_assoc, length-append}
+use Rattle.std.proofs.Common.{◌≡◌, ℕ, ◌+◌, ◌-◌, ◌<◌, Bool, true, false, List, [], ◌∷◌, ◌++◌, length, refl, sym, ap, ◌∙◌, arith, append_assoc, length-append}
 use Rattle.std.specs.Prelude.{nat_le, if◌then◌else◌}
 use Rattle.std.proofs.lemmas.Bool.Decides.{nat_tests}
 use Rattle.std.proofs.lemmas.List.{append-nil}
@@ -18,6 +18,9 @@ module _ {T A : Type 0} (size N : ℕ) where
   pub items-pushed_all : (s : Inlined T A) (xs : List T) → (pushed_all size N s xs).items ≡ s.items ++ xs
   items-pushed_all s [] = sym (append-nil s.items)
   items-pushed_all s (x ∷ xs) = items-pushed_all (pushed size N s x) xs ∙ append_assoc s.items (x ∷ []) xs
+
+  pub length-pushed_all : (s : Inlined T A) (xs : List T) → length (pushed_all size N s xs).items ≡ length s.items + length xs
+  length-pushed_all s xs = ap length (items-pushed_all s xs) ∙ length-append s.items xs
 
   -- room for m items is room for one and fewer others
   pub room-pushed : (s : Inlined T A) (x : T) (m n : ℕ) → n < m → HasRoom N s m → HasRoom N (pushed size N s x) n
@@ -46,6 +49,6 @@ module _ {T A : Type 0} where
   pub room-wrote : (N : ℕ) (s : Inlined T A) (x : T) (n i : ℕ) → i < n → HasRoom N s (n - i) → HasRoom N (wrote s (s.items ++ x ∷ []) 1) (n - (i + 1))
   room-wrote N s x n i few room = omega (arith, length-append s.items (x ∷ []), few, room)
 
-pub ruleset pushes = (pushed_all-push, items-pushed_all)
+pub ruleset pushes = (pushed_all-push, items-pushed_all, length-pushed_all)
 
 pub ruleset copied = (with_room, same_from_all_zip)

@@ -1,3 +1,4 @@
+pub mod Bringing
 pub mod Extending
 pub mod Fews
 pub mod Spilled

@@ -1,11 +1,11 @@
 -- What a small vector is once its items were moved into a block.
-use Rattle.std.proofs.Common.{◌≡◌, ℕ, ◌+◌, ◌-◌, ◌<◌, true, false, List, ◌++◌, length, sym, ap, ◌∙◌, arith}
+use Rattle.std.proofs.Common.{◌≡◌, ℕ, ◌+◌, ◌-◌, ◌<◌, ◌≤◌, true, false, List, ◌++◌, length, sym, ap, ◌∙◌, arith}
 use Rattle.std.specs.Prelude.{nat_le, if◌then◌else◌}
 use Rattle.std.proofs.lemmas.Bool.Decides.{nat_tests}
 use Rattle.allocator_api2.proofs.Callers.{became}
 use Rattle.allocator_api2.specs.Vector as Vectors
 use Rattle.allocator_api2.specs.Vector.{Vector, len, GrowsTo, IsNew, SameBlock, Writes, Becomes}
-use Rattle.ex_inline.specs.Inlined.{Inlined, block_of, in_block, in_place, with_room}
+use Rattle.ex_inline.specs.Inlined.{Inlined, block_of, in_block, in_place, resized, with_places, with_room}
 
 -- the items that stood in place were moved into a new block with room for `needed`
 pub spilled : {T A : Type 0} (size needed : ℕ) (few : List T) (a : A) (new roomy poured : Vector T A) → IsNew size 0 a new → Becomes (Vectors.with_room size new (len new) needed) new.items 0 0 roomy
@@ -31,3 +31,9 @@ module _ {T A : Type 0} (size N : ℕ) (s : Inlined T A) (few : List T) (a : A) 
   room-made k needed new made e n full =
       let lacks : nat_le k (N - length few) ≡ false = grind (arith, nat_tests, full) in
       made ∙ (λ i. in_block size (n i) (in_place few a)) ∙ sym (ap (λ b. if b then in_place few a else in_block size (length few + k) (in_place few a)) lacks) ∙ ap (λ r. with_room size N r k) e
+
+  -- items that stood in a block stand in place again
+  pub back-in-place : (c : ℕ) (heap : Vector T A) → block_of heap ≡ s → few ≡ heap.items → a ≡ heap.alloc → c ≤ N → in_place few a ≡ with_places size N c s
+  back-in-place c heap e items alloc h =
+      let fits : nat_le c N ≡ true = grind (arith, nat_tests, h) in
+      (λ i. in_place (items i) (alloc i)) ∙ sym (ap (λ b. if b then in_place heap.items heap.alloc else resized size c (block_of heap)) fits) ∙ ap (with_places size N c) e

@@ -1,10 +1,14 @@
 -- A small vector that items are put behind, one after the other, and one that has clones.
-use Rattle.std.specs.Prelude.{◌≡◌, ℕ, List, [], ◌∷◌, ◌++◌, length, Option, ◌⊎◌}
+use Rattle.std.specs.Prelude.{◌≡◌, ℕ, List, [], ◌∷◌, ◌++◌, length, take, drop, Option, ◌⊎◌}
 use Rattle.std.specs.Iterator.{Drains, Yields}
-use Rattle.std.specs.List.{AllZip}
+use Rattle.std.specs.List.{AllZip, slice_range}
 use Rattle.allocator_api2.specs.declared.collections.TryReserveError.{TryReserveError}
 use Rattle.allocator_api2.specs.declared.collections.TryReserveErrorKind.TheVariants.{AllocError}
 use Rattle.ex_inline.specs.Inlined.{Inlined, in_place, wrote, with_room, LacksRoom}
+
+-- xs with those from place n on before the one at i, which is no further back
+abbrev pub brought : {T : Type 0} → (i n : ℕ) → List T → List T
+brought i n xs = (take i xs ++ drop n xs) ++ slice_range xs i n
 
 module _ {T A : Type 0} where
   -- s after one more item was pushed behind the others, of `size` bytes

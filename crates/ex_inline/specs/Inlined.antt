@@ -1,5 +1,5 @@
 -- What contracts see of a small vector.
-use Rattle.std.specs.Prelude.{ℕ, ◌+◌, ◌-◌, ◌≤◌, Bool, false, true, List, length, nat_le, if◌then◌else◌}
+use Rattle.std.specs.Prelude.{ℕ, ◌+◌, ◌-◌, ◌≤◌, Bool, min, false, true, List, length, nat_le, if◌then◌else◌}
 use Rattle.allocator_api2.specs.Growth.{amortized, least_of, sized}
 use Rattle.allocator_api2.specs.Room as Room
 use Rattle.allocator_api2.specs.Vector.{Vector}
@@ -87,3 +87,20 @@ module _ {T A : Type 0} where
         moved = v.grown + v.written;
         alloc = v.alloc;
       }
+
+  -- s with its items moved to a new block of c places of `size` bytes
+  abbrev pub in_new_block : (size c : ℕ) → Inlined T A → Inlined T A
+  in_new_block size c s =
+      record s { spilled = true; block = sized size c; moved = s.moved + length s.items }
+
+  -- s with its block made longer or shorter, of c places of `size` bytes: shorter, it moves nothing
+  abbrev pub resized : (size c : ℕ) → Inlined T A → Inlined T A
+  resized size c s =
+      if nat_le c s.block then record s { block = min s.block (sized size c) }
+      else record s { block = c; moved = s.moved + length s.items }
+
+  -- s with just c places of `size` bytes: those in place where N serve, else those of a block
+  abbrev pub with_places : (size N c : ℕ) → Inlined T A → Inlined T A
+  with_places size N c s =
+      if nat_le c N then (if s.spilled then in_place s.items s.alloc else s)
+      else (if s.spilled then resized size c s else in_new_block size c s)

@@ -12,7 +12,9 @@ use std::alloc::Allocator;
 use std::marker::Model;
 use std::mem;
 
+mod edits;
 mod many;
+mod places;
 
 // Where the items are, and the allocator.
 #[derive(Drop)]

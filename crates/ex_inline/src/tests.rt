@@ -179,3 +179,53 @@ fn all_items_are_written_at_once(rt: HostRuntime) -> Result<(), Fail> {
     }
     Ok(())
 }
+
+// The items from `start` on, up to `end`, where there are so many.
+fn range<'a>(v: &mut Small<'a>, start: usize, end: usize) -> Option<Small<'a>> {
+    if start <= end && end <= v.len() {
+        return v.take_range(start, end).ok();
+    }
+    None
+}
+
+#[test]
+fn many_are_put_in_the_middle_and_taken_out(rt: HostRuntime) -> Result<(), Fail> {
+    let heap = Faulty::new(rt.alloc());
+    let mut v: Small<'_> = InlineVec::from_iter_in(0u64..2, &heap)?;
+    if 1 <= v.len() {
+        v.insert_many(1, 7..8)?;
+    }
+    assert!(rt; has(&v, &[0, 7, 1]) && heap.requests() == 0);
+    if 2 <= v.len() {
+        v.insert_many(2, 20..24)?;
+    }
+    assert!(rt; has(&v, &[0, 7, 20, 21, 22, 23, 1]) && heap.requests() == 1);
+    match range(&mut v, 1, 4) {
+        Some(taken) => assert!(rt; has(&taken, &[7, 20, 21]) && heap.requests() == 1),
+        None => assert!(rt; false),
+    }
+    assert!(rt; has(&v, &[0, 22, 23, 1]));
+    heap.refuse(0, 1000);
+    assert!(rt; range(&mut v, 0, 4).is_none() && has(&v, &[0, 22, 23, 1]));
+    Ok(())
+}
+
+#[test]
+fn places_are_made_and_given_back(rt: HostRuntime) -> Result<(), Fail> {
+    let heap = Faulty::new(rt.alloc());
+    let mut v: Small<'_> = InlineVec::from_iter_in(0u64..3, &heap)?;
+    if v.len() <= 9 {
+        v.grow(9)?;
+    }
+    assert!(rt; has(&v, &[0, 1, 2]) && v.capacity() == 9 && v.spilled());
+    assert!(rt; v.push(3).is_ok());
+    v.shrink_to_fit()?;
+    assert!(rt; has(&v, &[0, 1, 2, 3]) && v.capacity() == 4 && heap.requests() == 2);
+    heap.refuse(0, 1000);
+    if v.len() <= 8 {
+        assert!(rt; v.grow(8).is_err() && has(&v, &[0, 1, 2, 3]) && v.capacity() == 4);
+    }
+    assert!(rt; v.pop() == Some(3) && v.shrink_to_fit().is_ok());
+    assert!(rt; has(&v, &[0, 1, 2]) && !v.spilled() && heap.outstanding() == 0);
+    Ok(())
+}

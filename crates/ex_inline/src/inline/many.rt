@@ -21,6 +21,7 @@ impl<T: Default + Drop, A: Allocator + Copy, const N: usize> InlineVec<T, A, N> 
         requires ends { IsFinite (I.remaining iter) }
         ensures items { OnOk result ((xs : List T) × Drains I.next_gives iter xs
             × (self.new.items ≡ self.old.items ++ xs)) }
+        ensures kept { length self.old.items ≤ length self.new.items }
         ensures fits { HasRoom N self.old (size (I.remaining iter)) → IsOk result }
         ensures extended { OnOk result (ExtendsByAll I.next_gives (TellsAtMost I.remaining)
             (type_size T.row) N iter self.old self.new) }
@@ -41,6 +42,7 @@ impl<T: Default + Drop, A: Allocator + Copy, const N: usize> InlineVec<T, A, N> 
         requires ends { IsFinite (I.remaining iter) }
         ensures put { OnOk result ((xs : List T) × Drains I.next_gives iter xs
             × (self.new ≡ pushed_all (type_size T.row) N self.old xs)) }
+        ensures kept { length self.old.items ≤ length self.new.items }
         ensures fits { HasRoom N self.old (size (I.remaining iter)) → IsOk result }
         ensures refused { IfErr result (λ e. StopsAtItem I.next_gives (type_size T.row) N
             iter self.old e self.new) }
