@@ -66,7 +66,7 @@ pub fn clear_each<A: Allocator>(v: &mut Vec<u32, A>)
     }
 }
 
-/// The same by a loop over the positions.
+/// Puts a zero in place of each number, by a loop over the positions.
 pub fn clear_by_index<A: Allocator>(v: &mut Vec<u32, A>)
     ensures { v.new.items ≡ replicate (length v.old.items) 0 }
 {
