@@ -11,7 +11,7 @@ use std::hash::{BuildHasherDefault, FoldHasher};
 
 /// Which collection is not as its model.
 #[derive(Clone, Copy, PartialEq, Eq, Debug)]
-pub enum Differs {
+pub enum Difference {
     Vector,
     Boxes,
     Table,
@@ -239,15 +239,15 @@ impl<H: Allocator + Copy> Beside<H> {
     }
 
     // The first that is not as its model.
-    fn differs(&self) -> Option<Differs> {
+    fn differs(&self) -> Option<Difference> {
         if !self.vector.is_as_model() {
-            Some(Differs::Vector)
+            Some(Difference::Vector)
         } else if !self.boxes.is_as_model() {
-            Some(Differs::Boxes)
+            Some(Difference::Boxes)
         } else if !self.entries.is_as_model() {
-            Some(Differs::Table)
+            Some(Difference::Table)
         } else if !self.text.is_as_model() {
-            Some(Differs::GapBuffer)
+            Some(Difference::GapBuffer)
         } else {
             None
         }
@@ -261,7 +261,7 @@ pub fn differs<A: Allocator>(
     heap: &A,
     seed: u64,
     steps: u64,
-) -> Result<Option<Differs>, AllocError> {
+) -> Result<Option<Difference>, AllocError> {
     let mut beside = Beside::new(books, heap);
     let mut random = Random::new(seed);
     for _ in 0..steps {
