@@ -3,9 +3,10 @@
 --     at_sides           take at an end of the run
 --     none-before-with, none-behind-with      other values in the run
 --     none-forgotten     what stood behind the run is forgotten
-use Rattle.aa_raw.proofs.Common.{Block, IsRun, List, None, Option, [], ap, arith, drop, drop-set, drop-set-lt, drop_all, drop_at, is_none, length, length-replicate, length-take-le, list_all, list_all-append, refl, replicate, run, slice_set, subst, suc, sym, take, take-set-le, take_at, take_more_set, true, with_places, with_run, zero, ℕ, ◌&&◌, ◌++◌, ◌+◌, ◌-◌, ◌<◌, ◌∙◌, ◌∷◌, ◌≡◌, ◌≤◌}
+use Rattle.aa_raw.proofs.Common.{Block, IsRun, List, None, Option, [], ap, arith, drop, drop-set, drop-set-lt, drop_all, drop_at, is_none, length, length-replicate, length-take-le, list_all, list_all-append, refl, replicate, slice_set, subst, suc, sym, take, take-set-le, take_at, take_more_set, true, with_places, with_run, zero, ℕ, ◌&&◌, ◌++◌, ◌+◌, ◌-◌, ◌<◌, ◌∙◌, ◌∷◌, ◌≡◌, ◌≤◌}
+use Rattle.aa_raw.proofs.Calls.{IsRun-with-below}
 use Rattle.aa_raw.proofs.Places.{length-with_run}
-use Rattle.aa_raw.proofs.Runs.{IsRun-same, drop-with, run-with-below}
+use Rattle.aa_raw.proofs.Runs.{drop-with}
 
 pub none_there : (X : Type 0) (n : ℕ) → list_all {X = Option X} is_none (replicate n None) ≡ true
 none_there X zero = refl
@@ -63,11 +64,8 @@ module _ {T A : Type 0} (b : Block T A) (n : ℕ) (filled : IsRun b.places 0 n) 
   pub length-forgot : length forgot.places ≡ length b.places
   length-forgot = length-with_run b.places n m (replicate m None) (omega (arith, filled.0)) (length-replicate m None)
 
-  pub run-forgot : run forgot.places 0 n ≡ run b.places 0 n
-  run-forgot = run-with-below b.places n m (replicate m None) 0 n (omega (arith, filled.0)) (omega arith)
-
   pub IsRun-forgot : IsRun forgot.places 0 n
-  IsRun-forgot = IsRun-same b.places forgot.places 0 n length-forgot run-forgot filled
+  IsRun-forgot = IsRun-with-below b.places n m (replicate m None) 0 n (omega (arith, filled.0)) (length-replicate m None) (omega arith) filled
 
   pub none-forgot : list_all is_none (drop n forgot.places) ≡ true
   none-forgot = none-forgotten b.places n m (omega (arith, filled.0))

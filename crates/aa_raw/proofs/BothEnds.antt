@@ -4,10 +4,11 @@
 --     between     one told by its first place and the first place behind it
 --     two_runs     a value of two lists in line, of which the first is a run
 --     by_arithmetic     the same calls at any numbers that arithmetic finds equal
-use Rattle.aa_raw.proofs.Common.{IsFilled, IsRun, List, None, Option, Some, [], ap, arith, drop, drop_at, get_or, length, length-set, nat_tests, refl, run, slice_get, slice_get_past, slice_set, subst, suc, sym, take, take_at, zero, ℕ, ◌++◌, ◌+◌, ◌-◌, ◌<◌, ◌∙◌, ◌∷◌, ◌≡◌, ◌≤◌}
-use Rattle.aa_raw.proofs.Calls.{IsRun-take_back, IsRun-take_first, filled-back, run-take_back, run-take_first}
-use Rattle.aa_raw.proofs.Places.{run_filled}
-use Rattle.aa_raw.proofs.Runs.{IsRun-long, IsRun-part, IsRun-pop, IsRun-push, IsRun-set-above, IsRun-set-below, IsRun-shift, first-filled, last-filled, length-run, run-one, run-pop, run-push, run-set-above, run-set-below, run-set-same, run-shift, run-split}
+use Rattle.aa_raw.proofs.Common.{IsFilled, IsRun, List, None, Option, Some, [], ap, arith, drop, drop_at, get_or, length, length-set, nat_tests, refl, run, slice_get, slice_get_past, slice_get_read, slice_set, suc, sym, take, take_at, zero, ℕ, ◌++◌, ◌+◌, ◌-◌, ◌<◌, ◌∙◌, ◌∷◌, ◌≡◌, ◌≤◌}
+use Rattle.aa_raw.proofs.Calls.{IsRun-take_back, IsRun-take_first, filled-back, run-take_back, run-take_first, slice_get-run}
+use Rattle.aa_raw.proofs.Firsts.{run-at_from}
+use Rattle.aa_raw.proofs.Places.{first_filled, run_filled}
+use Rattle.aa_raw.proofs.Runs.{IsRun-long, IsRun-part, IsRun-pop, IsRun-push, IsRun-set-above, IsRun-set-below, IsRun-shift, first-filled, last-filled, length-run, run-pop, run-push, run-set-above, run-set-below, run-set-same, run-shift, run-split}
 
 module _ {X : Type 0} where
   -- a value of the first of two lists in line, and of the second
@@ -68,20 +69,9 @@ module _ {X : Type 0} where
 
   -- a value read among them
   pub slice_get-run_from : (cs : List (Option X)) (from n i : ℕ) (x : X) → IsRun cs from n → i < n → get_or cs (from + i) None ≡ Some x → slice_get (run cs from n) i ≡ Some x
-  slice_get-run_from cs from n i x r h e =
-      let before : List X = run cs from i in
-      let behind : List X = run cs (from + i + 1) (n - i - 1) in
-      let long : length before ≡ i = length-run cs from i (IsRun-part cs from n from i (omega arith) (omega arith) r) in
-      let here : run cs from n ≡ before ++ (x ∷ behind) =
-      run-split cs from (from + i) i (n - i) n refl (omega arith)
-      ∙ ap (λ ys. before ++ ys) (run-split cs (from + i) (from + i + 1) 1 (n - i - 1) (n - i) refl (omega arith) ∙ ap (λ ys. ys ++ behind) (run-one cs (from + i) x (omega (arith, r.0)) e)) in
-      let z : 0 ≡ i - length before = omega (arith, long) in
-      ap (λ ys. slice_get ys i) here ∙ slice_get-behind before (x ∷ behind) i (omega (arith, long)) ∙ ap (slice_get (x ∷ behind)) (sym z)
+  slice_get-run_from cs from n i x r h e = slice_get_read (run cs from n) n i x (sym (length-run cs from n r)) h (run-at_from cs from n i x r h e)
 
-  pub filled-in : (cs : List (Option X)) (from n i : ℕ) → IsRun cs from n → i < n → IsFilled cs (from + i)
-  filled-in cs from n i r h = run_filled cs from n i r h
-
-  pub ruleset at_both_ends = (nat_tests, run-put_behind, IsRun-put_behind, run-put_before, IsRun-put_before, run-take_front, IsRun-take_front, run-take_behind, IsRun-take_behind, first-filled, filled-behind, filled-in, run-set-above, IsRun-set-above, run-set-below, IsRun-set-below, length-set, length-run)
+  pub ruleset at_both_ends = (nat_tests, run-put_behind, IsRun-put_behind, run-put_before, IsRun-put_before, run-take_front, IsRun-take_front, run-take_behind, IsRun-take_behind, first-filled, filled-behind, run_filled, run-set-above, IsRun-set-above, run-set-below, IsRun-set-below, length-set, length-run)
 
   -- the same of a run up to a place
   pub run-put_back : (cs : List (Option X)) (front back : ℕ) (x : X) → front ≤ back → back < length cs → run (slice_set cs back (Some x)) front (back + 1 - front) ≡ run cs front (back - front) ++ x ∷ []
@@ -104,11 +94,6 @@ module _ {X : Type 0} where
 
   pub slice_get-in_second : (cs : List (Option X)) (from n i m : ℕ) (x : X) → IsRun cs from n → IsRun cs 0 m → n ≤ i → i - n < m → get_or cs (i - n) None ≡ Some x → slice_get (run cs from n ++ run cs 0 m) i ≡ Some x
   slice_get-in_second cs from n i m x r s h l e =
-      let k : i - length (run cs from n) ≡ i - n = ap (λ j. i - j) (length-run cs from n r) in
-      let z : 0 + (i - n) ≡ i - n = omega arith in
-      slice_get-behind (run cs from n) (run cs 0 m) i (omega (arith, h, length-run cs from n r)) ∙ ap (slice_get (run cs 0 m)) k ∙ slice_get-run_from cs 0 m (i - n) x s l (ap (λ j. get_or cs j None) z ∙ e)
+      slice_get-behind (run cs from n) (run cs 0 m) i (omega (arith, h, length-run cs from n r)) ∙ ap (λ j. slice_get (run cs 0 m) (i - j)) (length-run cs from n r) ∙ slice_get-run cs m (i - n) x s l e
 
-  pub filled-in_second : (cs : List (Option X)) (m i : ℕ) → IsRun cs 0 m → i < m → IsFilled cs i
-  filled-in_second cs m i r h = let z : 0 + i ≡ i = omega arith in subst (λ j. IsFilled cs j) z (run_filled cs 0 m i r h)
-
-  pub ruleset two_runs = (nat_tests, slice_get-in_first, slice_get-in_second, slice_get_past, filled-in, filled-in_second, length-run)
+  pub ruleset two_runs = (nat_tests, slice_get-in_first, slice_get-in_second, slice_get_past, run_filled, first_filled, length-run)

@@ -4,10 +4,11 @@
 --     with_room     the constructors, the reserves and the shrinks
 --     shown     slice, slice_mut, and what a loan wrote back
 --     in_runs     move_one, move_run, move_down, transfer, drop_run, put_array, take_array, put_copies
-use Rattle.aa_raw.proofs.Common.{Block, IsFilled, IsRun, List, None, Option, Reserves, Some, [], ap, arith, drop, drop-append-le, drop-drop, drop-set-lt, get_or, is_some, length, length-append, length-drop, length-map, length-replicate, length-set, length-take, length-take-le, length_refill, list_all, map, moved, nat_tests, places, refl, replicate, rules, run, same_lists, slice_get, slice_get_past, slice_get_read, slice_set, somes, subst, suc, sym, take, take-add, take-append-le, take-take, take_all, with_run, zero-add, ℕ, ◌++◌, ◌+◌, ◌-◌, ◌<◌, ◌∙◌, ◌∷◌, ◌≡◌, ◌≤◌}
+use Rattle.aa_raw.proofs.Common.{Block, IsFilled, IsRun, List, None, Option, Reserves, Some, [], ap, arith, drop, drop-drop, drop-set-lt, get_or, length, length-append, length-drop, length-map, length-replicate, length-set, length-take, length_refill, map, moved, nat_tests, places, refl, replicate, rules, run, same_lists, slice_get, slice_get_past, slice_get_read, slice_set, somes, subst, sym, take, take-append-le, take-take, take_all, with_run, zero-add, ℕ, ◌++◌, ◌+◌, ◌-◌, ◌<◌, ◌∙◌, ◌∷◌, ◌≡◌, ◌≤◌}
 use Rattle.aa_raw.proofs.Firsts.{run-at}
-use Rattle.aa_raw.proofs.Places.{length-empty_places, length-moved, length-with_run, lengths, moved_behind, moved_none, moved_on_down, moved_on_up, run_filled, with_none, with_run_on}
-use Rattle.aa_raw.proofs.Runs.{IsRun-kept, IsRun-long, IsRun-moved, IsRun-nil, IsRun-part, IsRun-pop, IsRun-push, IsRun-same, IsRun-set-above, IsRun-set-below, IsRun-shift, IsRun-with, cut-long, drop-with, first-filled, last-filled, length-run, run-below, run-drop, run-filled, run-moved, run-moved-below, run-none, run-pop, run-push, run-set-above, run-set-below, run-shift, run-split, run-take, run-with, run-with-above, run-with-below, run-zero, run_same, somes-map}
+pub use Rattle.aa_raw.proofs.Runs.{run-none as run-of_none}
+use Rattle.aa_raw.proofs.Places.{length-empty_places, length-moved, length-with_run, lengths, moved_none, moved_on_down, moved_on_up, run_before, with_none}
+use Rattle.aa_raw.proofs.Runs.{IsRun-kept, IsRun-long, IsRun-moved, IsRun-nil, IsRun-part, IsRun-pop, IsRun-push, IsRun-same, IsRun-set-above, IsRun-set-below, IsRun-shift, IsRun-with, drop-with, first-filled, last-filled, length-run, run-drop, run-filled, run-moved, run-moved-below, run-pop, run-push, run-set-above, run-set-below, run-shift, run-split, run-take, run-with, run-with-above, run-with-below, run_same, somes-map}
 
 module _ {X : Type 0} where
   -- a value put behind the first n
@@ -24,14 +25,7 @@ module _ {X : Type 0} where
   pub IsRun-take_last : (cs : List (Option X)) (k : ℕ) → 0 < k → IsRun cs 0 k → IsRun (slice_set cs (k - 1) None) 0 (k - 1)
   IsRun-take_last cs k some r = IsRun-pop cs 0 (k - 1) (k - 1) k (omega arith) (omega arith) r
 
-  -- the first of those up to the end taken
-  pub run-take_next : (cs : List (Option X)) (i : ℕ) (x : X) → i < length cs → IsRun cs i (length cs - i) → get_or cs i None ≡ Some x → x ∷ run (slice_set cs i None) (i + 1) (length cs - (i + 1)) ≡ run cs i (length cs - i)
-  run-take_next cs i x some r e = sym (run-shift cs i (length cs - (i + 1)) x (i + 1) (length cs - i) refl (omega arith) r e)
-
-  pub IsRun-take_next : (cs : List (Option X)) (i : ℕ) → i < length cs → IsRun cs i (length cs - i) → IsRun (slice_set cs i None) (i + 1) (length cs - (i + 1))
-  IsRun-take_next cs i some r = IsRun-shift cs i (length cs - (i + 1)) (i + 1) (length cs - i) refl (omega arith) r
-
-  -- and of those up to another place
+  -- the first of those up to another place taken
   pub run-take_first : (cs : List (Option X)) (front back : ℕ) (x : X) → front < back → IsRun cs front (back - front) → get_or cs front None ≡ Some x → x ∷ run (slice_set cs front None) (front + 1) (back - (front + 1)) ≡ run cs front (back - front)
   run-take_first cs front back x some r e = sym (run-shift cs front (back - (front + 1)) x (front + 1) (back - front) refl (omega arith) r e)
 
@@ -61,27 +55,24 @@ module _ {X : Type 0} where
   pub IsRun-first : (cs : List (Option X)) (i by : ℕ) → by ≤ length cs - i → IsRun cs i (length cs - i) → IsRun cs i by
   IsRun-first cs i by h r = IsRun-part cs i (length cs - i) i by (omega arith) (omega arith) r
 
+  -- those that a block keeps which made room
+  pub run-kept : (cs ds : List (Option X)) (n : ℕ) → take n ds ≡ take n cs → run ds 0 n ≡ run cs 0 n
+  run-kept cs ds n e = run_same ds cs 0 n e
+
   -- the first n of two joined lists, and of a beginning
   pub run-append : (cs ds : List (Option X)) (n : ℕ) → n ≤ length cs → run (cs ++ ds) 0 n ≡ run cs 0 n
-  run-append cs ds n h = run-below cs (cs ++ ds) n 0 n (take-append-le n cs ds h) (omega arith)
+  run-append cs ds n h = run-kept cs (cs ++ ds) n (take-append-le n cs ds h)
 
   pub IsRun-append : (cs ds : List (Option X)) (n : ℕ) → IsRun cs 0 n → IsRun (cs ++ ds) 0 n
   IsRun-append cs ds n r = let h : n ≤ length cs = omega (arith, r.0) in IsRun-kept cs (cs ++ ds) n (take-append-le n cs ds h) (omega (arith, length-append cs ds)) r
 
   pub run-beginning : (cs : List (Option X)) (k n : ℕ) → n ≤ k → run (take k cs) 0 n ≡ run cs 0 n
-  run-beginning cs k n h = run-below cs (take k cs) n 0 n (take-take n k cs h) (omega arith)
+  run-beginning cs k n h = run-kept cs (take k cs) n (take-take n k cs h)
 
   pub IsRun-beginning : (cs : List (Option X)) (k n : ℕ) → n ≤ k → IsRun cs 0 n → IsRun (take k cs) 0 n
-  IsRun-beginning cs k n h r = IsRun-kept cs (take k cs) n (take-take n k cs h) (omega (arith, r.0, length-take k cs)) r
-
-  -- those that a block keeps which made room
-  pub run-kept : (cs ds : List (Option X)) (n : ℕ) → take n ds ≡ take n cs → run ds 0 n ≡ run cs 0 n
-  run-kept cs ds n e = run-below cs ds n 0 n e (omega arith)
+  IsRun-beginning cs k n h r = run_before cs k 0 n (omega arith) r
 
   -- no value
-  pub run-of_none : (cs : List (Option X)) (from n : ℕ) → n ≡ 0 → run cs from n ≡ []
-  run-of_none = run-none
-
   pub IsRun-of_none : (cs : List (Option X)) (from n : ℕ) → n ≡ 0 → from ≤ length cs → IsRun cs from n
   IsRun-of_none cs from n e h = subst (λ k. IsRun cs from k) (sym e) (IsRun-nil cs from h)
 
@@ -162,11 +153,8 @@ module _ {X : Type 0} where
   IsRun-raised cs k to by h t r = IsRun-moved cs (k - by) to by (IsRun-last cs k by h r) t
 
   -- what stands behind the first places, where calls put and take at them
-  pub drop-put : (cs : List (Option X)) (n : ℕ) (c : Option X) → drop (n + 1) (slice_set cs n c) ≡ drop (n + 1) cs
-  drop-put cs n c = drop-set-lt (n + 1) cs n c (omega arith)
-
   pub drop-put_next : (cs : List (Option X)) (n : ℕ) (c : Option X) → drop (n + 1) (slice_set cs n c) ≡ drop 1 (drop n cs)
-  drop-put_next cs n c = drop-put cs n c ∙ sym (drop-drop 1 n cs)
+  drop-put_next cs n c = drop-set-lt (n + 1) cs n c (omega arith) ∙ sym (drop-drop 1 n cs)
 
   pub drop-with-first : (cs : List (Option X)) (n : ℕ) (ys : List (Option X)) → n ≤ length cs → length ys ≡ n → drop n (with_run cs 0 n ys) ≡ drop n cs
   drop-with-first cs n ys h e = ap (λ k. drop k (with_run cs 0 n ys)) (sym (zero-add n)) ∙ drop-with cs 0 n ys (omega arith) e ∙ ap (λ k. drop k cs) (zero-add n)
@@ -175,14 +163,11 @@ module _ {X : Type 0} where
   pub left_next : (qs : List (Option X)) (from n k m : ℕ) → IsRun qs from n → k + m ≤ n → IsRun (with_run qs from k (replicate k None)) (from + k) m
   left_next qs from n k m r h = IsRun-with-above qs from k (replicate k None) (from + k) m (omega (arith, r.0)) (length-replicate k None) (omega arith) (IsRun-part qs from n (from + k) m (omega arith) (omega arith) r)
 
-  pub lowered_next : (cs : List (Option X)) (by n k m : ℕ) → IsRun cs by n → k + m ≤ n → IsRun (moved cs by 0 k) (by + k) m
-  lowered_next cs by n k m r h = IsRun-moved-above cs by 0 k (by + k) m (omega (arith, r.0)) (omega (arith, r.0)) (omega arith) (omega arith) (IsRun-part cs by n (by + k) m (omega arith) (omega arith) r)
+  pub lowered_next : (cs : List (Option X)) (from to k a m n : ℕ) → IsRun cs from n → to ≤ from → from + k ≤ a → a + m ≤ from + n → IsRun (moved cs from to k) a m
+  lowered_next cs from to k a m n r low h l = IsRun-moved-above cs from to k a m (omega (arith, r.0)) (omega (arith, r.0)) h (omega arith) (IsRun-part cs from n a m (omega arith) l r)
 
   pub lowered_first : (cs : List (Option X)) (i n k : ℕ) → IsRun cs i n → k ≤ n → IsRun cs i k
   lowered_first cs i n k r h = IsRun-part cs i n i k (omega arith) (omega arith) r
-
-  pub lowered_left : (cs : List (Option X)) (by at n k : ℕ) → IsRun cs (by + at) n → k ≤ n → IsRun (moved cs (by + at) at k) (by + (at + k)) (n - k)
-  lowered_left cs by at n k r h = IsRun-moved-above cs (by + at) at k (by + (at + k)) (n - k) (omega (arith, r.0)) (omega (arith, r.0)) (omega arith) (omega arith) (IsRun-part cs (by + at) n (by + (at + k)) (n - k) (omega arith) (omega arith) r)
 
   pub raised_next : (cs : List (Option X)) (by n left from m : ℕ) → IsRun cs 0 n → by + n ≤ length cs → left ≤ n → from + m ≤ left → IsRun (moved cs left (by + left) (n - left)) from m
   raised_next cs by n left from m r room h l = IsRun-moved-below cs left (by + left) (n - left) from m (omega (arith, room)) (omega arith) l (omega arith) (IsRun-part cs 0 n from m (omega arith) (omega arith) r)
@@ -197,48 +182,18 @@ module _ {X : Type 0} where
 
   pub put_more : (cs qs : List (Option X)) (to from k m : ℕ) → to + (k + m) ≤ length cs → from + (k + m) ≤ length qs
       → with_run (with_run cs to k (take k (drop from qs))) (to + k) m (take m (drop (from + k) (with_run qs from k (replicate k None)))) ≡ with_run cs to (k + m) (take (k + m) (drop from qs))
-  put_more cs qs to from k m room fits =
-      let next : take m (drop (from + k) (with_run qs from k (replicate k None))) ≡ take m (drop k (drop from qs)) = ap (take m) (drop-with qs from k (replicate k None) (omega arith) (length-replicate k None) ∙ sym (drop-drop k from qs)) in
-      let long : length (take m (drop k (drop from qs))) ≡ m = omega (arith, length-take m (drop k (drop from qs)), length-drop k (drop from qs), length-drop from qs) in
-      ap (with_run (with_run cs to k (take k (drop from qs))) (to + k) m) next ∙ with_run_on cs to k m (take k (drop from qs)) (take m (drop k (drop from qs))) (cut-long qs from k (omega arith)) long room ∙ ap (with_run cs to (k + m)) (sym (take-add k m (drop from qs)))
+  unfolding with_run
+  put_more cs qs to from k m room fits = same_lists _ _ (search (rules, places)) (λ j d h. grind (arith, places))
 
-  pub lowered_more : (cs : List (Option X)) (by k m : ℕ) → 0 < by → by + (k + m) ≤ length cs → moved (moved cs by 0 k) (by + k) k m ≡ moved cs by 0 (k + m)
-  lowered_more cs by k m some fits = let e : k ≡ 0 + k = omega arith in (λ t. moved (moved cs by 0 k) (by + k) (e t) m) ∙ moved_on_down cs by 0 k m some fits
-
-  pub lowered_on : (cs : List (Option X)) (by at n k : ℕ) → 0 < by → k ≤ n → by + at + n ≤ length cs → moved (moved cs (by + at) at k) (by + (at + k)) (at + k) (n - k) ≡ moved cs (by + at) at n
-  lowered_on cs by at n k some h fits =
-      let e : by + (at + k) ≡ by + at + k = omega arith in let all : k + (n - k) ≡ n = omega arith in
-      (λ t. moved (moved cs (by + at) at k) (e t) (at + k) (n - k)) ∙ moved_on_down cs (by + at) at k (n - k) (omega arith) (omega arith) ∙ (λ t. moved cs (by + at) at (all t))
-
-  pub raised_more : (cs : List (Option X)) (by n left from m : ℕ) → 0 < by → by + n ≤ length cs → left ≤ n → from + m ≡ left → moved (moved cs left (by + left) (n - left)) from (by + from) m ≡ moved cs from (by + from) (n - from)
-  raised_more cs by n left from m some room h low =
-      let high : by + from + m ≡ by + left = omega arith in let all : m + (n - left) ≡ n - from = omega arith in
-      (λ t. moved (moved cs (sym low t) (sym high t) (n - left)) from (by + from) m) ∙ moved_on_up cs m from (by + from) (n - left) (omega arith) (omega arith) ∙ (λ t. moved cs from (by + from) (all t))
-
-  -- first, and at the end
+  -- first
   pub raised_none : (cs : List (Option X)) (by n : ℕ) → by + n ≤ length cs → moved cs n (by + n) (n - n) ≡ cs
   raised_none cs by n room = let none : n - n ≡ 0 = omega arith in ap (moved cs n (by + n)) none ∙ moved_none cs n (by + n) (omega arith) (omega arith)
 
-  pub raised_all : (cs : List (Option X)) (by n left : ℕ) → 0 < by → by + n ≤ length cs → left ≤ n → moved (moved cs left (by + left) (n - left)) 0 by left ≡ moved cs 0 by n
-  raised_all cs by n left some room h =
-      let e : by + 0 ≡ by = omega arith in let all : n - 0 ≡ n = omega arith in
-      (λ t. moved (moved cs left (by + left) (n - left)) 0 (sym e t) left) ∙ raised_more cs by n left 0 left some room h (omega arith) ∙ (λ t. moved cs 0 (e t) (all t))
+  pub ruleset lowered_in_arrays = (lengths, length-drop, lowered_next, lowered_first, moved_on_down, moved_none)
 
-  pub lowered_all : (cs : List (Option X)) (by n k : ℕ) → 0 < by → by + n ≤ length cs → k ≤ n → moved (moved cs by 0 k) (by + k) k (n - k) ≡ moved cs by 0 n
-  lowered_all cs by n k some fits h = let all : k + (n - k) ≡ n = omega arith in lowered_more cs by k (n - k) some (omega arith) ∙ ap (moved cs by 0) all
+  pub ruleset raised_in_arrays = (lengths, raised_next, raised_first, moved_on_up, raised_none)
 
-  pub left_all : (qs : List (Option X)) (from k n : ℕ) → from + n ≤ length qs → k ≤ n → with_run (with_run qs from k (replicate k None)) (from + k) (n - k) (replicate (n - k) None) ≡ with_run qs from n (replicate n None)
-  left_all qs from k n fits h = let all : k + (n - k) ≡ n = omega arith in left_more qs from k (n - k) (omega arith) ∙ ap (λ i. with_run qs from i (replicate i None)) all
-
-  pub put_all : (cs qs : List (Option X)) (to from k n : ℕ) → to + n ≤ length cs → from + n ≤ length qs → k ≤ n
-      → with_run (with_run cs to k (take k (drop from qs))) (to + k) (n - k) (take (n - k) (drop (from + k) (with_run qs from k (replicate k None)))) ≡ with_run cs to n (take n (drop from qs))
-  put_all cs qs to from k n room fits h = let all : k + (n - k) ≡ n = omega arith in put_more cs qs to from k (n - k) (omega arith) (omega arith) ∙ ap (λ i. with_run cs to i (take i (drop from qs))) all
-
-  pub ruleset lowered_in_arrays = (lengths, length-drop, lowered_next, lowered_first, lowered_left, lowered_more, lowered_on, lowered_all, moved_none)
-
-  pub ruleset raised_in_arrays = (lengths, raised_next, raised_first, raised_more, raised_none, raised_all)
-
-  pub ruleset put_in_arrays = (lengths, with_none, left_next, left_more, put_more, left_all, put_all)
+  pub ruleset put_in_arrays = (lengths, with_none, left_next, left_more, put_more)
 
 module _ {X A : Type 0} where
   pub run-reserved : (size : ℕ) (old : Block X A) (n k wanted : ℕ) (new : Block X A) → Reserves size old n k wanted new → run new.places 0 n ≡ run old.places 0 n
@@ -247,7 +202,7 @@ module _ {X A : Type 0} where
   pub IsRun-reserved : (size : ℕ) (old : Block X A) (n k wanted : ℕ) (new : Block X A) → Reserves size old n k wanted new → IsRun old.places 0 n → IsRun new.places 0 n
   IsRun-reserved size old n k wanted new made r = let m : n + k ≤ length new.places = made.room in IsRun-kept old.places new.places n made.kept (omega arith) r
 
-pub ruleset at_ends = (nat_tests, run-put, IsRun-put, run-take_last, IsRun-take_last, run-take_next, IsRun-take_next, run-take_first, IsRun-take_first, run-take_back, IsRun-take_back, run-set-below, IsRun-set-below, run-set-above, IsRun-set-above, slice_get-run, slice_get_past, length-run, length-set, length-replicate, length-empty_places, run-of_none, IsRun-last, IsRun-first, first-filled, filled-back, drop-put_next)
+pub ruleset at_ends = (nat_tests, run-put, IsRun-put, run-take_last, IsRun-take_last, run-take_first, IsRun-take_first, run-take_back, IsRun-take_back, run-set-below, IsRun-set-below, run-set-above, IsRun-set-above, slice_get-run, slice_get_past, length-run, length-set, length-replicate, length-empty_places, run-of_none, IsRun-last, IsRun-first, first-filled, filled-back, drop-put_next)
 
 pub ruleset with_room = (nat_tests, run-reserved, IsRun-reserved, run-kept, run-append, IsRun-append, run-beginning, IsRun-beginning, run-of_none, length-run, length-append, length-take, length-drop, length-replicate, length-empty_places)
 

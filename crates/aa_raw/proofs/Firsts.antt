@@ -1,40 +1,25 @@
 -- The values in the first places of a block, one of which is read or written anew.
-use Rattle.aa_raw.proofs.Common.{IsRun, List, None, Option, Some, [], ap, arith, get_or, is_some, length-set, list_all, refl, run, slice_set, somes, suc, take, true, zero, ℕ, ◌<◌, ◌∷◌, ◌≡◌}
+use Rattle.aa_raw.proofs.Common.{IsRun, List, None, Option, Some, ap, arith, cases_eq, drop, get_or, get_or-drop, get_or-set_other, get_or-set_same, get_or-take, length-set, run, slice_set, sym, zero-add, ℕ, ◌+◌, ◌<◌, ◌∙◌, ◌≡◌}
+use Rattle.aa_raw.proofs.Places.{first_filled}
+use Rattle.aa_raw.proofs.Runs.{filled-run, length-run, run-filled, run-is}
+use Rattle.std.proofs.Math.Seq.{take-set-lt}
+use Rattle.std.proofs.lemmas.List.{get_or-map, map-set}
+use Rattle.std.proofs.lemmas.Option.{same_Some}
 
 module _ {X : Type 0} where
-  abbrev AllFilled : List (Option X) → Type 0
-  AllFilled cs = list_all is_some cs ≡ true
-
-  set-all : (cs : List (Option X)) (n i : ℕ) (w : X) → AllFilled (take n cs) → AllFilled (take n (slice_set cs i (Some w)))
-  set-all [] n i w r = grind arith
-  set-all (c ∷ cs) zero i w r = refl
-  set-all (None ∷ cs) (suc n) i w r = cc
-  set-all (Some x ∷ cs) (suc n) zero w r = r
-  set-all (Some x ∷ cs) (suc n) (suc i) w r = set-all cs n i w r
-
-  somes-set : (cs : List (Option X)) (n i : ℕ) (w : X) → AllFilled (take n cs) → i < n → somes (take n (slice_set cs i (Some w))) ≡ slice_set (somes (take n cs)) i w
-  somes-set cs zero i w r h = absurd (omega arith)
-  somes-set [] (suc n) i w r h = refl
-  somes-set (None ∷ cs) (suc n) i w r h = cc
-  somes-set (Some x ∷ cs) (suc n) zero w r h = refl
-  somes-set (Some x ∷ cs) (suc n) (suc i) w r h = ap (λ l. x ∷ l) (somes-set cs n i w r (omega arith))
-
-  somes-at : (cs : List (Option X)) (n i : ℕ) (x : X) → AllFilled (take n cs) → i < n → get_or cs i None ≡ Some x → x ≡ get_or (somes (take n cs)) i x
-  somes-at cs zero i x r h e = absurd (omega arith)
-  somes-at [] (suc n) i x r h e = refl
-  somes-at (None ∷ cs) (suc n) i x r h e = cc
-  somes-at (Some y ∷ cs) (suc n) zero x r h e = cc
-  somes-at (Some y ∷ cs) (suc n) (suc i) x r h e = somes-at cs n i x r (omega arith) e
-
   -- one of the first places is filled, and written anew
   pub IsRun-set : (cs : List (Option X)) (n i : ℕ) (w : X) → IsRun cs 0 n → IsRun (slice_set cs i (Some w)) 0 n
-  IsRun-set cs n i w r = (omega (arith, length-set cs i (Some w), r.0), set-all cs n i w r.1)
+  IsRun-set cs n i w r =
+      filled-run (slice_set cs i (Some w)) 0 n (omega (arith, length-set cs i (Some w), r.0)) (λ k h. let there = first_filled cs n k r h in let within = r.0 in grind (arith, get_or-set_same, get_or-set_other, cases_eq k i))
 
   pub run-set : (cs : List (Option X)) (n i : ℕ) (w : X) → IsRun cs 0 n → i < n → run (slice_set cs i (Some w)) 0 n ≡ slice_set (run cs 0 n) i w
-  unfolding run
-  run-set cs n i w r h = somes-set cs n i w r.1 h
+  run-set cs n i w r h =
+      run-is (slice_set cs i (Some w)) 0 n (slice_set (run cs 0 n) i w) (take-set-lt n cs i (Some w) h ∙ ap (λ ds. slice_set ds i (Some w)) (run-filled cs 0 n r) ∙ sym (map-set (λ (x : X). Some x) (run cs 0 n) i w))
 
-  -- the value that is read there
+  -- the value that is read in a run, and there
+  pub run-at_from : (cs : List (Option X)) (from n i : ℕ) (x : X) → IsRun cs from n → i < n → get_or cs (from + i) None ≡ Some x → x ≡ get_or (run cs from n) i x
+  run-at_from cs from n i x r h e =
+      same_Some x (get_or (run cs from n) i x) (sym e ∙ sym (get_or-take n (drop from cs) i None h ∙ get_or-drop from cs i None) ∙ ap (λ ds. get_or ds i None) (run-filled cs from n r) ∙ get_or-map (λ (x : X). Some x) (run cs from n) i x None (omega (arith, length-run cs from n r)))
+
   pub run-at : (cs : List (Option X)) (n i : ℕ) (x : X) → IsRun cs 0 n → i < n → get_or cs i None ≡ Some x → x ≡ get_or (run cs 0 n) i x
-  unfolding run
-  run-at cs n i x r h e = somes-at cs n i x r.1 h e
+  run-at cs n i x r h e = run-at_from cs 0 n i x r h (ap (λ k. get_or cs k None) (zero-add i) ∙ e)

@@ -1,20 +1,12 @@
 -- Lemmas on edits at a position of the first n places of a block, which are filled.
-use Rattle.aa_raw.proofs.Common.{IsFilled, IsRun, List, None, Option, Some, [], ap, arith, drop, get_or, get_or-set_other, get_or_from_slice_get, insert, is_some, length, length-append, length-drop, length-set, length-take, moved, nat_tests, refl, remove, run, set-set, set_comm, slice_get, slice_get_read, slice_set, subst, suc, swap_remove, sym, take, take-append-drop, take-set-le, true, zero-add, ℕ, ◌++◌, ◌+◌, ◌-◌, ◌<◌, ◌∙◌, ◌∷◌, ◌≡◌, ◌≢◌, ◌≤◌}
-use Rattle.aa_raw.proofs.Calls.{IsRun-reserved, IsRun-rest, run-of_none, run-reserved}
+use Rattle.aa_raw.proofs.Common.{IsFilled, IsRun, List, None, Option, Some, [], ap, arith, drop, get_or, get_or-set_other, get_or_from_slice_get, insert, is_some, length, length-append, length-drop, length-set, length-take, moved, nat_tests, refl, remove, run, set-set, set_comm, slice_set, suc, swap_remove, sym, take, take-set-le, ℕ, ◌++◌, ◌+◌, ◌-◌, ◌<◌, ◌∙◌, ◌∷◌, ◌≡◌, ◌≤◌}
+use Rattle.aa_raw.proofs.Calls.{IsRun-reserved, IsRun-rest, run-of_none, run-reserved, slice_get-run}
 use Rattle.aa_raw.proofs.Firsts.{IsRun-set, run-at, run-set}
-use Rattle.aa_raw.proofs.Places.{length-moved, lengths, moved_one, run_filled, value_of}
-use Rattle.aa_raw.proofs.Runs.{IsRun-long, IsRun-part, IsRun-same, length-run, run-drop, run-moved, run-moved-below, run-one, run-set-above, run-set-below, run-set-same, run-split, run-take}
+use Rattle.aa_raw.proofs.Places.{first_filled, length-moved, lengths, moved_one, value_of}
+use Rattle.aa_raw.proofs.Runs.{IsRun-long, IsRun-moved, IsRun-part, IsRun-pop, IsRun-set-below, IsRun-shift, length-run, run-drop, run-moved, run-moved-below, run-set-above, run-set-below, run-set-same, run-shift, run-split, run-take}
 
 module _ {T : Type 0} where
   module _ (cs : List (Option T)) (n : ℕ) (front : IsRun cs 0 n) where
-    -- one of them is filled
-    pub front-filled : (i : ℕ) → i < n → IsFilled cs i
-    front-filled i h = subst (λ k. IsFilled cs k) (zero-add i) (run_filled cs 0 n i front h)
-
-    -- the value that is read there
-    pub front-get : (i : ℕ) (x : T) → i < n → get_or cs i None ≡ Some x → slice_get (run cs 0 n) i ≡ Some x
-    front-get i x h e = slice_get_read (run cs 0 n) n i x (sym (length-run cs 0 n front)) h (run-at cs n i x front h e)
-
     -- those from i on are moved up by one, and x put at i
     abbrev pub inserted : (i : ℕ) → T → List (Option T)
     inserted i x = slice_set (moved cs i (i + 1) (n - i)) i (Some x)
@@ -52,8 +44,7 @@ module _ {T : Type 0} where
 
       -- those behind it are still there
       pub IsRun-behind : IsRun (slice_set cs i None) (i + 1) (n - 1 - i)
-      IsRun-behind =
-          IsRun-same cs (slice_set cs i None) (i + 1) (n - 1 - i) taken (run-set-below cs (i + 1) (n - 1 - i) i None (omega arith)) (IsRun-part cs 0 n (i + 1) (n - 1 - i) (omega arith) (omega arith) front)
+      IsRun-behind = IsRun-set-below cs (i + 1) (n - 1 - i) i None (omega arith) (IsRun-part cs 0 n (i + 1) (n - 1 - i) (omega arith) (omega arith) front)
 
       pub length-removed : length (removed i) ≡ length cs
       length-removed = length-moved (slice_set cs i None) (i + 1) i (n - 1 - i) (omega (arith, taken, front.0)) (omega (arith, taken, front.0)) ∙ taken
@@ -87,54 +78,42 @@ module _ {T : Type 0} where
 
       -- the last one is still there
       pub last-filled : i < n - 1 → IsFilled (slice_set cs i None) (n - 1)
-      last-filled h = ap is_some (get_or-set_other cs i (n - 1) None None (λ e. absurd (omega arith))) ∙ front-filled (n - 1) (omega arith)
+      last-filled h = ap is_some (get_or-set_other cs i (n - 1) None None (λ e. absurd (omega arith))) ∙ first_filled cs n (n - 1) front (omega arith)
 
       pub run-swapped : (d : T) → i < n - 1 → run swapped 0 (n - 1) ≡ swap_remove (run cs 0 n) i d
       run-swapped d h =
           let last : ℕ = n - 1 in
           let xs : List T = run cs 0 n in
-          let v = value_of (get_or cs last None) (front-filled last (omega arith)) in
+          let v = value_of (get_or cs last None) (first_filled cs n last front (omega arith)) in
           let y : T = v.0 in
           let places : swapped ≡ slice_set (slice_set cs i (Some y)) last None =
           grind (arith, moved_one, set_comm, set-set, length-set, get_or-set_other, v.1) in
-          let last_is : y ≡ get_or xs last d = sym (get_or_from_slice_get xs last y d (front-get last y (omega arith) v.1)) in
+          let last_is : y ≡ get_or xs last d = sym (get_or_from_slice_get xs last y d (slice_get-run cs n last y front (omega arith) v.1)) in
           ap (λ l. run l 0 last) places
           ∙ run-set-above (slice_set cs i (Some y)) 0 last last None (omega (arith, front.0, length-set cs i (Some y))) (omega arith)
           ∙ sym (run-take (slice_set cs i (Some y)) 0 last n (omega arith) (IsRun-set cs n i y front))
           ∙ ap (take last) (run-set cs n i y front within ∙ ap (slice_set xs i) last_is)
           ∙ ap (λ k. take (k - 1) (slice_set xs i (get_or xs (k - 1) d))) (sym (length-run cs 0 n front))
 
-      -- one element fewer, all of them there
-      pub IsRun-fewer : (d : T) (ds : List (Option T)) → length ds ≡ length cs → run ds 0 (n - 1) ≡ swap_remove (run cs 0 n) i d → IsRun ds 0 (n - 1)
-      IsRun-fewer d ds l e =
-          let xs : List T = run cs 0 n in
-          let ys : List T = slice_set xs i (get_or xs (length xs - 1) d) in
-          IsRun-long ds 0 (n - 1) (ap length e ∙ omega (arith, length-take (length xs - 1) ys, length-set xs i (get_or xs (length xs - 1) d), length-run cs 0 n front, within)) (omega (arith, l, front.0))
-
-      value : T
-      value = (value_of (get_or cs i None) (front-filled i within)).0
-
+      -- all others are there
       pub IsRun-last_removed : i ≡ n - 1 → IsRun (slice_set cs i None) 0 (n - 1)
-      IsRun-last_removed e = IsRun-fewer value (slice_set cs i None) taken (run-last_removed value e)
+      IsRun-last_removed e = IsRun-pop cs 0 (n - 1) i n (omega arith) (omega arith) front
 
       pub IsRun-swapped : i < n - 1 → IsRun swapped 0 (n - 1)
-      IsRun-swapped h = IsRun-fewer value swapped length-swapped (run-swapped value h)
+      IsRun-swapped h =
+          let d = (value_of (get_or cs i None) (first_filled cs n i front within)).0 in
+          IsRun-long swapped 0 (n - 1) (grind (arith, run-swapped d h, length-take, length-set, length-run)) (omega (arith, length-swapped, front.0))
 
   -- the first of the first n taken, and those behind it moved down by one
   module _ (cs : List (Option T)) (n : ℕ) (some : 0 < n) (front : IsRun cs 0 n) where
-    none : n - 1 - 0 ≡ n - 1
-    none = omega arith
-
     pub IsRun-behind_first : IsRun (slice_set cs 0 None) 1 (n - 1)
-    IsRun-behind_first = subst (IsRun (slice_set cs 0 None) 1) none (IsRun-behind cs n front 0 some)
+    IsRun-behind_first = IsRun-shift cs 0 (n - 1) 1 n refl (omega arith) front
 
     pub IsRun-removed_first : IsRun (moved (slice_set cs 0 None) 1 0 (n - 1)) 0 (n - 1)
-    IsRun-removed_first = subst (λ k. IsRun (moved (slice_set cs 0 None) 1 0 k) 0 (n - 1)) none (IsRun-removed cs n front 0 some)
+    IsRun-removed_first = IsRun-moved (slice_set cs 0 None) 1 0 (n - 1) IsRun-behind_first (omega (arith, length-set cs 0 None, front.0))
 
     pub run-removed_first : (x : T) → get_or cs 0 None ≡ Some x → x ∷ run (moved (slice_set cs 0 None) 1 0 (n - 1)) 0 (n - 1) ≡ run cs 0 n
     run-removed_first x e =
-        let first : run cs 0 1 ≡ x ∷ [] = run-one cs 0 x (omega (arith, front.0)) e in
-        ap (λ k. x ∷ run (moved (slice_set cs 0 None) 1 0 k) 0 (n - 1)) (sym none) ∙ ap (λ ys. x ∷ ys) (run-removed cs n front 0 some) ∙ ap (λ ys. ys ++ drop 1 (run cs 0 n)) (sym first ∙ sym (run-take cs 0 1 n (omega arith) front))
-        ∙ take-append-drop 1 (run cs 0 n)
+        ap (λ ys. x ∷ ys) (run-moved (slice_set cs 0 None) 1 0 (n - 1) IsRun-behind_first (omega (arith, length-set cs 0 None, front.0))) ∙ sym (run-shift cs 0 (n - 1) x 1 n refl (omega arith) front e)
 
-pub ruleset at_positions = (nat_tests, lengths, length-run, length-set, run-of_none, IsRun-rest, run-reserved, IsRun-reserved, front-filled, front-get, length-inserted, run-inserted, IsRun-inserted, IsRun-behind, length-removed, run-removed, IsRun-removed, IsRun-behind_first, run-removed_first, IsRun-removed_first, run-last_removed, IsRun-last_removed, last-filled, length-swapped, run-swapped, IsRun-swapped, IsRun-set, run-set, run-at)
+pub ruleset at_positions = (nat_tests, lengths, length-run, length-set, run-of_none, IsRun-rest, run-reserved, IsRun-reserved, first_filled, slice_get-run, length-inserted, run-inserted, IsRun-inserted, IsRun-behind, length-removed, run-removed, IsRun-removed, IsRun-behind_first, run-removed_first, IsRun-removed_first, run-last_removed, IsRun-last_removed, last-filled, length-swapped, run-swapped, IsRun-swapped, IsRun-set, run-set, run-at)

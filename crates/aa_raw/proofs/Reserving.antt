@@ -1,6 +1,6 @@
 -- What a reserve leaves, and how many places there are after the calls of a block.
-use Rattle.aa_raw.proofs.Common.{Block, Bool, Growth, List, None, Option, Reserves, ap, arith, cases_lt, empty_places, endless_places, eqb_tells, fresh, if◌then◌else◌, inl, inr, length, length_refill, nat_tests, refl, replicate, rules, sized, sym, usize_max, ℕ, ◌+◌, ◌-◌, ◌<◌, ◌∙◌, ◌≡◌, ◌≤◌}
-use Rattle.aa_raw.proofs.Places.{endless-empty, length-empty_places, lengths, sized-empty, with_none}
+use Rattle.aa_raw.proofs.Common.{Block, Reserves, length, length_refill, nat_tests, rules, usize_max, ℕ, ◌+◌, ◌-◌, ◌≤◌}
+use Rattle.aa_raw.proofs.Places.{endless-empty, lengths, sized-empty, with_none}
 
 module _ {X A : Type 0} (size : ℕ) (old : Block X A) (n k wanted : ℕ) where
   -- where they fit, the block stays

@@ -1,14 +1,10 @@
 -- Lemmas on the values in a run of places.
-use Rattle.aa_raw.proofs.Common.{IsFilled, IsRun, List, None, Option, Some, [], add-zero, ap, append_assoc, arith, cases_lt, drop, drop-append-le, drop-drop, drop-set-lt, drop-take, drop_at, drop_more, get_or, get_or-drop, get_or-set_same, get_or-take, inl, inr, is_some, length, length-append, length-drop, length-map, length-set, length-take-le, list_all, map, moved, places, refl, rules, run, same_lists, set_split, slice_set, somes, subst, suc, sym, take, take-add, take-append-drop, take-append-le, take-take, take_at, true, with_run, ℕ, ◌++◌, ◌+◌, ◌-◌, ◌<◌, ◌∙◌, ◌∷◌, ◌≡◌, ◌≤◌}
-use Rattle.aa_raw.proofs.Places.{length-moved, length-with_run, run_filled}
+use Rattle.aa_raw.proofs.Common.{IsFilled, IsRun, List, None, Option, Some, [], add-zero, ap, arith, cases_lt, drop, drop-drop, drop-set-lt, drop_at, drop_more, get_or, get_or-drop, get_or-set_same, get_or-take, inl, inr, is_some, length, length-append, length-map, length-set, list_all, map, moved, places, refl, rules, run, same_lists, slice_set, somes, subst, suc, sym, take, take-add, take_at, true, with_run, ℕ, ◌++◌, ◌+◌, ◌-◌, ◌<◌, ◌∙◌, ◌∷◌, ◌≡◌, ◌≤◌}
+use Rattle.aa_raw.proofs.Places.{all-map, length-moved, length-with_run, run_filled}
 pub use Rattle.aa_raw.proofs.Places.{length-cut as cut-long}
+use Rattle.std.proofs.lemmas.List.Elements.{filter_map-append}
 
 module _ {X : Type 0} where
-  pub somes-append : (cs ds : List (Option X)) → somes (cs ++ ds) ≡ somes cs ++ somes ds
-  somes-append [] ds = refl
-  somes-append (None ∷ cs) ds = somes-append cs ds
-  somes-append (Some x ∷ cs) ds = ap (λ xs. x ∷ xs) (somes-append cs ds)
-
   pub somes-map : (xs : List X) → somes (map Some xs) ≡ xs
   somes-map [] = refl
   somes-map (x ∷ xs) = ap (λ ys. x ∷ ys) (somes-map xs)
@@ -18,12 +14,7 @@ module _ {X : Type 0} where
   somes-le (None ∷ cs) = omega (arith, somes-le cs)
   somes-le (Some x ∷ cs) = omega (arith, somes-le cs)
 
-  -- places that are all filled are as many as their values, and are those values
-  all-map : (cs : List (Option X)) → list_all is_some cs ≡ true → cs ≡ map Some (somes cs)
-  all-map [] h = refl
-  all-map (None ∷ cs) h = cc
-  all-map (Some x ∷ cs) h = ap (λ ds. Some x ∷ ds) (all-map cs h)
-
+  -- places that are all filled are as many as their values
   long-all : (cs : List (Option X)) → length (somes cs) ≡ length cs → list_all is_some cs ≡ true
   long-all [] h = refl
   long-all (None ∷ cs) h = absurd (omega (arith, somes-le cs, h))
@@ -57,30 +48,16 @@ module _ {X : Type 0} where
   unfolding run
   run-zero cs from = refl
 
-  pub run-add : (cs : List (Option X)) (from m n : ℕ) → run cs from (m + n) ≡ run cs from m ++ run cs (from + m) n
-  unfolding run
-  run-add cs from m n = ap somes (take-add m n (drop from cs)) ∙ somes-append (take m (drop from cs)) (take n (drop m (drop from cs))) ∙ ap (λ ds. somes (take m (drop from cs)) ++ somes (take n ds)) (drop-drop m from cs)
-
-  take-one : (cs : List (Option X)) (i : ℕ) → i < length cs → take 1 (drop i cs) ≡ get_or cs i None ∷ []
-  take-one cs i h = ap (take 1) (drop_more cs i None h)
-
   -- the value in one place
   pub run-one : (cs : List (Option X)) (i : ℕ) (x : X) → i < length cs → get_or cs i None ≡ Some x → run cs i 1 ≡ x ∷ []
   unfolding run
-  run-one cs i x h e = ap somes (take-one cs i h) ∙ ap (λ c. somes (c ∷ [])) e
+  run-one cs i x h e = rw (drop_more cs i None h, e) refl
 
-  -- a cut within the first of two joined lists, or behind it
-  cut-first : (p q : List (Option X)) (a k : ℕ) → a + k ≤ length p → take k (drop a (p ++ q)) ≡ take k (drop a p)
-  cut-first p q a k h = ap (take k) (drop-append-le a p q (omega arith)) ∙ take-append-le k (drop a p) q (omega (arith, length-drop a p))
-
-  cut-front : (cs q : List (Option X)) (m a k : ℕ) → a + k ≤ m → m ≤ length cs → take k (drop a (take m cs ++ q)) ≡ take k (drop a cs)
-  cut-front cs q m a k h l =
-      let e : length (take m cs) ≡ m = length-take-le m cs l in
-      cut-first (take m cs) q a k (omega arith) ∙ sym (cut-first (take m cs) (drop m cs) a k (omega arith)) ∙ ap (λ ds. take k (drop a ds)) (take-append-drop m cs)
-
-  -- the same lemmas at numbers that are equal only by arithmetic
+  -- a run is its beginning and the rest
   pub run-split : (cs : List (Option X)) (from a m n k : ℕ) → from + m ≡ a → m + n ≡ k → run cs from k ≡ run cs from m ++ run cs a n
-  run-split cs from a m n k e f = ap (run cs from) (sym f) ∙ run-add cs from m n ∙ ap (λ i. run cs from m ++ run cs i n) e
+  unfolding run
+  run-split cs from a m n k e f =
+      rw (← e, ← f) (ap somes (take-add m n (drop from cs)) ∙ filter_map-append (λ c. c) (take m (drop from cs)) (take n (drop m (drop from cs))) ∙ ap (λ ds. somes (take m (drop from cs)) ++ somes (take n ds)) (drop-drop m from cs))
 
   -- places that are all filled are a run, and so are the parts of a run, and two runs in line
   all-filled : (cs : List (Option X)) → ((i : ℕ) → i < length cs → IsFilled cs i) → list_all is_some cs ≡ true
@@ -88,7 +65,7 @@ module _ {X : Type 0} where
   all-filled (None ∷ cs) f = let e = f 0 (omega arith) in cc
   all-filled (Some x ∷ cs) f = all-filled cs (λ i h. f (suc i) (omega arith))
 
-  filled-run : (cs : List (Option X)) (from n : ℕ) → from + n ≤ length cs → ((i : ℕ) → i < n → IsFilled cs (from + i)) → IsRun cs from n
+  pub filled-run : (cs : List (Option X)) (from n : ℕ) → from + n ≤ length cs → ((i : ℕ) → i < n → IsFilled cs (from + i)) → IsRun cs from n
   filled-run cs from n h f =
       let long = cut-long cs from n h in (h, all-filled (take n (drop from cs)) (λ i l. ap is_some (get_or-take n (drop from cs) i None (omega arith) ∙ get_or-drop from cs i None) ∙ f i (omega arith)))
 
@@ -111,7 +88,7 @@ module _ {X : Type 0} where
 
   -- a write elsewhere leaves a run
   pub run-set-above : (cs : List (Option X)) (from n i : ℕ) (c : Option X) → i < length cs → from + n ≤ i → run (slice_set cs i c) from n ≡ run cs from n
-  run-set-above cs from n i c l h = run_same (slice_set cs i c) cs from n (ap (λ ds. take n (drop from ds)) (set_split cs i c l) ∙ cut-front cs (c ∷ drop (suc i) cs) i from n h (omega arith))
+  run-set-above cs from n i c l h = run_same (slice_set cs i c) cs from n (same_lists _ _ (grind (arith, places, length-set)) (λ j d t. grind (arith, places, length-set)))
 
   pub run-set-below : (cs : List (Option X)) (from n i : ℕ) (c : Option X) → i < from → run (slice_set cs i c) from n ≡ run cs from n
   run-set-below cs from n i c h = run_same (slice_set cs i c) cs from n (ap (take n) (drop-set-lt from cs i c h))
@@ -158,33 +135,18 @@ module _ {X : Type 0} where
   pub run-none : (cs : List (Option X)) (from n : ℕ) → n ≡ 0 → run cs from n ≡ []
   run-none cs from n e = ap (run cs from) e ∙ run-zero cs from
 
-  -- a run within what is the same
-  pub run-below : (cs ds : List (Option X)) (m a k : ℕ) → take m ds ≡ take m cs → a + k ≤ m → run ds a k ≡ run cs a k
-  run-below cs ds m a k e h =
-      let f : a + (m - a) ≡ m = omega arith in
-      let g : (es : List (Option X)) → take k (drop a (take m es)) ≡ take k (drop a es) =
-      λ es. ap (λ i. take k (drop a (take i es))) (sym f) ∙ ap (take k) (drop-take a (m - a) es) ∙ take-take k (m - a) (drop a es) (omega arith) in
-      run_same ds cs a k (sym (g ds) ∙ ap (λ es. take k (drop a es)) e ∙ g cs)
-
   -- other values in the places of a run
   pub run-with : (cs : List (Option X)) (from n : ℕ) (xs : List X) → from + n ≤ length cs → length xs ≡ n → run (with_run cs from n (map Some xs)) from n ≡ xs
-  unfolding run with_run
+  unfolding with_run
   run-with cs from n xs h e =
-      let ys : List (Option X) = map Some xs in
-      let l : length ys ≡ n = length-map xs (λ (x : X). Some x) ∙ e in
-      ap (λ ds. somes (take n ds)) (drop_at (take from cs) (ys ++ drop (from + n) cs) from (length-take-le from cs (omega arith))) ∙ ap somes (take_at ys (drop (from + n) cs) n l) ∙ somes-map xs
-
-  pub length-with : (cs : List (Option X)) (from n : ℕ) (xs : List X) → from + n ≤ length cs → length xs ≡ n → length (with_run cs from n (map Some xs)) ≡ length cs
-  length-with cs from n xs h e = length-with_run cs from n (map Some xs) h (length-map xs (λ (x : X). Some x) ∙ e)
+      let long = length-map xs (λ (x : X). Some x) in run-is (with_run cs from n (map Some xs)) from n xs (same_lists _ _ (grind (arith, places, long)) (λ j d t. grind (arith, places, long)))
 
   pub IsRun-with : (cs : List (Option X)) (from n : ℕ) (xs : List X) → from + n ≤ length cs → length xs ≡ n → IsRun (with_run cs from n (map Some xs)) from n
-  IsRun-with cs from n xs h e = IsRun-long (with_run cs from n (map Some xs)) from n (ap length (run-with cs from n xs h e) ∙ e) (omega (arith, h, length-with cs from n xs h e))
+  IsRun-with cs from n xs h e = IsRun-long (with_run cs from n (map Some xs)) from n (ap length (run-with cs from n xs h e) ∙ e) (omega (arith, h, length-with_run cs from n (map Some xs) h (length-map xs (λ (x : X). Some x) ∙ e)))
 
   pub drop-with : (cs : List (Option X)) (from n : ℕ) (ys : List (Option X)) → from + n ≤ length cs → length ys ≡ n → drop (from + n) (with_run cs from n ys) ≡ drop (from + n) cs
   unfolding with_run
-  drop-with cs from n ys h e =
-      ap (drop (from + n)) (sym (append_assoc (take from cs) ys (drop (from + n) cs)))
-      ∙ drop_at (take from cs ++ ys) (drop (from + n) cs) (from + n) (length-append (take from cs) ys ∙ omega (arith, length-take-le from cs (omega arith), e))
+  drop-with cs from n ys h e = same_lists _ _ (grind (arith, places)) (λ j d t. grind (arith, places))
 
   -- the first place of a run is filled
   pub first-filled : (cs : List (Option X)) (from n : ℕ) → IsRun cs from n → 0 < n → IsFilled cs from
@@ -215,8 +177,7 @@ module _ {X : Type 0} where
   -- other places leave a run that lies before them, or behind them
   pub run-with-below : (cs : List (Option X)) (from n : ℕ) (ys : List (Option X)) (a k : ℕ) → from + n ≤ length cs → a + k ≤ from → run (with_run cs from n ys) a k ≡ run cs a k
   unfolding with_run
-  run-with-below cs from n ys a k h l =
-      run-below cs (with_run cs from n ys) from a k (take_at (take from cs) (ys ++ drop (from + n) cs) from (length-take-le from cs (omega arith))) l
+  run-with-below cs from n ys a k h l = run_same (with_run cs from n ys) cs a k (same_lists _ _ (grind (arith, places)) (λ j d t. grind (arith, places)))
 
   pub run-with-above : (cs : List (Option X)) (from n : ℕ) (ys : List (Option X)) (a k : ℕ) → from + n ≤ length cs → length ys ≡ n → from + n ≤ a → run (with_run cs from n ys) a k ≡ run cs a k
   unfolding with_run

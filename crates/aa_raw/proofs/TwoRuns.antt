@@ -59,21 +59,15 @@ module _ {X : Type 0} (cs : List (Option X)) (first second : ℕ × ℕ) (r : Is
     pub length-two : length two ≡ c
     length-two = length-with_run one to second.1 (take second.1 (drop second.0 cs)) (omega (arith, length-one)) (cut-long cs second.0 second.1 s.0) ∙ length-one
 
-    pub run-first : run two 0 first.1 ≡ run cs first.0 first.1
-    run-first =
-        run-with-below one to second.1 (take second.1 (drop second.0 cs)) 0 first.1 (omega (arith, length-one)) (omega arith)
-        ∙ run-transferred_there empty cs 0 first.0 first.1 (omega (arith, long)) r
-
-    pub IsRun-first : IsRun two 0 first.1
-    IsRun-first =
-        IsRun-with-below one to second.1 (take second.1 (drop second.0 cs)) 0 first.1 (omega (arith, length-one)) (cut-long cs second.0 second.1 s.0) (omega arith)
-        (IsRun-transferred_there empty cs 0 first.0 first.1 (omega (arith, long)) r)
-
-    pub run-second : run two to second.1 ≡ run cs second.0 second.1
-    run-second = run-transferred_there one cs to second.0 second.1 (omega (arith, length-one)) s
-
-    pub IsRun-second : IsRun two to second.1
-    IsRun-second = IsRun-transferred_there one cs to second.0 second.1 (omega (arith, length-one)) s
+    -- both are there
+    two-kept : IsRun two 0 first.1 × (run two 0 first.1 ≡ run cs first.0 first.1) × IsRun two to second.1 × (run two to second.1 ≡ run cs second.0 second.1)
+    two-kept =
+        let room : to + second.1 ≤ length one = omega (arith, length-one) in let start : 0 + first.1 ≤ length empty = omega (arith, long) in let ys = take second.1 (drop second.0 cs) in (
+          IsRun-with-below one to second.1 ys 0 first.1 room (cut-long cs second.0 second.1 s.0) (omega arith) (IsRun-transferred_there empty cs 0 first.0 first.1 start r),
+          run-with-below one to second.1 ys 0 first.1 room (omega arith) ∙ run-transferred_there empty cs 0 first.0 first.1 start r,
+          IsRun-transferred_there one cs to second.0 second.1 room s,
+          run-transferred_there one cs to second.0 second.1 room s,
+        )
 
 module _ {X A : Type 0} (size : ℕ) (old : Block X A) (first second : ℕ × ℕ) (k wanted to : ℕ) where
   -- where they fit, the block stays
@@ -90,22 +84,20 @@ module _ {X A : Type 0} (size : ℕ) (old : Block X A) (first second : ℕ × �
   enough : (to : ℕ) → ReservesRuns size old first second k wanted to new → both first second ≤ wanted
   enough to made = let room = made.room in let capacity = made.capacity in grind (arith, nat_tests)
 
+  -- the values of both, the second from `to` on
+  kept : (to : ℕ) → ReservesRuns size old first second k wanted to new → first.1 ≤ to → to + second.1 ≤ wanted
+      → IsRun new.places 0 first.1 × (run new.places 0 first.1 ≡ run old.places first.0 first.1) × IsRun new.places to second.1 × (run new.places to second.1 ≡ run old.places second.0 second.1) × (length new.places ≡ wanted)
+  kept to made low high = let p = two-kept old.places first second r s wanted to low high in rw ((made.grows full).1) (p.0, p.1, p.2, p.3, length-two old.places first second r s wanted to low high)
+
   -- in line
   pub AreJoined-made : ReservesRuns size old first second k wanted first.1 new → AreJoined old new first second
-  AreJoined-made made =
-      let m : ℕ = first.1 in let n : ℕ = second.1 in let high : m + n ≤ wanted = enough m made in let low : m ≤ m = omega arith in let cs = old.places in let is = (made.grows full).1 in
-      let front = run-first cs first second r s wanted m low high in let back = run-second cs first second r s wanted m low high in
-      let before = IsRun-first cs first second r s wanted m low high in let behind = IsRun-second cs first second r s wanted m low high in
-      rw is (record { there = IsRun-joined _ 0 m m n (m + n) (omega arith) refl before behind; same = run-split _ 0 m m n (m + n) (omega arith) refl ∙ (λ i. front i ++ back i) })
+  AreJoined-made made = let m = first.1 in let n = second.1 in let p = kept m made (omega arith) (enough m made) in
+      record { there = IsRun-joined _ 0 m m n (m + n) (omega arith) refl p.0 p.2; same = run-split _ 0 m m n (m + n) (omega arith) refl ∙ (λ i. p.1 i ++ p.3 i) }
 
   -- at both ends
   pub AreParted-made : ReservesRuns size old first second k wanted (wanted - second.1) new → AreParted old new first second
   AreParted-made made =
-      let n : ℕ = second.1 in let to : ℕ = wanted - n in let all : both first second ≤ wanted = enough to made in let cs = old.places in let is = (made.grows full).1 in
-      let low : first.1 ≤ to = omega arith in let high : to + n ≤ wanted = omega arith in
-      let front = run-first cs first second r s wanted to low high in let back = run-second cs first second r s wanted to low high in
-      let before = IsRun-first cs first second r s wanted to low high in let behind = IsRun-second cs first second r s wanted to low high in
-      let ds : List (Option X) = two cs first second r s wanted to low high in let same : to ≡ length ds - n = ap (λ c. c - n) (sym (length-two cs first second r s wanted to low high)) in
-      rw is (record { before = before; front = front; behind = subst (λ i. IsRun ds i n) same behind; back = ap (λ i. run ds i n) (sym same) ∙ back })
+      let n = second.1 in let all : both first second ≤ wanted = enough (wanted - n) made in let p = kept (wanted - n) made (omega arith) (omega arith) in let same : wanted - n ≡ length new.places - n = omega (arith, p.4) in
+      record { before = p.0; front = p.1; behind = subst (λ i. IsRun new.places i n) same p.2; back = ap (λ i. run new.places i n) (sym same) ∙ p.3 }
 
 pub ruleset kept_runs = (lengths, nat_tests, length_refill, both-fit, length-left, IsRun-left, cut-left, ReservesRuns-stays, ReservesRuns-grows, AreJoined-made, AreParted-made)

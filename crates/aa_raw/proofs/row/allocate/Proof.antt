@@ -1,5 +1,5 @@
 -- Empty places from the allocator, with the right to give them back. Assumes `Logic`.
-use Rattle.aa_raw.proofs.{ !, After, Al, Answer-typed, Answered, Body, Both, El, Err, Goes-dropped, IfOk, Incl-trans, Is, IsCapacity, IsGood as Good, None, Ok, R, RattleType, RefOf, Right, Spot, Sq, Stays, Struct, Struct-Makes, Takes, Takes-gives, Takes-goes, Val, Vals, Wp, [], after, after_seq, agg, align, align_word, alloc_all, and_then, answers, any_q, ap, arith, arm_body, as_written, at_ret, at_return, at_takes, await, bin, block_align, block_args as args, block_ptr, block_size, block_ty, calls_at, capped, capped_fits, done, each, elτ, ends_at, enter, env, err_of, exec, fact, false, first, first_Good, fjoin, fld, flft, framed, free_all, fsplit, ftrue, get, get_in, get_tag, head, heard, in_variant, inst_fn, is, join, keep, lands_as, later, layout, lit, lit<, live, look_at, lose as drop, mark, move, named, new_pair, no_more, nothing, of_opd, ok_of, owned, owns, pair_made, pair_val, param, pass_all, plain, prop, proved, qed, raw, refl, replicate, returns, right_made, row_of_room, says, sets, sets_last, shr_Tells, shr_vals, size_word, split, stay_dropped, stop, suffices, switches_on, sz, tables, tables_of, token, true, ty_array, types_at, uint_Tells, uint_vals, use1, use2, usize, vcons, vint, vnil, vrt, vstruct, w64, walk_of, way_fits, way_word, whole, word, yes, ‵, ℕ, ◌$◌, ◌*◌, ◌<◌, ◌^◌, ◌∵◌, ◌∷◌, ◌≡◌, ◌⊑◌, ◌⊛◌}
+use Rattle.aa_raw.proofs.{ !, After, Al, Answer-typed, Answered, Body, Both, El, Err, Goes-dropped, IfOk, Incl-trans, Is, IsCapacity, IsGood as Good, None, Ok, R, RattleType, RefOf, Right, Spot, Sq, Stays, Struct, Struct-Makes, Takes, Takes-gives, Takes-goes, Val, Vals, Wp, [], after, after_seq, agg, align, align_word, alloc_all, and_then, answers, any_q, ap, arith, arm_body, as_written, at_ret, at_return, at_takes, await, bin, block_align, block_args as args, block_ptr, block_size, block_ty, calls_at, capped, capped_fits, done, each, elτ, ends_at, enter, env, err_of, exec, fact, false, first, first_Good, fjoin, fld, flft, framed, free_all, fsplit, ftrue, get, get_in, get_tag, head, heard, in_variant, inst_fn, is, join, keep, lands_as, later, layout, lit, lit<, live, look_at, lose as drop, mark, move, named, new_pair, no_more, nothing, of_opd, ok_of, owned, owns, pair_made, pair_val, param, pass_all, plain, prop, proved, qed, raw, refl, replicate, returns, right_made, row_of_room, says, sets, sets_last, shr_Tells, shr_vals, size_word, split, stay_dropped, stop, suffices, switches_on, sz, tables, tables_of, token, true, ty_array, types_at, uint_Tells, uint_vals, uncapped, use1, use2, usize, vcons, vint, vnil, vrt, vstruct, w64, walk_of, way_fits, whole, word, yes, ‵, ℕ, ◌$◌, ◌*◌, ◌<◌, ◌^◌, ◌∵◌, ◌∷◌, ◌≡◌, ◌⊑◌, ◌⊛◌}
 use denote.Struct.Declared as Declared
 use Rattle.core.specs.contracts.alloc.AllocError as AE
 use Rattle.core.specs.contracts.result.Result as RS
@@ -31,7 +31,7 @@ allocate_spec 𝓤 𝓛 𝓜 𝓡 wired X W LX LW g dict dd met md =
     let both : Body = head (after 2 e.body) in
     let Then : After 𝓤 𝓛.H = any_q (after_seq 𝓤 𝓛.H (Wp 𝓤 𝓛.H 𝓣.C 𝓣.Λ (env e.locals l) (after 3 e.body) (at_return 𝓤 𝓛.H (env e.locals l) (Wk.post y))) (at_return 𝓤 𝓛.H (env e.locals l) (Wk.post y))) in
     let Ask = Takes Z 𝓛 𝓜.mem 𝓡.returns in let z : Ask.Ghost = at_takes Z 𝓛 𝓜.mem 𝓡.returns κ q rp h (n * s) al (B n) in
-    sets ! (is ! (bin ! (get ! refl) (size_word !) (record { fits = way_fits E n far })) (ap (vint w64) (way_word E n far))) refl (tt, record { fits = far }) $
+    sets ! (is ! (bin ! (get ! refl) (size_word !) (record { fits = way_fits E n far })) (ap (vint w64) (uncapped n (sz E) far))) refl (tt, record { fits = far }) $
     use2 𝓛 (raw (Ask.pre z)) (Takes-goes Z 𝓛 𝓜.mem 𝓡.returns κ q rp h (Incl-trans bounds.0 lives) (n * s) al (B n) (block_size (record { row = X; laws = LX }) n far) (block_align (record { row = X; laws = LX }) n) far (capped_fits (align (elτ E)))) $
     calls_at ! (framed 𝓤 𝓛.H 𝓜 𝓣) Ask (met.allocate dd) z (and_then ! (get ! refl) (and_then ! (get ! refl) (and_then ! (align_word !) (no_more !)))) (λ v.
     use1 𝓛 (later (raw (Answered Z 𝓛 𝓜.mem 𝓡.returns h (B n) v) ⊛ ‵ (flft κ q))) (Takes-gives Z 𝓛 𝓜.mem 𝓡.returns κ q rp h (n * s) al (B n) v) $ await ! tt $ split ! $

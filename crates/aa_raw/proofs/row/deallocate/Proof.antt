@@ -1,5 +1,5 @@
 -- The memory of a row goes back to its allocator. Assumes `Logic`.
-use Rattle.aa_raw.proofs.{ !, Al, Cl, El, Gives, Gives-Gives, Gives-goes, Goes-blank, Goes-dropped, Incl-trans, Ptr, RefOf, Right, Rw, Stays, T as So, Val, Vals, WT, WpFn, [], after, align, align_word, alloc_all, and_then, ap, arith, as_raw, at_gives, at_ret, await, bin, block_align, block_args as args, block_ptr, block_size, block_ty, blocks, by, calls_at_last, capped, capped_fits, claim_had, done, elτ, ends_at, ent, enter, env, exec, fact, feq_i, first, fjoin, fld, flft, framed, free_all, froom, fsplit, fsplit3, ftrue, get, get_in, given, group, has_ty, heard, hidden_shr, inst_fn, is, join, keep, lands_last, later, learn, length, look_at, lose as drop, mark, move, no, no_more, nothing, of_opd, owns, param, pass_all, plain, proved_at, qed, raw, refl, returns, rewrite, right_had, room_of_row, row_had, sets, shr_vals, size_word, split, stay_dropped, stop, sub, subst, suffices, sym, sz, tables, tables_of, token, ty_array, ty_unit, types_at, uint_vals, unit_lit, use1, usize, vint, vunit, w64, walk_of, way_fits, way_word, whole, word, yes, ‵, ℕ, ⋆, ◌$◌, ◌*◌, ◌<◌, ◌^◌, ◌∙◌, ◌∵◌, ◌∷◌, ◌≡◌, ◌⊑◌, ◌⊛◌}
+use Rattle.aa_raw.proofs.{ !, Al, Cl, El, Gives, Gives-Gives, Gives-goes, Goes-blank, Goes-dropped, Incl-trans, Ptr, RefOf, Right, Rw, Stays, T as So, Val, Vals, WT, WpFn, [], after, align, align_word, alloc_all, and_then, ap, arith, as_raw, at_gives, at_ret, await, bin, block_align, block_args as args, block_ptr, block_size, block_ty, blocks, by, calls_at_last, capped, capped_fits, claim_had, done, elτ, ends_at, ent, enter, env, exec, fact, feq_i, first, fjoin, fld, flft, framed, free_all, froom, fsplit, fsplit3, ftrue, get, get_in, given, group, has_ty, heard, hidden_shr, inst_fn, is, join, keep, lands_last, later, learn, length, look_at, lose as drop, mark, move, no, no_more, nothing, of_opd, owns, param, pass_all, plain, proved_at, qed, raw, refl, returns, rewrite, right_had, room_of_row, row_had, sets, shr_vals, size_word, split, stay_dropped, stop, sub, subst, suffices, sym, sz, tables, tables_of, token, ty_array, ty_unit, types_at, uint_vals, uncapped, unit_lit, use1, usize, vint, vunit, w64, walk_of, way_fits, whole, word, yes, ‵, ℕ, ⋆, ◌$◌, ◌*◌, ◌<◌, ◌^◌, ◌∙◌, ◌∵◌, ◌∷◌, ◌≡◌, ◌⊑◌, ◌⊛◌}
 use Rattle.aa_raw.specs.contracts.row.deallocate as f
 use Rattle.aa_raw.proofs.row.deallocate.Code as code
 
@@ -37,7 +37,7 @@ deallocate_spec 𝓤 𝓛 𝓜 𝓡 wired X W LX LW g dict dd met md =
     qed 𝓛 Had ∵ enter ! _ _ _ _ _ $ alloc_all ! (λ l. pass_all ! refl ((tt, tt), ((tt, record { fits = are.1.0.1 }), ((tt, (tt, tt)), ((tt, (tt, tt)), tt)))) $
     let Give = Gives Z 𝓛 𝓜.mem 𝓡.returns in let z : Give.Ghost = at_gives Z 𝓛 𝓜.mem 𝓡.returns κ q rp h b o (n * s) al (B n) in
     sets ! (of_opd ! (get_in ! (fld ! refl (stop !)) (sub ! 0 refl (whole !)))) refl (tt, tt) $ first ! $ blocks ! $ sets ! (of_opd ! (get ! refl)) refl (tt, tt) $
-    sets ! (is ! (bin ! (get ! refl) (size_word !) (record { fits = way_fits E n far })) (ap (vint w64) (way_word E n far))) refl (tt, record { fits = far }) $
+    sets ! (is ! (bin ! (get ! refl) (size_word !) (record { fits = way_fits E n far })) (ap (vint w64) (uncapped n (sz E) far))) refl (tt, record { fits = far }) $
     group ! 4 $ use1 𝓛 (raw (Give.pre z)) (Gives-goes Z 𝓛 𝓜.mem 𝓡.returns κ q rp h (Incl-trans x.0.2.0 lives) b o (n * s) al (B n) (block_size (record { row = X; laws = LX }) n far) (block_align (record { row = X; laws = LX }) n) far (capped_fits (align (elτ E)))) $
     calls_at_last ! (framed 𝓤 𝓛.H 𝓜 𝓣) Give (met.deallocate dd) z (and_then ! (get ! refl) (and_then ! (get ! refl) (and_then ! (get ! refl) (and_then ! (align_word !) (no_more !))))) (λ v.
     use1 𝓛 (later (given (v ≡ vunit) (‵ (flft κ q)))) (Gives-Gives Z 𝓛 𝓜.mem 𝓡.returns κ q rp h b o (n * s) al (B n) v) $ await ! tt $ learn ! (λ over.

@@ -1,5 +1,5 @@
 -- The places from one on are taken off the end of a row, as a row of their own. Assumes `Logic`.
-use Rattle.aa_raw.proofs.{ !, El, Fml, Goes-dropped, Goes-ref, List, Place, R, Rw, Spot, SpotsFrom, Stays, Vals, [], after, agg, alloc_all, and_then, ap, args, arith, at, at_ret, bin, block_ptr, blocks, closes_row, cut_spots, done, drop as drop_l, ends_at, enter, env, exec, fact, feq_i, first, fjoin, fjoin3, fld, flft, free_all, fsplit, fsplit3, ftrue, get, heard, holding, inst_fn, is, join, keep, length, length-drop, length-take, load, look_at, look_in, lose as drop, move, mut_Tells, mut_vals, named, no_more, nothing, of_opd, opens_row, owns, pass_all, plain, proved, ptr_add, qed, raw, refl, returns, rewrite, row_made, same_spots, says_three, sets, sets_last, size_word, split, stay_dropped, stay_ref, stop, sub, suffices, sym, sz, tables, take, take-append-drop, through, times_below, types_at, uint_Tells, uint_vals, use1, usize, vint, w64, walk_of, way, way_fits, way_word, whole, word, yes, ‵, ◌$◌, ◌^◌, ◌∵◌, ◌∷◌, ◌≤◌, ◌⊑◌, ◌⊛◌}
+use Rattle.aa_raw.proofs.{ !, El, Fml, Goes-dropped, Goes-ref, List, Place, R, Rw, Spot, SpotsFrom, Stays, Vals, [], after, agg, alloc_all, and_then, ap, args, arith, at, at_ret, bin, block_ptr, blocks, closes_row, cut_spots, done, drop as drop_l, ends_at, enter, env, exec, fact, feq_i, first, fjoin, fjoin3, fld, flft, free_all, fsplit, fsplit3, ftrue, get, heard, holding, inst_fn, is, join, keep, length, length-drop, length-take, load, look_at, look_in, lose as drop, move, mut_Tells, mut_vals, named, no_more, nothing, of_opd, opens_row, owns, pass_all, plain, proved, ptr_add, qed, raw, refl, returns, rewrite, row_made, same_spots, says_three, sets, sets_last, size_word, split, stay_dropped, stay_ref, stop, sub, suffices, sym, sz, tables, take, take-append-drop, through, times_below, types_at, uint_Tells, uint_vals, uncapped, use1, usize, vint, w64, walk_of, way, way_fits, whole, word, yes, ‵, ◌$◌, ◌^◌, ◌∵◌, ◌∷◌, ◌≤◌, ◌⊑◌, ◌⊛◌}
 use Rattle.aa_raw.specs.contracts.row.Row.cut as f
 use Rattle.aa_raw.proofs.row.Row.cut.Code as code
 
@@ -20,7 +20,7 @@ cut_spec 𝓤 𝓛 𝓜 𝓡 wired X LX =
     opens_row E ! tt d rb ro (λ b o p small. let far = way E d i small within in first ! $ blocks ! $
     sets ! (of_opd ! (load ! (through ! refl (fld ! refl (stop !))) (look_in ! 1 (sub ! 0 refl (whole !))))) refl (tt, tt) $
     sets ! (of_opd ! (get ! refl)) refl (tt, record { fits = are.1.0.1 }) $
-    sets ! (is ! (bin ! (get ! refl) (size_word !) (record { fits = way_fits E i far })) (ap (vint w64) (way_word E i far))) refl (tt, record { fits = far }) $
+    sets ! (is ! (bin ! (get ! refl) (size_word !) (record { fits = way_fits E i far })) (ap (vint w64) (uncapped i (sz E) far))) refl (tt, record { fits = far }) $
     sets_last ! (bin ! (get ! refl) (get ! refl) tt) refl (tt, tt) $
     exec ! 𝓣.C 𝓣.Λ (env e.locals l) (after 1 e.body) (at_ret _ (W.post y)) $ sets ! (of_opd ! (get ! refl)) refl (tt, tt) $
     sets ! (agg ! (and_then ! (get ! refl) (no_more !))) refl (tt, (tt, tt)) $

@@ -1,5 +1,5 @@
 -- An array is put into places side by side, whatever stood there. Assumes `Logic`.
-use Rattle.aa_raw.proofs.{ !, El, Goes-dropped, Goes-ref, Items, List, Rw, Some, SpotsFrom, Stays, Vals, WpFn, [], after, all_rest, all_room, alloc_all, ap, arith, array_args, items_in, assigns_last, at, at_ret, bin, blocks, closes_places, done, drop as drop_l, el_x, elτ, ends_at, ent, enter, env, exec, fact, feq_i, first, fjoin, fjoin3, fld, flft, free_all, froom, fsplit, fsplit3, ftrue, get, given, heard, holding, init, inst_fn, is, items_lawful, items_ty, join, keep, layout, learn, length, length-drop, length-map, length-take, load, look_at, look_in, lose as drop, map, move, mut_vals, no, nothing, number, of_opd, one_val, opens_places, owns, pass_all, plain, proved_at, qed, raw, refl, returns, rewrite, says, sets, ty_size as size, size_word, spent, split, stay_dropped, stay_ref, stop, sub, subst, suffices, sym, tables, take, through, ty_array, types_at, uint_vals, unit_lit, use1, use2, usize, via, vint, vunit, w64, walk_of, way_fits, way_word, whole, with_run, yes, ‵, ℕ, ◌$◌, ◌+◌, ◌<◌, ◌^◌, ◌∙◌, ◌∵◌, ◌∷◌, ◌≡◌, ◌≤◌, ◌⊑◌, ◌⊛◌}
+use Rattle.aa_raw.proofs.{ !, El, Goes-dropped, Goes-ref, Items, List, Rw, Some, SpotsFrom, Stays, Vals, WpFn, [], after, all_rest, all_room, alloc_all, ap, arith, array_args, assigns_last, at, at_ret, bin, blocks, closes_places, done, drop as drop_l, el_x, elτ, ends_at, ent, enter, env, exec, fact, feq_i, first, fjoin, fjoin3, fld, flft, free_all, froom, fsplit, fsplit3, ftrue, get, given, heard, holding, init, inst_fn, is, items_in, items_lawful, items_ty, join, keep, layout, learn, length, length-drop, length-map, length-take, load, look_at, look_in, lose as drop, map, move, mut_vals, no, nothing, number, of_opd, one_val, opens_places, owns, pass_all, plain, proved_at, qed, raw, refl, returns, rewrite, says, sets, size_word, spent, split, stay_dropped, stay_ref, stop, sub, subst, suffices, sym, sz, tables, take, through, ty_array, ty_size as size, types_at, uint_vals, uncapped, unit_lit, use1, use2, usize, via, vint, vunit, w64, walk_of, way_fits, whole, with_run, yes, ‵, ℕ, ◌$◌, ◌+◌, ◌<◌, ◌^◌, ◌∙◌, ◌∵◌, ◌∷◌, ◌≡◌, ◌≤◌, ◌⊑◌, ◌⊛◌}
 use Rattle.aa_raw.specs.contracts.row.Row.write_array as f
 use Rattle.aa_raw.proofs.row.Row.write_array.Code as code
 
@@ -22,7 +22,7 @@ write_array_spec 𝓤 𝓛 𝓜 𝓡 wired X N LX fN =
     enter ! _ _ _ _ _ $ alloc_all ! (λ l. pass_all ! refl ((tt, tt), ((tt, record { fits = are.1.0.1 }), (good, tt))) $
     opens_places E ! tt d i N rb ro within (λ b o p small far. first ! $ blocks ! $
     sets ! (of_opd ! (load ! (through ! refl (fld ! refl (stop !))) (look_in ! 1 (sub ! 0 refl (whole !))))) refl (tt, tt) $
-    sets ! (is ! (bin ! (get ! refl) (size_word !) (record { fits = way_fits E i far })) (ap (vint w64) (way_word E i far))) refl (tt, record { fits = far }) $
+    sets ! (is ! (bin ! (get ! refl) (size_word !) (record { fits = way_fits E i far })) (ap (vint w64) (uncapped i (sz E) far))) refl (tt, record { fits = far }) $
     sets ! (bin ! (get ! refl) (get ! refl) tt) refl (tt, tt) $
     let had = take N (drop_l i d.places) in let many : length had ≡ N = omega (arith, length-take N (drop_l i d.places), length-drop i d.places) in
     use1 𝓛 (‵ (froom (ty_array (elτ E) (length had)) b (at E 𝓛 b o i))) (all_room E 𝓛 b o had i) $ rewrite ! 0 (λ (k : ℕ). ‵ (froom (ty_array (elτ E) k) b (at E 𝓛 b o i))) many refl $
