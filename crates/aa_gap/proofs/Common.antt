@@ -6,10 +6,10 @@ pub use Rattle.aa_gap.specs.Page.{Page, edited, inserts, page, total, written_by
 pub use Rattle.aa_gap.specs.declared.gap_buffer.Edit.{Edit}
 pub use Rattle.aa_gap.specs.declared.gap_buffer.Edit.TheVariants.{DeleteBack, DeleteForward, Insert, MoveTo}
 pub use Rattle.aa_raw.proofs.BothEnds.{slice_get-behind, slice_get-front}
-pub use Rattle.aa_raw.proofs.Calls.{IsRun-first, IsRun-last, IsRun-of_none, IsRun-take_next, IsRun-with-above, run-moved-above, run-of_none, run-take_next}
+pub use Rattle.aa_raw.proofs.Calls.{IsRun-first, IsRun-last, IsRun-lowered, IsRun-moved-above, IsRun-of_none, IsRun-raised, IsRun-raised-below, IsRun-take_first, IsRun-with-above, run-lowered, run-moved-above, run-of_none, run-raised, run-raised-below, run-take_first}
 pub use Rattle.aa_raw.proofs.Common.{AreParted, Block, IsRun, cases_lt, length-replicate, moved, nat_tests, run, slice_get_past, slice_get_read, take-append-le, type_size}
 pub use Rattle.aa_raw.proofs.Places.{length-moved, lengths}
-pub use Rattle.aa_raw.proofs.Runs.{IsRun-joined, IsRun-moved, IsRun-part, IsRun-same, IsRun-set-above, IsRun-set-below, length-run, run-drop, run-moved, run-moved-below, run-set-above, run-set-below, run-split, run-take}
+pub use Rattle.aa_raw.proofs.Runs.{IsRun-joined, IsRun-long, IsRun-part, IsRun-set-above, IsRun-set-below, length-run, run-drop, run-set-above, run-set-below, run-split, run-take}
 pub use Rattle.aa_raw.proofs.TwoRuns.{AreApart-before}
 pub use Rattle.aa_raw.specs.Growth.{amortized, least_of}
 pub use Rattle.aa_raw.specs.declared.raw_vec.Growth.{Growth}

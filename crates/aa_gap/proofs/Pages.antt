@@ -1,18 +1,8 @@
 -- What edits take, one after another, where the text fits into its places.
-use Rattle.aa_gap.proofs.Common.{Buffer, DeleteBack, DeleteForward, Doubling, Edit, Edits, GrowsWithin, Growth, Insert, List, MatchOption, MoveTo, None, Option, Page, Some, Sparing, [], amortized, ap, append_assoc, arith, cases_lt, cursor, drop, drop-append_seam, edited, fold, gap, inl, inr, insert, inserts, least_of, len, length, length-append, length-drop, length-take, length-take-le, min, moved_over, nat_tests, page, put, refl, remove, remove-append_right, rules, run_count, subst, sym, take, take-append-drop, take-append-le, take-append_seam, text, total, with_edit, with_room, written_by, ℕ, ◌++◌, ◌+◌, ◌-◌, ◌∙◌, ◌∷◌, ◌≡◌, ◌≤◌}
+use Rattle.aa_gap.proofs.Common.{Buffer, DeleteBack, DeleteForward, Doubling, Edit, Edits, GrowsWithin, Growth, Insert, List, MoveTo, Page, Sparing, [], amortized, ap, append_assoc, arith, cases_lt, cursor, drop, drop-append_seam, edited, fold, gap, inl, inr, insert, inserts, least_of, len, length, length-append, length-drop, length-take, length-take-le, min, moved_over, nat_tests, page, put, refl, remove, remove-append_right, run_count, subst, sym, take, take-append-drop, take-append-le, take-append_seam, text, total, with_edit, with_room, written_by, ℕ, ◌++◌, ◌+◌, ◌-◌, ◌∙◌, ◌∷◌, ◌≡◌, ◌≤◌}
 
 -- Edits, one after another, and what they leave of the text machine's page.
 module _ {T : Type 0} where
-  -- a list that lost its last element, if it had one
-  pub without_last : (xs ys : List T) (r : Option T) → MatchOption r ((xs ≡ []) × (ys ≡ [])) (λ x. xs ≡ ys ++ x ∷ []) → ys ≡ take (length xs - 1) xs
-  without_last xs ys None e = rw (e.0, e.1) refl
-  without_last xs ys (Some x) e = let n : length (ys ++ x ∷ []) - 1 ≡ length ys = omega (arith, length-append ys (x ∷ [])) in rw (e, n) (sym (take-append_seam ys (x ∷ [])))
-
-  -- and its first
-  pub without_first : (xs ys : List T) (r : Option T) → MatchOption r ((xs ≡ []) × (ys ≡ [])) (λ x. xs ≡ x ∷ ys) → ys ≡ drop 1 xs
-  without_first xs ys None e = rw (e.0, e.1) refl
-  without_first xs ys (Some x) e = rw e refl
-
   text-insert : (xs ys : List T) (x : T) → (xs ++ x ∷ []) ++ ys ≡ insert (xs ++ ys) (length xs) x
   text-insert xs ys x = rw (take-append_seam xs ys, drop-append_seam xs ys) (append_assoc xs (x ∷ []) ys)
 
