@@ -1,5 +1,5 @@
 -- What edits take, one after another, where the text fits into its places.
-use Rattle.aa_gap.proofs.Common.{Buffer, DeleteBack, DeleteForward, Doubling, Edit, Edits, GrowsWithin, Growth, Insert, List, MoveTo, Page, Sparing, [], amortized, ap, append_assoc, arith, cases_lt, cursor, drop, drop-append_seam, edited, fold, gap, inl, inr, insert, inserts, least_of, len, length, length-append, length-drop, length-take, length-take-le, min, moved_over, nat_tests, page, put, refl, remove, remove-append_right, run_count, subst, sym, take, take-append-drop, take-append-le, take-append_seam, text, total, with_edit, with_room, written_by, ℕ, ◌++◌, ◌+◌, ◌-◌, ◌∙◌, ◌∷◌, ◌≡◌, ◌≤◌}
+use Rattle.aa_gap.proofs.Common.{Buffer, DeleteBack, DeleteForward, Doubling, Edit, Edits, GrowsWithin, Growth, Insert, List, MoveTo, Page, Sparing, [], amortized, ap, append_assoc, arith, cursor, drop, drop-append_seam, edited, fold, gap, insert, inserts, least_of, len, length, length-append, length-drop, length-take, min, moved_over, nat_tests, page, put, refl, remove, remove-append_right, rules, run_count, subst, sym, take, take-append-drop, take-append-le, take-append_seam, text, total, with_edit, with_room, written_by, ℕ, ◌++◌, ◌+◌, ◌-◌, ◌∙◌, ◌∷◌, ◌≡◌, ◌≤◌}
 
 -- Edits, one after another, and what they leave of the text machine's page.
 module _ {T : Type 0} where
@@ -7,7 +7,7 @@ module _ {T : Type 0} where
   text-insert xs ys x = rw (take-append_seam xs ys, drop-append_seam xs ys) (append_assoc xs (x ∷ []) ys)
 
   text-delete_back : (xs ys : List T) → take (length xs - 1) xs ++ ys ≡ take (length xs - 1) (xs ++ ys) ++ drop (length xs) (xs ++ ys)
-  text-delete_back xs ys = let le : length xs - 1 ≤ length xs = omega arith in rw (take-append-le (length xs - 1) xs ys le, drop-append_seam xs ys) refl
+  text-delete_back xs ys = grind (arith, take-append-le, drop-append_seam)
 
   text-delete_forward : (xs ys : List T) → xs ++ drop 1 ys ≡ remove (xs ++ ys) (length xs)
   text-delete_forward xs ys =
@@ -24,26 +24,16 @@ module _ {T A : Type 0} (size : ℕ) where
   edits-more old mid new es e d n = n ∙ ap (λ b. with_edit size b e) d ∙ sym (edits-push old es e)
 
   page-edit : (b : Buffer T A) (e : Edit T) → page (with_edit size b e) ≡ edited (page b) e
-  page-edit b (Insert x) = let t = text-insert b.before b.after x in let n = length-append b.before (x ∷ []) in cc
-  page-edit b DeleteBack =
-      let t = text-delete_back b.before b.after in
-      let n : length (take (cursor b - 1) b.before) ≡ cursor b - 1 = length-take-le (cursor b - 1) b.before (omega arith) in
-      cc
+  page-edit b (Insert x) = grind (arith, nat_tests, text-insert, length-append)
+  page-edit b DeleteBack = grind (arith, text-delete_back b.before b.after, length-take (cursor b - 1) b.before)
   page-edit b DeleteForward = let t = text-delete_forward b.before b.after in cc
-  page-edit b (MoveTo q) =
-      let long : length (text b) ≡ len b = length-append b.before b.after in
-      let t = take-append-drop (min q (len b)) (text b) in
-      let n : length (take (min q (len b)) (text b)) ≡ min q (length (text b)) = omega (arith, length-take (min q (len b)) (text b)) in
-      cc
+  page-edit b (MoveTo q) = grind (arith, length-append b.before b.after, take-append-drop (min q (len b)) (text b), length-take (min q (len b)) (text b))
 
 -- one edit after another
 pub ruleset one_by_one = (edits-more)
 
 inserts-more : {T : Type 0} (e : Edit T) (es : List (Edit T)) → inserts (e ∷ es) ≡ inserts (e ∷ []) + inserts es
-inserts-more (Insert x) es = omega arith
-inserts-more DeleteBack es = omega arith
-inserts-more DeleteForward es = omega arith
-inserts-more (MoveTo q) es = omega arith
+inserts-more e es = grind (arith, nat_tests)
 
 module _ {T A : Type 0} where
   -- no growth
@@ -81,48 +71,12 @@ module _ {T A : Type 0} (size : ℕ) where
 
   Edits-edit : (b : Buffer T A) (e : Edit T) → Fits b → Edits size b (e ∷ []) (with_edit size b e)
   Edits-edit b (Insert x) h =
-      let new = put (with_room size b 1) x in
-      record {
-        exact = refl;
-        leaves = page-edit size b (Insert x);
-        alloc = refl;
-        growth = refl;
-        room = grind (arith, nat_tests);
-        longer = omega (arith, length-append b.before (x ∷ []));
-        writes = grind (arith, nat_tests);
-        runs = grind (arith, nat_tests);
-        grown =
-            elim (cases_lt (gap b) 1) [
-              | inl none ↦ GrowsWithin-grows b.growth b new (least_of size) (omega arith) (grind (arith, nat_tests)) (grind (arith, nat_tests))
-              | inr some ↦ GrowsWithin-stays b.growth b new 1 (grind (arith, nat_tests)) (grind (arith, nat_tests))
-            ];
-      }
+      let p = page-edit size b (Insert x) in let n = length-append b.before (x ∷ []) in let new = put (with_room size b 1) x in
+      let g : GrowsWithin b.growth b 1 new = grind (arith, nat_tests, GrowsWithin-grows b.growth b new (least_of size), GrowsWithin-stays b.growth b new 1) in search (rules, nat_tests)
   Edits-edit b DeleteBack h =
-      let new = with_edit size b DeleteBack in
-      record {
-        exact = refl;
-        leaves = page-edit size b DeleteBack;
-        alloc = refl;
-        growth = refl;
-        room = omega arith;
-        longer = omega (arith, length-take (cursor b - 1) b.before);
-        writes = omega arith;
-        runs = omega arith;
-        grown = GrowsWithin-stays b.growth b new 0 refl refl;
-      }
+      let p = page-edit size b DeleteBack in let n = length-take (cursor b - 1) b.before in let g = GrowsWithin-stays b.growth b (with_edit size b DeleteBack) 0 refl refl in search (rules, nat_tests)
   Edits-edit b DeleteForward h =
-      let new = with_edit size b DeleteForward in
-      record {
-        exact = refl;
-        leaves = page-edit size b DeleteForward;
-        alloc = refl;
-        growth = refl;
-        room = omega arith;
-        longer = omega (arith, length-drop 1 b.after);
-        writes = omega arith;
-        runs = omega arith;
-        grown = GrowsWithin-stays b.growth b new 0 refl refl;
-      }
+      let p = page-edit size b DeleteForward in let n = length-drop 1 b.after in let g = GrowsWithin-stays b.growth b (with_edit size b DeleteForward) 0 refl refl in search (rules, nat_tests)
   Edits-edit b (MoveTo q) h =
       let long : length (text b) ≡ len b = length-append b.before b.after in
       let at : ℕ = min q (len b) in
@@ -140,13 +94,14 @@ module _ {T A : Type 0} (size : ℕ) where
         grown = GrowsWithin-stays b.growth b (with_edit size b (MoveTo q)) 0 refl refl;
       }
 
-  -- one edit, and then others
-  Edits-more : (old mid new : Buffer T A) (e : Edit T) (es : List (Edit T)) → mid ≡ with_edit size old e → Edits size old (e ∷ []) mid → Edits size mid es new → Edits size old (e ∷ es) new
-  Edits-more old mid new e es is d n =
-      let more : (by : Edit T → Page T → ℕ) → total by (e ∷ []) (page old) + total by es (page mid) ≡ total by (e ∷ es) (page old) = λ by. omega (arith, ap (total by es) d.leaves) in
+  Edits-edits : (b : Buffer T A) (es : List (Edit T)) → Fits b → Edits size b es (fold (with_edit size) b es)
+  Edits-edits b [] h = search (rules, nat_tests, GrowsWithin-stays)
+  Edits-edits b (e ∷ es) h =
+      let mid = with_edit size b e in let new = fold (with_edit size) mid es in let d = Edits-edit b e h in let n = Edits-edits mid es (Fits-edit b e h) in
+      let more : (by : Edit T → Page T → ℕ) → total by (e ∷ []) (page b) + total by es (page mid) ≡ total by (e ∷ es) (page b) = λ by. omega (arith, ap (total by es) d.leaves) in
       let more_inserts : inserts (e ∷ []) + inserts es ≡ inserts (e ∷ es) = sym (inserts-more e es) in
       record {
-        exact = n.exact ∙ ap (λ b. fold (with_edit size) b es) is;
+        exact = refl;
         leaves = n.leaves ∙ ap (λ p. fold edited p es) d.leaves;
         alloc = n.alloc ∙ d.alloc;
         growth = n.growth ∙ d.growth;
@@ -154,14 +109,8 @@ module _ {T A : Type 0} (size : ℕ) where
         longer = omega (arith, d.longer, n.longer, more_inserts);
         writes = omega (arith, d.writes, n.writes, more written_by);
         runs = omega (arith, d.runs, n.runs, more (λ e p. run_count (written_by e p)));
-        grown = GrowsWithin-push old.growth old mid new (inserts (e ∷ [])) (inserts es) (inserts (e ∷ es)) d.longer more_inserts d.grown (subst (λ g. GrowsWithin g mid (inserts es) new) d.growth n.grown);
+        grown = GrowsWithin-push b.growth b mid new (inserts (e ∷ [])) (inserts es) (inserts (e ∷ es)) d.longer more_inserts d.grown (subst (λ g. GrowsWithin g mid (inserts es) new) d.growth n.grown);
       }
-
-  Edits-edits : (b : Buffer T A) (es : List (Edit T)) → Fits b → Edits size b es (fold (with_edit size) b es)
-  Edits-edits b [] h =
-      record { exact = refl; leaves = refl; alloc = refl; growth = refl; room = omega arith; longer = omega arith; writes = omega arith; runs = omega arith; grown = GrowsWithin-stays b.growth b b 0 refl refl }
-  Edits-edits b (e ∷ es) h =
-      let mid = with_edit size b e in Edits-more b mid (fold (with_edit size) mid es) e es refl (Edits-edit b e h) (Edits-edits mid es (Fits-edit b e h))
 
   -- of a text that is known to be another after edits
   pub Edits-known : (old new : Buffer T A) (es : List (Edit T)) → len old ≤ old.capacity → new ≡ fold (with_edit size) old es → Edits size old es new
