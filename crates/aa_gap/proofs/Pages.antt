@@ -78,21 +78,11 @@ module _ {T A : Type 0} (size : ℕ) where
   Edits-edit b DeleteForward h =
       let p = page-edit size b DeleteForward in let n = length-drop 1 b.after in let g = GrowsWithin-stays b.growth b (with_edit size b DeleteForward) 0 refl refl in search (rules, nat_tests)
   Edits-edit b (MoveTo q) h =
-      let long : length (text b) ≡ len b = length-append b.before b.after in
-      let at : ℕ = min q (len b) in
-      let passed : ℕ → ℕ = λ n. (cursor b - n) + (n - cursor b) in
+      let long : length (text b) ≡ len b = length-append b.before b.after in let at : ℕ = min q (len b) in let passed : ℕ → ℕ = λ n. (cursor b - n) + (n - cursor b) in
       let far : passed (min q (length (text b))) ≡ passed at = ap (λ n. passed (min q n)) long in
-      record {
-        exact = refl;
-        leaves = page-edit size b (MoveTo q);
-        alloc = refl;
-        growth = refl;
-        room = omega arith;
-        longer = omega (arith, long, length-take at (text b), length-drop at (text b));
-        writes = omega (arith, far, moved_over-le b (passed at));
-        runs = omega (arith, ap run_count far, run_count-moved_over b (passed at));
-        grown = GrowsWithin-stays b.growth b (with_edit size b (MoveTo q)) 0 refl refl;
-      }
+      let p = page-edit size b (MoveTo q) in let t = length-take at (text b) in let d = length-drop at (text b) in
+      let m = moved_over-le b (passed at) in let f = ap run_count far in let r = run_count-moved_over b (passed at) in
+      let g = GrowsWithin-stays b.growth b (with_edit size b (MoveTo q)) 0 refl refl in search (rules, nat_tests)
 
   Edits-edits : (b : Buffer T A) (es : List (Edit T)) → Fits b → Edits size b es (fold (with_edit size) b es)
   Edits-edits b [] h = search (rules, nat_tests, GrowsWithin-stays)
