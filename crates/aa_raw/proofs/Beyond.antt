@@ -3,7 +3,7 @@
 --     at_sides           take at an end of the run
 --     none-before-with, none-behind-with      other values in the run
 --     none-forgotten     what stood behind the run is forgotten
-use Rattle.aa_raw.proofs.Common.{Block, IsRun, List, None, Option, [], ap, arith, drop, drop-set, drop-set-lt, drop_all, drop_at, is_none, length, length-replicate, length-take-le, list_all, list_all-append, refl, replicate, slice_set, subst, suc, sym, take, take-set-le, take_at, take_more_set, true, with_places, with_run, zero, ℕ, ◌&&◌, ◌++◌, ◌+◌, ◌-◌, ◌<◌, ◌∙◌, ◌∷◌, ◌≡◌, ◌≤◌}
+use Rattle.aa_raw.proofs.Common.{Block, IsRun, List, None, Option, [], ap, arith, drop, drop-set, drop-set-lt, is_none, length, length-replicate, length-take-le, list_all, list_all-append, places, refl, replicate, same_lists, slice_set, subst, suc, sym, take, take-set-le, take_at, take_more_set, true, with_places, with_run, zero, ℕ, ◌&&◌, ◌++◌, ◌+◌, ◌-◌, ◌<◌, ◌∙◌, ◌∷◌, ◌≡◌, ◌≤◌}
 use Rattle.aa_raw.proofs.Calls.{IsRun-with-below}
 use Rattle.aa_raw.proofs.Places.{length-with_run}
 use Rattle.aa_raw.proofs.Runs.{drop-with}
@@ -45,9 +45,7 @@ module _ {X : Type 0} where
   pub none-forgotten : (cs : List (Option X)) (n m : ℕ) → n + m ≡ length cs → None_in (drop n (with_run cs n m (replicate m None)))
   unfolding with_run
   none-forgotten cs n m all =
-      ap (list_all is_none) (drop_at (take n cs) (replicate m None ++ drop (n + m) cs) n (length-take-le n cs (omega (arith, all))))
-      ∙ list_all-append is_none (replicate m None) (drop (n + m) cs)
-      ∙ (λ i. none_there X m i && list_all is_none (drop_all (n + m) cs (omega (arith, all)) i))
+      let is : drop n (with_run cs n m (replicate m None)) ≡ replicate m None = same_lists _ _ (grind (arith, places)) (λ j d h. grind (arith, places)) in ap (list_all is_none) is ∙ none_there X m
 
   -- other values in a run
   pub ruleset around_run = (none-before-with, none-behind-with)
