@@ -4,12 +4,10 @@ pub use Rattle.aa_raw.specs.Clones.{HoldsClones}
 pub use Rattle.aa_raw.specs.RawVecInner.{view_of}
 pub use Rattle.aa_raw.specs.Growth.{sized, usize_max}
 pub use Rattle.aa_raw.specs.Ownership.{each, few_bytes, roomy, row_lends, row_owns, spot, spot_seen, token_for}
-pub use Rattle.aa_raw.specs.IntoIterInner.{IsBetween}
 pub use Rattle.aa_raw.specs.RowLends.{holding}
 unfoldable pub use Rattle.aa_raw.specs.Places.{IsCapacity, IsFilled, IsRun, empty_places, endless_places, moved, run, somes, with_run}
 pub use Rattle.aa_raw.specs.TwoRuns.{AreApart, AreJoined, AreParted, IsFull, ReservesRuns, both, grown_with}
 pub use Rattle.aa_raw.specs.contracts.tally.Tally.{the_row as tally_row}
-pub use Rattle.aa_raw.specs.declared.raw_vec.Growth.{Growth}
 pub use Rattle.core.proofs.alloc.Calls.{Al, Answer-typed, Answered, Gives, Gives-Gives, Gives-goes, Goes-blank, Takes, Takes-gives, Takes-goes, answers, at_gives, at_takes, token}
 pub use Rattle.core.proofs.mem.Facts.{says_three, says_two}
 pub use Rattle.core.proofs.mem.Param.{El as MemEl, lawful, one}
@@ -22,12 +20,12 @@ pub use Rattle.core.proofs.slots.Runs.{of_space}
 pub use Rattle.core.specs.Mem.Slots.{IsFull as slots_full, slots_counts, slots_filled, slots_items, slots_len}
 pub use Rattle.core.specs.Ptr.{ptr_add}
 pub use Rattle.core.specs.declared.alloc.Allocator.{Ghosts}
-pub use Rattle.std.proofs.Common.{Bool, Err, IfOk, List, None, Ok, Option, Some, T, [], add-zero, ap, append_assoc, arith, drop, drop-cons, drop-drop, drop-set-lt, drop_at, eq-eqb, ext_get_or, false, get_or, get_or-drop, get_or-set_other, get_or-set_same, get_or-take, if◌then◌else◌, inl, inr, insert, is_none, is_some, length, length-append, length-drop, length-set, length-take, length-take-le, lit<, map, refl, remove, replicate, rules, set as slice_set, set-set, slice_get, subst, suc, suc-mul, swap_remove, sym, take, take-add, take-append-drop, take-take, take_all, take_at, true, w64, zero, zero-add, zero-mul, ℕ, ◌&&◌, ◌*◌, ◌++◌, ◌+◌, ◌-◌, ◌<◌, ◌==◌, ◌^◌, ◌∙◌, ◌∷◌, ◌≡◌, ◌≢◌, ◌≤◌, ◌⊎◌}
+pub use Rattle.std.proofs.Common.{Bool, Err, IfOk, List, None, Ok, Option, Some, T, [], add-zero, ap, arith, drop, drop-cons, drop-drop, drop-set-lt, drop_at, eq-eqb, ext_get_or, false, get_or, get_or-drop, get_or-set_other, get_or-set_same, get_or-take, if◌then◌else◌, inl, inr, insert, is_none, is_some, length, length-append, length-drop, length-set, length-take, length-take-le, lit<, map, refl, remove, replicate, rules, set as slice_set, set-set, slice_get, subst, suc, suc-mul, swap_remove, sym, take, take-add, take-append-drop, take-take, take_all, take_at, true, w64, zero, zero-add, zero-mul, ℕ, ◌&&◌, ◌*◌, ◌++◌, ◌+◌, ◌-◌, ◌<◌, ◌==◌, ◌^◌, ◌∙◌, ◌∷◌, ◌≡◌, ◌≢◌, ◌≤◌, ◌⊎◌}
 pub use Rattle.std.proofs.Math.Nat.{mul-pos}
 pub use Rattle.std.proofs.lemmas.Bool.{cases_eq, cases_lt}
 pub use Rattle.std.proofs.lemmas.Bool.Decides.{eqb_tells, nat_tests}
 pub use Rattle.std.proofs.lemmas.Grind.{take_at_read}
-pub use Rattle.std.proofs.lemmas.List.{drop-append-le, drop-map, drop-replicate, drop-set, drop-take, drop_all, drop_more, get_or-append_right, get_or-replicate, get_or_append_left, get_or_push, length-map, length-replicate, places, replicate-append-replicate, replicate_more, same_lists, set_comm, set_split, take-append-le, take-map, take-set-le, take_more_set}
+pub use Rattle.std.proofs.lemmas.List.{drop-map, drop-replicate, drop-set, drop_all, drop_more, length-map, length-replicate, places, same_lists, set_comm, set_split, take-append-le, take-map, take-set-le, take_more_set}
 pub use Rattle.std.proofs.lemmas.List.Elements.{AllZip-push}
 pub use Rattle.std.proofs.lemmas.List.Folds.{list_all-append}
 pub use Rattle.std.proofs.lemmas.Option.{get_or_from_slice_get, slice_get_past, slice_get_read}
@@ -82,7 +80,6 @@ pub use denote.Triple.Call.{calls_at, calls_at_last}
 pub use denote.Triple.Entry.{Res, Vals}
 pub use denote.Triple.Table.{framed}
 pub use denote.Triple.Walked.{Goes-dropped, Goes-ref, Goes-spent_ref, Stays, ends_at, says, stay_dropped, stay_ref, walk_of}
-pub use lib.Seq.{drop-append_seam, take-append_seam}
 pub use mir.MapTy.{inst_fn}
 pub use mir.Raw.{raw as raw_ty}
 pub use mir.Syntax.{Args, Body, Ty, a_number, a_type, named, ty_array, ty_unit}
