@@ -1,5 +1,5 @@
 -- Items that come of an iterator, and are put into a block.
-use Rattle.aa_boxed.proofs.Common.{AllocError, Begun, Doubling, Err, IfErr, IfOk, LacksRoom, List, None, Ok, Option, Result, Slice, Some, Stops, StopsAtEnd, TryReserveError, WholeRun, Yields, YieldsThen, [], amortized, ap, arith, asked_with, ended, if◌then◌else◌, inl, least_of, length, length-append, nat_tests, refl, rules, sized, subst, sym, total_runs, usize_max, with_next, ℕ, ◌++◌, ◌+◌, ◌<◌, ◌==◌, ◌∙◌, ◌∷◌, ◌≡◌, ◌≤◌}
+use Rattle.aa_boxed.proofs.Common.{AllocError, Begun, Doubling, Err, IfErr, IfOk, LacksRoom, List, None, Ok, Option, Result, Slice, Some, Stops, StopsAtEnd, TryReserveError, WholeRun, Yields, Yields-more, YieldsThen, [], amortized, ap, arith, asked_with, ended, if◌then◌else◌, inl, least_of, length, length-append, nat_tests, refl, rules, sized, subst, sym, total_runs, usize_max, with_next, ℕ, ◌++◌, ◌+◌, ◌<◌, ◌==◌, ◌∙◌, ◌∷◌, ◌≡◌, ◌≤◌}
 
 -- n items that filled their room are no fewer than a new block has places for
 over_start : (size n : ℕ) → (size ≡ 0 → usize_max ≤ n) → n < sized size 0 → ⊥
@@ -13,10 +13,6 @@ pub record HasMore {T A : Type 0} (f w : Begun T A) : Type 0 where
   pub capacity : f.capacity ≤ w.capacity
 
 module _ {S T : Type 0} (steps : S → Option T → S → Type 0) where
-  pub Yields-next : (s : S) (xs : List T) (t : S) (x : T) (u : S) → Yields steps s xs t → steps t (Some x) u → Yields steps s (xs ++ x ∷ []) u
-  Yields-next s [] t x u y p = (u, subst (λ k. steps k (Some x) u) (sym y) p, refl)
-  Yields-next s (z ∷ xs) t x u y p = (y.0, y.1, Yields-next y.0 xs t x u y.2 p)
-
   -- all the items came, and s is what is left
   module _ {A : Type 0} (f : Begun T A) (iter s : S) (d : YieldsThen steps iter f.items None s) where
     pub whole_run_of : {E : Type 0} (r : Result (Slice T A) E) → IfOk r (λ b. b ≡ ended f) → IfOk r (λ b. WholeRun steps iter (λ p. b.items ≡ p.items))
@@ -55,7 +51,7 @@ module _ {S T : Type 0} (steps : S → Option T → S → Type 0) where
         -- and was put into w
         pub Coming-put : (w : Begun T A) → HasMore f w → (new : Begun T A) → new ≡ with_next w x → Coming t new
         Coming-put w more new e = subst (λ b. Coming t b) (sym e) (record {
-          came = subst (λ xs. Yields steps iter (xs ++ x ∷ []) t) (sym more.items) (Yields-next iter f.items s x t p.came step);
+          came = subst (λ xs. Yields steps iter (xs ++ x ∷ []) t) (sym more.items) (Yields-more steps iter f.items s x t p.came step);
           grows = more.growth ∙ p.grows;
           over = more.alloc ∙ p.over;
           sizeless = λ z. omega (arith, p.sizeless z, more.capacity);
@@ -73,7 +69,7 @@ module _ {S T : Type 0} (steps : S → Option T → S → Type 0) where
             placed = f.items;
             item = x;
             told = told;
-            came = Yields-next iter f.items s x t p.came step;
+            came = Yields-more steps iter f.items s x t p.came step;
             tells = tells;
             lacks = rw (sym full, p.grows, asked) at lacks;
             sizeless = many;

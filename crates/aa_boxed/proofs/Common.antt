@@ -17,6 +17,7 @@ pub use Rattle.aa_raw.specs.declared.collections.TryReserveError.{TryReserveErro
 pub use Rattle.aa_raw.specs.declared.collections.TryReserveErrorKind.TheVariants.{AllocError, CapacityOverflow}
 pub use Rattle.aa_raw.specs.declared.raw_vec.Growth.TheVariants.{Doubling}
 pub use Rattle.std.proofs.Common.{Err, IfErr, IfOk, IfSome, IsUtf8, List, None, Ok, Option, Result, Some, String, [], ap, append-nil, append_assoc, arith, drop, eq-eqb, flat_map, get_or, if◌then◌else◌, inl, inr, is_none, is_some, length, length-append, map, refl, replicate, rules, subst, suc, sym, take, true, zero, ℕ, ◌++◌, ◌+◌, ◌<◌, ◌==◌, ◌∙◌, ◌∷◌, ◌≡◌, ◌≢◌, ◌≤◌}
+pub use Rattle.std.proofs.iter.Next.{Yields-more}
 pub use Rattle.std.proofs.iter.runs.Consumers.{total_runs}
 pub use Rattle.std.proofs.lemmas.Result.{err_from_is_err_and}
 pub use Rattle.std.proofs.lemmas.List.{take_all}

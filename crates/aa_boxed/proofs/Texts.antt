@@ -1,6 +1,5 @@
 -- Texts that come of an iterator, and are put behind a text.
-use Rattle.aa_boxed.proofs.Common.{LacksBytes, List, Option, PutsTexts, Some, StopsAtText, String, Text, TryReserveError, Yields, [], ap, append-nil, append_assoc, arith, flat_map, length, length-append, room_after, room_for, string_bytes, string_capacity, sym, ℕ, ◌++◌, ◌+◌, ◌∙◌, ◌∷◌, ◌≡◌}
-use Rattle.aa_boxed.proofs.Coming.{Yields-next}
+use Rattle.aa_boxed.proofs.Common.{LacksBytes, List, Option, PutsTexts, Some, StopsAtText, String, Text, TryReserveError, Yields, Yields-more, [], ap, append-nil, append_assoc, arith, flat_map, length, length-append, room_after, room_for, string_bytes, string_capacity, sym, ℕ, ◌++◌, ◌+◌, ◌∙◌, ◌∷◌, ◌≡◌}
 
 module _ {A : Type 0} where
   abbrev pub joined : List (Text A) → List ℕ
@@ -35,7 +34,7 @@ module _ {A : Type 0} where
           → string_capacity new ≡ room_for (string_capacity text) (length (string_bytes text)) (length more) → Joining u new
       Joining-next t u step new more is bytes room = record {
         placed = p.placed ++ t ∷ [];
-        came = Yields-next steps iter p.placed s t u p.came step;
+        came = Yields-more steps iter p.placed s t u p.came step;
         put = record {
           bytes = bytes ∙ ap (λ bs. string_bytes text ++ bs) is ∙ ap (λ bs. bs ++ t.bytes) p.put.bytes ∙ append_assoc (string_bytes old) (joined p.placed) t.bytes ∙ ap (λ bs. string_bytes old ++ bs) (sym (joined-next p.placed t));
           capacity = room ∙ ap (λ bs. room_for (string_capacity text) (length (string_bytes text)) (length bs)) is ∙ ap (λ c. room_for c (length (string_bytes text)) (length t.bytes)) p.put.capacity ∙ sym (room_after-next (string_capacity old) (length (string_bytes old)) p.placed t (length (string_bytes text)) len_now);
@@ -48,7 +47,7 @@ module _ {A : Type 0} where
       Joining-stopped t u step new bytes room e lacks = record {
         placed = p.placed;
         refused = t;
-        came = Yields-next steps iter p.placed s t u p.came step;
+        came = Yields-more steps iter p.placed s t u p.came step;
         put = record { bytes = bytes ∙ p.put.bytes; capacity = room ∙ p.put.capacity };
         lacks = lacks;
       }
