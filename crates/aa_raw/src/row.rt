@@ -146,24 +146,6 @@ impl<T> Row<T> {
         self.write_array(to, items);
     }
 
-    // Moves the `N` values from `from` on of `source` to the places from `to` on.
-    #[inline(always)]
-    #[tactic(auto, using(crate::proofs::Places::array_moves))]
-    fn take_array<const N: usize>(&mut self, to: usize, source: &mut Row<T>, from: usize)
-        requires here { to + N ≤ length self.old.places }
-        requires there { IsRun source.old.places from N }
-        ensures here { (self.new.ptr ≡ self.old.ptr)
-            × (self.new.places
-            ≡ with_run self.old.places to N (take N (drop from source.old.places))) }
-        ensures there { (source.new.ptr ≡ source.old.ptr)
-            × (source.new.places ≡ with_run source.old.places from N (replicate N None)) }
-    {
-        let mut run = source.cut(from);
-        let items = run.read_array::<N>();
-        source.join(run);
-        self.write_array(to, items);
-    }
-
     /// Moves the first `N` values out.
     #[inline(always)]
     pub(crate) fn read_array<const N: usize>(&mut self) -> [T; N]
