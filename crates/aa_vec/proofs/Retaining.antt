@@ -87,5 +87,3 @@ module _ {F T A : Type 0} {Asks : F → T → Bool → F → T → Type 0} {Take
         few = omega (arith, q.3, ap removed_count r.answers, removed-told (λ t. t.answer) r.told);
         becomes = subst (λ s. Becomes old (kept r.told) (kept_behind_removed s) q.2 w) (sym r.answers) (subst (λ l. Becomes old l (kept_behind_removed q.0) q.2 w) r.all q.4);
       }
-
-pub ruleset ended = (Retains-ended)

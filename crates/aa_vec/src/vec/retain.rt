@@ -6,7 +6,7 @@ ghost use Rattle.aa_vec.specs.Choosing.{TakesMut, Reads, IsCallableInOrder, MayA
 ghost use Rattle.aa_vec.specs.Until.{AsksBehind, StaysWhen, AsksUntil};
 
 use crate::vec::Vec;
-use crate::vec::behind::steps::{step_over, step_over_any};
+use crate::vec::behind::steps::{step_over, step_over_any, step_over_inside};
 use core::mem::replace_with;
 use std::alloc::Allocator;
 
@@ -70,11 +70,31 @@ impl<T, A: Allocator> Vec<T, A> {
         let _within = self.block.capacity();
         count_kept(self.block.slice_mut(self.len + gap, count), true, keep)
     }
+
+    // The same where there are two of them or more.
+    #[inline(always)]
+    #[tactic(auto, using(crate::proofs::Chains::lents))]
+    fn keep_inside<F: FnMut(&mut T) -> bool>(
+        &mut self,
+        gap: usize,
+        count: usize,
+        keep: &mut F,
+    ) -> usize
+        requires some { 1 < count }
+        requires stands { StandsBehind self.old gap count }
+        requires callable { MayAskInOrder (CalledAtMut F.FnMut) (TakesMut F.FnMut) keep.old
+            (behind_items self.old gap count) }
+        ensures { AsksBehind (CalledAtMut F.FnMut) keep.old self.old gap count
+            result keep.new self.new }
+    {
+        let _within = self.block.capacity();
+        count_kept_inside(self.block.slice_mut(self.len + gap, count), true, keep)
+    }
 }
 
 // `retain_by`. The loop owns the vector, so that its fields stay in registers, and hands the closure
-// back. Before the first element that goes none is moved.
-#[tactic(auto, using(crate::proofs::Retaining::ended))]
+// back. Before the first element that goes none is moved. While the loop runs, two elements or more
+// are left to ask, so that nothing else tests whether one stands behind the next.
 fn retain_owned<'a, T: Drop, A: Allocator, F: FnMut(&mut T) -> bool>(
     mut list: Vec<T, A>,
     keep: &'a mut F,
@@ -87,11 +107,20 @@ fn retain_owned<'a, T: Drop, A: Allocator, F: FnMut(&mut T) -> bool>(
     let mut at = 0;
     let first = list.keep_behind(0, end - at, keep);
     (list, at) = step_over_any(list, 0, at, end, first);
-    'runs: while at < end {
-        let gap = at - list.len();
-        let kept = list.keep_behind(gap, end - at, keep);
-        (list, at) = step_over(list, gap, at, end, kept);
+    if end <= at {
+        return (list, keep);
     }
+    'runs: while at < end - 1 {
+        let gap = at - list.len();
+        let kept = list.keep_inside(gap, end - at, keep);
+        (list, at) = step_over_inside(list, gap, at, end, kept);
+    }
+    if end <= at {
+        return (list, keep);
+    }
+    let gap = at - list.len();
+    let rest = list.keep_behind(gap, end - at, keep);
+    (list, _) = step_over(list, gap, at, end, rest);
     (list, keep)
 }
 
@@ -124,6 +153,31 @@ pub(crate) fn count_kept<T, F: FnMut(&mut T) -> bool>(
         return 1;
     }
     2 + kept_run(others, stays, keep)
+}
+
+// The same of two elements or more.
+#[inline(always)]
+fn count_kept_inside<T, F: FnMut(&mut T) -> bool>(
+    elements: &mut [T],
+    stays: bool,
+    keep: &mut F,
+) -> usize
+    requires some { 1 < length elements.old }
+    requires callable { MayAskInOrder (StaysWhen stays (CalledAtMut F.FnMut))
+        (TakesMut F.FnMut) keep.old elements.old }
+    ensures { AsksUntil (StaysWhen stays (CalledAtMut F.FnMut))
+        keep.old elements.old result keep.new elements.new }
+{
+    let _count = count_of(elements);
+    let (first, others) = elements.split_at_mut(1);
+    if !ask_stays(keep, &mut first[0], stays) {
+        return 0;
+    }
+    let (second, rest) = others.split_at_mut(1);
+    if !ask_stays(keep, &mut second[0], stays) {
+        return 1;
+    }
+    2 + kept_run(rest, stays, keep)
 }
 
 // The same in one run.
