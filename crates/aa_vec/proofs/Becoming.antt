@@ -44,19 +44,22 @@ module _ {T A : Type 0} where
   Becomes-refl v = Becomes-behind v v v.behind refl
 
   -- one call after another
-  pub Becomes-then : (old : Vector T A) (xs : List T) (n k : ℕ) (mid : Vector T A) → Becomes old xs n k mid → (ys : List T) (m l : ℕ) (new : Vector T A) → Becomes mid ys m l new → (a b : ℕ) → n + m ≡ a → k + l ≡ b → Becomes old ys a b new
-  Becomes-then old xs n k mid e ys m l new f a b all calls =
-      Becomes-holds old ys a b new (record { items = ap (λ v. v.items) f; block = SameBlock-trans (SameBlock-becomes old xs n k mid e) (SameBlock-becomes mid ys m l new f) })
+  pub Becomes-at : (old : Vector T A) (xs : List T) (n k : ℕ) (mid : Vector T A) → Becomes old xs n k mid → (ys : List T) (m l : ℕ) (new : Vector T A) → Becomes mid ys m l new → (zs : List T) (a b : ℕ) → ys ≡ zs → n + m ≡ a → k + l ≡ b → Becomes old zs a b new
+  Becomes-at old xs n k mid e ys m l new f zs a b same all calls =
+      Becomes-holds old zs a b new (record { items = ap (λ v. v.items) f ∙ same; block = SameBlock-trans (SameBlock-becomes old xs n k mid e) (SameBlock-becomes mid ys m l new f) })
       (record { written = omega (arith, ap (λ v. v.written) e, ap (λ v. v.written) f, all); runs = omega (arith, ap (λ v. v.runs) e, ap (λ v. v.runs) f, calls) })
+
+  pub Becomes-then : (old : Vector T A) (xs : List T) (n k : ℕ) (mid : Vector T A) → Becomes old xs n k mid → (ys : List T) (m l : ℕ) (new : Vector T A) → Becomes mid ys m l new → (a b : ℕ) → n + m ≡ a → k + l ≡ b → Becomes old ys a b new
+  Becomes-then old xs n k mid e ys m l new f a b = Becomes-at old xs n k mid e ys m l new f ys a b refl
 
   -- items put behind others, and those behind the items there were
   pub Becomes-more : (old mid new : Vector T A) (xs ys : List T) (n k m l a b : ℕ) → Becomes old (old.items ++ xs) n k mid → Becomes mid (mid.items ++ ys) m l new → n + m ≡ a → k + l ≡ b → Becomes old (old.items ++ (xs ++ ys)) a b new
   Becomes-more old mid new xs ys n k m l a b p q all calls =
-      subst (λ zs. Becomes old zs a b new) (ap (λ v. v.items ++ ys) p ∙ append_assoc old.items xs ys) (Becomes-then old (old.items ++ xs) n k mid p (mid.items ++ ys) m l new q a b all calls)
+      Becomes-at old (old.items ++ xs) n k mid p (mid.items ++ ys) m l new q _ a b (ap (λ v. v.items ++ ys) p ∙ append_assoc old.items xs ys) all calls
 
   -- what was done once room was made
   pub Becomes-roomy : (old mid new : Vector T A) → Becomes old old.items 0 0 mid → (f : List T → List T) (n : ℕ) → Becomes mid (f mid.items) n n new → Becomes old (f old.items) n n new
-  Becomes-roomy old mid new made f n p = subst (λ l. Becomes old l n n new) (ap (λ v. f v.items) made) (Becomes-then old old.items 0 0 mid made (f mid.items) n n new p n n (omega arith) (omega arith))
+  Becomes-roomy old mid new made f n p = Becomes-at old old.items 0 0 mid made (f mid.items) n n new p _ n n (ap (λ v. f v.items) made) (omega arith) (omega arith)
 
 -- vectors with the same fields
 pub same_fields : {T A : Type 0} (v w : Vector T A) → v.items ≡ w.items → v.capacity ≡ w.capacity → v.growth ≡ w.growth → v.grown ≡ w.grown → v.written ≡ w.written → v.runs ≡ w.runs → v.alloc ≡ w.alloc → v.behind ≡ w.behind → v ≡ w

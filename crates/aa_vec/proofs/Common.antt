@@ -20,7 +20,7 @@ pub use Rattle.aa_vec.specs.Filling.{FillsAndCloses, FillsGap, Gathers, LacksRes
 pub use Rattle.aa_vec.specs.VecInner.{IsFront, view_of}
 pub use Rattle.aa_vec.specs.SpliceItems.{Gapped, LacksOthers, PutsWithin, Replaced, SplicesAll, SplicesFront, SplicesShort, gapped, tail_moves}
 pub use Rattle.aa_vec.specs.Until.{AsksBehind, AsksLast, AsksNeighbours, AsksUntil, ChainsAlong, ChainsBehind, ChainsOn, ChainsUntil, KeepsDown, Picks, StaysWhen, TakesNext}
-pub use Rattle.aa_vec.specs.Vector.{Becomes, GrowsTo, HasRoom, Holds, IsNew, LacksRoom, Moves, SameBlock, Vector, Writes, len, moved_over, run_count, sized, with_items, with_room}
+pub use Rattle.aa_vec.specs.Vector.{Becomes, GrowsTo, HasRoom, Holds, IsNew, LacksRoom, SameBlock, Vector, Writes, len, moved_over, run_count, sized, with_items, with_room}
 pub use Rattle.aa_vec.specs.declared.vec.Vec.TheInside.{Inside}
 pub use Rattle.aa_vec.specs.declared.vec.drain.Drain.{Drain}
 pub use Rattle.aa_vec.specs.declared.vec.extract_if.ExtractBy.{ExtractBy}

@@ -1,9 +1,9 @@
 -- A vector that items of an iterator are put behind.
-use Rattle.aa_vec.proofs.Common.{◌≡◌, ℕ, zero, suc, ◌+◌, ◌-◌, ◌<◌, ◌≤◌, List, [], ◌∷◌, ◌++◌, length, Option, Some, None, Ok, append_assoc, refl, sym, ap, ◌∙◌, subst, arith, length-append, min, map, Count, Yields, Drains, append-nil, TryReserveError, usize_max, Vector, len, HasRoom, LacksRoom, Holds, Writes, Placed, FillsGap, GrowsInSteps, YieldsTelling, Takes, Extends, Extended, CopiesOf, Result, Err, OnOk, IfErr, count_of, WholeRun, asked_with, Becomes, with_room}
+use Rattle.aa_vec.proofs.Common.{◌≡◌, ℕ, zero, suc, ◌+◌, ◌-◌, ◌<◌, ◌≤◌, List, [], ◌∷◌, ◌++◌, length, Option, Some, None, Ok, append_assoc, refl, sym, ap, ◌∙◌, subst, arith, length-append, min, map, Count, Yields, Drains, append-nil, TryReserveError, usize_max, Vector, len, HasRoom, LacksRoom, Writes, Placed, FillsGap, GrowsInSteps, YieldsTelling, Takes, Extends, Extended, CopiesOf, Result, Err, OnOk, IfErr, count_of, WholeRun, asked_with, Becomes, with_room}
 use Rattle.std.specs.Borrow.{Bor}
 use Rattle.aa_vec.proofs.Answered.{IsOk, on_ok}
 use Rattle.std.proofs.iter.runs.Consumers.{total_runs}
-use Rattle.aa_vec.proofs.Becoming.{GrowsTo-becomes, Writes-grown}
+use Rattle.aa_vec.proofs.Becoming.{GrowsTo-becomes, SameBlock-becomes, Writes-grown}
 use Rattle.aa_vec.proofs.GrowthLemmas.{MakesRoom, SameBlock-refl, MakesRoom-fits, MakesRoom-rises, GrowsInSteps-same, GrowsInSteps-more, GrowsInSteps-rises, GrowsInSteps-counted, Extends-items, in_block}
 
 -- the items that came, as one run
@@ -88,16 +88,16 @@ module _ {S T : Type 0} (steps : S → Option T → S → Type 0) (Tells : S →
           let r = told_on some p.lower iter p.front s xs t p.told q.comes.given in
           let front : List T = p.front ++ xs in
           let longer : length front ≡ length p.front + length xs = length-append p.front xs in
-          let e : new.items ≡ old.items ++ front = q.holds.items ∙ ap (λ ys. ys ++ xs) p.items ∙ append_assoc old.items p.front xs in
+          let e : new.items ≡ old.items ++ front = ap (λ u. u.items) q.becomes ∙ ap (λ ys. ys ++ xs) p.items ∙ append_assoc old.items p.front xs in
           record {
             front = front;
             lower = r.0;
             told = r.1;
             within = p.within;
-            in_steps = GrowsInSteps-same size r.0 (len old + length front) (GrowsInSteps-counted size p.lower r.0 (len old + length p.front) (length xs) (len old + length front) (SameBlock-refl old) (omega (arith, longer)) (λ k _. r.2 k) p.in_steps) q.holds.block;
+            in_steps = GrowsInSteps-same size r.0 (len old + length front) (GrowsInSteps-counted size p.lower r.0 (len old + length p.front) (length xs) (len old + length front) (SameBlock-refl old) (omega (arith, longer)) (λ k _. r.2 k) p.in_steps) (SameBlock-becomes _ _ _ _ _ q.becomes);
             items = e;
-            fits = omega (arith, ap length e, length-append old.items front, longer, count, p.fits, q.comes.count, q.holds.block.capacity);
-            writes = omega (arith, q.writes.written, q.writes.runs, p.writes.written, p.writes.runs, longer);
+            fits = omega (arith, ap length e, length-append old.items front, longer, count, p.fits, q.comes.count, ap (λ u. u.capacity) q.becomes);
+            writes = omega (arith, ap (λ u. u.written) q.becomes, ap (λ u. u.runs) q.becomes, p.writes.written, p.writes.runs, longer);
           }
 
       -- until no place was left
@@ -105,8 +105,8 @@ module _ {S T : Type 0} (steps : S → Option T → S → Type 0) (Tells : S →
           → Placing t new × (len new ≡ new.capacity) × (len new ≡ v.capacity)
       Placing-full some left t new e f =
           let q = f.placed in
-          let long : len new ≡ v.capacity = omega (arith, e, ap length q.holds.items, length-append v.items q.comes.added, q.comes.count, p.fits) in
-          (subst (λ u. Placing u new) (sym (f.stops.full e)) (Placing-filled some left f.last new q), long ∙ sym q.holds.block.capacity, long)
+          let long : len new ≡ v.capacity = omega (arith, e, ap len q.becomes, length-append v.items q.comes.added, q.comes.count, p.fits) in
+          (subst (λ u. Placing u new) (sym (f.stops.full e)) (Placing-filled some left f.last new q), long ∙ sym (ap (λ u. u.capacity) q.becomes), long)
 
       -- v is full, and one more item x came, behind which n is told
       module _ (full : len v ≡ v.capacity) (x : T) (t : S) (step : steps s (Some x) t) (n : ℕ) (tells : Tells t n) where
@@ -123,23 +123,23 @@ module _ {S T : Type 0} (steps : S → Option T → S → Type 0) (Tells : S →
         grown_in_steps = GrowsInSteps-counted size p.lower next_lower (len old + length p.front) 1 (len old + length next_front) (SameBlock-refl old) (omega (arith, longer)) (λ k _. ap next_lower {x = suc k} (omega arith)) p.in_steps
 
         -- it is placed in w, which v has grown to
-        pub Placing-grown : (k : ℕ) → k ≡ min (n + 1) usize_max → (w new : Vector T A) → Becomes (with_room size v (len v) k) v.items 0 0 w → Holds w (w.items ++ x ∷ []) new → Writes w 1 1 new → Placing t new
-        Placing-grown k e w new made holds writes =
+        pub Placing-grown : (k : ℕ) → k ≡ min (n + 1) usize_max → (w new : Vector T A) → Becomes (with_room size v (len v) k) v.items 0 0 w → Becomes w (w.items ++ x ∷ []) 1 1 new → Placing t new
+        Placing-grown k e w new made put =
             let g = GrowsTo-becomes v v.items 0 0 w size k made in let z = Writes-grown v v.items 0 0 w size k made in
             let asked : k ≡ asked_with (next_lower (len old + length next_front - v.capacity - 1)) = e ∙ ap (λ n. asked_with (next_lower (n - 1))) {x = 1} (omega (arith, full, count, longer)) in
             let m : MakesRoom size v v.capacity (asked_with (next_lower (len old + length next_front - v.capacity - 1))) w = rw (← asked) (subst (λ j. MakesRoom size v j k w) full g.room) in
             let room : len w < w.capacity = omega (arith, e, full, ap length g.items, MakesRoom-fits size (len v) k v w g.room (omega (arith, full, MakesRoom-rises size (len v) k v w g.room))) in
             let in_steps : GrowsInSteps size next_lower (len old + length next_front) old w = GrowsInSteps-more size next_lower (len old + length next_front) grown_in_steps (omega (arith, full, count, longer)) m in
-            let i : new.items ≡ old.items ++ next_front = holds.items ∙ ap (λ ys. ys ++ x ∷ []) (g.items ∙ p.items) ∙ append_assoc old.items p.front (x ∷ []) in
+            let i : new.items ≡ old.items ++ next_front = ap (λ u. u.items) put ∙ ap (λ ys. ys ++ x ∷ []) (g.items ∙ p.items) ∙ append_assoc old.items p.front (x ∷ []) in
             record {
               front = next_front;
               lower = next_lower;
               told = YieldsTelling-more p.lower n iter p.front s x t p.told step tells;
               within = p.within;
-              in_steps = GrowsInSteps-same size next_lower (len old + length next_front) in_steps holds.block;
+              in_steps = GrowsInSteps-same size next_lower (len old + length next_front) in_steps (SameBlock-becomes _ _ _ _ _ put);
               items = i;
-              fits = omega (arith, ap length holds.items, length-append w.items (x ∷ []), room, holds.block.capacity);
-              writes = omega (arith, writes.written, writes.runs, z.written, z.runs, p.writes.written, p.writes.runs, longer);
+              fits = omega (arith, ap len put, length-append w.items (x ∷ []), room, ap (λ u. u.capacity) put);
+              writes = omega (arith, ap (λ u. u.written) put, ap (λ u. u.runs) put, z.written, z.runs, p.writes.written, p.writes.runs, longer);
             }
 
         -- or room for it was refused, where more may have come from the start on than were placed

@@ -1,7 +1,7 @@
 -- A gap before the elements behind the items of a vector: items are put into it, and it is made.
-use Rattle.aa_vec.proofs.Common.{◌≡◌, ℕ, ◌+◌, ◌-◌, ◌<◌, ◌≤◌, List, [], ◌∷◌, ◌++◌, length, take, drop, Option, Some, None, append_assoc, refl, sym, ap, ◌∙◌, subst, arith, length-append, length-take, if◌then◌else◌, ◌==◌, Yields, append-nil, drop-drop, wrote, IsRun, run, moved, length-moved, length-run, IsRun-long, IsRun-same, run-moved, run-moved-below, Vector, len, Holds, Writes, GrowsTo, view_of, IsFront, StandsBehind, SetsBack, ClosesGap, behind_items, Widens, Placed, FillsGap, FillsAndCloses, Inside, OpensGap}
-use Rattle.aa_vec.proofs.Becoming.{SameBlock-becomes}
-use Rattle.aa_vec.proofs.GrowthLemmas.{SameBlock-refl, SameBlock-trans, MakesRoom-has}
+use Rattle.aa_vec.proofs.Common.{◌≡◌, ℕ, ◌+◌, ◌-◌, ◌<◌, ◌≤◌, List, [], ◌∷◌, ◌++◌, length, take, drop, Option, Some, None, append_assoc, refl, sym, ap, ◌∙◌, subst, arith, length-append, length-take, if◌then◌else◌, ◌==◌, Yields, append-nil, drop-drop, wrote, IsRun, run, moved, length-moved, length-run, IsRun-long, IsRun-same, run-moved, run-moved-below, Vector, len, Becomes, with_room, view_of, IsFront, StandsBehind, SetsBack, ClosesGap, behind_items, Widens, Placed, FillsGap, FillsAndCloses, Inside, OpensGap}
+use Rattle.aa_vec.proofs.Becoming.{Becomes-at, Becomes-holds, Becomes-more, Becomes-refl, GrowsTo-becomes}
+use Rattle.aa_vec.proofs.GrowthLemmas.{MakesRoom-has}
 use Rattle.aa_vec.proofs.BehindLemmas.{still_stand, still_are}
 use Rattle.aa_vec.proofs.Gaps.{run-of_drop, IsRun-to_drop, there, elements}
 
@@ -15,25 +15,23 @@ module _ {S T : Type 0} (steps : S → Option T → S → Type 0) where
     pub Placed-start : StandsBehind old gap n → Placed steps s old gap n gap s old
     Placed-start stands = record {
       comes = record { added = []; given = refl; count = omega arith };
-      holds = record { items = sym (append-nil old.items); block = SameBlock-refl old };
+      becomes = rw (append-nil old.items) (Becomes-refl old);
       stands = stands;
       elements = refl;
-      writes = record { written = omega arith; runs = omega arith };
     }
 
     module _ (left : ℕ) (t : S) (v : Vector T A) (p : Placed steps s old gap n left t v) where
       -- one more came
-      pub Placed-put : 0 < left → (x : T) (u : S) → steps t (Some x) u → (w : Vector T A) → Holds v (v.items ++ x ∷ []) w → Writes v 1 1 w → w.behind ≡ drop 1 v.behind → Placed steps s old gap n (left - 1) u w
-      Placed-put h x u step w holds writes behind =
+      pub Placed-put : 0 < left → (x : T) (u : S) → steps t (Some x) u → (w : Vector T A) → Becomes v (v.items ++ x ∷ []) 1 1 w → w.behind ≡ drop 1 v.behind → Placed steps s old gap n (left - 1) u w
+      Placed-put h x u step w put behind =
           let added : List T = p.comes.added in
           let longer : length (added ++ x ∷ []) ≡ length added + 1 = length-append added (x ∷ []) in
           let same : drop (left - 1) w.behind ≡ drop left v.behind = ap (drop (left - 1)) behind ∙ drop-drop (left - 1) 1 v.behind ∙ ap (λ i. drop i v.behind) (omega (arith, h)) in
           record {
             comes = record { added = added ++ x ∷ []; given = Yields-join s added t (x ∷ []) u p.comes.given (u, step, refl); count = omega (arith, longer, p.comes.count, h) };
-            holds = record { items = holds.items ∙ ap (λ ys. ys ++ x ∷ []) p.holds.items ∙ append_assoc old.items added (x ∷ []); block = SameBlock-trans p.holds.block holds.block };
-            stands = still_stand v w left (left - 1) n p.stands (omega (arith, p.stands.0, ap length holds.items, length-append v.items (x ∷ []), holds.block.capacity, h)) same;
+            becomes = Becomes-more old v w added (x ∷ []) _ _ 1 1 _ _ p.becomes put (sym longer) (sym longer);
+            stands = still_stand v w left (left - 1) n p.stands (omega (arith, p.stands.0, ap len put, length-append v.items (x ∷ []), ap (λ u. u.capacity) put, h)) same;
             elements = still_are v w left (left - 1) n same ∙ p.elements;
-            writes = record { written = omega (arith, writes.written, p.writes.written, longer); runs = omega (arith, writes.runs, p.writes.runs, longer) };
           }
 
       -- no item is to come
@@ -48,18 +46,7 @@ module _ {S T : Type 0} (steps : S → Option T → S → Type 0) where
     pub FillsAndCloses-gap : (left : ℕ) (t : S) (v w : Vector T A) → FillsGap steps s old gap n left t v → ClosesGap v left n w → FillsAndCloses steps s old gap n left t w
     FillsAndCloses-gap left t v w f c =
         let p = f.placed in
-        let added : List T = p.comes.added in
-        record {
-          last = f.last;
-          comes = p.comes;
-          stops = f.stops;
-          holds = record {
-            items =
-                ap (λ u. u.items) c.becomes ∙ ap (λ ys. ys ++ behind_items v left n) p.holds.items ∙ append_assoc old.items added (behind_items v left n) ∙ ap (λ ys. old.items ++ (added ++ ys)) p.elements;
-            block = SameBlock-trans p.holds.block (SameBlock-becomes _ _ _ _ _ c.becomes);
-          };
-          writes = record { written = omega (arith, ap (λ u. u.written) c.becomes, p.writes.written); runs = omega (arith, ap (λ u. u.runs) c.becomes, p.writes.runs) };
-        }
+        record { last = f.last; comes = p.comes; stops = f.stops; becomes = rw (← p.elements) (Becomes-more old v w p.comes.added _ _ _ _ _ _ _ p.becomes c.becomes refl refl) }
 
 -- the places of a block whose elements behind the items were moved up
 module _ {T A : Type 0} (v : Inside T A) (front : IsFront v) (gap n : ℕ) (stands : StandsBehind (view_of v) 0 n) (room : len (view_of v) + gap + n ≤ length v.block.places) where
@@ -94,16 +81,15 @@ module _ {T A : Type 0} (v : Inside T A) (front : IsFront v) (gap n : ℕ) (stan
       -- a move over a gap writes nothing where there is no gap
       let over : (if v.len == v.len + gap then 0 else n) ≡ (if gap == 0 then 0 else n) = grind arith in
       rw over (record {
-        holds = record { items = same-front; block = record { capacity = long; growth = refl; grown = refl; alloc = refl } };
+        becomes = Becomes-holds (view_of v) _ _ _ _ (record { items = same-front; block = record { capacity = long; growth = refl; grown = refl; alloc = refl } }) (record { written = refl; runs = refl });
         stands = (omega (arith, ap length same-front, counted, long, fits), rw deep (IsRun-to_drop raised (v.len + gap) n up));
         elements = rw (deep, run-of_drop raised (v.len + gap) n) (same-elements ∙ ap (λ i. run v.block.places i n) (omega arith) ∙ sym (elements v front 0 n stands));
-        writes = record { written = refl; runs = refl };
       })
 
 -- room is made, the last n items are set back, and moved up
-module _ {T A : Type 0} (size : ℕ) (old w x : Vector T A) (gap n : ℕ) (few : n ≤ len old) (g : GrowsTo size old gap old.items w) (z : Writes old 0 0 w) (k : ℕ) (e : k ≡ len w) (sets : SetsBack w (k - n) x) where
+module _ {T A : Type 0} (size : ℕ) (old w x : Vector T A) (gap n : ℕ) (few : n ≤ len old) (g : Becomes (with_room size old (len old) gap) old.items 0 0 w) (k : ℕ) (e : k ≡ len w) (sets : SetsBack w (k - n) x) where
   same_len : len w ≡ len old
-  same_len = ap length g.items
+  same_len = ap len g
 
   at_end : len w - (k - n) ≡ n
   at_end = omega (arith, few, same_len, e)
@@ -112,17 +98,15 @@ module _ {T A : Type 0} (size : ℕ) (old w x : Vector T A) (gap n : ℕ) (few :
   widen_stands = subst (StandsBehind x 0) at_end sets.stands
 
   pub widen_room : len x + gap + n ≤ x.capacity
-  widen_room = omega (arith, MakesRoom-has size (len old) gap old w g.room, widen_stands.0, ap len sets.becomes, length-take (k - n) w.items, same_len, e, few, ap (λ u. u.capacity) sets.becomes)
+  widen_room = omega (arith, MakesRoom-has size (len old) gap old w (GrowsTo-becomes _ _ _ _ _ size gap g).room, widen_stands.0, ap len sets.becomes, length-take (k - n) w.items, same_len, e, few, ap (λ u. u.capacity) sets.becomes)
 
   pub Widens-opened : (y : Vector T A) → OpensGap x gap n y → Widens size old gap n y
   Widens-opened y o =
       let at : k - n ≡ len old - n = omega (arith, same_len, e) in
       record {
-        items = o.holds.items ∙ ap (λ u. u.items) sets.becomes ∙ ap (λ i. take i w.items) at ∙ ap (take (len old - n)) g.items;
-        room = SameBlock-trans g.room (SameBlock-trans (SameBlock-becomes _ _ _ _ _ sets.becomes) o.holds.block);
+        becomes = Becomes-at (with_room size old (len old) gap) _ _ _ w g _ _ _ y (Becomes-at w _ _ _ x sets.becomes _ _ _ y o.becomes _ _ _ refl refl refl) _ _ _ (ap (λ u. u.items) sets.becomes ∙ ap (λ i. take i w.items) at ∙ ap (λ u. take (len old - n) u.items) g) (omega arith) (omega arith);
         stands = o.stands;
-        elements = o.elements ∙ ap (behind_items x 0) (sym at_end) ∙ sets.elements ∙ ap (λ i. drop i w.items) at ∙ ap (drop (len old - n)) g.items;
-        writes = record { written = omega (arith, o.writes.written, ap (λ u. u.written) sets.becomes, z.written); runs = omega (arith, o.writes.runs, ap (λ u. u.runs) sets.becomes, z.runs) };
+        elements = o.elements ∙ ap (behind_items x 0) (sym at_end) ∙ sets.elements ∙ ap (λ i. drop i w.items) at ∙ ap (λ u. drop (len old - n) u.items) g;
       }
 
 -- a gap, as it is made and filled

@@ -1,7 +1,7 @@
 -- Items gathered in a vector of their own, and what was asked for where they could not be.
-use Rattle.aa_vec.proofs.Common.{◌≡◌, ℕ, ◌+◌, ◌-◌, ◌<◌, List, [], ◌∷◌, ◌++◌, length, Option, None, refl, suc, sym, ap, cases_lt, ◌∙◌, subst, arith, inl, inr, length-append, min, append-nil, TryReserveError, Doubling, amortized, least_of, usize_max, Vector, len, IsNew, LacksRoom, GrowsTo, Holds, GrowsInSteps, Ok, Err, Extends, Takes, Gathers, LacksOthers, LacksRest, asked_with, Becomes, with_room}
+use Rattle.aa_vec.proofs.Common.{◌≡◌, ℕ, ◌+◌, ◌-◌, ◌<◌, List, [], ◌∷◌, ◌++◌, length, Option, None, refl, suc, sym, ap, cases_lt, ◌∙◌, subst, arith, inl, inr, length-append, min, append-nil, TryReserveError, Doubling, amortized, least_of, usize_max, Vector, len, IsNew, LacksRoom, GrowsTo, GrowsInSteps, Ok, Err, Extends, Takes, Gathers, LacksOthers, LacksRest, asked_with, Becomes, with_room}
 use Rattle.aa_raw.specs.Refusals.{IsRefusedAt}
-use Rattle.aa_vec.proofs.Becoming.{GrowsTo-becomes}
+use Rattle.aa_vec.proofs.Becoming.{GrowsTo-becomes, SameBlock-becomes}
 use Rattle.aa_vec.proofs.GrowthLemmas.{MakesRoom, MakesRoom-stays, SameBlock-refl, Extends-items, GrowsInSteps-counted, GrowsInSteps-first, in_block}
 use Rattle.aa_vec.proofs.Counted.{Extends-told}
 use Rattle.aa_vec.proofs.Lists.{equal, unequal}
@@ -51,12 +51,12 @@ module _ {S T A : Type 0} (steps : S → Option T → S → Type 0) (Tells : S �
         record { taken = []; lower = λ _. n; last = s; told = (tells, refl); went = (inl refl, inl (inr (made, made, new.capacity, new.growth, full))) }
 
     -- `first` was put there, and others behind it
-    module _ (v : Vector T A) (roomy : Becomes (with_room size made (len made) wanted) made.items 0 0 v) (w : Vector T A) (put : Holds v (v.items ++ first ∷ []) w) where
+    module _ (v : Vector T A) (roomy : Becomes (with_room size made (len made) wanted) made.items 0 0 v) (w : Vector T A) (put : Becomes v (v.items ++ first ∷ []) 1 1 w) where
       g : GrowsTo size made wanted made.items v
       g = GrowsTo-becomes made made.items 0 0 v size wanted roomy
 
       one : w.items ≡ first ∷ []
-      one = put.items ∙ ap (λ ys. ys ++ first ∷ []) (g.items ∙ new.items)
+      one = ap (λ u. u.items) put ∙ ap (λ ys. ys ++ first ∷ []) (g.items ∙ new.items)
 
       pub Gathers-all : (x : Vector T A) (t : S) → Takes steps Tells s (λ lower xs last. steps last None t × Extends size lower w w.items xs (Ok tt) x) → Gathers steps Tells s first x t
       Gathers-all x t e = record { taken = e.taken; lower = e.lower; last = e.last; told = e.told; went = (e.went.0, Extends-items e.went.1 ∙ ap (λ ys. ys ++ e.taken) one) }
@@ -65,7 +65,7 @@ module _ {S T A : Type 0} (steps : S → Option T → S → Type 0) (Tells : S �
       LacksRest-more x error t e =
           let taken : List T = e.taken in
           let f = told_first steps Tells e.lower s taken e.last e.told n tells in
-          let stop = Extends-told size e.lower f.0 put.block w.items taken [] (λ k l. f.1 k l ∙ ap f.0 (omega arith)) taken (sym (append-nil taken)) (Err error) tt x e.went.1 in
+          let stop = Extends-told size e.lower f.0 (SameBlock-becomes _ _ _ _ _ put) w.items taken [] (λ k l. f.1 k l ∙ ap f.0 (omega arith)) taken (sym (append-nil taken)) (Err error) tt x e.went.1 in
           let needed : ℕ = 0 + suc (length taken) in
           let rest : GrowsInSteps size f.0 needed v x = subst (λ k. GrowsInSteps size f.0 k v x) (omega (arith, ap length one)) stop.in_steps in
           let in_steps : GrowsInSteps size f.0 needed made x = elim (cases_lt made.capacity (len made + wanted)) [

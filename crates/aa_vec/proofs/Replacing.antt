@@ -1,8 +1,8 @@
 -- Items put before the last ones of a vector, in room made for those that were told, and then for the others.
-use Rattle.aa_vec.proofs.Common.{◌≡◌, ℕ, ◌+◌, ◌-◌, ◌*◌, ◌<◌, ◌≤◌, List, [], ◌∷◌, ◌++◌, length, take, drop, Option, Some, None, append_assoc, refl, sym, ap, ◌∙◌, subst, arith, inl, inr, length-append, length-drop, length-take, Result, Ok, Err, IfErr, OnOk, Count, Yields, count_of, take-append-drop, take_at, drop_at, nat_tests, TryReserveError, Vector, len, Becomes, LacksRoom, run_count, moved_over, ClosesGap, behind_items, tail_moves, Widens, FillsAndCloses, Gathers, PutsAll, Puts, PutsRest, LacksRest, PutsWithin}
+use Rattle.aa_vec.proofs.Common.{◌≡◌, ℕ, ◌+◌, ◌-◌, ◌*◌, ◌<◌, ◌≤◌, List, [], ◌∷◌, ◌++◌, length, take, drop, Option, Some, None, append_assoc, refl, sym, ap, ◌∙◌, subst, arith, inl, inr, length-append, length-drop, length-take, Result, Ok, Err, IfErr, OnOk, Count, Yields, count_of, take-append-drop, take_at, drop_at, nat_tests, TryReserveError, Vector, len, Becomes, with_room, LacksRoom, run_count, moved_over, ClosesGap, behind_items, tail_moves, Widens, FillsAndCloses, Gathers, PutsAll, Puts, PutsRest, LacksRest, PutsWithin}
 use Rattle.aa_vec.proofs.Closed.{moved_none, moved_some, moved_most, one_run}
-use Rattle.aa_vec.proofs.Becoming.{SameBlock-becomes}
-use Rattle.aa_vec.proofs.GrowthLemmas.{MakesRoom, MakesRoom-same, with_room-fits, SameBlock-refl, SameBlock-trans}
+use Rattle.aa_vec.proofs.Becoming.{Becomes-at, SameBlock-becomes}
+use Rattle.aa_vec.proofs.GrowthLemmas.{MakesRoom, MakesRoom-same, with_room-fits, SameBlock-refl}
 use Rattle.aa_vec.proofs.BehindLemmas.{still_are, still_stand}
 use Rattle.aa_vec.proofs.Filling.{Yields-join}
 use Rattle.aa_vec.proofs.ExtendLemmas.{Yields-told}
@@ -54,11 +54,10 @@ module _ {S T A : Type 0} (steps : S → Option T → S → Type 0) (Tells : S �
       record {
         added = new;
         comes = (h.taken, h.last, Yields-told steps Tells h.lower s h.taken h.last h.told, h.went.0, h.went.1);
-        items =
-            ap (λ u. u.items) closes.becomes ∙ ap (λ ys. ys ++ behind_items w 0 n) (ap (λ u. u.items) filled ∙ ap (λ ys. ys ++ new) wid.items) ∙ append_assoc head new (behind_items w 0 n)
-            ∙ ap (λ ys. head ++ (new ++ ys)) (still_are v w (length new) 0 n behind ∙ wid.elements);
-        room = SameBlock-trans wid.room (SameBlock-trans (SameBlock-becomes _ _ _ _ _ filled) (SameBlock-becomes _ _ _ _ _ closes.becomes));
-        writes = omega (arith, ap (λ u. u.written) closes.becomes, ap (λ u. u.runs) closes.becomes, ap (λ u. u.written) filled, ap (λ u. u.runs) filled, wid.writes.written, wid.writes.runs, moved_some (length new) n some, moved_some (length new) 1 some, ap run_count (moved_some (length new) n some));
+        becomes =
+            Becomes-at (with_room size old (len old) (length new)) _ _ _ w (Becomes-at (with_room size old (len old) (length new)) _ _ _ v wid.becomes _ _ _ w filled _ _ _ (ap (λ u. u.items ++ new) wid.becomes) refl refl) _ _ _ x closes.becomes _ _ _
+            (ap (λ u. u.items ++ behind_items w 0 n) filled ∙ ap (λ u. (u.items ++ new) ++ behind_items w 0 n) wid.becomes ∙ append_assoc head new (behind_items w 0 n) ∙ ap (λ ys. head ++ (new ++ ys)) (still_are v w (length new) 0 n behind ∙ wid.elements))
+            (omega (arith, moved_some (length new) n some)) (omega (arith, moved_some (length new) 1 some, ap run_count (moved_some (length new) n some)));
       }
 
   -- there was no room for them
@@ -77,8 +76,11 @@ module _ {S T A : Type 0} (steps : S → Option T → S → Type 0) (Tells : S �
     abbrev came : List T
     came = f.comes.added
 
+    z_becomes : Becomes (with_room size old (len old) told) (head ++ (came ++ tail)) (moved_over told n + (length came + moved_over left n)) (run_count (moved_over told n) + (length came + run_count (moved_over left n))) z
+    z_becomes = Becomes-at (with_room size old (len old) told) _ _ _ y wid.becomes _ _ _ z f.becomes _ _ _ (ap (λ u. u.items ++ (came ++ behind_items y told n)) wid.becomes ∙ ap (λ ys. head ++ (came ++ ys)) wid.elements) refl refl
+
     z_items : z.items ≡ head ++ (came ++ tail)
-    z_items = f.holds.items ∙ ap (λ ys. ys ++ (came ++ behind_items y told n)) wid.items ∙ ap (λ ys. head ++ (came ++ ys)) wid.elements
+    z_items = ap (λ u. u.items) z_becomes
 
     head_count : length head ≡ len old - n
     head_count = length-take (len old - n) old.items ∙ omega arith
@@ -90,13 +92,13 @@ module _ {S T A : Type 0} (steps : S → Option T → S → Type 0) (Tells : S �
     z_len = ap length z_items ∙ length-append head (came ++ tail) ∙ omega (arith, length-append came tail, head_count, tail_count, few)
 
     z_room : MakesRoom size old (len old) told z
-    z_room = SameBlock-trans wid.room f.holds.block
+    z_room = SameBlock-becomes _ _ _ _ _ z_becomes
 
     z_written : z.written ≡ old.written + (moved_over told n + (length came + moved_over left n))
-    z_written = omega (arith, f.writes.written, wid.writes.written)
+    z_written = ap (λ u. u.written) z_becomes
 
     within : (len old ≤ len z) × PutsWithin old (len old) n z
-    within = omega (arith, z_len, z_written, f.writes.runs, wid.writes.runs, moved_most told n, moved_most left n, one_run (moved_over told n), one_run (moved_over left n))
+    within = omega (arith, z_len, z_written, ap (λ u. u.runs) z_becomes, moved_most told n, moved_most left n, one_run (moved_over told n), one_run (moved_over left n))
 
     -- no further item is to come
     pub Puts-told : {fails : Type 0} (end : S) → steps f.last None end → Puts steps Tells fails size s old told n remaining (Ok tt) z end
@@ -129,7 +131,7 @@ module _ {S T A : Type 0} (steps : S → Option T → S → Type 0) (Tells : S �
         some = omega (arith, ap length r.comes.4)
 
         new_items : new.items ≡ head ++ ((came ++ others) ++ tail)
-        new_items = r.items ∙ put_between head came tail others z.items n z_items tail_count
+        new_items = ap (λ u. u.items) r.becomes ∙ put_between head came tail others z.items n z_items tail_count
 
         all_count : length (came ++ others) ≡ told + length others
         all_count = length-append came others ∙ ap (λ k. k + length others) told_came
@@ -144,15 +146,15 @@ module _ {S T A : Type 0} (steps : S → Option T → S → Type 0) (Tells : S �
               given = rw r.comes.4 (Yields-join steps s came f.last (first ∷ r.comes.0) r.comes.1 f.comes.given (u, rw (f.stops.full full) at step, r.comes.2));
               ends = r.comes.3;
               items = new_items;
-              room = MakesRoom-same size (len old + told) (length (came ++ others) - told) z_room (rw (at_end, count) r.room);
-              written = rw all_count (omega (arith, r.writes.written, z_written, told_came, moved_none left n full, moves_rest told (length others) n some));
+              room = MakesRoom-same size (len old + told) (length (came ++ others) - told) z_room (rw (at_end, count) (SameBlock-becomes _ _ _ _ _ r.becomes));
+              written = rw all_count (omega (arith, ap (λ u. u.written) r.becomes, z_written, told_came, moved_none left n full, moves_rest told (length others) n some));
             }
 
         rest_within : (len old ≤ len new) × PutsWithin old (len old) n new
         rest_within =
             let longer : len new ≡ len z + length others =
             ap length new_items ∙ length-append head ((came ++ others) ++ tail) ∙ omega (arith, length-append (came ++ others) tail, length-append came others, z_len, head_count, tail_count, few) in
-            omega (arith, r.writes.written, r.writes.runs, z_written, f.writes.runs, wid.writes.runs, longer, z_len, some, moved_most told n, moved_none left n full, one_run (moved_over told n), ap run_count (moved_none left n full), one_run n)
+            omega (arith, ap (λ u. u.written) r.becomes, ap (λ u. u.runs) r.becomes, z_written, ap (λ u. u.runs) z_becomes, longer, z_len, some, moved_most told n, moved_none left n full, one_run (moved_over told n), ap run_count (moved_none left n full), one_run n)
 
       pub Puts-rest : (P : A → Type 0) → ((k : S) → (m : ℕ) × Tells k m) → (result : Result Unit TryReserveError) (new : Vector T A) (after : S) → OnOk result (PutsRest steps size u z n first new after) → IfErr result (λ e. LacksRest steps Tells (P z.alloc) size u z first e after × (new ≡ z)) → told < count_of (remaining s)
           → Puts steps Tells (P old.alloc) size s old told n remaining result new after

@@ -3,6 +3,7 @@ use Rattle.aa_vec.proofs.Common.{◌≡◌, ℕ, ◌+◌, ◌-◌, ◌*◌, ◌<
 use Rattle.std.specs.declared.iter.Iterator.{Ghosts}
 use Rattle.aa_vec.proofs.Answered.{IsOk, on_ok, if_err, done_unless}
 use Rattle.aa_vec.proofs.Closed.{moved_none, moved_some, moved_most, one_run}
+use Rattle.aa_vec.proofs.Becoming.{SameBlock-becomes}
 use Rattle.aa_vec.proofs.GrowthLemmas.{Extends-items, MakesRoomTwice, MakesRoomTwice-same, SameBlock-trans, MakesRoom-same}
 use Rattle.aa_vec.proofs.Counted.{Extends-told}
 use Rattle.aa_vec.proofs.ExtendLemmas.{Yields-told, whole_run}
@@ -89,10 +90,16 @@ module _ {S T A : Type 0} (g : Ghosts S T) (Tells : S → ℕ → Type 0) (tell 
       came = f.comes.added
 
       x_items : x.items ≡ old.items ++ (came ++ tail)
-      x_items = f.holds.items ∙ ap (λ ys. old.items ++ (came ++ ys)) kept
+      x_items = ap (λ u. u.items) f.becomes ∙ ap (λ ys. old.items ++ (came ++ ys)) kept
 
       x_block : SameBlock old x
-      x_block = SameBlock-trans block f.holds.block
+      x_block = SameBlock-trans block (SameBlock-becomes _ _ _ _ _ f.becomes)
+
+      x_written : x.written ≡ old.written + (length came + moved_over left n)
+      x_written = ap (λ u. u.written) f.becomes
+
+      x_runs : x.runs ≡ old.runs + (length came + run_count (moved_over left n))
+      x_runs = ap (λ u. u.runs) f.becomes
 
       x_len : len x ≡ len old + length came + n
       x_len = ap length x_items ∙ length-append old.items (came ++ tail) ∙ omega (arith, length-append came tail, tail_count)
@@ -105,10 +112,10 @@ module _ {S T A : Type 0} (g : Ghosts S T) (Tells : S → ℕ → Type 0) (tell 
           let few : length came < gap = omega (arith, f.comes.count, h) in
           let b = tells_each steps Tells tell iter came f.last f.comes.given in
           let written : x.written ≡ old.written + (length came + tail_moves gap (b.0 (length came - gap)) (length came) * length tail) =
-          omega (arith, f.writes.written, tail_count, moved_some left n h, ap (λ k. k * length tail) (moves_few gap (b.0 (length came - gap)) (length came) few)) in
+          omega (arith, x_written, tail_count, moved_some left n h, ap (λ k. k * length tail) (moves_few gap (b.0 (length came - gap)) (length came) few)) in
           let all : SplicesAll size b.0 (cut_off old gap tail) came x = record { items = x_items; at_end = λ e. absurd (omega (arith, ap length e, tail_count, some)); in_gap = λ _ _. x_block; beyond = λ _ l. absurd (omega (arith, l, few)) } in
           spliced tail (Ok tt) x (record { taken = came; lower = b.0; last = f.last; told = b.1; went = ((t, f.stops.ended h), all, written) }) tt (λ _. refl) (λ _ _. refl) (λ _ _. refl) (λ _ _ _ _. refl)
-          (record { written = omega (arith, f.writes.written, x_len, tail_count, moved_most left n); runs = omega (arith, f.writes.runs, x_len, tail_count, one_run (moved_over left n)) })
+          (omega (arith, x_written, x_runs, x_len, tail_count, moved_most left n, one_run (moved_over left n)))
 
       -- the gap is full, `told` is told then, and the others were put behind
       module _ (full : left ≡ 0) (told : ℕ) (tells : Tells t told) where
@@ -137,7 +144,7 @@ module _ {S T A : Type 0} (g : Ghosts S T) (Tells : S → ℕ → Type 0) (tell 
               beyond = λ _ _. rw (told_is, over_is, ← whole) m;
             } in
             let written : new.written ≡ old.written + (length all + tail_moves gap (r.0 (length all - gap)) (length all) * length tail) =
-            rw (told_is, tail_count, moves_beyond gap told (length all) (length p.added) longer) (omega (arith, p.written, f.writes.written, moved_none left n full, longer, gap_came)) in
+            rw (told_is, tail_count, moves_beyond gap told (length all) (length p.added) longer) (omega (arith, p.written, x_written, moved_none left n full, longer, gap_came)) in
             record { taken = all; lower = r.0; last = p.last; told = r.3; went = ((after, p.ends), whole_put, written) }
 
         more_refused : (error : TryReserveError) (new : Vector T A) (after : S) → PutsFront steps Tells (P x.alloc) size t x told n error new after → SplicesByFront steps Tells size iter (cut_off old gap tail) (P old.alloc) error new
@@ -185,4 +192,4 @@ module _ {S T A : Type 0} (g : Ghosts S T) (Tells : S → ℕ → Type 0) (tell 
             (λ h once few room.
             let is : told ≡ h = once came t told given gap_came tells in
             done_unless r (if_err r p.few (λ e less. absurd (omega (arith, less (omega (arith, is, room, whole, x_block.capacity)), is, few, goes)))))
-            (omega (arith, z.1.written, z.1.runs, z.0, f.writes.written, f.writes.runs, x_len, tail_count, moved_none left n full, ap run_count (moved_none left n full)))
+            (omega (arith, z.1.written, z.1.runs, z.0, x_written, x_runs, x_len, tail_count, moved_none left n full, ap run_count (moved_none left n full)))

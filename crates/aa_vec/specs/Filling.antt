@@ -4,7 +4,7 @@ use Rattle.std.specs.Prelude.{◌≡◌, ℕ, ◌+◌, ◌-◌, ◌*◌, ◌<◌
 use Rattle.std.specs.Iterator.{Count, Yields, IsFinite, size as count_of}
 use Rattle.std.specs.declared.iter.Iterator.{Ghosts}
 use Rattle.aa_raw.specs.declared.collections.TryReserveError.{TryReserveError}
-use Rattle.aa_vec.specs.Vector.{Vector, len, HasRoom, SameBlock, LacksRoom, Holds, Writes, Moves, with_room, run_count, moved_over}
+use Rattle.aa_vec.specs.Vector.{Vector, len, HasRoom, SameBlock, LacksRoom, Becomes, with_room, run_count, moved_over}
 use Rattle.aa_vec.specs.Behind.{StandsBehind, behind_items}
 use Rattle.aa_vec.specs.Extend.{YieldsTelling, EndsAt, Takes}
 use Rattle.aa_vec.specs.SpliceItems.{LacksOthers, PutsWithin, tail_moves}
@@ -12,19 +12,19 @@ use Rattle.aa_vec.specs.SpliceItems.{LacksOthers, PutsWithin, tail_moves}
 module _ {T A : Type 0} where
   -- the n elements behind the items were moved up by the gap
   pub record OpensGap (old : Vector T A) (gap n : ℕ) (new : Vector T A) : Type 0 where
-    pub holds : Holds old old.items new
+    pub becomes : let moved = moved_over gap n in
+        Becomes old old.items moved (run_count moved) new
     pub stands : StandsBehind new gap n
     pub elements : behind_items new gap n ≡ behind_items old 0 n
-    pub writes : Moves old gap n new
 
   -- room for as many more items as the gap has places was made, and the last n items were moved up
   -- behind it
   pub record Widens (size : ℕ) (old : Vector T A) (gap n : ℕ) (new : Vector T A) : Type 0 where
-    pub items : new.items ≡ take (len old - n) old.items
-    pub room : SameBlock (with_room size old (len old) gap) new
+    pub becomes : let moved = moved_over gap n in
+        Becomes (with_room size old (len old) gap) (take (len old - n) old.items)
+        moved (run_count moved) new
     pub stands : StandsBehind new gap n
     pub elements : behind_items new gap n ≡ drop (len old - n) old.items
-    pub writes : Moves old gap n new
 
 -- an iterator that gave n items from s on, and is t, may be asked for more, which end
 abbrev pub GoesOn : {S T : Type 0} → Ghosts S T → S → (n : ℕ) → S → Type 0
@@ -50,10 +50,10 @@ module _ {S T A : Type 0} (next_gives : S → Option T → S → Type 0) (s : S)
   -- what came was put into the gap, of which `left` places are left before the n elements behind it
   pub record Placed (left : ℕ) (last : S) (new : Vector T A) : Type 0 where
     pub comes : Comes next_gives s gap left last
-    pub holds : Holds old (old.items ++ comes.added) new
+    pub becomes : let k = length comes.added in
+        Becomes old (old.items ++ comes.added) k k new
     pub stands : StandsBehind new left n
     pub elements : behind_items new left n ≡ behind_items old gap n
-    pub writes : Writes old (length comes.added) (length comes.added) new
 
   -- as many as the gap has places, or all that came
   pub record FillsGap (left : ℕ) (t : S) (new : Vector T A) : Type 0 where
@@ -66,9 +66,10 @@ module _ {S T A : Type 0} (next_gives : S → Option T → S → Type 0) (s : S)
     pub last : S
     pub comes : Comes next_gives s gap left last
     pub stops : Stops next_gives s gap left last t
-    pub holds : Holds old (old.items ++ (comes.added ++ behind_items old gap n)) new
-    pub writes : let moved = moved_over left n in
-        Writes old (length comes.added + moved) (length comes.added + run_count moved) new
+    pub becomes : let k = length comes.added in
+        let moved = moved_over left n in
+        Becomes old (old.items ++ (comes.added ++ behind_items old gap n))
+        (k + moved) (k + run_count moved) new
 
 module _ {S T A : Type 0} (next_gives : S → Option T → S → Type 0)
     (Tells : S → ℕ → Type 0) (s : S) (first : T) where
@@ -86,9 +87,9 @@ module _ {S T A : Type 0} (next_gives : S → Option T → S → Type 0) (size :
     pub comes : (rest : List T) × (last : S) × Yields next_gives s rest last
         × next_gives last None after
         × (added ≡ first ∷ rest)
-    pub items : new.items ≡ take (len old - n) old.items ++ (added ++ drop (len old - n) old.items)
-    pub room : SameBlock (with_room size old (len old) (length added)) new
-    pub writes : Writes old (length added + n) (1 + run_count n) new
+    pub becomes : Becomes (with_room size old (len old) (length added))
+        (take (len old - n) old.items ++ (added ++ drop (len old - n) old.items))
+        (length added + n) (1 + run_count n) new
 
   -- all that came from s, of which `after` is left, was put before the last n items of old, in room
   -- made for as many as were told and then for the others

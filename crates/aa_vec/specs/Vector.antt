@@ -109,10 +109,6 @@ module _ {T A : Type 0} where
         behind = new.behind;
       }
 
-  -- n elements were moved over a gap by one call of the block, or by none where there is no gap
-  abbrev pub Moves : Vector T A → (gap n : ℕ) → Vector T A → Type 0
-  Moves old gap n new = Writes old (moved_over gap n) (run_count (moved_over gap n)) new
-
   -- v with other items as many as it had
   abbrev pub with_items : Vector T A → List T → Vector T A
   with_items v xs = record v { items = xs }

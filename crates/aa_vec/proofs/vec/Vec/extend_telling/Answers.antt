@@ -1,5 +1,4 @@
 use Rattle.aa_vec.proofs.Common.{◌<◌, Vector, len, ap, arith, length, length-append, ◌∷◌, [], err_from_is_err_and}
-use Rattle.aa_vec.proofs.Becoming.{Holds-becomes, Writes-becomes}
 use Rattle.aa_vec.proofs.ExtendLemmas.{Placing-start, Placing-filled, Placing-full, Placing-grown, Placing-refused, Placing-end}
 use Rattle.aa_vec.proofs.vec.Vec.extend_telling.Goals as goal
 
@@ -17,7 +16,7 @@ full-preserved g c =
       finite = on.1;
       placing =
           Placing-grown _ _ _ _ _ _ _ p.0 p.1 c.in-Some.x _ c.in-Some.ensures.steps c.told.result c.told.ensures c.saturating_add.result c.saturating_add.ensures
-          c.try_reserve.new.self c.put_next.new.self r.made (Holds-becomes _ _ _ _ _ put) (Writes-becomes _ _ _ _ _ put);
+          c.try_reserve.new.self c.put_next.new.self r.made put;
       fewer = omega (arith, i.fewer, gone.2, on.2, p.2, i.placing.fits, ap (λ (v : Vector _ _). len v) put, length-append c.try_reserve.new.self.items (c.in-Some.x ∷ []), ap (λ (v : Vector _ _). len v) r.made);
     }
 

@@ -1,5 +1,4 @@
 use Rattle.aa_vec.proofs.Common.{rules}
-use Rattle.aa_vec.proofs.Becoming.{Holds-becomes}
 use Rattle.aa_vec.proofs.Gathered.{Gathers-all, LacksRest-clone, LacksRest-first, LacksRest-more}
 use Rattle.aa_vec.proofs.vec.Vec.gather.Goals as goal
 
@@ -12,9 +11,9 @@ returns-in-Err-clause-refused g c = LacksRest-first _ _ _ _ _ _ c.args.self.now 
 pub returns-in-Ok-extend_telling-clause-all : goal.returns-in-Ok-extend_telling-clause-all
 returns-in-Ok-extend_telling-clause-all g c =
     Gathers-all _ _ (Unit {0}) _ _ _ c.args.self.now _ c.told.ensures _ c.saturating_add-wanted.ensures _ c.new_in-more.result c.new_in-more.ensures
-    c.try_reserve.new.self c.in_default-try_reserve.ensures.made c.put_next.new.self (Holds-becomes _ _ _ _ _ c.put_next.ensures.put) _ _ c.in-Ok-extend_telling.ensures.extends.room
+    c.try_reserve.new.self c.in_default-try_reserve.ensures.made c.put_next.new.self c.put_next.ensures.put _ _ c.in-Ok-extend_telling.ensures.extends.room
 
 pub returns-in-Err-extend_telling-clause-refused : goal.returns-in-Err-extend_telling-clause-refused
 returns-in-Err-extend_telling-clause-refused g c =
     LacksRest-more _ _ _ _ _ _ c.args.self.now _ c.told.ensures _ c.saturating_add-wanted.ensures _ c.new_in-more.result c.new_in-more.ensures
-    c.try_reserve.new.self c.in_default-try_reserve.ensures.made c.put_next.new.self (Holds-becomes _ _ _ _ _ c.put_next.ensures.put) _ _ _ c.in-Err-extend_telling.ensures.extends.refused
+    c.try_reserve.new.self c.in_default-try_reserve.ensures.made c.put_next.new.self c.put_next.ensures.put _ _ _ c.in-Err-extend_telling.ensures.extends.refused

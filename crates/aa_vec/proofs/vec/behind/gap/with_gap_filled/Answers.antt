@@ -1,5 +1,4 @@
 use Rattle.std.proofs.Common.{arith}
-use Rattle.aa_vec.proofs.Becoming.{Holds-becomes, Writes-becomes}
 use Rattle.aa_vec.proofs.Filling.{Placed-start, Placed-put}
 use Rattle.aa_vec.proofs.vec.behind.gap.with_gap_filled.Goals as goal
 
@@ -12,8 +11,6 @@ loop-left-preserved g c =
     record {
       can = on.0;
       finite = on.1;
-      placed =
-          Placed-put _ _ _ _ _ _ _ c.loop-left.list i.placed (omega (arith, c.loop-left-test.true)) c.in-Some.x _ c.in-Some.ensures.steps c.put_next.new.self
-          (Holds-becomes _ _ _ _ _ c.put_next.ensures.put) (Writes-becomes _ _ _ _ _ c.put_next.ensures.put) c.put_next.ensures.behind;
+      placed = Placed-put _ _ _ _ _ _ _ c.loop-left.list i.placed (omega (arith, c.loop-left-test.true)) c.in-Some.x _ c.in-Some.ensures.steps c.put_next.new.self c.put_next.ensures.put c.put_next.ensures.behind;
       fewer = omega (arith, i.fewer, on.2, c.loop-left-test.true);
     }
