@@ -1,6 +1,6 @@
 -- A slice of which a closure was asked in order, up to one place.
 use mathlib.Core.Bool.{beq}
-use Rattle.aa_vec.proofs.Common.{◌≡◌, not, ℕ, suc, ◌+◌, ◌<◌, ◌≤◌, Bool, true, false, List, [], ◌∷◌, ◌++◌, length, take, drop, get_or, sym, ap, ◌∙◌, subst, refl, arith, append_assoc, length-append, length-drop, slice_set, if◌then◌else◌, drop_all, take-append-drop, drop-set, drop-append-le, take_at, drop_at, length-take-le, nat_tests, MayAskInOrder, MayChainFrom, MayDeduplicate, StaysWhen, AsksUntil, ChainsAlong, AsksNeighbours, zero-add, drop-cons, take-set, take-append-le}
+use Rattle.aa_vec.proofs.Common.{◌≡◌, not, ℕ, suc, ◌+◌, ◌<◌, ◌≤◌, Bool, true, false, List, [], ◌∷◌, ◌++◌, length, take, drop, get_or, sym, ap, ◌∙◌, subst, refl, arith, append_assoc, length-append, length-drop, slice_set, if◌then◌else◌, drop_all, take-append-drop, drop-set, drop-append-le, take_at, drop_at, length-take-le, nat_tests, rules, MayAskInOrder, MayChainFrom, MayDeduplicate, StaysWhen, AsksUntil, ChainsAlong, AsksNeighbours, zero-add, drop-cons, take-set, take-append-le}
 
 module _ {T : Type 0} (ys : List T) (i : ℕ) (d : T) (h : i < length ys) where
   -- the elements from the index on
@@ -66,9 +66,7 @@ module _ {F T : Type 0} (Calls : F → T → Bool → F → T → Type 0) (Takes
 
     module _ {answer : Bool} {g : F} {y : T} (a : Calls h (get_or ys i d) answer g y) where
       called : (goes : Bool) → not (beq answer stays) ≡ goes → Asks h (get_or ys i d) (not goes) g y
-      called goes e =
-          let is : answer ≡ (if stays then not goes else not (not goes)) = grind (arith, nat_tests, e) in
-          subst (λ b. Calls h (get_or ys i d) b g y) is a
+      called goes e = grind (arith, nat_tests, nat_tests)
 
       until : (k : ℕ) (t : F) (zs : List T) → AsksUntil Asks h (get_or ys i d ∷ drop (i + 1) ys) k t zs → AsksUntil Asks h (drop i ys) k t zs
       until k t zs = subst (λ l. AsksUntil Asks h l k t zs) (sym (from_here ys i d within))
@@ -95,17 +93,10 @@ module _ {T : Type 0} (xs a b : List T) (at : ℕ) (parts : xs ≡ a ++ b) (long
   rest = omega (arith, some, long, ap length parts, length-append a b)
 
   pub neighbours_are : drop at xs ≡ get_or a at d ∷ get_or b 0 e ∷ drop 1 b
-  neighbours_are =
-      let none : drop (at + 1) a ≡ [] = drop_all (at + 1) a (omega (arith, long)) in
-      ap (drop at) parts ∙ drop-append-le at a b (omega (arith, long)) ∙ ap (λ l. l ++ b) (from_here a at d (omega (arith, long)) ∙ ap (λ l. get_or a at d ∷ l) none)
-      ∙ ap (λ l. get_or a at d ∷ l) (from_here b 0 e rest)
+  neighbours_are = search (rules, nat_tests, drop_all, drop-append-le, from_here)
 
   pub neighbours_left : (m y : T) → slice_set a at m ++ slice_set b 0 y ≡ take at xs ++ m ∷ y ∷ drop 1 b
-  neighbours_left m y =
-      let none : drop (at + 1) a ≡ [] = drop_all (at + 1) a (omega (arith, long)) in
-      let first : slice_set a at m ≡ take at xs ++ m ∷ [] =
-      whole_set a at d (omega (arith, long)) m ∙ ap (λ l. take at a ++ m ∷ l) none ∙ ap (λ l. l ++ m ∷ []) (sym (ap (take at) parts ∙ take-append-le at a b (omega (arith, long)))) in
-      ap (λ l. l ++ slice_set b 0 y) first ∙ append_assoc (take at xs) (m ∷ []) (slice_set b 0 y) ∙ ap (λ l. take at xs ++ m ∷ l) (whole_set b 0 e rest y)
+  neighbours_left m y = search (rules, nat_tests, drop_all, whole_set, take-append-le, append_assoc)
 
 module _ {F T : Type 0} (Asks : F → T → T → Bool → F → T → T → Type 0) (Takes : F → T → T → Type 0) where
   abbrev pub HasChained : F → List T → ℕ → F → List T → Type 0

@@ -35,9 +35,7 @@ module _ {T A : Type 0} (old : Vector T A) (xs : List T) (n k : ℕ) (new : Vect
 module _ {T A : Type 0} where
   -- the places behind the items alone are other than they were
   pub Becomes-behind : (v w : Vector T A) (places : List (Option T)) → w ≡ with_behind v places → Becomes v v.items 0 0 w
-  Becomes-behind v w places e =
-      let block : SameBlock v w = record { capacity = ap (λ u. u.capacity) e; growth = ap (λ u. u.growth) e; grown = ap (λ u. u.grown) e; alloc = ap (λ u. u.alloc) e } in
-      Becomes-holds v v.items 0 0 w (record { items = ap (λ u. u.items) e; block = block }) (record { written = omega (arith, ap (λ u. u.written) e); runs = omega (arith, ap (λ u. u.runs) e) })
+  Becomes-behind v w places e = grind (arith, Becomes-holds)
 
   -- nothing was done
   pub Becomes-refl : (v : Vector T A) → Becomes v v.items 0 0 v
@@ -46,16 +44,14 @@ module _ {T A : Type 0} where
   -- one call after another
   pub Becomes-at : (old : Vector T A) (xs : List T) (n k : ℕ) (mid : Vector T A) → Becomes old xs n k mid → (ys : List T) (m l : ℕ) (new : Vector T A) → Becomes mid ys m l new → (zs : List T) (a b : ℕ) → ys ≡ zs → n + m ≡ a → k + l ≡ b → Becomes old zs a b new
   Becomes-at old xs n k mid e ys m l new f zs a b same all calls =
-      Becomes-holds old zs a b new (record { items = ap (λ v. v.items) f ∙ same; block = SameBlock-trans (SameBlock-becomes old xs n k mid e) (SameBlock-becomes mid ys m l new f) })
-      (record { written = omega (arith, ap (λ v. v.written) e, ap (λ v. v.written) f, all); runs = omega (arith, ap (λ v. v.runs) e, ap (λ v. v.runs) f, calls) })
+      grind (arith, Becomes-holds, SameBlock-trans, SameBlock-becomes)
 
   pub Becomes-then : (old : Vector T A) (xs : List T) (n k : ℕ) (mid : Vector T A) → Becomes old xs n k mid → (ys : List T) (m l : ℕ) (new : Vector T A) → Becomes mid ys m l new → (a b : ℕ) → n + m ≡ a → k + l ≡ b → Becomes old ys a b new
   Becomes-then old xs n k mid e ys m l new f a b = Becomes-at old xs n k mid e ys m l new f ys a b refl
 
   -- items put behind others, and those behind the items there were
   pub Becomes-more : (old mid new : Vector T A) (xs ys : List T) (n k m l a b : ℕ) → Becomes old (old.items ++ xs) n k mid → Becomes mid (mid.items ++ ys) m l new → n + m ≡ a → k + l ≡ b → Becomes old (old.items ++ (xs ++ ys)) a b new
-  Becomes-more old mid new xs ys n k m l a b p q all calls =
-      Becomes-at old (old.items ++ xs) n k mid p (mid.items ++ ys) m l new q _ a b (ap (λ v. v.items ++ ys) p ∙ append_assoc old.items xs ys) all calls
+  Becomes-more old mid new xs ys n k m l a b p q all calls = grind (arith, Becomes-at, append_assoc)
 
   -- what was done once room was made
   pub Becomes-roomy : (old mid new : Vector T A) → Becomes old old.items 0 0 mid → (f : List T → List T) (n : ℕ) → Becomes mid (f mid.items) n n new → Becomes old (f old.items) n n new

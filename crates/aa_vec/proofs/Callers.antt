@@ -47,10 +47,7 @@ module _ {F T : Type 0} (step : F → T → F → Type 0) where
     -- and one that had none has so many of it
     pub filled_new : {E : Type 0} (r : Result Unit E) (u : Unit {0}) → OnOk r (len old < n → (last : F) × AddsAnswers step roomy (n - len old) f last new) → (n ≤ len old → Becomes old (take n old.items) 0 0 new)
         → r ≡ Ok u → old.items ≡ [] → roomy.items ≡ old.items → ((f : F) (y : T) (g : F) → step f y g → y ≡ x) → new.items ≡ replicate n x
-    filled_new {E} r u fills cut done none has is =
-        let count : n - len old ≡ n = omega (arith, ap length none) in
-        let P : Result Unit E → Type 0 = λ r. OnOk r (new.items ≡ take n old.items ++ replicate (n - len old) x) in
-        subst P done (filled_up r fills cut has is) ∙ rw (count, none, take-nil) refl
+    filled_new {E} r u fills cut done none has is = grind (arith, filled_up, take-nil)
 
 -- a test that leaves each element as it was
 module _ {F T A : Type 0} (Asks : F → T → Bool → F → T → Type 0) where

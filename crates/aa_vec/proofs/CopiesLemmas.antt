@@ -89,44 +89,24 @@ module _ {T A : Type 0} where
   -- a vector that was filled up with copies, or cut
   pub Resized-copied : (clones : T → T → Type 0) (size : ℕ) (old mid new : Vector T A) (n : ℕ) (x : T) → Copies clones → Becomes (with_room size old (len old) (n - len old)) old.items 0 0 mid → Fills clones mid (n - len old) x new → len old < n
       → Becomes (with_room size old (len old) (n - len old)) (take n old.items ++ replicate (n - len old) x) (n - len old) (n - len old) new
-  Resized-copied clones size old mid new n x copies made p more =
-      let k : ℕ = n - len old in
-      let f = Fills-made clones (with_room size old (len old) k) mid new made k x p in
-      rw (take_all n old.items (omega (arith, more)), ← all-copied clones k x f.added (omega (arith, more)) copies f.each) f.becomes
+  Resized-copied clones size old mid new n x copies made p more = grind (arith, Fills-made, take_all, all-copied)
 
   pub Resized-cut : (size : ℕ) (old new : Vector T A) (n : ℕ) (x : T) → n ≤ len old → Becomes old (take n old.items) 0 0 new → Becomes (with_room size old (len old) (n - len old)) (take n old.items ++ replicate (n - len old) x) (n - len old) (n - len old) new
-  Resized-cut size old new n x less cut =
-      let none : 0 ≡ n - len old = omega (arith, less) in
-      let same : Vector T A → Type 0 = λ v. Becomes v (take n old.items ++ []) 0 0 new in
-      subst (λ k. Becomes (with_room size old (len old) k) (take n old.items ++ replicate k x) k k new) none (subst same (sym (with_room-same size old (len old) 0 (omega arith))) (rw (append-nil (take n old.items)) cut))
+  Resized-cut size old new n x less cut = grind (arith, with_room-same, append-nil)
 
   -- room that was made once all items were dropped
   pub assigned-room : (size k : ℕ) (old cleared mid : Vector T A) → Becomes old [] 0 0 cleared → Becomes (with_room size cleared (len cleared) k) cleared.items 0 0 mid → Becomes (with_room size (with_items old []) 0 k) [] 0 0 mid
-  assigned-room size k old cleared mid c m =
-      let same : SameBlock (with_items old []) cleared = record { capacity = ap (λ v. v.capacity) c; growth = ap (λ v. v.growth) c; grown = ap (λ v. v.grown) c; alloc = ap (λ v. v.alloc) c } in
-      let room = subst (λ l. MakesRoom size (with_items old []) l k mid) (ap len c) (MakesRoom-same size (len cleared) k same (GrowsTo-becomes cleared cleared.items 0 0 mid size k m).room) in
-      Becomes-holds (with_room size (with_items old []) 0 k) [] 0 0 mid (record { items = ap (λ v. v.items) m ∙ ap (λ v. v.items) c; block = room })
-      (record { written = omega (arith, ap (λ v. v.written) m, ap (λ v. v.written) c); runs = omega (arith, ap (λ v. v.runs) m, ap (λ v. v.runs) c) })
+  assigned-room size k old cleared mid c m = grind (arith, MakesRoom-same, GrowsTo-becomes, Becomes-holds)
 
   -- and clones of a beginning that were put there
   pub Begins-made : (size : ℕ) (old cleared mid new : Vector T A) → Becomes old [] 0 0 cleared → (clones : T → T → Type 0) (failure : Type 0) (xs : List T) (n : ℕ) (error : TryReserveError) → Becomes (with_room size cleared (len cleared) (length xs)) cleared.items 0 0 mid
       → n < length xs → Adds clones mid (take n xs) new → failure → error.kind ≡ AllocError (length xs) → Begins clones failure size old xs error new
   Begins-made size old cleared mid new c clones failure xs n error m less p cause number =
-      let roomy : Vector T A = with_room size (with_items old []) 0 (length xs) in let count : length (take n xs) ≡ n = omega (arith, length-take n xs, less) in
-      record {
-        cause = cause;
-        number = number;
-        done = n;
-        fewer = less;
-        added = p.added;
-        each = p.each;
-        becomes = subst (λ i. Becomes roomy p.added i i new) count (Becomes-roomy roomy mid new (assigned-room size (length xs) old cleared mid c m) (λ l. l ++ p.added) (length (take n xs)) p.becomes);
-      }
+      grind (arith, length-take, Becomes-roomy, assigned-room)
 
   pub Adds-assigned : (clones : T → T → Type 0) (size : ℕ) (old cleared mid new : Vector T A) → Becomes old [] 0 0 cleared → (xs : List T) → Becomes (with_room size cleared (len cleared) (length xs)) cleared.items 0 0 mid → (k : ℕ) → Adds clones mid (take k xs) new → k ≡ length xs
       → Adds clones (with_room size (with_items old []) 0 (length xs)) xs new
-  Adds-assigned clones size old cleared mid new c xs m k p all =
-      Adds-made clones (with_room size (with_items old []) 0 (length xs)) mid new (assigned-room size (length xs) old cleared mid c m) xs (Adds-all clones mid new xs k p all)
+  Adds-assigned clones size old cleared mid new c xs m k p all = grind (arith, Adds-made, assigned-room, Adds-all)
 
 -- clones, put one by one
 pub ruleset copied = (Adds-take, Adds-same, Adds-own, own-fails, Undone-cut, length-replicate, length-take)

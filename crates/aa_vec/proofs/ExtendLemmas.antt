@@ -125,22 +125,7 @@ module _ {S T : Type 0} (steps : S → Option T → S → Type 0) (Tells : S →
         -- it is placed in w, which v has grown to
         pub Placing-grown : (k : ℕ) → k ≡ min (n + 1) usize_max → (w new : Vector T A) → Becomes (with_room size v (len v) k) v.items 0 0 w → Becomes w (w.items ++ x ∷ []) 1 1 new → Placing t new
         Placing-grown k e w new made put =
-            let g = GrowsTo-becomes v v.items 0 0 w size k made in let z = Writes-grown v v.items 0 0 w size k made in
-            let asked : k ≡ asked_with (next_lower (len old + length next_front - v.capacity - 1)) = e ∙ ap (λ n. asked_with (next_lower (n - 1))) {x = 1} (omega (arith, full, count, longer)) in
-            let m : MakesRoom size v v.capacity (asked_with (next_lower (len old + length next_front - v.capacity - 1))) w = rw (← asked) (subst (λ j. MakesRoom size v j k w) full g.room) in
-            let room : len w < w.capacity = omega (arith, e, full, ap length g.items, MakesRoom-fits size (len v) k v w g.room (omega (arith, full, MakesRoom-rises size (len v) k v w g.room))) in
-            let in_steps : GrowsInSteps size next_lower (len old + length next_front) old w = GrowsInSteps-more size next_lower (len old + length next_front) grown_in_steps (omega (arith, full, count, longer)) m in
-            let i : new.items ≡ old.items ++ next_front = ap (λ u. u.items) put ∙ ap (λ ys. ys ++ x ∷ []) (g.items ∙ p.items) ∙ append_assoc old.items p.front (x ∷ []) in
-            record {
-              front = next_front;
-              lower = next_lower;
-              told = YieldsTelling-more p.lower n iter p.front s x t p.told step tells;
-              within = p.within;
-              in_steps = GrowsInSteps-same size next_lower (len old + length next_front) in_steps (SameBlock-becomes _ _ _ _ _ put);
-              items = i;
-              fits = omega (arith, ap len put, length-append w.items (x ∷ []), room, ap (λ u. u.capacity) put);
-              writes = omega (arith, ap (λ u. u.written) put, ap (λ u. u.runs) put, z.written, z.runs, p.writes.written, p.writes.runs, longer);
-            }
+            grind (arith, GrowsTo-becomes, Writes-grown, MakesRoom-fits, MakesRoom-rises, GrowsInSteps-more, grown_in_steps, append_assoc, YieldsTelling-more, GrowsInSteps-same, SameBlock-becomes, length-append)
 
         -- or room for it was refused, where more may have come from the start on than were placed
         pub Placing-refused : (left : S → Count) (k : ℕ) → k ≡ min (n + 1) usize_max → (error : TryReserveError) → LacksRoom size v k error → len v < len old + count_of (left iter) → Extended steps Tells left size iter old t (Err error) v
@@ -168,6 +153,4 @@ module _ {S T : Type 0} (steps : S → Option (Bor T) → S → Type 0) where
       (y.1.0 ∷ others.0, (y.0, y.1.1, others.1), ap (λ z. z ∷ xs) y.1.2 ∙ ap (λ zs. y.1.0.now ∷ zs) others.2)
 
   pub Drains-read : (s : S) (xs ys : List T) → (zs : List T) × Drains (CopiesOf steps) s zs × (ys ≡ xs ++ zs) → (rs : List (Bor T)) × Drains steps s rs × (ys ≡ xs ++ map (λ r. r.now) rs)
-  Drains-read s xs ys d =
-      let read = Yields-read s d.0 d.1.1.0 d.1.1.1 in
-      (read.0, (d.1.0, (d.1.1.0, read.1, d.1.1.2)), d.2 ∙ ap (λ zs. xs ++ zs) read.2)
+  Drains-read s xs ys d = grind (arith, Yields-read)

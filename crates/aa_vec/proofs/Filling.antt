@@ -101,13 +101,7 @@ module _ {T A : Type 0} (size : ℕ) (old w x : Vector T A) (gap n : ℕ) (few :
   widen_room = omega (arith, MakesRoom-has size (len old) gap old w (GrowsTo-becomes _ _ _ _ _ size gap g).room, widen_stands.0, ap len sets.becomes, length-take (k - n) w.items, same_len, e, few, ap (λ u. u.capacity) sets.becomes)
 
   pub Widens-opened : (y : Vector T A) → OpensGap x gap n y → Widens size old gap n y
-  Widens-opened y o =
-      let at : k - n ≡ len old - n = omega (arith, same_len, e) in
-      record {
-        becomes = Becomes-at (with_room size old (len old) gap) _ _ _ w g _ _ _ y (Becomes-at w _ _ _ x sets.becomes _ _ _ y o.becomes _ _ _ refl refl refl) _ _ _ (ap (λ u. u.items) sets.becomes ∙ ap (λ i. take i w.items) at ∙ ap (λ u. take (len old - n) u.items) g) (omega arith) (omega arith);
-        stands = o.stands;
-        elements = o.elements ∙ ap (behind_items x 0) (sym at_end) ∙ sets.elements ∙ ap (λ i. drop i w.items) at ∙ ap (λ u. drop (len old - n) u.items) g;
-      }
+  Widens-opened y o = grind (arith, same_len, Becomes-at, at_end)
 
 -- a gap, as it is made and filled
 pub ruleset gaps = (Placed-ended, Placed-full, widen_stands, widen_room, Widens-opened)

@@ -76,9 +76,7 @@ module _ {T A : Type 0} where
     grown_from w m = let b = MakesRoom-grows size v.capacity asks v w m (omega arith) in record { capacity = b.0; growth = m.growth; grown = b.1; alloc = m.alloc }
 
     pub grown_room : MakesRoom size v v.capacity asks grown_by
-    grown_room =
-        let roomy : Vector T A = with_room size v v.capacity asks in let b = MakesRoom-grows size v.capacity asks v roomy (SameBlock-refl roomy) (omega arith) in
-        record { capacity = sym b.0; growth = refl; grown = sym b.1; alloc = refl }
+    grown_room = grind (arith, nat_tests, MakesRoom-grows, SameBlock-refl)
 
     pub grown_rises : v.capacity ≤ grown_by.capacity
     grown_rises = omega (arith, amortized-enough v.growth v.capacity (v.capacity + asks) (least_of size))

@@ -10,10 +10,7 @@ no-items (x ∷ xs) n e = (λ h. absurd (omega (arith, e, eqb-true n 0 h)), λ h
 
 -- a choice by whether two numbers are equal, where they are not
 pub unequal : {X : Type 0} (a b : ℕ) (x y : X) → a ≢ b → (if a == b then x else y) ≡ y
-unequal a b x y ne = elim (eqb_tells a b) [
-  | inl h ↦ absurd (ne h.1)
-  | inr h ↦ ap (λ t. if t then x else y) h.0
-]
+unequal a b x y ne = grind (arith, eqb_tells)
 
 -- and where they are
 pub equal : {X : Type 0} (a b : ℕ) (x y : X) → a ≡ b → (if a == b then x else y) ≡ x

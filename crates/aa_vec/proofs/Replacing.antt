@@ -47,18 +47,7 @@ module _ {S T A : Type 0} (steps : S → Option T → S → Type 0) (Tells : S �
       → (v w x : Vector T A) → Widens size old k n v → Becomes v (v.items ++ more.items) (len more) (run_count (len more)) w → w.behind ≡ drop (len more) v.behind → ClosesGap w 0 n x
       → PutsRest steps size s old n first x u
   PutsRest-gathered n first more u h k e v w x widened filled behind closes =
-      let new : List T = more.items in
-      let head : List T = take (len old - n) old.items in
-      let wid : Widens size old (length new) n v = subst (λ j. Widens size old j n v) e widened in
-      let some : 0 < length new = omega (arith, ap length h.went.1) in
-      record {
-        added = new;
-        comes = (h.taken, h.last, Yields-told steps Tells h.lower s h.taken h.last h.told, h.went.0, h.went.1);
-        becomes =
-            Becomes-at (with_room size old (len old) (length new)) _ _ _ w (Becomes-at (with_room size old (len old) (length new)) _ _ _ v wid.becomes _ _ _ w filled _ _ _ (ap (λ u. u.items ++ new) wid.becomes) refl refl) _ _ _ x closes.becomes _ _ _
-            (ap (λ u. u.items ++ behind_items w 0 n) filled ∙ ap (λ u. (u.items ++ new) ++ behind_items w 0 n) wid.becomes ∙ append_assoc head new (behind_items w 0 n) ∙ ap (λ ys. head ++ (new ++ ys)) (still_are v w (length new) 0 n behind ∙ wid.elements))
-            (omega (arith, moved_some (length new) n some)) (omega (arith, moved_some (length new) 1 some, ap run_count (moved_some (length new) n some)));
-      }
+      grind (arith, nat_tests, Yields-told, Becomes-at, append_assoc, still_are, moved_some)
 
   -- there was no room for them
   pub LacksRest-room : {fails : Type 0} (first : T) (more : Vector T A) (u : S) → Gathers steps Tells s first more u → (k : ℕ) → k ≡ len more → (error : TryReserveError) → LacksRoom size old k error
@@ -138,23 +127,11 @@ module _ {S T A : Type 0} (steps : S → Option T → S → Type 0) (Tells : S �
 
         all_put : PutsAll steps size s old told n new after
         all_put =
-            let at_end : len old + told ≡ len z = omega (arith, z_len, told_came) in
-            let count : length (came ++ others) - told ≡ length others = omega (arith, all_count) in
-            record {
-              added = came ++ others;
-              last = r.comes.1;
-              given = rw r.comes.4 (Yields-join steps s came f.last (first ∷ r.comes.0) r.comes.1 f.comes.given (u, rw (f.stops.full full) at step, r.comes.2));
-              ends = r.comes.3;
-              items = new_items;
-              room = MakesRoom-same size (len old + told) (length (came ++ others) - told) z_room (rw (at_end, count) (SameBlock-becomes _ _ _ _ _ r.becomes));
-              written = rw all_count (omega (arith, ap (λ u. u.written) r.becomes, z_written, told_came, moved_none left n full, moves_rest told (length others) n some));
-            }
+            grind (arith, nat_tests, z_len, told_came, all_count, Yields-join, new_items, MakesRoom-same, z_room, SameBlock-becomes, z_written, moved_none, moves_rest)
 
         rest_within : (len old ≤ len new) × PutsWithin old (len old) n new
         rest_within =
-            let longer : len new ≡ len z + length others =
-            ap length new_items ∙ length-append head ((came ++ others) ++ tail) ∙ omega (arith, length-append (came ++ others) tail, length-append came others, z_len, head_count, tail_count, few) in
-            omega (arith, ap (λ u. u.written) r.becomes, ap (λ u. u.runs) r.becomes, z_written, ap (λ u. u.runs) z_becomes, longer, z_len, some, moved_most told n, moved_none left n full, one_run (moved_over told n), ap run_count (moved_none left n full), one_run n)
+            grind (arith, nat_tests, new_items, length-append, z_len, head_count, tail_count, z_written, z_becomes, moved_most, moved_none, one_run)
 
       pub Puts-rest : (P : A → Type 0) → ((k : S) → (m : ℕ) × Tells k m) → (result : Result Unit TryReserveError) (new : Vector T A) (after : S) → OnOk result (PutsRest steps size u z n first new after) → IfErr result (λ e. LacksRest steps Tells (P z.alloc) size u z first e after × (new ≡ z)) → told < count_of (remaining s)
           → Puts steps Tells (P old.alloc) size s old told n remaining result new after

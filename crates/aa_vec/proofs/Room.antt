@@ -14,14 +14,7 @@ module _ {T A : Type 0} (size : ℕ) (old : Inside T A) (front : IsFront old) (k
   -- the vector has the room that its block made
   pub MakesRoom-block : Reserves size old.block old.len k (amortized old.block.growth (length old.block.places) (old.len + k) (least_of size)) b
       → (new : Vector T A) → new.capacity ≡ length b.places → new.growth ≡ b.growth → new.grown ≡ b.grown → new.alloc ≡ b.alloc → MakesRoom size (view_of old) (len (view_of old)) k new
-  MakesRoom-block made new c h g a =
-      let places : ℕ = length old.block.places in
-      rw (length-run old.block.places 0 old.len front) (record {
-        capacity = c ∙ made.capacity ∙ same_test old.len k places _ _ (omega (arith, front.0));
-        growth = h ∙ made.growth;
-        grown = g ∙ made.grown ∙ same_test old.len k places _ _ (omega (arith, front.0));
-        alloc = a ∙ made.alloc;
-      })
+  MakesRoom-block made new c h g a = grind (arith, nat_tests, length-run, same_test)
 
 -- room for one more, and one more element in it
 pub Becomes-put : {T A : Type 0} (size : ℕ) (old : Inside T A) (front : IsFront old) (b : Block T A) (x : T)
