@@ -1,5 +1,5 @@
 -- What a vector becomes, as one equation and by its parts.
-use Rattle.aa_vec.proofs.Common.{◌≡◌, ℕ, ◌+◌, List, ◌++◌, length, refl, ap, ◌∙◌, subst, append_assoc, arith, Option, Vector, GrowsTo, HasRoom, Holds, SameBlock, Writes, with_room, Becomes, with_behind}
+use Rattle.aa_vec.proofs.Common.{◌≡◌, ℕ, ◌+◌, List, ◌++◌, length, refl, ap, append_assoc, arith, Option, Vector, GrowsTo, HasRoom, Holds, SameBlock, Writes, with_room, Becomes, with_behind}
 use Rattle.aa_vec.proofs.GrowthLemmas.{MakesRoom-stays, SameBlock-trans}
 
 module _ {T A : Type 0} (old : Vector T A) (xs : List T) (n k : ℕ) (new : Vector T A) where

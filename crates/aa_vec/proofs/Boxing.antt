@@ -1,5 +1,5 @@
 -- A vector with room for its elements and no more.
-use Rattle.aa_vec.proofs.Common.{◌≡◌, ℕ, ◌*◌, ◌^◌, ◌<◌, ◌≤◌, length, sym, ap, ◌∙◌, arith, inl, inr, nat_tests, usize_max, Block, IsRun, length-run, view_of, same_or_not}
+use Rattle.aa_vec.proofs.Common.{◌≡◌, ℕ, ◌*◌, ◌^◌, ◌<◌, ◌≤◌, length, arith, nat_tests, usize_max, Block, IsRun, length-run, view_of, same_or_not}
 use Rattle.std.proofs.Math.Nat.{le-mul_of_pos_right}
 use Rattle.aa_boxed.specs.Room.{IsJustFor}
 use Rattle.aa_boxed.specs.Slice.{Slice, slice_of}
@@ -11,3 +11,5 @@ module _ {T A : Type 0} (size : ℕ) where
       → (length b.places * size < 2 ^ 63) → (size ≡ 0 → usize_max ≤ length b.places) → length b.places ≤ usize_max → IsUnboxed size s (view_of (record { block = b; len = n }))
   IsUnboxed-block b n s filled room same small many few =
       grind (arith, nat_tests, length-run, same_or_not, nat_tests, le-mul_of_pos_right)
+
+pub ruleset unboxed = (IsUnboxed-block)

@@ -2,7 +2,7 @@
 use Rattle.aa_vec.proofs.Common.{◌≡◌, ℕ, ◌+◌, ◌-◌, ◌<◌, ◌≤◌, List, [], ◌∷◌, ◌++◌, length, take, drop, get_or, replicate, refl, sym, ap, ◌∙◌, subst, arith, inr, length-append, length-drop, length-take, length-replicate, take_all, take_at, append-nil, TryReserveError, Copies, Adds, Fills, Vector, len, GrowsTo, SameBlock, All, AllZip, replicate_more, get_or-replicate, get_or_append_left, get_or-drop, get_or-take, all_zip_more, same_from_all_zip, Begins, Undone, Refuses, with_items, Becomes, with_room}
 use Rattle.aa_raw.specs.declared.collections.TryReserveErrorKind.TheVariants.{AllocError}
 use Rattle.aa_vec.proofs.Becoming.{Becomes-holds, Becomes-more, Becomes-roomy, Becomes-then, GrowsTo-becomes}
-use Rattle.aa_vec.proofs.GrowthLemmas.{MakesRoom, MakesRoom-has, MakesRoom-same, with_room-same}
+use Rattle.aa_vec.proofs.GrowthLemmas.{MakesRoom-has, MakesRoom-same, with_room-same}
 
 -- clones of one value and the value itself, where clones are copies
 pub all-copied : {T : Type 0} (clones : T → T → Type 0) (k : ℕ) (x : T) (ys : List T) → 0 < k → Copies clones → AllZip clones (replicate (k - 1) x) ys → ys ++ x ∷ [] ≡ replicate k x
@@ -65,12 +65,6 @@ module _ {T A : Type 0} where
     Fills-last old mid new k x some p q =
         let count : length (replicate (k - 1) x) + 1 ≡ k = omega (arith, length-replicate (k - 1) x, some) in
         record { added = p.added; each = p.each; becomes = Becomes-more old mid new p.added (x ∷ []) _ _ 1 1 k k p.becomes q count count }
-
-    -- of a beginning of a list, into a vector that was emptied
-    pub Adds-begun : (mid new : Vector T A) (xs : List T) (n : ℕ) → Copies clones → Adds clones mid (take n xs) new → mid.items ≡ [] → n < length xs → new.items ≡ take (len new) xs
-    Adds-begun mid new xs n copies p none less =
-        let e : new.items ≡ take n xs = ap (λ v. v.items) p.becomes ∙ ap (λ l. l ++ p.added) none ∙ same_from_all_zip clones (take n xs) p.added p.each copies in
-        e ∙ ap (λ k. take k xs) (omega (arith, ap length e, length-take n xs, less))
 
     -- the clones that were put there are dropped
     pub Undone-cut : (old mid new : Vector T A) (xs : List T) (k : ℕ) → Adds clones old xs mid → Becomes mid (take (len old) mid.items) 0 0 new → length xs < k → Undone old k new

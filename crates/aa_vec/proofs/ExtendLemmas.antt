@@ -1,10 +1,10 @@
 -- A vector that items of an iterator are put behind.
-use Rattle.aa_vec.proofs.Common.{◌≡◌, ℕ, zero, suc, ◌+◌, ◌-◌, ◌<◌, ◌≤◌, List, [], ◌∷◌, ◌++◌, length, Option, Some, None, Ok, append_assoc, refl, sym, ap, ◌∙◌, subst, arith, length-append, min, map, Count, Yields, Drains, append-nil, TryReserveError, usize_max, Vector, len, HasRoom, LacksRoom, Writes, Placed, FillsGap, GrowsInSteps, YieldsTelling, Takes, Extends, Extended, CopiesOf, Result, Err, OnOk, IfErr, count_of, WholeRun, asked_with, Becomes, with_room}
+use Rattle.aa_vec.proofs.Common.{◌≡◌, ℕ, zero, suc, ◌+◌, ◌-◌, ◌<◌, ◌≤◌, List, [], ◌∷◌, ◌++◌, length, Option, Some, None, Ok, append_assoc, refl, sym, ap, ◌∙◌, subst, arith, length-append, min, map, Count, Yields, Drains, append-nil, TryReserveError, usize_max, Vector, len, HasRoom, LacksRoom, Writes, Placed, FillsGap, GrowsInSteps, YieldsTelling, Takes, Extends, Extended, CopiesOf, Result, Err, OnOk, IfErr, count_of, WholeRun, Becomes, with_room}
 use Rattle.std.specs.Borrow.{Bor}
 use Rattle.aa_vec.proofs.Answered.{IsOk, on_ok}
 use Rattle.std.proofs.iter.runs.Consumers.{total_runs}
 use Rattle.aa_vec.proofs.Becoming.{GrowsTo-becomes, SameBlock-becomes, Writes-grown}
-use Rattle.aa_vec.proofs.GrowthLemmas.{MakesRoom, SameBlock-refl, MakesRoom-fits, MakesRoom-rises, GrowsInSteps-same, GrowsInSteps-more, GrowsInSteps-rises, GrowsInSteps-counted, Extends-items, in_block}
+use Rattle.aa_vec.proofs.GrowthLemmas.{SameBlock-refl, MakesRoom-fits, MakesRoom-rises, GrowsInSteps-same, GrowsInSteps-more, GrowsInSteps-rises, GrowsInSteps-counted, Extends-items, in_block}
 
 -- the items that came, as one run
 pub whole_run : {S A : Type 0} (steps : S → Option A → S → Type 0) (s : S) (P : List A → Type 0) → (xs : List A) × Drains steps s xs × P xs → WholeRun steps s (λ p. P p.items)

@@ -87,3 +87,5 @@ module _ {S T A : Type 0} (steps : S → Option T → S → Type 0) (Tells : S �
             refused = (stop.refused.0, omega (arith, stop.refused.1, ap length one), stop.refused.2);
           } in
           record { taken = taken; lower = f.0; last = e.last; told = f.3; went = (inl e.went.0, inl (inr (made, x, new.capacity, new.growth, full))) }
+
+pub ruleset gathered = (Gathers-all)

@@ -143,3 +143,6 @@ module _ {T A : Type 0} {size : ℕ} {lower : ℕ → ℕ} {old : Vector T A} {x
 
   pub Extends-fits : length xs + length added ≤ new.capacity
   Extends-fits = omega (arith, e.fits, ap length front_all)
+
+-- what stays, however often a vector grew
+pub ruleset kept_in_steps = (GrowsInSteps-keeps)

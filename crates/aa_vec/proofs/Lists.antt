@@ -1,5 +1,5 @@
 -- Lemmas on lists and their lengths.
-use Rattle.std.proofs.Common.{◌≡◌, ℕ, List, [], ◌∷◌, length, nat_eq, refl, arith, eq-eqb, eqb-true, ◌≢◌, ap, inl, inr}
+use Rattle.std.proofs.Common.{◌≡◌, ℕ, List, [], ◌∷◌, length, nat_eq, refl, arith, eq-eqb, eqb-true, ◌≢◌, ap}
 use Rattle.std.specs.Prelude.{IsTrue, if◌then◌else◌, ◌==◌}
 use Rattle.std.proofs.lemmas.Bool.Decides.{eqb_tells}
 

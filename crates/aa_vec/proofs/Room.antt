@@ -45,3 +45,5 @@ Becomes-inserted size old front b i x asked made =
       room = MakesRoom-block size old front 1 b made _ (length-inserted b.places old.len kept i x within room) refl refl refl;
     })
     (record { written = omega (arith, moves, made.written); runs = omega (arith, ap run_count moves, made.runs) })
+
+pub ruleset placed_in_room = (Becomes-put, Becomes-inserted)

@@ -1,5 +1,5 @@
 -- A closure that is called once for each new place.
-use Rattle.aa_vec.proofs.Common.{append-nil, ◌≡◌, ℕ, suc, ◌+◌, ◌-◌, ◌<◌, List, [], ◌∷◌, ◌++◌, length, refl, sym, ap, ◌∙◌, subst, arith, length-append, Result, Ok, Err, OnOk, FoldsTo, MayCallTimes, Vector, len, HasRoom, AddsAnswers, Becomes, with_room}
+use Rattle.aa_vec.proofs.Common.{append-nil, ◌≡◌, ℕ, suc, ◌+◌, ◌-◌, ◌<◌, List, [], ◌∷◌, ◌++◌, length, refl, sym, ap, ◌∙◌, subst, arith, length-append, Result, Ok, Err, OnOk, FoldsTo, MayCallTimes, Vector, len, HasRoom, AddsAnswers, Becomes}
 use Rattle.std.proofs.lemmas.Fn.{FoldsTo-push}
 use Rattle.aa_vec.proofs.Becoming.{Becomes-more, Becomes-refl, Becomes-roomy}
 use Rattle.aa_vec.proofs.CopiesLemmas.{room-there}

@@ -192,7 +192,7 @@ impl<T, A: Allocator> Vec<T, A> {
     /// `CapacityOverflow`, for sure where the length would pass `usize::MAX`, or `AllocError` with
     /// the capacity asked for. It stands for `Vec::push`.
     #[inline]
-    #[tactic(auto, using(aa_raw::proofs::Calls::with_room))]
+    #[tactic(auto, using(aa_raw::proofs::Calls::with_room, crate::proofs::Room::placed_in_room))]
     pub fn push(&mut self, value: T) -> Result<(), Refused<T>>
         ensures fits { HasRoom self.old 1 → IsOk result }
         ensures pushed { let roomy = with_room (type_size T.row) self.old (length self.old.items) 1 in

@@ -35,7 +35,7 @@ impl<T, A: Allocator> Vec<T, A> {
     /// one. It takes memory only where the vector is full, and grows then with room to spare. A
     /// refusal hands the element back and changes nothing, as that of `push`. It stands for
     /// `Vec::insert`.
-    #[tactic(auto, using(aa_raw::proofs::Positions::at_positions))]
+    #[tactic(auto, using(aa_raw::proofs::Positions::at_positions, crate::proofs::Room::placed_in_room))]
     pub fn insert(&mut self, index: usize, element: T) -> Result<(), Refused<T>>
         requires { index ≤ length self.old.items }
 

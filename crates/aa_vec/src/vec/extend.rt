@@ -276,6 +276,7 @@ impl<T, A: Allocator> Vec<T, A> {
     /// `from_iter_in` by an iterator that is lent: no item is taken from it but those that found a
     /// place and, on a refusal, one. The original has no such call.
     #[inline]
+    #[tactic(auto, using(crate::proofs::GrowthLemmas::kept_in_steps))]
     pub fn from_iter_in_by<I: Iterator<Item = T>>(
         iter: &mut I,
         alloc: A,

@@ -87,7 +87,7 @@ impl<T, A: Allocator> Vec<T, A> {
 
     // A vector of `first` and the items of `iter`, over a clone of the allocator: a new one,
     // extended as is told of them.
-    #[tactic(auto, using(crate::proofs::Becoming::became))]
+    #[tactic(auto, using(crate::proofs::Becoming::became, crate::proofs::Gathered::gathered))]
     fn gather<W: Telling<I>, I: Iterator<Item = T>>(
         &self,
         first: T,

@@ -55,6 +55,7 @@ pub trait SliceIntoVec<T, A: Allocator> {
 impl<T, A: Allocator> SliceIntoVec<T, A> for BoxedSlice<T, A> {
     ghost as_slice = { λ b. b };
 
+    #[tactic(auto, using(crate::proofs::Boxing::unboxed))]
     fn into_vec(self) -> Vec<T, A> {
         let (block, len) = self.into_block();
         block.known();

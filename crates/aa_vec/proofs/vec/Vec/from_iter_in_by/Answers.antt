@@ -1,5 +1,3 @@
-use Rattle.aa_vec.proofs.Common.{◌∙◌}
-use Rattle.aa_vec.proofs.GrowthLemmas.{GrowsInSteps-keeps}
 use Rattle.aa_vec.proofs.vec.Vec.from_iter_in_by.Goals as goal
 
 pub returns-in-Ok-clause-runs : goal.returns-in-Ok-clause-runs
@@ -9,12 +7,6 @@ pub returns-in-Ok-clause-made : goal.returns-in-Ok-clause-made
 returns-in-Ok-clause-made g c =
     let t = c.in-Ok.ensures.room in
     record { taken = t.taken; lower = t.lower; last = t.last; told = t.told; went = (t.went.0, _, c.new_in-v.ensures, t.went.1) }
-
-pub returns-in-Ok-clause-growth : goal.returns-in-Ok-clause-growth
-returns-in-Ok-clause-growth g c = let t = c.in-Ok.ensures.room in (GrowsInSteps-keeps _ t.lower _ t.went.1.in_steps).0 ∙ c.new_in-v.ensures.growth
-
-pub returns-in-Ok-clause-alloc : goal.returns-in-Ok-clause-alloc
-returns-in-Ok-clause-alloc g c = let t = c.in-Ok.ensures.room in (GrowsInSteps-keeps _ t.lower _ t.went.1.in_steps).1 ∙ c.new_in-v.ensures.alloc
 
 pub returns-in-Err-clause-refused : goal.returns-in-Err-clause-refused
 returns-in-Err-clause-refused g c =

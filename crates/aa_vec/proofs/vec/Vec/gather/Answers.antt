@@ -1,5 +1,5 @@
 use Rattle.aa_vec.proofs.Common.{rules}
-use Rattle.aa_vec.proofs.Gathered.{Gathers-all, LacksRest-clone, LacksRest-first, LacksRest-more}
+use Rattle.aa_vec.proofs.Gathered.{LacksRest-clone, LacksRest-first, LacksRest-more}
 use Rattle.aa_vec.proofs.vec.Vec.gather.Goals as goal
 
 pub returns-in_default-clause-refused : goal.returns-in_default-clause-refused
@@ -7,11 +7,6 @@ returns-in_default-clause-refused g c = LacksRest-clone _ _ _ _ _ _ c.args.self.
 
 pub returns-in-Err-clause-refused : goal.returns-in-Err-clause-refused
 returns-in-Err-clause-refused g c = LacksRest-first _ _ _ _ _ _ c.args.self.now _ c.told.ensures _ c.saturating_add-wanted.ensures _ c.new_in-more.result c.new_in-more.ensures _ c.in-Err.ensures.refused
-
-pub returns-in-Ok-extend_telling-clause-all : goal.returns-in-Ok-extend_telling-clause-all
-returns-in-Ok-extend_telling-clause-all g c =
-    Gathers-all _ _ (Unit {0}) _ _ _ c.args.self.now _ c.told.ensures _ c.saturating_add-wanted.ensures _ c.new_in-more.result c.new_in-more.ensures
-    c.try_reserve.new.self c.in_default-try_reserve.ensures.made c.put_next.new.self c.put_next.ensures.put _ _ c.in-Ok-extend_telling.ensures.extends.room
 
 pub returns-in-Err-extend_telling-clause-refused : goal.returns-in-Err-extend_telling-clause-refused
 returns-in-Err-extend_telling-clause-refused g c =
