@@ -69,12 +69,8 @@ module _ {T A : Type 0} where
     -- the clones that were put there are dropped
     pub Undone-cut : (old mid new : Vector T A) (xs : List T) (k : ℕ) → Adds clones old xs mid → Becomes mid (take (len old) mid.items) 0 0 new → length xs < k → Undone old k new
     Undone-cut old mid new xs k p cut less =
-        let n : ℕ = length xs in let items : take (len old) mid.items ≡ old.items = ap (λ v. take (len old) v.items) p.becomes ∙ take_at old.items p.added (len old) refl in
-        record {
-          done = n;
-          fewer = less;
-          becomes = subst (λ l. Becomes old l n n new) items (Becomes-then old (old.items ++ p.added) n n mid p.becomes (take (len old) mid.items) 0 0 new cut n n (omega arith) (omega arith));
-        }
+        let items : take (len old) mid.items ≡ old.items = ap (λ v. take (len old) v.items) p.becomes ∙ take_at old.items p.added (len old) refl in
+        record { done = length xs; fewer = less; becomes = grind (arith, items, Becomes-then, p.becomes, cut) }
 
   -- there is room for all of them then
   pub room-there : (size : ℕ) (old mid : Vector T A) (k : ℕ) → GrowsTo size old k old.items mid → len old ≤ old.capacity → k ≤ mid.capacity - len mid

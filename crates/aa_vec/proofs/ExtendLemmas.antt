@@ -77,8 +77,7 @@ module _ {S T : Type 0} (steps : S → Option T → S → Type 0) (Tells : S →
       -- no item is to come
       pub Placing-end : (left : S → Count) (u : S) → steps s None u → Extended steps Tells left size iter old u (Ok tt) v
       Placing-end left u h =
-          let all : Extends size p.lower old old.items p.front (Ok tt) v =
-          record { front = p.front; others = []; begins = sym (append-nil p.front); within = p.within; in_steps = p.in_steps; items = p.items; fits = omega (arith, p.fits, count); all = refl; refused = tt } in
+          let all : Extends size p.lower old old.items p.front (Ok tt) v = grind (arith, append-nil, count) in
           Extended-left left u (Ok tt) v (record { taken = p.front; lower = p.lower; last = s; told = p.told; went = (h, all) }) tt (λ _. refl) (omega (arith, p.writes.written, p.writes.runs, count))
 
       -- items came that found free places
@@ -89,16 +88,8 @@ module _ {S T : Type 0} (steps : S → Option T → S → Type 0) (Tells : S →
           let front : List T = p.front ++ xs in
           let longer : length front ≡ length p.front + length xs = length-append p.front xs in
           let e : new.items ≡ old.items ++ front = ap (λ u. u.items) q.becomes ∙ ap (λ ys. ys ++ xs) p.items ∙ append_assoc old.items p.front xs in
-          record {
-            front = front;
-            lower = r.0;
-            told = r.1;
-            within = p.within;
-            in_steps = GrowsInSteps-same size r.0 (len old + length front) (GrowsInSteps-counted size p.lower r.0 (len old + length p.front) (length xs) (len old + length front) (SameBlock-refl old) (omega (arith, longer)) (λ k _. r.2 k) p.in_steps) (SameBlock-becomes _ _ _ _ _ q.becomes);
-            items = e;
-            fits = omega (arith, ap length e, length-append old.items front, longer, count, p.fits, q.comes.count, ap (λ u. u.capacity) q.becomes);
-            writes = omega (arith, ap (λ u. u.written) q.becomes, ap (λ u. u.runs) q.becomes, p.writes.written, p.writes.runs, longer);
-          }
+          let steps : GrowsInSteps size r.0 (len old + length front) old new = GrowsInSteps-same size r.0 (len old + length front) (GrowsInSteps-counted size p.lower r.0 (len old + length p.front) (length xs) (len old + length front) (SameBlock-refl old) (omega (arith, longer)) (λ k _. r.2 k) p.in_steps) (SameBlock-becomes _ _ _ _ _ q.becomes) in
+          grind (arith, r.1, steps, e, longer, count, q.comes.count, ap (λ u. u.capacity) q.becomes)
 
       -- until no place was left
       pub Placing-full : ((s : S) → (n : ℕ) × Tells s n) → (left : ℕ) (t : S) (new : Vector T A) → left ≡ 0 → FillsGap steps s v (v.capacity - len v) 0 left t new
@@ -106,7 +97,7 @@ module _ {S T : Type 0} (steps : S → Option T → S → Type 0) (Tells : S →
       Placing-full some left t new e f =
           let q = f.placed in
           let long : len new ≡ v.capacity = omega (arith, e, ap len q.becomes, length-append v.items q.comes.added, q.comes.count, p.fits) in
-          (subst (λ u. Placing u new) (sym (f.stops.full e)) (Placing-filled some left f.last new q), long ∙ sym (ap (λ u. u.capacity) q.becomes), long)
+          (rw (f.stops.full e) (Placing-filled some left f.last new q), long ∙ sym (ap (λ u. u.capacity) q.becomes), long)
 
       -- v is full, and one more item x came, behind which n is told
       module _ (full : len v ≡ v.capacity) (x : T) (t : S) (step : steps s (Some x) t) (n : ℕ) (tells : Tells t n) where

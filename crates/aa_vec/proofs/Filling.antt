@@ -1,6 +1,7 @@
 -- A gap before the elements behind the items of a vector: items are put into it, and it is made.
+use Rattle.std.proofs.lemmas.Bool.Decides.{nat_tests}
 use Rattle.aa_vec.proofs.Common.{◌≡◌, ℕ, ◌+◌, ◌-◌, ◌<◌, ◌≤◌, List, [], ◌∷◌, ◌++◌, length, drop, Option, Some, None, refl, sym, ap, ◌∙◌, subst, arith, length-append, length-take, if◌then◌else◌, ◌==◌, Yields, append-nil, drop-drop, wrote, IsRun, run, moved, length-moved, length-run, IsRun-long, IsRun-same, run-moved, run-moved-below, Vector, len, Becomes, with_room, view_of, IsFront, StandsBehind, SetsBack, ClosesGap, Widens, Placed, FillsGap, FillsAndCloses, Inside, OpensGap}
-use Rattle.aa_vec.proofs.Becoming.{Becomes-at, Becomes-holds, Becomes-more, Becomes-refl, GrowsTo-becomes}
+use Rattle.aa_vec.proofs.Becoming.{Becomes-at, Becomes-more, Becomes-refl, GrowsTo-becomes}
 use Rattle.aa_vec.proofs.GrowthLemmas.{MakesRoom-has}
 use Rattle.aa_vec.proofs.BehindLemmas.{still_stand, still_are}
 use Rattle.aa_vec.proofs.Gaps.{run-of_drop, IsRun-to_drop, there, elements}
@@ -78,13 +79,7 @@ module _ {T A : Type 0} (v : Inside T A) (front : IsFront v) (gap n : ℕ) (stan
   OpensGap-view =
       let deep : drop gap (drop v.len raised) ≡ drop (v.len + gap) raised = drop-drop gap v.len raised in
       let up : IsRun raised (v.len + gap) n = IsRun-long raised (v.len + gap) n (ap length same-elements ∙ length-run v.block.places v.len n run_there) (omega (arith, long, fits)) in
-      -- a move over a gap writes nothing where there is no gap
-      let over : (if v.len == v.len + gap then 0 else n) ≡ (if gap == 0 then 0 else n) = grind arith in
-      rw over (record {
-        becomes = Becomes-holds (view_of v) _ _ _ _ (record { items = same-front; block = record { capacity = long; growth = refl; grown = refl; alloc = refl } }) (record { written = refl; runs = refl });
-        stands = (omega (arith, ap length same-front, counted, long, fits), rw deep (IsRun-to_drop raised (v.len + gap) n up));
-        elements = rw (deep, run-of_drop raised (v.len + gap) n) (same-elements ∙ ap (λ i. run v.block.places i n) (omega arith) ∙ sym (elements v front 0 n stands));
-      })
+      grind (arith, nat_tests, deep, up, same-front, counted, long, fits, run-of_drop, IsRun-to_drop raised (v.len + gap) n up, same-elements, elements v front 0 n stands, ap length same-front)
 
 -- room is made, the last n items are set back, and moved up
 module _ {T A : Type 0} (size : ℕ) (old w x : Vector T A) (gap n : ℕ) (few : n ≤ len old) (g : Becomes (with_room size old (len old) gap) old.items 0 0 w) (k : ℕ) (e : k ≡ len w) (sets : SetsBack w (k - n) x) where

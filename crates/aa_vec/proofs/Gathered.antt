@@ -37,17 +37,7 @@ module _ {S T A : Type 0} (steps : S → Option T → S → Type 0) (Tells : S �
     pub LacksRest-first : (error : TryReserveError) → LacksRoom size made wanted error → LacksRest steps Tells fails size s old first error s
     LacksRest-first error lacks =
         let none : made.capacity ≡ 0 = no_places (omega (arith, lacks.full, ap length new.items)) in
-        let full : Extends size (λ _. n) made [] (first ∷ []) (Err error) made = record {
-          front = [];
-          others = first ∷ [];
-          begins = refl;
-          within = omega arith;
-          in_steps = in_block (SameBlock-refl made);
-          items = new.items;
-          fits = omega arith;
-          all = tt;
-          refused = (omega arith, omega (arith, none), rw (← is) lacks);
-        } in
+        let full : Extends size (λ _. n) made [] (first ∷ []) (Err error) made = grind (arith, in_block, SameBlock-refl, none, is, lacks, new.items) in
         record { taken = []; lower = λ _. n; last = s; told = (tells, refl); went = (inl refl, inl (inr (made, made, new.capacity, new.growth, full))) }
 
     -- `first` was put there, and others behind it
@@ -75,17 +65,7 @@ module _ {S T A : Type 0} (steps : S → Option T → S → Type 0) (Tells : S �
                 let asked : wanted ≡ asked_with (f.0 (needed - made.capacity - 1)) = is ∙ ap (λ k. min (k + 1) usize_max) (sym f.2 ∙ ap f.0 (omega (arith, none))) in
                 GrowsInSteps-first size f.0 needed (omega (arith, none)) (rw (← asked) (subst (λ k. MakesRoom size made k wanted v) {x = len made} {y = made.capacity} (omega (arith, ap length new.items, none)) g.room)) rest
           ] in
-          let full : Extends size f.0 made [] (first ∷ taken) (Err error) x = record {
-            front = first ∷ stop.front;
-            others = stop.others;
-            begins = ap (λ ys. first ∷ ys) stop.begins;
-            within = omega arith;
-            in_steps = in_steps;
-            items = stop.items ∙ ap (λ ys. ys ++ stop.front) one;
-            fits = omega (arith, stop.fits, ap length one);
-            all = tt;
-            refused = (stop.refused.0, omega (arith, stop.refused.1, ap length one), stop.refused.2);
-          } in
+          let full : Extends size f.0 made [] (first ∷ taken) (Err error) x = grind (arith, stop, in_steps, one) in
           record { taken = taken; lower = f.0; last = e.last; told = f.3; went = (inl e.went.0, inl (inr (made, x, new.capacity, new.growth, full))) }
 
 pub ruleset gathered = (Gathers-all)

@@ -1,5 +1,5 @@
 -- Items put before the last ones of a vector, in room made for those that were told, and then for the others.
-use Rattle.aa_vec.proofs.Common.{◌≡◌, ℕ, ◌+◌, ◌-◌, ◌*◌, ◌<◌, ◌≤◌, List, [], ◌∷◌, ◌++◌, length, take, drop, Option, Some, None, append_assoc, refl, sym, ap, ◌∙◌, subst, arith, inl, inr, length-append, length-drop, length-take, Result, Ok, Err, IfErr, OnOk, Count, Yields, count_of, take-append-drop, take_at, drop_at, nat_tests, TryReserveError, Vector, len, Becomes, with_room, LacksRoom, run_count, moved_over, ClosesGap, behind_items, tail_moves, Widens, FillsAndCloses, Gathers, PutsAll, Puts, PutsRest, LacksRest, PutsWithin}
+use Rattle.aa_vec.proofs.Common.{◌≡◌, ℕ, ◌+◌, ◌-◌, ◌*◌, ◌<◌, ◌≤◌, List, [], ◌∷◌, ◌++◌, length, take, drop, Option, Some, None, append_assoc, refl, sym, ap, ◌∙◌, subst, arith, inl, inr, length-append, length-drop, length-take, Result, Ok, Err, IfErr, OnOk, Count, Yields, count_of, take-append-drop, take_at, drop_at, nat_tests, TryReserveError, Vector, len, Becomes, with_room, LacksRoom, run_count, moved_over, ClosesGap, behind_items, tail_moves, Widens, FillsAndCloses, Gathers, PutsAll, Puts, PutsFront, PutsRest, LacksRest, PutsWithin}
 use Rattle.aa_vec.proofs.Closed.{moved_none, moved_some, moved_most, one_run}
 use Rattle.aa_vec.proofs.Becoming.{Becomes-at, SameBlock-becomes}
 use Rattle.aa_vec.proofs.GrowthLemmas.{MakesRoom, MakesRoom-same, with_room-fits, SameBlock-refl}
@@ -12,10 +12,9 @@ use Rattle.aa_vec.proofs.HintLemmas.{told_before, tell_between}
 -- ys put before the last n of a list whose last parts are known
 pub put_between : {X : Type 0} (head mid tail ys zs : List X) (n : ℕ) → zs ≡ head ++ (mid ++ tail) → length tail ≡ n → take (length zs - n) zs ++ (ys ++ drop (length zs - n) zs) ≡ head ++ ((mid ++ ys) ++ tail)
 put_between {X} head mid tail ys zs n e l =
-    let xs : List X = head ++ mid in
-    let halves : zs ≡ xs ++ tail = e ∙ sym (append_assoc head mid tail) in
-    let cut : length xs ≡ length zs - n = omega (arith, ap length halves, length-append xs tail, l) in
-    rw (← cut, halves, take_at xs tail (length xs) refl, drop_at xs tail (length xs) refl) (simp append_assoc)
+    let halves : zs ≡ (head ++ mid) ++ tail = e ∙ sym (append_assoc head mid tail) in
+    let cut : length (head ++ mid) ≡ length zs - n = omega (arith, ap length halves, length-append (head ++ mid) tail, l) in
+    rw (← cut, halves, take_at (head ++ mid) tail (length (head ++ mid)) refl, drop_at (head ++ mid) tail (length (head ++ mid)) refl) (simp append_assoc)
 
 -- how often the tail is moved where n items fill the gap and m more come
 pub moves_beyond : (gap h n m : ℕ) → n ≡ gap + m → tail_moves gap h n ≡ tail_moves 0 h m
@@ -35,12 +34,9 @@ moves_rest told r n h = grind (arith, nat_tests)
 module _ {S T A : Type 0} (steps : S → Option T → S → Type 0) (Tells : S → ℕ → Type 0) (remaining : S → Count) (size : ℕ) (s : S) (old : Vector T A) where
   -- room for as many as were told was refused
   pub Puts-none : {fails : Type 0} → (k : ℕ) × Tells s k → (told n : ℕ) (error : TryReserveError) → LacksRoom size old told error → Puts steps Tells fails size s old told n remaining (Err error) old s
-  Puts-none first told n error lacks = record {
-    all = tt;
-    writes = omega arith;
-    refused = record { front = []; others = []; lower = λ _. first.0; last = s; given = (first.1, refl); stops = inl refl; items = sym (take-append-drop (len old - n) old.items); why = inl (refl, SameBlock-refl old, lacks) };
-    few = λ room. absurd (omega (arith, room, lacks.full));
-  }
+  Puts-none first told n error lacks =
+      let refused : PutsFront steps Tells _ size s old told n error old s = record { front = []; others = []; lower = λ _. first.0; last = s; given = (first.1, refl); stops = inl refl; items = sym (take-append-drop (len old - n) old.items); why = inl (refl, SameBlock-refl old, lacks) } in
+      record { all = tt; writes = omega arith; refused = refused; few = λ room. absurd (omega (arith, room, lacks.full)) }
 
   -- a run, gathered in a vector, was put before the last n items, behind which nothing was moved
   pub PutsRest-gathered : (n : ℕ) (first : T) (more : Vector T A) (u : S) → Gathers steps Tells s first more u → (k : ℕ) → k ≡ len more
@@ -91,20 +87,10 @@ module _ {S T A : Type 0} (steps : S → Option T → S → Type 0) (Tells : S �
 
     -- no further item is to come
     pub Puts-told : {fails : Type 0} (end : S) → steps f.last None end → Puts steps Tells fails size s old told n remaining (Ok tt) z end
-    Puts-told end ended = record {
-      all = record {
-        added = came;
-        last = f.last;
-        given = f.comes.given;
-        ends = ended;
-        items = z_items;
-        room = MakesRoom-same size (len old + told) (length came - told) z_room (with_room-fits size z _ _ (omega (arith, f.comes.count)));
-        written = z_written ∙ ap (λ k. old.written + k) (moves_told told left (length came) n f.comes.count);
-      };
-      writes = within;
-      refused = tt;
-      few = tt;
-    }
+    Puts-told end ended =
+        let room = MakesRoom-same size (len old + told) (length came - told) z_room (with_room-fits size z _ _ (omega (arith, f.comes.count))) in
+        let all : PutsAll steps size s old told n z end = grind (arith, moves_told, room, z_items, z_written, f.comes.given, ended, f.comes.count) in
+        record { all = all; writes = within; refused = tt; few = tt }
 
     -- further items come
     module _ (full : left ≡ 0) (first : T) (u : S) (step : steps t (Some first) u) where

@@ -4,7 +4,6 @@ use Rattle.std.proofs.lemmas.List.{length-set}
 use Rattle.aa_raw.proofs.Positions.{run-inserted, length-inserted}
 use Rattle.aa_vec.proofs.Becoming.{Becomes-grows}
 use Rattle.aa_vec.proofs.GrowthLemmas.{MakesRoom}
-use Rattle.aa_vec.proofs.Lists.{unequal}
 
 -- beside n of c places, k more fit
 same_test : (n k c a b : ℕ) → n ≤ c → (if nat_le (n + k) c then a else b) ≡ (if nat_le k (c - n) then a else b)
@@ -21,12 +20,9 @@ pub Becomes-put : {T A : Type 0} (size : ℕ) (old : Inside T A) (front : IsFron
     → Reserves size old.block old.len 1 (amortized old.block.growth (length old.block.places) (old.len + 1) (least_of size)) b
     → Becomes (with_room size (view_of old) (len (view_of old)) 1) (run old.block.places 0 old.len ++ x ∷ []) 1 1 (view_of (record { block = wrote b (slice_set b.places old.len (Some x)) 1; len = old.len + 1 }))
 Becomes-put {T} {A} size old front b x made =
-    Becomes-grows _ _ _ _ _ size 1
-    (record {
-      items = run-put b.places old.len x (omega (arith, made.room)) ∙ ap (λ xs. xs ++ x ∷ []) (run-reserved size old.block old.len 1 _ b made);
-      room = MakesRoom-block size old front 1 b made _ (length-set b.places old.len (Some x)) refl refl refl;
-    })
-    (record { written = ap (λ n. n + 1) made.written; runs = ap (λ n. n + 1) made.runs })
+    let room = MakesRoom-block size old front 1 b made _ (length-set b.places old.len (Some x)) refl refl refl in
+    let items = run-put b.places old.len x (omega (arith, made.room)) ∙ ap (λ xs. xs ++ x ∷ []) (run-reserved size old.block old.len 1 _ b made) in
+    Becomes-grows _ _ _ _ _ size 1 (record { items = items; room = room }) (omega (arith, made.written, made.runs))
 
 -- and in the middle, behind which the elements are moved up
 pub Becomes-inserted : {T A : Type 0} (size : ℕ) (old : Inside T A) (front : IsFront old) (b : Block T A) (i : ℕ) (x : T) → i ≤ len (view_of old)
@@ -38,12 +34,9 @@ Becomes-inserted size old front b i x asked made =
     let room : old.len < length b.places = omega (arith, made.room) in
     let count : len (view_of old) ≡ old.len = length-run old.block.places 0 old.len front in
     let within : i ≤ old.len = omega (arith, asked, count) in
-    let moves : (if i == i + 1 then 0 else old.len - i) ≡ len (view_of old) - i = unequal i (i + 1) 0 (old.len - i) (λ e. absurd (omega (arith, e))) ∙ omega (arith, count) in
-    Becomes-grows _ _ _ _ _ size 1
-    (record {
-      items = run-inserted b.places old.len kept i x within room ∙ ap (λ ys. insert ys i x) (run-reserved size old.block old.len 1 _ b made);
-      room = MakesRoom-block size old front 1 b made _ (length-inserted b.places old.len kept i x within room) refl refl refl;
-    })
-    (record { written = omega (arith, moves, made.written); runs = omega (arith, ap run_count moves, made.runs) })
+    let moves : (if i == i + 1 then 0 else old.len - i) ≡ len (view_of old) - i = grind (arith, nat_tests, count) in
+    let items = run-inserted b.places old.len kept i x within room ∙ ap (λ ys. insert ys i x) (run-reserved size old.block old.len 1 _ b made) in
+    let more = MakesRoom-block size old front 1 b made _ (length-inserted b.places old.len kept i x within room) refl refl refl in
+    Becomes-grows _ _ _ _ _ size 1 (record { items = items; room = more }) (omega (arith, moves, made.written, made.runs, ap run_count moves))
 
 pub ruleset placed_in_room = (Becomes-put, Becomes-inserted)

@@ -1,5 +1,5 @@
 -- Splices by an `Items`, which tells a function of how many items are left, and splices of a vector in the same block.
-use Rattle.aa_vec.proofs.Common.{◌≡◌, ℕ, ◌+◌, ◌-◌, ◌*◌, ◌≤◌, List, [], ◌++◌, length, append_assoc, refl, sym, ap, ◌∙◌, subst, arith, inl, inr, length-append, append-nil, TryReserveError, Vector, SameBlock, LacksRoom, ItemsLeft, gives_item, lower_by, TellsExactly, Takes, Option, None, Ok, Err, Gapped, tail_moves, ⊤, gapped, SplicesAll, SplicesFront, SplicesShort}
+use Rattle.aa_vec.proofs.Common.{◌≡◌, ℕ, ◌+◌, ◌-◌, ◌*◌, ◌≤◌, List, [], ◌++◌, length, append_assoc, refl, sym, ap, ◌∙◌, subst, arith, inl, inr, length-append, append-nil, TryReserveError, Vector, SameBlock, LacksRoom, ItemsLeft, gives_item, lower_by, TellsExactly, Takes, Option, None, Ok, Err, Gapped, tail_moves, ⊤, gapped, Extends, Result, SplicesAll, SplicesFront, SplicesShort}
 use Rattle.aa_vec.proofs.GrowthLemmas.{MakesRoom-same, MakesRoomTwice-same, SameBlock-refl, SameBlock-trans}
 use Rattle.aa_vec.proofs.Gathered.{LacksOthers-told}
 use Rattle.aa_vec.proofs.Counted.{items_lower, items-rest, items-told, items-all, Extends-told}
@@ -18,18 +18,19 @@ module _ {S T : Type 0} (steps : S → Option T → S → Type 0) (Tells : S →
   abbrev pub SplicesByFront : (fails : Type 0) → TryReserveError → Vector T A → Type 0
   SplicesByFront fails error new = Takes steps Tells iter (λ lower xs last. SplicesShort size lower old xs fails ((end : S) × steps last None end) error new)
 
+-- an extension of a vector is one of another in the same block
+pub Extends-same : {T A : Type 0} {size : ℕ} {lower : ℕ → ℕ} {u v : Vector T A} (b : SameBlock u v) {head taken : List T} (r : Result Unit TryReserveError) {new : Vector T A} → Extends size lower v head taken r new → Extends size lower u head taken r new
+Extends-same {size = size} {lower} b {head} {taken} (Ok tt) {new} = Extends-told size lower lower b head taken [] (λ k _. ap lower (omega arith)) taken (sym (append-nil taken)) (Ok tt) refl new
+Extends-same {size = size} {lower} b {head} {taken} (Err e) {new} = Extends-told size lower lower b head taken [] (λ k _. ap lower (omega arith)) taken (sym (append-nil taken)) (Err e) tt new
+
 -- another function tells the same of `taken`, behind which `more` is to come; and the vector was another in the same block
 module _ {T A : Type 0} (size : ℕ) (lower by : ℕ → ℕ) {u v : Vector T A} (b : SameBlock u v) (head : List T) (gap : ℕ) (tail taken more : List T)
     (same : (k : ℕ) → k ≤ length taken → lower k ≡ by (k + length more)) (new : Vector T A) where
   SplicesAll-told : more ≡ [] → SplicesAll size lower (gapped v head gap tail) taken new → SplicesAll size by (gapped u head gap tail) taken new
   SplicesAll-told none s =
       let told : lower (length taken - gap) ≡ by (length taken - gap) = same (length taken - gap) (omega arith) ∙ ap by (omega (arith, ap length none)) in
-      record {
-        items = s.items;
-        at_end = λ e. Extends-told size lower by b head taken more (λ k h. same k (omega (arith, h))) taken (sym (ap (λ ys. taken ++ ys) none ∙ append-nil taken)) (Ok tt) none new (s.at_end e);
-        in_gap = λ some few. SameBlock-trans b (s.in_gap some few);
-        beyond = λ some full. rw (← told) (MakesRoomTwice-same size _ _ _ b (s.beyond some full));
-      }
+      let ends : Extends size lower v head taken (Ok tt) new → Extends size by u head taken (Ok tt) new = Extends-told size lower by b head taken more (λ k h. same k (omega (arith, h))) taken (sym (ap (λ ys. taken ++ ys) none ∙ append-nil taken)) (Ok tt) none new in
+      grind (arith, told, ends, SameBlock-trans, MakesRoomTwice-same)
 
   -- of what was taken a beginning was placed
   module _ (all : List T) (e : all ≡ taken ++ more) (error : TryReserveError) {fails fails' whole whole' : Type 0} (f : fails → fails') (w : whole → whole') (none : whole → more ≡ []) where
@@ -74,8 +75,8 @@ module _ {T : Type 0} (iter : ItemsLeft T) {A : Type 0} (size : ℕ) (old : Vect
 
     pub items-written : new.written ≡ old.written + (length iter.items + tail_moves gap (lower_by iter.hint (length iter.items - gap)) (length iter.items) * length tail)
     items-written =
-        let told : s.lower (length s.taken - gap) ≡ lower_by iter.hint (length s.taken - gap) = items-told s.lower iter s.taken s.last s.told (length s.taken - gap) (omega arith) ∙ ap (lower_by iter.hint) (omega (arith, ap length none)) in
-        rw (← items-all s.lower iter s.taken s.last s.told none, ← told) s.went.2
+        let told = items-told s.lower iter s.taken s.last s.told (length s.taken - gap) (omega arith) in
+        rw (← items-all s.lower iter s.taken s.last s.told none) (grind (arith, told, s.went.2, ap length none))
 
   pub SplicesShort-items : {fails : Type 0} → (error : TryReserveError) (new : Vector T A) → SplicesByFront gives_item (TellsExactly items_lower) size iter (cut_off old gap tail) fails error new
       → SplicesShort size (lower_by iter.hint) (cut_off old gap tail) iter.items fails ⊤ error new

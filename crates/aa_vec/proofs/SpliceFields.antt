@@ -70,16 +70,10 @@ module _ (I A X : RattleType) (gI : It.Ghosts I.Denot X.Denot) (gA : Ghosts A.De
     told κs d vss are =
         let Rs = fields (Decl κs) in
         let one = alone (layout I) vss.1.1.1.1.1.0 (((param_law.param_laws 0 I LI).lawful 𝓛).typed d.iter vss.1.1.1.1.1.0 are.1.1.1.1.1.0) in
-        let same : vss ≡ words κs d one.0 = λ i. (
-          mut_Tells (named 0) κs.0 (V.the_row (param 2 X) (param 1 A) gA) d.vec vss.0 are.0 i,
-          (
-            uint_Tells w64 d.front vss.1.0 are.1.0 i,
-            (
-              uint_Tells w64 d.back vss.1.1.0 are.1.1.0 i,
-              (uint_Tells w64 d.end vss.1.1.1.0 are.1.1.1.0 i, (uint_Tells w64 d.total vss.1.1.1.1.0 are.1.1.1.1.0 i, (one.1.0 i, tt))),
-            ),
-          ),
-        ) in (
+        let vec = mut_Tells (named 0) κs.0 (V.the_row (param 2 X) (param 1 A) gA) d.vec vss.0 are.0 in
+        let front = uint_Tells w64 d.front vss.1.0 are.1.0 in let back = uint_Tells w64 d.back vss.1.1.0 are.1.1.0 in
+        let end = uint_Tells w64 d.end vss.1.1.1.0 are.1.1.1.0 in let total = uint_Tells w64 d.total vss.1.1.1.1.0 are.1.1.1.1.0 in
+        let same : vss ≡ words κs d one.0 = λ i. (vec i, (front i, (back i, (end i, (total i, (one.1.0 i, tt)))))) in (
           one.0,
           (
             same,

@@ -5,11 +5,10 @@ use Rattle.aa_vec.proofs.Answered.{IsOk, on_ok, if_err, done_unless}
 use Rattle.aa_vec.proofs.Closed.{moved_none, moved_some, moved_most, one_run}
 use Rattle.aa_vec.proofs.Becoming.{SameBlock-becomes}
 use Rattle.aa_vec.proofs.GrowthLemmas.{Extends-items, MakesRoomTwice, MakesRoomTwice-same, SameBlock-trans, MakesRoom-same}
-use Rattle.aa_vec.proofs.Counted.{Extends-told}
 use Rattle.aa_vec.proofs.ExtendLemmas.{Yields-told, whole_run}
 use Rattle.aa_vec.proofs.Gathered.{LacksOthers-same}
 use Rattle.aa_vec.proofs.HintLemmas.{tells_each, tell_between}
-use Rattle.aa_vec.proofs.SpliceByItems.{SplicesByAll, SplicesByFront, cut_off}
+use Rattle.aa_vec.proofs.SpliceByItems.{Extends-same, SplicesByAll, SplicesByFront, cut_off}
 use Rattle.aa_vec.proofs.Replacing.{moves_few, moves_beyond, put_between}
 
 -- in each state something may be told
@@ -54,35 +53,14 @@ module _ {S T A : Type 0} (g : Ghosts S T) (Tells : S → ℕ → Type 0) (tell 
     pub Spliced-extended : (after : S) (r : Result Unit TryReserveError) (new : Vector T A) → len old + gap ≤ old.capacity → Extended steps Tells left_of size iter w after r new → Spliced [] r new
     Spliced-extended after r new fits e =
         let z = e.writes in
+        let items : (xs : List T) → new.items ≡ old.items ++ xs → new.items ≡ old.items ++ (xs ++ []) = λ xs is. is ∙ ap (λ ys. old.items ++ ys) (sym (append-nil xs)) in
         spliced [] r new
-        (on_ok r e.room (λ t. record {
-          taken = t.taken;
-          lower = t.lower;
-          last = t.last;
-          told = t.told;
-          went = (
-            (after, t.went.0),
-            record {
-              items = Extends-items t.went.1 ∙ ap (λ ys. old.items ++ ys) (sym (append-nil t.taken));
-              at_end = λ _. Extends-told size t.lower t.lower block old.items t.taken [] (λ k _. ap t.lower (omega arith)) t.taken (sym (append-nil t.taken)) (Ok tt) refl new t.went.1;
-              in_gap = λ h _. absurd (omega (arith, h));
-              beyond = λ h _. absurd (omega (arith, h));
-            },
-            omega (arith, z.written, ap length (Extends-items t.went.1), length-append old.items t.taken),
-          );
-        }))
-        (if_err r e.refused (λ error t. record {
-          taken = t.taken;
-          lower = t.lower;
-          last = t.last;
-          told = t.told;
-          went = inl (refl, Extends-told size t.lower t.lower block old.items t.taken [] (λ k _. ap t.lower (omega arith)) t.taken (sym (append-nil t.taken)) (Err error) tt new t.went.1);
-        }))
-        (λ few. e.fits (omega (arith, few, fits)))
-        (λ _ few. e.fits (omega (arith, few, fits)))
-        (λ _ room. e.fits room)
-        (λ h _ few room. e.fits (omega (arith, few, room)))
-        (record { written = omega (arith, z.written); runs = omega (arith, z.runs) })
+        (on_ok r e.room (λ t.
+        let all : SplicesAll size t.lower (cut_off old gap []) t.taken new = grind (arith, Extends-items, append-nil, Extends-same block (Ok tt) t.went.1) in
+        record { taken = t.taken; lower = t.lower; last = t.last; told = t.told; went = ((after, t.went.0), all, omega (arith, z.written, ap length (Extends-items t.went.1), length-append old.items t.taken)) }))
+        (if_err r e.refused (λ error t. record { taken = t.taken; lower = t.lower; last = t.last; told = t.told; went = inl (refl, Extends-same block (Err error) t.went.1) }))
+        (λ few. e.fits (omega (arith, few, fits))) (λ _ few. e.fits (omega (arith, few, fits))) (λ _ room. e.fits room) (λ h _ few room. e.fits (omega (arith, few, room)))
+        (omega (arith, z.written, z.runs))
 
     -- some elements stand behind the range, and what came filled it, or a part of it
     module _ (tail : List T) (n : ℕ) (kept : behind_items w gap n ≡ tail) (tail_count : length tail ≡ n) (some : 0 < n) (left : ℕ) (t : S) (x : Vector T A) (f : FillsAndCloses steps iter w gap n left t x) where
@@ -111,9 +89,8 @@ module _ {S T A : Type 0} (g : Ghosts S T) (Tells : S → ℕ → Type 0) (tell 
       Spliced-ended h =
           let few : length came < gap = omega (arith, f.comes.count, h) in
           let b = tells_each steps Tells tell iter came f.last f.comes.given in
-          let written : x.written ≡ old.written + (length came + tail_moves gap (b.0 (length came - gap)) (length came) * length tail) =
-          omega (arith, x_written, tail_count, moved_some left n h, ap (λ k. k * length tail) (moves_few gap (b.0 (length came - gap)) (length came) few)) in
-          let all : SplicesAll size b.0 (cut_off old gap tail) came x = record { items = x_items; at_end = λ e. absurd (omega (arith, ap length e, tail_count, some)); in_gap = λ _ _. x_block; beyond = λ _ l. absurd (omega (arith, l, few)) } in
+          let all : SplicesAll size b.0 (cut_off old gap tail) came x = grind (arith, x_items, x_block, tail_count, few, some) in
+          let written : x.written ≡ old.written + (length came + tail_moves gap (b.0 (length came - gap)) (length came) * length tail) = grind (arith, x_written, tail_count, moved_some left n h, moves_few gap (b.0 (length came - gap)) (length came) few) in
           spliced tail (Ok tt) x (record { taken = came; lower = b.0; last = f.last; told = b.1; went = ((t, f.stops.ended h), all, written) }) tt (λ _. refl) (λ _ _. refl) (λ _ _. refl) (λ _ _ _ _. refl)
           (omega (arith, x_written, x_runs, x_len, tail_count, moved_most left n, one_run (moved_over left n)))
 
@@ -137,12 +114,8 @@ module _ {S T A : Type 0} (g : Ghosts S T) (Tells : S → ℕ → Type 0) (tell 
             let over_is : length all - gap ≡ length p.added = omega (arith, longer) in
             let told_is : r.0 (length all - gap) ≡ told = ap r.0 over_is ∙ r.2 in
             let m : MakesRoomTwice size old (len x) told (length p.added - told) new = MakesRoomTwice-same size (len x) told (length p.added - told) x_block p.room in
-            let whole_put : SplicesAll size r.0 (cut_off old gap tail) all new = record {
-              items = p.items ∙ put_between old.items came tail p.added x.items n x_items tail_count;
-              at_end = λ e. absurd (omega (arith, ap length e, tail_count, some));
-              in_gap = λ _ l. absurd (omega (arith, l, longer));
-              beyond = λ _ _. rw (told_is, over_is, ← whole) m;
-            } in
+            let items : new.items ≡ old.items ++ (all ++ tail) = p.items ∙ put_between old.items came tail p.added x.items n x_items tail_count in
+            let whole_put : SplicesAll size r.0 (cut_off old gap tail) all new = grind (arith, items, m, told_is, over_is, whole, tail_count, some, longer) in
             let written : new.written ≡ old.written + (length all + tail_moves gap (r.0 (length all - gap)) (length all) * length tail) =
             rw (told_is, tail_count, moves_beyond gap told (length all) (length p.added) longer) (omega (arith, p.written, x_written, moved_none left n full, longer, gap_came)) in
             record { taken = all; lower = r.0; last = p.last; told = r.3; went = ((after, p.ends), whole_put, written) }
