@@ -121,17 +121,8 @@ module _ {S T : Type 0} (steps : S → Option T → S → Type 0) (Tells : S →
         -- or room for it was refused, where more may have come from the start on than were placed
         pub Placing-refused : (left : S → Count) (k : ℕ) → k ≡ min (n + 1) usize_max → (error : TryReserveError) → LacksRoom size v k error → len v < len old + count_of (left iter) → Extended steps Tells left size iter old t (Err error) v
         Placing-refused left k e error lacks more =
-            let stop : Extends size next_lower old old.items next_front (Err error) v = record {
-              front = p.front;
-              others = x ∷ [];
-              begins = refl;
-              within = p.within;
-              in_steps = grown_in_steps;
-              items = p.items;
-              fits = omega (arith, full, count);
-              all = tt;
-              refused = (omega arith, omega (arith, full, count), subst (λ j. LacksRoom size v j error) e lacks);
-            } in
+            let begins : next_front ≡ p.front ++ (x ∷ []) = refl in
+            let stop : Extends size next_lower old old.items next_front (Err error) v = grind (arith, begins, grown_in_steps, full, count) in
             Extended-left left t (Err error) v tt (record { taken = next_front; lower = next_lower; last = t; told = YieldsTelling-more p.lower n iter p.front s x t p.told step tells; went = (refl, stop, refl) })
             (λ h. absurd (omega (arith, h, full, more, GrowsInSteps-rises size p.lower (len old + length p.front) p.in_steps))) (omega (arith, p.writes.written, p.writes.runs, count))
 

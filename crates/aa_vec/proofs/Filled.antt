@@ -1,10 +1,10 @@
 -- A new vector of n clones of one value.
-use Rattle.aa_vec.proofs.Common.{◌≡◌, ℕ, ◌-◌, ◌<◌, List, [], ◌∷◌, ◌++◌, length, replicate, sym, ap, ◌∙◌, subst, arith, length-append, if◌then◌else◌, ◌==◌, length-replicate, Doubling, Copies, Fills, Vector, IsNew, length_all_zip, IsMade, IsMadeOfOne}
+use Rattle.aa_vec.proofs.Common.{◌≡◌, ℕ, ◌<◌, List, [], ◌∷◌, ◌++◌, replicate, ◌∙◌, subst, arith, length-append, if◌then◌else◌, ◌==◌, length-replicate, Doubling, Copies, Fills, Vector, IsNew, length_all_zip, IsMade, IsMadeOfOne}
 use Rattle.aa_vec.proofs.CopiesLemmas.{all-copied}
-use Rattle.aa_vec.proofs.Lists.{unequal}
+use Rattle.std.proofs.lemmas.Bool.Decides.{nat_tests}
 
 whole : {T : Type 0} (n : ℕ) (ys : List T) → 0 < n → (if n == 0 then [] else ys) ≡ ys
-whole n ys some = unequal n 0 [] ys (λ e. absurd (omega (arith, e, some)))
+whole n ys some = grind (arith, nat_tests)
 
 module _ {T A : Type 0} (clones : T → T → Type 0) (size n : ℕ) (x : T) (some : 0 < n) where
   pub IsMadeOfOne-filled : (a : A) (v new : Vector T A) → IsNew size n a v → Fills clones v n x new → IsMadeOfOne clones size x n new

@@ -1,4 +1,5 @@
 -- A gap before the elements behind the items of a vector: items are put into it, and it is made.
+use Rattle.aa_vec.specs.Filling.{Comes}
 use Rattle.std.proofs.lemmas.Bool.Decides.{nat_tests}
 use Rattle.aa_vec.proofs.Common.{◌≡◌, ℕ, ◌+◌, ◌-◌, ◌<◌, ◌≤◌, List, [], ◌∷◌, ◌++◌, length, drop, Option, Some, None, refl, sym, ap, ◌∙◌, subst, arith, length-append, length-take, if◌then◌else◌, ◌==◌, Yields, append-nil, drop-drop, wrote, IsRun, run, moved, length-moved, length-run, IsRun-long, IsRun-same, run-moved, run-moved-below, Vector, len, Becomes, with_room, view_of, IsFront, StandsBehind, SetsBack, ClosesGap, Widens, Placed, FillsGap, FillsAndCloses, Inside, OpensGap}
 use Rattle.aa_vec.proofs.Becoming.{Becomes-at, Becomes-more, Becomes-refl, GrowsTo-becomes}
@@ -14,12 +15,9 @@ module _ {S T : Type 0} (steps : S → Option T → S → Type 0) where
 
   module _ {A : Type 0} (s : S) (old : Vector T A) (gap n : ℕ) where
     pub Placed-start : StandsBehind old gap n → Placed steps s old gap n gap s old
-    Placed-start stands = record {
-      comes = record { added = []; given = refl; count = omega arith };
-      becomes = rw (append-nil old.items) (Becomes-refl old);
-      stands = stands;
-      elements = refl;
-    }
+    Placed-start stands =
+        let comes : Comes steps s gap gap s = record { added = []; given = refl; count = omega arith } in
+        record { comes = comes; becomes = rw (append-nil old.items) (Becomes-refl old); stands = stands; elements = refl }
 
     module _ (left : ℕ) (t : S) (v : Vector T A) (p : Placed steps s old gap n left t v) where
       -- one more came

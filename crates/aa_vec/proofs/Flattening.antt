@@ -1,14 +1,6 @@
 -- Arrays whose elements are moved behind those of a vector, one array after another.
 use Rattle.aa_vec.proofs.Common.{append-nil, ◌≡◌, ℕ, ◌+◌, ◌-◌, ◌*◌, ◌<◌, ◌≤◌, List, ◌++◌, Option, None, Some, get_or, ap, ◌∙◌, arith, append_assoc, length-append, slice_set, nat_tests, usize_max, IsRun, run, flattened, sized, run-of_none, run-take_first}
 
--- room as large as it is to be is as large as that again
-pub sized-again : (size n : ℕ) → sized size (sized size n) ≡ sized size n
-sized-again size n = grind (arith, nat_tests)
-
--- it is enough for the elements of l arrays, where c are at least as many
-pub sized-enough : (size l c n : ℕ) → l ≤ c → l * n ≤ usize_max → l * n ≤ sized size (c * n)
-sized-enough size l c n h few = grind (arith, nat_tests)
-
 module _ {T : Type 0} (vs : List T) (cs : List (Option (List T))) where
   -- the first of the lists that are left is moved behind others
   pub flattened-next : (x : List T) (i n : ℕ) → i < n → IsRun cs i (n - i) → get_or cs i None ≡ Some x → (vs ++ x) ++ flattened (run (slice_set cs i None) (i + 1) (n - (i + 1))) ≡ vs ++ flattened (run cs i (n - i))
@@ -18,6 +10,6 @@ module _ {T : Type 0} (vs : List T) (cs : List (Option (List T))) where
   pub flattened-none : (i n : ℕ) → n ≤ i → vs ++ flattened (run cs i (n - i)) ≡ vs
   flattened-none i n h = ap (λ xss. vs ++ flattened xss) (run-of_none cs i (n - i) (omega arith)) ∙ append-nil vs
 
-pub ruleset in_arrays = (nat_tests, sized-again, sized-enough)
+pub ruleset in_arrays = (nat_tests)
 
 pub ruleset poured = (flattened-next, flattened-none, length-append)

@@ -4,7 +4,7 @@ use Rattle.aa_raw.specs.Refusals.{IsRefusedAt}
 use Rattle.aa_vec.proofs.Becoming.{GrowsTo-becomes, SameBlock-becomes}
 use Rattle.aa_vec.proofs.GrowthLemmas.{MakesRoom, MakesRoom-stays, SameBlock-refl, Extends-items, GrowsInSteps-counted, GrowsInSteps-first, in_block}
 use Rattle.aa_vec.proofs.Counted.{Extends-told}
-use Rattle.aa_vec.proofs.Lists.{equal, unequal}
+use Rattle.std.proofs.lemmas.Bool.Decides.{nat_tests}
 use Rattle.aa_vec.proofs.HintLemmas.{told_first}
 
 -- another function tells the same of the items, behind which `more` is to come
@@ -31,7 +31,7 @@ module _ {S T A : Type 0} (steps : S → Option T → S → Type 0) (Tells : S �
 
   module _ (a : A) (made : Vector T A) (new : IsNew size 0 a made) where
     no_places : made.capacity < wanted → made.capacity ≡ 0
-    no_places h = new.capacity ∙ unequal size 0 usize_max 0 (λ z. absurd (omega (arith, h, is, new.capacity ∙ equal size 0 usize_max 0 z)))
+    no_places h = grind (arith, nat_tests, new.capacity)
 
     -- its first growth was
     pub LacksRest-first : (error : TryReserveError) → LacksRoom size made wanted error → LacksRest steps Tells fails size s old first error s

@@ -135,14 +135,11 @@ module _ {T A : Type 0} (size : ℕ) (lower : ℕ → ℕ) (needed : ℕ) where
 
 -- all items were put behind the others
 module _ {T A : Type 0} {size : ℕ} {lower : ℕ → ℕ} {old : Vector T A} {xs added : List T} {new : Vector T A} (e : Extends size lower old xs added (Ok tt) new) where
-  front_all : e.front ≡ added
-  front_all = sym (append-nil e.front) ∙ ap (λ ys. e.front ++ ys) (sym e.all) ∙ sym e.begins
-
   pub Extends-items : new.items ≡ xs ++ added
-  Extends-items = e.items ∙ ap (λ ys. xs ++ ys) front_all
+  Extends-items = grind (arith, append-nil, e)
 
   pub Extends-fits : length xs + length added ≤ new.capacity
-  Extends-fits = omega (arith, e.fits, ap length front_all)
+  Extends-fits = grind (arith, append-nil, e)
 
 -- what stays, however often a vector grew
 pub ruleset kept_in_steps = (GrowsInSteps-keeps)

@@ -1,6 +1,6 @@
 -- What an iterator told of how many items are to come, put together.
 use Rattle.aa_vec.proofs.Common.{◌≡◌, ℕ, ◌<◌, ◌≤◌, List, [], ◌∷◌, ◌++◌, length, Option, Some, refl, sym, ◌∙◌, subst, arith, length-append, if◌then◌else◌, ◌==◌, Count, IsFinite, Yields, count_of, TellsAtMost, YieldsTelling}
-use Rattle.aa_vec.proofs.Lists.{equal, unequal}
+use Rattle.std.proofs.lemmas.Bool.Decides.{nat_tests}
 
 -- a lower bound of what is left tells 0 where nothing is
 pub tells_none_at_end : {S : Type 0} (remaining : S → Count) (s : S) (n : ℕ) → IsFinite (remaining s) → count_of (remaining s) ≡ 0 → TellsAtMost remaining s n → n ≡ 0
@@ -17,8 +17,8 @@ module _ {S T : Type 0} (steps : S → Option T → S → Type 0) (Tells : S →
   told_before lower s x j xs t step y n h =
       let m : ℕ = length (x ∷ xs) in
       let low : ℕ → ℕ = λ k. if k == m then n else lower k in
-      let same : (k : ℕ) → k < m → lower k ≡ low k = λ k l. sym (unequal k m n (lower k) (λ e. absurd (omega (arith, l, e)))) in
-      let now : low m ≡ n = equal m m n (lower m) refl in
+      let same : (k : ℕ) → k < m → lower k ≡ low k = λ k l. grind (arith, nat_tests, l) in
+      let now : low m ≡ n = grind (arith, nat_tests) in
       (low, same, now, (subst (Tells s) (sym now) h, j, step, retell lower low j xs t (λ k l. same k (omega (arith, l))) y))
 
   -- n is told first

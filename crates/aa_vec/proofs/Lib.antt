@@ -7,7 +7,6 @@ pub mod Counted
 pub mod ExtendLemmas
 pub mod Filled
 pub mod Joining
-pub mod Lists
 pub mod Room
 pub mod Turns
 pub mod Gaps

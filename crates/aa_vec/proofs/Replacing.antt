@@ -1,5 +1,5 @@
 -- Items put before the last ones of a vector, in room made for those that were told, and then for the others.
-use Rattle.aa_vec.proofs.Common.{◌≡◌, ℕ, ◌+◌, ◌-◌, ◌*◌, ◌<◌, ◌≤◌, List, [], ◌∷◌, ◌++◌, length, take, drop, Option, Some, None, append_assoc, refl, sym, ap, ◌∙◌, subst, arith, inl, inr, length-append, length-drop, length-take, Result, Ok, Err, IfErr, OnOk, Count, Yields, count_of, take-append-drop, take_at, drop_at, nat_tests, TryReserveError, Vector, len, Becomes, with_room, LacksRoom, run_count, moved_over, ClosesGap, behind_items, tail_moves, Widens, FillsAndCloses, Gathers, PutsAll, Puts, PutsFront, PutsRest, LacksRest, PutsWithin}
+use Rattle.aa_vec.proofs.Common.{◌≡◌, ℕ, ◌+◌, ◌-◌, ◌<◌, ◌≤◌, List, [], ◌∷◌, ◌++◌, length, take, drop, Option, Some, None, append_assoc, refl, sym, ap, ◌∙◌, subst, arith, inl, inr, length-append, length-drop, length-take, Result, Ok, Err, IfErr, OnOk, Count, Yields, count_of, take-append-drop, take_at, drop_at, nat_tests, TryReserveError, Vector, len, Becomes, with_room, LacksRoom, run_count, moved_over, ClosesGap, behind_items, tail_moves, Widens, FillsAndCloses, Gathers, PutsAll, Puts, PutsFront, PutsRest, LacksRest, PutsWithin}
 use Rattle.aa_vec.proofs.Closed.{moved_none, moved_some, moved_most, one_run}
 use Rattle.aa_vec.proofs.Becoming.{Becomes-at, SameBlock-becomes}
 use Rattle.aa_vec.proofs.GrowthLemmas.{MakesRoom, MakesRoom-same, with_room-fits, SameBlock-refl}
@@ -19,17 +19,6 @@ put_between {X} head mid tail ys zs n e l =
 -- how often the tail is moved where n items fill the gap and m more come
 pub moves_beyond : (gap h n m : ℕ) → n ≡ gap + m → tail_moves gap h n ≡ tail_moves 0 h m
 moves_beyond gap h n m e = grind (arith, nat_tests)
-
-pub moves_few : (gap h n : ℕ) → n < gap → tail_moves gap h n ≡ 1
-moves_few gap h n l = grind (arith, nat_tests)
-
--- the elements that are written, where no more come than were told
-pub moves_told : (told left k n : ℕ) → k + left ≡ told → moved_over told n + (k + moved_over left n) ≡ k + tail_moves 0 told k * n
-moves_told told left k n e = grind (arith, nat_tests)
-
--- where r more come
-pub moves_rest : (told r n : ℕ) → 0 < r → moved_over told n + told + (r + n) ≡ told + r + tail_moves 0 told (told + r) * n
-moves_rest told r n h = grind (arith, nat_tests)
 
 module _ {S T A : Type 0} (steps : S → Option T → S → Type 0) (Tells : S → ℕ → Type 0) (remaining : S → Count) (size : ℕ) (s : S) (old : Vector T A) where
   -- room for as many as were told was refused
@@ -89,7 +78,7 @@ module _ {S T A : Type 0} (steps : S → Option T → S → Type 0) (Tells : S �
     pub Puts-told : {fails : Type 0} (end : S) → steps f.last None end → Puts steps Tells fails size s old told n remaining (Ok tt) z end
     Puts-told end ended =
         let room = MakesRoom-same size (len old + told) (length came - told) z_room (with_room-fits size z _ _ (omega (arith, f.comes.count))) in
-        let all : PutsAll steps size s old told n z end = grind (arith, moves_told, room, z_items, z_written, f.comes.given, ended, f.comes.count) in
+        let all : PutsAll steps size s old told n z end = grind (arith, nat_tests, room, z_items, z_written, f.comes.given, ended, f.comes.count) in
         record { all = all; writes = within; refused = tt; few = tt }
 
     -- further items come
@@ -113,7 +102,7 @@ module _ {S T A : Type 0} (steps : S → Option T → S → Type 0) (Tells : S �
 
         all_put : PutsAll steps size s old told n new after
         all_put =
-            grind (arith, nat_tests, z_len, told_came, all_count, Yields-join, new_items, MakesRoom-same, z_room, SameBlock-becomes, z_written, moved_none, moves_rest)
+            grind (arith, nat_tests, z_len, told_came, all_count, Yields-join, new_items, MakesRoom-same, z_room, SameBlock-becomes, z_written, moved_none)
 
         rest_within : (len old ≤ len new) × PutsWithin old (len old) n new
         rest_within =

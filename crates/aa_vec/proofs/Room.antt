@@ -1,19 +1,15 @@
 -- Room that the block made for a vector.
-use Rattle.aa_vec.proofs.Common.{◌≡◌, ℕ, ◌+◌, ◌-◌, ◌<◌, ◌≤◌, [], ◌∷◌, ◌++◌, Some, length, refl, ap, ◌∙◌, arith, if◌then◌else◌, ◌==◌, slice_set, Block, wrote, IsRun, run, moved, amortized, least_of, length-run, Vector, len, run_count, with_room, view_of, IsFront, Inside, insert, nat_le, nat_tests, Reserves, run-put, run-reserved, IsRun-reserved, Becomes}
+use Rattle.aa_vec.proofs.Common.{◌≡◌, ℕ, ◌+◌, ◌-◌, ◌<◌, ◌≤◌, [], ◌∷◌, ◌++◌, Some, length, refl, ap, ◌∙◌, arith, if◌then◌else◌, ◌==◌, slice_set, Block, wrote, IsRun, run, moved, amortized, least_of, length-run, Vector, len, run_count, with_room, view_of, IsFront, Inside, insert, nat_tests, Reserves, run-put, run-reserved, IsRun-reserved, Becomes}
 use Rattle.std.proofs.lemmas.List.{length-set}
 use Rattle.aa_raw.proofs.Positions.{run-inserted, length-inserted}
 use Rattle.aa_vec.proofs.Becoming.{Becomes-grows}
 use Rattle.aa_vec.proofs.GrowthLemmas.{MakesRoom}
 
--- beside n of c places, k more fit
-same_test : (n k c a b : ℕ) → n ≤ c → (if nat_le (n + k) c then a else b) ≡ (if nat_le k (c - n) then a else b)
-same_test n k c a b h = grind (arith, nat_tests)
-
 module _ {T A : Type 0} (size : ℕ) (old : Inside T A) (front : IsFront old) (k : ℕ) (b : Block T A) where
   -- the vector has the room that its block made
   pub MakesRoom-block : Reserves size old.block old.len k (amortized old.block.growth (length old.block.places) (old.len + k) (least_of size)) b
       → (new : Vector T A) → new.capacity ≡ length b.places → new.growth ≡ b.growth → new.grown ≡ b.grown → new.alloc ≡ b.alloc → MakesRoom size (view_of old) (len (view_of old)) k new
-  MakesRoom-block made new c h g a = grind (arith, nat_tests, length-run, same_test)
+  MakesRoom-block made new c h g a = grind (arith, nat_tests, length-run)
 
 -- room for one more, and one more element in it
 pub Becomes-put : {T A : Type 0} (size : ℕ) (old : Inside T A) (front : IsFront old) (b : Block T A) (x : T)

@@ -1,4 +1,6 @@
 -- A range that was replaced by items: what an iterator told of them, and what its phases left.
+use Rattle.std.proofs.lemmas.Bool.Decides.{nat_tests}
+use Rattle.aa_vec.specs.Vector.{Becomes}
 use Rattle.aa_vec.proofs.Common.{◌≡◌, ℕ, ◌+◌, ◌-◌, ◌*◌, ◌<◌, ◌≤◌, List, [], ◌++◌, length, Option, append_assoc, refl, sym, ap, ◌∙◌, subst, arith, inl, inr, length-append, Result, Ok, Err, Count, Yields, count_of, append-nil, TryReserveError, Vector, len, HasRoom, SameBlock, tail_moves, run_count, moved_over, behind_items, with_behind, Extended, OnOk, IfErr, SplicesAll, FillsAndCloses, PutsAll, Puts, PutsWithin, Replaced, PutsFront, IsFinite}
 use Rattle.std.specs.declared.iter.Iterator.{Ghosts}
 use Rattle.aa_vec.proofs.Answered.{IsOk, on_ok, if_err, done_unless}
@@ -9,7 +11,7 @@ use Rattle.aa_vec.proofs.ExtendLemmas.{Yields-told, whole_run}
 use Rattle.aa_vec.proofs.Gathered.{LacksOthers-same}
 use Rattle.aa_vec.proofs.HintLemmas.{tells_each, tell_between}
 use Rattle.aa_vec.proofs.SpliceByItems.{Extends-same, SplicesByAll, SplicesByFront, cut_off}
-use Rattle.aa_vec.proofs.Replacing.{moves_few, moves_beyond, put_between}
+use Rattle.aa_vec.proofs.Replacing.{moves_beyond, put_between}
 
 -- in each state something may be told
 module _ {S T A : Type 0} (g : Ghosts S T) (Tells : S → ℕ → Type 0) (tell : (s : S) → (n : ℕ) × Tells s n) (P : A → Type 0) (size : ℕ) (iter : S) (old : Vector T A) (gap : ℕ) where
@@ -67,17 +69,14 @@ module _ {S T A : Type 0} (g : Ghosts S T) (Tells : S → ℕ → Type 0) (tell 
       abbrev came : List T
       came = f.comes.added
 
+      x_becomes : Becomes old (old.items ++ (came ++ tail)) (length came + moved_over left n) (length came + run_count (moved_over left n)) x
+      x_becomes = rw (← kept) f.becomes
+
       x_items : x.items ≡ old.items ++ (came ++ tail)
-      x_items = ap (λ u. u.items) f.becomes ∙ ap (λ ys. old.items ++ (came ++ ys)) kept
+      x_items = ap (λ u. u.items) x_becomes
 
       x_block : SameBlock old x
-      x_block = SameBlock-trans block (SameBlock-becomes _ _ _ _ _ f.becomes)
-
-      x_written : x.written ≡ old.written + (length came + moved_over left n)
-      x_written = ap (λ u. u.written) f.becomes
-
-      x_runs : x.runs ≡ old.runs + (length came + run_count (moved_over left n))
-      x_runs = ap (λ u. u.runs) f.becomes
+      x_block = SameBlock-becomes _ _ _ _ _ x_becomes
 
       x_len : len x ≡ len old + length came + n
       x_len = ap length x_items ∙ length-append old.items (came ++ tail) ∙ omega (arith, length-append came tail, tail_count)
@@ -90,9 +89,9 @@ module _ {S T A : Type 0} (g : Ghosts S T) (Tells : S → ℕ → Type 0) (tell 
           let few : length came < gap = omega (arith, f.comes.count, h) in
           let b = tells_each steps Tells tell iter came f.last f.comes.given in
           let all : SplicesAll size b.0 (cut_off old gap tail) came x = grind (arith, x_items, x_block, tail_count, few, some) in
-          let written : x.written ≡ old.written + (length came + tail_moves gap (b.0 (length came - gap)) (length came) * length tail) = grind (arith, x_written, tail_count, moved_some left n h, moves_few gap (b.0 (length came - gap)) (length came) few) in
+          let written : x.written ≡ old.written + (length came + tail_moves gap (b.0 (length came - gap)) (length came) * length tail) = grind (arith, nat_tests, ap (λ u. u.written) x_becomes, tail_count, moved_some left n h) in
           spliced tail (Ok tt) x (record { taken = came; lower = b.0; last = f.last; told = b.1; went = ((t, f.stops.ended h), all, written) }) tt (λ _. refl) (λ _ _. refl) (λ _ _. refl) (λ _ _ _ _. refl)
-          (omega (arith, x_written, x_runs, x_len, tail_count, moved_most left n, one_run (moved_over left n)))
+          (omega (arith, ap (λ u. u.written) x_becomes, ap (λ u. u.runs) x_becomes, x_len, tail_count, moved_most left n, one_run (moved_over left n)))
 
       -- the gap is full, `told` is told then, and the others were put behind
       module _ (full : left ≡ 0) (told : ℕ) (tells : Tells t told) where
@@ -117,7 +116,7 @@ module _ {S T A : Type 0} (g : Ghosts S T) (Tells : S → ℕ → Type 0) (tell 
             let items : new.items ≡ old.items ++ (all ++ tail) = p.items ∙ put_between old.items came tail p.added x.items n x_items tail_count in
             let whole_put : SplicesAll size r.0 (cut_off old gap tail) all new = grind (arith, items, m, told_is, over_is, whole, tail_count, some, longer) in
             let written : new.written ≡ old.written + (length all + tail_moves gap (r.0 (length all - gap)) (length all) * length tail) =
-            rw (told_is, tail_count, moves_beyond gap told (length all) (length p.added) longer) (omega (arith, p.written, x_written, moved_none left n full, longer, gap_came)) in
+            rw (told_is, tail_count, moves_beyond gap told (length all) (length p.added) longer) (omega (arith, p.written, ap (λ u. u.written) x_becomes, moved_none left n full, longer, gap_came)) in
             record { taken = all; lower = r.0; last = p.last; told = r.3; went = ((after, p.ends), whole_put, written) }
 
         more_refused : (error : TryReserveError) (new : Vector T A) (after : S) → PutsFront steps Tells (P x.alloc) size t x told n error new after → SplicesByFront steps Tells size iter (cut_off old gap tail) (P old.alloc) error new
@@ -165,4 +164,4 @@ module _ {S T A : Type 0} (g : Ghosts S T) (Tells : S → ℕ → Type 0) (tell 
             (λ h once few room.
             let is : told ≡ h = once came t told given gap_came tells in
             done_unless r (if_err r p.few (λ e less. absurd (omega (arith, less (omega (arith, is, room, whole, x_block.capacity)), is, few, goes)))))
-            (omega (arith, z.1.written, z.1.runs, z.0, x_written, x_runs, x_len, tail_count, moved_none left n full, ap run_count (moved_none left n full)))
+            (omega (arith, z.1.written, z.1.runs, z.0, ap (λ u. u.written) x_becomes, ap (λ u. u.runs) x_becomes, x_len, tail_count, moved_none left n full, ap run_count (moved_none left n full)))
