@@ -52,9 +52,8 @@ module _ {T A : Type 0} where
     -- whose clone is refused
     pub own-fails : (never : T → Type 0) (old mid : Vector T A) (from i k : ℕ) (x : T) → Adds clones old (take i (drop from old.items)) mid → i < k → from + k ≤ len old → x ≡ get_or mid.items (from + i) x → ¬ (never x) → ¬ (All never (take k (drop from old.items)))
     own-fails never old mid from i k x p h fits e fails all =
-        let xs : List T = drop from old.items in
-        let at : x ≡ get_or (take k xs) i x = own-item old mid (take i xs) from i x (omega (arith, fits, h)) e p ∙ sym (get_or-take k xs i x h) in
-        fails (subst never (sym at) (all i x (omega (arith, h, fits, length-take k xs, length-drop from old.items))))
+        let at : x ≡ get_or (take k (drop from old.items)) i x = own-item old mid (take i (drop from old.items)) from i x (omega (arith, fits, h)) e p ∙ sym (get_or-take k (drop from old.items) i x h) in
+        fails (rw at (all i x (omega (arith, h, fits, length-take k (drop from old.items), length-drop from old.items))))
 
     -- one more clone of the same
     pub Adds-same : (old mid new : Vector T A) (k i : ℕ) (x y : T) → Adds clones old (take i (replicate k x)) mid → i < k → clones x y → Becomes mid (mid.items ++ y ∷ []) 1 1 new → Adds clones old (take (i + 1) (replicate k x)) new

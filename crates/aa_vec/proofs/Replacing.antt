@@ -91,18 +91,12 @@ module _ {S T A : Type 0} (steps : S → Option T → S → Type 0) (Tells : S �
         abbrev others : List T
         others = r.added
 
-        some : 0 < length others
-        some = omega (arith, ap length r.comes.4)
-
         new_items : new.items ≡ head ++ ((came ++ others) ++ tail)
         new_items = ap (λ u. u.items) r.becomes ∙ put_between head came tail others z.items n z_items tail_count
 
-        all_count : length (came ++ others) ≡ told + length others
-        all_count = length-append came others ∙ ap (λ k. k + length others) told_came
-
         all_put : PutsAll steps size s old told n new after
         all_put =
-            grind (arith, nat_tests, z_len, told_came, all_count, Yields-join, new_items, MakesRoom-same, z_room, SameBlock-becomes, z_written, moved_none)
+            grind (arith, nat_tests, z_len, told_came, length-append, Yields-join, new_items, MakesRoom-same, z_room, SameBlock-becomes, z_written, moved_none)
 
         rest_within : (len old ≤ len new) × PutsWithin old (len old) n new
         rest_within =
