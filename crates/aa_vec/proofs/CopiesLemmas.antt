@@ -1,4 +1,5 @@
 -- Clones of elements put behind others, one after another.
+use Rattle.std.proofs.lemmas.Grind.{common_steps}
 use Rattle.aa_vec.proofs.Common.{◌≡◌, ℕ, ◌+◌, ◌-◌, ◌<◌, ◌≤◌, List, [], ◌∷◌, ◌++◌, length, take, drop, get_or, replicate, refl, sym, ap, ◌∙◌, subst, arith, inr, length-append, length-drop, length-take, length-replicate, take_all, take_at, append-nil, TryReserveError, Copies, Adds, Fills, Vector, len, GrowsTo, SameBlock, All, AllZip, replicate_more, get_or-replicate, get_or_append_left, get_or-drop, get_or-take, all_zip_more, same_from_all_zip, Begins, Undone, Refuses, with_items, Becomes, with_room}
 use Rattle.aa_raw.specs.declared.collections.TryReserveErrorKind.TheVariants.{AllocError}
 use Rattle.aa_vec.proofs.Becoming.{Becomes-holds, Becomes-more, Becomes-roomy, Becomes-then, GrowsTo-becomes}
@@ -34,13 +35,7 @@ module _ {T A : Type 0} where
 
     -- a clone of the next item of a list
     pub Adds-take : (old mid new : Vector T A) (xs : List T) (i : ℕ) (x y : T) → Adds clones old (take i xs) mid → i < length xs → x ≡ get_or xs i x → clones x y → Becomes mid (mid.items ++ y ∷ []) 1 1 new → Adds clones old (take (i + 1) xs) new
-    Adds-take old mid new xs i x y p h e c q =
-        let count : length (take i xs) + 1 ≡ length (take (i + 1) xs) = omega (arith, length-take i xs, length-take (i + 1) xs, h) in
-        record {
-          added = p.added ++ y ∷ [];
-          each = all_zip_more clones xs p.added i x y h e p.each c;
-          becomes = Becomes-more old mid new p.added (y ∷ []) _ _ 1 1 _ _ p.becomes q count count;
-        }
+    Adds-take old mid new xs i x y p h e c q = grind (arith, common_steps, length-take, all_zip_more, Becomes-more)
 
     -- of a list that is a part of the items
     own-item : (old mid : Vector T A) (xs : List T) (from i : ℕ) (x : T) → from + i < len old → x ≡ get_or mid.items (from + i) x → Adds clones old xs mid → x ≡ get_or (drop from old.items) i x
@@ -61,9 +56,7 @@ module _ {T A : Type 0} where
 
     -- and the value itself
     pub Fills-last : (old mid new : Vector T A) (k : ℕ) (x : T) → 0 < k → Adds clones old (replicate (k - 1) x) mid → Becomes mid (mid.items ++ x ∷ []) 1 1 new → Fills clones old k x new
-    Fills-last old mid new k x some p q =
-        let count : length (replicate (k - 1) x) + 1 ≡ k = omega (arith, length-replicate (k - 1) x, some) in
-        record { added = p.added; each = p.each; becomes = Becomes-more old mid new p.added (x ∷ []) _ _ 1 1 k k p.becomes q count count }
+    Fills-last old mid new k x some p q = grind (arith, common_steps, length-replicate, Becomes-more)
 
     -- the clones that were put there are dropped
     pub Undone-cut : (old mid new : Vector T A) (xs : List T) (k : ℕ) → Adds clones old xs mid → Becomes mid (take (len old) mid.items) 0 0 new → length xs < k → Undone old k new
