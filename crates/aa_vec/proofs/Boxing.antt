@@ -12,4 +12,5 @@ module _ {T A : Type 0} (size : ℕ) where
   IsUnboxed-block b n s filled room same small many few =
       grind (arith, nat_tests, length-run, same_or_not, nat_tests, le-mul_of_pos_right)
 
+-- a block that a vector takes over
 pub ruleset unboxed = (IsUnboxed-block)

@@ -68,4 +68,5 @@ module _ {S T A : Type 0} (steps : S → Option T → S → Type 0) (Tells : S �
           let full : Extends size f.0 made [] (first ∷ taken) (Err error) x = grind (arith, stop, in_steps, one) in
           record { taken = taken; lower = f.0; last = e.last; told = f.3; went = (inl e.went.0, inl (inr (made, x, new.capacity, new.growth, full))) }
 
+-- a vector of items that were gathered
 pub ruleset gathered = (Gathers-all)

@@ -16,8 +16,8 @@ pub Becomes-put : {T A : Type 0} (size : ℕ) (old : Inside T A) (front : IsFron
     → Reserves size old.block old.len 1 (amortized old.block.growth (length old.block.places) (old.len + 1) (least_of size)) b
     → Becomes (with_room size (view_of old) (len (view_of old)) 1) (run old.block.places 0 old.len ++ x ∷ []) 1 1 (view_of (record { block = wrote b (slice_set b.places old.len (Some x)) 1; len = old.len + 1 }))
 Becomes-put {T} {A} size old front b x made =
-    let room = MakesRoom-block size old front 1 b made _ (length-set b.places old.len (Some x)) refl refl refl in
     let items = run-put b.places old.len x (omega (arith, made.room)) ∙ ap (λ xs. xs ++ x ∷ []) (run-reserved size old.block old.len 1 _ b made) in
+    let room = MakesRoom-block size old front 1 b made _ (length-set b.places old.len (Some x)) refl refl refl in
     Becomes-grows _ _ _ _ _ size 1 (record { items = items; room = room }) (omega (arith, made.written, made.runs))
 
 -- and in the middle, behind which the elements are moved up
@@ -35,4 +35,5 @@ Becomes-inserted size old front b i x asked made =
     let more = MakesRoom-block size old front 1 b made _ (length-inserted b.places old.len kept i x within room) refl refl refl in
     Becomes-grows _ _ _ _ _ size 1 (record { items = items; room = more }) (omega (arith, moves, made.written, made.runs, ap run_count moves))
 
+-- an element in room that was made for it
 pub ruleset placed_in_room = (Becomes-put, Becomes-inserted)

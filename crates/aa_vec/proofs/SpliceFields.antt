@@ -73,17 +73,10 @@ module _ (I A X : RattleType) (gI : It.Ghosts I.Denot X.Denot) (gA : Ghosts A.De
         let vec = mut_Tells (named 0) κs.0 (V.the_row (param 2 X) (param 1 A) gA) d.vec vss.0 are.0 in
         let front = uint_Tells w64 d.front vss.1.0 are.1.0 in let back = uint_Tells w64 d.back vss.1.1.0 are.1.1.0 in
         let end = uint_Tells w64 d.end vss.1.1.1.0 are.1.1.1.0 in let total = uint_Tells w64 d.total vss.1.1.1.1.0 are.1.1.1.1.0 in
-        let same : vss ≡ words κs d one.0 = λ i. (vec i, (front i, (back i, (end i, (total i, (one.1.0 i, tt)))))) in (
-          one.0,
-          (
-            same,
-            (
-              one.1.1,
-              as_fields (mirs Rs) (flat Rs (words κs d one.0))
-                  ((tt, tt), ((tt, record { fits = are.1.0.1 }), ((tt, record { fits = are.1.1.0.1 }), ((tt, record { fits = are.1.1.1.0.1 }), ((tt, record { fits = are.1.1.1.1.0.1 }), (one.1.1, tt)))))),
-            ),
-          ),
-        )
+        let same : vss ≡ words κs d one.0 = λ i. (vec i, (front i, (back i, (end i, (total i, (one.1.0 i, tt)))))) in
+        let numbers = as_fields (mirs Rs) (flat Rs (words κs d one.0))
+        ((tt, tt), ((tt, record { fits = are.1.0.1 }), ((tt, record { fits = are.1.1.0.1 }), ((tt, record { fits = are.1.1.1.0.1 }), ((tt, record { fits = are.1.1.1.1.0.1 }), (one.1.1, tt)))))) in
+        (one.0, (same, (one.1.1, numbers)))
 
     -- a splice owns what its fields own
     pub opened : (κs : Lfts 5) (d : D) (us : List Val) → ent 𝓤 (sem 𝓛 ((Row κs).own_val d us))
