@@ -47,10 +47,7 @@ module _ {T A : Type 0} where
 
     -- and a later run is moved down
     pub MovesDown-dropped : ClosesGap w end m z → MovesDown v end m z
-    MovesDown-dropped closes =
-        let moved : ℕ = moved_over end m in
-        let items : w.items ++ behind_items w end m ≡ v.items ++ behind_items v end m = (λ i. (dropped.same i).items ++ dropped_are i) in
-        subst (λ l. Becomes v l moved (run_count moved) z) items (Becomes-then v v.items 0 0 w (Becomes-behind v w w.behind dropped.same) (w.items ++ behind_items w end m) moved (run_count moved) z closes.becomes moved (run_count moved) (omega arith) (omega arith))
+    MovesDown-dropped closes = rw (← dropped_are) (rw dropped.same at closes.becomes)
 
   pub ClosesTwice-lowered : (v w z : Vector T A) (gap n end m : ℕ) → gap + n ≤ end → ClosesGap v gap n w → ClosesGap w (end - n) m z → ClosesTwice v gap n end m z
   ClosesTwice-lowered v w z gap n end m h first second =

@@ -1,6 +1,5 @@
 -- Elements behind a gap, asked one after the other beside the last one kept.
-use Rattle.aa_vec.proofs.Common.{◌≡◌, ℕ, suc, ◌+◌, ◌<◌, ◌≤◌, Bool, true, false, List, [], ◌∷◌, ◌++◌, length, map, drop, Some, refl, sym, ap, ◌∙◌, subst, arith, length-append, drop_at, drop_all, length-map, take-append-drop, StandsBehind, LeavesBehind, behind_items, MayChainFrom, MayDeduplicate, ChainsUntil, ChainsAlong, AsksLast, ChainsBehind, Vector, len, Becomes, ChainsOn}
-use Rattle.aa_vec.proofs.Becoming.{Becomes-behind, Becomes-then}
+use Rattle.aa_vec.proofs.Common.{◌≡◌, ℕ, suc, ◌+◌, ◌<◌, ◌≤◌, Bool, true, false, List, [], ◌∷◌, ◌++◌, length, map, drop, Some, refl, sym, ap, ◌∙◌, subst, arith, length-append, drop_at, drop_all, length-map, take-append-drop, StandsBehind, LeavesBehind, behind_items, with_behind, MayChainFrom, MayDeduplicate, ChainsUntil, ChainsAlong, AsksLast, ChainsBehind, Vector, len, Becomes, ChainsOn}
 use Rattle.aa_vec.proofs.Gaps.{lent-is, refilled, LeavesBehind-view, seen, there, within, IsFront-relent}
 use Rattle.aa_vec.proofs.Stands.{count, first_are, parts, replaced_are}
 
@@ -32,9 +31,7 @@ module _ {F T A : Type 0} (Asks : F → T → T → Bool → F → T → T → T
       long = omega (arith, count v gap n stands, ap length all)
 
       now_behind : drop gap w.behind ≡ map Some (asked.next_left ∷ others) ++ drop n (drop gap v.behind)
-      now_behind =
-          let was : drop gap v.behind ≡ map Some (asked.next ∷ others) ++ drop n (drop gap v.behind) = parts v gap n stands ∙ ap (λ l. map Some l ++ drop n (drop gap v.behind)) all in
-          asked.behind ∙ ap (λ ds. Some asked.next_left ∷ drop 1 ds) was
+      now_behind = cc (asked.behind, parts v gap n stands, all)
 
       now_are : behind_items w gap n ≡ asked.next_left ∷ others
       now_are = replaced_are v gap n stands w (asked.next_left ∷ others) _ (ap len asked.becomes ∙ same_end asked.front asked.last_left asked.last ∙ sym (ap length asked.had.0)) (ap (λ s. s.capacity) asked.becomes) long now_behind
@@ -58,7 +55,7 @@ module _ {F T A : Type 0} (Asks : F → T → T → Bool → F → T → T → T
           left = left;
           had = asked.had.0;
           until = subst (λ xs. ChainsUntil Asks f asked.last xs k h (asked.last_left ∷ left)) (sym all) until;
-          becomes = let items : List T = asked.front ++ asked.last_left ∷ [] in subst (λ l. Becomes v l 0 0 u) (ap (λ s. s.items) asked.becomes) (Becomes-then v items 0 0 w asked.becomes w.items 0 0 u (Becomes-behind w u u.behind leaves.same) 0 0 (omega arith) (omega arith));
+          becomes = leaves.same ∙ ap (λ s. with_behind s u.behind) asked.becomes;
           behind = leaves.behind ∙ ap (λ ds. map Some left ++ ds) still_behind;
         }
 
@@ -69,9 +66,7 @@ module _ {F T A : Type 0} (Asks : F → T → T → Bool → F → T → T → T
       -- it stays
       module _ (e : answer ≡ false) where
         pub may_follow : (Takes : F → T → T → Type 0) → MayChainFrom Asks Takes f asked.last (behind_items v gap n) → MayDeduplicate Asks Takes g (behind_items w gap n)
-        may_follow Takes may =
-            let m : MayChainFrom Asks Takes f asked.last (asked.next ∷ others) = subst (MayChainFrom Asks Takes f asked.last) all may in
-            subst (MayDeduplicate Asks Takes g) (sym now_are) (m.2 g asked.next_left asked.last_left (called false e))
+        may_follow Takes may = rw now_are ((rw all at may).2 g asked.next_left asked.last_left (called false e))
 
         pub ChainsBehind-more : (k : ℕ) (h : F) (u : Vector T A) → ChainsOn Asks g w gap n k h u → ChainsBehind Asks f v gap n (1 + k) h u
         ChainsBehind-more k h u on =
@@ -82,8 +77,7 @@ module _ {F T A : Type 0} (Asks : F → T → T → Bool → F → T → T → T
         pub ChainsBehind-one : n ≤ 1 → ChainsBehind Asks f v gap n 1 g w
         ChainsBehind-one one =
             let no_others : others ≡ [] = drop_all 1 (behind_items v gap n) (omega (arith, count v gap n stands, one)) in
-            let none : ChainsUntil Asks g asked.next_left others 0 g (asked.next_left ∷ others) = subst (λ xs. ChainsUntil Asks g asked.next_left xs 0 g (asked.next_left ∷ xs)) (sym no_others) (refl, refl) in
-            behind 1 g w (asked.next_left ∷ others) itself (g, asked.next_left, asked.last_left, asked.next_left ∷ others, called false e, none, refl)
+            behind 1 g w (asked.next_left ∷ others) itself (g, asked.next_left, asked.last_left, asked.next_left ∷ others, called false e, rw no_others (refl, refl), refl)
 
 -- elements asked one after the other
 pub ruleset chains = (ChainsBehind-repeat, ChainsBehind-one, ChainsBehind-more)

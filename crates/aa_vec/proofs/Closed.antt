@@ -46,12 +46,11 @@ one_run n = grind arith
 
 -- a gap is closed in one run, and none where there is no gap
 pub few_runs : (gap k : ℕ) → run_count (moved_over gap k) + (gap - 1) ≤ gap
-few_runs gap k = grind (arith, one_run)
+few_runs gap k = grind arith
 
 -- and in none where none is moved
 pub no_run : (gap k : ℕ) → run_count (moved_over gap k) ≤ k
-no_run zero k = omega arith
-no_run (suc gap) k = subst (λ i. run_count i ≤ k) (sym (moved_some (suc gap) k (omega arith))) (grind arith)
+no_run gap k = grind arith
 
 -- of n elements the first k stay, and the next, if there is one, goes; behind it so many stay
 abbrev pub marks : (k n : ℕ) → List Bool → List Bool

@@ -1,7 +1,6 @@
 -- Elements asked beside the last one kept, of which those that stay were moved down.
 use Rattle.aa_vec.proofs.Common.{IsCallableAlong, ◌≡◌, ℕ, zero, suc, ◌+◌, ◌-◌, ◌≤◌, ◌<◌, Bool, true, false, not, List, [], ◌∷◌, ◌++◌, length, map, take, drop, refl, sym, ap, ◌∙◌, subst, arith, append_assoc, length-append, StandsBehind, SetsBack, behind_items, kept_behind_removed, ChainsFrom, Deduplicated, MayChainFrom, MayDeduplicate, Deduplicates, ChainsUntil, ChainsBehind, Vector, len, Becomes, same_from_push}
 use Rattle.aa_vec.proofs.Becoming.{Becomes-refl}
-use Rattle.aa_vec.proofs.Becoming.{SameBlock-becomes, Writes-becomes}
 use Rattle.aa_vec.proofs.Chains.{same_end, split_last}
 use Rattle.aa_vec.proofs.Closed.{marks, removed_count, removed-not}
 use Rattle.aa_vec.proofs.Stages.{Turn, Stage, Turned, turned, start-len, stage-start, stage-ended}
@@ -71,7 +70,7 @@ module _ {F T : Type 0} (Asks : F → T → T → Bool → F → T → T → Typ
     may_all f (x ∷ xs) some may = record { some = omega arith; along = λ fr l e. subst (λ y. MayChainFrom Asks Takes f y xs) (same_from_push [] fr x l e).1 may }
 
     module _ {A : Type 0} where
-      pub turn-chained : (h : F) (v : Vector T A) (gap n : ℕ) → StandsBehind v gap n → (k : ℕ) (g : F) (w : Vector T A) → ChainsBehind Asks h v gap n k g w → Turn Told (May Takes) h v gap n k g w
+      pub turn-chained : (h : F) (v : Vector T A) (gap n : ℕ) → StandsBehind v gap n → (k : ℕ) (g : F) (w : Vector T A) → (asked : ChainsBehind Asks h v gap n k g w) → Turn Told (May Takes) h v gap n k g w asked.left
       turn-chained h v gap n stands k g w asked =
           let ws : List T = asked.last_left ∷ asked.left in
           let r = follows h g asked.last (behind_items v gap n) k ws asked.until in
@@ -82,13 +81,11 @@ module _ {F T : Type 0} (Asks : F → T → T → Bool → F → T → T → Typ
           let items : w.items ++ take k asked.left ≡ front ++ r.last ∷ [] =
           ap (λ s. s.items ++ take k asked.left) asked.becomes ∙ append_assoc asked.front (asked.last_left ∷ []) (take k asked.left) ∙ ap (λ l. asked.front ++ l) r.are ∙ sym (append_assoc asked.front r.before (r.last ∷ [])) in
           record {
-            left = asked.left;
             within = omega (arith, r.within, many);
             stands = replaced_stand v gap n stands w asked.left _ same (ap (λ s. s.capacity) asked.becomes) long asked.behind;
             are = replaced_are v gap n stands w asked.left _ same (ap (λ s. s.capacity) asked.becomes) long asked.behind;
             long = same;
-            block = SameBlock-becomes _ _ _ _ _ asked.becomes;
-            writes = Writes-becomes _ _ _ _ _ asked.becomes;
+            becomes = (_, asked.becomes);
             may = λ m. record {
               some = omega (arith, ap length items, length-append front (r.last ∷ []));
               along = λ fr l e. subst (λ y. MayChainFrom Asks Takes g y (drop 1 (drop k asked.left))) (same_from_push front fr r.last l (sym items ∙ e)).1 (r.may (m.along asked.front asked.last asked.had));

@@ -114,15 +114,12 @@ pub ruleset from_ends = (rest_is, tail_is, run-next, IsRun-next, run-last, IsRun
 -- what `drop_and_close` says, and what `drop` says
 pub closes : {X Y : Type 0} (d : Drain X Y) (w : Vector X Y) → MovesDown d.vec.now d.end (d.total - d.end) w → Closes d w
 unfolding run
-closes d w h = let P : ℕ → Type 0 = λ n. Becomes d.vec.now (d.vec.now.items ++ drain_tail d) (moved_over d.end n) (run_count (moved_over d.end n)) w in subst P (sym (count_behind d)) h
+closes d w h = rw (count_behind d) h
 
 -- what `close_gaps` says, and what `keep_rest` says
 pub keeps : {X Y : Type 0} (d : Drain X Y) (w : Vector X Y) → ClosesTwice d.vec.now d.front (d.back - d.front) d.end (d.total - d.end) w → KeepsRest d w
 unfolding drain_rest run
-keeps d w h =
-    let taken : d.end - (d.back - d.front) ≡ d.front + (d.end - d.back) = omega (arith, d.ordered) in
-    let P : ℕ → ℕ → ℕ → Type 0 = λ n m g. Becomes d.vec.now (d.vec.now.items ++ (drain_rest d ++ drain_tail d)) (moved_over d.front n + moved_over g m) (run_count (moved_over d.front n) + run_count (moved_over g m)) w in
-    subst (λ g. P (length (drain_rest d)) (length (drain_tail d)) g) taken (subst (λ n. P n (length (drain_tail d)) (d.end - (d.back - d.front))) (sym (count_left d)) (subst (λ m. P (d.back - d.front) m (d.end - (d.back - d.front))) (sym (count_behind d)) h))
+keeps d w h = let taken : d.end - (d.back - d.front) ≡ d.front + (d.end - d.back) = omega (arith, d.ordered) in rw (count_left d, count_behind d, ← taken) h
 
 -- what follows calls of a range that was taken
 pub ruleset ranges = (keeps-along, runs-in_order, runs-in_reverse)

@@ -75,20 +75,16 @@ module _ {T A : Type 0} (e : ExtractBy T A) where
   closed_parts : behind_items e.vec.now e.front (e.total - e.front) ≡ extract_rest e ++ extract_tail e
   unfolding extract_rest extract_tail run
   closed_parts =
-      let all : List T = behind_items e.vec.now e.front (e.total - e.front) in let few : ℕ = e.end - e.front in
-      sym (take-append-drop few all) ∙ ap (λ l. l ++ drop few all) (sym (first_are e.vec.now e.front (e.total - e.front) e.held.1 few (omega (arith, e.ordered))))
-      ∙ ap (λ l. behind_items e.vec.now e.front few ++ l) (sym (later_part e.vec.now e.front few (e.total - e.front) (e.total - e.end) (omega (arith, e.ordered)) e.held.1) ∙ ap (λ i. behind_items e.vec.now i (e.total - e.end)) (omega (arith, e.ordered)))
+      let v = e.vec.now in let few : ℕ = e.end - e.front in let total : ℕ = e.total - e.front in let there : e.front + few ≡ e.end = omega (arith, e.ordered) in
+      cc (take-append-drop few (behind_items v e.front total), first_are v e.front total e.held.1 few (omega (arith, e.ordered)), later_part v e.front few total (e.total - e.end) (omega (arith, e.ordered)) e.held.1, there)
 
   pub closes_extract : (w : Vector T A) → ClosesTwice e.vec.now 0 e.kept e.front (e.total - e.front) w → ClosesExtract e w
   unfolding extract_kept extract_rest extract_tail run
   closes_extract w closes =
-      let moved : length (behind_items e.vec.now e.front (e.end - e.front)) + length (behind_items e.vec.now e.end (e.total - e.end)) ≡ e.total - e.front =
-      sym (ap length closed_parts ∙ length-append (behind_items e.vec.now e.front (e.end - e.front)) (behind_items e.vec.now e.end (e.total - e.end))) ∙ count e.vec.now e.front (e.total - e.front) e.held.1 in
-      let Is : List T → ℕ → Type 0 = λ l m. Becomes e.vec.now (e.vec.now.items ++ (behind_items e.vec.now 0 e.kept ++ l)) (moved_over (e.front - e.kept) m) (run_count (moved_over (e.front - e.kept) m)) w in
-      let all : List T = behind_items e.vec.now e.front (e.total - e.front) in
-      let xs : List T = e.vec.now.items ++ (behind_items e.vec.now 0 e.kept ++ all) in let m : ℕ = moved_over (e.front - e.kept) (e.total - e.front) in
-      let once : Is all (e.total - e.front) = Becomes-holds e.vec.now xs m (run_count m) w (Holds-becomes e.vec.now xs (moved_over 0 e.kept + m) (run_count (moved_over 0 e.kept) + run_count m) w closes) (record { written = omega (arith, ap (λ u. u.written) closes); runs = omega (arith, ap (λ u. u.runs) closes) }) in
-      subst (λ m. Is (extract_rest e ++ extract_tail e) m) (sym moved) (subst (λ l. Is l (e.total - e.front)) closed_parts once)
+      let front : List T = behind_items e.vec.now e.front (e.end - e.front) in let tail : List T = behind_items e.vec.now e.end (e.total - e.end) in
+      let moved : length front + length tail ≡ e.total - e.front = sym (length-append front tail) ∙ sym (ap length closed_parts) ∙ count e.vec.now e.front (e.total - e.front) e.held.1 in
+      let xs : List T = e.vec.now.items ++ (behind_items e.vec.now 0 e.kept ++ behind_items e.vec.now e.front (e.total - e.front)) in let m : ℕ = moved_over (e.front - e.kept) (e.total - e.front) in
+      rw (moved, ← closed_parts) (Becomes-holds e.vec.now xs m (run_count m) w (Holds-becomes e.vec.now xs (moved_over 0 e.kept + m) (run_count (moved_over 0 e.kept) + run_count m) w closes) (record { written = omega (arith, ap (λ u. u.written) closes); runs = omega (arith, ap (λ u. u.runs) closes) }))
 
 -- a call that asked some of them
 pub ruleset picked = (rest_stand, picked_extracts)

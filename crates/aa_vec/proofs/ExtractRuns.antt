@@ -5,11 +5,8 @@ use Rattle.std.proofs.lemmas.List.Filters.{length-filter_both}
 use Rattle.aa_vec.proofs.Becoming.{Becomes-refl, Becomes-then}
 use Rattle.aa_vec.proofs.Closed.{few_runs, moved_most}
 
-pub kept-append : {T : Type 0} (told more : List (Asked T)) → kept (told ++ more) ≡ kept told ++ kept more
-kept-append told more = ap (map (λ t. t.left)) (filter-append (λ t. t.answer) told more) ∙ map-append (λ t. t.left) (filter (λ t. t.answer) told) (filter (λ t. t.answer) more)
-
-passed-append : {T : Type 0} (told more : List (Asked T)) → passed_over (told ++ more) ≡ passed_over told ++ passed_over more
-passed-append told more = ap (map (λ t. t.left)) (filter-append (λ t. not t.answer) told more) ∙ map-append (λ t. t.left) (filter (λ t. not t.answer) told) (filter (λ t. not t.answer) more)
+chosen-append : {T : Type 0} (p : Asked T → Bool) (told more : List (Asked T)) → map (λ t. t.left) (filter p (told ++ more)) ≡ map (λ t. t.left) (filter p told) ++ map (λ t. t.left) (filter p more)
+chosen-append p told more = ap (map (λ t. t.left)) (filter-append p told more) ∙ map-append (λ t. t.left) (filter p told) (filter p more)
 
 -- of those that were asked, some stay, and the others were taken out
 pub asked_parts : {T : Type 0} (told : List (Asked T)) → length told ≡ length (passed_over told) + length (kept told)
@@ -69,26 +66,21 @@ module _ {F T : Type 0} (Asks : F → T → Bool → F → T → Type 0) where
 
         pub Extracted-then : Extracted Asks f s (xs ++ taken) g w
         Extracted-then =
-            let q : ℕ = length now.told in let k : ℕ = length next.told in let ys : List T = extract_rest s in
-            let together : take (length all) ys ≡ take q ys ++ take k (extract_rest t) = ap (λ n. take n ys) (length-append now.told next.told) ∙ take-add q k ys ∙ ap (λ l. take q ys ++ take k l) (sym now.rest) in
+            let moved : ℕ = moved_over (extract_count t) (length (passed_over next.told)) in let passed = chosen-append (λ t. not t.answer) now.told next.told in
             record {
               told = all;
-              asked = subst (λ l. AskedInOrder Asks f l all g) (sym together) (asked-append f h g (take (length now.told) (extract_rest s)) (take (length next.told) (extract_rest t)) now.told next.told now.asked next.asked);
-              items = ap (λ l. l ++ taken) now.items ∙ ap (λ l. kept now.told ++ l) (sym items) ∙ sym (kept-append now.told next.told);
-              kept = next.kept ∙ ap (λ l. l ++ passed_over next.told) now.kept ∙ append_assoc (extract_kept s) (passed_over now.told) (passed_over next.told)
-                  ∙ ap (λ l. extract_kept s ++ l) (sym (passed-append now.told next.told));
+              asked = rw (length-append now.told next.told, take-add (length now.told) (length next.told) (extract_rest s), ← now.rest)
+                  (asked-append f h g (take (length now.told) (extract_rest s)) (take (length next.told) (extract_rest t)) now.told next.told now.asked next.asked);
+              items = ap (λ l. l ++ taken) now.items ∙ ap (λ l. kept now.told ++ l) (sym items) ∙ sym (chosen-append (λ t. t.answer) now.told next.told);
+              kept = rw (next.kept, now.kept, passed) (append_assoc (extract_kept s) (passed_over now.told) (passed_over next.told));
               rest = next.rest ∙ ap (drop (length next.told)) now.rest ∙ drop-drop (length next.told) (length now.told) (extract_rest s) ∙ ap (λ n. drop n (extract_rest s)) (sym (length-append now.told next.told));
               lender = next.lender ∙ now.lender;
               tail = next.tail ∙ now.tail;
               count = omega (arith, next.count, ap length items, now.count, length-append xs taken);
-              moved = now.moved + moved_over (extract_count t) (length (passed_over next.told));
-              runs = now.runs + run_count (moved_over (extract_count t) (length (passed_over next.told)));
-              few =
-                  let more : length (passed_over all) ≡ length (passed_over now.told) + length (passed_over next.told) = ap length (passed-append now.told next.told) ∙ length-append (passed_over now.told) (passed_over next.told) in
-                  omega (arith, now.few, moved_most (extract_count t) (length (passed_over next.told)), more);
-              becomes =
-                  let moved : ℕ = moved_over (extract_count t) (length (passed_over next.told)) in
-                  subst (λ l. Becomes s.vec.now l (now.moved + moved) (now.runs + run_count moved) w.vec.now) (ap (λ v. v.items) now.becomes)
+              moved = now.moved + moved;
+              runs = now.runs + run_count moved;
+              few = omega (arith, now.few, moved_most (extract_count t) (length (passed_over next.told)), ap length passed, length-append (passed_over now.told) (passed_over next.told));
+              becomes = subst (λ l. Becomes s.vec.now l (now.moved + moved) (now.runs + run_count moved) w.vec.now) (ap (λ v. v.items) now.becomes)
                   (Becomes-then s.vec.now s.vec.now.items now.moved now.runs t.vec.now now.becomes t.vec.now.items moved (run_count moved) w.vec.now next.becomes _ _ refl refl);
             }
 

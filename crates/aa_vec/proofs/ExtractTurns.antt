@@ -2,9 +2,11 @@
 use Rattle.aa_vec.proofs.Common.{◌≡◌, ℕ, zero, suc, ◌+◌, ◌-◌, ◌<◌, ◌≤◌, Bool, true, false, List, [], ◌∷◌, ◌++◌, length, map, take, drop, Option, Some, None, refl, sym, ap, ◌∙◌, subst, arith, inr, append_assoc, length-append, length-drop, slice_set, MatchOption, drop-append-le, drop-drop, drop-map, drop-set-lt, drop_all, drop_at, length-map, length-take-le, take_at, StandsBehind, SetsBack, ClosesGap, behind_items, with_behind, Asked, AskedInOrder, EndsTrue, kept, passed_over, StaysWhen, AsksUntil, AsksBehind, Picks, Vector, len, KeepsDown, moved_over, run_count}
 use Rattle.aa_vec.proofs.Becoming.{Becomes-behind, Becomes-holds, SameBlock-becomes}
 use Rattle.aa_vec.proofs.GrowthLemmas.{SameBlock-trans}
+use Rattle.aa_vec.proofs.ExtractRuns.{asked_parts}
 use Rattle.aa_vec.proofs.BehindLemmas.{still_stand, still_are}
-use Rattle.aa_vec.proofs.Retaining.{Follows, follows}
-use Rattle.aa_vec.proofs.Stands.{count, first_are, first_stand, left_are, left_stand, moved_items, others_are, others_stand, parts}
+use Rattle.aa_vec.proofs.Retaining.{Told, May, turn-asked}
+use Rattle.aa_vec.proofs.Stages.{Turn}
+use Rattle.aa_vec.proofs.Stands.{count, first_are, first_stand, moved_items, others_are, others_stand, parts}
 
 module _ {F T : Type 0} (Asks : F → T → Bool → F → T → Type 0) where
   -- those that were not asked are as they were
@@ -15,21 +17,12 @@ module _ {F T : Type 0} (Asks : F → T → Bool → F → T → Type 0) where
   until-others f h (x ∷ xs) (suc k) left u = ap (drop (suc (suc k))) u.5 ∙ until-others u.0 h xs k u.2 u.4
 
   module _ {A : Type 0} {f : F} {old : Vector T A} {gap n k : ℕ} {g : F} {new : Vector T A} (asked : AsksBehind Asks f old gap n k g new) (stands : StandsBehind old gap n) where
-    goes_on : Follows Asks (λ s x. Unit {0}) f (behind_items old gap n) k g asked.left
-    goes_on = follows Asks (λ s x. Unit {0}) f g (behind_items old gap n) k asked.left asked.until
-
-    pub asked_within : k ≤ n
-    asked_within = omega (arith, goes_on.within, count old gap n stands)
-
-    pub asked_long : length asked.left ≡ n
-    asked_long = goes_on.long ∙ count old gap n stands
-
-    pub asked_stand : StandsBehind new gap n
-    asked_stand = left_stand old gap n stands new asked.left asked_long asked.leaves
+    turn : Turn (Told Asks) (May Asks (λ s x. Unit {0})) f old gap n k g new asked.left
+    turn = turn-asked Asks (λ s x. Unit {0}) f old gap n stands k g new asked
 
     -- those that stay
     pub asked_first : StandsBehind new gap k
-    asked_first = first_stand new gap n asked_stand k asked_within
+    asked_first = first_stand new gap n turn.stands k turn.within
 
     pub asked_down : {i : ℕ} {down : Vector T A} → k ≡ i → ClosesGap new gap i down → KeepsDown Asks f old gap n i g down
     asked_down {i} e closes = record { left = new; asks = subst (λ i. AsksBehind Asks f old gap n i g new) e asked; closes = closes }
@@ -42,23 +35,21 @@ module _ {F T : Type 0} (Keeps : F → T → Bool → F → T → Type 0) where
   record ToldTo (f : F) (xs : List T) (stay : ℕ) (left : List T) (g : F) : Type 0 where
     pub told : List (Asked T)
     pub asked : AskedInOrder Keeps f (take (length told) xs) told g
-    pub count : length told ≡ stay + length (kept told)
     pub items : kept told ≡ take 1 (drop stay left)
     pub stays : passed_over told ≡ take stay left
     pub few : length (passed_over told) ≡ stay
     pub ends : (x : T) → kept told ≡ x ∷ [] → (front : List (Asked T)) × (told ≡ front ++ record { answer = true; left = x } ∷ [])
 
   told_to : (f g : F) (xs : List T) (stay : ℕ) (left : List T) → AsksUntil Asks f xs stay g left → ToldTo f xs stay left g
-  told_to f g [] zero left u = rw u.1 (record { told = []; asked = u.0; count = refl; items = refl; stays = refl; few = refl; ends = λ x none. absurd (omega (arith, ap length none)) })
+  told_to f g [] zero left u = rw u.1 (record { told = []; asked = u.0; items = refl; stays = refl; few = refl; ends = λ x none. absurd (omega (arith, ap length none)) })
   told_to f g [] (suc stay) left u = absurd u
-  told_to f g (z ∷ xs) zero left u = rw u.2 (record { told = record { answer = true; left = u.0 } ∷ []; asked = (g, u.1, refl); count = refl; items = refl; stays = refl; few = refl; ends = λ x same. ([], cc) })
+  told_to f g (z ∷ xs) zero left u = rw u.2 (record { told = record { answer = true; left = u.0 } ∷ []; asked = (g, u.1, refl); items = refl; stays = refl; few = refl; ends = λ x same. ([], cc) })
   told_to f g (z ∷ xs) (suc stay) left u =
       let r = told_to u.0 g xs stay u.2 u.4 in
       let first : Asked T = record { answer = false; left = u.1 } in
       rw u.5 (record {
         told = first ∷ r.told;
         asked = (u.0, u.3, r.asked);
-        count = omega (arith, r.count);
         items = r.items;
         stays = ap (λ l. u.1 ∷ l) r.stays;
         few = omega (arith, r.few);
@@ -91,20 +82,14 @@ module _ {T A : Type 0} {old joined : Vector T A} {low : ℕ} (front end : ℕ) 
     told : ToldTo Keeps f (behind_items old front n) stay left g
     told = told_to Keeps f g (behind_items old front n) stay left until
 
+    turned : Turn (Told (StaysWhen false Keeps)) (May (StaysWhen false Keeps) (λ s x. Unit {0})) f joined gap n stay g keeps.left left
+    turned = turn-asked (StaysWhen false Keeps) (λ s x. Unit {0}) f joined gap n joined_stand stay g keeps.left keeps.asks
+
     long : length left ≡ n
-    long = asked_long (StaysWhen false Keeps) keeps.asks joined_stand
-
-    pub asked_few : stay ≤ n
-    asked_few = asked_within (StaysWhen false Keeps) keeps.asks joined_stand
-
-    now_stand : StandsBehind keeps.left gap n
-    now_stand = asked_stand (StaysWhen false Keeps) keeps.asks joined_stand
-
-    now_are : behind_items keeps.left gap n ≡ left
-    now_are = left_are joined gap n joined_stand keeps.left left long keeps.asks.leaves
+    long = sym (ap length turned.are) ∙ count keeps.left gap n turned.stands
 
     pub next_stand : StandsBehind down gap (n - stay)
-    next_stand = others_stand keeps.left gap n now_stand stay asked_few down keeps.closes
+    next_stand = others_stand keeps.left gap n turned.stands stay turned.within down keeps.closes
 
     -- what stands behind those that stay, and behind those that were there
     others_in : (xs : List T) → length xs ≡ n → (k : ℕ) → k ≤ n → drop k (map Some xs ++ drop n (drop front old.behind)) ≡ map Some (drop k xs) ++ drop n (drop front old.behind)
@@ -112,9 +97,8 @@ module _ {T A : Type 0} {old joined : Vector T A} {low : ℕ} (front end : ℕ) 
 
     rest : (j : ℕ) → stay + j ≤ n → drop (stay + j) left ≡ drop (stay + j) (behind_items old front n) → drop j (drop gap down.behind) ≡ drop (front + (stay + j)) old.behind
     rest j h e =
-        ap (drop j) (keeps.closes.behind ∙ ap (drop stay) (keeps.asks.leaves.behind ∙ ap (λ ds. map Some left ++ drop n ds) apart)) ∙ drop-drop j stay (map Some left ++ drop n (drop front old.behind))
-        ∙ others_in left long (stay + j) h ∙ ap (λ l. map Some l ++ drop n (drop front old.behind)) e ∙ sym (others_in (behind_items old front n) (count old front n stands) (stay + j) h)
-        ∙ ap (drop (stay + j)) (sym (parts old front n stands)) ∙ drop-drop (stay + j) front old.behind
+        cc (keeps.closes.behind, keeps.asks.leaves.behind, apart, drop-drop j stay (map Some left ++ drop n (drop front old.behind)), others_in left long (stay + j) h, e,
+          others_in (behind_items old front n) (count old front n stands) (stay + j) h, parts old front n stands, drop-drop (stay + j) front old.behind)
 
     -- and the items are set back
     module _ (w : Vector T A) (places : List (Option T)) (differs : w ≡ with_behind down places) (new : Vector T A) (set : SetsBack w (len old) new) where
@@ -122,14 +106,14 @@ module _ {T A : Type 0} {old joined : Vector T A} {low : ℕ} (front end : ℕ) 
       stays = behind_items old 0 low ++ take stay left
 
       items : w.items ≡ old.items ++ stays
-      items = ap (λ v. v.items) differs ∙ moved_items keeps.left gap n now_stand stay asked_few down keeps.closes ∙ ap (λ v. v.items ++ take stay (behind_items keeps.left gap n)) keeps.asks.leaves.same
-          ∙ ap (λ l. joined.items ++ take stay l) now_are ∙ ap (λ u. u.items ++ take stay left) joins.becomes ∙ append_assoc old.items (behind_items old 0 low) (take stay left)
+      items = ap (λ v. v.items) differs ∙ moved_items keeps.left gap n turned.stands stay turned.within down keeps.closes ∙ ap (λ v. v.items ++ take stay (behind_items keeps.left gap n)) keeps.asks.leaves.same
+          ∙ ap (λ l. joined.items ++ take stay l) turned.are ∙ ap (λ u. u.items ++ take stay left) joins.becomes ∙ append_assoc old.items (behind_items old 0 low) (take stay left)
 
       back : drop (len old) w.items ≡ stays
       back = ap (drop (len old)) items ∙ drop_at old.items stays (len old) refl
 
       back_long : length stays ≡ low + stay
-      back_long = omega (arith, length-append (behind_items old 0 low) (take stay left), count old 0 low before, length-take-le stay left (omega (arith, asked_few, long)))
+      back_long = omega (arith, length-append (behind_items old 0 low) (take stay left), count old 0 low before, length-take-le stay left (omega (arith, turned.within, long)))
 
       set_count : len w - len old ≡ low + stay
       set_count = omega (arith, ap length back, back_long, length-drop (len old) w.items)
@@ -145,7 +129,7 @@ module _ {T A : Type 0} {old joined : Vector T A} {low : ℕ} (front end : ℕ) 
         told = told.told;
         asked = told.asked;
         cases = cases;
-        counts = (sym told.few, omega (arith, e, told.count));
+        counts = (sym told.few, omega (arith, e, told.few, asked_parts told.told));
         becomes = Becomes-holds old old.items (moved_over gap stay) (run_count (moved_over gap stay)) new (record {
           items = ap (λ u. u.items) set.becomes ∙ ap (take (len old)) items ∙ take_at old.items stays (len old) refl;
           block = SameBlock-trans (SameBlock-becomes _ _ _ _ _ joins.becomes) (SameBlock-trans (SameBlock-becomes _ _ _ _ _ (Becomes-behind joined keeps.left _ keeps.asks.leaves.same)) (SameBlock-trans (SameBlock-becomes _ _ _ _ _ keeps.closes.becomes) (SameBlock-trans (SameBlock-becomes _ _ _ _ _ (Becomes-behind down w places differs)) (SameBlock-becomes _ _ _ _ _ set.becomes))));
@@ -162,7 +146,7 @@ module _ {T A : Type 0} {old joined : Vector T A} {low : ℕ} (front end : ℕ) 
     -- none is left to be asked
     pub Picks-none : n ≤ stay → {new : Vector T A} → SetsBack down (len old) new → Picks Keeps f old low front end stay end None g new
     Picks-none all {new} set =
-        let e : stay ≡ n = omega (arith, all, asked_few) in
+        let e : stay ≡ n = omega (arith, all, turned.within) in
         let none : kept told.told ≡ [] = told.items ∙ ap (take 1) (drop_all stay left (omega (arith, long, e))) in
         let there : low + stay + gap ≡ end = omega (arith, e, ordered.0, ordered.1) in
         let same : drop (stay + 0) left ≡ drop (stay + 0) (behind_items old front n) = drop_all (stay + 0) left (omega (arith, long, e)) ∙ sym (drop_all (stay + 0) (behind_items old front n) (omega (arith, count old front n stands, e))) in
@@ -175,7 +159,7 @@ module _ {T A : Type 0} {old joined : Vector T A} {low : ℕ} (front end : ℕ) 
     Picks-taken less {x} {w} value taken {new} set =
         let next : ℕ = front + stay + 1 in
         let there : low + stay + (gap + 1) ≡ next = omega (arith, ordered.0) in
-        let one : kept told.told ≡ x ∷ [] = told.items ∙ ap (take 1) (ap (drop stay) (sym now_are) ∙ sym (others_are keeps.left gap n now_stand stay asked_few down keeps.closes)) ∙ sym (first_are down gap (n - stay) next_stand 1 (omega (arith, less))) ∙ value in
+        let one : kept told.told ≡ x ∷ [] = told.items ∙ ap (take 1) (ap (drop stay) (sym turned.are) ∙ sym (others_are keeps.left gap n turned.stands stay turned.within down keeps.closes)) ∙ sym (first_are down gap (n - stay) next_stand 1 (omega (arith, less))) ∙ value in
         let same : drop (stay + 1) left ≡ drop (stay + 1) (behind_items old front n) = let one_more : suc stay ≡ stay + 1 = omega arith in subst (λ i. drop i left ≡ drop i (behind_items old front n)) one_more (until-others (StaysWhen false Keeps) f g (behind_items old front n) stay left until) in
         let last = told.ends x one in
         picked w (slice_set down.behind gap None) taken new set next (Some x) (omega (arith, ap length one)) (omega (arith, there), omega arith, omega (arith, less))

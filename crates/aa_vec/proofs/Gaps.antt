@@ -31,8 +31,7 @@ module _ {X : Type 0} where
   pub drop-set_apart : (cs : List (Option X)) (a n : ℕ) → IsRun cs 0 n → a ≤ n → drop a cs ≡ map Some (drop a (run cs 0 n)) ++ drop n cs
   drop-set_apart cs a n r h =
       let some : X → Option X = λ x. Some x in let all : List X = run cs 0 n in
-      let parts : cs ≡ map some all ++ drop n cs = sym (take-append-drop n cs) ∙ ap (λ ds. ds ++ drop n cs) (run-filled cs 0 n r) in
-      ap (drop a) parts ∙ drop-append-le a (map some all) (drop n cs) (omega (arith, h, length-map all some, length-run cs 0 n r)) ∙ ap (λ ds. ds ++ drop n cs) (drop-map some a all)
+      cc (take-append-drop n cs, run-filled cs 0 n r, drop-append-le a (map some all) (drop n cs) (omega (arith, h, length-map all some, length-run cs 0 n r)), drop-map some a all)
 
   -- what stands above a run that was moved down is where it was
   pub drop-moved : (cs : List (Option X)) (from to n : ℕ) → to ≤ from → from + n ≤ length cs → drop (from + n) (moved cs from to n) ≡ drop (from + n) cs
@@ -71,10 +70,9 @@ drop-laid cs es l gap n h =
 take-laid : {X : Type 0} (cs es : List (Option X)) (l gap n : ℕ) → l + gap + n ≤ length cs → take gap (drop l (with_run cs (l + gap) n es)) ≡ take gap (drop l cs)
 unfolding with_run
 take-laid cs es l gap n h =
-    let rest = es ++ drop (l + gap + n) cs in let front = take (l + gap) cs in
-    let long : length front ≡ l + gap = length-take-le (l + gap) cs (omega (arith, h)) in
-    let part : take gap (drop l cs) ≡ drop l front = sym (drop-take l gap cs) in
-    ap (take gap) (drop-append-le l front rest (omega (arith, long)) ∙ ap (λ ds. ds ++ rest) (sym part)) ∙ take_at (take gap (drop l cs)) rest gap (length-take-le gap (drop l cs) (omega (arith, h, length-drop l cs)))
+    let long = length-take-le (l + gap) cs (omega (arith, h)) in
+    rw (drop-append-le l (take (l + gap) cs) (es ++ drop (l + gap + n) cs) (omega (arith, long)), drop-take l gap cs)
+    (take_at (take gap (drop l cs)) (es ++ drop (l + gap + n) cs) gap (length-take-le gap (drop l cs) (omega (arith, h, length-drop l cs))))
 
 pub IsRun-cleared : {X : Type 0} (cs : List (Option X)) (l gap n : ℕ) → IsRun cs 0 l → l + gap + n ≤ length cs → IsRun (with_run cs (l + gap) n (replicate n None)) 0 l
 IsRun-cleared cs l gap n r h = IsRun-with-below cs (l + gap) n (replicate n None) 0 l h (length-replicate n None) (omega arith) r
@@ -137,9 +135,8 @@ module _ {T A : Type 0} (v : Inside T A) (front : IsFront v) (some : 0 < v.len) 
 
     pub drop-rewritten : drop gap (drop v.len rewritten) ≡ Some y ∷ drop 1 (drop gap (drop v.len v.block.places))
     drop-rewritten =
-        drop-drop gap v.len rewritten ∙ drop-set-lt (v.len + gap) (slice_set v.block.places (v.len + gap) (Some y)) (v.len - 1) (Some m) (omega arith)
-        ∙ drop-set v.block.places (v.len + gap) (Some y) inside
-        ∙ ap (λ ds. Some y ∷ ds) (sym (drop-drop 1 (v.len + gap) v.block.places) ∙ ap (drop 1) (sym (drop-drop gap v.len v.block.places)))
+        let b = v.block.places in
+        cc (drop-drop gap v.len rewritten, drop-set-lt (v.len + gap) (slice_set b (v.len + gap) (Some y)) (v.len - 1) (Some m) (omega arith), drop-set b (v.len + gap) (Some y) inside, drop-drop 1 (v.len + gap) b, drop-drop gap v.len b)
 
 -- the n elements after the gap, as they were left by who was lent them
 module _ {T A : Type 0} (v : Inside T A) (front : IsFront v) (gap n : ℕ) (stands : StandsBehind (view_of v) gap n) (xs ws : List T) (shown : take n (drop (v.len + gap) v.block.places) ≡ map Some xs) where

@@ -1,5 +1,6 @@
 -- Elements asked in order, of which those that stay were moved down.
 use Rattle.aa_vec.proofs.Common.{SetsBack, IsCallableInOrder, ◌≡◌, ℕ, zero, suc, ◌+◌, ◌-◌, ◌≤◌, Bool, true, false, List, [], ◌∷◌, ◌++◌, length, take, drop, refl, sym, ap, ◌∙◌, subst, arith, append_assoc, append-nil, StandsBehind, behind_items, Asked, answers_of, kept, kept_behind_removed, AskedInOrder, MayAskInOrder, Retains, AsksUntil, AsksBehind, Vector, len, Becomes}
+use Rattle.aa_vec.proofs.Becoming.{Becomes-behind}
 use Rattle.aa_vec.proofs.Closed.{marks, removed_count, removed-told}
 use Rattle.aa_vec.proofs.Stages.{Turn, Stage, Turned, turned, stage-start, start-len, stage-ended}
 use Rattle.aa_vec.proofs.Stands.{count, left_are, left_stand}
@@ -43,20 +44,18 @@ module _ {F T : Type 0} (Asks : F → T → Bool → F → T → Type 0) where
         })
 
     module _ {A : Type 0} where
-      pub turn-asked : (h : F) (v : Vector T A) (gap n : ℕ) → StandsBehind v gap n → (k : ℕ) (g : F) (w : Vector T A) → AsksBehind Asks h v gap n k g w → Turn Told May h v gap n k g w
+      pub turn-asked : (h : F) (v : Vector T A) (gap n : ℕ) → StandsBehind v gap n → (k : ℕ) (g : F) (w : Vector T A) → (asked : AsksBehind Asks h v gap n k g w) → Turn Told May h v gap n k g w asked.left
       turn-asked h v gap n stands k g w asked =
           let r = follows h g (behind_items v gap n) k asked.left asked.until in
           let many : length (behind_items v gap n) ≡ n = count v gap n stands in
           let long : length asked.left ≡ n = r.long ∙ many in
           let same = asked.leaves.same in
           record {
-            left = asked.left;
             within = omega (arith, r.within, many);
             stands = left_stand v gap n stands w asked.left long asked.leaves;
             are = left_are v gap n stands w asked.left long asked.leaves;
             long = ap (λ s. length s.items) same;
-            block = record { capacity = ap (λ s. s.capacity) same; growth = ap (λ s. s.growth) same; grown = ap (λ s. s.grown) same; alloc = ap (λ s. s.alloc) same };
-            writes = record { written = omega (arith, ap (λ s. s.written) same); runs = omega (arith, ap (λ s. s.runs) same) };
+            becomes = (v.items, Becomes-behind v w w.behind same);
             may = r.may;
             ends = λ told t ys e.
                 let q = r.ends e.told t e.asked in

@@ -9,9 +9,7 @@ use Rattle.aa_vec.proofs.Steady.{asked-steady, told_by, chosen-steady}
 first_part : {T : Type 0} (test : T → Bool) (q : Bool → Bool) (xs : List T) (n : ℕ) (told : List (Asked T)) → told ≡ map (told_by test (λ x. x)) (take n xs)
     → filter (λ x. q (test x)) xs ≡ map (λ t. t.left) (filter (λ t. q t.answer) told) ++ filter (λ x. q (test x)) (drop n xs)
 first_part {T} test q xs n told is =
-    let p : T → Bool = λ x. q (test x) in
-    ap (filter p) (sym (take-append-drop n xs)) ∙ filter-append p (take n xs) (drop n xs)
-    ∙ ap (λ l. l ++ filter p (drop n xs)) (sym (map-id (filter p (take n xs))) ∙ sym (chosen-steady q test (λ x. x) (take n xs)) ∙ sym (ap (λ (l : List (Asked T)). map (λ t. t.left) (filter (λ t. q t.answer) l)) is))
+    rw (is, chosen-steady q test (λ x. x) (take n xs), map-id, ← filter-append (λ x. q (test x)) (take n xs) (drop n xs), take-append-drop n xs)
 
 module _ {F T A : Type 0} (Asks : F → T → Bool → F → T → Type 0) (test : T → Bool) (steady : (f : F) (x : T) (answer : Bool) (g : F) (y : T) → Asks f x answer g y → (answer ≡ test x) × (y ≡ x)) where
   module _ (f : F) (s : ExtractBy T A) (r : Option T) (g : F) (t : ExtractBy T A) (e : Extracts Asks f s r g t) where
@@ -25,15 +23,7 @@ module _ {F T A : Type 0} (Asks : F → T → Bool → F → T → Type 0) (test
     -- what stays is the same
     left : left_at_end test t ≡ left_at_end test s
     unfolding left_at_end
-    left =
-        let stays : T → Bool = λ x. not (test x) in
-        let behind : List T = extract_tail t in
-        let middle : extract_kept t ++ (filter stays (extract_rest t) ++ behind) ≡ extract_kept s ++ (filter stays (extract_rest s) ++ behind) =
-        ap (λ l. l ++ (filter stays (extract_rest t) ++ behind)) e.kept ∙ append_assoc (extract_kept s) (passed_over e.told) (filter stays (extract_rest t) ++ behind)
-        ∙ ap (λ l. extract_kept s ++ l) (sym (append_assoc (passed_over e.told) (filter stays (extract_rest t)) behind)) ∙ ap (λ l. extract_kept s ++ ((passed_over e.told ++ filter stays l) ++ behind)) e.rest
-        ∙ ap (λ l. extract_kept s ++ (l ++ behind)) (sym (first_part test not (extract_rest s) (length e.told) e.told is)) in
-        ap (λ l. t.vec.now.items ++ l) middle ∙ ap (λ l. l ++ (extract_kept s ++ (filter stays (extract_rest s) ++ behind))) (ap (λ v. v.items) e.becomes)
-        ∙ ap (λ l. s.vec.now.items ++ (extract_kept s ++ (filter stays (extract_rest s) ++ l))) e.tail
+    left = simp (ap (λ v. v.items) e.becomes, e.kept, e.rest, e.tail, first_part test not (extract_rest s) (length e.told) e.told is, append_assoc)
 
   -- one was taken out
   Extracts_some : (f : F) (s : ExtractBy T A) (x : T) (g : F) (t : ExtractBy T A) → Extracts Asks f s (Some x) g t → still_taken test s ≡ x ∷ still_taken test t
@@ -55,11 +45,7 @@ module _ {T A : Type 0} (test : T → Bool) (old : Vector T A) (n : ℕ) (e : Ex
 
   pub Range_left : left_at_end test e ≡ filter (λ x. not (test x)) old.items
   unfolding left_at_end
-  Range_left =
-      let stays : T → Bool = λ x. not (test x) in
-      let none : extract_tail e ≡ [] = r.tail ∙ drop_all n old.items (omega (arith, all)) in
-      ap (λ l. l ++ (extract_kept e ++ (filter stays (extract_rest e) ++ extract_tail e))) (ap (λ v. v.items) r.becomes) ∙ ap (λ l. l ++ (filter stays (extract_rest e) ++ extract_tail e)) r.kept
-      ∙ (λ i. filter stays (rest_is i) ++ none i) ∙ append-nil (filter stays old.items)
+  Range_left = simp (ap (λ v. v.items) r.becomes, r.kept, rest_is, r.tail, drop_all n old.items (omega (arith, all)), append-nil)
 
 -- along the calls: ys were taken out, one by one, and then x, which is put behind them
 module _ {F T A : Type 0} (Asks : F → T → Bool → F → T → Type 0) (f : F) (s : ExtractBy T A) (g : F) (t : ExtractBy T A) (test : T → Bool) where

@@ -10,14 +10,12 @@ use Rattle.aa_vec.proofs.BehindLemmas.{later_part, part_stand, still_are, still_
 
 module _ {F T A : Type 0} (Ends : F → (items yet : List T) → List Bool → F → List T → Type 0) (May : F → (items yet : List T) → Type 0) where
   -- k of the n elements behind the gap were asked and stay, and the next, if there is one, goes. `left` are all, as they were left
-  pub record Turn (h : F) (v : Vector T A) (gap n k : ℕ) (g : F) (w : Vector T A) : Type 0 where
-    pub left : List T
+  pub record Turn (h : F) (v : Vector T A) (gap n k : ℕ) (g : F) (w : Vector T A) (left : List T) : Type 0 where
     pub within : k ≤ n
     pub stands : StandsBehind w gap n
     pub are : behind_items w gap n ≡ left
     pub long : len w ≡ len v
-    pub block : SameBlock v w
-    pub writes : Writes v 0 0 w
+    pub becomes : (now : List T) × Becomes v now 0 0 w
     pub may : May h v.items (behind_items v gap n) → May g (w.items ++ take k left) (drop 1 (drop k left))
     pub ends : (told : List Bool) (t : F) (ys : List T) → Ends g (w.items ++ take k left) (drop 1 (drop k left)) told t ys → Ends h v.items (behind_items v gap n) (marks k n told) t ys
 
@@ -43,19 +41,19 @@ module _ {F T A : Type 0} (Ends : F → (items yet : List T) → List Bool → F
         (at + k ≤ end) × StandsBehind w gap (end - at)
         × ((z : Vector T A) (next : ℕ) → TakesNext w gap at end k z next → Stage g z next end × (at < end → at < next) × (next < end → len z < next))
 
-    module _ (h : F) (v : Vector T A) (gap n : ℕ) (now : On h v gap n) (k : ℕ) (g : F) (w : Vector T A) (t : Turn h v gap n k g w) where
-      more : (u z : Vector T A) (i m : ℕ) → ClosesGap w gap k u → z ≡ with_behind u z.behind → StandsBehind z i m → behind_items z i m ≡ drop 1 (drop k t.left) → i ≡ gap + min (n - k) 1 → m ≡ n - (k + 1) → On g z i m
+    module _ (h : F) (v : Vector T A) (gap n : ℕ) (now : On h v gap n) (k : ℕ) (g : F) (w : Vector T A) (left : List T) (t : Turn h v gap n k g w left) where
+      more : (u z : Vector T A) (i m : ℕ) → ClosesGap w gap k u → z ≡ with_behind u z.behind → StandsBehind z i m → behind_items z i m ≡ drop 1 (drop k left) → i ≡ gap + min (n - k) 1 → m ≡ n - (k + 1) → On g z i m
       more u z i m closes same stands are e l =
-          let items : z.items ≡ w.items ++ take k t.left = ap (λ s. s.items) same ∙ moved_items w gap n t.stands k t.within u closes ∙ ap (λ xs. w.items ++ take k xs) t.are in
-          let wrote : z.written ≡ v.written + moved_over gap k = omega (arith, ap (λ s. s.written) same, ap (λ s. s.written) closes.becomes, t.writes.written) in
+          let items : z.items ≡ w.items ++ take k left = ap (λ s. s.items) same ∙ moved_items w gap n t.stands k t.within u closes ∙ ap (λ xs. w.items ++ take k xs) t.are in
+          let wrote : z.written ≡ v.written + moved_over gap k = omega (arith, ap (λ s. s.written) same, ap (λ s. s.written) closes.becomes, ap (λ s. s.written) t.becomes.1) in
           record {
             stands = stands;
             may = rw (items, are) (t.may now.may);
             ends = λ told x ys a.
-                let q = now.ends (marks k n told) x ys (t.ends told x ys (subst (λ xs. Ends g (w.items ++ take k t.left) xs told x ys) are (subst (λ xs. Ends g xs (behind_items z i m) told x ys) items a))) in
+                let q = now.ends (marks k n told) x ys (t.ends told x ys (subst (λ xs. Ends g (w.items ++ take k left) xs told x ys) are (subst (λ xs. Ends g xs (behind_items z i m) told x ys) items a))) in
                 (q.0, q.1, omega (arith, q.2, wrote, marks-written gap k n t.within told, ap (λ j. still j told) e), omega (arith, q.3, (marks-are k n t.within told).1, e));
-            block = SameBlock-trans (SameBlock-trans now.block t.block) (SameBlock-trans (SameBlock-becomes _ _ _ _ _ closes.becomes) (record { capacity = ap (λ s. s.capacity) same; growth = ap (λ s. s.growth) same; grown = ap (λ s. s.grown) same; alloc = ap (λ s. s.alloc) same }));
-            runs = omega (arith, ap (λ s. s.runs) same, ap (λ s. s.runs) closes.becomes, t.writes.runs, now.runs, few_runs gap k, no_run gap k, e, l, t.within);
+            block = SameBlock-trans (SameBlock-trans now.block (SameBlock-becomes _ _ _ _ _ t.becomes.1)) (SameBlock-trans (SameBlock-becomes _ _ _ _ _ closes.becomes) (record { capacity = ap (λ s. s.capacity) same; growth = ap (λ s. s.growth) same; grown = ap (λ s. s.grown) same; alloc = ap (λ s. s.alloc) same }));
+            runs = omega (arith, ap (λ s. s.runs) same, ap (λ s. s.runs) closes.becomes, ap (λ s. s.runs) t.becomes.1, now.runs, few_runs gap k, no_run gap k, e, l, t.within);
           }
 
     -- a turn from there on, where n items stay so far
@@ -63,8 +61,8 @@ module _ {F T A : Type 0} (Ends : F → (items yet : List T) → List Bool → F
       pub stage-on : On h v (at - n) (end - at)
       stage-on = subst (λ i. On h v (at - i) (end - at)) (sym many) s.on
 
-      module _ {k : ℕ} {g : F} {w : Vector T A} (turn : StandsBehind v (at - n) (end - at) → Turn h v (at - n) (end - at) k g w) where
-        t : Turn h v (at - n) (end - at) k g w
+      module _ {k : ℕ} {g : F} {w : Vector T A} {left : List T} (turn : StandsBehind v (at - n) (end - at) → Turn h v (at - n) (end - at) k g w left) where
+        t : Turn h v (at - n) (end - at) k g w left
         t = turn stage-on.stands
 
         turn-within : at + k ≤ end
@@ -87,7 +85,7 @@ module _ {F T A : Type 0} (Ends : F → (items yet : List T) → List Bool → F
               record {
                 here = omega (arith, q.1, grown, s.here);
                 within = omega (arith, q.1, less);
-                on = more h v (at - n) (end - at) stage-on k g w t p.closed z _ _ p.closes (q.0 ∙ ap (with_behind p.closed) (sym (ap (λ s. s.behind) q.0)))
+                on = more h v (at - n) (end - at) stage-on k g w left t p.closed z _ _ p.closes (q.0 ∙ ap (with_behind p.closed) (sym (ap (λ s. s.behind) q.0)))
                     (rw (i, m) stands) (rw (i, m) are) (omega (arith, i, less)) (omega (arith, m));
               }
 
@@ -97,11 +95,11 @@ module _ {F T A : Type 0} (Ends : F → (items yet : List T) → List Bool → F
               let q = p.none all in let grown : len z ≡ len v + k = ap len q.0 ∙ long in
               let i : next - len z ≡ at - n = omega (arith, q.1, grown, many, s.here, all) in let m : end - next ≡ 0 = omega (arith, q.1) in
               let stands = first_stand p.closed (at - n) (end - at - k) (others_stand w (at - n) (end - at) t.stands k t.within p.closed p.closes) 0 (omega arith) in
-              let are = run-zero (drop (at - n) z.behind) 0 ∙ ap (drop 1) (sym (drop_all k t.left (omega (arith, all, ap length t.are, count w (at - n) (end - at) t.stands)))) in
+              let are = run-zero (drop (at - n) z.behind) 0 ∙ ap (drop 1) (sym (drop_all k left (omega (arith, all, ap length t.are, count w (at - n) (end - at) t.stands)))) in
               record {
                 here = omega (arith, q.1, grown, s.here, all);
                 within = omega (arith, q.1);
-                on = more h v (at - n) (end - at) stage-on k g w t p.closed z _ _ p.closes (q.0 ∙ ap (with_behind p.closed) (sym (ap (λ s. s.behind) q.0))) (rw (i, m, q.0) stands) (rw (i, m) are) (omega (arith, i, all)) (omega (arith, m, all));
+                on = more h v (at - n) (end - at) stage-on k g w left t p.closed z _ _ p.closes (q.0 ∙ ap (with_behind p.closed) (sym (ap (λ s. s.behind) q.0))) (rw (i, m, q.0) stands) (rw (i, m) are) (omega (arith, i, all)) (omega (arith, m, all));
               }
 
           -- the next place is behind it, and where some are left, one has gone

@@ -57,32 +57,21 @@ module _ {T A : Type 0} (v : Vector T A) (gap n : ℕ) (stands : StandsBehind v 
     pub others_stand : StandsBehind w gap (n - k)
     others_stand = still_stand v w (gap + k) gap (n - k) (part_stand v gap n stands (gap + k) (n - k) (omega arith) (omega (arith, h))) (omega (arith, stands.0, h, moved_len, ap (λ u. u.capacity) closes.becomes)) others
 
-no_moves : (gap n : ℕ) → n ≡ 0 → moved_over gap n ≡ 0
-no_moves gap n e = grind (arith, e)
-
 -- a gap is closed by none, and by one that was taken and put
 module _ {T A : Type 0} where
-  pub closes_none : (v : Vector T A) (gap n : ℕ) → n ≡ 0 → ClosesGap v gap n v
-  closes_none v gap n e =
-      let items : v.items ≡ v.items ++ behind_items v gap n = sym (append-nil v.items) ∙ ap (λ l. v.items ++ l) (sym (run-zero (drop gap v.behind) 0)) ∙ ap (λ i. v.items ++ behind_items v gap i) (sym e) in
-      record {
-        becomes = subst (λ m. Becomes v (v.items ++ behind_items v gap n) m (run_count m) v) (sym (no_moves gap n e)) (subst (λ l. Becomes v l 0 0 v) items (Becomes-refl v));
-        behind = ap (λ i. drop i (drop gap v.behind)) (sym e);
-      }
+  pub closes_none : (v : Vector T A) (gap : ℕ) → ClosesGap v gap 0 v
+  closes_none v gap =
+      let none : moved_over gap 0 ≡ 0 = grind arith in
+      record { becomes = rw (none, run-zero (drop gap v.behind) 0, append-nil v.items) (Becomes-refl v); behind = refl }
 
   pub closes_by_one : (old mid new : Vector T A) (gap : ℕ) (x : T) → 0 < gap → behind_items old gap 1 ≡ x ∷ [] → mid ≡ with_behind old (slice_set old.behind gap None) → Becomes mid (mid.items ++ x ∷ []) 1 1 new
       → new.behind ≡ drop 1 mid.behind → ClosesGap old gap 1 new
-  closes_by_one old mid new gap x some e taken put behind =
-      let one = moved_some gap 1 some in
-      record {
-        becomes =
-            let items : mid.items ++ x ∷ [] ≡ old.items ++ behind_items old gap 1 = ap (λ v. v.items ++ x ∷ []) taken ∙ ap (λ l. old.items ++ l) (sym e) in
-            subst (λ m. Becomes old (old.items ++ behind_items old gap 1) m (run_count m) new) (sym one)
-            (subst (λ l. Becomes old l 1 1 new) items (Becomes-then old old.items 0 0 mid (Becomes-behind old mid (slice_set old.behind gap None) taken) (mid.items ++ x ∷ []) 1 1 new put 1 1 (omega arith) (omega arith)));
-        behind = ap (drop gap) behind ∙ drop-drop gap 1 mid.behind ∙ ap (λ i. drop i mid.behind) (omega arith) ∙ ap (λ v. drop (gap + 1) v.behind) taken ∙ drop-set-lt (gap + 1) old.behind gap None (omega arith) ∙ sym (drop-drop 1 gap old.behind);
-      }
+  closes_by_one old mid new gap x some e taken put behind = record {
+    becomes = rw (moved_some gap 1 some, e) (rw taken at put);
+    behind = ap (drop gap) behind ∙ drop-drop gap 1 mid.behind ∙ ap (λ i. drop i mid.behind) (omega arith) ∙ ap (λ v. drop (gap + 1) v.behind) taken ∙ drop-set-lt (gap + 1) old.behind gap None (omega arith) ∙ sym (drop-drop 1 gap old.behind);
+  }
 
-pub ruleset closing = (closes_none, closes_by_one)
+pub ruleset closing = (closes_by_one)
 
 -- of the elements behind a gap the first k were moved down
 module _ {T A : Type 0} {v closed : Vector T A} {gap k : ℕ} (closes : ClosesGap v gap k closed) where

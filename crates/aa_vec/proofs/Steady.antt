@@ -6,25 +6,24 @@ use Rattle.aa_vec.proofs.Closed.{counted, removed_count}
 abbrev pub told_by : {T : Type 0} → (T → Bool) → (T → T) → T → Asked T
 told_by p h x = record { answer = p x; left = h x }
 
--- each element is told by the closure's own answer
+-- each element is told by the closure's own answer, in any state that it comes to
+told-in : {F T : Type 0} (Asks : F → T → Bool → F → T → Type 0) (p : T → Bool) (h : T → T) (In : F → Type 0) → ((f : F) (x : T) (answer : Bool) (g : F) (y : T) → In f → Asks f x answer g y → (answer ≡ p x) × (y ≡ h x) × In g)
+    → (f : F) (xs : List T) (told : List (Asked T)) (g : F) → In f → AskedInOrder Asks f xs told g → told ≡ map (told_by p h) xs
+told-in Asks p h In steady f [] [] g i a = refl
+told-in Asks p h In steady f (x ∷ xs) (y ∷ told) g i a =
+    let s = steady f x y.answer a.0 y.left i a.1 in
+    let one : y ≡ told_by p h x = λ j. record { answer = s.0 j; left = s.1 j } in
+    ap (λ z. z ∷ told) one ∙ ap (λ l. told_by p h x ∷ l) (told-in Asks p h In steady a.0 xs told g s.2 a.2)
+told-in Asks p h In steady f xs told g i a = absurd a
+
 pub asked-steady : {F T : Type 0} (Asks : F → T → Bool → F → T → Type 0) (p : T → Bool) (h : T → T) → ((f : F) (x : T) (answer : Bool) (g : F) (y : T) → Asks f x answer g y → (answer ≡ p x) × (y ≡ h x))
     → (f : F) (xs : List T) (told : List (Asked T)) (g : F) → AskedInOrder Asks f xs told g → told ≡ map (told_by p h) xs
-asked-steady Asks p h steady f [] [] g a = refl
-asked-steady Asks p h steady f (x ∷ xs) (y ∷ told) g a =
-    let s = steady f x y.answer a.0 y.left a.1 in
-    let one : y ≡ told_by p h x = λ i. record { answer = s.0 i; left = s.1 i } in
-    ap (λ z. z ∷ told) one ∙ ap (λ l. told_by p h x ∷ l) (asked-steady Asks p h steady a.0 xs told g a.2)
-asked-steady Asks p h steady f xs told g a = absurd a
+asked-steady Asks p h steady f xs told g a = told-in Asks p h (λ f. Unit {0}) (λ f x answer g y i b. let s = steady f x answer g y b in (s.0, s.1, tt)) f xs told g tt a
 
 -- and by one that only reads what it holds, in the state that it has
 pub asked-reading : {F T : Type 0} (Asks : F → T → Bool → F → T → Type 0) (p : T → Bool) (f : F) → ((x : T) (answer : Bool) (g : F) (y : T) → Asks f x answer g y → (answer ≡ p x) × (y ≡ x) × (g ≡ f))
     → (xs : List T) (told : List (Asked T)) (g : F) → AskedInOrder Asks f xs told g → told ≡ map (told_by p (λ x. x)) xs
-asked-reading Asks p f reads [] [] g a = refl
-asked-reading Asks p f reads (x ∷ xs) (y ∷ told) g a =
-    let s = reads x y.answer a.0 y.left a.1 in
-    let one : y ≡ told_by p (λ x. x) x = λ i. record { answer = s.0 i; left = s.1 i } in
-    ap (λ z. z ∷ told) one ∙ ap (λ l. told_by p (λ x. x) x ∷ l) (asked-reading Asks p f reads xs told g (subst (λ next. AskedInOrder Asks next xs told g) s.2 a.2))
-asked-reading Asks p f reads xs told g a = absurd a
+asked-reading Asks p f reads xs told g a = told-in Asks p (λ x. x) (λ g. g ≡ f) (λ e x answer g y i b. reads x answer g y (subst (λ s. Asks s x answer g y) i b)) f xs told g refl a
 
 module _ {F T : Type 0} (Asks : F → T → T → Bool → F → T → T → Type 0) (same : T → T → Bool) (steady : (f : F) (x l : T) (answer : Bool) (g : F) (y k : T) → Asks f x l answer g y k → (answer ≡ same x l) × (y ≡ x) × (k ≡ l)) where
   -- the answers of such a test, the first beside l

@@ -166,6 +166,7 @@ impl<T, A: Allocator> Vec<T, A> {
     /// Takes the elements of the range out of the vector at which `f` answers true. `f` is asked of
     /// each in order, as it is taken, and what it leaves of the others stays. The capacity stays;
     /// it takes no memory. It stands for `Vec::extract_if`.
+    #[tactic(auto, using(crate::proofs::ExtractRuns::extracts_along))]
     pub fn extract_if<F: FnMut(&mut T) -> bool>(
         &mut self,
         range: Range<usize>,

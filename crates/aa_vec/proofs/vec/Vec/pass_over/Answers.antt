@@ -1,4 +1,4 @@
-use Rattle.aa_vec.proofs.Common.{false, refl, subst, CalledAtMut, StaysWhen, StandsBehind}
+use Rattle.aa_vec.proofs.Common.{false, subst, CalledAtMut, StaysWhen, StandsBehind}
 use Rattle.aa_vec.proofs.ExtractTurns.{asked_first, asked_down}
 use Rattle.aa_vec.proofs.Stands.{closes_none}
 use Rattle.aa_vec.proofs.vec.Vec.pass_over.Goals as goal
@@ -11,7 +11,7 @@ close_gap_by_one-requires-clause-stands g c =
     subst (λ k. StandsBehind c.spare_behind-stay.new.self c.args.gap k) c.if-stay-eq1.true (asked_first (StaysWhen false (CalledAtMut g.F.FnMut)) c.spare_behind-stay.ensures c.requires.stands)
 
 pub returns-then-stay-eq0 : goal.returns-then-stay-eq0
-returns-then-stay-eq0 g c = asked_down (StaysWhen false (CalledAtMut g.F.FnMut)) c.spare_behind-stay.ensures c.requires.stands c.if-stay-eq0.true (closes_none c.spare_behind-stay.new.self c.args.gap 0 refl)
+returns-then-stay-eq0 g c = asked_down (StaysWhen false (CalledAtMut g.F.FnMut)) c.spare_behind-stay.ensures c.requires.stands c.if-stay-eq0.true (closes_none c.spare_behind-stay.new.self c.args.gap)
 
 pub returns-then-gap-gt0 : goal.returns-then-gap-gt0
 returns-then-gap-gt0 g c = asked_down (StaysWhen false (CalledAtMut g.F.FnMut)) c.spare_behind-stay.ensures c.requires.stands c.if-stay-eq1.true c.close_gap_by_one.ensures

@@ -1,9 +1,9 @@
-use Rattle.aa_vec.proofs.Common.{◌≡◌, ◌-◌, refl, subst, arith, TakesNext}
+use Rattle.aa_vec.proofs.Common.{◌≡◌, ◌-◌, subst, arith, TakesNext}
 use Rattle.aa_vec.proofs.Stands.{closes_none, others_first, takes_next, takes_none}
 use Rattle.aa_vec.proofs.vec.behind.steps.step_over.Goals as goal
 
 pub returns-then-kept-eq0 : goal.returns-then-kept-eq0
-returns-then-kept-eq0 g c = takes_next (closes_none c.args.list c.args.gap 0 refl) c.if-kept-eq0.true c.take_behind.ensures.after (omega (arith, c.requires.some)) (omega arith)
+returns-then-kept-eq0 g c = takes_next (closes_none c.args.list c.args.gap) c.if-kept-eq0.true c.take_behind.ensures.after (omega (arith, c.requires.some)) (omega arith)
 
 pub take_behind-requires-then-left-gt1 : goal.take_behind-requires-then-left-gt1
 take_behind-requires-then-left-gt1 g c = others_first c.close_gap_by_one.ensures (c.args.end - c.args.at) c.requires.stands (omega (arith, c.if-left-gt1.true))
