@@ -1,6 +1,6 @@
 -- Elements behind the items of a vector that are dropped, taken from either end, or moved down behind others.
-use Rattle.aa_vec.proofs.Common.{◌≡◌, ℕ, ◌+◌, ◌-◌, ◌≤◌, List, drop, replicate, Option, None, refl, sym, ap, ◌∙◌, subst, arith, length-append, drop-drop, drop_at, length-replicate, IsRun, run, length-run, run-drop, IsRun-part, StandsBehind, ClosesGap, DropsBehind, behind_items, with_behind, Vector, len, ◌++◌, MovesDown, ClosesTwice, Becomes, moved_over, run_count}
-use Rattle.std.proofs.lemmas.List.{append_assoc}
+use Rattle.aa_vec.proofs.Common.{◌≡◌, ℕ, ◌+◌, ◌-◌, ◌≤◌, List, drop, replicate, Option, None, refl, sym, ap, ◌∙◌, subst, arith, length-append, drop-drop, drop_at, length-replicate, IsRun, run, length-run, run-drop, IsRun-part, StandsBehind, ClosesGap, DropsBehind, behind_items, with_behind, Vector, len, append_assoc, ◌++◌, MovesDown, ClosesTwice, Becomes, moved_over, run_count}
+use Rattle.std.proofs.Math.Nat.{add_assoc}
 use Rattle.aa_vec.proofs.Becoming.{Becomes-behind, Becomes-then}
 use Rattle.aa_vec.proofs.Gaps.{further, run-of_drop, IsRun-to_drop}
 
@@ -51,11 +51,8 @@ module _ {T A : Type 0} where
 
   pub ClosesTwice-lowered : (v w z : Vector T A) (gap n end m : ℕ) → gap + n ≤ end → ClosesGap v gap n w → ClosesGap w (end - n) m z → ClosesTwice v gap n end m z
   ClosesTwice-lowered v w z gap n end m h first second =
-      let others : behind_items w (end - n) m ≡ behind_items v end m = still_are v w end (end - n) m (above_lowered v w gap n end h first) in
-      let items : w.items ++ behind_items w (end - n) m ≡ v.items ++ (behind_items v gap n ++ behind_items v end m) = (λ i. (first.becomes i).items ++ others i) ∙ append_assoc v.items (behind_items v gap n) (behind_items v end m) in
-      let lower : ℕ = moved_over gap n in let upper : ℕ = moved_over (end - n) m in
-      subst (λ l. Becomes v l (lower + upper) (run_count lower + run_count upper) z) items
-      (Becomes-then v (v.items ++ behind_items v gap n) lower (run_count lower) w first.becomes (w.items ++ behind_items w (end - n) m) upper (run_count upper) z second.becomes (lower + upper) (run_count lower + run_count upper) refl refl)
+      rw (← append_assoc v.items (behind_items v gap n) (behind_items v end m), ← still_are v w end (end - n) m (above_lowered v w gap n end h first), ← add_assoc v.written, ← add_assoc v.runs)
+      (rw first.becomes at second.becomes)
 
 -- a run dropped or moved down, and a later one moved down
 pub ruleset closing = (above_dropped, above_lowered, MovesDown-dropped, ClosesTwice-lowered, length-run, length-append)

@@ -12,7 +12,7 @@ pub use Rattle.aa_raw.specs.declared.raw_vec.Growth.{Growth}
 pub use Rattle.aa_raw.specs.declared.raw_vec.Growth.TheVariants.{Doubling, Sparing}
 pub use Rattle.aa_vec.specs.Arrays.{flattened}
 pub use Rattle.aa_vec.specs.Behind.{ClosesGap, ClosesTwice, DropsBehind, LeavesBehind, MovesDown, SetsBack, StandsBehind, behind_items, with_behind}
-pub use Rattle.aa_vec.specs.Choosing.{Asked, AskedInOrder, ChainsFrom, Deduplicated, Deduplicates, EndsTrue, IsCallableAlong, IsCallableInOrder, MayAskInOrder, MayChainFrom, MayDeduplicate, Retains, TakesMut, answers_of, kept, kept_behind_removed, passed_over}
+pub use Rattle.aa_vec.specs.Choosing.{Asked, AskedInOrder, ChainsFrom, Deduplicated, Deduplicates, EndsTrue, Equals, IsCallableAlong, IsCallableInOrder, MayAskInOrder, MayChainFrom, MayDeduplicate, Reads, Retains, TakesForKeys, TakesMut, answers_of, kept, kept_behind_removed, passed_over}
 pub use Rattle.aa_vec.specs.Copies.{Adds, AddsAnswers, Begins, Copies, Fills, IsMade, IsMadeOfOne, MayCallTimes, Refuses, Undone, WritesAtMost}
 pub use Rattle.aa_vec.specs.Extend.{GrowsInSteps, CopiesOf, Extended, Extends, ItemsLeft, EndsAt, Takes, TellsAtMost, TellsExactly, YieldsTelling, asked_with, gives_item, grows, lower_by, stays}
 pub use Rattle.aa_vec.specs.Extract.{ClosesExtract, Extracted, Extracts, ExtractsAlong, ExtractsRange, extract_count, extract_kept, extract_rest, extract_tail, extract_vec}
@@ -32,7 +32,7 @@ pub use Rattle.std.proofs.lemmas.Bool.Decides.{eqb_tells, nat_tests}
 pub use Rattle.std.proofs.lemmas.List.{append-nil, drop-append-le, drop-drop, drop-map, drop-set, drop-set-add, drop-set-lt, drop-take, drop_all, drop_at, get_or-drop, get_or-replicate, get_or-take, get_or_append_left, length-map, length-replicate, length-take-le, map-append, map-id, replicate_more, same_from_push, take-append-drop, take-append-le, take-set, take_all, take_at}
 pub use Rattle.std.proofs.lemmas.List.Elements.{all_zip_more, filter-append, length_all_zip, same_from_all_zip}
 pub use Rattle.std.proofs.lemmas.Result.{err_from_is_err_and}
-pub use Rattle.std.specs.Fn.{CalledAtMut, CalledAtPairMut}
+pub use Rattle.std.specs.Fn.{CalledAtMut, CalledAtPairMut, ComparesKeys, TakesAt}
 pub use Rattle.std.specs.Iterator.{Count, Drains, IsFinite, IsNearerEnd, MakesProgress, Yields, at_most, size, size as count_of}
 pub use Rattle.std.specs.Iterator.Runs.{WholeRun, YieldsInOrder, YieldsInReverse}
 pub use Rattle.std.specs.List.{AllZip, FoldsTo, dedup, dedup_from, length_refill, refill}

@@ -1,5 +1,6 @@
 -- What calls that take elements out of a range leave, one after the other.
 use Rattle.aa_vec.proofs.Common.{◌≡◌, ℕ, suc, ◌+◌, ◌-◌, ◌<◌, ◌≤◌, Bool, true, not, List, [], ◌∷◌, ◌++◌, length, map, take, drop, Option, Some, None, refl, sym, ap, ◌∙◌, subst, arith, inl, inr, append_assoc, length-append, length-drop, length-take, filter, Yields, append-nil, drop-drop, filter-append, length-map, Asked, AskedInOrder, MayAskInOrder, IsCallableInOrder, kept, passed_over, Extracts, extract_kept, extract_rest, ExtractBy, ExtractIf, MakesProgress, at_most, map-append, Extracted, ExtractsAlong, extract_count, extract_vec, EndsTrue, Becomes, moved_over, run_count}
+use Rattle.std.proofs.Math.Nat.{add_assoc}
 use lib.Seq.{take-add}
 use Rattle.std.proofs.lemmas.List.Filters.{length-filter_both}
 use Rattle.aa_vec.proofs.Becoming.{Becomes-refl, Becomes-then}
@@ -80,8 +81,7 @@ module _ {F T : Type 0} (Asks : F → T → Bool → F → T → Type 0) where
               moved = now.moved + moved;
               runs = now.runs + run_count moved;
               few = omega (arith, now.few, moved_most (extract_count t) (length (passed_over next.told)), ap length passed, length-append (passed_over now.told) (passed_over next.told));
-              becomes = subst (λ l. Becomes s.vec.now l (now.moved + moved) (now.runs + run_count moved) w.vec.now) (ap (λ v. v.items) now.becomes)
-                  (Becomes-then s.vec.now s.vec.now.items now.moved now.runs t.vec.now now.becomes t.vec.now.items moved (run_count moved) w.vec.now next.becomes _ _ refl refl);
+              becomes = rw (← add_assoc s.vec.now.written, ← add_assoc s.vec.now.runs) (rw now.becomes at next.becomes);
             }
 
       -- an element was taken out

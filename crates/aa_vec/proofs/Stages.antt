@@ -52,7 +52,7 @@ module _ {F T A : Type 0} (Ends : F → (items yet : List T) → List Bool → F
             ends = λ told x ys a.
                 let q = now.ends (marks k n told) x ys (t.ends told x ys (subst (λ xs. Ends g (w.items ++ take k left) xs told x ys) are (subst (λ xs. Ends g xs (behind_items z i m) told x ys) items a))) in
                 (q.0, q.1, omega (arith, q.2, wrote, marks-written gap k n t.within told, ap (λ j. still j told) e), omega (arith, q.3, (marks-are k n t.within told).1, e));
-            block = SameBlock-trans (SameBlock-trans now.block (SameBlock-becomes _ _ _ _ _ t.becomes.1)) (SameBlock-trans (SameBlock-becomes _ _ _ _ _ closes.becomes) (record { capacity = ap (λ s. s.capacity) same; growth = ap (λ s. s.growth) same; grown = ap (λ s. s.grown) same; alloc = ap (λ s. s.alloc) same }));
+            block = SameBlock-trans (SameBlock-trans now.block (SameBlock-becomes _ _ _ _ _ t.becomes.1)) (SameBlock-becomes _ _ _ _ _ (same ∙ ap (λ s. with_behind s z.behind) closes.becomes));
             runs = omega (arith, ap (λ s. s.runs) same, ap (λ s. s.runs) closes.becomes, ap (λ s. s.runs) t.becomes.1, now.runs, few_runs gap k, no_run gap k, e, l, t.within);
           }
 

@@ -1,11 +1,10 @@
-use Rattle.aa_vec.proofs.Common.{◌-◌, subst, arith, CalledAtPairMut, TakesPairMut, MayChainFrom}
+use Rattle.aa_vec.proofs.Common.{◌-◌, arith, CalledAtPairMut, TakesPairMut}
 use Rattle.aa_vec.proofs.Chains.{first_is, may_follow}
 use Rattle.aa_vec.proofs.vec.Vec.chain_behind.Goals as goal
 
 pub ask_last-requires-clause-callable : goal.ask_last-requires-clause-callable
 ask_last-requires-clause-callable g c front last x e next =
-    (subst (MayChainFrom (CalledAtPairMut g.F.FnMut) (TakesPairMut g.F.FnMut) c.args.same.now last)
-    (first_is (CalledAtPairMut g.F.FnMut) c.args.same.now c.args.self.now c.args.gap (c.args.end - c.args.at) (omega (arith, c.requires.some)) c.requires.stands x next) (c.requires.callable front last e)).0
+    (rw (first_is (CalledAtPairMut g.F.FnMut) c.args.same.now c.args.self.now c.args.gap (c.args.end - c.args.at) (omega (arith, c.requires.some)) c.requires.stands x next) at (c.requires.callable front last e)).0
 
 pub chain_on-requires-clause-callable : goal.chain_on-requires-clause-callable
 chain_on-requires-clause-callable g c =

@@ -1,5 +1,4 @@
-use Rattle.std.proofs.Common.{rules, ap, ◌∙◌}
-use Rattle.aa_vec.specs.Choosing.{Equals, Deduplicates}
+use Rattle.aa_vec.proofs.Common.{rules, ap, ◌∙◌, Equals, Deduplicates}
 use Rattle.aa_vec.proofs.Callable.{IsCallableAlong-any}
 use Rattle.aa_vec.proofs.Handed.{Deduplicates-on}
 use Rattle.aa_vec.proofs.Steady.{deduplicated-steady}

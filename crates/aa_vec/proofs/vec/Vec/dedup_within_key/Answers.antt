@@ -1,6 +1,4 @@
-use Rattle.std.proofs.Common.{rules, subst, ◌∙◌}
-use Rattle.std.specs.Fn.{CalledAtMut, ComparesKeys}
-use Rattle.aa_vec.specs.Choosing.{TakesForKeys}
+use Rattle.aa_vec.proofs.Common.{rules, subst, ◌∙◌, CalledAtMut, ComparesKeys, TakesForKeys}
 use Rattle.aa_vec.proofs.Handed.{Deduplicates-lent, IsCallableAlong-on}
 use Rattle.aa_vec.proofs.vec.Vec.dedup_within_key.Goals as goal
 

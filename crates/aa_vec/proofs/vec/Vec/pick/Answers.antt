@@ -1,4 +1,4 @@
-use Rattle.aa_vec.proofs.Common.{ℕ, ◌-◌, Option, sym, ◌∙◌, subst, arith, CalledAtMut, SetsBack, Picks, len}
+use Rattle.aa_vec.proofs.Common.{◌-◌, ◌∙◌, arith, CalledAtMut}
 use Rattle.aa_vec.proofs.ExtractTurns.{joined_stand, next_stand, Picks-none, Picks-taken}
 use Rattle.aa_vec.proofs.Stands.{first_stand}
 use Rattle.aa_vec.proofs.vec.Vec.pick.Goals.{then-stay-count, else-stay-count}
@@ -14,12 +14,10 @@ take_behind-requires g c =
 
 pub returns : goal.returns
 returns g c =
-    let old = c.args.self.now in let now = c.pass_over-stay in let last = c.if-stay-count.self in let new = c.set_back.new.self in
-    let Is : (ℕ × Option g.row.T.Denot) → Type 0 = λ r. Picks (CalledAtMut g.F.FnMut) c.args.f.now old c.args.kept c.args.front c.args.end now.result r.0 r.1 now.new.f new in
-    let set : SetsBack last (len old) new = subst (λ i. SetsBack last i new) c.len-len.ensures.count c.set_back.ensures.set_back in
+    let set = rw c.len-len.ensures.count at c.set_back.ensures.set_back in
     elim c.if-stay-count.branch [
-      | then-stay-count w ↦ subst Is (sym w.next-is) (Picks-taken c.args.front c.args.end c.requires.ordered c.requires.stands.0 c.requires.stands.1 c.close_gap.ensures (CalledAtMut g.F.FnMut) now.ensures
+      | then-stay-count w ↦ rw w.next-is (Picks-taken c.args.front c.args.end c.requires.ordered c.requires.stands.0 c.requires.stands.1 c.close_gap.ensures (CalledAtMut g.F.FnMut) c.pass_over-stay.ensures
           w.if-stay-count.true w.take_behind.ensures.value (w.self-is ∙ w.take_behind.ensures.after) set)
-      | else-stay-count w ↦ subst Is (sym w.next-is) (Picks-none c.args.front c.args.end c.requires.ordered c.requires.stands.0 c.requires.stands.1 c.close_gap.ensures (CalledAtMut g.F.FnMut) now.ensures
-          w.if-stay-count.false (subst (λ v. SetsBack v (len old) new) w.self-is set))
+      | else-stay-count w ↦ rw w.next-is (Picks-none c.args.front c.args.end c.requires.ordered c.requires.stands.0 c.requires.stands.1 c.close_gap.ensures (CalledAtMut g.F.FnMut) c.pass_over-stay.ensures
+          w.if-stay-count.false (rw w.self-is at set))
     ]

@@ -1,6 +1,4 @@
-use Rattle.std.proofs.Common.{rules}
-use Rattle.std.specs.Fn.{TakesAt}
-use Rattle.aa_vec.specs.Choosing.{Reads}
+use Rattle.aa_vec.proofs.Common.{rules, TakesAt, Reads}
 use Rattle.aa_vec.proofs.Handed.{Retains-on, IsCallableInOrder-on}
 use Rattle.aa_vec.proofs.vec.Vec.retain.Goals as goal
 
