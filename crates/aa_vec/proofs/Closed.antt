@@ -26,8 +26,7 @@ removed-told answer (t ∷ told) = omega (arith, counted not (answer t) (map ans
 
 pub removed-not : (answers : List Bool) → removed_count (map not answers) ≡ count_by (λ goes. goes) answers
 removed-not [] = refl
-removed-not (true ∷ answers) = omega (arith, counted not false (map not answers), counted (λ goes. goes) true answers, removed-not answers)
-removed-not (false ∷ answers) = omega (arith, counted not true (map not answers), counted (λ goes. goes) false answers, removed-not answers)
+removed-not (a ∷ answers) = grind (arith, counted not (not a) (map not answers), counted (λ goes. goes) a answers, removed-not answers)
 
 -- once there is a gap, all that are moved over it are written
 pub moved_some : (gap k : ℕ) → 0 < gap → moved_over gap k ≡ k

@@ -1,7 +1,6 @@
 -- Elements that a closure takes out of a range.
 use Rattle.aa_vec.proofs.Common.{◌≡◌, ℕ, zero, suc, ◌+◌, ◌-◌, ◌<◌, ◌≤◌, Bool, true, false, List, [], ◌∷◌, ◌++◌, length, map, take, drop, Option, Some, None, refl, sym, ap, ◌∙◌, subst, arith, inr, append_assoc, length-append, length-drop, slice_set, MatchOption, drop-append-le, drop-drop, drop-map, drop-set-lt, drop_all, drop_at, length-map, length-take-le, take_at, StandsBehind, SetsBack, ClosesGap, behind_items, with_behind, Asked, AskedInOrder, EndsTrue, kept, passed_over, StaysWhen, AsksUntil, AsksBehind, Picks, Vector, len, KeepsDown, moved_over, run_count}
-use Rattle.aa_vec.proofs.Becoming.{Becomes-behind, Becomes-holds, SameBlock-becomes}
-use Rattle.aa_vec.proofs.GrowthLemmas.{SameBlock-trans}
+use Rattle.aa_vec.proofs.Becoming.{Becomes-holds}
 use Rattle.aa_vec.proofs.ExtractRuns.{asked_parts}
 use Rattle.aa_vec.proofs.BehindLemmas.{still_stand, still_are}
 use Rattle.aa_vec.proofs.Retaining.{Told, May, turn-asked}
@@ -130,13 +129,12 @@ module _ {T A : Type 0} {old joined : Vector T A} {low : ℕ} (front end : ℕ) 
         asked = told.asked;
         cases = cases;
         counts = (sym told.few, omega (arith, e, told.few, asked_parts told.told));
-        becomes = Becomes-holds old old.items (moved_over gap stay) (run_count (moved_over gap stay)) new (record {
-          items = ap (λ u. u.items) set.becomes ∙ ap (take (len old)) items ∙ take_at old.items stays (len old) refl;
-          block = SameBlock-trans (SameBlock-becomes _ _ _ _ _ joins.becomes) (SameBlock-trans (SameBlock-becomes _ _ _ _ _ (Becomes-behind joined keeps.left _ keeps.asks.leaves.same)) (SameBlock-trans (SameBlock-becomes _ _ _ _ _ keeps.closes.becomes) (SameBlock-trans (SameBlock-becomes _ _ _ _ _ (Becomes-behind down w places differs)) (SameBlock-becomes _ _ _ _ _ set.becomes))));
-        }) (record {
-          written = omega (arith, ap (λ v. v.written) joins.becomes, ap (λ v. v.written) keeps.asks.leaves.same, ap (λ v. v.written) keeps.closes.becomes, ap (λ v. v.written) differs, ap (λ v. v.written) set.becomes);
-          runs = omega (arith, ap (λ v. v.runs) joins.becomes, ap (λ v. v.runs) keeps.asks.leaves.same, ap (λ v. v.runs) keeps.closes.becomes, ap (λ v. v.runs) differs, ap (λ v. v.runs) set.becomes);
-        });
+        becomes =
+            let all = rw joins.becomes at (rw keeps.asks.leaves.same at (rw keeps.closes.becomes at (rw differs at set.becomes))) in
+            Becomes-holds old old.items (moved_over gap stay) (run_count (moved_over gap stay)) new (record {
+              items = ap (λ u. u.items) set.becomes ∙ ap (take (len old)) items ∙ take_at old.items stays (len old) refl;
+              block = record { capacity = ap (λ u. u.capacity) all; growth = ap (λ u. u.growth) all; grown = ap (λ u. u.grown) all; alloc = ap (λ u. u.alloc) all };
+            }) (record { written = omega (arith, ap (λ u. u.written) all); runs = omega (arith, ap (λ u. u.runs) all) });
         stands = subst (StandsBehind new 0) set_count set.stands;
         stayed = ap (behind_items new 0) (sym set_count) ∙ set.elements ∙ back ∙ ap (λ l. behind_items old 0 low ++ l) (sym told.stays);
         within = inside;

@@ -68,9 +68,7 @@ module _ {F T A : Type 0} (Asks : F → T → Bool → F → T → Type 0) (f : 
         → ((f : F) (x : T) (answer : Bool) (g : F) (y : T) → Asks f x answer g y → (answer ≡ test x) × (y ≡ x)) → new.items ≡ filter (λ x. not (test x)) old.items
     unfolding left_at_end
     left-end new closes e none was range all steady =
-        let stays : T → Bool = λ x. not (test x) in let last = none-of e none in
-        let rest : extract_rest t ≡ filter stays (extract_rest t) = last.cases.1 ∙ ap (filter stays) (sym last.cases.1) in
-        ap (λ v. v.items) closes ∙ ap (λ l. t.vec.now.items ++ (extract_kept t ++ (l ++ extract_tail t))) rest ∙ left-more None (left_at_end test start) last was steady ∙ Range_left test old n start range all
+        let last = none-of e none in cc (ap (λ v. v.items) closes, last.cases.1, left-more None (left_at_end test start) last was steady, Range_left test old n start range all)
 
 -- all that comes out of a vector
 module _ {F T A : Type 0} (Asks : F → T → Bool → F → T → Type 0) (test : T → Bool) where

@@ -49,14 +49,10 @@ module _ {F T : Type 0} (Asks : F → T → T → Bool → F → T → T → Typ
   deduplicated-steady f [] answers g ys d = d.2
   deduplicated-steady f (x ∷ xs) answers g ys d = (chained-steady f x xs answers g ys d).1
 
-one_more : {T : Type 0} (h : T → T) (b answer : Bool) (x : T) (us : List (Asked T)) (vs : List T) → map (λ t. t.left) us ≡ map h vs → map (λ (t : Asked T). t.left) (cond b (record { answer = answer; left = h x } ∷ us) us) ≡ map h (cond b (x ∷ vs) vs)
-one_more h true answer x us vs e = ap (λ l. h x ∷ l) e
-one_more h false answer x us vs e = e
-
 -- those that are told so by such a closure
 pub chosen-steady : {T : Type 0} (q : Bool → Bool) (p : T → Bool) (h : T → T) (xs : List T) → map (λ (t : Asked T). t.left) (filter (λ t. q t.answer) (map (told_by p h) xs)) ≡ map h (filter (λ x. q (p x)) xs)
 chosen-steady q p h [] = refl
-chosen-steady q p h (x ∷ xs) = one_more h (q (p x)) (p x) x _ _ (chosen-steady q p h xs)
+chosen-steady q p h (x ∷ xs) = grind (arith, chosen-steady q p h xs)
 
 pub kept-steady : {T : Type 0} (p : T → Bool) (h : T → T) (xs : List T) → kept (map (told_by p h) xs) ≡ map h (filter p xs)
 kept-steady = chosen-steady (λ b. b)

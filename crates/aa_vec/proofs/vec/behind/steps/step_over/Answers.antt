@@ -1,4 +1,4 @@
-use Rattle.aa_vec.proofs.Common.{◌≡◌, ◌-◌, subst, arith, TakesNext}
+use Rattle.aa_vec.proofs.Common.{◌≡◌, ◌-◌, arith}
 use Rattle.aa_vec.proofs.Stands.{closes_none, others_first, takes_next, takes_none}
 use Rattle.aa_vec.proofs.vec.behind.steps.step_over.Goals as goal
 
@@ -15,6 +15,4 @@ pub returns-then-kept-eq1 : goal.returns-then-kept-eq1
 returns-then-kept-eq1 g c = takes_none c.close_gap_by_one.ensures c.if-kept-eq1.true (omega (arith, c.if-left-gt1.false))
 
 pub returns : goal.returns
-returns g c =
-    let two : 2 ≡ c.args.kept = omega (arith, c.if-kept-gt2.false, c.if-kept-eq0.false, c.if-kept-eq1.false) in
-    subst (λ k. TakesNext c.args.list c.args.gap c.args.at c.args.end k c.step_over_any-2.result.0 c.step_over_any-2.result.1) two c.step_over_any-2.ensures
+returns g c = let two : 2 ≡ c.args.kept = omega (arith, c.if-kept-gt2.false, c.if-kept-eq0.false, c.if-kept-eq1.false) in rw (← two) c.step_over_any-2.ensures
