@@ -10,10 +10,6 @@ module _ {T : Type 0} where
   split_last (x ∷ []) h = ([], x, refl)
   split_last (x ∷ y ∷ xs) h = let p = split_last (y ∷ xs) (omega arith) in (x ∷ p.0, p.1, ap (λ l. x ∷ l) p.2)
 
-  -- lists that differ in their last element are as long
-  pub same_end : (front : List T) (x y : T) → length (front ++ x ∷ []) ≡ length (front ++ y ∷ [])
-  same_end front x y = length-append front (x ∷ []) ∙ sym (length-append front (y ∷ []))
-
 module _ {F T A : Type 0} (Asks : F → T → T → Bool → F → T → T → Type 0) (f : F) (v : Vector T A) (gap : ℕ) where
   module _ (n : ℕ) (some : 0 < n) (stands : StandsBehind v gap n) where
     pub first_is : (x : T) → behind_items v gap 1 ≡ x ∷ [] → behind_items v gap n ≡ x ∷ drop 1 (behind_items v gap n)
@@ -34,7 +30,7 @@ module _ {F T A : Type 0} (Asks : F → T → T → Bool → F → T → T → T
       now_behind = cc (asked.behind, parts v gap n stands, all)
 
       now_are : behind_items w gap n ≡ asked.next_left ∷ others
-      now_are = replaced_are v gap n stands w (asked.next_left ∷ others) _ (ap len asked.becomes ∙ same_end asked.front asked.last_left asked.last ∙ sym (ap length asked.had.0)) (ap (λ s. s.capacity) asked.becomes) long now_behind
+      now_are = replaced_are v gap n stands w (asked.next_left ∷ others) _ (omega (arith, ap len asked.becomes, length-append {A = T}, ap length asked.had.0)) (ap (λ s. s.capacity) asked.becomes) long now_behind
 
       called : (b : Bool) → answer ≡ b → Asks f asked.next asked.last b g asked.next_left asked.last_left
       called b e = subst (λ a. Asks f asked.next asked.last a g asked.next_left asked.last_left) e asked.called

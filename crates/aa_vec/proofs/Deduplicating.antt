@@ -1,7 +1,7 @@
 -- Elements asked beside the last one kept, of which those that stay were moved down.
 use Rattle.aa_vec.proofs.Common.{IsCallableAlong, ◌≡◌, ℕ, zero, suc, ◌+◌, ◌-◌, ◌≤◌, ◌<◌, Bool, true, false, not, List, [], ◌∷◌, ◌++◌, length, map, take, drop, refl, sym, ap, ◌∙◌, subst, arith, append_assoc, length-append, StandsBehind, SetsBack, behind_items, kept_behind_removed, ChainsFrom, Deduplicated, MayChainFrom, MayDeduplicate, Deduplicates, ChainsUntil, ChainsBehind, Vector, len, Becomes, same_from_push}
 use Rattle.aa_vec.proofs.Becoming.{Becomes-refl}
-use Rattle.aa_vec.proofs.Chains.{same_end, split_last}
+use Rattle.aa_vec.proofs.Chains.{split_last}
 use Rattle.aa_vec.proofs.Closed.{marks, removed_count, removed-not}
 use Rattle.aa_vec.proofs.Stages.{Turn, Stage, Turned, turned, start-len, stage-start, stage-ended}
 use Rattle.aa_vec.proofs.Stands.{count, replaced_are, replaced_stand}
@@ -76,7 +76,7 @@ module _ {F T : Type 0} (Asks : F → T → T → Bool → F → T → T → Typ
           let r = follows h g asked.last (behind_items v gap n) k ws asked.until in
           let many : length (behind_items v gap n) ≡ n = count v gap n stands in
           let long : length asked.left ≡ n = omega (arith, r.long, many) in
-          let same : len w ≡ len v = ap len asked.becomes ∙ same_end asked.front asked.last_left asked.last ∙ sym (ap length asked.had) in
+          let same : len w ≡ len v = omega (arith, ap len asked.becomes, length-append {A = T}, ap length asked.had) in
           let front : List T = asked.front ++ r.before in
           let items : w.items ++ take k asked.left ≡ front ++ r.last ∷ [] =
           ap (λ s. s.items ++ take k asked.left) asked.becomes ∙ append_assoc asked.front (asked.last_left ∷ []) (take k asked.left) ∙ ap (λ l. asked.front ++ l) r.are ∙ sym (append_assoc asked.front r.before (r.last ∷ [])) in

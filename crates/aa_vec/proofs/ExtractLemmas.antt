@@ -1,5 +1,5 @@
 -- Calls that take elements out of a range.
-use Rattle.aa_vec.proofs.Common.{re_v, ◌≡◌, ℕ, ◌+◌, ◌-◌, ◌≤◌, Bool, false, not, List, [], ◌∷◌, ◌++◌, length, drop, Option, Some, None, refl, sym, ap, ◌∙◌, subst, arith, length-append, MutBor, MatchOption, take-append-drop, run-zero, StandsBehind, SetsBack, ClosesTwice, behind_items, EndsTrue, MayAskInOrder, kept, ClosesExtract, ExtractsRange, Extracts, StaysWhen, Picks, Vector, len, Becomes, moved_over, run_count, ExtractBy, run}
+use Rattle.aa_vec.proofs.Common.{re_v, ◌≡◌, ℕ, ◌+◌, ◌-◌, ◌≤◌, Bool, false, not, List, [], ◌∷◌, ◌++◌, length, drop, Option, Some, None, refl, sym, ap, ◌∙◌, subst, arith, length-append, zero-add, MutBor, MatchOption, take-append-drop, run-zero, StandsBehind, SetsBack, ClosesTwice, behind_items, EndsTrue, MayAskInOrder, kept, ClosesExtract, ExtractsRange, Extracts, StaysWhen, Picks, Vector, len, Becomes, moved_over, run_count, ExtractBy, run}
 use Rattle.aa_vec.specs.Drain.{drain_rest}
 use Rattle.aa_vec.specs.Extract.{extract_kept, extract_rest, extract_tail}
 use Rattle.aa_vec.proofs.Becoming.{Becomes-holds, Holds-becomes}
@@ -83,8 +83,7 @@ module _ {T A : Type 0} (e : ExtractBy T A) where
   closes_extract w closes =
       let front : List T = behind_items e.vec.now e.front (e.end - e.front) in let tail : List T = behind_items e.vec.now e.end (e.total - e.end) in
       let moved : length front + length tail ≡ e.total - e.front = sym (length-append front tail) ∙ sym (ap length closed_parts) ∙ count e.vec.now e.front (e.total - e.front) e.held.1 in
-      let xs : List T = e.vec.now.items ++ (behind_items e.vec.now 0 e.kept ++ behind_items e.vec.now e.front (e.total - e.front)) in let m : ℕ = moved_over (e.front - e.kept) (e.total - e.front) in
-      rw (moved, ← closed_parts) (Becomes-holds e.vec.now xs m (run_count m) w (Holds-becomes e.vec.now xs (moved_over 0 e.kept + m) (run_count (moved_over 0 e.kept) + run_count m) w closes) (record { written = omega (arith, ap (λ u. u.written) closes); runs = omega (arith, ap (λ u. u.runs) closes) }))
+      rw (moved, ← closed_parts) (simp zero-add at closes)
 
 -- a call that asked some of them
 pub ruleset picked = (rest_stand, picked_extracts)

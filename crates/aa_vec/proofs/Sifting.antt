@@ -56,19 +56,16 @@ module _ {F T A : Type 0} (Asks : F → T → Bool → F → T → Type 0) (f : 
   left-more r ws e was steady = left Asks test steady f s r g t e ∙ was
 
   module _ (old : Vector T A) (start : ExtractBy T A) (n : ℕ) (r : Option T) where
-    none-of : Extracts Asks f s r g t → r ≡ None → Extracts Asks f s None g t
-    none-of e none = subst (λ r. Extracts Asks f s r g t) none e
-
     pub taken-end : (zs ws : List T) → Extracts Asks f s r g t → r ≡ None → zs ++ still_taken test s ≡ ws ++ still_taken test start → ExtractsRange old 0 n start → n ≡ len old
         → ((f : F) (x : T) (answer : Bool) (g : F) (y : T) → Asks f x answer g y → (answer ≡ test x) × (y ≡ x)) → zs ≡ ws ++ filter test old.items
     taken-end zs ws e none was range all steady =
-        sym (append-nil zs) ∙ ap (λ l. zs ++ l) (sym (Extracts_none Asks test steady f s g t (none-of e none))) ∙ was ∙ ap (λ l. ws ++ l) (Range_taken test old n start range all)
+        sym (append-nil zs) ∙ ap (λ l. zs ++ l) (sym (Extracts_none Asks test steady f s g t (rw none at e))) ∙ was ∙ ap (λ l. ws ++ l) (Range_taken test old n start range all)
 
     pub left-end : (new : Vector T A) → ClosesExtract t new → Extracts Asks f s r g t → r ≡ None → left_at_end test s ≡ left_at_end test start → ExtractsRange old 0 n start → n ≡ len old
         → ((f : F) (x : T) (answer : Bool) (g : F) (y : T) → Asks f x answer g y → (answer ≡ test x) × (y ≡ x)) → new.items ≡ filter (λ x. not (test x)) old.items
     unfolding left_at_end
     left-end new closes e none was range all steady =
-        let last = none-of e none in cc (ap (λ v. v.items) closes, last.cases.1, left-more None (left_at_end test start) last was steady, Range_left test old n start range all)
+        let last = rw none at e in cc (ap (λ v. v.items) closes, last.cases.1, left-more None (left_at_end test start) last was steady, Range_left test old n start range all)
 
 -- all that comes out of a vector
 module _ {F T A : Type 0} (Asks : F → T → Bool → F → T → Type 0) (test : T → Bool) where

@@ -79,14 +79,13 @@ module _ {F T A : Type 0} (Ends : F → (items yet : List T) → List Bool → F
               let i : next - len z ≡ at - n + 1 = omega (arith, q.1, grown, many, s.here) in let m : end - next ≡ end - at - k - 1 = omega (arith, q.1) in
               let some : 0 < end - at - k = omega (arith, less) in let rest = others_stand w (at - n) (end - at) t.stands k t.within p.closed p.closes in
               let there = part_stand p.closed (at - n) (end - at - k) rest (at - n + 1) (end - at - k - 1) (omega arith) (omega (arith, some)) in
-              let above : drop (at - n + 1) z.behind ≡ drop (at - n + 1) p.closed.behind = ap (λ u. drop (at - n + 1) u.behind) q.0 ∙ drop-set-lt (at - n + 1) p.closed.behind (at - n) None (omega arith) in
-              let stands = still_stand p.closed z (at - n + 1) (at - n + 1) (end - at - k - 1) there (omega (arith, there.0, ap len q.0, ap (λ u. u.capacity) q.0)) above in
-              let are = still_are p.closed z (at - n + 1) (at - n + 1) (end - at - k - 1) above ∙ later_part p.closed (at - n) 1 (end - at - k) (end - at - k - 1) (omega (arith, some)) rest ∙ ap (drop 1) (others_are w (at - n) (end - at) t.stands k t.within p.closed p.closes ∙ ap (drop k) t.are) in
+              let same = drop-set-lt (at - n + 1) p.closed.behind (at - n) None (omega arith) in
               record {
                 here = omega (arith, q.1, grown, s.here);
                 within = omega (arith, q.1, less);
-                on = more h v (at - n) (end - at) stage-on k g w left t p.closed z _ _ p.closes (q.0 ∙ ap (with_behind p.closed) (sym (ap (λ s. s.behind) q.0)))
-                    (rw (i, m) stands) (rw (i, m) are) (omega (arith, i, less)) (omega (arith, m));
+                on = more h v (at - n) (end - at) stage-on k g w left t p.closed z _ _ p.closes (q.0 ∙ ap (with_behind p.closed) (sym (ap (λ s. s.behind) q.0))) (rw (i, m, q.0, same) there)
+                    (rw (i, m, q.0, same) (later_part p.closed (at - n) 1 (end - at - k) (end - at - k - 1) (omega (arith, some)) rest ∙ ap (drop 1) (others_are w (at - n) (end - at) t.stands k t.within p.closed p.closes ∙ ap (drop k) t.are)))
+                    (omega (arith, i, less)) (omega (arith, m));
               }
 
           -- there is none
