@@ -82,12 +82,9 @@ pub seen : {T A : Type 0} (v : Inside T A) (w : Vector T A) → view_of v ≡ w 
 seen v w is gap n stands = subst (λ u. StandsBehind u gap n) (sym is) stands
 
 module _ {T A : Type 0} (v : Inside T A) (front : IsFront v) where
-  count : len (view_of v) ≡ v.len
-  count = length-run v.block.places 0 v.len front
-
   module _ (gap n : ℕ) (stands : StandsBehind (view_of v) gap n) where
     pub within : v.len + gap + n ≤ length v.block.places
-    within = omega (arith, stands.0, count)
+    within = omega (arith, stands.0, length-run v.block.places 0 v.len front)
 
     -- they are a run of the block
     pub there : IsRun v.block.places (v.len + gap) n
@@ -163,10 +160,8 @@ module _ {T A : Type 0} (v : Inside T A) (front : IsFront v) (gap n : ℕ) (stan
   pub LeavesBehind-view : LeavesBehind (view_of v) gap n (refill n xs ws) (view_of (record { block = with_places v.block relent; len = v.len }))
   LeavesBehind-view =
       let room : v.len + gap + n ≤ length v.block.places = within v front gap n stands in
-      let items = run-with-below v.block.places (v.len + gap) n (map Some (refill n xs ws)) 0 v.len room (omega arith) in
-      let capacity = length-with_run v.block.places (v.len + gap) n (map Some (refill n xs ws)) room full in
       record {
-        same = λ i. record { items = items i; capacity = capacity i; growth = v.block.growth; grown = v.block.grown; written = v.block.written; runs = v.block.runs; alloc = v.block.alloc; behind = drop v.len relent };
+        same = λ i. record (view_of v) { items = run-with-below v.block.places (v.len + gap) n (map Some (refill n xs ws)) 0 v.len room (omega arith) i; capacity = length-with_run v.block.places (v.len + gap) n (map Some (refill n xs ws)) room full i; behind = drop v.len relent };
         below = take-laid v.block.places (map Some (refill n xs ws)) v.len gap n room;
         behind = drop-laid v.block.places (map Some (refill n xs ws)) v.len gap n room;
       }

@@ -3,7 +3,7 @@ use Rattle.aa_vec.proofs.Common.{SetsBack, IsCallableInOrder, ◌≡◌, ℕ, ze
 use Rattle.aa_vec.proofs.Becoming.{Becomes-behind}
 use Rattle.aa_vec.proofs.Closed.{marks, removed_count, removed-told}
 use Rattle.aa_vec.proofs.Stages.{Turn, Stage, Turned, turned, stage-start, start-len, stage-ended}
-use Rattle.aa_vec.proofs.Stands.{count, left_are, left_stand}
+use Rattle.aa_vec.proofs.Stands.{count, replaced_are, replaced_stand}
 
 module _ {F T : Type 0} (Asks : F → T → Bool → F → T → Type 0) where
   -- what the closure is told of those that are yet to be asked, and what stays then
@@ -52,8 +52,8 @@ module _ {F T : Type 0} (Asks : F → T → Bool → F → T → Type 0) where
           let same = asked.leaves.same in
           record {
             within = omega (arith, r.within, many);
-            stands = left_stand v gap n stands w asked.left long asked.leaves;
-            are = left_are v gap n stands w asked.left long asked.leaves;
+            stands = replaced_stand v gap n stands w asked.left _ (ap len same) (ap (λ s. s.capacity) same) long asked.leaves.behind;
+            are = replaced_are v gap n stands w asked.left _ (ap len same) (ap (λ s. s.capacity) same) long asked.leaves.behind;
             long = ap (λ s. length s.items) same;
             becomes = (v.items, Becomes-behind v w w.behind same);
             may = r.may;

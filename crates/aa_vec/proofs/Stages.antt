@@ -101,15 +101,12 @@ module _ {F T A : Type 0} (Ends : F → (items yet : List T) → List Bool → F
                 on = more h v (at - n) (end - at) stage-on k g w left t p.closed z _ _ p.closes (q.0 ∙ ap (with_behind p.closed) (sym (ap (λ s. s.behind) q.0))) (rw (i, m, q.0) stands) (rw (i, m) are) (omega (arith, i, all)) (omega (arith, m, all));
               }
 
-          -- the next place is behind it, and where some are left, one has gone
-          stage-next : Stage g z next end × (at < end → at < next) × (next < end → len z < next)
-          stage-next = elim (below_or_not (at + k) end) [
-            | inl less ↦ let q = p.goes less in (gone less, λ some. omega (arith, q.1), λ more. omega (arith, q.1, ap len q.0, long, many, s.here))
-            | inr all ↦ let e : at + k ≡ end = omega (arith, all, turn-within) in let q = p.none e in (none e, λ some. omega (arith, q.1, some), λ more. omega (arith, q.1, more))
-          ]
-
+        -- the next place is behind it, and where some are left, one has gone
         pub turned : Turned at end (at - n) k g w
-        turned = (turn-within, t.stands, stage-next)
+        turned = (turn-within, t.stands, λ z next p. elim (below_or_not (at + k) end) [
+          | inl less ↦ let q = p.goes less in (gone z next p less, λ some. omega (arith, q.1), λ more. omega (arith, q.1, ap len q.0, long z next p, many, s.here))
+          | inr all ↦ let e : at + k ≡ end = omega (arith, all, turn-within) in let q = p.none e in (none z next p e, λ some. omega (arith, q.1, some), λ more. omega (arith, q.1, more))
+        ])
 
     -- all were asked
     pub stage-ended : (g : F) (z : Vector T A) (at end : ℕ) → Stage g z at end → at ≡ end → ((yet : List T) → yet ≡ [] → May g z.items yet → Ends g z.items yet [] g z.items)

@@ -33,13 +33,6 @@ module _ {T A : Type 0} (v : Vector T A) (gap n : ℕ) (stands : StandsBehind v 
       IsRun-long (drop gap w.behind) 0 n (ap length replaced_are ∙ long) (omega (arith, ap length are, length-append (map Some left) rest, length-map left (λ (x : T). Some x), long)),
     )
 
-  module _ (w : Vector T A) (left : List T) (long : length left ≡ n) (leaves : LeavesBehind v gap n left w) where
-    pub left_are : behind_items w gap n ≡ left
-    left_are = replaced_are w left _ (ap len leaves.same) (ap (λ u. u.capacity) leaves.same) long leaves.behind
-
-    pub left_stand : StandsBehind w gap n
-    left_stand = replaced_stand w left _ (ap len leaves.same) (ap (λ u. u.capacity) leaves.same) long leaves.behind
-
   -- the gap was closed by the first k of them
   module _ (k : ℕ) (h : k ≤ n) (w : Vector T A) (closes : ClosesGap v gap k w) where
     pub moved_len : len w ≡ len v + k
