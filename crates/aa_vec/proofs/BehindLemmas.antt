@@ -18,9 +18,7 @@ module _ {T A : Type 0} where
     deeper = grind (arith, drop-drop)
 
     pub part_stand : StandsBehind v at k
-    part_stand =
-        let P : List (Option T) → Type 0 = λ ds. IsRun ds 0 k in
-        (omega (arith, stands.0), subst P (sym deeper) (IsRun-to_drop (drop gap v.behind) (at - gap) k (IsRun-part (drop gap v.behind) 0 n (at - gap) k (omega arith) (omega arith) stands.1)))
+    part_stand = (omega (arith, stands.0), rw deeper (IsRun-to_drop (drop gap v.behind) (at - gap) k (IsRun-part (drop gap v.behind) 0 n (at - gap) k (omega arith) (omega arith) stands.1)))
 
     pub part_are : behind_items v at k ≡ run (drop gap v.behind) (at - gap) k
     part_are = ap (λ ds. run ds 0 k) deeper ∙ run-of_drop (drop gap v.behind) (at - gap) k

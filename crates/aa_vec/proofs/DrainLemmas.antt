@@ -56,9 +56,6 @@ module _ {T A : Type 0} where
 
   -- the items from an index on are behind the others now, of which those up to another index are a range
   module _ (old new : Vector T A) (a b total : ℕ) (range : (a ≤ b) × (b ≤ len old)) (count : a + total ≡ len old) (sets : SetsBack old a new) where
-    abbrev n : ℕ
-    n = b - a
-
     all : StandsBehind new 0 total
     all = let P : ℕ → Type 0 = λ k. StandsBehind new 0 k in subst P (omega (arith, count)) sets.stands
 
@@ -66,14 +63,14 @@ module _ {T A : Type 0} where
     all_are = ap (λ k. behind_items new 0 k) (omega (arith, count)) ∙ sets.elements
 
     pub range_held : StandsBehind new 0 (b - a - 0) × StandsBehind new (b - a) (total - (b - a))
-    range_held = (part_stand new 0 total all 0 (n - 0) (omega arith) (omega (arith, count, range)), part_stand new 0 total all n (total - n) (omega arith) (omega (arith, count, range)))
+    range_held = (part_stand new 0 total all 0 (b - a - 0) (omega arith) (omega (arith, count, range)), part_stand new 0 total all (b - a) (total - (b - a)) (omega arith) (omega (arith, count, range)))
 
-    pub range_drains : (lent : MutBor (Vector T A)) (ordered : (0 ≤ n) × (n ≤ n) × (n ≤ total)) (held : StandsBehind new 0 (n - 0) × StandsBehind new n (total - n)) → TakesRange old a b (record { vec = re_v new lent; front = 0; back = n; end = n; total = total; ordered = ordered; held = held })
+    pub range_drains : (lent : MutBor (Vector T A)) (ordered : (0 ≤ b - a) × (b - a ≤ b - a) × (b - a ≤ total)) (held : StandsBehind new 0 (b - a - 0) × StandsBehind new (b - a) (total - (b - a))) → TakesRange old a b (record { vec = re_v new lent; front = 0; back = b - a; end = b - a; total = total; ordered = ordered; held = held })
     unfolding drain_rest run
     range_drains lent ordered held = record {
       becomes = sets.becomes;
-      rest = ap (behind_items new 0) (omega arith) ∙ first_are new 0 total all n (omega (arith, count, range)) ∙ ap (take n) all_are;
-      tail = grind (arith, later_part new 0 n total (total - n) (omega (arith, count, range)) all, all_are, drop-drop n a old.items);
+      rest = ap (behind_items new 0) (omega arith) ∙ first_are new 0 total all (b - a) (omega (arith, count, range)) ∙ ap (take (b - a)) all_are;
+      tail = grind (arith, later_part new 0 (b - a) total (total - (b - a)) (omega (arith, count, range)) all, all_are, drop-drop (b - a) a old.items);
       range = refl;
       none_front = refl;
       none_back = omega arith;

@@ -119,8 +119,7 @@ module _ {T A : Type 0} {old joined : Vector T A} {low : ℕ} (front end : ℕ) 
 
       above : (j : ℕ) → drop (low + stay + j) new.behind ≡ drop j w.behind
       above j =
-          let some : T → Option T = λ x. Some x in
-          sym (drop-drop j (low + stay) new.behind) ∙ ap (drop j) (ap (drop (low + stay)) (set.behind ∙ ap (λ l. map some l ++ w.behind) back) ∙ drop_at (map some stays) w.behind (low + stay) (length-map stays some ∙ back_long))
+          let behind = drop_at (map (λ (x : T). Some x) stays) w.behind (low + stay) (length-map stays (λ (x : T). Some x) ∙ back_long) in rw (← drop-drop j (low + stay) new.behind, set.behind, back, behind) refl
 
       picked : (next : ℕ) (item : Option T) → next ≡ front + (stay + length (kept told.told)) → (low + stay ≤ next) × (front ≤ next) × (next ≤ end) → drop next new.behind ≡ drop next old.behind
           → MatchOption item ((kept told.told ≡ []) × (next ≡ end)) (λ x. (kept told.told ≡ x ∷ []) × EndsTrue told.told) → Picks Keeps f old low front end stay next item g new

@@ -49,9 +49,7 @@ module _ {Q F T : Type 0} (inner : Q → F) (Outer : Q → T → T → Bool → 
     all_keep q (x ∷ xs) answers r ys d = chain_keeps q x xs answers r ys d
 
     pub Deduplicates-lent : {A : Type 0} (q : Q) (old : Vector T A) (r : Q) (new : Vector T A) (x : F) → Deduplicates Outer q old r new → (name q ≡ name r → x ≡ inner r) → Deduplicates Inner (inner q) old x new
-    Deduplicates-lent q old r new x h ends =
-        let P : F → Type 0 = λ z. Deduplicates Inner (inner q) old z new in
-        subst P (sym (ends (sym (all_keep q old.items h.answers r h.left h.asked)))) (Deduplicates-on q old r new h)
+    Deduplicates-lent q old r new x h ends = rw (ends (sym (all_keep q old.items h.answers r h.left h.asked))) (Deduplicates-on q old r new h)
 
   module _ (TakesOuter : Q → T → T → Type 0) (TakesInner : F → T → T → Type 0) (takes : (q : Q) (x l : T) → TakesInner (inner q) x l → TakesOuter q x l) where
     may_chain_on : (q : Q) (l : T) (xs : List T) → MayChainFrom Inner TakesInner (inner q) l xs → MayChainFrom Outer TakesOuter q l xs

@@ -1,8 +1,7 @@
-use Rattle.aa_vec.proofs.Gaps.{seen, within, IsRun-closed}
+use Rattle.aa_vec.proofs.Gaps.{within, IsRun-closed}
 use Rattle.aa_vec.proofs.vec.Vec.close_gap.Goals as goal
 
 pub invariant_of-self : goal.invariant_of-self
 invariant_of-self g c =
-    let v = c.self.inside in
-    let stands = seen v c.args.self.now c.self.view_is c.args.gap c.args.count c.requires in
+    let v = c.self.inside in let stands = rw (← c.self.view_is) at c.requires in
     rw c.move_down.ensures (IsRun-closed v.block.places v.len c.args.gap c.args.count stands.1 (within v c.self.invariant c.args.gap c.args.count stands) c.self.invariant)
