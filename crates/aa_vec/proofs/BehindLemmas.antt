@@ -1,7 +1,6 @@
 -- Elements behind the items of a vector that are dropped, taken from either end, or moved down behind others.
 use Rattle.aa_vec.proofs.Common.{◌≡◌, ℕ, ◌+◌, ◌-◌, ◌≤◌, List, drop, replicate, Option, None, refl, sym, ap, ◌∙◌, subst, arith, length-append, drop-drop, drop_at, length-replicate, IsRun, run, length-run, run-drop, IsRun-part, StandsBehind, ClosesGap, DropsBehind, behind_items, with_behind, Vector, len, append_assoc, ◌++◌, MovesDown, ClosesTwice, Becomes, moved_over, run_count}
 use Rattle.std.proofs.Math.Nat.{add_assoc}
-use Rattle.aa_vec.proofs.Becoming.{Becomes-behind, Becomes-then}
 use Rattle.aa_vec.proofs.Gaps.{further, run-of_drop, IsRun-to_drop}
 
 module _ {T A : Type 0} where

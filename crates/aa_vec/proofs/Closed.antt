@@ -1,5 +1,5 @@
 -- What is written where gaps are closed: all that stay behind the first that goes, in one run for each that goes.
-use Rattle.aa_vec.proofs.Common.{◌≡◌, ℕ, zero, suc, ◌+◌, ◌-◌, ◌<◌, ◌≤◌, Bool, true, false, not, List, [], ◌∷◌, refl, sym, ap, ◌∙◌, subst, arith, cond, min, kept_behind_removed, map, run_count, moved_over, count_by}
+use Rattle.aa_vec.proofs.Common.{◌≡◌, ℕ, zero, suc, ◌+◌, ◌-◌, ◌<◌, ◌≤◌, Bool, true, false, not, List, [], ◌∷◌, refl, sym, ap, ◌∙◌, arith, cond, min, kept_behind_removed, map, run_count, moved_over, count_by}
 use Rattle.std.proofs.lemmas.List.Sums.{sum_by-cons}
 
 -- how many of those yet to be told will be written: all that stay, once there is a gap

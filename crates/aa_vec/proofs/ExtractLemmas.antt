@@ -2,7 +2,6 @@
 use Rattle.aa_vec.proofs.Common.{re_v, ◌≡◌, ℕ, ◌+◌, ◌-◌, ◌≤◌, Bool, false, not, List, [], ◌∷◌, ◌++◌, length, drop, Option, Some, None, refl, sym, ap, ◌∙◌, subst, arith, length-append, zero-add, MutBor, MatchOption, take-append-drop, run-zero, StandsBehind, SetsBack, ClosesTwice, behind_items, EndsTrue, MayAskInOrder, kept, ClosesExtract, ExtractsRange, Extracts, StaysWhen, Picks, Vector, len, Becomes, moved_over, run_count, ExtractBy, run}
 use Rattle.aa_vec.specs.Drain.{drain_rest}
 use Rattle.aa_vec.specs.Extract.{extract_kept, extract_rest, extract_tail}
-use Rattle.aa_vec.proofs.Becoming.{Becomes-holds, Holds-becomes}
 use Rattle.aa_vec.proofs.BehindLemmas.{still_stand, still_are, part_stand, later_part}
 use Rattle.aa_vec.proofs.DrainLemmas.{range_held, range_drains}
 use Rattle.aa_vec.proofs.ExtractRuns.{asked_parts}

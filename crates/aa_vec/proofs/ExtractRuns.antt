@@ -1,9 +1,9 @@
 -- What calls that take elements out of a range leave, one after the other.
-use Rattle.aa_vec.proofs.Common.{◌≡◌, ℕ, suc, ◌+◌, ◌-◌, ◌<◌, ◌≤◌, Bool, true, not, List, [], ◌∷◌, ◌++◌, length, map, take, drop, Option, Some, None, refl, sym, ap, ◌∙◌, subst, arith, inl, inr, append_assoc, length-append, length-drop, length-take, filter, Yields, append-nil, drop-drop, filter-append, length-map, Asked, AskedInOrder, MayAskInOrder, IsCallableInOrder, kept, passed_over, Extracts, extract_kept, extract_rest, ExtractBy, ExtractIf, MakesProgress, at_most, map-append, Extracted, ExtractsAlong, extract_count, extract_vec, EndsTrue, Becomes, moved_over, run_count}
+use Rattle.aa_vec.proofs.Common.{◌≡◌, ℕ, suc, ◌+◌, ◌-◌, ◌<◌, ◌≤◌, Bool, true, not, List, [], ◌∷◌, ◌++◌, length, map, take, drop, Option, Some, None, refl, sym, ap, ◌∙◌, subst, arith, inl, inr, append_assoc, length-append, length-drop, length-take, filter, Yields, append-nil, drop-drop, filter-append, length-map, Asked, AskedInOrder, MayAskInOrder, IsCallableInOrder, kept, passed_over, Extracts, extract_kept, extract_rest, ExtractBy, ExtractIf, MakesProgress, at_most, map-append, Extracted, ExtractsAlong, extract_count, extract_vec, EndsTrue, moved_over, run_count}
 use Rattle.std.proofs.Math.Nat.{add_assoc}
 use lib.Seq.{take-add}
 use Rattle.std.proofs.lemmas.List.Filters.{length-filter_both}
-use Rattle.aa_vec.proofs.Becoming.{Becomes-refl, Becomes-then}
+use Rattle.aa_vec.proofs.Becoming.{Becomes-refl}
 use Rattle.aa_vec.proofs.Closed.{few_runs, moved_most}
 
 chosen-append : {T : Type 0} (p : Asked T → Bool) (told more : List (Asked T)) → map (λ t. t.left) (filter p (told ++ more)) ≡ map (λ t. t.left) (filter p told) ++ map (λ t. t.left) (filter p more)
@@ -116,8 +116,7 @@ module _ {F T : Type 0} (Asks : F → T → Bool → F → T → Type 0) where
     along : (s t : ExtractIf T F A) (taken xs : List T) (later : ExtractIf T F A) → ExtractedTo s.f s.by taken t.f t.by → Yields Steps t xs later → ExtractedTo s.f s.by (taken ++ xs) later.f later.by
     along s t taken [] later now y = subst (λ u. ExtractedTo s.f s.by (taken ++ []) u.f u.by) y (subst (λ l. ExtractedTo s.f s.by l t.f t.by) (sym (append-nil taken)) now)
     along s t taken (x ∷ xs) later now y =
-        let on = along s y.0 (taken ++ x ∷ []) xs later (Extracted-more s.f t.f y.0.f s.by t.by y.0.by taken now.0 x y.1) y.2 in
-        subst (λ l. ExtractedTo s.f s.by l later.f later.by) (append_assoc taken (x ∷ []) xs) on
+        rw (← append_assoc taken (x ∷ []) xs) (along s y.0 (taken ++ x ∷ []) xs later (Extracted-more s.f t.f y.0.f s.by t.by y.0.by taken now.0 x y.1) y.2)
 
     runs_along : (s : ExtractIf T F A) (xs : List T) (later : ExtractIf T F A) → Yields Steps s xs later → (extract_vec later.by).runs + (extract_count s.by - 1) ≤ (extract_vec s.by).runs + (extract_count later.by - 1)
     runs_along s [] later y = subst (λ u. (extract_vec u.by).runs + (extract_count s.by - 1) ≤ (extract_vec s.by).runs + (extract_count u.by - 1)) y (omega arith)

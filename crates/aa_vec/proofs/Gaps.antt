@@ -127,9 +127,6 @@ module _ {T A : Type 0} (v : Inside T A) (front : IsFront v) (some : 0 < v.len) 
         run-push (slice_set v.block.places (v.len + gap) (Some y)) 0 (v.len - 1) m (v.len - 1) v.len (omega arith) (omega arith) (omega (arith, inside, length-set v.block.places (v.len + gap) (Some y)))
         ∙ ap (λ xs. xs ++ m ∷ []) (run-set-above v.block.places 0 (v.len - 1) (v.len + gap) (Some y) inside (omega arith))
 
-    pub length-rewritten : length rewritten ≡ length v.block.places
-    length-rewritten = length-set (slice_set v.block.places (v.len + gap) (Some y)) (v.len - 1) (Some m) ∙ length-set v.block.places (v.len + gap) (Some y)
-
     pub drop-rewritten : drop gap (drop v.len rewritten) ≡ Some y ∷ drop 1 (drop gap (drop v.len v.block.places))
     drop-rewritten =
         let b = v.block.places in

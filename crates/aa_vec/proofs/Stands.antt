@@ -1,6 +1,6 @@
 -- What stands behind the items of a vector, after each of the calls that work on it.
-use Rattle.aa_vec.proofs.Common.{◌≡◌, ℕ, ◌+◌, ◌-◌, ◌<◌, ◌≤◌, List, [], ◌∷◌, ◌++◌, length, map, take, drop, Option, Some, None, refl, subst, sym, ap, ◌∙◌, arith, length-append, slice_set, append-nil, drop-drop, drop-set-lt, length-map, take_at, take-append-drop, length-run, run-is, run-take, run-filled, run-zero, IsRun-long, StandsBehind, ClosesGap, LeavesBehind, behind_items, with_behind, Vector, len, Becomes, run_count, moved_over, TakesNext}
-use Rattle.aa_vec.proofs.Becoming.{Becomes-refl, Becomes-behind, Becomes-then}
+use Rattle.aa_vec.proofs.Common.{◌≡◌, ℕ, ◌+◌, ◌-◌, ◌<◌, ◌≤◌, List, [], ◌∷◌, ◌++◌, length, map, take, drop, Option, Some, None, refl, subst, sym, ap, ◌∙◌, arith, length-append, slice_set, append-nil, drop-drop, drop-set-lt, length-map, take_at, take-append-drop, length-run, run-is, run-take, run-filled, run-zero, IsRun-long, StandsBehind, ClosesGap, behind_items, with_behind, Vector, len, Becomes, moved_over, TakesNext}
+use Rattle.aa_vec.proofs.Becoming.{Becomes-refl}
 use Rattle.aa_vec.proofs.Closed.{moved_some}
 use Rattle.aa_vec.proofs.BehindLemmas.{still_stand, still_are, part_stand, later_part}
 

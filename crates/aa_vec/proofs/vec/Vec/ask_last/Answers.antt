@@ -1,6 +1,6 @@
-use Rattle.aa_vec.proofs.Common.{◌<◌, [], ◌∷◌, ◌++◌, refl, sym, ap, subst, ◌∙◌, arith, CalledAtPairMut, length-run, StandsBehind, behind_items, AsksLast, Vector, len, view_of}
+use Rattle.aa_vec.proofs.Common.{◌<◌, [], ◌∷◌, ◌++◌, refl, arith, length-run, length-set, StandsBehind, view_of}
 use Rattle.aa_vec.proofs.Becoming.{Becomes-holds}
-use Rattle.aa_vec.proofs.Gaps.{last-item, taken-value, before, run-rewritten, length-rewritten, drop-rewritten}
+use Rattle.aa_vec.proofs.Gaps.{last-item, taken-value, before, run-rewritten, drop-rewritten}
 use Rattle.aa_vec.proofs.vec.Vec.ask_last.Goals as goal
 
 pub pair_with-requires-clause-callable : goal.pair_with-requires-clause-callable
@@ -24,7 +24,7 @@ returns g c =
       called = r.called;
       becomes = Becomes-holds (view_of v) (before v c.self.invariant some c.args.gap stands ++ r.second_left ∷ []) 0 0 _ (record {
         items = run-rewritten v c.self.invariant some c.args.gap stands r.second_left r.first_left;
-        block = record { capacity = length-rewritten v c.self.invariant some c.args.gap stands r.second_left r.first_left; growth = refl; grown = refl; alloc = refl };
+        block = record { capacity = simp length-set; growth = refl; grown = refl; alloc = refl };
       }) (record { written = omega arith; runs = omega arith });
       behind = drop-rewritten v c.self.invariant some c.args.gap stands r.second_left r.first_left;
     })
