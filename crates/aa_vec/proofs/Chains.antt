@@ -1,5 +1,5 @@
 -- Elements behind a gap, asked one after the other beside the last one kept.
-use Rattle.aa_vec.proofs.Common.{◌≡◌, ℕ, suc, ◌+◌, ◌<◌, ◌≤◌, Bool, true, false, List, [], ◌∷◌, ◌++◌, length, map, drop, Some, refl, sym, ap, ◌∙◌, subst, arith, length-append, drop_at, drop_all, length-map, take-append-drop, StandsBehind, LeavesBehind, behind_items, with_behind, MayChainFrom, MayDeduplicate, ChainsUntil, ChainsAlong, AsksLast, ChainsBehind, Vector, len, Becomes, ChainsOn}
+use Rattle.aa_vec.proofs.Common.{◌≡◌, ℕ, suc, ◌+◌, ◌<◌, ◌≤◌, Bool, true, false, List, [], ◌∷◌, ◌++◌, length, map, drop, Some, refl, sym, ap, ◌∙◌, subst, arith, length-append, drop_at, drop_all, length-map, take-append-drop, StandsBehind, LeavesBehind, behind_items, with_behind, MayChainFrom, MayDeduplicate, ChainsUntil, ChainsAlong, AsksLast, ChainsBehind, Vector, len, ChainsOn}
 use Rattle.aa_vec.proofs.Gaps.{lent-is, refilled, LeavesBehind-view, seen, there, within, IsFront-relent}
 use Rattle.aa_vec.proofs.Stands.{count, first_are, parts, replaced_are}
 

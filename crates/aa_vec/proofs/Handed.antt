@@ -1,5 +1,5 @@
 -- Closures that hand their arguments on to another: what is said of the one holds of the other.
-use Rattle.aa_vec.proofs.Common.{◌≡◌, Bool, true, false, List, [], ◌∷◌, ap, sym, subst, ◌∙◌, Asked, AskedInOrder, MayAskInOrder, IsCallableInOrder, Retains, ChainsFrom, Deduplicated, MayChainFrom, MayDeduplicate, IsCallableAlong, Deduplicates, Vector}
+use Rattle.aa_vec.proofs.Common.{◌≡◌, Bool, true, false, List, [], ◌∷◌, ap, sym, ◌∙◌, Asked, AskedInOrder, MayAskInOrder, IsCallableInOrder, Retains, ChainsFrom, Deduplicated, MayChainFrom, MayDeduplicate, IsCallableAlong, Deduplicates, Vector}
 
 -- a closure in the state q calls another, which is in the state `inner q`
 module _ {Q F T : Type 0} (inner : Q → F) (Outer : Q → T → Bool → Q → T → Type 0) (Inner : F → T → Bool → F → T → Type 0)

@@ -6,7 +6,7 @@ use Rattle.aa_vec.proofs.Becoming.{Becomes-holds, SameBlock-becomes}
 use Rattle.aa_vec.proofs.GrowthLemmas.{SameBlock-trans}
 use Rattle.aa_vec.proofs.Closed.{still, still-none, few_runs, no_run, removed_count, marks, marks-are, marks-written}
 use Rattle.aa_vec.proofs.Stands.{count, first_stand, moved_items, moved_len, others_are, others_stand}
-use Rattle.aa_vec.proofs.BehindLemmas.{later_part, part_stand, still_are, still_stand}
+use Rattle.aa_vec.proofs.BehindLemmas.{later_part, part_stand}
 
 module _ {F T A : Type 0} (Ends : F → (items yet : List T) → List Bool → F → List T → Type 0) (May : F → (items yet : List T) → Type 0) where
   -- k of the n elements behind the gap were asked and stay, and the next, if there is one, goes. `left` are all, as they were left
