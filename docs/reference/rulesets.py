@@ -25,7 +25,7 @@ class Proofs:
         self.lines = file.read_text(encoding="utf-8").split("\n")
         self.taken = dict(self.names(self.lines))
         self.handed_on = dict(self.names(it for it in self.lines if it.startswith("pub ")))
-        self.rulesets = {name: re.split(r",\s*", text) for name, text in re.findall(r"^pub ruleset (\w+) = \((.*)\)$", "\n".join(self.lines), re.M)}
+        self.rulesets = {name: re.split(r",\s*", text) for name, text in re.findall(r"^ *pub ruleset (\w+) = \((.*)\)$", "\n".join(self.lines), re.M)}
 
     def names(self, lines):
         """Each name that the lines take, with the file of proofs that it comes from and its name there."""
