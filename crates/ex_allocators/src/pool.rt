@@ -2,7 +2,7 @@
 ghost use Rattle.std.specs.Prelude.{◌≡◌};
 ghost use Rattle.ex_allocators.specs.Shelves.{IsKept, right_to};
 
-use crate::shelf::Shelf;
+use crate::shelf::{Shelf, give_one};
 use std::alloc::{AllocError, Allocator};
 
 // The alignment of the blocks: that of a type which holds pointers.
@@ -49,21 +49,10 @@ impl<B: Allocator> Pool<B> {
     /// Gives all blocks that are kept back to the inner allocator.
     pub fn clear(&self) {
         for _ in 0..u64::MAX {
-            if !self.give_one(self.size) {
+            if !give_one(&self.shelf, &self.inner, self.size, ALIGN) {
                 break;
             }
         }
-    }
-
-    // Gives one kept block back. With `false` there was none.
-    fn give_one(&self, size: usize) -> bool
-        requires { size ≡ self.now.size }
-    {
-        let Ok(block) = self.shelf.take(size, ALIGN) else {
-            return false;
-        };
-        unsafe { self.inner.deallocate(block, size, ALIGN) }
-        true
     }
 }
 

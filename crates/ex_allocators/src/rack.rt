@@ -3,7 +3,7 @@ ghost use Rattle.std.specs.Prelude.{◌≡◌, ◌^◌, ◌<◌, ◌≤◌, ◌%
 ghost use Rattle.ex_allocators.specs.Shelves.{IsKept, right_to};
 
 use crate::rounded::LEAST;
-use crate::shelf::Shelf;
+use crate::shelf::{Shelf, give_one};
 use std::alloc::{AllocError, Allocator};
 
 /// How many classes there are: blocks of 16, 32, 64 .. bytes, up to 16 MiB.
@@ -166,23 +166,11 @@ impl<B: Allocator> Rack<B> {
         for class in 0..CLASSES {
             let size = LEAST << class;
             for _ in 0..u64::MAX {
-                if !self.give_one(size) {
+                if !give_one(self.shelf(size), &self.inner, size, ALIGN) {
                     break;
                 }
             }
         }
-    }
-
-    // Gives one kept block of that class back. With `false` there was none.
-    fn give_one(&self, size: usize) -> bool
-        requires { size % 16 ≡ 0 }
-    {
-        let shelf = self.shelf(size);
-        let Ok(block) = shelf.take(size, ALIGN) else {
-            return false;
-        };
-        unsafe { self.inner.deallocate(block, size, ALIGN) }
-        true
     }
 }
 

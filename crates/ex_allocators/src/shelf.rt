@@ -1,5 +1,5 @@
 //! Where a pool keeps the blocks that came back.
-ghost use Rattle.std.specs.Prelude.{◌≡◌};
+ghost use Rattle.std.specs.Prelude.{◌≡◌, ◌%◌, ◌⊎◌};
 ghost use mir.Syntax.{Ty};
 ghost use base.Fml.{fex, fsep};
 ghost use types.Logic.{sem};
@@ -108,6 +108,20 @@ impl<B: Allocator> Shelf<B> {
             true
         }
     }
+}
+
+/// Takes one block off a shelf and gives it back to `inner`, which granted it. With `false` there was
+/// none.
+pub(crate) fn give_one<B: Allocator>(shelf: &Shelf<B>, inner: &B, size: usize, align: usize) -> bool
+    requires granter { shelf.now ≡ inner.now }
+    requires units { size % align ≡ 0 }
+    requires words { (align ≡ 8) ⊎ (align ≡ 16) }
+{
+    let Ok(block) = shelf.take(size, align) else {
+        return false;
+    };
+    unsafe { inner.deallocate(block, size, align) }
+    true
 }
 
 impl<B: Allocator> Drop for Shelf<B> {
