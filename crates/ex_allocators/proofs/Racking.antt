@@ -2,7 +2,7 @@
 --     reaches      a `&Rack` is a `&` to its inner allocator, and stays one to the rack
 --     Finds, finding      the contract of `shelf`, and what a call of it is given.        finds, found     what it is handed, and what a caller has of it
 pub use Rattle.ex_allocators.proofs.Pooling.{Shelved, hands_shelf}
-use Rattle.ex_allocators.proofs.Pooling.{◌≡◌, ℕ, ◌+◌, ◌<◌, ◌^◌, Bool, List, [], ◌∷◌, refl, ap, w64, Bor, Al, seen, Ura, named, Val, vint, vptr, Fml, Lft, ftrue, flft, SProp, ent, emp, sep, ◌⊑◌, fact, fact_i, ‵, raw, ◌⊛◌, some, later, ◌$◌, ◌∵◌, !, qed, move, keep, drop, use0, use1, use2, split, split3, join, fsplit, fjoin, feq_l, await, done, given, learn, rewrite, Logic, sem, unhide, param, param_laws, Ptr, ShrRef, shr_vals, nothing, only, heard, triple_of, inner_of}
+use Rattle.ex_allocators.proofs.Pooling.{◌≡◌, ℕ, ◌<◌, ◌^◌, List, [], ◌∷◌, refl, ap, w64, Bor, Al, seen, Ura, named, Val, vint, vptr, Fml, Lft, ftrue, flft, SProp, ent, emp, sep, ◌⊑◌, fact, fact_i, ‵, raw, ◌⊛◌, some, later, ◌$◌, ◌∵◌, !, qed, move, keep, drop, use0, use1, use2, split, split3, join, fsplit, fjoin, feq_l, await, done, rewrite, Logic, sem, unhide, param, param_laws, ShrRef, shr_vals, nothing, only, heard, triple_of, inner_of}
 use Rattle.ex_watched.proofs.Walk.{Share, Contract, Memory, Routine, Fun, ex, id⊢, updating, at_once, show, flt_i, feq_i, pick, hidden_shr, shr_dup, trues, ⊑_refl}
 use base.Share
 use types.Kit.{check}

@@ -1,5 +1,5 @@
 -- A wider block is asked for, and its first bytes are handed out. Assumes `Logic`.
-use Rattle.ex_allocators.proofs.Widening.{◌≡◌, ℕ, ◌<◌, ◌^◌, ◌∙◌, sym, Bool, List, [], ◌∷◌, refl, ap, w64, true, false, Ok, Err, block_if_ok, Al, seen, token, Answer, answer_val, Answer-typed, Answer-Ok, Answer-err, Takes, at_takes, Answered, Takes-goes, Takes-gives, answers, proved, inst_fn, Fn, Ty, Val, vunit, vint, vptr, ftrue, fsep, flft, fex, froom, fwand, usize, fst∗, never, apply∗, id⊢, ent, emp, ◌⊑◌, ⊑_trans, fact, tables, size, align, capped, WpFn, alloc_all, pass_all, free_all, look_at, get, through, sets, lands_as, ‵, raw, ◌⊛◌, some, later, ◌$◌, ◌∵◌, !, qed, move, keep, drop, use0, use1, use2, split, join, pick, fsplit, fjoin, fpack, feq_i, feq_l, flt_l, await, done, prop, Sq, suffices, group, sem, stop, fld, addr, no_more, and_then, returns, enter, uint_vals, uint_Tells, owns, Ptr, block_ptr, shr_vals, types_at, nothing, only, heard, calls_at, framed, walk_of, ends_at, inner_of, dropped, gone, trues, spent, generics, reaches, owned_block, Lasts, lasts, IsRoom, IsWide, wide_right, room_align, rounds, wider, is_sized, is_lined, is_wide, is_lent, Rooms, rooms, rooms_go, Aligns, aligns, aligns_go}
+use Rattle.ex_allocators.proofs.Widening.{◌≡◌, ℕ, [], ◌∷◌, refl, ap, w64, true, false, Ok, Err, block_if_ok, Al, seen, token, Answer, answer_val, Answer-typed, Answer-Ok, Answer-err, Takes, at_takes, Answered, Takes-goes, Takes-gives, answers, proved, inst_fn, Fn, Ty, Val, ftrue, fsep, flft, fex, froom, fwand, usize, id⊢, ent, emp, ◌⊑◌, ⊑_trans, fact, tables, size, align, capped, alloc_all, pass_all, free_all, look_at, get, through, sets, lands_as, ‵, raw, ◌⊛◌, some, later, ◌$◌, ◌∵◌, !, qed, move, keep, drop, use0, use1, use2, split, join, pick, fsplit, fjoin, fpack, feq_l, flt_l, await, done, prop, Sq, suffices, group, sem, stop, fld, addr, no_more, and_then, returns, enter, uint_vals, uint_Tells, owns, block_ptr, shr_vals, types_at, nothing, only, heard, calls_at, framed, walk_of, ends_at, inner_of, dropped, gone, trues, spent, generics, reaches, Lasts, lasts, IsRoom, IsWide, wide_right, room_align, rounds, wider, is_sized, is_lined, is_wide, is_lent, Rooms, rooms, rooms_go, Aligns, aligns, aligns_go}
 use Rattle.ex_allocators.specs.contracts.rounded.room_of as room_of
 use Rattle.ex_allocators.specs.contracts.rounded.align_for as align_for
 use Rattle.ex_allocators.proofs.rounded.room_of.Met.{met as rooms_met}

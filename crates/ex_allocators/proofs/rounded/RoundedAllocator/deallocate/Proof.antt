@@ -1,5 +1,5 @@
 -- The block that was asked for goes back to the inner allocator. Assumes `Logic`.
-use Rattle.ex_allocators.proofs.Widening.{◌≡◌, ℕ, ◌<◌, ◌^◌, ◌∙◌, sym, subst, List, [], ◌∷◌, refl, ap, w64, Al, seen, token, Gives, at_gives, Gives-goes, Gives-Gives, proved, inst_fn, Fn, Ty, Val, vunit, vint, vptr, ftrue, fsep, flft, fex, froom, fwand, usize, fst∗, never, apply∗, id⊢, ◌⊑◌, ⊑_trans, fact, tables, size, align, capped, WpFn, alloc_all, pass_all, free_all, look_at, get, through, sets, lands_as, ‵, raw, ◌⊛◌, some, later, ◌$◌, ◌∵◌, !, qed, move, keep, drop, use0, use1, use2, split, split3, join, pick, fsplit, feq_i, feq_l, flt_l, await, done, prop, given, learn, suffices, group, regoal, fpick, sem, stop, fld, addr, no_more, and_then, of_opd, returns, enter, unit_lit, uint_vals, uint_Tells, owns, Ptr, block_ptr, null_ptr, ptr_val, room_for, in_a_block, rawptr_vals, rawptr_Tells, shr_vals, types_at, nothing, only, heard, calls_at, framed, walk_of, ends_at, inner_of, dropped, gone, trues, spent, generics, reaches, owned_block, Lasts, lasts, IsRoom, IsWide, wide_right, room_align, one_room, Rooms, rooms, rooms_go, Aligns, aligns, aligns_go}
+use Rattle.ex_allocators.proofs.Widening.{◌≡◌, ℕ, ◌∙◌, sym, subst, List, [], ◌∷◌, refl, ap, w64, Al, seen, token, Gives, at_gives, Gives-goes, Gives-Gives, proved, inst_fn, Fn, Val, vunit, vint, vptr, ftrue, flft, froom, usize, fst∗, never, apply∗, id⊢, ◌⊑◌, ⊑_trans, fact, tables, size, align, capped, WpFn, alloc_all, pass_all, free_all, look_at, get, through, sets, lands_as, ‵, raw, ◌⊛◌, some, later, ◌$◌, ◌∵◌, !, qed, move, keep, drop, use0, use1, use2, split, split3, join, pick, fsplit, feq_i, feq_l, flt_l, await, done, prop, given, learn, suffices, group, regoal, fpick, sem, stop, fld, addr, no_more, and_then, of_opd, returns, enter, unit_lit, uint_vals, uint_Tells, owns, Ptr, block_ptr, null_ptr, ptr_val, in_a_block, rawptr_vals, rawptr_Tells, shr_vals, types_at, nothing, only, heard, calls_at, framed, walk_of, ends_at, inner_of, dropped, gone, trues, spent, generics, reaches, owned_block, Lasts, lasts, IsRoom, wide_right, room_align, one_room, Rooms, rooms, rooms_go, Aligns, aligns, aligns_go}
 use Rattle.ex_allocators.specs.contracts.rounded.room_of as room_of
 use Rattle.ex_allocators.specs.contracts.rounded.align_for as align_for
 use Rattle.ex_allocators.proofs.rounded.room_of.Met.{met as rooms_met}

@@ -1,5 +1,5 @@
 -- A `&` to a shelf is made of a borrow of it: the borrow itself, for one call at a time. Assumes `Logic`.
-use Rattle.ex_watched.proofs.Walk.{[], ◌∷◌, full_share, Ghosts, Fml, fbor, ‵, raw, later, ◌$◌, ◌∵◌, !, qed, use1, await, updating, at_once, done, lfts, bor_na, na_bor, part_at, part_of, Laws, RattleType, alive}
+use Rattle.ex_watched.proofs.Walk.{[], ◌∷◌, full_share, Ghosts, Fml, fbor, ‵, raw, later, ◌$◌, ◌∵◌, !, qed, use1, await, updating, at_once, done, lfts, bor_na, na_bor, part_at, part_of, Laws, RattleType}
 use denote.Hidden.{guarded_shr_laws}
 use Rattle.ex_allocators.specs.contracts.shelf.Shelf as shelf
 use Rattle.ex_allocators.proofs.shelf.Shelf.TheLaw.Statement.{statement}

@@ -1,5 +1,5 @@
 -- The number is read, and nothing changes. Assumes `Logic`.
-use Rattle.ex_allocators.proofs.Shelving.{◌≡◌, ℕ, ◌<◌, ◌^◌, List, [], ◌∷◌, refl, w64, ◌++◌, Answer, after, head, inside, leaves, inst_fn, Fn, Val, vint, vptr, Fml, Lft, Share, ftrue, flft, ftok, SProp, every, ◌⊑◌, fact, Env, WpFn, alloc_all, pass_all, free_all, look_at, get, through, sets, sets_last, env, ‵, raw, ◌⊛◌, ◌$◌, ◌∵◌, !, qed, move, keep, use0, split, split3, join, fsplit, fjoin, feq_i, prop, at_ret, Sq, Post, regoal, by, look_in, sub, whole, stop, fld, addr, of_opd, first, exec, returns, enter, blocks, load, param, RattleType, owns, types_at, nothing, walk_of, dropped, gone, trues, spent, generics, opens_shelf, shuts_shelf, holding_token, proved_alone, left_block}
+use Rattle.ex_allocators.proofs.Shelving.{◌^◌, List, [], ◌∷◌, refl, w64, ◌++◌, after, leaves, inst_fn, Fn, Val, vint, vptr, Fml, Lft, Share, ftrue, flft, ftok, SProp, every, ◌⊑◌, fact, Env, WpFn, alloc_all, pass_all, free_all, look_at, get, through, sets, sets_last, env, ‵, raw, ◌⊛◌, ◌$◌, ◌∵◌, !, qed, move, keep, use0, split, split3, join, fsplit, fjoin, feq_i, prop, at_ret, regoal, by, look_in, sub, whole, stop, fld, addr, of_opd, first, exec, returns, enter, blocks, load, param, RattleType, owns, types_at, nothing, walk_of, dropped, gone, trues, spent, generics, opens_shelf, shuts_shelf, holding_token, proved_alone}
 use types.Kit.{flt_i}
 use Rattle.ex_allocators.specs.contracts.shelf.Shelf.count as counted
 use Rattle.ex_allocators.proofs.shelf.Shelf.count.Statement.{statement}

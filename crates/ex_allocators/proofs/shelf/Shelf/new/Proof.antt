@@ -1,5 +1,5 @@
 -- An empty shelf owns nothing. Assumes `Logic`.
-use Rattle.ex_allocators.proofs.Shelving.{◌≡◌, List, [], ◌∷◌, refl, T, lit<, ◌++◌, leaves, proved_at, inst_fn, Fn, Val, vint, vptr, WT, has_ty, ftrue, fsep, SProp, emp, ◌⊑◌, fact, fact_i, tables, size, WpFn, alloc_all, pass_all, free_all, look_at, get, sets, ‵, raw, ◌⊛◌, ◌$◌, ◌∵◌, !, qed, move, drop, use0, split, fjoin, prop, Post, regoal, by, fpack, agg, lit, no_more, and_then, returns, enter, Typed, param, RattleType, owns, null_ptr, types_at, nothing, heard, alive, walk_of, dropped, gone, trues, spent, IsKept, kept_blocks, generics, shelf_type, shelf_val, shelf_own, Fit, shelf_made}
+use Rattle.ex_allocators.proofs.Shelving.{◌≡◌, List, [], ◌∷◌, refl, T, lit<, ◌++◌, leaves, proved_at, inst_fn, Fn, Val, vint, vptr, WT, has_ty, ftrue, fsep, SProp, emp, ◌⊑◌, fact, fact_i, tables, WpFn, alloc_all, pass_all, free_all, look_at, get, sets, ‵, raw, ◌⊛◌, ◌$◌, ◌∵◌, !, qed, move, drop, use0, split, fjoin, prop, regoal, by, fpack, agg, lit, no_more, and_then, returns, enter, Typed, param, RattleType, owns, null_ptr, types_at, nothing, heard, alive, walk_of, dropped, gone, trues, spent, IsKept, kept_blocks, generics, shelf_type, shelf_val, shelf_own, Fit, shelf_made}
 use Rattle.ex_allocators.specs.contracts.shelf.Shelf.TheInside as inside
 use Rattle.ex_allocators.specs.contracts.shelf.Shelf.new as made
 use Rattle.ex_allocators.proofs.shelf.Shelf.new.Statement.{statement}

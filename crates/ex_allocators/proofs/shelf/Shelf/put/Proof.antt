@@ -1,5 +1,5 @@
 -- The block leads to the one that was on top. Assumes `Logic`.
-use Rattle.ex_allocators.proofs.Shelving.{◌≡◌, ℕ, ◌+◌, ◌<◌, ◌^◌, Bool, List, [], ◌∷◌, refl, ap, w64, true, false, arith, suc, sym, ◌++◌, ◌-◌, ◌∙◌, owned_block, full_share, after, head, inside, is_not, is_so, leaves, inst_fn, Fn, Ty, ty_ptr, Val, vint, vptr, vbool, Fml, Lft, Share, ftrue, fsep, flft, fex, froom, ftok, SProp, fst∗, never, apply∗, wand, every, ◌⊑◌, fact, size, align, capped, Env, WpFn, alloc_all, pass_all, free_all, look_at, get, through, sets, sets_last, env, ‵, raw, ◌⊛◌, ◌$◌, ◌∵◌, !, qed, move, keep, use0, use1, use2, split, split3, join, fsplit, fjoin, feq_i, prop, at_ret, Sq, Post, regoal, by, fpack, fpick, rewrite, sem, whole, look_in, store_in, sub, stop, fld, addr, lit, of_opd, first, branches, skips, exec, returns, returns_within, enter, assigns, bin, blocks, false_lit, load, true_lit, neg_lit, init, param, RattleType, owns, Ptr, block_ptr, null_ptr, ptr_val, in_a_block, rawptr_Lawful, types_at, nothing, heard, walk_of, dropped, gone, trues, spent, IsKept, block_unless, free_block, right_to, stack, generics, opens_shelf, shuts_shelf, fills, holding_token, proved_alone, left_block, readies}
+use Rattle.ex_allocators.proofs.Shelving.{◌≡◌, ℕ, ◌+◌, ◌<◌, ◌^◌, Bool, List, [], ◌∷◌, refl, ap, w64, true, false, arith, suc, sym, ◌++◌, ◌∙◌, owned_block, full_share, after, head, inside, is_so, leaves, inst_fn, Fn, Ty, ty_ptr, Val, vint, vptr, vbool, Fml, Lft, Share, ftrue, fsep, flft, fex, froom, ftok, SProp, fst∗, never, apply∗, wand, every, ◌⊑◌, fact, size, align, capped, Env, WpFn, alloc_all, pass_all, free_all, look_at, get, through, sets, sets_last, env, ‵, raw, ◌⊛◌, ◌$◌, ◌∵◌, !, qed, move, keep, use0, use1, use2, split, split3, join, fsplit, fjoin, feq_i, prop, at_ret, Sq, regoal, by, fpack, fpick, rewrite, sem, whole, look_in, store_in, sub, stop, fld, addr, lit, of_opd, first, branches, skips, exec, returns, returns_within, enter, assigns, bin, blocks, false_lit, load, true_lit, init, param, RattleType, owns, Ptr, block_ptr, null_ptr, ptr_val, in_a_block, rawptr_Lawful, types_at, nothing, heard, walk_of, dropped, gone, trues, spent, IsKept, block_unless, free_block, right_to, stack, generics, opens_shelf, shuts_shelf, fills, holding_token, proved_alone, left_block, readies}
 use lib.Dec.{nleb→lt}
 use Rattle.ex_allocators.specs.contracts.shelf.Shelf.put as puts
 use Rattle.ex_allocators.proofs.shelf.Shelf.put.Statement.{statement}

@@ -1,5 +1,5 @@
 -- The block on top is unlinked: its word says which one is the next. Assumes `Logic`.
-use Rattle.ex_allocators.proofs.Shelving.{◌≡◌, ℕ, ◌<◌, ◌^◌, List, [], ◌∷◌, refl, w64, true, false, Ok, Err, arith, suc, ◌++◌, ◌-◌, block_if_ok, owned_block, full_share, Answer, answer_val, Answer-typed, Answer-Ok, Answer-err, after, head, inside, is_not, is_so, leaves, inst_fn, Fn, Ty, ty_ptr, Val, vint, vptr, Fml, Lft, Share, ftrue, flft, fat, ftok, SProp, apply∗, wand, every, ◌⊑◌, fact, size, align, capped, Env, WpFn, alloc_all, pass_all, free_all, look_at, get, through, sets, sets_last, env, ‵, raw, ◌⊛◌, some, ◌$◌, ◌∵◌, !, qed, move, keep, use0, use1, use2, split, split3, join, fsplit, prop, at_ret, Sq, Post, regoal, by, fpack, fpick, rewrite, sem, agg, whole, look_in, store_in, sub, stop, fld, addr, lit, no_more, and_then, of_opd, first, branches, skips, exec, returns, returns_within, enter, assigns, bin, blocks, load, look, param, RattleType, owns, Ptr, block_ptr, ptr_val, rawptr_Lawful, types_at, nothing, heard, walk_of, dropped, gone, trues, spent, IsKept, right_to, stack, generics, fields, opens_shelf, shuts_shelf, fills, holding_token, proved_alone, left_block, regrants}
+use Rattle.ex_allocators.proofs.Shelving.{◌≡◌, ℕ, ◌<◌, ◌^◌, List, [], ◌∷◌, refl, w64, true, false, Ok, Err, arith, suc, ◌++◌, ◌-◌, block_if_ok, owned_block, full_share, Answer, answer_val, Answer-typed, Answer-Ok, Answer-err, after, head, inside, is_not, is_so, leaves, inst_fn, Fn, Ty, ty_ptr, Val, vint, vptr, Fml, Lft, Share, ftrue, flft, fat, ftok, SProp, apply∗, wand, every, ◌⊑◌, fact, size, align, capped, Env, WpFn, alloc_all, pass_all, free_all, look_at, get, through, sets, sets_last, env, ‵, raw, ◌⊛◌, ◌$◌, ◌∵◌, !, qed, move, keep, use0, use1, use2, split, split3, join, fsplit, prop, at_ret, Sq, regoal, by, fpack, fpick, rewrite, sem, agg, whole, look_in, store_in, sub, stop, fld, addr, lit, no_more, and_then, of_opd, first, branches, skips, exec, returns, returns_within, enter, assigns, bin, blocks, load, look, param, RattleType, owns, Ptr, block_ptr, ptr_val, rawptr_Lawful, types_at, nothing, heard, walk_of, dropped, gone, trues, spent, IsKept, right_to, stack, generics, fields, opens_shelf, shuts_shelf, fills, holding_token, proved_alone, left_block, regrants}
 use Rattle.ex_allocators.specs.contracts.shelf.Shelf.take as taken
 use Rattle.ex_allocators.proofs.shelf.Shelf.take.Statement.{statement}
 use Rattle.ex_allocators.proofs.shelf.Shelf.take.Code as code
