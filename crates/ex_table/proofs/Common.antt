@@ -1,7 +1,7 @@
 -- The names from elsewhere that several proofs here cite, passed on.
 pub use Rattle.allocator_api2.specs.Vector.{Vector}
 pub use Rattle.ex_table.specs.Contents.{IsMap, Sets, keys_like, value}
-pub use Rattle.ex_table.specs.Entries.{AreKeys, IsNamed, IsSound, IsSpot, IsTable, Lacks, entries_of, found, has_key, hashes, hashes_of, is_key, key_at, pair, with_value}
+pub use Rattle.ex_table.specs.Entries.{AreKeys, IsNamed, IsSound, IsSpot, IsTable, Lacks, entries_of, found, has_key, hashes, hashes_of, is_key, key_at, pair, spot_of, with_value}
 pub use Rattle.ex_table.specs.Groups.{IsAt, IsIndex, Writes, after, empty_group, free, group_at, group_of, home_of, keyless, keyless_lanes, place_at, tag_at, tag_of}
 pub use Rattle.ex_table.specs.declared.entries.Entry.{Entry}
 pub use Rattle.ex_table.specs.declared.entries.Spot.{Spot}

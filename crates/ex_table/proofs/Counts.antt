@@ -45,6 +45,11 @@ module _ {K V : Type 0} (eq : K → K → Bool) where
   nowhere [] k h = refl
   nowhere (e ∷ es) k h = grind (arith, nowhere es k (λ i. h (suc i)), h zero, count-cons (is_key eq k) e es)
 
+  pub key-within : (es : List (Entry K V)) (k : K) (i : ℕ) → key_at eq k es i ≡ true → i < length es
+  key-within [] k i e = absurd cc
+  key-within (x ∷ es) k zero e = omega arith
+  key-within (x ∷ es) k (suc i) e = omega (arith, key-within es k i e)
+
   pub somewhere : (es : List (Entry K V)) (k : K) (i : ℕ) (e : Entry K V) → slice_get es i ≡ Some e → is_key eq k e ≡ true → 1 ≤ count_by (is_key eq k) es
   somewhere [] k i e at t = absurd cc
   somewhere (x ∷ es) k zero e at t = grind (arith, count-cons (is_key eq k) x es)

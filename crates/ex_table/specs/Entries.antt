@@ -1,5 +1,5 @@
 -- What entries hold, and how groups name them.
-use Rattle.std.specs.Prelude.{◌≡◌, ℕ, ◌*◌, ◌^◌, ◌<◌, ◌≤◌, Bool, true, false, cond, List, [], ◌∷◌, length, map, count_by, slice_get, Option, Some, None, All}
+use Rattle.std.specs.Prelude.{◌≡◌, ℕ, ◌*◌, ◌/◌, ◌%◌, ◌^◌, ◌<◌, ◌≤◌, Bool, true, false, cond, List, [], ◌∷◌, length, map, count_by, slice_get, Option, Some, None, All}
 use Rattle.std.specs.List.{fold}
 use Rattle.std.specs.Hash.{HashWrites}
 use Rattle.std.specs.Cmp.{IsEquivalence}
@@ -24,6 +24,13 @@ hashes b h input s k = hash_by b h s (input k)
 pub record AreKeys {K : Type 0} (eq : K → K → Bool) (h : K → ℕ) : Type 0 where
   pub equality : IsEquivalence eq
   pub agree : (x y : K) → eq x y ≡ true → h x ≡ h y
+
+-- the lane before which there are so many, and the entry that it names
+abbrev pub spot_of : List Group → (slot : ℕ) → Spot
+spot_of gs s =
+    let group = s / 12 in
+    let lane = s % 12 in
+    record { group = group; lane = lane; place = place_at (group_at gs group) lane }
 
 module _ {K V : Type 0} where
   -- a key with its value

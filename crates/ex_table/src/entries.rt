@@ -1,8 +1,8 @@
 //! The entries of a table, in which keys stand beside their hashes, and where a key is found.
-ghost use Rattle.std.specs.Prelude.{◌≡◌, ◌*◌, ◌^◌, ◌<◌, ◌≤◌, true, false, length, count_by, swap_remove, IfSome, IfNone};
+ghost use Rattle.std.specs.Prelude.{◌≡◌, ◌*◌, ◌/◌, ◌^◌, ◌<◌, ◌≤◌, true, false, length, count_by, swap_remove, IfSome, IfNone};
 ghost use Rattle.std.specs.Borrow.{sem, Lends};
 ghost use Rattle.ex_table.specs.Groups.{tag_at, place_at, group_at, IsIndex};
-ghost use Rattle.ex_table.specs.Entries.{is_key, key_at, hashes, hashes_of, with_value, Lacks, IsNamed, IsSpot, IsEntry};
+ghost use Rattle.ex_table.specs.Entries.{is_key, key_at, hashes, hashes_of, with_value, spot_of, Lacks, IsNamed, IsSpot, IsEntry};
 
 use crate::groups::{Group, LANES, clear_all, group_after, home, put, release, rename, tag};
 use std::hash::{BuildHasher, Hash, Hasher};
@@ -59,7 +59,7 @@ fn has_key_at<K: Eq, V>(entries: &[Entry<K, V>], at: usize, key: &K) -> bool
     }
 }
 
-// The lane of a group that has the tag and names the key's entry, lane by lane.
+// The lane of a group that has the tag and names the key's entry, of all with the tag.
 #[cold]
 #[inline(never)]
 fn lane_by_lane<K: Eq, V>(group: &Group, tag: u8, entries: &[Entry<K, V>], key: &K) -> Option<usize>
@@ -67,10 +67,15 @@ fn lane_by_lane<K: Eq, V>(group: &Group, tag: u8, entries: &[Entry<K, V>], key: 
         × (key_at K.eq key.now entries.now (place_at group.now l) ≡ true)) }
     ensures none { IfNone result (Lacks K.eq entries.now group.now tag 12 key.now) }
 {
-    'each: for lane in 0..LANES {
-        if group.has_tag(lane, tag) && has_key_at(entries, group.place(lane), key) {
+    let mut past: usize = 0;
+    'each: for _turn in 0..LANES {
+        let Some(lane) = group.lane_past(tag, past) else {
+            return None;
+        };
+        if has_key_at(entries, group.place(lane), key) {
             return Some(lane);
         }
+        past = lane + 1;
     }
     None
 }
@@ -94,17 +99,19 @@ fn lane_with<K: Eq, V>(group: &Group, tag: u8, entries: &[Entry<K, V>], key: &K)
     }
 }
 
-// Where a key is, group by group.
+// How many lanes are before that of a key, group by group. It answers in registers: an answer in
+// memory would have each look-up read the table's own fields again.
 #[cold]
 #[inline(never)]
-fn group_by_group<K: Eq, V>(
+fn slot_by_group<K: Eq, V>(
     groups: &[Group],
     entries: &[Entry<K, V>],
     hash: u64,
     key: &K,
-) -> Option<Spot>
+) -> Option<usize>
     requires { IsNamed K.eq groups.now entries.now hash key.now }
-    ensures found { IfSome result (IsSpot K.eq groups.now entries.now key.now) }
+    ensures found { IfSome result
+        (λ slot. IsSpot K.eq groups.now entries.now key.now (spot_of groups.now slot)) }
     ensures absent { IfNone result (count_by (is_key K.eq key.now) entries.now ≡ 0) }
 {
     let count = groups.len();
@@ -117,17 +124,28 @@ fn group_by_group<K: Eq, V>(
         let at = group_after(from, step, count);
         let group = &groups[at];
         if let Some(lane) = lane_with(group, tag, entries, key) {
-            return Some(Spot {
-                group: at,
-                lane,
-                place: group.place(lane),
-            });
+            return Some(at * LANES + lane);
         }
         if group.free_lane().is_some() {
             return None;
         }
     }
     None
+}
+
+// The spot that so many lanes are before.
+#[inline(always)]
+fn spot_at(groups: &[Group], slot: usize) -> Spot
+    requires { slot / 12 < length groups.now }
+    ensures { result ≡ spot_of groups.now slot }
+{
+    let group = slot / LANES;
+    let lane = slot % LANES;
+    Spot {
+        group,
+        lane,
+        place: groups[group].place(lane),
+    }
 }
 
 /// Where a key with this hash is. Mostly the first group on its way tells.
@@ -160,21 +178,8 @@ pub fn find<K: Eq, V>(groups: &[Group], entries: &[Entry<K, V>], hash: u64, key:
             }
         }
     }
-    group_by_group(groups, entries, hash, key)
-}
-
-// The entry at an index, where it has this key.
-#[inline(always)]
-fn entry_with<'e, K: Eq, V>(
-    entries: &'e [Entry<K, V>],
-    at: usize,
-    key: &K,
-) -> Option<&'e Entry<K, V>>
-    ensures some { IfSome result (λ e. IsEntry K.eq entries.now key.now e.now) }
-    ensures none { IfNone result (key_at K.eq key.now entries.now at ≡ false) }
-{
-    match entries.get(at) {
-        Some(entry) => { if *key == entry.key { Some(entry) } else { None } }
+    match slot_by_group(groups, entries, hash, key) {
+        Some(slot) => Some(spot_at(groups, slot)),
         None => None,
     }
 }
@@ -192,8 +197,8 @@ fn entry_by_group<'e, K: Eq, V>(
     ensures found { IfSome result (λ e. IsEntry K.eq entries.now key.now e.now) }
     ensures absent { IfNone result (count_by (is_key K.eq key.now) entries.now ≡ 0) }
 {
-    match group_by_group(groups, entries, hash, key) {
-        Some(spot) => Some(&entries[spot.place]),
+    match slot_by_group(groups, entries, hash, key) {
+        Some(slot) => Some(&entries[spot_at(groups, slot).place]),
         None => None,
     }
 }
@@ -217,17 +222,11 @@ pub fn entry_of<'e, K: Eq, V>(
     }
     let at = home(hash, count);
     let group = &groups[at];
-    match group.lane_of(tag(hash)) {
-        Some(lane) => {
-            if let Some(entry) = entry_with(entries, group.place(lane), key) {
-                return Some(entry);
-            }
-        }
-        None => {
-            if group.free_lane().is_some() {
-                return None;
-            }
-        }
+    if let Some(lane) = lane_with(group, tag(hash), entries, key) {
+        return Some(&entries[group.place(lane)]);
+    }
+    if group.free_lane().is_some() {
+        return None;
     }
     entry_by_group(groups, entries, hash, key)
 }

@@ -43,21 +43,34 @@ impl Group {
         }
     }
 
+    /// The first lane with this tag, of those from `past` on.
+    #[inline(always)]
+    pub fn lane_past(&self, tag: u8, past: usize) -> Option<usize>
+        requires { past ≤ 12 }
+        ensures some { IfSome result (λ l. (l < 12) × (past ≤ l) × (tag_at self.now l ≡ tag)) }
+        ensures first { IfSome result
+            (λ l. (m : ℕ) → past ≤ m → m < l → tag_at self.now m ≢ tag) }
+        ensures none { IfNone result ((l : ℕ) → past ≤ l → l < 12 → tag_at self.now l ≢ tag) }
+    {
+        let same = u8x16::from_array(self.tags)
+            .simd_eq(u8x16::splat(tag))
+            .to_bitmask()
+            % LANES_ALONE;
+        let later = same >> past;
+        if later == 0 {
+            None
+        } else {
+            Some(past + later.trailing_zeros() as usize)
+        }
+    }
+
     /// The first lane with this tag.
     #[inline(always)]
     pub fn lane_of(&self, tag: u8) -> Option<usize>
         ensures some { IfSome result (λ l. (l < 12) × (tag_at self.now l ≡ tag)) }
         ensures none { IfNone result ((l : ℕ) → l < 12 → tag_at self.now l ≢ tag) }
     {
-        let same = u8x16::from_array(self.tags)
-            .simd_eq(u8x16::splat(tag))
-            .to_bitmask()
-            % LANES_ALONE;
-        if same == 0 {
-            None
-        } else {
-            Some(same.trailing_zeros() as usize)
-        }
+        self.lane_past(tag, 0)
     }
 
     /// The first free lane.

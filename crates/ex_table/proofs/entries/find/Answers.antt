@@ -6,4 +6,4 @@ pub returns-then-count-eq0-clause-absent : goal.returns-then-count-eq0-clause-ab
 returns-then-count-eq0-clause-absent g c = absent-all g.K.PartialEq.eq _ _ c.args.key.now _ _ c.requires refl 0 (omega arith) (λ s l. absurd (omega arith))
 
 pub returns-then-is_some-clause-absent : goal.returns-then-is_some-clause-absent
-returns-then-is_some-clause-absent g c = absent-first g.K.PartialEq.eq _ _ c.args.key.now _ _ c.requires c.tag.ensures _ c.home-at.ensures.value c.home-at.ensures.within c.in-None.ensures.none (grind arith)
+returns-then-is_some-clause-absent g c = absent-first g.K.PartialEq.eq _ _ c.args.key.now _ _ c.requires c.tag.ensures _ c.home-at.ensures.value c.home-at.ensures.within (λ l b e. absurd (c.in-None.ensures.none l b e)) (grind arith)

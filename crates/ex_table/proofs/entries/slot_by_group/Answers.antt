@@ -1,6 +1,6 @@
 use Rattle.ex_table.proofs.Common.{refl, arith}
-use Rattle.ex_table.proofs.Finding.{lacks_more, absent-all, absent-free}
-use Rattle.ex_table.proofs.entries.group_by_group.Goals as goal
+use Rattle.ex_table.proofs.Finding.{lacks_more, absent-all, absent-free, spot-found}
+use Rattle.ex_table.proofs.entries.slot_by_group.Goals as goal
 
 pub returns-then-count-eq0-clause-absent : goal.returns-then-count-eq0-clause-absent
 returns-then-count-eq0-clause-absent g c = absent-all g.K.PartialEq.eq _ _ c.args.key.now _ _ c.requires refl 0 (omega arith) (λ s l. absurd (omega arith))
@@ -14,3 +14,7 @@ each-preserved g c = lacks_more g.K.PartialEq.eq _ _ c.args.key.now _ _ _ _ _ c.
 
 pub returns-clause-absent : goal.returns-clause-absent
 returns-clause-absent g c = absent-all g.K.PartialEq.eq _ _ c.args.key.now _ _ c.requires c.tag-tag.ensures _ c.each-test.false c.each.invariant
+
+pub returns-in-Some-clause-found : goal.returns-in-Some-clause-found
+returns-in-Some-clause-found g c =
+    let lane = c.in-Some.ensures.some in spot-found g.K.PartialEq.eq _ _ _ _ _ _ _ (c.group_after-at.ensures.within) c.tag-tag.ensures lane.0 lane.1 lane.2

@@ -1,5 +1,5 @@
 use Rattle.ex_table.proofs.Common.{ℕ, ◌<◌, group_of, Lacks}
-use Rattle.ex_table.proofs.entries.group_by_group.Given as goal
+use Rattle.ex_table.proofs.entries.slot_by_group.Given as goal
 
 -- the groups before lack the key
 abbrev pub invariant-each : goal.invariant-each
