@@ -1,16 +1,9 @@
 -- A key that no look-up meets is nowhere.
-use Rattle.ex_table.proofs.Common.{nat_tests, ◌≡◌, ◌≢◌, ℕ, ◌+◌, ◌<◌, ◌≤◌, Bool, List, length, true, false, refl, sym, ◌∙◌, ◌*◌, arith, inl, inr, count_by, cases_eq, cases_lt, cases_Bool, Group, Entry, free, tag_at, place_at, group_at, home_of, after, group_of, tag_of, IsAt, is_key, key_at, Lacks, IsNamed, IsSpot, spot_of}
+use Rattle.ex_table.proofs.Common.{nat_tests, ◌≡◌, ℕ, ◌+◌, ◌<◌, ◌≤◌, Bool, List, length, true, refl, sym, ◌∙◌, ◌*◌, arith, inl, inr, count_by, cases_eq, cases_Bool, Group, Entry, free, tag_at, place_at, group_at, home_of, after, group_of, tag_of, IsAt, is_key, key_at, Lacks, IsNamed, IsSpot, spot_of}
 use Rattle.std.specs.Prelude.{◌/◌, ◌%◌}
 use Rattle.ex_table.proofs.Counts.{nowhere, key-within}
 
 module _ {K V : Type 0} (eq : K → K → Bool) (gs : List Group) (es : List (Entry K V)) (k : K) (hash t : ℕ) where
-  -- where a lane lacks it, and none between
-  pub lacks_past : (g : Group) (past lane : ℕ) → Lacks eq es g t past k → ((m : ℕ) → past ≤ m → m < lane → tag_at g m ≢ t) → key_at eq k es (place_at g lane) ≡ false → Lacks eq es g t (lane + 1) k
-  lacks_past g past lane before between here l b tag = elim (cases_lt l past) [
-    | inl low ↦ before l low tag
-    | inr high ↦ elim (cases_eq l lane) [ inl same ↦ rw same here | inr other ↦ absurd (between l (omega (arith, high)) (omega (arith, b, other)) tag) ]
-  ]
-
   -- one more group on the way lacks the key
   pub lacks_more : (at from n : ℕ) → at ≡ after (length gs) from n → from ≡ home_of (length gs) hash → Lacks eq es (group_at gs at) t 12 k
       → ((s : ℕ) → s < n → Lacks eq es (group_of gs hash s) t 12 k) → (s : ℕ) → s < n + 1 → Lacks eq es (group_of gs hash s) t 12 k

@@ -1,9 +1,18 @@
 -- Lanes of groups: what is found in a group, and what writes to one leave.
-use Rattle.ex_table.proofs.Common.{nat_tests, place_at, ◌≡◌, ◌≢◌, ℕ, zero, suc, ◌+◌, ◌-◌, ◌<◌, ◌≤◌, Bool, true, false, cond, List, [], ◌∷◌, length, nat_lt, take, refl, ◌∙◌, arith, inl, inr, get_or-set_same, get_or-set_other, count_by, set, length-set, sum_by-cons, sum_by-set, cases_eq, cases_lt, Group, Writes, tag_at, free, keyless, keyless_lanes, group_at, tag_of, home_of, after, group_of, IsAt}
+use Rattle.ex_table.proofs.Common.{nat_tests, place_at, ◌≡◌, ◌≢◌, ℕ, zero, suc, ◌+◌, ◌-◌, ◌<◌, ◌≤◌, Bool, true, false, cond, List, [], ◌∷◌, length, nat_lt, take, refl, sym, ◌∙◌, arith, inl, inr, get_or-set_same, get_or-set_other, count_by, set, length-set, sum_by-cons, sum_by-set, cases_eq, cases_lt, Group, Writes, tag_at, free, keyless, keyless_lanes, group_at, tag_of, home_of, after, group_of, IsAt}
+use Rattle.std.proofs.Common.{subst}
 use Rattle.std.specs.Prelude.{Option, Some, None, IfNone, ◌==◌}
 use Rattle.std.proofs.lemmas.List.{get_or-take, length-take-le}
 use Rattle.std.proofs.Math.Seq.{take-set-lt}
 use Rattle.ex_table.proofs.Counts.{count-none, count-some, count-set, count-le}
+
+-- what holds of the lanes with a tag before one, and of the next with it, holds of those up to that
+pub up_to_next : (P : ℕ → Type 0) (g : Group) (t past next : ℕ) → ((l : ℕ) → l < past → tag_at g l ≡ t → P l) → ((l : ℕ) → past ≤ l → l < next → tag_at g l ≢ t) → P next
+    → (l : ℕ) → l < next + 1 → tag_at g l ≡ t → P l
+up_to_next P g t past next before between here l b tag = elim (cases_lt l past) [
+  | inl low ↦ before l low tag
+  | inr high ↦ elim (cases_eq l next) [ inl same ↦ subst P (sym same) here | inr other ↦ absurd (between l (omega (arith, high)) (omega (arith, b, other)) tag) ]
+]
 
 module _ (g : Group) (long : length g.tags ≡ 16) where
   lanes : length (take 12 g.tags) ≡ 12

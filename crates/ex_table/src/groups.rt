@@ -98,15 +98,6 @@ impl Group {
         }
     }
 
-    /// Whether the lane has this tag.
-    #[inline(always)]
-    pub fn has_tag(&self, lane: usize, tag: u8) -> bool
-        requires { lane < 12 }
-        ensures { result ≡ (tag_at self.now lane == tag) }
-    {
-        self.tags[lane] == tag
-    }
-
     /// The entry that the lane names.
     #[inline(always)]
     pub fn place(&self, lane: usize) -> usize
@@ -116,7 +107,7 @@ impl Group {
         self.places[lane] as usize
     }
 
-    // The lane that has this tag and names this entry, lane by lane.
+    // The lane that has this tag and names this entry, of all with the tag.
     #[cold]
     #[inline(never)]
     fn naming_by_lane(&self, tag: u8, place: usize) -> Option<usize>
@@ -125,10 +116,15 @@ impl Group {
         ensures none { IfNone result ((l : ℕ) → l < 12 → tag_at self.now l ≡ tag
             → place_at self.now l ≢ place) }
     {
-        'each: for lane in 0..LANES {
-            if self.has_tag(lane, tag) && self.place(lane) == place {
+        let mut past: usize = 0;
+        'each: for _turn in 0..LANES {
+            let Some(lane) = self.lane_past(tag, past) else {
+                return None;
+            };
+            if self.place(lane) == place {
                 return Some(lane);
             }
+            past = lane + 1;
         }
         None
     }
