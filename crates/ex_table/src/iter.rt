@@ -110,13 +110,13 @@ impl<'a, K, V> Iterator for Keys<'a, K, V> {
         ensures upper { IfSome result.1 (UpTo (item_count (λ rest. rest) self.now)) }
         ensures exact { result ≡ (length self.now, Some (length self.now)) }
     {
-        exactly(self.rest.rest.len())
+        self.rest.size_hint()
     }
 }
 
 impl<'a, K, V> ExactSizeIterator for Keys<'a, K, V> {
     fn len(&self) -> usize {
-        self.rest.rest.len()
+        self.rest.len()
     }
 }
 
@@ -157,13 +157,13 @@ impl<'a, K, V> Iterator for Values<'a, K, V> {
         ensures upper { IfSome result.1 (UpTo (item_count (λ rest. rest) self.now)) }
         ensures exact { result ≡ (length self.now, Some (length self.now)) }
     {
-        exactly(self.rest.rest.len())
+        self.rest.size_hint()
     }
 }
 
 impl<'a, K, V> ExactSizeIterator for Values<'a, K, V> {
     fn len(&self) -> usize {
-        self.rest.rest.len()
+        self.rest.len()
     }
 }
 
