@@ -8,13 +8,6 @@ use Rattle.aa_vec.proofs.Stages.{Turn}
 use Rattle.aa_vec.proofs.Stands.{count, first_are, first_stand, moved_items, others_are, others_stand, parts}
 
 module _ {F T : Type 0} (Asks : F → T → Bool → F → T → Type 0) where
-  -- those that were not asked are as they were
-  until-others : (f h : F) (xs : List T) (k : ℕ) (left : List T) → AsksUntil Asks f xs k h left → drop (suc k) left ≡ drop (suc k) xs
-  until-others f h [] zero left u = ap (drop 1) u.1
-  until-others f h [] (suc k) left u = absurd u
-  until-others f h (x ∷ xs) zero left u = ap (drop 1) u.2
-  until-others f h (x ∷ xs) (suc k) left u = ap (drop (suc (suc k))) u.5 ∙ until-others u.0 h xs k u.2 u.4
-
   module _ {A : Type 0} {f : F} {old : Vector T A} {gap n k : ℕ} {g : F} {new : Vector T A} (asked : AsksBehind Asks f old gap n k g new) (stands : StandsBehind old gap n) where
     turn : Turn (Told Asks) (May Asks (λ s x. Unit {0})) f old gap n k g new asked.left
     turn = turn-asked Asks (λ s x. Unit {0}) f old gap n stands k g new asked
@@ -37,12 +30,13 @@ module _ {F T : Type 0} (Keeps : F → T → Bool → F → T → Type 0) where
     pub items : kept told ≡ take 1 (drop stay left)
     pub stays : passed_over told ≡ take stay left
     pub few : length (passed_over told) ≡ stay
+    pub others : drop (suc stay) left ≡ drop (suc stay) xs
     pub ends : (x : T) → kept told ≡ x ∷ [] → (front : List (Asked T)) × (told ≡ front ++ record { answer = true; left = x } ∷ [])
 
   told_to : (f g : F) (xs : List T) (stay : ℕ) (left : List T) → AsksUntil Asks f xs stay g left → ToldTo f xs stay left g
-  told_to f g [] zero left u = rw u.1 (record { told = []; asked = u.0; items = refl; stays = refl; few = refl; ends = λ x none. absurd (omega (arith, ap length none)) })
+  told_to f g [] zero left u = rw u.1 (record { told = []; asked = u.0; items = refl; stays = refl; few = refl; others = refl; ends = λ x none. absurd (omega (arith, ap length none)) })
   told_to f g [] (suc stay) left u = absurd u
-  told_to f g (z ∷ xs) zero left u = rw u.2 (record { told = record { answer = true; left = u.0 } ∷ []; asked = (g, u.1, refl); items = refl; stays = refl; few = refl; ends = λ x same. ([], cc) })
+  told_to f g (z ∷ xs) zero left u = rw u.2 (record { told = record { answer = true; left = u.0 } ∷ []; asked = (g, u.1, refl); items = refl; stays = refl; few = refl; others = refl; ends = λ x same. ([], cc) })
   told_to f g (z ∷ xs) (suc stay) left u =
       let r = told_to u.0 g xs stay u.2 u.4 in
       let first : Asked T = record { answer = false; left = u.1 } in
@@ -52,6 +46,7 @@ module _ {F T : Type 0} (Keeps : F → T → Bool → F → T → Type 0) where
         items = r.items;
         stays = ap (λ l. u.1 ∷ l) r.stays;
         few = omega (arith, r.few);
+        others = r.others;
         ends = λ x same. let e = r.ends x same in (first ∷ e.0, ap (λ l. first ∷ l) e.1);
       })
 
@@ -75,11 +70,8 @@ module _ {T A : Type 0} {old joined : Vector T A} {low : ℕ} (front end : ℕ) 
     abbrev left : List T
     left = keeps.asks.left
 
-    until : AsksUntil (StaysWhen false Keeps) f (behind_items old front n) stay g left
-    until = subst (λ xs. AsksUntil (StaysWhen false Keeps) f xs stay g left) (still_are old joined front gap n apart) keeps.asks.until
-
     told : ToldTo Keeps f (behind_items old front n) stay left g
-    told = told_to Keeps f g (behind_items old front n) stay left until
+    told = told_to Keeps f g (behind_items old front n) stay left (rw (← still_are old joined front gap n apart) keeps.asks.until)
 
     turned : Turn (Told (StaysWhen false Keeps)) (May (StaysWhen false Keeps) (λ s x. Unit {0})) f joined gap n stay g keeps.left left
     turned = turn-asked (StaysWhen false Keeps) (λ s x. Unit {0}) f joined gap n joined_stand stay g keeps.left keeps.asks
@@ -96,8 +88,17 @@ module _ {T A : Type 0} {old joined : Vector T A} {low : ℕ} (front end : ℕ) 
 
     rest : (j : ℕ) → stay + j ≤ n → drop (stay + j) left ≡ drop (stay + j) (behind_items old front n) → drop j (drop gap down.behind) ≡ drop (front + (stay + j)) old.behind
     rest j h e =
-        cc (keeps.closes.behind, keeps.asks.leaves.behind, apart, drop-drop j stay (map Some left ++ drop n (drop front old.behind)), others_in left long (stay + j) h, e,
-          others_in (behind_items old front n) (count old front n stands) (stay + j) h, parts old front n stands, drop-drop (stay + j) front old.behind)
+        cc (
+          keeps.closes.behind,
+          keeps.asks.leaves.behind,
+          apart,
+          drop-drop j stay (map Some left ++ drop n (drop front old.behind)),
+          others_in left long (stay + j) h,
+          e,
+          others_in (behind_items old front n) (count old front n stands) (stay + j) h,
+          parts old front n stands,
+          drop-drop (stay + j) front old.behind,
+        )
 
     -- and the items are set back
     module _ (w : Vector T A) (places : List (Option T)) (differs : w ≡ with_behind down places) (new : Vector T A) (set : SetsBack w (len old) new) where
@@ -121,13 +122,13 @@ module _ {T A : Type 0} {old joined : Vector T A} {low : ℕ} (front end : ℕ) 
       above j =
           let behind = drop_at (map (λ (x : T). Some x) stays) w.behind (low + stay) (length-map stays (λ (x : T). Some x) ∙ back_long) in rw (← drop-drop j (low + stay) new.behind, set.behind, back, behind) refl
 
-      picked : (next : ℕ) (item : Option T) → next ≡ front + (stay + length (kept told.told)) → (low + stay ≤ next) × (front ≤ next) × (next ≤ end) → drop next new.behind ≡ drop next old.behind
+      picked : (j next : ℕ) (item : Option T) → next ≡ front + (stay + j) → stay + j ≤ n → length (kept told.told) ≡ j → drop (stay + j) left ≡ drop (stay + j) (behind_items old front n) → drop (gap + j) w.behind ≡ drop (gap + j) down.behind
           → MatchOption item ((kept told.told ≡ []) × (next ≡ end)) (λ x. (kept told.told ≡ x ∷ []) × EndsTrue told.told) → Picks Keeps f old low front end stay next item g new
-      picked next item e inside same cases = record {
+      picked j next item e fits many same beyond cases = record {
         told = told.told;
         asked = told.asked;
         cases = cases;
-        counts = (sym told.few, omega (arith, e, told.few, asked_parts told.told));
+        counts = (sym told.few, omega (arith, e, many, told.few, asked_parts told.told));
         becomes =
             let all = rw joins.becomes at (rw keeps.asks.leaves.same at (rw keeps.closes.becomes at (rw differs at set.becomes))) in
             Becomes-holds old old.items (moved_over gap stay) (run_count (moved_over gap stay)) new (record {
@@ -136,8 +137,9 @@ module _ {T A : Type 0} {old joined : Vector T A} {low : ℕ} (front end : ℕ) 
             }) (record { written = omega (arith, ap (λ u. u.written) all); runs = omega (arith, ap (λ u. u.runs) all) });
         stands = subst (StandsBehind new 0) set_count set.stands;
         stayed = ap (behind_items new 0) (sym set_count) ∙ set.elements ∙ back ∙ ap (λ l. behind_items old 0 low ++ l) (sym told.stays);
-        within = inside;
-        above = same;
+        within = (omega (arith, e, ordered), omega (arith, e), omega (arith, e, fits, ordered));
+        above = let there : next ≡ low + stay + (gap + j) = omega (arith, e, ordered) in
+            ap (λ i. drop i new.behind) there ∙ above (gap + j) ∙ beyond ∙ sym (drop-drop j gap down.behind) ∙ rest j fits same ∙ ap (λ i. drop i old.behind) (sym e);
       }
 
     -- none is left to be asked
@@ -145,20 +147,14 @@ module _ {T A : Type 0} {old joined : Vector T A} {low : ℕ} (front end : ℕ) 
     Picks-none all {new} set =
         let e : stay ≡ n = omega (arith, all, turned.within) in
         let none : kept told.told ≡ [] = told.items ∙ ap (take 1) (drop_all stay left (omega (arith, long, e))) in
-        let there : low + stay + gap ≡ end = omega (arith, e, ordered.0, ordered.1) in
         let same : drop (stay + 0) left ≡ drop (stay + 0) (behind_items old front n) = drop_all (stay + 0) left (omega (arith, long, e)) ∙ sym (drop_all (stay + 0) (behind_items old front n) (omega (arith, count old front n stands, e))) in
-        picked down down.behind refl new set end None (omega (arith, e, ordered.1, ap length none)) (omega (arith, there), ordered.1, omega arith)
-        (ap (λ i. drop i new.behind) (sym there) ∙ above down down.behind refl new set gap ∙ rest 0 (omega (arith, e)) same ∙ ap (λ i. drop i old.behind) (omega (arith, e, ordered.1))) (none, refl)
+        picked down down.behind refl new set 0 end None (omega (arith, e, ordered)) (omega (arith, e)) (omega (arith, ap length none)) same refl (none, refl)
 
     -- the next one was taken out
     pub Picks-taken : stay < n → {x : T} {w : Vector T A} → behind_items down (front - low) 1 ≡ x ∷ [] → w ≡ with_behind down (slice_set down.behind (front - low) None) → {new : Vector T A} → SetsBack w (len old) new
         → Picks Keeps f old low front end stay (front + stay + 1) (Some x) g new
     Picks-taken less {x} {w} value taken {new} set =
-        let next : ℕ = front + stay + 1 in
-        let there : low + stay + (gap + 1) ≡ next = omega (arith, ordered.0) in
         let one : kept told.told ≡ x ∷ [] = told.items ∙ ap (take 1) (ap (drop stay) (sym turned.are) ∙ sym (others_are keeps.left gap n turned.stands stay turned.within down keeps.closes)) ∙ sym (first_are down gap (n - stay) next_stand 1 (omega (arith, less))) ∙ value in
-        let same : drop (stay + 1) left ≡ drop (stay + 1) (behind_items old front n) = let one_more : suc stay ≡ stay + 1 = omega arith in subst (λ i. drop i left ≡ drop i (behind_items old front n)) one_more (until-others (StaysWhen false Keeps) f g (behind_items old front n) stay left until) in
-        let last = told.ends x one in
-        picked w (slice_set down.behind gap None) taken new set next (Some x) (omega (arith, ap length one)) (omega (arith, there), omega arith, omega (arith, less))
-        (ap (λ i. drop i new.behind) (sym there) ∙ above w (slice_set down.behind gap None) taken new set (gap + 1) ∙ ap (λ v. drop (gap + 1) v.behind) taken ∙ drop-set-lt (gap + 1) down.behind gap None (omega arith)
-        ∙ sym (drop-drop 1 gap down.behind) ∙ rest 1 (omega (arith, less)) same ∙ ap (λ i. drop i old.behind) (omega arith)) (one, inr (last.0, x, last.1))
+        let one_more : suc stay ≡ stay + 1 = omega arith in let last = told.ends x one in
+        picked w (slice_set down.behind gap None) taken new set 1 (front + stay + 1) (Some x) (omega arith) (omega (arith, less)) (omega (arith, ap length one)) (subst (λ i. drop i left ≡ drop i (behind_items old front n)) one_more told.others)
+        (ap (λ v. drop (gap + 1) v.behind) taken ∙ drop-set-lt (gap + 1) down.behind gap None (omega arith)) (one, inr (last.0, x, last.1))

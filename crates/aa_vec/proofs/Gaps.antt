@@ -57,8 +57,7 @@ module _ {X : Type 0} (cs : List (Option X)) (l gap n : ℕ) (stands : IsRun (dr
 
   pub IsRun-closed : IsRun cs 0 l → IsRun (moved cs (l + gap) l n) 0 (l + n)
   IsRun-closed front =
-      let long : length (run (moved cs (l + gap) l n) 0 (l + n)) ≡ l + n = omega (arith, ap length run-closed, length-append (run cs 0 l) (run (drop gap (drop l cs)) 0 n), length-run cs 0 l front, length-run (drop gap (drop l cs)) 0 n stands) in
-      IsRun-long (moved cs (l + gap) l n) 0 (l + n) long (omega (arith, fits, length-moved cs (l + gap) l n fits (omega (arith, fits))))
+      IsRun-long (moved cs (l + gap) l n) 0 (l + n) (omega (arith, ap length run-closed, length-append {A = X}, length-run cs 0 l front, length-run (drop gap (drop l cs)) 0 n stands)) (omega (arith, fits, length-moved cs (l + gap) l n fits (omega (arith, fits))))
 
 -- other places in a run's stead, over a gap behind the first l
 pub drop-laid : {X : Type 0} (cs es : List (Option X)) (l gap n : ℕ) → l + gap + n ≤ length cs → drop gap (drop l (with_run cs (l + gap) n es)) ≡ es ++ drop n (drop gap (drop l cs))

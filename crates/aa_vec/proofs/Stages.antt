@@ -1,12 +1,16 @@
 -- Turns of a loop in which a closure is asked of elements behind a gap, and those that stay are moved down. `Ends` is what the closure
 -- says of all that are yet to be asked, where these items stay so far: the answers, which are true where an element stays, and then
 -- the closure's state and all the items. `May` is that they may be asked.
-use Rattle.aa_vec.proofs.Common.{None, drop-set-lt, ◌≡◌, ℕ, ◌+◌, ◌-◌, ◌<◌, ◌≤◌, Bool, List, [], ◌++◌, length, take, drop, sym, ap, ◌∙◌, subst, arith, inl, inr, min, drop_all, length-take-le, run-zero, StandsBehind, SetsBack, ClosesGap, behind_items, with_behind, kept_behind_removed, TakesNext, refl, Vector, len, Becomes, SameBlock, Writes, moved_over, below_or_not}
+use Rattle.aa_vec.proofs.Common.{None, drop-set-lt, ◌≡◌, ℕ, ◌+◌, ◌-◌, ◌<◌, ◌≤◌, Bool, List, [], ◌∷◌, ◌++◌, length, length-drop, take, drop, sym, ap, ◌∙◌, subst, arith, inl, inr, min, drop_all, length-take-le, run-zero, StandsBehind, SetsBack, ClosesGap, behind_items, with_behind, kept_behind_removed, TakesNext, refl, Vector, len, Becomes, SameBlock, Writes, moved_over, below_or_not}
 use Rattle.aa_vec.proofs.Becoming.{Becomes-holds, SameBlock-becomes}
 use Rattle.aa_vec.proofs.GrowthLemmas.{SameBlock-trans}
 use Rattle.aa_vec.proofs.Closed.{still, still-none, few_runs, no_run, removed_count, marks, marks-are, marks-written}
-use Rattle.aa_vec.proofs.Stands.{count, first_stand, moved_items, moved_len, others_are, others_stand}
-use Rattle.aa_vec.proofs.BehindLemmas.{later_part, part_stand}
+use Rattle.aa_vec.proofs.Stands.{count, moved_items, moved_len, others_are, others_stand}
+use Rattle.aa_vec.proofs.BehindLemmas.{later_part, part_stand, still_are, still_stand}
+
+drop-few : {T : Type 0} (xs : List T) (j : ℕ) → j ≡ min (length xs) 1 → drop j xs ≡ drop 1 xs
+drop-few [] j e = drop_all j [] (omega arith)
+drop-few (x ∷ xs) j e = ap (λ i. drop i (x ∷ xs)) {x = j} {y = 1} (omega (arith, e))
 
 module _ {F T A : Type 0} (Ends : F → (items yet : List T) → List Bool → F → List T → Type 0) (May : F → (items yet : List T) → Type 0) where
   -- k of the n elements behind the gap were asked and stay, and the next, if there is one, goes. `left` are all, as they were left
@@ -72,41 +76,33 @@ module _ {F T A : Type 0} (Ends : F → (items yet : List T) → List Bool → F
           long : len p.closed ≡ len v + k
           long = moved_len w (at - n) (end - at) t.stands k t.within p.closed p.closes ∙ ap (λ l. l + k) t.long
 
-          -- the next is taken out
-          gone : at + k < end → Stage g z next end
-          gone less =
-              let q = p.goes less in let grown : len z ≡ len v + k = ap len q.0 ∙ long in
-              let i : next - len z ≡ at - n + 1 = omega (arith, q.1, grown, many, s.here) in let m : end - next ≡ end - at - k - 1 = omega (arith, q.1) in
-              let some : 0 < end - at - k = omega (arith, less) in let rest = others_stand w (at - n) (end - at) t.stands k t.within p.closed p.closes in
-              let there = part_stand p.closed (at - n) (end - at - k) rest (at - n + 1) (end - at - k - 1) (omega arith) (omega (arith, some)) in
-              let same = drop-set-lt (at - n + 1) p.closed.behind (at - n) None (omega arith) in
+          -- the next, if there is one, is taken out
+          behind : (j : ℕ) → j ≡ min (end - at - k) 1 → next ≡ at + k + j → z ≡ with_behind p.closed z.behind → drop (at - n + j) z.behind ≡ drop (at - n + j) p.closed.behind → Stage g z next end
+          behind j one is same above =
+              let grown : len z ≡ len v + k = ap len same ∙ long in
+              let i : next - len z ≡ at - n + j = omega (arith, is, grown, many, s.here) in let m : end - next ≡ end - at - k - j = omega (arith, is) in
+              let rest = others_stand w (at - n) (end - at) t.stands k t.within p.closed p.closes in
+              let there = part_stand p.closed (at - n) (end - at - k) rest (at - n + j) (end - at - k - j) (omega arith) (omega (arith, one)) in
+              let left_of : length (drop k left) ≡ end - at - k = omega (arith, length-drop k left, ap length t.are, count w (at - n) (end - at) t.stands) in
               record {
-                here = omega (arith, q.1, grown, s.here);
-                within = omega (arith, q.1, less);
-                on = more h v (at - n) (end - at) stage-on k g w left t p.closed z _ _ p.closes (q.0 ∙ ap (with_behind p.closed) (sym (ap (λ s. s.behind) q.0))) (rw (i, m, q.0, same) there)
-                    (rw (i, m, q.0, same) (later_part p.closed (at - n) 1 (end - at - k) (end - at - k - 1) (omega (arith, some)) rest ∙ ap (drop 1) (others_are w (at - n) (end - at) t.stands k t.within p.closed p.closes ∙ ap (drop k) t.are)))
-                    (omega (arith, i, less)) (omega (arith, m));
-              }
-
-          -- there is none
-          none : at + k ≡ end → Stage g z next end
-          none all =
-              let q = p.none all in let grown : len z ≡ len v + k = ap len q.0 ∙ long in
-              let i : next - len z ≡ at - n = omega (arith, q.1, grown, many, s.here, all) in let m : end - next ≡ 0 = omega (arith, q.1) in
-              let stands = first_stand p.closed (at - n) (end - at - k) (others_stand w (at - n) (end - at) t.stands k t.within p.closed p.closes) 0 (omega arith) in
-              let are = run-zero (drop (at - n) z.behind) 0 ∙ ap (drop 1) (sym (drop_all k left (omega (arith, all, ap length t.are, count w (at - n) (end - at) t.stands)))) in
-              record {
-                here = omega (arith, q.1, grown, s.here, all);
-                within = omega (arith, q.1);
-                on = more h v (at - n) (end - at) stage-on k g w left t p.closed z _ _ p.closes (q.0 ∙ ap (with_behind p.closed) (sym (ap (λ s. s.behind) q.0))) (rw (i, m, q.0) stands) (rw (i, m) are) (omega (arith, i, all)) (omega (arith, m, all));
+                here = omega (arith, is, grown, s.here);
+                within = omega (arith, is, one, turn-within);
+                on = more h v (at - n) (end - at) stage-on k g w left t p.closed z _ _ p.closes same
+                    (rw (i, m) (still_stand p.closed z (at - n + j) (at - n + j) (end - at - k - j) there (omega (arith, there.0, ap len same, ap (λ u. u.capacity) same)) above))
+                    (rw (i, m) (still_are p.closed z (at - n + j) (at - n + j) (end - at - k - j) above ∙ later_part p.closed (at - n) j (end - at - k) (end - at - k - j) (omega (arith, one)) rest
+                    ∙ ap (drop j) (others_are w (at - n) (end - at) t.stands k t.within p.closed p.closes ∙ ap (drop k) t.are) ∙ drop-few (drop k left) j (omega (arith, one, left_of)))) (omega (arith, i, one)) (omega (arith, m, one));
               }
 
         -- the next place is behind it, and where some are left, one has gone
         pub turned : Turned at end (at - n) k g w
-        turned = (turn-within, t.stands, λ z next p. elim (below_or_not (at + k) end) [
-          | inl less ↦ let q = p.goes less in (gone z next p less, λ some. omega (arith, q.1), λ more. omega (arith, q.1, ap len q.0, long z next p, many, s.here))
-          | inr all ↦ let e : at + k ≡ end = omega (arith, all, turn-within) in let q = p.none e in (none z next p e, λ some. omega (arith, q.1, some), λ more. omega (arith, q.1, more))
-        ])
+        turned = (
+          turn-within,
+          t.stands,
+          λ z next p. elim (below_or_not (at + k) end) [
+            | inl less ↦ let q = p.goes less in (behind z next p 1 (omega (arith, less)) q.1 (q.0 ∙ ap (with_behind p.closed) (sym (ap (λ s. s.behind) q.0))) (ap (λ u. drop (at - n + 1) u.behind) q.0 ∙ drop-set-lt (at - n + 1) p.closed.behind (at - n) None (omega arith)), λ some. omega (arith, q.1), λ more. omega (arith, q.1, ap len q.0, long z next p, many, s.here))
+            | inr all ↦ let e : at + k ≡ end = omega (arith, all, turn-within) in let q = p.none e in (behind z next p 0 (omega (arith, e)) (omega (arith, q.1, e)) (q.0 ∙ ap (with_behind p.closed) (sym (ap (λ s. s.behind) q.0))) (ap (λ u. drop (at - n + 0) u.behind) q.0), λ some. omega (arith, q.1, some), λ more. omega (arith, q.1, more))
+          ],
+        )
 
     -- all were asked
     pub stage-ended : (g : F) (z : Vector T A) (at end : ℕ) → Stage g z at end → at ≡ end → ((yet : List T) → yet ≡ [] → May g z.items yet → Ends g z.items yet [] g z.items)

@@ -11,9 +11,7 @@ told-in : {F T : Type 0} (Asks : F → T → Bool → F → T → Type 0) (p : T
     → (f : F) (xs : List T) (told : List (Asked T)) (g : F) → In f → AskedInOrder Asks f xs told g → told ≡ map (told_by p h) xs
 told-in Asks p h In steady f [] [] g i a = refl
 told-in Asks p h In steady f (x ∷ xs) (y ∷ told) g i a =
-    let s = steady f x y.answer a.0 y.left i a.1 in
-    let one : y ≡ told_by p h x = λ j. record { answer = s.0 j; left = s.1 j } in
-    ap (λ z. z ∷ told) one ∙ ap (λ l. told_by p h x ∷ l) (told-in Asks p h In steady a.0 xs told g s.2 a.2)
+    let s = steady f x y.answer a.0 y.left i a.1 in λ j. record { answer = s.0 j; left = s.1 j } ∷ told-in Asks p h In steady a.0 xs told g s.2 a.2 j
 told-in Asks p h In steady f xs told g i a = absurd a
 
 pub asked-steady : {F T : Type 0} (Asks : F → T → Bool → F → T → Type 0) (p : T → Bool) (h : T → T) → ((f : F) (x : T) (answer : Bool) (g : F) (y : T) → Asks f x answer g y → (answer ≡ p x) × (y ≡ h x))
