@@ -1,6 +1,6 @@
 -- What a caller of the vector closes its goals by: the room there is, calls in one block one after another, and closures whose
 -- answers hang on the elements alone.
-use Rattle.aa_vec.proofs.Common.{◌≡◌, ℕ, zero, suc, ◌-◌, ◌<◌, ◌≤◌, Bool, true, false, List, [], ◌∷◌, ◌++◌, length, take, replicate, refl, sym, subst, ap, ◌∙◌, arith, inl, inr, filter, ◌==◌, if◌then◌else◌, Result, Ok, Err, OnOk, FoldsTo, usize_max, Retains, kept, MayCallTimes, AddsAnswers, Becomes, Vector, len, sized, GrowsTo, HasRoom, Holds, cases_lt, append-nil, map-id, take_all, take-nil}
+use Rattle.aa_vec.proofs.Common.{◌≡◌, ℕ, zero, suc, ◌-◌, ◌<◌, ◌≤◌, Bool, true, false, List, [], ◌∷◌, ◌++◌, length, take, replicate, refl, sym, ap, ◌∙◌, arith, inl, inr, filter, ◌==◌, if◌then◌else◌, Result, Ok, Err, OnOk, FoldsTo, usize_max, Retains, kept, MayCallTimes, AddsAnswers, Becomes, Vector, len, sized, GrowsTo, HasRoom, Holds, cases_lt, append-nil, map-id, take_all, take-nil}
 use Rattle.aa_vec.proofs.Becoming.{became}
 use Rattle.aa_vec.proofs.Callable.{IsCallableInOrder-any, IsCallableAlong-any}
 use Rattle.aa_vec.proofs.GrowthLemmas.{MakesRoom-has, SameBlock-trans}
