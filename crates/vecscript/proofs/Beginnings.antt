@@ -18,11 +18,8 @@ pub record HasWritten (old new : Option (List ℕ)) (text rest : List ℕ) : Typ
 pub HasWritten-next : (old mid new : Option (List ℕ)) (text rest : List ℕ) (n : ℕ) → HasWritten old mid text rest → Appends mid new (take n rest)
     → HasWritten old new text (drop n rest)
 HasWritten-next old mid new text rest n had more =
-    record {
-      front = had.front ++ take n rest;
-      place = rw (append_assoc had.front (take n rest) (drop n rest), take-append-drop n rest) had.place;
-      grew = Appends-trans old mid new had.front (take n rest) had.grew more;
-    }
+    let place : text ≡ (had.front ++ take n rest) ++ drop n rest = rw (append_assoc, take-append-drop) had.place in
+    search (place, Appends-trans old mid new had.front (take n rest) had.grew more)
 
 -- nothing is left
 pub HasWritten-all : (old new : Option (List ℕ)) (text rest : List ℕ) → HasWritten old new text rest → length rest ≡ 0 → Appends old new text

@@ -35,11 +35,6 @@ splice-told false v w word words all start end hint is first last hinted told = 
     never (Splice from to items told_hint) said = told items.items said.3
     never command said = absurd said
 
--- the words after another name
-pub after-told : (name : List ℕ) (rest : List (List ℕ)) → bytes_eq name (codes "extend") ≡ false → bytes_eq name (codes "splice") ≡ false
-    → (b : Bool) → TellsWhether b (SayAfter name rest) → TellsWhether b (Say (name ∷ rest))
-after-told name rest no_extend no_splice b told = rw (no_extend, no_splice) told
-
 -- a line whose words say no command is bad
 bad-words : (line word : List ℕ) (words : List (List ℕ)) → words_of line ≡ word ∷ words → ((command : Command ℕ Global) → ¬ (Say (word ∷ words) command)) → IsBad line
 bad-words line word words is unsaid = record { has_words = λ none. omega (arith, ap length (sym none ∙ is)); says_nothing = λ command said. unsaid command (rw is at said) }

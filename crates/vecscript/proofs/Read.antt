@@ -20,13 +20,8 @@ HasSeen-start Are text none = record { before = []; place = refl; counted = refl
 pub HasSeen-next : (Are Then : List (List ℕ) → Type 0) (text old new line : List ℕ) (before after : ℕ) → HasSeen Are text old before
     → lines old ≡ line ∷ lines new → after ≡ before + 1 → ((ls : List (List ℕ)) → Are ls → Then (ls ++ line ∷ [])) → HasSeen Then text new after
 HasSeen-next Are Then text old new line before after had next counts more =
-    record {
-      before = had.before ++ line ∷ [];
-      place = rw (append_assoc had.before (line ∷ []) (lines new), ← next) had.place;
-      counted = omega (arith, length-append had.before (line ∷ []), had.counted);
-      bound = omega (arith, had.bound, ap length next);
-      each = more had.before had.each;
-    }
+    let place : lines text ≡ (had.before ++ line ∷ []) ++ lines new = rw (append_assoc, ← next) had.place in
+    search (rules, arith, place, had.counted, had.bound, length-append had.before (line ∷ []), ap length next, more had.before had.each)
 
 -- no line is bad
 pub HasNoBad-none : HasNoBad []

@@ -33,51 +33,32 @@ HasNoBad-blank (line ∷ before) blank =
 pub Mean-blank : (before : List (List ℕ)) → AllBlank before → Mean before []
 Mean-blank before blank = rw (rw (append-nil before) at (said_in-behind before [] blank)) tt
 
--- the first line that has words decides
-first_words : (line : List ℕ) (others : List (List ℕ)) → words_of line ≢ [] → (b : Bool) → are_sparing (words_of line) ≡ b
-    → (growth_in (line ∷ others) ≡ (if b then Sparing else Doubling)) × (command_lines (line ∷ others) ≡ (if b then [] else line) ∷ others)
-first_words line others some b says = (grind (arith, nat_tests), grind (arith, nat_tests))
-
 -- of the lines that are left the first has words: it chooses sparing growth, or says a command
-pub chosen : (text old new line : List ℕ) (count : ℕ) → HasSeen AllBlank text old count → lines old ≡ line ∷ lines new → words_of line ≢ []
-    → (b : Bool) → are_sparing (words_of line) ≡ b
-    → (growth_in (lines text) ≡ (if b then Sparing else Doubling)) × AreBehind (if b then count + 1 else 0) (lines (if b then new else text)) (command_lines (lines text))
-chosen text old new line count had next some b says =
-    let first = first_words line (lines new) some b says in
-    let place : lines text ≡ had.before ++ line ∷ lines new = rw next at had.place in
-    let all : command_lines (lines text) ≡ had.before ++ (if b then [] else line) ∷ lines new =
-    rw (place, command_lines-behind had.before (line ∷ lines new) had.each, first.1) refl in
-    (rw (place, said_in-behind had.before (line ∷ lines new) had.each) first.0, behind b place all)
-  where
-    behind : (b : Bool) → lines text ≡ had.before ++ line ∷ lines new → command_lines (lines text) ≡ had.before ++ (if b then [] else line) ∷ lines new
-        → AreBehind (if b then count + 1 else 0) (lines (if b then new else text)) (command_lines (lines text))
-    behind true place all = (
-      had.before ++ [] ∷ [],
-      AllBlank-next [] refl had.before had.each,
-      omega (arith, length-append had.before ([] ∷ []), had.counted),
-      rw (append_assoc had.before ([] ∷ []) (lines new)) all,
-    )
-    behind false place all = ([], tt, refl, all ∙ sym place)
+module _ (text old new line : List ℕ) (count : ℕ) (had : HasSeen AllBlank text old count) (next : lines old ≡ line ∷ lines new) (some : words_of line ≢ []) where
+  pub growth_chosen : growth_in (lines text) ≡ (if are_sparing (words_of line) then Sparing else Doubling)
+  growth_chosen = grind (arith, nat_tests, said_in-behind)
+
+  said : command_lines (lines text) ≡ had.before ++ (if are_sparing (words_of line) then [] else line) ∷ lines new
+  said = grind (arith, nat_tests, command_lines-behind)
+
+  pub chosen : are_sparing (words_of line) ≡ true → AreBehind (count + 1) (lines new) (command_lines (lines text))
+  chosen says = (had.before ++ [] ∷ [], AllBlank-next [] refl had.before had.each, grind (arith, had.counted, length-append), grind (arith, said, append_assoc))
+
+  pub unchosen : are_sparing (words_of line) ≡ false → AreBehind 0 (lines text) (command_lines (lines text))
+  unchosen says = ([], tt, refl, grind (arith, nat_tests, said, had.place))
 
 -- no line is left
-pub unchosen : (text rest : List ℕ) (count : ℕ) → HasSeen AllBlank text rest count → lines rest ≡ []
+pub unsaid : (text rest : List ℕ) (count : ℕ) → HasSeen AllBlank text rest count → lines rest ≡ []
     → (growth_in (lines text) ≡ Doubling) × AreBehind 0 (lines text) (command_lines (lines text))
-unchosen text rest count had none =
-    (rw (had.place, said_in-behind had.before (lines rest) had.each, none) refl, ([], tt, refl, rw (had.place, command_lines-behind had.before (lines rest) had.each, none) refl))
+unsaid text rest count had none = (grind (arith, had.place, said_in-behind), ([], tt, refl, grind (arith, had.place, command_lines-behind)))
 
 -- the first bad line of those behind blank ones is that of all
 module _ (count : ℕ) (others all : List (List ℕ)) (behind : AreBehind count others all) where
   bad-behind : (number : ℕ) → IsFirstBad others number → IsFirstBad all (count + number)
   bad-behind number first =
-      record {
-        before = behind.0 ++ first.before;
-        line = first.line;
-        after = first.after;
-        place = rw (append_assoc behind.0 first.before (first.line ∷ first.after), ← first.place) behind.3;
-        counted = omega (arith, length-append behind.0 first.before, first.counted, behind.2);
-        good_before = HasNoBad-append behind.0 first.before (HasNoBad-blank behind.0 behind.1) first.good_before;
-        bad = first.bad;
-      }
+      let place : all ≡ (behind.0 ++ first.before) ++ (first.line ∷ first.after) = rw (append_assoc, ← first.place) behind.3 in
+      let good_before = HasNoBad-append _ _ (HasNoBad-blank behind.0 behind.1) first.good_before in
+      search (rules, arith, place, behind.2, first.counted, length-append behind.0 first.before, good_before, first.bad)
 
   pub found-behind : (fault : Fault) → IsFoundAmong others fault × (fault ≢ InputOutput)
       → IsFoundAmong all (behind_of count fault) × (behind_of count fault ≢ InputOutput)
@@ -88,8 +69,8 @@ module _ (count : ℕ) (others all : List (List ℕ)) (behind : AreBehind count 
   -- where none of the others is bad none of all is
   pub good-behind : (fault : Fault) → (fault ≡ OutOfMemory → HasNoBad others) → behind_of count fault ≡ OutOfMemory → HasNoBad all
   good-behind OutOfMemory good is = rw behind.3 (HasNoBad-append behind.0 others (HasNoBad-blank behind.0 behind.1) (good refl))
-  good-behind InputOutput good is = let other : InputOutput ≢ OutOfMemory = search rules in absurd (other is)
-  good-behind (BadLine number) good is = let other : BadLine (count + number) ≢ OutOfMemory = search rules in absurd (other is)
+  good-behind InputOutput good is = cc
+  good-behind (BadLine number) good is = cc
 
   -- and its number is that of one of all lines
   pub found-behind-fits : (fault : Fault) → IsFoundAmong others fault → (number : ℕ) → fault ≡ BadLine number → count + number ≤ length all

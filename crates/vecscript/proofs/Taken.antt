@@ -22,11 +22,8 @@ module _ {W X : Type 0} (R : W → X → Type 0) where
   -- one word more is read
   pub HasTaken-next : (all old new : List W) (w : W) (xs : List X) (x : X) → HasTaken all old xs → old ≡ w ∷ new → R w x → HasTaken all new (xs ++ x ∷ [])
   HasTaken-next all old new w xs x had next r =
-      record {
-        before = had.before ++ w ∷ [];
-        place = rw (append_assoc had.before (w ∷ []) new, ← next) had.place;
-        each = AllZip-append had.before (w ∷ []) xs (x ∷ []) had.each (r, tt);
-      }
+      let place : all ≡ (had.before ++ w ∷ []) ++ new = rw (append_assoc, ← next) had.place in
+      search (place, AllZip-append had.before (w ∷ []) xs (x ∷ []) had.each (r, tt))
 
   -- the word that is left first is not read
   pub HasTaken-stuck : (all old : List W) (xs : List X) → HasTaken all old xs → old ≢ [] → ((w : W) (more : List W) (x : X) → old ≡ w ∷ more → ¬ (R w x))

@@ -6,6 +6,7 @@ use Rattle.aa_vec.specs.Choosing.{Asked, AskedInOrder, Retains, ChainsFrom, Dedu
 use Rattle.allocator_api2.specs.declared.runner.Command.TheVariants.{Retain, Dedup}
 use Rattle.allocator_api2.specs.declared.runner.Reply.TheVariants.{Done}
 use Rattle.allocator_api2.specs.Machine.{Answers as Lists, CallsNone, Step, TakesOut}
+use Rattle.allocator_api2.specs.Run.{RunsTo}
 
 module _ {K S : Type 0} (calls told : Calls ℕ Global K S)
     (keeps : (k : K) (x : ℕ) (answer : Bool) (l : K) (y : ℕ) → calls.keeps k x answer l y → told.keeps k x answer l y)
@@ -31,28 +32,19 @@ module _ {K S : Type 0} (calls told : Calls ℕ Global K S)
       → CallsNone element_size calls old command answers reply new → CallsNone element_size told old command answers reply new
   none-told old command answers reply new s =
       let lists = subst (λ (f : Global → Type 0). Lists element_size (¬ (f old.main.alloc)) old.main old.side command reply new.main new.side) sure s.lists in
-      record { none = s.none; keep = s.keep; same = s.same; lists = lists }
+      search (s, lists)
 
   Step-told : (old : State ℕ Global K S) (command : Command ℕ Global) (answers : List Bool) (reply : Reply ℕ) (new : State ℕ Global K S)
       → Step element_size calls old command answers reply new → Step element_size told old command answers reply new
-  Step-told old (SplitOff at) answers reply new s =
-      record { cut = none-told old (SplitOff at) answers reply new s.cut; tail_clone = λ done some. clones _ _ (s.tail_clone done some); head_clone = λ done none. clones _ _ (s.head_clone done none) }
+  Step-told old (SplitOff at) answers reply new s = search (none-told old (SplitOff at) answers reply new s.cut, s.tail_clone, s.head_clone, clones)
   Step-told old Retain answers reply new s =
-      let h = s.retains in
-      let kept : Retains told.keeps old.keep old.main new.keep new.main =
-      record { told = h.told; asked = asked-told old.keep old.main.items h.told new.keep h.asked; runs = h.runs; few = h.few; becomes = h.becomes } in
+      let kept : Retains told.keeps old.keep old.main new.keep new.main = search (asked-told _ _ _ _ s.retains.asked) in
       record { done = s.done; side = s.side; same = s.same; retains = kept; asked = s.asked }
   Step-told old Dedup answers reply new s =
-      let h = s.removes in
-      let asked = deduplicated-told old.same old.main.items h.answers new.same h.left h.asked in
-      let kept : Deduplicates told.repeats old.same old.main new.same new.main =
-      record { answers = h.answers; left = h.left; asked = asked; runs = h.runs; few = h.few; becomes = h.becomes } in
+      let kept : Deduplicates told.repeats old.same old.main new.same new.main = search (deduplicated-told _ _ _ _ _ s.removes.asked) in
       record { done = s.done; side = s.side; keep = s.keep; removes = kept; asked = s.asked }
   Step-told old (ExtractIf start end count) answers Done new s =
-      let h = s.takes in
-      let asked = asked-told old.keep (take (length h.told) (slice_range old.main.items start end)) h.told new.keep h.asked in
-      let taken : TakesOut told.keeps element_size old start end count new =
-      record { told = h.told; asked = asked; enough = h.enough; leaves = h.leaves; gives = h.gives } in
+      let taken : TakesOut told.keeps element_size old start end count new = search (asked-told _ _ _ _ s.takes.asked) in
       record { in_range = s.in_range; same = s.same; takes = taken; asked = s.asked }
   Step-told old command answers reply new s = none-told old command answers reply new s
 
@@ -60,25 +52,13 @@ module _ {K S : Type 0} (calls told : Calls ℕ Global K S)
   IsRun-told old [] new run = run
   IsRun-told old (t ∷ ts) new run = search (rules, Step-told, IsRun-told t.after ts new run.2)
 
+  RunsTo-told : (old : State ℕ Global K S) (commands : List (Command ℕ Global)) (replies : List (Reply ℕ)) (new : State ℕ Global K S)
+      → RunsTo element_size calls old commands replies new → RunsTo element_size told old commands replies new
+  RunsTo-told old commands replies new r = search (IsRun-told _ r.turns _ r.run)
+
   MayAnswer-told : (alloc : Global) (keep : K) (same : S) (lines : List (List ℕ)) (text : List ℕ)
       → MayAnswer calls alloc keep same lines text → MayAnswer told alloc keep same lines text
-  MayAnswer-told alloc keep same lines text a =
-      let p = a.prints in
-      let r = p.run in
-      record {
-        commands = a.commands;
-        meant = a.meant;
-        prints = record {
-          main = p.main;
-          side = p.side;
-          replies = p.replies;
-          last = p.last;
-          main_new = p.main_new;
-          side_new = p.side_new;
-          run = record { possible = r.possible; turns = r.turns; run = IsRun-told _ r.turns p.last r.run; commands_are = r.commands_are; replies_are = r.replies_are };
-          is_text = p.is_text;
-        };
-      }
+  MayAnswer-told alloc keep same lines text a = search (RunsTo-told _ _ _ _ a.prints.run)
 
   -- and of all that is printed of a known text, or of a beginning of it
   pub printed-told : (Prints : List ℕ → Type 0) (alloc : Global) (keep : K) (same : S) (text : Option (List ℕ))

@@ -1,6 +1,6 @@
 use Rattle.vecscript.proofs.Common.{true, false, refl, sym, ◌∙◌}
 use Rattle.vecscript.proofs.Read.{HasSeen-start, HasSeen-next}
-use Rattle.vecscript.proofs.Sparing.{AllBlank, AllBlank-next, chosen, unchosen}
+use Rattle.vecscript.proofs.Sparing.{AllBlank, AllBlank-next, growth_chosen, chosen, unchosen, unsaid}
 use Rattle.vecscript.proofs.lines.chosen_growth.Goals as goal
 
 pub blank-init : goal.blank-init
@@ -14,15 +14,15 @@ blank-preserved c =
 -- or it chooses sparing growth
 pub returns-in-Some-true : goal.returns-in-Some-true
 returns-in-Some-true c =
-    let first = chosen _ _ c.next.new.self.rest.now _ _ c.blank.invariant c.in-Some.ensures.steps c.in-Some-true.ensures.0 true (sym c.in-Some-true.ensures.1 ∙ c.in-Some-true.field-0-test) in
-    record { growth = sym first.0; behind = first.1 }
+    let (some, says) = c.in-Some-true.ensures in let at = c.next.new.self.rest.now in let is = sym says ∙ c.in-Some-true.field-0-test in
+    record { growth = rw is at (sym (growth_chosen _ _ at _ _ c.blank.invariant c.in-Some.ensures.steps some)); behind = chosen _ _ at _ _ c.blank.invariant c.in-Some.ensures.steps some is }
 
 -- or says a command
 pub returns-in-Some-false : goal.returns-in-Some-false
 returns-in-Some-false c =
-    let first = chosen _ _ c.next.new.self.rest.now _ _ c.blank.invariant c.in-Some.ensures.steps c.in-Some-false.ensures.0 false (sym c.in-Some-false.ensures.1 ∙ c.in-Some-false.field-0-test) in
-    record { growth = sym first.0; behind = first.1 }
+    let (some, says) = c.in-Some-false.ensures in let at = c.next.new.self.rest.now in let is = sym says ∙ c.in-Some-false.field-0-test in
+    record { growth = rw is at (sym (growth_chosen _ _ at _ _ c.blank.invariant c.in-Some.ensures.steps some)); behind = unchosen _ _ at _ _ c.blank.invariant c.in-Some.ensures.steps some is }
 
 -- or none is left
 pub returns : goal.returns
-returns c = let last = unchosen _ _ _ c.blank.invariant c.in_default.ensures.steps.0 in record { growth = sym last.0; behind = last.1 }
+returns c = let last = unsaid _ _ _ c.blank.invariant c.in_default.ensures.steps.0 in record { growth = sym last.0; behind = last.1 }

@@ -1,7 +1,7 @@
 use Rattle.vecscript.proofs.Common.{◌≡◌, length, arith, lines, nat_tests, rules, state_of, command_lines}
 use Rattle.vecscript.proofs.Sparing.{found-behind, found-behind-fits, good-behind, length-command_lines}
 use Rattle.vecscript.proofs.TextLines.{length-lines}
-use Rattle.vecscript.proofs.Pieces.{HasAnswered-start, HasAnswered-next, HasAnswered-end}
+use Rattle.vecscript.proofs.Pieces.{HasAnswered-start, HasAnswered-next, HasAnswered-end, HasAnswered-prints}
 use Rattle.vecscript.proofs.script.answer.Goals as goal
 
 -- nothing was run
@@ -37,34 +37,13 @@ returns-in_default-clause-refused g c =
 
 -- all pieces were run, so that no line is bad
 pub returns-clause-refused : goal.returns-clause-refused
-returns-clause-refused g c =
-    let last : length c.pieces.rest.text.now ≡ 0 = grind (arith, nat_tests) in
-    let run = HasAnswered-end _ _ _ c.pieces.rest.text.now c.pieces.answer.items _ c.pieces.invariant last in
-    λ refused. run.good
+returns-clause-refused g c = λ refused. (HasAnswered-end _ _ _ c.pieces.rest.text.now c.pieces.answer.items _ c.pieces.invariant (grind (arith, nat_tests))).good
 
--- all pieces were run
-pub returns-in-Ok-print_lists : goal.returns-in-Ok-print_lists
-returns-in-Ok-print_lists g c =
-    let last : length c.pieces.rest.text.now ≡ 0 = grind (arith, nat_tests) in
-    let run = HasAnswered-end _ (state_of c.new_growing_in-main.result c.new_growing_in-side.result c.args.keep.now c.args.same.now) _
-    c.pieces.rest.text.now c.pieces.answer.items (state_of c.pieces.main c.pieces.side c.pieces.keep c.pieces.same) c.pieces.invariant last in
-    let grows = (rw c.deref.ensures.value at c.chosen_growth-growth.ensures.growth) in
-    record {
-      good = run.good;
-      ok = record {
-        commands = run.commands;
-        meant = run.meant;
-        prints = record {
-          main = c.new_growing_in-main.result;
-          side = c.new_growing_in-side.result;
-          replies = run.replies;
-          last = state_of c.pieces.main c.pieces.side c.pieces.keep c.pieces.same;
-          main_new = (rw grows at c.new_growing_in-main.ensures.made, c.new_growing_in-main.ensures.alloc);
-          side_new = (rw grows at c.new_growing_in-side.ensures.made, c.new_growing_in-side.ensures.alloc);
-          run = run.run;
-          is_text = rw run.shown at c.in-Ok-print_lists.ensures;
-        };
-      };
-      err = search rules;
-      refused = search rules;
-    }
+pub returns-in-Ok-print_lists-clause-good : goal.returns-in-Ok-print_lists-clause-good
+returns-in-Ok-print_lists-clause-good g c = (HasAnswered-end _ _ _ c.pieces.rest.text.now c.pieces.answer.items _ c.pieces.invariant (grind (arith, nat_tests))).good
+
+pub returns-in-Ok-print_lists-clause-ok : goal.returns-in-Ok-print_lists-clause-ok
+returns-in-Ok-print_lists-clause-ok g c =
+    let grows = (rw c.deref.ensures.value at c.chosen_growth-growth.ensures.growth) in let main = c.new_growing_in-main in let side = c.new_growing_in-side in
+    HasAnswered-prints _ c.args.alloc c.args.keep.now c.args.same.now (lines c.args.text.items) main.result side.result _ c.pieces.rest.text.now _ _
+    (rw grows at main.ensures.made, main.ensures.alloc) (rw grows at side.ensures.made, side.ensures.alloc) c.pieces.invariant (grind (arith, nat_tests)) c.in-Ok-print_lists.ensures
