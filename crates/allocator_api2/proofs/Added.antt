@@ -3,8 +3,7 @@ use Rattle.allocator_api2.proofs.Common.{◌≡◌, ℕ, ◌+◌, ◌*◌, ◌�
 use Rattle.allocator_api2.specs.Run.{AddsOneAtMost}
 
 pub moves_each-le : (G : Growth) (grown paid n k : ℕ) → n ≤ k → grown ≤ paid + moves_each G * n → grown ≤ paid + moves_each G * k
-moves_each-le Doubling grown paid n k le h = omega arith
-moves_each-le Sparing grown paid n k le h = omega arith
+moves_each-le G grown paid n k le h = grind arith
 
 module _ {T A : Type 0} where
   adds_or_removes : (command : Command T A) → AddsOneAtMost command → AddsOrRemoves command
@@ -38,16 +37,11 @@ module _ {T A K S : Type 0} where
       → RunsWithin size calls old commands replies new → old.main.items ≡ [] → AllByRecursion AddsOneAtMost commands
       → new.main.grown ≤ old.main.grown + moves_each old.main.growth * length commands
   grown-le {old = old} {new} {commands} r empty a =
-      let turns : List (Turn T A K S) = r.run.turns in
-      let few = added-le turns (subst (AllByRecursion AddsOneAtMost) (sym r.run.commands_are) a) in
-      let count : length turns ≡ length commands = simp length-map at (ap length r.run.commands_are) in
-      moves_each-le old.main.growth new.main.grown old.main.grown (sum_by added turns) (length commands) (omega arith) (r.growth empty (all_add_or_remove commands a))
+      let few = added-le r.run.turns (subst (AllByRecursion AddsOneAtMost) (sym r.run.commands_are) a) in
+      let count = simp length-map at (ap length r.run.commands_are) in
+      moves_each-le old.main.growth new.main.grown old.main.grown (sum_by added r.run.turns) (length commands) (omega (arith, few, count)) (r.growth empty (all_add_or_remove commands a))
 
   -- each command has one reply
   pub replies-count : {size : ℕ} {calls : Calls T A K S} {old new : State T A K S} {commands : List (Command T A)} {replies : List (Reply T)}
       → RunsWithin size calls old commands replies new → length replies ≡ length commands
-  replies-count {commands = commands} {replies} r =
-      let turns : List (Turn T A K S) = r.run.turns in
-      let given : length turns ≡ length replies = simp length-map at (ap length r.run.replies_are) in
-      let count : length turns ≡ length commands = simp length-map at (ap length r.run.commands_are) in
-      omega (arith, given, count)
+  replies-count r = omega (arith, simp length-map at (ap length r.run.replies_are), simp length-map at (ap length r.run.commands_are))

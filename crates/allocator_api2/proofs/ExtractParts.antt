@@ -20,8 +20,7 @@ module _ {K T : Type 0} (Keeps : K → T → Bool → K → T → Type 0) where
     pub length-taken_out : {S : Type 0} (size : ℕ) (old : State T A K S) (start end count : ℕ) (new : State T A K S) → start ≤ end → end ≤ len old.main → (t : TakesOut Keeps size old start end count new)
         → length (take start old.main.items ++ (passed_over t.told ++ drop (start + length t.told) old.main.items)) ≤ len old.main
     length-taken_out size old start end count new low high t =
-        let main : Vector T A = old.main in let q : ℕ = length t.told in let middle : List T = slice_range main.items start end in
-        omega (arith, passed_few t.told, asked_count Keeps old.keep new.keep (take q middle) t.told t.asked, length-append {A = T}, length-take {A = T}, length-drop {A = T})
+        omega (arith, passed_few t.told, asked_count Keeps old.keep new.keep _ t.told t.asked, length-append {A = T}, length-take {A = T}, length-drop {A = T})
 
     -- so many elements were taken, and stand behind those of side; others may be asked
     pub record TakenSoFar (Takes : K → T → Type 0) (k : K) (range : ExtractBy T A) (side : Vector T A) (count : ℕ) (h : K) (later : ExtractBy T A) (new : Vector T A) : Type 0 where
@@ -37,13 +36,9 @@ module _ {K T : Type 0} (Keeps : K → T → Bool → K → T → Type 0) where
 
       module _ (count : ℕ) (h g : K) (t w : ExtractBy T A) (mid : Vector T A) (now : TakenSoFar Takes k range side count h t mid) where
         pub TakenSoFar-more : (x : T) (new : Vector T A) → Extracts Keeps h t (Some x) g w → Holds mid (mid.items ++ x ∷ []) new → TakenSoFar Takes k range side (count + 1) g w new
-        TakenSoFar-more x new next put = record {
-          given = now.given ++ x ∷ [];
-          extracted = Extracted-more Keeps k h g range t w now.given now.extracted.0 x next;
-          many = omega (arith, now.many, length-append now.given (x ∷ []));
-          holds = Holds-more side mid new now.given (x ∷ []) now.holds put;
-          may = extracts_may Keeps h g t w x next Takes now.may;
-        }
+        TakenSoFar-more x new next put =
+            search (arith, now.many, length-append now.given (x ∷ []), Extracted-more Keeps k h g range t w now.given now.extracted.0 x next,
+            Holds-more side mid new now.given (x ∷ []) now.holds put, extracts_may Keeps h g t w x next Takes now.may)
 
         -- none was left
         pub TakesUpTo-end : (most : ℕ) → count < most → Extracts Keeps h t None g w → TakesUpTo Keeps k range side most g w mid
@@ -87,20 +82,15 @@ module _ {K T : Type 0} (Keeps : K → T → Bool → K → T → Type 0) where
       left_items = ap (λ v. v.items) closes ∙ (λ i. (ap (λ v. v.items) up.extracted.becomes ∙ ap (λ v. v.items) takes.becomes) i ++ ((up.extracted.kept ∙ ap (λ l. l ++ passed_over told) takes.kept) i ++ rest_are i))
 
       enough : (length (kept told) ≡ most) × EndsTrue told ⊎ (length (kept told) < most) × (length told ≡ end - start)
-      enough = elim up.enough [
-        | inl all ↦ inl (ap length (sym up.extracted.items) ∙ all.0, all.1)
-        | inr less ↦ inr (omega (arith, less.0, ap length up.extracted.items), omega (arith, few, middle_long, ap length less.1, ap length up.extracted.rest, length-drop q (extract_rest range), ap length takes.rest))
-      ]
+      enough = grind (arith, up.enough, up.extracted.items, few, middle_long, up.extracted.rest, length-drop, takes.rest)
 
       pub chosen : Chosen Keeps (asking main side k) start end most (asking main' side' k')
-      chosen = let choice = choice_le (extract_count later == 0) 0 (length (extract_rest later) + length (extract_tail later)) (omega arith) in record {
-        told = told;
-        asked = asked;
-        enough = enough;
-        left = record { items = left_items; block = SameBlock-trans (SameBlock-becomes _ _ _ _ _ takes.becomes) (SameBlock-trans (SameBlock-becomes _ _ _ _ _ up.extracted.becomes) (SameBlock-becomes _ _ _ _ _ closes)) };
-        gave = record { items = up.holds.items ∙ ap (λ l. side.items ++ l) up.extracted.items; block = up.holds.block };
-        written = omega (arith, ap (λ v. v.written) closes, choice, ap (λ v. v.written) up.extracted.becomes, up.extracted.few, ap (λ v. v.written) takes.becomes, ap length left_items, ap length rest_are, length-append {A = T}, length-take {A = T}, ordered);
-      }
+      chosen =
+          let block = SameBlock-trans (SameBlock-becomes _ _ _ _ _ takes.becomes) (SameBlock-trans (SameBlock-becomes _ _ _ _ _ up.extracted.becomes) (SameBlock-becomes _ _ _ _ _ closes)) in
+          let left : Holds main (take start main.items ++ (passed_over told ++ drop (start + q) main.items)) main' = record { items = left_items; block = block } in
+          let gave : Holds side (side.items ++ kept told) side' = grind (arith, up.holds, up.extracted.items) in
+          let written : main'.written ≤ main.written + (len main' - start) = grind (arith, left_items, rest_are, choice_le, up.extracted.few, length-append, length-take) in
+          search (asked, enough, left, gave, written)
 
 -- what a loop that takes such elements wants
 pub ruleset choosing = (TakenSoFar-none, TakenSoFar-more, room_left)

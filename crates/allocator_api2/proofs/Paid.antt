@@ -7,20 +7,17 @@ use Rattle.allocator_api2.proofs.Steps.{Change, Moves, grown, kept}
 
 -- c places were not enough for `needed` elements: of what was moved by then, the new capacity pays all but the last move
 grown_pays : (G : Growth) (paid g c n needed m : ℕ) → n ≤ c → c < needed → g ≤ paid + (moves_each G - 1) * c → g + n ≤ paid + (moves_each G - 1) * amortized G c needed m
-grown_pays Doubling paid g c n needed m h lt p = omega arith
-grown_pays Sparing paid g c n needed m h lt p = omega arith
+grown_pays G paid g c n needed m h lt p = grind arith
 
 all_pays : (G : Growth) (paid g c n k : ℕ) → n ≤ k → c ≤ k → g ≤ paid + (moves_each G - 1) * c → g + n ≤ paid + moves_each G * k
-all_pays Doubling paid g c n k h lt p = omega arith
-all_pays Sparing paid g c n k h lt p = omega arith
+all_pays G paid g c n k h lt p = grind arith
 
 least_of-le : (size : ℕ) → least_of size ≤ 8
 least_of-le size = grind arith
 
 -- a block that grew is no longer than twice what it needed
 amortized-within : (G : Growth) (c needed m most : ℕ) → c < needed → needed ≤ most → m ≤ 8 → amortized G c needed m ≤ max 8 (2 * most)
-amortized-within Doubling c needed m most lt h e = omega arith
-amortized-within Sparing c needed m most lt h e = omega arith
+amortized-within G c needed m most lt h e = grind arith
 
 module _ {T A : Type 0} (size : ℕ) where
   Moves-rises : {hint : Option ℕ} {needed : ℕ} {u v : Vector T A} → Moves size hint needed u v → u.capacity ≤ v.capacity

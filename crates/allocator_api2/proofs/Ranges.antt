@@ -3,5 +3,4 @@ use Rattle.allocator_api2.proofs.Common.{◌≤◌, Bool, true, false, List, len
 use Rattle.allocator_api2.specs.Machine.{Ends, left_of}
 
 pub length-left_of : {T : Type 0} (xs : List T) (ends : Ends) (keep : Bool) → ends.start ≤ ends.end → ends.end ≤ length xs → length (left_of xs ends keep) ≤ length xs
-length-left_of {T} xs ends true h l = omega (arith, length-append {A = T}, length-take {A = T}, length-drop {A = T})
-length-left_of {T} xs ends false h l = omega (arith, length-append {A = T}, length-take {A = T}, length-drop {A = T})
+length-left_of xs ends keep h l = grind (arith, length-append, length-take, length-drop)

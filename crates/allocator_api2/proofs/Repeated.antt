@@ -7,7 +7,7 @@ use Rattle.aa_vec.specs.Vector.{sized}
 module _ {T : Type 0} (xs : List T) where
   pub length-repeat : (n : ℕ) → length (repeat n xs) ≡ n * length xs
   length-repeat zero = omega arith
-  length-repeat (suc n) = let both = length-append xs (repeat n xs) in let rest = length-repeat n in let times = suc-mul n (length xs) in omega arith
+  length-repeat (suc n) = omega (arith, length-append xs (repeat n xs), length-repeat n, suc-mul n (length xs))
 
   pub repeat-add : (m k : ℕ) → repeat m xs ++ repeat k xs ≡ repeat (m + k) xs
   repeat-add zero k = let e : k ≡ 0 + k = omega arith in ap (λ n. repeat n xs) e
@@ -16,9 +16,7 @@ module _ {T : Type 0} (xs : List T) where
   -- the first m times of n
   pub take-repeat : (m n : ℕ) → m ≤ n → take (m * length xs) (repeat n xs) ≡ repeat m xs
   take-repeat m n h =
-      let e : n ≡ m + (n - m) = omega arith in let long = length-repeat m in
-      ap (λ k. take (m * length xs) (repeat k xs)) e ∙ ap (take (m * length xs)) (sym (repeat-add m (n - m)))
-      ∙ take-append-le (m * length xs) (repeat m xs) (repeat (n - m) xs) (omega arith) ∙ take_all (m * length xs) (repeat m xs) (omega arith)
+      let e : n ≡ m + (n - m) = omega arith in grind (arith, e, length-repeat, repeat-add m (n - m), take-append-le, take_all)
 
 module _ {T A : Type 0} where
   -- no times, in an empty vector
@@ -34,18 +32,6 @@ module _ {T A : Type 0} where
       → Holds new (repeat n xs) v
       → WritesAtMost new (n * length xs) v
       → IsMadeWithin size Doubling (repeat n xs) v
-  IsMadeWithin-repeated size n xs a new v made held wrote =
-      let long = length-repeat xs n in
-      record {
-        calls = v.runs;
-        few = omega (arith, long, wrote.runs, made.runs);
-        made =
-            record {
-              items = held.items;
-              capacity = held.block.capacity ∙ made.capacity ∙ ap (sized size) (sym long);
-              grows = held.block.growth ∙ made.growth;
-              grown = held.block.grown ∙ made.grown;
-              written = omega (arith, long, wrote.written, made.written);
-              runs = refl;
-            };
-      }
+  IsMadeWithin-repeated size n xs a new v made held wrote = grind (arith, length-repeat xs n)
+
+pub ruleset repeated = (length-repeat, repeat-add, take-repeat, Holds-none, Writes-none, IsMadeWithin-repeated)

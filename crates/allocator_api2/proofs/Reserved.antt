@@ -8,9 +8,7 @@ module _ {T A : Type 0} (size : ℕ) where
   -- a push within the capacity finds room, and leaves room for one fewer
   push_done : (k : ℕ) (main side : Vector T A) (x : T) (reply : Reply T) (main' side' : Vector T A)
       → HasRoom main (k + 1) → Answers size ⊤ main side (Within x) reply main' side' → IsDone reply × HasRoom main' k
-  push_done k main side x Done main' side' h s =
-      let held = Holds-becomes main (main.items ++ x ∷ []) 1 1 main' s.1.0.1 in
-      (tt, omega (arith, h, ap length held.items, length-append main.items (x ∷ []), held.block.capacity))
+  push_done k main side x Done main' side' h s = (tt, grind (arith, Holds-becomes main (main.items ++ x ∷ []) 1 1 main' s.1.0.1, length-append main.items (x ∷ [])))
   push_done k main side x (Back y) main' side' h s = absurd (omega (arith, h, s.1.0.0))
   push_done k main side x Range main' side' h s = absurd (s.0 tt)
   push_done k main side x reply main' side' h s = search rules

@@ -4,10 +4,10 @@ use Rattle.std.proofs.lemmas.List.{map-append}
 use Rattle.allocator_api2.proofs.WholeRuns.{IsUnhinted, moves_law, places_law, writes_law}
 
 module _ {T A K S : Type 0} (size : ℕ) (calls : Calls T A K S) where
-  -- one more step at the end of a run
-  IsRun-more : (old : State T A K S) (ts : List (Turn T A K S)) (mid : State T A K S) (t : Turn T A K S) → IsRun size calls old ts mid → IsRun size calls mid (t ∷ []) t.after → IsRun size calls old (ts ++ t ∷ []) t.after
-  IsRun-more old [] mid t r s = (s.0 ∙ r, s.1, refl)
-  IsRun-more old (u ∷ ts) mid t r s = (r.0, r.1, IsRun-more u.after ts mid t r.2 s)
+  -- two runs, one behind the other, are one
+  pub IsRun-append : (old : State T A K S) (ts : List (Turn T A K S)) (mid : State T A K S) (us : List (Turn T A K S)) (new : State T A K S) → IsRun size calls old ts mid → IsRun size calls mid us new → IsRun size calls old (ts ++ us) new
+  IsRun-append old [] mid us new r s = subst (λ m. IsRun size calls m us new) r s
+  IsRun-append old (t ∷ ts) mid us new r s = (r.0, r.1, IsRun-append t.after ts mid us new r.2 s)
 
   -- of all commands those of `rest` are still to come
   pub record HasRun (old : State T A K S) (all : List (Command T A)) (before : List (Reply T)) (rest : List (Command T A)) (replies : List (Reply T)) (now : State T A K S) : Type 0 where
@@ -27,7 +27,7 @@ module _ {T A K S : Type 0} (size : ℕ) (calls : Calls T A K S) where
       record {
         began = h.began;
         turns = h.turns ++ t ∷ [];
-        run = IsRun-more old h.turns now t h.run (refl, record { step = s.step; writes = s.writes; possible = possible }, refl);
+        run = IsRun-append old h.turns now (t ∷ []) new h.run (refl, record { step = s.step; writes = s.writes; possible = possible }, refl);
         commands_are = rw (map-append, append_assoc) h.commands_are;
         replies_are = rw map-append (e ∙ (ap (λ xs. xs ++ reply ∷ []) h.replies_are ∙ append_assoc before _ (reply ∷ [])));
       }

@@ -25,13 +25,8 @@ module _ {T A : Type 0} (d : Drain T A) (side : Vector T A) where
   TakesFront-more k e f s t x h n p =
       let here : drop k all ≡ x ∷ drain_rest f = sym h.rest ∙ n.1.0 in
       let more : take (k + 1) all ≡ take k all ++ x ∷ [] = take-add k 1 all ∙ ap (λ l. take k all ++ take 1 l) here in
-      record {
-        keeps = keeps-then d e f h.keeps n.0;
-        rest = ap (drop 1) (sym here) ∙ drop-drop 1 k all;
-        front = omega (arith, n.1.1, h.front);
-        back = n.1.2 ∙ h.back;
-        holds = subst (λ l. Holds side (side.items ++ l) t) (sym more) (Holds-more side s t (take k all) (x ∷ []) h.holds p);
-      }
+      let held : Holds side (side.items ++ take (k + 1) all) t = rw more (Holds-more side s t (take k all) (x ∷ []) h.holds p) in
+      grind (arith, keeps-then d e f h.keeps n.0, here, drop-drop 1 k all, held)
 
   -- and there is room for one more
   pub TakesFront-room : (k n : ℕ) (e : Drain T A) (s : Vector T A) → TakesFront d side k e s → k < n → HasRoom side n → HasRoom s 1
@@ -46,23 +41,19 @@ module _ {T A : Type 0} (d : Drain T A) (side : Vector T A) where
     holds = record { items = sym (append-nil side.items) ∙ ap (λ l. side.items ++ reverse l) (sym (drop_all (length all - 0) all (omega arith))); block = SameBlock-refl side };
   }
 
+  -- the last of those that are left is taken
+  last_taken : (k : ℕ) (xs : List T) (x : T) → k < length all → take (length all - k) all ≡ xs ++ x ∷ []
+      → (xs ≡ take (length all - (k + 1)) all) × (drop (length all - (k + 1)) all ≡ x ∷ drop (length all - k) all)
+  last_taken k xs x less here =
+      let a : ℕ = length all - k in grind (arith, take-append-drop a all, length-append xs (x ∷ []), length-take a all, take-take, take_at, drop_at, append_assoc)
+
   pub TakesBack-more : (k : ℕ) (e f : Drain T A) (s t : Vector T A) (x : T) → k < length all → TakesBack d side k e s → drains_last e (Some x) f → Holds s (s.items ++ x ∷ []) t → TakesBack d side (k + 1) f t
   TakesBack-more k e f s t x less h n p =
       let a : ℕ = length all - k in let b : ℕ = length all - (k + 1) in
-      let up : b + 1 ≡ a = omega (arith, less) in
-      let here : take a all ≡ drain_rest f ++ x ∷ [] = sym h.rest ∙ n.1.0 in
-      let long : length (drain_rest f) ≡ b = omega (arith, ap length here, length-append (drain_rest f) (x ∷ []), length-take a all, less) in
-      let first : drain_rest f ≡ take b all = sym (ap (take b) here ∙ take_at (drain_rest f) (x ∷ []) b long) ∙ take-take b a all (omega arith) in
-      let parts : all ≡ drain_rest f ++ x ∷ drop a all = sym (take-append-drop a all) ∙ ap (λ l. l ++ drop a all) here ∙ append_assoc (drain_rest f) (x ∷ []) (drop a all) in
-      let last : drop b all ≡ x ∷ drop a all = ap (drop b) parts ∙ drop_at (drain_rest f) (x ∷ drop a all) b long in
-      let turned : reverse (drop b all) ≡ reverse (drop a all) ++ x ∷ [] = ap reverse last ∙ reverse-append (x ∷ []) (drop a all) in
-      record {
-        keeps = keeps-then d e f h.keeps n.0;
-        rest = first;
-        front = n.1.1 ∙ h.front;
-        back = omega (arith, n.1.2, h.back);
-        holds = subst (λ l. Holds side (side.items ++ l) t) (sym turned) (Holds-more side s t (reverse (drop a all)) (x ∷ []) h.holds p);
-      }
+      let parts = last_taken k (drain_rest f) x less (sym h.rest ∙ n.1.0) in
+      let turned : reverse (drop b all) ≡ reverse (drop a all) ++ x ∷ [] = ap reverse parts.1 ∙ reverse-append (x ∷ []) (drop a all) in
+      let held : Holds side (side.items ++ reverse (drop b all)) t = rw turned (Holds-more side s t (reverse (drop a all)) (x ∷ []) h.holds p) in
+      search (arith, keeps-then d e f h.keeps n.0, parts.0, n.1.1 ∙ h.front, n.1.2, h.back, held)
 
   pub TakesBack-room : (k n : ℕ) (e : Drain T A) (s : Vector T A) → TakesBack d side k e s → k < n → HasRoom side n → HasRoom s 1
   TakesBack-room k n e s h less room =
@@ -87,12 +78,10 @@ module _ {T A : Type 0} (old side : Vector T A) (start end f b : ℕ) (ordered :
   rest_front = fronts.rest ∙ ap (drop f) drains.rest
 
   rest_back : drain_rest d2 ≡ slice_range middle f (m - b)
-  rest_back = let n : length (drain_rest d1) - b ≡ m - b - f = omega (arith, ap length rest_front, length-drop f middle, count_middle) in backs.rest ∙ (λ i. take (n i) (rest_front i))
+  rest_back = grind (arith, rest_front, count_middle, backs.rest, length-drop)
 
   given_back : drop (length (drain_rest d1) - b) (drain_rest d1) ≡ drop (m - b) middle
-  given_back =
-      let n : length (drain_rest d1) - b ≡ m - f - b = omega (arith, ap length rest_front, length-drop f middle, count_middle) in let all : f + (m - f - b) ≡ m - b = omega (arith, few) in
-      (λ i. drop (n i) (rest_front i)) ∙ drop-drop (m - f - b) f middle ∙ ap (λ i. drop i middle) all
+  given_back = grind (arith, rest_front, count_middle, length-drop, drop-drop)
 
   side_gave : Holds side (side.items ++ given_of old.items (ends_at start end f b)) s2
   side_gave =
@@ -101,24 +90,11 @@ module _ {T A : Type 0} (old side : Vector T A) (start end f b : ℕ) (ordered :
 
   -- what is before the range and behind it stays
   stays : ((drain_vec d2).items ≡ take start old.items) × (drain_tail d2 ≡ drop end old.items) × SameBlock old (drain_vec d2) × ((drain_vec d2).written ≡ old.written)
-  stays =
-      let keeps = keeps-then d0 d1 d2 fronts.keeps backs.keeps in
-      (ap (λ v. v.items) keeps.becomes ∙ ap (λ v. v.items) drains.becomes, keeps.tail ∙ drains.tail, SameBlock-trans (SameBlock-becomes _ _ _ _ _ drains.becomes) (SameBlock-becomes _ _ _ _ _ keeps.becomes), omega (arith, ap (λ v. v.written) keeps.becomes, ap (λ v. v.written) drains.becomes))
+  stays = grind (arith, keeps-then, drains.becomes, drains.tail, SameBlock-trans, SameBlock-becomes)
 
   pub Drained-dropped : {k : Bool} (w : Vector T A) → Closes d2 w → k ≡ false → Drained old side (ends_at start end f b) k w s2
-  Drained-dropped w c is =
-      rw is (record {
-        left = record { items = ap (λ v. v.items) c ∙ (λ i. stays.0 i ++ stays.1 i); block = SameBlock-trans stays.2 (SameBlock-becomes _ _ _ _ _ c) };
-        gave = side_gave;
-        written = omega (arith, ap (λ v. v.written) c, stays.3, choice_le (range_len d2 == 0) 0 (length (drain_tail d2)) (omega arith), ap length stays.1, length-drop end old.items);
-      })
+  Drained-dropped w c is = grind (arith, stays, side_gave, choice_le, length-drop end old.items, SameBlock-trans, SameBlock-becomes)
 
   pub Drained-kept : {k : Bool} (w : Vector T A) → KeepsRest d2 w → k ≡ true → Drained old side (ends_at start end f b) k w s2
   Drained-kept w c is =
-      let front = choice_le (taken_front d2 == 0) 0 (length (drain_rest d2)) (omega arith) in
-      let back = choice_le (taken_front d2 + taken_back d2 == 0) 0 (length (drain_tail d2)) (omega arith) in
-      rw is (record {
-        left = record { items = ap (λ v. v.items) c ∙ (λ i. stays.0 i ++ (rest_back i ++ stays.1 i)); block = SameBlock-trans stays.2 (SameBlock-becomes _ _ _ _ _ c) };
-        gave = side_gave;
-        written = omega (arith, ap (λ v. v.written) c, stays.3, front, back, ap length stays.1, length-drop end old.items, ap length rest_back, length-take (m - b - f) (drop f middle), length-drop f middle, count_middle);
-      })
+      grind (arith, stays, side_gave, rest_back, count_middle, choice_le, length-drop, length-take, SameBlock-trans, SameBlock-becomes)

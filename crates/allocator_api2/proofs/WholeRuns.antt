@@ -1,5 +1,5 @@
 -- Laws over whole runs.
-use Rattle.allocator_api2.proofs.Common.{◌≡◌, ℕ, ◌+◌, ◌*◌, ◌≤◌, max, Bool, List, [], ◌∷◌, map, length, sum_by, sym, ap, subst, refl, arith, AllByRecursion, sum_by-cons, Growth, None, len, Command, Reply, State, Calls, Step, Turn, IsRun, AddsOrRemoves, hint_of, added, added_by, moves_each}
+use Rattle.allocator_api2.proofs.Common.{◌≡◌, ℕ, ◌+◌, ◌*◌, ◌≤◌, max, Bool, List, [], ◌∷◌, map, length, sum_by, sym, ap, subst, rules, arith, AllByRecursion, sum_by-cons, Growth, None, len, Command, Reply, State, Calls, Step, Turn, IsRun, AddsOrRemoves, hint_of, added, added_by, moves_each}
 use Rattle.std.proofs.Common.{add-zero, zero-add}
 use Rattle.allocator_api2.specs.Run.{cost, greatest_length}
 use Rattle.allocator_api2.proofs.Paid.{IsPaid, IsPaid-change, IsPlaced, IsPlaced-change}
@@ -11,12 +11,8 @@ IsUnhinted command = AddsOrRemoves command × (hint_of command ≡ None)
 
 module _ {T A K S : Type 0} (size : ℕ) (calls : Calls T A K S) where
   pub writes_law : (old : State T A K S) (ts : List (Turn T A K S)) (new : State T A K S) → IsRun size calls old ts new → new.main.written ≤ old.main.written + sum_by cost ts
-  writes_law old [] new r = let e : new.main.written ≡ old.main.written = ap (λ s. s.main.written) r in omega arith
-  writes_law old (t ∷ ts) new r =
-      let e : t.before.main.written ≡ old.main.written = ap (λ s. s.main.written) r.0 in
-      let sums : sum_by cost (t ∷ ts) ≡ cost t + sum_by cost ts = sum_by-cons cost t ts in
-      let rest : new.main.written ≤ t.after.main.written + sum_by cost ts = writes_law t.after ts new r.2 in
-      omega (arith, r.1.writes)
+  writes_law old [] new r = omega (arith, ap (λ s. s.main.written) r)
+  writes_law old (t ∷ ts) new r = omega (arith, ap (λ s. s.main.written) r.0, sum_by-cons cost t ts, writes_law t.after ts new r.2, r.1.writes)
 
   -- what is added is paid for, step by step
   paid_run : (G : Growth) (paid n : ℕ) (old : State T A K S) (ts : List (Turn T A K S)) (new : State T A K S) → IsRun size calls old ts new → IsPaid size G paid n old.main → AllByRecursion AddsOrRemoves (map (λ t. t.command) ts) → IsPaid size G paid (n + sum_by added ts) new.main
@@ -28,10 +24,8 @@ module _ {T A K S : Type 0} (size : ℕ) (calls : Calls T A K S) where
 
   pub moves_law : (old : State T A K S) (ts : List (Turn T A K S)) (new : State T A K S) → IsRun size calls old ts new → old.main.items ≡ [] → AllByRecursion AddsOrRemoves (map (λ t. t.command) ts) → new.main.grown ≤ old.main.grown + moves_each old.main.growth * sum_by added ts
   moves_law old ts new r empty plain =
-      let l : len old.main ≡ 0 = ap length empty in
-      let start : IsPaid size old.main.growth old.main.grown 0 old.main = record { growth = refl; fits = omega arith; counted = omega arith; places = omega arith; moved = omega arith } in
-      let end : IsPaid size old.main.growth old.main.grown (0 + sum_by added ts) new.main = paid_run old.main.growth old.main.grown 0 old ts new r start plain in
-      subst (λ k. new.main.grown ≤ old.main.grown + moves_each old.main.growth * k) (zero-add (sum_by added ts)) end.moved
+      let start : IsPaid size old.main.growth old.main.grown 0 old.main = search (rules, arith, ap length empty) in
+      rw zero-add at (paid_run old.main.growth old.main.grown 0 old ts new r start plain).moved
 
   placed_run : (most : ℕ) (old : State T A K S) (ts : List (Turn T A K S)) (new : State T A K S) → IsRun size calls old ts new → IsPlaced size most old.main → AllByRecursion IsUnhinted (map (λ t. t.command) ts) → IsPlaced size (max most (greatest_length ts)) new.main
   placed_run most old [] new r p a = rw r (let e : max most 0 ≡ most = omega arith in rw e p)
@@ -42,5 +36,4 @@ module _ {T A K S : Type 0} (size : ℕ) (calls : Calls T A K S) where
 
   pub places_law : (old : State T A K S) (ts : List (Turn T A K S)) (new : State T A K S) → IsRun size calls old ts new → old.main.items ≡ [] → old.main.capacity ≡ 0 → AllByRecursion IsUnhinted (map (λ t. t.command) ts) → new.main.capacity ≤ max 8 (2 * greatest_length ts)
   places_law old ts new r empty none plain =
-      let start : IsPlaced size 0 old.main = record { fits = omega (arith, ap length empty); capacity = omega arith } in
-      omega (arith, (placed_run 0 old ts new r start plain).capacity)
+      let start : IsPlaced size 0 old.main = omega (arith, ap length empty) in omega (arith, (placed_run 0 old ts new r start plain).capacity)

@@ -179,6 +179,7 @@ impl<T: Copy> Repeat for T {
 }
 
 // A vector of the elements `n` times over.
+#[tactic(auto, using(crate::proofs::Repeated::repeated))]
 fn repeat_in<T: Copy, A: Allocator>(
     source: &[T],
     n: usize,
@@ -203,6 +204,7 @@ fn repeat_in<T: Copy, A: Allocator>(
 
 // Puts the elements of `source` `n` times over into an empty vector that has room for them: once,
 // and then what is there again.
+#[tactic(auto, using(crate::proofs::Repeated::repeated))]
 fn put_repeated<T: Copy, A: Allocator>(made: &mut Vec<T, A>, source: &[T], n: usize)
     requires some { 0 < n }
     requires empty { made.old.items ≡ [] }
