@@ -1,7 +1,7 @@
 -- A text of which a beginning is written.
-use Rattle.vecscript.proofs.Common.{◌≡◌, ◌∙◌, inl, inr, ℕ, Bool, true, false, sym, List, [], ◌∷◌, ◌++◌, take, drop, length, arith, append_assoc, append-nil, take-append-drop, Option, Result, Ok, Err, codes, Appends}
+use Rattle.vecscript.proofs.Common.{◌≡◌, ◌∙◌, inl, inr, ℕ, Bool, true, false, sym, List, [], ◌∷◌, ◌++◌, take, drop, length, arith, append_assoc, append-nil, take-append-drop, Option, Result, Ok, Err, codes, Appends, nat_tests, take_rest}
 use Rattle.std.proofs.Common.{true≢false}
-use Rattle.std.proofs.KnownBytes.{Appends-trans}
+use Rattle.std.proofs.KnownBytes.{Appends-kept, Appends-nil, Appends-trans}
 use Rattle.std.specs.Fmt.Cut.{IsTextOrCut}
 use Rattle.std.specs.Cmp.Lexicographic.{pointwise}
 use Rattle.std.specs.List.{ends_with}
@@ -36,3 +36,5 @@ whole-text E known kept same (inr dots) ends =
 pub OnOk-holds : {X Y : Type 0} (P : Type 0) (r : Result X Y) → true ≡ is_ok r → OnOk r P → P
 OnOk-holds P (Ok x) ok p = p
 OnOk-holds P (Err e) ok p = absurd (true≢false ok)
+
+pub ruleset written = (HasWritten-next, HasWritten-all, Appends-nil, Appends-kept, take_rest, nat_tests)

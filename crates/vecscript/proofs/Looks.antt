@@ -1,5 +1,5 @@
 -- Whether words say a command, where none is made.
-use Rattle.vecscript.proofs.Common.{◌≡◌, ◌∙◌, inl, inr, ℕ, ◌^◌, Bool, true, false, List, [], ◌∷◌, length, sym, ap, arith, codes, Option, Some, Result, Ok, Err, Fault, Global, Vector, Command, AllZip, Writes, IsBad, Say, words_of}
+use Rattle.vecscript.proofs.Common.{◌≡◌, ◌∙◌, inl, inr, ℕ, ◌^◌, Bool, true, false, List, [], ◌∷◌, length, sym, ap, arith, codes, Option, Some, Result, Ok, Err, Fault, Global, Vector, Command, AllZip, Writes, IsBad, Say, words_of, nat_tests}
 use Rattle.std.specs.Prelude.{MatchBool, MatchOption, IfErr, ◌⊎◌}
 use Rattle.std.specs.Str.{bytes_eq}
 use Rattle.allocator_api2.specs.declared.raw_vec.Growth.TheVariants.{Doubling}
@@ -17,11 +17,7 @@ listed xs =
 pub extend-told : (b : Bool) (word : List ℕ) (words all : List (List ℕ)) (hint : Option ℕ) → all ≡ word ∷ words → IsHint word hint
     → TellsWhether b (AllZip (Writes (2 ^ 32)) words) → TellsWhether b (SaysExtend all)
 extend-told true word words all hint is hinted told = rw is (Extend (listed told.0) hint, (hinted, told.1))
-extend-told false word words all hint is hinted told = rw is never
-  where
-    never : (command : Command ℕ Global) → ¬ (SaysExtend (word ∷ words) command)
-    never (Extend items told_hint) said = told items.items said.1
-    never command said = absurd said
+extend-told false word words all hint is hinted told = rw is (λ command said. grind arith)
 
 -- and those behind a range and a hint
 pub splice-told : (b : Bool) (v w word : List ℕ) (words all : List (List ℕ)) (start end : ℕ) (hint : Option ℕ) → all ≡ v ∷ w ∷ word ∷ words
@@ -29,11 +25,7 @@ pub splice-told : (b : Bool) (v w word : List ℕ) (words all : List (List ℕ))
     → TellsWhether b (AllZip (Writes (2 ^ 32)) words) → TellsWhether b (SaysSplice all)
 splice-told true v w word words all start end hint is first last hinted told =
     rw is (Splice start end (listed told.0) hint, (first, last, hinted, told.1))
-splice-told false v w word words all start end hint is first last hinted told = rw is never
-  where
-    never : (command : Command ℕ Global) → ¬ (SaysSplice (v ∷ w ∷ word ∷ words) command)
-    never (Splice from to items told_hint) said = told items.items said.3
-    never command said = absurd said
+splice-told false v w word words all start end hint is first last hinted told = rw is (λ command said. grind arith)
 
 -- a line whose words say no command is bad
 bad-words : (line word : List ℕ) (words : List (List ℕ)) → words_of line ≡ word ∷ words → ((command : Command ℕ Global) → ¬ (Say (word ∷ words) command)) → IsBad line
@@ -63,3 +55,6 @@ pub bad-unpushed : (number : ℕ) (line : List ℕ) (words : List (List ℕ)) �
     → ReadsAs number (SayAfter (codes "push") words) r → IfErr r (λ fault. (fault ≡ OutOfMemory) ⊎ ((fault ≡ BadLine number) × IsBad line))
 bad-unpushed number line words is (Ok command) read = tt
 bad-unpushed number line words is (Err fault) read = inr (read.0, bad-words line (codes "push") words is read.1)
+
+-- what a name alone says
+pub ruleset alone = (said-alone, nat_tests)

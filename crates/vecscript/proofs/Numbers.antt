@@ -2,6 +2,7 @@
 use Rattle.vecscript.proofs.Common.{◌≡◌, ℕ, ◌+◌, ◌-◌, ◌<◌, ◌≤◌, true, false, List, refl, length, get_or, take, arith, length-take, length-drop, is_ascii_digit, position_or_len, AllDigits, digits_value, nat_tests, digits_value_more, take_all, take_rest, is_blank}
 use Rattle.std.proofs.Common.{◌*◌}
 use Rattle.std.specs.Char.{digit_value}
+use Rattle.std.proofs.lemmas.Int.Digits.{digits_more}
 use Rattle.std.proofs.lemmas.List.{take-take, get_or-take}
 use Rattle.std.proofs.lemmas.List.Sums.{passes_at_first, position_or_len_is}
 use Rattle.std.proofs.lemmas.Str.Parse.{digit_at, digits_value-take-le}
@@ -17,9 +18,7 @@ no_blank xs i k digits within below = grind (arith, nat_tests, digit_at (take i 
 -- where the first bytes are digits, and a blank follows them or nothing does, they are the word
 pub word_is : (xs : List ℕ) (i : ℕ) → AllDigits 10 (take i xs) → i ≤ length xs → (i < length xs → is_blank (get_or xs i 0) ≡ true)
     → (take i xs ≡ take (position_or_len is_blank xs) xs) × (position_or_len is_blank xs ≡ i)
-word_is xs i digits within ends =
-    let at = position_or_len_is is_blank xs i 0 within (λ k below. no_blank xs i k digits within below) ends in
-    (rw at refl, at)
+word_is xs i digits within ends = grind (arith, position_or_len_is is_blank xs i 0 within, no_blank xs i)
 
 -- and it is longer where a byte follows that is none
 word_later : (xs : List ℕ) (i : ℕ) → AllDigits 10 (take i xs) → i < length xs → is_blank (get_or xs i 0) ≡ false
@@ -44,7 +43,7 @@ no_smaller xs i digits inside digit =
     grind (arith, digits_value_more 10 xs i inside, digits_value-take-le 10 word (i + 1), front)
 
 -- what is known once the bytes so far are digits
-pub ruleset digits = (word_is, digit_or_blank, no_smaller, digit_is, take_rest)
+pub ruleset digits = (word_is, digit_or_blank, no_smaller, digit_is, digits_more, digits_value_more, take_rest)
 
 -- digits have no blank among them
 pub digits_whole : (word : List ℕ) → AllDigits 10 word → position_or_len is_blank word ≡ length word

@@ -4,6 +4,7 @@ use Rattle.std.proofs.lemmas.Grind.{flat_map-append}
 use Rattle.aa_vec.specs.Copies.{IsMade}
 use Rattle.allocator_api2.specs.declared.raw_vec.Growth.{Growth}
 use Rattle.allocator_api2.specs.Machine.{IsPossible}
+use Rattle.allocator_api2.proofs.Runs.{IsRun-append}
 use Rattle.vecscript.proofs.Read.{HasNoBad-append, Mean-append}
 use Rattle.vecscript.proofs.Sparing.{HasNoBad-blank, Mean-blank}
 use Rattle.allocator_api2.specs.Run.{RunsTo}
@@ -11,12 +12,6 @@ use Rattle.vecscript.specs.Print.{line_of, list_text, reply_text, replies_text}
 use Rattle.vecscript.specs.Runs.{Answers}
 
 module _ {K S : Type 0} (calls : Calls ℕ Global K S) where
-  -- two runs, one behind the other, are one
-  IsRun-append : (old : State ℕ Global K S) (ts : List (Turn ℕ Global K S)) (mid : State ℕ Global K S) (us : List (Turn ℕ Global K S)) (new : State ℕ Global K S)
-      → IsRun element_size calls old ts mid → IsRun element_size calls mid us new → IsRun element_size calls old (ts ++ us) new
-  IsRun-append old [] mid us new r s = let From : State ℕ Global K S → Type 0 = λ m. IsRun element_size calls m us new in subst From r s
-  IsRun-append old (t ∷ ts) mid us new r s = (r.0, r.1, IsRun-append t.after ts mid us new r.2 s)
-
   -- of these lines those before the rest are blank, or were run
   pub record HasAnswered (old : State ℕ Global K S) (all : List (List ℕ)) (rest answer : List ℕ) (now : State ℕ Global K S) : Type 0 where
     pub before : List (List ℕ)
@@ -43,7 +38,7 @@ module _ {K S : Type 0} (calls : Calls ℕ Global K S) where
       let run : RunsTo element_size calls old (h.commands ++ more.commands) (h.replies ++ more.replies) new = record {
         possible = r.possible;
         turns = r.turns ++ s.turns;
-        run = IsRun-append old r.turns now s.turns new r.run s.run;
+        run = IsRun-append element_size calls old r.turns now s.turns new r.run s.run;
         commands_are = rw (map-append, r.commands_are, s.commands_are) refl;
         replies_are = rw (map-append, r.replies_are, s.replies_are) refl;
       } in

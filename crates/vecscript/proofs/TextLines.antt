@@ -33,8 +33,7 @@ lines_of_parts-append : (parts : List (List ℕ)) (part : List ℕ) (more : List
     → lines_of_parts (parts ++ part ∷ more) ≡ map strip_carriage_return parts ++ lines_of_parts (part ∷ more)
 lines_of_parts-append [] part more = refl
 lines_of_parts-append (x ∷ []) part more = refl
-lines_of_parts-append (x ∷ y ∷ parts) part more =
-    ap (λ ls. strip_carriage_return x ∷ ls) (lines_of_parts-append (y ∷ parts) part more)
+lines_of_parts-append (x ∷ y ∷ parts) part more = grind (arith, lines_of_parts-append (y ∷ parts) part more)
 
 lines_at : (xs ys : List ℕ) → lines (xs ++ 10 ∷ ys) ≡ lines (xs ++ 10 ∷ []) ++ lines ys
 lines_at xs ys =
@@ -47,5 +46,4 @@ pub lines_cut : (xs : List ℕ) (from end : ℕ) → end ≡ from + position_or_
 lines_cut xs from end is_end inside =
     let feed = passes_at_first is_line_feed (drop from xs) 0 (omega (arith, length-drop from xs)) in
     let here : get_or xs end 0 ≡ 10 = grind (arith, nat_tests, get_or-drop, feed) in
-    let whole : xs ≡ take end xs ++ 10 ∷ drop (end + 1) xs = grind (arith, take-append-drop end xs, drop_more xs end 0 inside) in
-    ap lines whole ∙ rw (take_more xs end 0 inside, here) (lines_at (take end xs) (drop (end + 1) xs))
+    grind (arith, here, take-append-drop end xs, drop_more xs end 0 inside, take_more xs end 0 inside, lines_at (take end xs) (drop (end + 1) xs))

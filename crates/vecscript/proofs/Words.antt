@@ -24,15 +24,12 @@ AtWord xs line =
     ((line ≡ []) × (words_of xs ≡ []))
     ⊎ ((0 < length line) × (0 < length (front is_blank line)) × (words_of xs ≡ front is_blank line ∷ words_of (following is_blank line)))
 
+at_word : (x : ℕ) (xs : List ℕ) → AtWord xs (unindented xs) → AtWord (x ∷ xs) (unindented (x ∷ xs))
+at_word x xs rest = grind (arith, nat_tests, one-add, slice_split-front is_blank (x ∷ xs), words_of-following (x ∷ xs))
+
 pub word_or_end : (xs : List ℕ) → AtWord xs (unindented xs)
 word_or_end [] = inl (refl, refl)
-word_or_end (x ∷ xs) = ⊎_elim (λ (e : is_blank x ≡ true). rw (e, one-add) (word_or_end xs)) at_word (cases_Bool (is_blank x))
-  where
-    at_word : is_blank x ≡ false → AtWord (x ∷ xs) (unindented (x ∷ xs))
-    at_word e =
-        let line : unindented (x ∷ xs) ≡ x ∷ xs = rw e refl in
-        let some : 0 < length (front is_blank (x ∷ xs)) = rw (e, one-add) (omega arith) in
-        rw line (inr (omega arith, some, grind (arith, nat_tests, slice_split-front is_blank (x ∷ xs), words_of-following (x ∷ xs))))
+word_or_end (x ∷ xs) = at_word x xs (word_or_end xs)
 
 -- what a step over a word stands on
 pub ruleset first_word = (word_or_end, length-take, length-drop)

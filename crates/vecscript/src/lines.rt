@@ -339,6 +339,7 @@ fn pushed(name: &[u8], number: usize, rest: &[u8]) -> Option<Result<Command<u32>
 }
 
 // The command of a line that begins with another word.
+#[tactic(auto, using(crate::proofs::Looks::alone))]
 #[inline(always)]
 fn other_command(
     alloc: Global,

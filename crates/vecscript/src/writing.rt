@@ -9,6 +9,7 @@ use std::io::{ErrorKind, Write};
 
 /// Writes the text. A write that is interrupted is tried again; where another fails, or takes
 /// nothing, a beginning of the text was written.
+#[tactic(auto, using(crate::proofs::Beginnings::written))]
 pub fn write_text<W: Write>(text: &[u8], output: &mut W) -> Result<(), Fault>
     ensures ok { OnOk result (Appends (W.contents output.old) (W.contents output.new) text.now) }
     ensures part { AppendsBeginning (W.contents output.old) (W.contents output.new) text.now }

@@ -1,4 +1,4 @@
-use Rattle.std.proofs.Common.{inl, inr, refl, rules}
+use Rattle.std.proofs.Common.{inl, inr, ⊎_elim, refl, rules}
 use Rattle.vecscript.specs.Runs.{script_calls}
 use Rattle.vecscript.proofs.Told.{printed-told}
 use Rattle.vecscript.proofs.script.script.Goals as goal
@@ -9,13 +9,9 @@ returns-in-Ok-clause-printed g c =
     λ ends. printed-told _ (script_calls _ _) (λ k x answer l y told. search rules) (λ s x l answer r y k told. search rules) (λ a b cloned. cloned) refl _ _ _ _ _ c.in-Ok.ensures.printed
 
 pub returns-in-Ok-clause-part : goal.returns-in-Ok-clause-part
-returns-in-Ok-clause-part g c = elim c.run_script.ensures.part [
-  | inl kept ↦ inl kept
-  | inr begun ↦ inr (printed-told _ (script_calls _ _) (λ k x answer l y told. search rules) (λ s x l answer r y k told. search rules) (λ a b cloned. cloned) refl _ _ _ _ _ begun)
-]
+returns-in-Ok-clause-part g c =
+    ⊎_elim inl (λ begun. inr (printed-told _ (script_calls _ _) (λ k x answer l y told. search rules) (λ s x l answer r y k told. search rules) (λ a b cloned. cloned) refl _ _ _ _ _ begun)) c.run_script.ensures.part
 
 pub returns-in-Err-clause-part : goal.returns-in-Err-clause-part
-returns-in-Err-clause-part g c = elim c.run_script.ensures.part [
-  | inl kept ↦ inl kept
-  | inr begun ↦ inr (printed-told _ (script_calls _ _) (λ k x answer l y told. search rules) (λ s x l answer r y k told. search rules) (λ a b cloned. cloned) refl _ _ _ _ _ begun)
-]
+returns-in-Err-clause-part g c =
+    ⊎_elim inl (λ begun. inr (printed-told _ (script_calls _ _) (λ k x answer l y told. search rules) (λ s x l answer r y k told. search rules) (λ a b cloned. cloned) refl _ _ _ _ _ begun)) c.run_script.ensures.part
