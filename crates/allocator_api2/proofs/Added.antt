@@ -1,5 +1,5 @@
 -- What a list of commands added, where each adds at most one element.
-use Rattle.allocator_api2.proofs.Common.{◌≡◌, ℕ, ◌+◌, ◌*◌, ◌≤◌, List, [], ◌∷◌, length, map, sum_by, sym, ap, subst, arith, AllByRecursion, sum_by-cons, Growth, Doubling, Sparing, Vector, Command, Push, Within, Pop, Insert, Remove, SwapRemove, Truncate, Clear, Append, Extend, Retain, Dedup, Drain, ExtractIf, Reply, Done, State, Calls, Turn, AddsOrRemoves, added, added_by, moves_each, RunsWithin, length-map}
+use Rattle.allocator_api2.proofs.Common.{◌≡◌, ℕ, ◌+◌, ◌*◌, ◌≤◌, List, [], ◌∷◌, length, map, sum_by, sym, ap, subst, arith, AllByRecursion, sum_by-cons, Growth, Vector, Command, Push, Within, Insert, Append, Extend, Reply, Done, State, Calls, Turn, AddsOrRemoves, added, added_by, moves_each, RunsWithin, length-map}
 use Rattle.allocator_api2.specs.Run.{AddsOneAtMost}
 
 pub moves_each-le : (G : Growth) (grown paid n k : ℕ) → n ≤ k → grown ≤ paid + moves_each G * n → grown ≤ paid + moves_each G * k

@@ -3,7 +3,7 @@ pub use Rattle.aa_raw.specs.Growth.{least_of}
 pub use Rattle.aa_raw.specs.declared.collections.TryReserveError.{TryReserveError}
 pub use Rattle.aa_raw.specs.declared.collections.TryReserveErrorKind.{TryReserveErrorKind}
 pub use Rattle.aa_raw.specs.declared.raw_vec.Growth.{Growth}
-pub use Rattle.aa_raw.specs.declared.raw_vec.Growth.TheVariants.{Doubling, Sparing}
+pub use Rattle.aa_raw.specs.declared.raw_vec.Growth.TheVariants.{Doubling}
 pub use Rattle.aa_vec.proofs.GrowthLemmas.{GrowsInSteps-rises, Holds-more, MakesRoom-has, SameBlock-refl, SameBlock-trans}
 pub use Rattle.aa_vec.specs.Choosing.{Asked, AskedInOrder, ChainsFrom, Deduplicated, TakesMut, answers_of}
 pub use Rattle.aa_vec.specs.Copies.{IsMadeWithin, WritesAtMost}
@@ -25,5 +25,5 @@ pub use Rattle.std.proofs.lemmas.List.Sums.{sum_by-cons}
 pub use Rattle.std.specs.Fn.{CalledAtMut}
 pub use Rattle.std.specs.List.{AllByRecursion, repeat}
 pub use Rattle.std.specs.Mem.{type_size}
-pub use Rattle.std.specs.Prelude.{if◌then◌else◌, slice_range, ⊤, ◌==◌}
+pub use Rattle.std.specs.Prelude.{if◌then◌else◌, slice_range, ⊤}
 pub use denote.Param.{param}

@@ -1,10 +1,10 @@
 -- Elements that a run takes out of a range of main.
-use Rattle.allocator_api2.proofs.Common.{◌≡◌, ℕ, suc, ◌+◌, ◌-◌, ◌<◌, ◌≤◌, Bool, true, false, List, [], ◌∷◌, ◌++◌, length, map, take, drop, Some, None, refl, sym, ap, ◌∙◌, subst, arith, inl, inr, append_assoc, length-append, length-drop, length-take, slice_range, ◌⊎◌, if◌then◌else◌, ◌==◌, append-nil, drop-drop, take-append-drop, Asked, AskedInOrder, Vector, len, HasRoom, Holds, SameBlock-refl, SameBlock-trans, Chosen, State, asking, Holds-more, length-map}
+use Rattle.allocator_api2.proofs.Common.{◌≡◌, ℕ, ◌+◌, ◌-◌, ◌<◌, ◌≤◌, Bool, List, [], ◌∷◌, ◌++◌, length, take, drop, Some, None, refl, sym, ap, ◌∙◌, subst, arith, inl, inr, length-append, length-drop, length-take, slice_range, ◌⊎◌, append-nil, drop-drop, take-append-drop, Asked, AskedInOrder, Vector, len, HasRoom, Holds, SameBlock-refl, SameBlock-trans, Chosen, State, asking, Holds-more, length-map}
 use Rattle.std.specs.Prelude.{filter, not}
 use Rattle.std.proofs.lemmas.List.{drop-append-le}
 use Rattle.std.proofs.lemmas.List.Filters.{length-filter_both}
 use Rattle.aa_vec.specs.Choosing.{EndsTrue, IsCallableInOrder, kept, passed_over}
-use Rattle.aa_vec.specs.Extract.{ClosesExtract, Extracts, ExtractsRange, extract_count, extract_kept, extract_rest, extract_tail}
+use Rattle.aa_vec.specs.Extract.{ClosesExtract, Extracts, ExtractsRange, extract_rest, extract_tail}
 use Rattle.aa_vec.specs.declared.vec.extract_if.ExtractBy.{ExtractBy}
 use Rattle.aa_vec.proofs.Becoming.{SameBlock-becomes}
 use Rattle.aa_vec.proofs.ExtractRuns.{ExtractedTo, ExtractedTo-none, Extracted-more, Extracted-end, asked_count, extracts_may}
@@ -37,8 +37,9 @@ module _ {K T : Type 0} (Keeps : K → T → Bool → K → T → Type 0) where
       module _ (count : ℕ) (h g : K) (t w : ExtractBy T A) (mid : Vector T A) (now : TakenSoFar Takes k range side count h t mid) where
         pub TakenSoFar-more : (x : T) (new : Vector T A) → Extracts Keeps h t (Some x) g w → Holds mid (mid.items ++ x ∷ []) new → TakenSoFar Takes k range side (count + 1) g w new
         TakenSoFar-more x new next put =
-            search (arith, now.many, length-append now.given (x ∷ []), Extracted-more Keeps k h g range t w now.given now.extracted.0 x next,
-            Holds-more side mid new now.given (x ∷ []) now.holds put, extracts_may Keeps h g t w x next Takes now.may)
+            let more = Extracted-more Keeps k h g range t w now.given now.extracted.0 x next in
+            let held = Holds-more side mid new now.given (x ∷ []) now.holds put in
+            search (arith, now.many, length-append now.given (x ∷ []), more, held, extracts_may Keeps h g t w x next Takes now.may)
 
         -- none was left
         pub TakesUpTo-end : (most : ℕ) → count < most → Extracts Keeps h t None g w → TakesUpTo Keeps k range side most g w mid

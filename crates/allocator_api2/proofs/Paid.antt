@@ -1,5 +1,5 @@
 -- What a vector was moved by growth is paid for by what was added to it.
-use Rattle.allocator_api2.proofs.Common.{◌≡◌, ℕ, ◌+◌, ◌*◌, ◌-◌, ◌<◌, ◌≤◌, min, max, List, length, Option, None, ap, subst, ◌∙◌, arith, inl, inr, Growth, Doubling, Sparing, least_of, Vector, len, SameBlock, GrowsTo, moves_each, GrowsInSteps, lower_by, GrowsInSteps-rises}
+use Rattle.allocator_api2.proofs.Common.{◌≡◌, ℕ, ◌+◌, ◌*◌, ◌-◌, ◌<◌, ◌≤◌, min, max, Option, None, ap, ◌∙◌, arith, Growth, least_of, Vector, len, moves_each}
 use Rattle.aa_raw.specs.Growth.{amortized}
 use Rattle.aa_vec.proofs.GrowthLemmas.{MakesRoom-fits, MakesRoom-grows, MakesRoom-rises}
 use Rattle.allocator_api2.proofs.Added.{moves_each-le}

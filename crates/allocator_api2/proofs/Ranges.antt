@@ -1,5 +1,5 @@
 -- Lists out of which a range was drained.
-use Rattle.allocator_api2.proofs.Common.{◌≤◌, Bool, true, false, List, length, arith, length-append, length-take, length-drop}
+use Rattle.allocator_api2.proofs.Common.{◌≤◌, Bool, List, length, arith, length-append, length-take, length-drop}
 use Rattle.allocator_api2.specs.Machine.{Ends, left_of}
 
 pub length-left_of : {T : Type 0} (xs : List T) (ends : Ends) (keep : Bool) → ends.start ≤ ends.end → ends.end ≤ length xs → length (left_of xs ends keep) ≤ length xs

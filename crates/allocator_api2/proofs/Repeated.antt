@@ -1,8 +1,7 @@
 -- A list many times over.
-use Rattle.allocator_api2.proofs.Common.{◌≡◌, ℕ, zero, suc, ◌+◌, ◌-◌, ◌*◌, ◌≤◌, List, [], ◌++◌, length, take, refl, sym, ap, ◌∙◌, arith, append_assoc, length-append, take_all, repeat, Doubling, Vector, IsNew, Holds, IsMadeWithin, WritesAtMost, SameBlock-refl}
+use Rattle.allocator_api2.proofs.Common.{◌≡◌, ℕ, zero, suc, ◌+◌, ◌-◌, ◌*◌, ◌≤◌, List, [], ◌++◌, length, take, ap, ◌∙◌, arith, append_assoc, length-append, take_all, repeat, Doubling, Vector, IsNew, Holds, IsMadeWithin, WritesAtMost, SameBlock-refl}
 use Rattle.std.proofs.Common.{suc-mul}
 use Rattle.std.proofs.lemmas.List.{take-append-le}
-use Rattle.aa_vec.specs.Vector.{sized}
 
 module _ {T : Type 0} (xs : List T) where
   pub length-repeat : (n : ℕ) → length (repeat n xs) ≡ n * length xs

@@ -1,5 +1,5 @@
 -- Room that a reserve made lasts for as many pushes.
-use Rattle.allocator_api2.proofs.Common.{◌≡◌, ℕ, ◌+◌, ◌-◌, ◌≤◌, List, [], ◌∷◌, ◌++◌, length, ap, arith, rules, AllByRecursion, least_of, Vector, len, HasRoom, Within, Reply, Done, Back, Range, Answers, MakesRoom-has, ⊤}
+use Rattle.allocator_api2.proofs.Common.{ℕ, ◌+◌, ◌-◌, ◌≤◌, List, [], ◌∷◌, ◌++◌, length, ap, arith, rules, AllByRecursion, Vector, len, HasRoom, Within, Reply, Done, Back, Range, Answers, MakesRoom-has, ⊤}
 use Rattle.aa_vec.proofs.Becoming.{GrowsTo-becomes, Holds-becomes}
 use Rattle.std.proofs.lemmas.List.{length-append}
 use Rattle.allocator_api2.specs.Laws.{IsDone, PushesWithin, ReserveHolds}
@@ -17,8 +17,7 @@ module _ {T A : Type 0} (size : ℕ) where
       → HasRoom main k → PushesWithin size main side xs replies → length xs ≤ k → AllByRecursion IsDone replies
   all_done k main side [] [] h p l = tt
   all_done k main side (x ∷ xs) (reply ∷ replies) h p l =
-      let e : k - 1 + 1 ≡ k = omega (arith, l) in
-      let here = push_done (k - 1) main side x reply p.0 p.1 (rw e h) p.2 in
+      let here = push_done (k - 1) main side x reply p.0 p.1 (omega (arith, h, l)) p.2 in
       (here.0, all_done (k - 1) p.0 p.1 xs replies here.1 p.3 (omega (arith, l)))
   all_done k main side xs replies h p l = absurd p
 

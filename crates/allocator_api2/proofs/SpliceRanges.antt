@@ -1,5 +1,5 @@
 -- A range that was taken out of a vector and replaced by an `Items`.
-use Rattle.allocator_api2.proofs.Common.{◌≡◌, ℕ, ◌+◌, ◌*◌, ◌-◌, ◌≤◌, List, length, take, drop, Option, refl, ap, subst, sym, arith, inl, inr, length-take, length-drop, ⊤, TryReserveError, TryReserveErrorKind, Vector, len, TakesRange, drain_vec, drain_tail, range_len, lower_by, SplicesShort, Does, Reply, Splice, Done, Refused}
+use Rattle.allocator_api2.proofs.Common.{◌≡◌, ℕ, ◌+◌, ◌*◌, ◌-◌, ◌≤◌, List, length, take, drop, Option, refl, ap, subst, arith, length-take, length-drop, ⊤, TryReserveError, TryReserveErrorKind, Vector, len, TakesRange, drain_vec, drain_tail, range_len, lower_by, SplicesShort, Does, Reply, Splice, Done, Refused}
 use Rattle.aa_vec.proofs.Becoming.{SameBlock-becomes}
 use Rattle.aa_vec.specs.Extend.{ItemsLeft, gives_item, TellsExactly}
 use Rattle.aa_vec.specs.SpliceItems.{PutsWithin, SplicesAll, gapped}
@@ -29,11 +29,9 @@ module _ {T A : Type 0} (size : ℕ) (old : Vector T A) (start end : ℕ) (order
   pub Spliced-done : {fails : Type 0} → SplicesByAll gives_item (TellsExactly items_lower) size iter (cut_off (drain_vec d) (range_len d) (drain_tail d)) new
       → PutsWithin (drain_vec d) (len (drain_vec d) + length (drain_tail d)) (length (drain_tail d)) new → Splicing fails Done
   Spliced-done s w side =
-      let xs : List T = items.items in
-      let by_items = subst (λ j. SplicesByAll gives_item (TellsExactly items_lower) size j (cut_off (drain_vec d) (range_len d) (drain_tail d)) new) all s in
-      let lent = SplicesAll-items (record { items = xs; hint = hint }) size (drain_vec d) (range_len d) (drain_tail d) new by_items in
-      let spliced = SplicesAll-from size (lower_by hint) (SameBlock-becomes _ _ _ _ _ drains.becomes) (drain_vec d).items (range_len d) (drain_tail d) xs new lent in
-      record { answers = ((ordered, within), (of_range (λ h g t. SplicesAll size (lower_by hint) (gapped old h g t) xs new) spliced, refl)); writes = few w }
+      let lent = SplicesAll-items (record { items = items.items; hint = hint }) size (drain_vec d) (range_len d) (drain_tail d) new (rw all at s) in
+      let spliced = SplicesAll-from size (lower_by hint) (SameBlock-becomes _ _ _ _ _ drains.becomes) (drain_vec d).items (range_len d) (drain_tail d) items.items new lent in
+      record { answers = ((ordered, within), (of_range (λ h g t. SplicesAll size (lower_by hint) (gapped old h g t) items.items new) spliced, refl)); writes = few w }
 
   -- the allocator's clone may be refused where it is not sure
   pub Spliced-refused : (sure : A → Type 0) (error : TryReserveError) (kind : TryReserveErrorKind) → kind ≡ error.kind
@@ -41,8 +39,7 @@ module _ {T A : Type 0} (size : ℕ) (old : Vector T A) (start end : ℕ) (order
       → PutsWithin (drain_vec d) (len (drain_vec d) + length (drain_tail d)) (length (drain_tail d)) new → Splicing (¬ (sure old.alloc)) (Refused kind)
   Spliced-refused sure error kind is s w side =
       let xs : List T = items.items in let fails : A → Type 0 = λ a. ¬ (sure a) in
-      let by_items = subst (λ j. SplicesByFront gives_item (TellsExactly items_lower) size j (cut_off (drain_vec d) (range_len d) (drain_tail d)) (fails (drain_vec d).alloc) error new) all s in
-      let lent = SplicesShort-items (record { items = xs; hint = hint }) size (drain_vec d) (range_len d) (drain_tail d) error new by_items in
+      let lent = SplicesShort-items (record { items = xs; hint = hint }) size (drain_vec d) (range_len d) (drain_tail d) error new (rw all at s) in
       let spliced = SplicesShort-from size (lower_by hint) (SameBlock-becomes _ _ _ _ _ drains.becomes) (drain_vec d).items (range_len d) (drain_tail d) xs error new lent in
       let of_old = of_range (λ h g t. SplicesShort size (lower_by hint) (gapped old h g t) xs (fails (drain_vec d).alloc) ⊤ error new) spliced in
       let short = subst (λ a. SplicesShort size (lower_by hint) (without_range old start end) xs (fails a) ⊤ error new) (ap (λ v. v.alloc) drains.becomes) of_old in

@@ -1,6 +1,6 @@
 -- A splice that was refused did not fit.
 use Rattle.allocator_api2.proofs.Common.{◌≡◌, ℕ, ◌+◌, ◌-◌, ◌<◌, ◌≤◌, List, ◌++◌, length, take, drop, ap, ◌∙◌, arith, inl, inr, length-append, length-take, length-drop, TryReserveError, Vector, len, SplicesShort}
-use Rattle.aa_vec.specs.SpliceItems.{Gapped, SplicesFront}
+use Rattle.aa_vec.specs.SpliceItems.{SplicesFront}
 use Rattle.allocator_api2.specs.Machine.{FitsRange, without_range}
 use Rattle.allocator_api2.proofs.Stops.{stops-full}
 

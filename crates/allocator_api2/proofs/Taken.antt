@@ -1,5 +1,5 @@
 -- A command that is answered as the machine may answer it is a step of the machine.
-use Rattle.allocator_api2.proofs.Common.{◌≡◌, ℕ, [], ◌<◌, refl, rules, answers_of, Option, Vector, Command, Splice, SplitOff, Retain, Dedup, ExtractIf, Reply, Done, Does, DoesOnMain, DoesStep, Calls, Step, Refused, Answers, asking, state_of, ⊤}
+use Rattle.allocator_api2.proofs.Common.{◌≡◌, ℕ, [], ◌<◌, refl, rules, answers_of, Option, Vector, Command, Splice, SplitOff, Retain, Dedup, ExtractIf, Reply, Done, Does, DoesOnMain, DoesStep, Calls, Step, Answers, asking, state_of, ⊤}
 use Rattle.aa_vec.specs.Choosing.{Deduplicates, Retains}
 use Rattle.allocator_api2.specs.Machine.{CallsNone, TakesOut}
 use Rattle.allocator_api2.specs.Commands.{TakesChosen}

@@ -1,8 +1,8 @@
 -- Items taken out of a drain, one after the other, and put behind the elements of another vector.
-use Rattle.allocator_api2.proofs.Common.{◌≡◌, ℕ, ◌+◌, ◌-◌, ◌<◌, ◌≤◌, List, [], ◌∷◌, ◌++◌, length, take, drop, reverse, Bool, true, false, Some, refl, sym, ap, subst, ◌∙◌, arith, append_assoc, length-append, length-take, length-drop, length-reverse, slice_range, if◌then◌else◌, ◌==◌, append-nil, drop-drop, take_all, take-append-drop, reverse-append, TakesRange, drain_rest, drain_tail, drain_vec, range_len, Vector, len, HasRoom, SameBlock, Holds, SameBlock-refl, SameBlock-trans, TakesFront, TakesBack, Holds-more}
+use Rattle.allocator_api2.proofs.Common.{◌≡◌, ℕ, ◌+◌, ◌-◌, ◌<◌, ◌≤◌, List, [], ◌∷◌, ◌++◌, length, take, drop, reverse, Bool, true, false, Some, refl, sym, ap, subst, ◌∙◌, arith, append_assoc, length-append, length-take, length-drop, length-reverse, slice_range, if◌then◌else◌, append-nil, drop-drop, take_all, take-append-drop, reverse-append, TakesRange, drain_rest, drain_tail, drain_vec, Vector, len, HasRoom, SameBlock, Holds, SameBlock-refl, SameBlock-trans, TakesFront, TakesBack, Holds-more}
 use Rattle.std.proofs.Math.Seq.{take-add}
 use Rattle.std.proofs.lemmas.List.{drop_all, drop_at, take_at, take-take}
-use Rattle.aa_vec.specs.Drain.{Closes, KeepsRest, drains_first, drains_last, taken_back, taken_front}
+use Rattle.aa_vec.specs.Drain.{Closes, KeepsRest, drains_first, drains_last}
 use Rattle.aa_vec.specs.declared.vec.drain.Drain.{Drain}
 use Rattle.aa_vec.proofs.Becoming.{SameBlock-becomes}
 use Rattle.aa_vec.proofs.DrainLemmas.{keeps-same, keeps-then}
@@ -33,13 +33,7 @@ module _ {T A : Type 0} (d : Drain T A) (side : Vector T A) where
   TakesFront-room k n e s h less room = omega (arith, ap length h.holds.items, length-append side.items (take k all), length-take k all, h.holds.block.capacity, room, less)
 
   pub TakesBack-none : TakesBack d side 0 d side
-  TakesBack-none = record {
-    keeps = keeps-same d;
-    rest = sym (take_all (length all - 0) all (omega arith));
-    front = refl;
-    back = omega arith;
-    holds = record { items = sym (append-nil side.items) ∙ ap (λ l. side.items ++ reverse l) (sym (drop_all (length all - 0) all (omega arith))); block = SameBlock-refl side };
-  }
+  TakesBack-none = grind (arith, keeps-same d, take_all, drop_all, append-nil, SameBlock-refl)
 
   -- the last of those that are left is taken
   last_taken : (k : ℕ) (xs : List T) (x : T) → k < length all → take (length all - k) all ≡ xs ++ x ∷ []
@@ -56,8 +50,7 @@ module _ {T A : Type 0} (d : Drain T A) (side : Vector T A) where
       search (arith, keeps-then d e f h.keeps n.0, parts.0, n.1.1 ∙ h.front, n.1.2, h.back, held)
 
   pub TakesBack-room : (k n : ℕ) (e : Drain T A) (s : Vector T A) → TakesBack d side k e s → k < n → HasRoom side n → HasRoom s 1
-  TakesBack-room k n e s h less room =
-      let a : ℕ = length all - k in omega (arith, ap length h.holds.items, length-append side.items (reverse (drop a all)), length-reverse (drop a all), length-drop a all, h.holds.block.capacity, room, less)
+  TakesBack-room k n e s h less room = grind (arith, h.holds, length-append, length-reverse, length-drop)
 
 -- what a loop over a drain wants
 pub ruleset takes = (TakesFront-none, TakesFront-room, TakesBack-none, TakesBack-room)

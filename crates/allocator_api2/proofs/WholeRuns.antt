@@ -1,5 +1,5 @@
 -- Laws over whole runs.
-use Rattle.allocator_api2.proofs.Common.{◌≡◌, ℕ, ◌+◌, ◌*◌, ◌≤◌, max, Bool, List, [], ◌∷◌, map, length, sum_by, sym, ap, subst, rules, arith, AllByRecursion, sum_by-cons, Growth, None, len, Command, Reply, State, Calls, Step, Turn, IsRun, AddsOrRemoves, hint_of, added, added_by, moves_each}
+use Rattle.allocator_api2.proofs.Common.{◌≡◌, ℕ, ◌+◌, ◌*◌, ◌≤◌, max, List, [], ◌∷◌, map, length, sum_by, sym, ap, subst, rules, arith, AllByRecursion, sum_by-cons, Growth, None, len, Command, State, Calls, Turn, IsRun, AddsOrRemoves, hint_of, added, moves_each}
 use Rattle.std.proofs.Common.{add-zero, zero-add}
 use Rattle.allocator_api2.specs.Run.{cost, greatest_length}
 use Rattle.allocator_api2.proofs.Paid.{IsPaid, IsPaid-change, IsPlaced, IsPlaced-change}

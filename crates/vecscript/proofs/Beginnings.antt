@@ -1,12 +1,10 @@
 -- A text of which a beginning is written.
-use Rattle.vecscript.proofs.Common.{◌≡◌, ◌∙◌, inl, inr, ℕ, Bool, true, false, sym, List, [], ◌∷◌, ◌++◌, take, drop, length, arith, append_assoc, append-nil, take-append-drop, Option, Result, Ok, Err, codes, Appends, nat_tests, take_rest}
+use Rattle.vecscript.proofs.Common.{◌≡◌, ◌∙◌, inl, inr, ℕ, Bool, true, false, sym, List, [], ◌∷◌, ◌++◌, take, drop, length, arith, append_assoc, append-nil, take-append-drop, Option, codes, Appends, nat_tests, take_rest}
 use Rattle.std.proofs.Common.{true≢false}
 use Rattle.std.proofs.KnownBytes.{Appends-kept, Appends-nil, Appends-trans}
 use Rattle.std.specs.Fmt.Cut.{IsTextOrCut}
 use Rattle.std.specs.Cmp.Lexicographic.{pointwise}
 use Rattle.std.specs.List.{ends_with}
-use Rattle.std.specs.Prelude.{OnOk}
-use Rattle.std.specs.Result.{is_ok}
 
 -- known bytes grew by what of the text is not left
 pub record HasWritten (old new : Option (List ℕ)) (text rest : List ℕ) : Type 0 where
@@ -33,8 +31,5 @@ whole-text E known kept same (inl whole) ends = whole
 whole-text E known kept same (inr dots) ends =
     absurd (true≢false (sym (rw dots at ends ∙ same)))
 
-pub OnOk-holds : {X Y : Type 0} (P : Type 0) (r : Result X Y) → true ≡ is_ok r → OnOk r P → P
-OnOk-holds P (Ok x) ok p = p
-OnOk-holds P (Err e) ok p = absurd (true≢false ok)
-
+-- what each try to write stands on
 pub ruleset written = (HasWritten-next, HasWritten-all, Appends-nil, Appends-kept, take_rest, nat_tests)

@@ -1,7 +1,6 @@
 -- Whether words say a command, where none is made.
-use Rattle.vecscript.proofs.Common.{◌≡◌, ◌∙◌, inl, inr, ℕ, ◌^◌, Bool, true, false, List, [], ◌∷◌, length, sym, ap, arith, codes, Option, Some, Result, Ok, Err, Fault, Global, Vector, Command, AllZip, Writes, IsBad, Say, words_of, nat_tests}
+use Rattle.vecscript.proofs.Common.{◌≡◌, ◌≢◌, ◌∙◌, inl, inr, ℕ, ◌^◌, Bool, true, false, List, [], ◌∷◌, length, sym, ap, arith, codes, Option, Some, Result, Ok, Err, Fault, Global, Vector, Command, AllZip, Writes, IsBad, Say, words_of, nat_tests}
 use Rattle.std.specs.Prelude.{MatchBool, MatchOption, IfErr, ◌⊎◌}
-use Rattle.std.specs.Str.{bytes_eq}
 use Rattle.allocator_api2.specs.declared.raw_vec.Growth.TheVariants.{Doubling}
 use Rattle.allocator_api2.specs.declared.runner.Command.TheVariants.{Extend, Splice}
 use Rattle.vecscript.specs.Faults.{ReadsAs, ReadsOrLacks, TellsWhether}
@@ -31,11 +30,10 @@ splice-told false v w word words all start end hint is first last hinted told = 
 bad-words : (line word : List ℕ) (words : List (List ℕ)) → words_of line ≡ word ∷ words → ((command : Command ℕ Global) → ¬ (Say (word ∷ words) command)) → IsBad line
 bad-words line word words is unsaid = record { has_words = λ none. omega (arith, ap length (sym none ∙ is)); says_nothing = λ command said. unsaid command (rw is at said) }
 
--- a line whose words say a command is good, and bad where they say none
-pub good-or-bad : (b : Bool) (line word : List ℕ) (words : List (List ℕ)) → words_of line ≡ word ∷ words
-    → TellsWhether b (Say (word ∷ words)) → MatchBool b (¬ (IsBad line)) (IsBad line)
-good-or-bad true line word words is told = λ bad. bad.says_nothing told.0 (rw is told.1)
-good-or-bad false line word words is told = bad-words line word words is told
+-- a line with words is good if they say a command
+pub good_if_said : (b : Bool) (line : List ℕ) → words_of line ≢ [] → TellsWhether b (Say (words_of line)) → MatchBool b (¬ (IsBad line)) (IsBad line)
+good_if_said true line some told = λ bad. bad.says_nothing told.0 told.1
+good_if_said false line some told = record { has_words = some; says_nothing = told }
 
 -- where nothing stands behind the name, the line says what the name says
 pub said-alone : (name rest : List ℕ) (command : Command ℕ Global) → length rest ≡ 0 → Say (name ∷ []) command → Say (name ∷ words_of rest) command

@@ -1,5 +1,5 @@
 -- The number that the bytes before a line's first blank write, taken from its front.
-use Rattle.vecscript.proofs.Common.{◌≡◌, ℕ, ◌+◌, ◌-◌, ◌<◌, ◌≤◌, true, false, List, refl, length, get_or, take, arith, length-take, length-drop, is_ascii_digit, position_or_len, AllDigits, digits_value, nat_tests, digits_value_more, take_all, take_rest, is_blank}
+use Rattle.vecscript.proofs.Common.{◌≡◌, ℕ, ◌+◌, ◌-◌, ◌<◌, ◌≤◌, true, false, List, length, get_or, take, arith, length-take, length-drop, is_ascii_digit, position_or_len, AllDigits, digits_value, nat_tests, digits_value_more, take_all, take_rest, is_blank}
 use Rattle.std.proofs.Common.{◌*◌}
 use Rattle.std.specs.Char.{digit_value}
 use Rattle.std.proofs.lemmas.Int.Digits.{digits_more}

@@ -1,9 +1,8 @@
 -- A script of which some pieces were run, one after the other.
-use Rattle.vecscript.proofs.Common.{◌≡◌, ℕ, List, [], ◌∷◌, ◌++◌, length, refl, ap, subst, arith, rules, Global, lines, append_assoc, append-nil, map-append, Vector, State, Calls, state_of, Turn, IsRun, AreBehind, MayAnswer, codes, command_lines, element_size, growth_in}
+use Rattle.vecscript.proofs.Common.{◌≡◌, ℕ, List, [], ◌∷◌, ◌++◌, length, refl, ap, arith, rules, Global, lines, append_assoc, append-nil, map-append, Vector, State, Calls, state_of, AreBehind, MayAnswer, codes, command_lines, element_size, growth_in}
 use Rattle.std.proofs.lemmas.Grind.{flat_map-append}
 use Rattle.aa_vec.specs.Copies.{IsMade}
 use Rattle.allocator_api2.specs.declared.raw_vec.Growth.{Growth}
-use Rattle.allocator_api2.specs.Machine.{IsPossible}
 use Rattle.allocator_api2.proofs.Runs.{IsRun-append}
 use Rattle.vecscript.proofs.Read.{HasNoBad-append, Mean-append}
 use Rattle.vecscript.proofs.Sparing.{HasNoBad-blank, Mean-blank}
@@ -23,9 +22,8 @@ module _ {K S : Type 0} (calls : Calls ℕ Global K S) where
       → AreBehind count (lines text) all → IsMade element_size 0 growth [] 0 main → IsMade element_size 0 growth [] 0 side
       → HasAnswered (state_of main side keep same) all text [] (state_of main side keep same)
   HasAnswered-start growth main side keep same count text all behind main_new side_new =
-      let possible : IsPossible main side = omega (arith, ap length main_new.items, ap length side_new.items) in
       let run : RunsTo element_size calls (state_of main side keep same) [] [] (state_of main side keep same) =
-      record { possible = possible; turns = []; run = refl; commands_are = refl; replies_are = refl } in
+      record { possible = omega (arith, ap length main_new.items, ap length side_new.items); turns = []; run = refl; commands_are = refl; replies_are = refl } in
       search (rules, behind.3, HasNoBad-blank behind.0 behind.1, Mean-blank behind.0 behind.1, run)
 
   -- a piece more was run

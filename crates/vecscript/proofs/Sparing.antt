@@ -1,5 +1,5 @@
 -- Which line of a script chooses how its lists grow.
-use Rattle.vecscript.proofs.Common.{◌≡◌, ◌≢◌, ℕ, Bool, true, false, ◌+◌, ◌≤◌, List, [], ◌∷◌, ◌++◌, length, refl, sym, ap, ◌∙◌, rules, arith, nat_tests, append_assoc, append-nil, length-append, lines, Fault, words_of, growth_in, command_lines, AreBehind, Mean, HasNoBad}
+use Rattle.vecscript.proofs.Common.{◌≡◌, ◌≢◌, ℕ, true, false, ◌+◌, ◌≤◌, List, [], ◌∷◌, ◌++◌, length, refl, ap, rules, arith, nat_tests, append_assoc, append-nil, length-append, lines, Fault, words_of, growth_in, command_lines, AreBehind, Mean, HasNoBad}
 use Rattle.std.specs.Prelude.{if◌then◌else◌}
 use Rattle.std.specs.List.{AllByRecursion}
 use Rattle.allocator_api2.specs.declared.raw_vec.Growth.TheVariants.{Doubling, Sparing}

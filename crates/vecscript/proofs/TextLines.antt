@@ -1,5 +1,5 @@
 -- The lines of a text, taken from its front.
-use Rattle.vecscript.proofs.Common.{get_or, ◌≡◌, ◌≢◌, ◌∙◌, ℕ, ◌+◌, ◌<◌, ◌≤◌, ◌==◌, Bool, List, [], ◌∷◌, ◌++◌, length, map, take, drop, refl, ap, arith, length-take, length-drop, nat_tests, append-nil, take-append-drop, lines, position_or_len, slice_split}
+use Rattle.vecscript.proofs.Common.{get_or, ◌≡◌, ◌≢◌, ℕ, ◌+◌, ◌<◌, ◌≤◌, ◌==◌, Bool, List, [], ◌∷◌, ◌++◌, length, map, take, drop, refl, arith, length-take, length-drop, nat_tests, append-nil, take-append-drop, lines, position_or_len, slice_split}
 use Rattle.std.proofs.lemmas.List.{drop_more, take_more, get_or-drop}
 use Rattle.std.proofs.lemmas.List.Sums.{passes_at_first}
 use Rattle.std.specs.Str.Lines.{lines_of_parts, strip_carriage_return}

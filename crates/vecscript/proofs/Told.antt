@@ -1,6 +1,6 @@
 -- A run whose closures are told in other words: where those say what each call does, they say it of the run.
-use Rattle.vecscript.proofs.Common.{ℕ, Bool, true, false, rules, List, [], ◌∷◌, length, take, Option, IfSome, IfSome_then, Global, lines, SplitOff, ExtractIf, Reply, Command, State, Calls, Turn, IsRun, element_size, MayAnswer}
-use Rattle.std.specs.Prelude.{◌≡◌, slice_range}
+use Rattle.vecscript.proofs.Common.{ℕ, Bool, true, false, rules, List, [], ◌∷◌, Option, IfSome, IfSome_then, Global, lines, SplitOff, ExtractIf, Reply, Command, State, Calls, Turn, IsRun, element_size, MayAnswer}
+use Rattle.std.specs.Prelude.{◌≡◌}
 use Rattle.std.proofs.Common.{subst}
 use Rattle.aa_vec.specs.Choosing.{Asked, AskedInOrder, Retains, ChainsFrom, Deduplicated, Deduplicates}
 use Rattle.allocator_api2.specs.declared.runner.Command.TheVariants.{Retain, Dedup}

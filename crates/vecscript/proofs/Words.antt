@@ -1,5 +1,5 @@
 -- The words of a line, taken from its front.
-use Rattle.vecscript.proofs.Common.{◌≡◌, ℕ, ◌<◌, true, false, List, [], ◌∷◌, length, drop, filter, nat_lt, refl, inl, inr, ⊎_elim, cases_Bool, arith, nat_tests, one-add, length-take, length-drop, is_blank, words_of}
+use Rattle.vecscript.proofs.Common.{◌≡◌, ℕ, ◌<◌, true, false, List, [], ◌∷◌, length, drop, filter, nat_lt, refl, inl, ⊎_elim, cases_Bool, arith, nat_tests, one-add, length-take, length-drop, is_blank, words_of}
 use Rattle.std.specs.List.{prefix_len}
 use Rattle.std.specs.Prelude.{◌⊎◌}
 use Rattle.vecscript.proofs.Parts.{front, following, more_parts, slice_split-front}

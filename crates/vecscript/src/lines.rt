@@ -72,6 +72,7 @@ pub fn first_bad(text: &[u8]) -> Option<usize>
 }
 
 // Whether the line says a command, or has no words.
+#[tactic(auto, using(crate::proofs::Looks::good_if_said))]
 #[inline(never)]
 fn is_good(line: &[u8]) -> bool
     ensures { MatchBool result (¬ (IsBad line.now)) (IsBad line.now) }

@@ -1,4 +1,4 @@
-use Rattle.vecscript.proofs.Common.{true, false, refl, sym, ◌∙◌}
+use Rattle.vecscript.proofs.Common.{refl, sym, ◌∙◌}
 use Rattle.vecscript.proofs.Read.{HasSeen-start, HasSeen-next}
 use Rattle.vecscript.proofs.Sparing.{AllBlank, AllBlank-next, growth_chosen, chosen, unchosen, unsaid}
 use Rattle.vecscript.proofs.lines.chosen_growth.Goals as goal

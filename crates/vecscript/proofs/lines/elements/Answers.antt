@@ -11,9 +11,4 @@ each-preserved c =
 
 -- or it is no element, and then the line says none
 pub returns-in-None : goal.returns-in-None
-returns-in-None c =
-    inr (
-      refl,
-      λ v. HasTaken-stuck (Writes (2 ^ 32)) _ _ _ c.each.invariant c.each-test.ensures
-          (λ word more x e. c.in-None.ensures.none word more x e) v.items,
-    )
+returns-in-None c = inr (refl, λ v. HasTaken-stuck (Writes (2 ^ 32)) _ _ _ c.each.invariant c.each-test.ensures c.in-None.ensures.none v.items)

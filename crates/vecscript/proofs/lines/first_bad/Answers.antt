@@ -1,4 +1,4 @@
-use Rattle.vecscript.proofs.Common.{refl, inl, arith, HasNoBad}
+use Rattle.vecscript.proofs.Common.{inl, arith, HasNoBad}
 use Rattle.vecscript.proofs.Read.{HasSeen-start, HasSeen-next, HasNoBad-none, HasNoBad-one, HasNoBad-append}
 use Rattle.vecscript.proofs.lines.first_bad.Goals as goal
 
@@ -12,8 +12,6 @@ loop-index-init c =
 -- the line that was taken is seen
 pub loop-index-preserved : goal.loop-index-preserved
 loop-index-preserved c =
-    let (lines_left, at, counts, bound) = c.in-Some.ensures.steps in
-    let (able, ends, had) = c.loop-index.invariant in
-    let seen = HasSeen-next HasNoBad HasNoBad _ _ _ _ _ _ had lines_left counts
+    let seen = HasSeen-next HasNoBad HasNoBad _ _ _ _ _ _ c.loop-index.invariant.2 c.in-Some.ensures.steps.0 c.in-Some.ensures.steps.2
     (λ ls all. HasNoBad-append ls _ all (HasNoBad-one c.in-Some.line.now c.if-not-is_good.ensures)) in
     ((tt, tt, inl (omega arith)), tt, seen)

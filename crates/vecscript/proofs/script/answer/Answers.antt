@@ -1,4 +1,4 @@
-use Rattle.vecscript.proofs.Common.{◌≡◌, length, arith, lines, nat_tests, rules, state_of, command_lines}
+use Rattle.vecscript.proofs.Common.{arith, lines, nat_tests, command_lines}
 use Rattle.vecscript.proofs.Sparing.{found-behind, found-behind-fits, good-behind, length-command_lines}
 use Rattle.vecscript.proofs.TextLines.{length-lines}
 use Rattle.vecscript.proofs.Pieces.{HasAnswered-start, HasAnswered-next, HasAnswered-end, HasAnswered-prints}
@@ -14,18 +14,13 @@ pieces-init g c =
 -- a piece more was run
 pub pieces-preserved : goal.pieces-preserved
 pieces-preserved g c =
-    let (piece, cut, answers) = c.in-Ok.ensures.ok in
-    HasAnswered-next _ _ _ c.pieces.rest.text.now _ _ c.pieces.invariant piece _ _ _ answers cut
+    HasAnswered-next _ _ _ c.pieces.rest.text.now _ _ c.pieces.invariant _ _ _ _ c.in-Ok.ensures.ok.2 c.in-Ok.ensures.ok.1
 
 -- it could not be run, and a line among all may be bad
 pub behind-requires : goal.behind-requires
 behind-requires g c =
-    let text = c.args.text.items in
-    let behind = (rw c.deref.ensures.value at c.chosen_growth-growth.ensures.behind) in
-    let small = c.args.text.small in
-    λ number is.
-    let fits = found-behind-fits _ _ (command_lines (lines text)) behind c.fault.result c.fault.ensures.found.0 number is in
-    omega (arith, length-command_lines (lines text), length-lines text, small)
+    let ls = lines c.args.text.items in let behind = rw c.deref.ensures.value at c.chosen_growth-growth.ensures.behind in
+    λ number is. omega (arith, found-behind-fits _ _ (command_lines ls) behind c.fault.result c.fault.ensures.found.0 number is, length-command_lines ls, length-lines c.args.text.items, c.args.text.small)
 
 pub returns-in_default-clause-err : goal.returns-in_default-clause-err
 returns-in_default-clause-err g c =

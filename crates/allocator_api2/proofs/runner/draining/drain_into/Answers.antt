@@ -4,14 +4,14 @@ use Rattle.allocator_api2.proofs.runner.draining.drain_into.Goals as goal
 
 pub returns-then-keep : goal.returns-then-keep
 returns-then-keep g c =
-    let a = c.args in let r = c.requires.range in let d = c.drain-items in let f = c.take_front in let b = c.take_back in
-    let done = Drained-kept a.main.now a.side.now a.start a.end a.first a.last r.0 r.1 r.2 d.result f.new.items b.new.items f.new.side b.new.side d.ensures.drains f.ensures b.ensures {k = a.keep} _ c.keep_rest.ensures c.if-keep.true in
+    let r = c.requires.range in let f = c.take_front in let b = c.take_back in
+    let done = Drained-kept _ _ _ _ _ _ r.0 r.1 r.2 _ _ _ _ _ c.drain-items.ensures.drains f.ensures b.ensures _ c.keep_rest.ensures c.if-keep.true in
     let lender = b.ensures.keeps.lender ∙ f.ensures.keeps.lender in
     search rules
 
 pub returns-else-keep : goal.returns-else-keep
 returns-else-keep g c =
-    let a = c.args in let r = c.requires.range in let d = c.drain-items in let f = c.take_front in let b = c.take_back in
-    let done = Drained-dropped a.main.now a.side.now a.start a.end a.first a.last r.0 r.1 r.2 d.result f.new.items b.new.items f.new.side b.new.side d.ensures.drains f.ensures b.ensures {k = a.keep} _ c.drop-items.ensures c.if-keep.false in
+    let r = c.requires.range in let f = c.take_front in let b = c.take_back in
+    let done = Drained-dropped _ _ _ _ _ _ r.0 r.1 r.2 _ _ _ _ _ c.drain-items.ensures.drains f.ensures b.ensures _ c.drop-items.ensures c.if-keep.false in
     let lender = b.ensures.keeps.lender ∙ f.ensures.keeps.lender in
     search rules
