@@ -63,9 +63,7 @@ pub marks-are : (k n : ℕ) → k ≤ n → (told : List Bool) → (count_by (λ
 marks-are zero zero h told = (omega arith, omega arith, refl)
 marks-are zero (suc n) h told = (omega (arith, counted (λ s. s) false told), omega (arith, counted not false told), ap (λ i. still i told) {x = 1} {y = min (suc n - 0) 1} (omega arith))
 marks-are (suc k) zero h told = absurd (omega (arith, h))
-marks-are (suc k) (suc n) h told =
-    let r = marks-are k n (omega (arith, h)) told in
-    (omega (arith, counted (λ s. s) true (marks k n told), r.0), omega (arith, counted not true (marks k n told), r.1), r.2 ∙ ap (λ i. still i told) {x = min (n - k) 1} {y = min (suc n - suc k) 1} (omega arith))
+marks-are (suc k) (suc n) h told = grind (arith, marks-are k n (omega (arith, h)) told, counted (λ s. s) true (marks k n told), counted not true (marks k n told))
 
 -- those k are written, once there is a gap, and all that stay behind one that goes
 pub marks-written : (gap k n : ℕ) → k ≤ n → (told : List Bool) → still gap (marks k n told) ≡ moved_over gap k + still (gap + min (n - k) 1) told

@@ -86,20 +86,6 @@ module _ {T A : Type 0} {old joined : Vector T A} {low : ℕ} (front end : ℕ) 
     others_in : (xs : List T) → length xs ≡ n → (k : ℕ) → k ≤ n → drop k (map Some xs ++ drop n (drop front old.behind)) ≡ map Some (drop k xs) ++ drop n (drop front old.behind)
     others_in xs e k h = let some : T → Option T = λ x. Some x in drop-append-le k (map some xs) (drop n (drop front old.behind)) (omega (arith, h, e, length-map xs some)) ∙ ap (λ ds. ds ++ drop n (drop front old.behind)) (drop-map some k xs)
 
-    rest : (j : ℕ) → stay + j ≤ n → drop (stay + j) left ≡ drop (stay + j) (behind_items old front n) → drop j (drop gap down.behind) ≡ drop (front + (stay + j)) old.behind
-    rest j h e =
-        cc (
-          keeps.closes.behind,
-          keeps.asks.leaves.behind,
-          apart,
-          drop-drop j stay (map Some left ++ drop n (drop front old.behind)),
-          others_in left long (stay + j) h,
-          e,
-          others_in (behind_items old front n) (count old front n stands) (stay + j) h,
-          parts old front n stands,
-          drop-drop (stay + j) front old.behind,
-        )
-
     -- and the items are set back
     module _ (w : Vector T A) (places : List (Option T)) (differs : w ≡ with_behind down places) (new : Vector T A) (set : SetsBack w (len old) new) where
       abbrev stays : List T
@@ -118,10 +104,6 @@ module _ {T A : Type 0} {old joined : Vector T A} {low : ℕ} (front end : ℕ) 
       set_count : len w - len old ≡ low + stay
       set_count = omega (arith, ap length back, back_long, length-drop (len old) w.items)
 
-      above : (j : ℕ) → drop (low + stay + j) new.behind ≡ drop j w.behind
-      above j =
-          let behind = drop_at (map (λ (x : T). Some x) stays) w.behind (low + stay) (length-map stays (λ (x : T). Some x) ∙ back_long) in rw (← drop-drop j (low + stay) new.behind, set.behind, back, behind) refl
-
       picked : (j next : ℕ) (item : Option T) → next ≡ front + (stay + j) → stay + j ≤ n → length (kept told.told) ≡ j → drop (stay + j) left ≡ drop (stay + j) (behind_items old front n) → drop (gap + j) w.behind ≡ drop (gap + j) down.behind
           → MatchOption item ((kept told.told ≡ []) × (next ≡ end)) (λ x. (kept told.told ≡ x ∷ []) × EndsTrue told.told) → Picks Keeps f old low front end stay next item g new
       picked j next item e fits many same beyond cases = record {
@@ -138,8 +120,27 @@ module _ {T A : Type 0} {old joined : Vector T A} {low : ℕ} (front end : ℕ) 
         stands = subst (StandsBehind new 0) set_count set.stands;
         stayed = ap (behind_items new 0) (sym set_count) ∙ set.elements ∙ back ∙ ap (λ l. behind_items old 0 low ++ l) (sym told.stays);
         within = (omega (arith, e, ordered), omega (arith, e), omega (arith, e, fits, ordered));
-        above = let there : next ≡ low + stay + (gap + j) = omega (arith, e, ordered) in
-            ap (λ i. drop i new.behind) there ∙ above (gap + j) ∙ beyond ∙ sym (drop-drop j gap down.behind) ∙ rest j fits same ∙ ap (λ i. drop i old.behind) (sym e);
+        above =
+            let some : T → Option T = λ x. Some x in let was = behind_items old front n in let there : next ≡ low + stay + (gap + j) = omega (arith, e, ordered) in
+            cc (
+              there,
+              drop-drop (gap + j) (low + stay) new.behind,
+              set.behind,
+              back,
+              drop_at (map some stays) w.behind (low + stay) (length-map stays some ∙ back_long),
+              beyond,
+              drop-drop j gap down.behind,
+              keeps.closes.behind,
+              keeps.asks.leaves.behind,
+              apart,
+              drop-drop j stay (map some left ++ drop n (drop front old.behind)),
+              others_in left long (stay + j) fits,
+              same,
+              others_in was (count old front n stands) (stay + j) fits,
+              parts old front n stands,
+              drop-drop (stay + j) front old.behind,
+              e,
+            );
       }
 
     -- none is left to be asked

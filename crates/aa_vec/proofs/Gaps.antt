@@ -69,9 +69,8 @@ drop-laid cs es l gap n h =
 take-laid : {X : Type 0} (cs es : List (Option X)) (l gap n : ℕ) → l + gap + n ≤ length cs → take gap (drop l (with_run cs (l + gap) n es)) ≡ take gap (drop l cs)
 unfolding with_run
 take-laid cs es l gap n h =
-    let long = length-take-le (l + gap) cs (omega (arith, h)) in
-    rw (drop-append-le l (take (l + gap) cs) (es ++ drop (l + gap + n) cs) (omega (arith, long)), drop-take l gap cs)
-    (take_at (take gap (drop l cs)) (es ++ drop (l + gap + n) cs) gap (length-take-le gap (drop l cs) (omega (arith, h, length-drop l cs))))
+    let long = length-take-le (l + gap) cs (omega (arith, h)) in let few = length-take-le gap (drop l cs) (omega (arith, h, length-drop l cs)) in
+    grind (arith, drop-append-le l (take (l + gap) cs) (es ++ drop (l + gap + n) cs) (omega (arith, long)), drop-take l gap cs, take_at (take gap (drop l cs)) (es ++ drop (l + gap + n) cs) gap few)
 
 pub IsRun-cleared : {X : Type 0} (cs : List (Option X)) (l gap n : ℕ) → IsRun cs 0 l → l + gap + n ≤ length cs → IsRun (with_run cs (l + gap) n (replicate n None)) 0 l
 IsRun-cleared cs l gap n r h = IsRun-with-below cs (l + gap) n (replicate n None) 0 l h (length-replicate n None) (omega arith) r

@@ -1,5 +1,5 @@
 -- Closures whose answers hang on the elements alone: what they leave of a list is a function of it.
-use Rattle.aa_vec.proofs.Common.{◌≡◌, Bool, true, false, not, List, [], ◌∷◌, map, refl, ap, ◌∙◌, subst, arith, cond, filter, Asked, AskedInOrder, ChainsFrom, Deduplicated, answers_of, kept, kept_behind_removed, dedup, dedup_from}
+use Rattle.aa_vec.proofs.Common.{◌≡◌, Bool, true, false, not, List, [], ◌∷◌, map, refl, ap, subst, arith, cond, filter, Asked, AskedInOrder, ChainsFrom, Deduplicated, answers_of, kept, kept_behind_removed, dedup, dedup_from}
 use Rattle.aa_vec.proofs.Closed.{counted, removed_count}
 
 -- what an element is told by p, and left as by h
@@ -33,14 +33,10 @@ module _ {F T : Type 0} (Asks : F → T → T → Bool → F → T → T → Typ
   chained-steady f l [] [] g ys c = (refl, c.1)
   chained-steady f l (x ∷ xs) (true ∷ answers) g ys c =
       let s = steady f x l true c.0 c.1 c.2 c.3 in
-      let r = chained-steady c.0 l xs answers g ys (subst (λ k. ChainsFrom Asks c.0 k xs answers g ys) s.2 c.4) in
-      (ap (λ bs. true ∷ bs) r.0 ∙ ap (λ b. b ∷ answers_from (cond b l x) xs) s.0, r.1 ∙ ap (λ b. cond b (dedup_from same l xs) (l ∷ dedup_from same x xs)) s.0)
+      let r = chained-steady c.0 l xs answers g ys (subst (λ k. ChainsFrom Asks c.0 k xs answers g ys) s.2 c.4) in grind (arith, s, r)
   chained-steady f l (x ∷ xs) (false ∷ answers) g ys c =
       let s = steady f x l false c.0 c.1 c.2 c.4 in
-      let r = chained-steady c.0 x xs answers g c.3 (subst (λ y. ChainsFrom Asks c.0 y xs answers g c.3) s.1 c.5) in (
-        ap (λ bs. false ∷ bs) r.0 ∙ ap (λ b. b ∷ answers_from (cond b l x) xs) s.0,
-        c.6 ∙ ap (λ k. k ∷ c.3) s.2 ∙ ap (λ zs. l ∷ zs) r.1 ∙ ap (λ b. cond b (dedup_from same l xs) (l ∷ dedup_from same x xs)) s.0,
-      )
+      let r = chained-steady c.0 x xs answers g c.3 (subst (λ y. ChainsFrom Asks c.0 y xs answers g c.3) s.1 c.5) in grind (arith, s, r, c.6)
   chained-steady f l xs answers g ys c = absurd c
 
   pub deduplicated-steady : (f : F) (xs : List T) (answers : List Bool) (g : F) (ys : List T) → Deduplicated Asks f xs answers g ys → ys ≡ dedup same xs
