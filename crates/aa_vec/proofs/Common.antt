@@ -5,7 +5,7 @@ pub use Rattle.aa_raw.proofs.Runs.{IsRun-long, IsRun-part, IsRun-same, IsRun-set
 pub use Rattle.aa_raw.specs.Block.{Block, Reserves, with_places, wrote}
 pub use Rattle.aa_raw.specs.Closures.{TakesPairMut}
 pub use Rattle.aa_raw.specs.Growth.{amortized, least_of, usize_max}
-pub use Rattle.aa_raw.specs.Places.{IsRun}
+pub use Rattle.aa_raw.specs.Places.{IsRun, IsFilled}
 unfoldable pub use Rattle.aa_raw.specs.Places.{moved, run, with_run}
 pub use Rattle.aa_raw.specs.declared.collections.TryReserveError.{TryReserveError}
 pub use Rattle.aa_raw.specs.declared.raw_vec.Growth.{Growth}
@@ -16,7 +16,7 @@ pub use Rattle.aa_vec.specs.Choosing.{Asked, AskedInOrder, ChainsFrom, Deduplica
 pub use Rattle.aa_vec.specs.Copies.{Adds, AddsAnswers, Begins, Copies, Fills, IsMade, IsMadeOfOne, MayCallTimes, Refuses, Undone, WritesAtMost}
 pub use Rattle.aa_vec.specs.Extend.{GrowsInSteps, CopiesOf, Extended, Extends, ItemsLeft, EndsAt, Takes, TellsAtMost, TellsExactly, YieldsTelling, asked_with, gives_item, grows, lower_by, stays}
 pub use Rattle.aa_vec.specs.Extract.{ClosesExtract, Extracted, Extracts, ExtractsAlong, ExtractsRange, extract_count, extract_kept, extract_rest, extract_tail, extract_vec}
-pub use Rattle.aa_vec.specs.Filling.{FillsAndCloses, FillsGap, Gathers, LacksRest, OpensGap, Placed, Puts, PutsAll, PutsFront, PutsRest, Widens}
+pub use Rattle.aa_vec.specs.Filling.{FillsAndCloses, FillsGap, Gathers, LacksRest, OpensGap, Placed, Puts, PutsAll, PutsFront, PutsRest, Widens, Comes}
 pub use Rattle.aa_vec.specs.VecInner.{IsFront, view_of}
 pub use Rattle.aa_vec.specs.SpliceItems.{Gapped, LacksOthers, PutsWithin, Replaced, SplicesAll, SplicesFront, SplicesShort, gapped, tail_moves}
 pub use Rattle.aa_vec.specs.Until.{AsksBehind, AsksLast, AsksNeighbours, AsksUntil, ChainsAlong, ChainsBehind, ChainsOn, ChainsUntil, KeepsDown, Picks, StaysWhen, TakesNext}

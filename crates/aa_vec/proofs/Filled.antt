@@ -1,7 +1,6 @@
 -- A new vector of n clones of one value.
-use Rattle.aa_vec.proofs.Common.{◌≡◌, ℕ, ◌<◌, List, [], ◌∷◌, ◌++◌, replicate, ◌∙◌, subst, arith, length-append, if◌then◌else◌, ◌==◌, length-replicate, Doubling, Copies, Fills, Vector, IsNew, length_all_zip, IsMade, IsMadeOfOne}
+use Rattle.aa_vec.proofs.Common.{◌≡◌, ℕ, ◌<◌, List, [], ◌∷◌, ◌++◌, replicate, ◌∙◌, subst, arith, length-append, if◌then◌else◌, ◌==◌, length-replicate, Doubling, Copies, Fills, Vector, IsNew, length_all_zip, IsMade, IsMadeOfOne, nat_tests}
 use Rattle.aa_vec.proofs.CopiesLemmas.{all-copied}
-use Rattle.std.proofs.lemmas.Bool.Decides.{nat_tests}
 
 whole : {T : Type 0} (n : ℕ) (ys : List T) → 0 < n → (if n == 0 then [] else ys) ≡ ys
 whole n ys some = grind (arith, nat_tests)

@@ -1,7 +1,5 @@
 -- A gap before the elements behind the items of a vector: items are put into it, and it is made.
-use Rattle.aa_vec.specs.Filling.{Comes}
-use Rattle.std.proofs.lemmas.Bool.Decides.{nat_tests}
-use Rattle.aa_vec.proofs.Common.{◌≡◌, ℕ, ◌+◌, ◌-◌, ◌<◌, ◌≤◌, List, [], ◌∷◌, ◌++◌, length, drop, Option, Some, None, refl, sym, ap, ◌∙◌, subst, arith, length-append, length-take, if◌then◌else◌, ◌==◌, Yields, append-nil, drop-drop, wrote, IsRun, run, moved, length-moved, length-run, IsRun-long, IsRun-same, run-moved, run-moved-below, Vector, len, Becomes, with_room, view_of, IsFront, StandsBehind, SetsBack, ClosesGap, Widens, Placed, FillsGap, FillsAndCloses, Inside, OpensGap}
+use Rattle.aa_vec.proofs.Common.{◌≡◌, ℕ, ◌+◌, ◌-◌, ◌<◌, ◌≤◌, List, [], ◌∷◌, ◌++◌, length, drop, Option, Some, None, refl, sym, ap, ◌∙◌, subst, arith, length-append, length-take, if◌then◌else◌, ◌==◌, Yields, append-nil, drop-drop, wrote, IsRun, run, moved, length-moved, length-run, IsRun-long, IsRun-same, run-moved, run-moved-below, Vector, len, Becomes, with_room, view_of, IsFront, StandsBehind, SetsBack, ClosesGap, Widens, Placed, FillsGap, FillsAndCloses, Inside, OpensGap, nat_tests, Comes}
 use Rattle.aa_vec.proofs.Becoming.{Becomes-at, Becomes-more, Becomes-refl, GrowsTo-becomes}
 use Rattle.aa_vec.proofs.GrowthLemmas.{MakesRoom-has}
 use Rattle.aa_vec.proofs.BehindLemmas.{still_stand, still_are}

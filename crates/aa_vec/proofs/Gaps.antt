@@ -1,6 +1,5 @@
 -- Elements behind the items of a vector, and the gap before them, as the places of its block.
-use Rattle.aa_vec.proofs.Common.{◌≡◌, ℕ, ◌+◌, ◌-◌, ◌<◌, ◌≤◌, List, [], ◌∷◌, ◌++◌, length, map, take, drop, replicate, get_or, Option, Some, None, refl, sym, ap, ◌∙◌, subst, arith, length-append, length-drop, length-set, length-take, slice_set, if◌then◌else◌, ◌==◌, drop-append-le, drop-drop, drop-map, drop-take, drop-set, drop-set-add, drop-set-lt, length-map, length-replicate, length-take-le, take-append-drop, take_at, drop_at, IsRun, length-moved, length-run, IsRun-long, IsRun-part, drop-with, run-drop, run-filled, run-moved, run-moved-below, run-split, run-take, run-is, run-set-above, IsRun-set-above, StandsBehind, LeavesBehind, behind_items, Vector, len, view_of, IsFront, Inside, refill, length_refill, with_places, IsRun-with-below, length-with_run, first-filled, run-one, run-push, run-with-below, cut-long}
-use Rattle.aa_raw.specs.Places.{IsFilled, run, moved, with_run}
+use Rattle.aa_vec.proofs.Common.{◌≡◌, ℕ, ◌+◌, ◌-◌, ◌<◌, ◌≤◌, List, [], ◌∷◌, ◌++◌, length, map, take, drop, replicate, get_or, Option, Some, None, refl, sym, ap, ◌∙◌, subst, arith, length-append, length-drop, length-set, length-take, slice_set, if◌then◌else◌, ◌==◌, drop-append-le, drop-drop, drop-map, drop-take, drop-set, drop-set-add, drop-set-lt, length-map, length-replicate, length-take-le, take-append-drop, take_at, drop_at, IsRun, length-moved, length-run, IsRun-long, IsRun-part, drop-with, run-drop, run-filled, run-moved, run-moved-below, run-split, run-take, run-is, run-set-above, IsRun-set-above, StandsBehind, LeavesBehind, behind_items, Vector, len, view_of, IsFront, Inside, refill, length_refill, with_places, IsRun-with-below, length-with_run, first-filled, run-one, run-push, run-with-below, cut-long, IsFilled, run, moved, with_run}
 
 -- where the same stands above two places, the same stands as far above them
 pub further : {Y : Type 0} (ds es : List Y) (a b c d : ℕ) → a ≤ c → c + b ≡ d + a → drop a ds ≡ drop b es → drop c ds ≡ drop d es

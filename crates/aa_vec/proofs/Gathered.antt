@@ -1,10 +1,9 @@
 -- Items gathered in a vector of their own, and what was asked for where they could not be.
-use Rattle.aa_vec.proofs.Common.{◌≡◌, ℕ, ◌+◌, ◌-◌, ◌<◌, List, [], ◌∷◌, ◌++◌, length, Option, None, refl, suc, sym, ap, cases_lt, ◌∙◌, subst, arith, inl, inr, length-append, min, append-nil, TryReserveError, Doubling, amortized, least_of, usize_max, Vector, len, IsNew, LacksRoom, GrowsTo, GrowsInSteps, Ok, Err, Extends, Takes, Gathers, LacksOthers, LacksRest, asked_with, Becomes, with_room}
+use Rattle.aa_vec.proofs.Common.{◌≡◌, ℕ, ◌+◌, ◌-◌, ◌<◌, List, [], ◌∷◌, ◌++◌, length, Option, None, refl, suc, sym, ap, cases_lt, ◌∙◌, subst, arith, inl, inr, length-append, min, append-nil, TryReserveError, Doubling, amortized, least_of, usize_max, Vector, len, IsNew, LacksRoom, GrowsTo, GrowsInSteps, Ok, Err, Extends, Takes, Gathers, LacksOthers, LacksRest, asked_with, Becomes, with_room, nat_tests}
 use Rattle.aa_raw.specs.Refusals.{IsRefusedAt}
 use Rattle.aa_vec.proofs.Becoming.{GrowsTo-becomes, SameBlock-becomes}
 use Rattle.aa_vec.proofs.GrowthLemmas.{MakesRoom, MakesRoom-stays, SameBlock-refl, Extends-items, GrowsInSteps-counted, GrowsInSteps-first, in_block}
 use Rattle.aa_vec.proofs.Counted.{Extends-told}
-use Rattle.std.proofs.lemmas.Bool.Decides.{nat_tests}
 use Rattle.aa_vec.proofs.HintLemmas.{told_first}
 
 -- another function tells the same of the items, behind which `more` is to come

@@ -1,6 +1,5 @@
 -- What an iterator told of how many items are to come, put together.
-use Rattle.aa_vec.proofs.Common.{◌≡◌, ℕ, ◌<◌, ◌≤◌, List, [], ◌∷◌, ◌++◌, length, Option, Some, refl, sym, ◌∙◌, subst, arith, length-append, if◌then◌else◌, ◌==◌, Count, IsFinite, Yields, count_of, TellsAtMost, YieldsTelling}
-use Rattle.std.proofs.lemmas.Bool.Decides.{nat_tests}
+use Rattle.aa_vec.proofs.Common.{◌≡◌, ℕ, ◌<◌, ◌≤◌, List, [], ◌∷◌, ◌++◌, length, Option, Some, refl, sym, ◌∙◌, subst, arith, length-append, if◌then◌else◌, ◌==◌, Count, IsFinite, Yields, count_of, TellsAtMost, YieldsTelling, nat_tests}
 
 -- a lower bound of what is left tells 0 where nothing is
 pub tells_none_at_end : {S : Type 0} (remaining : S → Count) (s : S) (n : ℕ) → IsFinite (remaining s) → count_of (remaining s) ≡ 0 → TellsAtMost remaining s n → n ≡ 0

@@ -1,6 +1,5 @@
 -- Room that the block made for a vector.
-use Rattle.aa_vec.proofs.Common.{◌≡◌, ℕ, ◌+◌, ◌-◌, ◌<◌, ◌≤◌, [], ◌∷◌, ◌++◌, Some, length, refl, ap, ◌∙◌, arith, if◌then◌else◌, ◌==◌, slice_set, Block, wrote, IsRun, run, moved, amortized, least_of, length-run, Vector, len, run_count, with_room, view_of, IsFront, Inside, insert, nat_tests, Reserves, run-put, run-reserved, IsRun-reserved, Becomes}
-use Rattle.std.proofs.lemmas.List.{length-set}
+use Rattle.aa_vec.proofs.Common.{◌≡◌, ℕ, ◌+◌, ◌-◌, ◌<◌, ◌≤◌, [], ◌∷◌, ◌++◌, Some, length, refl, ap, ◌∙◌, arith, if◌then◌else◌, ◌==◌, slice_set, Block, wrote, IsRun, run, moved, amortized, least_of, length-run, Vector, len, run_count, with_room, view_of, IsFront, Inside, insert, nat_tests, Reserves, run-put, run-reserved, IsRun-reserved, Becomes, length-set}
 use Rattle.aa_raw.proofs.Positions.{run-inserted, length-inserted}
 use Rattle.aa_vec.proofs.Becoming.{Becomes-grows}
 use Rattle.aa_vec.proofs.GrowthLemmas.{MakesRoom}

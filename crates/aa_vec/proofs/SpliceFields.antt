@@ -1,5 +1,5 @@
 -- A splice that is given up: its fields, of which the iterator tells no machine value of its own, and what a call asks that is handed them.
-use mathlib.Core.Path.{◌∙◌}
+use Rattle.aa_vec.proofs.Common.{◌∙◌}
 use Rattle.aa_vec.proofs.Walks.{◌≡◌, refl, sym, ap, subst, List, [], ◌∷◌, Val, sep, id⊢, ‵, ◌∵◌, !, qed, fsplit, feq_l, fact, unit, owns, fields}
 pub use Rattle.aa_vec.proofs.Common.{Vector, Ura, ent, emp, emp∗, via, mono∗, Logic, sem, ◌$◌, by, fpick, ◌⊑◌, Lfts, fact_use, fact_i, Are, Ises, owns_show, showss, param, RattleType, Valss, named_lft, Declared, row, Ghosts}
 use lib.Dec.{T}

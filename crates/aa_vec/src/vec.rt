@@ -130,7 +130,7 @@ impl<T, A: Allocator> Vec<T, A> {
     pub fn is_empty(&self) -> bool
         ensures { IsTrue result ↔ (self.now.items ≡ []) }
     {
-        self.len == 0
+        self.len() == 0
     }
 
     /// How many elements there may be before the vector grows; `usize::MAX` for elements without

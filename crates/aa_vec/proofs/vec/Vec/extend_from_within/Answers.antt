@@ -1,6 +1,4 @@
-use Rattle.std.proofs.Common.{ap, rules, subst}
-use Rattle.std.specs.Prelude.{All, slice_range}
-use Rattle.aa_vec.specs.Vector.{Vector}
+use Rattle.aa_vec.proofs.Common.{ap, rules, subst, All, slice_range, Vector}
 use Rattle.aa_vec.proofs.CopiesLemmas.{Refuses-undone}
 use Rattle.aa_vec.proofs.vec.Vec.extend_from_within.Goals as goal
 

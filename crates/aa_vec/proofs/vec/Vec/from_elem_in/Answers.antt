@@ -1,4 +1,4 @@
-use Rattle.std.proofs.Common.{arith}
+use Rattle.aa_vec.proofs.Common.{arith}
 use Rattle.aa_vec.proofs.Filled.{IsMadeOfOne-filled, IsMade-copied}
 use Rattle.aa_vec.proofs.vec.Vec.from_elem_in.Goals as goal
 

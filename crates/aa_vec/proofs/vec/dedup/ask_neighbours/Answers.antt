@@ -1,4 +1,4 @@
-use Rattle.std.proofs.Common.{drop}
+use Rattle.aa_vec.proofs.Common.{drop}
 use Rattle.aa_vec.proofs.Asking.{neighbours_are, neighbours_left}
 use Rattle.aa_vec.proofs.vec.dedup.ask_neighbours.Goals as goal
 

@@ -1,4 +1,4 @@
-use Rattle.std.proofs.Common.{arith}
+use Rattle.aa_vec.proofs.Common.{arith}
 use Rattle.aa_vec.proofs.Filling.{Placed-start, Placed-put}
 use Rattle.aa_vec.proofs.vec.behind.gap.with_gap_filled.Goals as goal
 
