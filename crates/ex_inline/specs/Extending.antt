@@ -1,7 +1,7 @@
 -- A small vector that items are put behind, one after the other, and one that has clones.
 use Rattle.std.specs.Prelude.{◌≡◌, ℕ, List, [], ◌∷◌, ◌++◌, length, take, drop, Option, ◌⊎◌}
 use Rattle.std.specs.Iterator.{Drains, Yields}
-use Rattle.std.specs.List.{AllZip, slice_range}
+use Rattle.std.specs.List.{AllZip, fold, slice_range}
 use Rattle.allocator_api2.specs.declared.collections.TryReserveError.{TryReserveError}
 use Rattle.allocator_api2.specs.declared.collections.TryReserveErrorKind.TheVariants.{AllocError}
 use Rattle.ex_inline.specs.Inlined.{Inlined, in_place, wrote, with_room, LacksRoom}
@@ -17,8 +17,7 @@ module _ {T A : Type 0} where
 
   -- s after these were, the first of them first
   abbrev pub pushed_all : (size N : ℕ) → Inlined T A → List T → Inlined T A
-  pushed_all size N s [] = s
-  pushed_all size N s (x ∷ xs) = pushed_all size N (pushed size N s x) xs
+  pushed_all size N s xs = fold (pushed size N) s xs
 
   -- new is old with a clone of each of xs behind the others
   pub record AddsClones (clones : T → T → Type 0) (old : Inlined T A) (xs : List T)
