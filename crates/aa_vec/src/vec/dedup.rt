@@ -9,7 +9,7 @@ ghost use Rattle.aa_vec.specs.Until.{AsksLast, ChainsOn, ChainsBehind, AsksNeigh
 ghost use Rattle.aa_vec.specs.Vector.{len};
 
 use crate::vec::Vec;
-use crate::vec::behind::steps::{step_over, step_over_any, step_over_inside};
+use crate::vec::behind::steps::{step_over, step_over_any};
 use crate::vec::retain::ask;
 use core::mem::replace_with;
 use std::alloc::Allocator;
@@ -182,14 +182,14 @@ fn dedup_owned<'a, T: Drop, A: Allocator, F: FnMut(&mut T, &mut T) -> bool>(
     'runs: while at < end - 1 {
         let gap = at - list.len();
         let kept = list.chain_behind(gap, at, end, same);
-        (list, at) = step_over_inside(list, gap, at, end, kept);
+        (list, at) = step_over(list, gap, at, end, kept);
     }
     if end <= at {
         return (list, same);
     }
     let gap = at - list.len();
     let rest = list.chain_behind(gap, at, end, same);
-    (list, _) = step_over(list, gap, at, end, rest);
+    (list, _) = step_over_any(list, gap, at, end, rest);
     (list, same)
 }
 

@@ -1,12 +1,12 @@
 //! Elements that a closure keeps.
-ghost use Rattle.std.specs.Prelude.{◌≡◌, ◌+◌, ◌-◌, ◌<◌, true, length};
+ghost use Rattle.std.specs.Prelude.{◌≡◌, ◌+◌, ◌-◌, ◌<◌, ◌≤◌, true, length};
 ghost use Rattle.std.specs.Fn.{CalledAtMut, TakesAt};
 ghost use Rattle.aa_vec.specs.Behind.{StandsBehind, behind_items};
 ghost use Rattle.aa_vec.specs.Choosing.{TakesMut, Reads, IsCallableInOrder, MayAskInOrder, Retains};
 ghost use Rattle.aa_vec.specs.Until.{AsksBehind, StaysWhen, AsksUntil};
 
 use crate::vec::Vec;
-use crate::vec::behind::steps::{step_over, step_over_any, step_over_inside};
+use crate::vec::behind::steps::{step_over, step_over_any};
 use core::mem::replace_with;
 use std::alloc::Allocator;
 
@@ -113,14 +113,14 @@ fn retain_owned<'a, T: Drop, A: Allocator, F: FnMut(&mut T) -> bool>(
     'runs: while at < end - 1 {
         let gap = at - list.len();
         let kept = list.keep_inside(gap, end - at, keep);
-        (list, at) = step_over_inside(list, gap, at, end, kept);
+        (list, at) = step_over(list, gap, at, end, kept);
     }
     if end <= at {
         return (list, keep);
     }
     let gap = at - list.len();
     let rest = list.keep_behind(gap, end - at, keep);
-    (list, _) = step_over(list, gap, at, end, rest);
+    (list, _) = step_over_any(list, gap, at, end, rest);
     (list, keep)
 }
 
@@ -138,21 +138,10 @@ pub(crate) fn count_kept<T, F: FnMut(&mut T) -> bool>(
     ensures { AsksUntil (StaysWhen stays (CalledAtMut F.FnMut))
         keep.old elements.old result keep.new elements.new }
 {
-    // It does nothing but tell the prover that a slice has at most `usize::MAX` elements.
-    let _count = count_of(elements);
-    let Some((first, others)) = elements.split_first_mut() else {
-        return 0;
-    };
-    if !ask_stays(keep, first, stays) {
-        return 0;
+    if elements.len() < 2 {
+        return kept_run(elements, stays, keep);
     }
-    let Some((second, others)) = others.split_first_mut() else {
-        return 1;
-    };
-    if !ask_stays(keep, second, stays) {
-        return 1;
-    }
-    2 + kept_run(others, stays, keep)
+    count_kept_inside(elements, stays, keep)
 }
 
 // The same of two elements or more.
@@ -168,6 +157,7 @@ fn count_kept_inside<T, F: FnMut(&mut T) -> bool>(
     ensures { AsksUntil (StaysWhen stays (CalledAtMut F.FnMut))
         keep.old elements.old result keep.new elements.new }
 {
+    // It does nothing but tell the prover that a slice has at most `usize::MAX` elements.
     let _count = count_of(elements);
     let (first, others) = elements.split_at_mut(1);
     if !ask_stays(keep, &mut first[0], stays) {
@@ -186,7 +176,8 @@ fn count_kept_inside<T, F: FnMut(&mut T) -> bool>(
 fn kept_run<T, F: FnMut(&mut T) -> bool>(elements: &mut [T], stays: bool, keep: &mut F) -> usize
     requires { MayAskInOrder (StaysWhen stays (CalledAtMut F.FnMut))
         (TakesMut F.FnMut) keep.old elements.old }
-    ensures { AsksUntil (StaysWhen stays (CalledAtMut F.FnMut)) keep.old elements.old
+    ensures within { result ≤ length elements.old }
+    ensures asked { AsksUntil (StaysWhen stays (CalledAtMut F.FnMut)) keep.old elements.old
         result keep.new elements.new }
 {
     let count = elements.len();

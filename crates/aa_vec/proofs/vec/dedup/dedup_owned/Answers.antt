@@ -29,17 +29,17 @@ chain_behind-kept-requires g c =
     let on = stage-on _ _ _ _ _ _ c.runs.invariant.0 c.len.ensures.count in
     record { last = on.may.some; some = omega (arith, c.runs-test.true); stands = on.stands; callable = on.may.along }
 
-pub step_over_inside-requires : goal.step_over_inside-requires
-step_over_inside-requires g c =
+pub step_over-requires : goal.step_over-requires
+step_over-requires g c =
     let turn = chained-turn c.runs.invariant.0 c.len.ensures.count c.chain_behind-kept.ensures in
     record { gone = omega (arith, c.runs.invariant.1 (omega (arith, c.runs-test.true)), c.len.ensures.count); some = omega (arith, c.runs-test.true); within = turn.0; stands = turn.1 }
 
 pub runs-preserved : goal.runs-preserved
-runs-preserved g c = let p = (chained-turn c.runs.invariant.0 c.len.ensures.count c.chain_behind-kept.ensures).2 _ _ c.step_over_inside.ensures in (p.0, p.2)
+runs-preserved g c = let p = (chained-turn c.runs.invariant.0 c.len.ensures.count c.chain_behind-kept.ensures).2 _ _ c.step_over.ensures in (p.0, p.2)
 
 pub runs-smaller : goal.runs-smaller
 runs-smaller g c =
-    let p = (chained-turn c.runs.invariant.0 c.len.ensures.count c.chain_behind-kept.ensures).2 _ _ c.step_over_inside.ensures in
+    let p = (chained-turn c.runs.invariant.0 c.len.ensures.count c.chain_behind-kept.ensures).2 _ _ c.step_over.ensures in
     omega (arith, p.1 (omega (arith, c.runs-test.true)), p.0.within)
 
 pub returns-then-end-at-2-clause-removes : goal.returns-then-end-at-2-clause-removes
@@ -50,12 +50,12 @@ chain_behind-rest-requires g c =
     let on = stage-on _ _ _ _ _ _ c.runs.invariant.0 c.len-2.ensures.count in
     record { last = on.may.some; some = omega (arith, c.if-end-at-2.false); stands = on.stands; callable = on.may.along }
 
-pub step_over-requires : goal.step_over-requires
-step_over-requires g c =
+pub step_over_any-requires-2 : goal.step_over_any-requires-2
+step_over_any-requires-2 g c =
     let turn = chained-turn c.runs.invariant.0 c.len-2.ensures.count c.chain_behind-rest.ensures in
-    record { gone = omega (arith, c.runs.invariant.1 (omega (arith, c.if-end-at-2.false)), c.len-2.ensures.count); some = omega (arith, c.if-end-at-2.false); within = turn.0; stands = turn.1 }
+    record { within = turn.0; stands = turn.1 }
 
 pub returns-clause-removes : goal.returns-clause-removes
 returns-clause-removes g c =
-    let p = (chained-turn c.runs.invariant.0 c.len-2.ensures.count c.chain_behind-rest.ensures).2 _ _ c.step_over.ensures in
+    let p = (chained-turn c.runs.invariant.0 c.len-2.ensures.count c.chain_behind-rest.ensures).2 _ _ c.step_over_any-2.ensures in
     Deduplicates-ended p.0 (omega (arith, p.1 (omega (arith, c.if-end-at-2.false)), p.0.within, c.runs-test.false))
