@@ -22,7 +22,6 @@ pub mod ExtractLemmas
 pub mod ExtractRuns
 pub mod Handed
 pub mod Callable
-pub mod Kept
 pub mod Steady
 pub mod Callers
 pub mod Sifting

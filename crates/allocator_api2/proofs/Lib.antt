@@ -12,6 +12,7 @@ pub mod Ranges
 pub mod Repeated
 pub mod Reserved
 pub mod Runs
+pub mod Kept
 pub mod Steps
 pub mod SpliceRefusals
 pub mod SpliceRanges

@@ -8,7 +8,7 @@ use Rattle.aa_vec.specs.Extend.{grows, stays}
 use Rattle.aa_vec.proofs.GrowthLemmas.{MakesRoom, MakesRoom-has, MakesRoom-rises, MakesRoom-stays, SameBlock-refl, asks, block_of, grown_room}
 use Rattle.aa_vec.specs.Vector.{Becomes, with_room}
 use Rattle.aa_vec.proofs.Becoming.{GrowsTo-becomes, Holds-becomes}
-use Rattle.aa_vec.proofs.Kept.{length-kept, length-deduplicated}
+use Rattle.allocator_api2.proofs.Kept.{length-kept, length-deduplicated}
 use Rattle.allocator_api2.proofs.ExtractParts.{length-taken_out}
 use Rattle.allocator_api2.proofs.Ranges.{length-left_of}
 use Rattle.allocator_api2.specs.Machine.{InRange, Makes, Leaves, ends_of}

@@ -1,5 +1,6 @@
 -- What a closure that chooses leaves is no longer than what it was asked of.
-use Rattle.aa_vec.proofs.Common.{suc, ◌≤◌, Bool, true, false, List, [], ◌∷◌, length, ap, arith, Asked, AskedInOrder, ChainsFrom, Deduplicated, kept}
+use Rattle.allocator_api2.proofs.Common.{suc, ◌≤◌, Bool, true, false, List, [], ◌∷◌, length, ap, arith, Asked, AskedInOrder, ChainsFrom, Deduplicated}
+use Rattle.aa_vec.specs.Choosing.{kept}
 use Rattle.aa_vec.proofs.ExtractRuns.{asked_count, asked_parts}
 
 pub length-kept : {F T : Type 0} (Asks : F → T → Bool → F → T → Type 0) (f : F) (xs : List T) (told : List (Asked T)) (g : F) → AskedInOrder Asks f xs told g → length (kept told) ≤ length xs
