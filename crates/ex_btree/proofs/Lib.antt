@@ -1,0 +1,4 @@
+pub mod Order
+pub mod Splitting
+pub mod Lent
+pub mod Ranges

@@ -1,0 +1,123 @@
+//! The entries of a map, one after the other.
+ghost use Rattle.std.specs.Prelude.{◌≡◌, length, Some, IfSome};
+ghost use Rattle.std.specs.Iterator.{UpTo, YieldsFirstBy, item_count};
+ghost use Rattle.std.specs.Iterator.SizeHint.{IsWithinCount};
+
+use crate::map::OrderedMap;
+use ex_leaf::leaf::Leaf;
+use std::alloc::Allocator;
+use std::iter::FusedIterator;
+use std::marker::Model;
+
+/// The keys that are left, each with its value, in the order of the keys. A contract sees them as a
+/// list of pairs.
+#[derive(Drop)]
+pub struct Iter<'a, V, A: Allocator> {
+    pub(crate) front: &'a [(u64, V)],
+    pub(crate) rest: &'a [Leaf<V, A>],
+    pub(crate) left: usize,
+}
+
+impl<'a, V, A: Allocator> Model for Iter<'a, V, A> {
+    ghost use Rattle.std.specs.Prelude.{◌≡◌, ℕ, List, ◌++◌, length};
+    ghost use Rattle.ex_btree.specs.Leaves.{entries_of};
+
+    ghost Value = { List (ℕ × V) };
+
+    ghost view = { λ i. i.front.now ++ entries_of i.rest.now };
+
+    ghost invariant = { λ i. i.left ≡ length (i.front.now ++ entries_of i.rest.now) };
+}
+
+impl<'a, V, A: Allocator> Iterator for Iter<'a, V, A> {
+    type Item = (u64, &'a V);
+
+    ghost next_gives = { YieldsFirstBy (λ item. (item.0, item.1.now)) (λ rest. rest) };
+
+    ghost remaining = { item_count (λ rest. rest) };
+
+    /// The next key with its value, if one is left.
+    fn next(&mut self) -> Option<(u64, &'a V)> {
+        loop {
+            if let Some((first, others)) = self.front.split_first() {
+                self.front = others;
+                self.left -= 1;
+                return Some((first.0, &first.1));
+            }
+            let (leaf, others) = self.rest.split_first()?;
+            self.front = leaf.entries();
+            self.rest = others;
+        }
+    }
+
+    /// How many keys are left, exactly.
+    fn size_hint(&self) -> (usize, Option<usize>)
+        ensures lower { IsWithinCount result.0 (item_count (λ rest. rest) self.now) }
+        ensures upper { IfSome result.1 (UpTo (item_count (λ rest. rest) self.now)) }
+        ensures exact { result ≡ (length self.now, Some (length self.now)) }
+    {
+        (self.left, Some(self.left))
+    }
+}
+
+impl<'a, V, A: Allocator> ExactSizeIterator for Iter<'a, V, A> {
+    fn len(&self) -> usize {
+        self.left
+    }
+}
+
+impl<'a, V, A: Allocator> FusedIterator for Iter<'a, V, A> {}
+
+/// The keys that are left of a range, each with its value, in the order of the keys. A contract sees
+/// them as a list of pairs.
+#[derive(Drop)]
+pub struct Range<'a, V, A: Allocator> {
+    pub(crate) front: &'a [(u64, V)],
+    pub(crate) rest: &'a [Leaf<V, A>],
+    pub(crate) high: u64,
+}
+
+impl<'a, V, A: Allocator> Model for Range<'a, V, A> {
+    ghost use Rattle.std.specs.Prelude.{ℕ, List, ◌++◌};
+    ghost use Rattle.ex_btree.specs.Leaves.{entries_of, up_to};
+
+    ghost Value = { List (ℕ × V) };
+
+    ghost view = { λ r. up_to r.high (r.front.now ++ entries_of r.rest.now) };
+}
+
+impl<'a, V, A: Allocator> Iterator for Range<'a, V, A> {
+    type Item = (u64, &'a V);
+
+    ghost next_gives = { YieldsFirstBy (λ item. (item.0, item.1.now)) (λ rest. rest) };
+
+    ghost remaining = { item_count (λ rest. rest) };
+
+    /// The next key of the range with its value, if one is left.
+    fn next(&mut self) -> Option<(u64, &'a V)> {
+        loop {
+            if let Some((first, others)) = self.front.split_first() {
+                if first.0 >= self.high {
+                    return None;
+                }
+                self.front = others;
+                return Some((first.0, &first.1));
+            }
+            let (leaf, others) = self.rest.split_first()?;
+            self.front = leaf.entries();
+            self.rest = others;
+        }
+    }
+}
+
+impl<'a, V, A: Allocator> IntoIterator for &'a OrderedMap<V, A> {
+    type Item = (u64, &'a V);
+
+    type IntoIter = Iter<'a, V, A>;
+
+    ghost into_iter_gives = { λ map i. i ≡ map.now };
+
+    fn into_iter(self) -> Iter<'a, V, A> {
+        self.iter()
+    }
+}
