@@ -98,6 +98,11 @@ fn each_call_answers(rt: HostRuntime) {
         None => assert!(rt; false),
     }
     assert!(rt; map.get_mut(100).is_none() && map.get(60) == Some(&7));
+    let mut sum = 0u64;
+    for (key, _) in &map {
+        sum = sum.saturating_add(key);
+    }
+    assert!(rt; sum == 4950);
     let mut all = map.iter();
     assert!(rt; all.next() == Some((0, &0)) && all.size_hint() == (99, Some(99)));
     assert!(rt; map.range(30, 70).next() == Some((30, &15)));
