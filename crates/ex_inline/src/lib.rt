@@ -4,5 +4,3 @@
 mod few;
 pub mod inline;
 pub mod iter;
-#[cfg(test)]
-mod tests;

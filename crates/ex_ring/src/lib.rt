@@ -4,5 +4,3 @@
 pub mod iter;
 pub mod laws;
 pub mod ring;
-#[cfg(test)]
-mod tests;

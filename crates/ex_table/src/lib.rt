@@ -7,5 +7,3 @@ pub mod groups;
 pub mod growth;
 pub mod iter;
 pub mod table;
-#[cfg(test)]
-mod tests;

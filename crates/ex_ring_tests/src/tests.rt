@@ -1,5 +1,5 @@
-use crate::ring::Ring;
 use allocator_api2::vec::Vec;
+use ex_ring::ring::Ring;
 use std::alloc::Global;
 use std::cell::Cell;
 use std::mem;

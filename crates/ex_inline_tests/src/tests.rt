@@ -1,5 +1,5 @@
-use crate::inline::InlineVec;
 use allocator_api2::vec::Vec;
+use ex_inline::inline::InlineVec;
 use std::alloc::Global;
 use std::cell::Cell;
 use std::mem;

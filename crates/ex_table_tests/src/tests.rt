@@ -1,7 +1,7 @@
-use crate::table::Table;
 use allocator_api2::boxed::BoxedText;
 use allocator_api2::collections::TryReserveErrorKind;
 use allocator_api2::vec::Vec;
+use ex_table::table::Table;
 use std::alloc::Global;
 use std::hash::{BuildHasher, BuildHasherDefault, FoldHasher, Hasher};
 use std::ops::Range;
