@@ -8,12 +8,8 @@ pub mod pool;
 pub mod rack;
 /// A recycler of blocks of all sizes.
 pub mod recycler;
-#[cfg(test)]
-mod recycler_tests;
 /// A layer that rounds the sizes of requests up.
 pub mod rounded;
 mod shelf;
-#[cfg(test)]
-mod tests;
 
 pub use ex_watched::{budget, counting, watched};

@@ -15,6 +15,4 @@ mod pattern;
 pub mod random;
 mod referee;
 mod sets;
-#[cfg(test)]
-mod tests;
 mod zoo;

@@ -1,6 +1,6 @@
-use crate::below::{Below, count_below};
-use crate::course::Course;
-use crate::exercise::{Report, exercise, exercise_with_clone};
+use ex_ground::below::{Below, count_below};
+use ex_ground::course::Course;
+use ex_ground::exercise::{Report, exercise, exercise_with_clone};
 use ex_watched::budget::Budget;
 use ex_watched::counting::Counting;
 use std::alloc::{Allocator, Global};

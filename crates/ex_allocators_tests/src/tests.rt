@@ -1,8 +1,8 @@
-use crate::budget::Budget;
-use crate::counting::Counting;
-use crate::pool::Pool;
 use allocator_api2::boxed::Box;
 use allocator_api2::vec::Vec;
+use ex_allocators::budget::Budget;
+use ex_allocators::counting::Counting;
+use ex_allocators::pool::Pool;
 use std::alloc::{Allocator, Global};
 use std::test::Fail;
 

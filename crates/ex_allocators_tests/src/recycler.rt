@@ -1,8 +1,8 @@
-use crate::budget::Budget;
-use crate::counting::Counting;
-use crate::recycler::{Kept, Recycler};
 use allocator_api2::boxed::Box;
 use allocator_api2::vec::Vec;
+use ex_allocators::budget::Budget;
+use ex_allocators::counting::Counting;
+use ex_allocators::recycler::{Kept, Recycler};
 use std::alloc::{Allocator, Global};
 use std::test::Fail;
 
