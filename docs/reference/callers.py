@@ -7,11 +7,11 @@ from words import TOP
 
 # A function that calls: its crate, file, name, first line and text.
 Caller = collections.namedtuple("Caller", "crate file name line text calls")
-SKIPPED = {"tests", "faulty"}
+SKIPPED = {"faulty"}
 
 
 def sources():
-    crates = ["guide"] + sorted(it.name for it in (TOP / "crates").glob("ex_*"))
+    crates = ["guide"] + sorted(it.name for it in (TOP / "crates").glob("ex_*") if not it.name.endswith("_tests"))
     for crate in crates:
         for file in sorted((TOP / "crates" / crate / "src").rglob("*.rt")):
             if not SKIPPED & set(file.relative_to(TOP).with_suffix("").parts):

@@ -5,5 +5,3 @@
 pub mod iter;
 pub mod leaves;
 pub mod map;
-#[cfg(test)]
-mod tests;

@@ -4,5 +4,3 @@
 
 pub mod leaf;
 pub mod moves;
-#[cfg(test)]
-mod tests;

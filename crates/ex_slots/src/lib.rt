@@ -5,5 +5,3 @@
 pub mod iter;
 pub mod map;
 pub mod slots;
-#[cfg(test)]
-mod tests;

@@ -5,6 +5,4 @@ pub mod arena;
 pub mod editor;
 pub mod fixed;
 pub mod records;
-#[cfg(test)]
-mod tests;
 pub mod text;

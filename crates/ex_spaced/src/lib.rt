@@ -3,5 +3,3 @@
 
 /// A layer that asks for another layout than it is asked for.
 pub mod spaced;
-#[cfg(test)]
-mod tests;

@@ -5,6 +5,4 @@ pub mod derived;
 pub mod forms;
 pub mod list;
 pub mod search;
-#[cfg(test)]
-mod tests;
 pub mod tree;

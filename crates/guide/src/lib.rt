@@ -18,8 +18,6 @@ pub mod room;
 pub mod rows;
 pub mod sorted;
 pub mod stack;
-#[cfg(test)]
-mod tests;
 pub mod texts;
 
 use allocator_api2::runner::{Command, Reply, run};

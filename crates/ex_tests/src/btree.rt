@@ -1,5 +1,5 @@
-use crate::map::OrderedMap;
 use allocator_api2::vec::Vec;
+use ex_btree::map::OrderedMap;
 use std::alloc::Global;
 use std::mem;
 use test_allocators::Faulty;

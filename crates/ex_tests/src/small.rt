@@ -1,9 +1,9 @@
-use crate::arena::Arena;
-use crate::editor::Editor;
-use crate::fixed::Fixed;
-use crate::records::{decode, encode, push_record};
-use crate::text::TextBuilder;
 use allocator_api2::vec::Vec;
+use ex_small::arena::Arena;
+use ex_small::editor::Editor;
+use ex_small::fixed::Fixed;
+use ex_small::records::{decode, encode, push_record};
+use ex_small::text::TextBuilder;
 use std::alloc::Allocator;
 use std::test::Fail;
 use test_allocators::Faulty;

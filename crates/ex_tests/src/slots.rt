@@ -1,5 +1,5 @@
-use crate::map::SlotMap;
 use allocator_api2::collections::TryReserveErrorKind;
+use ex_slots::map::SlotMap;
 use std::alloc::Global;
 use test_allocators::Faulty;
 

@@ -1,11 +1,11 @@
 //! Lists and trees that are built, changed and dropped.
-use crate::derived::{Link, Sealed, Wood};
-use crate::list::{Node, list_of, pop, push, reversed, total_by_loop};
-use crate::search::{Search, holds, insert};
-use crate::tree::{Tree, add_up, clear, double, leaf, levels, push_child};
 use aa_boxed::boxed::Box;
 use aa_raw::collections::TryReserveErrorKind;
 use aa_vec::vec::Vec;
+use ex_trees::derived::{Link, Sealed, Wood};
+use ex_trees::list::{Node, list_of, pop, push, reversed, total_by_loop};
+use ex_trees::search::{Search, holds, insert};
+use ex_trees::tree::{Tree, add_up, clear, double, leaf, levels, push_child};
 use std::alloc::{AllocError, Allocator, Global};
 use std::fmt::Debug;
 use std::process::Abort;
@@ -51,7 +51,7 @@ fn numbers_in<'a>(heap: &'a Faulty<Global>, count: u32) -> Result<ListIn<'a>, Al
 fn a_list_of_100_000_nodes_is_dropped_by_itself(rt: HostRuntime) -> Result<(), Fail> {
     let heap = Faulty::new(rt.alloc());
     let mut head = numbers_in(&heap, 100_000)?;
-    crate::list::clear(&mut head);
+    ex_trees::list::clear(&mut head);
     assert!(rt; heap.frees() == 100_000 && heap.outstanding() == 0);
     head = numbers_in(&heap, 100_000)?;
     drop(head);

@@ -1,5 +1,5 @@
-use crate::ranges::turn_left;
 use allocator_api2::vec::Vec;
+use guide::ranges::turn_left;
 
 #[test]
 fn four_numbers_are_turned(rt: HostRuntime) {

@@ -1,4 +1,4 @@
-use crate::spaced::Spaced;
+use ex_spaced::spaced::Spaced;
 use ex_watched::counting::Counting;
 use std::alloc::Global;
 use std::test::Fail;
