@@ -107,7 +107,7 @@ module _ {F T : Type 0} (Asks : F → T → T → Bool → F → T → T → Typ
 
 -- there is none
 pub Deduplicates-none : {F T A : Type 0} {Asks : F → T → T → Bool → F → T → T → Type 0} (f : F) (old : Vector T A) → old.items ≡ [] → Deduplicates Asks f old f old
-Deduplicates-none {Asks = Asks} f old none = record { answers = []; left = []; asked = subst (λ xs. Deduplicated Asks f xs [] f []) (sym none) (refl, refl, refl); runs = 0; few = omega arith; becomes = subst (λ l. Becomes old l 0 0 old) none (Becomes-refl old) }
+Deduplicates-none {Asks = Asks} f old none = record { answers = []; left = []; asked = subst (λ xs. Deduplicated Asks f xs [] f []) (sym none) (refl, refl, refl); runs = 0; few = omega arith; fewer = omega arith; becomes = subst (λ l. Becomes old l 0 0 old) none (Becomes-refl old) }
 
 module _ {F T A : Type 0} {Asks : F → T → T → Bool → F → T → T → Type 0} {Takes : F → T → T → Type 0} where
   pub chained-turn : {f h g : F} {old v w : Vector T A} {at end k n : ℕ} → Stage (Told Asks) (May Asks Takes) f (take 1 old.items) (drop 1 old.items) old h v at end → n ≡ len v → ChainsBehind Asks h v (at - n) (end - at) k g w
@@ -120,8 +120,8 @@ module _ {F T A : Type 0} {Asks : F → T → T → Bool → F → T → T → T
       (stage-start (Told Asks) (May Asks Takes) set within all (may_all Asks Takes f old.items (omega (arith, some)) may.along), start-len (Told Asks) (May Asks Takes) set within all)
 
   -- all were asked
-  pub Deduplicates-ended : {f g : F} {old w : Vector T A} {at end : ℕ} → Stage (Told Asks) (May Asks Takes) f (take 1 old.items) (drop 1 old.items) old g w at end → at ≡ end → Deduplicates Asks f old g w
-  Deduplicates-ended {f = f} {g = g} {old = old} {w = w} {at = at} {end = end} s e =
+  pub Deduplicates-ended : {f g : F} {old w : Vector T A} {at end : ℕ} → Stage (Told Asks) (May Asks Takes) f (take 1 old.items) (drop 1 old.items) old g w at end → at ≡ end → end ≡ len old → Deduplicates Asks f old g w
+  Deduplicates-ended {f = f} {g = g} {old = old} {w = w} {at = at} {end = end} s e all =
       let q = stage-ended (Told Asks) (May Asks Takes) f (take 1 old.items) (drop 1 old.items) old g w at end s e (λ yet none m. let p = split_last w.items m.some in rw none (record { front = p.0; last = p.1; answers = []; left = p.1 ∷ []; had = p.2; asked = (refl, refl); stay = refl; all = p.2 })) in let r = q.1 in
       record {
         answers = r.answers;
@@ -129,6 +129,7 @@ module _ {F T A : Type 0} {Asks : F → T → T → Bool → F → T → T → T
         asked = whole Asks Takes f old.items q.0 g w.items r;
         runs = q.2;
         few = omega (arith, q.3, ap removed_count r.stay, removed-not r.answers);
+        fewer = omega (arith, s.here, s.within, all);
         becomes = subst (λ s. Becomes old w.items (kept_behind_removed s) q.2 w) (sym r.stay) q.4;
       }
 

@@ -34,7 +34,7 @@ module _ {Q F T : Type 0} (inner : Q → F) (Outer : Q → T → T → Bool → 
   deduplicated_on q (x ∷ xs) answers r ys d = chained_on q x xs answers r ys d
 
   pub Deduplicates-on : {A : Type 0} (q : Q) (old : Vector T A) (r : Q) (new : Vector T A) → Deduplicates Outer q old r new → Deduplicates Inner (inner q) old (inner r) new
-  Deduplicates-on q old r new h = record { answers = h.answers; left = h.left; asked = deduplicated_on q old.items h.answers r h.left h.asked; runs = h.runs; few = h.few; becomes = h.becomes }
+  Deduplicates-on q old r new h = record { answers = h.answers; left = h.left; asked = deduplicated_on q old.items h.answers r h.left h.asked; runs = h.runs; few = h.few; fewer = h.fewer; becomes = h.becomes }
 
   -- where the other is lent under a name, that each call keeps, x is what is behind that name in the end
   module _ {N : Type 0} (name : Q → N) (keeps : (q : Q) (x l : T) (answer : Bool) (r : Q) (y k : T) → Outer q x l answer r y k → name r ≡ name q) where

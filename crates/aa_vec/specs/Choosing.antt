@@ -3,7 +3,7 @@
 -- left them.
 use denote.Ref.{MutBor, Bor}
 use denote.Param.Members.{Mut}
-use Rattle.std.specs.Prelude.{◌≡◌, ℕ, ◌≤◌, Bool, true, false, not, List, [], ◌∷◌, ◌++◌, ◌⊎◌, map, filter, count_by, ⊤}
+use Rattle.std.specs.Prelude.{◌≡◌, ℕ, ◌≤◌, Bool, true, false, not, List, [], ◌∷◌, ◌++◌, ◌⊎◌, map, filter, count_by, length, ⊤}
 use Rattle.std.specs.Fn.{CalledAt, CalledAtMut}
 use Rattle.aa_vec.specs.Vector.{Vector, Becomes}
 
@@ -126,8 +126,8 @@ module _ {F T : Type 0} (Asks : F → T → T → Bool → F → T → T → Typ
   pub record IsCallableAlong (Takes : F → T → T → Type 0) (f : F) (xs : List T) : Type 0 where
     pub along : MayDeduplicate Takes f xs
 
-  -- new has what is left of old's items without repeats, in the block of old. Those behind the
-  -- first repeat were written, in no more runs than repeats went
+  -- new has what is left of old's items without repeats, no more than there were, in the block of
+  -- old. Those behind the first repeat were written, in no more runs than repeats went
   pub record Deduplicates {A : Type 0} (f : F) (old : Vector T A) (g : F)
       (new : Vector T A) : Type 0 where
     pub answers : List Bool
@@ -135,4 +135,5 @@ module _ {F T : Type 0} (Asks : F → T → T → Bool → F → T → T → Typ
     pub asked : Deduplicated f old.items answers g left
     pub runs : ℕ
     pub few : runs ≤ count_by (λ goes. goes) answers
+    pub fewer : length new.items ≤ length old.items
     pub becomes : Becomes old left (kept_behind_removed (map not answers)) runs new

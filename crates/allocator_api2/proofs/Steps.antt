@@ -8,7 +8,7 @@ use Rattle.aa_vec.specs.Extend.{grows, stays}
 use Rattle.aa_vec.proofs.GrowthLemmas.{MakesRoom, MakesRoom-has, MakesRoom-rises, MakesRoom-stays, SameBlock-refl, asks, block_of, grown_room}
 use Rattle.aa_vec.specs.Vector.{Becomes, with_room}
 use Rattle.aa_vec.proofs.Becoming.{GrowsTo-becomes, Holds-becomes}
-use Rattle.allocator_api2.proofs.Kept.{length-kept, length-deduplicated}
+use Rattle.allocator_api2.proofs.Kept.{length-kept}
 use Rattle.allocator_api2.proofs.ExtractParts.{length-taken_out}
 use Rattle.allocator_api2.proofs.Ranges.{length-left_of}
 use Rattle.allocator_api2.specs.Machine.{InRange, Makes, Leaves, ends_of}
@@ -105,7 +105,7 @@ module _ {T A : Type 0} (size : ℕ) where
     change_of old Retain answers reply new a s =
         let r = s.retains in holds old.main 0 _ new.main (omega (arith, length-kept calls.keeps old.keep old.main.items r.told new.keep r.asked)) (Holds-becomes _ _ _ _ _ r.becomes)
     change_of old Dedup answers reply new a s =
-        let r = s.removes in holds old.main 0 _ new.main (omega (arith, length-deduplicated calls.repeats old.same old.main.items r.answers new.same r.left r.asked)) (Holds-becomes _ _ _ _ _ r.becomes)
+        let r = s.removes in holds old.main 0 _ new.main (omega (arith, r.fewer, ap (λ v. length v.items) r.becomes)) (Holds-becomes _ _ _ _ _ r.becomes)
     change_of old (ExtractIf start end count) answers Done new a s =
         let t = s.takes in holds old.main 0 _ new.main (omega (arith, length-taken_out calls.keeps size old start end count new s.in_range.0 s.in_range.1 t)) t.leaves
     change_of old command answers reply new a s = change_lists (¬ (calls.sure old.main.alloc)) old.main old.side command reply new.main new.side a s.lists

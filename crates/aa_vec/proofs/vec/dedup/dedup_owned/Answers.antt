@@ -12,7 +12,7 @@ chain_behind-first-requires g c =
 pub returns-then-end-at-clause-removes : goal.returns-then-end-at-clause-removes
 returns-then-end-at-clause-removes g c =
     let s = chained-start c.set_back-left.result c.set_back-left.ensures.set_back c.set_back-left.ensures.count c.len-end.ensures.count c.requires in
-    Deduplicates-ended s.0 (omega (arith, s.0.within, c.if-end-at.true))
+    Deduplicates-ended s.0 (omega (arith, s.0.within, c.if-end-at.true)) c.len-end.ensures.count
 
 pub step_over_any-requires : goal.step_over_any-requires
 step_over_any-requires g c =
@@ -43,7 +43,7 @@ runs-smaller g c =
     omega (arith, p.1 (omega (arith, c.runs-test.true)), p.0.within)
 
 pub returns-then-end-at-2-clause-removes : goal.returns-then-end-at-2-clause-removes
-returns-then-end-at-2-clause-removes g c = Deduplicates-ended c.runs.invariant.0 (omega (arith, c.if-end-at-2.true, c.runs.invariant.0.within))
+returns-then-end-at-2-clause-removes g c = Deduplicates-ended c.runs.invariant.0 (omega (arith, c.if-end-at-2.true, c.runs.invariant.0.within)) c.len-end.ensures.count
 
 pub chain_behind-rest-requires : goal.chain_behind-rest-requires
 chain_behind-rest-requires g c =
@@ -58,4 +58,4 @@ step_over_any-requires-2 g c =
 pub returns-clause-removes : goal.returns-clause-removes
 returns-clause-removes g c =
     let p = (chained-turn c.runs.invariant.0 c.len-2.ensures.count c.chain_behind-rest.ensures).2 _ _ c.step_over_any-2.ensures in
-    Deduplicates-ended p.0 (omega (arith, p.1 (omega (arith, c.if-end-at-2.false)), p.0.within, c.runs-test.false))
+    Deduplicates-ended p.0 (omega (arith, p.1 (omega (arith, c.if-end-at-2.false)), p.0.within, c.runs-test.false)) c.len-end.ensures.count
