@@ -1,22 +1,18 @@
 -- What `dedup_by_key` and its like leave by a closure that answers for each pair alike and changes nothing.
 use denote.Param.Members.{Mut}
 use denote.Ref.{MutBor}
-use Rattle.std.proofs.Common.{◌≡◌, ℕ, ◌≤◌, Bool, nat_eq, ap, length, ◌∙◌}
+use Rattle.std.proofs.Common.{◌≡◌, ℕ, ◌≤◌, Bool, nat_eq, length, ◌∙◌}
 use Rattle.std.specs.Fn.{CalledAtMut, ComparesKeys}
 use Rattle.std.specs.List.{dedup}
 use Rattle.aa_vec.specs.Choosing.{Deduplicates}
 use Rattle.aa_vec.specs.Vector.{Vector}
-use Rattle.aa_vec.proofs.Steady.{deduplicated-steady}
+pub use Rattle.aa_vec.proofs.Steady.{Deduplicates_dedup}
 
 -- no more are left than there were
 pub Deduplicates_fewer : {F T A : Type 0} (Asks : F → T → T → Bool → F → T → T → Type 0) (f : F) (old : Vector T A) (g : F) (new : Vector T A) → Deduplicates Asks f old g new → length new.items ≤ length old.items
 Deduplicates_fewer Asks f old g new d = d.fewer
 
-pub Deduplicates_dedup : {F T A : Type 0} (Asks : F → T → T → Bool → F → T → T → Type 0) (same : T → T → Bool) (f : F) (old : Vector T A) (g : F) (new : Vector T A) → Deduplicates Asks f old g new
-    → ((f : F) (x l : T) (answer : Bool) (g : F) (y k : T) → Asks f x l answer g y k → (answer ≡ same x l) × (y ≡ x) × (k ≡ l)) → new.items ≡ dedup same old.items
-Deduplicates_dedup Asks same f old g new d steady = ap (λ v. v.items) d.becomes ∙ deduplicated-steady Asks same steady f old.items d.answers g d.left d.asked
-
--- and by one that reads a number off each element
+-- by a closure that reads a number off each element
 pub Deduplicates_numbers : {F T A : Type 0} (asks : Mut F (MutBor T × Unit {0}) (ℕ × (MutBor T × Unit {0}))) (key : T → ℕ) (f : F) (old : Vector T A) (g : F) (new : Vector T A) → Deduplicates (ComparesKeys asks nat_eq) f old g new
     → ((f : F) (x : T) (k : ℕ) (g : F) (y : T) → CalledAtMut asks f x k g y → (k ≡ key x) × (y ≡ x)) → new.items ≡ dedup (λ x y. nat_eq (key x) (key y)) old.items
 Deduplicates_numbers asks key f old g new d reads =

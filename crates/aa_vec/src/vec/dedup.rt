@@ -1,5 +1,5 @@
 //! Repeats that are dropped.
-ghost use Rattle.std.specs.Prelude.{◌≡◌, ◌+◌, ◌-◌, ◌<◌, [], ◌∷◌, ◌++◌, List, drop, length};
+ghost use Rattle.std.specs.Prelude.{◌≡◌, Bool, ◌+◌, ◌-◌, ◌<◌, [], ◌∷◌, ◌++◌, List, drop, length};
 ghost use Rattle.std.specs.List.{dedup};
 ghost use Rattle.std.specs.Fn.{CalledAtPairMut, ComparesKeys};
 ghost use Rattle.aa_raw.specs.Closures.{TakesPairMut};
@@ -21,7 +21,11 @@ impl<T: Drop, A: Allocator> Vec<T, A> {
     pub fn dedup_by_key<K: PartialEq + Drop, F: FnMut(&mut T) -> K + Drop>(&mut self, mut key: F)
         requires { IsCallableAlong (ComparesKeys F.FnMut K.eq)
             (TakesForKeys F.FnMut) key self.old.items }
-        ensures { (last : F) × Deduplicates (ComparesKeys F.FnMut K.eq) key self.old last self.new }
+        ensures removed { (last : F)
+            × Deduplicates (ComparesKeys F.FnMut K.eq) key self.old last self.new }
+        ensures steady { (same : T → T → Bool) → ((f : F) (x l : T) (answer : Bool) (g : F) (y k : T)
+            → ComparesKeys F.FnMut K.eq f x l answer g y k
+            → (answer ≡ same x l) × (y ≡ x) × (k ≡ l)) → self.new.items ≡ dedup same self.old.items }
     {
         self.dedup_within_key(&mut key);
     }
@@ -57,7 +61,11 @@ impl<T: Drop, A: Allocator> Vec<T, A> {
     pub fn dedup_within_key<K: PartialEq + Drop, F: FnMut(&mut T) -> K>(&mut self, key: &mut F)
         requires { IsCallableAlong (ComparesKeys F.FnMut K.eq) (TakesForKeys F.FnMut)
             key.old self.old.items }
-        ensures { Deduplicates (ComparesKeys F.FnMut K.eq) key.old self.old key.new self.new }
+        ensures removed { Deduplicates (ComparesKeys F.FnMut K.eq)
+            key.old self.old key.new self.new }
+        ensures steady { (same : T → T → Bool) → ((f : F) (x l : T) (answer : Bool) (g : F) (y k : T)
+            → ComparesKeys F.FnMut K.eq f x l answer g y k
+            → (answer ≡ same x l) × (y ≡ x) × (k ≡ l)) → self.new.items ≡ dedup same self.old.items }
     {
         self.dedup_within(
             &mut move |element: &mut T, last: &mut T|
@@ -73,6 +81,7 @@ impl<T: Drop, A: Allocator> Vec<T, A> {
 impl<T: PartialEq + Drop, A: Allocator> Vec<T, A> {
     /// Drops each element that equals the last one that was kept before it. The order and the
     /// capacity stay; it takes no memory. It stands for `Vec::dedup`.
+    #[tactic(auto, using(crate::proofs::Callers::callers))]
     pub fn dedup(&mut self)
         ensures items { self.new.items ≡ dedup T.eq self.old.items }
         ensures removed { Deduplicates (Equals T.eq) tt self.old tt self.new }
