@@ -1,7 +1,9 @@
-//! Tests of the smaller examples and of the guide's callers, a module for each crate; no part of
-//! these.
+//! Tests of the smaller examples, of the guide's callers and of the bench's cases, a module for
+//! each crate; no part of these.
 #![tactic(auto)]
 
+#[cfg(test)]
+mod benchcases;
 #[cfg(test)]
 mod btree;
 #[cfg(test)]

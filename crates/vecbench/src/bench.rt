@@ -2,8 +2,8 @@
 ghost use Rattle.std.specs.Prelude.{◌≡◌, Some};
 ghost use Rattle.vecbench.specs.Faults.{IsFaultOf, status_of, fault_text};
 
-use crate::lines::{Mode, Task, task_of};
 use crate::{ours, standard};
+use benchcases::lines::{Mode, Task, task_of};
 use std::alloc::Global;
 use std::io::ErrorKind;
 use std::rt::Clock;

@@ -217,14 +217,10 @@ macro_rules! window_summed {
 }
 
 mod bench;
-mod case;
 mod checksum;
 mod element;
-mod lines;
 mod ours;
 mod standard;
-#[cfg(test)]
-mod tests;
 
 use std::process::ExitCode;
 

@@ -5,14 +5,14 @@ mod collections;
 mod users;
 
 use crate::bench::Lists;
-use crate::case::{Call, Case, Choice, Pieces, Size};
 use crate::checksum::checksum_from;
 use crate::element::{Element, Wide};
-use crate::lines::Task;
 use crate::ours::collections::Held;
 use crate::ours::users::Users;
 use allocator_api2::gap_buffer::GapBuffer;
 use allocator_api2::vec::Vec;
+use benchcases::case::{Call, Case, Choice, Pieces, Size};
+use benchcases::lines::Task;
 use std::alloc::Global;
 use std::io::Write;
 use std::mem::replace;

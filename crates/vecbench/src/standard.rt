@@ -5,12 +5,12 @@ mod collections;
 mod users;
 
 use crate::bench::Lists;
-use crate::case::{Call, Case, Choice, Pieces, Size};
 use crate::checksum::checksum_from;
 use crate::element::{Element, Wide};
-use crate::lines::Task;
 use crate::standard::collections::Held;
 use crate::standard::users::Users;
+use benchcases::case::{Call, Case, Choice, Pieces, Size};
+use benchcases::lines::Task;
 use std::alloc::Global;
 use std::io::Write;
 use std::mem::replace;

@@ -1,8 +1,8 @@
 //! The cases over this repository's table, ring and small vector.
 
-use crate::case::Collection;
 use crate::checksum::checksum_from;
 use allocator_api2::vec::Vec;
+use benchcases::case::Collection;
 use ex_inline::inline::InlineVec;
 use ex_ring::ring::Ring;
 use ex_table::table::Table;

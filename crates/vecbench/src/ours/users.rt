@@ -1,11 +1,11 @@
 //! What programs do with vectors, over this library's vector.
 
-use crate::case::Use;
 use crate::checksum::checksum_from;
 use crate::element::Element;
 use crate::ours::{fill, fill_at_random};
 use allocator_api2::boxed::Box;
 use allocator_api2::vec::Vec;
+use benchcases::case::Use;
 use std::alloc::Global;
 use std::io::Write;
 use std::mem::replace;

@@ -1,7 +1,7 @@
 //! The cases over the toolchain's own map, queue and vector.
 
-use crate::case::Collection;
 use crate::checksum::checksum_from;
+use benchcases::case::Collection;
 use std::alloc::Global;
 use std::collections::{HashMap, VecDeque};
 

@@ -1,9 +1,9 @@
 //! What programs do with vectors, over the toolchain's own vector.
 
-use crate::case::Use;
 use crate::checksum::checksum_from;
 use crate::element::Element;
 use crate::standard::{fill, fill_at_random};
+use benchcases::case::Use;
 use std::alloc::Global;
 use std::io::Write;
 use std::mem::replace;

@@ -1,19 +1,19 @@
 -- What the cases are called.
 use Rattle.std.specs.Prelude.{ℕ, List, codes, ◌++◌}
-use Rattle.vecbench.specs.declared.case.Case.{Case}
-use Rattle.vecbench.specs.declared.case.Case.TheVariants.{Sized, Chosen, Pieces as PiecesCase, Held, Used, PushPop, PushReserved, PushFull, FibPush, RetainWide, InsertFront, RemoveFront, SwapRemove, ExtendFromSlice, Extend, ExtendUnhinted, ExtendThrice, Append, SplitJoin, DrainTaken, DrainDropped, DrainFront, DrainBack, IntoIter, SpliceGrowing, SpliceInPlace, SpliceFront, InsertMiddle, GapInsert, GapTyping}
-use Rattle.vecbench.specs.declared.case.Call.{Call}
-use Rattle.vecbench.specs.declared.case.Call.TheVariants.{Push, InsertPop, RemovePush, Clone}
-use Rattle.vecbench.specs.declared.case.Choice.{Choice}
-use Rattle.vecbench.specs.declared.case.Choice.TheVariants.{RetainHalf, RetainMost, RetainRandom, RetainNone, ExtractHalf, Dedup, DedupByKey}
-use Rattle.vecbench.specs.declared.case.Pieces.{Pieces}
-use Rattle.vecbench.specs.declared.case.Pieces.TheVariants.{OfFour, OfTwenty, Mixed, Written}
-use Rattle.vecbench.specs.declared.case.Collection.{Collection}
-use Rattle.vecbench.specs.declared.case.Collection.TheVariants.{TableInsert, TableHit, TableMiss, TableRemove, RingQueue, RingPush, InlineFew}
-use Rattle.vecbench.specs.declared.case.Use.{Use}
-use Rattle.vecbench.specs.declared.case.Use.TheVariants.{Serialise, Tokenize, Lines, Lru, Merge, DedupTexts, TextTable, InsertSorted, Grid, Boxes, Window}
-use Rattle.vecbench.specs.declared.case.Size.{Size}
-use Rattle.vecbench.specs.declared.case.Size.TheVariants.{Four, One, TwentyFour, Zero}
+use Rattle.benchcases.specs.declared.case.Case.{Case}
+use Rattle.benchcases.specs.declared.case.Case.TheVariants.{Sized, Chosen, Pieces as PiecesCase, Held, Used, PushPop, PushReserved, PushFull, FibPush, RetainWide, InsertFront, RemoveFront, SwapRemove, ExtendFromSlice, Extend, ExtendUnhinted, ExtendThrice, Append, SplitJoin, DrainTaken, DrainDropped, DrainFront, DrainBack, IntoIter, SpliceGrowing, SpliceInPlace, SpliceFront, InsertMiddle, GapInsert, GapTyping}
+use Rattle.benchcases.specs.declared.case.Call.{Call}
+use Rattle.benchcases.specs.declared.case.Call.TheVariants.{Push, InsertPop, RemovePush, Clone}
+use Rattle.benchcases.specs.declared.case.Choice.{Choice}
+use Rattle.benchcases.specs.declared.case.Choice.TheVariants.{RetainHalf, RetainMost, RetainRandom, RetainNone, ExtractHalf, Dedup, DedupByKey}
+use Rattle.benchcases.specs.declared.case.Pieces.{Pieces}
+use Rattle.benchcases.specs.declared.case.Pieces.TheVariants.{OfFour, OfTwenty, Mixed, Written}
+use Rattle.benchcases.specs.declared.case.Collection.{Collection}
+use Rattle.benchcases.specs.declared.case.Collection.TheVariants.{TableInsert, TableHit, TableMiss, TableRemove, RingQueue, RingPush, InlineFew}
+use Rattle.benchcases.specs.declared.case.Use.{Use}
+use Rattle.benchcases.specs.declared.case.Use.TheVariants.{Serialise, Tokenize, Lines, Lru, Merge, DedupTexts, TextTable, InsertSorted, Grid, Boxes, Window}
+use Rattle.benchcases.specs.declared.case.Size.{Size}
+use Rattle.benchcases.specs.declared.case.Size.TheVariants.{Four, One, TwentyFour, Zero}
 
 abbrev pub name_of_call : Call → List ℕ
 name_of_call Push = codes "push"

@@ -1,6 +1,6 @@
 //! Which lines are tasks.
-use crate::case::{Call, Case, Choice, Collection, Pieces, Size, Use};
-use crate::lines::{Mode, Task, task_of};
+use benchcases::case::{Call, Case, Choice, Collection, Pieces, Size, Use};
+use benchcases::lines::{Mode, Task, task_of};
 
 #[test]
 fn a_line_is_a_task_or_nothing(rt: HostRuntime) {

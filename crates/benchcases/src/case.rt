@@ -1,7 +1,7 @@
 //! The cases, by their names.
 ghost use Rattle.std.specs.Prelude.{◌≡◌, ◌≢◌, ◌++◌, Some, IfSome, IfNone};
-ghost use Rattle.vecbench.specs.Cases.{name_of, name_of_call, suffix_of, name_of_choice};
-ghost use Rattle.vecbench.specs.Cases.{name_of_pieces, name_of_collection, name_of_use};
+ghost use Rattle.benchcases.specs.Cases.{name_of, name_of_call, suffix_of, name_of_choice};
+ghost use Rattle.benchcases.specs.Cases.{name_of_pieces, name_of_collection, name_of_use};
 
 use std::fmt;
 
