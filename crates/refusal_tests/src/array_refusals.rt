@@ -13,22 +13,30 @@ use test_allocators::counted::Counted;
 use test_allocators::refusing::Refusing;
 
 #[test]
-fn the_macro_makes_vectors(rt: HostRuntime) -> Result<(), Fail> {
+fn the_macro_makes_an_empty_vector(rt: HostRuntime) {
     let heap = Faulty::new(rt.alloc());
     let none: Vec<u32, &Faulty<Global>> = vec_of![in &heap];
     assert!(rt; none.capacity() == 0);
     assert!(rt; heap.requests() == 0);
-    let sevens: Vec<u32, &Faulty<Global>> = vec_of![in &heap; 7; 3]?;
-    assert!(rt; stands(&sevens, &[7, 7, 7], 3));
-    let two: Vec<u32, &Faulty<Global>> = vec_of![in &heap; 1, 2]?;
-    assert!(rt; stands(&two, &[1, 2], 2));
+}
+
+#[test]
+fn the_macro_makes_vectors(rt: HostRuntime) -> Result<(), Fail> {
+    let heap = Faulty::new(rt.alloc());
+    assert!(rt; stands(&vec_of![in &heap; 7u32; 3]?, &[7, 7, 7], 3));
+    assert!(rt; stands(&vec_of![in &heap; 1u32, 2]?, &[1, 2], 2));
+    Ok(())
+}
+
+#[test]
+fn the_macro_hands_its_elements_back(rt: HostRuntime) {
+    let heap = Faulty::new(rt.alloc());
     heap.refuse(0, 1);
     let Err(refusal) = vec_of![in &heap; 8, 9] else {
-        return Ok(assert!(rt; false));
+        return assert!(rt; false);
     };
     assert!(rt; refusal.source == [8, 9]);
     assert!(rt; end_by(refusal.error) == End::NoMemory(2));
-    Ok(())
 }
 
 // Two pairs.
@@ -139,37 +147,52 @@ fn a_refused_array_is_handed_back(rt: HostRuntime) {
     assert!(rt; (drops.get(), heap.outstanding()) == (3, 0));
 }
 
-// Takes three counted elements from an array to a boxed slice, an array in a box, a boxed slice, an
-// array in a box and a vector, while the request numbered `refused` fails: how many of the five
-// were done.
-fn carried(heap: &Faulty<Global>, drops: &Cell<u32>, refused: u64) -> u32 {
-    heap.refuse(refused, 1);
+// What an array in a box becomes.
+#[derive(Clone, Copy)]
+enum Made {
+    List,
+    Vector,
+}
+
+// Three counted elements from an array in a boxed slice, and from that in a box; else how many of
+// the two were done.
+fn array_in_box<'a>(
+    heap: &'a Faulty<Global>,
+    drops: &'a Cell<u32>,
+) -> Result<Box<[Counted<'a>; 3], &'a Faulty<Global>>, u32> {
     let Ok(list) = BoxedSlice::from_array_in(three(drops), heap) else {
-        return 0;
+        return Err(0);
     };
-    let Ok(array) = list.try_into_array::<3>() else {
-        return 1;
-    };
-    let Ok(list) = Box::slice(array) else {
-        return 2;
-    };
-    let Ok(array) = list.try_into_array::<3>() else {
-        return 3;
-    };
-    match array.into_vec() {
-        Ok(_) => 5,
-        Err(_) => 4,
+    match list.try_into_array::<3>() {
+        Ok(array) => Ok(array),
+        Err(_) => Err(1),
     }
+}
+
+// Takes them on, while the request numbered `refused` fails: how many of the three were done.
+fn carried(heap: &Faulty<Global>, drops: &Cell<u32>, made: Made, refused: u64) -> u32 {
+    heap.refuse(refused, 1);
+    let array = match array_in_box(heap, drops) {
+        Ok(array) => array,
+        Err(done) => return done,
+    };
+    let is_done = match made {
+        Made::List => Box::slice(array).is_ok(),
+        Made::Vector => array.into_vec().is_ok(),
+    };
+    if is_done { 3 } else { 2 }
 }
 
 #[test]
 fn each_request_of_conversions_is_refused_in_turn(rt: HostRuntime) {
     let heap = Faulty::new(rt.alloc());
     let drops = Cell::new(0);
-    for (refused, done) in [(0, 0), (1, 1), (2, 2), (3, 3), (4, 4), (5, 5)] {
-        drops.set(0);
-        assert!(rt; carried(&heap, &drops, refused) == done);
-        assert!(rt; (drops.get(), heap.outstanding()) == (3, 0));
+    for made in [Made::List, Made::Vector] {
+        for (refused, done) in [(0, 0), (1, 1), (2, 2), (3, 3)] {
+            drops.set(0);
+            assert!(rt; carried(&heap, &drops, made, refused) == done);
+            assert!(rt; (drops.get(), heap.outstanding()) == (3, 0));
+        }
     }
 }
 

@@ -141,21 +141,30 @@ fn a_full_vector_goes_to_a_slice_and_back_without_memory(rt: HostRuntime) -> Res
     Ok(())
 }
 
+// How it ends to put these texts, each in a box, behind others.
+fn end_of_texts(
+    all: &mut String<&Faulty<Global>>,
+    alloc: Global,
+    texts: &[&str],
+) -> Result<End, Fail> {
+    let mut boxed = std::vec::Vec::new(alloc);
+    for text in texts {
+        boxed.push(BoxedText::from_text(alloc, text)?)?;
+    }
+    Ok(end_of(append_texts(all, boxed.into_iter())))
+}
+
 #[test]
 fn a_refused_text_leaves_those_before_it(rt: HostRuntime) -> Result<(), Fail> {
     let heap = Faulty::new(rt.alloc());
     let mut all: String<&Faulty<Global>> = String::with_capacity(&heap, 2)?;
     all.push_str("a")?;
     let long = "c".repeat(rt.alloc(), 40)?;
-    let texts = [
-        BoxedText::from_text(rt.alloc(), "b")?,
-        BoxedText::from_text(rt.alloc(), long.as_str())?,
-    ];
     heap.refuse(0, 1);
-    assert!(rt; end_of(append_texts(&mut all, texts.into_iter())) == End::NoMemory(42));
+    let both = ["b", long.as_str()];
+    assert!(rt; end_of_texts(&mut all, rt.alloc(), &both)? == End::NoMemory(42));
     assert!(rt; all.as_str() == "ab");
-    let more = [BoxedText::from_text(rt.alloc(), long.as_str())?];
-    append_texts(&mut all, more.into_iter())?;
+    assert!(rt; end_of_texts(&mut all, rt.alloc(), &[long.as_str()])? == End::Done);
     assert!(rt; all.len() == 42);
     Ok(())
 }

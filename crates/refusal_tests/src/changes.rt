@@ -168,7 +168,8 @@ fn each_request_of_a_change_is_refused_in_turn(rt: HostRuntime) -> Result<(), Fa
     Ok(())
 }
 
-// Where the first request would be refused, and there is none.
+// Where the first request would be refused, and there is none. The one element more of a resize is
+// the value itself.
 #[test]
 fn what_fits_asks_for_nothing(rt: HostRuntime) -> Result<(), Fail> {
     for (call, room, done, capacity) in [
@@ -182,6 +183,7 @@ fn what_fits_asks_for_nothing(rt: HostRuntime) -> Result<(), Fail> {
         (Call::ShrinkToFitCleared, 10, 0, 0),
         (Call::Append, 6, 123456, 6),
         (Call::Resize(1), 3, 1, 3),
+        (Call::Resize(4), 4, 1239, 4),
         (Call::Extend, 6, 123456, 6),
     ] {
         let left = (End::Done, done, capacity, 0, 0);
@@ -249,12 +251,14 @@ fn a_refused_extension_takes_one_item_more(rt: HostRuntime) -> Result<(), Fail> 
     let mut v = numbers(&heap, &[1, 2], 2)?;
     let mut more = 3..6;
     heap.refuse(0, 1);
-    assert!(rt; end_of(v.extend_by(&mut more)) == End::NoMemory(5));
-    assert!(rt; stands(&v, &[1, 2], 2));
-    assert!(rt; more.next() == Some(4));
-    v.extend_by(&mut more)?;
-    assert!(rt; stands(&v, &[1, 2, 5], 4));
-    assert!(rt; more.next() == None);
+    for (end, left, capacity, next) in [
+        (End::NoMemory(5), [1, 2].as_slice(), 2, Some(4)),
+        (End::Done, [1, 2, 5].as_slice(), 4, None),
+    ] {
+        assert!(rt; end_of(v.extend_by(&mut more)) == end);
+        assert!(rt; stands(&v, left, capacity));
+        assert!(rt; more.next() == next);
+    }
     Ok(())
 }
 
@@ -263,44 +267,6 @@ fn units(count: usize) -> Result<Vec<(), Refusing>, TryReserveError> {
     let mut v = Vec::with_capacity_in(count, Refusing)?;
     v.resize(count, ())?;
     Ok(v)
-}
-
-// All memory is refused.
-#[test]
-fn units_are_pushed_drained_cut_and_extended(rt: HostRuntime) -> Result<(), Fail> {
-    let mut v = Vec::with_capacity_in(5, Refusing)?;
-    for _ in 0..3 {
-        assert!(rt; v.push(()).is_ok());
-    }
-    if v.len() != 3 {
-        return Ok(assert!(rt; false));
-    }
-    drop(v.drain(1..2));
-    if v.len() != 2 {
-        return Ok(assert!(rt; false));
-    }
-    let tail = v.split_off(1)?;
-    v.extend_hinted(Items::new(units(1)?, Some(usize::MAX)))?;
-    assert!(rt; (v.len(), v.capacity()) == (2, usize::MAX));
-    assert!(rt; (tail.len(), tail.capacity()) == (1, usize::MAX));
-    Ok(())
-}
-
-// Behind the room that there is, all memory is refused.
-#[test]
-fn the_push_past_the_capacity_hands_its_value_back(rt: HostRuntime) -> Result<(), Fail> {
-    let heap = Faulty::new(rt.alloc());
-    let mut v = numbers(&heap, &[], 4)?;
-    heap.refuse(0, u64::MAX);
-    for x in 1..5 {
-        assert!(rt; v.push(x).is_ok());
-    }
-    match handed(v.push(5)) {
-        (End::NoMemory(capacity), Some(back)) => assert!(rt; capacity >= 5 && back == 5),
-        _ => assert!(rt; false),
-    }
-    assert!(rt; stands(&v, &[1, 2, 3, 4], 4));
-    Ok(())
 }
 
 #[test]
@@ -312,19 +278,6 @@ fn a_refused_append_leaves_both_vectors(rt: HostRuntime) -> Result<(), Fail> {
     assert!(rt; v.append(&mut other).is_err());
     assert!(rt; stands(&v, &[1, 2], 2));
     assert!(rt; stands(&other, &[3], 4));
-    Ok(())
-}
-
-// The one element more is the value itself.
-#[test]
-fn a_resize_by_one_clones_nothing(rt: HostRuntime) -> Result<(), Fail> {
-    let heap = Faulty::new(rt.alloc());
-    let mut v = held(&heap, &[1], 4)?;
-    let one = Box::new_in(9, &heap)?;
-    heap.refuse(0, u64::MAX);
-    assert!(rt; one.clone().is_err());
-    assert!(rt; v.resize(2, one).is_ok());
-    assert!(rt; (digits(&v), v.capacity()) == (19, 4));
     Ok(())
 }
 

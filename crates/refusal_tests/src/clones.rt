@@ -10,34 +10,37 @@ use std::test::Fail;
 use test_allocators::Faulty;
 
 // Asks for one more than `requests` requests of a clone, each but the last refused: whether all
-// were refused and the last was done.
-fn refuses_each<T: Clone + Drop>(heap: &Faulty<Global>, source: &T, requests: u64) -> bool {
+// were refused and the last was done. What was cloned is dropped.
+fn refuses_each<T: Clone + Drop>(heap: &Faulty<Global>, source: T, requests: u64) -> bool {
     let mut all = true;
     for refused in 0..requests {
         heap.refuse(refused, 1);
-        all = all && Clone::clone(source).is_err();
+        all = all && Clone::clone(&source).is_err();
     }
     heap.refuse(requests, 1);
-    let done = Clone::clone(source).is_ok();
+    let done = Clone::clone(&source).is_ok();
     heap.refuse(0, 0);
     all && done
 }
 
 #[test]
-fn each_request_of_a_clone_of_the_trait_is_refused_in_turn(rt: HostRuntime) -> Result<(), Fail> {
+fn each_request_of_a_clone_by_the_trait_is_refused_in_turn(rt: HostRuntime) -> Result<(), Fail> {
     let heap = Faulty::new(rt.alloc());
-    let list = held(&heap, &[1, 2, 3], 5)?;
-    assert!(rt; refuses_each(&heap, &list, 4));
-    let items = list.into_iter();
-    assert!(rt; refuses_each(&heap, &items, 4));
-    drop(items);
+    assert!(rt; refuses_each(&heap, held(&heap, &[1, 2, 3], 5)?, 4));
+    assert!(rt; refuses_each(&heap, held(&heap, &[1, 2, 3], 5)?.into_iter(), 4));
     assert!(rt; is_given_back(&heap));
+    Ok(())
+}
+
+#[test]
+fn each_request_of_a_boxed_clone_by_the_trait_is_refused_in_turn(
+    rt: HostRuntime,
+) -> Result<(), Fail> {
+    let heap = Faulty::new(rt.alloc());
     let list = held(&heap, &[1, 2, 3], 3)?.into_boxed_slice()?;
-    assert!(rt; refuses_each(&heap, &list, 4));
-    drop(list);
+    assert!(rt; refuses_each(&heap, list, 4));
     let in_box = Box::new_in(held(&heap, &[1, 2, 3], 5)?, &heap)?;
-    assert!(rt; refuses_each(&heap, &in_box, 5));
-    drop(in_box);
+    assert!(rt; refuses_each(&heap, in_box, 5));
     assert!(rt; is_given_back(&heap));
     Ok(())
 }

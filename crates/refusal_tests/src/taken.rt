@@ -49,6 +49,24 @@ enum Call {
     FromIterIn,
 }
 
+// How a call ends on a vector that is given these items, or the numbers 4 to 8 lent.
+fn called<'a>(
+    call: Call,
+    v: &mut Vec<u32, &'a Faulty<Global>>,
+    items: Watched<'_, Items<u32, &'a Faulty<Global>>>,
+) -> End {
+    let calls = items.calls;
+    match call {
+        Call::Extend => end_of(v.extend(items)),
+        Call::ExtendHinted => end_of(v.extend_hinted(items)),
+        Call::ExtendCopied => end_of(v.extend_copied(Watched {
+            inner: [4, 5, 6, 7, 8].iter(),
+            calls,
+        })),
+        Call::FromIterIn => end_of_made(Vec::from_iter_in(items, *v.allocator())),
+    }
+}
+
 // How a call ends that is given five numbers, of which none is told but to `extend_copied`, for a
 // vector of three with room for five, or a new one; and how often it asks for a number. The request
 // numbered `refused` fails.
@@ -62,15 +80,7 @@ fn seen(alloc: Global, call: Call, refused: u64) -> Result<(End, u32), Fail> {
         calls: &calls,
     };
     heap.refuse(refused, 1);
-    let end = match call {
-        Call::Extend => end_of(v.extend(items)),
-        Call::ExtendHinted => end_of(v.extend_hinted(items)),
-        Call::ExtendCopied => end_of(v.extend_copied(Watched {
-            inner: [4, 5, 6, 7, 8].iter(),
-            calls: &calls,
-        })),
-        Call::FromIterIn => end_of_made(Vec::from_iter_in(items, &heap)),
-    };
+    let end = called(call, &mut v, items);
     Ok((end, calls.get()))
 }
 
@@ -106,18 +116,30 @@ fn a_vector_that_would_be_too_long_takes_one_item(rt: HostRuntime) {
 }
 
 #[test]
-fn a_refused_call_leaves_the_others_in_an_iterator_that_is_lent(
+fn a_refused_extension_leaves_the_others_in_an_iterator_that_is_lent(
     rt: HostRuntime,
 ) -> Result<(), Fail> {
     let heap = Faulty::new(rt.alloc());
     let mut v = numbers(&heap, &[1, 2], 3)?;
-    let mut lent = [3, 4, 5, 6].iter();
+    let four = [3, 4, 5, 6];
+    let mut lent = four.iter();
     heap.refuse(0, 1);
-    assert!(rt; end_of(v.extend_copied_by(&mut lent)) == End::NoMemory(6));
-    assert!(rt; stands(&v, &[1, 2, 3], 3));
-    assert!(rt; lent.next() == Some(&5));
-    v.extend_copied_by(&mut lent)?;
-    assert!(rt; stands(&v, &[1, 2, 3, 6], 6));
+    for (end, left, capacity, next) in [
+        (End::NoMemory(6), [1, 2, 3].as_slice(), 3, four.get(2)),
+        (End::Done, [1, 2, 3, 6].as_slice(), 6, None),
+    ] {
+        assert!(rt; end_of(v.extend_copied_by(&mut lent)) == end);
+        assert!(rt; stands(&v, left, capacity));
+        assert!(rt; lent.next() == next);
+    }
+    Ok(())
+}
+
+#[test]
+fn a_refused_vector_leaves_the_others_in_an_iterator_that_is_lent(
+    rt: HostRuntime,
+) -> Result<(), Fail> {
+    let heap = Faulty::new(rt.alloc());
     let mut lent = 1u32..5;
     heap.refuse(0, 1);
     assert!(rt; end_of_made(Vec::from_iter_in_by(&mut lent, &heap)) == End::NoMemory(4));
