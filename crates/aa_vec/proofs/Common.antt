@@ -12,7 +12,7 @@ pub use Rattle.aa_raw.specs.declared.raw_vec.Growth.{Growth}
 pub use Rattle.aa_raw.specs.declared.raw_vec.Growth.TheVariants.{Doubling, Sparing}
 pub use Rattle.aa_vec.specs.Arrays.{flattened}
 pub use Rattle.aa_vec.specs.Behind.{ClosesGap, ClosesTwice, DropsBehind, LeavesBehind, MovesDown, SetsBack, StandsBehind, behind_items, with_behind}
-pub use Rattle.aa_vec.specs.Choosing.{Asked, AskedInOrder, ChainsFrom, Deduplicated, Deduplicates, EndsTrue, Equals, IsCallableAlong, IsCallableInOrder, MayAskInOrder, MayChainFrom, MayDeduplicate, Reads, Retains, TakesForKeys, TakesMut, answers_of, kept, kept_behind_removed, passed_over}
+pub use Rattle.aa_vec.specs.Choosing.{Asked, AskedInOrder, ChainsFrom, Deduplicated, Deduplicates, EndsTrue, Equals, IsCallableAlong, IsCallableInOrder, IsSteady, MayAskInOrder, MayChainFrom, MayDeduplicate, Reads, Retains, TakesForKeys, TakesMut, answers_of, kept, kept_behind_removed, passed_over}
 pub use Rattle.aa_vec.specs.Copies.{Adds, AddsAnswers, Begins, Copies, Fills, IsMade, IsMadeOfOne, MayCallTimes, Refuses, Undone, WritesAtMost}
 pub use Rattle.aa_vec.specs.Extend.{GrowsInSteps, CopiesOf, Extended, Extends, ItemsLeft, EndsAt, Takes, TellsAtMost, TellsExactly, YieldsTelling, asked_with, gives_item, grows, lower_by, stays}
 pub use Rattle.aa_vec.specs.Extract.{ClosesExtract, Extracted, Extracts, ExtractsAlong, ExtractsRange, extract_count, extract_kept, extract_rest, extract_tail, extract_vec}

@@ -1,5 +1,5 @@
 -- Closures whose answers hang on the elements alone: what they leave of a list is a function of it.
-use Rattle.aa_vec.proofs.Common.{◌≡◌, Bool, true, false, not, List, [], ◌∷◌, map, refl, ap, ◌∙◌, subst, arith, cond, filter, Asked, AskedInOrder, ChainsFrom, Deduplicated, Deduplicates, Vector, answers_of, kept, kept_behind_removed, dedup, dedup_from}
+use Rattle.aa_vec.proofs.Common.{◌≡◌, Bool, true, false, not, List, [], ◌∷◌, map, refl, ap, ◌∙◌, subst, arith, cond, filter, Asked, AskedInOrder, ChainsFrom, Deduplicated, Deduplicates, IsSteady, Vector, answers_of, kept, kept_behind_removed, dedup, dedup_from}
 use Rattle.aa_vec.proofs.Closed.{counted, removed_count}
 
 -- what an element is told by p, and left as by h
@@ -43,7 +43,7 @@ module _ {F T : Type 0} (Asks : F → T → T → Bool → F → T → T → Typ
   deduplicated-steady f [] answers g ys d = d.2
   deduplicated-steady f (x ∷ xs) answers g ys d = (chained-steady f x xs answers g ys d).1
 
-pub Deduplicates_dedup : {F T A : Type 0} (Asks : F → T → T → Bool → F → T → T → Type 0) (same : T → T → Bool) (f : F) (old : Vector T A) (g : F) (new : Vector T A) → Deduplicates Asks f old g new → ((f : F) (x l : T) (answer : Bool) (g : F) (y k : T) → Asks f x l answer g y k → (answer ≡ same x l) × (y ≡ x) × (k ≡ l)) → new.items ≡ dedup same old.items
+pub Deduplicates_dedup : {F T A : Type 0} (Asks : F → T → T → Bool → F → T → T → Type 0) (same : T → T → Bool) (f : F) (old : Vector T A) (g : F) (new : Vector T A) → Deduplicates Asks f old g new → IsSteady Asks same → new.items ≡ dedup same old.items
 Deduplicates_dedup Asks same f old g new d steady = ap (λ v. v.items) d.becomes ∙ deduplicated-steady Asks same steady f old.items d.answers g d.left d.asked
 
 -- those that are told so by such a closure

@@ -126,6 +126,11 @@ module _ {F T : Type 0} (Asks : F → T → T → Bool → F → T → T → Typ
   pub record IsCallableAlong (Takes : F → T → T → Type 0) (f : F) (xs : List T) : Type 0 where
     pub along : MayDeduplicate Takes f xs
 
+  -- each call answers `same` of its two elements, and changes neither
+  abbrev pub IsSteady : (T → T → Bool) → Type 0
+  IsSteady same = (f : F) (x l : T) (answer : Bool) (g : F) (y k : T)
+      → Asks f x l answer g y k → (answer ≡ same x l) × (y ≡ x) × (k ≡ l)
+
   -- new has what is left of old's items without repeats, no more than there were, in the block of
   -- old. Those behind the first repeat were written, in no more runs than repeats went
   pub record Deduplicates {A : Type 0} (f : F) (old : Vector T A) (g : F)

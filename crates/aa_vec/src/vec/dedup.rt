@@ -4,7 +4,7 @@ ghost use Rattle.std.specs.List.{dedup};
 ghost use Rattle.std.specs.Fn.{CalledAtPairMut, ComparesKeys};
 ghost use Rattle.aa_raw.specs.Closures.{TakesPairMut};
 ghost use Rattle.aa_vec.specs.Behind.{StandsBehind, behind_items};
-ghost use Rattle.aa_vec.specs.Choosing.{TakesForKeys, Equals, IsCallableAlong, MayChainFrom, MayDeduplicate, Deduplicates};
+ghost use Rattle.aa_vec.specs.Choosing.{TakesForKeys, Equals, IsCallableAlong, MayChainFrom, MayDeduplicate, IsSteady, Deduplicates};
 ghost use Rattle.aa_vec.specs.Until.{AsksLast, ChainsOn, ChainsBehind, AsksNeighbours, ChainsAlong};
 ghost use Rattle.aa_vec.specs.Vector.{len};
 
@@ -23,9 +23,8 @@ impl<T: Drop, A: Allocator> Vec<T, A> {
             (TakesForKeys F.FnMut) key self.old.items }
         ensures removed { (last : F)
             × Deduplicates (ComparesKeys F.FnMut K.eq) key self.old last self.new }
-        ensures steady { (same : T → T → Bool) → ((f : F) (x l : T) (answer : Bool) (g : F) (y k : T)
-            → ComparesKeys F.FnMut K.eq f x l answer g y k
-            → (answer ≡ same x l) × (y ≡ x) × (k ≡ l)) → self.new.items ≡ dedup same self.old.items }
+        ensures steady { (same : T → T → Bool) → IsSteady (ComparesKeys F.FnMut K.eq) same
+            → self.new.items ≡ dedup same self.old.items }
     {
         self.dedup_within_key(&mut key);
     }
@@ -63,9 +62,8 @@ impl<T: Drop, A: Allocator> Vec<T, A> {
             key.old self.old.items }
         ensures removed { Deduplicates (ComparesKeys F.FnMut K.eq)
             key.old self.old key.new self.new }
-        ensures steady { (same : T → T → Bool) → ((f : F) (x l : T) (answer : Bool) (g : F) (y k : T)
-            → ComparesKeys F.FnMut K.eq f x l answer g y k
-            → (answer ≡ same x l) × (y ≡ x) × (k ≡ l)) → self.new.items ≡ dedup same self.old.items }
+        ensures steady { (same : T → T → Bool) → IsSteady (ComparesKeys F.FnMut K.eq) same
+            → self.new.items ≡ dedup same self.old.items }
     {
         self.dedup_within(
             &mut move |element: &mut T, last: &mut T|
