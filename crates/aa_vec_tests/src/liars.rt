@@ -11,6 +11,7 @@ use std::alloc::{AllocError, Global};
 use std::cell::Cell;
 use std::clone::Clone;
 use std::test::Fail;
+use test_allocators::counted::Counted;
 
 // What becomes of a hint as an item comes.
 #[derive(Clone, Copy)]
@@ -113,6 +114,22 @@ fn untrue_hints_decide_the_room_alone(rt: HostRuntime) -> Result<(), Fail> {
     Ok(())
 }
 
+// Replaces a range of a vector, as far as it lies within, with or without what is told.
+fn spliced(
+    v: &mut Vec<u32>,
+    (from, to): (usize, usize),
+    items: Liar,
+    hinted: bool,
+) -> Result<(), TryReserveError> {
+    let to = to.min(v.len());
+    let range = v.splice(from.min(to)..to, items);
+    if hinted {
+        range.finish_hinted()
+    } else {
+        range.finish()
+    }
+}
+
 // Replaces two places from this one, and says whether the call answers so, and leaves these numbers
 // with this capacity.
 fn splices_to(
@@ -124,10 +141,8 @@ fn splices_to(
     capacity: usize,
 ) -> Result<bool, Fail> {
     let mut v = list(alloc, &[1, 2, 3, 4], 4)?;
-    let from = from.min(v.len());
-    let range = v.splice(from..v.len().min(from.saturating_add(2)), items);
-    let answered = range.finish_hinted() == answer(fits);
-    Ok(answered && stands(&v, left, capacity))
+    let answered = spliced(&mut v, (from, from.saturating_add(2)), items, true);
+    Ok(answered == answer(fits) && stands(&v, left, capacity))
 }
 
 // In the middle, and at the end.
@@ -176,19 +191,30 @@ fn pausing(next: u32) -> Liar {
     }
 }
 
+// Puts items behind the others, with or without what is told.
+fn extended(v: &mut Vec<u32>, items: &mut Liar, hinted: bool) -> Result<(), TryReserveError> {
+    if hinted {
+        v.extend_hinted_by(items)
+    } else {
+        v.extend_by(items)
+    }
+}
+
 #[test]
 fn behind_an_end_nothing_is_asked(rt: HostRuntime) -> Result<(), Fail> {
     for capacity in [0, 1, 2, 3, 4, 9] {
         let mut v: Vec<u32> = Vec::with_capacity(rt.alloc(), capacity)?;
         let mut items = pausing(1);
-        v.extend_by(&mut items)?;
-        assert!(rt; v.as_slice() == [1, 2].as_slice());
-        assert!(rt; items.next == 4);
-        v.extend_hinted_by(&mut items)?;
-        assert!(rt; v.as_slice() == [1, 2, 4, 5].as_slice());
-        assert!(rt; items.next == 7);
+        for (hinted, left, next) in [
+            (false, [1, 2].as_slice(), 4),
+            (true, [1, 2, 4, 5].as_slice(), 7),
+        ] {
+            extended(&mut v, &mut items, hinted)?;
+            assert!(rt; v.as_slice() == left);
+            assert!(rt; items.next == next);
+        }
         items = pausing(6);
-        v.extend_by(&mut items)?;
+        extended(&mut v, &mut items, false)?;
         assert!(rt; (v.len(), items.next) == (4, 7));
     }
     Ok(())
@@ -204,46 +230,54 @@ fn a_splice_asks_nothing_behind_an_end(rt: HostRuntime) -> Result<(), Fail> {
         (1, 2, 1, [7, 1, 2, 7, 7].as_slice()),
         (2, 2, 4, [7, 7, 4, 5, 7, 7].as_slice()),
     ] {
-        let mut v = list(rt.alloc(), &[7, 7, 7, 7], 4)?;
-        assert!(rt; from <= to && to <= v.len());
-        v.splice(from..to, pausing(first)).finish()?;
-        assert!(rt; v.as_slice() == left);
-        let mut w = list(rt.alloc(), &[7, 7, 7, 7], 4)?;
-        assert!(rt; to <= w.len());
-        let range = w.splice(from..to, pausing(first));
-        range.finish_hinted()?;
-        assert!(rt; w.as_slice() == left);
+        for hinted in [false, true] {
+            let mut v = list(rt.alloc(), &[7, 7, 7, 7], 4)?;
+            spliced(&mut v, (from, to), pausing(first), hinted)?;
+            assert!(rt; v.as_slice() == left);
+        }
     }
     Ok(())
 }
 
-// The closures answer true at each call whose number `turn` divides.
-#[test]
+// The closure answers true at each call whose number `turn` divides: how many calls there were.
 #[tactic(auto, using(aa_vec::proofs::Callers::callers))]
-fn answers_by_turns_keep_and_remove(rt: HostRuntime) -> Result<(), Fail> {
+fn retained_by_turns(v: &mut Vec<Counted<'_>>, turn: u32) -> u32 {
+    let mut calls = 0u32;
+    v.retain_by(&mut |_| {
+        calls = calls.wrapping_add(1);
+        calls.checked_rem(turn) == Some(0)
+    });
+    calls
+}
+
+// The same of two neighbours.
+#[tactic(auto, using(aa_vec::proofs::Callers::callers))]
+fn deduplicated_by_turns(v: &mut Vec<Counted<'_>>, turn: u32) -> u32 {
+    let mut calls = 0u32;
+    v.dedup_within(&mut |_, _| {
+        calls = calls.wrapping_add(1);
+        calls.checked_rem(turn) == Some(0)
+    });
+    calls
+}
+
+#[test]
+fn answers_by_turns_keep_and_remove(rt: HostRuntime) {
     for (turn, kept, distinct) in [(1, 9, 1), (2, 4, 5), (3, 3, 7), (9, 1, 9), (10, 0, 9)] {
-        let drops = Cell::new(0);
-        let mut calls = 0u32;
-        let mut v = counted_up(rt.alloc(), &drops, 9);
-        v.retain_by(&mut |_| {
-            calls = calls.wrapping_add(1);
-            calls.checked_rem(turn) == Some(0)
-        });
-        assert!(rt; (v.len(), calls) == (kept, 9));
-        assert!(rt; drops.get() as usize == 9usize.saturating_sub(kept));
-        drop(v);
-        assert!(rt; drops.get() == 9);
-        let mut w = counted_up(rt.alloc(), &drops, 9);
-        w.dedup_within(&mut |_, _| {
-            calls = calls.wrapping_add(1);
-            calls.wrapping_sub(9).checked_rem(turn) == Some(0)
-        });
-        assert!(rt; (w.len(), calls) == (distinct, 17));
-        assert!(rt; drops.get() as usize == 18usize.saturating_sub(distinct));
-        drop(w);
-        assert!(rt; drops.get() == 18);
+        for (removes, calls, left) in [(false, 9, kept), (true, 8, distinct)] {
+            let drops = Cell::new(0);
+            let mut v = counted_up(rt.alloc(), &drops, 9);
+            let called = if removes {
+                deduplicated_by_turns(&mut v, turn)
+            } else {
+                retained_by_turns(&mut v, turn)
+            };
+            assert!(rt; (v.len(), called) == (left, calls));
+            assert!(rt; drops.get() as usize == 9usize.saturating_sub(left));
+            drop(v);
+            assert!(rt; drops.get() == 9);
+        }
     }
-    Ok(())
 }
 
 // The key is the number of the call, divided by `turn`: two of each comparison are equal, or never,
