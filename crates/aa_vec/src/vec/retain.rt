@@ -1,6 +1,6 @@
 //! Elements that a closure keeps.
-ghost use Rattle.std.specs.Prelude.{◌≡◌, ◌+◌, ◌-◌, ◌<◌, ◌≤◌, true, length};
-ghost use Rattle.std.specs.Fn.{CalledAtMut, TakesAt};
+ghost use Rattle.std.specs.Prelude.{◌≡◌, Bool, ◌+◌, ◌-◌, ◌<◌, ◌≤◌, true, filter, length};
+ghost use Rattle.std.specs.Fn.{CalledAt, CalledAtMut, TakesAt};
 ghost use Rattle.aa_vec.specs.Behind.{StandsBehind, behind_items};
 ghost use Rattle.aa_vec.specs.Choosing.{TakesMut, Reads, IsCallableInOrder, MayAskInOrder, Retains};
 ghost use Rattle.aa_vec.specs.Until.{AsksBehind, StaysWhen, AsksUntil};
@@ -16,7 +16,10 @@ impl<T: Drop, A: Allocator> Vec<T, A> {
     /// `Vec::retain`.
     pub fn retain<F: FnMut(&T) -> bool + Drop>(&mut self, mut f: F)
         requires { IsCallableInOrder (Reads F.FnMut) (TakesAt F.FnMut) f self.old.items }
-        ensures { (last : F) × Retains (Reads F.FnMut) f self.old last self.new }
+        ensures retained { (last : F) × Retains (Reads F.FnMut) f self.old last self.new }
+        ensures steady { (test : T → Bool) → ((x : T) (answer : Bool) (g : F)
+            → CalledAt F.FnMut f x answer g → (answer ≡ test x) × (g ≡ f))
+            → self.new.items ≡ filter test self.old.items }
     {
         self.retain_by(
             &mut move |element: &mut T|

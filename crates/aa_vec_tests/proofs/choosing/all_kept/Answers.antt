@@ -7,7 +7,7 @@ use Rattle.aa_vec_tests.proofs.choosing.all_kept.Goals as goal
 
 pub returns : goal.returns
 returns g c =
-    let r = c.retain.ensures.1 in let none = kept-all c.args.v.now.items in
+    let r = c.retain.ensures.retained.1 in let none = kept-all c.args.v.now.items in
     let told = asked-steady (Reads _) (λ x. true) (λ x. x) (λ f x answer h y a. search rules) _ _ r.told _ r.asked in
     record {
       items = record { items = ap (λ v. v.items) r.becomes ∙ ap kept told ∙ none.0; block = SameBlock-becomes _ _ _ _ _ r.becomes };
