@@ -7,8 +7,18 @@ use Rattle.ex_leaf.proofs.Order.{ascending-put, ascending-without}
 use Rattle.std.proofs.lemmas.List.{drop_more, set-get_or, set_split}
 use Rattle.std.proofs.lemmas.List.Concat.{flat_map-append}
 use Rattle.std.proofs.lemmas.List.Elements.{All-append, All-cons, All-head, All-tail, All-nil}
+use Rattle.allocator_api2.specs.declared.collections.TryReserveError.{TryReserveError}
+use Rattle.allocator_api2.specs.declared.collections.TryReserveErrorKind.{TryReserveErrorKind}
+use Rattle.allocator_api2.specs.declared.collections.TryReserveErrorKind.TheVariants.{AllocError, CapacityOverflow}
 use Rattle.ex_leaf.specs.Entries.{Ordered, value, put, without, IsAscending}
-use Rattle.ex_btree.specs.Leaves.{entries_of, AreGreater, AreLess, IsSound, IsUsed, HasPlace, Takes}
+use Rattle.ex_btree.specs.Leaves.{entries_of, AreGreater, AreLess, IsRefusedWithin, IsSound, IsUsed, HasPlace, Takes}
+
+of-kind : (k : TryReserveErrorKind) (n m : ℕ) → IsRefusedWithin (record { kind = k }) n → n ≤ m → IsRefusedWithin (record { kind = k }) m
+of-kind CapacityOverflow n m r h = tt
+of-kind (AllocError places) n m r h = (r.0, omega (arith, r.1, h))
+
+pub within-more : (e : TryReserveError) (n m : ℕ) → IsRefusedWithin e n → n ≤ m → IsRefusedWithin e m
+within-more e n m r h = of-kind e.kind n m r h
 
 module _ {V : Type 0} (key : ℕ) where
   abbrev IsLess : ℕ × V → Type 0
@@ -126,6 +136,11 @@ pub ruleset counted = (count-new, count-old, without-none, count-without, ascend
 pub used-put : {V : Type 0} (key : ℕ) (v : V) (l m : Ordered V) → Takes key l → m.entries ≡ put key v l.entries → m.capacity ≡ l.capacity → IsUsed m
 used-put key v l m t e c = record { some = rw e (some-put key v l.entries); room = rw c t.room }
 
+-- each leaf has entries
+pub leaves-few : {V : Type 0} (ls : List (Ordered V)) → All IsUsed ls → length ls ≤ length (entries_of ls)
+leaves-few [] u = omega arith
+leaves-few (l ∷ ls) u = omega (arith, (All-head IsUsed l ls u).some, leaves-few ls (All-tail IsUsed l ls u), length-append l.entries (entries_of ls))
+
 -- the leaves before one, that one, and those behind it
 module _ {V : Type 0} (ls : List (Ordered V)) (at : ℕ) where
   pub rest : (d : Ordered V) → at < length ls → entries_of (drop at ls) ≡ (get_or ls at d).entries ++ entries_of (drop (at + 1) ls)
@@ -149,6 +164,9 @@ module _ {V : Type 0} (ls : List (Ordered V)) (at : ℕ) where
 
     pub parts-read : entries_of ls ≡ entries_of (take at ls) ++ (l.entries ++ entries_of (drop (at + 1) ls))
     parts-read = rw read (parts l h)
+
+    pub leaf-few : length l.entries ≤ length (entries_of ls)
+    leaf-few = omega (arith, ap length parts-read, length-append (entries_of (take at ls)) (l.entries ++ entries_of (drop (at + 1) ls)), length-append l.entries (entries_of (drop (at + 1) ls)))
 
     module _ (sound : IsSound ls) where
       pub used-at : IsUsed l

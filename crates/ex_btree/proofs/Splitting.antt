@@ -31,18 +31,11 @@ module _ {V : Type 0} {l left right : Ordered V} (is : IsFull l × IsUsed l) (lo
     right = right;
     leaves = inserted ∙ rw (add-one at) (set-then-insert ls at left right within);
     entries = λ m r. (λ i. lower i ++ upper i) ∙ take-append-drop (length l.entries / 2) l.entries ∙ ap (λ (o : Ordered V). o.entries) (read-twice ls at l m within read r);
-    some_left = omega (arith, two, halves.0);
+    used_left = record { some = omega (arith, two, halves.0); room = rw same_room is.1.room };
     room_left = omega (arith, two, halves.0, is.0, same_room);
-    some_right = omega (arith, two, halves.1);
+    used_right = record { some = omega (arith, two, halves.1); room = omega (arith, is.0, is.1.room, room) };
     room_right = omega (arith, two, halves.1, room);
   }
-
--- a leaf with entries and room for one more
-open-used : {V : Type 0} (l : Ordered V) → 0 < length l.entries → length l.entries < l.capacity → IsUsed l
-open-used l s r = record { some = s; room = omega (arith, s, r) }
-
-open-takes : {V : Type 0} (key : ℕ) (l : Ordered V) → 0 < length l.entries → length l.entries < l.capacity → Takes key l
-open-takes key l s r = record { may = inl r; room = omega (arith, s, r) }
 
 module _ {V : Type 0} {ls new : List (Ordered V)} {at : ℕ} (within : at < length ls) (sound : IsSound ls) (s : IsSplit ls at new) where
   count : length (take at ls) ≡ at
@@ -58,7 +51,7 @@ module _ {V : Type 0} {ls new : List (Ordered V)} {at : ℕ} (within : at < leng
   pub split-sound : IsSound new
   split-sound = record {
     used = rw s.leaves (All-append IsUsed (take at ls) (s.left ∷ s.right ∷ drop (at + 1) ls) (All-take IsUsed at ls sound.used)
-        (All-cons IsUsed s.left (s.right ∷ drop (at + 1) ls) (open-used s.left s.some_left s.room_left) (All-cons IsUsed s.right (drop (at + 1) ls) (open-used s.right s.some_right s.room_right) (All-drop IsUsed (at + 1) ls sound.used))));
+        (All-cons IsUsed s.left (s.right ∷ drop (at + 1) ls) s.used_left (All-cons IsUsed s.right (drop (at + 1) ls) s.used_right (All-drop IsUsed (at + 1) ls sound.used))));
     ascending = rw split-same sound.ascending;
   }
 
@@ -74,7 +67,7 @@ module _ {V : Type 0} {ls new : List (Ordered V)} {at : ℕ} (within : at < leng
 
   module _ {m : Ordered V} (read : m ≡ get_or new (at + 1) m) where
     pub right-some : 0 < length m.entries
-    right-some = rw (read ∙ second m) s.some_right
+    right-some = rw (read ∙ second m) s.used_right.some
 
     module _ (key : ℕ) (place : HasPlace key ls at) where
       -- the key belongs to the first, or else to the second
@@ -85,7 +78,7 @@ module _ {V : Type 0} {ls new : List (Ordered V)} {at : ℕ} (within : at < leng
           before = rw (s.leaves, take_at (take at ls) (s.left ∷ s.right ∷ drop (at + 1) ls) at count) place.before;
           behind = greater-from-leaf new (at + 1) read split-within split-sound key f;
         };
-        takes = λ n r. subst (Takes key) (sym (r ∙ first n)) (open-takes key s.left s.some_left s.room_left);
+        takes = λ n r. subst (Takes key) (sym (r ∙ first n)) (record { may = inl s.room_left; room = s.used_left.room });
         before = All-take IsUsed at new split-sound.used;
         behind = All-drop IsUsed (at + 1) new split-sound.used;
       }
@@ -100,7 +93,7 @@ module _ {V : Type 0} {ls new : List (Ordered V)} {at : ℕ} (within : at < leng
           before = less-before-leaf new (at + 1) read split-within split-sound key f;
           behind = rw rest-new place.behind;
         };
-        takes = λ n r. subst (Takes key) (sym (r ∙ second n)) (open-takes key s.right s.some_right s.room_right);
+        takes = λ n r. subst (Takes key) (sym (r ∙ second n)) (record { may = inl s.room_right; room = s.used_right.room });
         before = All-take IsUsed (at + 1) new split-sound.used;
         behind = All-drop IsUsed (at + 1 + 1) new split-sound.used;
       }

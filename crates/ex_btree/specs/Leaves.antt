@@ -1,6 +1,25 @@
 -- Leaves in line, and the leaf that a key belongs to.
-use Rattle.std.specs.Prelude.{◌≡◌, ℕ, ◌+◌, ◌<◌, ◌≤◌, ◌⊎◌, List, [], ◌∷◌, ◌++◌, All, flat_map, length, take, drop, is_some, true, nat_lt, if◌then◌else◌, slice_index_or}
+use Rattle.std.specs.Prelude.{◌≡◌, ℕ, ◌+◌, ◌*◌, ◌<◌, ◌≤◌, ◌⊎◌, List, [], ◌∷◌, ◌++◌, All, flat_map, length, take, drop, is_some, max, true, nat_lt, if◌then◌else◌, slice_index_or, ⊤}
+use Rattle.allocator_api2.specs.declared.collections.TryReserveError.{TryReserveError}
+use Rattle.allocator_api2.specs.declared.collections.TryReserveErrorKind.TheVariants.{AllocError, CapacityOverflow}
 use Rattle.ex_leaf.specs.Entries.{Ordered, value, IsAscending}
+
+-- for how many entries each leaf has room, at least
+abbrev pub leaf_room : ℕ
+leaf_room = 32
+
+-- how many places an insert beside n entries asks for, at most
+abbrev pub most_places : (n : ℕ) → ℕ
+most_places n = max leaf_room (2 * n)
+
+-- the refusal of some places, n at most: an allocator's has their number; one that is too large has
+-- none
+abbrev pub IsRefusedWithin : TryReserveError → (n : ℕ) → Type 0
+IsRefusedWithin e n =
+    elim e.kind as (λ _. Type 0) [
+      | CapacityOverflow ↦ ⊤
+      | AllocError places ↦ (0 < places) × (places ≤ n)
+    ]
 
 module _ {V : Type 0} where
   -- the entries of all leaves, in line
@@ -15,7 +34,7 @@ module _ {V : Type 0} where
   -- a leaf that has entries, and may be split
   pub record IsUsed (l : Ordered V) : Type 0 where
     pub some : 0 < length l.entries
-    pub room : 2 ≤ l.capacity
+    pub room : leaf_room ≤ l.capacity
 
   -- each leaf is used, and the keys are in order over all of them
   pub record IsSound (ls : List (Ordered V)) : Type 0 where
@@ -42,7 +61,7 @@ module _ {V : Type 0} where
   -- a leaf that takes a value for the key: the key is there, or there is room for one more
   pub record Takes (key : ℕ) (l : Ordered V) : Type 0 where
     pub may : (length l.entries < l.capacity) ⊎ (is_some (value key l.entries) ≡ true)
-    pub room : 2 ≤ l.capacity
+    pub room : leaf_room ≤ l.capacity
 
   -- the leaf at this position is that of the key and takes a value for it; the others are used
   pub record HasRoom (key : ℕ) (ls : List (Ordered V)) (at : ℕ) : Type 0 where
@@ -58,7 +77,7 @@ module _ {V : Type 0} where
     pub right : Ordered V
     pub leaves : new ≡ take at ls ++ left ∷ right ∷ drop (at + 1) ls
     pub entries : (l : Ordered V) → l ≡ slice_index_or ls at l → left.entries ++ right.entries ≡ l.entries
-    pub some_left : 0 < length left.entries
+    pub used_left : IsUsed left
     pub room_left : length left.entries < left.capacity
-    pub some_right : 0 < length right.entries
+    pub used_right : IsUsed right
     pub room_right : length right.entries < right.capacity

@@ -1,7 +1,7 @@
 //! Leaves in line: the one that a key belongs to, and what becomes of it.
-ghost use Rattle.std.specs.Prelude.{◌≡◌, ℕ, ◌+◌, ◌<◌, ◌≤◌, ◌↔◌, [], All, drop, false, length, take, slice_get, slice_index_or, is_some, true, None, Some, IsOk, IsTrue, IfOk, IfSome, OnErr, OnOk};
+ghost use Rattle.std.specs.Prelude.{◌≡◌, ℕ, ◌+◌, ◌*◌, ◌<◌, ◌≤◌, ◌↔◌, [], All, drop, false, length, max, take, slice_get, slice_index_or, is_some, true, None, Some, IsOk, IsTrue, IfErr, IfOk, IfSome, OnErr, OnOk};
 ghost use Rattle.ex_leaf.specs.Entries.{put, value, without, Ordered};
-ghost use Rattle.ex_btree.specs.Leaves.{entries_of, HasPlace, HasRoom, IsFull, IsSound, IsSplit, IsUsed, Takes};
+ghost use Rattle.ex_btree.specs.Leaves.{entries_of, leaf_room, most_places, HasPlace, HasRoom, IsFull, IsRefusedWithin, IsSound, IsSplit, IsUsed, Takes};
 
 use allocator_api2::collections::TryReserveError;
 use allocator_api2::vec::Vec;
@@ -65,8 +65,12 @@ pub fn make_room<V, A: Allocator + Copy>(
 ) -> Result<usize, TryReserveError>
     requires { IsSound leaves.old.items }
     ensures there { is_some (value key (entries_of leaves.old.items)) ≡ true → IsOk result }
+    ensures fits { 0 < length (entries_of leaves.old.items)
+        → length (entries_of leaves.old.items) < leaf_room → IsOk result }
     ensures room { IfOk result (HasRoom key leaves.new.items) }
     ensures same { entries_of leaves.new.items ≡ entries_of leaves.old.items }
+    ensures number { IfErr result
+        (λ e. IsRefusedWithin e (most_places (length (entries_of leaves.old.items)))) }
     ensures refused { OnErr result (leaves.new.items ≡ leaves.old.items) }
 {
     let at = part(leaves.as_slice(), key);
@@ -81,7 +85,7 @@ pub fn make_room<V, A: Allocator + Copy>(
 
 // Whether a leaf has the key, or has room for it.
 fn takes<V, A: Allocator>(leaf: &Leaf<V, A>, key: u64) -> bool
-    ensures takes { IsTrue result → 2 ≤ leaf.now.capacity → Takes key leaf.now }
+    ensures takes { IsTrue result → leaf_room ≤ leaf.now.capacity → Takes key leaf.now }
     ensures full { result ≡ false → IsFull leaf.now }
     ensures none { result ≡ false → value key leaf.now.entries ≡ None }
 {
@@ -96,8 +100,11 @@ fn new_leaf<V, A: Allocator + Copy>(
     ensures none { IfOk result (λ l. l.entries ≡ []) }
     ensures capacity { IfOk result (λ l. capacity ≤ l.capacity) }
     ensures room { OnOk result (length leaves.new.items < leaves.new.capacity) }
+    ensures number { 0 < capacity → IfErr result
+        (λ e. IsRefusedWithin e (max capacity (max 8 (2 * length leaves.old.items)))) }
     ensures same { leaves.new.items ≡ leaves.old.items }
 {
+    leaves.known();
     leaves.try_reserve(1)?;
     Leaf::with_capacity_in(capacity, *leaves.allocator())
 }
@@ -110,6 +117,7 @@ fn add_first<V, A: Allocator + Copy>(
     requires { leaves.old.items ≡ [] }
     ensures room { IfOk result (HasRoom key leaves.new.items) }
     ensures same { entries_of leaves.new.items ≡ [] }
+    ensures number { IfErr result (λ e. IsRefusedWithin e leaf_room) }
     ensures refused { OnErr result (leaves.new.items ≡ []) }
 {
     let leaf = new_leaf(leaves, CAPACITY)?;
@@ -128,6 +136,8 @@ fn split<V, A: Allocator + Copy>(
     requires full { (l : Ordered V) → l ≡ slice_index_or leaves.old.items at l
         → IsFull l × IsUsed l }
     ensures split { OnOk result (IsSplit leaves.old.items at leaves.new.items) }
+    ensures number { IfErr result (λ e. IsRefusedWithin e
+        (max (most_places (length leaves.old.items)) (length (entries_of leaves.old.items)))) }
     ensures refused { OnErr result (leaves.new.items ≡ leaves.old.items) }
 {
     leaves.known();
@@ -154,6 +164,8 @@ fn split_for<V, A: Allocator + Copy>(
     requires full { (l : Ordered V) → l ≡ slice_index_or leaves.old.items at l → IsFull l }
     ensures room { IfOk result (HasRoom key leaves.new.items) }
     ensures same { entries_of leaves.new.items ≡ entries_of leaves.old.items }
+    ensures number { IfErr result
+        (λ e. IsRefusedWithin e (most_places (length (entries_of leaves.old.items)))) }
     ensures refused { OnErr result (leaves.new.items ≡ leaves.old.items) }
 {
     split(leaves, at)?;
@@ -207,7 +219,8 @@ fn drop_empty<V: Drop, A: Allocator>(leaves: &mut Vec<Leaf<V, A>, A>, at: usize)
     requires within { at < length leaves.old.items }
     requires before { All IsUsed (take at leaves.old.items) }
     requires behind { All IsUsed (drop (at + 1) leaves.old.items) }
-    requires room { (l : Ordered V) → l ≡ slice_index_or leaves.old.items at l → 2 ≤ l.capacity }
+    requires room { (l : Ordered V) → l ≡ slice_index_or leaves.old.items at l
+        → leaf_room ≤ l.capacity }
     ensures same { entries_of leaves.new.items ≡ entries_of leaves.old.items }
     ensures used { All IsUsed leaves.new.items }
 {

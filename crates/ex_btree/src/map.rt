@@ -1,8 +1,10 @@
 //! The map: values by keys, in the order of the keys.
-ghost use Rattle.std.specs.Prelude.{◌≡◌, ◌+◌, ◌-◌, ◌<◌, ◌^◌, [], length, is_some, true, false, None, IfErr, IfOk, IsOk, IsTrue, OnErr, OnOk, ◌↔◌, option_copied, option_map, slice_get};
+ghost use Rattle.std.specs.Prelude.{◌≡◌, ◌+◌, ◌-◌, ◌<◌, ◌≤◌, ◌^◌, [], length, is_some, true, false, None, IfErr, IfOk, IsOk, IsTrue, OnErr, OnOk, ◌↔◌, option_copied, option_map, slice_get};
 ghost use Rattle.std.specs.Borrow.{sem};
 ghost use Rattle.std.specs.Option.{option_copied_mut};
+ghost use Rattle.allocator_api2.specs.declared.collections.TryReserveErrorKind.TheVariants.{CapacityOverflow};
 ghost use Rattle.ex_leaf.specs.Entries.{between, put, value, without, IsAscending};
+ghost use Rattle.ex_btree.specs.Leaves.{leaf_room, most_places, IsRefusedWithin};
 
 use crate::iter::{Iter, Range};
 use crate::leaves::{find, make_room, part, put_in, take_out};
@@ -144,21 +146,28 @@ impl<V: Drop, A: Allocator + Copy> OrderedMap<V, A> {
     // Whether the key would be one more than can be counted.
     fn is_full(&self, key: u64) -> bool
         ensures none { IsTrue result → value key self.now ≡ None }
+        ensures full { IsTrue result → 2 ^ 64 ≤ length self.now + 1 }
         ensures few { result ≡ false → value key self.now ≡ None → length self.now + 1 < 2 ^ 64 }
     {
         self.len == usize::MAX && !self.contains_key(key)
     }
 
     /// Gives the key this value, and answers the one that it had. It takes memory where a new key
-    /// finds its leaf full, or none there: for a leaf, and for its place. A refusal hands key and
-    /// value back and changes nothing: `AllocError` with the number of places that were asked for,
-    /// or `CapacityOverflow`, as for a new key beside 2^64 - 1 others.
+    /// finds its leaf full, or none there: for a leaf, and for its place. So it takes none beside 1
+    /// to 31 others. A refusal hands key and value back and changes nothing: `AllocError` with the
+    /// number of places that were asked for, 32 or at most twice as many as there are entries, or
+    /// `CapacityOverflow`, as for a new key beside 2^64 - 1 others.
     #[tactic(auto, using(crate::proofs::Order::counted))]
     pub fn insert(&mut self, key: u64, item: V) -> Result<Option<V>, Refused<(u64, V)>>
         ensures there { is_some (value key self.old) ≡ true → IsOk result }
+        ensures fits { 0 < length self.old → length self.old < leaf_room → IsOk result }
         ensures old { IfOk result (λ old. old ≡ value key self.old) }
         ensures put { OnOk result (self.new ≡ put key item self.old) }
         ensures back { IfErr result (λ r. r.source ≡ (key, item)) }
+        ensures number { IfErr result
+            (λ r. IsRefusedWithin r.error (most_places (length self.old))) }
+        ensures overflow { IfErr result
+            (λ r. 2 ^ 64 ≤ length self.old + 1 → r.error.kind ≡ CapacityOverflow) }
         ensures refused { OnErr result (self.new ≡ self.old) }
     {
         if self.is_full(key) {
