@@ -3,11 +3,11 @@
 #![tactic(auto)]
 
 #[cfg(test)]
-mod benchcases;
-#[cfg(test)]
 mod btree;
 #[cfg(test)]
-mod guide;
+mod callers;
+#[cfg(test)]
+mod cases;
 #[cfg(test)]
 mod leaf;
 #[cfg(test)]
