@@ -1,3 +1,4 @@
+use crate::tests::{are_granted, is_granted};
 use allocator_api2::boxed::Box;
 use allocator_api2::vec::Vec;
 use ex_allocators::budget::Budget;
@@ -15,6 +16,11 @@ fn pushes<T: Copy, A: Allocator>(heap: A, item: T) -> bool {
         }
     }
     list.len() == 1_000
+}
+
+// Whether a vector of so many bytes is granted; it is given back at once.
+fn has_room<A: Allocator>(heap: A, count: usize) -> bool {
+    Vec::<u8, A>::with_capacity_in(count, heap).is_ok()
 }
 
 #[test]
@@ -46,9 +52,9 @@ fn growth_takes_the_blocks_that_others_left(rt: HostRuntime) {
 fn a_block_serves_each_type_that_it_has_room_for(rt: HostRuntime) -> Result<(), Fail> {
     let heap = Counting::new(rt.alloc());
     let recycler = Recycler::new(&heap);
-    drop(Box::new_in(1u8, &recycler)?);
-    drop(Box::new_in([2u16; 3], &recycler)?);
-    drop(Box::new_in([3u32; 4], &recycler)?);
+    assert!(rt; is_granted(&recycler, 1u8));
+    assert!(rt; is_granted(&recycler, [2u16; 3]));
+    assert!(rt; is_granted(&recycler, [3u32; 4]));
     let last = Box::new_in(4u128, &recycler)?;
     assert!(rt; *last == 4 && heap.counts().requests == 1 && heap.counts().bytes == 16);
     let other = Box::new_in(5u8, &recycler)?;
@@ -57,19 +63,11 @@ fn a_block_serves_each_type_that_it_has_room_for(rt: HostRuntime) -> Result<(), 
 }
 
 #[test]
-fn a_limit_holds_for_each_class(rt: HostRuntime) -> Result<(), Fail> {
+fn a_limit_holds_for_each_class(rt: HostRuntime) {
     let heap = Counting::new(rt.alloc());
     let recycler = Recycler::with_limit(&heap, 64);
     assert!(rt; recycler.limit() == 64);
-    // How many bytes a block is asked for with, and how many of 6 blocks are kept.
-    {
-        let mut boxes: Vec<Box<u64, &Recycler<&Counting<Global>>>, Global> = Vec::new_in(
-            rt.alloc(),
-        );
-        for number in 0..6u64 {
-            boxes.push(Box::new_in(number, &recycler)?)?;
-        }
-    }
+    assert!(rt; are_granted(&recycler, rt.alloc(), 7u64, 6));
     assert!(rt;
         recycler.kept()
             == Kept {
@@ -78,8 +76,8 @@ fn a_limit_holds_for_each_class(rt: HostRuntime) -> Result<(), Fail> {
             }
     );
     assert!(rt; heap.counts().frees == 2);
-    drop(Box::new_in([0u64; 8], &recycler)?);
-    drop(Box::new_in([0u64; 9], &recycler)?);
+    assert!(rt; is_granted(&recycler, [0u64; 8]));
+    assert!(rt; is_granted(&recycler, [0u64; 9]));
     assert!(rt;
         recycler.kept()
             == Kept {
@@ -88,7 +86,6 @@ fn a_limit_holds_for_each_class(rt: HostRuntime) -> Result<(), Fail> {
             }
     );
     assert!(rt; heap.counts().frees == 3);
-    Ok(())
 }
 
 #[test]
@@ -113,28 +110,27 @@ fn trim_gives_all_free_blocks_back(rt: HostRuntime) -> Result<(), Fail> {
 }
 
 #[test]
-fn the_greatest_class_has_16_mib(rt: HostRuntime) -> Result<(), Fail> {
+fn the_greatest_class_has_16_mib(rt: HostRuntime) {
     let heap = Counting::new(rt.alloc());
     let recycler = Recycler::new(&heap);
     let most = 16 << 20;
-    drop(Vec::<u8, &Recycler<&Counting<Global>>>::with_capacity_in(most, &recycler)?);
+    assert!(rt; has_room(&recycler, most));
     assert!(rt; heap.counts().frees == 0 && recycler.kept().bytes == most);
-    drop(Vec::<u8, &Recycler<&Counting<Global>>>::with_capacity_in(most / 2 + 1, &recycler)?);
+    assert!(rt; has_room(&recycler, most / 2 + 1));
     assert!(rt; heap.counts().requests == 1);
-    drop(Vec::<u8, &Recycler<&Counting<Global>>>::with_capacity_in(most + 1, &recycler)?);
+    assert!(rt; has_room(&recycler, most + 1));
     assert!(rt; heap.counts().frees == 1 && recycler.kept().bytes == most);
     assert!(rt; heap.counts().bytes == 33_554_433);
-    Ok(())
 }
 
 #[test]
 fn a_clone_keeps_blocks_of_its_own(rt: HostRuntime) -> Result<(), Fail> {
     let heap = Counting::new(rt.alloc());
     let recycler = Recycler::with_limit(&heap, 1_000);
-    drop(Box::new_in(1u64, &recycler)?);
+    assert!(rt; is_granted(&recycler, 1u64));
     let twin = recycler.clone()?;
     assert!(rt; twin.limit() == 1_000 && twin.kept().blocks == 0);
-    drop(Box::new_in(1u64, &twin)?);
+    assert!(rt; is_granted(&twin, 1u64));
     assert!(rt; heap.counts().requests == 2);
     twin.trim();
     assert!(rt; recycler.kept().blocks == 1 && heap.counts().frees == 1);
@@ -143,16 +139,15 @@ fn a_clone_keeps_blocks_of_its_own(rt: HostRuntime) -> Result<(), Fail> {
 }
 
 #[test]
-fn a_recycler_over_a_budget_sheds(rt: HostRuntime) -> Result<(), Fail> {
+fn a_recycler_over_a_budget_sheds(rt: HostRuntime) {
     let heap = Budget::new(rt.alloc(), 100);
     let recycler = Recycler::new(&heap);
-    drop(Box::new_in([1u8; 40], &recycler)?);
-    assert!(rt; Box::new_in([1u8; 65], &recycler).is_err());
-    assert!(rt; Box::new_in([1u8; 33], &recycler).is_ok());
+    assert!(rt; is_granted(&recycler, [1u8; 40]));
+    assert!(rt; !is_granted(&recycler, [1u8; 65]));
+    assert!(rt; is_granted(&recycler, [1u8; 33]));
     // What is kept counts until it is given back.
-    assert!(rt; Box::new_in([1u8; 20], &recycler).is_ok());
+    assert!(rt; is_granted(&recycler, [1u8; 20]));
     assert!(rt; heap.watch().granted() == 96);
     recycler.trim();
     assert!(rt; heap.watch().granted() == 0);
-    Ok(())
 }

@@ -6,6 +6,30 @@ use ex_allocators::pool::Pool;
 use std::alloc::{Allocator, Global};
 use std::test::Fail;
 
+/// Whether a box for the item is granted; it is given back at once.
+pub fn is_granted<T: Drop, A: Allocator>(heap: A, item: T) -> bool {
+    Box::new_in(item, heap).is_ok()
+}
+
+/// Whether so many boxes of the item are granted at once; then all are given back.
+pub fn are_granted<T: Copy + Drop, A: Allocator + Copy>(
+    heap: A,
+    alloc: Global,
+    item: T,
+    count: u64,
+) -> bool {
+    let mut boxes: Vec<Box<T, A>, Global> = Vec::new_in(alloc);
+    for _ in 0..count {
+        let Ok(one) = Box::new_in(item, heap) else {
+            return false;
+        };
+        if boxes.push(one).is_err() {
+            return false;
+        }
+    }
+    true
+}
+
 // What is out of a budget, what is left, and the most that ever was out.
 fn purse<B: Allocator>(heap: &Budget<B>) -> (usize, usize, usize) {
     (
@@ -46,7 +70,7 @@ fn boxes_share_a_budget(rt: HostRuntime) -> Result<(), Fail> {
     let heap = Budget::new(rt.alloc(), 16);
     let first = Box::new_in(1u64, &heap)?;
     let second = Box::new_in(2u64, &heap)?;
-    assert!(rt; Box::new_in(3u64, &heap).is_err());
+    assert!(rt; !is_granted(&heap, 3u64));
     drop(first);
     let third = Box::new_in(3u64, &heap)?;
     assert!(rt; *second == 2 && *third == 3);
@@ -73,7 +97,7 @@ fn a_report_says_where_memory_goes(rt: HostRuntime) -> Result<(), Fail> {
             numbers.push(number)?;
         }
         let _table = Vec::<u64, &Counting<Budget<Global>>>::with_capacity_in(10_000, &heap)?;
-        assert!(rt; Box::new_in([0u8; 70_000], &heap).is_ok());
+        assert!(rt; is_granted(&heap, [0u8; 70_000]));
         assert!(rt;
             Vec::<u64, &Counting<Budget<Global>>>::with_capacity_in(100_000, &heap).is_err()
         );
@@ -117,7 +141,7 @@ fn blocks_given_back_in_any_order_are_used_again(rt: HostRuntime) -> Result<(), 
         assert!(rt; heap.counts().frees == 0 && heap.counts().outstanding == 96);
         pool.clear();
         assert!(rt; heap.counts().frees == 4 && heap.counts().outstanding == 0);
-        drop(Box::new_in([7u64; 3], &pool)?);
+        assert!(rt; is_granted(&pool, [7u64; 3]));
         assert!(rt; heap.counts().requests == 5 && heap.counts().outstanding == 24);
     }
     assert!(rt; heap.counts().outstanding == 0);
@@ -131,17 +155,10 @@ fn clear_gives_back_what_is_kept(rt: HostRuntime) -> Result<(), Fail> {
     let twin = pool.clone()?;
     assert!(rt; twin.size() == 24);
     let _used = Box::new_in([0u64; 3], &pool)?;
-    drop(Box::new_in([0u64; 3], &twin)?);
+    assert!(rt; is_granted(&twin, [0u64; 3]));
     // How many blocks are kept, and how many bytes come back with them.
     for (kept, bytes) in [(0u64, 0u64), (1, 24), (5, 120), (40, 960)] {
-        {
-            let mut boxes: Vec<Box<[u64; 3], &Pool<&Counting<Global>>>, Global> = Vec::new_in(
-                rt.alloc(),
-            );
-            for _ in 0..kept {
-                boxes.push(Box::new_in([0u64; 3], &pool)?)?;
-            }
-        }
+        assert!(rt; are_granted(&pool, rt.alloc(), [0u64; 3], kept));
         let before = heap.counts();
         pool.clear();
         let after = heap.counts();
@@ -164,11 +181,11 @@ fn requests_of_another_layout_are_passed_on(rt: HostRuntime) -> Result<(), Fail>
     let heap = Counting::new(rt.alloc());
     let pool = Pool::new(&heap, 16);
     assert!(rt; pool.size() == 16 && pool.inner().counts().requests == 0);
-    drop(Box::new_in([1u64; 4], &pool)?);
-    drop(Box::new_in([1u32; 4], &pool)?);
-    drop(Box::new_in(1u64, &pool)?);
+    assert!(rt; is_granted(&pool, [1u64; 4]));
+    assert!(rt; is_granted(&pool, [1u32; 4]));
+    assert!(rt; is_granted(&pool, 1u64));
     assert!(rt; heap.counts().frees == 3);
-    drop(Box::new_in([1u64; 2], &pool)?);
+    assert!(rt; is_granted(&pool, [1u64; 2]));
     assert!(rt; heap.counts().frees == 3 && heap.counts().outstanding == 16);
     // A type of the same layout takes what another one left.
     let pair = Box::new_in((1u64, 2u32), &pool)?;
@@ -183,14 +200,14 @@ fn a_pool_over_a_budget_sheds(rt: HostRuntime) -> Result<(), Fail> {
     let first = Box::new_in(1u64, &pool)?;
     let second = Box::new_in(2u64, &pool)?;
     let third = Box::new_in(3u64, &pool)?;
-    assert!(rt; Box::new_in(4u64, &pool).is_err());
+    assert!(rt; !is_granted(&pool, 4u64));
     drop(second);
-    assert!(rt; Box::new_in(4u64, &pool).is_ok());
+    assert!(rt; is_granted(&pool, 4u64));
     // What is kept counts until it is cleared.
     drop(first);
-    assert!(rt; Box::new_in([4u32; 4], &pool).is_err());
+    assert!(rt; !is_granted(&pool, [4u32; 4]));
     pool.clear();
-    assert!(rt; Box::new_in([4u32; 4], &pool).is_ok());
+    assert!(rt; is_granted(&pool, [4u32; 4]));
     assert!(rt; *third == 3 && purse(&heap) == (8, 16, 24));
     Ok(())
 }
