@@ -1,9 +1,15 @@
-//! Calls that change a vector: each request in turn is refused, those of the elements' clones too.
-use crate::seen::{End, Held, Helds, digits, end_by, end_of, held, is_given_back, numbers, stands};
+//! Calls that change a vector or make something of its elements: each request in turn is refused,
+//! those of the elements' clones too.
+use crate::items::{Fill, Watched, filled, spliced};
+use crate::seen::{
+    End, Held, List, boxed, digits, end_by, end_of, end_of_made, is_given_back, list_of, units,
+};
+use allocator_api2::SliceExt;
 use allocator_api2::boxed::Box;
 use allocator_api2::collections::{Refused, TryReserveError};
 use allocator_api2::vec::{Items, Vec};
 use std::alloc::{Allocator, Global};
+use std::cell::Cell;
 use std::clone::Clone;
 use std::test::Fail;
 use test_allocators::Faulty;
@@ -27,25 +33,39 @@ pub(crate) enum Call {
     ExtendFromWithin,
     Resize(usize),
     AssignFrom,
-    Extend,
-    ExtendBy,
+    // Of an iterator that tells nothing of how many items are to come.
+    Fill(Fill),
     ExtendHinted(usize),
     ExtendHintedBy(usize),
+    // With one element of the range taken first, and what is told of the items.
+    SpliceHinted(usize, usize, Option<usize>),
+    // Of the other list's items, of which is told how many they are.
+    SpliceTold(usize, usize),
+    // What these make is dropped.
+    FromSliceIn,
+    FromElemIn(usize),
+    ToVecIn,
+    ToVecIn2,
+    Clone,
+    ItemsClone,
+    SliceClone,
 }
 
 // How a call ends that is given another element and another vector, and the element where it is
-// handed back.
-pub(crate) fn called<T: Clone + Drop, A: Allocator + Clone>(
+// handed back. It counts how often an item is asked for.
+pub(crate) fn called<T: Clone + Drop, A: Allocator + Clone + Drop>(
     call: Call,
     v: &mut Vec<T, A>,
     one: T,
     other: Vec<T, A>,
+    alloc: A,
+    calls: &Cell<u32>,
 ) -> (End, Option<T>) {
     match call {
         Call::Push => handed(v.push(one)),
         Call::Insert => handed(v.insert(v.len().min(1), one)),
         Call::Resize(len) => (end_of(v.resize(len, one)), None),
-        _ => (end_of(called_with_many(call, v, other)), None),
+        _ => (called_with_items(call, v, other, alloc, calls), None),
     }
 }
 
@@ -57,6 +77,63 @@ fn handed<T: Drop>(ended: Result<(), Refused<T>>) -> (End, Option<T>) {
     }
 }
 
+// How a call ends that is given items, and counts how often one is asked for.
+fn called_with_items<T: Clone + Drop, A: Allocator + Clone + Drop>(
+    call: Call,
+    v: &mut Vec<T, A>,
+    other: Vec<T, A>,
+    alloc: A,
+    calls: &Cell<u32>,
+) -> End {
+    match call {
+        Call::Fill(fill) => {
+            let inner = Items::new(other, None);
+            filled(fill, v, Watched { inner, calls }, alloc)
+        }
+        Call::SpliceHinted(from, to, told) => spliced(v, (from, to), Items::new(other, told)),
+        Call::SpliceTold(from, to) => {
+            filled(Fill::Splice(from, to), v, other.into_iter(), alloc)
+        }
+        Call::ExtendHinted(told) => {
+            let inner = Items::new(other, Some(told));
+            end_of(v.extend_hinted(Watched { inner, calls }))
+        }
+        Call::ExtendHintedBy(told) => {
+            let inner = Items::new(other, Some(told));
+            end_of(v.extend_hinted_by(&mut Watched { inner, calls }))
+        }
+        _ => called_to_make(call, v, other, alloc),
+    }
+}
+
+// How a call ends that makes something of the other vector.
+fn called_to_make<T: Clone + Drop, A: Allocator + Clone + Drop>(
+    call: Call,
+    v: &mut Vec<T, A>,
+    other: Vec<T, A>,
+    alloc: A,
+) -> End {
+    match call {
+        Call::FromSliceIn => end_of_made(Vec::from_slice_in(other.as_slice(), alloc)),
+        Call::FromElemIn(count) => end_of_made(Vec::from_elem_in(other, count, alloc)),
+        Call::ToVecIn => end_of_made(other.as_slice().to_vec_in(alloc)),
+        Call::ToVecIn2 => end_of_made(other.as_slice().to_vec_in2(alloc)),
+        Call::Clone => end_of_made(other.clone()),
+        Call::ItemsClone => end_of_made(other.into_iter().clone()),
+        Call::SliceClone => end_of_boxed_clone(other),
+        Call::SplitOff(at) => end_of_made(v.split_off(at.min(v.len()))),
+        _ => end_of(called_with_many(call, v, other)),
+    }
+}
+
+// How the clone of a boxed slice of full places ends, which needs no memory to be boxed.
+fn end_of_boxed_clone<T: Clone + Drop, A: Allocator + Clone>(given: Vec<T, A>) -> End {
+    match given.into_boxed_slice() {
+        Ok(list) => end_of_made(list.clone()),
+        Err(_) => End::TooLong,
+    }
+}
+
 // What a call answers that is given another vector.
 fn called_with_many<T: Clone + Drop, A: Allocator + Clone>(
     call: Call,
@@ -65,14 +142,9 @@ fn called_with_many<T: Clone + Drop, A: Allocator + Clone>(
 ) -> Result<(), TryReserveError> {
     match call {
         Call::Append => v.append(&mut other),
-        Call::SplitOff(at) => v.split_off(at.min(v.len())).map(drop),
         Call::ExtendFromSlice => v.extend_from_slice(other.as_slice()),
         Call::ExtendFromWithin => v.extend_from_within(v.len().min(1)..v.len()),
         Call::AssignFrom => v.assign_from(&other),
-        Call::Extend => v.extend(other.into_iter()),
-        Call::ExtendBy => v.extend_by(&mut other.into_iter()),
-        Call::ExtendHinted(told) => v.extend_hinted(Items::new(other, Some(told))),
-        Call::ExtendHintedBy(told) => v.extend_hinted_by(&mut Items::new(other, Some(told))),
         _ => called_for_room(call, v),
     }
 }
@@ -100,21 +172,35 @@ fn called_for_room<T: Drop, A: Allocator>(
 // and the number that is handed back, or 0.
 type Seen = (End, u32, usize, u64, u32);
 
-// What is seen of a call on the elements 1, 2 and 3 with room for `room`, the element 9, and 4, 5
-// and 6, where the request numbered
-// `refused` fails, and whether each block is given back once.
-fn seen(alloc: Global, call: Call, room: usize, refused: u64) -> Result<(Seen, bool), Fail> {
+// The numbers and the room of a vector, and the numbers of the other.
+type Before<'a> = (&'a [u32], usize, &'a [u32]);
+
+// What is seen of a call with the element 9, where the request numbered `refused` fails; how often
+// an item is asked for, and whether each block is given back once.
+fn seen(
+    alloc: Global,
+    call: Call,
+    (first, room, others): Before<'_>,
+    refused: u64,
+) -> Result<(Seen, u32, bool), Fail> {
     let heap = Faulty::new(alloc);
-    let mut v = held(&heap, &[1, 2, 3], room)?;
-    let one = Box::new_in(9, &heap)?;
-    let other = held(&heap, &[4, 5, 6], 3)?;
+    let calls = Cell::new(0);
+    let mut v: List<'_, Held<'_>> = list_of(&heap, first, room)?;
+    let one = boxed(9, &heap)?;
+    let other = list_of(&heap, others, others.len())?;
     let before = heap.requests();
     heap.refuse(refused, 1);
-    let (end, back) = called(call, &mut v, one, other);
+    let (end, back) = called(call, &mut v, one, other, &heap, &calls);
     let requests = heap.requests().saturating_sub(before);
-    let seen = (end, digits(&v), v.capacity(), requests, number(back));
+    let seen = (
+        end,
+        digits(v.as_slice()),
+        v.capacity(),
+        requests,
+        number(back),
+    );
     drop(v);
-    Ok((seen, is_given_back(&heap)))
+    Ok((seen, calls.get(), is_given_back(&heap)))
 }
 
 // The number in an element that may have been handed back.
@@ -125,29 +211,60 @@ fn number(back: Option<Held<'_>>) -> u32 {
     }
 }
 
+// A call on the elements 1, 2 and 3 with room for so many, and 4, 5 and 6; its requests; the number
+// that is told where the first of them is refused, or a later one; and the elements and the
+// capacity where none is. With no request, the first would be refused.
+type Row = (Call, usize, u64, (usize, usize), u32, usize);
+
+const CHANGES: [Row; 40] = [
+    (Call::Push, 3, 1, (6, 0), 1239, 6),
+    (Call::Insert, 3, 1, (6, 0), 1923, 6),
+    (Call::TryReserve(2), 3, 1, (6, 0), 123, 6),
+    (Call::Reserve(2), 3, 1, (6, 0), 123, 6),
+    (Call::TryReserveExact(2), 3, 1, (5, 0), 123, 5),
+    (Call::ReserveExact(2), 3, 1, (5, 0), 123, 5),
+    (Call::ShrinkTo(4), 10, 1, (4, 0), 123, 4),
+    (Call::ShrinkToFit, 10, 1, (3, 0), 123, 3),
+    (Call::Append, 3, 1, (6, 0), 123456, 6),
+    (Call::SplitOff(1), 4, 1, (2, 0), 1, 4),
+    (Call::SplitOff(0), 4, 1, (4, 0), 0, 4),
+    (Call::ExtendFromSlice, 3, 4, (6, 6), 123456, 6),
+    (Call::ExtendFromWithin, 3, 3, (6, 5), 12323, 6),
+    (Call::Resize(5), 3, 2, (6, 5), 12399, 6),
+    (Call::Fill(Fill::Extend), 3, 1, (6, 0), 123456, 6),
+    (Call::Fill(Fill::ExtendBy), 3, 1, (6, 0), 123456, 6),
+    (Call::ExtendHinted(0), 3, 1, (6, 0), 123456, 6),
+    (Call::ExtendHintedBy(0), 3, 1, (6, 0), 123456, 6),
+    (Call::Fill(Fill::FromIterIn), 3, 1, (4, 0), 456, 4),
+    (Call::Fill(Fill::FromIterInBy), 3, 1, (4, 0), 456, 4),
+    (Call::Fill(Fill::SliceFromIterIn), 3, 2, (4, 3), 123, 3),
+    (Call::FromSliceIn, 3, 4, (3, 3), 123, 3),
+    (Call::FromElemIn(3), 3, 9, (3, 3), 123, 3),
+    (Call::ToVecIn, 3, 4, (3, 3), 123, 3),
+    (Call::ToVecIn2, 3, 4, (3, 3), 123, 3),
+    (Call::Clone, 3, 4, (3, 3), 123, 3),
+    (Call::ItemsClone, 3, 4, (3, 3), 123, 3),
+    (Call::SliceClone, 3, 4, (3, 3), 123, 3),
+    // The one element more of a resize is the value itself.
+    (Call::Push, 4, 0, (0, 0), 1239, 4),
+    (Call::Insert, 4, 0, (0, 0), 1923, 4),
+    (Call::TryReserve(7), 10, 0, (0, 0), 123, 10),
+    (Call::Reserve(7), 10, 0, (0, 0), 123, 10),
+    (Call::TryReserveExact(7), 10, 0, (0, 0), 123, 10),
+    (Call::ReserveExact(7), 10, 0, (0, 0), 123, 10),
+    (Call::ShrinkTo(10), 10, 0, (0, 0), 123, 10),
+    (Call::ShrinkToFitCleared, 10, 0, (0, 0), 0, 0),
+    (Call::Append, 6, 0, (0, 0), 123456, 6),
+    (Call::Resize(1), 3, 0, (0, 0), 1, 3),
+    (Call::Resize(4), 4, 0, (0, 0), 1239, 4),
+    (Call::Fill(Fill::Extend), 6, 0, (0, 0), 123456, 6),
+];
+
 // Refused, each of these leaves the elements; its first request, the capacity too.
 #[test]
 fn each_request_of_a_change_is_refused_in_turn(rt: HostRuntime) -> Result<(), Fail> {
-    for (call, room, requests, (first, later), done, grown) in [
-        (Call::Push, 3, 1, (6, 0), 1239, 6),
-        (Call::Insert, 3, 1, (6, 0), 1923, 6),
-        (Call::TryReserve(2), 3, 1, (6, 0), 123, 6),
-        (Call::Reserve(2), 3, 1, (6, 0), 123, 6),
-        (Call::TryReserveExact(2), 3, 1, (5, 0), 123, 5),
-        (Call::ReserveExact(2), 3, 1, (5, 0), 123, 5),
-        (Call::ShrinkTo(4), 10, 1, (4, 0), 123, 4),
-        (Call::ShrinkToFit, 10, 1, (3, 0), 123, 3),
-        (Call::Append, 3, 1, (6, 0), 123456, 6),
-        (Call::SplitOff(1), 4, 1, (2, 0), 1, 4),
-        (Call::SplitOff(0), 4, 1, (4, 0), 0, 4),
-        (Call::ExtendFromSlice, 3, 4, (6, 6), 123456, 6),
-        (Call::ExtendFromWithin, 3, 3, (6, 5), 12323, 6),
-        (Call::Resize(5), 3, 2, (6, 5), 12399, 6),
-        (Call::Extend, 3, 1, (6, 0), 123456, 6),
-        (Call::ExtendBy, 3, 1, (6, 0), 123456, 6),
-        (Call::ExtendHinted(0), 3, 1, (6, 0), 123456, 6),
-        (Call::ExtendHintedBy(0), 3, 1, (6, 0), 123456, 6),
-    ] {
+    for (call, room, requests, (first, later), done, grown) in CHANGES {
+        let before: Before<'_> = (&[1, 2, 3], room, &[4, 5, 6]);
         // A refused push or insert hands its element back.
         let back = match call {
             Call::Push | Call::Insert => 9,
@@ -160,129 +277,260 @@ fn each_request_of_a_change_is_refused_in_turn(rt: HostRuntime) -> Result<(), Fa
                 (later, grown)
             };
             let left = (End::NoMemory(number), 123, capacity, refused + 1, back);
-            assert!(rt; seen(rt.alloc(), call, room, refused)? == (left, true));
+            let (came, _calls, once) = seen(rt.alloc(), call, before, refused)?;
+            assert!(rt; came == left && once);
         }
-        let left = (End::Done, done, grown, requests, 0);
-        assert!(rt; seen(rt.alloc(), call, room, requests)? == (left, true));
+        let (came, _calls, once) = seen(rt.alloc(), call, before, requests)?;
+        assert!(rt; came == (End::Done, done, grown, requests, 0) && once);
     }
     Ok(())
 }
 
-// Where the first request would be refused, and there is none. The one element more of a resize is
-// the value itself.
-#[test]
-fn what_fits_asks_for_nothing(rt: HostRuntime) -> Result<(), Fail> {
-    for (call, room, done, capacity) in [
-        (Call::Push, 4, 1239, 4),
-        (Call::Insert, 4, 1923, 4),
-        (Call::TryReserve(7), 10, 123, 10),
-        (Call::Reserve(7), 10, 123, 10),
-        (Call::TryReserveExact(7), 10, 123, 10),
-        (Call::ReserveExact(7), 10, 123, 10),
-        (Call::ShrinkTo(10), 10, 123, 10),
-        (Call::ShrinkToFitCleared, 10, 0, 0),
-        (Call::Append, 6, 123456, 6),
-        (Call::Resize(1), 3, 1, 3),
-        (Call::Resize(4), 4, 1239, 4),
-        (Call::Extend, 6, 123456, 6),
-    ] {
-        let left = (End::Done, done, capacity, 0, 0);
-        assert!(rt; seen(rt.alloc(), call, room, 0)? == (left, true));
-    }
-    Ok(())
-}
+// A call, what it begins with, the request that is refused, what is then seen, and how often an
+// item is asked for: of an extension that is each that is placed and one more, or the end.
+type Part<'a> = (Call, Before<'a>, u64, Seen, u32);
 
-// Of an extension what fits is kept, of an assignment a beginning.
-#[test]
-fn each_request_of_many_items_leaves_a_beginning(rt: HostRuntime) -> Result<(), Fail> {
-    for (call, room, refused, left) in [
-        (Call::Extend, 4, 0, (End::NoMemory(8), 1234, 4, 1, 0)),
-        (Call::Extend, 4, 1, (End::Done, 123456, 8, 1, 0)),
-        (Call::ExtendBy, 5, 0, (End::NoMemory(10), 12345, 5, 1, 0)),
-        (
-            Call::ExtendHinted(0),
-            4,
-            0,
-            (End::NoMemory(8), 1234, 4, 1, 0),
-        ),
-        (
-            Call::ExtendHintedBy(0),
-            5,
-            0,
-            (End::NoMemory(10), 12345, 5, 1, 0),
-        ),
-        (Call::AssignFrom, 3, 0, (End::NoMemory(3), 0, 3, 1, 0)),
-        (Call::AssignFrom, 3, 1, (End::NoMemory(3), 4, 3, 2, 0)),
-        (Call::AssignFrom, 3, 2, (End::NoMemory(3), 45, 3, 3, 0)),
-        (Call::AssignFrom, 3, 3, (End::Done, 456, 3, 3, 0)),
-    ] {
-        assert!(rt; seen(rt.alloc(), call, room, refused)? == (left, true));
-    }
-    Ok(())
-}
+const EXTENSIONS: [Part<'_>; 12] = [
+    (
+        Call::Fill(Fill::Extend),
+        (&[1, 2, 3], 4, &[4, 5, 6]),
+        0,
+        (End::NoMemory(8), 1234, 4, 1, 0),
+        2,
+    ),
+    (
+        Call::Fill(Fill::Extend),
+        (&[1, 2, 3], 4, &[4, 5, 6]),
+        1,
+        (End::Done, 123456, 8, 1, 0),
+        4,
+    ),
+    (
+        Call::Fill(Fill::ExtendBy),
+        (&[1, 2, 3], 5, &[4, 5, 6]),
+        0,
+        (End::NoMemory(10), 12345, 5, 1, 0),
+        3,
+    ),
+    (
+        Call::ExtendHinted(0),
+        (&[1, 2, 3], 4, &[4, 5, 6]),
+        0,
+        (End::NoMemory(8), 1234, 4, 1, 0),
+        2,
+    ),
+    (
+        Call::ExtendHintedBy(0),
+        (&[1, 2, 3], 5, &[4, 5, 6]),
+        0,
+        (End::NoMemory(10), 12345, 5, 1, 0),
+        3,
+    ),
+    (
+        Call::Fill(Fill::Extend),
+        (&[1, 2, 3], 5, &[4, 5, 6, 7, 8]),
+        0,
+        (End::NoMemory(10), 12345, 5, 1, 0),
+        3,
+    ),
+    (
+        Call::Fill(Fill::Extend),
+        (&[1, 2, 3], 5, &[4, 5, 6, 7, 8]),
+        1,
+        (End::Done, 12345678, 10, 1, 0),
+        6,
+    ),
+    (
+        Call::ExtendHinted(0),
+        (&[1, 2, 3], 5, &[4, 5, 6, 7, 8]),
+        0,
+        (End::NoMemory(10), 12345, 5, 1, 0),
+        3,
+    ),
+    (
+        Call::ExtendHinted(0),
+        (&[1, 2, 3], 5, &[4, 5, 6, 7, 8]),
+        1,
+        (End::Done, 12345678, 10, 1, 0),
+        6,
+    ),
+    (
+        Call::Fill(Fill::FromIterIn),
+        (&[1, 2, 3], 5, &[4, 5, 6, 7, 8]),
+        0,
+        (End::NoMemory(4), 123, 5, 1, 0),
+        1,
+    ),
+    (
+        Call::Fill(Fill::FromIterIn),
+        (&[1, 2, 3], 5, &[4, 5, 6, 7, 8]),
+        1,
+        (End::NoMemory(8), 123, 5, 2, 0),
+        5,
+    ),
+    (
+        Call::Fill(Fill::FromIterIn),
+        (&[1, 2, 3], 5, &[4, 5, 6, 7, 8]),
+        2,
+        (End::Done, 45678, 8, 2, 0),
+        6,
+    ),
+];
 
 // What stood there is dropped first.
+const ASSIGNMENTS: [Part<'_>; 9] = [
+    (
+        Call::AssignFrom,
+        (&[1, 2, 3], 3, &[4, 5, 6]),
+        0,
+        (End::NoMemory(3), 0, 3, 1, 0),
+        0,
+    ),
+    (
+        Call::AssignFrom,
+        (&[1, 2, 3], 3, &[4, 5, 6]),
+        1,
+        (End::NoMemory(3), 4, 3, 2, 0),
+        0,
+    ),
+    (
+        Call::AssignFrom,
+        (&[1, 2, 3], 3, &[4, 5, 6]),
+        2,
+        (End::NoMemory(3), 45, 3, 3, 0),
+        0,
+    ),
+    (
+        Call::AssignFrom,
+        (&[1, 2, 3], 3, &[4, 5, 6]),
+        3,
+        (End::Done, 456, 3, 3, 0),
+        0,
+    ),
+    (
+        Call::AssignFrom,
+        (&[1], 1, &[4, 5, 6]),
+        0,
+        (End::NoMemory(4), 0, 1, 1, 0),
+        0,
+    ),
+    (
+        Call::AssignFrom,
+        (&[1], 1, &[4, 5, 6]),
+        1,
+        (End::NoMemory(3), 0, 4, 2, 0),
+        0,
+    ),
+    (
+        Call::AssignFrom,
+        (&[1], 1, &[4, 5, 6]),
+        2,
+        (End::NoMemory(3), 4, 4, 3, 0),
+        0,
+    ),
+    (
+        Call::AssignFrom,
+        (&[1], 1, &[4, 5, 6]),
+        3,
+        (End::NoMemory(3), 45, 4, 4, 0),
+        0,
+    ),
+    (
+        Call::AssignFrom,
+        (&[1], 1, &[4, 5, 6]),
+        4,
+        (End::Done, 456, 4, 4, 0),
+        0,
+    ),
+];
+
+// A hint that cannot be is refused where items are left and the range is full.
+const SPLICES: [Part<'_>; 9] = [
+    (
+        Call::SpliceHinted(1, 3, Some(1)),
+        (&[1, 2, 3, 4], 4, &[7, 8, 9, 10]),
+        0,
+        (End::NoMemory(8), 1784, 4, 1, 0),
+        0,
+    ),
+    (
+        Call::SpliceHinted(1, 3, Some(1)),
+        (&[1, 2, 3, 4], 4, &[7, 8, 9, 10]),
+        1,
+        (End::NoMemory(4), 17894, 8, 2, 0),
+        0,
+    ),
+    (
+        Call::SpliceHinted(1, 3, Some(1)),
+        (&[1, 2, 3, 4], 4, &[7, 8, 9, 10]),
+        2,
+        (End::Done, 179004, 8, 2, 0),
+        0,
+    ),
+    (
+        Call::SpliceTold(1, 3),
+        (&[1, 2, 3, 4], 4, &[7, 8, 9, 10]),
+        0,
+        (End::NoMemory(8), 1784, 4, 1, 0),
+        0,
+    ),
+    (
+        Call::SpliceTold(1, 3),
+        (&[1, 2, 3, 4], 4, &[7, 8, 9, 10]),
+        1,
+        (End::Done, 179004, 8, 1, 0),
+        0,
+    ),
+    (
+        Call::SpliceHinted(0, 3, Some(usize::MAX)),
+        (&[1, 2, 3, 4], 4, &[9]),
+        0,
+        (End::Done, 94, 4, 0, 0),
+        0,
+    ),
+    (
+        Call::SpliceHinted(1, 2, None),
+        (&[1, 2, 3], 3, &[8]),
+        0,
+        (End::Done, 183, 3, 0, 0),
+        0,
+    ),
+    (
+        Call::SpliceHinted(1, 3, Some(7)),
+        (&[1, 2, 3], 3, &[8, 9]),
+        0,
+        (End::Done, 189, 3, 0, 0),
+        0,
+    ),
+    (
+        Call::SpliceHinted(1, 2, Some(usize::MAX)),
+        (&[1, 2, 3], 3, &[8, 9]),
+        0,
+        (End::TooLong, 183, 3, 0, 0),
+        0,
+    ),
+];
+
+// Of an extension what fits is kept, of an assignment a beginning, and of a splice what is behind
+// the range too.
 #[test]
-fn each_request_of_an_assignment_leaves_a_beginning(rt: HostRuntime) -> Result<(), Fail> {
-    let heap = Faulty::new(rt.alloc());
-    let source = held(&heap, &[4, 5, 6], 3)?;
-    for (refused, end, left, capacity) in [
-        (0, End::NoMemory(4), 0, 1),
-        (1, End::NoMemory(3), 0, 4),
-        (2, End::NoMemory(3), 4, 4),
-        (3, End::NoMemory(3), 45, 4),
-        (4, End::Done, 456, 4),
+fn each_request_of_many_items_leaves_a_part(rt: HostRuntime) -> Result<(), Fail> {
+    for rows in [
+        EXTENSIONS.as_slice(),
+        ASSIGNMENTS.as_slice(),
+        SPLICES.as_slice(),
     ] {
-        heap.refuse(0, 0);
-        let mut v = held(&heap, &[1], 1)?;
-        heap.refuse(refused, 1);
-        assert!(rt; end_of(v.assign_from(&source)) == end);
-        assert!(rt; (digits(&v), v.capacity()) == (left, capacity));
+        for (call, before, refused, left, calls) in rows {
+            let came = seen(rt.alloc(), *call, *before, *refused)?;
+            assert!(rt; came == (*left, *calls, true));
+        }
     }
-    drop(source);
-    assert!(rt; is_given_back(&heap));
-    Ok(())
-}
-
-// The item for which there was no place is gone.
-#[test]
-fn a_refused_extension_takes_one_item_more(rt: HostRuntime) -> Result<(), Fail> {
-    let heap = Faulty::new(rt.alloc());
-    let mut v = numbers(&heap, &[1, 2], 2)?;
-    let mut more = 3..6;
-    heap.refuse(0, 1);
-    for (end, left, capacity, next) in [
-        (End::NoMemory(5), [1, 2].as_slice(), 2, Some(4)),
-        (End::Done, [1, 2, 5].as_slice(), 4, None),
-    ] {
-        assert!(rt; end_of(v.extend_by(&mut more)) == end);
-        assert!(rt; stands(&v, left, capacity));
-        assert!(rt; more.next() == next);
-    }
-    Ok(())
-}
-
-// So many units, on an allocator that grants nothing.
-fn units(count: usize) -> Result<Vec<(), Refusing>, TryReserveError> {
-    let mut v = Vec::with_capacity_in(count, Refusing)?;
-    v.resize(count, ())?;
-    Ok(v)
-}
-
-#[test]
-fn a_refused_append_leaves_both_vectors(rt: HostRuntime) -> Result<(), Fail> {
-    let heap = Faulty::new(rt.alloc());
-    let mut v = numbers(&heap, &[1, 2], 2)?;
-    let mut other = numbers(&heap, &[3], 4)?;
-    heap.refuse(0, 1);
-    assert!(rt; v.append(&mut other).is_err());
-    assert!(rt; stands(&v, &[1, 2], 2));
-    assert!(rt; stands(&other, &[3], 4));
     Ok(())
 }
 
 #[test]
 fn elements_without_size_need_no_memory(rt: HostRuntime) -> Result<(), Fail> {
+    let calls = Cell::new(0);
     for (call, len) in [
         (Call::Push, 4),
         (Call::Insert, 4),
@@ -296,12 +544,14 @@ fn elements_without_size_need_no_memory(rt: HostRuntime) -> Result<(), Fail> {
         (Call::ExtendFromWithin, 5),
         (Call::Resize(5), 5),
         (Call::AssignFrom, 3),
-        (Call::Extend, 6),
+        (Call::Fill(Fill::Extend), 6),
         (Call::ExtendHinted(usize::MAX), 6),
+        (Call::SpliceHinted(1, 2, Some(1)), 5),
     ] {
-        let mut v = units(3)?;
-        let (end, _back) = called(call, &mut v, (), units(3)?);
-        assert!(rt; (end, v.len(), v.capacity()) == (End::Done, len, usize::MAX));
+        let mut v = units(3, Refusing)?;
+        let (end, _back) = called(call, &mut v, (), units(3, Refusing)?, Refusing, &calls);
+        assert!(rt; end == End::Done);
+        assert!(rt; (v.len(), v.capacity()) == (len, usize::MAX));
     }
     Ok(())
 }

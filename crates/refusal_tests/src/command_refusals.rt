@@ -1,28 +1,13 @@
 //! Each command of `run` that can be refused for the bytes or for the length. `run_commands` has
 //! those refused for want of memory.
 use crate::plain_machine::{Answer, Told};
-use crate::run_commands::{Element, List, Number, commands_of, is_answer, list_of, ran};
-use crate::seen::{most_units, stands};
+use crate::run_commands::{commands_of, is_answer, ran};
+use crate::seen::{List, list_of, most_units, stands};
 use allocator_api2::collections::TryReserveError;
 use std::alloc::Global;
 use std::mem::forget;
 use std::test::Fail;
 use test_allocators::Faulty;
-
-// A unit stands for 0.
-impl Number for () {
-    fn number(&self) -> u32 {
-        0
-    }
-}
-
-impl<'a> Element<'a> for () {
-    const CLONED: bool = false;
-
-    fn of(_heap: &'a Faulty<Global>, _number: u32) -> Result<(), TryReserveError> {
-        Ok(())
-    }
-}
 
 // Runs a command on the lists 1, 2 and 3, and 5, in full places: whether it is refused, and whether
 // the lists stay.
@@ -52,7 +37,11 @@ fn each_command_is_refused_past_the_limits(rt: HostRuntime) -> Result<(), Fail> 
         (Told::Splice(2, 0, 1, Some(1 << 61)), false),
         (Told::Splice(2, 0, 1, Some(most)), false),
     ] {
-        assert!(rt; refuses(rt.alloc(), told)? == (true, stay), "{told:?}");
+        assert!(rt;
+            refuses(rt.alloc(), told)? == (true, stay),
+            "{}",
+            told.name()
+        );
     }
     Ok(())
 }
@@ -76,7 +65,11 @@ fn each_command_is_refused_for_the_length(rt: HostRuntime) -> Result<(), Fail> {
     ] {
         let commands = commands_of(&heap, &[told])?;
         let (replies, _requests) = ran(&heap, &mut main, &mut side, commands, u64::MAX)?;
-        assert!(rt; is_answer(replies.as_slice(), Answer::Overflow), "{told:?}");
+        assert!(rt;
+            is_answer(replies.as_slice(), Answer::Overflow),
+            "{}",
+            told.name()
+        );
     }
     assert!(rt; (main.len(), side.len()) == (usize::MAX, usize::MAX));
     forget(main);

@@ -3,29 +3,29 @@
 //!
 //! Each public call that takes memory or clones, the number of its requests in a worked case, and
 //! the module whose test refuses each of them in turn and looks at the error, at what stands then,
-//! and at what comes back. `clones` refuses the clone of an allocator, and
+//! and at what comes back. `clones` and `conversions` refuse the clone of an allocator, and
 //! `overflows` and `command_refusals` ask for lengths past `usize::MAX` and for bytes past
 //! `isize::MAX`.
 //!
 //! | Call | Requests | Refused in |
 //! |---|---|---|
-//! | `RawVec::with_capacity_in` | 1 | `makers` |
-//! | `RawVec::reserve`, `reserve_exact`, `reserve_for_push` | 1 | `block_refusals` |
-//! | `RawVec::try_reserve`, `try_reserve_exact`, `shrink_to_fit` | 1 | `block_refusals` |
-//! | `IntoIter::clone` | 1, and 3 of the elements | `makers`, `drain_refusals`, `clones` |
-//! | `Box::new_in`, `try_new_in`, `try_default` | 1 | `box_refusals` |
-//! | `Box::new_uninit_in`, `try_new_uninit_in` | 1 | `box_refusals` |
-//! | `Box::clone` | 1, and 1 of the value | `box_refusals`, `clones` |
-//! | `BoxedSlice::from_array_in` | 1 | `array_refusals` |
-//! | `BoxedSlice::from_slice` | 1 | `makers` |
-//! | `BoxedSlice::from_iter_in` | 2; 4 for nine items that nothing is told of | `box_refusals` |
-//! | `BoxedSlice::from_iter_in_by` | 2 | `makers`, `aa_boxed_tests` |
-//! | `BoxedSlice::clone` | 1, and 3 of the elements | `makers`, `clones` |
-//! | `BoxedSlice::try_into_array`, `Box::slice` | 1 | `array_refusals`, `clones` |
-//! | `into_vec` of an array in a box | 1 | `array_refusals`, `clones` |
-//! | `BoxedText::from_text` | 1 | `makers` |
-//! | `append_texts`, `append_texts_by` | 1 | `box_refusals`, `aa_boxed_tests` |
-//! | `Vec::with_capacity_in` | 1 | `makers` |
+//! | `RawVec::with_capacity_in` | 1 | `copies` |
+//! | `RawVec::reserve`, `reserve_exact`, `reserve_for_push` | 1 | `boxes` |
+//! | `RawVec::try_reserve`, `try_reserve_exact`, `shrink_to_fit` | 1 | `boxes` |
+//! | `IntoIter::clone` | 1, and 3 of the elements | `changes`, `clones` |
+//! | `Box::new_in`, `try_new_in`, `try_default` | 1 | `boxes` |
+//! | `Box::new_uninit_in`, `try_new_uninit_in` | 1 | `boxes` |
+//! | `Box::clone` | 1, and 4 of the value | `clones` |
+//! | `BoxedSlice::from_array_in` | 1 | `conversions` |
+//! | `BoxedSlice::from_slice` | 1 | `copies` |
+//! | `BoxedSlice::from_iter_in` | 2; 4 for nine items | `changes`, `aa_boxed_tests` |
+//! | `BoxedSlice::from_iter_in_by` | 4 | `aa_boxed_tests` |
+//! | `BoxedSlice::clone` | 1, and 3 of the elements | `changes`, `clones` |
+//! | `BoxedSlice::try_into_array`, `Box::slice` | 1 | `conversions` |
+//! | `into_vec` of an array in a box | 1 | `conversions` |
+//! | `BoxedText::from_text` | 1 | `copies` |
+//! | `append_texts`, `append_texts_by` | 1 | `aa_boxed_tests` |
+//! | `Vec::with_capacity_in` | 1 | `copies` |
 //! | `Vec::push` | 1 | `changes`, `refusals` |
 //! | `Vec::insert` | 1 | `changes` |
 //! | `Vec::try_reserve`, `reserve`, `try_reserve_exact`, `reserve_exact` | 1 | `changes` |
@@ -36,47 +36,43 @@
 //! | `Vec::extend_from_within` | 1, and 2 of the elements | `changes` |
 //! | `Vec::resize` | 1, and 1 of the elements | `changes` |
 //! | `Vec::assign_from` | 1, and 3 of the elements | `changes` |
-//! | `Vec::extend`, `extend_by`, `extend_hinted`, `extend_hinted_by` | 1 | `changes` |
-//! | `Splice::finish` | 1 | `splice_refusals` |
-//! | `Splice::finish_hinted` | 2 | `splice_refusals` |
-//! | `Vec::extend_copied`, `extend_copied_by` | 1 | `plain_changes` |
-//! | `Vec::extend_from_slice_copied`, `extend_from_within_copied` | 1 | `plain_changes` |
-//! | `Vec::resize_with`, `resize_by` | 1 | `plain_changes` |
-//! | `Vec::write`, `write_all` | 1 | `plain_changes` |
-//! | `Vec::clone` | 1, and 3 of the elements | `makers`, `clones` |
-//! | `Vec::clone_copied` | 1 | `plain_changes`, `clones` |
-//! | `Vec::from_slice_in` | 1, and 3 of the elements | `makers` |
-//! | `SliceExt::to_vec_in`, `to_vec_in2` | 1, and 3 of the elements | `makers` |
-//! | `Vec::from_elem_in` | 1, and 4 for each clone but the last | `makers` |
-//! | `Vec::from_iter_in`, `from_iter_in_by` | 1 | `makers` |
-//! | `Vec::from_slice_copied_in`, `from_text_in`, `Repeat::repeat_in` | 1 | `makers` |
-//! | `Vec::from_array_in`, `vec_of!` | 1 | `array_refusals` |
-//! | `Vec::into_boxed_slice` | 1 | `box_refusals` |
-//! | `Vec::into_flattened` | 1 | `array_refusals` |
-//! | `GapBuffer::with_capacity_in` | 1 | `makers` |
+//! | `Vec::extend`, `extend_by`, `extend_hinted`, `extend_hinted_by` | 1 | `changes`, `items` |
+//! | `Splice::finish` | 1 | `changes`, `items` |
+//! | `Splice::finish_hinted` | 2 | `changes` |
+//! | `Vec::extend_copied`, `extend_copied_by` | 1 | `copies`, `items` |
+//! | `Vec::extend_from_slice_copied`, `extend_from_within_copied` | 1 | `copies` |
+//! | `Vec::resize_with`, `resize_by` | 1 | `copies` |
+//! | `Vec::write`, `write_all` | 1 | `copies` |
+//! | `Vec::clone` | 1, and 3 of the elements | `changes`, `clones` |
+//! | `Vec::clone_copied` | 1 | `copies`, `clones` |
+//! | `Vec::from_slice_in` | 1, and 3 of the elements | `changes` |
+//! | `SliceExt::to_vec_in`, `to_vec_in2` | 1, and 3 of the elements | `changes` |
+//! | `Vec::from_elem_in` | 1, and 4 for each clone but the last | `changes` |
+//! | `Vec::from_iter_in`, `from_iter_in_by` | 1 | `changes`, `items` |
+//! | `Vec::from_slice_copied_in`, `from_text_in`, `Repeat::repeat_in` | 1 | `copies` |
+//! | `Vec::from_array_in`, `vec_of!` | 1 | `conversions` |
+//! | `Vec::into_boxed_slice` | 1 | `conversions` |
+//! | `Vec::into_flattened` | 1 | `conversions` |
+//! | `GapBuffer::with_capacity_in` | 1 | `aa_gap_tests` |
 //! | `GapBuffer::insert`, `reserve`, `edit_all` | 1 | `aa_gap_tests` |
 //! | `run`: `Push`, `Insert`, `Reserve`, `ReserveExact`, `ShrinkTo` | 1 | `run_commands` |
 //! | `run`: `SplitOff`, `Append`, `Resize`, `Drain` | 1 | `run_commands` |
 //! | `run`: `ExtendFromWithin`, `ExtractIf` | 1 | `run_commands` |
-//! | `run`: `Extend`, `Splice` | 1; 4 for ten items of which four are told | `run_commands`, `runs` |
+//! | `run`: `Extend`, `Splice` | 1; 4 for ten items, four told | `run_commands`, `runs` |
 //!
 //! `run_commands` runs every command on lists of 0 to 100 numbers, and of 0 to 8 whose clones take
 //! memory, with each request refused in turn, beside `plain_machine`, which says in plain words
 //! what is left.
 //!
-//! `taken` counts what the calls take of an iterator that they are given, and `hints` what they ask
-//! for where its `size_hint` is exact.
+//! `changes` and `items` count what the calls take of an iterator that they are given, and `items`
+//! looks at what they ask for where its `size_hint` is exact.
 //!
 //! The calls of the same names on the global allocator hand on to these; nothing here refuses what
 //! that grants, but lengths and bytes past the limits.
 #![tactic(auto)]
 
 #[cfg(test)]
-mod array_refusals;
-#[cfg(test)]
-mod block_refusals;
-#[cfg(test)]
-mod box_refusals;
+mod boxes;
 #[cfg(test)]
 mod changes;
 #[cfg(test)]
@@ -84,15 +80,13 @@ mod clones;
 #[cfg(test)]
 mod command_refusals;
 #[cfg(test)]
-mod drain_refusals;
+mod conversions;
 #[cfg(test)]
-mod hints;
+mod copies;
 #[cfg(test)]
-mod makers;
+mod items;
 #[cfg(test)]
 mod overflows;
-#[cfg(test)]
-mod plain_changes;
 #[cfg(test)]
 mod plain_machine;
 #[cfg(test)]
@@ -103,9 +97,3 @@ mod run_commands;
 mod runs;
 #[cfg(test)]
 mod seen;
-#[cfg(test)]
-mod slices;
-#[cfg(test)]
-mod splice_refusals;
-#[cfg(test)]
-mod taken;

@@ -1,11 +1,10 @@
 //! What a command of `run` leaves of two lists of numbers, in plain words: where all memory is
 //! granted, and where one request is refused.
-use std::alloc::Global;
-use std::test::Fail;
+use std::alloc::{AllocError, Global};
 
 /// A command whose element is 7, and whose items are 100, 101 and so on: as many as its first
 /// number says.
-#[derive(Clone, Copy, Debug)]
+#[derive(Clone, Copy)]
 pub(crate) enum Told {
     Push,
     Within,
@@ -31,7 +30,7 @@ pub(crate) enum Told {
 }
 
 /// A reply, and of a refusal for want of memory the least and the greatest number that it may have.
-#[derive(Clone, Copy, Debug)]
+#[derive(Clone, Copy)]
 pub(crate) enum Answer {
     Done,
     Item(u32),
@@ -64,6 +63,35 @@ pub(crate) struct Machine {
     pub(crate) side: Plain,
     pub(crate) memory: Memory,
     pub(crate) alloc: Global,
+}
+
+impl Told {
+    /// What a test that fails calls it.
+    pub(crate) fn name(self) -> &'static str {
+        match self {
+            Told::Push => "push",
+            Told::Within => "within",
+            Told::Pop => "pop",
+            Told::Insert(_) => "insert",
+            Told::Remove(_) => "remove",
+            Told::SwapRemove(_) => "swap_remove",
+            Told::Truncate(_) => "truncate",
+            Told::Clear => "clear",
+            Told::Reserve(_) => "reserve",
+            Told::ReserveExact(_) => "reserve_exact",
+            Told::ShrinkTo(_) => "shrink_to",
+            Told::SplitOff(_) => "split_off",
+            Told::Append => "append",
+            Told::Extend(..) => "extend",
+            Told::ExtendFromWithin(..) => "extend_from_within",
+            Told::Resize(_) => "resize",
+            Told::Retain => "retain",
+            Told::Dedup => "dedup",
+            Told::Drain(..) => "drain",
+            Told::ExtractIf(..) => "extract_if",
+            Told::Splice(..) => "splice",
+        }
+    }
 }
 
 impl Memory {
@@ -108,7 +136,7 @@ impl Memory {
         list: &mut Plain,
         items: &[u32],
         hint: Option<usize>,
-    ) -> Result<Answer, Fail> {
+    ) -> Result<Answer, AllocError> {
         let mut left = items.len();
         for x in items {
             left = left.saturating_sub(1);
@@ -130,7 +158,7 @@ fn part(list: &[u32], start: usize, end: usize) -> &[u32] {
 }
 
 /// The numbers of the lists, one behind the other.
-pub(crate) fn joined(alloc: Global, lists: &[&[u32]]) -> Result<Vec<u32>, Fail> {
+pub(crate) fn joined(alloc: Global, lists: &[&[u32]]) -> Result<Vec<u32>, AllocError> {
     let mut all = Vec::new(alloc);
     for list in lists {
         all.extend_from_slice(list)?;
@@ -139,7 +167,7 @@ pub(crate) fn joined(alloc: Global, lists: &[&[u32]]) -> Result<Vec<u32>, Fail> 
 }
 
 /// So many numbers from `first` on.
-pub(crate) fn numbers_from(alloc: Global, first: u32, count: u32) -> Result<Vec<u32>, Fail> {
+pub(crate) fn numbers_from(alloc: Global, first: u32, count: u32) -> Result<Vec<u32>, AllocError> {
     let mut all = Vec::new(alloc);
     for x in 0..count {
         all.push(first.saturating_add(x))?;
@@ -149,7 +177,7 @@ pub(crate) fn numbers_from(alloc: Global, first: u32, count: u32) -> Result<Vec<
 
 impl Machine {
     /// Does a command, and tells the reply.
-    pub(crate) fn does(&mut self, told: Told) -> Result<Answer, Fail> {
+    pub(crate) fn does(&mut self, told: Told) -> Result<Answer, AllocError> {
         let len = self.main.items.len();
         match told {
             Told::Push => self.insert(len),
@@ -215,64 +243,67 @@ impl Machine {
         }
     }
 
-    // Main's elements are now these.
-    fn holds(&mut self, lists: &[&[u32]]) -> Result<Answer, Fail> {
-        self.main.items = joined(self.alloc, lists)?;
+    // Puts others in place of the elements from one index to before another, and hands those out.
+    fn replaced(
+        &mut self,
+        start: usize,
+        end: usize,
+        others: &[u32],
+    ) -> Result<Vec<u32>, AllocError> {
+        let old = self.main.items.as_slice();
+        let range = joined(self.alloc, &[part(old, start, end)])?;
+        let all = [part(old, 0, start), others, part(old, end, usize::MAX)];
+        self.main.items = joined(self.alloc, &all)?;
+        Ok(range)
+    }
+
+    // The same, where those are gone.
+    fn edited(&mut self, start: usize, end: usize, others: &[u32]) -> Result<Answer, AllocError> {
+        let _gone = self.replaced(start, end, others)?;
         Ok(Answer::Done)
     }
 
-    fn insert(&mut self, at: usize) -> Result<Answer, Fail> {
-        if let Err(refused) = self.memory.room(&mut self.main, 1) {
-            return Ok(refused);
+    fn insert(&mut self, at: usize) -> Result<Answer, AllocError> {
+        match self.memory.room(&mut self.main, 1) {
+            Ok(()) => self.edited(at, at, &[7]),
+            Err(refused) => Ok(refused),
         }
-        let old = joined(self.alloc, &[self.main.items.as_slice()])?;
-        self.holds(&[part(&old, 0, at), &[7], part(&old, at, usize::MAX)])
     }
 
     // The element at an index is taken, and others stand in its place.
-    fn remove(&mut self, at: usize, instead: &[u32]) -> Result<Answer, Fail> {
-        let old = joined(self.alloc, &[self.main.items.as_slice()])?;
-        self.holds(&[
-            part(&old, 0, at),
-            instead,
-            part(&old, at.saturating_add(1), usize::MAX),
-        ])?;
-        match old.as_slice().get(at) {
-            Some(x) => Ok(Answer::Item(*x)),
-            None => Ok(Answer::Range),
+    fn remove(&mut self, at: usize, instead: &[u32]) -> Result<Answer, AllocError> {
+        let gone = self.replaced(at, at.saturating_add(1), instead)?;
+        match gone.as_slice() {
+            [x] => Ok(Answer::Item(*x)),
+            _ => Ok(Answer::Range),
         }
     }
 
-    fn swap_remove(&mut self, at: usize) -> Result<Answer, Fail> {
+    fn swap_remove(&mut self, at: usize) -> Result<Answer, AllocError> {
         let last = self.main.items.len().saturating_sub(1);
         if at == last {
             return self.remove(at, &[]);
         }
-        let old = joined(self.alloc, &[self.main.items.as_slice()])?;
-        self.keeps(last)?;
-        self.remove(at, part(&old, last, usize::MAX))
+        let moved = self.replaced(last, usize::MAX, &[])?;
+        self.remove(at, &moved)
     }
 
-    fn keeps(&mut self, count: usize) -> Result<Answer, Fail> {
-        let old = joined(self.alloc, &[self.main.items.as_slice()])?;
-        self.holds(&[part(&old, 0, count)])
+    fn keeps(&mut self, count: usize) -> Result<Answer, AllocError> {
+        self.edited(count, usize::MAX, &[])
     }
 
-    fn split_off(&mut self, at: usize) -> Result<Answer, Fail> {
-        let old = joined(self.alloc, &[self.main.items.as_slice()])?;
-        let cut = old.len().saturating_sub(at);
+    fn split_off(&mut self, at: usize) -> Result<Answer, AllocError> {
+        let cut = self.main.items.len().saturating_sub(at);
         let places = if at == 0 { self.main.places } else { cut };
         if places > 0 && !self.memory.grants() {
             return Ok(Answer::Refused(places, places));
         }
-        self.side = Plain {
-            items: joined(self.alloc, &[part(&old, at, usize::MAX)])?,
-            places,
-        };
-        self.keeps(at)
+        let items = self.replaced(at, usize::MAX, &[])?;
+        self.side = Plain { items, places };
+        Ok(Answer::Done)
     }
 
-    fn append(&mut self) -> Result<Answer, Fail> {
+    fn append(&mut self) -> Result<Answer, AllocError> {
         if let Err(refused) = self.memory.room(&mut self.main, self.side.items.len()) {
             return Ok(refused);
         }
@@ -281,13 +312,13 @@ impl Machine {
         Ok(Answer::Done)
     }
 
-    fn extend(&mut self, count: u32, hint: Option<usize>) -> Result<Answer, Fail> {
+    fn extend(&mut self, count: u32, hint: Option<usize>) -> Result<Answer, AllocError> {
         let items = numbers_from(self.alloc, 100, count)?;
         self.memory.extend(&mut self.main, &items, hint)
     }
 
     // Room for all at once, and then so many clones.
-    fn adds(&mut self, more: &[u32], clones: usize) -> Result<Answer, Fail> {
+    fn adds(&mut self, more: &[u32], clones: usize) -> Result<Answer, AllocError> {
         if let Err(refused) = self.memory.room(&mut self.main, more.len()) {
             return Ok(refused);
         }
@@ -299,12 +330,12 @@ impl Machine {
         Ok(Answer::Done)
     }
 
-    fn repeat(&mut self, from: usize, to: usize) -> Result<Answer, Fail> {
+    fn repeat(&mut self, from: usize, to: usize) -> Result<Answer, AllocError> {
         let more = joined(self.alloc, &[part(&self.main.items, from, to)])?;
         self.adds(&more, more.len())
     }
 
-    fn resize(&mut self, count: usize) -> Result<Answer, Fail> {
+    fn resize(&mut self, count: usize) -> Result<Answer, AllocError> {
         let mut more = Vec::new(self.alloc);
         for _new in self.main.items.len()..count {
             more.push(7)?;
@@ -315,24 +346,26 @@ impl Machine {
         self.adds(&more, more.len().saturating_sub(1))
     }
 
-    fn retain(&mut self) -> Result<Answer, Fail> {
+    fn retain(&mut self) -> Result<Answer, AllocError> {
         let mut kept = Vec::new(self.alloc);
         for x in self.main.items.iter() {
             if x % 2 == 0 {
                 kept.push(*x)?;
             }
         }
-        self.holds(&[&kept])
+        self.main.items = kept;
+        Ok(Answer::Done)
     }
 
-    fn dedup(&mut self) -> Result<Answer, Fail> {
+    fn dedup(&mut self) -> Result<Answer, AllocError> {
         let mut kept: Vec<u32> = Vec::new(self.alloc);
         for x in self.main.items.iter() {
             if kept.as_slice().last() != Some(x) {
                 kept.push(*x)?;
             }
         }
-        self.holds(&[&kept])
+        self.main.items = kept;
+        Ok(Answer::Done)
     }
 
     fn drain(
@@ -342,36 +375,30 @@ impl Machine {
         front: usize,
         back: usize,
         keep: bool,
-    ) -> Result<Answer, Fail> {
-        let old = joined(self.alloc, &[self.main.items.as_slice()])?;
-        let range = part(&old, start, end);
-        let first = front.min(range.len());
-        let last = back.min(range.len().saturating_sub(first));
-        let behind = range.len().saturating_sub(last);
+    ) -> Result<Answer, AllocError> {
+        let count = end.saturating_sub(start);
+        let first = front.min(count);
+        let last = back.min(count.saturating_sub(first));
         if let Err(refused) = self.memory.room(&mut self.side, first.saturating_add(last)) {
             return Ok(refused);
         }
-        self.side.items.extend_from_slice(part(range, 0, first))?;
-        for x in part(range, behind, usize::MAX).iter().rev() {
+        let range = self.replaced(start, end, &[])?;
+        let behind = count.saturating_sub(last);
+        self.side.items.extend_from_slice(part(&range, 0, first))?;
+        for x in part(&range, behind, usize::MAX).iter().rev() {
             self.side.items.push(*x)?;
         }
-        let left = if keep {
-            part(range, first, behind)
-        } else {
-            &[]
-        };
-        self.holds(&[part(&old, 0, start), left, part(&old, end, usize::MAX)])
+        let left = if keep { behind } else { first };
+        self.edited(start, start, part(&range, first, left))
     }
 
-    fn extract(&mut self, start: usize, end: usize, take: usize) -> Result<Answer, Fail> {
-        let old = joined(self.alloc, &[self.main.items.as_slice()])?;
-        let range = part(&old, start, end);
-        let mut may_take = take.min(range.len());
+    fn extract(&mut self, start: usize, end: usize, take: usize) -> Result<Answer, AllocError> {
+        let mut may_take = take.min(end.saturating_sub(start));
         if let Err(refused) = self.memory.room(&mut self.side, may_take) {
             return Ok(refused);
         }
         let mut left = Vec::new(self.alloc);
-        for x in range {
+        for x in part(&self.main.items, start, end) {
             if may_take > 0 && x % 2 == 0 {
                 may_take = may_take.saturating_sub(1);
                 self.side.items.push(*x)?;
@@ -379,7 +406,7 @@ impl Machine {
                 left.push(*x)?;
             }
         }
-        self.holds(&[part(&old, 0, start), &left, part(&old, end, usize::MAX)])
+        self.edited(start, end, &left)
     }
 
     fn splice(
@@ -388,18 +415,16 @@ impl Machine {
         start: usize,
         end: usize,
         hint: Option<usize>,
-    ) -> Result<Answer, Fail> {
-        let old = joined(self.alloc, &[self.main.items.as_slice()])?;
-        let (head, behind) = (part(&old, 0, start), part(&old, end, usize::MAX));
-        self.holds(&[head])?;
-        if behind.is_empty() {
+    ) -> Result<Answer, AllocError> {
+        let len = self.main.items.len();
+        if end == len {
+            let _gone = self.keeps(start)?;
             return self.extend(count, hint);
         }
         let items = numbers_from(self.alloc, 100, count)?;
-        let others = head.len().saturating_add(behind.len());
-        let range = old.len().saturating_sub(others);
-        let (answer, placed) = self.places_between(&items, range, others, hint)?;
-        self.holds(&[head, part(&items, 0, placed), behind])?;
+        let range = end.saturating_sub(start);
+        let (answer, placed) = self.places_between(&items, range, len.saturating_sub(range), hint)?;
+        let _gone = self.edited(start, end, part(&items, 0, placed))?;
         Ok(answer)
     }
 
@@ -412,7 +437,7 @@ impl Machine {
         range: usize,
         others: usize,
         hint: Option<usize>,
-    ) -> Result<(Answer, usize), Fail> {
+    ) -> Result<(Answer, usize), AllocError> {
         if items.len() < range {
             return Ok((Answer::Done, items.len()));
         }

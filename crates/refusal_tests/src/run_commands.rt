@@ -3,85 +3,23 @@
 ghost use Rattle.aa_vec.specs.Copies.{Copies};
 
 use crate::plain_machine::{Answer, Machine, Memory, Plain, Told, numbers_from};
-use allocator_api2::boxed::Box;
+use crate::seen::{Element, Held, List, Number, list_of, put, room_for};
 use allocator_api2::collections::{TryReserveError, TryReserveErrorKind};
 use allocator_api2::runner::{Command, Reply, run};
 use allocator_api2::vec;
-use std::alloc::Global;
+use std::alloc::{AllocError, Global};
 use std::process::Abort;
 use std::test::Fail;
 use test_allocators::Faulty;
-
-// A list on the allocator of a test.
-pub(crate) type List<'a, T> = vec::Vec<T, &'a Faulty<Global>>;
-
-// What stands for a number in the lists.
-pub(crate) trait Number: Clone {
-    fn number(&self) -> u32;
-}
-
-impl Number for u32 {
-    fn number(&self) -> u32 {
-        *self
-    }
-}
-
-// A number whose clone takes memory: what is outstanding and what was given back count the
-// elements.
-impl Number for Box<u32, &Faulty<Global>> {
-    fn number(&self) -> u32 {
-        **self
-    }
-}
-
-// How an element of a number is made.
-pub(crate) trait Element<'a>: Number {
-    // Whether its clone takes memory.
-    const CLONED: bool;
-
-    fn of(heap: &'a Faulty<Global>, number: u32) -> Result<Self, TryReserveError>;
-}
-
-impl<'a> Element<'a> for u32 {
-    const CLONED: bool = false;
-
-    fn of(_heap: &'a Faulty<Global>, number: u32) -> Result<u32, TryReserveError> {
-        Ok(number)
-    }
-}
-
-impl<'a> Element<'a> for Box<u32, &'a Faulty<Global>> {
-    const CLONED: bool = true;
-
-    fn of(heap: &'a Faulty<Global>, number: u32) -> Result<Self, TryReserveError> {
-        match Box::new_in(number, heap) {
-            Ok(held) => Ok(held),
-            Err(_) => Err(TryReserveErrorKind::AllocError { capacity: 1 }.into()),
-        }
-    }
-}
-
-// The elements of these numbers, with so many places.
-pub(crate) fn list_of<'a, T: Element<'a> + Drop>(
-    heap: &'a Faulty<Global>,
-    numbers: &[u32],
-    places: usize,
-) -> Result<List<'a, T>, TryReserveError> {
-    let mut list = vec::Vec::with_capacity_in(places, heap)?;
-    for number in numbers {
-        list.push(T::of(heap, *number)?)?;
-    }
-    Ok(list)
-}
 
 // The items of a command.
 fn items_of<'a, T: Element<'a> + Drop>(
     heap: &'a Faulty<Global>,
     count: u32,
 ) -> Result<List<'a, T>, TryReserveError> {
-    let mut list = vec::Vec::with_capacity_in(0, heap)?;
+    let mut list = room_for(0, heap)?;
     for number in 0..count {
-        list.push(T::of(heap, number.saturating_add(100))?)?;
+        put(&mut list, T::of(heap, number.saturating_add(100))?)?;
     }
     Ok(list)
 }
@@ -146,9 +84,9 @@ pub(crate) fn commands_of<'a, T: Element<'a> + Drop>(
     heap: &'a Faulty<Global>,
     all: &[Told],
 ) -> Result<List<'a, Command<T, &'a Faulty<Global>>>, TryReserveError> {
-    let mut commands = vec::Vec::with_capacity_in(all.len(), heap)?;
+    let mut commands = room_for(all.len(), heap)?;
     for told in all {
-        commands.push(command_of(heap, *told)?)?;
+        put(&mut commands, command_of(heap, *told)?)?;
     }
     Ok(commands)
 }
@@ -186,17 +124,19 @@ fn is_refusal(kind: TryReserveErrorKind, answer: Answer) -> bool {
 
 // Whether a list has the numbers and the places that it must have.
 fn is_list<T: Number>(list: &List<'_, T>, plain: &Plain) -> bool {
-    list.capacity() == plain.places
-        && list.len() == plain.items.len()
-        && list
-            .as_slice()
-            .iter()
-            .zip(plain.items.iter())
-            .all(|(x, y)| x.number() == *y)
+    if list.capacity() != plain.places || list.len() != plain.items.len() {
+        return false;
+    }
+    for (x, y) in list.as_slice().iter().zip(plain.items.iter()) {
+        if x.number() != *y {
+            return false;
+        }
+    }
+    true
 }
 
 // How long main is, how many places are free in both lists, and which request is refused.
-#[derive(Clone, Copy, Debug)]
+#[derive(Clone, Copy)]
 struct Case {
     len: u32,
     free: usize,
@@ -204,7 +144,7 @@ struct Case {
 }
 
 // The machine of a case: main's numbers come in pairs, and side has three.
-fn machine_of(alloc: Global, case: Case, cloned: bool) -> Result<Machine, Fail> {
+fn machine_of(alloc: Global, case: Case, cloned: bool) -> Result<Machine, AllocError> {
     let mut main = Vec::new(alloc);
     for x in 0..case.len {
         main.push(x / 2)?;
@@ -254,14 +194,35 @@ pub(crate) fn ran<'a, T: Number + Drop>(
     Ok((replies, heap.requests().saturating_sub(before)))
 }
 
+// What is not as it must be.
+#[derive(Clone, Copy)]
+enum Fault {
+    Nothing,
+    Reply,
+    Main,
+    Side,
+    Requests,
+}
+
+impl Fault {
+    // What a test that fails calls it.
+    fn name(self) -> &'static str {
+        match self {
+            Fault::Nothing => "",
+            Fault::Reply => "reply",
+            Fault::Main => "main",
+            Fault::Side => "side",
+            Fault::Requests => "requests",
+        }
+    }
+}
+
 // Runs one command in a case, and looks at the reply, both lists and the number of requests.
-fn runs_one<'a, T: Element<'a> + Drop>(
-    rt: &impl Abort,
+fn fault_of_one<'a, T: Element<'a> + Drop>(
     heap: &'a Faulty<Global>,
     machine: &mut Machine,
     told: Told,
-    case: Case,
-) -> Result<(), Fail>
+) -> Result<Fault, TryReserveError>
     requires copies { Copies T.is_clone }
 {
     let mut main: List<'a, T> = list_of(heap, &machine.main.items, machine.main.places)?;
@@ -269,14 +230,19 @@ fn runs_one<'a, T: Element<'a> + Drop>(
     let commands = commands_of(heap, &[told])?;
     let (replies, requests) = ran(heap, &mut main, &mut side, commands, machine.memory.refused)?;
     let answer = machine.does(told)?;
-    assert!(rt;
-        is_answer(replies.as_slice(), answer),
-        "{told:?} {case:?}: the reply is not {answer:?}"
-    );
-    assert!(rt; is_list(&main, &machine.main), "{told:?} {case:?}: main");
-    assert!(rt; is_list(&side, &machine.side), "{told:?} {case:?}: side");
-    assert!(rt; requests == machine.memory.requests, "{told:?} {case:?}");
-    Ok(())
+    if !is_answer(replies.as_slice(), answer) {
+        return Ok(Fault::Reply);
+    }
+    if !is_list(&main, &machine.main) {
+        return Ok(Fault::Main);
+    }
+    if !is_list(&side, &machine.side) {
+        return Ok(Fault::Side);
+    }
+    if requests != machine.memory.requests {
+        return Ok(Fault::Requests);
+    }
+    Ok(Fault::Nothing)
 }
 
 // Runs one command with each request refused in turn, up to where none is.
@@ -291,10 +257,13 @@ fn refuses_each<'a, T: Element<'a> + Drop>(
 {
     for free in [0, 1, 40] {
         for refused in 0..64 {
-            let case = Case { len, free, refused };
-            let mut machine = machine_of(alloc, case, T::CLONED)?;
-            runs_one::<T>(rt, heap, &mut machine, told, case)?;
-            assert!(rt; heap.outstanding() == 0);
+            let mut machine = machine_of(alloc, Case { len, free, refused }, T::CLONED)?;
+            let fault = fault_of_one::<T>(heap, &mut machine, told)?.name();
+            assert!(rt;
+                fault.is_empty() && heap.outstanding() == 0,
+                "{} at {len} and {free} places, refused {refused}: {fault}",
+                told.name()
+            );
             if machine.memory.requests <= refused {
                 break;
             }
@@ -428,7 +397,7 @@ fn each_command_over_numbers(rt: HostRuntime) -> Result<(), Fail> {
 fn each_command_over_elements_that_count(rt: HostRuntime) -> Result<(), Fail> {
     let heap = Faulty::new(rt.alloc());
     for len in 0..=8 {
-        runs_all::<Box<u32, &Faulty<Global>>>(&rt, &heap, rt.alloc(), len)?;
+        runs_all::<Held<'_>>(&rt, &heap, rt.alloc(), len)?;
     }
     Ok(())
 }

@@ -1,6 +1,7 @@
 //! `run` over a refusing allocator, with more commands than one.
 use crate::plain_machine::{Answer, Told};
-use crate::run_commands::{List, commands_of, is_reply, list_of, ran};
+use crate::run_commands::{commands_of, is_reply, ran};
+use crate::seen::{List, list_of};
 use allocator_api2::collections::TryReserveError;
 use allocator_api2::runner::Reply;
 use std::alloc::Global;
@@ -29,10 +30,13 @@ fn run_with_one_refused(
 
 // How many replies are like this.
 fn count_of(replies: &[Reply<u32>], answer: Answer) -> usize {
-    replies
-        .iter()
-        .filter(|reply| is_reply(reply, answer))
-        .count()
+    let mut count = 0usize;
+    for reply in replies {
+        if is_reply(reply, answer) {
+            count = count.saturating_add(1);
+        }
+    }
+    count
 }
 
 #[test]
@@ -67,7 +71,7 @@ fn one_refused_request_refuses_one_command(rt: HostRuntime) -> Result<(), Fail> 
         (two_of_five.as_slice(), 2, (2, 0, 2, 4, 6)),
     ] {
         let ran = run_with_one_refused(rt.alloc(), all, refused)?;
-        assert!(rt; ran == came, "{all:?}, refused {refused}");
+        assert!(rt; ran == came, "refused {refused} of {}", all.len());
     }
     Ok(())
 }

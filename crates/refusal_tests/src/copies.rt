@@ -1,0 +1,166 @@
+//! Calls of plain copies, of bytes and of texts, and those that make room: each request in turn is
+//! refused.
+use crate::items::{copied, copied_by};
+use crate::seen::{End, end_of, end_of_made, is_given_back, room_for};
+use allocator_api2::boxed::{BoxedSlice, BoxedText};
+use allocator_api2::raw_vec::RawVec;
+use allocator_api2::slice::Repeat;
+use allocator_api2::vec::Vec;
+use std::alloc::{Allocator, Global};
+use std::io::{ErrorKind, Result as Written, Write};
+use std::test::Fail;
+use test_allocators::Faulty;
+
+// Bytes on the allocator of a test.
+type Bytes<'a> = Vec<u8, &'a Faulty<Global>>;
+
+#[derive(Clone, Copy)]
+pub(crate) enum Call {
+    ExtendFromSliceCopied,
+    ExtendFromWithinCopied,
+    ExtendCopied,
+    ExtendCopiedBy,
+    ResizeWith(usize),
+    ResizeBy(usize),
+    CloneCopied,
+    Write,
+    WriteAll,
+    // What these make is dropped.
+    BlockWithCapacityIn(usize),
+    WithCapacityIn(usize),
+    FromSliceCopiedIn,
+    // Of two numbers, so many times.
+    Repeated(usize),
+    FromTextIn,
+    SliceFromSlice,
+    TextFromText,
+}
+
+// How a write of two bytes ends, which tells how many it wrote. A refused one tells its kind alone.
+fn end_of_write(written: Written<usize>) -> End {
+    match written {
+        Ok(2) => End::Done,
+        Ok(_) => End::TooLong,
+        Err(error) if error.kind() == ErrorKind::OutOfMemory => End::NoMemory(0),
+        Err(_) => End::TooLong,
+    }
+}
+
+// How it ends to put plain copies of a slice behind the elements.
+pub(crate) fn end_of_copies<T: Copy, A: Allocator>(v: &mut Vec<T, A>, others: &[T]) -> End {
+    end_of(v.extend_from_slice_copied(others))
+}
+
+// How the plain clone of a vector ends.
+pub(crate) fn end_of_plain_clone<T: Copy + Drop, A: Allocator + Clone>(v: &Vec<T, A>) -> End {
+    end_of_made(v.clone_copied())
+}
+
+// How it ends to put as many bytes as are missing, by a closure that is given or lent.
+#[tactic(auto, using(allocator_api2::proofs::Callers::callers))]
+fn end_of_answers(v: &mut Bytes<'_>, len: usize, is_lent: bool) -> End {
+    let mut d = || b'd';
+    if is_lent {
+        end_of(v.resize_by(len, &mut d))
+    } else {
+        end_of(v.resize_with(len, d))
+    }
+}
+
+// How a call ends on a vector of bytes.
+pub(crate) fn called<'a>(call: Call, v: &mut Bytes<'a>, heap: &'a Faulty<Global>) -> End {
+    match call {
+        Call::ExtendFromSliceCopied => end_of_copies(v, b"de"),
+        Call::ExtendFromWithinCopied => {
+            let len = v.len();
+            end_of(v.extend_from_within_copied(len.min(1)..len))
+        }
+        Call::ExtendCopied => copied(v, b"de".iter()),
+        Call::ExtendCopiedBy => copied_by(v, &mut b"de".iter()),
+        Call::ResizeWith(len) => end_of_answers(v, len, false),
+        Call::ResizeBy(len) => end_of_answers(v, len, true),
+        Call::CloneCopied => end_of_plain_clone(v),
+        Call::Write => end_of_write(v.write(b"de")),
+        Call::WriteAll => match v.write_all(b"de") {
+            Ok(()) => End::Done,
+            Err(error) => end_of_write(Err(error)),
+        },
+        _ => made(call, heap),
+    }
+}
+
+// How a call ends that makes something, or room.
+fn made(call: Call, heap: &Faulty<Global>) -> End {
+    match call {
+        Call::BlockWithCapacityIn(many) => {
+            end_of_made(RawVec::<u32, _>::with_capacity_in(many, heap))
+        }
+        Call::WithCapacityIn(many) => end_of_made(room_for::<u32, _>(many, heap)),
+        Call::FromSliceCopiedIn => end_of_made(Vec::from_slice_copied_in(&[1u32, 2, 3], heap)),
+        Call::Repeated(times) => end_of_made(u32::repeat_in(&[1, 2], times, heap)),
+        Call::FromTextIn => end_of_made(Vec::from_text_in("aé", heap)),
+        Call::SliceFromSlice => end_of_made(BoxedSlice::from_slice(heap, &[1u32, 2, 3])),
+        _ => end_of_made(BoxedText::from_text(heap, "abc")),
+    }
+}
+
+// How a call on the bytes a, b and c in full places ends where its first request is refused or
+// granted, how many there were, whether the bytes are those of `left`, and the capacity; and
+// whether each block is given back once.
+fn seen(
+    alloc: Global,
+    call: Call,
+    refused: u64,
+    left: &[u8],
+) -> Result<((End, u64, bool, usize), bool), Fail> {
+    let heap = Faulty::new(alloc);
+    let mut v = room_for(3, &heap)?;
+    if end_of_copies(&mut v, b"abc") != End::Done {
+        return Ok(((End::TooLong, 0, false, 0), false));
+    }
+    let before = heap.requests();
+    heap.refuse(refused, 1);
+    let end = called(call, &mut v, &heap);
+    let requests = heap.requests().saturating_sub(before);
+    let seen = (end, requests, v.as_slice() == left, v.capacity());
+    drop(v);
+    Ok((seen, is_given_back(&heap)))
+}
+
+// A call, how many requests it makes, the number that is told where the first is refused, and the
+// bytes and the capacity where none is. With no request, the first would be refused.
+type Row<'a> = (Call, u64, usize, &'a [u8], usize);
+
+const COPIES: [Row<'_>; 18] = [
+    (Call::ExtendFromSliceCopied, 1, 8, b"abcde", 8),
+    (Call::ExtendFromWithinCopied, 1, 8, b"abcbc", 8),
+    (Call::ExtendCopied, 1, 8, b"abcde", 8),
+    (Call::ExtendCopiedBy, 1, 8, b"abcde", 8),
+    (Call::ResizeWith(5), 1, 8, b"abcdd", 8),
+    (Call::ResizeBy(5), 1, 8, b"abcdd", 8),
+    (Call::CloneCopied, 1, 3, b"abc", 3),
+    (Call::Write, 1, 0, b"abcde", 8),
+    (Call::WriteAll, 1, 0, b"abcde", 8),
+    (Call::BlockWithCapacityIn(0), 0, 0, b"abc", 3),
+    (Call::BlockWithCapacityIn(5), 1, 5, b"abc", 3),
+    (Call::WithCapacityIn(5), 1, 5, b"abc", 3),
+    (Call::FromSliceCopiedIn, 1, 3, b"abc", 3),
+    (Call::Repeated(3), 1, 6, b"abc", 3),
+    (Call::Repeated(0), 0, 0, b"abc", 3),
+    (Call::FromTextIn, 1, 3, b"abc", 3),
+    (Call::SliceFromSlice, 1, 3, b"abc", 3),
+    (Call::TextFromText, 1, 3, b"abc", 3),
+];
+
+#[test]
+fn refused_copies_leave_the_bytes(rt: HostRuntime) -> Result<(), Fail> {
+    for (call, requests, number, done, grown) in COPIES {
+        for refused in 0..requests {
+            let left = (End::NoMemory(number), 1, true, 3);
+            assert!(rt; seen(rt.alloc(), call, refused, b"abc")? == (left, true));
+        }
+        let left = (End::Done, requests, true, grown);
+        assert!(rt; seen(rt.alloc(), call, requests, done)? == (left, true));
+    }
+    Ok(())
+}
