@@ -2,12 +2,15 @@
 //! refused.
 use crate::items::{copied, copied_by};
 use crate::seen::{End, end_of, end_of_made, is_given_back, room_for};
-use allocator_api2::boxed::{BoxedSlice, BoxedText};
+use allocator_api2::boxed::{BoxedSlice, BoxedText, append_texts};
+use allocator_api2::collections::TryReserveError;
+use allocator_api2::gap_buffer::GapBuffer;
 use allocator_api2::raw_vec::RawVec;
 use allocator_api2::slice::Repeat;
 use allocator_api2::vec::Vec;
 use std::alloc::{Allocator, Global};
 use std::io::{ErrorKind, Result as Written, Write};
+use std::string::String;
 use std::test::Fail;
 use test_allocators::Faulty;
 
@@ -27,6 +30,7 @@ pub(crate) enum Call {
     WriteAll,
     // What these make is dropped.
     BlockWithCapacityIn(usize),
+    TextWithCapacityIn(usize),
     WithCapacityIn(usize),
     FromSliceCopiedIn,
     // Of two numbers, so many times.
@@ -95,13 +99,21 @@ fn made(call: Call, heap: &Faulty<Global>) -> End {
         Call::BlockWithCapacityIn(many) => {
             end_of_made(RawVec::<u32, _>::with_capacity_in(many, heap))
         }
+        Call::TextWithCapacityIn(many) => {
+            end_of_made(GapBuffer::<u32, _>::with_capacity_in(many, heap))
+        }
         Call::WithCapacityIn(many) => end_of_made(room_for::<u32, _>(many, heap)),
         Call::FromSliceCopiedIn => end_of_made(Vec::from_slice_copied_in(&[1u32, 2, 3], heap)),
         Call::Repeated(times) => end_of_made(u32::repeat_in(&[1, 2], times, heap)),
         Call::FromTextIn => end_of_made(Vec::from_text_in("aé", heap)),
         Call::SliceFromSlice => end_of_made(BoxedSlice::from_slice(heap, &[1u32, 2, 3])),
-        _ => end_of_made(BoxedText::from_text(heap, "abc")),
+        _ => end_of_made(text_of(heap, "abc")),
     }
+}
+
+// A text in a box.
+fn text_of<A: Allocator>(alloc: A, text: &str) -> Result<BoxedText<A>, TryReserveError> {
+    BoxedText::from_text(alloc, text)
 }
 
 // How a call on the bytes a, b and c in full places ends where its first request is refused or
@@ -131,7 +143,7 @@ fn seen(
 // bytes and the capacity where none is. With no request, the first would be refused.
 type Row<'a> = (Call, u64, usize, &'a [u8], usize);
 
-const COPIES: [Row<'_>; 18] = [
+const COPIES: [Row<'_>; 19] = [
     (Call::ExtendFromSliceCopied, 1, 8, b"abcde", 8),
     (Call::ExtendFromWithinCopied, 1, 8, b"abcbc", 8),
     (Call::ExtendCopied, 1, 8, b"abcde", 8),
@@ -143,6 +155,7 @@ const COPIES: [Row<'_>; 18] = [
     (Call::WriteAll, 1, 0, b"abcde", 8),
     (Call::BlockWithCapacityIn(0), 0, 0, b"abc", 3),
     (Call::BlockWithCapacityIn(5), 1, 5, b"abc", 3),
+    (Call::TextWithCapacityIn(5), 1, 5, b"abc", 3),
     (Call::WithCapacityIn(5), 1, 5, b"abc", 3),
     (Call::FromSliceCopiedIn, 1, 3, b"abc", 3),
     (Call::Repeated(3), 1, 6, b"abc", 3),
@@ -162,5 +175,18 @@ fn refused_copies_leave_the_bytes(rt: HostRuntime) -> Result<(), Fail> {
         let left = (End::Done, requests, true, grown);
         assert!(rt; seen(rt.alloc(), call, requests, done)? == (left, true));
     }
+    Ok(())
+}
+
+#[test]
+fn a_refused_text_leaves_those_before_it(rt: HostRuntime) -> Result<(), Fail> {
+    let heap = Faulty::new(rt.alloc());
+    let mut all: String<&Faulty<Global>> = String::with_capacity(&heap, 2)?;
+    all.push_str("a")?;
+    let forty = "cccccccccccccccccccccccccccccccccccccccc";
+    let texts = [text_of(rt.alloc(), "b")?, text_of(rt.alloc(), forty)?];
+    heap.refuse(0, 1);
+    assert!(rt; end_of(append_texts(&mut all, texts.into_iter())) == End::NoMemory(42));
+    assert!(rt; all.as_str() == "ab");
     Ok(())
 }

@@ -24,7 +24,7 @@
 //! | `BoxedSlice::try_into_array`, `Box::slice` | 1 | `conversions` |
 //! | `into_vec` of an array in a box | 1 | `conversions` |
 //! | `BoxedText::from_text` | 1 | `copies` |
-//! | `append_texts`, `append_texts_by` | 1 | `aa_boxed_tests` |
+//! | `append_texts`, `append_texts_by` | 1 | `copies`, `aa_boxed_tests` |
 //! | `Vec::with_capacity_in` | 1 | `copies` |
 //! | `Vec::push` | 1 | `changes`, `refusals` |
 //! | `Vec::insert` | 1 | `changes` |
@@ -53,7 +53,7 @@
 //! | `Vec::from_array_in`, `vec_of!` | 1 | `conversions` |
 //! | `Vec::into_boxed_slice` | 1 | `conversions` |
 //! | `Vec::into_flattened` | 1 | `conversions` |
-//! | `GapBuffer::with_capacity_in` | 1 | `aa_gap_tests` |
+//! | `GapBuffer::with_capacity_in` | 1 | `copies` |
 //! | `GapBuffer::insert`, `reserve`, `edit_all` | 1 | `aa_gap_tests` |
 //! | `run`: `Push`, `Insert`, `Reserve`, `ReserveExact`, `ShrinkTo` | 1 | `run_commands` |
 //! | `run`: `SplitOff`, `Append`, `Resize`, `Drain` | 1 | `run_commands` |

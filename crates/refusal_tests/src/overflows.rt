@@ -24,6 +24,8 @@ fn no_room_is_made_past_the_limits(rt: HostRuntime) -> Result<(), Fail> {
     for call in [
         copies::Call::BlockWithCapacityIn(1 << 61),
         copies::Call::BlockWithCapacityIn(usize::MAX),
+        copies::Call::TextWithCapacityIn(1 << 61),
+        copies::Call::TextWithCapacityIn(usize::MAX),
         copies::Call::WithCapacityIn(1 << 61),
         copies::Call::WithCapacityIn(usize::MAX),
         copies::Call::Repeated(1 << 60),
