@@ -1,27 +1,46 @@
 //! What no clause says: sizes, capacities as the table of least capacities gives them, and each
 //! public call once.
-use crate::lists::{counted_up, list, stands, units};
+use crate::clones::{behind, filled, within};
+use crate::lists::{counted_up, list, numbers, shape, stands, units};
 use aa_raw::collections::{TryReserveError, TryReserveErrorKind};
 use aa_raw::raw_vec::Growth;
 use aa_vec::vec::Vec;
 use std::alloc::Global;
 use std::cell::Cell;
 use std::mem::size_of;
-use std::test::Fail;
 
 const _: () = prove!(size_of::<Vec<u64, Global>>() == 32);
 
-// A call that changes a vector, with what it is given.
+// A call that takes elements out of a vector.
 #[derive(Clone, Copy)]
-enum Call<'a, T> {
-    Push(T),
-    PushWithinCapacity(T),
+enum Taking {
     Pop,
-    Insert(usize, T),
     Remove(usize),
     SwapRemove(usize),
     Truncate(usize),
     Clear,
+}
+
+// What it gives. One at a place that is not there does nothing.
+fn taken<T: Drop>(taking: Taking, v: &mut Vec<T>) -> Option<T> {
+    match taking {
+        Taking::Pop => return v.pop(),
+        Taking::Remove(at) if at < v.len() => return Some(v.remove(at)),
+        Taking::SwapRemove(at) if at < v.len() => return Some(v.swap_remove(at)),
+        Taking::Remove(_) | Taking::SwapRemove(_) => {}
+        Taking::Truncate(len) => v.truncate(len),
+        Taking::Clear => v.clear(),
+    }
+    None
+}
+
+// A call that changes a vector, with what it is given.
+#[derive(Clone, Copy)]
+enum Call<'a, T> {
+    Take(Taking),
+    Push(T),
+    PushWithinCapacity(T),
+    Insert(usize, T),
     Reserve(usize),
     TryReserve(usize),
     ReserveExact(usize),
@@ -35,18 +54,13 @@ enum Call<'a, T> {
     ExtendCopied(&'a [T]),
 }
 
-// What a call gives, or hands back. One at a place that is not there does nothing.
+// What a call gives, or hands back.
 fn called<T: Copy>(call: Call<'_, T>, v: &mut Vec<T>) -> Result<Option<T>, TryReserveError> {
     match call {
-        Call::Push(x) => v.push(x)?,
+        Call::Take(taking) => return Ok(taken(taking, v)),
         Call::PushWithinCapacity(x) => return Ok(v.push_within_capacity(x).err()),
-        Call::Pop => return Ok(v.pop()),
-        Call::Insert(at, x) if at <= v.len() => v.insert(at, x)?,
-        Call::Remove(at) if at < v.len() => return Ok(Some(v.remove(at))),
-        Call::SwapRemove(at) if at < v.len() => return Ok(Some(v.swap_remove(at))),
-        Call::Insert(..) | Call::Remove(_) | Call::SwapRemove(_) => {}
-        Call::Truncate(len) => v.truncate(len),
-        Call::Clear => v.clear(),
+        Call::Push(x) => v.push(x)?,
+        Call::Insert(at, x) => v.insert(at.min(v.len()), x)?,
         Call::Reserve(count) => v.reserve(count)?,
         Call::TryReserve(count) => v.try_reserve(count)?,
         Call::ReserveExact(count) => v.reserve_exact(count)?,
@@ -61,11 +75,9 @@ fn called<T: Copy>(call: Call<'_, T>, v: &mut Vec<T>) -> Result<Option<T>, TryRe
 // The calls that put several elements behind the others.
 fn lengthened<T: Copy>(call: Call<'_, T>, v: &mut Vec<T>) -> Result<(), TryReserveError> {
     match call {
-        Call::ExtendFromSlice(others) => v.extend_from_slice(others),
-        Call::ExtendFromWithin(from, to) if from <= to && to <= v.len() => {
-            v.extend_from_within(from..to)
-        }
-        Call::Resize(len, x) => v.resize(len, x),
+        Call::ExtendFromSlice(others) => behind(v, others),
+        Call::ExtendFromWithin(from, to) => within(v, from, to),
+        Call::Resize(len, x) => filled(v, len, x),
         Call::Extend(others) => v.extend(others.iter().copied()),
         Call::ExtendCopied(others) => v.extend_copied(others.iter()),
         _ => Ok(()),
@@ -84,16 +96,30 @@ type Row<'a> = (
 );
 
 // Whether a row is as the vector has it.
-fn is_so(alloc: Global, (items, room, call, given, left, capacity): Row<'_>) -> Result<bool, Fail> {
-    let mut v = list(alloc, items, room)?;
-    Ok(called(call, &mut v)? == given && stands(&v, left, capacity))
+fn is_so(alloc: Global, (items, room, call, given, left, capacity): Row<'_>) -> bool {
+    let mut v = list(alloc, items, room);
+    called(call, &mut v) == Ok(given) && stands(&v, left, capacity)
 }
 
 const EDITS: [Row<'_>; 14] = [
-    (&[1, 9, 3, 4, 5], 8, Call::Pop, Some(5), &[1, 9, 3, 4], 8),
-    (&[], 7, Call::Pop, None, &[], 7),
+    (
+        &[1, 9, 3, 4, 5],
+        8,
+        Call::Take(Taking::Pop),
+        Some(5),
+        &[1, 9, 3, 4],
+        8,
+    ),
+    (&[], 7, Call::Take(Taking::Pop), None, &[], 7),
     (&[1, 2, 3], 4, Call::Insert(1, 9), None, &[1, 9, 2, 3], 4),
-    (&[1, 9, 2, 3], 4, Call::Remove(1), Some(9), &[1, 2, 3], 4),
+    (
+        &[1, 9, 2, 3],
+        4,
+        Call::Take(Taking::Remove(1)),
+        Some(9),
+        &[1, 2, 3],
+        4,
+    ),
     (
         &[1, 2, 3],
         4,
@@ -110,19 +136,47 @@ const EDITS: [Row<'_>; 14] = [
         &[1, 2, 3, 4],
         4,
     ),
-    (&[1, 2, 3], 4, Call::SwapRemove(0), Some(1), &[3, 2], 4),
+    (
+        &[1, 2, 3],
+        4,
+        Call::Take(Taking::SwapRemove(0)),
+        Some(1),
+        &[3, 2],
+        4,
+    ),
     (
         &[1, 2, 3, 4],
         4,
-        Call::SwapRemove(1),
+        Call::Take(Taking::SwapRemove(1)),
         Some(2),
         &[1, 4, 3],
         4,
     ),
-    (&[3, 2], 4, Call::SwapRemove(1), Some(2), &[3], 4),
-    (&[1, 2, 3], 4, Call::Truncate(5), None, &[1, 2, 3], 4),
-    (&[1, 2, 3], 4, Call::Truncate(1), None, &[1], 4),
-    (&[1], 4, Call::Clear, None, &[], 4),
+    (
+        &[3, 2],
+        4,
+        Call::Take(Taking::SwapRemove(1)),
+        Some(2),
+        &[3],
+        4,
+    ),
+    (
+        &[1, 2, 3],
+        4,
+        Call::Take(Taking::Truncate(5)),
+        None,
+        &[1, 2, 3],
+        4,
+    ),
+    (
+        &[1, 2, 3],
+        4,
+        Call::Take(Taking::Truncate(1)),
+        None,
+        &[1],
+        4,
+    ),
+    (&[1], 4, Call::Take(Taking::Clear), None, &[], 4),
     (&[1, 2, 3], 4, Call::Resize(1, 0), None, &[1], 4),
     (&[1], 4, Call::Resize(3, 7), None, &[1, 7, 7], 4),
 ];
@@ -172,53 +226,56 @@ const ROOMS: [Row<'_>; 13] = [
 ];
 
 #[test]
-fn elements_are_put_and_taken(rt: HostRuntime) -> Result<(), Fail> {
+fn elements_are_put_and_taken(rt: HostRuntime) {
     for row in EDITS {
-        assert!(rt; is_so(rt.alloc(), row)?, "{:?} at {:?}", row.4, row.0);
+        assert!(rt; is_so(rt.alloc(), row), "{:?} at {:?}", row.4, row.0);
     }
-    Ok(())
 }
 
 #[test]
-fn room_is_made_and_given_back(rt: HostRuntime) -> Result<(), Fail> {
+fn room_is_made_and_given_back(rt: HostRuntime) {
     for row in ROOMS {
-        assert!(rt; is_so(rt.alloc(), row)?, "{:?} in {}", row.4, row.5);
+        assert!(rt; is_so(rt.alloc(), row), "{:?} in {}", row.4, row.5);
     }
-    Ok(())
 }
 
 #[test]
-fn a_new_vector_has_the_capacity_asked_for(rt: HostRuntime) -> Result<(), Fail> {
+fn a_new_vector_has_nothing(rt: HostRuntime) {
     let none: Vec<u32> = Vec::new_in(rt.alloc());
     assert!(rt; none.is_empty() && stands(&none, &[], 0));
     assert!(rt; none.growth() == Growth::Doubling);
     let _alloc: &Global = none.allocator();
-    assert!(rt; stands(&Vec::with_capacity(rt.alloc(), 3)?, &[0u32; 0], 3));
-    assert!(rt; stands(&Vec::with_capacity_in(7, rt.alloc())?, &[0u32; 0], 7));
-    Ok(())
 }
 
-#[test]
-fn a_capacity_past_the_limit_is_an_overflow(rt: HostRuntime) {
-    match Vec::<u32>::with_capacity_in(usize::MAX, rt.alloc()) {
-        Ok(_) => assert!(rt; false),
-        Err(error) => assert!(rt; error.kind() == TryReserveErrorKind::CapacityOverflow),
+// The capacity of a new vector that was made by one of two calls for so many numbers.
+fn capacity_made(alloc: Global, capacity: usize, by_in: bool) -> Result<usize, TryReserveError> {
+    let made: Result<Vec<u32>, TryReserveError> = if by_in {
+        Vec::with_capacity_in(capacity, alloc)
+    } else {
+        Vec::with_capacity(alloc, capacity)
+    };
+    match made {
+        Ok(v) => Ok(v.capacity()),
+        Err(error) => Err(error),
     }
 }
 
 #[test]
-fn a_hundred_thousand_pushes_are_accepted(rt: HostRuntime) -> Result<(), Fail> {
-    let mut v: Vec<u32> = Vec::new(rt.alloc());
-    for x in 0..100_000 {
-        v.push(x)?;
-    }
-    assert!(rt; (v.len(), v.capacity()) == (100_000, 131_072));
-    Ok(())
+fn a_new_vector_has_the_capacity_asked_for(rt: HostRuntime) {
+    let overflow: TryReserveError = TryReserveErrorKind::CapacityOverflow.into();
+    assert!(rt; capacity_made(rt.alloc(), 3, false) == Ok(3));
+    assert!(rt; capacity_made(rt.alloc(), 7, true) == Ok(7));
+    assert!(rt; capacity_made(rt.alloc(), usize::MAX, true) == Err(overflow));
 }
 
 #[test]
-fn elements_are_written_in_place(rt: HostRuntime) -> Result<(), Fail> {
-    let mut v = list(rt.alloc(), &[1, 2, 3], 4)?;
+fn a_hundred_thousand_pushes_are_accepted(rt: HostRuntime) {
+    assert!(rt; shape(&numbers(rt.alloc(), 100_000)) == (100_000, 131_072));
+}
+
+#[test]
+fn elements_are_written_in_place(rt: HostRuntime) {
+    let mut v = list(rt.alloc(), &[1u32, 2, 3], 4);
     assert!(rt; v.len() == 3);
     v[0] = 6;
     v.as_mut_slice()[2] = 5;
@@ -228,53 +285,53 @@ fn elements_are_written_in_place(rt: HostRuntime) -> Result<(), Fail> {
     }
     assert!(rt; v.iter().copied().max() == Some(3));
     assert!(rt; stands(&v, &[3, 1, 2], 4));
-    Ok(())
 }
 
 #[test]
-fn a_length_past_the_limit_is_an_overflow(rt: HostRuntime) -> Result<(), Fail> {
+fn a_length_past_the_limit_is_an_overflow(rt: HostRuntime) {
     let overflow: TryReserveError = TryReserveErrorKind::CapacityOverflow.into();
-    let mut bytes: Vec<u8> = Vec::new(rt.alloc());
-    bytes.push(0)?;
-    assert!(rt; called(Call::TryReserve(usize::MAX), &mut bytes) == Err(overflow));
-    assert!(rt; called(Call::TryReserveExact(usize::MAX), &mut bytes) == Err(overflow));
-    let mut sizeless = units(rt.alloc(), 1)?;
-    assert!(rt; called(Call::TryReserve(usize::MAX), &mut sizeless) == Err(overflow));
-    Ok(())
+    for call in [
+        Call::TryReserve(usize::MAX),
+        Call::TryReserveExact(usize::MAX),
+    ] {
+        assert!(rt; called(call, &mut list(rt.alloc(), &[0u8], 1)) == Err(overflow));
+    }
+    let too_many = Call::TryReserve(usize::MAX);
+    assert!(rt; called(too_many, &mut units(rt.alloc(), 1)) == Err(overflow));
 }
 
 #[test]
-fn elements_without_size_take_no_memory(rt: HostRuntime) -> Result<(), Fail> {
+fn elements_without_size_take_no_memory(rt: HostRuntime) {
     for (call, given, length) in [
         (Call::Push(()), None, 3),
         (Call::PushWithinCapacity(()), None, 3),
-        (Call::Pop, Some(()), 1),
+        (Call::Take(Taking::Pop), Some(()), 1),
         (Call::Insert(0, ()), None, 3),
-        (Call::Remove(1), Some(()), 1),
-        (Call::SwapRemove(0), Some(()), 1),
-        (Call::Clear, None, 0),
+        (Call::Take(Taking::Remove(1)), Some(()), 1),
+        (Call::Take(Taking::SwapRemove(0)), Some(()), 1),
+        (Call::Take(Taking::Clear), None, 0),
         (Call::TryReserve(usize::MAX - 2), None, 2),
         (Call::ShrinkToFit, None, 2),
         (Call::ExtendFromWithin(0, 2), None, 4),
     ] {
-        let mut v = units(rt.alloc(), 2)?;
-        assert!(rt; called(call, &mut v)? == given);
-        assert!(rt; (v.len(), v.capacity()) == (length, usize::MAX));
+        let mut v = units(rt.alloc(), 2);
+        assert!(rt; called(call, &mut v) == Ok(given));
+        assert!(rt; shape(&v) == (length, usize::MAX));
     }
-    Ok(())
 }
 
 #[test]
 fn each_element_is_dropped_once(rt: HostRuntime) {
     let drops = Cell::new(0);
     let mut v = counted_up(rt.alloc(), &drops, 9);
-    assert!(rt; v.len() == 9);
-    drop(v.pop());
-    assert!(rt; drops.get() == 1);
-    v.truncate(6);
-    assert!(rt; (v.len(), drops.get()) == (6, 3));
-    drop(v.swap_remove(1));
-    assert!(rt; drops.get() == 4);
+    for (taking, length, dropped) in [
+        (Taking::Pop, 8, 1),
+        (Taking::Truncate(6), 6, 3),
+        (Taking::SwapRemove(1), 5, 4),
+    ] {
+        drop(taken(taking, &mut v));
+        assert!(rt; (v.len(), drops.get()) == (length, dropped));
+    }
     drop(v);
     assert!(rt; drops.get() == 9);
 }

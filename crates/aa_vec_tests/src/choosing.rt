@@ -3,10 +3,9 @@
 ghost use Rattle.std.specs.Prelude.{◌≡◌, ◌+◌, ◌≤◌, [], ◌∷◌};
 ghost use Rattle.aa_vec.specs.Vector.{Holds};
 
-use crate::lists::{list, stands, units};
+use crate::lists::{add, list, stands};
 use aa_vec::vec::Vec;
 use std::alloc::Allocator;
-use std::test::Fail;
 
 // Doubled, and without 4: the two behind it are written, in one run.
 fn doubled_without_four<A: Allocator>(v: &mut Vec<u32, A>)
@@ -63,71 +62,94 @@ enum Choice {
 // How a closure of an element and the last one kept answers.
 #[derive(Clone, Copy)]
 enum Manner {
+    Equal,
     Near,
     AddsUp,
     ByTurns,
 }
 
-// Notes that a closure was asked of this number.
-fn note(asked: &mut Vec<u32>, x: u32) {
-    let _noted = asked.push(x);
-}
-
-// Chooses by a closure that notes whom it is asked of: for a key, first of the one under test, and
-// then of the last one kept.
-#[tactic(auto, using(aa_vec::proofs::Callers::callers))]
+// Chooses by a closure that notes whom it is asked of.
 fn chosen(choice: Choice, v: &mut Vec<u32>, asked: &mut Vec<u32>) {
     match choice {
-        Choice::Doubled => v.retain_mut(|x| {
-            note(asked, *x);
-            *x = x.wrapping_mul(2);
-            *x != 4
-        }),
-        Choice::Retain => v.retain(|x| {
-            note(asked, *x);
-            *x % 4 != 2
-        }),
-        Choice::RetainBy => v.retain_by(&mut |x: &mut u32| {
-            note(asked, *x);
-            *x != 6
-        }),
+        Choice::Doubled | Choice::RetainBy => retained(choice, v, asked),
+        Choice::Retain => retained_as_they_are(v, asked),
         Choice::Dedup => v.dedup(),
-        Choice::DedupBy => v.dedup_by(|x, last| {
-            note(asked, *x);
-            *x == *last
-        }),
-        Choice::DedupByKey => v.dedup_by_key(|x| {
-            note(asked, *x);
-            *x / 10
-        }),
-        Choice::DedupWithinKey => v.dedup_within_key(&mut |x: &mut u32| {
-            note(asked, *x);
-            *x / 10
-        }),
+        Choice::DedupBy => deduplicated(Manner::Equal, v, asked),
+        Choice::DedupByKey => deduplicated_by_key(false, v, asked),
+        Choice::DedupWithinKey => deduplicated_by_key(true, v, asked),
         Choice::DedupWithin(manner) => deduplicated(manner, v, asked),
     }
 }
 
-// Notes both, and answers in a manner that may write to the last one kept, or change its answers.
+// A closure that may write, given away or lent.
+#[tactic(auto, using(aa_vec::proofs::Callers::callers))]
+fn retained(choice: Choice, v: &mut Vec<u32>, asked: &mut Vec<u32>) {
+    let mut stays = |x: &mut u32| {
+        add(asked, *x);
+        if matches!(choice, Choice::RetainBy) {
+            return *x != 6;
+        }
+        *x = x.wrapping_mul(2);
+        *x != 4
+    };
+    if matches!(choice, Choice::RetainBy) {
+        v.retain_by(&mut stays);
+    } else {
+        v.retain_mut(stays);
+    }
+}
+
+#[tactic(auto, using(aa_vec::proofs::Callers::callers))]
+fn retained_as_they_are(v: &mut Vec<u32>, asked: &mut Vec<u32>) {
+    v.retain(|x| {
+        add(asked, *x);
+        *x % 4 != 2
+    });
+}
+
+// It is asked first for the key of the one under test, and then for that of the last one kept.
+#[tactic(auto, using(aa_vec::proofs::Callers::callers))]
+fn deduplicated_by_key(lent: bool, v: &mut Vec<u32>, asked: &mut Vec<u32>) {
+    let mut key = |x: &mut u32| {
+        add(asked, *x);
+        *x / 10
+    };
+    if lent {
+        v.dedup_within_key(&mut key);
+    } else {
+        v.dedup_by_key(key);
+    }
+}
+
+// A lent closure notes both, and answers in a manner that may write to the last one kept, or change
+// its answers. One that is given away notes the element under test alone.
 #[tactic(auto, using(aa_vec::proofs::Callers::callers))]
 fn deduplicated(manner: Manner, v: &mut Vec<u32>, asked: &mut Vec<u32>) {
     let mut again = true;
-    v.dedup_within(&mut |x: &mut u32, last: &mut u32| {
-        note(asked, *x);
-        note(asked, *last);
+    let mut repeats = |x: &mut u32, last: &mut u32| {
+        add(asked, *x);
+        if matches!(manner, Manner::Equal) {
+            return *x == *last;
+        }
+        add(asked, *last);
         match manner {
-            Manner::Near => x.wrapping_sub(*last) <= 2,
             Manner::AddsUp if *x < 5 => {
                 *last = x.wrapping_add(*last);
                 true
             }
-            Manner::AddsUp => false,
             Manner::ByTurns => {
                 again = !again;
                 again
             }
+            Manner::Near => x.wrapping_sub(*last) <= 2,
+            _ => false,
         }
-    });
+    };
+    if matches!(manner, Manner::Equal) {
+        v.dedup_by(repeats);
+    } else {
+        v.dedup_within(&mut repeats);
+    }
 }
 
 // The elements, which are asked of, and which are left.
@@ -184,28 +206,14 @@ const CHOICES: [(Choice, &[u32], &[u32], &[u32]); 14] = [
 ];
 
 #[test]
-fn each_element_is_asked_for_once_in_order(rt: HostRuntime) -> Result<(), Fail> {
+fn each_element_is_asked_for_once_in_order(rt: HostRuntime) {
     for (choice, items, asked, left) in CHOICES {
-        let mut v = list(rt.alloc(), items, 7)?;
-        let mut noted = list(rt.alloc(), &[], 8)?;
+        let mut v = list(rt.alloc(), items, 7);
+        let mut noted = list(rt.alloc(), &[], 8);
         chosen(choice, &mut v, &mut noted);
-        assert!(rt; stands(&v, left, 7), "{left:?}");
-        assert!(rt; noted.as_slice() == asked, "{left:?}");
+        assert!(rt;
+            stands(&v, left, 7) && noted.as_slice() == asked,
+            "{left:?}"
+        );
     }
-    Ok(())
-}
-
-#[test]
-#[tactic(auto, using(aa_vec::proofs::Callers::callers))]
-fn elements_without_size_are_chosen_too(rt: HostRuntime) -> Result<(), Fail> {
-    let mut v = units(rt.alloc(), 5)?;
-    let mut stays = true;
-    v.retain(|_| {
-        stays = !stays;
-        !stays
-    });
-    assert!(rt; v.len() == 3);
-    v.dedup();
-    assert!(rt; (v.len(), v.capacity()) == (1, usize::MAX));
-    Ok(())
 }

@@ -3,7 +3,7 @@
 ghost use Rattle.std.specs.Prelude.{◌≡◌, ◌++◌, OnOk};
 ghost use Rattle.std.specs.Io.KnownBytes.{Appends};
 
-use crate::lists::stands;
+use crate::lists::{list, made, stands};
 use aa_vec::vec::{Vec, cautious, same};
 use std::alloc::Global;
 use std::cmp::Ordering;
@@ -23,22 +23,25 @@ fn order_of<T: Ord>(x: &T, y: &T) -> Ordering {
 }
 
 #[test]
-fn vectors_compare_as_their_slices(rt: HostRuntime) -> Result<(), Fail> {
-    let short: Vec<u32> = Vec::from_slice(rt.alloc(), &[1, 2])?;
-    let long: Vec<u32> = Vec::from_slice(rt.alloc(), &[1, 2, 0])?;
+fn vectors_compare_as_their_slices(rt: HostRuntime) {
+    let short = list(rt.alloc(), &[1u32, 2], 2);
+    let long = list(rt.alloc(), &[1, 2, 0], 3);
     assert!(rt; short < long && short != long);
     assert!(rt; short.partial_cmp(&long) == Some(Ordering::Less));
     assert!(rt; order_of(&long, &short) == Ordering::Greater);
-    assert!(rt; same(short.as_slice(), [1, 2].as_slice()));
-    assert!(rt; !same(short.as_slice(), long.as_slice()));
-    Ok(())
+    for (other, is_same) in [([1u32, 2].as_slice(), true), (long.as_slice(), false)] {
+        assert!(rt; same(short.as_slice(), other) == is_same);
+    }
 }
 
 #[test]
 fn vectors_hash_and_print_as_their_slices(rt: HostRuntime) -> Result<(), Fail> {
-    let short: Vec<u32> = Vec::from_slice(rt.alloc(), &[1, 2])?;
-    assert!(rt; hash_of(&short) == hash_of(&[1u32, 2].as_slice()));
-    assert!(rt; format!(in rt.alloc(); "{short:?}")?.as_str() == "[1, 2]");
+    let short = list(rt.alloc(), &[1u32, 2], 2);
+    let hash = hash_of(&short);
+    let text = format!(in rt.alloc(); "{short:?}");
+    drop(short);
+    assert!(rt; hash == hash_of(&[1u32, 2].as_slice()));
+    assert!(rt; text?.as_str() == "[1, 2]");
     Ok(())
 }
 
@@ -58,25 +61,23 @@ fn put_all_behind(v: &mut Vec<u8, Global>, bytes: &[u8]) -> io::Result<()>
 }
 
 #[test]
-fn bytes_are_written(rt: HostRuntime) -> Result<(), Fail> {
-    let mut v: Vec<u8> = Vec::new(rt.alloc());
-    assert!(rt; v.write(b"ab")? == 2);
-    put_all_behind(&mut v, b"abcd")?;
+fn bytes_are_written(rt: HostRuntime) {
+    let mut v = list(rt.alloc(), &[], 0);
+    let written = v.write(b"ab");
+    assert!(rt; matches!(written, Ok(2)));
+    assert!(rt; put_all_behind(&mut v, b"abcd").is_ok());
     assert!(rt; stands(&v, b"ababcd", 8));
-    Ok(())
 }
 
 #[test]
-fn a_text_is_its_bytes(rt: HostRuntime) -> Result<(), Fail> {
-    assert!(rt; stands(&Vec::from_text(rt.alloc(), "é")?, &[0xc3, 0xa9], 2));
-    assert!(rt; stands(&Vec::from_text_in("", rt.alloc())?, b"", 0));
-    Ok(())
+fn a_text_is_its_bytes(rt: HostRuntime) {
+    assert!(rt; made(Vec::from_text(rt.alloc(), "é"), &[0xc3, 0xa9], 2));
+    assert!(rt; made(Vec::from_text_in("", rt.alloc()), b"", 0));
 }
 
 #[test]
-fn a_hint_is_trusted_up_to_4096(rt: HostRuntime) -> Result<(), Fail> {
-    assert!(rt; cautious(None) == 0);
-    assert!(rt; cautious(Some(7)) == 7);
-    assert!(rt; cautious(Some(5000)) == 4096);
-    Ok(())
+fn a_hint_is_trusted_up_to_4096(rt: HostRuntime) {
+    for (hint, capacity) in [(None, 0), (Some(7), 7), (Some(5000), 4096)] {
+        assert!(rt; cautious(hint) == capacity);
+    }
 }

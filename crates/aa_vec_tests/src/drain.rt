@@ -2,8 +2,8 @@
 ghost use Rattle.std.specs.Prelude.{◌≡◌, ◌+◌, ◌-◌, ◌<◌, ◌≤◌, ◌++◌, length, take, drop, slice_range, IfOk};
 ghost use Rattle.aa_vec.specs.Vector.{len, Holds, Writes};
 
-use crate::left_early::Left;
-use crate::lists::{numbers, stands};
+use crate::left_early::{Left, range_of};
+use crate::lists::{add, list, numbers, stands};
 use aa_vec::vec::{Drain, Vec};
 use std::alloc::{AllocError, Allocator, Global};
 use std::mem::{forget, size_of};
@@ -63,13 +63,6 @@ fn first_five_gone<T: Drop, A: Allocator>(v: &mut Vec<T, A>)
     drop(v.drain(0..2));
 }
 
-// A range in a chain of iterators.
-fn even_in<A: Allocator>(v: &mut Vec<u32, A>, from: usize, to: usize) -> usize
-    requires { (from ≤ to) × (to ≤ len v.old) }
-{
-    v.drain(from..to).filter(|x| *x % 2 == 0).count()
-}
-
 // A range, as a list of the toolchain's.
 fn collected<A: Allocator>(
     alloc: Global,
@@ -83,17 +76,8 @@ fn collected<A: Allocator>(
     v.drain(from..to).collect(alloc)
 }
 
-// Whether a range has a large number; all of it is gone then.
-fn has_large<A: Allocator>(v: &mut Vec<u32, A>, from: usize, to: usize) -> bool
-    requires { (from ≤ to) × (to ≤ len v.old) }
-    ensures { Holds v.old (take from v.old.items ++ drop to v.old.items) v.new }
-{
-    let mut range = v.drain(from..to);
-    range.any(|x| x > 9)
-}
-
 #[test]
-fn a_range_is_taken_from_both_ends(rt: HostRuntime) -> Result<(), Fail> {
+fn a_range_is_taken_from_both_ends(rt: HostRuntime) {
     for (from, to, left, taken, between, items) in [
         (
             1,
@@ -136,9 +120,8 @@ fn a_range_is_taken_from_both_ends(rt: HostRuntime) -> Result<(), Fail> {
             [0, 1, 2, 3, 4, 5].as_slice(),
         ),
     ] {
-        let mut v = numbers(rt.alloc(), 6)?;
-        assert!(rt; from <= to && to <= v.len());
-        let mut range = v.drain(from..to);
+        let mut v = numbers(rt.alloc(), 6);
+        let mut range = range_of(&mut v, from, to);
         assert!(rt; (range.next(), range.next_back()) == taken);
         assert!(rt; range.as_slice() == between && range.len() == between.len());
         match left {
@@ -147,20 +130,21 @@ fn a_range_is_taken_from_both_ends(rt: HostRuntime) -> Result<(), Fail> {
             Left::Forgotten => forget(range),
         }
         assert!(rt; stands(&v, items, 8), "{items:?}");
-        v.push(7)?;
+        add(&mut v, 7);
+        assert!(rt; v.len() == items.len().saturating_add(1));
     }
-    Ok(())
 }
 
 #[test]
 fn what_was_not_taken_is_told(rt: HostRuntime) -> Result<(), Fail> {
-    let mut v = numbers(rt.alloc(), 6)?;
-    assert!(rt; v.len() == 6);
-    let mut range = v.drain(1..4);
-    assert!(rt; (range.len(), range.size_hint()) == (3, (3, Some(3))));
+    let mut v = numbers(rt.alloc(), 6);
+    let mut range = range_of(&mut v, 1, 4);
+    assert!(rt; range.size_hint() == (3, Some(3)));
     assert!(rt; range.next() == Some(1));
-    assert!(rt; format!(in rt.alloc(); "{range:?}")?.as_str() == "Drain([2, 3])");
     let _alloc: &Global = range.allocator();
+    let text = format!(in rt.alloc(); "{range:?}");
+    drop(range);
+    assert!(rt; text?.as_str() == "Drain([2, 3])");
     Ok(())
 }
 
@@ -171,8 +155,6 @@ enum Caller {
     First,
     FirstFive,
     FirstLarge,
-    Even,
-    HasLarge,
 }
 
 // What a caller answers for a range: one item, or two, or the like of them.
@@ -187,22 +169,18 @@ fn answered(caller: Caller, v: &mut Vec<u32>, from: usize, to: usize) -> (Option
             (None, None)
         }
         Caller::FirstLarge => (first_large(v, from, to), None),
-        Caller::Even => (u32::try_from(even_in(v, from, to)).ok(), None),
-        Caller::HasLarge => (Some(has_large(v, from, to) as u32), None),
     }
 }
 
 #[test]
-fn callers_take_ranges(rt: HostRuntime) -> Result<(), Fail> {
+fn callers_take_ranges(rt: HostRuntime) {
     for (caller, from, to, answer, length) in [
         (Caller::Ends, 20, 23, (Some(20), Some(22)), 27),
         (Caller::First, 1, 3, (Some(1), None), 29),
         (Caller::FirstFive, 0, 2, (None, None), 25),
         (Caller::FirstLarge, 5, 11, (Some(10), None), 24),
-        (Caller::Even, 1, 15, (Some(7), None), 16),
-        (Caller::HasLarge, 0, 2, (Some(0), None), 28),
     ] {
-        let mut v = numbers(rt.alloc(), 30)?;
+        let mut v = numbers(rt.alloc(), 30);
         assert!(rt; v.len() == 30);
         assert!(rt;
             answered(caller, &mut v, from, to) == answer,
@@ -210,15 +188,15 @@ fn callers_take_ranges(rt: HostRuntime) -> Result<(), Fail> {
         );
         assert!(rt; v.len() == length, "{from}..{to}");
     }
-    Ok(())
 }
 
 #[test]
 fn a_range_is_collected(rt: HostRuntime) -> Result<(), Fail> {
-    let mut bytes = Vec::from_slice(rt.alloc(), &[0u8, 1, 2, 3])?;
+    let mut bytes = list(rt.alloc(), &[0u8, 1, 2, 3], 4);
     assert!(rt; bytes.len() == 4);
-    let seen = collected(rt.alloc(), &mut bytes, 1, 3)?;
-    assert!(rt; seen.as_slice() == [1, 2].as_slice());
-    assert!(rt; bytes.as_slice() == [0, 3].as_slice());
+    let seen = collected(rt.alloc(), &mut bytes, 1, 3);
+    assert!(rt; stands(&bytes, &[0, 3], 4));
+    drop(bytes);
+    assert!(rt; seen?.as_slice() == [1, 2].as_slice());
     Ok(())
 }

@@ -6,11 +6,10 @@ ghost use Rattle.aa_raw.specs.Growth.{usize_max};
 ghost use Rattle.aa_vec.specs.Vector.{len, HasRoom, SameBlock, Writes, with_room};
 ghost use Rattle.aa_vec.specs.Extend.{Extends, lower_by};
 
-use crate::lists::{list, numbers, stands, units};
+use crate::lists::{list, made, numbers, shape, stands, units};
 use aa_raw::collections::{TryReserveError, TryReserveErrorKind};
 use aa_vec::vec::{Hinted, Items, Vec};
-use std::alloc::Allocator;
-use std::test::Fail;
+use std::alloc::{Allocator, Global};
 use test_allocators::refusing::Refusing;
 
 // An extension by `Items` is one by all of its items, and what its hint tells decides the capacity.
@@ -69,71 +68,65 @@ fn extend_by_what_fits<I: Hinted<Item = T>, T: Drop, A: Allocator>(v: &mut Vec<T
 }
 
 #[test]
-fn what_is_left_of_an_iterator_goes_on(rt: HostRuntime) -> Result<(), Fail> {
-    let mut items = 1u32..6;
+fn what_is_left_of_an_iterator_goes_on(rt: HostRuntime) {
     let mut full: Vec<u32, Refusing> = Vec::new_in(Refusing);
-    let mut v: Vec<u32> = Vec::new(rt.alloc());
-    split_over(&mut full, &mut v, &mut items)?;
-    assert!(rt; full.is_empty());
-    assert!(rt; stands(&v, &[2, 3, 4, 5], 4));
-    let mut items = Items::new(numbers(rt.alloc(), 5)?, None);
+    let mut v = list(rt.alloc(), &[], 0);
+    let mut range = 1u32..6;
+    assert!(rt; split_over(&mut full, &mut v, &mut range).is_ok());
+    assert!(rt; full.is_empty() && stands(&v, &[2, 3, 4, 5], 4));
+    let mut items = Items::new(v, None);
     extend_by_what_fits(&mut full, &mut items);
     assert!(rt; full.is_empty() && items.next() == None);
-    Ok(())
 }
 
 #[test]
-fn a_vector_is_made_of_items(rt: HostRuntime) -> Result<(), Fail> {
-    assert!(rt; stands(&Vec::from_iter(rt.alloc(), 1u32..6)?, &[1, 2, 3, 4, 5], 5));
-    assert!(rt; stands(&Vec::from_iter_in(1u32..4, rt.alloc())?, &[1, 2, 3], 4));
-    let items = Items::new(list(rt.alloc(), &[5, 6], 2)?, None);
-    assert!(rt; Vec::from_iter(rt.alloc(), items)?.as_slice() == [5, 6].as_slice());
-    Ok(())
+fn a_vector_is_made_of_items(rt: HostRuntime) {
+    assert!(rt; made(Vec::from_iter(rt.alloc(), 1u32..6), &[1, 2, 3, 4, 5], 5));
+    assert!(rt; made(Vec::from_iter_in(1u32..4, rt.alloc()), &[1, 2, 3], 4));
 }
 
 #[test]
-fn a_slice_is_put_behind_twice(rt: HostRuntime) -> Result<(), Fail> {
-    let mut twice: Vec<u32> = Vec::new(rt.alloc());
-    followed_by(&mut twice, [1, 2, 3].as_slice())?;
+fn a_slice_is_put_behind_twice(rt: HostRuntime) {
+    let mut twice = list(rt.alloc(), &[], 0);
+    assert!(rt; followed_by(&mut twice, [1, 2, 3].as_slice()).is_ok());
     assert!(rt; stands(&twice, &[1, 2, 3, 1, 2, 3], 8));
-    Ok(())
+}
+
+// The length and the capacity of a new vector that all of another one's elements are put behind.
+fn grown_by<T: Drop>(alloc: Global, items: Vec<T>, hint: Option<usize>) -> (usize, usize) {
+    let mut v: Vec<T> = Vec::new(alloc);
+    let _extended = v.extend_hinted(Items::new(items, hint));
+    shape(&v)
 }
 
 #[test]
-fn a_vector_grows_by_its_hint_until_all_fit(rt: HostRuntime) -> Result<(), Fail> {
+fn a_vector_grows_by_its_hint_until_all_fit(rt: HostRuntime) {
     for (hint, capacity) in [(Some(5), 24), (None, 17)] {
-        let mut v: Vec<u32> = Vec::new(rt.alloc());
-        v.extend_hinted(Items::new(numbers(rt.alloc(), 17)?, hint))?;
-        assert!(rt; (v.len(), v.capacity()) == (17, capacity));
+        assert!(rt; grown_by(rt.alloc(), numbers(rt.alloc(), 17), hint) == (17, capacity));
     }
-    Ok(())
 }
 
 #[test]
-fn an_untrue_hint_of_a_full_vector_overflows(rt: HostRuntime) -> Result<(), Fail> {
-    let mut v = list(rt.alloc(), &[1, 2, 3], 4)?;
-    let mut items = Items::new(list(rt.alloc(), &[7, 8, 9], 3)?, Some(usize::MAX));
+fn elements_without_size_need_no_hint(rt: HostRuntime) {
+    let grown = grown_by(rt.alloc(), units(rt.alloc(), 1), Some(usize::MAX));
+    assert!(rt; grown == (1, usize::MAX));
+}
+
+#[test]
+fn an_untrue_hint_of_a_full_vector_overflows(rt: HostRuntime) {
+    let mut v = list(rt.alloc(), &[1, 2, 3], 4);
+    let mut items = Items::new(list(rt.alloc(), &[7u32, 8, 9], 3), Some(usize::MAX));
     let overflow = Err(TryReserveErrorKind::CapacityOverflow.into());
     assert!(rt; v.extend_hinted_by(&mut items) == overflow);
     assert!(rt; stands(&v, &[1, 2, 3, 7], 4));
     assert!(rt; items.next() == Some(9));
-    Ok(())
 }
 
 #[test]
-fn elements_without_size_need_no_hint(rt: HostRuntime) -> Result<(), Fail> {
-    let mut v: Vec<()> = Vec::new(rt.alloc());
-    v.extend_hinted(Items::new(units(rt.alloc(), 1)?, Some(usize::MAX)))?;
-    assert!(rt; (v.len(), v.capacity()) == (1, usize::MAX));
-    Ok(())
-}
-
-#[test]
-fn items_come_in_order_and_tell_their_hint(rt: HostRuntime) -> Result<(), Fail> {
-    let mut items = Items::new(list(rt.alloc(), &[4, 5, 6], 3)?, None);
-    assert!(rt; (items.lower(), items.size_hint()) == (3, (0, None)));
-    assert!(rt; (items.next(), items.lower()) == (Some(4), 2));
-    let told = Items::new(list(rt.alloc(), &[4, 5, 6], 3)?, Some(1));
-    assert!(rt; told.lower() == 1);
-    Ok(())
+fn items_come_in_order_and_tell_their_hint(rt: HostRuntime) {
+    for (hint, lower, left) in [(None, 3, 2), (Some(1), 1, 1)] {
+        let mut items = Items::new(list(rt.alloc(), &[4u32, 5, 6], 3), hint);
+        assert!(rt; (items.lower(), items.size_hint()) == (lower, (0, None)));
+        assert!(rt; (items.next(), items.lower()) == (Some(4), left));
+    }
 }

@@ -2,97 +2,112 @@
 ghost use Rattle.std.specs.Prelude.{◌≡◌, ◌+◌, [], OnOk};
 ghost use Rattle.aa_raw.specs.declared.raw_vec.Growth.TheVariants.{Sparing};
 
-use aa_boxed::boxed::BoxedSlice;
+use crate::clones::twin;
+use crate::copies::split;
+use crate::lists::add;
 use aa_raw::collections::TryReserveError;
 use aa_raw::raw_vec::Growth;
 use aa_vec::vec::{SliceIntoVec, Vec};
 use std::alloc::{Allocator, Global};
-use std::test::Fail;
 
-// Pushes until the vector grows: its capacity then.
-fn next_capacity<T: Copy>(v: &mut Vec<T>, x: T) -> Result<usize, TryReserveError> {
-    for _ in v.len()..=v.capacity() {
-        v.push(x)?;
+// A new vector, of the growth that is chosen, if one is.
+fn growing<T>(alloc: Global, growth: Option<Growth>) -> Vec<T> {
+    match growth {
+        Some(growth) => Vec::new_growing_in(growth, alloc),
+        None => Vec::new(alloc),
     }
-    Ok(v.capacity())
 }
 
-// Whether a vector, each time that it grows, has these capacities in turn.
-fn grows_to<T: Copy>(mut v: Vec<T>, x: T, capacities: &[usize]) -> Result<bool, TryReserveError> {
+// Pushes until the vector grows: its capacity then.
+fn next_capacity<T: Copy>(v: &mut Vec<T>, x: T) -> usize {
+    for _ in v.len()..=v.capacity() {
+        add(v, x);
+    }
+    v.capacity()
+}
+
+// Whether a new vector, each time that it grows, has these capacities in turn.
+fn grows_to<T: Copy>(alloc: Global, growth: Option<Growth>, x: T, capacities: &[usize]) -> bool {
+    let mut v = growing(alloc, growth);
     let mut all = v.capacity() == 0;
     for capacity in capacities {
-        all = next_capacity(&mut v, x)? == *capacity && all;
+        all = next_capacity(&mut v, x) == *capacity && all;
     }
-    Ok(all)
+    all
 }
 
 #[test]
-fn sparing_vectors_grow_by_half(rt: HostRuntime) -> Result<(), Fail> {
-    let words = Vec::new_growing_in(Growth::Sparing, rt.alloc());
-    assert!(rt; grows_to(words, 7u32, &[4, 6, 9, 14, 21])?);
-    let bytes = Vec::new_growing_in(Growth::Sparing, rt.alloc());
-    assert!(rt; grows_to(bytes, 7u8, &[8, 12, 18, 27, 41])?);
-    let rows = Vec::new_growing_in(Growth::Sparing, rt.alloc());
-    assert!(rt; grows_to(rows, [7u8; 1025], &[1, 2, 3, 5, 8, 12])?);
-    Ok(())
+fn sparing_vectors_grow_by_half(rt: HostRuntime) {
+    let sparing = Some(Growth::Sparing);
+    assert!(rt; grows_to(rt.alloc(), sparing, 7u32, &[4, 6, 9, 14, 21]));
+    assert!(rt; grows_to(rt.alloc(), sparing, 7u8, &[8, 12, 18, 27, 41]));
+    assert!(rt; grows_to(rt.alloc(), sparing, [7u8; 1025], &[1, 2, 3, 5, 8, 12]));
 }
 
 // The first push makes room by the size.
 #[test]
-fn other_vectors_double(rt: HostRuntime) -> Result<(), Fail> {
-    assert!(rt; grows_to(Vec::new(rt.alloc()), 7u8, &[8, 16])?);
-    assert!(rt; grows_to(Vec::new(rt.alloc()), 7u32, &[4, 8])?);
-    assert!(rt; grows_to(Vec::new(rt.alloc()), [7u8; 1024], &[4])?);
-    assert!(rt; grows_to(Vec::new(rt.alloc()), [7u8; 1025], &[1])?);
-    Ok(())
+fn other_vectors_double(rt: HostRuntime) {
+    assert!(rt; grows_to(rt.alloc(), None, 7u8, &[8, 16]));
+    assert!(rt; grows_to(rt.alloc(), None, 7u32, &[4, 8]));
+    assert!(rt; grows_to(rt.alloc(), None, [7u8; 1024], &[4]));
+    assert!(rt; grows_to(rt.alloc(), None, [7u8; 1025], &[1]));
+}
+
+// How a vector grows, and its capacity.
+fn growth_of<T>(v: &Vec<T>) -> (Growth, usize) {
+    (v.growth(), v.capacity())
 }
 
 #[test]
-fn a_vector_grows_as_it_was_made_to(rt: HostRuntime) -> Result<(), Fail> {
-    let doubling: Vec<u32> = Vec::new_growing_in(Growth::Doubling, rt.alloc());
-    assert!(rt; doubling.growth() == Growth::Doubling);
-    let mut nothing: Vec<()> = Vec::new_growing_in(Growth::Sparing, rt.alloc());
-    assert!(rt; (nothing.growth(), nothing.capacity()) == (Growth::Sparing, usize::MAX));
-    nothing.push(())?;
-    assert!(rt; nothing.growth() == Growth::Sparing);
-    Ok(())
+fn a_vector_grows_as_it_was_made_to(rt: HostRuntime) {
+    let doubling: Vec<u32> = growing(rt.alloc(), Some(Growth::Doubling));
+    assert!(rt; growth_of(&doubling) == (Growth::Doubling, 0));
+    let mut units: Vec<()> = growing(rt.alloc(), Some(Growth::Sparing));
+    for _ in 0..2 {
+        assert!(rt; growth_of(&units) == (Growth::Sparing, usize::MAX));
+        add(&mut units, ());
+    }
 }
 
 // So many pairs in a vector that grows sparingly.
-fn sparing_pairs(alloc: Global, count: u32) -> Result<Vec<[u32; 2]>, Fail> {
-    let mut pairs: Vec<[u32; 2]> = Vec::new_growing_in(Growth::Sparing, alloc);
+fn sparing_pairs(alloc: Global, count: u32) -> Vec<[u32; 2]> {
+    let mut pairs = growing(alloc, Some(Growth::Sparing));
     for x in 0..count {
-        pairs.push([x, x])?;
+        add(&mut pairs, [x, x]);
     }
-    Ok(pairs)
+    pairs
 }
 
-fn is_sparing<T>(v: &Vec<T>) -> bool {
-    v.growth() == Growth::Sparing
+// Whether a call made a vector that grows sparingly.
+fn is_sparing<T: Drop>(made: Option<Vec<T>>) -> bool {
+    match made {
+        Some(v) => v.growth() == Growth::Sparing,
+        None => false,
+    }
 }
 
 #[test]
-fn parts_and_copies_of_a_vector_grow_as_it_does(rt: HostRuntime) -> Result<(), Fail> {
+fn parts_and_copies_of_a_vector_grow_as_it_does(rt: HostRuntime) {
     for at in [0, 4] {
-        let mut pairs = sparing_pairs(rt.alloc(), 5)?;
-        assert!(rt; is_sparing(&pairs) && pairs.capacity() == 6);
-        let tail = pairs.split_off(pairs.len().min(at))?;
-        assert!(rt; is_sparing(&tail) && is_sparing(&pairs));
-        assert!(rt; is_sparing(&tail.clone()?));
+        let mut pairs = sparing_pairs(rt.alloc(), 5);
+        assert!(rt; growth_of(&pairs) == (Growth::Sparing, 6));
+        assert!(rt; is_sparing(split(&mut pairs, at)));
+        assert!(rt; is_sparing(twin(&pairs).ok()) && is_sparing(Some(pairs)));
     }
-    Ok(())
 }
 
 #[test]
-fn what_is_made_of_a_vector_grows_as_it_does(rt: HostRuntime) -> Result<(), Fail> {
-    let boxed: BoxedSlice<[u32; 2]> = sparing_pairs(rt.alloc(), 4)?.into_boxed_slice()?;
-    let back = boxed.into_vec();
-    assert!(rt; is_sparing(&back));
-    let mut flat = back.into_flattened()?;
-    assert!(rt; is_sparing(&flat) && flat.capacity() == 8);
-    flat.push(9)?;
-    assert!(rt; flat.capacity() == 12);
-    Ok(())
+fn what_is_made_of_a_vector_grows_as_it_does(rt: HostRuntime) {
+    let Ok(boxed) = sparing_pairs(rt.alloc(), 4).into_boxed_slice() else {
+        return assert!(rt; false);
+    };
+    let Ok(mut flat) = boxed.into_vec().into_flattened() else {
+        return assert!(rt; false);
+    };
+    for capacity in [8, 12] {
+        assert!(rt; growth_of(&flat) == (Growth::Sparing, capacity));
+        add(&mut flat, 9);
+    }
 }
 
 // Fifteen pushes onto an empty vector that grows sparingly: 33 elements are moved by growth.

@@ -1,10 +1,6 @@
 //! Ranges and items that are left early, forgotten, or taken from both ends until they meet: what
 //! stands then, and what is dropped.
-ghost use Rattle.std.specs.Prelude.{◌≤◌};
-ghost use Rattle.aa_vec.specs.Vector.{len};
-
-use crate::lists::{counted_up, units};
-use aa_raw::collections::TryReserveError;
+use crate::lists::{add, counted_up, shape, units};
 use aa_vec::vec::{Drain, IntoIter, Items, Vec};
 use std::alloc::Global;
 use std::cell::Cell;
@@ -38,16 +34,42 @@ macro_rules! taken_from_ends {
     }};
 }
 
-fn taken_of_drain<T: Drop>(range: &mut Drain<'_, T, Global>, first: u32, last: u32) -> u32 {
-    taken_from_ends!(range, first, last)
+/// The range of these places, as far as they are there.
+pub(crate) fn range_of<T>(v: &mut Vec<T>, from: usize, to: usize) -> Drain<'_, T> {
+    let to = to.min(v.len());
+    v.drain(from.min(to)..to)
 }
 
-fn taken_of_items<T: Drop>(items: &mut IntoIter<T, Global>, first: u32, last: u32) -> u32 {
+// Takes from both ends of a range, and leaves it so: how many came, and how many elements had been
+// dropped just before it was left.
+fn drained<T: Drop>(
+    v: &mut Vec<T>,
+    (from, to): (usize, usize),
+    (first, last): (u32, u32),
+    left: Left,
+    drops: &Cell<u32>,
+) -> (u32, u32) {
+    let mut range = range_of(v, from, to);
+    let taken = taken_from_ends!(range, first, last);
+    let dropped = drops.get();
+    match left {
+        Left::Ended => drop(range),
+        Left::Kept => range.keep_rest(),
+        Left::Forgotten => forget(range),
+    }
+    (taken, dropped)
+}
+
+fn taken_of_items<T: Drop>(items: &mut IntoIter<T>, first: u32, last: u32) -> u32 {
     taken_from_ends!(items, first, last)
 }
 
 fn has_values(v: &Vec<Counted<'_>>, values: &[u32]) -> bool {
-    v.iter().map(|x| x.value).eq(values.iter().copied())
+    let mut all = v.len() == values.len();
+    for (x, value) in v.iter().zip(values.iter()) {
+        all = all && x.value == *value;
+    }
+    all
 }
 
 #[test]
@@ -69,15 +91,9 @@ fn what_is_left_of_a_drain_is_dropped_kept_or_lost(rt: HostRuntime) {
     ] {
         let drops = Cell::new(0u32);
         let mut v = counted_up(rt.alloc(), &drops, 10);
-        assert!(rt; v.len() == 10);
-        let mut range = v.drain(2..8);
-        let taken = taken_of_drain(&mut range, first, last);
-        assert!(rt; (taken, drops.get()) == (first.saturating_add(last).min(6), taken));
-        match left {
-            Left::Ended => drop(range),
-            Left::Kept => range.keep_rest(),
-            Left::Forgotten => forget(range),
-        }
+        let taken = 6u32.min(first).saturating_add(last).min(6);
+        let answer = drained(&mut v, (2, 8), (first, last), left, &drops);
+        assert!(rt; answer == (taken, taken));
         assert!(rt; (v.capacity(), drops.get()) == (16, dropped));
         assert!(rt; has_values(&v, values));
         drop(v);
@@ -108,19 +124,23 @@ fn what_is_left_of_items_is_dropped_or_lost(rt: HostRuntime) {
     }
 }
 
-// Takes up to `count` even ones of the places 2 to 7, and leaves the others.
+// Takes up to `count` elements of a range, the first and each second one behind it, and leaves the
+// others.
 #[tactic(auto, using(aa_vec::proofs::Callers::callers))]
-fn evens_taken(v: &mut Vec<Counted<'_>>, count: u32, left: Left)
-    requires { 8 ≤ len v.old }
-{
-    let mut evens = v.extract_if(2..8, |x| x.value % 2 == 0);
+fn extracted<T: Drop>(v: &mut Vec<T>, from: usize, to: usize, count: u32, left: Left) {
+    let to = to.min(v.len());
+    let mut turn = false;
+    let mut range = v.extract_if(from.min(to)..to, |_| {
+        turn = !turn;
+        turn
+    });
     for _ in 0..count {
-        drop(evens.next());
+        drop(range.next());
     }
     if matches!(left, Left::Ended) {
-        drop(evens);
+        drop(range);
     } else {
-        forget(evens);
+        forget(range);
     }
 }
 
@@ -135,8 +155,7 @@ fn what_is_left_of_an_extraction_stays_or_is_lost(rt: HostRuntime) {
     ] {
         let drops = Cell::new(0u32);
         let mut v = counted_up(rt.alloc(), &drops, 10);
-        assert!(rt; v.len() == 10);
-        evens_taken(&mut v, count, left);
+        extracted(&mut v, 2, 8, count, left);
         assert!(rt; (v.capacity(), drops.get()) == (16, dropped));
         assert!(rt; has_values(&v, values));
         drop(v);
@@ -145,28 +164,29 @@ fn what_is_left_of_an_extraction_stays_or_is_lost(rt: HostRuntime) {
 }
 
 // Elements without references that can be counted: as many stand as `origin` is shared by.
-fn sharing(alloc: Global, origin: &Rc<(), Global>, count: usize) -> Result<Vec<Rc<()>>, Fail> {
+fn sharing(alloc: Global, origin: &Rc<()>, count: usize) -> Vec<Rc<()>> {
     let mut v: Vec<Rc<()>> = Vec::new(alloc);
     for _ in 0..count {
-        v.push(origin.clone()?)?;
+        if let Ok(twin) = origin.clone() {
+            add(&mut v, twin);
+        }
     }
-    Ok(v)
+    v
 }
 
-// Replaces a range by items, once elements were taken from both its ends: how many came.
+// Replaces a range by items, once elements were taken from both its ends: how many came, and none
+// where the items were refused.
 fn spliced<T: Drop>(
     v: &mut Vec<T>,
     (from, to): (usize, usize),
     items: Items<T>,
     (first, last): (u32, u32),
-) -> Result<u32, TryReserveError> {
-    if from > to || to > v.len() {
-        return Ok(0);
-    }
-    let mut range = v.splice(from..to, items);
+) -> Option<u32> {
+    let to = to.min(v.len());
+    let mut range = v.splice(from.min(to)..to, items);
     let taken = taken_from_ends!(range, first, last);
-    range.finish_hinted()?;
-    Ok(taken)
+    range.finish_hinted().ok()?;
+    Some(taken)
 }
 
 // A splice must be ended, so that none is forgotten.
@@ -174,11 +194,11 @@ fn spliced<T: Drop>(
 fn what_is_left_of_a_splice_is_dropped(rt: HostRuntime) -> Result<(), Fail> {
     for (first, last, taken) in [(0, 0, 0), (1, 2, 3), (3, 3, 6), (7, 0, 6), (0, 9, 6)] {
         let origin = Rc::new(rt.alloc(), ())?;
-        let mut v = sharing(rt.alloc(), &origin, 10)?;
-        let items = Items::new(sharing(rt.alloc(), &origin, 2)?, None);
+        let mut v = sharing(rt.alloc(), &origin, 10);
+        let items = Items::new(sharing(rt.alloc(), &origin, 2), None);
         assert!(rt; Rc::strong_count(&origin) == 13);
-        assert!(rt; spliced(&mut v, (2, 8), items, (first, last)) == Ok(taken));
-        assert!(rt; (v.len(), v.capacity()) == (6, 16));
+        assert!(rt; spliced(&mut v, (2, 8), items, (first, last)) == Some(taken));
+        assert!(rt; shape(&v) == (6, 16));
         assert!(rt; Rc::strong_count(&origin) == 7);
         drop(v);
         assert!(rt; Rc::strong_count(&origin) == 1);
@@ -187,7 +207,7 @@ fn what_is_left_of_a_splice_is_dropped(rt: HostRuntime) -> Result<(), Fail> {
 }
 
 #[test]
-fn elements_without_size_are_left_early(rt: HostRuntime) -> Result<(), Fail> {
+fn elements_without_size_are_left_early(rt: HostRuntime) {
     for (first, last, left, taken, length) in [
         (0, 0, Left::Ended, 0, 2),
         (2, 2, Left::Ended, 3, 2),
@@ -195,67 +215,37 @@ fn elements_without_size_are_left_early(rt: HostRuntime) -> Result<(), Fail> {
         (4, 0, Left::Kept, 3, 2),
         (1, 0, Left::Forgotten, 1, 1),
     ] {
-        let mut v = units(rt.alloc(), 5)?;
-        assert!(rt; v.len() == 5);
-        let mut range = v.drain(1..4);
-        assert!(rt; taken_of_drain(&mut range, first, last) == taken);
-        match left {
-            Left::Ended => drop(range),
-            Left::Kept => range.keep_rest(),
-            Left::Forgotten => forget(range),
-        }
-        assert!(rt; (v.len(), v.capacity()) == (length, usize::MAX));
+        let mut v = units(rt.alloc(), 5);
+        let answer = drained(&mut v, (1, 4), (first, last), left, &Cell::new(0));
+        assert!(rt; answer == (taken, 0));
+        assert!(rt; shape(&v) == (length, usize::MAX));
         let mut items = v.into_iter();
         let _taken = taken_of_items(&mut items, first, last);
         let all = first.saturating_add(last) as usize;
         assert!(rt; items.len() == length.saturating_sub(all));
     }
-    Ok(())
 }
 
 #[test]
-fn elements_without_size_are_spliced_early(rt: HostRuntime) -> Result<(), Fail> {
+fn elements_without_size_are_spliced_early(rt: HostRuntime) {
     for (first, last, taken) in [(0, 0, 0), (1, 1, 2), (2, 2, 3), (0, 4, 3)] {
-        let mut v = units(rt.alloc(), 5)?;
-        let items = Items::new(units(rt.alloc(), 2)?, Some(usize::MAX));
-        assert!(rt; spliced(&mut v, (1, 4), items, (first, last)) == Ok(taken));
-        assert!(rt; (v.len(), v.capacity()) == (4, usize::MAX));
-    }
-    Ok(())
-}
-
-// Takes up to `count` of each second one of the places 1 to 4, and leaves the others.
-#[tactic(auto, using(aa_vec::proofs::Callers::callers))]
-fn seconds_taken(v: &mut Vec<()>, count: u32, left: Left)
-    requires { 5 ≤ len v.old }
-{
-    let mut turn = false;
-    let mut seconds = v.extract_if(1..5, |_| {
-        turn = !turn;
-        !turn
-    });
-    for _ in 0..count {
-        let _unit = seconds.next();
-    }
-    if matches!(left, Left::Ended) {
-        drop(seconds);
-    } else {
-        forget(seconds);
+        let mut v = units(rt.alloc(), 5);
+        let items = Items::new(units(rt.alloc(), 2), Some(usize::MAX));
+        assert!(rt; spliced(&mut v, (1, 4), items, (first, last)) == Some(taken));
+        assert!(rt; shape(&v) == (4, usize::MAX));
     }
 }
 
 #[test]
-fn elements_without_size_are_extracted_early(rt: HostRuntime) -> Result<(), Fail> {
+fn elements_without_size_are_extracted_early(rt: HostRuntime) {
     for (count, left, length) in [
         (0, Left::Ended, 6),
         (1, Left::Ended, 5),
         (3, Left::Ended, 4),
         (1, Left::Forgotten, 1),
     ] {
-        let mut v = units(rt.alloc(), 6)?;
-        assert!(rt; v.len() == 6);
-        seconds_taken(&mut v, count, left);
-        assert!(rt; (v.len(), v.capacity()) == (length, usize::MAX));
+        let mut v = units(rt.alloc(), 6);
+        extracted(&mut v, 1, 5, count, left);
+        assert!(rt; shape(&v) == (length, usize::MAX));
     }
-    Ok(())
 }

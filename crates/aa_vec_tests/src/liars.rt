@@ -4,13 +4,13 @@ ghost use Rattle.std.specs.Prelude.{◌≡◌, ◌-◌, false};
 ghost use Rattle.std.specs.Iterator.{at_most};
 ghost use Rattle.std.proofs.Common.{refl};
 
-use crate::lists::{counted_up, list, stands};
+use crate::clones::{assigned, behind, filled, repeated, twin, within};
+use crate::lists::{add, counted_up, list, numbers, shape, stands, units};
 use aa_raw::collections::{TryReserveError, TryReserveErrorKind};
 use aa_vec::vec::{Hinted, Vec, same};
 use std::alloc::{AllocError, Global};
 use std::cell::Cell;
 use std::clone::Clone;
-use std::test::Fail;
 use test_allocators::counted::Counted;
 
 // What becomes of a hint as an item comes.
@@ -91,7 +91,7 @@ fn answer(fits: bool) -> Result<(), TryReserveError> {
 }
 
 #[test]
-fn untrue_hints_decide_the_room_alone(rt: HostRuntime) -> Result<(), Fail> {
+fn untrue_hints_decide_the_room_alone(rt: HostRuntime) {
     for (hint, manner, room, fits, length, capacity) in [
         (0, Manner::Stays, 0, true, 5, 8),
         (1, Manner::Stays, 0, true, 5, 8),
@@ -106,12 +106,14 @@ fn untrue_hints_decide_the_room_alone(rt: HostRuntime) -> Result<(), Fail> {
         (usize::MAX, Manner::TurnsTo(0), 0, true, 5, 8),
         (0, Manner::TurnsTo(usize::MAX), 0, false, 0, 0),
     ] {
-        let mut v: Vec<u32> = Vec::with_capacity(rt.alloc(), room)?;
+        let mut v = list(rt.alloc(), &[], room);
         assert!(rt; v.extend_hinted(told(hint, manner)) == answer(fits));
-        assert!(rt; v.iter().copied().eq(0..length), "{hint} told");
+        assert!(rt;
+            v.as_slice() == numbers(rt.alloc(), length).as_slice(),
+            "{hint} told"
+        );
         assert!(rt; v.capacity() == capacity, "{hint} told");
     }
-    Ok(())
 }
 
 // Replaces a range of a vector, as far as it lies within, with or without what is told.
@@ -139,15 +141,15 @@ fn splices_to(
     fits: bool,
     left: &[u32],
     capacity: usize,
-) -> Result<bool, Fail> {
-    let mut v = list(alloc, &[1, 2, 3, 4], 4)?;
+) -> bool {
+    let mut v = list(alloc, &[1, 2, 3, 4], 4);
     let answered = spliced(&mut v, (from, from.saturating_add(2)), items, true);
-    Ok(answered == answer(fits) && stands(&v, left, capacity))
+    answered == answer(fits) && stands(&v, left, capacity)
 }
 
 // In the middle, and at the end.
 #[test]
-fn untrue_hints_of_a_splice_decide_the_room_alone(rt: HostRuntime) -> Result<(), Fail> {
+fn untrue_hints_of_a_splice_decide_the_room_alone(rt: HostRuntime) {
     let all = [1, 0, 1, 2, 3, 4, 4].as_slice();
     let full = [1, 0, 1, 4].as_slice();
     let all_behind = [1, 2, 0, 1, 2, 3, 4].as_slice();
@@ -173,11 +175,10 @@ fn untrue_hints_of_a_splice_decide_the_room_alone(rt: HostRuntime) -> Result<(),
     ] {
         let items = told(hint, manner);
         assert!(rt;
-            splices_to(rt.alloc(), from, items, fits, left, capacity)?,
+            splices_to(rt.alloc(), from, items, fits, left, capacity),
             "{hint} told from {from} on"
         );
     }
-    Ok(())
 }
 
 // The numbers from this one up to 9, with pauses. As many are told as there are up to 9.
@@ -201,27 +202,25 @@ fn extended(v: &mut Vec<u32>, items: &mut Liar, hinted: bool) -> Result<(), TryR
 }
 
 #[test]
-fn behind_an_end_nothing_is_asked(rt: HostRuntime) -> Result<(), Fail> {
+fn behind_an_end_nothing_is_asked(rt: HostRuntime) {
     for capacity in [0, 1, 2, 3, 4, 9] {
-        let mut v: Vec<u32> = Vec::with_capacity(rt.alloc(), capacity)?;
+        let mut v = list(rt.alloc(), &[], capacity);
         let mut items = pausing(1);
         for (hinted, left, next) in [
             (false, [1, 2].as_slice(), 4),
             (true, [1, 2, 4, 5].as_slice(), 7),
         ] {
-            extended(&mut v, &mut items, hinted)?;
-            assert!(rt; v.as_slice() == left);
-            assert!(rt; items.next == next);
+            assert!(rt; extended(&mut v, &mut items, hinted).is_ok());
+            assert!(rt; v.as_slice() == left && items.next == next);
         }
         items = pausing(6);
-        extended(&mut v, &mut items, false)?;
+        assert!(rt; extended(&mut v, &mut items, false).is_ok());
         assert!(rt; (v.len(), items.next) == (4, 7));
     }
-    Ok(())
 }
 
 #[test]
-fn a_splice_asks_nothing_behind_an_end(rt: HostRuntime) -> Result<(), Fail> {
+fn a_splice_asks_nothing_behind_an_end(rt: HostRuntime) {
     for (from, to, first, left) in [
         (1, 3, 0, [7, 7].as_slice()),
         (1, 4, 1, [7, 1, 2].as_slice()),
@@ -231,17 +230,16 @@ fn a_splice_asks_nothing_behind_an_end(rt: HostRuntime) -> Result<(), Fail> {
         (2, 2, 4, [7, 7, 4, 5, 7, 7].as_slice()),
     ] {
         for hinted in [false, true] {
-            let mut v = list(rt.alloc(), &[7, 7, 7, 7], 4)?;
-            spliced(&mut v, (from, to), pausing(first), hinted)?;
+            let mut v = list(rt.alloc(), &[7, 7, 7, 7], 4);
+            assert!(rt; spliced(&mut v, (from, to), pausing(first), hinted).is_ok());
             assert!(rt; v.as_slice() == left);
         }
     }
-    Ok(())
 }
 
 // The closure answers true at each call whose number `turn` divides: how many calls there were.
 #[tactic(auto, using(aa_vec::proofs::Callers::callers))]
-fn retained_by_turns(v: &mut Vec<Counted<'_>>, turn: u32) -> u32 {
+fn retained_by_turns<T: Drop>(v: &mut Vec<T>, turn: u32) -> u32 {
     let mut calls = 0u32;
     v.retain_by(&mut |_| {
         calls = calls.wrapping_add(1);
@@ -252,7 +250,7 @@ fn retained_by_turns(v: &mut Vec<Counted<'_>>, turn: u32) -> u32 {
 
 // The same of two neighbours.
 #[tactic(auto, using(aa_vec::proofs::Callers::callers))]
-fn deduplicated_by_turns(v: &mut Vec<Counted<'_>>, turn: u32) -> u32 {
+fn deduplicated_by_turns<T: Drop>(v: &mut Vec<T>, turn: u32) -> u32 {
     let mut calls = 0u32;
     v.dedup_within(&mut |_, _| {
         calls = calls.wrapping_add(1);
@@ -280,27 +278,38 @@ fn answers_by_turns_keep_and_remove(rt: HostRuntime) {
     }
 }
 
-// The key is the number of the call, divided by `turn`: two of each comparison are equal, or never,
-// or by turns.
 #[test]
+fn elements_without_size_are_chosen_too(rt: HostRuntime) {
+    let mut v = units(rt.alloc(), 6);
+    assert!(rt; (retained_by_turns(&mut v, 2), v.len()) == (6, 3));
+    assert!(rt; deduplicated_by_turns(&mut v, 1) == 2);
+    assert!(rt; shape(&v) == (1, usize::MAX));
+}
+
+// The key is the number of the call, divided by `turn`: how many calls there were.
 #[tactic(auto, using(aa_vec::proofs::Callers::callers))]
-fn keys_by_turns_keep_and_remove(rt: HostRuntime) -> Result<(), Fail> {
+fn deduplicated_by_key_by_turns(v: &mut Vec<u32>, turn: u32) -> u32 {
+    let calls = Cell::new(0u32);
+    v.dedup_by_key(|_| {
+        let call = calls.get();
+        calls.set(call.wrapping_add(1));
+        call.checked_div(turn).unwrap_or(0)
+    });
+    calls.get()
+}
+
+// Two keys of each comparison are equal, or never, or by turns.
+#[test]
+fn keys_by_turns_keep_and_remove(rt: HostRuntime) {
     for (turn, left) in [
         (1, [1, 2, 3, 4, 5, 6].as_slice()),
         (2, [1].as_slice()),
         (3, [1, 3, 6].as_slice()),
     ] {
-        let calls = Cell::new(0u32);
-        let mut v = list(rt.alloc(), &[1, 2, 3, 4, 5, 6], 6)?;
-        v.dedup_by_key(|_| {
-            let call = calls.get();
-            calls.set(call.wrapping_add(1));
-            call.checked_div(turn).unwrap_or(0)
-        });
+        let mut v = list(rt.alloc(), &[1, 2, 3, 4, 5, 6], 6);
+        assert!(rt; deduplicated_by_key_by_turns(&mut v, turn) == 10);
         assert!(rt; v.as_slice() == left);
-        assert!(rt; calls.get() == 10);
     }
-    Ok(())
 }
 
 // A value that equals none, itself neither.
@@ -319,25 +328,36 @@ impl PartialEq for Unlike {
     }
 }
 
-#[test]
-#[tactic(auto, using(aa_vec::proofs::Callers::callers))]
-fn an_equality_that_never_holds_removes_nothing(rt: HostRuntime) -> Result<(), Fail> {
-    let none: Vec<Unlike> = Vec::new(rt.alloc());
-    assert!(rt; none == none);
-    let mut v: Vec<Unlike> = Vec::new(rt.alloc());
-    for _ in 0..3 {
-        v.push(Unlike { value: 7 })?;
+// So many sevens that equal nothing.
+fn sevens(alloc: Global, count: u32) -> Vec<Unlike> {
+    let mut v: Vec<Unlike> = Vec::new(alloc);
+    for _ in 0..count {
+        add(&mut v, Unlike { value: 7 });
     }
+    v
+}
+
+#[test]
+fn an_equality_that_never_holds_removes_nothing(rt: HostRuntime) {
+    let none = sevens(rt.alloc(), 0);
+    assert!(rt; none == none);
+    let mut v = sevens(rt.alloc(), 3);
     v.dedup();
-    assert!(rt; (v.len(), v.capacity()) == (3, 4));
-    assert!(rt; v.iter().all(|x| x.value == 7));
-    assert!(rt; v != v);
-    assert!(rt; v != none);
+    assert!(rt; shape(&v) == (3, 4));
+    for x in v.iter() {
+        assert!(rt; x.value == 7);
+    }
+    assert!(rt; v != v && v != none);
     assert!(rt; !same(v.as_slice(), v.as_slice()));
     assert!(rt; !v.as_slice().contains(&Unlike { value: 7 }));
+}
+
+#[test]
+#[tactic(auto, using(aa_vec::proofs::Callers::callers))]
+fn keys_that_are_never_equal_remove_nothing(rt: HostRuntime) {
+    let mut v = sevens(rt.alloc(), 3);
     v.dedup_by_key(|x| Unlike { value: x.value });
     assert!(rt; v.len() == 3);
-    Ok(())
 }
 
 // A value whose clone is one more.
@@ -356,32 +376,39 @@ fn valued(value: u32) -> Drifting {
     Drifting { value }
 }
 
-fn holds(v: &Vec<Drifting>, values: &[u32]) -> bool {
-    v.iter().map(|x| x.value).eq(values.iter().copied())
+fn holds(v: &[Drifting], values: &[u32]) -> bool {
+    let mut all = v.len() == values.len();
+    for (x, value) in v.iter().zip(values.iter()) {
+        all = all && x.value == *value;
+    }
+    all
 }
 
 #[test]
-fn clones_that_differ_are_put_behind(rt: HostRuntime) -> Result<(), Fail> {
-    let mut v = Vec::from_slice(rt.alloc(), &[valued(1), valued(5)])?;
-    assert!(rt; holds(&v, &[2, 6]));
-    v.extend_from_slice(&[valued(8)])?;
-    assert!(rt; v.len() == 3);
-    v.extend_from_within(1..3)?;
-    assert!(rt; holds(&v, &[2, 6, 9, 7, 10]));
-    v.resize(8, valued(30))?;
-    assert!(rt; holds(&v, &[2, 6, 9, 7, 10, 31, 31, 30]));
-    Ok(())
+fn clones_that_differ_are_put_behind(rt: HostRuntime) {
+    let Ok(mut v) = Vec::from_slice(rt.alloc(), &[valued(1), valued(5)]) else {
+        return assert!(rt; false);
+    };
+    assert!(rt; holds(v.as_slice(), &[2, 6]));
+    assert!(rt; behind(&mut v, &[valued(8)]).is_ok() && within(&mut v, 1, 3).is_ok());
+    assert!(rt; holds(v.as_slice(), &[2, 6, 9, 7, 10]));
+    assert!(rt; filled(&mut v, 8, valued(30)).is_ok());
+    assert!(rt; holds(v.as_slice(), &[2, 6, 9, 7, 10, 31, 31, 30]));
 }
 
 #[test]
-fn clones_that_differ_are_made(rt: HostRuntime) -> Result<(), Fail> {
-    let mut v = Vec::from_elem(rt.alloc(), valued(7), 3)?;
-    assert!(rt; holds(&v, &[8, 8, 7]));
-    let copy = v.clone()?;
-    assert!(rt; holds(&copy, &[9, 9, 8]));
-    v.assign_from(&copy)?;
-    assert!(rt; holds(&v, &[10, 10, 9]));
-    let items = v.into_iter().clone()?;
-    assert!(rt; items.map(|x| x.value).eq([11, 11, 10].iter().copied()));
-    Ok(())
+fn clones_that_differ_are_made(rt: HostRuntime) {
+    let Ok(mut v) = repeated(rt.alloc(), valued(7), 3) else {
+        return assert!(rt; false);
+    };
+    assert!(rt; holds(v.as_slice(), &[8, 8, 7]));
+    let Ok(copy) = twin(&v) else {
+        return assert!(rt; false);
+    };
+    assert!(rt; holds(copy.as_slice(), &[9, 9, 8]));
+    assert!(rt; assigned(&mut v, &copy).is_ok() && holds(v.as_slice(), &[10, 10, 9]));
+    let Ok(items) = v.into_iter().clone() else {
+        return assert!(rt; false);
+    };
+    assert!(rt; holds(items.as_slice(), &[11, 11, 10]));
 }

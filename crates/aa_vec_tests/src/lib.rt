@@ -12,6 +12,8 @@ mod choosing;
 #[cfg(test)]
 mod claims;
 #[cfg(test)]
+mod clones;
+#[cfg(test)]
 mod compared;
 #[cfg(test)]
 mod copies;

@@ -1,0 +1,51 @@
+//! The calls that clone elements, each in one place, for all types that are cloned in the tests.
+use aa_raw::collections::TryReserveError;
+use aa_vec::vec::Vec;
+use std::alloc::Global;
+use std::clone::Clone;
+
+/// `Vec::extend_from_slice`.
+pub(crate) fn behind<T: Clone + Drop>(v: &mut Vec<T>, others: &[T]) -> Result<(), TryReserveError> {
+    v.extend_from_slice(others)
+}
+
+/// `Vec::extend_from_within`, as far as there are these places.
+pub(crate) fn within<T: Clone + Drop>(
+    v: &mut Vec<T>,
+    from: usize,
+    to: usize,
+) -> Result<(), TryReserveError> {
+    let to = to.min(v.len());
+    v.extend_from_within(from.min(to)..to)
+}
+
+/// `Vec::resize`.
+pub(crate) fn filled<T: Clone + Drop>(
+    v: &mut Vec<T>,
+    len: usize,
+    x: T,
+) -> Result<(), TryReserveError> {
+    v.resize(len, x)
+}
+
+/// `Vec::assign_from`.
+pub(crate) fn assigned<T: Clone + Drop>(
+    v: &mut Vec<T>,
+    source: &Vec<T>,
+) -> Result<(), TryReserveError> {
+    v.assign_from(source)
+}
+
+/// `Vec::clone`.
+pub(crate) fn twin<T: Clone + Drop>(v: &Vec<T>) -> Result<Vec<T>, TryReserveError> {
+    v.clone()
+}
+
+/// `Vec::from_elem`.
+pub(crate) fn repeated<T: Clone + Drop>(
+    alloc: Global,
+    x: T,
+    count: usize,
+) -> Result<Vec<T>, TryReserveError> {
+    Vec::from_elem(alloc, x, count)
+}
