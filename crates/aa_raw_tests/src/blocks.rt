@@ -10,18 +10,6 @@ use std::test::Fail;
 
 const _: () = prove!(size_of::<RawVec<u64, Global>>() == 24);
 
-#[test]
-fn places_are_put_and_taken(rt: HostRuntime) -> Result<(), Fail> {
-    let mut block: RawVec<u32> = RawVec::with_capacity(rt.alloc(), 3)?;
-    let _alloc: &Global = block.allocator();
-    block.put(0, 10);
-    block.put(1, 11);
-    block.put(1, 12);
-    assert!(rt; *block.place(1) == 12);
-    assert!(rt; block.take(1) == 12);
-    Ok(())
-}
-
 // A block `10 11 _`.
 fn two_of_three(alloc: Global) -> Result<RawVec<u32>, TryReserveError>
     ensures { IfOk result (λ block. block.places ≡ Some 10 ∷ Some 11 ∷ None ∷ []) }
@@ -30,6 +18,16 @@ fn two_of_three(alloc: Global) -> Result<RawVec<u32>, TryReserveError>
     block.put(0, 10);
     block.put(1, 11);
     Ok(block)
+}
+
+#[test]
+fn places_are_put_and_taken(rt: HostRuntime) -> Result<(), Fail> {
+    let mut block = two_of_three(rt.alloc())?;
+    let _alloc: &Global = block.allocator();
+    block.put(1, 12);
+    assert!(rt; *block.place(1) == 12);
+    assert!(rt; block.take(1) == 12);
+    Ok(())
 }
 
 #[test]
@@ -53,58 +51,132 @@ fn values_stay_where_a_block_grows(rt: HostRuntime) -> Result<(), Fail> {
     Ok(())
 }
 
-// The capacity that the first push leads to.
-fn least_capacity<T>(alloc: Global) -> Result<usize, TryReserveError> {
-    let mut block: RawVec<T> = RawVec::new(alloc);
-    block.try_reserve(0, 1)?;
-    Ok(block.capacity())
-}
-
 #[test]
-fn the_least_capacity_is_by_the_size(rt: HostRuntime) -> Result<(), Fail> {
-    assert!(rt; least_capacity::<u8>(rt.alloc())? == 8);
-    assert!(rt; least_capacity::<u32>(rt.alloc())? == 4);
-    assert!(rt; least_capacity::<[u8; 1024]>(rt.alloc())? == 4);
-    assert!(rt; least_capacity::<[u8; 1025]>(rt.alloc())? == 1);
+fn a_value_stays_where_room_is_given_back(rt: HostRuntime) -> Result<(), Fail> {
+    let mut block: RawVec<u32> = RawVec::with_capacity(rt.alloc(), 5)?;
+    block.put(0, 7);
+    block.reserve_exact(1, 5)?;
+    assert!(rt; block.capacity() == 6);
+    block.shrink_to_fit(1, 2)?;
+    assert!(rt; block.capacity() == 2);
+    assert!(rt; *block.place(0) == 7);
     Ok(())
 }
 
+// A call that makes room in an empty block, or gives it back.
+#[derive(Clone, Copy)]
+enum Room {
+    Reserve(usize),
+    TryReserve(usize),
+    ReserveExact(usize),
+    TryReserveExact(usize),
+    ForPush,
+    Shrink(usize),
+}
+
+fn made<T>(room: Room, block: &mut RawVec<T>) -> Result<(), TryReserveError> {
+    match room {
+        Room::Reserve(count) => block.reserve(0, count),
+        Room::TryReserve(count) => block.try_reserve(0, count),
+        Room::ReserveExact(count) => block.reserve_exact(0, count),
+        Room::TryReserveExact(count) => block.try_reserve_exact(0, count),
+        Room::ForPush => block.reserve_for_push(0),
+        Room::Shrink(capacity) => block.shrink_to_fit(0, capacity.min(block.capacity())),
+    }
+}
+
+// The capacity of a new block after each of these calls, which is an overflow where there is none.
+fn goes_to<T>(alloc: Global, growth: Option<Growth>, rooms: &[(Room, Option<usize>)]) -> bool {
+    let mut block: RawVec<T> = match growth {
+        Some(growth) => RawVec::new_growing_in(growth, alloc),
+        None => RawVec::new(alloc),
+    };
+    let mut all = block.growth() == growth.unwrap_or(Growth::Doubling);
+    for (room, capacity) in rooms {
+        all = all && is_so(made(*room, &mut block), block.capacity(), *capacity);
+    }
+    all
+}
+
+fn is_so(answer: Result<(), TryReserveError>, capacity: usize, wanted: Option<usize>) -> bool {
+    match wanted {
+        Some(wanted) => answer.is_ok() && capacity == wanted,
+        None => answer == Err(TryReserveErrorKind::CapacityOverflow.into()),
+    }
+}
+
 #[test]
+fn the_least_capacity_is_by_the_size(rt: HostRuntime) {
+    let one = Room::TryReserve(1);
+    assert!(rt; goes_to::<u8>(rt.alloc(), None, &[(one, Some(8))]));
+    assert!(rt; goes_to::<u32>(rt.alloc(), None, &[(one, Some(4))]));
+    assert!(rt; goes_to::<[u8; 1024]>(rt.alloc(), None, &[(one, Some(4))]));
+    assert!(rt; goes_to::<[u8; 1025]>(rt.alloc(), None, &[(one, Some(1))]));
+}
+
+// Growths and cuts, one after the other, and the capacity after each. What fits leaves it.
+const ROOMS: [(Room, Option<usize>); 6] = [
+    (Room::TryReserveExact(3), Some(3)),
+    (Room::TryReserveExact(5), Some(5)),
+    (Room::Reserve(5), Some(5)),
+    (Room::ReserveExact(12), Some(12)),
+    (Room::Shrink(2), Some(2)),
+    (Room::Shrink(0), Some(0)),
+];
+
+// Doubling goes on from where an exact need led.
+const DOUBLING: [(Room, Option<usize>); 3] = [
+    (Room::TryReserve(1 << 63), None),
+    (Room::Reserve(9), Some(9)),
+    (Room::Reserve(10), Some(18)),
+];
+
+const SPARING: [(Room, Option<usize>); 2] = [
+    (Room::ForPush, Some(8)),
+    (Room::Reserve(9), Some(12)),
+];
+
+const SIZELESS: [(Room, Option<usize>); 3] = [
+    (Room::TryReserve(usize::MAX), Some(usize::MAX)),
+    (Room::TryReserveExact(usize::MAX), Some(usize::MAX)),
+    (Room::Shrink(0), Some(usize::MAX)),
+];
+
+#[test]
+fn room_is_as_asked_and_as_growth_has_it(rt: HostRuntime) {
+    assert!(rt; goes_to::<u32>(rt.alloc(), None, &ROOMS));
+    assert!(rt; goes_to::<u8>(rt.alloc(), None, &DOUBLING));
+    assert!(rt; goes_to::<u8>(rt.alloc(), Some(Growth::Sparing), &SPARING));
+    assert!(rt; goes_to::<()>(rt.alloc(), None, &SIZELESS));
+}
+
+// The capacity of a block made so, and none where that is an overflow.
+fn capacity_of<T>(made: Result<RawVec<T>, TryReserveError>) -> Option<usize> {
+    match made {
+        Ok(block) => Some(block.capacity()),
+        Err(error) if error.kind() == TryReserveErrorKind::CapacityOverflow => None,
+        Err(_) => Some(0),
+    }
+}
+
+#[test]
+fn a_block_is_made_with_the_capacity_asked_for(rt: HostRuntime) {
+    for (capacity, has) in [(3, Some(3)), (1 << 61, None)] {
+        assert!(rt; capacity_of::<u32>(RawVec::with_capacity_in(capacity, rt.alloc())) == has);
+    }
+}
+
+#[test]
+#[tactic(auto, using(aa_raw::proofs::Calls::at_ends))]
 fn elements_without_size_take_no_memory(rt: HostRuntime) {
     let mut block: RawVec<()> = RawVec::new(rt.alloc());
     block.put(5, ());
     let _unit: &() = block.place(5);
     block.take(5);
-    assert!(rt; block.capacity() == usize::MAX);
-}
-
-#[test]
-fn elements_without_size_need_no_growth(rt: HostRuntime) {
-    let mut block: RawVec<()> = RawVec::new(rt.alloc());
-    assert!(rt; block.try_reserve(0, usize::MAX).is_ok());
-    assert!(rt; block.try_reserve_exact(0, usize::MAX).is_ok());
-    assert!(rt; block.shrink_to_fit(0, 0).is_ok() && block.capacity() == usize::MAX);
-}
-
-#[test]
-#[tactic(auto, using(aa_raw::proofs::Calls::at_ends))]
-fn elements_without_size_are_no_more_than_can_be_counted(rt: HostRuntime) {
-    let mut block: RawVec<()> = RawVec::new(rt.alloc());
     block.put(0, ());
     let refused = block.try_reserve(1, usize::MAX);
     assert!(rt; refused == Err(TryReserveErrorKind::CapacityOverflow.into()));
-}
-
-#[test]
-fn a_capacity_past_the_limits_is_an_overflow(rt: HostRuntime) {
-    let overflow: TryReserveError = TryReserveErrorKind::CapacityOverflow.into();
-    match RawVec::<u32>::with_capacity_in(1 << 61, rt.alloc()) {
-        Ok(_) => assert!(rt; false),
-        Err(error) => assert!(rt; error == overflow),
-    }
-    let mut block: RawVec<u8> = RawVec::new(rt.alloc());
-    assert!(rt; block.try_reserve(0, 1 << 63) == Err(overflow));
-    assert!(rt; block.capacity() == 0);
+    assert!(rt; block.capacity() == usize::MAX);
 }
 
 #[test]
@@ -152,50 +224,4 @@ fn errors_are_printed(rt: HostRuntime) -> Result<(), Fail> {
         assert!(rt; error.to_string(rt.alloc())?.as_str() == text);
     }
     Ok(())
-}
-
-#[test]
-fn capacities_are_as_asked(rt: HostRuntime) -> Result<(), Fail> {
-    let mut block: RawVec<u32, Global> = RawVec::with_capacity(rt.alloc(), 3)?;
-    assert!(rt; block.capacity() == 3);
-    block.try_reserve_exact(0, 5)?;
-    assert!(rt; block.capacity() == 5);
-    block.put(0, 7);
-    block.reserve_exact(1, 5)?;
-    assert!(rt; block.capacity() == 6);
-    Ok(())
-}
-
-#[test]
-fn room_is_given_back(rt: HostRuntime) -> Result<(), Fail> {
-    let mut block: RawVec<u32, Global> = RawVec::with_capacity(rt.alloc(), 12)?;
-    block.put(0, 7);
-    block.shrink_to_fit(1, 2)?;
-    assert!(rt; block.capacity() == 2);
-    assert!(rt; *block.place(0) == 7);
-    block.shrink_to_fit(0, 0)?;
-    assert!(rt; block.capacity() == 0);
-    Ok(())
-}
-
-// Whether a block has this capacity once it was made to have room for so many.
-fn has_room(block: &mut RawVec<u8, Global>, needed: usize, capacity: usize) -> bool {
-    block.reserve(0, needed).is_ok() && block.capacity() == capacity
-}
-
-#[test]
-fn growth_by_half_is_as_chosen(rt: HostRuntime) -> Result<(), Fail> {
-    let mut sparing: RawVec<u8, Global> = RawVec::new_growing_in(Growth::Sparing, rt.alloc());
-    sparing.reserve_for_push(0)?;
-    assert!(rt; (sparing.growth(), sparing.capacity()) == (Growth::Sparing, 8));
-    assert!(rt; has_room(&mut sparing, 9, 12));
-    Ok(())
-}
-
-#[test]
-fn growth_doubles_where_nothing_is_chosen(rt: HostRuntime) {
-    let mut doubling: RawVec<u8, Global> = RawVec::new(rt.alloc());
-    assert!(rt; (doubling.growth(), doubling.capacity()) == (Growth::Doubling, 0));
-    assert!(rt; has_room(&mut doubling, 9, 9));
-    assert!(rt; has_room(&mut doubling, 10, 18));
 }

@@ -9,77 +9,57 @@ use std::cell::Cell;
 use std::test::Fail;
 use test_allocators::counted::Counted;
 
-// The items 1 and 2.
-fn one_and_two(alloc: Global) -> Result<IntoIter<u32, Global>, TryReserveError> {
-    let mut block: RawVec<u32, Global> = RawVec::with_capacity_in(2, alloc)?;
-    block.put(0, 1);
-    block.put(1, 2);
+// The two values as items. Where memory is refused they are dropped.
+#[tactic(auto, using(aa_raw::proofs::Calls::at_ends))]
+fn two<T: Drop>(alloc: Global, [first, second]: [T; 2]) -> Result<IntoIter<T>, TryReserveError> {
+    let mut block: RawVec<T> = RawVec::with_capacity_in(2, alloc)?;
+    block.put(0, first);
+    block.put(1, second);
     Ok(IntoIter::from_block(block, 2))
 }
 
-#[test]
-fn items_are_printed_and_counted(rt: HostRuntime) -> Result<(), Fail> {
-    let items = one_and_two(rt.alloc())?;
-    assert!(rt; format!(in rt.alloc(); "{items:?}")?.as_str() == "IntoIter([1, 2])");
-    assert!(rt; items.size_hint() == (2, Some(2)));
-    let _alloc: &Global = items.allocator();
-    Ok(())
+// The last item and the first, and how many are left then.
+fn taken<T: Drop>(items: &mut IntoIter<T>) -> (Option<T>, Option<T>, usize) {
+    (items.next_back(), items.next(), items.len())
 }
 
 #[test]
 fn items_come_from_both_ends(rt: HostRuntime) -> Result<(), Fail> {
-    let mut items = one_and_two(rt.alloc())?;
-    assert!(rt; (items.next_back(), items.next()) == (Some(2), Some(1)));
-    assert!(rt;
-        (items.next(), items.next_back(), items.next(), items.len()) == (None, None, None, 0)
-    );
+    let mut items = two(rt.alloc(), [1u32, 2])?;
+    assert!(rt; taken(&mut items) == (Some(2), Some(1), 0));
+    assert!(rt; taken(&mut items) == (None, None, 0));
+    let mut units = two(rt.alloc(), [(), ()])?;
+    assert!(rt; taken(&mut units) == (Some(()), Some(()), 0));
+    assert!(rt; taken(&mut units) == (None, None, 0));
     Ok(())
 }
 
 #[test]
-fn items_are_written_to(rt: HostRuntime) -> Result<(), Fail> {
-    let mut items = one_and_two(rt.alloc())?;
-    assert!(rt; items.len() == 2);
-    items.as_mut_slice()[0] = 3;
+fn items_are_printed_and_written_to(rt: HostRuntime) -> Result<(), Fail> {
+    let mut items = two(rt.alloc(), [1u32, 2])?;
+    assert!(rt; format!(in rt.alloc(); "{items:?}")?.as_str() == "IntoIter([1, 2])");
+    assert!(rt; items.size_hint() == (2, Some(2)));
+    let _alloc: &Global = items.allocator();
+    if let Some(x) = items.as_mut_slice().first_mut() {
+        *x = 3;
+    }
     assert!(rt; items.as_slice() == [3, 2].as_slice());
-    assert!(rt; items.next() == Some(3));
     Ok(())
 }
 
-#[test]
-#[tactic(auto, using(aa_raw::proofs::Calls::at_ends))]
-fn sizeless_items_are_counted_down(rt: HostRuntime) -> Result<(), Fail> {
-    let mut block: RawVec<(), Global> = RawVec::new_in(rt.alloc());
-    block.put(0, ());
-    block.put(1, ());
-    let mut items = IntoIter::from_block(block, 2);
-    assert!(rt; (items.next_back(), items.len()) == (Some(()), 1));
-    assert!(rt; (items.next_back(), items.len()) == (Some(()), 0));
-    assert!(rt; items.next_back() == None);
-    Ok(())
-}
-
-// Two items that count their drops.
-fn two_counted(
-    alloc: Global,
-    drops: &Cell<u32>,
-) -> Result<IntoIter<Counted<'_>, Global>, TryReserveError> {
-    let mut block: RawVec<Counted<'_>, Global> = RawVec::with_capacity_in(4, alloc)?;
-    block.put(0, Counted { value: 0, drops });
-    block.put(1, Counted { value: 0, drops });
-    Ok(IntoIter::from_block(block, 2))
+fn counted(drops: &Cell<u32>) -> [Counted<'_>; 2] {
+    [Counted { value: 0, drops }, Counted { value: 0, drops }]
 }
 
 #[test]
 fn items_are_dropped_once(rt: HostRuntime) -> Result<(), Fail> {
     let drops = Cell::new(0);
-    let mut items = two_counted(rt.alloc(), &drops)?;
+    let mut items = two(rt.alloc(), counted(&drops))?;
     drop(items.next());
     assert!(rt; drops.get() == 1);
     drop(items);
     assert!(rt; drops.get() == 2);
-    let items = two_counted(rt.alloc(), &drops)?;
-    assert!(rt; items.count() == 2);
+    assert!(rt; two(rt.alloc(), counted(&drops))?.count() == 2);
     assert!(rt; drops.get() == 4);
     Ok(())
 }
@@ -92,21 +72,13 @@ fn collected(alloc: Global, items: IntoIter<u8, Global>) -> Result<Vec<u8>, Allo
 }
 
 #[test]
-fn a_loop_takes_the_items(rt: HostRuntime) -> Result<(), Fail> {
-    let mut sum = 0u32;
-    for item in one_and_two(rt.alloc())? {
+fn loops_and_generic_callers_take_the_items(rt: HostRuntime) -> Result<(), Fail> {
+    let mut sum = 0u8;
+    for item in two(rt.alloc(), [1, 2])? {
         sum = sum.wrapping_add(item);
     }
     assert!(rt; sum == 3);
-    Ok(())
-}
-
-#[test]
-#[tactic(auto, unfolding(aa_raw::specs::Places::with_run, aa_raw::specs::Places::moved))]
-fn generic_callers_take_the_items(rt: HostRuntime) -> Result<(), Fail> {
-    let mut block: RawVec<u8, Global> = RawVec::with_capacity_in(3, rt.alloc())?;
-    block.put_array(0, [5, 6, 7]);
-    let seen = collected(rt.alloc(), IntoIter::from_block(block, 3))?;
-    assert!(rt; seen.as_slice() == [5, 6, 7].as_slice());
+    let seen = collected(rt.alloc(), two(rt.alloc(), [6, 7])?)?;
+    assert!(rt; seen.as_slice() == [6, 7].as_slice());
     Ok(())
 }

@@ -3,7 +3,7 @@ ghost use Rattle.std.specs.Prelude.{◌≡◌, [], ◌∷◌, Some, None, IfOk};
 
 use aa_raw::collections::{TryReserveError, TryReserveErrorKind};
 use aa_raw::raw_vec::RawVec;
-use std::alloc::{Allocator, Global};
+use std::alloc::Allocator;
 use std::test::Fail;
 use test_allocators::Faulty;
 
@@ -22,10 +22,14 @@ fn around<A: Allocator>(alloc: A) -> Result<RawVec<u32, A>, TryReserveError>
 
 #[test]
 fn two_runs_stand_in_line_where_a_block_grows(rt: HostRuntime) -> Result<(), Fail> {
-    let mut block = around(rt.alloc())?;
-    block.try_reserve_joined((3, 2), (0, 2), 2)?;
+    let heap = Faulty::new(rt.alloc());
+    let mut block = around(&heap)?;
+    assert!(rt; block.try_reserve_joined((3, 2), (0, 2), 2).is_ok());
     assert!(rt; block.capacity() == 10);
     assert!(rt; block.slice(0, 4) == [10, 11, 12, 13].as_slice());
+    assert!(rt; heap.outstanding() == 40);
+    drop(block);
+    assert!(rt; heap.outstanding() == 0);
     Ok(())
 }
 
@@ -53,50 +57,58 @@ fn two_runs_stay_where_so_many_more_fit(rt: HostRuntime) -> Result<(), Fail> {
     let heap = Faulty::new(rt.alloc());
     let mut block = around(&heap)?;
     heap.refuse(0, u64::MAX);
-    block.try_reserve_joined((3, 2), (0, 2), 1)?;
-    block.try_reserve_parted((0, 2), (3, 2), 1)?;
-    assert!(rt; stays(&block));
-    assert!(rt; heap.refused() == 0);
+    assert!(rt; block.try_reserve_joined((3, 2), (0, 2), 1).is_ok());
+    assert!(rt; block.try_reserve_parted((0, 2), (3, 2), 1).is_ok());
+    assert!(rt; stays(&block) && heap.refused() == 0);
     Ok(())
+}
+
+// Why two runs have no room for so many more, in line or at the ends, if they stay.
+fn refusal<A: Allocator>(
+    mut block: RawVec<u32, A>,
+    in_line: bool,
+    additional: usize,
+) -> Option<TryReserveError>
+    requires { block.places ≡ Some 12 ∷ Some 13 ∷ None ∷ Some 10 ∷ Some 11 ∷ [] }
+{
+    if in_line {
+        return match block.try_reserve_joined((3, 2), (0, 2), additional) {
+            Err(error) if stays(&block) => Some(error),
+            _ => None,
+        };
+    }
+    match block.try_reserve_parted((0, 2), (3, 2), additional) {
+        Err(error) if stays(&block) => Some(error),
+        _ => None,
+    }
 }
 
 #[test]
 fn a_refused_growth_leaves_two_runs(rt: HostRuntime) -> Result<(), Fail> {
     let heap = Faulty::new(rt.alloc());
-    let mut block = around(&heap)?;
-    heap.refuse(0, 2);
-    let joined = block.try_reserve_joined((3, 2), (0, 2), 2);
-    assert!(rt; joined == Err(TryReserveErrorKind::AllocError { capacity: 10 }.into()));
-    let parted = block.try_reserve_parted((0, 2), (3, 2), 7);
-    assert!(rt; parted == Err(TryReserveErrorKind::AllocError { capacity: 11 }.into()));
-    assert!(rt; stays(&block));
-    block.try_reserve_joined((3, 2), (0, 2), 2)?;
-    assert!(rt; heap.outstanding() == 40);
-    drop(block);
-    assert!(rt; heap.outstanding() == 0);
-    Ok(())
-}
-
-#[test]
-fn more_than_can_be_counted_is_an_overflow(rt: HostRuntime) -> Result<(), Fail> {
-    let heap: Faulty<Global> = Faulty::new(rt.alloc());
-    let mut block = around(&heap)?;
-    let overflow = Err(TryReserveErrorKind::CapacityOverflow.into());
-    let joined = block.try_reserve_joined((3, 2), (0, 2), usize::MAX - 3);
-    assert!(rt; joined == overflow);
-    let parted = block.try_reserve_parted((0, 2), (3, 2), usize::MAX);
-    assert!(rt; parted == overflow);
-    assert!(rt; stays(&block));
+    for (in_line, additional, kind) in [
+        (true, 2, TryReserveErrorKind::AllocError { capacity: 10 }),
+        (false, 7, TryReserveErrorKind::AllocError { capacity: 11 }),
+        (true, usize::MAX - 3, TryReserveErrorKind::CapacityOverflow),
+        (false, usize::MAX, TryReserveErrorKind::CapacityOverflow),
+    ] {
+        heap.refuse(1, 1);
+        let block = around(&heap)?;
+        assert!(rt; refusal(block, in_line, additional) == Some(kind.into()));
+    }
+    assert!(rt; (heap.refused(), heap.outstanding()) == (2, 0));
     Ok(())
 }
 
 #[test]
 #[tactic(auto, using(aa_raw::proofs::Calls::at_ends))]
-fn elements_without_size_have_room(rt: HostRuntime) -> Result<(), Fail> {
-    let heap = Faulty::new(rt.alloc());
-    let mut block: RawVec<(), &Faulty<Global>> = RawVec::new_in(&heap);
+fn elements_without_size_have_room(rt: HostRuntime) {
+    let mut block: RawVec<()> = RawVec::new_in(rt.alloc());
     block.put(0, ());
-    block.try_reserve_joined((0, 1), (1, 0), usize::MAX - 1)?;
-    assert!(rt; (block.capacity(), heap.requests()) == (usize::MAX, 0));
-    Ok(())
+    assert!(rt;
+        block
+            .try_reserve_joined((0, 1), (1, 0), usize::MAX - 1)
+            .is_ok()
+    );
+    assert!(rt; block.capacity() == usize::MAX);
 }
