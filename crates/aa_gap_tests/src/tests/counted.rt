@@ -1,69 +1,63 @@
 //! Elements that count how often such an element is dropped.
-use crate::tests::texts::edited_twice;
+use crate::tests::texts::{add, edited_twice, put};
 use aa_gap::gap_buffer::{Edit, GapBuffer};
-use aa_raw::collections::TryReserveError;
 use std::alloc::Global;
 use std::cell::Cell;
-use std::test::Fail;
 use test_allocators::Faulty;
 use test_allocators::counted::Counted;
 
 // Three of them, the cursor behind the first.
-fn three(alloc: Global, drops: &Cell<u32>) -> Result<GapBuffer<Counted<'_>>, TryReserveError> {
+fn three(alloc: Global, drops: &Cell<u32>) -> GapBuffer<Counted<'_>> {
     let mut text = GapBuffer::new_in(alloc);
-    text.insert(Counted { value: 0, drops })?;
-    text.insert(Counted { value: 0, drops })?;
-    text.insert(Counted { value: 0, drops })?;
+    for value in 0..3 {
+        let _put = put(&mut text, Counted { value, drops });
+    }
     text.move_to(text.len().min(1));
-    Ok(text)
+    text
 }
 
 #[test]
-fn each_element_is_dropped_once(rt: HostRuntime) -> Result<(), Fail> {
+fn each_element_is_dropped_once(rt: HostRuntime) {
     let drops = Cell::new(0);
-    let mut text = three(rt.alloc(), &drops)?;
-    text.reserve(2)?;
-    assert!(rt; drops.get() == 0);
+    let mut text = three(rt.alloc(), &drops);
+    assert!(rt; text.reserve(2).is_ok() && drops.get() == 0);
     drop(text.delete_forward());
     assert!(rt; drops.get() == 1);
     drop(text);
     assert!(rt; drops.get() == 3);
-    Ok(())
 }
 
 #[test]
-fn a_cleared_text_has_dropped_its_elements(rt: HostRuntime) -> Result<(), Fail> {
+fn a_cleared_text_has_dropped_its_elements(rt: HostRuntime) {
     let drops = Cell::new(0);
-    let mut text = three(rt.alloc(), &drops)?;
+    let mut text = three(rt.alloc(), &drops);
     text.clear();
     assert!(rt; drops.get() == 3);
-    assert!(rt;
-        text.insert(Counted {
-            value: 0,
-            drops: &drops
-        })
-        .is_ok()
-    );
+    let added = Counted {
+        value: 3,
+        drops: &drops,
+    };
+    assert!(rt; put(&mut text, added));
     drop(text);
     assert!(rt; drops.get() == 4);
-    Ok(())
 }
 
 #[test]
-fn deleting_edits_drop_what_they_take(rt: HostRuntime) -> Result<(), Fail> {
+fn deleting_edits_drop_what_they_take(rt: HostRuntime) {
     let drops = Cell::new(0);
-    let mut text = three(rt.alloc(), &drops)?;
-    let edits = vec![in rt.alloc(); Edit::DeleteBack, Edit::DeleteForward]?;
+    let mut text = three(rt.alloc(), &drops);
+    let mut edits = Vec::new(rt.alloc());
+    add(&mut edits, Edit::DeleteBack);
+    add(&mut edits, Edit::DeleteForward);
     assert!(rt; edited_twice(&mut text, edits) == (None, true));
     assert!(rt; drops.get() == 2);
-    Ok(())
 }
 
 // So many edits that put such an element.
 fn inserts(alloc: Global, drops: &Cell<u32>, count: u32) -> Vec<Edit<Counted<'_>>> {
     let mut edits = Vec::new(alloc);
     for value in 0..count {
-        let _pushed = edits.push(Edit::Insert(Counted { value, drops }));
+        add(&mut edits, Edit::Insert(Counted { value, drops }));
     }
     edits
 }

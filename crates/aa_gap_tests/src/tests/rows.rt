@@ -1,5 +1,5 @@
 //! Worked examples, and each call once.
-use crate::tests::texts::{edited_twice, nine_put, reads};
+use crate::tests::texts::{add, edited_twice, made, nine_put, put, reads};
 use aa_gap::gap_buffer::{Edit, GapBuffer};
 use aa_raw::collections::TryReserveError;
 use aa_raw::raw_vec::Growth;
@@ -31,76 +31,88 @@ fn called(call: Call, text: &mut GapBuffer<u32>) -> Result<Option<u32>, TryReser
 }
 
 // Two calls on `[1,9|2,3]`, what the second gives, and the text and the capacity that they leave.
-const ROWS: [([Call; 2], Option<u32>, &[u32], &[u32], usize); 8] = [
+type Row<'a> = (Call, Call, Option<u32>, &'a [u32], &'a [u32], usize);
+
+const ROWS: [Row<'_>; 8] = [
     (
-        [Call::Reserve(0), Call::InsertWithin(8)],
+        Call::Reserve(0),
+        Call::InsertWithin(8),
         Some(8),
         &[1, 9],
         &[2, 3],
         4,
     ),
     (
-        [Call::InsertWithin(8), Call::Insert(8)],
+        Call::InsertWithin(8),
+        Call::Insert(8),
         None,
         &[1, 9, 8],
         &[2, 3],
         8,
     ),
     (
-        [Call::Insert(8), Call::DeleteForward],
+        Call::Insert(8),
+        Call::DeleteForward,
         Some(2),
         &[1, 9, 8],
         &[3],
         8,
     ),
     (
-        [Call::Insert(8), Call::DeleteBack],
+        Call::Insert(8),
+        Call::DeleteBack,
         Some(8),
         &[1, 9],
         &[2, 3],
         8,
     ),
     (
-        [Call::Reserve(0), Call::Reserve(4)],
+        Call::Reserve(0),
+        Call::Reserve(4),
         None,
         &[1, 9],
         &[2, 3],
         8,
     ),
     (
-        [Call::Reserve(4), Call::Reserve(5)],
+        Call::Reserve(4),
+        Call::Reserve(5),
         None,
         &[1, 9],
         &[2, 3],
         16,
     ),
-    ([Call::Clear, Call::DeleteForward], None, &[], &[], 4),
-    ([Call::Clear, Call::InsertWithin(5)], None, &[5], &[], 4),
+    (Call::Clear, Call::DeleteForward, None, &[], &[], 4),
+    (Call::Clear, Call::InsertWithin(5), None, &[5], &[], 4),
 ];
 
+// Whether a row is as the text has it.
+fn is_so(
+    text: &mut GapBuffer<u32>,
+    (first, second, given, before, after, capacity): Row<'_>,
+) -> Result<bool, TryReserveError> {
+    let begun = reads(text, &[1, 9], &[2, 3], 4);
+    let _first = called(first, text)?;
+    Ok(begun && called(second, text)? == given && reads(text, before, after, capacity))
+}
+
 #[test]
-fn elements_are_put_and_taken_at_the_cursor(rt: HostRuntime) -> Result<(), Fail> {
-    for ([first, second], given, before, after, capacity) in ROWS {
-        let mut text = nine_put(rt.alloc())?;
-        assert!(rt; reads(&text, &[1, 9], &[2, 3], 4));
-        let _first = called(first, &mut text)?;
-        assert!(rt;
-            called(second, &mut text)? == given,
-            "{before:?} | {after:?}"
-        );
-        assert!(rt;
-            reads(&text, before, after, capacity),
-            "{before:?} | {after:?}"
-        );
+fn elements_are_put_and_taken_at_the_cursor(rt: HostRuntime) {
+    for row in ROWS {
+        let so = is_so(&mut nine_put(rt.alloc()), row);
+        assert!(rt; so == Ok(true), "{:?} | {:?}", row.3, row.4);
     }
-    Ok(())
 }
 
 #[test]
 fn the_whole_text_is_read(rt: HostRuntime) -> Result<(), Fail> {
-    let text = nine_put(rt.alloc())?;
-    assert!(rt; (text.get(1), text.get(2), text.get(4)) == (Some(&9), Some(&2), None));
-    assert!(rt; format!(in rt.alloc(); "{text:?}")?.as_str() == "[1, 9, 2, 3]");
+    let text = nine_put(rt.alloc());
+    for (index, x) in [(1, Some(&9)), (2, Some(&2)), (4, None)] {
+        assert!(rt; text.get(index) == x);
+    }
+    let written = format!(in rt.alloc(); "{text:?}");
+    drop(text);
+    assert!(rt; written?.as_str() == "[1, 9, 2, 3]");
     Ok(())
 }
 
@@ -114,51 +126,48 @@ fn a_text_is_taken_apart(rt: HostRuntime) {
 }
 
 #[test]
-fn room_is_as_asked(rt: HostRuntime) -> Result<(), Fail> {
-    let text: GapBuffer<u32> = GapBuffer::with_capacity_in(3, rt.alloc())?;
-    assert!(rt; text.capacity() == 3);
+fn room_is_as_asked(rt: HostRuntime) {
+    assert!(rt; made(3, rt.alloc()) == Ok(3));
+    let text: GapBuffer<u32> = GapBuffer::new_in(rt.alloc());
     assert!(rt; text.growth() == Growth::Doubling);
     let _alloc: &Global = text.allocator();
     let mut sparing: GapBuffer<u8> = GapBuffer::new_growing_in(Growth::Sparing, rt.alloc());
-    sparing.reserve(8)?;
-    sparing.reserve(9)?;
-    assert!(rt; sparing.capacity() == 12);
-    Ok(())
+    for (count, capacity) in [(8, 8), (9, 12)] {
+        assert!(rt; sparing.reserve(count).is_ok() && sparing.capacity() == capacity);
+    }
 }
 
 #[test]
-fn edits_come_from_an_iterator(rt: HostRuntime) -> Result<(), Fail> {
+fn edits_come_from_an_iterator(rt: HostRuntime) {
+    let mut edits = Vec::new(rt.alloc());
+    for x in 1..3 {
+        add(&mut edits, Edit::Insert(x));
+    }
+    add(&mut edits, Edit::MoveTo(1));
+    add(&mut edits, Edit::Insert(9));
+    add(&mut edits, Edit::DeleteForward);
+    add(&mut edits, Edit::DeleteBack);
+    add(&mut edits, Edit::MoveTo(9));
     let mut text: GapBuffer<u32> = GapBuffer::new_in(rt.alloc());
-    let edits = vec![in rt.alloc();
-        Edit::Insert(1),
-        Edit::Insert(2),
-        Edit::MoveTo(1),
-        Edit::Insert(9),
-        Edit::DeleteForward,
-        Edit::DeleteBack,
-        Edit::MoveTo(9),
-    ]?;
     assert!(rt; edited_twice(&mut text, edits) == (None, true));
-    assert!(rt; text.before() == [1].as_slice() && text.after().is_empty());
-    Ok(())
+    assert!(rt; reads(&text, &[1], &[], 4));
 }
 
 // So many inserts of a number, so many deletions before the cursor, a move to the start, and so
 // many inserts there.
-fn script(alloc: Global, counts: [u32; 3]) -> Result<Vec<Edit<u32>>, Fail> {
-    let [first, deleted, second] = counts;
+fn script(alloc: Global, [first, deleted, second]: [u32; 3]) -> Vec<Edit<u32>> {
     let mut edits: Vec<Edit<u32>> = Vec::new(alloc);
     for x in 0..first {
-        edits.push(Edit::Insert(x))?;
+        add(&mut edits, Edit::Insert(x));
     }
     for _ in 0..deleted {
-        edits.push(Edit::DeleteBack)?;
+        add(&mut edits, Edit::DeleteBack);
     }
-    edits.push(Edit::MoveTo(0))?;
+    add(&mut edits, Edit::MoveTo(0));
     for x in 0..second {
-        edits.push(Edit::Insert(x))?;
+        add(&mut edits, Edit::Insert(x));
     }
-    Ok(edits)
+    edits
 }
 
 // The capacity of a text of numbers after a script, where it doubles and where it is sparing: 4, 8
@@ -174,14 +183,13 @@ const CAPACITIES: [([u32; 3], usize, usize); 6] = [
 ];
 
 #[test]
-fn a_text_grows_where_an_insert_finds_no_place(rt: HostRuntime) -> Result<(), Fail> {
+fn a_text_grows_where_an_insert_finds_no_place(rt: HostRuntime) {
     for (counts, doubling, sparing) in CAPACITIES {
         for (growth, capacity) in [(Growth::Doubling, doubling), (Growth::Sparing, sparing)] {
             let mut text: GapBuffer<u32> = GapBuffer::new_growing_in(growth, rt.alloc());
-            let edits = script(rt.alloc(), counts)?;
+            let edits = script(rt.alloc(), counts);
             assert!(rt; edited_twice(&mut text, edits) == (None, true));
             assert!(rt; text.capacity() == capacity, "{counts:?} {growth:?}");
         }
     }
-    Ok(())
 }

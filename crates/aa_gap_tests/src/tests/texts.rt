@@ -3,15 +3,31 @@ use aa_gap::gap_buffer::{Edit, GapBuffer};
 use aa_raw::collections::TryReserveError;
 use std::alloc::Allocator;
 
+/// Puts an element before the cursor: whether there was room. One that is refused is dropped.
+pub(crate) fn put<T: Drop, A: Allocator>(text: &mut GapBuffer<T, A>, x: T) -> bool {
+    text.insert(x).is_ok()
+}
+
+/// Puts an edit behind the others.
+pub(crate) fn add<T: Drop>(edits: &mut Vec<Edit<T>>, edit: Edit<T>) {
+    let _added = edits.push(edit);
+}
+
 /// `[1,9|2,3]`, the cursor behind the 9, in 4 places.
-pub(crate) fn nine_put<A: Allocator>(alloc: A) -> Result<GapBuffer<u32, A>, TryReserveError> {
+pub(crate) fn nine_put<A: Allocator>(alloc: A) -> GapBuffer<u32, A> {
     let mut text = GapBuffer::new_in(alloc);
-    text.insert(1)?;
-    text.insert(2)?;
-    text.insert(3)?;
+    for x in 1..4u32 {
+        let _put = put(&mut text, x);
+    }
     text.move_to(text.len().min(1));
-    text.insert(9)?;
-    Ok(text)
+    let _put = put(&mut text, 9);
+    text
+}
+
+/// The capacity of a new text with room for so many numbers.
+pub(crate) fn made<A: Allocator>(capacity: usize, alloc: A) -> Result<usize, TryReserveError> {
+    let text: GapBuffer<u32, A> = GapBuffer::with_capacity_in(capacity, alloc)?;
+    Ok(text.capacity())
 }
 
 /// Whether a text has these elements on either side of its cursor, in these many places.
