@@ -54,6 +54,7 @@ rewritten_by false n xs ws e = refl
 
 module _ {T A : Type 0} where
   pub written-same : (s : Inlined T A) (ws : List T) → length ws ≡ length s.items → written s ws ≡ ws
+  unfolding written
   written-same s ws e = rewritten_by s.spilled (length s.items) s.items ws e
 
   -- items that were put behind those of an empty one, so far

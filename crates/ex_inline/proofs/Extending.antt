@@ -4,9 +4,9 @@ use Rattle.std.specs.Prelude.{nat_le, if◌then◌else◌}
 use Rattle.std.proofs.lemmas.Bool.Decides.{nat_tests}
 use Rattle.std.proofs.lemmas.List.{append-nil}
 use Rattle.std.proofs.lemmas.List.Elements.{same_from_all_zip}
-use Rattle.allocator_api2.proofs.Blocks.{with_room}
+use Rattle.allocator_api2.proofs.Blocks as Blocks
 use Rattle.ex_inline.specs.Extending.{pushed, pushed_all}
-use Rattle.ex_inline.specs.Inlined.{Inlined, capacity, wrote, HasRoom}
+use Rattle.ex_inline.specs.Inlined.{Inlined, capacity, with_room, wrote, HasRoom}
 
 module _ {T A : Type 0} (size N : ℕ) where
   -- one more of them
@@ -24,6 +24,7 @@ module _ {T A : Type 0} (size N : ℕ) where
 
   -- room for m items is room for one and fewer others
   pub room-pushed : (s : Inlined T A) (x : T) (m n : ℕ) → n < m → HasRoom N s m → HasRoom N (pushed size N s x) n
+  unfolding with_room
   room-pushed s x m n fewer room =
       let one : nat_le 1 (capacity N s - length s.items) ≡ true = grind (arith, nat_tests, fewer, room) in
       rw one (omega (arith, length-append s.items (x ∷ []), fewer, room))
@@ -51,4 +52,4 @@ module _ {T A : Type 0} where
 
 pub ruleset pushes = (pushed_all-push, items-pushed_all, length-pushed_all)
 
-pub ruleset copied = (with_room, same_from_all_zip)
+pub ruleset copied = (Blocks.with_room, same_from_all_zip)

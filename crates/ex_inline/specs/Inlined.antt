@@ -19,7 +19,7 @@ abbrev pub grown_to : (size c n : ℕ) → ℕ
 grown_to size c n = amortized Doubling c n (least_of size)
 
 -- a new block for `needed` items of `size` bytes was refused with this error
-abbrev pub LacksBlock : (size needed : ℕ) → TryReserveError → Type 0
+unfoldable pub LacksBlock : (size needed : ℕ) → TryReserveError → Type 0
 LacksBlock size needed error =
     let c = sized size 0 in Room.LacksRoom c 0 needed (grown_to size c needed) error
 
@@ -51,7 +51,7 @@ module _ {T A : Type 0} where
 
   -- s with its items in a block that has places for `needed` of `size` bytes each, to which all
   -- of them were moved
-  abbrev pub in_block : (size needed : ℕ) → Inlined T A → Inlined T A
+  unfoldable pub in_block : (size needed : ℕ) → Inlined T A → Inlined T A
   in_block size needed s =
       record s {
         spilled = true;
@@ -62,19 +62,19 @@ module _ {T A : Type 0} where
       }
 
   -- s with room for k more items: where they do not fit, all were moved once
-  abbrev pub with_room : (size N : ℕ) → Inlined T A → (k : ℕ) → Inlined T A
+  unfoldable pub with_room : (size N : ℕ) → Inlined T A → (k : ℕ) → Inlined T A
   with_room size N s k =
       if nat_le k (capacity N s - length s.items) then s
       else in_block size (length s.items + k) s
 
   -- k more items did not fit, and a growth was refused with this error
-  abbrev pub LacksRoom : (size N : ℕ) → Inlined T A → (k : ℕ) → TryReserveError → Type 0
+  unfoldable pub LacksRoom : (size N : ℕ) → Inlined T A → (k : ℕ) → TryReserveError → Type 0
   LacksRoom size N s k error =
       let n = length s.items in
       Room.LacksRoom (capacity N s) n k (grown_to size (places size s) (n + k)) error
 
   -- s with its items in a block, of `size` bytes each
-  abbrev pub all_in_block : (size : ℕ) → Inlined T A → Inlined T A
+  unfoldable pub all_in_block : (size : ℕ) → Inlined T A → Inlined T A
   all_in_block size s = if s.spilled then s else in_block size (length s.items) s
 
   -- a vector, seen as a small one whose items stand in its block
@@ -89,18 +89,25 @@ module _ {T A : Type 0} where
       }
 
   -- s with its items moved to a new block of c places of `size` bytes
-  abbrev pub in_new_block : (size c : ℕ) → Inlined T A → Inlined T A
+  unfoldable pub in_new_block : (size c : ℕ) → Inlined T A → Inlined T A
   in_new_block size c s =
       record s { spilled = true; block = sized size c; moved = s.moved + length s.items }
 
   -- s with its block made longer or shorter, of c places of `size` bytes: shorter, it moves nothing
-  abbrev pub resized : (size c : ℕ) → Inlined T A → Inlined T A
+  unfoldable pub resized : (size c : ℕ) → Inlined T A → Inlined T A
   resized size c s =
       if nat_le c s.block then record s { block = min s.block (sized size c) }
       else record s { block = c; moved = s.moved + length s.items }
 
+  -- s with its items in a block of c places of `size` bytes
+  abbrev pub with_block : (size c : ℕ) → Inlined T A → Inlined T A
+  with_block size c s = if s.spilled then resized size c s else in_new_block size c s
+
+  -- s with its items in place
+  abbrev pub back_in_place : Inlined T A → Inlined T A
+  back_in_place s = if s.spilled then in_place s.items s.alloc else s
+
   -- s with just c places of `size` bytes: those in place where N serve, else those of a block
-  abbrev pub with_places : (size N c : ℕ) → Inlined T A → Inlined T A
+  unfoldable pub with_places : (size N c : ℕ) → Inlined T A → Inlined T A
   with_places size N c s =
-      if nat_le c N then (if s.spilled then in_place s.items s.alloc else s)
-      else (if s.spilled then resized size c s else in_new_block size c s)
+      if nat_le c N then back_in_place s else with_block size c s

@@ -71,6 +71,16 @@ impl<T, A: Allocator, const N: usize> InlineVec<T, A, N> {
         }
     }
 
+    // How many more items fit.
+    fn room(&self) -> usize
+        ensures { result ≡ capacity N self.now - length self.now.items }
+    {
+        match &self.data {
+            Data::InPlace(few, _) => N - few.len(),
+            Data::InBlock(heap) => heap.capacity() - heap.len(),
+        }
+    }
+
     /// Whether the items stand in a block.
     pub fn spilled(&self) -> bool
         ensures { result ≡ self.now.spilled }
@@ -115,7 +125,7 @@ impl<T, A: Allocator, const N: usize> InlineVec<T, A, N> {
         ensures now { self.new ≡ with_items self.old (slice_set self.old.items index item) }
     {
         match &mut self.data {
-            Data::InPlace(few, _) => few.replace(index, item),
+            Data::InPlace(few, _) => return few.replace(index, item),
             Data::InBlock(heap) => mem::replace(&mut heap[index], item),
         }
     }
@@ -135,6 +145,7 @@ impl<T: Default + Drop, A: Allocator + Copy, const N: usize> InlineVec<T, A, N> 
     /// nothing. Else it takes a block with room to spare, and moves each item there once. A refusal
     /// changes nothing: `CapacityOverflow`, for sure where the length would pass `usize::MAX`, or
     /// `AllocError` with the capacity asked for.
+    #[tactic(auto, unfolding(crate::specs::Inlined::with_room), using(std::proofs::lemmas::Bool::Decides::nat_tests))]
     pub fn reserve(&mut self, additional: usize) -> Result<(), TryReserveError>
         ensures fits { HasRoom N self.old additional → IsOk result }
         ensures room { OnOk result (HasRoom N self.new additional) }
@@ -144,21 +155,10 @@ impl<T: Default + Drop, A: Allocator + Copy, const N: usize> InlineVec<T, A, N> 
         ensures refused { IfErr result (LacksRoom (type_size T.row) N self.old additional) }
         ensures unchanged { OnErr result (self.new ≡ self.old) }
     {
-        match &mut self.data {
-            Data::InBlock(heap) => heap.try_reserve(additional),
-            Data::InPlace(few, alloc) => {
-                let len = few.len();
-                if additional <= N - len {
-                    return Ok(());
-                }
-                let Some(needed) = len.checked_add(additional) else {
-                    return Err(TryReserveErrorKind::CapacityOverflow.into());
-                };
-                let heap = in_a_block(few, *alloc, needed)?;
-                self.data = Data::InBlock(heap);
-                Ok(())
-            }
+        if additional <= self.room() {
+            return Ok(());
         }
+        self.spill(additional)
     }
 
     /// Puts `item` behind the others. It takes no memory where one more has room: in place while
@@ -190,8 +190,8 @@ impl<T: Default + Drop, A: Allocator + Copy, const N: usize> InlineVec<T, A, N> 
         ensures rest { self.new ≡ with_items self.old self.new.items }
     {
         match &mut self.data {
-            Data::InPlace(few, _) if few.len() == 0 => None,
-            Data::InPlace(few, _) => Some(few.pop()),
+            Data::InPlace(few, _) if few.len() == 0 => return None,
+            Data::InPlace(few, _) => return Some(few.pop()),
             Data::InBlock(heap) => heap.pop(),
         }
     }
@@ -228,7 +228,7 @@ impl<T: Default + Drop, A: Allocator + Copy, const N: usize> InlineVec<T, A, N> 
             self.new ≡ wrote self.old (remove self.old.items index) behind }
     {
         match &mut self.data {
-            Data::InPlace(few, _) => few.remove(index),
+            Data::InPlace(few, _) => return few.remove(index),
             Data::InBlock(heap) => heap.remove(index),
         }
     }
@@ -236,6 +236,7 @@ impl<T: Default + Drop, A: Allocator + Copy, const N: usize> InlineVec<T, A, N> 
     /// The items as a vector, which doubles. It takes memory only where they stand in place and
     /// there are any, and moves each of those once. A refusal hands the small vector back as it
     /// was: `CapacityOverflow`, or `AllocError` with the capacity asked for.
+    #[tactic(auto, unfolding(crate::specs::Inlined::all_in_block))]
     pub fn into_vec(self) -> Result<Vec<T, A>, Refused<Self>>
         ensures fits { self.spilled ≡ true → IsOk result }
         ensures made { IfOk result (λ v. block_of v ≡ all_in_block (type_size T.row) self) }
@@ -263,13 +264,37 @@ impl<T: Default + Drop, A: Allocator + Copy, const N: usize> InlineVec<T, A, N> 
         }
     }
 
+    // Moves them into a block, or a longer one, with room for `additional` more, which do not fit.
+    #[tactic(auto, unfolding(crate::specs::Inlined::in_block, crate::specs::Inlined::LacksRoom, crate::specs::Inlined::LacksBlock))]
+    fn spill(&mut self, additional: usize) -> Result<(), TryReserveError>
+        requires { capacity N self.old - length self.old.items < additional }
+        ensures room { OnOk result (HasRoom N self.new additional) }
+        ensures made { let needed = length self.old.items + additional in
+            OnOk result (self.new ≡ in_block (type_size T.row) needed self.old) }
+        ensures items { self.new.items ≡ self.old.items }
+        ensures refused { IfErr result (LacksRoom (type_size T.row) N self.old additional) }
+        ensures unchanged { OnErr result (self.new ≡ self.old) }
+    {
+        match &mut self.data {
+            Data::InBlock(heap) => return heap.try_reserve(additional),
+            Data::InPlace(few, alloc) => {
+                let Some(needed) = few.len().checked_add(additional) else {
+                    return Err(TryReserveErrorKind::CapacityOverflow.into());
+                };
+                let heap = in_a_block(few, *alloc, needed)?;
+                self.data = Data::InBlock(heap);
+                Ok(())
+            }
+        }
+    }
+
     // Puts `item` behind the others, where there is room.
     fn put_last(&mut self, item: T)
         requires { HasRoom N self.old 1 }
         ensures { self.new ≡ wrote self.old (self.old.items ++ item ∷ []) 1 }
     {
         match &mut self.data {
-            Data::InPlace(few, _) => few.push(item),
+            Data::InPlace(few, _) => return few.push(item),
             Data::InBlock(heap) => push_within(heap, item),
         }
     }
@@ -282,13 +307,14 @@ impl<T: Default + Drop, A: Allocator + Copy, const N: usize> InlineVec<T, A, N> 
             self.new ≡ wrote self.old (insert self.old.items index item) (behind + 1) }
     {
         match &mut self.data {
-            Data::InPlace(few, _) => few.insert(index, item),
+            Data::InPlace(few, _) => return few.insert(index, item),
             Data::InBlock(heap) => insert_within(heap, index, item),
         }
     }
 }
 
 // The items of `few`, moved into a new block of at least `needed` places.
+#[tactic(auto, unfolding(crate::specs::Inlined::LacksBlock))]
 fn in_a_block<T: Default + Drop, A: Allocator, const N: usize>(
     few: &mut Few<T, N>,
     alloc: A,

@@ -28,6 +28,7 @@ impl<T, A: Allocator, const N: usize> InlineVec<T, A, N> {
     }
 
     /// The items, to write to.
+    #[tactic(auto, unfolding(crate::specs::Lends::written))]
     pub fn as_mut_slice(&mut self) -> &mut [T]
         ensures* writes_back { sem 𝓛
             (lends_items T.row A.row N.row A.Allocator self.entry result) }

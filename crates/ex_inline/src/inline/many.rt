@@ -15,7 +15,7 @@ impl<T: Default + Drop, A: Allocator + Copy, const N: usize> InlineVec<T, A, N> 
     /// Puts the items of `iter`, which ends, behind the others. First it makes room for as many as
     /// are told, the lower bound of `size_hint`, as `reserve` does; then each is put as by `push`.
     /// Where it is refused, the items that were put stay, and one that found no place is dropped.
-    #[tactic(auto, using(crate::proofs::Extending::pushes))]
+    #[tactic(auto, using(crate::proofs::Extending::pushes), unfolding(crate::specs::Inlined::with_room))]
     pub fn extend<I: Iterator<Item = T>>(&mut self, iter: I) -> Result<(), TryReserveError>
         requires may_ask { I.can_next iter }
         requires ends { IsFinite (I.remaining iter) }

@@ -3,7 +3,7 @@ ghost use Rattle.std.specs.Prelude.{◌≡◌, ◌<◌, ◌≤◌, length, IfErr
 ghost use Rattle.std.specs.Mem.{type_size};
 ghost use Rattle.allocator_api2.specs.Refusals.{IsRefusedAt};
 ghost use Rattle.allocator_api2.specs.declared.raw_vec.Growth.TheVariants.{Doubling};
-ghost use Rattle.ex_inline.specs.Inlined.{block_of, in_new_block, in_place, resized, with_places};
+ghost use Rattle.ex_inline.specs.Inlined.{back_in_place, block_of, in_new_block, in_place, resized, with_block, with_places};
 
 use crate::few::Few;
 use crate::inline::{Data, InlineVec};
@@ -16,6 +16,7 @@ impl<T: Default + Drop, A: Allocator + Copy, const N: usize> InlineVec<T, A, N> 
     /// Makes places for just `capacity` items, which there are at most. Where `N` serve, the items
     /// stand in place then, which takes no memory; else in a block, which it makes, lengthens or
     /// shortens. A refusal changes nothing: `CapacityOverflow`, or `AllocError` with `capacity`.
+    #[tactic(auto, unfolding(crate::specs::Inlined::with_places), using(std::proofs::lemmas::Bool::Decides::nat_tests))]
     pub fn grow(&mut self, capacity: usize) -> Result<(), TryReserveError>
         requires { length self.old.items ≤ capacity }
         ensures fits { capacity ≤ N → IsOk result }
@@ -25,23 +26,42 @@ impl<T: Default + Drop, A: Allocator + Copy, const N: usize> InlineVec<T, A, N> 
         ensures refused { IfErr result (λ e. IsRefusedAt e capacity) }
         ensures unchanged { OnErr result (self.new ≡ self.old) }
     {
+        if capacity > N {
+            return self.set_block(capacity);
+        }
+        self.come_back();
+        Ok(())
+    }
+
+    // Makes a block of just `capacity` places, or makes the one that is there as long.
+    fn set_block(&mut self, capacity: usize) -> Result<(), TryReserveError>
+        requires fits { length self.old.items ≤ capacity }
+        requires some { 0 < capacity }
+        ensures made { OnOk result (self.new ≡ with_block (type_size T.row) capacity self.old) }
+        ensures only_for_memory { OnErr result (¬ (capacity ≡ self.old.block)) }
+        ensures refused { IfErr result (λ e. IsRefusedAt e capacity) }
+        ensures unchanged { OnErr result (self.new ≡ self.old) }
+    {
         match &mut self.data {
             Data::InPlace(few, alloc) => {
-                if capacity > N {
-                    self.data = Data::InBlock(in_places(few, *alloc, capacity)?);
-                }
+                self.data = Data::InBlock(in_places(few, *alloc, capacity)?);
                 Ok(())
             }
-            Data::InBlock(heap) => {
-                if capacity > N {
-                    return resize(heap, capacity);
-                }
-                let alloc = *heap.allocator();
-                let items = mem::replace(heap, Vec::new_in(alloc));
-                self.data = Data::InPlace(gathered(items), alloc);
-                Ok(())
-            }
+            Data::InBlock(heap) => return resize(heap, capacity),
         }
+    }
+
+    // Puts the items in place.
+    fn come_back(&mut self)
+        requires { length self.old.items ≤ N }
+        ensures { self.new ≡ back_in_place self.old }
+    {
+        let Data::InBlock(heap) = &mut self.data else {
+            return;
+        };
+        let alloc = *heap.allocator();
+        let items = mem::replace(heap, Vec::new_in(alloc));
+        self.data = Data::InPlace(gathered(items), alloc);
     }
 
     /// Makes places for no more than the items, as `grow` with the length. So they stand in place
@@ -60,6 +80,7 @@ impl<T: Default + Drop, A: Allocator + Copy, const N: usize> InlineVec<T, A, N> 
 }
 
 // The items of `few`, moved into a new block of just so many places.
+#[tactic(auto, unfolding(crate::specs::Inlined::in_new_block))]
 fn in_places<T: Default + Drop, A: Allocator, const N: usize>(
     few: &mut Few<T, N>,
     alloc: A,
@@ -78,6 +99,7 @@ fn in_places<T: Default + Drop, A: Allocator, const N: usize>(
 }
 
 // Lengthens or shortens the block to just so many places.
+#[tactic(auto, unfolding(crate::specs::Inlined::resized))]
 fn resize<T, A: Allocator>(heap: &mut Vec<T, A>, capacity: usize) -> Result<(), TryReserveError>
     requires { length heap.old.items ≤ capacity }
     ensures made { OnOk result

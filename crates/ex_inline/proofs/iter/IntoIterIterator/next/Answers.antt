@@ -1,4 +1,4 @@
-use Rattle.std.proofs.Common.{◌+◌, ◌<◌, ◌∷◌, drop, length, sym, ap, ◌∙◌, arith}
+use Rattle.std.proofs.Common.{rules, ◌+◌, ◌<◌, ◌∷◌, drop, length, sym, ap, ◌∙◌, arith}
 use Rattle.ex_inline.proofs.Fews.{left-next}
 use Rattle.ex_inline.proofs.iter.IntoIterIterator.next.Goals as goal
 
@@ -7,3 +7,6 @@ returns-clause-steps g c =
     let xs = c.self.inside.rest.items in let i = c.self.inside.front in
     let few : i < length xs = grind (arith, c.if-front-len.false, c.len.ensures, c.self.invariant) in
     sym c.self.view_is ∙ left-next xs i c.replace.result c.default.result few c.replace.ensures.old ∙ ap (λ s. c.replace.result ∷ drop (i + 1) s.items) (sym c.replace.ensures.now)
+
+pub replace-requires : goal.replace-requires
+replace-requires g c = (search rules, search rules)

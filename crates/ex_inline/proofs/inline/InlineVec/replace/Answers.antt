@@ -1,0 +1,5 @@
+use Rattle.std.proofs.Common.{rules}
+use Rattle.ex_inline.proofs.inline.InlineVec.replace.Goals as goal
+
+pub replace-requires : goal.replace-requires
+replace-requires g c = (search rules, search rules)
