@@ -1,5 +1,6 @@
-//! What no clause says: sizes, printed texts, that calls succeed, and each public call once.
-use aa_boxed::boxed::{Box, BoxedSlice, UninitBox};
+//! What no clause says: sizes, that calls succeed, and each public call once.
+use crate::tests::boxed;
+use aa_boxed::boxed::{Box, UninitBox};
 use std::alloc::{AllocError, Global};
 use std::cell::Cell;
 use std::mem::size_of;
@@ -8,55 +9,44 @@ use test_allocators::counted::Counted;
 
 const _: () = prove!(size_of::<Box<u64, Global>>() == 24);
 
-#[test]
-fn a_value_is_put_and_taken(rt: HostRuntime) -> Result<(), Fail> {
-    let mut b = UninitBox::write(Box::new_uninit(rt.alloc())?, 5u32);
-    *b += 2;
-    assert!(rt; *b == 7);
-    assert!(rt; Box::into_inner(b) == 7);
-    Ok(())
+// Each way to make room for a number.
+fn room(alloc: Global, way: u32) -> Result<UninitBox<u32>, AllocError> {
+    match way {
+        0 => Box::new_uninit(alloc),
+        1 => Box::new_uninit_in(alloc),
+        2 => Box::try_new_uninit(alloc),
+        _ => Box::try_new_uninit_in(alloc),
+    }
 }
 
-// Each way to make room, which is given back as it is let go.
-fn made_by_each(alloc: Global) -> Result<(), AllocError> {
-    let _new: UninitBox<u8> = Box::new_uninit_in(alloc)?;
-    let _try_new: UninitBox<u8> = Box::try_new_uninit(alloc)?;
-    let _try_new_in: UninitBox<u8> = Box::try_new_uninit_in(alloc)?;
-    Ok(())
-}
-
-#[test]
-fn room_is_taken_and_given_back(rt: HostRuntime) {
-    assert!(rt; made_by_each(rt.alloc()).is_ok());
-}
-
-#[test]
-fn a_box_is_cloned(rt: HostRuntime) -> Result<(), Fail> {
-    let b = Box::new(rt.alloc(), 7u32)?;
-    let _alloc: &Global = Box::allocator(&b);
-    let copy = b.clone()?;
-    assert!(rt; copy == b);
-    assert!(rt; Box::into_boxed_slice(copy).as_slice() == [7].as_slice());
-    Ok(())
-}
-
-// Each way to make a box of a value.
-fn boxes_of(alloc: Global, x: u32) -> Result<[Box<u32>; 4], AllocError> {
-    Ok([
-        Box::new(alloc, x)?,
-        Box::try_new(alloc, x)?,
-        Box::new_in(x, alloc)?,
-        Box::try_new_in(x, alloc)?,
-    ])
+// Each way to make a box of a number.
+fn made(alloc: Global, x: u32, way: u32) -> Result<Box<u32>, AllocError> {
+    match way {
+        0..=3 => Ok(UninitBox::write(room(alloc, way)?, x)),
+        4 => Box::new(alloc, x),
+        5 => Box::try_new(alloc, x),
+        6 => Box::new_in(x, alloc),
+        7 => Box::try_new_in(x, alloc),
+        _ => Box::try_default(alloc),
+    }
 }
 
 #[test]
 fn boxes_are_made(rt: HostRuntime) -> Result<(), Fail> {
-    for b in boxes_of(rt.alloc(), 3)? {
-        assert!(rt; *b == 3);
+    for way in 0..9 {
+        assert!(rt; room(rt.alloc(), way).is_ok());
+        let mut b = made(rt.alloc(), 5, way)?;
+        *b = b.wrapping_add(2);
+        assert!(rt; Box::into_inner(b) == if way < 8 { 7 } else { 2 });
     }
-    let zero: Box<u32> = Box::try_default(rt.alloc())?;
-    assert!(rt; *zero == 0);
+    Ok(())
+}
+
+#[test]
+fn a_box_is_cloned(rt: HostRuntime) -> Result<(), Fail> {
+    let b = boxed(rt.alloc(), 7u32)?;
+    let _alloc: &Global = Box::allocator(&b);
+    assert!(rt; *b.clone()? == 7);
     Ok(())
 }
 
@@ -69,7 +59,7 @@ enum End {
 }
 
 // Ends a box, and drops what comes of it.
-fn ended(b: Box<Counted<'_>>, end: End) {
+fn ended<T: Drop>(b: Box<T>, end: End) {
     match end {
         End::Dropped => drop(b),
         End::TakenOut => drop(Box::into_inner(b)),
@@ -80,38 +70,14 @@ fn ended(b: Box<Counted<'_>>, end: End) {
 #[test]
 fn each_value_is_dropped_once(rt: HostRuntime) -> Result<(), Fail> {
     for end in [End::Dropped, End::TakenOut, End::MadeASlice] {
-        let drops = Cell::new(0);
-        let mut b = Box::new(
-            rt.alloc(),
-            Counted {
-                value: 1,
-                drops: &drops,
-            },
-        )?;
+        let count = Cell::new(0);
+        let drops = &count;
+        let mut b = boxed(rt.alloc(), Counted { value: 1, drops })?;
         assert!(rt; drops.get() == 0);
-        *b = Counted {
-            value: 2,
-            drops: &drops,
-        };
+        *b = Counted { value: 2, drops };
         assert!(rt; drops.get() == 1);
         ended(b, end);
         assert!(rt; drops.get() == 2);
     }
-    Ok(())
-}
-
-#[test]
-fn elements_are_dropped_once(rt: HostRuntime) -> Result<(), Fail> {
-    let drops = Cell::new(0);
-    let made = (0..3).map(|value| Counted {
-        value,
-        drops: &drops,
-    });
-    let list: BoxedSlice<Counted> = BoxedSlice::from_iter(rt.alloc(), made)?;
-    assert!(rt; drops.get() == 0);
-    let (block, len) = list.into_block();
-    assert!(rt; len == 3);
-    drop(BoxedSlice::from_block(block, len));
-    assert!(rt; drops.get() == 3);
     Ok(())
 }

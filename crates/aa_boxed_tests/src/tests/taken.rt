@@ -2,6 +2,7 @@
 ghost use Rattle.std.specs.Prelude.{None, IfErr};
 ghost use Rattle.std.specs.Iterator.{IsFinite, IsNearerEnd};
 
+use crate::tests::text_of;
 use aa_boxed::boxed::{BoxedSlice, BoxedText, append_texts, append_texts_by};
 use aa_raw::collections::{TryReserveError, TryReserveErrorKind};
 use std::alloc::{Allocator, Global};
@@ -42,50 +43,34 @@ const REFUSED: [(u64, u32, usize); 4] = [(0, 1, 4), (1, 5, 8), (2, 9, 16), (3, 1
 fn a_refused_slice_takes_no_further_item(rt: HostRuntime) {
     let heap = Faulty::new(rt.alloc());
     for (refused, taken, capacity) in REFUSED {
-        let calls = Cell::new(0);
-        let iter = Asked {
+        let error = Some(TryReserveErrorKind::AllocError { capacity }.into());
+        let count = Cell::new(0);
+        let calls = &count;
+        let mut iter = Asked {
             iter: 0..9u32,
-            calls: &calls,
+            calls,
         };
         heap.refuse(refused, 1);
-        let error = BoxedSlice::from_iter_in(iter, &heap).err();
-        assert!(rt; error == Some(TryReserveErrorKind::AllocError { capacity }.into()));
+        assert!(rt; BoxedSlice::from_iter_in_by(&mut iter, &heap).err() == error);
+        assert!(rt; (calls.get(), iter.iter.start) == (taken, taken.min(9)));
+        calls.set(0);
+        let iter = Asked {
+            iter: 0..9u32,
+            calls,
+        };
+        heap.refuse(refused, 1);
+        assert!(rt; BoxedSlice::from_iter_in(iter, &heap).err() == error);
         assert!(rt; calls.get() == taken);
     }
 }
 
-#[test]
-fn a_refused_slice_leaves_the_other_items(rt: HostRuntime) {
-    let heap = Faulty::new(rt.alloc());
-    for (refused, taken, capacity) in REFUSED {
-        let calls = Cell::new(0);
-        let mut iter = Asked {
-            iter: 0..9u32,
-            calls: &calls,
-        };
-        heap.refuse(refused, 1);
-        let error = BoxedSlice::from_iter_in_by(&mut iter, &heap).err();
-        assert!(rt; error == Some(TryReserveErrorKind::AllocError { capacity }.into()));
-        assert!(rt; (calls.get(), iter.iter.start) == (taken, taken.min(9)));
-    }
-}
-
-#[test]
-fn a_refused_slice_tells_the_hint_with_the_item(rt: HostRuntime) {
-    let heap = Faulty::new(rt.alloc());
-    heap.refuse(0, 1);
-    let mut iter = 0..9u32;
-    let error = BoxedSlice::from_iter_in_by(&mut iter, &heap).err();
-    assert!(rt; error == Some(TryReserveErrorKind::AllocError { capacity: 9 }.into()));
-    assert!(rt; iter.start == 1);
-}
-
-// Three texts, of which the first fits where the second does not.
-fn texts(alloc: Global) -> Result<[BoxedText; 3], TryReserveError> {
+// These texts, one after another.
+fn texts(alloc: Global, all: [&str; 3]) -> Result<[BoxedText; 3], TryReserveError> {
+    let [first, second, third] = all;
     Ok([
-        BoxedText::from_text(alloc, "b")?,
-        BoxedText::from_text(alloc, "ccc")?,
-        BoxedText::from_text(alloc, "d")?,
+        text_of(alloc, first)?,
+        text_of(alloc, second)?,
+        text_of(alloc, third)?,
     ])
 }
 
@@ -130,48 +115,44 @@ fn slice_over<I: Iterator<Item = T>, T: Drop, A: Allocator>(
     }
 }
 
+// Of three texts the first finds room, and the second does not.
 #[test]
 fn refused_texts_take_no_further_one(rt: HostRuntime) -> Result<(), Fail> {
     let heap = Faulty::new(rt.alloc());
     let mut all = letter(&heap)?;
-    let calls = Cell::new(0);
-    let iter = Asked {
-        iter: texts(rt.alloc())?.into_iter(),
-        calls: &calls,
-    };
-    heap.refuse(0, 1);
-    assert!(rt; append_texts(&mut all, iter).is_err());
-    assert!(rt; (all.as_str(), calls.get()) == ("ab", 2));
-    Ok(())
-}
-
-#[test]
-fn refused_texts_leave_the_others(rt: HostRuntime) -> Result<(), Fail> {
-    let heap = Faulty::new(rt.alloc());
-    let mut all = letter(&heap)?;
-    let mut iter = texts(rt.alloc())?.into_iter();
-    heap.refuse(0, 1);
-    assert!(rt; append_texts_by(&mut all, &mut iter).is_err());
-    append_texts_by(&mut all, &mut iter)?;
-    assert!(rt; all.as_str() == "abd");
-    Ok(())
-}
-
-#[test]
-fn what_is_left_of_an_iterator_goes_on(rt: HostRuntime) -> Result<(), Fail> {
-    let heap = Faulty::new(rt.alloc());
-    let mut all = letter(&heap)?;
     let mut other = String::new(rt.alloc());
+    let mut iter = texts(rt.alloc(), ["b", "ccc", "d"])?.into_iter();
     heap.refuse(0, 1);
-    append_over(&mut all, &mut other, &mut texts(rt.alloc())?.into_iter())?;
+    assert!(rt; append_over(&mut all, &mut other, &mut iter).is_ok());
     assert!(rt; (all.as_str(), other.as_str()) == ("ab", "d"));
-    let spare = Faulty::new(rt.alloc());
-    heap.refuse(1, 1);
-    let mut iter = Asked {
-        iter: 0..9u32,
-        calls: &Cell::new(0),
-    };
-    let slice = slice_over(&mut iter, &heap, &spare)?;
-    assert!(rt; slice.as_slice() == [5, 6, 7, 8].as_slice());
     Ok(())
+}
+
+#[test]
+fn texts_are_appended(rt: HostRuntime) -> Result<(), Fail> {
+    let heap = Faulty::new(rt.alloc());
+    let mut all = letter(&heap)?;
+    let iter = texts(rt.alloc(), ["b", "cccccccccccccccccccccccccccccc", ""])?.into_iter();
+    assert!(rt; append_texts(&mut all, iter).is_ok());
+    assert!(rt; (all.len(), all.capacity()) == (32, 32));
+    assert!(rt; all.as_str().starts_with("abc"));
+    Ok(())
+}
+
+#[test]
+fn what_is_left_of_an_iterator_goes_on(rt: HostRuntime) {
+    let (heap, spare) = (Faulty::new(rt.alloc()), Faulty::new(rt.alloc()));
+    heap.refuse(1, 1);
+    let calls = &Cell::new(0);
+    match slice_over(
+        &mut Asked {
+            iter: 0..9u32,
+            calls,
+        },
+        &heap,
+        &spare,
+    ) {
+        Ok(slice) => assert!(rt; slice.as_slice() == [5, 6, 7, 8].as_slice()),
+        Err(_) => assert!(rt; false),
+    }
 }

@@ -1,30 +1,21 @@
 //! The traits that a box hands on, through their bounds.
 ghost use Rattle.std.specs.Prelude.{◌≡◌};
 
-use aa_boxed::boxed::{Box, BoxedSlice, BoxedText};
+use crate::tests::{are_printed, boxed, slice_of, text_of};
+use aa_boxed::boxed::Box;
 use std::alloc::{AllocError, Allocator};
-use std::cell::Cell;
 use std::cmp::Ordering;
 use std::hash::{DefaultHasher, Hash, Hasher};
 use std::io;
 use std::io::{BufRead, Cursor, Read, Seek, SeekFrom, Write};
-use std::string::String;
 use std::test::Fail;
 use std::vec::Vec;
 
 #[test]
 fn an_iterator_is_walked_in_its_box(rt: HostRuntime) -> Result<(), Fail> {
-    let mut b = Box::new(rt.alloc(), 0..3u32)?;
+    let mut b = boxed(rt.alloc(), 0..3u32)?;
     assert!(rt; (b.next_back(), b.len()) == (Some(2), 2));
     assert!(rt; (b.size_hint(), b.next()) == ((2, Some(2)), Some(0)));
-    assert!(rt; b.last() == Some(1));
-    Ok(())
-}
-
-#[test]
-fn items_are_passed_over_in_a_box(rt: HostRuntime) -> Result<(), Fail> {
-    let mut b = Box::new(rt.alloc(), 0..9u32)?;
-    assert!(rt; (b.nth(2), b.nth_back(2)) == (Some(2), Some(6)));
     Ok(())
 }
 
@@ -54,70 +45,53 @@ fn hash_of<T: Hash>(x: &T) -> u64 {
 
 #[test]
 fn hashes_are_those_of_the_values(rt: HostRuntime) -> Result<(), Fail> {
-    let mut boxed = Box::new(rt.alloc(), DefaultHasher::new())?;
-    assert!(rt; hash_of_numbers(&mut boxed) == hash_of_numbers(&mut DefaultHasher::new()));
-    assert!(rt; hash_of(&Box::new(rt.alloc(), 7u32)?) == hash_of(&7u32));
-    Ok(())
-}
-
-#[test]
-fn hashes_are_those_of_the_elements(rt: HostRuntime) -> Result<(), Fail> {
-    let list: BoxedSlice<u32> = BoxedSlice::from_slice(rt.alloc(), &[1, 2])?;
-    assert!(rt; hash_of(&list) == hash_of(&[1u32, 2].as_slice()));
-    let text = BoxedText::from_text(rt.alloc(), "text")?;
-    assert!(rt; hash_of(&text) == hash_of(&"text"));
+    let mut hasher = boxed(rt.alloc(), DefaultHasher::new())?;
+    assert!(rt; hash_of_numbers(&mut hasher) == hash_of_numbers(&mut DefaultHasher::new()));
+    assert!(rt; hash_of(&boxed(rt.alloc(), 7u32)?) == hash_of(&7u32));
+    assert!(rt; hash_of(&slice_of(rt.alloc(), &[1, 2])?) == hash_of(&[1u32, 2].as_slice()));
+    assert!(rt; hash_of(&text_of(rt.alloc(), "text")?) == hash_of(&"text"));
     Ok(())
 }
 
 // Whether the first is less than the second by each comparison, and a clone of the second equals
 // it.
 fn ordered_and_cloned<T: Ord + Clone + Drop>(less: &T, more: &T) -> Result<bool, AllocError> {
-    let ordered = less != more && less < more && less.partial_cmp(more) == Some(Ordering::Less);
+    let ordered = less.partial_cmp(more) == Some(Ordering::Less);
     Ok(ordered && more.cmp(less) == Ordering::Greater && more.clone()? == *more)
 }
 
 #[test]
 fn comparisons_and_clones_are_those_of_the_values(rt: HostRuntime) -> Result<(), Fail> {
-    let (one, two) = (Box::new(rt.alloc(), 1u32)?, Box::new(rt.alloc(), 2u32)?);
+    let (one, two) = (boxed(rt.alloc(), 1u32)?, boxed(rt.alloc(), 2u32)?);
     assert!(rt; ordered_and_cloned(&one, &two)?);
-    assert!(rt; format!(in rt.alloc(); "{one} {two:?}")?.as_str() == "1 2");
+    assert!(rt; are_printed(rt.alloc(), &one, &two, "1 2")?);
     Ok(())
 }
 
 #[test]
 fn comparisons_and_clones_are_those_of_the_elements(rt: HostRuntime) -> Result<(), Fail> {
-    let less: BoxedSlice<u32> = BoxedSlice::from_slice(rt.alloc(), &[1, 5])?;
-    let more: BoxedSlice<u32> = BoxedSlice::from_slice(rt.alloc(), &[1, 5, 3])?;
-    assert!(rt; ordered_and_cloned(&less, &more)?);
     let (less, more) = (
-        BoxedText::from_text(rt.alloc(), "hé")?,
-        BoxedText::from_text(rt.alloc(), "héllo")?,
+        slice_of(rt.alloc(), &[1, 5])?,
+        slice_of(rt.alloc(), &[1, 5, 3])?,
     );
+    assert!(rt; ordered_and_cloned(&less, &more)?);
+    let (less, more) = (text_of(rt.alloc(), "hé")?, text_of(rt.alloc(), "héllo")?);
     assert!(rt; ordered_and_cloned(&less, &more)?);
     Ok(())
 }
 
-// What a reader gives by `read`, and then by `read_exact`.
-fn two_and_two<R: Read>(reader: &mut R) -> io::Result<(usize, [u8; 2], [u8; 2])> {
+// What a reader gives by `read`, then by `read_exact`, and whether these bytes are shown behind one
+// that is passed over.
+fn parts_of<R: BufRead>(
+    reader: &mut R,
+    shown: &[u8],
+) -> io::Result<(usize, [u8; 2], [u8; 2], bool)> {
     let (mut first, mut second) = ([0; 2], [0; 2]);
     let count = reader.read(&mut first)?;
     reader.read_exact(&mut second)?;
-    Ok((count, first, second))
-}
-
-#[test]
-fn a_reader_is_read_in_its_box(rt: HostRuntime) -> Result<(), Fail> {
-    let mut b = Box::new(rt.alloc(), Cursor::new(b"one two".as_slice()))?;
-    assert!(rt; two_and_two(&mut b)? == (2, *b"on", *b"e "));
-    Ok(())
-}
-
-#[test]
-fn a_buffer_is_read_in_its_box(rt: HostRuntime) -> Result<(), Fail> {
-    let mut b = Box::new(rt.alloc(), Cursor::new(b"one".as_slice()))?;
-    b.consume(1);
-    assert!(rt; b.fill_buf()? == b"ne".as_slice());
-    Ok(())
+    reader.consume(1);
+    let same = reader.fill_buf()? == shown;
+    Ok((count, first, second, same))
 }
 
 // How a position is sought.
@@ -141,8 +115,9 @@ fn position_after<S: Seek>(value: &mut S, sought: Sought) -> io::Result<u64> {
 }
 
 #[test]
-fn a_position_is_sought_in_a_box(rt: HostRuntime) -> Result<(), Fail> {
-    let mut b = Box::new(rt.alloc(), Cursor::new(b"one".as_slice()))?;
+fn a_buffer_is_read_and_sought_in_its_box(rt: HostRuntime) -> Result<(), Fail> {
+    let mut b = boxed(rt.alloc(), Cursor::new(b"one two".as_slice()))?;
+    assert!(rt; parts_of(&mut b, b"wo")? == (2, *b"on", *b"e ", true));
     for (sought, position) in [
         (Sought::At(1), 1),
         (Sought::Nowhere, 1),
@@ -177,13 +152,14 @@ fn write_number<W: Write, A: Allocator>(b: &mut Box<W, A>, number: u32) -> io::R
 
 #[test]
 fn a_box_is_read_and_written_through_its_value(rt: HostRuntime) -> Result<(), Fail> {
-    let mut b = Box::new(rt.alloc(), Cursor::new(b"one".as_slice()))?;
+    let mut b = boxed(rt.alloc(), Cursor::new(b"one".as_slice()))?;
     assert!(rt; count_shown(&mut b)? == 3);
     let mut rest = Vec::new(rt.alloc());
     assert!(rt; read_out(&mut b, &mut rest)? == 3);
-    let mut written = Box::new(rt.alloc(), rest)?;
+    let mut written = boxed(rt.alloc(), rest)?;
     write_number(&mut written, 2)?;
-    assert!(rt; written.as_slice() == b"one2".as_slice());
+    assert!(rt; three_written(&mut written)? == 3);
+    assert!(rt; written.as_slice() == b"one2one two3".as_slice());
     Ok(())
 }
 
@@ -219,6 +195,7 @@ impl Write for Own {
     }
 
     fn flush(&mut self) -> io::Result<()> {
+        self.position = self.position.saturating_add(1);
         Ok(())
     }
 
@@ -247,14 +224,6 @@ impl Seek for Own {
     }
 }
 
-#[test]
-fn a_value_reads_by_its_own_functions(rt: HostRuntime) -> Result<(), Fail> {
-    let mut b = Box::new(rt.alloc(), Own { position: 0 })?;
-    assert!(rt; two_and_two(&mut b)? == (0, [0; 2], *b"xx"));
-    assert!(rt; b.fill_buf()? == b"own".as_slice());
-    Ok(())
-}
-
 // How many bytes a writer takes of three, which it then writes all, and a number behind them.
 fn three_written<W: Write>(writer: &mut W) -> io::Result<usize> {
     let count = writer.write(b"one")?;
@@ -265,83 +234,15 @@ fn three_written<W: Write>(writer: &mut W) -> io::Result<usize> {
 }
 
 #[test]
-fn a_value_writes_by_its_own_functions(rt: HostRuntime) -> Result<(), Fail> {
-    assert!(rt; three_written(&mut Box::new(rt.alloc(), Own { position: 0 })?)? == 0);
-    Ok(())
-}
-
-#[test]
-fn a_value_seeks_by_its_own_functions(rt: HostRuntime) -> Result<(), Fail> {
-    let mut b = Box::new(rt.alloc(), Own { position: 7 })?;
+fn a_value_acts_by_its_own_functions(rt: HostRuntime) -> Result<(), Fail> {
+    let mut b = boxed(rt.alloc(), Own { position: 7 })?;
     assert!(rt; position_after(&mut b, Sought::At(0)).is_err());
     for (sought, position) in [(Sought::Nowhere, 7), (Sought::Start, 1), (Sought::By(5), 2)] {
         assert!(rt; position_after(&mut b, sought)? == position);
     }
-    Ok(())
-}
-
-#[test]
-fn boxes_are_cloned_through_the_trait(rt: HostRuntime) -> Result<(), Fail> {
-    let mut boxes = Vec::new(rt.alloc());
-    boxes.push(Box::new(rt.alloc(), 7u32)?)?;
-    let more = boxes.clone()?;
-    assert!(rt; more.len() == 1);
-    assert!(rt; *more[0] == 7);
-    Ok(())
-}
-
-#[test]
-fn the_rest_of_a_reader_is_read_in_its_box(rt: HostRuntime) -> Result<(), Fail> {
-    let mut b = Box::new(rt.alloc(), Cursor::new(b"one\ntwo".as_slice()))?;
-    let mut rest = Vec::new(rt.alloc());
-    assert!(rt; b.read_until(b'\n', &mut rest)? == 4);
-    assert!(rt; b.read_to_end(&mut rest)? == 3);
-    assert!(rt; rest.as_slice() == b"one\ntwo".as_slice());
-    Ok(())
-}
-
-#[test]
-fn lines_and_the_rest_are_read_as_text_in_a_box(rt: HostRuntime) -> Result<(), Fail> {
-    let mut b = Box::new(rt.alloc(), Cursor::new("eins\nzwölf\ndrei".as_bytes()))?;
-    let mut text = String::new(rt.alloc());
-    assert!(rt; b.read_line(&mut text)? == 5);
-    assert!(rt; text.as_str() == "eins\n");
-    assert!(rt; b.read_to_string(&mut text)? == 11);
-    assert!(rt; text.as_str() == "eins\nzwölf\ndrei");
-    assert!(rt; b.read_line(&mut text)? == 0);
-    Ok(())
-}
-
-// A writer that counts how often it is flushed.
-#[derive(Drop)]
-struct Flushed<'a> {
-    flushes: &'a Cell<u32>,
-}
-
-impl Write for Flushed<'_> {
-    fn write(&mut self, buf: &[u8]) -> io::Result<usize> {
-        Ok(buf.len())
-    }
-
-    fn flush(&mut self) -> io::Result<()> {
-        self.flushes.set(self.flushes.get().wrapping_add(1));
-        Ok(())
-    }
-}
-
-#[test]
-fn a_flush_reaches_the_writer(rt: HostRuntime) -> Result<(), Fail> {
-    let flushes = Cell::new(0);
-    let mut b = Box::new(rt.alloc(), Flushed { flushes: &flushes })?;
-    assert!(rt; three_written(&mut b)? == 3);
-    assert!(rt; flushes.get() == 1);
-    Ok(())
-}
-
-#[test]
-fn a_writer_is_written_in_its_box(rt: HostRuntime) -> Result<(), Fail> {
-    let mut b = Box::new(rt.alloc(), Vec::new(rt.alloc()))?;
-    assert!(rt; three_written(&mut b)? == 3);
-    assert!(rt; b.as_slice() == b"one two3".as_slice());
+    assert!(rt; parts_of(&mut b, b"own")? == (0, [0; 2], *b"xx", true));
+    assert!(rt; three_written(&mut b)? == 0);
+    // Each flush is counted.
+    assert!(rt; b.position == 3);
     Ok(())
 }
