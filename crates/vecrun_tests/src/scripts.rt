@@ -1,7 +1,6 @@
 use std::alloc::Global;
 use std::io;
 use std::io::{ErrorKind, Read, Write};
-use std::test::Fail;
 use vecscript::script::script;
 
 const EMPTY_LISTS: &str = "main len=0 cap=0:\nside len=0 cap=0:\n";
@@ -152,10 +151,20 @@ const BAD_SCRIPTS: [(&[u8], u32); 35] = [
     (b"push1\n", 1),
 ];
 
+// A script's status, for a reader, a writer and one more that is told of faults.
+fn status_of<R: Read, W: Write, F: Write>(
+    alloc: Global,
+    input: &mut R,
+    output: &mut W,
+    told: &mut F,
+) -> u8 {
+    script(alloc, input, output, told)
+}
+
 // What a script tells of faults, and its status.
 fn told_of<R: Read, W: Write>(alloc: Global, input: &mut R, output: &mut W) -> (Vec<u8>, u8) {
     let mut told = Vec::new(alloc);
-    let status = script(alloc, input, output, &mut told);
+    let status = status_of(alloc, input, output, &mut told);
     (told, status)
 }
 
@@ -176,20 +185,23 @@ fn answers_good_scripts(rt: HostRuntime) {
     }
 }
 
+// What is told of a bad line.
+fn bad_line(number: u32) -> &'static [u8] {
+    match number {
+        1 => b"bad line 1\n",
+        2 => b"bad line 2\n",
+        _ => b"bad line 3\n",
+    }
+}
+
 #[test]
-fn names_the_first_bad_line(rt: HostRuntime) -> Result<(), Fail> {
+fn names_the_first_bad_line(rt: HostRuntime) {
     for (input, number) in BAD_SCRIPTS {
-        let fault = format!(in rt.alloc(); "bad line {number}\n")?;
         assert!(rt;
-            answers(rt.alloc(), input, b"", fault.as_bytes(), 1),
+            answers(rt.alloc(), input, b"", bad_line(number), 1),
             "{number}"
         );
     }
-    Ok(())
-}
-
-fn text(bytes: &[u8]) -> &str {
-    std::str::from_utf8(bytes).unwrap_or("no text")
 }
 
 // A reader or writer that moves at most `most` bytes a call, and fails once, after `calls` calls.
@@ -237,156 +249,157 @@ const SCRIPT: &[u8] = b"push 1\npush 2\npop\n";
 
 const ANSWER: &str = "done\ndone\nitem 2\nmain len=1 cap=4: 1\nside len=0 cap=0:\n";
 
+const FAILED: &str = "input or output failed\n";
+
 #[test]
 fn tells_a_failed_read(rt: HostRuntime) {
     let rows: [(&[u8], ErrorKind, &str, &str, u8); 5] = [
         (SCRIPT, ErrorKind::Interrupted, ANSWER, "", 0),
-        (
-            SCRIPT,
-            ErrorKind::OutOfMemory,
-            "",
-            "input or output failed\n",
-            3,
-        ),
-        (SCRIPT, ErrorKind::Other, "", "input or output failed\n", 3),
-        (
-            SCRIPT,
-            ErrorKind::UnexpectedEof,
-            "",
-            "input or output failed\n",
-            3,
-        ),
-        (
-            b"push\npush 1\npop\n",
-            ErrorKind::Other,
-            "",
-            "input or output failed\n",
-            3,
-        ),
+        (SCRIPT, ErrorKind::OutOfMemory, "", FAILED, 3),
+        (SCRIPT, ErrorKind::Other, "", FAILED, 3),
+        (SCRIPT, ErrorKind::UnexpectedEof, "", FAILED, 3),
+        (b"push\npush 1\npop\n", ErrorKind::Other, "", FAILED, 3),
     ];
-    for (bytes, kind, output, faults, status) in rows {
+    for (inner, kind, output, faults, status) in rows {
         let mut input = Faulty {
-            inner: bytes,
+            inner,
             most: 4,
             calls: 3,
             kind,
         };
         let mut written = Vec::new(rt.alloc());
         let (told, answer) = told_of(rt.alloc(), &mut input, &mut written);
-        assert!(rt; (text(&told), text(&written), answer) == (faults, output, status));
+        assert!(rt; told.as_slice() == faults.as_bytes() && answer == status);
+        assert!(rt; written.as_slice() == output.as_bytes());
     }
+}
+
+// Whether a script whose writer fails so has this status. It then tells of no fault and has written
+// its whole answer, or it tells of one and has written how the answer begins.
+fn ends_with(
+    alloc: Global,
+    (mut input, answer): (&[u8], &[u8]),
+    (most, calls, kind): (usize, u64, ErrorKind),
+    status: u8,
+) -> bool {
+    let mut output = Faulty {
+        inner: Vec::new(alloc),
+        most,
+        calls,
+        kind,
+    };
+    let (told, code) = told_of(alloc, &mut input, &mut output);
+    let written = output.inner.as_slice();
+    let faults = if status == 0 { "" } else { FAILED };
+    let whole = status != 0 || written.len() == answer.len();
+    code == status && told.as_slice() == faults.as_bytes() && answer.starts_with(written) && whole
 }
 
 #[test]
 fn tells_a_failed_write(rt: HostRuntime) {
-    for (most, calls) in [
-        (1, 0),
-        (1, 20),
-        (1, 54),
-        (10, 0),
-        (10, 3),
-        (10, 5),
-        (100, 1),
+    for (most, calls, kind, status) in [
+        (1, 0, ErrorKind::Other, 3),
+        (1, 20, ErrorKind::Other, 3),
+        (1, 54, ErrorKind::Other, 3),
+        (10, 0, ErrorKind::Other, 3),
+        (10, 3, ErrorKind::Other, 3),
+        (10, 5, ErrorKind::Other, 3),
+        (100, 1, ErrorKind::Other, 3),
+        (1, 7, ErrorKind::Interrupted, 0),
     ] {
-        let inner = Vec::new(rt.alloc());
-        let mut output = Faulty {
-            inner,
-            most,
-            calls,
-            kind: ErrorKind::Other,
-        };
-        let (mut input, mut told) = (SCRIPT, Vec::new(rt.alloc()));
-        let answer = script(rt.alloc(), &mut input, &mut output, &mut told);
+        let case = (SCRIPT, ANSWER.as_bytes());
         assert!(rt;
-            text(&told) == "input or output failed\n",
+            ends_with(rt.alloc(), case, (most, calls, kind), status),
             "after {calls} calls"
         );
-        assert!(rt; ANSWER.starts_with(text(&output.inner)));
-        assert!(rt; answer == 3);
     }
 }
 
-#[test]
-fn writes_in_parts(rt: HostRuntime) {
-    let inner = Vec::new(rt.alloc());
-    let mut output = Faulty {
-        inner,
-        most: 1,
-        calls: 7,
-        kind: ErrorKind::Interrupted,
-    };
-    let (told, answer) = told_of(rt.alloc(), &mut SCRIPT, &mut output);
-    assert!(rt; (text(&told), text(&output.inner), answer) == ("", ANSWER, 0));
-}
+// Texts, and how often each of them comes.
+type Parts = &'static [(&'static [u8], u32)];
 
-// The text so often.
-fn repeated(alloc: Global, text: &[u8], count: u32) -> Result<Vec<u8>, Fail> {
-    let mut all = Vec::new(alloc);
+// Puts the text behind the others so often.
+fn repeat(all: &mut Vec<u8>, text: &[u8], count: u32) {
     for _ in 0..count {
-        all.extend_from_slice(text)?;
+        drop(all.extend_from_slice(text));
     }
-    Ok(all)
 }
+
+// The texts one after another, each of them so often.
+fn joined(alloc: Global, parts: Parts) -> Vec<u8> {
+    let mut all = Vec::new(alloc);
+    for (text, count) in parts {
+        repeat(&mut all, text, *count);
+    }
+    all
+}
+
+const POPS: Parts = &[(b"pop\n", 4000)];
+
+const NONES: Parts = &[
+    (b"none\n", 4000),
+    (b"main len=0 cap=0:\nside len=0 cap=0:\n", 1),
+];
 
 // The answer takes several writes.
 #[test]
-fn fails_in_a_long_answer(rt: HostRuntime) -> Result<(), Fail> {
-    let pops = repeated(rt.alloc(), b"pop\n", 4000)?;
-    let mut answer = repeated(rt.alloc(), b"none\n", 4000)?;
-    answer.extend_from_slice(EMPTY_LISTS.as_bytes())?;
+fn fails_in_a_long_answer(rt: HostRuntime) {
+    let (pops, answer) = (joined(rt.alloc(), POPS), joined(rt.alloc(), NONES));
     for (calls, status) in [(0, 3), (1, 3), (4, 3), (9, 0)] {
-        let inner = Vec::new(rt.alloc());
-        let mut output = Faulty {
-            inner,
-            most: 4096,
-            calls,
-            kind: ErrorKind::Other,
-        };
-        let (_told, code) = told_of(rt.alloc(), &mut pops.as_slice(), &mut output);
-        assert!(rt; code == status, "after {calls} calls");
-        assert!(rt; answer.starts_with(&output.inner));
-        assert!(rt; status == 3 || answer == output.inner);
+        let case = (pops.as_slice(), answer.as_slice());
+        assert!(rt;
+            ends_with(rt.alloc(), case, (4096, calls, ErrorKind::Other), status),
+            "after {calls} calls"
+        );
     }
-    Ok(())
 }
 
-// It is run in several pieces.
-#[test]
-fn runs_a_long_script(rt: HostRuntime) -> Result<(), Fail> {
-    let script = b"push 7\r\n\nextend - 8 9\npop\nsplit_off 1\nclear\n";
-    let lines = repeated(rt.alloc(), script, 1000)?;
-    let mut answer = repeated(rt.alloc(), b"done\ndone\nitem 9\ndone\ndone\n", 1000)?;
-    answer.extend_from_slice(b"main len=0 cap=4:\nside len=1 cap=1: 8\n")?;
-    assert!(rt; answers(rt.alloc(), lines.as_slice(), answer.as_slice(), b"", 0));
-    Ok(())
-}
+// Scripts that are run in several pieces, what they print, what they tell of faults, and the status.
+// Where the first line chooses sparing growth, lines of all pieces count on from there.
+const LONG_SCRIPTS: [(Parts, Parts, &str, u8); 4] = [
+    (
+        &[(b"push 7\r\n\nextend - 8 9\npop\nsplit_off 1\nclear\n", 1000)],
+        &[
+            (b"done\ndone\nitem 9\ndone\ndone\n", 1000),
+            (b"main len=0 cap=4:\nside len=1 cap=1: 8\n", 1),
+        ],
+        "",
+        0,
+    ),
+    (
+        &[(b"push 7\n", 2000), (b"pop 7\npush\n", 1)],
+        &[],
+        "bad line 2001\n",
+        1,
+    ),
+    (
+        &[(b"\nsparing\n", 1), (b"push 7\n", 2000)],
+        &[
+            (b"done\n", 2000),
+            (b"main len=2000 cap=2775:", 1),
+            (b" 7", 2000),
+            (b"\nside len=0 cap=0:\n", 1),
+        ],
+        "",
+        0,
+    ),
+    (
+        &[(b"\nsparing\n", 1), (b"push 7\n", 2000), (b"sparing\n", 1)],
+        &[],
+        "bad line 2003\n",
+        1,
+    ),
+];
 
 #[test]
-fn names_a_bad_line_of_a_late_piece(rt: HostRuntime) -> Result<(), Fail> {
-    let mut lines = Vec::new(rt.alloc());
-    for _ in 0..2000 {
-        lines.extend_from_slice(b"push 7\n")?;
+fn runs_long_scripts(rt: HostRuntime) {
+    for (lines, output, faults, status) in LONG_SCRIPTS {
+        let (lines, output) = (joined(rt.alloc(), lines), joined(rt.alloc(), output));
+        assert!(rt;
+            answers(rt.alloc(), &lines, &output, faults.as_bytes(), status),
+            "{faults}"
+        );
     }
-    lines.extend_from_slice(b"pop 7\npush\n")?;
-    assert!(rt; answers(rt.alloc(), lines.as_slice(), b"", b"bad line 2001\n", 1));
-    Ok(())
-}
-
-// Its first line chooses sparing growth, and lines of all its pieces count on from there.
-#[test]
-fn counts_the_lines_of_a_long_sparing_script(rt: HostRuntime) -> Result<(), Fail> {
-    let mut lines = Vec::new(rt.alloc());
-    lines.extend_from_slice(b"\nsparing\n")?;
-    for _ in 0..2000 {
-        lines.extend_from_slice(b"push 7\n")?;
-    }
-    let mut written = Vec::new(rt.alloc());
-    let (told, status) = told_of(rt.alloc(), &mut lines.as_slice(), &mut written);
-    assert!(rt; (text(&told), status) == ("", 0));
-    assert!(rt; text(&written).contains("\nmain len=2000 cap=2775: 7 7"));
-    lines.extend_from_slice(b"sparing\n")?;
-    assert!(rt; answers(rt.alloc(), lines.as_slice(), b"", b"bad line 2003\n", 1));
-    Ok(())
 }
 
 // Holds too where an allocation is refused, as `rt try --test --fail-alloc N` has it.
@@ -399,13 +412,12 @@ fn tells_refused_memory(rt: HostRuntime) {
         return;
     };
     let mut input = SCRIPT;
-    let status = script(rt.alloc(), &mut input, &mut written, &mut told);
-    let (output, faults) = (text(&written), text(&told));
+    let status = status_of(rt.alloc(), &mut input, &mut written, &mut told);
+    let (output, faults) = (written.as_slice(), told.as_slice());
     if status == 0 {
-        assert!(rt; output.ends_with("\nside len=0 cap=0:\n"));
-        assert!(rt; faults == "");
+        assert!(rt; output == ANSWER.as_bytes() && faults.is_empty());
     } else {
-        assert!(rt; (status, output, faults) == (2, "", "out of memory\n"));
+        assert!(rt; status == 2 && output.is_empty() && faults == b"out of memory\n".as_slice());
     }
 }
 
@@ -418,6 +430,6 @@ fn keeps_the_status_without_a_text(rt: HostRuntime) {
         calls: 0,
         kind: ErrorKind::Other,
     };
-    assert!(rt; script(rt.alloc(), &mut input, &mut written, &mut told) == 1);
+    assert!(rt; status_of(rt.alloc(), &mut input, &mut written, &mut told) == 1);
     assert!(rt; written.is_empty());
 }
