@@ -1,44 +1,132 @@
--- Entries as a map.
-use Rattle.ex_table.proofs.Common.{◌≡◌, ℕ, Bool, true, cond, List, length, slice_get, Option, Some, None, sym, ◌∙◌, ap, arith, set, count_by, set_value, Group, Entry, value, keys_like, Sets, IsMap, IsSound, is_key, pair, with_value, entries_of, found}
-use Rattle.std.proofs.lemmas.List.{length-map}
-use Rattle.ex_table.specs.Contents.{Filled}
-use Rattle.ex_table.specs.Inside.{filled_in}
-use Rattle.ex_table.proofs.Counts.{found-entries, keys-entries, found-absent, found-at, alike-found, entries-written}
+-- What stands in places, as a map: what becomes of it where a place is filled or emptied, and where keys change places.
+use Rattle.std.proofs.Common.{All, Bool, inl, inr, List, None, Option, Some, [], ap, arith, cond, eqb, get_or, length, refl, set, suc, subst, sym, true, zero, ℕ, ◌+◌, ◌<◌, ◌∙◌, ◌∷◌, ◌≡◌, ◌≢◌, ◌≤◌}
+use Rattle.std.specs.Prelude.{IsPermutation}
+use Rattle.std.specs.Cmp.{IsEquivalence}
+use Rattle.std.proofs.lemmas.List.Elements.{All-nil, All-cons, All-head, All-tail}
+use Rattle.std.proofs.lemmas.List.Sorted.{IsPermutation-refl, IsPermutation-trans, IsPermutation-cons, IsPermutation-middle, IsPermutation-sym, All-permutation, length_permutation, sum_by-IsPermutation}
+use Rattle.std.proofs.lemmas.List.Sums.{sum_by-cons}
+use Rattle.std.proofs.lemmas.Bool.{cases_Bool}
+use Rattle.allocator_api2.specs.Places.{somes}
+use Rattle.ex_table.specs.Contents.{value, keys_like, IsMap, Sets}
 
--- f is what is seen of the entries
-module _ {K V S : Type 0} (eq : K → K → Bool) (es : List (Entry K V)) {b : S} {room : ℕ} {f : Filled K V S} (seen : filled_in b es room ≡ f) where
-  sees : (k : K) → value eq f.entries k ≡ found eq es k
-  sees k = ap (λ g. value eq g.entries k) (sym seen) ∙ found-entries eq es k
+module _ {X : Type 0} where
+  -- two before the others change places
+  pub swapped : (x y : X) (xs : List X) → IsPermutation (x ∷ y ∷ xs) (y ∷ x ∷ xs)
+  swapped x y xs = IsPermutation-sym (y ∷ x ∷ xs) (x ∷ y ∷ xs) (IsPermutation-middle (y ∷ []) x xs)
 
-  pub value-none : (k : K) → count_by (is_key eq k) es ≡ 0 → value eq f.entries k ≡ None
-  value-none k none = sees k ∙ found-absent eq es k none
+  -- an empty place is filled
+  pub filled : (cs : List (Option X)) (s : ℕ) (x : X) → s < length cs → get_or cs s None ≡ None → IsPermutation (x ∷ somes cs) (somes (set cs s (Some x)))
+  filled [] s x l e = absurd (omega arith)
+  filled (None ∷ cs) zero x l e = IsPermutation-refl (x ∷ somes cs)
+  filled (Some y ∷ cs) zero x l e = absurd cc
+  filled (None ∷ cs) (suc s) x l e = filled cs s x (omega arith) e
+  filled (Some y ∷ cs) (suc s) x l e =
+      IsPermutation-trans (x ∷ y ∷ somes cs) (y ∷ x ∷ somes cs) (y ∷ somes (set cs s (Some x))) (swapped x y (somes cs)) (IsPermutation-cons y (x ∷ somes cs) (somes (set cs s (Some x))) (filled cs s x (omega arith) e))
 
-  pub sees-keys : (k : K) → keys_like eq k f.entries ≡ count_by (is_key eq k) es
-  sees-keys k = ap (λ g. keys_like eq k g.entries) (sym seen) ∙ keys-entries eq es k
+  -- a filled place is emptied
+  pub emptied : (cs : List (Option X)) (s : ℕ) (x : X) → get_or cs s None ≡ Some x → IsPermutation (somes cs) (x ∷ somes (set cs s None))
+  emptied [] s x e = absurd cc
+  emptied (None ∷ cs) zero x e = absurd cc
+  emptied (Some y ∷ cs) zero x e = subst (λ z. IsPermutation (y ∷ somes cs) (z ∷ somes cs)) (grind (arith, e)) (IsPermutation-refl (y ∷ somes cs))
+  emptied (None ∷ cs) (suc s) x e = emptied cs s x e
+  emptied (Some y ∷ cs) (suc s) x e =
+      IsPermutation-trans (y ∷ somes cs) (y ∷ x ∷ somes (set cs s None)) (x ∷ y ∷ somes (set cs s None)) (IsPermutation-cons y (somes cs) (x ∷ somes (set cs s None)) (emptied cs s x e)) (swapped y x (somes (set cs s None)))
 
-  pub seen-len : length f.entries ≡ length es
-  seen-len = ap (λ g. length g.entries) (sym seen) ∙ length-map es pair
+module _ {K V : Type 0} (eq : K → K → Bool) where
+  -- an entry with the key has this value
+  abbrev Has : K → Option V → K × V → Type 0
+  Has q o e = eq q e.0 ≡ true → Some e.1 ≡ o
 
-  pub sees-set : (new : List (Entry K V)) (k : K) (o : Option V) → ((q : K) → found eq new q ≡ cond (eq q k) o (found eq es q)) → Sets eq f.entries k o (entries_of new)
-  sees-set new k o e q = found-entries eq new q ∙ e q ∙ ap (cond (eq q k) o) (sym (sees q))
+  pub keys-cons : (q : K) (e : K × V) (es : List (K × V)) → keys_like eq q (e ∷ es) ≡ cond (eq q e.0) 1 0 + keys_like eq q es
+  keys-cons q e es = sum_by-cons (λ (e : K × V). cond (eq q e.0) 1 0) e es
 
--- the key has another value
-abbrev pub put : {K V S : Type 0} → (K → K → Bool) → K → V → Filled K V S → Filled K V S
-put eq k v f = record { entries = set_value (eq k) f.entries v; capacity = f.capacity; builder = f.builder }
+  none-has : (q : K) (o : Option V) (es : List (K × V)) → keys_like eq q es ≡ 0 → All (Has q o) es
+  none-has q o [] n = All-nil (Has q _)
+  none-has q o (e ∷ es) n = All-cons (Has q _) e es (λ t. absurd (grind (arith, keys-cons q e es))) (none-has q o es (omega (arith, keys-cons q e es)))
 
-module _ {K V S : Type 0} {eq : K → K → Bool} {h : K → ℕ} {gs : List Group} {es : List (Entry K V)} {b : S} {room : ℕ} {f : Filled K V S} (sound : IsSound eq h gs es) (seen : filled_in b es room ≡ f) where
-  pub is-map : IsMap eq f.entries
-  is-map k = rw (← seen) (omega (arith, keys-entries eq es k, sound.once k))
+  pub value-none : (q : K) (es : List (K × V)) → keys_like eq q es ≡ 0 → value eq es q ≡ None
+  value-none q [] n = refl
+  value-none q (e ∷ es) n = grind (arith, value-none q es, keys-cons q e es)
 
-  -- a key that is not there is not there without it
-  pub sets-none : (k : K) → count_by (is_key eq k) es ≡ 0 → Sets eq f.entries k None f.entries
-  sets-none k none q = grind (arith, sees eq es seen q, alike-found eq sound.keys.equality q k es, found-absent eq es k none)
+  -- each entry with a key that is there once has its value
+  once-has : (q : K) (es : List (K × V)) → keys_like eq q es ≤ 1 → All (Has q (value eq es q)) es
+  once-has q [] n = All-nil (Has q _)
+  once-has q (e ∷ es) n = elim (cases_Bool (eq q e.0)) [
+    | inl t ↦
+        let first : value eq (e ∷ es) q ≡ Some e.1 = grind arith in
+        All-cons (Has q _) e es (λ u. sym first) (none-has q (value eq (e ∷ es) q) es (grind (arith, n, t, keys-cons q e es)))
+    | inr f ↦
+        let later : value eq (e ∷ es) q ≡ value eq es q = grind arith in
+        All-cons (Has q _) e es (λ u. absurd (grind arith)) (subst (λ o. All (Has q o) es) (sym later) (once-has q es (omega (arith, n, keys-cons q e es))))
+  ]
 
-  module _ (k : K) (i : ℕ) (e : Entry K V) (at : slice_get es i ≡ Some e) (here : is_key eq k e ≡ true) where
-    -- the entry of a key has its value
-    pub value-at : Some e.value ≡ value eq f.entries k
-    value-at = sym (sees eq es seen k ∙ found-at eq es k i e at here (sound.once k))
+  has-value : (q : K) (o : Option V) (es : List (K × V)) → All (Has q o) es → keys_like eq q es ≢ 0 → value eq es q ≡ o
+  has-value q o [] h n = absurd (n refl)
+  has-value q o (e ∷ es) h n = elim (cases_Bool (eq q e.0)) [
+    | inl t ↦ let first : value eq (e ∷ es) q ≡ Some e.1 = grind arith in first ∙ All-head (Has q o) e es h t
+    | inr f ↦
+        let later : value eq (e ∷ es) q ≡ value eq es q = grind arith in
+        later ∙ has-value q o es (All-tail (Has q o) e es h) (λ z. n (grind (arith, keys-cons q e es)))
+  ]
 
-    -- a table with a value written through what was lent
-    pub written-filled : (v : V) → filled_in b (set es i (with_value e v)) room ≡ put eq k v f
-    written-filled v = ap (λ xs. record { entries = xs; capacity = room; builder = b }) (entries-written eq es k i e v at here (sound.once k)) ∙ ap (put eq k v) seen
+  pub keys-permuted : (xs ys : List (K × V)) → IsPermutation xs ys → (q : K) → keys_like eq q ys ≡ keys_like eq q xs
+  keys-permuted xs ys p q = sum_by-IsPermutation (λ (e : K × V). cond (eq q e.0) 1 0) xs ys p
+
+  -- each key has what it had where entries change places
+  pub value-permuted : (xs ys : List (K × V)) → IsPermutation xs ys → (q : K) → keys_like eq q xs ≤ 1 → value eq ys q ≡ value eq xs q
+  value-permuted xs ys p q n = elim (cases_Bool (eqb (keys_like eq q ys) 0)) [
+    | inl z ↦
+        let none : keys_like eq q ys ≡ 0 = grind (arith, z) in
+        value-none q ys none ∙ sym (value-none q xs (sym (keys-permuted xs ys p q) ∙ none))
+    | inr z ↦ has-value q (value eq xs q) ys (All-permutation (Has q (value eq xs q)) xs ys p (once-has q xs n)) (λ e. absurd (grind (arith, z, e)))
+  ]
+
+  pub map-permuted : (xs ys : List (K × V)) → IsPermutation xs ys → IsMap eq xs → IsMap eq ys
+  map-permuted xs ys p m q = rw (keys-permuted xs ys p q) (m q)
+
+  module _ (E : IsEquivalence eq) where
+    pub alike-keys : (q k : K) (es : List (K × V)) → eq q k ≡ true → keys_like eq q es ≡ keys_like eq k es
+    alike-keys q k [] e = refl
+    alike-keys q k (x ∷ es) e = grind (arith, E.congr, alike-keys q k es e, keys-cons q x es, keys-cons k x es)
+
+    -- a new key with its value before the others
+    pub sets-new : (k : K) (v : V) (es new : List (K × V)) → IsPermutation ((k, v) ∷ es) new → keys_like eq k es ≡ 0 → IsMap eq es → Sets eq es k (Some v) new
+    sets-new k v es new p n m q =
+        let one : keys_like eq q ((k, v) ∷ es) ≤ 1 = elim (cases_Bool (eq q k)) [ inl t ↦ grind (arith, keys-cons q (k, v) es, alike-keys q k es t) | inr f ↦ grind (arith, keys-cons q (k, v) es, m q) ] in
+        value-permuted ((k, v) ∷ es) new p q one ∙ grind arith
+
+    pub map-new : (k : K) (v : V) (es new : List (K × V)) → IsPermutation ((k, v) ∷ es) new → keys_like eq k es ≡ 0 → IsMap eq es → IsMap eq new
+    map-new k v es new p n m = map-permuted ((k, v) ∷ es) new p (λ q. elim (cases_Bool (eq q k)) [ inl t ↦ grind (arith, keys-cons q (k, v) es, alike-keys q k es t) | inr f ↦ grind (arith, keys-cons q (k, v) es, m q) ])
+
+    -- a key is gone
+    pub map-gone : (e : K × V) (es new : List (K × V)) → IsPermutation es (e ∷ new) → IsMap eq es → IsMap eq new
+    map-gone e es new p m q = omega (arith, map-permuted es (e ∷ new) p m q, keys-cons q e new)
+
+    pub gone : (k : K) (e : K × V) (es new : List (K × V)) → IsPermutation es (e ∷ new) → eq k e.0 ≡ true → IsMap eq es → keys_like eq k new ≡ 0
+    gone k e es new p t m = grind (arith, map-permuted es (e ∷ new) p m k, keys-cons k e new)
+
+    pub sets-gone : (k : K) (e : K × V) (es new : List (K × V)) → IsPermutation es (e ∷ new) → eq k e.0 ≡ true → IsMap eq es → Sets eq es k None new
+    sets-gone k e es new p t m q =
+        let before : value eq (e ∷ new) q ≡ value eq es q = value-permuted es (e ∷ new) p q (m q) in
+        elim (cases_Bool (eq q k)) [
+          | inl u ↦ rw u (value-none q new (alike-keys q k new u ∙ gone k e es new p t m))
+          | inr f ↦ rw (f, ← before) (grind (arith, E.congr, E.symm))
+        ]
+
+    pub value-gone : (k : K) (e : K × V) (es new : List (K × V)) → IsPermutation es (e ∷ new) → eq k e.0 ≡ true → IsMap eq es → value eq es k ≡ Some e.1
+    value-gone k e es new p t m = sym (value-permuted es (e ∷ new) p k (m k)) ∙ grind arith
+
+    -- a key that is not there is not there without it
+    pub sets-none : (k : K) (es : List (K × V)) → keys_like eq k es ≡ 0 → Sets eq es k None es
+    sets-none k es n q = elim (cases_Bool (eq q k)) [
+      | inl t ↦ rw t (value-none q es (alike-keys q k es t ∙ n))
+      | inr f ↦ rw f refl
+    ]
+
+no-items : {X : Type 0} (ys : List X) → length ys ≡ 0 → ys ≡ []
+no-items [] e = refl
+no-items (y ∷ ys) e = absurd (omega (arith, e))
+
+-- what has the elements of an empty list is empty
+pub none_permuted : {X : Type 0} (xs ys : List X) → IsPermutation xs ys → xs ≡ [] → ys ≡ []
+none_permuted xs ys p e = no-items ys (length_permutation xs ys p ∙ ap length e)

@@ -1,69 +1,293 @@
--- Groups that name all entries, by the list of their hashes.
-use Rattle.ex_table.proofs.Common.{◌≡◌, ◌≢◌, ℕ, zero, suc, ◌+◌, ◌-◌, ◌<◌, ◌≤◌, List, [], ◌∷◌, ◌++◌, length, take, set, get_or, replicate, swap_remove, refl, ◌∙◌, arith, inl, inr, cases_eq, cases_lt, length-set, Entry, Group, IsAt, IsIndex, hashes_of, empty_group, keyless, keyless_lanes}
-use Rattle.std.proofs.lemmas.List.{get_or_append_left, get_or_push, get_or-set_same, get_or-set_other, get_or-take, length-append, length-map, length-replicate, length-take-le, take_more}
-use Rattle.std.proofs.lemmas.List.Folds.{sum_by-replicate}
+-- What an index keeps where a slot is taken or freed.
+use Rattle.std.proofs.Common.{◌≡◌, ◌≢◌, ℕ, zero, suc, ◌+◌, ◌-◌, ◌*◌, ◌<◌, ◌≤◌, Bool, true, false, cond, nat_lt, List, [], ◌∷◌, Option, None, Some, length, get_or, refl, sym, ◌∙◌, ap, arith, inl, inr, get_or-set_same, get_or-set_other}
+use Rattle.std.specs.Prelude.{◌/◌, ◌==◌, ◌⊎◌, count_by, min, max}
+use Rattle.std.proofs.Math.ListN.{set}
+use Rattle.std.proofs.lemmas.Bool.{cases_eq, cases_lt}
+use Rattle.std.proofs.lemmas.Bool.Decides.{nat_tests}
+use Rattle.std.proofs.lemmas.List.{length-set}
+use Rattle.std.proofs.lemmas.List.Sums.{sum_by-cons}
+use Rattle.ex_table.specs.declared.slots.Beyond.{Beyond}
+use Rattle.ex_table.specs.Slots.{tag_at, tag_of, home_of, after, window_of, told_of, one_more, one_less, reach_of, IsSlots, IsAt, is_far, far_from, IsIndex}
 
-module _ {K V : Type 0} where
-  pub hash-at : (es : List (Entry K V)) (i : ℕ) (d : Entry K V) → i < length es → get_or (hashes_of es) i 0 ≡ (get_or es i d).hash
-  hash-at [] i d l = absurd (omega arith)
-  hash-at (e ∷ es) zero d l = refl
-  hash-at (e ∷ es) (suc i) d l = hash-at es i d (omega arith)
+-- how many keys of a block are far, where one slot has another key
+pub far-set : (n b s : ℕ) (hs : List (Option ℕ)) (i j : ℕ) (h : Option ℕ) → s + i ≡ j → i < length hs
+    → far_from n b s (set hs i h) + cond (is_far n b j (get_or hs i None)) 1 0 ≡ far_from n b s hs + cond (is_far n b j h) 1 0
+unfolding far_from
+far-set n b s [] i j h e l = absurd (omega arith)
+far-set n b s (x ∷ xs) zero j h e l = let same : j ≡ s = omega arith in rw same (omega arith)
+far-set n b s (x ∷ xs) (suc i) j h e l = omega (arith, far-set n b (suc s) xs i j h (omega arith) (omega arith))
 
-pub index-none : (n : ℕ) → IsIndex (replicate n empty_group) []
-index-none n = record {
-  named = λ i l. absurd (omega arith);
-  keyless = omega (arith, length-replicate n empty_group, sum_by-replicate keyless n empty_group);
+-- where a key is far, one is
+pub far-some : (n b s : ℕ) (hs : List (Option ℕ)) (i j : ℕ) → s + i ≡ j → i < length hs → cond (is_far n b j (get_or hs i None)) 1 0 ≤ far_from n b s hs
+unfolding far_from
+far-some n b s [] i j e l = absurd (omega arith)
+far-some n b s (x ∷ xs) zero j e l = let same : j ≡ s = omega arith in rw same (omega arith)
+far-some n b s (x ∷ xs) (suc i) j e l = omega (arith, far-some n b (suc s) xs i j (omega arith) (omega arith))
+
+-- where no slot has a key, none is far
+pub far-none : (n b s : ℕ) (hs : List (Option ℕ)) → ((i : ℕ) → get_or hs i None ≡ None) → far_from n b s hs ≡ 0
+unfolding far_from
+far-none n b s [] free = refl
+far-none n b s (x ∷ xs) free = rw (free zero) (omega (arith, far-none n b (suc s) xs (λ i. free (suc i))))
+
+-- where no element passes, none is counted
+count-none : {X : Type 0} (p : X → Bool) (d : X) (xs : List X) → ((i : ℕ) → i < length xs → p (get_or xs i d) ≡ false) → count_by p xs ≡ 0
+count-none p d [] h = refl
+count-none p d (x ∷ xs) h = grind (arith, count-none p d xs (λ i l. h (suc i) (omega arith)), h zero (omega arith), sum_by-cons (λ y. cond (p y) 1 0) x xs)
+
+-- no slot of a block is free
+abbrev pub IsFull : List ℕ → (block : ℕ) → Type 0
+IsFull ts block = (i : ℕ) → block * 16 ≤ i → i < block * 16 + 16 → tag_at ts i ≢ 0
+
+-- where the blocks after one are full, round to itself, no slot is free
+pub all-full : (ts : List ℕ) (home n : ℕ) → length ts ≡ 16 * n → home < n → ((k : ℕ) → k < n → IsFull ts (after n home (k + 1))) → count_by (λ t. t == 0) ts ≡ 0
+all-full ts home n long within full = count-none (λ t. t == 0) 0 ts (λ i l.
+    let j : ℕ = i / 16 in
+    let k : ℕ = cond (nat_lt home j) (j - home - 1) (j + n - home - 1) in
+    let e : after n home (k + 1) ≡ j = grind (arith, nat_tests) in
+    let taken : tag_at ts i ≢ 0 = rw e at (full k (grind (arith, nat_tests))) i (omega arith) (omega arith) in
+    grind (arith, nat_tests))
+
+-- a slot that has a key is one of the slots
+pub named-within : (hs : List (Option ℕ)) (s hash : ℕ) → get_or hs s None ≡ Some hash → s < length hs
+named-within [] s hash e = absurd cc
+named-within (x ∷ xs) zero hash e = omega arith
+named-within (x ∷ xs) (suc s) hash e = omega (arith, named-within xs s hash e)
+
+abbrev nothing : Beyond
+nothing = record { keys = 0; blocks = 0 }
+
+told-same : (bs : List Beyond) (at b : ℕ) (t : Beyond) → at < length bs → b ≡ at → told_of (set bs at t) b ≡ t
+told-same bs at b t l e = rw e (get_or-set_same bs at t nothing l)
+
+told-other : (bs : List Beyond) (at b : ℕ) (t : Beyond) → b ≢ at → told_of (set bs at t) b ≡ told_of bs b
+told-other bs at b t other = get_or-set_other bs at b t nothing other
+
+-- look-ups go as far as what is told of their block
+reach-same : (bs new : List Beyond) (n hash : ℕ) → (told_of new (home_of n hash / 16)).blocks ≡ (told_of bs (home_of n hash / 16)).blocks → reach_of bs n hash ≡ reach_of new n hash
+reach-same bs new n hash e = sym (ap (λ b. cond (b == 255) (n / 16) (min (n / 16) b)) e)
+
+abbrev by_told : (blocks told : ℕ) → ℕ
+by_told n b = cond (b == 255) n (min n b)
+
+more-reach : (n b step : ℕ) → by_told n b ≤ by_told n (min 255 (max b step))
+more-reach n b step = grind (arith, nat_tests)
+
+step-reach : (n b step : ℕ) → step ≤ n → step ≤ by_told n (min 255 (max b step))
+step-reach n b step l = grind (arith, nat_tests)
+
+-- a key in its first window is not far
+not-far : (n b s hash : ℕ) → home_of n hash ≤ s → s < home_of n hash + 16 → is_far n b s (Some hash) ≡ false
+not-far n b s hash from to = grind (arith, nat_tests)
+
+-- but it is outside that
+pub far-outside : (n b s hash : ℕ) → b ≡ home_of n hash / 16 → (s < home_of n hash) ⊎ (home_of n hash + 16 ≤ s) → is_far n b s (Some hash) ≡ true
+far-outside n b s hash here (inl below) = grind (arith, nat_tests)
+far-outside n b s hash here (inr past) = grind (arith, nat_tests)
+
+-- a key of another block is not far
+not-here : (n b s hash : ℕ) → home_of n hash / 16 ≢ b → is_far n b s (Some hash) ≡ false
+not-here n b s hash other = grind (arith, nat_tests)
+
+is-near : (n b s hash : ℕ) → home_of n hash / 16 ≡ b → cond {A = ℕ} (is_far n b s (Some hash)) 1 0 ≡ 0 → (home_of n hash ≤ s) × (s < home_of n hash + 16)
+is-near n b s hash here near = (grind (arith, nat_tests), grind (arith, nat_tests))
+
+less-keys : (t : Beyond) → (one_less t).keys ≢ 255 → (t.keys ≢ 255) × (t.keys ≤ (one_less t).keys + 1)
+less-keys t known = (grind (arith, nat_tests), grind (arith, nat_tests))
+
+less-blocks : (t : Beyond) → ((one_less t).blocks ≡ t.blocks) ⊎ ((t.keys ≢ 255) × (t.keys ≤ 1))
+less-blocks t = elim (cases_eq t.keys 255) [
+  | inl many ↦ inl (grind (arith, nat_tests))
+  | inr few ↦ elim (cases_lt 1 t.keys) [ inl more ↦ inl (grind (arith, nat_tests)) | inr last ↦ inr (few, omega (arith, last)) ]
+]
+
+-- where no slot has a key, each look-up for one gets to it
+pub none-taken : (ts : List ℕ) (bs : List Beyond) (hs : List (Option ℕ)) → IsSlots ts bs → length ts ≤ length hs → ((s : ℕ) → get_or hs s None ≡ None) → ((s : ℕ) → tag_at ts s ≡ 0) → IsIndex ts bs hs
+none-taken ts bs hs slots places none free = record {
+  slots = slots;
+  places = places;
+  named = λ s hash e. let other : None ≡ Some hash = sym (none s) ∙ e in absurd cc;
+  free = λ s e. free s;
+  counted = λ b l known. omega (arith, far-none (length ts) b 0 hs none);
 }
 
-module _ {gs new : List Group} {hs : List ℕ} (index : IsIndex gs hs) where
-  -- one more entry is named
-  pub index-more : (hash : ℕ) → length new ≡ length gs → keyless_lanes new + 1 ≡ keyless_lanes gs → IsAt new hash (length hs) → ((h i : ℕ) → IsAt gs h i → IsAt new h i) → IsIndex new (hs ++ hash ∷ [])
-  index-more hash len keyless at others = record {
-    named = λ i l. elim (cases_lt i (length hs)) [
-      | inl b ↦ rw (get_or_append_left hs (hash ∷ []) 0 i b) (others (get_or hs i 0) i (index.named i b))
-      | inr b ↦
-          let last : i ≡ length hs = omega (arith, b, l, length-append hs (hash ∷ [])) in
-          rw (last, get_or_push hs hash 0 (length hs) refl) at
-    ];
-    keyless = omega (arith, index.keyless, length-append hs (hash ∷ []));
+module _ (ts : List ℕ) (bs : List Beyond) where
+  -- a look-up gets to another slot as before, where it goes as far
+  pub kept : (new : List Beyond) (slot t hash s : ℕ) → s ≢ slot → (x : IsAt ts bs hash s) → x.steps ≤ reach_of new (length ts) hash → IsAt (set ts slot t) new hash s
+  kept new slot t hash s other x goes = record {
+    steps = x.steps;
+    within = rw (length-set ts slot t) goes;
+    from = rw (length-set ts slot t) x.from;
+    to = rw (length-set ts slot t) x.to;
+    tag = get_or-set_other ts slot s t 0 other ∙ x.tag;
   }
 
-  -- an entry has lost its name, and the last one has it
-  pub index-less : (at n : ℕ) → length hs ≡ n + 1 → at ≤ n → length new ≡ length gs → keyless_lanes new ≡ keyless_lanes gs + 1
-      → (at < n → IsAt new (get_or hs n 0) at)
-      → ((h i : ℕ) → i ≢ at → (at < n → i ≢ n) → IsAt gs h i → IsAt new h i) → IsIndex new (swap_remove hs at 0)
-  index-less at n count within len keyless moved others =
-      let ys : List ℕ = set hs at (get_or hs n 0) in
-      let short : length (take n ys) ≡ n = length-take-le n ys (omega (arith, length-set hs at (get_or hs n 0))) in
-      let last : length hs - 1 ≡ n = omega arith in
-      rw last (record {
-        named = λ i l. rw (get_or-take n ys i 0 (omega (arith, l, short))) (elim (cases_eq i at) [
-          | inl e ↦ rw (e, get_or-set_same hs at (get_or hs n 0) 0 (omega arith)) (moved (omega (arith, l, short, e)))
-          | inr ne ↦ rw (get_or-set_other hs at i (get_or hs n 0) 0 ne) (others (get_or hs i 0) i ne (λ b e. omega (arith, l, short, e)) (index.named i (omega (arith, l, short))))
-        ]);
-        keyless = omega (arith, index.keyless, short);
-      })
+  -- a look-up gets to the slot that was written
+  pub placed : (new : List Beyond) (slot hash steps : ℕ) → slot < length ts → steps ≤ reach_of new (length ts) hash
+      → window_of (length ts) hash steps ≤ slot → slot < window_of (length ts) hash steps + 16 → IsAt (set ts slot (tag_of hash)) new hash slot
+  placed new slot hash steps within goes from to = record {
+    steps = steps;
+    within = rw (length-set ts slot (tag_of hash)) goes;
+    from = rw (length-set ts slot (tag_of hash)) from;
+    to = rw (length-set ts slot (tag_of hash)) to;
+    tag = get_or-set_same ts slot (tag_of hash) 0 within;
+  }
 
-module _ {K V : Type 0} (es : List (Entry K V)) where
-  pub count : length (hashes_of es) ≡ length es
-  count = length-map es (λ (e : Entry K V). e.hash)
+  -- a look-up gets to another slot of its first window, whatever is told
+  pub near : (new : List Beyond) (slot t hash s : ℕ) → s ≢ slot → IsAt ts bs hash s
+      → home_of (length ts) hash ≤ s → s < home_of (length ts) hash + 16 → IsAt (set ts slot t) new hash s
+  near new slot t hash s other x from to = record {
+    steps = 0;
+    within = omega arith;
+    from = rw (length-set ts slot t) from;
+    to = rw (length-set ts slot t) to;
+    tag = get_or-set_other ts slot s t 0 other ∙ x.tag;
+  }
 
-  -- the next entry is named
-  pub next-named : {gs new : List Group} {at : ℕ} (e : Entry K V) → at < length es → IsIndex gs (take at (hashes_of es)) → length new ≡ length gs → keyless_lanes new + 1 ≡ keyless_lanes gs
-      → IsAt new (get_or es at e).hash at → ((h i : ℕ) → IsAt gs h i → IsAt new h i) → IsIndex new (take (at + 1) (hashes_of es))
-  next-named {at} e l index len keyless here others =
-      let so_far : length (take at (hashes_of es)) ≡ at = length-take-le at (hashes_of es) (omega (arith, count)) in
-      rw (take_more (hashes_of es) at 0 (omega (arith, count)), hash-at es at e l) (index-more index (get_or es at e).hash len keyless (rw so_far here) others)
+  module _ (hs : List (Option ℕ)) (new : List Beyond) (slot hash : ℕ) (within : slot < length ts) (index : IsIndex ts bs hs) (long : length new ≡ length bs) where
+    has-place : slot < length hs
+    has-place = omega (arith, index.places)
 
-  module _ {gs mid : List Group} {at n : ℕ} (index : IsIndex gs (hashes_of es)) (last : length es ≡ n + 1) (within : at ≤ n) (others : (h i : ℕ) → i ≢ at → IsAt gs h i → IsAt mid h i) where
-    -- once a lane of the groups was freed, the last entry still has its name
-    pub last-named : (e : Entry K V) → at < n → IsAt mid (get_or es n e).hash n
-    last-named e b = others (get_or es n e).hash n (omega (arith, b)) (rw (hash-at es n e (omega (arith, last))) at (index.named n (omega (arith, last, count))))
+    -- a slot was taken
+    pub taken : IsAt (set ts slot (tag_of hash)) new hash slot
+        → ((h : ℕ) → reach_of bs (length ts) h ≤ reach_of new (length ts) h)
+        → ((b : ℕ) → b < length bs → (told_of new b).keys ≢ 255 → ((told_of bs b).keys ≢ 255) × ((told_of bs b).keys + cond (is_far (length ts) b slot (Some hash)) 1 0 ≤ (told_of new b).keys))
+        → IsIndex (set ts slot (tag_of hash)) new (set hs slot (Some hash))
+    taken here goes tells = record {
+      slots = record {
+        blocks = omega (arith, length-set ts slot (tag_of hash), index.slots.blocks);
+        more = omega (arith, length-set ts slot (tag_of hash), index.slots.more);
+      };
+      places = omega (arith, length-set ts slot (tag_of hash), length-set hs slot (Some hash), index.places);
+      named = λ s h e. elim (cases_eq s slot) [
+        | inl same ↦
+            let is : Some h ≡ Some hash = sym (rw same at e) ∙ get_or-set_same hs slot (Some hash) None has-place in
+            let like : h ≡ hash = cc in
+            rw (same, like) here
+        | inr other ↦
+            let x = index.named s h (sym (get_or-set_other hs slot s (Some hash) None other) ∙ e) in
+            kept new slot (tag_of hash) h s other x (omega (arith, x.within, goes h))
+      ];
+      free = λ s e. elim (cases_eq s slot) [
+        | inl same ↦
+            let is : Some hash ≡ None = sym (get_or-set_same hs slot (Some hash) None has-place) ∙ (rw same at e) in
+            absurd cc
+        | inr other ↦ get_or-set_other ts slot s (tag_of hash) 0 other ∙ index.free s (sym (get_or-set_other hs slot s (Some hash) None other) ∙ e)
+      ];
+      counted = λ b l known.
+          let was = tells b (omega (arith, l, long)) known in
+          rw (length-set ts slot (tag_of hash)) (omega (arith, was.1, index.counted b (omega (arith, l, long)) was.0, far-set (length ts) b 0 hs slot slot (Some hash) (omega arith) has-place));
+    }
 
-    pub lost-last : n ≤ at → length mid ≡ length gs → keyless_lanes mid ≡ keyless_lanes gs + 1 → IsIndex mid (swap_remove (hashes_of es) at 0)
-    lost-last b len keyless = index-less index at n (count ∙ last) within len keyless (λ l. absurd (omega (arith, b, l))) (λ h i ne nl. others h i ne)
+    -- a slot was freed
+    pub freed : get_or hs slot None ≡ Some hash
+        → ((s h : ℕ) → s ≢ slot → get_or hs s None ≡ Some h → IsAt ts bs h s → IsAt (set ts slot 0) new h s)
+        → ((b : ℕ) → b < length bs → (told_of new b).keys ≢ 255 → ((told_of bs b).keys ≢ 255) × ((told_of bs b).keys ≤ (told_of new b).keys + cond (is_far (length ts) b slot (Some hash)) 1 0))
+        → IsIndex (set ts slot 0) new (set hs slot None)
+    freed had others tells = record {
+      slots = record {
+        blocks = omega (arith, length-set ts slot 0, index.slots.blocks);
+        more = omega (arith, length-set ts slot 0, index.slots.more);
+      };
+      places = omega (arith, length-set ts slot 0, length-set hs slot None, index.places);
+      named = λ s h e. elim (cases_eq s slot) [
+        | inl same ↦
+            let is : Some h ≡ None = sym (rw same at e) ∙ get_or-set_same hs slot None None has-place in
+            absurd cc
+        | inr other ↦
+            let was : get_or hs s None ≡ Some h = sym (get_or-set_other hs slot s None None other) ∙ e in
+            others s h other was (index.named s h was)
+      ];
+      free = λ s e. elim (cases_eq s slot) [
+        | inl same ↦ rw same (get_or-set_same ts slot 0 0 within)
+        | inr other ↦ get_or-set_other ts slot s 0 0 other ∙ index.free s (sym (get_or-set_other hs slot s None None other) ∙ e)
+      ];
+      counted = λ b l known.
+          let was = tells b (omega (arith, l, long)) known in
+          rw (length-set ts slot 0) (omega (arith, was.1, index.counted b (omega (arith, l, long)) was.0, rw had at (far-set (length ts) b 0 hs slot slot None (omega arith) has-place)));
+    }
 
-    pub lost-other : {new : List Group} (e : Entry K V) → length mid ≡ length gs → keyless_lanes mid ≡ keyless_lanes gs + 1 → length new ≡ length mid → keyless_lanes new ≡ keyless_lanes mid
-        → IsAt new (get_or es n e).hash at → ((h i : ℕ) → i ≢ n → IsAt mid h i → IsAt new h i) → at < n → IsIndex new (swap_remove (hashes_of es) at 0)
-    lost-other {new} e len keyless len2 keyless2 moved stays b =
-        index-less index at n (count ∙ last) within (len2 ∙ len) (keyless2 ∙ keyless) (λ l. rw (hash-at es n e (omega (arith, last))) moved) (λ h i ne nl x. stays h i (nl b) (others h i ne x))
+  module _ (hs : List (Option ℕ)) (slot hash : ℕ) (within : slot < length ts) (index : IsIndex ts bs hs) where
+    -- a slot of the first window was taken
+    pub taken-near : home_of (length ts) hash ≤ slot → slot < home_of (length ts) hash + 16 → IsIndex (set ts slot (tag_of hash)) bs (set hs slot (Some hash))
+    taken-near from to = taken hs bs slot hash within index refl (placed bs slot hash 0 within (omega arith) from to) (λ h. omega arith)
+        (λ b l known. (known, rw (not-far (length ts) b slot hash from to) (omega arith)))
+
+    -- and freed
+    pub freed-near : get_or hs slot None ≡ Some hash → IsIndex (set ts slot 0) bs (set hs slot None)
+    freed-near had = freed hs bs slot hash within index refl had (λ s h other e x. kept bs slot 0 h s other x x.within) (λ b l known. (known, omega arith))
+
+    module _ (block : ℕ) (home : block ≡ home_of (length ts) hash / 16) (told : block < length bs) where
+      abbrev more : ℕ → List Beyond
+      more step = set bs block (one_more (told_of bs block) step)
+
+      -- a slot past the first window was taken
+      goes-on : (step h : ℕ) → reach_of bs (length ts) h ≤ reach_of (more step) (length ts) h
+      goes-on step h = elim (cases_eq (home_of (length ts) h / 16) block) [
+        | inl same ↦ rw (told-same bs block (home_of (length ts) h / 16) (one_more (told_of bs block) step) told same, same) (more-reach (length ts / 16) (told_of bs block).blocks step)
+        | inr other ↦ omega (arith, reach-same bs (more step) (length ts) h (ap (λ t. t.blocks) (told-other bs block (home_of (length ts) h / 16) (one_more (told_of bs block) step) other)))
+      ]
+
+      goes-there : (step : ℕ) → step ≤ length ts / 16 → step ≤ reach_of (more step) (length ts) hash
+      goes-there step l = rw (told-same bs block (home_of (length ts) hash / 16) (one_more (told_of bs block) step) told (sym home)) (step-reach (length ts / 16) (told_of bs block).blocks step l)
+
+      tells-more : (step b : ℕ) → (told_of (more step) b).keys ≢ 255 → ((told_of bs b).keys ≢ 255) × ((told_of bs b).keys + cond (is_far (length ts) b slot (Some hash)) 1 0 ≤ (told_of (more step) b).keys)
+      tells-more step b known = elim (cases_eq b block) [
+        | inl same ↦
+            let is = told-same bs block b (one_more (told_of bs block) step) told same in
+            let few : min 255 ((told_of bs block).keys + 1) ≢ 255 = rw is at known in
+            let one : cond (is_far (length ts) block slot (Some hash)) 1 0 ≤ 1 = grind arith in
+            rw (is, same) (omega (arith, few), omega (arith, few, one))
+        | inr other ↦
+            let is = told-other bs block b (one_more (told_of bs block) step) other in
+            rw (is, not-here (length ts) b slot hash (λ e. other (sym e ∙ sym home))) (rw is at known, omega arith)
+      ]
+
+      pub taken-far : (step at : ℕ) → 0 < step → step ≤ length ts / 16 → at ≡ after (length ts / 16) (home_of (length ts) hash / 16) step → at * 16 ≤ slot → slot < at * 16 + 16
+          → IsIndex (set ts slot (tag_of hash)) (more step) (set hs slot (Some hash))
+      taken-far zero at some l way from to = absurd (omega arith)
+      taken-far (suc k) at some l way from to =
+          let begins : window_of (length ts) hash (suc k) ≡ at * 16 = omega (arith, way) in
+          taken hs (more (suc k)) slot hash within index (length-set bs block (one_more (told_of bs block) (suc k)))
+          (placed (more (suc k)) slot hash (suc k) within (goes-there (suc k) l) (omega (arith, begins)) (omega (arith, begins))) (goes-on (suc k)) (λ b _ known. tells-more (suc k) b known)
+
+      -- and freed
+      abbrev less : List Beyond
+      less = set bs block (one_less (told_of bs block))
+
+      module _ (had : get_or hs slot None ≡ Some hash) (far : is_far (length ts) block slot (Some hash) ≡ true) where
+        tells-less : (b : ℕ) → (told_of less b).keys ≢ 255 → ((told_of bs b).keys ≢ 255) × ((told_of bs b).keys ≤ (told_of less b).keys + cond (is_far (length ts) b slot (Some hash)) 1 0)
+        tells-less b known = elim (cases_eq b block) [
+          | inl same ↦
+              let is = told-same bs block b (one_less (told_of bs block)) told same in
+              rw (is, same, far) (less-keys (told_of bs block) (rw is at known))
+          | inr other ↦
+              let is = told-other bs block b (one_less (told_of bs block)) other in
+              rw is (rw is at known, omega arith)
+        ]
+
+        -- where the last far key of a block was freed, all others are near
+        none-far : (told_of bs block).keys ≢ 255 → (told_of bs block).keys ≤ 1 → (s h : ℕ) → s ≢ slot → get_or hs s None ≡ Some h → cond {A = ℕ} (is_far (length ts) block s (Some h)) 1 0 ≡ 0
+        none-far known few s h other e =
+            let place : slot < length hs = omega (arith, index.places) in
+            let here : get_or (set hs slot None) s None ≡ Some h = get_or-set_other hs slot s None None other ∙ e in
+            let count = rw (had, far) at (far-set (length ts) block 0 hs slot slot None (omega arith) place) in
+            let some = rw here at (far-some (length ts) block 0 (set hs slot None) s s (omega arith) (omega (arith, named-within (set hs slot None) s h here))) in
+            omega (arith, count, some, index.counted block told known)
+
+        others-stay : (s h : ℕ) → s ≢ slot → get_or hs s None ≡ Some h → IsAt ts bs h s → IsAt (set ts slot 0) less h s
+        others-stay s h other e x = elim (cases_eq (home_of (length ts) h / 16) block) [
+          | inl same ↦
+              let is = told-same bs block (home_of (length ts) h / 16) (one_less (told_of bs block)) told same in
+              elim (less-blocks (told_of bs block)) [
+                | inl stays ↦ kept less slot 0 h s other x (omega (arith, x.within, reach-same bs less (length ts) h (ap (λ t. t.blocks) is ∙ stays ∙ ap (λ b. (told_of bs b).blocks) (sym same))))
+                | inr last ↦
+                    let at = is-near (length ts) block s h same (none-far last.0 last.1 s h other e) in
+                    near less slot 0 h s other x at.0 at.1
+              ]
+          | inr apart ↦
+              kept less slot 0 h s other x (omega (arith, x.within, reach-same bs less (length ts) h (ap (λ t. t.blocks) (told-other bs block (home_of (length ts) h / 16) (one_less (told_of bs block)) apart))))
+        ]
+
+        pub freed-far : IsIndex (set ts slot 0) less (set hs slot None)
+        freed-far = freed hs less slot hash within index (length-set bs block (one_less (told_of bs block))) had others-stay (λ b _ known. tells-less b known)

@@ -1,191 +1,220 @@
--- Entries stay sound: one is written, one comes behind the others, or one is taken out.
-use Rattle.ex_table.proofs.Common.{◌≡◌, ℕ, zero, suc, ◌+◌, ◌-◌, ◌<◌, ◌≤◌, Bool, true, false, cond, List, [], ◌∷◌, ◌++◌, length, take, get_or, slice_get, swap_remove, set, Some, None, refl, sym, ◌∙◌, ap, arith, inl, inr, count_by, length-set, cases_Bool, cases_eq, cases_lt, get_or-set_same, get_or-set_other, Group, Entry, Vector, IsIndex, IsNamed, IsSound, IsTable, hashes_of, is_key, key_at, found}
-use Rattle.std.specs.Cmp.{IsEquivalence}
-use Rattle.std.proofs.Common.{drop, subst, ◌*◌}
-use Rattle.std.specs.Prelude.{◌^◌}
-use Rattle.std.specs.List.{refill}
-use Rattle.std.proofs.lemmas.List.{append-nil, map-append, get_or-take, length-map, get_or_append_left, get_or_push, length-append, length-take-le, take_all, take_at, take_more, take-set-le}
-use Rattle.std.proofs.lemmas.List.Sums.{sum_by-swap_remove}
-use Rattle.std.proofs.lemmas.Option.{get_or_from_slice_get, slice_get_cases, slice_get_read, slice_get_within, slice_get-get_or}
-use Rattle.std.proofs.Math.Seq.{take-set-lt}
-use Rattle.ex_table.proofs.Naming.{hash-at}
-use Rattle.ex_table.proofs.Counts.{count-cons, count-append, count-set, found-absent, found-at, found-set_other, found-append, found-past, alike-count}
+-- A table stays one: a key comes, goes, or is given way to by its equal.
+use Rattle.std.proofs.Common.{Bool, List, None, Option, Some, [], ap, arith, false, get_or, inr, length, refl, set, subst, suc, sym, true, zero, ℕ, ◌+◌, ◌<◌, ◌∙◌, ◌∷◌, ◌≡◌, ◌≤◌}
+use Rattle.std.specs.Prelude.{IsPermutation, ◌⊎◌, ◌^◌}
+use Rattle.std.proofs.lemmas.List.{length-set}
+use Rattle.std.proofs.lemmas.List.Sorted.{length_permutation}
+use Rattle.allocator_api2.specs.Block.{Block}
+use Rattle.allocator_api2.specs.Places.{somes}
+use Rattle.std.specs.Map.{set_value}
+use Rattle.ex_table.specs.Inside.{filled_in}
+use Rattle.ex_table.specs.Contents.{Filled, value, keys_like, IsMap, Sets}
+use Rattle.ex_table.specs.Slots.{IsIndex}
+use Rattle.ex_table.specs.Places.{AreFindable, AreFree, AreHeld, AreKeys, IsIndexed, IsTable, hashes_of, key_at, tags_of}
+use Rattle.ex_table.specs.declared.index.Named.{Named}
+use Rattle.ex_table.proofs.Maps.{alike-keys, emptied, filled, gone, map-gone, map-new, map-permuted, sets-gone, sets-new, value-gone, value-none, value-permuted}
+use Rattle.ex_table.proofs.Moving.{none-left}
+use Rattle.ex_table.proofs.Placed.{free, hash-here, hashes-set, held, named, nowhere, places, value-written}
 
-module _ {K V : Type 0} where
-  hashes-set : (es : List (Entry K V)) (i : ℕ) (e x : Entry K V) → slice_get es i ≡ Some e → x.hash ≡ e.hash → hashes_of (set es i x) ≡ hashes_of es
-  hashes-set [] i e x at s = refl
-  hashes-set (y ∷ es) zero e x at s = grind arith
-  hashes-set (y ∷ es) (suc i) e x at s = rw (hashes-set es i e x at s)
+module _ {X : Type 0} where
+  set-set : (cs : List X) (s : ℕ) (x y : X) → set (set cs s x) s y ≡ set cs s y
+  set-set [] s x y = refl
+  set-set (c ∷ cs) zero x y = refl
+  set-set (c ∷ cs) (suc s) x y = ap (λ ds. c ∷ ds) (set-set cs s x y)
 
-  hashes-taken : (n : ℕ) (es : List (Entry K V)) → hashes_of (take n es) ≡ take n (hashes_of es)
-  hashes-taken zero es = refl
-  hashes-taken (suc n) [] = refl
-  hashes-taken (suc n) (e ∷ es) = rw (hashes-taken n es)
+  set-same : (cs : List X) (s : ℕ) (x d : X) → s < length cs → get_or cs s d ≡ x → set cs s x ≡ cs
+  set-same [] s x d l e = refl
+  set-same (c ∷ cs) zero x d l e = ap (λ y. y ∷ cs) (sym e)
+  set-same (c ∷ cs) (suc s) x d l e = ap (λ ds. c ∷ ds) (set-same cs s x d (omega arith) e)
 
-  hashes-put : (es : List (Entry K V)) (i : ℕ) (x : Entry K V) → hashes_of (set es i x) ≡ set (hashes_of es) i x.hash
-  hashes-put [] i x = refl
-  hashes-put (e ∷ es) zero x = refl
-  hashes-put (e ∷ es) (suc i) x = rw (hashes-put es i x)
+module _ {X : Type 0} where
+  get-set : (cs : List (Option X)) (s : ℕ) → get_or (set cs s None) s None ≡ None
+  get-set [] s = refl
+  get-set (c ∷ cs) zero = refl
+  get-set (c ∷ cs) (suc s) = get-set cs s
 
--- what is found once a key is taken out, whose entry was among ys or behind them
-module _ {K V : Type 0} (eq : K → K → Bool) (E : IsEquivalence eq) (ys : List (Entry K V)) (k : K) (e : Entry K V) (old : is_key eq k e ≡ true) where
-  unlike : (q : K) → eq q k ≡ false → is_key eq q e ≡ false
-  unlike q n = grind (arith, E.congr, E.symm)
+  some-within : (cs : List (Option X)) (s : ℕ) (x : X) → get_or cs s None ≡ Some x → s < length cs
+  some-within [] s x e = absurd cc
+  some-within (c ∷ cs) zero x e = omega arith
+  some-within (c ∷ cs) (suc s) x e = omega (arith, some-within cs s x e)
 
-  like : (q : K) → eq q k ≡ true → is_key eq q e ≡ true
-  like q y = grind (arith, E.congr)
+  -- one value stands for another
+  pub swapped-one : (cs : List (Option X)) (s : ℕ) (x y : X) → get_or cs s None ≡ Some x → IsPermutation (y ∷ somes (set cs s None)) (somes (set cs s (Some y)))
+  swapped-one cs s x y e =
+      subst (λ ds. IsPermutation (y ∷ somes (set cs s None)) (somes ds)) (set-set cs s None (Some y)) (filled (set cs s None) s y (omega (arith, length-set cs s None, some-within cs s x e)) (get-set cs s))
 
-  found-last : ((q : K) → count_by (is_key eq q) (ys ++ e ∷ []) ≤ 1) → (q : K) → found eq ys q ≡ cond (eq q k) None (found eq (ys ++ e ∷ []) q)
-  found-last once q = elim (cases_Bool (eq q k)) [
-    | inl y ↦ rw y (found-absent eq ys q (grind (arith, like q y, once q, count-append (is_key eq q) ys (e ∷ []), count-cons (is_key eq q) e [])))
-    | inr n ↦ rw n (sym (rw append-nil at (found-append eq ys (e ∷ []) [] q (rw (unlike q n)))))
-  ]
+module _ {K V A : Type 0} (eq : K → K → Bool) (h : K → ℕ) where
+  held-any : (cs : List (Option (K × V))) (i : Option (Named A)) → IsIndexed eq h i cs → AreHeld (tags_of i) cs
+  held-any cs None x = λ s l n. absurd (omega arith)
+  held-any cs (Some i) x = held h cs x
 
-  found-swapped : (l : Entry K V) (i : ℕ) → slice_get ys i ≡ Some e → ((q : K) → count_by (is_key eq q) (ys ++ l ∷ []) ≤ 1) → (q : K) → found eq (set ys i l) q ≡ cond (eq q k) None (found eq (ys ++ l ∷ []) q)
-  found-swapped l i at once q =
-      let within : i < length ys = slice_get_within ys i e at in
-      let all : count_by (is_key eq q) ys + cond (is_key eq q l) 1 0 ≤ 1 = omega (arith, once q, count-append (is_key eq q) ys (l ∷ []), count-cons (is_key eq q) l []) in
-      let new : count_by (is_key eq q) (set ys i l) + cond (is_key eq q e) 1 0 ≡ count_by (is_key eq q) ys + cond (is_key eq q l) 1 0 = rw (get_or_from_slice_get ys i e e at) at (count-set (is_key eq q) e ys i l within) in
-      elim (cases_Bool (eq q k)) [
-        | inl y ↦ rw y (found-absent eq (set ys i l) q (grind (arith, like q y, all, new)))
-        | inr n ↦ rw n (elim (cases_Bool (is_key eq q l)) [
-          | inl t ↦
-              let here : slice_get (set ys i l) i ≡ Some l = slice_get-get_or (set ys i l) i l (omega (arith, within, length-set ys i l)) ∙ ap Some (get_or-set_same ys i l l within) in
-              found-at eq (set ys i l) q i l here t (grind (arith, unlike q n, all, new)) ∙ sym (found-past eq ys (l ∷ []) q (grind (arith, all)) ∙ rw t)
-          | inr f ↦ found-set_other eq ys q i e l at (unlike q n) f ∙ sym (rw append-nil at (found-append eq ys (l ∷ []) [] q (rw f)))
-        ])
-      ]
+  free-any : (cs : List (Option (K × V))) (i : Option (Named A)) → IsIndexed eq h i cs → AreFree (tags_of i) cs
+  free-any cs None x = λ s z. x s
+  free-any cs (Some i) x = free h cs x
 
-module _ {K V : Type 0} {eq : K → K → Bool} {h : K → ℕ} {gs : List Group} {es : List (Entry K V)} (sound : IsSound eq h gs es) where
-  -- each hash is its key's
-  pub own : (i : ℕ) (e : Entry K V) → slice_get es i ≡ Some e → e.hash ≡ h e.key
-  own i e at = rw (get_or_from_slice_get es i e e at) at (sound.hashed i e (slice_get_within es i e at))
+  placed-any : (cs : List (Option (K × V))) (i : Option (Named A)) → IsIndexed eq h i cs → length (tags_of i) ≤ length cs
+  placed-any cs None x = omega arith
+  placed-any cs (Some i) x = places h cs x
 
-  -- x stands where e stood, and has the same key
-  module _ (k : K) (i : ℕ) (e x : Entry K V) (at : slice_get es i ≡ Some e) (old : is_key eq k e ≡ true) (now : is_key eq k x ≡ true) where
-    within : i < length es
-    within = slice_get_within es i e at
+module _ {K V A : Type 0} {eq : K → K → Bool} {h : K → ℕ} where
+  find-any : (cs : List (Option (K × V))) (keys : AreKeys eq h) (i : Option (Named A)) → IsIndexed eq h i cs → (k : K) (hash : ℕ) → hash ≡ h k → AreFindable eq i cs hash k
+  find-any cs keys None x k hash e = x
+  find-any cs keys (Some i) x k hash e = record { slots = x.slots; held = held h cs x; named = named h cs x keys k hash e }
 
-    alike : (q : K) → is_key eq q x ≡ is_key eq q e
-    alike q = grind (arith, sound.keys.equality.congr, sound.keys.equality.symm)
+  module _ {b : Block (K × V) A} {index : Option (Named A)} {count capacity : ℕ} (t : IsTable eq h b index count capacity) where
+    pub findable : (k : K) (hash : ℕ) → hash ≡ h k → AreFindable eq index b.places hash k
+    findable = find-any b.places t.keys index t.indexed
 
-    as_many : (q : K) → count_by (is_key eq q) (set es i x) ≡ count_by (is_key eq q) es
-    as_many q = grind (arith, count-set (is_key eq q) e es i x within, get_or_from_slice_get es i e e at, alike q)
+    -- each slot with a tag has a key, and no other
+    pub all-held : AreHeld (tags_of index) b.places
+    all-held = held-any eq h b.places index t.indexed
 
-    pub written : x.hash ≡ e.hash → IsSound eq h gs (set es i x)
-    written same = record {
-      keys = sound.keys;
-      once = λ q. omega (arith, as_many q, sound.once q);
-      hashed = λ j d l. elim (cases_eq j i) [
-        | inl y ↦ rw (y, get_or-set_same es i x d within) (same ∙ own i e at ∙ sym (sound.keys.agree k e.key old) ∙ sound.keys.agree k x.key now)
-        | inr y ↦ rw (get_or-set_other es i j x d y) (sound.hashed j d (omega (arith, l, length-set es i x)))
-      ];
-      index = rw (hashes-set es i e x at same) sound.index;
+    pub all-free : AreFree (tags_of index) b.places
+    all-free = free-any eq h b.places index t.indexed
+
+    pub all-placed : length (tags_of index) ≤ length b.places
+    all-placed = placed-any eq h b.places index t.indexed
+
+    pub is-here : (k : K) (s : ℕ) (e : K × V) → get_or b.places s None ≡ Some e → key_at eq k b.places s ≡ true → eq k e.0 ≡ true
+    is-here k s e at here = rw at at here
+
+    -- a place with the key has its value
+    pub read : (k : K) (s : ℕ) (e : K × V) → get_or b.places s None ≡ Some e → key_at eq k b.places s ≡ true → value eq (somes b.places) k ≡ Some e.1
+    read k s e at here = value-gone eq t.keys.equality k e (somes b.places) (somes (set b.places s None)) (emptied b.places s e at) (is-here k s e at here) t.once
+
+    pub absent-keys : (k : K) → ((s : ℕ) → key_at eq k b.places s ≡ false) → keys_like eq k (somes b.places) ≡ 0
+    absent-keys k none = nowhere eq k b.places none
+
+    pub absent : (k : K) → ((s : ℕ) → key_at eq k b.places s ≡ false) → value eq (somes b.places) k ≡ None
+    absent k none = value-none eq k (somes b.places) (absent-keys k none)
+
+    -- an entry of the key in the place
+    module _ (k : K) (s : ℕ) (e y : K × V) (at : get_or b.places s None ≡ Some e) (here : eq k e.0 ≡ true) (same : eq k y.0 ≡ true) where
+      abbrev others : List (K × V)
+      others = somes (set b.places s None)
+
+      before : IsPermutation (somes b.places) (e ∷ others)
+      before = emptied b.places s e at
+
+      after : IsPermutation (y ∷ others) (somes (set b.places s (Some y)))
+      after = swapped-one b.places s e y at
+
+      none-else : keys_like eq k others ≡ 0
+      none-else = gone eq t.keys.equality k e (somes b.places) others before here t.once
+
+      none-of-y : keys_like eq y.0 others ≡ 0
+      none-of-y = sym (alike-keys eq t.keys.equality k y.0 others same) ∙ none-else
+
+      others-once : IsMap eq others
+      others-once = map-gone eq t.keys.equality e (somes b.places) others before t.once
+
+      pub once-written : IsMap eq (somes (set b.places s (Some y)))
+      once-written = map-new eq t.keys.equality y.0 y.1 others (somes (set b.places s (Some y))) after none-of-y others-once
+
+      pub as-many : length (somes (set b.places s (Some y))) ≡ length (somes b.places)
+      as-many = omega (arith, length_permutation (y ∷ others) (somes (set b.places s (Some y))) after, length_permutation (somes b.places) (e ∷ others) before)
+
+      pub sets-written : Sets eq (somes b.places) k (Some y.1) (somes (set b.places s (Some y)))
+      sets-written q =
+          let now = sets-new eq t.keys.equality y.0 y.1 others (somes (set b.places s (Some y))) after none-of-y others-once q in
+          let then = value-permuted eq (somes b.places) (e ∷ others) before q (t.once q) in
+          now ∙ grind (arith, then, t.keys.equality.congr, t.keys.equality.symm)
+
+      hash-same : h y.0 ≡ h e.0
+      hash-same = sym (t.keys.agree k y.0 same) ∙ t.keys.agree k e.0 here
+
+      still : (i : Option (Named A)) → IsIndexed eq h i b.places → IsIndexed eq h i (set b.places s (Some y))
+      still None x = absurd (let other : None ≡ Some e = sym (x s) ∙ at in cc)
+      still (Some i) x =
+          let hs = hashes_of h b.places in
+          let same : set hs s (Some (h y.0)) ≡ hs = set-same hs s (Some (h y.0)) None (some-within hs s (h e.0) (hash-here h b.places x s e at)) (hash-here h b.places x s e at ∙ ap Some (sym hash-same)) in
+          subst (IsIndex i.tags.items i.beyond.items) (sym (hashes-set h b.places s (Some y) ∙ same)) x
+
+      pub written : (new : Block (K × V) A) → new.places ≡ set b.places s (Some y) → IsTable eq h new index count capacity
+      written new p = rw p (record {
+        keys = t.keys;
+        once = once-written;
+        indexed = still index t.indexed;
+        room = t.room;
+        counted = t.counted ∙ sym as-many;
+        within = t.within;
+        small = t.small;
+      })
+
+    -- an entry goes
+    module _ (k : K) (s : ℕ) (e : K × V) (at : get_or b.places s None ≡ Some e) (here : eq k e.0 ≡ true) where
+      pub without : IsPermutation (somes b.places) (e ∷ somes (set b.places s None))
+      without = emptied b.places s e at
+
+      pub sets-removed : Sets eq (somes b.places) k None (somes (set b.places s None))
+      sets-removed = sets-gone eq t.keys.equality k e (somes b.places) (somes (set b.places s None)) without here t.once
+
+      pub one-less : length (somes (set b.places s None)) + 1 ≡ length (somes b.places)
+      one-less = omega (arith, length_permutation (somes b.places) (e ∷ somes (set b.places s None)) without)
+
+      pub removed : (i j : Named A) (new : Block (K × V) A) (left : ℕ) → new.places ≡ set b.places s None → length j.tags.items ≡ length i.tags.items
+          → IsIndex j.tags.items j.beyond.items (set (hashes_of h b.places) s None) → (capacity ≡ 0 ⊎ capacity < length i.tags.items) → left + 1 ≡ count
+          → IsTable eq h new (Some j) left capacity
+      removed i j new left p slots index room less = rw p (record {
+        keys = t.keys;
+        once = map-gone eq t.keys.equality e (somes b.places) (somes (set b.places s None)) without t.once;
+        indexed = subst (IsIndex j.tags.items j.beyond.items) (sym (hashes-set h b.places s None)) index;
+        room = rw slots room;
+        counted = omega (arith, one-less, less, t.counted);
+        within = omega (arith, t.within, less);
+        small = t.small;
+      })
+
+    -- a new entry comes
+    module _ (e : K × V) (s : ℕ) (l : s < length b.places) (empty : get_or b.places s None ≡ None) (new-key : keys_like eq e.0 (somes b.places) ≡ 0) where
+      pub with-one : IsPermutation (e ∷ somes b.places) (somes (set b.places s (Some e)))
+      with-one = filled b.places s e l empty
+
+      pub added : (i j : Named A) (new : Block (K × V) A) → new.places ≡ set b.places s (Some e) → length j.tags.items ≡ length i.tags.items
+          → IsIndex j.tags.items j.beyond.items (set (hashes_of h b.places) s (Some (h e.0))) → (capacity ≡ 0 ⊎ capacity < length i.tags.items) → count + 1 ≤ capacity
+          → IsTable eq h new (Some j) (count + 1) capacity
+      added i j new p slots index room more = rw p (record {
+        keys = t.keys;
+        once = map-new eq t.keys.equality e.0 e.1 (somes b.places) (somes (set b.places s (Some e))) with-one new-key t.once;
+        indexed = subst (IsIndex j.tags.items j.beyond.items) (sym (hashes-set h b.places s (Some e))) index;
+        room = rw slots room;
+        counted = omega (arith, t.counted, length_permutation (e ∷ somes b.places) (somes (set b.places s (Some e))) with-one);
+        within = more;
+        small = t.small;
+      })
+
+    -- all entries have other places
+    pub moved : (new : Block (K × V) A) (i : Option (Named A)) (room : ℕ) → IsPermutation (somes b.places) (somes new.places) → IsIndexed eq h i new.places → room < length (tags_of i) → count ≤ room → room < 2 ^ 32
+        → IsTable eq h new i count room
+    moved new i room p indexed slots within small = record {
+      keys = t.keys;
+      once = map-permuted eq (somes b.places) (somes new.places) p t.once;
+      indexed = indexed;
+      room = inr slots;
+      counted = omega (arith, t.counted, length_permutation (somes b.places) (somes new.places) p);
+      within = within;
+      small = small;
     }
 
-    pub found-written : (q : K) → found eq (set es i x) q ≡ cond (eq q k) (Some x.value) (found eq es q)
-    found-written q = elim (cases_Bool (eq q k)) [
-      | inl y ↦ rw y (found-at eq (set es i x) q i x (slice_get-get_or (set es i x) i x (omega (arith, within, length-set es i x)) ∙ ap Some (get_or-set_same es i x x within)) (grind (arith, sound.keys.equality.congr)) (omega (arith, as_many q, sound.once q)))
-      | inr n ↦ rw n (found-set_other eq es q i e x at (grind (arith, sound.keys.equality.congr, sound.keys.equality.symm)) (grind (arith, sound.keys.equality.congr, sound.keys.equality.symm)))
-    ]
+module _ {K V A : Type 0} (eq : K → K → Bool) (h : K → ℕ) where
+  -- a table without keys
+  pub none-in : (keys : AreKeys eq h) (b : Block (K × V) A) (i : Option (Named A)) (capacity : ℕ) → ((s : ℕ) → get_or b.places s None ≡ None) → IsIndexed eq h i b.places → (capacity ≡ 0 ⊎ capacity < length (tags_of i)) → capacity < 2 ^ 32 → IsTable eq h b i 0 capacity
+  none-in keys b i capacity empty indexed room small =
+      let none : somes b.places ≡ [] = none-left b.places empty in
+      record {
+        keys = keys;
+        once = λ k. rw none (omega arith);
+        indexed = indexed;
+        room = room;
+        counted = ap length (sym none);
+        within = omega arith;
+        small = small;
+      }
 
-  -- a new key comes behind the others
-  pub pushed : (x : Entry K V) {new : List Group} → count_by (is_key eq x.key) es ≡ 0 → x.hash ≡ h x.key → IsIndex new (hashes_of es ++ x.hash ∷ []) → IsSound eq h new (es ++ x ∷ [])
-  pushed x {new} none hash index = record {
-    keys = sound.keys;
-    once = λ q. grind (arith, count-append (is_key eq q) es (x ∷ []), count-cons (is_key eq q) x [], alike-count eq sound.keys.equality q x.key es, sound.once q);
-    hashed = λ j d l. elim (cases_lt j (length es)) [
-      | inl b ↦ rw (get_or_append_left es (x ∷ []) d j b) (sound.hashed j d b)
-      | inr b ↦ rw (get_or_push es x d j (omega (arith, b, l, length-append es (x ∷ [])))) hash
-    ];
-    index = rw (map-append (λ (e : Entry K V). e.hash) es (x ∷ [])) index;
-  }
+-- the key has another value
+abbrev pub put : {K V S : Type 0} → (K → K → Bool) → K → V → Filled K V S → Filled K V S
+put eq k v f = record { entries = set_value (eq k) f.entries v; capacity = f.capacity; builder = f.builder }
 
-  -- a key is taken out, and the last one has its place
-  module _ (k : K) (i : ℕ) (e d : Entry K V) (at : slice_get es i ≡ Some e) (old : is_key eq k e ≡ true) where
-    inside : i < length es
-    inside = slice_get_within es i e at
-
-    abbrev n : ℕ
-    n = length es - 1
-
-    abbrev last : Entry K V
-    last = get_or es n d
-
-    hashes-less : hashes_of (swap_remove es i d) ≡ swap_remove (hashes_of es) i 0
-    hashes-less = hashes-taken n (set es i last) ∙ ap (take n) (hashes-put es i last ∙ ap (set (hashes_of es) i) (sym (hash-at es n d (omega (arith, inside))))) ∙ ap (λ m. take (m - 1) (set (hashes_of es) i (get_or (hashes_of es) (m - 1) 0))) (sym (length-map es (λ (e : Entry K V). e.hash)))
-
-    short : length (take n (set es i last)) ≡ n
-    short = length-take-le n (set es i last) (omega (arith, length-set es i last, inside))
-
-    pub fewer : length (swap_remove es i d) + 1 ≡ length es
-    fewer = omega (arith, short, inside)
-
-    pub removed : {new : List Group} → IsIndex new (swap_remove (hashes_of es) i 0) → IsSound eq h new (swap_remove es i d)
-    removed index = record {
-      keys = sound.keys;
-      once = λ q. omega (arith, sum_by-swap_remove (λ y. cond (is_key eq q y) 1 0) es i d inside, sound.once q);
-      hashed = λ j c l.
-          let b : j < n = omega (arith, l, short) in
-          rw (get_or-take n (set es i last) j c b) (elim (cases_eq j i) [
-            | inl y ↦ rw (y, get_or-set_same es i last c inside) (sound.hashed n d (omega (arith, inside)))
-            | inr y ↦ rw (get_or-set_other es i j last c y) (sound.hashed j c (omega (arith, b)))
-          ]);
-      index = rw hashes-less index;
-    }
-
-    -- the entries are those before the last one, and that
-    whole : take n es ++ last ∷ [] ≡ es
-    whole = sym (take_more es n d (omega (arith, inside))) ∙ take_all (n + 1) es (omega (arith, inside))
-
-    pub found-removed : (q : K) → found eq (swap_remove es i d) q ≡ cond (eq q k) None (found eq es q)
-    found-removed q =
-        let once : (p : K) → count_by (is_key eq p) (take n es ++ last ∷ []) ≤ 1 = λ p. rw whole (sound.once p) in
-        elim (cases_eq i n) [
-          | inl y ↦
-              let is : last ≡ e = rw y at (get_or_from_slice_get es i e d at) in
-              rw (take-set-le n es i last (omega arith)) (rw whole at (found-last eq sound.keys.equality (take n es) k last (subst (λ x. is_key eq k x ≡ true) (sym is) old) once q))
-          | inr ne ↦
-              let b : i < n = omega (arith, inside, ne) in
-              rw (take-set-lt n es i last b) (rw whole at (found-swapped eq sound.keys.equality (take n es) k e old last i (slice_get-get_or (take n es) i e (omega (arith, b, length-take-le n es (omega arith))) ∙ ap Some (get_or-take n es i e b ∙ get_or_from_slice_get es i e e at)) once q))
-        ]
-
-module _ {K V : Type 0} {eq : K → K → Bool} {h : K → ℕ} {gs : List Group} {es : List (Entry K V)} (sound : IsSound eq h gs es) where
-  -- the entry that was read, where a key stands
-  pub reads : (k : K) (i : ℕ) (e : Entry K V) → i < length es → key_at eq k es i ≡ true → e ≡ get_or es i e → (slice_get es i ≡ Some e) × (is_key eq k e ≡ true)
-  reads k i e l here is = let at = slice_get_read es (length es) i e refl l is in (at, rw at at here)
-
-  -- a look-up for a key's hash gets to it
-  pub named : (k : K) (hash : ℕ) → hash ≡ h k → IsNamed eq gs es hash k
-  named k hash is i here = elim (slice_get_cases es i).1 [
-    | inl x ↦
-        let e : Entry K V = x.0 in
-        let like : h k ≡ h e.key = sound.keys.agree k e.key (rw x.2 at here) in
-        let same : get_or (hashes_of es) i 0 ≡ hash = hash-at es i e x.1 ∙ ap (λ (y : Entry K V). y.hash) x.3 ∙ own sound i e x.2 ∙ sym like ∙ sym is in
-        rw same at (sound.index.named i (omega (arith, x.1, length-map es (λ (e : Entry K V). e.hash))))
-    | inr p ↦ absurd (let no = rw p.1 at here in cc)
-  ]
-
-pub refilled : {X : Type 0} (n : ℕ) (xs ws : List X) → length ws ≡ n → refill n xs ws ≡ ws
-refilled n xs ws e = take_at ws (drop (length ws) xs) n e
-
-module _ {K V A : Type 0} {eq : K → K → Bool} {h : K → ℕ} {v : Vector (Entry K V) A} {gs : List Group} {capacity : ℕ} (old : IsTable eq h v gs capacity) {w : Vector (Entry K V) A} {hs : List Group} where
-  -- the same room, for no more than it is for
-  pub changed : IsSound eq h hs w.items → length w.items ≤ capacity → w.capacity ≡ v.capacity → length hs ≡ length gs → IsTable eq h w hs capacity
-  changed sound few places size = record {
-    sound = sound;
-    within = few;
-    places = omega (arith, old.places, places);
-    groups = omega (arith, old.groups, size);
-    small = old.small;
-  }
-
-  -- another room, and the entries that were there
-  pub grown : (more : ℕ) → w.items ≡ v.items → IsIndex hs (hashes_of w.items) → length v.items ≤ more → more ≤ w.capacity → more ≤ 8 * length hs → more < 2 ^ 32 → IsTable eq h w hs more
-  grown more same index within places groups small = record {
-    sound = record { keys = old.sound.keys; once = rw same old.sound.once; hashed = rw same old.sound.hashed; index = index };
-    within = omega (arith, within, ap length same);
-    places = places;
-    groups = groups;
-    small = small;
-  }
+-- a table with a value written through what was lent
+pub written-filled : {K V S : Type 0} (eq : K → K → Bool) (k : K) (cs : List (Option (K × V))) (s : ℕ) (e : K × V) (v : V) → get_or cs s None ≡ Some e → eq k e.0 ≡ true → keys_like eq k (somes cs) ≤ 1
+    → {b : S} {room : ℕ} {f : Filled K V S} → filled_in b cs room ≡ f → filled_in b (set cs s (Some (e.0, v))) room ≡ put eq k v f
+written-filled eq k cs s e v at here once {b} {room} seen = ap (λ xs. record { entries = xs; capacity = room; builder = b }) (value-written eq k cs s e v at here once) ∙ ap (put eq k v) seen

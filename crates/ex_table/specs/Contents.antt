@@ -38,8 +38,8 @@ module _ {K V S : Type 0} where
   HasRoom f k = k ≤ f.capacity - length f.entries
 
   -- for how many keys there is room, once there is room for k new ones: for no more than before
-  -- where that was enough, else for twice as many, for all that there would be, or for 8
+  -- where that was enough, else for twice as many, for all that there would be, or for 14
   abbrev pub capacity_for : Filled K V S → (k : ℕ) → ℕ
   capacity_for f k =
       let n = length f.entries in
-      if nat_le k (f.capacity - n) then f.capacity else amortized Doubling f.capacity (n + k) 8
+      if nat_le k (f.capacity - n) then f.capacity else amortized Doubling f.capacity (n + k) 14

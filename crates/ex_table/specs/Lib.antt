@@ -1,5 +1,6 @@
-pub mod Groups
-pub mod Entries
+pub mod Slots
 pub mod Contents
+pub mod Places
+pub mod Iterated
 pub mod Inside
 pub mod Lends

@@ -1,10 +1,14 @@
 //! The keys of a table with their values, one after the other, from either end.
-ghost use Rattle.std.specs.Prelude.{◌≡◌, length, Some, IfSome};
+ghost use Rattle.std.specs.Prelude.{◌≡◌, ◌≤◌, length, Some, IfSome};
 ghost use Rattle.std.specs.Iterator.{YieldsFirst, YieldsFirstBy, YieldsLast, YieldsLastBy, UpTo, item_count};
 ghost use Rattle.std.specs.Iterator.SizeHint.{IsWithinCount};
+ghost use Rattle.allocator_api2.specs.Places.{somes};
+ghost use Rattle.ex_table.specs.Places.{tags_of, AreFree, AreHeld};
 
-use crate::entries::Entry;
-use allocator_api2::vec::IntoIter as Owned;
+use crate::growth::drop_between;
+use crate::index::{Named, tags_in};
+use crate::slots::{last_taken, next_taken};
+use allocator_api2::raw_vec::RawVec;
 use std::alloc::Allocator;
 use std::iter::FusedIterator;
 use std::marker::Model;
@@ -19,20 +23,47 @@ fn exactly(left: usize) -> (usize, Option<usize>)
 
 /// The keys that are left, each with its value. A contract sees them as a list of pairs.
 #[derive(Drop)]
-pub struct Iter<'a, K, V> {
-    pub(crate) rest: &'a [Entry<K, V>],
+pub struct Iter<'a, K, V, A: Allocator> {
+    tags: &'a [u8],
+    places: &'a RawVec<(K, V), A>,
+    // the slots that are left, and how many of them have a key
+    from: usize,
+    end: usize,
+    left: usize,
 }
 
-impl<'a, K, V> Model for Iter<'a, K, V> {
+impl<'a, K, V, A: Allocator> Model for Iter<'a, K, V, A> {
     ghost use Rattle.std.specs.Prelude.{List};
-    ghost use Rattle.ex_table.specs.Entries.{entries_of};
+    ghost use Rattle.ex_table.specs.Iterated.{left_of, IsLeft};
 
     ghost Value = { List (K × V) };
 
-    ghost view = { λ it. entries_of it.rest.now };
+    ghost view = { λ it. left_of it.places.now.places it.from it.end };
+
+    ghost invariant = { λ it. IsLeft it.tags.now it.places.now.places it.from it.end it.left };
 }
 
-impl<'a, K, V> Iterator for Iter<'a, K, V> {
+impl<'a, K, V, A: Allocator> Iter<'a, K, V, A> {
+    /// All keys of a table, of which there are so many.
+    #[tactic(auto, using(crate::proofs::Lefts::all_slots))]
+    pub(crate) fn over(tags: &'a [u8], places: &'a RawVec<(K, V), A>, count: usize) -> Self
+        requires places { length tags.now ≤ length places.now.places }
+        requires held { AreHeld tags.now places.now.places }
+        requires free { AreFree tags.now places.now.places }
+        requires count { count ≡ length (somes places.now.places) }
+        ensures { result ≡ somes places.now.places }
+    {
+        Iter {
+            tags,
+            places,
+            from: 0,
+            end: tags.len(),
+            left: count,
+        }
+    }
+}
+
+impl<'a, K, V, A: Allocator> Iterator for Iter<'a, K, V, A> {
     type Item = (&'a K, &'a V);
 
     ghost next_gives = { YieldsFirstBy (λ item. (item.0.now, item.1.now)) (λ rest. rest) };
@@ -40,10 +71,13 @@ impl<'a, K, V> Iterator for Iter<'a, K, V> {
     ghost remaining = { item_count (λ rest. rest) };
 
     /// The next key with its value, if one is left.
+    #[tactic(auto, using(crate::proofs::Lefts::from_first))]
     fn next(&mut self) -> Option<(&'a K, &'a V)> {
-        let (first, rest) = self.rest.split_first()?;
-        self.rest = rest;
-        Some((&first.key, &first.value))
+        let slot = next_taken(self.tags, self.from, self.end)?;
+        let entry = self.places.place(slot);
+        self.from = slot + 1;
+        self.left -= 1;
+        Some((&entry.0, &entry.1))
     }
 
     /// How many keys are left, exactly.
@@ -52,36 +86,39 @@ impl<'a, K, V> Iterator for Iter<'a, K, V> {
         ensures upper { IfSome result.1 (UpTo (item_count (λ rest. rest) self.now)) }
         ensures exact { result ≡ (length self.now, Some (length self.now)) }
     {
-        exactly(self.rest.len())
+        exactly(self.left)
     }
 }
 
-impl<'a, K, V> DoubleEndedIterator for Iter<'a, K, V> {
+impl<'a, K, V, A: Allocator> DoubleEndedIterator for Iter<'a, K, V, A> {
     ghost next_back_gives = { YieldsLastBy (λ item. (item.0.now, item.1.now)) (λ rest. rest) };
 
     /// The last key with its value, if one is left.
+    #[tactic(auto, using(crate::proofs::Lefts::from_last))]
     fn next_back(&mut self) -> Option<(&'a K, &'a V)> {
-        let (last, rest) = self.rest.split_last()?;
-        self.rest = rest;
-        Some((&last.key, &last.value))
+        let slot = last_taken(self.tags, self.from, self.end)?;
+        let entry = self.places.place(slot);
+        self.end = slot;
+        self.left -= 1;
+        Some((&entry.0, &entry.1))
     }
 }
 
-impl<'a, K, V> ExactSizeIterator for Iter<'a, K, V> {
+impl<'a, K, V, A: Allocator> ExactSizeIterator for Iter<'a, K, V, A> {
     fn len(&self) -> usize {
-        self.rest.len()
+        self.left
     }
 }
 
-impl<'a, K, V> FusedIterator for Iter<'a, K, V> {}
+impl<'a, K, V, A: Allocator> FusedIterator for Iter<'a, K, V, A> {}
 
 /// The keys that are left, without their values. A contract sees them as a list.
 #[derive(Drop)]
-pub struct Keys<'a, K, V> {
-    pub(crate) rest: Iter<'a, K, V>,
+pub struct Keys<'a, K, V, A: Allocator> {
+    pub(crate) rest: Iter<'a, K, V, A>,
 }
 
-impl<'a, K, V> Model for Keys<'a, K, V> {
+impl<'a, K, V, A: Allocator> Model for Keys<'a, K, V, A> {
     ghost use Rattle.std.specs.Prelude.{List, map};
 
     ghost Value = { List K };
@@ -89,7 +126,7 @@ impl<'a, K, V> Model for Keys<'a, K, V> {
     ghost view = { λ it. map (λ (e : K × V). e.0) it.rest };
 }
 
-impl<'a, K, V> Iterator for Keys<'a, K, V> {
+impl<'a, K, V, A: Allocator> Iterator for Keys<'a, K, V, A> {
     type Item = &'a K;
 
     ghost next_gives = { YieldsFirstBy (λ key. key.now) (λ rest. rest) };
@@ -114,21 +151,21 @@ impl<'a, K, V> Iterator for Keys<'a, K, V> {
     }
 }
 
-impl<'a, K, V> ExactSizeIterator for Keys<'a, K, V> {
+impl<'a, K, V, A: Allocator> ExactSizeIterator for Keys<'a, K, V, A> {
     fn len(&self) -> usize {
         self.rest.len()
     }
 }
 
-impl<'a, K, V> FusedIterator for Keys<'a, K, V> {}
+impl<'a, K, V, A: Allocator> FusedIterator for Keys<'a, K, V, A> {}
 
 /// The values that are left, without their keys. A contract sees them as a list.
 #[derive(Drop)]
-pub struct Values<'a, K, V> {
-    pub(crate) rest: Iter<'a, K, V>,
+pub struct Values<'a, K, V, A: Allocator> {
+    pub(crate) rest: Iter<'a, K, V, A>,
 }
 
-impl<'a, K, V> Model for Values<'a, K, V> {
+impl<'a, K, V, A: Allocator> Model for Values<'a, K, V, A> {
     ghost use Rattle.std.specs.Prelude.{List, map};
 
     ghost Value = { List V };
@@ -136,7 +173,7 @@ impl<'a, K, V> Model for Values<'a, K, V> {
     ghost view = { λ it. map (λ (e : K × V). e.1) it.rest };
 }
 
-impl<'a, K, V> Iterator for Values<'a, K, V> {
+impl<'a, K, V, A: Allocator> Iterator for Values<'a, K, V, A> {
     type Item = &'a V;
 
     ghost next_gives = { YieldsFirstBy (λ value. value.now) (λ rest. rest) };
@@ -161,28 +198,71 @@ impl<'a, K, V> Iterator for Values<'a, K, V> {
     }
 }
 
-impl<'a, K, V> ExactSizeIterator for Values<'a, K, V> {
+impl<'a, K, V, A: Allocator> ExactSizeIterator for Values<'a, K, V, A> {
     fn len(&self) -> usize {
         self.rest.len()
     }
 }
 
-impl<'a, K, V> FusedIterator for Values<'a, K, V> {}
+impl<'a, K, V, A: Allocator> FusedIterator for Values<'a, K, V, A> {}
 
 /// The keys with their values, as they come out of a table that is gone. A contract sees them as a
 /// list of pairs.
-#[derive(Drop)]
 pub struct IntoIter<K, V, A: Allocator> {
-    pub(crate) rest: Owned<Entry<K, V>, A>,
+    index: Option<Named<A>>,
+    places: RawVec<(K, V), A>,
+    // the slots that are left, and how many of them have a key
+    from: usize,
+    end: usize,
+    left: usize,
 }
 
 impl<K, V, A: Allocator> Model for IntoIter<K, V, A> {
     ghost use Rattle.std.specs.Prelude.{List};
-    ghost use Rattle.ex_table.specs.Entries.{entries_of};
+    ghost use Rattle.ex_table.specs.Iterated.{left_of, IsLeft};
+    ghost use Rattle.ex_table.specs.Places.{tags_of};
 
     ghost Value = { List (K × V) };
 
-    ghost view = { λ it. entries_of it.rest.items };
+    ghost view = { λ it. left_of it.places.places it.from it.end };
+
+    ghost invariant = { λ it. IsLeft (tags_of it.index) it.places.places it.from it.end it.left };
+}
+
+impl<K, V, A: Allocator> IntoIter<K, V, A> {
+    /// All keys of a table, of which there are so many.
+    #[tactic(auto, using(crate::proofs::Lefts::all_slots))]
+    pub(crate) fn over(index: Option<Named<A>>, places: RawVec<(K, V), A>, count: usize) -> Self
+        requires places { length (tags_of index) ≤ length places.places }
+        requires held { AreHeld (tags_of index) places.places }
+        requires free { AreFree (tags_of index) places.places }
+        requires count { count ≡ length (somes places.places) }
+        ensures { result ≡ somes places.places }
+    {
+        let end = tags_in(&index).len();
+        IntoIter {
+            index,
+            places,
+            from: 0,
+            end,
+            left: count,
+        }
+    }
+}
+
+impl<K: Drop, V: Drop, A: Allocator> Drop for IntoIter<K, V, A> {
+    /// Drops the keys that are left with their values, and gives the memory back.
+    fn drop(self) {
+        let IntoIter {
+            index,
+            mut places,
+            from,
+            end,
+            left: _,
+        } = self;
+        drop_between(tags_in(&index), &mut places, from, end);
+        drop(index);
+    }
 }
 
 impl<K: Drop, V: Drop, A: Allocator> Iterator for IntoIter<K, V, A> {
@@ -193,9 +273,12 @@ impl<K: Drop, V: Drop, A: Allocator> Iterator for IntoIter<K, V, A> {
     ghost remaining = { item_count (λ rest. rest) };
 
     /// The next key with its value, if one is left.
+    #[tactic(auto, using(crate::proofs::Lefts::from_first))]
     fn next(&mut self) -> Option<(K, V)> {
-        let entry = self.rest.next()?;
-        Some((entry.key, entry.value))
+        let slot = next_taken(tags_in(&self.index), self.from, self.end)?;
+        self.from = slot + 1;
+        self.left -= 1;
+        Some(self.places.take(slot))
     }
 
     /// How many keys are left, exactly.
@@ -204,7 +287,7 @@ impl<K: Drop, V: Drop, A: Allocator> Iterator for IntoIter<K, V, A> {
         ensures upper { IfSome result.1 (UpTo (item_count (λ rest. rest) self.now)) }
         ensures exact { result ≡ (length self.now, Some (length self.now)) }
     {
-        exactly(self.rest.len())
+        exactly(self.left)
     }
 }
 
@@ -212,15 +295,18 @@ impl<K: Drop, V: Drop, A: Allocator> DoubleEndedIterator for IntoIter<K, V, A> {
     ghost next_back_gives = { YieldsLast (λ rest. rest) };
 
     /// The last key with its value, if one is left.
+    #[tactic(auto, using(crate::proofs::Lefts::from_last))]
     fn next_back(&mut self) -> Option<(K, V)> {
-        let entry = self.rest.next_back()?;
-        Some((entry.key, entry.value))
+        let slot = last_taken(tags_in(&self.index), self.from, self.end)?;
+        self.end = slot;
+        self.left -= 1;
+        Some(self.places.take(slot))
     }
 }
 
 impl<K: Drop, V: Drop, A: Allocator> ExactSizeIterator for IntoIter<K, V, A> {
     fn len(&self) -> usize {
-        self.rest.len()
+        self.left
     }
 }
 

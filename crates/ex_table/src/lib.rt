@@ -1,9 +1,9 @@
-//! A hash table generic in its keys, over any allocator that can be cloned, on the vector of the
-//! library.
+//! A hash table generic in its keys, over any allocator that can be cloned, on the block and the
+//! vector of the library.
 #![tactic(auto)]
 
-pub mod entries;
-pub mod groups;
 pub mod growth;
+pub mod index;
 pub mod iter;
+pub mod slots;
 pub mod table;

@@ -1,36 +1,39 @@
 //! The table: a finite map from keys to values, by the keys' own equality.
-ghost use Rattle.std.specs.Prelude.{◌≡◌, ◌+◌, ◌-◌, ◌<◌, ◌≤◌, [], ◌∷◌, ◌++◌, None, Some, IfOk, IfErr, OnOk, OnErr, IsOk, IsSome, option_copied, is_some, map, max, if◌then◌else◌, true, false, length, ◌==◌, count_by};
+ghost use Rattle.std.specs.Prelude.{◌≡◌, ◌+◌, ◌-◌, ◌<◌, ◌≤◌, [], ◌∷◌, None, Some, IfOk, IfErr, OnOk, OnErr, IsOk, IsSome, option_copied, is_some, map, max, if◌then◌else◌, true, false, length, ◌==◌, IsPermutation};
 ghost use Rattle.std.specs.Borrow.{sem};
 ghost use Rattle.std.specs.Option.{option_copied_mut};
 ghost use Rattle.allocator_api2.specs.declared.collections.TryReserveErrorKind.TheVariants.{AllocError, CapacityOverflow};
 ghost use Rattle.allocator_api2.specs.Room.{LacksRoom};
 ghost use Rattle.ex_table.specs.Contents.{value, keys_like, Sets, IsMap, HasRoom, capacity_for, most_keys};
-ghost use Rattle.ex_table.specs.Entries.{hashes};
+ghost use Rattle.ex_table.specs.Places.{hashes};
 
-use crate::entries::{Entry, entry_of, find, hash_of, name_all, unname};
-use crate::groups::{Group, clear_all, groups_in, put};
-use crate::growth::{grow, shrink};
+use crate::growth::{drop_between, refused, resize};
+use crate::index::{Named, find_in, free_all, hash_of, put_new, tags_in, take_out};
 use crate::iter::{IntoIter, Iter, Keys, Values};
 use allocator_api2::collections::{Refused, TryReserveError, TryReserveErrorKind};
-use allocator_api2::vec::Vec;
+use allocator_api2::raw_vec::RawVec;
 use std::alloc::Allocator;
 use std::hash::{BuildHasher, BuildHasherDefault, FoldHasher, Hash};
 use std::marker::Model;
 use std::mem;
 use std::ops::Index;
 
-// No table makes room for more keys, so that the number of each entry has 32 bits.
+// No table makes room for more keys.
 const MOST_KEYS: usize = 2_000_000_000;
+
+// The first growth makes room for so many.
+const LEAST_KEYS: usize = 14;
 
 /// A hash table. A contract sees its keys with their values, for how many keys there is room, and
 /// what makes the hashers.
 pub struct Table<K: Eq + Hash, V, S: BuildHasher, A: Allocator> {
-    entries: Vec<Entry<K, V>, A>,
-    groups: Option<Vec<Group, A>>,
+    // each key with its value, at the place that is numbered as its slot
+    places: RawVec<(K, V), A>,
+    // none before the first growth
+    index: Option<Named<A>>,
     builder: S,
+    count: usize,
     capacity: usize,
-    // how many lanes without a key look-ups have to go past, at most
-    passed: usize,
 }
 
 impl<K: Eq + Hash, V, S: BuildHasher, A: Allocator> Model for Table<K, V, S, A> {
@@ -38,27 +41,27 @@ impl<K: Eq + Hash, V, S: BuildHasher, A: Allocator> Model for Table<K, V, S, A> 
 
     ghost Value = { Filled K V S };
 
-    ghost use Rattle.ex_table.specs.Entries.{hashes, IsTable};
+    ghost use Rattle.ex_table.specs.Places.{hashes, IsTable};
     ghost use Rattle.ex_table.specs.Inside.{filled_in};
-    ghost use Rattle.ex_table.specs.Groups.{groups_of};
 
-    ghost view = { λ t. filled_in t.builder t.entries.items t.capacity };
+    ghost view = { λ t. filled_in t.builder t.places.places t.capacity };
 
     ghost invariant = { λ t. IsTable K.eq (hashes S.BuildHasher S.Hasher.Hasher K.hash_input t.builder)
-        t.entries (groups_of t.groups) t.capacity };
+        t.places t.index t.count t.capacity };
 }
 
 impl<K: Eq + Hash + Drop, V: Drop, S: BuildHasher + Drop, A: Allocator> Drop for Table<K, V, S, A> {
     fn drop(self) {
         let Table {
-            entries,
-            groups,
+            mut places,
+            index,
             builder,
+            count: _,
             capacity: _,
-            passed: _,
         } = self;
-        drop(entries);
-        drop(groups);
+        let tags = tags_in(&index);
+        drop_between(tags, &mut places, 0, tags.len());
+        drop(index);
         drop(builder);
     }
 }
@@ -79,12 +82,13 @@ impl<K: Eq + Hash + Drop, V: Drop, A: Allocator + Clone> Table<
 
     /// A table with no keys, and room for so many, by the toolchain's hasher. It is refused as
     /// `reserve` is.
+    #[tactic(auto, using(crate::proofs::Maps::none_permuted))]
     pub fn with_capacity_in(capacity: usize, alloc: A) -> Result<Self, TryReserveError>
         ensures entries { IfOk result (λ t. t.entries ≡ []) }
         ensures room { IfOk result (λ t. capacity ≤ t.capacity) }
         ensures made { IfOk result
-            (λ t. t.capacity ≡ if capacity == 0 then 0 else max capacity 8) }
-        ensures lacks { IfErr result (LacksRoom 0 0 capacity (max capacity 8)) }
+            (λ t. t.capacity ≡ if capacity == 0 then 0 else max capacity 14) }
+        ensures lacks { IfErr result (LacksRoom 0 0 capacity (max capacity 14)) }
     {
         let mut table = Table::new_in(alloc);
         table.reserve(capacity)?;
@@ -100,30 +104,28 @@ impl<K: Eq + Hash + Drop, V: Drop, S: BuildHasher, A: Allocator + Clone> Table<K
         ensures { result ≡ record { entries = []; capacity = 0; builder = builder } }
     {
         Table {
-            entries: Vec::new_in(alloc),
-            groups: None,
+            places: RawVec::new_in(alloc),
+            index: None,
             builder,
+            count: 0,
             capacity: 0,
-            passed: 0,
         }
     }
 
     /// How many keys there are. No key is there twice.
-    #[tactic(auto, using(crate::proofs::Counts::counted))]
     pub fn len(&self) -> usize
         ensures count { result ≡ length self.now.entries }
         ensures once { IsMap K.eq self.now.entries }
         ensures within { result ≤ self.now.capacity }
     {
-        self.entries.len()
+        self.count
     }
 
     /// Whether there is no key.
-    #[tactic(auto, using(crate::proofs::Counts::counted))]
     pub fn is_empty(&self) -> bool
         ensures { result ≡ (length self.now.entries == 0) }
     {
-        self.entries.len() == 0
+        self.count == 0
     }
 
     /// For how many keys there is room, those that are there with them.
@@ -134,11 +136,10 @@ impl<K: Eq + Hash + Drop, V: Drop, S: BuildHasher, A: Allocator + Clone> Table<K
     }
 
     /// For how many new keys there is room: so many inserts take no memory.
-    #[tactic(auto, using(crate::proofs::Counts::counted))]
     pub fn room(&self) -> usize
         ensures { result ≡ self.now.capacity - length self.now.entries }
     {
-        self.capacity - self.entries.len()
+        self.capacity - self.count
     }
 
     /// The value of a key.
@@ -147,8 +148,8 @@ impl<K: Eq + Hash + Drop, V: Drop, S: BuildHasher, A: Allocator + Clone> Table<K
         ensures { option_copied result ≡ value K.eq self.now.entries key.now }
     {
         let hash = hash_of(&self.builder, key);
-        match entry_of(groups_in(&self.groups), self.entries.as_slice(), hash, key) {
-            Some(entry) => Some(&entry.value),
+        match find_in(&self.index, &self.places, hash, key) {
+            Some(slot) => Some(&self.places.place(slot).1),
             None => None,
         }
     }
@@ -169,77 +170,65 @@ impl<K: Eq + Hash + Drop, V: Drop, S: BuildHasher, A: Allocator + Clone> Table<K
         ensures value { option_copied_mut result ≡ value K.eq self.old.entries key.now }
     {
         let hash = hash_of(&self.builder, key);
-        match find(groups_in(&self.groups), self.entries.as_slice(), hash, key) {
-            Some(spot) => Some(self.entries[spot.place].value_mut()),
+        match find_in(&self.index, &self.places, hash, key) {
+            Some(slot) => Some(&mut self.places.place_mut(slot).1),
             None => None,
         }
     }
 
     /// The keys with their values, each key once, in no order that is promised.
-    pub fn iter(&self) -> Iter<'_, K, V>
+    pub fn iter(&self) -> Iter<'_, K, V, A>
         ensures { result ≡ self.now.entries }
     {
-        Iter {
-            rest: self.entries.as_slice(),
-        }
+        let tags = tags_in(&self.index);
+        Iter::over(tags, &self.places, self.count)
     }
 
     /// The keys, in the order of `iter`.
-    pub fn keys(&self) -> Keys<'_, K, V>
+    pub fn keys(&self) -> Keys<'_, K, V, A>
         ensures { result ≡ map (λ e. e.0) self.now.entries }
     {
         Keys { rest: self.iter() }
     }
 
     /// The values, in the order of `iter`.
-    pub fn values(&self) -> Values<'_, K, V>
+    pub fn values(&self) -> Values<'_, K, V, A>
         ensures { result ≡ map (λ e. e.1) self.now.entries }
     {
         Values { rest: self.iter() }
     }
 
-    // Puts a new key behind the others.
+    // Puts a new key into a free place.
     #[inline(always)]
-    fn push(&mut self, hash: u64, key: K, item: V)
+    fn add(&mut self, hash: u64, key: K, item: V)
         requires hash { hash ≡ hashes S.BuildHasher S.Hasher.Hasher K.hash_input self.old.builder key }
         requires room { HasRoom self.old 1 }
         requires absent { keys_like K.eq key self.old.entries ≡ 0 }
-        ensures { self.new ≡ record {
-          entries = self.old.entries ++ (key, item) ∷ [];
-          capacity = self.old.capacity;
-          builder = self.old.builder;
-        } }
+        ensures added { IsPermutation ((key, item) ∷ self.old.entries) self.new.entries }
+        ensures capacity { self.new.capacity ≡ self.old.capacity }
+        ensures builder { self.new.builder ≡ self.old.builder }
     {
-        let place = self.entries.len() as u32;
-        match &mut self.groups {
-            Some(groups) => put(groups.as_mut_slice(), hash, place),
+        match &mut self.index {
+            Some(index) => {
+                put_new(index, &mut self.places, hash, (key, item));
+            }
             None => unreachable!(),
         }
-        let entry = Entry {
-            hash,
-            key,
-            value: item,
-        };
-        match self.entries.push_within_capacity(entry) {
-            Ok(()) => {}
-            Err(_) => unreachable!(),
-        }
+        self.count += 1;
     }
 
     // The same, after a growth: a call, so that an insert with room is short.
     #[cold]
     #[inline(never)]
-    fn push_late(&mut self, hash: u64, key: K, item: V)
+    fn add_late(&mut self, hash: u64, key: K, item: V)
         requires hash { hash ≡ hashes S.BuildHasher S.Hasher.Hasher K.hash_input self.old.builder key }
         requires room { HasRoom self.old 1 }
         requires absent { keys_like K.eq key self.old.entries ≡ 0 }
-        ensures { self.new ≡ record {
-          entries = self.old.entries ++ (key, item) ∷ [];
-          capacity = self.old.capacity;
-          builder = self.old.builder;
-        } }
+        ensures added { IsPermutation ((key, item) ∷ self.old.entries) self.new.entries }
+        ensures capacity { self.new.capacity ≡ self.old.capacity }
+        ensures builder { self.new.builder ≡ self.old.builder }
     {
-        self.push(hash, key, item);
+        self.add(hash, key, item);
     }
 
     /// Gives the key this value, and answers the one that it had. A key that is there gives way to
@@ -268,17 +257,12 @@ impl<K: Eq + Hash + Drop, V: Drop, S: BuildHasher, A: Allocator + Clone> Table<K
         ensures refused { OnErr result (self.new ≡ self.old) }
     {
         let hash = hash_of(&self.builder, &key);
-        if let Some(spot) = find(groups_in(&self.groups), self.entries.as_slice(), hash, &key) {
-            let entry = Entry {
-                hash,
-                key,
-                value: item,
-            };
-            let old = mem::replace(&mut self.entries[spot.place], entry);
-            return Ok(Some(old.value));
+        if let Some(slot) = find_in(&self.index, &self.places, hash, &key) {
+            let old = mem::replace(self.places.place_mut(slot), (key, item));
+            return Ok(Some(old.1));
         }
         if self.room() > 0 {
-            self.push(hash, key, item);
+            self.add(hash, key, item);
             return Ok(None);
         }
         if let Err(error) = self.reserve(1) {
@@ -287,12 +271,13 @@ impl<K: Eq + Hash + Drop, V: Drop, S: BuildHasher, A: Allocator + Clone> Table<K
                 error,
             });
         }
-        self.push_late(hash, key, item);
+        self.add_late(hash, key, item);
         Ok(None)
     }
 
     /// Makes room for this many new keys, where there is less: then it takes memory, for twice as
-    /// many keys as there was room for, or for all that there would be. A refusal changes nothing:
+    /// many keys as there was room for, or for all that there would be, and the keys may come into
+    /// another order. A refusal changes nothing:
     /// `CapacityOverflow` where there would be more than 2,000,000,000 keys or the bytes pass
     /// `isize::MAX`, else `AllocError` with how many keys the room was asked for.
     #[inline]
@@ -304,49 +289,22 @@ impl<K: Eq + Hash + Drop, V: Drop, S: BuildHasher, A: Allocator + Clone> Table<K
             additional (capacity_for self.old additional)) }
         ensures most { IfErr result (λ e. most_keys < length self.old.entries + additional
             → e.kind ≡ CapacityOverflow) }
-        ensures same { self.new.entries ≡ self.old.entries }
+        ensures same { IsPermutation self.old.entries self.new.entries }
+        ensures enough_before { HasRoom self.old additional → self.new ≡ self.old }
         ensures builder { self.new.builder ≡ self.old.builder }
         ensures refused { OnErr result (self.new ≡ self.old) }
     {
-        let len = self.entries.len();
-        if additional <= self.capacity - len {
+        let keys = self.count.saturating_add(additional);
+        if keys <= self.capacity {
             return Ok(());
         }
-        let keys = len.saturating_add(additional);
         if keys > MOST_KEYS {
             return Err(TryReserveErrorKind::CapacityOverflow.into());
         }
-        let capacity = (2 * self.capacity).max(keys).max(8);
-        grow(&mut self.entries, &mut self.groups, capacity)?;
+        let capacity = (2 * self.capacity).max(keys).max(LEAST_KEYS);
+        resize(&self.builder, &mut self.places, &mut self.index, capacity)?;
         self.capacity = capacity;
-        self.passed = 0;
         Ok(())
-    }
-
-    // Counts a lane that look-ups go past without need. Where these are many, all keys are named
-    // anew.
-    #[cold]
-    #[inline(never)]
-    fn count_passed(&mut self)
-        ensures { self.new ≡ self.old }
-    {
-        self.passed = self.passed.saturating_add(1);
-        if let Some(groups) = &mut self.groups {
-            if self.passed > groups.len() {
-                name_all(groups.as_mut_slice(), self.entries.as_slice());
-                self.passed = 0;
-            }
-        }
-    }
-
-    // The same, where there is one.
-    #[inline(always)]
-    fn pass(&mut self, passed: bool)
-        ensures { self.new ≡ self.old }
-    {
-        if passed {
-            self.count_passed();
-        }
     }
 
     /// Takes the key away, and answers the value that it had. It takes no memory, and the room of
@@ -363,16 +321,15 @@ impl<K: Eq + Hash + Drop, V: Drop, S: BuildHasher, A: Allocator + Clone> Table<K
         ensures absent { result ≡ None → self.new ≡ self.old }
     {
         let hash = hash_of(&self.builder, key);
-        let Some(spot) = find(groups_in(&self.groups), self.entries.as_slice(), hash, key) else {
+        let Some(slot) = find_in(&self.index, &self.places, hash, key) else {
             return None;
         };
-        let passed = match &mut self.groups {
-            Some(groups) => unname(groups.as_mut_slice(), self.entries.as_slice(), spot),
+        let entry = match &mut self.index {
+            Some(index) => take_out(index, &mut self.places, hash, slot),
             None => unreachable!(),
         };
-        let entry = self.entries.swap_remove(spot.place);
-        self.pass(passed);
-        Some(entry.value)
+        self.count -= 1;
+        Some(entry.1)
     }
 
     /// Takes all keys away. The room stays. It takes no memory.
@@ -383,26 +340,34 @@ impl<K: Eq + Hash + Drop, V: Drop, S: BuildHasher, A: Allocator + Clone> Table<K
           builder = self.old.builder;
         } }
     {
-        self.entries.clear();
-        self.passed = 0;
-        if let Some(groups) = &mut self.groups {
-            clear_all(groups.as_mut_slice());
+        self.count = 0;
+        match &mut self.index {
+            Some(index) => {
+                let tags = index.tags.as_slice();
+                drop_between(tags, &mut self.places, 0, tags.len());
+                free_all(index);
+            }
+            None => {}
         }
     }
 
     /// Gives back what room there is beside the keys. It takes memory for that; a refusal changes
     /// nothing, and has the number of keys.
     pub fn shrink_to_fit(&mut self) -> Result<(), TryReserveError>
-        ensures entries { self.new.entries ≡ self.old.entries }
+        ensures entries { IsPermutation self.old.entries self.new.entries }
         ensures capacity { OnOk result (self.new.capacity ≡ length self.old.entries) }
         ensures builder { self.new.builder ≡ self.old.builder }
         ensures number { IfErr result (λ e. e.kind ≡ AllocError (length self.old.entries)) }
         ensures refused { OnErr result (self.new ≡ self.old) }
     {
-        shrink(&mut self.entries, &mut self.groups)?;
-        self.capacity = self.entries.len();
-        self.passed = 0;
-        Ok(())
+        let count = self.count;
+        match resize(&self.builder, &mut self.places, &mut self.index, count) {
+            Ok(()) => {
+                self.capacity = count;
+                Ok(())
+            }
+            Err(_) => Err(refused(count)),
+        }
     }
 }
 
@@ -412,17 +377,14 @@ impl<K: Eq + Hash + Drop, V: Drop, S: BuildHasher + Drop, A: Allocator> Table<K,
         ensures { result ≡ self.entries }
     {
         let Table {
-            entries,
-            groups,
+            places,
+            index,
             builder,
+            count,
             capacity: _,
-            passed: _,
         } = self;
-        drop(groups);
         drop(builder);
-        IntoIter {
-            rest: entries.into_iter(),
-        }
+        IntoIter::over(index, places, count)
     }
 }
 

@@ -113,13 +113,13 @@ fn a_reserve_makes_room_for_twice_as_many_or_for_all(rt: HostRuntime) {
     assert!(rt; takes(&mut table, 0..5));
     // Room asked for, the room that there is then, and the requests that it made.
     for (additional, room, requests) in [
-        (0usize, 3usize, 0u64),
-        (3, 3, 0),
-        (4, 11, 2),
-        (11, 11, 0),
-        (100, 100, 2),
+        (0usize, 9usize, 0u64),
+        (9, 9, 0),
+        (10, 23, 3),
+        (23, 23, 0),
+        (100, 100, 3),
         (100, 100, 0),
-        (101, 205, 2),
+        (101, 205, 3),
     ] {
         let before = heap.requests();
         assert!(rt; table.reserve(additional).is_ok());
@@ -191,12 +191,12 @@ fn reason(table: &mut Small<'_>, additional: usize) -> Option<TryReserveErrorKin
 fn a_refusal_has_the_number_asked_for(rt: HostRuntime) {
     let heap = Faulty::new(rt.alloc());
     let mut table: Small<'_> = Table::new_in(&heap);
-    assert!(rt; takes(&mut table, 0..8));
+    assert!(rt; takes(&mut table, 0..14));
     assert!(rt; table.room() == 0);
-    // Room asked for, and with how many keys, as these are; the block of groups is refused first,
-    // and then that of entries.
-    for skip in 0u64..2 {
-        for (additional, capacity) in [(1usize, 16usize), (8, 16), (9, 17), (1000, 1008)] {
+    // Room asked for, and with how many keys, as these are; the block of tags is refused first, then
+    // what is told beside them, and then that of places.
+    for skip in 0u64..3 {
+        for (additional, capacity) in [(1usize, 28usize), (14, 28), (15, 29), (1000, 1014)] {
             heap.refuse(skip, 1);
             let refused = Some(TryReserveErrorKind::AllocError { capacity });
             assert!(rt;
@@ -205,10 +205,10 @@ fn a_refusal_has_the_number_asked_for(rt: HostRuntime) {
             );
         }
         heap.refuse(skip, 1);
-        match table.insert(8, 8) {
+        match table.insert(14, 14) {
             Ok(_) => assert!(rt; false),
             Err(back) => {
-                let refused = TryReserveErrorKind::AllocError { capacity: 16 };
+                let refused = TryReserveErrorKind::AllocError { capacity: 28 };
                 assert!(rt; back.error.kind() == refused);
             }
         }
@@ -217,12 +217,12 @@ fn a_refusal_has_the_number_asked_for(rt: HostRuntime) {
     let most = TryReserveErrorKind::AllocError {
         capacity: 2_000_000_000,
     };
-    assert!(rt; reason(&mut table, 1_999_999_992) == Some(most));
-    for additional in [1_999_999_993usize, usize::MAX - 8, usize::MAX] {
+    assert!(rt; reason(&mut table, 1_999_999_986) == Some(most));
+    for additional in [1_999_999_987usize, usize::MAX - 14, usize::MAX] {
         let refused = Some(TryReserveErrorKind::CapacityOverflow);
         assert!(rt; reason(&mut table, additional) == refused, "{additional}");
     }
-    assert!(rt; (table.len(), table.room(), has(&table, 7)) == (8, 0, Some(7)));
+    assert!(rt; (table.len(), table.room(), has(&table, 7)) == (14, 0, Some(7)));
 }
 
 // Hashers that make one number of all keys.
@@ -283,7 +283,7 @@ fn texts_are_keys_by_any_hasher(rt: HostRuntime) {
 }
 
 #[test]
-fn keys_of_one_hash_fill_many_groups(rt: HostRuntime) {
+fn keys_of_one_hash_fill_many_blocks(rt: HostRuntime) {
     let mut table: Table<u64, u64, Same, Global> = Table::with_hasher_in(Same, rt.alloc());
     for key in 0u64..100 {
         assert!(rt; table.insert(key, key.wrapping_mul(3)).is_ok());
@@ -304,7 +304,7 @@ fn iterators_tell_how_many_come(rt: HostRuntime) -> Result<(), Fail> {
     let heap = Faulty::new(rt.alloc());
     let mut table: Small<'_> = Table::with_capacity_in(1000, &heap)?;
     assert!(rt; (table.capacity(), table.room(), table.is_empty()) == (1000, 1000, true));
-    assert!(rt; takes(&mut table, 0..1000) && heap.requests() == 2);
+    assert!(rt; takes(&mut table, 0..1000) && heap.requests() == 3);
     assert!(rt; (table.len(), table.iter().len(), table.keys().len()) == (1000, 1000, 1000));
     assert!(rt; table.iter().size_hint() == (1000, Some(1000)));
     // Each vector of what comes makes one block.
@@ -314,12 +314,16 @@ fn iterators_tell_how_many_come(rt: HostRuntime) -> Result<(), Fail> {
     let values = Vec::from_iter_in(table.values(), &heap)?;
     assert!(rt; heap.requests().wrapping_sub(before) == 3);
     assert!(rt; (pairs.len(), keys.capacity(), values.capacity()) == (1000, 1000, 1000));
+    let (Some(first), Some(last)) = (keys.as_slice().first().copied(), keys.as_slice().last().copied()) else {
+        return Err(Fail::new("no keys"));
+    };
     let mut both = table.iter();
-    assert!(rt; (both.next(), both.next_back()) == (Some((&0, &0)), Some((&999, &999))));
+    assert!(rt; (both.next(), both.next_back()) == (Some((first, first)), Some((last, last))));
     assert!(rt; both.len() == 998);
+    let (first, last) = (*first, *last);
     drop((pairs, keys, values));
     let mut owned = table.into_iter();
-    assert!(rt; (owned.next(), owned.next_back()) == (Some((0, 0)), Some((999, 999))));
+    assert!(rt; (owned.next(), owned.next_back()) == (Some((first, first)), Some((last, last))));
     assert!(rt; (owned.size_hint(), owned.len()) == ((998, Some(998)), 998));
     let before = heap.requests();
     assert!(rt; Vec::from_iter_in(owned, &heap)?.len() == 998);

@@ -1,13 +1,17 @@
-use Rattle.ex_table.proofs.Common.{sym}
-use Rattle.ex_table.proofs.Sound.{named}
-use Rattle.ex_table.proofs.Maps.{value-none, value-at}
+use Rattle.std.proofs.Common.{ap, sym, ◌∙◌}
+use Rattle.ex_table.specs.Contents.{value, Filled}
+use Rattle.ex_table.proofs.Sound.{absent, findable, read}
 use Rattle.ex_table.proofs.table.Table.get.Goals as goal
 
-pub entry_of-requires : goal.entry_of-requires
-entry_of-requires g c = rw (c.groups_in.ensures, c.as_slice.ensures) (named c.self.invariant.sound c.args.key.now c.hash_of-hash.result c.hash_of-hash.ensures)
+pub find_in-requires : goal.find_in-requires
+find_in-requires g c = findable c.self.invariant c.args.key.now c.hash_of-hash.result c.hash_of-hash.ensures
 
 pub returns-in-Some : goal.returns-in-Some
-returns-in-Some g c = let found = rw c.as_slice.ensures at c.in-Some.ensures.found in value-at c.self.invariant.sound c.self.view_is _ _ _ found.at found.here
+returns-in-Some g c =
+    sym (read c.self.invariant c.args.key.now c.in-Some.slot c.place.result.now c.place.ensures c.in-Some.ensures.found)
+    ∙ ap (λ (f : Filled _ _ _). value g.K.PartialEq.eq f.entries c.args.key.now) c.self.view_is
 
 pub returns-in-None : goal.returns-in-None
-returns-in-None g c = sym (value-none g.K.PartialEq.eq c.self.inside.entries.items c.self.view_is c.args.key.now (rw c.as_slice.ensures at c.in-None.ensures.absent))
+returns-in-None g c =
+    sym (absent c.self.invariant c.args.key.now c.in-None.ensures.absent)
+    ∙ ap (λ (f : Filled _ _ _). value g.K.PartialEq.eq f.entries c.args.key.now) c.self.view_is

@@ -1,25 +1,26 @@
-use Rattle.ex_table.proofs.Common.{Some, ap, refl, sym, ◌∙◌, arith, inl, inr, length-set, with_value}
-use Rattle.ex_table.proofs.Sound.{changed, named, reads, written}
-use Rattle.ex_table.proofs.Maps.{value-none, value-at, written-filled}
+use Rattle.std.proofs.Common.{ap, inl, inr, sym, ◌∙◌, refl}
+use Rattle.ex_table.specs.Contents.{value, Filled}
+use Rattle.ex_table.proofs.Sound.{absent, findable, is-here, read, written, written-filled}
 use Rattle.ex_table.proofs.table.Table.get_mut.Goals as goal
 
-pub find-requires : goal.find-requires
-find-requires g c = rw (c.groups_in.ensures, c.as_slice.ensures) (named c.self.invariant.sound c.args.key.now c.hash_of-hash.result c.hash_of-hash.ensures)
-
-pub invariant_of-self-lent : goal.invariant_of-self-lent
-invariant_of-self-lent g c v =
-    let found = rw c.as_slice.ensures at c.in-Some.ensures.found in let read = reads c.self.invariant.sound _ _ _ found.within found.here c.index_mut.ensures.value in
-    let new = with_value c.index_mut.result.now v in
-    changed c.self.invariant (written c.self.invariant.sound _ _ _ new read.0 read.1 read.1 refl) (omega (arith, c.self.invariant.within, length-set c.self.inside.entries.items c.in-Some.spot.place new)) refl refl
-
-pub returns-in-Some : goal.returns-in-Some
-returns-in-Some g c =
-    let found = rw c.as_slice.ensures at c.in-Some.ensures.found in let read = reads c.self.invariant.sound _ _ _ found.within found.here c.index_mut.ensures.value in (
-      λ i. inl (c.value_mut.result.ghost_name, λ v. written-filled c.self.invariant.sound c.self.view_is _ _ _ read.0 read.1 v i),
-      record { writes_back = tt; value = ap Some (sym c.value_mut.ensures.value) ∙ value-at c.self.invariant.sound c.self.view_is _ _ _ read.0 read.1 },
-    )
+pub find_in-requires : goal.find_in-requires
+find_in-requires g c = findable c.self.invariant c.args.key.now c.hash_of-hash.result c.hash_of-hash.ensures
 
 pub returns-in-None : goal.returns-in-None
 returns-in-None g c =
-    let none = value-none g.K.PartialEq.eq c.self.inside.entries.items c.self.view_is c.args.key.now (rw c.as_slice.ensures at c.in-None.ensures.absent) in
-    (λ i. inr (c.self.view_is i), record { writes_back = tt; value = sym none })
+    let none = sym (absent c.self.invariant c.args.key.now c.in-None.ensures.absent) ∙ ap (λ (f : Filled _ _ _). value g.K.PartialEq.eq f.entries c.args.key.now) c.self.view_is in
+    (λ i. inr (c.self.view_is i), record { writes_back = tt; value = none })
+
+pub invariant_of-self-lent : goal.invariant_of-self-lent
+invariant_of-self-lent g c v =
+    let t = c.self.invariant in let e = c.place_mut.result.now in let at = c.place_mut.ensures.value in
+    let here = is-here t c.args.key.now c.in-Some.slot e at c.in-Some.ensures.found in
+    written t c.args.key.now c.in-Some.slot e (e.0, v) at here here _ refl
+
+pub returns-in-Some : goal.returns-in-Some
+returns-in-Some g c =
+    let t = c.self.invariant in let e = c.place_mut.result.now in let at = c.place_mut.ensures.value in
+    let here = is-here t c.args.key.now c.in-Some.slot e at c.in-Some.ensures.found in (
+      λ i. inl (c.self-in-Some-1.given, λ w. written-filled g.K.PartialEq.eq c.args.key.now c.self.inside.places.places c.in-Some.slot e w at here (t.once c.args.key.now) c.self.view_is i),
+      record { writes_back = tt; value = sym (read t c.args.key.now c.in-Some.slot e at c.in-Some.ensures.found) ∙ ap (λ (f : Filled _ _ _). value g.K.PartialEq.eq f.entries c.args.key.now) c.self.view_is },
+    )

@@ -1,56 +1,74 @@
-use Rattle.ex_table.proofs.Common.{Entry, Some, [], ap, sym, ◌∙◌, ◌++◌, ◌∷◌, arith, refl, set, length-set, value}
-use Rattle.ex_table.proofs.Counts.{value-push}
-use Rattle.ex_table.proofs.Sound.{changed, found-written, named, own, reads, written}
-use Rattle.ex_table.proofs.Maps.{sees-keys, sees-set, value-none, value-at}
+use Rattle.std.proofs.Common.{Some, ap, arith, cond, length, refl, sym, ◌∙◌, ◌∷◌}
+use Rattle.std.proofs.lemmas.List.Sorted.{length_permutation}
+use Rattle.ex_table.specs.Contents.{keys_like, value, Filled, IsMap}
+use Rattle.ex_table.proofs.Maps.{keys-permuted, map-permuted, sets-new, value-permuted}
+use Rattle.ex_table.proofs.Sound.{absent, absent-keys, as-many, findable, is-here, read, sets-written, written}
 use Rattle.ex_table.proofs.table.Table.insert.Goals as goal
 
-pub find-requires : goal.find-requires
-find-requires g c = rw (c.groups_in.ensures, c.as_slice.ensures) (named c.self.invariant.sound c.args.key c.hash_of-hash.result c.hash_of-hash.ensures)
+pub find_in-requires : goal.find_in-requires
+find_in-requires g c = findable c.self.invariant c.args.key c.hash_of-hash.result c.hash_of-hash.ensures
 
 pub invariant_of-self : goal.invariant_of-self
 invariant_of-self g c =
-    let sound = c.self.invariant.sound in let es = c.self.inside.entries.items in
-    let found = rw c.as_slice.ensures at c.in-Some.ensures.found in let read = reads sound _ _ _ found.within found.here c.index_mut.ensures.value in
-    let entry : Entry g.row.K.Denot g.row.V.Denot = record { hash = c.hash_of-hash.result; key = c.args.key; value = c.args.item } in
-    let same = c.hash_of-hash.ensures ∙ sound.keys.agree c.args.key c.index_mut.result.now.key read.1 ∙ sym (own sound _ _ read.0) in
-    rw c.replace-old.ensures.after (changed c.self.invariant (written sound _ _ _ entry read.0 read.1 (sound.keys.equality.refl c.args.key) same) (omega (arith, c.self.invariant.within, length-set es c.in-Some.spot.place entry)) refl refl)
+    let t = c.self.invariant in let e = c.place_mut.result.now in let at = c.place_mut.ensures.value in
+    let here = is-here t c.args.key c.in-Some.slot e at c.in-Some.ensures.found in
+    let entry : g.row.K.Denot × g.row.V.Denot = (c.args.key, c.args.item) in
+    rw c.replace-old.ensures.after (written t c.args.key c.in-Some.slot e entry at here (t.keys.equality.refl c.args.key) _ refl)
 
 pub returns-in-Some-clause-old : goal.returns-in-Some-clause-old
 returns-in-Some-clause-old g c =
-    let found = rw c.as_slice.ensures at c.in-Some.ensures.found in let read = reads c.self.invariant.sound _ _ _ found.within found.here c.index_mut.ensures.value in
-    ap (λ (e : Entry _ _). Some e.value) c.replace-old.ensures.value ∙ value-at c.self.invariant.sound c.self.view_is _ _ _ read.0 read.1
+    let t = c.self.invariant in let e = c.place_mut.result.now in let at = c.place_mut.ensures.value in
+    ap (λ (x : _ × _). Some x.1) c.replace-old.ensures.value ∙ sym (read t c.args.key c.in-Some.slot e at c.in-Some.ensures.found)
+    ∙ ap (λ (f : Filled _ _ _). value g.K.PartialEq.eq f.entries c.args.key) c.self.view_is
 
 pub returns-in-Some-clause-inserted : goal.returns-in-Some-clause-inserted
 returns-in-Some-clause-inserted g c =
-    let sound = c.self.invariant.sound in let es = c.self.inside.entries.items in
-    let found = rw c.as_slice.ensures at c.in-Some.ensures.found in let read = reads sound _ _ _ found.within found.here c.index_mut.ensures.value in
-    let entry : Entry g.row.K.Denot g.row.V.Denot = record { hash = c.hash_of-hash.result; key = c.args.key; value = c.args.item } in
-    rw c.replace-old.ensures.after (sees-set g.K.PartialEq.eq es c.self.view_is (set es c.in-Some.spot.place entry) c.args.key (Some c.args.item) (found-written sound _ _ _ entry read.0 read.1 (sound.keys.equality.refl c.args.key)))
+    let t = c.self.invariant in let e = c.place_mut.result.now in let at = c.place_mut.ensures.value in
+    let here = is-here t c.args.key c.in-Some.slot e at c.in-Some.ensures.found in
+    let entry : g.row.K.Denot × g.row.V.Denot = (c.args.key, c.args.item) in
+    rw (c.replace-old.ensures.after, sym (ap (λ (f : Filled _ _ _). f.entries) c.self.view_is)) (sets-written t c.args.key c.in-Some.slot e entry at here (t.keys.equality.refl c.args.key))
 
-pub returns-in-Err-clause-new : goal.returns-in-Err-clause-new
-returns-in-Err-clause-new g c = value-none g.K.PartialEq.eq c.self.inside.entries.items c.self.view_is c.args.key (rw c.as_slice.ensures at c.in_default.ensures.absent)
+pub returns-in-Some-clause-as_many : goal.returns-in-Some-clause-as_many
+returns-in-Some-clause-as_many g c = λ _.
+    let t = c.self.invariant in let e = c.place_mut.result.now in let at = c.place_mut.ensures.value in
+    let here = is-here t c.args.key c.in-Some.slot e at c.in-Some.ensures.found in
+    as-many t c.args.key c.in-Some.slot e c.replace-old.new.dest at here (rw c.replace-old.ensures.after (t.keys.equality.refl c.args.key)) ∙ ap (λ (f : Filled _ _ _). length f.entries) c.self.view_is
 
-pub push-requires-clause-absent : goal.push-requires-clause-absent
-push-requires-clause-absent g c = sees-keys g.K.PartialEq.eq c.self.inside.entries.items c.self.view_is c.args.key ∙ (rw c.as_slice.ensures at c.in_default.ensures.absent)
+pub add-requires-clause-absent : goal.add-requires-clause-absent
+add-requires-clause-absent g c = sym (ap (λ (f : Filled _ _ _). keys_like g.K.PartialEq.eq c.args.key f.entries) c.self.view_is) ∙ absent-keys c.self.invariant c.args.key c.in_default.ensures.absent
 
 pub returns-then-room-gt0-clause-old : goal.returns-then-room-gt0-clause-old
-returns-then-room-gt0-clause-old g c = sym (value-none g.K.PartialEq.eq c.self.inside.entries.items c.self.view_is c.args.key (rw c.as_slice.ensures at c.in_default.ensures.absent))
+returns-then-room-gt0-clause-old g c = sym (absent c.self.invariant c.args.key c.in_default.ensures.absent) ∙ ap (λ (f : Filled _ _ _). value g.K.PartialEq.eq f.entries c.args.key) c.self.view_is
 
 pub returns-then-room-gt0-clause-inserted : goal.returns-then-room-gt0-clause-inserted
-returns-then-room-gt0-clause-inserted g c = λ q.
-    let eq = g.K.PartialEq.eq in
-    let none = sees-keys eq c.self.inside.entries.items c.self.view_is c.args.key ∙ (rw c.as_slice.ensures at c.in_default.ensures.absent) in
-    ap (λ f. value eq f.entries q) c.push.ensures ∙ value-push eq c.args.self.now.entries c.args.key c.args.item c.self.invariant.sound.keys.equality none q
+returns-then-room-gt0-clause-inserted g c =
+    let t = c.self.invariant in let es = c.args.self.now.entries in
+    let none = sym (ap (λ (f : Filled _ _ _). keys_like g.K.PartialEq.eq c.args.key f.entries) c.self.view_is) ∙ absent-keys t c.args.key c.in_default.ensures.absent in
+    sets-new g.K.PartialEq.eq t.keys.equality c.args.key c.args.item es c.add.new.self.entries c.add.ensures.added none (rw (sym (ap (λ (f : Filled _ _ _). f.entries) c.self.view_is)) t.once)
 
-pub push_late-requires-clause-absent : goal.push_late-requires-clause-absent
-push_late-requires-clause-absent g c =
-    rw c.in_default-reserve.ensures.same (sees-keys g.K.PartialEq.eq c.self.inside.entries.items c.self.view_is c.args.key ∙ (rw c.as_slice.ensures at c.in_default.ensures.absent))
+pub returns-then-room-gt0-clause-one_more : goal.returns-then-room-gt0-clause-one_more
+returns-then-room-gt0-clause-one_more g c = λ _. omega (arith, length_permutation ((c.args.key, c.args.item) ∷ c.args.self.now.entries) c.add.new.self.entries c.add.ensures.added)
+
+pub returns-in-Err-clause-new : goal.returns-in-Err-clause-new
+returns-in-Err-clause-new g c = sym (ap (λ (f : Filled _ _ _). value g.K.PartialEq.eq f.entries c.args.key) c.self.view_is) ∙ absent c.self.invariant c.args.key c.in_default.ensures.absent
+
+pub add_late-requires-clause-absent : goal.add_late-requires-clause-absent
+add_late-requires-clause-absent g c =
+    keys-permuted g.K.PartialEq.eq c.args.self.now.entries c.reserve.new.self.entries c.in_default-reserve.ensures.same c.args.key
+    ∙ sym (ap (λ (f : Filled _ _ _). keys_like g.K.PartialEq.eq c.args.key f.entries) c.self.view_is) ∙ absent-keys c.self.invariant c.args.key c.in_default.ensures.absent
 
 pub returns-clause-old : goal.returns-clause-old
-returns-clause-old g c = sym (value-none g.K.PartialEq.eq c.self.inside.entries.items c.self.view_is c.args.key (rw c.as_slice.ensures at c.in_default.ensures.absent))
+returns-clause-old g c = sym (absent c.self.invariant c.args.key c.in_default.ensures.absent) ∙ ap (λ (f : Filled _ _ _). value g.K.PartialEq.eq f.entries c.args.key) c.self.view_is
 
 pub returns-clause-inserted : goal.returns-clause-inserted
 returns-clause-inserted g c = λ q.
-    let eq = g.K.PartialEq.eq in
-    let none = sees-keys eq c.self.inside.entries.items c.self.view_is c.args.key ∙ (rw c.as_slice.ensures at c.in_default.ensures.absent) in
-    ap (λ f. value eq f.entries q) c.push_late.ensures ∙ ap (λ es. value eq (es ++ (c.args.key, c.args.item) ∷ []) q) c.in_default-reserve.ensures.same ∙ value-push eq c.args.self.now.entries c.args.key c.args.item c.self.invariant.sound.keys.equality none q
+    let t = c.self.invariant in let eq = g.K.PartialEq.eq in let es = c.args.self.now.entries in let mid = c.reserve.new.self.entries in
+    let once : IsMap eq es = rw (sym (ap (λ (f : Filled _ _ _). f.entries) c.self.view_is)) t.once in
+    let none = sym (ap (λ (f : Filled _ _ _). keys_like eq c.args.key f.entries) c.self.view_is) ∙ absent-keys t c.args.key c.in_default.ensures.absent in
+    let there = c.in_default-reserve.ensures.same in
+    sets-new eq t.keys.equality c.args.key c.args.item mid c.add_late.new.self.entries c.add_late.ensures.added (keys-permuted eq es mid there c.args.key ∙ none) (map-permuted eq es mid there once) q
+    ∙ ap (cond (eq q c.args.key) (Some c.args.item)) (value-permuted eq es mid there q (once q))
+
+pub returns-clause-one_more : goal.returns-clause-one_more
+returns-clause-one_more g c = λ _.
+    omega (arith, length_permutation ((c.args.key, c.args.item) ∷ c.reserve.new.self.entries) c.add_late.new.self.entries c.add_late.ensures.added, length_permutation c.args.self.now.entries c.reserve.new.self.entries c.in_default-reserve.ensures.same)

@@ -1,39 +1,61 @@
-use Rattle.ex_table.proofs.Common.{None, Vector, ap, sym, ◌∙◌, arith, length, pair, value}
-use Rattle.std.proofs.lemmas.List.{length-map}
-use Rattle.ex_table.proofs.Sound.{changed, fewer, found-removed, named, removed, refilled}
-use Rattle.ex_table.proofs.Maps.{sees-set, sets-none, value-none, value-at}
+use Rattle.std.proofs.Common.{Some, ap, arith, length, sym, ◌∙◌, ◌-◌}
+use Rattle.std.proofs.lemmas.List.{length-set}
+use Rattle.allocator_api2.specs.Places.{somes}
+use Rattle.ex_table.specs.Contents.{value, Filled}
+use Rattle.ex_table.specs.Places.{hashes, hashes_of}
+use Rattle.ex_table.proofs.Maps.{sets-none}
+use Rattle.ex_table.proofs.Placed.{hash-here}
+use Rattle.ex_table.proofs.Sound.{absent, absent-keys, findable, is-here, one-less, read, removed, sets-removed}
 use Rattle.ex_table.proofs.table.Table.remove.Goals as goal
 
-pub find-requires : goal.find-requires
-find-requires g c = rw (c.groups_in.ensures, c.as_slice.ensures) (named c.self.invariant.sound c.args.key.now c.hash_of-hash.result c.hash_of-hash.ensures)
+pub find_in-requires : goal.find_in-requires
+find_in-requires g c = findable c.self.invariant c.args.key.now c.hash_of-hash.result c.hash_of-hash.ensures
 
 pub returns-in_default-clause-old : goal.returns-in_default-clause-old
-returns-in_default-clause-old g c = sym (value-none g.K.PartialEq.eq c.self.inside.entries.items c.self.view_is c.args.key.now (rw c.as_slice.ensures at c.in_default.ensures.absent))
+returns-in_default-clause-old g c =
+    sym (absent c.self.invariant c.args.key.now c.in_default.ensures.absent)
+    ∙ ap (λ (f : Filled _ _ _). value g.K.PartialEq.eq f.entries c.args.key.now) c.self.view_is
 
 pub returns-in_default-clause-removed : goal.returns-in_default-clause-removed
-returns-in_default-clause-removed g c = sets-none c.self.invariant.sound c.self.view_is c.args.key.now (rw c.as_slice.ensures at c.in_default.ensures.absent)
+returns-in_default-clause-removed g c =
+    rw (ap (λ (f : Filled _ _ _). f.entries) (sym c.self.view_is)) (sets-none g.K.PartialEq.eq c.self.invariant.keys.equality c.args.key.now (somes c.self.inside.places.places) (absent-keys c.self.invariant c.args.key.now c.in_default.ensures.absent))
+
+-- each of these knows the entry by what was taken out
+pub overflow_sub-self : goal.overflow_sub-self
+overflow_sub-self g c =
+    let t = c.self.invariant in let entry = c.take_out-entry.result in let at = c.take_out-entry.ensures.value in
+    let here = is-here t c.args.key.now c.in-Some.slot entry at c.in-Some.ensures.found in
+    omega (arith, t.counted, one-less t c.args.key.now c.in-Some.slot entry at here)
 
 pub invariant_of-self : goal.invariant_of-self
 invariant_of-self g c =
-    let sound = c.self.invariant.sound in let entry = c.swap_remove-entry.result in let at = c.swap_remove-entry.ensures.value in let cut = c.swap_remove-entry.ensures.removed in let place = c.in-Some.spot.place in
-    let old = rw at at (rw c.as_slice.ensures at c.in-Some.ensures.found).here in let size = c.unname-passed.ensures.len ∙ ap length c.as_mut_slice.ensures.value in let items = ap (λ (v : Vector _ _). v.items) cut in
-    rw (refilled (length c.in-Some-groups.groups.items) c.as_mut_slice.result.now c.unname-passed.new.groups size) (changed c.self.invariant
-    (rw items (removed sound c.args.key.now place entry entry at old (rw c.as_slice-in-Some-groups.ensures at c.unname-passed.ensures.index)))
-    (rw items (omega (arith, c.self.invariant.within, fewer sound c.args.key.now place entry entry at old)))
-    (ap (λ (v : Vector _ _). v.capacity) cut) (rw c.in-Some-groups.is size))
+    let t = c.self.invariant in let entry = c.take_out-entry.result in let out = c.take_out-entry.ensures in let index = c.in-Some-index.index in
+    let h = hashes g.S.BuildHasher g.S.Hasher.Hasher g.K.Hash.hash_input c.self.inside.builder in let cs = c.self.inside.places.places in
+    let here = is-here t c.args.key.now c.in-Some.slot entry out.value c.in-Some.ensures.found in
+    let i = rw c.in-Some-index.is at t.indexed in
+    let hash = c.hash_of-hash.ensures ∙ t.keys.agree c.args.key.now entry.0 here in
+    removed t c.args.key.now c.in-Some.slot entry out.value here index c.take_out-entry.new.index c.take_out-entry.new.places (c.self.inside.count - 1) out.taken (ap length out.tags ∙ length-set index.tags.items c.in-Some.slot 0)
+    (out.index (hashes_of h cs) i (hash-here h cs i c.in-Some.slot entry out.value ∙ ap Some (sym hash))) (rw c.in-Some-index.is at t.room) (omega (arith, t.counted, one-less t c.args.key.now c.in-Some.slot entry out.value here))
 
 pub returns-clause-old : goal.returns-clause-old
 returns-clause-old g c =
-    let at = c.swap_remove-entry.ensures.value in value-at c.self.invariant.sound c.self.view_is c.args.key.now _ _ at (rw at at (rw c.as_slice.ensures at c.in-Some.ensures.found).here)
+    sym (read c.self.invariant c.args.key.now c.in-Some.slot c.take_out-entry.result c.take_out-entry.ensures.value c.in-Some.ensures.found)
+    ∙ ap (λ (f : Filled _ _ _). value g.K.PartialEq.eq f.entries c.args.key.now) c.self.view_is
 
 pub returns-clause-removed : goal.returns-clause-removed
-returns-clause-removed g c = λ q.
-    let entry = c.swap_remove-entry.result in let at = c.swap_remove-entry.ensures.value in
-    ap (λ f. value g.K.PartialEq.eq f.entries q) c.pass.ensures
-    ∙ sees-set g.K.PartialEq.eq c.self.inside.entries.items c.self.view_is c.swap_remove-entry.new.self.items c.args.key.now None (rw (ap (λ (v : Vector _ _). v.items) c.swap_remove-entry.ensures.removed) (found-removed c.self.invariant.sound c.args.key.now c.in-Some.spot.place entry entry at (rw at at (rw c.as_slice.ensures at c.in-Some.ensures.found).here))) q
+returns-clause-removed g c =
+    let entry = c.take_out-entry.result in let out = c.take_out-entry.ensures in
+    let here = is-here c.self.invariant c.args.key.now c.in-Some.slot entry out.value c.in-Some.ensures.found in
+    rw (out.taken, ap (λ (f : Filled _ _ _). f.entries) (sym c.self.view_is)) (sets-removed c.self.invariant c.args.key.now c.in-Some.slot entry out.value here)
+
+pub returns-clause-one_less : goal.returns-clause-one_less
+returns-clause-one_less g c = λ _.
+    let entry = c.take_out-entry.result in let out = c.take_out-entry.ensures in
+    let here = is-here c.self.invariant c.args.key.now c.in-Some.slot entry out.value c.in-Some.ensures.found in
+    rw (out.taken, ap (λ (f : Filled _ _ _). f.entries) (sym c.self.view_is)) (one-less c.self.invariant c.args.key.now c.in-Some.slot entry out.value here)
 
 pub returns-clause-room : goal.returns-clause-room
 returns-clause-room g c = λ _.
-    let entry = c.swap_remove-entry.result in let at = c.swap_remove-entry.ensures.value in
-    let less = fewer c.self.invariant.sound c.args.key.now c.in-Some.spot.place entry entry at (rw at at (rw c.as_slice.ensures at c.in-Some.ensures.found).here) in
-    omega (arith, ap (λ f. f.capacity) c.pass.ensures, ap (λ f. length f.entries) c.pass.ensures, length-map c.swap_remove-entry.new.self.items pair, ap (λ (v : Vector _ _). length v.items) c.swap_remove-entry.ensures.removed, less, c.self.invariant.within)
+    let t = c.self.invariant in let entry = c.take_out-entry.result in let out = c.take_out-entry.ensures in
+    let here = is-here t c.args.key.now c.in-Some.slot entry out.value c.in-Some.ensures.found in
+    omega (arith, ap (λ cs. length (somes cs)) out.taken, one-less t c.args.key.now c.in-Some.slot entry out.value here, t.counted, t.within, ap (λ (f : Filled _ _ _). f.capacity) c.self.view_is)

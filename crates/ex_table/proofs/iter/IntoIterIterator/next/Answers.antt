@@ -1,0 +1,18 @@
+use Rattle.std.proofs.Common.{sym, ◌∙◌}
+use Rattle.ex_table.proofs.Lefts.{goes-next, take-next, take-next-is}
+use Rattle.ex_table.proofs.iter.IntoIterIterator.next.Goals as goal
+
+pub invariant_of-self : goal.invariant_of-self
+invariant_of-self g c =
+    let at = c.in_ok-slot.ensures in
+    take-next-is c.self.invariant c.in_ok-slot.slot c.take.result c.tags_in.ensures (λ i. (c.take.ensures.after i).places) at.some.0 at.some.1 c.take.ensures.value at.first
+
+pub returns-clause-steps : goal.returns-clause-steps
+returns-clause-steps g c =
+    let at = c.in_ok-slot.ensures in
+    sym c.self.view_is ∙ take-next c.self.invariant c.in_ok-slot.slot c.take.result c.tags_in.ensures (λ i. (c.take.ensures.after i).places) at.some.0 at.some.1 c.take.ensures.value at.first
+
+pub returns-clause-goes : goal.returns-clause-goes
+returns-clause-goes g c =
+    let at = c.in_ok-slot.ensures in
+    goes-next c.take.result _ (sym c.self.view_is ∙ take-next c.self.invariant c.in_ok-slot.slot c.take.result c.tags_in.ensures (λ i. (c.take.ensures.after i).places) at.some.0 at.some.1 c.take.ensures.value at.first)
