@@ -314,7 +314,10 @@ fn iterators_tell_how_many_come(rt: HostRuntime) -> Result<(), Fail> {
     let values = Vec::from_iter_in(table.values(), &heap)?;
     assert!(rt; heap.requests().wrapping_sub(before) == 3);
     assert!(rt; (pairs.len(), keys.capacity(), values.capacity()) == (1000, 1000, 1000));
-    let (Some(first), Some(last)) = (keys.as_slice().first().copied(), keys.as_slice().last().copied()) else {
+    let (Some(first), Some(last)) = (
+        keys.as_slice().first().copied(),
+        keys.as_slice().last().copied(),
+    ) else {
         return Err(Fail::new("no keys"));
     };
     let mut both = table.iter();
