@@ -134,9 +134,10 @@ fn far_slot<K: Eq, V, A: Allocator>(
     None
 }
 
-/// The slot of a key with this hash. Mostly the first window tells.
-#[inline(always)]
-pub fn find<K: Eq, V, A: Allocator>(
+// The slot of a key with this hash: of the first window, or past it.
+#[cold]
+#[inline(never)]
+fn find_any<K: Eq, V, A: Allocator>(
     tags: &[u8],
     beyond: &[Beyond],
     places: &RawVec<(K, V), A>,
@@ -159,6 +160,40 @@ pub fn find<K: Eq, V, A: Allocator>(
     } else {
         None
     }
+}
+
+/// The slot of a key with this hash. Mostly the first slot with its tag tells, or
+/// that there is none.
+#[inline(always)]
+pub fn find<K: Eq, V, A: Allocator>(
+    tags: &[u8],
+    beyond: &[Beyond],
+    places: &RawVec<(K, V), A>,
+    hash: u64,
+    key: &K,
+) -> Option<usize>
+    requires slots { IsSlots tags.now beyond.now }
+    requires held { AreHeld tags.now places.now.places }
+    requires named { IsNamed K.eq tags.now beyond.now places.now.places hash key.now }
+    ensures found { IfSome result (λ s. (s < length tags.now)
+        × (key_at K.eq key.now places.now.places s ≡ true)) }
+    ensures absent { IfNone result ((s : ℕ) → key_at K.eq key.now places.now.places s ≡ false) }
+{
+    let from = home(hash, tags.len());
+    match slot_of(tags, from, tag(hash)) {
+        Some(slot) => {
+            if is_at(places, slot, key) {
+                return Some(slot);
+            }
+        }
+        None => {
+            if goes_on(beyond, from) {
+                return far_slot(tags, beyond, places, hash, key);
+            }
+            return None;
+        }
+    }
+    find_any(tags, beyond, places, hash, key)
 }
 
 /// The slot of a key with this hash, where there are any.
