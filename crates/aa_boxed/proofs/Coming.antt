@@ -1,5 +1,5 @@
 -- Items that come of an iterator, and are put into a block.
-use Rattle.aa_boxed.proofs.Common.{AllocError, Begun, Doubling, Err, IfErr, IfOk, LacksRoom, List, None, Ok, Option, Result, Slice, Some, Stops, StopsAtEnd, TryReserveError, WholeRun, Yields, Yields-more, YieldsThen, [], amortized, ap, arith, asked_with, ended, if◌then◌else◌, inl, least_of, length, length-append, nat_tests, refl, rules, sized, subst, sym, total_runs, usize_max, with_next, ℕ, ◌++◌, ◌+◌, ◌<◌, ◌==◌, ◌∙◌, ◌∷◌, ◌≡◌, ◌≤◌}
+use Rattle.aa_boxed.proofs.Common.{Count, TellsAtMost, AllocError, Begun, Doubling, Err, IfErr, IfOk, LacksRoom, List, None, Ok, Option, Result, Slice, Some, Stops, StopsAtEnd, TryReserveError, WholeRun, Yields, Yields-more, YieldsTelling, YieldsThen, [], amortized, ap, arith, asked_with, ended, if◌then◌else◌, inl, least_of, length, length-append, nat_tests, refl, rules, sized, subst, sym, total_runs, usize_max, with_next, ℕ, ◌++◌, ◌+◌, ◌<◌, ◌==◌, ◌∙◌, ◌∷◌, ◌≡◌, ◌≤◌}
 
 -- n items that filled their room are no fewer than a new block has places for
 over_start : (size n : ℕ) → (size ≡ 0 → usize_max ≤ n) → n < sized size 0 → ⊥
@@ -12,7 +12,15 @@ pub record HasMore {T A : Type 0} (f w : Begun T A) : Type 0 where
   pub alloc : w.alloc ≡ f.alloc
   pub capacity : f.capacity ≤ w.capacity
 
+-- n is told where all came, and 0 before
+abbrev tells_last : (n : ℕ) → ℕ → ℕ
+tells_last n k = if k == 0 then n else 0
+
 module _ {S T : Type 0} (steps : S → Option T → S → Type 0) where
+  told_last : (remaining : S → Count) (s : S) (xs : List T) (t : S) → Yields steps s xs t → (n : ℕ) → TellsAtMost remaining t n → YieldsTelling steps (TellsAtMost remaining) (tells_last n) s xs t
+  told_last remaining s [] t y n h = (subst (λ z. TellsAtMost remaining z n) (sym y) h, y)
+  told_last remaining s (x ∷ xs) t y n h = (λ _. grind (arith, nat_tests), y.0, y.1, told_last remaining y.0 xs t y.2 n h)
+
   -- all the items came, and s is what is left
   module _ {A : Type 0} (f : Begun T A) (iter s : S) (d : YieldsThen steps iter f.items None s) where
     pub whole_run_of : {E : Type 0} (r : Result (Slice T A) E) → IfOk r (λ b. b ≡ ended f) → IfOk r (λ b. WholeRun steps iter (λ p. b.items ≡ p.items))
@@ -22,10 +30,10 @@ module _ {S T : Type 0} (steps : S → Option T → S → Type 0) where
     whole_run_of (Err error) e = tt
 
     -- at the end a block of just their number was refused
-    pub stops_at_end : (Tells : S → ℕ → Type 0) (size : ℕ) (Q : TryReserveError → Type 0) → ((e : TryReserveError) → StopsAtEnd steps Tells size iter e s → Q e)
+    pub stops_at_end : (remaining : S → Count) (size : ℕ) (Q : TryReserveError → Type 0) → ((e : TryReserveError) → StopsAtEnd steps (TellsAtMost remaining) size iter e s → Q e)
         → (r : Result (Slice T A) TryReserveError) → IfErr r (λ e. (0 < length f.items) × (0 < size) × (e.kind ≡ AllocError (length f.items))) → IfErr r Q
-    stops_at_end Tells size Q q (Ok b) e = tt
-    stops_at_end Tells size Q q (Err error) e = q error (record { taken = f.items; came = d; some = e.0; has_size = e.1; number = e.2 })
+    stops_at_end remaining size Q q (Ok b) e = tt
+    stops_at_end remaining size Q q (Err error) e = q error (record { taken = f.items; lower = tells_last 0; last = d.0; told = told_last remaining iter f.items d.0 d.1 0 (λ _. omega arith); went = (d.2, e.0, e.1, e.2) })
 
   module _ {A : Type 0} (left : S → ℕ) (size : ℕ) (iter : S) (alloc : A) where
     -- what came from iter, which is now s, was put into f
@@ -63,16 +71,14 @@ module _ {S T : Type 0} (steps : S → Option T → S → Type 0) where
           many : size ≡ 0 → usize_max ≤ length f.items
           many z = omega (arith, p.sizeless z, full)
 
-          pub Coming-refused : (Tells : S → ℕ → Type 0) (told : ℕ) → Tells t told → (k : ℕ) → k ≡ asked_with told → (e : TryReserveError)
-              → LacksRoom f.capacity (length f.items) k (amortized f.growth f.capacity (length f.items + k) (least_of size)) e → Stops steps Tells size iter e t
-          Coming-refused Tells told tells k asked e lacks = inl (record {
-            placed = f.items;
-            item = x;
-            told = told;
-            came = Yields-more steps iter f.items s x t p.came step;
-            tells = tells;
-            lacks = rw (sym full, p.grows, asked) at lacks;
-            sizeless = many;
+          pub Coming-refused : (remaining : S → Count) (told : ℕ) → TellsAtMost remaining t told → (k : ℕ) → k ≡ asked_with told → (e : TryReserveError)
+              → LacksRoom f.capacity (length f.items) k (amortized f.growth f.capacity (length f.items + k) (least_of size)) e → Stops steps (TellsAtMost remaining) size iter e t
+          Coming-refused remaining told tells k asked e lacks = inl (record {
+            taken = f.items ++ x ∷ [];
+            lower = tells_last told;
+            last = t;
+            told = told_last remaining iter (f.items ++ x ∷ []) t (Yields-more steps iter f.items s x t p.came step) told tells;
+            went = (refl, f.items, x, refl, many, rw (sym full, p.grows, asked) at lacks);
           })
 
           pub Coming-over : left iter ≤ sized size 0 → ⊥

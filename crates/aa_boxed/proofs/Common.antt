@@ -3,7 +3,7 @@ pub use Rattle.aa_boxed.specs.Boxed.{held}
 pub use Rattle.aa_boxed.specs.Room.{IsForOne, IsJustFor}
 pub use Rattle.aa_boxed.specs.Slice.{Begun, Slice, Stops, StopsAtEnd, ended, slice_of, with_next}
 pub use Rattle.aa_boxed.specs.BoxedSliceInner.{IsWhole}
-pub use Rattle.aa_boxed.specs.Hints.{asked_with}
+pub use Rattle.aa_boxed.specs.Hints.{TellsAtMost, YieldsTelling, asked_with}
 pub use Rattle.aa_boxed.specs.Text.{LacksBytes, PutsTexts, StopsAtText, Text, room_after, room_for}
 pub use Rattle.aa_boxed.specs.contracts.boxed.Box.{the_row}
 pub use Rattle.aa_raw.proofs.Beyond.{IsRun-forgot, forgot, length-forgot, none-forgot, none_there}
@@ -25,7 +25,7 @@ pub use Rattle.std.proofs.lemmas.Str.{IsUtf8-append, IsUtf8-had}
 pub use Rattle.std.specs.Borrow.{GName, RattleType, follows_if, follows_so, sem}
 pub use Rattle.std.specs.Io.{StartsWith}
 pub use Rattle.std.specs.Io.BufRead.{FillKeeps}
-pub use Rattle.std.specs.Iterator.{Yields, YieldsThen, size}
+pub use Rattle.std.specs.Iterator.{Count, Yields, YieldsThen, size}
 pub use Rattle.std.specs.Iterator.Runs.{WholeRun}
 pub use Rattle.std.specs.Prelude.{⊤}
 pub use Rattle.std.specs.String.{string_bytes, string_capacity}

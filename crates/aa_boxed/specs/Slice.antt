@@ -1,6 +1,5 @@
 -- What a contract sees of a `BoxedSlice`, and of a block that is being filled to become one.
 use Rattle.std.specs.Prelude.{◌≡◌, ℕ, ◌+◌, ◌<◌, ◌≤◌, List, [], ◌∷◌, ◌++◌, length, Option, None, ◌⊎◌}
-use Rattle.std.specs.Iterator.{Yields, YieldsThen}
 use Rattle.aa_raw.specs.Growth.{amortized, least_of, usize_max}
 use Rattle.aa_raw.specs.Room.{LacksRoom}
 use Rattle.aa_raw.specs.declared.collections.TryReserveError.{TryReserveError}
@@ -9,7 +8,7 @@ use Rattle.aa_raw.specs.declared.raw_vec.Growth.{Growth}
 use Rattle.aa_raw.specs.declared.raw_vec.Growth.TheVariants.{Doubling}
 use Rattle.aa_raw.specs.Block.{Block}
 use Rattle.aa_raw.specs.Places.{run}
-use Rattle.aa_boxed.specs.Hints.{asked_with}
+use Rattle.aa_boxed.specs.Hints.{Takes, asked_with}
 
 -- a list in a block that has room for it and no more; the block keeps how it grows for the vector
 -- that the list may become
@@ -56,25 +55,19 @@ module _ {S T : Type 0} (steps : S → Option T → S → Type 0) (Tells : S →
     (iter : S) (error : TryReserveError) (after : S) where
   -- of an iterator's items, of `size` bytes, all that came but the last were placed; room for it
   -- and those that were told then was refused
-  pub record StopsAfter : Type 0 where
-    pub placed : List T
-    pub item : T
-    pub told : ℕ
-    pub came : Yields steps iter (placed ++ item ∷ []) after
-    pub tells : Tells after told
-    pub lacks : let more = asked_with told in
-        LacksRoom (length placed) (length placed) more
-        (amortized Doubling (length placed) (length placed + more) (least_of size)) error
-    pub sizeless : size ≡ 0 → usize_max ≤ length placed
+  abbrev pub StopsAfter : Type 0
+  StopsAfter = Takes steps Tells iter (λ lower xs last. (last ≡ after)
+      × (placed : List T) × (item : T) × (xs ≡ placed ++ item ∷ [])
+      × (size ≡ 0 → usize_max ≤ length placed)
+      × LacksRoom (length placed) (length placed) (asked_with (lower 0))
+      (amortized Doubling (length placed) (length placed + asked_with (lower 0)) (least_of size))
+      error)
 
   -- all items of an iterator came, one or more of `size` bytes, and then a block for just so many
   -- was refused
-  pub record StopsAtEnd : Type 0 where
-    pub taken : List T
-    pub came : YieldsThen steps iter taken None after
-    pub some : 0 < length taken
-    pub has_size : 0 < size
-    pub number : error.kind ≡ AllocError (length taken)
+  abbrev pub StopsAtEnd : Type 0
+  StopsAtEnd = Takes steps Tells iter (λ lower xs last. steps last None after
+      × (0 < length xs) × (0 < size) × (error.kind ≡ AllocError (length xs)))
 
   -- room for an iterator's items was refused, while they came or at their end
   abbrev pub Stops : Type 0

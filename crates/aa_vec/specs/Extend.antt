@@ -7,7 +7,7 @@ use Rattle.std.specs.Iterator.Runs.{WholeRun}
 use Rattle.aa_raw.specs.Growth.{amortized, least_of}
 use Rattle.aa_raw.specs.Room.{LacksRoom}
 use Rattle.aa_raw.specs.declared.collections.TryReserveError.{TryReserveError}
-pub use Rattle.aa_boxed.specs.Hints.{TellsAtMost, asked_with}
+pub use Rattle.aa_boxed.specs.Hints.{TellsAtMost, asked_with, EndsAt, YieldsTelling, Takes}
 use Rattle.aa_vec.specs.Vector.{Vector, len, HasRoom, Writes}
 
 -- what an `Items` has: the items that are to come, in order, and the number that it tells of them
@@ -72,33 +72,9 @@ abbrev pub CopiesOf : {S T : Type 0} → (S → Option (Bor T) → S → Type 0)
 CopiesOf next_gives s None t = next_gives s None t
 CopiesOf {T = T} next_gives s (Some x) t = (r : Bor T) × next_gives s (Some r) t × (x ≡ r.now)
 
--- `after` is where calls stopped that had led to `last`: there, or behind one further call, which
--- gave none
-abbrev pub EndsAt : {S T : Type 0} → (S → Option T → S → Type 0) → (last after : S) → Type 0
-EndsAt next_gives last after = (last ≡ after) ⊎ next_gives last None after
-
 -- in this state an iterator tells the number that `lower_of` has for it
 abbrev pub TellsExactly : {S : Type 0} → (S → ℕ) → S → ℕ → Type 0
 TellsExactly lower_of s n = n ≡ lower_of s
-
-module _ {S T : Type 0} (next_gives : S → Option T → S → Type 0) (Tells : S → ℕ → Type 0) where
-  -- calls from s gave xs and led to t, and in each state, with k of xs still to come, it may tell
-  -- `lower k`
-  abbrev pub YieldsTelling : (lower : ℕ → ℕ) → S → List T → S → Type 0
-  YieldsTelling lower s [] t = Tells s (lower 0) × (s ≡ t)
-  YieldsTelling lower s (x ∷ xs) t =
-      Tells s (lower (length (x ∷ xs))) × (j : S) × next_gives s (Some x) j
-      × YieldsTelling lower j xs t
-
-  -- what came from `iter`: the items that calls gave, what it told of how many were still to come,
-  -- and the state that they led to. Went says where they went, and what is left of it
-  pub record Takes (iter : S)
-      (Went : (lower : ℕ → ℕ) → (taken : List T) → (last : S) → Type 0) : Type 0 where
-    pub taken : List T
-    pub lower : ℕ → ℕ
-    pub last : S
-    pub told : YieldsTelling lower iter taken last
-    pub went : Went lower taken last
 
 -- items of `iter`, of which `remaining` bounds how many are to come and `after` is what is left,
 -- were put behind those of old, which is new, with this result: nothing was taken but what was

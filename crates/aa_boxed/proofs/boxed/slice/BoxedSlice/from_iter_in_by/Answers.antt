@@ -1,4 +1,4 @@
-use Rattle.aa_boxed.proofs.{Coming-ends, Coming-put, Coming-refused, HasMore, arith, err_from_is_err_and, refl, subst, sym, whole_run_of}
+use Rattle.aa_boxed.proofs.{Coming-ends, Coming-put, Coming-refused, HasMore, arith, err_from_is_err_and, inr, refl, stops_at_end, subst, sym, type_size, whole_run_of}
 use Rattle.aa_boxed.proofs.boxed.slice.BoxedSlice.from_iter_in_by.Goals.{else-is_full, then-is_full+in_ok-reserve}
 use Rattle.aa_boxed.proofs.boxed.slice.BoxedSlice.from_iter_in_by.Goals as goal
 
@@ -24,7 +24,13 @@ returns-in_err-reserve-clause-refused g c =
     let i = c.loop-x.invariant in let on = c.in-Some.ensures.goes.on i.finite in
     let p = err_from_is_err_and c.from_residual-in_err-reserve.result c.from_residual-in_err-reserve.ensures.1 in
     rw (p.1, p.2)
-    (Coming-refused _ _ _ _ _ _ c.loop-x.filling i.coming c.in-Some.x _ c.in-Some.ensures.steps on.2 c.if-is_full.ensures.full _ c.size_hint.result.0 c.size_hint.ensures.lower c.saturating_add.result c.saturating_add.ensures _ c.in_err-reserve.ensures.refused)
+    (Coming-refused _ _ _ _ _ _ c.loop-x.filling i.coming c.in-Some.x _ c.in-Some.ensures.steps on.2 c.if-is_full.ensures.full g.I.Iterator.remaining c.size_hint.result.0 c.size_hint.ensures.lower c.saturating_add.result c.saturating_add.ensures _ c.in_err-reserve.ensures.refused)
 
 pub returns-clause-runs : goal.returns-clause-runs
 returns-clause-runs g c = whole_run_of _ c.loop-x.filling _ _ (Coming-ends _ _ _ _ _ _ c.loop-x.filling c.loop-x.invariant.coming _ c.in_default.ensures.steps) c.shrunk.result c.shrunk.ensures.made
+
+pub returns-clause-refused : goal.returns-clause-refused
+returns-clause-refused g c = stops_at_end _ c.loop-x.filling _ _ (Coming-ends _ _ _ _ _ _ c.loop-x.filling c.loop-x.invariant.coming _ c.in_default.ensures.steps) g.I.Iterator.remaining (type_size g.row.T) _ (λ e h. inr h) c.shrunk.result c.shrunk.ensures.refused
+
+pub returns-clause-goes : goal.returns-clause-goes
+returns-clause-goes g c = stops_at_end _ c.loop-x.filling _ _ (Coming-ends _ _ _ _ _ _ c.loop-x.filling c.loop-x.invariant.coming _ c.in_default.ensures.steps) g.I.Iterator.remaining (type_size g.row.T) _ (λ e h. inr h) c.shrunk.result c.shrunk.ensures.refused
