@@ -21,4 +21,4 @@ module _ {K V : Type 0} (ts : List ℕ) (old new : List (Option (K × V))) where
   pub index-cleared : (h : K → ℕ) (bs : List Beyond) → IsSlots ts bs → length ts ≤ length new → ((s : ℕ) → get_or new s None ≡ None) → {ts' : List ℕ} {bs' : List Beyond} → ts' ≡ replicate (length ts) 0 → length bs' ≡ length bs → IsIndex ts' bs' (hashes_of h new)
   index-cleared h bs slots many none {ts'} {bs'} tags beyond =
       let same : length ts' ≡ length ts = ap length tags ∙ length-replicate (length ts) 0 in
-      none-taken ts' bs' (hashes_of h new) (record { blocks = omega (arith, same, beyond, slots.blocks); more = omega (arith, same, slots.more) }) (omega (arith, same, many, length-hashes h new)) (hash-none h new none) (all-free ts' (tags ∙ ap (λ n. replicate n 0) (sym same)))
+      none-taken ts' bs' (hashes_of h new) (record { blocks = rw same slots.blocks; each = omega (arith, same, beyond, slots.each); more = omega (arith, same, slots.more) }) (omega (arith, same, many, length-hashes h new)) (hash-none h new none) (all-free ts' (tags ∙ ap (λ n. replicate n 0) (sym same)))

@@ -1,15 +1,15 @@
 -- What an index keeps where a slot is taken or freed.
 use Rattle.std.proofs.Common.{◌≡◌, ◌≢◌, ℕ, zero, suc, ◌+◌, ◌-◌, ◌*◌, ◌<◌, ◌≤◌, Bool, true, false, cond, nat_lt, List, [], ◌∷◌, Option, None, Some, length, get_or, refl, sym, ◌∙◌, ap, arith, inl, inr, get_or-set_same, get_or-set_other}
-use Rattle.std.specs.Prelude.{◌/◌, ◌==◌, ◌⊎◌, count_by, min, max}
+use Rattle.std.specs.Prelude.{◌/◌, ◌%◌, ◌==◌, ◌⊎◌, count_by, min, max}
 use Rattle.std.proofs.Math.ListN.{set}
 use Rattle.std.proofs.lemmas.Bool.{cases_eq, cases_lt}
 use Rattle.std.proofs.lemmas.Bool.Decides.{nat_tests}
 use Rattle.std.proofs.lemmas.List.{length-set}
 use Rattle.std.proofs.lemmas.List.Sums.{sum_by-cons}
 use Rattle.ex_table.specs.declared.slots.Beyond.{Beyond}
-use Rattle.ex_table.specs.Slots.{tag_at, tag_of, home_of, after, window_of, told_of, one_more, one_less, reach_of, IsSlots, IsAt, is_far, far_from, IsIndex}
+use Rattle.ex_table.specs.Slots.{tag_at, tag_of, home_of, after, window_of, told_of, keys_in, blocks_in, one_more, one_less, reach_of, IsSlots, IsAt, is_far, far_from, IsIndex}
 
--- how many keys of a block are far, where one slot has another key
+-- how many keys of a slot are far, where one slot has another key
 pub far-set : (n b s : ℕ) (hs : List (Option ℕ)) (i j : ℕ) (h : Option ℕ) → s + i ≡ j → i < length hs
     → far_from n b s (set hs i h) + cond (is_far n b j (get_or hs i None)) 1 0 ≡ far_from n b s hs + cond (is_far n b j h) 1 0
 unfolding far_from
@@ -55,7 +55,7 @@ named-within (x ∷ xs) zero hash e = omega arith
 named-within (x ∷ xs) (suc s) hash e = omega (arith, named-within xs s hash e)
 
 abbrev nothing : Beyond
-nothing = record { keys = 0; blocks = 0 }
+nothing = record { told = 0 }
 
 told-same : (bs : List Beyond) (at b : ℕ) (t : Beyond) → at < length bs → b ≡ at → told_of (set bs at t) b ≡ t
 told-same bs at b t l e = rw e (get_or-set_same bs at t nothing l)
@@ -63,42 +63,55 @@ told-same bs at b t l e = rw e (get_or-set_same bs at t nothing l)
 told-other : (bs : List Beyond) (at b : ℕ) (t : Beyond) → b ≢ at → told_of (set bs at t) b ≡ told_of bs b
 told-other bs at b t other = get_or-set_other bs at b t nothing other
 
--- look-ups go as far as what is told of their block
-reach-same : (bs new : List Beyond) (n hash : ℕ) → (told_of new (home_of n hash / 16)).blocks ≡ (told_of bs (home_of n hash / 16)).blocks → reach_of bs n hash ≡ reach_of new n hash
-reach-same bs new n hash e = sym (ap (λ b. cond (b == 255) (n / 16) (min (n / 16) b)) e)
+-- look-ups go as far as what is told of their slot
+reach-same : (bs new : List Beyond) (n hash : ℕ) → blocks_in (told_of new (home_of n hash)) ≡ blocks_in (told_of bs (home_of n hash)) → reach_of bs n hash ≡ reach_of new n hash
+reach-same bs new n hash e = sym (ap (λ b. cond (b == 15) (n / 16) (min (n / 16) b)) e)
 
 abbrev by_told : (blocks told : ℕ) → ℕ
-by_told n b = cond (b == 255) n (min n b)
+by_told n b = cond (b == 15) n (min n b)
 
-more-reach : (n b step : ℕ) → by_told n b ≤ by_told n (min 255 (max b step))
+more-reach : (n b step : ℕ) → by_told n b ≤ by_told n (min 15 (max b step))
 more-reach n b step = grind (arith, nat_tests)
 
-step-reach : (n b step : ℕ) → step ≤ n → step ≤ by_told n (min 255 (max b step))
+step-reach : (n b step : ℕ) → step ≤ n → step ≤ by_told n (min 15 (max b step))
 step-reach n b step l = grind (arith, nat_tests)
+
+-- the halves of a byte
+half-high : (k b : ℕ) → b ≤ 15 → (16 * k + b) / 16 ≡ k
+half-high k b l = omega (arith, l)
+
+half-low : (k b : ℕ) → b ≤ 15 → (16 * k + b) % 16 ≡ b
+half-low k b l = omega (arith, l)
+
+more-keys : (t : Beyond) (step : ℕ) → keys_in (one_more t step) ≡ min 15 (keys_in t + 1)
+more-keys t step = half-high (min 15 (keys_in t + 1)) (min 15 (max (blocks_in t) step)) (grind arith)
+
+more-blocks : (t : Beyond) (step : ℕ) → blocks_in (one_more t step) ≡ min 15 (max (blocks_in t) step)
+more-blocks t step = half-low (min 15 (keys_in t + 1)) (min 15 (max (blocks_in t) step)) (grind arith)
 
 -- a key in its first window is not far
 not-far : (n b s hash : ℕ) → home_of n hash ≤ s → s < home_of n hash + 16 → is_far n b s (Some hash) ≡ false
 not-far n b s hash from to = grind (arith, nat_tests)
 
 -- but it is outside that
-pub far-outside : (n b s hash : ℕ) → b ≡ home_of n hash / 16 → (s < home_of n hash) ⊎ (home_of n hash + 16 ≤ s) → is_far n b s (Some hash) ≡ true
+pub far-outside : (n b s hash : ℕ) → b ≡ home_of n hash → (s < home_of n hash) ⊎ (home_of n hash + 16 ≤ s) → is_far n b s (Some hash) ≡ true
 far-outside n b s hash here (inl below) = grind (arith, nat_tests)
 far-outside n b s hash here (inr past) = grind (arith, nat_tests)
 
--- a key of another block is not far
-not-here : (n b s hash : ℕ) → home_of n hash / 16 ≢ b → is_far n b s (Some hash) ≡ false
+-- a key of another slot is not far
+not-here : (n b s hash : ℕ) → home_of n hash ≢ b → is_far n b s (Some hash) ≡ false
 not-here n b s hash other = grind (arith, nat_tests)
 
-is-near : (n b s hash : ℕ) → home_of n hash / 16 ≡ b → cond {A = ℕ} (is_far n b s (Some hash)) 1 0 ≡ 0 → (home_of n hash ≤ s) × (s < home_of n hash + 16)
+is-near : (n b s hash : ℕ) → home_of n hash ≡ b → cond {A = ℕ} (is_far n b s (Some hash)) 1 0 ≡ 0 → (home_of n hash ≤ s) × (s < home_of n hash + 16)
 is-near n b s hash here near = (grind (arith, nat_tests), grind (arith, nat_tests))
 
-less-keys : (t : Beyond) → (one_less t).keys ≢ 255 → (t.keys ≢ 255) × (t.keys ≤ (one_less t).keys + 1)
+less-keys : (t : Beyond) → keys_in (one_less t) ≢ 15 → (keys_in t ≢ 15) × (keys_in t ≤ keys_in (one_less t) + 1)
 less-keys t known = (grind (arith, nat_tests), grind (arith, nat_tests))
 
-less-blocks : (t : Beyond) → ((one_less t).blocks ≡ t.blocks) ⊎ ((t.keys ≢ 255) × (t.keys ≤ 1))
-less-blocks t = elim (cases_eq t.keys 255) [
+less-blocks : (t : Beyond) → (blocks_in (one_less t) ≡ blocks_in t) ⊎ ((keys_in t ≢ 15) × (keys_in t ≤ 1))
+less-blocks t = elim (cases_eq (keys_in t) 15) [
   | inl many ↦ inl (grind (arith, nat_tests))
-  | inr few ↦ elim (cases_lt 1 t.keys) [ inl more ↦ inl (grind (arith, nat_tests)) | inr last ↦ inr (few, omega (arith, last)) ]
+  | inr few ↦ elim (cases_lt 1 (keys_in t)) [ inl more ↦ inl (grind (arith, nat_tests)) | inr last ↦ inr (few, omega (arith, last)) ]
 ]
 
 -- where no slot has a key, each look-up for one gets to it
@@ -151,11 +164,12 @@ module _ (ts : List ℕ) (bs : List Beyond) where
     -- a slot was taken
     pub taken : IsAt (set ts slot (tag_of hash)) new hash slot
         → ((h : ℕ) → reach_of bs (length ts) h ≤ reach_of new (length ts) h)
-        → ((b : ℕ) → b < length bs → (told_of new b).keys ≢ 255 → ((told_of bs b).keys ≢ 255) × ((told_of bs b).keys + cond (is_far (length ts) b slot (Some hash)) 1 0 ≤ (told_of new b).keys))
+        → ((b : ℕ) → b < length bs → keys_in (told_of new b) ≢ 15 → (keys_in (told_of bs b) ≢ 15) × (keys_in (told_of bs b) + cond (is_far (length ts) b slot (Some hash)) 1 0 ≤ keys_in (told_of new b)))
         → IsIndex (set ts slot (tag_of hash)) new (set hs slot (Some hash))
     taken here goes tells = record {
       slots = record {
-        blocks = omega (arith, length-set ts slot (tag_of hash), index.slots.blocks);
+        blocks = rw (length-set ts slot (tag_of hash)) index.slots.blocks;
+        each = omega (arith, length-set ts slot (tag_of hash), index.slots.each, long);
         more = omega (arith, length-set ts slot (tag_of hash), index.slots.more);
       };
       places = omega (arith, length-set ts slot (tag_of hash), length-set hs slot (Some hash), index.places);
@@ -182,11 +196,12 @@ module _ (ts : List ℕ) (bs : List Beyond) where
     -- a slot was freed
     pub freed : get_or hs slot None ≡ Some hash
         → ((s h : ℕ) → s ≢ slot → get_or hs s None ≡ Some h → IsAt ts bs h s → IsAt (set ts slot 0) new h s)
-        → ((b : ℕ) → b < length bs → (told_of new b).keys ≢ 255 → ((told_of bs b).keys ≢ 255) × ((told_of bs b).keys ≤ (told_of new b).keys + cond (is_far (length ts) b slot (Some hash)) 1 0))
+        → ((b : ℕ) → b < length bs → keys_in (told_of new b) ≢ 15 → (keys_in (told_of bs b) ≢ 15) × (keys_in (told_of bs b) ≤ keys_in (told_of new b) + cond (is_far (length ts) b slot (Some hash)) 1 0))
         → IsIndex (set ts slot 0) new (set hs slot None)
     freed had others tells = record {
       slots = record {
-        blocks = omega (arith, length-set ts slot 0, index.slots.blocks);
+        blocks = rw (length-set ts slot 0) index.slots.blocks;
+        each = omega (arith, length-set ts slot 0, index.slots.each, long);
         more = omega (arith, length-set ts slot 0, index.slots.more);
       };
       places = omega (arith, length-set ts slot 0, length-set hs slot None, index.places);
@@ -217,29 +232,30 @@ module _ (ts : List ℕ) (bs : List Beyond) where
     pub freed-near : get_or hs slot None ≡ Some hash → IsIndex (set ts slot 0) bs (set hs slot None)
     freed-near had = freed hs bs slot hash within index refl had (λ s h other e x. kept bs slot 0 h s other x x.within) (λ b l known. (known, omega arith))
 
-    module _ (block : ℕ) (home : block ≡ home_of (length ts) hash / 16) (told : block < length bs) where
+    module _ (spot : ℕ) (home : spot ≡ home_of (length ts) hash) (told : spot < length bs) where
       abbrev more : ℕ → List Beyond
-      more step = set bs block (one_more (told_of bs block) step)
+      more step = set bs spot (one_more (told_of bs spot) step)
 
       -- a slot past the first window was taken
       goes-on : (step h : ℕ) → reach_of bs (length ts) h ≤ reach_of (more step) (length ts) h
-      goes-on step h = elim (cases_eq (home_of (length ts) h / 16) block) [
-        | inl same ↦ rw (told-same bs block (home_of (length ts) h / 16) (one_more (told_of bs block) step) told same, same) (more-reach (length ts / 16) (told_of bs block).blocks step)
-        | inr other ↦ omega (arith, reach-same bs (more step) (length ts) h (ap (λ t. t.blocks) (told-other bs block (home_of (length ts) h / 16) (one_more (told_of bs block) step) other)))
+      goes-on step h = elim (cases_eq (home_of (length ts) h) spot) [
+        | inl same ↦ rw (told-same bs spot (home_of (length ts) h) (one_more (told_of bs spot) step) told same, same, more-blocks (told_of bs spot) step) (more-reach (length ts / 16) (blocks_in (told_of bs spot)) step)
+        | inr other ↦ omega (arith, reach-same bs (more step) (length ts) h (ap (λ t. blocks_in t) (told-other bs spot (home_of (length ts) h) (one_more (told_of bs spot) step) other)))
       ]
 
       goes-there : (step : ℕ) → step ≤ length ts / 16 → step ≤ reach_of (more step) (length ts) hash
-      goes-there step l = rw (told-same bs block (home_of (length ts) hash / 16) (one_more (told_of bs block) step) told (sym home)) (step-reach (length ts / 16) (told_of bs block).blocks step l)
+      goes-there step l = rw (told-same bs spot (home_of (length ts) hash) (one_more (told_of bs spot) step) told (sym home), more-blocks (told_of bs spot) step) (step-reach (length ts / 16) (blocks_in (told_of bs spot)) step l)
 
-      tells-more : (step b : ℕ) → (told_of (more step) b).keys ≢ 255 → ((told_of bs b).keys ≢ 255) × ((told_of bs b).keys + cond (is_far (length ts) b slot (Some hash)) 1 0 ≤ (told_of (more step) b).keys)
-      tells-more step b known = elim (cases_eq b block) [
+      tells-more : (step b : ℕ) → keys_in (told_of (more step) b) ≢ 15 → (keys_in (told_of bs b) ≢ 15) × (keys_in (told_of bs b) + cond (is_far (length ts) b slot (Some hash)) 1 0 ≤ keys_in (told_of (more step) b))
+      tells-more step b known = elim (cases_eq b spot) [
         | inl same ↦
-            let is = told-same bs block b (one_more (told_of bs block) step) told same in
-            let few : min 255 ((told_of bs block).keys + 1) ≢ 255 = rw is at known in
-            let one : cond (is_far (length ts) block slot (Some hash)) 1 0 ≤ 1 = grind arith in
-            rw (is, same) (omega (arith, few), omega (arith, few, one))
+            let is = told-same bs spot b (one_more (told_of bs spot) step) told same in
+            let more = more-keys (told_of bs spot) step in
+            let few : min 15 (keys_in (told_of bs spot) + 1) ≢ 15 = rw (is, more) at known in
+            let one : cond (is_far (length ts) spot slot (Some hash)) 1 0 ≤ 1 = grind arith in
+            rw (is, same, more) (omega (arith, few), omega (arith, few, one))
         | inr other ↦
-            let is = told-other bs block b (one_more (told_of bs block) step) other in
+            let is = told-other bs spot b (one_more (told_of bs spot) step) other in
             rw (is, not-here (length ts) b slot hash (λ e. other (sym e ∙ sym home))) (rw is at known, omega arith)
       ]
 
@@ -248,46 +264,46 @@ module _ (ts : List ℕ) (bs : List Beyond) where
       taken-far zero at some l way from to = absurd (omega arith)
       taken-far (suc k) at some l way from to =
           let begins : window_of (length ts) hash (suc k) ≡ at * 16 = omega (arith, way) in
-          taken hs (more (suc k)) slot hash within index (length-set bs block (one_more (told_of bs block) (suc k)))
+          taken hs (more (suc k)) slot hash within index (length-set bs spot (one_more (told_of bs spot) (suc k)))
           (placed (more (suc k)) slot hash (suc k) within (goes-there (suc k) l) (omega (arith, begins)) (omega (arith, begins))) (goes-on (suc k)) (λ b _ known. tells-more (suc k) b known)
 
       -- and freed
       abbrev less : List Beyond
-      less = set bs block (one_less (told_of bs block))
+      less = set bs spot (one_less (told_of bs spot))
 
-      module _ (had : get_or hs slot None ≡ Some hash) (far : is_far (length ts) block slot (Some hash) ≡ true) where
-        tells-less : (b : ℕ) → (told_of less b).keys ≢ 255 → ((told_of bs b).keys ≢ 255) × ((told_of bs b).keys ≤ (told_of less b).keys + cond (is_far (length ts) b slot (Some hash)) 1 0)
-        tells-less b known = elim (cases_eq b block) [
+      module _ (had : get_or hs slot None ≡ Some hash) (far : is_far (length ts) spot slot (Some hash) ≡ true) where
+        tells-less : (b : ℕ) → keys_in (told_of less b) ≢ 15 → (keys_in (told_of bs b) ≢ 15) × (keys_in (told_of bs b) ≤ keys_in (told_of less b) + cond (is_far (length ts) b slot (Some hash)) 1 0)
+        tells-less b known = elim (cases_eq b spot) [
           | inl same ↦
-              let is = told-same bs block b (one_less (told_of bs block)) told same in
-              rw (is, same, far) (less-keys (told_of bs block) (rw is at known))
+              let is = told-same bs spot b (one_less (told_of bs spot)) told same in
+              rw (is, same, far) (less-keys (told_of bs spot) (rw is at known))
           | inr other ↦
-              let is = told-other bs block b (one_less (told_of bs block)) other in
+              let is = told-other bs spot b (one_less (told_of bs spot)) other in
               rw is (rw is at known, omega arith)
         ]
 
-        -- where the last far key of a block was freed, all others are near
-        none-far : (told_of bs block).keys ≢ 255 → (told_of bs block).keys ≤ 1 → (s h : ℕ) → s ≢ slot → get_or hs s None ≡ Some h → cond {A = ℕ} (is_far (length ts) block s (Some h)) 1 0 ≡ 0
+        -- where the last far key of a slot was freed, all others are near
+        none-far : keys_in (told_of bs spot) ≢ 15 → keys_in (told_of bs spot) ≤ 1 → (s h : ℕ) → s ≢ slot → get_or hs s None ≡ Some h → cond {A = ℕ} (is_far (length ts) spot s (Some h)) 1 0 ≡ 0
         none-far known few s h other e =
             let place : slot < length hs = omega (arith, index.places) in
             let here : get_or (set hs slot None) s None ≡ Some h = get_or-set_other hs slot s None None other ∙ e in
-            let count = rw (had, far) at (far-set (length ts) block 0 hs slot slot None (omega arith) place) in
-            let some = rw here at (far-some (length ts) block 0 (set hs slot None) s s (omega arith) (omega (arith, named-within (set hs slot None) s h here))) in
-            omega (arith, count, some, index.counted block told known)
+            let count = rw (had, far) at (far-set (length ts) spot 0 hs slot slot None (omega arith) place) in
+            let some = rw here at (far-some (length ts) spot 0 (set hs slot None) s s (omega arith) (omega (arith, named-within (set hs slot None) s h here))) in
+            omega (arith, count, some, index.counted spot told known)
 
         others-stay : (s h : ℕ) → s ≢ slot → get_or hs s None ≡ Some h → IsAt ts bs h s → IsAt (set ts slot 0) less h s
-        others-stay s h other e x = elim (cases_eq (home_of (length ts) h / 16) block) [
+        others-stay s h other e x = elim (cases_eq (home_of (length ts) h) spot) [
           | inl same ↦
-              let is = told-same bs block (home_of (length ts) h / 16) (one_less (told_of bs block)) told same in
-              elim (less-blocks (told_of bs block)) [
-                | inl stays ↦ kept less slot 0 h s other x (omega (arith, x.within, reach-same bs less (length ts) h (ap (λ t. t.blocks) is ∙ stays ∙ ap (λ b. (told_of bs b).blocks) (sym same))))
+              let is = told-same bs spot (home_of (length ts) h) (one_less (told_of bs spot)) told same in
+              elim (less-blocks (told_of bs spot)) [
+                | inl stays ↦ kept less slot 0 h s other x (omega (arith, x.within, reach-same bs less (length ts) h (ap (λ t. blocks_in t) is ∙ stays ∙ ap (λ b. blocks_in (told_of bs b)) (sym same))))
                 | inr last ↦
-                    let at = is-near (length ts) block s h same (none-far last.0 last.1 s h other e) in
+                    let at = is-near (length ts) spot s h same (none-far last.0 last.1 s h other e) in
                     near less slot 0 h s other x at.0 at.1
               ]
           | inr apart ↦
-              kept less slot 0 h s other x (omega (arith, x.within, reach-same bs less (length ts) h (ap (λ t. t.blocks) (told-other bs block (home_of (length ts) h / 16) (one_less (told_of bs block)) apart))))
+              kept less slot 0 h s other x (omega (arith, x.within, reach-same bs less (length ts) h (ap (λ t. blocks_in t) (told-other bs spot (home_of (length ts) h) (one_less (told_of bs spot)) apart))))
         ]
 
         pub freed-far : IsIndex (set ts slot 0) less (set hs slot None)
-        freed-far = freed hs less slot hash within index (length-set bs block (one_less (told_of bs block))) had others-stay (λ b _ known. tells-less b known)
+        freed-far = freed hs less slot hash within index (length-set bs spot (one_less (told_of bs spot))) had others-stay (λ b _ known. tells-less b known)

@@ -1,5 +1,5 @@
 -- Slots with tags, and where a hash is looked for.
-use Rattle.std.specs.Prelude.{◌≡◌, ◌≢◌, ℕ, zero, suc, ◌+◌, ◌-◌, ◌*◌, ◌/◌, ◌^◌, ◌<◌, ◌≤◌, min, max, cond, nat_lt, nat_le, ◌==◌, ◌&&◌, ◌||◌, bit_and, Bool, false, List, [], ◌∷◌, Option, None, Some, length, get_or, slice_index_or}
+use Rattle.std.specs.Prelude.{◌≡◌, ◌≢◌, ℕ, zero, suc, ◌+◌, ◌-◌, ◌*◌, ◌/◌, ◌%◌, ◌^◌, ◌<◌, ◌≤◌, min, max, cond, nat_lt, nat_le, ◌==◌, ◌&&◌, ◌||◌, bit_and, Bool, false, List, [], ◌∷◌, Option, None, Some, length, get_or, slice_index_or}
 use Rattle.ex_table.specs.declared.slots.Beyond.{Beyond}
 
 -- the tag of a slot
@@ -24,32 +24,39 @@ abbrev pub window_of : (n hash step : ℕ) → ℕ
 window_of n hash zero = home_of n hash
 window_of n hash (suc s) = 16 * after (n / 16) (home_of n hash / 16) (suc s)
 
--- what is told of a block of slots
-abbrev pub told_of : List Beyond → (block : ℕ) → Beyond
-told_of bs b = slice_index_or bs b (record { keys = 0; blocks = 0 })
+-- what is told of a slot at which hashes are looked for first
+abbrev pub told_of : List Beyond → (home : ℕ) → Beyond
+told_of bs s = slice_index_or bs s (record { told = 0 })
 
--- one more key is past its first window, by so many blocks. Of 255 or more it is not known how many
+-- how many keys of such hashes are past the window that begins there. Of 15 or more it is not known
+-- how many
+abbrev pub keys_in : Beyond → ℕ
+keys_in b = b.told / 16
+
+-- for how many blocks a look-up for one goes on; 15 stands for all
+abbrev pub blocks_in : Beyond → ℕ
+blocks_in b = b.told % 16
+
+-- one more key is past its first window, by so many blocks
 abbrev pub one_more : Beyond → (step : ℕ) → Beyond
-one_more told step = record {
-  keys = min 255 (told.keys + 1);
-  blocks = min 255 (max told.blocks step);
-}
+one_more b step =
+    record { told = 16 * min 15 (keys_in b + 1) + min 15 (max (blocks_in b) step) }
 
 -- one key less is past its first window
 abbrev pub one_less : Beyond → Beyond
-one_less told =
-    let left = told.keys - 1 in
-    cond (told.keys == 255) told (record { keys = left; blocks = cond (left == 0) 0 told.blocks })
+one_less b =
+    record { told = cond (keys_in b == 15) b.told (cond (nat_le (keys_in b) 1) 0 (b.told - 16)) }
 
 -- for how many blocks a look-up goes on
 abbrev pub reach_of : List Beyond → (n hash : ℕ) → ℕ
 reach_of bs n hash =
-    let b = (told_of bs (home_of n hash / 16)).blocks in
-    cond (b == 255) (n / 16) (min (n / 16) b)
+    let b = blocks_in (told_of bs (home_of n hash)) in
+    cond (b == 15) (n / 16) (min (n / 16) b)
 
--- there are whole blocks of slots, and something is told of each
+-- there are whole blocks of slots, and something is told of each slot
 pub record IsSlots (ts : List ℕ) (bs : List Beyond) : Type 0 where
-  pub blocks : length ts ≡ 16 * length bs
+  pub blocks : length ts ≡ 16 * (length ts / 16)
+  pub each : length bs ≡ length ts
   pub more : 17 ≤ length ts
 
 -- a look-up for the hash gets to the slot
@@ -60,24 +67,22 @@ pub record IsAt (ts : List ℕ) (bs : List Beyond) (hash s : ℕ) : Type 0 where
   pub to : s < window_of (length ts) hash steps + 16
   pub tag : tag_at ts s ≡ tag_of hash
 
--- a key of this hash is looked for first in this block, and the slot is not in its window
-abbrev pub is_far : (n block s : ℕ) → Option ℕ → Bool
-is_far n block s None = false
-is_far n block s (Some hash) =
-    let home = home_of n hash in
-    (home / 16 == block) && (nat_lt s home || nat_le (home + 16) s)
+-- a key of this hash is looked for first at this slot, and the other is not in its window
+abbrev pub is_far : (n home s : ℕ) → Option ℕ → Bool
+is_far n home s None = false
+is_far n home s (Some hash) = (home_of n hash == home) && (nat_lt s home || nat_le (home + 16) s)
 
 -- how many such keys are in slots from s on
-unfoldable pub far_from : (n block s : ℕ) → List (Option ℕ) → ℕ
-far_from n block s [] = 0
-far_from n block s (h ∷ hs) = cond (is_far n block s h) 1 0 + far_from n block (suc s) hs
+unfoldable pub far_from : (n home s : ℕ) → List (Option ℕ) → ℕ
+far_from n home s [] = 0
+far_from n home s (h ∷ hs) = cond (is_far n home s h) 1 0 + far_from n home (suc s) hs
 
 -- a look-up for each of the hashes gets to its slot, no other slot has a key, and what is told of a
--- block counts its keys that are past their first window
+-- slot counts the keys that are past the window that begins there
 pub record IsIndex (ts : List ℕ) (bs : List Beyond) (hs : List (Option ℕ)) : Type 0 where
   pub slots : IsSlots ts bs
   pub places : length ts ≤ length hs
   pub named : (s hash : ℕ) → get_or hs s None ≡ Some hash → IsAt ts bs hash s
   pub free : (s : ℕ) → get_or hs s None ≡ None → tag_at ts s ≡ 0
-  pub counted : (b : ℕ) → b < length bs → (told_of bs b).keys ≢ 255
-      → far_from (length ts) b 0 hs ≤ (told_of bs b).keys
+  pub counted : (s : ℕ) → s < length bs → keys_in (told_of bs s) ≢ 15
+      → far_from (length ts) s 0 hs ≤ keys_in (told_of bs s)

@@ -52,13 +52,13 @@ fn free_tags<A: Allocator + Clone>(
     }
 }
 
-// Nothing is beyond so many blocks.
+// Nothing is told of so many slots.
 fn none_beyond<A: Allocator + Clone>(
     count: usize,
     alloc: &A,
     capacity: usize,
 ) -> Result<Vec<Beyond, A>, TryReserveError>
-    ensures made { IfOk result (λ v. v.items ≡ replicate count (record { keys = 0; blocks = 0 })) }
+    ensures made { IfOk result (λ v. v.items ≡ replicate count (record { told = 0 })) }
     ensures refused { IfErr result (λ e. e.kind ≡ AllocError capacity) }
 {
     let Ok(own) = alloc.clone() else {
@@ -77,12 +77,12 @@ fn index_for<A: Allocator + Clone>(alloc: &A, capacity: usize) -> Result<Named<A
     ensures room { IfOk result (λ i. capacity < length i.tags.items) }
     ensures free { IfOk result (λ i. i.tags.items ≡ replicate (length i.tags.items) 0) }
     ensures none { IfOk result (λ i. i.beyond.items
-        ≡ replicate (length i.beyond.items) (record { keys = 0; blocks = 0 })) }
+        ≡ replicate (length i.beyond.items) (record { told = 0 })) }
     ensures refused { IfErr result (λ e. e.kind ≡ AllocError capacity) }
 {
-    let blocks = blocks_for(capacity);
-    let tags = free_tags(blocks * WINDOW, alloc, capacity)?;
-    let beyond = none_beyond(blocks, alloc, capacity)?;
+    let slots = blocks_for(capacity) * WINDOW;
+    let tags = free_tags(slots, alloc, capacity)?;
+    let beyond = none_beyond(slots, alloc, capacity)?;
     Ok(Named { tags, beyond })
 }
 

@@ -13,7 +13,7 @@ use allocator_api2::vec::Vec;
 use std::alloc::Allocator;
 use std::hash::{BuildHasher, Hash, Hasher};
 
-/// The tags of all slots, and what is told of each sixteen of them.
+/// The tags of all slots, and what is told of each.
 #[derive(Drop)]
 pub struct Named<A: Allocator> {
     pub tags: Vec<u8, A>,
@@ -40,45 +40,8 @@ fn is_at<K: Eq, V, A: Allocator>(places: &RawVec<(K, V), A>, slot: usize, key: &
     *key == places.place(slot).0
 }
 
-// The slot of a key with this tag, of the sixteen from `from` on, past so many of them.
-#[cold]
-#[inline(never)]
-fn later_slot<K: Eq, V, A: Allocator>(
-    tags: &[u8],
-    from: usize,
-    past: usize,
-    tag: u8,
-    places: &RawVec<(K, V), A>,
-    key: &K,
-) -> Option<usize>
-    requires room { from + 16 ≤ length tags.now }
-    requires held { AreHeld tags.now places.now.places }
-    requires tag { tag ≢ 0 }
-    requires past { past ≤ 16 }
-    ensures some { IfSome result (λ s. (s < length tags.now)
-        × (key_at K.eq key.now places.now.places s ≡ true)) }
-    ensures none { IfNone result ((s : ℕ) → from + past ≤ s → s < from + 16
-        → tag_at tags.now s ≡ tag → key_at K.eq key.now places.now.places s ≡ false) }
-{
-    let mut past = past;
-    'each: for _turn in past..WINDOW {
-        if past >= WINDOW {
-            return None;
-        }
-        let Some(slot) = slot_past(tags, from, past, tag) else {
-            return None;
-        };
-        if is_at(places, slot, key) {
-            return Some(slot);
-        }
-        past = slot - from + 1;
-    }
-    None
-}
-
-// The slot of a key with this tag, of the sixteen from `from` on. Mostly it is the first with the
-// tag.
-#[inline(always)]
+// The slot of a key with this tag, of the sixteen from `from` on.
+#[inline]
 fn slot_with<K: Eq, V, A: Allocator>(
     tags: &[u8],
     from: usize,
@@ -93,15 +56,17 @@ fn slot_with<K: Eq, V, A: Allocator>(
         × (key_at K.eq key.now places.now.places s ≡ true)) }
     ensures none { IfNone result (Lacks K.eq tags.now places.now.places from tag key.now) }
 {
-    match slot_of(tags, from, tag) {
-        Some(slot) => {
-            if is_at(places, slot, key) {
-                return Some(slot);
-            }
-            later_slot(tags, from, slot - from + 1, tag, places, key)
+    let mut past = 0;
+    'each: while past < WINDOW {
+        let Some(slot) = slot_past(tags, from, past, tag) else {
+            return None;
+        };
+        if is_at(places, slot, key) {
+            return Some(slot);
         }
-        None => None,
+        past = slot - from + 1;
     }
+    None
 }
 
 // The slot of a key past its first window, block by block.

@@ -1,7 +1,7 @@
 //! Slots, sixteen asked at once: where a hash is looked for. Each has a tag, a part of the hash of
 //! the key that is there.
 ghost use Rattle.std.specs.Prelude.{◌≡◌, ◌≢◌, ℕ, ◌+◌, ◌-◌, ◌*◌, ◌/◌, ◌<◌, ◌≤◌, List, Option, length, get_or, slice_set, count_by, replicate, min, IsFalse, ◌↔◌, if◌then◌else◌, Some, None, IfSome, IfNone, ◌==◌};
-ghost use Rattle.ex_table.specs.Slots.{tag_at, tag_of, home_of, after, window_of, reach_of, told_of, one_more, one_less, IsSlots, IsAt, IsIndex};
+ghost use Rattle.ex_table.specs.Slots.{tag_at, tag_of, home_of, after, window_of, reach_of, told_of, keys_in, blocks_in, one_more, one_less, IsSlots, IsAt, IsIndex};
 
 use std::simd::prelude::*;
 
@@ -12,23 +12,65 @@ pub const WINDOW: usize = 16;
 const FREE: u8 = 0;
 
 // So many or more: it is not known how many.
-const MANY: u8 = 255;
+const MANY: u8 = 15;
 
-/// What is known of the keys that are looked for first in one of sixteen slots, and are not in the
-/// window that begins there: how many they are, and how many blocks of slots a look-up goes on for
-/// them.
+/// What is known of the keys that are looked for first at a slot, and are not in the window that
+/// begins there: how many they are, and for how many blocks of slots a look-up goes on for them.
+/// Each is half of the byte.
 #[derive(Clone, Copy)]
 pub struct Beyond {
-    keys: u8,
-    blocks: u8,
+    told: u8,
 }
 
 impl Beyond {
     /// There are none.
     pub fn none() -> Beyond
-        ensures { result ≡ record { keys = 0; blocks = 0 } }
+        ensures { result ≡ record { told = 0 } }
     {
-        Beyond { keys: 0, blocks: 0 }
+        Beyond { told: 0 }
+    }
+
+    // How many keys there are.
+    #[inline]
+    fn keys(self) -> u8
+        ensures value { result ≡ keys_in self }
+        ensures within { result ≤ 15 }
+    {
+        self.told / 16
+    }
+
+    // For how many blocks a look-up goes on.
+    #[inline]
+    fn blocks(self) -> u8
+        ensures value { result ≡ blocks_in self }
+        ensures within { result ≤ 15 }
+    {
+        self.told % 16
+    }
+
+    // There is one key more, put so many blocks on.
+    #[inline]
+    fn one_more(self, step: usize) -> Beyond
+        ensures { result ≡ one_more self step }
+    {
+        let keys = (self.keys() + 1).min(MANY);
+        let blocks = self.blocks().max(step.min(15) as u8);
+        Beyond {
+            told: 16 * keys + blocks,
+        }
+    }
+
+    // There is one key less.
+    fn one_less(self) -> Beyond
+        ensures { result ≡ one_less self }
+    {
+        match self.keys() {
+            MANY => self,
+            0 | 1 => Beyond::none(),
+            _ => Beyond {
+                told: self.told - 16,
+            },
+        }
     }
 }
 
@@ -111,23 +153,23 @@ pub fn block_after(home: usize, step: usize, count: usize) -> usize
     }
 }
 
-/// Whether keys of this hash are looked for past the window where they are looked for first.
+/// Whether a key that is looked for first at this slot may be past the window that begins there.
 #[inline(always)]
 pub fn goes_on(beyond: &[Beyond], home: usize) -> bool
-    requires { home / 16 < length beyond.now }
-    ensures { IsFalse result ↔ ((told_of beyond.now (home / 16)).blocks ≡ 0) }
+    requires { home < length beyond.now }
+    ensures { IsFalse result ↔ ((told_of beyond.now home).told ≡ 0) }
 {
-    beyond[home / WINDOW].blocks != 0
+    beyond[home].told != 0
 }
 
 /// For how many blocks of slots a look-up goes on.
 #[inline]
 pub fn reach(beyond: &[Beyond], home: usize, blocks: usize) -> usize
-    requires { home / 16 < length beyond.now }
-    ensures { let b = (told_of beyond.now (home / 16)).blocks in
-        result ≡ if b == 255 then blocks else min blocks b }
+    requires { home < length beyond.now }
+    ensures { let b = blocks_in (told_of beyond.now home) in
+        result ≡ if b == 15 then blocks else min blocks b }
 {
-    let told = beyond[home / WINDOW].blocks;
+    let told = beyond[home].blocks();
     if told == MANY {
         blocks
     } else {
@@ -138,31 +180,21 @@ pub fn reach(beyond: &[Beyond], home: usize, blocks: usize) -> usize
 // One more key is past its first window, by so many blocks.
 #[inline]
 fn count_far(beyond: &mut [Beyond], home: usize, step: usize)
-    requires { home / 16 < length beyond.old }
-    ensures { let told = told_of beyond.old (home / 16) in
-        beyond.new ≡ slice_set beyond.old (home / 16) (one_more told step) }
+    requires { home < length beyond.old }
+    ensures { beyond.new
+        ≡ slice_set beyond.old home (one_more (told_of beyond.old home) step) }
 {
-    let told = &mut beyond[home / WINDOW];
-    told.keys = told.keys.saturating_add(1);
-    told.blocks = told.blocks.max(step.min(255) as u8);
+    beyond[home] = beyond[home].one_more(step);
 }
 
 // One key less is past its first window.
 #[cold]
 #[inline(never)]
 fn discount_far(beyond: &mut [Beyond], home: usize)
-    requires { home / 16 < length beyond.old }
-    ensures { let told = told_of beyond.old (home / 16) in
-        beyond.new ≡ slice_set beyond.old (home / 16) (one_less told) }
+    requires { home < length beyond.old }
+    ensures { beyond.new ≡ slice_set beyond.old home (one_less (told_of beyond.old home)) }
 {
-    let told = &mut beyond[home / WINDOW];
-    if told.keys == MANY {
-        return;
-    }
-    told.keys = told.keys.saturating_sub(1);
-    if told.keys == 0 {
-        told.blocks = 0;
-    }
+    beyond[home] = beyond[home].one_less();
 }
 
 // Takes the first free slot past the first window, block by block.
@@ -264,7 +296,7 @@ pub fn last_taken(tags: &[u8], from: usize, end: usize) -> Option<usize>
 /// Frees all slots.
 pub fn clear_all(tags: &mut [u8], beyond: &mut [Beyond])
     ensures tags { tags.new ≡ replicate (length tags.old) 0 }
-    ensures beyond { beyond.new ≡ replicate (length beyond.old) (record { keys = 0; blocks = 0 }) }
+    ensures beyond { beyond.new ≡ replicate (length beyond.old) (record { told = 0 }) }
 {
     tags.fill_with(|| FREE);
     beyond.fill_with(|| Beyond::none());

@@ -8,5 +8,5 @@ returns-clause-tags c = all_same _ 0 _ _ _ (λ f y h s. search rules) c.fill_wit
 
 pub returns-clause-beyond : goal.returns-clause-beyond
 returns-clause-beyond c =
-    let none : Beyond = record { keys = 0; blocks = 0 } in
+    let none : Beyond = record { told = 0 } in
     all_same _ none _ _ _ (λ f y h s. search rules) c.fill_with-2.ensures.ran.1 ∙ ap (λ n. replicate n none) c.fill_with-2.ensures.len

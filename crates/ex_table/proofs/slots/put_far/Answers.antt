@@ -9,12 +9,11 @@ returns-in-Some-clause-index c = λ hs index.
     let ts = c.args.tags.now in
     let n = length ts in
     let from = c.home-from.result in
-    let block = from / 16 in
-    let home : block ≡ home_of n c.args.hash / 16 = ap (λ h. h / 16) c.home-from.ensures.value in
-    let way : c.block_after-at.result ≡ after (n / 16) (home_of n c.args.hash / 16) (c.each.before + 1) = rw home at c.block_after-at.ensures.value in
+    let home : from ≡ home_of n c.args.hash = c.home-from.ensures.value in
+    let way : c.block_after-at.result ≡ after (n / 16) (home_of n c.args.hash / 16) (c.each.before + 1) = rw (ap (λ h. h / 16) home) at c.block_after-at.ensures.value in
     let spot = c.in-Some.ensures.some in
     rw (c.count_far.ensures, c.each.invariant.tags, c.each.invariant.beyond, c.tag.ensures)
-    (taken-far ts c.args.beyond.now hs c.in-Some.slot c.args.hash (omega (arith, spot.1, c.each.auto.tags)) index block home (omega (arith, c.requires.slots.blocks, c.home-from.ensures.within))
+    (taken-far ts c.args.beyond.now hs c.in-Some.slot c.args.hash (omega (arith, spot.1, c.each.auto.tags)) index from home (omega (arith, c.requires.slots.each, c.home-from.ensures.within))
     (c.each.before + 1) c.block_after-at.result (omega arith) (omega (arith, c.each-test.true)) way spot.0 spot.1)
 
 pub unreachable-requires : goal.unreachable-requires
@@ -23,4 +22,4 @@ unreachable-requires c =
     let n = length ts in
     let full : (k : ℕ) → k < n / 16 → IsFull ts (after (n / 16) (c.home-from.result / 16) (k + 1)) =
     λ k l. rw c.each.invariant.tags at (c.each.invariant.full k (omega (arith, c.each-test.false, l))) in
-    omega (arith, c.requires.free, all-full ts (c.home-from.result / 16) (n / 16) (omega (arith, c.requires.slots.blocks)) (omega (arith, c.home-from.ensures.within, c.requires.slots.blocks)) full)
+    omega (arith, c.requires.free, all-full ts (c.home-from.result / 16) (n / 16) c.requires.slots.blocks (omega (arith, c.home-from.ensures.within, c.requires.slots.blocks)) full)

@@ -1,5 +1,5 @@
-use Rattle.std.proofs.Common.{◌≡◌, ◌≤◌, ◌<◌, ◌+◌, arith, ap, inl, inr, length}
-use Rattle.std.specs.Prelude.{◌⊎◌, ◌/◌}
+use Rattle.std.proofs.Common.{◌≤◌, ◌<◌, ◌+◌, arith, inl, inr, length}
+use Rattle.std.specs.Prelude.{◌⊎◌}
 use Rattle.ex_table.specs.Slots.{home_of}
 use Rattle.ex_table.proofs.Naming.{freed-near, freed-far, far-outside}
 use Rattle.ex_table.proofs.slots.release.Goals as goal
@@ -15,6 +15,4 @@ returns-then-slot-from-clause-index c = λ hs index had.
       | then-slot-from-via-then-slot-from w ↦ inl (omega (arith, w.if-slot-from.true, c.home-from.ensures.value))
       | then-slot-from-via-else-slot-from+then-slot-from-ge-WINDOW w ↦ inr (omega (arith, w.if-slot-from.false, w.if-slot-from-ge-WINDOW.true, c.home-from.ensures.value))
     ] in
-    let block = c.home-from.result / 16 in
-    let home : block ≡ home_of n c.args.hash / 16 = ap (λ h. h / 16) c.home-from.ensures.value in
-    rw c.discount_far.ensures (freed-far c.args.tags.now c.args.beyond.now hs c.args.slot c.args.hash c.requires.slot index block home (omega (arith, c.requires.slots.blocks, c.home-from.ensures.within)) had (far-outside n block c.args.slot c.args.hash home out))
+    rw c.discount_far.ensures (freed-far c.args.tags.now c.args.beyond.now hs c.args.slot c.args.hash c.requires.slot index c.home-from.result c.home-from.ensures.value (omega (arith, c.requires.slots.each, c.home-from.ensures.within)) had (far-outside n c.home-from.result c.args.slot c.args.hash c.home-from.ensures.value out))
