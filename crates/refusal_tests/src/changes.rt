@@ -1,19 +1,14 @@
 //! Calls that change a vector or make something of its elements: each request in turn is refused,
 //! those of the elements' clones too.
 use crate::items::{Fill, Watched, filled, spliced};
-use crate::seen::{
-    End, Held, List, boxed, digits, end_by, end_of, end_of_made, is_given_back, list_of, units,
-};
+use crate::seen::{End, Held, boxed, digits, end_by, end_of, end_of_made, held, is_given_back};
 use allocator_api2::SliceExt;
-use allocator_api2::boxed::Box;
 use allocator_api2::collections::{Refused, TryReserveError};
 use allocator_api2::vec::{Items, Vec};
-use std::alloc::{Allocator, Global};
+use std::alloc::{AllocError, Allocator, Global};
 use std::cell::Cell;
 use std::clone::Clone;
-use std::test::Fail;
 use test_allocators::Faulty;
-use test_allocators::refusing::Refusing;
 
 // A call of a name, with the numbers that it takes.
 #[derive(Clone, Copy)]
@@ -49,31 +44,55 @@ pub(crate) enum Call {
     Clone,
     ItemsClone,
     SliceClone,
+    // These by the trait, whose error tells no number.
+    TraitClone,
+    TraitItemsClone,
+    TraitSliceClone,
+    // Of a box of the other vector.
+    TraitBoxClone,
 }
 
-// How a call ends that is given another element and another vector, and the element where it is
-// handed back. It counts how often an item is asked for.
+// How a call ends that is given another element and another vector; the element is there again where
+// it is handed back. It counts how often an item is asked for.
 pub(crate) fn called<T: Clone + Drop, A: Allocator + Clone + Drop>(
     call: Call,
     v: &mut Vec<T, A>,
-    one: T,
+    one: &mut Option<T>,
     other: Vec<T, A>,
     alloc: A,
     calls: &Cell<u32>,
-) -> (End, Option<T>) {
+) -> End {
     match call {
-        Call::Push => handed(v.push(one)),
-        Call::Insert => handed(v.insert(v.len().min(1), one)),
-        Call::Resize(len) => (end_of(v.resize(len, one)), None),
-        _ => (called_with_items(call, v, other, alloc, calls), None),
+        Call::Push | Call::Insert | Call::Resize(_) => called_with_one(call, v, one),
+        _ => called_with_items(call, v, other, alloc, calls),
+    }
+}
+
+// How a call ends that is given an element.
+pub(crate) fn called_with_one<T: Clone + Drop, A: Allocator>(
+    call: Call,
+    v: &mut Vec<T, A>,
+    one: &mut Option<T>,
+) -> End {
+    let Some(x) = one.take() else {
+        return End::TooLong;
+    };
+    match call {
+        Call::Push => handed(v.push(x), one),
+        Call::Insert => handed(v.insert(v.len().min(1), x), one),
+        Call::Resize(len) => end_of(v.resize(len, x)),
+        _ => End::TooLong,
     }
 }
 
 // How a call ends that hands its element back where it is refused.
-fn handed<T: Drop>(ended: Result<(), Refused<T>>) -> (End, Option<T>) {
+fn handed<T: Drop>(ended: Result<(), Refused<T>>, one: &mut Option<T>) -> End {
     match ended {
-        Ok(()) => (End::Done, None),
-        Err(refusal) => (end_by(refusal.error), Some(refusal.source)),
+        Ok(()) => End::Done,
+        Err(refusal) => {
+            *one = Some(refusal.source);
+            end_by(refusal.error)
+        }
     }
 }
 
@@ -121,6 +140,10 @@ fn called_to_make<T: Clone + Drop, A: Allocator + Clone + Drop>(
         Call::Clone => end_of_made(other.clone()),
         Call::ItemsClone => end_of_made(other.into_iter().clone()),
         Call::SliceClone => end_of_boxed_clone(other),
+        Call::TraitClone => end_of_clone(Clone::clone(&other)),
+        Call::TraitItemsClone => end_of_clone(Clone::clone(&other.into_iter())),
+        Call::TraitSliceClone => end_of_trait_clone(other),
+        Call::TraitBoxClone => end_of_box_clone(other, alloc),
         Call::SplitOff(at) => end_of_made(v.split_off(at.min(v.len()))),
         _ => end_of(called_with_many(call, v, other)),
     }
@@ -134,8 +157,32 @@ fn end_of_boxed_clone<T: Clone + Drop, A: Allocator + Clone>(given: Vec<T, A>) -
     }
 }
 
+// The same of the clone by the trait.
+fn end_of_trait_clone<T: Clone + Drop, A: Allocator + Clone + Drop>(given: Vec<T, A>) -> End {
+    match given.into_boxed_slice() {
+        Ok(list) => end_of_clone(Clone::clone(&list)),
+        Err(_) => End::TooLong,
+    }
+}
+
+// How it ends to box a value and clone the box.
+fn end_of_box_clone<T: Clone + Drop, A: Allocator + Clone + Drop>(x: T, alloc: A) -> End {
+    match boxed(x, alloc) {
+        Ok(made) => end_of_clone(Clone::clone(&made)),
+        Err(error) => end_by(error),
+    }
+}
+
+// How a clone by the trait ends, whose error tells no number.
+fn end_of_clone<T: Drop>(made: Result<T, AllocError>) -> End {
+    match made {
+        Ok(_) => End::Done,
+        Err(_) => End::NoMemory(0),
+    }
+}
+
 // What a call answers that is given another vector.
-fn called_with_many<T: Clone + Drop, A: Allocator + Clone>(
+pub(crate) fn called_with_many<T: Clone + Drop, A: Allocator + Clone>(
     call: Call,
     v: &mut Vec<T, A>,
     mut other: Vec<T, A>,
@@ -177,36 +224,43 @@ type Before<'a> = (&'a [u32], usize, &'a [u32]);
 
 // What is seen of a call with the element 9, where the request numbered `refused` fails; how often
 // an item is asked for, and whether each block is given back once.
-fn seen(
-    alloc: Global,
+fn seen(alloc: Global, call: Call, before: Before<'_>, refused: u64) -> (Seen, u32, bool) {
+    let heap = Faulty::new(alloc);
+    let calls = Cell::new(0);
+    let seen = seen_on(&heap, call, before, refused, &calls);
+    (seen, calls.get(), is_given_back(&heap))
+}
+
+fn seen_on(
+    heap: &Faulty<Global>,
     call: Call,
     (first, room, others): Before<'_>,
     refused: u64,
-) -> Result<(Seen, u32, bool), Fail> {
-    let heap = Faulty::new(alloc);
-    let calls = Cell::new(0);
-    let mut v: List<'_, Held<'_>> = list_of(&heap, first, room)?;
-    let one = boxed(9, &heap)?;
-    let other = list_of(&heap, others, others.len())?;
+    calls: &Cell<u32>,
+) -> Seen {
+    let mut v = held(heap, first, room);
+    let other = held(heap, others, others.len());
+    let mut one = match call {
+        Call::Push | Call::Insert | Call::Resize(_) => boxed(9, heap).ok(),
+        _ => None,
+    };
     let before = heap.requests();
     heap.refuse(refused, 1);
-    let (end, back) = called(call, &mut v, one, other, &heap, &calls);
+    let end = called(call, &mut v, &mut one, other, heap, calls);
     let requests = heap.requests().saturating_sub(before);
-    let seen = (
+    (
         end,
         digits(v.as_slice()),
         v.capacity(),
         requests,
-        number(back),
-    );
-    drop(v);
-    Ok((seen, calls.get(), is_given_back(&heap)))
+        number(one),
+    )
 }
 
 // The number in an element that may have been handed back.
 fn number(back: Option<Held<'_>>) -> u32 {
     match back {
-        Some(one) => Box::into_inner(one),
+        Some(one) => *one,
         None => 0,
     }
 }
@@ -216,342 +270,257 @@ fn number(back: Option<Held<'_>>) -> u32 {
 // capacity where none is. With no request, the first would be refused.
 type Row = (Call, usize, u64, (usize, usize), u32, usize);
 
-const CHANGES: [Row; 40] = [
-    (Call::Push, 3, 1, (6, 0), 1239, 6),
-    (Call::Insert, 3, 1, (6, 0), 1923, 6),
-    (Call::TryReserve(2), 3, 1, (6, 0), 123, 6),
-    (Call::Reserve(2), 3, 1, (6, 0), 123, 6),
-    (Call::TryReserveExact(2), 3, 1, (5, 0), 123, 5),
-    (Call::ReserveExact(2), 3, 1, (5, 0), 123, 5),
-    (Call::ShrinkTo(4), 10, 1, (4, 0), 123, 4),
-    (Call::ShrinkToFit, 10, 1, (3, 0), 123, 3),
-    (Call::Append, 3, 1, (6, 0), 123456, 6),
-    (Call::SplitOff(1), 4, 1, (2, 0), 1, 4),
-    (Call::SplitOff(0), 4, 1, (4, 0), 0, 4),
-    (Call::ExtendFromSlice, 3, 4, (6, 6), 123456, 6),
-    (Call::ExtendFromWithin, 3, 3, (6, 5), 12323, 6),
-    (Call::Resize(5), 3, 2, (6, 5), 12399, 6),
-    (Call::Fill(Fill::Extend), 3, 1, (6, 0), 123456, 6),
-    (Call::Fill(Fill::ExtendBy), 3, 1, (6, 0), 123456, 6),
-    (Call::ExtendHinted(0), 3, 1, (6, 0), 123456, 6),
-    (Call::ExtendHintedBy(0), 3, 1, (6, 0), 123456, 6),
-    (Call::Fill(Fill::FromIterIn), 3, 1, (4, 0), 456, 4),
-    (Call::Fill(Fill::FromIterInBy), 3, 1, (4, 0), 456, 4),
-    (Call::Fill(Fill::SliceFromIterIn), 3, 2, (4, 3), 123, 3),
-    (Call::FromSliceIn, 3, 4, (3, 3), 123, 3),
-    (Call::FromElemIn(3), 3, 9, (3, 3), 123, 3),
-    (Call::ToVecIn, 3, 4, (3, 3), 123, 3),
-    (Call::ToVecIn2, 3, 4, (3, 3), 123, 3),
-    (Call::Clone, 3, 4, (3, 3), 123, 3),
-    (Call::ItemsClone, 3, 4, (3, 3), 123, 3),
-    (Call::SliceClone, 3, 4, (3, 3), 123, 3),
-    // The one element more of a resize is the value itself.
-    (Call::Push, 4, 0, (0, 0), 1239, 4),
-    (Call::Insert, 4, 0, (0, 0), 1923, 4),
-    (Call::TryReserve(7), 10, 0, (0, 0), 123, 10),
-    (Call::Reserve(7), 10, 0, (0, 0), 123, 10),
-    (Call::TryReserveExact(7), 10, 0, (0, 0), 123, 10),
-    (Call::ReserveExact(7), 10, 0, (0, 0), 123, 10),
-    (Call::ShrinkTo(10), 10, 0, (0, 0), 123, 10),
-    (Call::ShrinkToFitCleared, 10, 0, (0, 0), 0, 0),
-    (Call::Append, 6, 0, (0, 0), 123456, 6),
-    (Call::Resize(1), 3, 0, (0, 0), 1, 3),
-    (Call::Resize(4), 4, 0, (0, 0), 1239, 4),
-    (Call::Fill(Fill::Extend), 6, 0, (0, 0), 123456, 6),
-];
+fn changes() -> [Row; 44] {
+    [
+        (Call::Push, 3, 1, (6, 0), 1239, 6),
+        (Call::Insert, 3, 1, (6, 0), 1923, 6),
+        (Call::TryReserve(2), 3, 1, (6, 0), 123, 6),
+        (Call::Reserve(2), 3, 1, (6, 0), 123, 6),
+        (Call::TryReserveExact(2), 3, 1, (5, 0), 123, 5),
+        (Call::ReserveExact(2), 3, 1, (5, 0), 123, 5),
+        (Call::ShrinkTo(4), 10, 1, (4, 0), 123, 4),
+        (Call::ShrinkToFit, 10, 1, (3, 0), 123, 3),
+        (Call::Append, 3, 1, (6, 0), 123456, 6),
+        (Call::SplitOff(1), 4, 1, (2, 0), 1, 4),
+        (Call::SplitOff(0), 4, 1, (4, 0), 0, 4),
+        (Call::ExtendFromSlice, 3, 4, (6, 6), 123456, 6),
+        (Call::ExtendFromWithin, 3, 3, (6, 5), 12323, 6),
+        (Call::Resize(5), 3, 2, (6, 5), 12399, 6),
+        (Call::Fill(Fill::Extend), 3, 1, (6, 0), 123456, 6),
+        (Call::Fill(Fill::ExtendBy), 3, 1, (6, 0), 123456, 6),
+        (Call::ExtendHinted(0), 3, 1, (6, 0), 123456, 6),
+        (Call::ExtendHintedBy(0), 3, 1, (6, 0), 123456, 6),
+        (Call::Fill(Fill::FromIterIn), 3, 1, (4, 0), 456, 4),
+        (Call::Fill(Fill::FromIterInBy), 3, 1, (4, 0), 456, 4),
+        (Call::Fill(Fill::SliceFromIterIn), 3, 2, (4, 3), 123, 3),
+        (Call::FromSliceIn, 3, 4, (3, 3), 123, 3),
+        (Call::FromElemIn(3), 3, 9, (3, 3), 123, 3),
+        (Call::ToVecIn, 3, 4, (3, 3), 123, 3),
+        (Call::ToVecIn2, 3, 4, (3, 3), 123, 3),
+        (Call::Clone, 3, 4, (3, 3), 123, 3),
+        (Call::ItemsClone, 3, 4, (3, 3), 123, 3),
+        (Call::SliceClone, 3, 4, (3, 3), 123, 3),
+        (Call::TraitClone, 3, 4, (0, 0), 123, 3),
+        (Call::TraitItemsClone, 3, 4, (0, 0), 123, 3),
+        (Call::TraitSliceClone, 3, 4, (0, 0), 123, 3),
+        (Call::TraitBoxClone, 3, 6, (1, 0), 123, 3),
+        // The one element more of a resize is the value itself.
+        (Call::Push, 4, 0, (0, 0), 1239, 4),
+        (Call::Insert, 4, 0, (0, 0), 1923, 4),
+        (Call::TryReserve(7), 10, 0, (0, 0), 123, 10),
+        (Call::Reserve(7), 10, 0, (0, 0), 123, 10),
+        (Call::TryReserveExact(7), 10, 0, (0, 0), 123, 10),
+        (Call::ReserveExact(7), 10, 0, (0, 0), 123, 10),
+        (Call::ShrinkTo(10), 10, 0, (0, 0), 123, 10),
+        (Call::ShrinkToFitCleared, 10, 0, (0, 0), 0, 0),
+        (Call::Append, 6, 0, (0, 0), 123456, 6),
+        (Call::Resize(1), 3, 0, (0, 0), 1, 3),
+        (Call::Resize(4), 4, 0, (0, 0), 1239, 4),
+        (Call::Fill(Fill::Extend), 6, 0, (0, 0), 123456, 6),
+    ]
+}
 
-// Refused, each of these leaves the elements; its first request, the capacity too.
-#[test]
-fn each_request_of_a_change_is_refused_in_turn(rt: HostRuntime) -> Result<(), Fail> {
-    for (call, room, requests, (first, later), done, grown) in CHANGES {
-        let before: Before<'_> = (&[1, 2, 3], room, &[4, 5, 6]);
-        // A refused push or insert hands its element back.
-        let back = match call {
-            Call::Push | Call::Insert => 9,
-            _ => 0,
-        };
-        for refused in 0..requests {
-            let (number, capacity) = if refused == 0 {
-                (first, room)
-            } else {
-                (later, grown)
-            };
-            let left = (End::NoMemory(number), 123, capacity, refused + 1, back);
-            let (came, _calls, once) = seen(rt.alloc(), call, before, refused)?;
-            assert!(rt; came == left && once);
-        }
-        let (came, _calls, once) = seen(rt.alloc(), call, before, requests)?;
-        assert!(rt; came == (End::Done, done, grown, requests, 0) && once);
+// What is seen of a row where the request numbered `refused` fails: each of these leaves the
+// elements; its first request, the capacity too. A push or an insert hands its element back.
+fn left_of((call, room, requests, (first, later), done, grown): Row, refused: u64) -> Seen {
+    if refused == requests {
+        return (End::Done, done, grown, requests, 0);
     }
-    Ok(())
+    let asked = refused.saturating_add(1);
+    match call {
+        Call::Push | Call::Insert => (End::NoMemory(first), 123, room, asked, 9),
+        _ if refused == 0 => (End::NoMemory(first), 123, room, asked, 0),
+        _ => (End::NoMemory(later), 123, grown, asked, 0),
+    }
+}
+
+#[test]
+fn each_request_of_a_change_is_refused_in_turn(rt: HostRuntime) {
+    for row in changes() {
+        for refused in 0..row.2.saturating_add(1) {
+            let (came, _calls, once) = seen(
+                rt.alloc(),
+                row.0,
+                (&[1, 2, 3], row.1, &[4, 5, 6]),
+                refused,
+            );
+            assert!(rt; came == left_of(row, refused) && once);
+        }
+    }
 }
 
 // A call, what it begins with, the request that is refused, what is then seen, and how often an
 // item is asked for: of an extension that is each that is placed and one more, or the end.
 type Part<'a> = (Call, Before<'a>, u64, Seen, u32);
 
-const EXTENSIONS: [Part<'_>; 12] = [
-    (
-        Call::Fill(Fill::Extend),
-        (&[1, 2, 3], 4, &[4, 5, 6]),
-        0,
-        (End::NoMemory(8), 1234, 4, 1, 0),
-        2,
-    ),
-    (
-        Call::Fill(Fill::Extend),
-        (&[1, 2, 3], 4, &[4, 5, 6]),
-        1,
-        (End::Done, 123456, 8, 1, 0),
-        4,
-    ),
-    (
-        Call::Fill(Fill::ExtendBy),
-        (&[1, 2, 3], 5, &[4, 5, 6]),
-        0,
-        (End::NoMemory(10), 12345, 5, 1, 0),
-        3,
-    ),
-    (
-        Call::ExtendHinted(0),
-        (&[1, 2, 3], 4, &[4, 5, 6]),
-        0,
-        (End::NoMemory(8), 1234, 4, 1, 0),
-        2,
-    ),
-    (
-        Call::ExtendHintedBy(0),
-        (&[1, 2, 3], 5, &[4, 5, 6]),
-        0,
-        (End::NoMemory(10), 12345, 5, 1, 0),
-        3,
-    ),
-    (
-        Call::Fill(Fill::Extend),
-        (&[1, 2, 3], 5, &[4, 5, 6, 7, 8]),
-        0,
-        (End::NoMemory(10), 12345, 5, 1, 0),
-        3,
-    ),
-    (
-        Call::Fill(Fill::Extend),
-        (&[1, 2, 3], 5, &[4, 5, 6, 7, 8]),
-        1,
-        (End::Done, 12345678, 10, 1, 0),
-        6,
-    ),
-    (
-        Call::ExtendHinted(0),
-        (&[1, 2, 3], 5, &[4, 5, 6, 7, 8]),
-        0,
-        (End::NoMemory(10), 12345, 5, 1, 0),
-        3,
-    ),
-    (
-        Call::ExtendHinted(0),
-        (&[1, 2, 3], 5, &[4, 5, 6, 7, 8]),
-        1,
-        (End::Done, 12345678, 10, 1, 0),
-        6,
-    ),
-    (
-        Call::Fill(Fill::FromIterIn),
-        (&[1, 2, 3], 5, &[4, 5, 6, 7, 8]),
-        0,
-        (End::NoMemory(4), 123, 5, 1, 0),
-        1,
-    ),
-    (
-        Call::Fill(Fill::FromIterIn),
-        (&[1, 2, 3], 5, &[4, 5, 6, 7, 8]),
-        1,
-        (End::NoMemory(8), 123, 5, 2, 0),
-        5,
-    ),
-    (
-        Call::Fill(Fill::FromIterIn),
-        (&[1, 2, 3], 5, &[4, 5, 6, 7, 8]),
-        2,
-        (End::Done, 45678, 8, 2, 0),
-        6,
-    ),
-];
+const THREE: Before<'_> = (&[1, 2, 3], 3, &[4, 5, 6]);
 
-// What stood there is dropped first.
-const ASSIGNMENTS: [Part<'_>; 9] = [
-    (
-        Call::AssignFrom,
-        (&[1, 2, 3], 3, &[4, 5, 6]),
-        0,
-        (End::NoMemory(3), 0, 3, 1, 0),
-        0,
-    ),
-    (
-        Call::AssignFrom,
-        (&[1, 2, 3], 3, &[4, 5, 6]),
-        1,
-        (End::NoMemory(3), 4, 3, 2, 0),
-        0,
-    ),
-    (
-        Call::AssignFrom,
-        (&[1, 2, 3], 3, &[4, 5, 6]),
-        2,
-        (End::NoMemory(3), 45, 3, 3, 0),
-        0,
-    ),
-    (
-        Call::AssignFrom,
-        (&[1, 2, 3], 3, &[4, 5, 6]),
-        3,
-        (End::Done, 456, 3, 3, 0),
-        0,
-    ),
-    (
-        Call::AssignFrom,
-        (&[1], 1, &[4, 5, 6]),
-        0,
-        (End::NoMemory(4), 0, 1, 1, 0),
-        0,
-    ),
-    (
-        Call::AssignFrom,
-        (&[1], 1, &[4, 5, 6]),
-        1,
-        (End::NoMemory(3), 0, 4, 2, 0),
-        0,
-    ),
-    (
-        Call::AssignFrom,
-        (&[1], 1, &[4, 5, 6]),
-        2,
-        (End::NoMemory(3), 4, 4, 3, 0),
-        0,
-    ),
-    (
-        Call::AssignFrom,
-        (&[1], 1, &[4, 5, 6]),
-        3,
-        (End::NoMemory(3), 45, 4, 4, 0),
-        0,
-    ),
-    (
-        Call::AssignFrom,
-        (&[1], 1, &[4, 5, 6]),
-        4,
-        (End::Done, 456, 4, 4, 0),
-        0,
-    ),
-];
+const ONE_FREE: Before<'_> = (&[1, 2, 3], 4, &[4, 5, 6]);
 
-// A hint that cannot be is refused where items are left and the range is full.
-const SPLICES: [Part<'_>; 9] = [
-    (
-        Call::SpliceHinted(1, 3, Some(1)),
-        (&[1, 2, 3, 4], 4, &[7, 8, 9, 10]),
-        0,
-        (End::NoMemory(8), 1784, 4, 1, 0),
-        0,
-    ),
-    (
-        Call::SpliceHinted(1, 3, Some(1)),
-        (&[1, 2, 3, 4], 4, &[7, 8, 9, 10]),
-        1,
-        (End::NoMemory(4), 17894, 8, 2, 0),
-        0,
-    ),
-    (
-        Call::SpliceHinted(1, 3, Some(1)),
-        (&[1, 2, 3, 4], 4, &[7, 8, 9, 10]),
-        2,
-        (End::Done, 179004, 8, 2, 0),
-        0,
-    ),
-    (
-        Call::SpliceTold(1, 3),
-        (&[1, 2, 3, 4], 4, &[7, 8, 9, 10]),
-        0,
-        (End::NoMemory(8), 1784, 4, 1, 0),
-        0,
-    ),
-    (
-        Call::SpliceTold(1, 3),
-        (&[1, 2, 3, 4], 4, &[7, 8, 9, 10]),
-        1,
-        (End::Done, 179004, 8, 1, 0),
-        0,
-    ),
-    (
-        Call::SpliceHinted(0, 3, Some(usize::MAX)),
-        (&[1, 2, 3, 4], 4, &[9]),
-        0,
-        (End::Done, 94, 4, 0, 0),
-        0,
-    ),
-    (
-        Call::SpliceHinted(1, 2, None),
-        (&[1, 2, 3], 3, &[8]),
-        0,
-        (End::Done, 183, 3, 0, 0),
-        0,
-    ),
-    (
-        Call::SpliceHinted(1, 3, Some(7)),
-        (&[1, 2, 3], 3, &[8, 9]),
-        0,
-        (End::Done, 189, 3, 0, 0),
-        0,
-    ),
-    (
-        Call::SpliceHinted(1, 2, Some(usize::MAX)),
-        (&[1, 2, 3], 3, &[8, 9]),
-        0,
-        (End::TooLong, 183, 3, 0, 0),
-        0,
-    ),
-];
+const TWO_FREE: Before<'_> = (&[1, 2, 3], 5, &[4, 5, 6, 7, 8]);
 
-// Of an extension what fits is kept, of an assignment a beginning, and of a splice what is behind
-// the range too.
-#[test]
-fn each_request_of_many_items_leaves_a_part(rt: HostRuntime) -> Result<(), Fail> {
-    for rows in [
-        EXTENSIONS.as_slice(),
-        ASSIGNMENTS.as_slice(),
-        SPLICES.as_slice(),
-    ] {
-        for (call, before, refused, left, calls) in rows {
-            let came = seen(rt.alloc(), *call, *before, *refused)?;
-            assert!(rt; came == (*left, *calls, true));
-        }
-    }
-    Ok(())
+const ONE: Before<'_> = (&[1], 1, &[4, 5, 6]);
+
+const FOUR: Before<'_> = (&[1, 2, 3, 4], 4, &[7, 8, 9, 10]);
+
+const NINE: Before<'_> = (&[1, 2, 3, 4], 4, &[9]);
+
+const PAIR: Before<'_> = (&[1, 2, 3], 3, &[8, 9]);
+
+// Of an extension what fits is kept, of an assignment a beginning, once what stood there is dropped,
+// and of a splice what is behind the range too. A hint that cannot be is refused where items are
+// left and the range is full.
+fn parts() -> [Part<'static>; 24] {
+    [
+        (
+            Call::Fill(Fill::Extend),
+            ONE_FREE,
+            0,
+            (End::NoMemory(8), 1234, 4, 1, 0),
+            2,
+        ),
+        (
+            Call::Fill(Fill::Extend),
+            ONE_FREE,
+            1,
+            (End::Done, 123456, 8, 1, 0),
+            4,
+        ),
+        (
+            Call::Fill(Fill::ExtendBy),
+            TWO_FREE,
+            0,
+            (End::NoMemory(10), 12345, 5, 1, 0),
+            3,
+        ),
+        (
+            Call::ExtendHinted(0),
+            ONE_FREE,
+            0,
+            (End::NoMemory(8), 1234, 4, 1, 0),
+            2,
+        ),
+        (
+            Call::ExtendHinted(0),
+            TWO_FREE,
+            1,
+            (End::Done, 12345678, 10, 1, 0),
+            6,
+        ),
+        (
+            Call::ExtendHintedBy(0),
+            TWO_FREE,
+            0,
+            (End::NoMemory(10), 12345, 5, 1, 0),
+            3,
+        ),
+        (
+            Call::Fill(Fill::FromIterIn),
+            TWO_FREE,
+            0,
+            (End::NoMemory(4), 123, 5, 1, 0),
+            1,
+        ),
+        (
+            Call::Fill(Fill::FromIterIn),
+            TWO_FREE,
+            1,
+            (End::NoMemory(8), 123, 5, 2, 0),
+            5,
+        ),
+        (
+            Call::Fill(Fill::FromIterIn),
+            TWO_FREE,
+            2,
+            (End::Done, 45678, 8, 2, 0),
+            6,
+        ),
+        (
+            Call::AssignFrom,
+            THREE,
+            0,
+            (End::NoMemory(3), 0, 3, 1, 0),
+            0,
+        ),
+        (
+            Call::AssignFrom,
+            THREE,
+            2,
+            (End::NoMemory(3), 45, 3, 3, 0),
+            0,
+        ),
+        (Call::AssignFrom, THREE, 3, (End::Done, 456, 3, 3, 0), 0),
+        (Call::AssignFrom, ONE, 0, (End::NoMemory(4), 0, 1, 1, 0), 0),
+        (Call::AssignFrom, ONE, 1, (End::NoMemory(3), 0, 4, 2, 0), 0),
+        (Call::AssignFrom, ONE, 3, (End::NoMemory(3), 45, 4, 4, 0), 0),
+        (Call::AssignFrom, ONE, 4, (End::Done, 456, 4, 4, 0), 0),
+        (
+            Call::SpliceHinted(1, 3, Some(1)),
+            FOUR,
+            0,
+            (End::NoMemory(8), 1784, 4, 1, 0),
+            0,
+        ),
+        (
+            Call::SpliceHinted(1, 3, Some(1)),
+            FOUR,
+            1,
+            (End::NoMemory(4), 17894, 8, 2, 0),
+            0,
+        ),
+        (
+            Call::SpliceHinted(1, 3, Some(1)),
+            FOUR,
+            2,
+            (End::Done, 179004, 8, 2, 0),
+            0,
+        ),
+        (
+            Call::SpliceTold(1, 3),
+            FOUR,
+            0,
+            (End::NoMemory(8), 1784, 4, 1, 0),
+            0,
+        ),
+        (
+            Call::SpliceTold(1, 3),
+            FOUR,
+            1,
+            (End::Done, 179004, 8, 1, 0),
+            0,
+        ),
+        (
+            Call::SpliceHinted(0, 3, Some(usize::MAX)),
+            NINE,
+            0,
+            (End::Done, 94, 4, 0, 0),
+            0,
+        ),
+        (
+            Call::SpliceHinted(1, 3, Some(7)),
+            PAIR,
+            0,
+            (End::Done, 189, 3, 0, 0),
+            0,
+        ),
+        (
+            Call::SpliceHinted(1, 2, Some(usize::MAX)),
+            PAIR,
+            0,
+            (End::TooLong, 183, 3, 0, 0),
+            0,
+        ),
+    ]
+}
+
+// Whether what is seen of a part is what it says.
+fn is_left(alloc: Global, (call, before, refused, left, calls): Part<'_>) -> bool {
+    seen(alloc, call, before, refused) == (left, calls, true)
 }
 
 #[test]
-fn elements_without_size_need_no_memory(rt: HostRuntime) -> Result<(), Fail> {
-    let calls = Cell::new(0);
-    for (call, len) in [
-        (Call::Push, 4),
-        (Call::Insert, 4),
-        (Call::Reserve(5), 3),
-        (Call::ReserveExact(5), 3),
-        (Call::ShrinkTo(1), 3),
-        (Call::ShrinkToFit, 3),
-        (Call::Append, 6),
-        (Call::SplitOff(1), 1),
-        (Call::ExtendFromSlice, 6),
-        (Call::ExtendFromWithin, 5),
-        (Call::Resize(5), 5),
-        (Call::AssignFrom, 3),
-        (Call::Fill(Fill::Extend), 6),
-        (Call::ExtendHinted(usize::MAX), 6),
-        (Call::SpliceHinted(1, 2, Some(1)), 5),
-    ] {
-        let mut v = units(3, Refusing)?;
-        let (end, _back) = called(call, &mut v, (), units(3, Refusing)?, Refusing, &calls);
-        assert!(rt; end == End::Done);
-        assert!(rt; (v.len(), v.capacity()) == (len, usize::MAX));
+fn each_request_of_many_items_leaves_a_part(rt: HostRuntime) {
+    for part in parts() {
+        assert!(rt; is_left(rt.alloc(), part));
     }
-    Ok(())
 }

@@ -1,24 +1,17 @@
-//! Vectors, boxed slices, arrays and arrays in boxes that become each other: what is refused is
-//! handed back.
-use crate::seen::{
-    End, Held, Number, boxed, digits, end_by, flattened, is_given_back, list_of, numbers, room_for,
-    stands,
-};
+//! Vectors, boxed slices and arrays in boxes that become each other: what is refused is handed
+//! back.
+use crate::seen::{End, boxed, end_by, is_given_back, numbers, put, room_for};
 use allocator_api2::boxed::{Box, BoxedSlice};
-use allocator_api2::collections::TryReserveError;
 use allocator_api2::vec::{ArrayIntoVec, SliceIntoVec, Vec};
-use allocator_api2::vec_of;
-use std::alloc::{AllocError, Allocator, Global};
-use std::test::Fail;
+use std::alloc::{Allocator, Global};
 use test_allocators::Faulty;
 
-// Three elements, as they may stand.
+// Three numbers, as they may stand.
 #[derive(Drop)]
-enum Three<T, A: Allocator> {
-    Vector(Vec<T, A>),
-    List(BoxedSlice<T, A>),
-    Array([T; 3]),
-    Boxed(Box<[T; 3], A>),
+enum Three<A: Allocator> {
+    Vector(Vec<u32, A>),
+    List(BoxedSlice<u32, A>),
+    Boxed(Box<[u32; 3], A>),
 }
 
 // What they become.
@@ -29,17 +22,10 @@ enum Step {
     Slice,
     IntoVec,
     SliceIntoVec,
-    TryFrom,
-    FromArrayIn,
-    SliceFromArrayIn,
 }
 
 // How a step ends, and what there is then. A refusal of `try_into_array` tells nothing.
-fn converted<T: Drop, A: Allocator + Clone + Drop>(
-    step: Step,
-    three: Three<T, A>,
-    alloc: A,
-) -> (End, Three<T, A>) {
+fn converted<A: Allocator + Clone + Drop>(step: Step, three: Three<A>) -> (End, Three<A>) {
     match (step, three) {
         (Step::IntoBoxedSlice, Three::Vector(v)) => match v.into_boxed_slice() {
             Ok(list) => (End::Done, Three::List(list)),
@@ -50,36 +36,13 @@ fn converted<T: Drop, A: Allocator + Clone + Drop>(
             Err(list) => (End::NoMemory(0), Three::List(list)),
         },
         (Step::SliceIntoVec, Three::List(list)) => (End::Done, Three::Vector(list.into_vec())),
-        (Step::TryFrom, Three::Vector(v)) => match <[T; 3]>::try_from(v) {
-            Ok(array) => (End::Done, Three::Array(array)),
-            Err(v) => (End::TooLong, Three::Vector(v)),
-        },
-        (step, Three::Array(array)) => from_array(step, array, alloc),
         (step, Three::Boxed(array)) => from_boxed(step, array),
         (_, three) => (End::TooLong, three),
     }
 }
 
-// The same of an array.
-fn from_array<T: Drop, A: Allocator>(step: Step, array: [T; 3], alloc: A) -> (End, Three<T, A>) {
-    let refusal = match step {
-        Step::FromArrayIn => match Vec::from_array_in(array, alloc) {
-            Ok(v) => return (End::Done, Three::Vector(v)),
-            Err(refusal) => refusal,
-        },
-        _ => match BoxedSlice::from_array_in(array, alloc) {
-            Ok(list) => return (End::Done, Three::List(list)),
-            Err(refusal) => refusal,
-        },
-    };
-    (end_by(refusal.error), Three::Array(refusal.source))
-}
-
 // The same of an array in a box.
-fn from_boxed<T: Drop, A: Allocator + Clone>(
-    step: Step,
-    array: Box<[T; 3], A>,
-) -> (End, Three<T, A>) {
+fn from_boxed<A: Allocator + Clone>(step: Step, array: Box<[u32; 3], A>) -> (End, Three<A>) {
     let refusal = match step {
         Step::Slice => match Box::slice(array) {
             Ok(list) => return (End::Done, Three::List(list)),
@@ -93,120 +56,125 @@ fn from_boxed<T: Drop, A: Allocator + Clone>(
     (end_by(refusal.error), Three::Boxed(refusal.source))
 }
 
-// The elements as the digits of a number.
-fn digits_of<T: Number, A: Allocator>(three: &Three<T, A>) -> u32 {
-    match three {
-        Three::Vector(v) => digits(v.as_slice()),
-        Three::List(list) => digits(list.as_slice()),
-        Three::Array(array) => digits(array.as_slice()),
-        Three::Boxed(array) => digits(array.as_slice()),
-    }
+// Whether they are 1, 2 and 3.
+fn is_whole<A: Allocator>(three: &Three<A>) -> bool {
+    [1, 2, 3].as_slice()
+        == match three {
+            Three::Vector(v) => v.as_slice(),
+            Three::List(list) => list.as_slice(),
+            Three::Boxed(array) => array.as_slice(),
+        }
 }
 
 // Each step asks once, and tells this number where it is refused; or it asks for nothing.
-const STEPS: [(Step, Option<usize>); 11] = [
-    (Step::IntoBoxedSlice, Some(3)),
-    (Step::TryIntoArray, Some(0)),
-    (Step::Slice, Some(3)),
-    (Step::TryIntoArray, Some(0)),
-    (Step::IntoVec, Some(3)),
-    (Step::IntoBoxedSlice, None),
-    (Step::SliceIntoVec, None),
-    (Step::TryFrom, None),
-    (Step::FromArrayIn, Some(3)),
-    (Step::TryFrom, None),
-    (Step::SliceFromArrayIn, Some(3)),
-];
+fn steps() -> [(Step, Option<usize>); 7] {
+    [
+        (Step::IntoBoxedSlice, Some(3)),
+        (Step::TryIntoArray, Some(0)),
+        (Step::Slice, Some(3)),
+        (Step::TryIntoArray, Some(0)),
+        (Step::IntoVec, Some(3)),
+        (Step::IntoBoxedSlice, None),
+        (Step::SliceIntoVec, None),
+    ]
+}
 
-#[test]
-fn each_request_of_the_conversions_is_refused(rt: HostRuntime) -> Result<(), Fail> {
-    let heap = Faulty::new(rt.alloc());
-    let v = list_of::<Held<'_>>(&heap, &[1, 2, 3], 4)?;
-    let mut three = Three::Vector(v);
-    for (step, refusal) in STEPS {
-        let before = heap.requests();
-        heap.refuse(0, 1);
-        if let Some(number) = refusal {
-            let (end, left) = converted(step, three, &heap);
-            assert!(rt; (end, digits_of(&left)) == (End::NoMemory(number), 123));
-            three = left;
+// Takes a step, where it is refused once more: whether it ends as it must, and what there is then.
+fn stepped<A: Allocator + Clone + Drop>(
+    step: Step,
+    refusal: Option<usize>,
+    three: Three<A>,
+) -> (bool, Three<A>) {
+    let (end, left) = converted(step, three);
+    let whole = is_whole(&left);
+    match refusal {
+        Some(number) if end == End::NoMemory(number) && whole => {
+            let (end, made) = converted(step, left);
+            (end == End::Done && is_whole(&made), made)
         }
-        let (end, made) = converted(step, three, &heap);
-        assert!(rt; (end, digits_of(&made)) == (End::Done, 123));
-        let asked = if refusal.is_some() { 2 } else { 0 };
-        assert!(rt; heap.requests().saturating_sub(before) == asked);
+        Some(_) => (false, left),
+        None => (end == End::Done && whole, left),
+    }
+}
+
+// Takes each step, the first request of each refused: how many end as they must.
+fn steps_taken(heap: &Faulty<Global>) -> usize {
+    let mut three = Three::Vector(numbers(heap, &[1, 2, 3], 4));
+    let mut taken = 0usize;
+    for (step, refusal) in steps() {
+        heap.refuse(0, 1);
+        let (right, made) = stepped(step, refusal, three);
+        if right {
+            taken = taken.saturating_add(1);
+        }
         three = made;
     }
-    drop(three);
-    assert!(rt; is_given_back(&heap));
-    Ok(())
-}
-
-// The numbers 1 to 3 on an allocator whose clones are refused, as a boxed slice and in a box.
-fn uncloned(alloc: Global) -> Result<[Three<u32, Faulty<Global>>; 2], TryReserveError> {
-    let v = numbers(Faulty::new(alloc), &[1, 2, 3], 3)?;
-    v.allocator().refuse_clones(true);
-    let (_end, list) = converted(Step::IntoBoxedSlice, Three::Vector(v), Faulty::new(alloc));
-    let array = boxed([1, 2, 3], Faulty::new(alloc))?;
-    Box::allocator(&array).refuse_clones(true);
-    Ok([list, Three::Boxed(array)])
+    taken
 }
 
 #[test]
-fn a_refused_clone_of_the_allocator_hands_back(rt: HostRuntime) -> Result<(), Fail> {
-    let [mut list, mut array] = uncloned(rt.alloc())?;
-    for (step, number) in [(Step::Slice, 3), (Step::IntoVec, 3)] {
-        let (end, left) = converted(step, array, Faulty::new(rt.alloc()));
-        assert!(rt; (end, digits_of(&left)) == (End::NoMemory(number), 123));
-        array = left;
-    }
-    let (end, left) = converted(Step::TryIntoArray, list, Faulty::new(rt.alloc()));
-    assert!(rt; (end, digits_of(&left)) == (End::NoMemory(0), 123));
-    list = left;
-    drop(list);
-    drop(array);
-    Ok(())
-}
-
-// Two pairs.
-fn pairs<A: Allocator>(alloc: A) -> Result<Vec<[u32; 2], A>, TryReserveError> {
-    match vec_of![in alloc; [1, 2], [3, 4]] {
-        Ok(v) => Ok(v),
-        Err(refusal) => Err(refusal.error),
-    }
-}
-
-#[test]
-fn a_refused_flattening_hands_the_vector_back(rt: HostRuntime) -> Result<(), Fail> {
+fn each_request_of_the_conversions_is_refused(rt: HostRuntime) {
     let heap = Faulty::new(rt.alloc());
-    let v = pairs(&heap)?;
-    heap.refuse(0, 1);
-    let Err((end, back)) = flattened(v) else {
-        return Ok(assert!(rt; false));
+    assert!(rt; steps_taken(&heap) == steps().len());
+    assert!(rt; (heap.requests(), heap.refused()) == (11, 5));
+    assert!(rt; is_given_back(&heap));
+}
+
+// How a step ends where the allocator's clone is refused, and whether the numbers stand then.
+fn uncloned(alloc: Global, step: Step) -> (End, bool) {
+    let heap = Faulty::new(alloc);
+    heap.refuse_clones(true);
+    let (end, left) = match step {
+        Step::TryIntoArray => {
+            let three = Three::Vector(numbers(heap, &[1, 2, 3], 3));
+            let (_end, list) = converted(Step::IntoBoxedSlice, three);
+            converted(step, list)
+        }
+        _ => match boxed([1, 2, 3], heap) {
+            Ok(array) => from_boxed(step, array),
+            Err(error) => return (end_by(error), false),
+        },
     };
-    assert!(rt; end == End::NoMemory(4));
-    assert!(rt; stands(&back, &[[1, 2], [3, 4]], 2));
-    let Ok(flat) = flattened(back) else {
-        return Ok(assert!(rt; false));
-    };
-    assert!(rt; stands(&flat, &[1, 2, 3, 4], 4));
-    assert!(rt; heap.outstanding() == 16);
-    Ok(())
+    (end, is_whole(&left))
 }
 
 #[test]
-fn a_flattening_is_refused_with_the_clone_of_the_allocator(rt: HostRuntime) -> Result<(), Fail> {
-    let v = pairs(Faulty::new(rt.alloc()))?;
-    v.allocator().refuse_clones(true);
-    let Err((end, back)) = flattened(v) else {
-        return Ok(assert!(rt; false));
-    };
-    assert!(rt; end == End::NoMemory(4));
-    back.allocator().refuse_clones(false);
-    let Ok(flat) = flattened(back) else {
-        return Ok(assert!(rt; false));
-    };
-    assert!(rt; stands(&flat, &[1, 2, 3, 4], 4));
-    assert!(rt; flat.allocator().requests() == 1);
-    Ok(())
+fn a_refused_clone_of_the_allocator_hands_back(rt: HostRuntime) {
+    for (step, number) in [
+        (Step::Slice, 3),
+        (Step::IntoVec, 3),
+        (Step::TryIntoArray, 0),
+    ] {
+        assert!(rt; uncloned(rt.alloc(), step) == (End::NoMemory(number), true));
+    }
+}
+
+// How it ends to join two pairs, and whether their numbers stand then.
+fn flattened<A: Allocator + Clone>(alloc: A) -> (End, bool) {
+    let mut pairs = room_for(2, alloc);
+    put(&mut pairs, [1u32, 2]);
+    put(&mut pairs, [3, 4]);
+    joined(pairs)
+}
+
+fn joined<A: Allocator + Clone>(pairs: Vec<[u32; 2], A>) -> (End, bool) {
+    match pairs.into_flattened() {
+        Ok(flat) => (End::Done, flat.as_slice() == [1, 2, 3, 4].as_slice()),
+        Err(refusal) => {
+            let whole = refusal.source.as_slice() == [[1, 2], [3, 4]].as_slice();
+            (end_by(refusal.error), whole)
+        }
+    }
+}
+
+#[test]
+fn a_refused_flattening_hands_the_vector_back(rt: HostRuntime) {
+    let heap = Faulty::new(rt.alloc());
+    heap.refuse(1, 1);
+    assert!(rt; flattened(&heap) == (End::NoMemory(4), true));
+    assert!(rt; flattened(&heap) == (End::Done, true));
+    assert!(rt; is_given_back(&heap));
+    let uncloned = Faulty::new(rt.alloc());
+    uncloned.refuse_clones(true);
+    assert!(rt; flattened(uncloned) == (End::NoMemory(4), true));
 }

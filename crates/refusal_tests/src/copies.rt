@@ -1,17 +1,17 @@
 //! Calls of plain copies, of bytes and of texts, and those that make room: each request in turn is
 //! refused.
 use crate::items::{copied, copied_by};
-use crate::seen::{End, end_of, end_of_made, is_given_back, room_for};
+use crate::seen::{End, end_by, end_of, end_of_made, is_given_back, room_for};
 use allocator_api2::boxed::{BoxedSlice, BoxedText, append_texts};
-use allocator_api2::collections::TryReserveError;
+use allocator_api2::collections::{Refused, TryReserveError};
 use allocator_api2::gap_buffer::GapBuffer;
 use allocator_api2::raw_vec::RawVec;
 use allocator_api2::slice::Repeat;
 use allocator_api2::vec::Vec;
+use allocator_api2::vec_of;
 use std::alloc::{Allocator, Global};
 use std::io::{ErrorKind, Result as Written, Write};
 use std::string::String;
-use std::test::Fail;
 use test_allocators::Faulty;
 
 // Bytes on the allocator of a test.
@@ -36,7 +36,11 @@ pub(crate) enum Call {
     // Of two numbers, so many times.
     Repeated(usize),
     FromTextIn,
+    FromArrayIn,
+    VecOfElements,
+    VecOfCopies,
     SliceFromSlice,
+    SliceFromArrayIn,
     TextFromText,
 }
 
@@ -79,7 +83,7 @@ pub(crate) fn called<'a>(call: Call, v: &mut Bytes<'a>, heap: &'a Faulty<Global>
             let len = v.len();
             end_of(v.extend_from_within_copied(len.min(1)..len))
         }
-        Call::ExtendCopied => copied(v, b"de".iter()),
+        Call::ExtendCopied => copied(v, b"defghijklm".iter()),
         Call::ExtendCopiedBy => copied_by(v, &mut b"de".iter()),
         Call::ResizeWith(len) => end_of_answers(v, len, false),
         Call::ResizeBy(len) => end_of_answers(v, len, true),
@@ -102,12 +106,31 @@ fn made(call: Call, heap: &Faulty<Global>) -> End {
         Call::TextWithCapacityIn(many) => {
             end_of_made(GapBuffer::<u32, _>::with_capacity_in(many, heap))
         }
-        Call::WithCapacityIn(many) => end_of_made(room_for::<u32, _>(many, heap)),
+        Call::WithCapacityIn(many) => end_of_made(Vec::<u32, _>::with_capacity_in(many, heap)),
         Call::FromSliceCopiedIn => end_of_made(Vec::from_slice_copied_in(&[1u32, 2, 3], heap)),
         Call::Repeated(times) => end_of_made(u32::repeat_in(&[1, 2], times, heap)),
         Call::FromTextIn => end_of_made(Vec::from_text_in("aé", heap)),
         Call::SliceFromSlice => end_of_made(BoxedSlice::from_slice(heap, &[1u32, 2, 3])),
+        Call::FromArrayIn => end_of_array(Vec::from_array_in([1, 2, 3], heap)),
+        Call::VecOfElements => end_of_array(vec_of![in heap; 1, 2, 3]),
+        Call::VecOfCopies => end_of_made(vec_of![in heap; 7u32; 3]),
+        Call::SliceFromArrayIn => end_of_array(BoxedSlice::from_array_in([1, 2, 3], heap)),
         _ => end_of_made(text_of(heap, "abc")),
+    }
+}
+
+// How it ends to make something of the numbers 1 to 3, which a refusal hands back.
+fn end_of_array<T: Drop>(ended: Result<T, Refused<[u32; 3]>>) -> End {
+    match ended {
+        Ok(_) => End::Done,
+        Err(refusal) => {
+            let back = refusal.source;
+            if back == [1, 2, 3] {
+                end_by(refusal.error)
+            } else {
+                End::TooLong
+            }
+        }
     }
 }
 
@@ -119,74 +142,95 @@ fn text_of<A: Allocator>(alloc: A, text: &str) -> Result<BoxedText<A>, TryReserv
 // How a call on the bytes a, b and c in full places ends where its first request is refused or
 // granted, how many there were, whether the bytes are those of `left`, and the capacity; and
 // whether each block is given back once.
-fn seen(
-    alloc: Global,
+fn seen(alloc: Global, call: Call, refused: u64, left: &[u8]) -> ((End, u64, bool, usize), bool) {
+    let heap = Faulty::new(alloc);
+    let seen = seen_on(&heap, call, refused, left);
+    (seen, is_given_back(&heap))
+}
+
+fn seen_on(
+    heap: &Faulty<Global>,
     call: Call,
     refused: u64,
     left: &[u8],
-) -> Result<((End, u64, bool, usize), bool), Fail> {
-    let heap = Faulty::new(alloc);
-    let mut v = room_for(3, &heap)?;
-    if end_of_copies(&mut v, b"abc") != End::Done {
-        return Ok(((End::TooLong, 0, false, 0), false));
-    }
+) -> (End, u64, bool, usize) {
+    let mut v = room_for(3, heap);
+    let _ended = end_of_copies(&mut v, b"abc");
     let before = heap.requests();
     heap.refuse(refused, 1);
-    let end = called(call, &mut v, &heap);
+    let end = called(call, &mut v, heap);
     let requests = heap.requests().saturating_sub(before);
-    let seen = (end, requests, v.as_slice() == left, v.capacity());
-    drop(v);
-    Ok((seen, is_given_back(&heap)))
+    (end, requests, v.as_slice() == left, v.capacity())
 }
 
 // A call, how many requests it makes, the number that is told where the first is refused, and the
 // bytes and the capacity where none is. With no request, the first would be refused.
 type Row<'a> = (Call, u64, usize, &'a [u8], usize);
 
-const COPIES: [Row<'_>; 19] = [
-    (Call::ExtendFromSliceCopied, 1, 8, b"abcde", 8),
-    (Call::ExtendFromWithinCopied, 1, 8, b"abcbc", 8),
-    (Call::ExtendCopied, 1, 8, b"abcde", 8),
-    (Call::ExtendCopiedBy, 1, 8, b"abcde", 8),
-    (Call::ResizeWith(5), 1, 8, b"abcdd", 8),
-    (Call::ResizeBy(5), 1, 8, b"abcdd", 8),
-    (Call::CloneCopied, 1, 3, b"abc", 3),
-    (Call::Write, 1, 0, b"abcde", 8),
-    (Call::WriteAll, 1, 0, b"abcde", 8),
-    (Call::BlockWithCapacityIn(0), 0, 0, b"abc", 3),
-    (Call::BlockWithCapacityIn(5), 1, 5, b"abc", 3),
-    (Call::TextWithCapacityIn(5), 1, 5, b"abc", 3),
-    (Call::WithCapacityIn(5), 1, 5, b"abc", 3),
-    (Call::FromSliceCopiedIn, 1, 3, b"abc", 3),
-    (Call::Repeated(3), 1, 6, b"abc", 3),
-    (Call::Repeated(0), 0, 0, b"abc", 3),
-    (Call::FromTextIn, 1, 3, b"abc", 3),
-    (Call::SliceFromSlice, 1, 3, b"abc", 3),
-    (Call::TextFromText, 1, 3, b"abc", 3),
-];
-
-#[test]
-fn refused_copies_leave_the_bytes(rt: HostRuntime) -> Result<(), Fail> {
-    for (call, requests, number, done, grown) in COPIES {
-        for refused in 0..requests {
-            let left = (End::NoMemory(number), 1, true, 3);
-            assert!(rt; seen(rt.alloc(), call, refused, b"abc")? == (left, true));
-        }
-        let left = (End::Done, requests, true, grown);
-        assert!(rt; seen(rt.alloc(), call, requests, done)? == (left, true));
-    }
-    Ok(())
+fn copies() -> [Row<'static>; 23] {
+    [
+        (Call::ExtendFromSliceCopied, 1, 8, b"abcde", 8),
+        (Call::ExtendFromWithinCopied, 1, 8, b"abcbc", 8),
+        (Call::ExtendCopied, 1, 13, b"abcdefghijklm", 13),
+        (Call::ExtendCopiedBy, 1, 8, b"abcde", 8),
+        (Call::ResizeWith(5), 1, 8, b"abcdd", 8),
+        (Call::ResizeBy(5), 1, 8, b"abcdd", 8),
+        (Call::CloneCopied, 1, 3, b"abc", 3),
+        (Call::Write, 1, 0, b"abcde", 8),
+        (Call::WriteAll, 1, 0, b"abcde", 8),
+        (Call::BlockWithCapacityIn(0), 0, 0, b"abc", 3),
+        (Call::BlockWithCapacityIn(5), 1, 5, b"abc", 3),
+        (Call::TextWithCapacityIn(5), 1, 5, b"abc", 3),
+        (Call::WithCapacityIn(5), 1, 5, b"abc", 3),
+        (Call::FromSliceCopiedIn, 1, 3, b"abc", 3),
+        (Call::Repeated(3), 1, 6, b"abc", 3),
+        (Call::Repeated(0), 0, 0, b"abc", 3),
+        (Call::FromTextIn, 1, 3, b"abc", 3),
+        (Call::FromArrayIn, 1, 3, b"abc", 3),
+        (Call::VecOfElements, 1, 3, b"abc", 3),
+        (Call::VecOfCopies, 1, 3, b"abc", 3),
+        (Call::SliceFromSlice, 1, 3, b"abc", 3),
+        (Call::SliceFromArrayIn, 1, 3, b"abc", 3),
+        (Call::TextFromText, 1, 3, b"abc", 3),
+    ]
 }
 
 #[test]
-fn a_refused_text_leaves_those_before_it(rt: HostRuntime) -> Result<(), Fail> {
-    let heap = Faulty::new(rt.alloc());
-    let mut all: String<&Faulty<Global>> = String::with_capacity(&heap, 2)?;
-    all.push_str("a")?;
-    let forty = "cccccccccccccccccccccccccccccccccccccccc";
-    let texts = [text_of(rt.alloc(), "b")?, text_of(rt.alloc(), forty)?];
+fn refused_copies_leave_the_bytes(rt: HostRuntime) {
+    for (call, requests, number, done, grown) in copies() {
+        if requests > 0 {
+            let left = (End::NoMemory(number), 1, true, 3);
+            assert!(rt; seen(rt.alloc(), call, 0, b"abc") == (left, true));
+        }
+        let left = (End::Done, requests, true, grown);
+        assert!(rt; seen(rt.alloc(), call, requests, done) == (left, true));
+    }
+}
+
+// How it ends to append two texts of a and so many more letters to one that has room for two.
+fn end_of_texts(heap: &Faulty<Global>, all: &mut String<&Faulty<Global>>, texts: [&str; 2]) -> End {
+    let [one, other] = texts;
+    match (text_of(heap, one), text_of(heap, other)) {
+        (Ok(one), Ok(other)) => appended(heap, all, [one, other]),
+        _ => End::TooLong,
+    }
+}
+
+fn appended(
+    heap: &Faulty<Global>,
+    all: &mut String<&Faulty<Global>>,
+    texts: [BoxedText<&Faulty<Global>>; 2],
+) -> End {
     heap.refuse(0, 1);
-    assert!(rt; end_of(append_texts(&mut all, texts.into_iter())) == End::NoMemory(42));
+    end_of(append_texts(all, texts.into_iter()))
+}
+
+#[test]
+fn a_refused_text_leaves_those_before_it(rt: HostRuntime) {
+    let heap = Faulty::new(rt.alloc());
+    let mut all: String<&Faulty<Global>> = String::new(&heap);
+    assert!(rt; all.push_str("a").is_ok());
+    let forty = "cccccccccccccccccccccccccccccccccccccccc";
+    assert!(rt; end_of_texts(&heap, &mut all, ["b", forty]) == End::NoMemory(42));
     assert!(rt; all.as_str() == "ab");
-    Ok(())
 }

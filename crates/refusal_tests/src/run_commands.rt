@@ -1,39 +1,58 @@
-//! `run`, command by command: on lists of many lengths, with all places full, one free and many
-//! free, and each request refused in turn.
-ghost use Rattle.aa_vec.specs.Copies.{Copies};
-
-use crate::plain_machine::{Answer, Machine, Memory, Plain, Told, numbers_from};
-use crate::seen::{Element, Held, List, Number, list_of, put, room_for};
-use allocator_api2::collections::{TryReserveError, TryReserveErrorKind};
+//! `run`, command by command: on lists of 0 to 100 numbers, with all places full, one free and many
+//! free, and each request refused in turn. What a command replies and what it leaves are in the
+//! contract of `run`. That it is refused only where a request is, or past the limits, is in none.
+use crate::seen::{List, put, room_for};
+use allocator_api2::collections::TryReserveErrorKind;
 use allocator_api2::runner::{Command, Reply, run};
-use allocator_api2::vec;
-use std::alloc::{AllocError, Global};
-use std::process::Abort;
+use allocator_api2::vec::Vec;
+use std::alloc::Global;
 use std::test::Fail;
 use test_allocators::Faulty;
 
-// The items of a command.
-fn items_of<'a, T: Element<'a> + Drop>(
-    heap: &'a Faulty<Global>,
-    count: u32,
-) -> Result<List<'a, T>, TryReserveError> {
-    let mut list = room_for(0, heap)?;
-    for number in 0..count {
-        put(&mut list, T::of(heap, number.saturating_add(100))?)?;
+// A command whose element is 7, and whose items are as many numbers as its first one says.
+#[derive(Clone, Copy)]
+enum Told {
+    Push,
+    Within,
+    Pop,
+    Insert(usize),
+    Remove(usize),
+    SwapRemove(usize),
+    Truncate(usize),
+    Clear,
+    Reserve(usize),
+    ReserveExact(usize),
+    ShrinkTo(usize),
+    SplitOff(usize),
+    Append,
+    Extend(u32, Option<usize>),
+    ExtendFromWithin(usize, usize),
+    Resize(usize),
+    Retain,
+    Dedup,
+    Drain(usize, usize, usize, usize, bool),
+    ExtractIf(usize, usize, usize),
+    Splice(u32, usize, usize, Option<usize>),
+}
+
+type Commands<'a> = List<'a, Command<u32, &'a Faulty<Global>>>;
+
+// So many numbers, in pairs, and so many places more.
+fn pairs<'a>(heap: &'a Faulty<Global>, count: u32, free: usize) -> List<'a, u32> {
+    let mut list = room_for((count as usize).saturating_add(free), heap);
+    for x in 0..count {
+        put(&mut list, x / 2);
     }
-    Ok(list)
+    list
 }
 
 // The command of `run` that is told.
-fn command_of<'a, T: Element<'a> + Drop>(
-    heap: &'a Faulty<Global>,
-    told: Told,
-) -> Result<Command<T, &'a Faulty<Global>>, TryReserveError> {
-    Ok(match told {
-        Told::Push => Command::Push(T::of(heap, 7)?),
-        Told::Within => Command::Within(T::of(heap, 7)?),
+fn command_of<'a>(heap: &'a Faulty<Global>, told: Told) -> Command<u32, &'a Faulty<Global>> {
+    match told {
+        Told::Push => Command::Push(7),
+        Told::Within => Command::Within(7),
         Told::Pop => Command::Pop,
-        Told::Insert(at) => Command::Insert(at, T::of(heap, 7)?),
+        Told::Insert(at) => Command::Insert(at, 7),
         Told::Remove(at) => Command::Remove(at),
         Told::SwapRemove(at) => Command::SwapRemove(at),
         Told::Truncate(n) => Command::Truncate(n),
@@ -43,24 +62,14 @@ fn command_of<'a, T: Element<'a> + Drop>(
         Told::ShrinkTo(n) => Command::ShrinkTo(n),
         Told::SplitOff(at) => Command::SplitOff(at),
         Told::Append => Command::Append,
-        Told::ExtendFromWithin(from, to) => Command::ExtendFromWithin(from, to),
-        Told::Resize(n) => Command::Resize(n, T::of(heap, 7)?),
-        Told::Retain => Command::Retain,
-        Told::Dedup => Command::Dedup,
-        _ => ranged(heap, told)?,
-    })
-}
-
-// The same of those with a range or with items.
-fn ranged<'a, T: Element<'a> + Drop>(
-    heap: &'a Faulty<Global>,
-    told: Told,
-) -> Result<Command<T, &'a Faulty<Global>>, TryReserveError> {
-    Ok(match told {
         Told::Extend(count, hint) => Command::Extend {
-            items: items_of(heap, count)?,
+            items: pairs(heap, count, 0),
             hint,
         },
+        Told::ExtendFromWithin(from, to) => Command::ExtendFromWithin(from, to),
+        Told::Resize(n) => Command::Resize(n, 7),
+        Told::Retain => Command::Retain,
+        Told::Dedup => Command::Dedup,
         Told::Drain(start, end, front, back, keep) => Command::Drain {
             start,
             end,
@@ -72,204 +81,90 @@ fn ranged<'a, T: Element<'a> + Drop>(
         Told::Splice(count, start, end, hint) => Command::Splice {
             start,
             end,
-            items: items_of(heap, count)?,
+            items: pairs(heap, count, 0),
             hint,
         },
-        _ => Command::Clear,
-    })
-}
-
-// The list of those commands.
-pub(crate) fn commands_of<'a, T: Element<'a> + Drop>(
-    heap: &'a Faulty<Global>,
-    all: &[Told],
-) -> Result<List<'a, Command<T, &'a Faulty<Global>>>, TryReserveError> {
-    let mut commands = room_for(all.len(), heap)?;
-    for told in all {
-        put(&mut commands, command_of(heap, *told)?)?;
-    }
-    Ok(commands)
-}
-
-// Whether there is one reply, and it is as it must be.
-pub(crate) fn is_answer<T: Number>(replies: &[Reply<T>], answer: Answer) -> bool {
-    match replies {
-        [reply] => is_reply(reply, answer),
-        _ => false,
     }
 }
 
-// Whether a reply is as it must be.
-pub(crate) fn is_reply<T: Number>(reply: &Reply<T>, answer: Answer) -> bool {
-    match (reply, answer) {
-        (Reply::Done, Answer::Done)
-        | (Reply::Nothing, Answer::Nothing)
-        | (Reply::Range, Answer::Range) => true,
-        (Reply::Item(x), Answer::Item(y)) | (Reply::Back(x), Answer::Back(y)) => x.number() == y,
-        (Reply::Refused(kind), answer) => is_refusal(*kind, answer),
-        _ => false,
-    }
+// The list of that command.
+fn commands_of<'a>(heap: &'a Faulty<Global>, told: Told) -> Commands<'a> {
+    let mut commands = room_for(1, heap);
+    put(&mut commands, command_of(heap, told));
+    commands
 }
 
-// Whether a refusal is as it must be.
-fn is_refusal(kind: TryReserveErrorKind, answer: Answer) -> bool {
-    match (kind, answer) {
-        (TryReserveErrorKind::CapacityOverflow, Answer::Overflow) => true,
-        (TryReserveErrorKind::AllocError { capacity }, Answer::Refused(least, most)) => {
-            least <= capacity && capacity <= most
-        }
-        _ => false,
-    }
-}
-
-// Whether a list has the numbers and the places that it must have.
-fn is_list<T: Number>(list: &List<'_, T>, plain: &Plain) -> bool {
-    if list.capacity() != plain.places || list.len() != plain.items.len() {
-        return false;
-    }
-    for (x, y) in list.as_slice().iter().zip(plain.items.iter()) {
-        if x.number() != *y {
-            return false;
+// How many replies there are, how many of them tell of a refused request, and how many of what
+// passes the limits.
+fn counts_of(replies: &[Reply<u32>]) -> (usize, usize, usize) {
+    let (mut refused, mut past) = (0usize, 0usize);
+    for reply in replies {
+        match reply {
+            Reply::Refused(TryReserveErrorKind::AllocError { .. }) => {
+                refused = refused.saturating_add(1);
+            }
+            Reply::Refused(TryReserveErrorKind::CapacityOverflow) => past = past.saturating_add(1),
+            _ => {}
         }
     }
-    true
+    (replies.len(), refused, past)
 }
 
-// How long main is, how many places are free in both lists, and which request is refused.
-#[derive(Clone, Copy)]
-struct Case {
-    len: u32,
-    free: usize,
-    refused: u64,
-}
-
-// The machine of a case: main's numbers come in pairs, and side has three.
-fn machine_of(alloc: Global, case: Case, cloned: bool) -> Result<Machine, AllocError> {
-    let mut main = Vec::new(alloc);
-    for x in 0..case.len {
-        main.push(x / 2)?;
-    }
-    let side = numbers_from(alloc, 50, 3)?;
-    Ok(Machine {
-        main: Plain {
-            places: main.len().saturating_add(case.free),
-            items: main,
-        },
-        side: Plain {
-            places: side.len().saturating_add(case.free),
-            items: side,
-        },
-        memory: Memory {
-            requests: 0,
-            refused: case.refused,
-            cloned,
-        },
-        alloc,
-    })
-}
-
-// Runs commands while the request numbered `refused` of the run fails: the replies, and how many
-// requests there were.
-pub(crate) fn ran<'a, T: Number + Drop>(
+// Runs commands, from where the next request but so many is refused: the counts of the replies.
+fn ran<'a>(
     heap: &'a Faulty<Global>,
-    main: &mut List<'a, T>,
-    side: &mut List<'a, T>,
-    commands: List<'a, Command<T, &'a Faulty<Global>>>,
+    main: &mut List<'a, u32>,
+    side: &mut List<'a, u32>,
+    commands: Commands<'a>,
     refused: u64,
-) -> Result<(List<'a, Reply<T>>, u64), TryReserveError>
-    requires copies { Copies T.is_clone }
-{
-    let mut replies = vec::Vec::with_capacity_in(commands.len(), heap)?;
-    let before = heap.requests();
+) -> (usize, usize, usize) {
+    let Ok(mut replies) = Vec::with_capacity_in(commands.len(), heap) else {
+        return (0, 0, 0);
+    };
     heap.refuse(refused, 1);
     run(
         main,
         side,
         commands,
-        &mut |x: &mut T| x.number() % 2 == 0,
-        &mut |x: &mut T, y: &mut T| x.number() == y.number(),
+        &mut |x: &mut u32| *x % 2 == 0,
+        &mut |x: &mut u32, y: &mut u32| x == y,
         &mut replies,
     );
     heap.refuse(0, 0);
-    Ok((replies, heap.requests().saturating_sub(before)))
+    counts_of(replies.as_slice())
 }
 
-// What is not as it must be.
-#[derive(Clone, Copy)]
-enum Fault {
-    Nothing,
-    Reply,
-    Main,
-    Side,
-    Requests,
-}
-
-impl Fault {
-    // What a test that fails calls it.
-    fn name(self) -> &'static str {
-        match self {
-            Fault::Nothing => "",
-            Fault::Reply => "reply",
-            Fault::Main => "main",
-            Fault::Side => "side",
-            Fault::Requests => "requests",
-        }
-    }
-}
-
-// Runs one command in a case, and looks at the reply, both lists and the number of requests.
-fn fault_of_one<'a, T: Element<'a> + Drop>(
-    heap: &'a Faulty<Global>,
-    machine: &mut Machine,
-    told: Told,
-) -> Result<Fault, TryReserveError>
-    requires copies { Copies T.is_clone }
-{
-    let mut main: List<'a, T> = list_of(heap, &machine.main.items, machine.main.places)?;
-    let mut side: List<'a, T> = list_of(heap, &machine.side.items, machine.side.places)?;
-    let commands = commands_of(heap, &[told])?;
-    let (replies, requests) = ran(heap, &mut main, &mut side, commands, machine.memory.refused)?;
-    let answer = machine.does(told)?;
-    if !is_answer(replies.as_slice(), answer) {
-        return Ok(Fault::Reply);
-    }
-    if !is_list(&main, &machine.main) {
-        return Ok(Fault::Main);
-    }
-    if !is_list(&side, &machine.side) {
-        return Ok(Fault::Side);
-    }
-    if requests != machine.memory.requests {
-        return Ok(Fault::Requests);
-    }
-    Ok(Fault::Nothing)
-}
-
-// Runs one command with each request refused in turn, up to where none is.
-fn refuses_each<'a, T: Element<'a> + Drop>(
-    rt: &impl Abort,
-    heap: &'a Faulty<Global>,
-    alloc: Global,
+// Runs a command on lists of so many numbers, and of three, with so many places more, while the
+// request numbered `refused` of the run fails: the counts of the replies, and whether there was
+// such a request.
+fn came_of(
+    heap: &Faulty<Global>,
     told: Told,
     len: u32,
-) -> Result<(), Fail>
-    requires copies { Copies T.is_clone }
-{
-    for free in [0, 1, 40] {
-        for refused in 0..64 {
-            let mut machine = machine_of(alloc, Case { len, free, refused }, T::CLONED)?;
-            let fault = fault_of_one::<T>(heap, &mut machine, told)?.name();
-            assert!(rt;
-                fault.is_empty() && heap.outstanding() == 0,
-                "{} at {len} and {free} places, refused {refused}: {fault}",
-                told.name()
-            );
-            if machine.memory.requests <= refused {
-                break;
-            }
+    free: usize,
+    refused: u64,
+) -> ((usize, usize, usize), bool) {
+    let mut main = pairs(heap, len, free);
+    let mut side = pairs(heap, 3, free);
+    let commands = commands_of(heap, told);
+    let before = heap.refused();
+    let counts = ran(heap, &mut main, &mut side, commands, refused);
+    (counts, heap.refused() != before)
+}
+
+// Whether a command is refused once wherever a request is, each in turn, and else not for want of
+// memory.
+fn is_refused_in_turn(heap: &Faulty<Global>, told: Told, len: u32, free: usize) -> bool {
+    for refused in 0..64 {
+        let ((replies, no_memory, _past), any) = came_of(heap, told, len, free, refused);
+        if replies != 1 || no_memory != any as usize {
+            return false;
+        }
+        if !any {
+            return true;
         }
     }
-    Ok(())
+    false
 }
 
 // Commands at the indices of a list: its start, its middle, its end and one past it.
@@ -363,41 +258,59 @@ fn ranges(len: usize) -> [Told; 25] {
     ]
 }
 
-// Runs each command on a list of so many elements.
-fn runs_all<'a, T: Element<'a> + Drop>(
-    rt: &impl Abort,
-    heap: &'a Faulty<Global>,
-    alloc: Global,
-    len: u32,
-) -> Result<(), Fail>
-    requires copies { Copies T.is_clone }
-{
-    for told in edits(len as usize) {
-        refuses_each::<T>(rt, heap, alloc, told, len)?;
+// How many of some commands are not refused as they must be on a list of so many.
+fn faults_of(heap: &Faulty<Global>, all: &[Told], len: u32) -> usize {
+    let mut faults = 0usize;
+    for told in all {
+        for free in [0, 1, 40] {
+            if !is_refused_in_turn(heap, *told, len, free) {
+                faults = faults.saturating_add(1);
+            }
+        }
     }
-    for told in many(len as usize) {
-        refuses_each::<T>(rt, heap, alloc, told, len)?;
-    }
-    for told in ranges(len as usize) {
-        refuses_each::<T>(rt, heap, alloc, told, len)?;
-    }
-    Ok(())
+    faults
+}
+
+// How many of all of them.
+fn faults(heap: &Faulty<Global>, len: u32) -> [usize; 3] {
+    let places = len as usize;
+    [
+        faults_of(heap, &edits(places), len),
+        faults_of(heap, &many(places), len),
+        faults_of(heap, &ranges(places), len),
+    ]
 }
 
 #[test]
-fn each_command_over_numbers(rt: HostRuntime) -> Result<(), Fail> {
+fn each_command_is_refused_where_a_request_is(rt: HostRuntime) {
     let heap = Faulty::new(rt.alloc());
     for len in 0..=100 {
-        runs_all::<u32>(&rt, &heap, rt.alloc(), len)?;
+        assert!(rt; faults(&heap, len) == [0, 0, 0], "on a list of {len}");
     }
-    Ok(())
+    assert!(rt; heap.outstanding() == 0);
 }
 
+// Whether a command on three numbers and no place more is refused for a size or a length.
+fn is_too_long(alloc: Global, told: Told) -> bool {
+    let ((_replies, _no_memory, past), _any) = came_of(&Faulty::new(alloc), told, 3, 0, u64::MAX);
+    past == 1
+}
+
+// More than the limit on bytes allows beside three numbers, and more than can be counted.
 #[test]
-fn each_command_over_elements_that_count(rt: HostRuntime) -> Result<(), Fail> {
-    let heap = Faulty::new(rt.alloc());
-    for len in 0..=8 {
-        runs_all::<Held<'_>>(&rt, &heap, rt.alloc(), len)?;
+fn each_command_is_refused_past_the_limits(rt: HostRuntime) {
+    let (much, most) = ((1 << 61) - 1, usize::MAX);
+    for told in [
+        Told::Reserve(much),
+        Told::Reserve(most),
+        Told::ReserveExact(much),
+        Told::ReserveExact(most),
+        Told::Extend(2, Some(much)),
+        Told::Extend(2, Some(most)),
+        Told::Resize(1 << 61),
+        Told::Splice(2, 0, 1, Some(1 << 61)),
+        Told::Splice(2, 0, 1, Some(most)),
+    ] {
+        assert!(rt; is_too_long(rt.alloc(), told));
     }
-    Ok(())
 }
