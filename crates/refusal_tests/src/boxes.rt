@@ -41,8 +41,10 @@ fn made<'a>(call: Call, heap: &'a Faulty<Global>) -> (bool, u64) {
 
 // Whether something was made, and how many bytes are outstanding while it stands.
 fn beside<T: Drop, E: Drop>(heap: &Faulty<Global>, made: Result<T, E>) -> (bool, u64) {
-    let bytes = heap.outstanding();
-    (made.is_ok(), bytes)
+    match made {
+        Ok(_stands) => (true, heap.outstanding()),
+        Err(_) => (false, heap.outstanding()),
+    }
 }
 
 #[test]

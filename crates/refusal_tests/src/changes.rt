@@ -21,7 +21,6 @@ pub(crate) enum Call {
     ReserveExact(usize),
     ShrinkTo(usize),
     ShrinkToFit,
-    ShrinkToFitCleared,
     Append,
     SplitOff(usize),
     ExtendFromSlice,
@@ -207,10 +206,6 @@ fn called_for_room<T: Drop, A: Allocator>(
         Call::TryReserveExact(more) => v.try_reserve_exact(more),
         Call::ReserveExact(more) => v.reserve_exact(more),
         Call::ShrinkTo(least) => v.shrink_to(least),
-        Call::ShrinkToFitCleared => {
-            v.clear();
-            v.shrink_to_fit()
-        }
         _ => v.shrink_to_fit(),
     }
 }
@@ -267,10 +262,10 @@ fn number(back: Option<Held<'_>>) -> u32 {
 
 // A call on the elements 1, 2 and 3 with room for so many, and 4, 5 and 6; its requests; the number
 // that is told where the first of them is refused, or a later one; and the elements and the
-// capacity where none is. With no request, the first would be refused.
+// capacity where none is.
 type Row = (Call, usize, u64, (usize, usize), u32, usize);
 
-fn changes() -> [Row; 44] {
+fn changes() -> [Row; 32] {
     [
         (Call::Push, 3, 1, (6, 0), 1239, 6),
         (Call::Insert, 3, 1, (6, 0), 1923, 6),
@@ -290,8 +285,8 @@ fn changes() -> [Row; 44] {
         (Call::Fill(Fill::ExtendBy), 3, 1, (6, 0), 123456, 6),
         (Call::ExtendHinted(0), 3, 1, (6, 0), 123456, 6),
         (Call::ExtendHintedBy(0), 3, 1, (6, 0), 123456, 6),
-        (Call::Fill(Fill::FromIterIn), 3, 1, (4, 0), 456, 4),
-        (Call::Fill(Fill::FromIterInBy), 3, 1, (4, 0), 456, 4),
+        (Call::Fill(Fill::FromIterIn), 3, 1, (4, 0), 123, 3),
+        (Call::Fill(Fill::FromIterInBy), 3, 1, (4, 0), 123, 3),
         (Call::Fill(Fill::SliceFromIterIn), 3, 2, (4, 3), 123, 3),
         (Call::FromSliceIn, 3, 4, (3, 3), 123, 3),
         (Call::FromElemIn(3), 3, 9, (3, 3), 123, 3),
@@ -304,19 +299,6 @@ fn changes() -> [Row; 44] {
         (Call::TraitItemsClone, 3, 4, (0, 0), 123, 3),
         (Call::TraitSliceClone, 3, 4, (0, 0), 123, 3),
         (Call::TraitBoxClone, 3, 6, (1, 0), 123, 3),
-        // The one element more of a resize is the value itself.
-        (Call::Push, 4, 0, (0, 0), 1239, 4),
-        (Call::Insert, 4, 0, (0, 0), 1923, 4),
-        (Call::TryReserve(7), 10, 0, (0, 0), 123, 10),
-        (Call::Reserve(7), 10, 0, (0, 0), 123, 10),
-        (Call::TryReserveExact(7), 10, 0, (0, 0), 123, 10),
-        (Call::ReserveExact(7), 10, 0, (0, 0), 123, 10),
-        (Call::ShrinkTo(10), 10, 0, (0, 0), 123, 10),
-        (Call::ShrinkToFitCleared, 10, 0, (0, 0), 0, 0),
-        (Call::Append, 6, 0, (0, 0), 123456, 6),
-        (Call::Resize(1), 3, 0, (0, 0), 1, 3),
-        (Call::Resize(4), 4, 0, (0, 0), 1239, 4),
-        (Call::Fill(Fill::Extend), 6, 0, (0, 0), 123456, 6),
     ]
 }
 
@@ -349,173 +331,89 @@ fn each_request_of_a_change_is_refused_in_turn(rt: HostRuntime) {
     }
 }
 
-// A call, what it begins with, the request that is refused, what is then seen, and how often an
-// item is asked for: of an extension that is each that is placed and one more, or the end.
-type Part<'a> = (Call, Before<'a>, u64, Seen, u32);
+// What a part begins with: the numbers and the places of a list, and the numbers of another.
+#[derive(Clone, Copy)]
+enum Start {
+    Full,
+    OneFree,
+    TwoFree,
+    One,
+    Four,
+    FourForOne,
+    ThreeForTwo,
+}
 
-const THREE: Before<'_> = (&[1, 2, 3], 3, &[4, 5, 6]);
+fn lists(from: Start) -> Before<'static> {
+    match from {
+        Start::Full => (&[1, 2, 3], 3, &[4, 5, 6]),
+        Start::OneFree => (&[1, 2, 3], 4, &[4, 5, 6]),
+        Start::TwoFree => (&[1, 2, 3], 5, &[4, 5, 6, 7, 8]),
+        Start::One => (&[1], 1, &[4, 5, 6]),
+        Start::Four => (&[1, 2, 3, 4], 4, &[7, 8, 9, 10]),
+        Start::FourForOne => (&[1, 2, 3, 4], 4, &[9]),
+        Start::ThreeForTwo => (&[1, 2, 3], 3, &[8, 9]),
+    }
+}
 
-const ONE_FREE: Before<'_> = (&[1, 2, 3], 4, &[4, 5, 6]);
+// A call, what it begins with, the request that is refused; how it ends, the elements, the capacity
+// and the requests; and how often an item is asked for: of an extension that is each that is placed
+// and one more, or the end.
+type Part = (Call, Start, u64, End, u32, usize, u64, u32);
 
-const TWO_FREE: Before<'_> = (&[1, 2, 3], 5, &[4, 5, 6, 7, 8]);
+const HINT: Call = Call::SpliceHinted(1, 3, Some(1));
 
-const ONE: Before<'_> = (&[1], 1, &[4, 5, 6]);
+const TOLD: Call = Call::SpliceTold(1, 3);
 
-const FOUR: Before<'_> = (&[1, 2, 3, 4], 4, &[7, 8, 9, 10]);
+const UNTRUE: Call = Call::SpliceHinted(1, 2, Some(usize::MAX));
 
-const NINE: Before<'_> = (&[1, 2, 3, 4], 4, &[9]);
-
-const PAIR: Before<'_> = (&[1, 2, 3], 3, &[8, 9]);
+const UNTRUE_OF_THREE: Call = Call::SpliceHinted(0, 3, Some(usize::MAX));
 
 // Of an extension what fits is kept, of an assignment a beginning, once what stood there is dropped,
 // and of a splice what is behind the range too. A hint that cannot be is refused where items are
 // left and the range is full.
-fn parts() -> [Part<'static>; 24] {
+fn parts() -> [Part; 21] {
+    let (extend, by) = (Call::Fill(Fill::Extend), Call::Fill(Fill::ExtendBy));
+    let (hinted, made) = (Call::ExtendHinted(0), Call::Fill(Fill::FromIterIn));
+    let assign = Call::AssignFrom;
     [
+        (extend, Start::OneFree, 0, End::NoMemory(8), 1234, 4, 1, 2),
+        (extend, Start::OneFree, 1, End::Done, 123456, 8, 1, 4),
+        (by, Start::TwoFree, 0, End::NoMemory(10), 12345, 5, 1, 3),
+        (hinted, Start::OneFree, 0, End::NoMemory(8), 1234, 4, 1, 2),
+        (hinted, Start::TwoFree, 1, End::Done, 12345678, 10, 1, 6),
+        (made, Start::TwoFree, 0, End::NoMemory(4), 123, 5, 1, 1),
+        (made, Start::TwoFree, 1, End::NoMemory(8), 123, 5, 2, 5),
+        (made, Start::TwoFree, 2, End::Done, 123, 5, 2, 6),
+        (assign, Start::Full, 0, End::NoMemory(3), 0, 3, 1, 0),
+        (assign, Start::One, 0, End::NoMemory(4), 0, 1, 1, 0),
+        (assign, Start::One, 1, End::NoMemory(3), 0, 4, 2, 0),
+        (assign, Start::One, 2, End::NoMemory(3), 4, 4, 3, 0),
+        (assign, Start::One, 3, End::NoMemory(3), 45, 4, 4, 0),
+        (assign, Start::One, 4, End::Done, 456, 4, 4, 0),
+        (HINT, Start::Four, 0, End::NoMemory(8), 1784, 4, 1, 0),
+        (HINT, Start::Four, 1, End::NoMemory(4), 17894, 8, 2, 0),
+        (HINT, Start::Four, 2, End::Done, 179004, 8, 2, 0),
+        (TOLD, Start::Four, 0, End::NoMemory(8), 1784, 4, 1, 0),
+        (TOLD, Start::Four, 1, End::Done, 179004, 8, 1, 0),
         (
-            Call::Fill(Fill::Extend),
-            ONE_FREE,
+            UNTRUE_OF_THREE,
+            Start::FourForOne,
             0,
-            (End::NoMemory(8), 1234, 4, 1, 0),
-            2,
-        ),
-        (
-            Call::Fill(Fill::Extend),
-            ONE_FREE,
-            1,
-            (End::Done, 123456, 8, 1, 0),
+            End::Done,
+            94,
             4,
-        ),
-        (
-            Call::Fill(Fill::ExtendBy),
-            TWO_FREE,
             0,
-            (End::NoMemory(10), 12345, 5, 1, 0),
-            3,
-        ),
-        (
-            Call::ExtendHinted(0),
-            ONE_FREE,
-            0,
-            (End::NoMemory(8), 1234, 4, 1, 0),
-            2,
-        ),
-        (
-            Call::ExtendHinted(0),
-            TWO_FREE,
-            1,
-            (End::Done, 12345678, 10, 1, 0),
-            6,
-        ),
-        (
-            Call::ExtendHintedBy(0),
-            TWO_FREE,
-            0,
-            (End::NoMemory(10), 12345, 5, 1, 0),
-            3,
-        ),
-        (
-            Call::Fill(Fill::FromIterIn),
-            TWO_FREE,
-            0,
-            (End::NoMemory(4), 123, 5, 1, 0),
-            1,
-        ),
-        (
-            Call::Fill(Fill::FromIterIn),
-            TWO_FREE,
-            1,
-            (End::NoMemory(8), 123, 5, 2, 0),
-            5,
-        ),
-        (
-            Call::Fill(Fill::FromIterIn),
-            TWO_FREE,
-            2,
-            (End::Done, 45678, 8, 2, 0),
-            6,
-        ),
-        (
-            Call::AssignFrom,
-            THREE,
-            0,
-            (End::NoMemory(3), 0, 3, 1, 0),
             0,
         ),
-        (
-            Call::AssignFrom,
-            THREE,
-            2,
-            (End::NoMemory(3), 45, 3, 3, 0),
-            0,
-        ),
-        (Call::AssignFrom, THREE, 3, (End::Done, 456, 3, 3, 0), 0),
-        (Call::AssignFrom, ONE, 0, (End::NoMemory(4), 0, 1, 1, 0), 0),
-        (Call::AssignFrom, ONE, 1, (End::NoMemory(3), 0, 4, 2, 0), 0),
-        (Call::AssignFrom, ONE, 3, (End::NoMemory(3), 45, 4, 4, 0), 0),
-        (Call::AssignFrom, ONE, 4, (End::Done, 456, 4, 4, 0), 0),
-        (
-            Call::SpliceHinted(1, 3, Some(1)),
-            FOUR,
-            0,
-            (End::NoMemory(8), 1784, 4, 1, 0),
-            0,
-        ),
-        (
-            Call::SpliceHinted(1, 3, Some(1)),
-            FOUR,
-            1,
-            (End::NoMemory(4), 17894, 8, 2, 0),
-            0,
-        ),
-        (
-            Call::SpliceHinted(1, 3, Some(1)),
-            FOUR,
-            2,
-            (End::Done, 179004, 8, 2, 0),
-            0,
-        ),
-        (
-            Call::SpliceTold(1, 3),
-            FOUR,
-            0,
-            (End::NoMemory(8), 1784, 4, 1, 0),
-            0,
-        ),
-        (
-            Call::SpliceTold(1, 3),
-            FOUR,
-            1,
-            (End::Done, 179004, 8, 1, 0),
-            0,
-        ),
-        (
-            Call::SpliceHinted(0, 3, Some(usize::MAX)),
-            NINE,
-            0,
-            (End::Done, 94, 4, 0, 0),
-            0,
-        ),
-        (
-            Call::SpliceHinted(1, 3, Some(7)),
-            PAIR,
-            0,
-            (End::Done, 189, 3, 0, 0),
-            0,
-        ),
-        (
-            Call::SpliceHinted(1, 2, Some(usize::MAX)),
-            PAIR,
-            0,
-            (End::TooLong, 183, 3, 0, 0),
-            0,
-        ),
+        (UNTRUE, Start::ThreeForTwo, 0, End::TooLong, 183, 3, 0, 0),
     ]
 }
 
 // Whether what is seen of a part is what it says.
-fn is_left(alloc: Global, (call, before, refused, left, calls): Part<'_>) -> bool {
-    seen(alloc, call, before, refused) == (left, calls, true)
+fn is_left(alloc: Global, part: Part) -> bool {
+    let (call, from, refused, end, digits, capacity, requests, calls) = part;
+    let left = (end, digits, capacity, requests, 0);
+    seen(alloc, call, lists(from), refused) == (left, calls, true)
 }
 
 #[test]

@@ -2,9 +2,8 @@
 //! bounds what that answers, and names no number.
 ghost use Rattle.std.specs.Iterator.{IsFinite};
 
-use crate::seen::{End, end_by, end_of, end_of_made, numbers, stands};
+use crate::seen::{End, end_of, end_of_made, numbers, stands};
 use allocator_api2::boxed::BoxedSlice;
-use allocator_api2::collections::TryReserveError;
 use allocator_api2::vec::{Hinted, Items, Vec};
 use std::alloc::{Allocator, Global};
 use std::cell::Cell;
@@ -56,7 +55,7 @@ pub(crate) enum Fill {
     Splice(usize, usize),
 }
 
-// How a call ends that is given its items. A vector that it makes takes the place of `v`.
+// How a call ends that is given its items. What it makes is dropped.
 pub(crate) fn filled<I: Iterator<Item = T> + Drop, T: Drop, A: Allocator + Clone + Drop>(
     call: Fill,
     v: &mut Vec<T, A>,
@@ -69,7 +68,7 @@ pub(crate) fn filled<I: Iterator<Item = T> + Drop, T: Drop, A: Allocator + Clone
     let mut items = items;
     match call {
         Fill::Extend => end_of(v.extend(items)),
-        Fill::FromIterIn => replaced(v, Vec::from_iter_in(items, alloc)),
+        Fill::FromIterIn => end_of_made(Vec::from_iter_in(items, alloc)),
         Fill::SliceFromIterIn => end_of_made(BoxedSlice::from_iter_in(items, alloc)),
         Fill::Splice(from, to) if from <= to && to <= v.len() => {
             end_of(v.splice(from..to, items).finish())
@@ -90,21 +89,7 @@ pub(crate) fn filled_by<I: Iterator<Item = T>, T: Drop, A: Allocator + Drop>(
 {
     match call {
         Fill::ExtendBy => end_of(v.extend_by(items)),
-        _ => replaced(v, Vec::from_iter_in_by(items, alloc)),
-    }
-}
-
-// How it ends to make a vector, which takes the place of another.
-fn replaced<T: Drop, A: Allocator>(
-    v: &mut Vec<T, A>,
-    made: Result<Vec<T, A>, TryReserveError>,
-) -> End {
-    match made {
-        Ok(new) => {
-            *v = new;
-            End::Done
-        }
-        Err(error) => end_by(error),
+        _ => end_of_made(Vec::from_iter_in_by(items, alloc)),
     }
 }
 
@@ -144,8 +129,6 @@ pub(crate) fn copied_by<'a, I: Iterator<Item = &'a T>, T: Copy + 'a, A: Allocato
     end_of(v.extend_copied_by(items))
 }
 
-const TEN: [u32; 10] = [10, 11, 12, 13, 14, 15, 16, 17, 18, 19];
-
 const BEHIND_TWO: [u32; 12] = [1, 2, 10, 11, 12, 13, 14, 15, 16, 17, 18, 19];
 
 // A call on full places, the numbers from one up to another of which `size_hint` tells exactly, the
@@ -170,8 +153,8 @@ fn rows() -> [Row<'static>; 7] {
             (10, 20),
             1,
             End::Done,
-            &TEN,
-            10,
+            &[1, 2],
+            2,
             1,
         ),
         (

@@ -39,7 +39,7 @@
 //! | `Vec::extend`, `extend_by`, `extend_hinted`, `extend_hinted_by` | 1 | `changes`, `items` |
 //! | `Splice::finish` | 1 | `changes`, `items` |
 //! | `Splice::finish_hinted` | 2 | `changes` |
-//! | `Vec::extend_copied`, `extend_copied_by` | 1 | `copies`, `items` |
+//! | `Vec::extend_copied`, `extend_copied_by` | 1 | `copies` |
 //! | `Vec::extend_from_slice_copied`, `extend_from_within_copied` | 1 | `copies` |
 //! | `Vec::resize_with`, `resize_by` | 1 | `copies` |
 //! | `Vec::write`, `write_all` | 1 | `copies` |

@@ -94,32 +94,35 @@ fn commands_of<'a>(heap: &'a Faulty<Global>, told: Told) -> Commands<'a> {
     commands
 }
 
-// How many replies there are, how many of them tell of a refused request, and how many of what
-// passes the limits.
-fn counts_of(replies: &[Reply<u32>]) -> (usize, usize, usize) {
-    let (mut refused, mut past) = (0usize, 0usize);
-    for reply in replies {
-        match reply {
-            Reply::Refused(TryReserveErrorKind::AllocError { .. }) => {
-                refused = refused.saturating_add(1);
-            }
-            Reply::Refused(TryReserveErrorKind::CapacityOverflow) => past = past.saturating_add(1),
-            _ => {}
-        }
-    }
-    (replies.len(), refused, past)
+// How a command ended: done in some way, refused for want of memory, or for what passes the limits;
+// or there is not one reply.
+#[derive(Clone, Copy, PartialEq)]
+enum Ended {
+    Done,
+    NoMemory,
+    TooLong,
+    NotTold,
 }
 
-// Runs commands, from where the next request but so many is refused: the counts of the replies.
+fn ended_by(replies: &[Reply<u32>]) -> Ended {
+    match replies {
+        [Reply::Refused(TryReserveErrorKind::AllocError { .. })] => Ended::NoMemory,
+        [Reply::Refused(TryReserveErrorKind::CapacityOverflow)] => Ended::TooLong,
+        [_] => Ended::Done,
+        _ => Ended::NotTold,
+    }
+}
+
+// Runs a command while the request numbered `refused` of the run fails: how it ends.
 fn ran<'a>(
     heap: &'a Faulty<Global>,
     main: &mut List<'a, u32>,
     side: &mut List<'a, u32>,
     commands: Commands<'a>,
     refused: u64,
-) -> (usize, usize, usize) {
+) -> Ended {
     let Ok(mut replies) = Vec::with_capacity_in(commands.len(), heap) else {
-        return (0, 0, 0);
+        return Ended::NotTold;
     };
     heap.refuse(refused, 1);
     run(
@@ -131,33 +134,32 @@ fn ran<'a>(
         &mut replies,
     );
     heap.refuse(0, 0);
-    counts_of(replies.as_slice())
+    ended_by(replies.as_slice())
 }
 
 // Runs a command on lists of so many numbers, and of three, with so many places more, while the
-// request numbered `refused` of the run fails: the counts of the replies, and whether there was
-// such a request.
+// request numbered `refused` of the run fails: how it ends, and whether there was such a request.
 fn came_of(
     heap: &Faulty<Global>,
     told: Told,
     len: u32,
     free: usize,
     refused: u64,
-) -> ((usize, usize, usize), bool) {
+) -> (Ended, bool) {
     let mut main = pairs(heap, len, free);
     let mut side = pairs(heap, 3, free);
     let commands = commands_of(heap, told);
     let before = heap.refused();
-    let counts = ran(heap, &mut main, &mut side, commands, refused);
-    (counts, heap.refused() != before)
+    let ended = ran(heap, &mut main, &mut side, commands, refused);
+    (ended, heap.refused() != before)
 }
 
 // Whether a command is refused once wherever a request is, each in turn, and else not for want of
 // memory.
 fn is_refused_in_turn(heap: &Faulty<Global>, told: Told, len: u32, free: usize) -> bool {
     for refused in 0..64 {
-        let ((replies, no_memory, _past), any) = came_of(heap, told, len, free, refused);
-        if replies != 1 || no_memory != any as usize {
+        let (ended, any) = came_of(heap, told, len, free, refused);
+        if ended == Ended::NotTold || any != (ended == Ended::NoMemory) {
             return false;
         }
         if !any {
@@ -292,8 +294,7 @@ fn each_command_is_refused_where_a_request_is(rt: HostRuntime) {
 
 // Whether a command on three numbers and no place more is refused for a size or a length.
 fn is_too_long(alloc: Global, told: Told) -> bool {
-    let ((_replies, _no_memory, past), _any) = came_of(&Faulty::new(alloc), told, 3, 0, u64::MAX);
-    past == 1
+    came_of(&Faulty::new(alloc), told, 3, 0, u64::MAX) == (Ended::TooLong, false)
 }
 
 // More than the limit on bytes allows beside three numbers, and more than can be counted.
