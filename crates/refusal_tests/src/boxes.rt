@@ -132,8 +132,8 @@ fn rooms() -> [Row; 9] {
     ]
 }
 
-// How a call of a block ends where its first request is refused, and the capacity then; how it ends
-// once more, and the capacity; and the requests.
+// How a call of a block ends where its first request is refused, and how once more, each beside the
+// capacity then.
 fn seen(heap: &Faulty<Global>, call: Room, room: usize) -> [(End, usize); 2] {
     let Ok(mut block) = RawVec::with_capacity_in(room, heap) else {
         return [(End::TooLong, 0), (End::TooLong, 0)];

@@ -51,8 +51,8 @@ pub(crate) enum Call {
     TraitBoxClone,
 }
 
-// How a call ends that is given another element and another vector; the element is there again where
-// it is handed back. It counts how often an item is asked for.
+// How a call ends that is given another element and another vector; where the element is handed
+// back it is there again. It counts how often an item is asked for.
 pub(crate) fn called<T: Clone + Drop, A: Allocator + Clone + Drop>(
     call: Call,
     v: &mut Vec<T, A>,
@@ -368,9 +368,9 @@ const UNTRUE: Call = Call::SpliceHinted(1, 2, Some(usize::MAX));
 
 const UNTRUE_OF_THREE: Call = Call::SpliceHinted(0, 3, Some(usize::MAX));
 
-// Of an extension what fits is kept, of an assignment a beginning, once what stood there is dropped,
-// and of a splice what is behind the range too. A hint that cannot be is refused where items are
-// left and the range is full.
+// Of an extension what fits is kept, of an assignment a beginning, once what stood there is
+// dropped, and of a splice what is behind the range too. A hint that cannot be is refused where
+// items are left and the range is full.
 fn parts() -> [Part; 21] {
     let (extend, by) = (Call::Fill(Fill::Extend), Call::Fill(Fill::ExtendBy));
     let (hinted, made) = (Call::ExtendHinted(0), Call::Fill(Fill::FromIterIn));

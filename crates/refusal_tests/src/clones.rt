@@ -15,7 +15,7 @@ fn uncloned(alloc: Global, items: &[u32]) -> Vec<u32, Faulty<Global>> {
 }
 
 // How a call ends on the numbers 1 to 4 and on others, and whether these are left in so many
-// places. What a splice puts is on an allocator that is cloned.
+// places.
 fn end_of_call(
     alloc: Global,
     call: Call,

@@ -207,7 +207,7 @@ fn refused_copies_leave_the_bytes(rt: HostRuntime) {
     }
 }
 
-// How it ends to append two texts of a and so many more letters to one that has room for two.
+// How it ends to append two texts to another where the first request is refused.
 fn end_of_texts(heap: &Faulty<Global>, all: &mut String<&Faulty<Global>>, texts: [&str; 2]) -> End {
     let [one, other] = texts;
     match (text_of(heap, one), text_of(heap, other)) {

@@ -1,5 +1,5 @@
-//! Calls that are given an iterator: that room is made at once for what `size_hint` tells. The trait
-//! bounds what that answers, and names no number.
+//! Calls that are given an iterator: that room is made at once for what `size_hint` tells. The
+//! trait bounds what that answers, and names no number.
 ghost use Rattle.std.specs.Iterator.{IsFinite};
 
 use crate::seen::{End, end_of, end_of_made, numbers, stands};
