@@ -1,2 +1,1 @@
 mod Claimed
-mod Found

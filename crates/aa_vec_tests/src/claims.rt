@@ -1,5 +1,5 @@
 //! Callers whose contracts say what worked examples write, and what they move by growth.
-ghost use Rattle.std.specs.Prelude.{◌≡◌, ◌+◌, ◌-◌, ◌<◌, [], ◌∷◌, length, None, Some, OnOk};
+ghost use Rattle.std.specs.Prelude.{◌≡◌, ◌+◌, ◌-◌, ◌<◌, ◌≤◌, [], ◌∷◌, length, None, Some, OnOk};
 ghost use Rattle.std.specs.Mem.{type_size};
 ghost use Rattle.aa_raw.specs.declared.raw_vec.Growth.TheVariants.{Doubling};
 ghost use Rattle.aa_vec.specs.Vector.{Holds};
@@ -114,18 +114,22 @@ fn middle_kept<A: Allocator>(v: &mut Vec<u32, A>) -> (Option<u32>, Option<u32>)
     (first, last)
 }
 
-// Of the second to the fifth of six the even ones are taken out: three are written.
-#[tactic(auto, using(aa_vec::proofs::Callers::callers))]
-fn evens_taken<A: Allocator>(v: &mut Vec<u32, A>) -> (Option<u32>, Option<u32>)
-    requires { v.old.items ≡ 1 ∷ 2 ∷ 3 ∷ 4 ∷ 5 ∷ 6 ∷ [] }
-    ensures taken { result ≡ (Some 2, Some 4) }
-    ensures left { Holds v.old (1 ∷ 3 ∷ 5 ∷ 6 ∷ []) v.new × (v.new.written ≡ v.old.written + 3) }
+// Kept elements move as runs: four are written, in two.
+fn without_two_and_six<A: Allocator>(v: &mut Vec<u32, A>)
+    requires { v.old.items ≡ 1 ∷ 2 ∷ 3 ∷ 4 ∷ 5 ∷ 6 ∷ 7 ∷ [] }
+    ensures items { Holds v.old (1 ∷ 3 ∷ 4 ∷ 5 ∷ 7 ∷ []) v.new }
+    ensures writes { (v.new.written ≡ v.old.written + 4) × (v.new.runs ≤ v.old.runs + 2) }
 {
-    let mut is_even = |x: &mut u32| *x % 2 == 0;
-    let mut range = v.extract_by(1..5);
-    let first = range.next_by(&mut is_even);
-    let second = range.next_by(&mut is_even);
-    (first, second)
+    v.retain(|x| *x % 4 != 2);
+}
+
+// Three are written, in two runs.
+fn repeats_removed<A: Allocator>(v: &mut Vec<u32, A>)
+    requires { v.old.items ≡ 1 ∷ 1 ∷ 2 ∷ 3 ∷ 3 ∷ 4 ∷ [] }
+    ensures items { Holds v.old (1 ∷ 2 ∷ 3 ∷ 4 ∷ []) v.new }
+    ensures writes { (v.new.written ≡ v.old.written + 3) × (v.new.runs ≤ v.old.runs + 2) }
+{
+    v.dedup();
 }
 
 // Where room has to be made the elements have a size: without one there are all places there can be.

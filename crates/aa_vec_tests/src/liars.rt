@@ -5,9 +5,9 @@ ghost use Rattle.std.specs.Iterator.{at_most};
 ghost use Rattle.std.proofs.Common.{refl};
 
 use crate::clones::{assigned, behind, filled, repeated, twin, within};
-use crate::lists::{add, counted_up, list, numbers, shape, stands, units};
+use crate::lists::{add, counted_up, list, places, stands};
 use aa_raw::collections::{TryReserveError, TryReserveErrorKind};
-use aa_vec::vec::{Hinted, Vec, same};
+use aa_vec::vec::{Hinted, Vec};
 use std::alloc::{AllocError, Global};
 use std::cell::Cell;
 use std::clone::Clone;
@@ -90,29 +90,53 @@ fn answer(fits: bool) -> Result<(), TryReserveError> {
     Err(TryReserveErrorKind::CapacityOverflow.into())
 }
 
+// Puts items behind the others, with or without what is told.
+fn extended(v: &mut Vec<u32>, items: &mut Liar, hinted: bool) -> Result<(), TryReserveError> {
+    if hinted {
+        v.extend_hinted_by(items)
+    } else {
+        v.extend_by(items)
+    }
+}
+
+// Whether an empty vector with so much room is extended so, has these numbers then, and this
+// capacity.
+fn extends_to(
+    alloc: Global,
+    room: usize,
+    items: Liar,
+    fits: bool,
+    left: &[u32],
+    capacity: usize,
+) -> bool {
+    let mut items = items;
+    let mut v = places(alloc, room);
+    extended(&mut v, &mut items, true) == answer(fits) && stands(&v, left, capacity)
+}
+
 #[test]
 fn untrue_hints_decide_the_room_alone(rt: HostRuntime) {
-    for (hint, manner, room, fits, length, capacity) in [
-        (0, Manner::Stays, 0, true, 5, 8),
-        (1, Manner::Stays, 0, true, 5, 8),
-        (usize::MAX, Manner::Stays, 0, false, 0, 0),
-        (usize::MAX, Manner::Stays, 4, false, 4, 4),
-        (usize::MAX, Manner::Stays, 5, true, 5, 5),
-        (4, Manner::CountsDown, 0, true, 5, 8),
-        (5, Manner::CountsDown, 0, true, 5, 5),
-        (6, Manner::CountsDown, 0, true, 5, 6),
-        (9, Manner::TurnsTo(0), 0, true, 5, 8),
-        (0, Manner::TurnsTo(9), 0, true, 5, 10),
-        (usize::MAX, Manner::TurnsTo(0), 0, true, 5, 8),
-        (0, Manner::TurnsTo(usize::MAX), 0, false, 0, 0),
+    let all = [0, 1, 2, 3, 4].as_slice();
+    let four = [0, 1, 2, 3].as_slice();
+    for (hint, manner, room, fits, left, capacity) in [
+        (0, Manner::Stays, 0, true, all, 8),
+        (1, Manner::Stays, 0, true, all, 8),
+        (usize::MAX, Manner::Stays, 0, false, [].as_slice(), 0),
+        (usize::MAX, Manner::Stays, 4, false, four, 4),
+        (usize::MAX, Manner::Stays, 5, true, all, 5),
+        (4, Manner::CountsDown, 0, true, all, 8),
+        (5, Manner::CountsDown, 0, true, all, 5),
+        (6, Manner::CountsDown, 0, true, all, 6),
+        (9, Manner::TurnsTo(0), 0, true, all, 8),
+        (0, Manner::TurnsTo(9), 0, true, all, 10),
+        (usize::MAX, Manner::TurnsTo(0), 0, true, all, 8),
+        (0, Manner::TurnsTo(usize::MAX), 0, false, [].as_slice(), 0),
     ] {
-        let mut v = list(rt.alloc(), &[], room);
-        assert!(rt; v.extend_hinted(told(hint, manner)) == answer(fits));
+        let items = told(hint, manner);
         assert!(rt;
-            v.as_slice() == numbers(rt.alloc(), length).as_slice(),
+            extends_to(rt.alloc(), room, items, fits, left, capacity),
             "{hint} told"
         );
-        assert!(rt; v.capacity() == capacity, "{hint} told");
     }
 }
 
@@ -192,48 +216,48 @@ fn pausing(next: u32) -> Liar {
     }
 }
 
-// Puts items behind the others, with or without what is told.
-fn extended(v: &mut Vec<u32>, items: &mut Liar, hinted: bool) -> Result<(), TryReserveError> {
-    if hinted {
-        v.extend_hinted_by(items)
-    } else {
-        v.extend_by(items)
+// Whether a vector with so much room takes 1 and 2, then 4 and 5, and then 7 and 8, since 3 and 6
+// are ends.
+fn stops_at_ends(alloc: Global, room: usize) -> bool {
+    let mut v = places(alloc, room);
+    let mut items = pausing(1);
+    let mut all = true;
+    for (hinted, len, next) in [(false, 2, 4), (true, 4, 7), (false, 6, 9)] {
+        all = extended(&mut v, &mut items, hinted).is_ok() && all;
+        all = all && v.len() == len && items.next == next;
     }
+    all && v.as_slice() == [1, 2, 4, 5, 7, 8].as_slice()
 }
 
 #[test]
 fn behind_an_end_nothing_is_asked(rt: HostRuntime) {
-    for capacity in [0, 1, 2, 3, 4, 9] {
-        let mut v = list(rt.alloc(), &[], capacity);
-        let mut items = pausing(1);
-        for (hinted, left, next) in [
-            (false, [1, 2].as_slice(), 4),
-            (true, [1, 2, 4, 5].as_slice(), 7),
-        ] {
-            assert!(rt; extended(&mut v, &mut items, hinted).is_ok());
-            assert!(rt; v.as_slice() == left && items.next == next);
-        }
-        items = pausing(6);
-        assert!(rt; extended(&mut v, &mut items, false).is_ok());
-        assert!(rt; (v.len(), items.next) == (4, 7));
+    for room in [0, 1, 2, 3, 4, 9] {
+        assert!(rt; stops_at_ends(rt.alloc(), room), "{room}");
     }
+}
+
+// Whether a range of four sevens is replaced so by the numbers from `first` up to the next end.
+fn is_replaced(alloc: Global, range: (usize, usize), first: u32, left: &[u32]) -> bool {
+    let mut all = true;
+    for hinted in [false, true] {
+        let mut v = list(alloc, &[7, 7, 7, 7], 4);
+        all = spliced(&mut v, range, pausing(first), hinted).is_ok() && all;
+        all = v.as_slice() == left && all;
+    }
+    all
 }
 
 #[test]
 fn a_splice_asks_nothing_behind_an_end(rt: HostRuntime) {
-    for (from, to, first, left) in [
-        (1, 3, 0, [7, 7].as_slice()),
-        (1, 4, 1, [7, 1, 2].as_slice()),
-        (0, 3, 1, [1, 2, 7].as_slice()),
-        (1, 3, 1, [7, 1, 2, 7].as_slice()),
-        (1, 2, 1, [7, 1, 2, 7, 7].as_slice()),
-        (2, 2, 4, [7, 7, 4, 5, 7, 7].as_slice()),
+    for (range, first, left) in [
+        ((1, 3), 0, [7, 7].as_slice()),
+        ((1, 4), 1, [7, 1, 2].as_slice()),
+        ((0, 3), 1, [1, 2, 7].as_slice()),
+        ((1, 3), 1, [7, 1, 2, 7].as_slice()),
+        ((1, 2), 1, [7, 1, 2, 7, 7].as_slice()),
+        ((2, 2), 4, [7, 7, 4, 5, 7, 7].as_slice()),
     ] {
-        for hinted in [false, true] {
-            let mut v = list(rt.alloc(), &[7, 7, 7, 7], 4);
-            assert!(rt; spliced(&mut v, (from, to), pausing(first), hinted).is_ok());
-            assert!(rt; v.as_slice() == left);
-        }
+        assert!(rt; is_replaced(rt.alloc(), range, first, left), "{left:?}");
     }
 }
 
@@ -259,61 +283,34 @@ fn deduplicated_by_turns<T: Drop>(v: &mut Vec<T>, turn: u32) -> u32 {
     calls
 }
 
+// How many of nine are left, how often the closure was called, and how many were dropped.
+fn left_by_turns(alloc: Global, removes: bool, turn: u32) -> (usize, u32, u32) {
+    let drops = Cell::new(0);
+    let mut v = counted_up(alloc, &drops, 9);
+    let calls = if removes {
+        deduplicated_by_turns(&mut v, turn)
+    } else {
+        retained_by_turns(&mut v, turn)
+    };
+    (v.len(), calls, drops.get())
+}
+
 #[test]
 fn answers_by_turns_keep_and_remove(rt: HostRuntime) {
-    for (turn, kept, distinct) in [(1, 9, 1), (2, 4, 5), (3, 3, 7), (9, 1, 9), (10, 0, 9)] {
-        for (removes, calls, left) in [(false, 9, kept), (true, 8, distinct)] {
-            let drops = Cell::new(0);
-            let mut v = counted_up(rt.alloc(), &drops, 9);
-            let called = if removes {
-                deduplicated_by_turns(&mut v, turn)
-            } else {
-                retained_by_turns(&mut v, turn)
-            };
-            assert!(rt; (v.len(), called) == (left, calls));
-            assert!(rt; drops.get() as usize == 9usize.saturating_sub(left));
-            drop(v);
-            assert!(rt; drops.get() == 9);
-        }
-    }
-}
-
-#[test]
-fn elements_without_size_are_chosen_too(rt: HostRuntime) {
-    let mut v = units(rt.alloc(), 6);
-    assert!(rt; (retained_by_turns(&mut v, 2), v.len()) == (6, 3));
-    assert!(rt; deduplicated_by_turns(&mut v, 1) == 2);
-    assert!(rt; shape(&v) == (1, usize::MAX));
-}
-
-// The key is the number of the call, divided by `turn`: how many calls there were.
-#[tactic(auto, using(aa_vec::proofs::Callers::callers))]
-fn deduplicated_by_key_by_turns(v: &mut Vec<u32>, turn: u32) -> u32 {
-    let calls = Cell::new(0u32);
-    v.dedup_by_key(|_| {
-        let call = calls.get();
-        calls.set(call.wrapping_add(1));
-        call.checked_div(turn).unwrap_or(0)
-    });
-    calls.get()
-}
-
-// Two keys of each comparison are equal, or never, or by turns.
-#[test]
-fn keys_by_turns_keep_and_remove(rt: HostRuntime) {
-    for (turn, left) in [
-        (1, [1, 2, 3, 4, 5, 6].as_slice()),
-        (2, [1].as_slice()),
-        (3, [1, 3, 6].as_slice()),
+    for (turn, kept, dropped, distinct, repeats) in [
+        (1, 9, 0, 1, 8),
+        (2, 4, 5, 5, 4),
+        (3, 3, 6, 7, 2),
+        (9, 1, 8, 9, 0),
+        (10, 0, 9, 9, 0),
     ] {
-        let mut v = list(rt.alloc(), &[1, 2, 3, 4, 5, 6], 6);
-        assert!(rt; deduplicated_by_key_by_turns(&mut v, turn) == 10);
-        assert!(rt; v.as_slice() == left);
+        assert!(rt; left_by_turns(rt.alloc(), false, turn) == (kept, 9, dropped));
+        assert!(rt; left_by_turns(rt.alloc(), true, turn) == (distinct, 8, repeats));
     }
 }
 
 // A value that equals none, itself neither.
-#[derive(Debug, Drop)]
+#[derive(Drop)]
 struct Unlike {
     value: u32,
 }
@@ -330,7 +327,7 @@ impl PartialEq for Unlike {
 
 // So many sevens that equal nothing.
 fn sevens(alloc: Global, count: u32) -> Vec<Unlike> {
-    let mut v: Vec<Unlike> = Vec::new(alloc);
+    let mut v = places(alloc, 4);
     for _ in 0..count {
         add(&mut v, Unlike { value: 7 });
     }
@@ -343,21 +340,8 @@ fn an_equality_that_never_holds_removes_nothing(rt: HostRuntime) {
     assert!(rt; none == none);
     let mut v = sevens(rt.alloc(), 3);
     v.dedup();
-    assert!(rt; shape(&v) == (3, 4));
-    for x in v.iter() {
-        assert!(rt; x.value == 7);
-    }
-    assert!(rt; v != v && v != none);
-    assert!(rt; !same(v.as_slice(), v.as_slice()));
-    assert!(rt; !v.as_slice().contains(&Unlike { value: 7 }));
-}
-
-#[test]
-#[tactic(auto, using(aa_vec::proofs::Callers::callers))]
-fn keys_that_are_never_equal_remove_nothing(rt: HostRuntime) {
-    let mut v = sevens(rt.alloc(), 3);
-    v.dedup_by_key(|x| Unlike { value: x.value });
     assert!(rt; v.len() == 3);
+    assert!(rt; v != v && v != none);
 }
 
 // A value whose clone is one more.
@@ -376,39 +360,53 @@ fn valued(value: u32) -> Drifting {
     Drifting { value }
 }
 
-fn holds(v: &[Drifting], values: &[u32]) -> bool {
-    let mut all = v.len() == values.len();
-    for (x, value) in v.iter().zip(values.iter()) {
-        all = all && x.value == *value;
+// The values of elements, each as two digits of a number.
+fn digits(v: &[Drifting]) -> u64 {
+    let mut all = 0u64;
+    for x in v {
+        all = all.wrapping_mul(100).wrapping_add(u64::from(x.value));
     }
     all
 }
 
+// What 2 and 6 become, where clones are put behind them.
+fn lengthened(v: Vec<Drifting>) -> u64 {
+    let mut v = v;
+    let _put = behind(&mut v, &[valued(8)]);
+    let _repeated = within(&mut v, 1, 3);
+    let _filled = filled(&mut v, 8, valued(30));
+    digits(v.as_slice())
+}
+
 #[test]
 fn clones_that_differ_are_put_behind(rt: HostRuntime) {
-    let Ok(mut v) = Vec::from_slice(rt.alloc(), &[valued(1), valued(5)]) else {
-        return assert!(rt; false);
+    match Vec::from_slice(rt.alloc(), &[valued(1), valued(5)]) {
+        Ok(v) => assert!(rt; lengthened(v) == 2_06_09_07_10_31_31_30),
+        Err(_) => assert!(rt; false),
+    }
+}
+
+// The clones of elements, those elements assigned these, and the clones of the items of these.
+fn copied(v: Vec<Drifting>) -> [u64; 3] {
+    let mut v = v;
+    let Ok(copy) = twin(&v) else {
+        return [0; 3];
     };
-    assert!(rt; holds(v.as_slice(), &[2, 6]));
-    assert!(rt; behind(&mut v, &[valued(8)]).is_ok() && within(&mut v, 1, 3).is_ok());
-    assert!(rt; holds(v.as_slice(), &[2, 6, 9, 7, 10]));
-    assert!(rt; filled(&mut v, 8, valued(30)).is_ok());
-    assert!(rt; holds(v.as_slice(), &[2, 6, 9, 7, 10, 31, 31, 30]));
+    let _assigned = assigned(&mut v, &copy);
+    let assigned = digits(v.as_slice());
+    match v.into_iter().clone() {
+        Ok(items) => [digits(copy.as_slice()), assigned, digits(items.as_slice())],
+        Err(_) => [0; 3],
+    }
 }
 
 #[test]
 fn clones_that_differ_are_made(rt: HostRuntime) {
-    let Ok(mut v) = repeated(rt.alloc(), valued(7), 3) else {
-        return assert!(rt; false);
-    };
-    assert!(rt; holds(v.as_slice(), &[8, 8, 7]));
-    let Ok(copy) = twin(&v) else {
-        return assert!(rt; false);
-    };
-    assert!(rt; holds(copy.as_slice(), &[9, 9, 8]));
-    assert!(rt; assigned(&mut v, &copy).is_ok() && holds(v.as_slice(), &[10, 10, 9]));
-    let Ok(items) = v.into_iter().clone() else {
-        return assert!(rt; false);
-    };
-    assert!(rt; holds(items.as_slice(), &[11, 11, 10]));
+    match repeated(rt.alloc(), valued(7), 3) {
+        Ok(v) => {
+            assert!(rt; digits(v.as_slice()) == 8_08_07);
+            assert!(rt; copied(v) == [9_09_08, 10_10_09, 11_11_10]);
+        }
+        Err(_) => assert!(rt; false),
+    }
 }

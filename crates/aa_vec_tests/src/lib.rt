@@ -2,10 +2,6 @@
 #![tactic(auto)]
 
 #[cfg(test)]
-mod arrays;
-#[cfg(test)]
-mod callers;
-#[cfg(test)]
 mod calls;
 #[cfg(test)]
 mod choosing;
@@ -16,17 +12,7 @@ mod clones;
 #[cfg(test)]
 mod compared;
 #[cfg(test)]
-mod copies;
-#[cfg(test)]
-mod drain;
-#[cfg(test)]
-mod extend;
-#[cfg(test)]
-mod extract_if;
-#[cfg(test)]
 mod growing;
-#[cfg(test)]
-mod into;
 #[cfg(test)]
 mod left_early;
 #[cfg(test)]
@@ -34,4 +20,6 @@ mod liars;
 #[cfg(test)]
 mod lists;
 #[cfg(test)]
-mod splice;
+mod makes;
+#[cfg(test)]
+mod ranges;

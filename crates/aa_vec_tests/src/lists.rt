@@ -1,6 +1,6 @@
 //! Lists that the tests start from, and how they are compared, each call in one place. None of
 //! these says that it was refused: what stands then is not what the tests look for.
-use crate::clones::{behind, filled};
+use crate::clones::behind;
 use aa_raw::collections::TryReserveError;
 use aa_vec::vec::Vec;
 use std::alloc::Global;
@@ -12,42 +12,42 @@ pub(crate) fn add<T: Drop>(v: &mut Vec<T>, x: T) {
     let _added = v.push(x);
 }
 
+/// An empty vector with so many places.
+pub(crate) fn places<T>(alloc: Global, capacity: usize) -> Vec<T> {
+    match Vec::with_capacity(alloc, capacity) {
+        Ok(v) => v,
+        Err(_) => Vec::new(alloc),
+    }
+}
+
 /// The elements of a slice, with room for `capacity`.
 pub(crate) fn list<T: Copy>(alloc: Global, items: &[T], capacity: usize) -> Vec<T> {
-    let mut v: Vec<T> = Vec::new(alloc);
-    let _room = v.try_reserve_exact(capacity);
+    let mut v = places(alloc, capacity);
     let _put = behind(&mut v, items);
     v
 }
 
-/// The numbers from 0 up to `end`, pushed one by one.
-pub(crate) fn numbers(alloc: Global, end: u32) -> Vec<u32> {
-    let mut v = list(alloc, &[], 0);
-    for x in 0..end {
-        add(&mut v, x);
+/// The digits of a text as numbers, with room for `capacity`.
+pub(crate) fn digits(alloc: Global, text: &str, capacity: usize) -> Vec<u32> {
+    let mut v = places(alloc, capacity);
+    for byte in text.as_bytes() {
+        add(&mut v, u32::from(byte.wrapping_sub(b'0')));
     }
     v
 }
 
-/// So many elements without size.
-pub(crate) fn units(alloc: Global, count: usize) -> Vec<()> {
-    let mut v = list(alloc, &[], 0);
-    let _put = filled(&mut v, count, ());
-    v
+/// Whether a vector has these digits, in these many places.
+pub(crate) fn reads(v: &Vec<u32>, text: &str, capacity: usize) -> bool {
+    *v == digits(*v.allocator(), text, 0) && v.capacity() == capacity
 }
 
-/// Those with the numbers from 0 up to `end`. One that is refused is counted too early.
+/// The elements with the numbers from 0 up to `end`. One that is refused is counted too early.
 pub(crate) fn counted_up(alloc: Global, drops: &Cell<u32>, end: u32) -> Vec<Counted<'_>> {
-    let mut v: Vec<Counted<'_>> = Vec::new(alloc);
+    let mut v = places(alloc, 16);
     for value in 0..end {
         add(&mut v, Counted { value, drops });
     }
     v
-}
-
-/// How many elements a vector has, in how many places.
-pub(crate) fn shape<T>(v: &Vec<T>) -> (usize, usize) {
-    (v.len(), v.capacity())
 }
 
 /// Whether a vector has these elements, in these many places.
