@@ -107,60 +107,45 @@ fn extended(call: Call, v: &mut Vec<u32>, other: Vec<u32>) -> Result<(), TryRese
 
 // The digits of numbers, the capacity, a call on them and on the others 7 and 8, what it gives, and
 // the digits and the capacity that it leaves.
-type Row<'a> = (&'a str, usize, Call, Option<u32>, &'a str, usize);
+type Row = (u32, usize, Call, Option<u32>, u32, usize);
 
 // Whether a row is as the vector has it.
-fn is_so(alloc: Global, (items, room, call, given, left, capacity): Row<'_>) -> bool {
+fn is_so(alloc: Global, (items, room, call, given, left, capacity): Row) -> bool {
     let mut v = digits(alloc, items, room);
-    called(call, &mut v, digits(alloc, "78", 2)) == Ok(given) && reads(&v, left, capacity)
+    called(call, &mut v, digits(alloc, 78, 2)) == Ok(given) && reads(&v, left, capacity)
 }
 
 #[test]
 fn elements_are_put_and_taken(rt: HostRuntime) {
-    let rows: [Row<'_>; 36] = [
-        ("193", 8, Call::Take(Taking::Pop), Some(3), "19", 8),
-        ("", 7, Call::Take(Taking::Pop), None, "", 7),
-        ("192", 4, Call::Take(Taking::Remove(1)), Some(9), "12", 4),
-        (
-            "123",
-            4,
-            Call::Take(Taking::SwapRemove(0)),
-            Some(1),
-            "32",
-            4,
-        ),
-        ("32", 4, Call::Take(Taking::SwapRemove(1)), Some(2), "3", 4),
-        ("123", 4, Call::Take(Taking::Truncate(5)), None, "123", 4),
-        ("123", 4, Call::Take(Taking::Truncate(1)), None, "1", 4),
-        ("1", 4, Call::Take(Taking::Clear), None, "", 4),
-        ("7777", 4, Call::Push(8), None, "77778", 8),
-        ("123", 4, Call::PushWithinCapacity(4), None, "1234", 4),
-        ("1234", 4, Call::PushWithinCapacity(7), Some(7), "1234", 4),
-        ("123", 4, Call::Insert(1, 9), None, "1923", 4),
-        ("123", 10, Call::Reserve(7), None, "123", 10),
-        ("123", 10, Call::Reserve(8), None, "123", 20),
-        ("123", 10, Call::TryReserve(8), None, "123", 20),
-        ("123", 10, Call::ReserveExact(8), None, "123", 11),
-        ("123", 11, Call::TryReserveExact(9), None, "123", 12),
-        ("123", 10, Call::ShrinkTo(20), None, "123", 10),
-        ("123", 10, Call::ShrinkTo(4), None, "123", 4),
-        ("123", 4, Call::ShrinkTo(0), None, "123", 3),
-        ("", 10, Call::ShrinkToFit, None, "", 0),
-        ("123", 4, Call::Resize(1, 0), None, "1", 4),
-        ("1", 4, Call::Resize(3, 7), None, "177", 4),
-        ("123", 3, Call::ExtendFromSlice, None, "12378", 6),
-        ("123", 3, Call::ExtendFromSliceCopied, None, "12378", 6),
-        ("123", 3, Call::ExtendFromWithin(1), None, "12323", 6),
-        ("123", 3, Call::ExtendFromWithinCopied(1), None, "12323", 6),
-        ("123", 4, Call::AssignFrom, None, "78", 4),
-        ("12", 2, Call::Append, None, "1278", 4),
-        ("12", 2, Call::Extend, None, "1278", 4),
-        ("1234", 4, Call::Extend, None, "123478", 8),
-        ("12", 2, Call::ExtendBy, None, "1278", 4),
-        ("12", 2, Call::ExtendHinted, None, "1278", 8),
-        ("12", 2, Call::ExtendHintedBy, None, "1278", 4),
-        ("12", 2, Call::ExtendCopied, None, "1278", 4),
-        ("12", 2, Call::ExtendCopiedBy, None, "1278", 4),
+    let rows: [Row; 28] = [
+        (193, 8, Call::Take(Taking::Pop), Some(3), 19, 8),
+        (192, 4, Call::Take(Taking::Remove(1)), Some(9), 12, 4),
+        (123, 4, Call::Take(Taking::SwapRemove(0)), Some(1), 32, 4),
+        (123, 4, Call::Take(Taking::Truncate(1)), None, 1, 4),
+        (1, 4, Call::Take(Taking::Clear), None, 0, 4),
+        (7777, 4, Call::Push(8), None, 77778, 8),
+        (123, 4, Call::PushWithinCapacity(4), None, 1234, 4),
+        (1234, 4, Call::PushWithinCapacity(7), Some(7), 1234, 4),
+        (123, 4, Call::Insert(1, 9), None, 1923, 4),
+        (123, 10, Call::Reserve(8), None, 123, 20),
+        (123, 10, Call::TryReserve(8), None, 123, 20),
+        (123, 10, Call::ReserveExact(8), None, 123, 11),
+        (123, 11, Call::TryReserveExact(9), None, 123, 12),
+        (123, 10, Call::ShrinkTo(4), None, 123, 4),
+        (0, 10, Call::ShrinkToFit, None, 0, 0),
+        (1, 4, Call::Resize(3, 7), None, 177, 4),
+        (123, 3, Call::ExtendFromSlice, None, 12378, 6),
+        (123, 3, Call::ExtendFromSliceCopied, None, 12378, 6),
+        (123, 3, Call::ExtendFromWithin(1), None, 12323, 6),
+        (123, 3, Call::ExtendFromWithinCopied(1), None, 12323, 6),
+        (123, 4, Call::AssignFrom, None, 78, 4),
+        (12, 2, Call::Append, None, 1278, 4),
+        (1234, 4, Call::Extend, None, 123478, 8),
+        (12, 2, Call::ExtendBy, None, 1278, 4),
+        (12, 2, Call::ExtendHinted, None, 1278, 8),
+        (12, 2, Call::ExtendHintedBy, None, 1278, 4),
+        (12, 2, Call::ExtendCopied, None, 1278, 4),
+        (12, 2, Call::ExtendCopiedBy, None, 1278, 4),
     ];
     for row in rows {
         assert!(rt; is_so(rt.alloc(), row), "{} in {}", row.4, row.5);
@@ -195,10 +180,10 @@ fn sum(v: Vec<u32>) -> u32 {
 
 #[test]
 fn elements_are_written_in_place(rt: HostRuntime) {
-    let mut v = digits(rt.alloc(), "123", 4);
+    let mut v = digits(rt.alloc(), 123, 4);
     put_at_ends(&mut v);
     halve(&mut v);
-    assert!(rt; greatest(&v) == Some(3) && reads(&v, "312", 4));
+    assert!(rt; greatest(&v) == Some(3) && reads(&v, 312, 4));
     assert!(rt; sum(v) == 6);
 }
 

@@ -64,27 +64,27 @@ fn chosen(choice: Choice, v: &mut Vec<u32>) -> Result<(), TryReserveError> {
 }
 
 // A call, the digits of the elements, and those that are left.
-type Row<'a> = (Choice, &'a str, &'a str);
+type Row = (Choice, u32, u32);
 
 // Whether a row is as the vector has it.
-fn is_so(alloc: Global, (choice, items, left): Row<'_>) -> bool {
+fn is_so(alloc: Global, (choice, items, left): Row) -> bool {
     let mut v = digits(alloc, items, 7);
     chosen(choice, &mut v).is_ok() && reads(&v, left, 7)
 }
 
 #[test]
 fn elements_are_chosen(rt: HostRuntime) {
-    let rows: [Row<'_>; 10] = [
-        (Choice::Retain, "1234567", "1357"),
-        (Choice::RetainMut, "1234", "268"),
-        (Choice::RetainBy, "1234", "268"),
-        (Choice::Dedup, "12232", "1232"),
-        (Choice::DedupBy, "1239", "69"),
-        (Choice::DedupWithin, "1239", "69"),
-        (Choice::DedupByKey, "36796", "3696"),
-        (Choice::DedupWithinKey, "3465", "365"),
-        (Choice::ResizeWith, "123", "12377"),
-        (Choice::ResizeBy, "123", "12377"),
+    let rows: [Row; 10] = [
+        (Choice::Retain, 1234567, 1357),
+        (Choice::RetainMut, 1234, 268),
+        (Choice::RetainBy, 1234, 268),
+        (Choice::Dedup, 12232, 1232),
+        (Choice::DedupBy, 1239, 69),
+        (Choice::DedupWithin, 1239, 69),
+        (Choice::DedupByKey, 36796, 3696),
+        (Choice::DedupWithinKey, 3465, 365),
+        (Choice::ResizeWith, 123, 12377),
+        (Choice::ResizeBy, 123, 12377),
     ];
     for row in rows {
         assert!(rt; is_so(rt.alloc(), row), "{}", row.2);

@@ -1,6 +1,7 @@
 //! What no clause says of comparing, printing and writing vectors: each once, and by callers that
 //! know a bound alone.
 use crate::lists::{list, stands};
+use aa_raw::collections::TryReserveError;
 use aa_vec::vec::{Vec, same};
 use std::alloc::{AllocError, Global};
 use std::cmp::Ordering;
@@ -44,6 +45,20 @@ fn vectors_hash_and_print_as_their_slices(rt: HostRuntime) -> Result<(), Fail> {
     assert!(rt; is_same);
     assert!(rt; text?.as_str() == "[1, 2]");
     Ok(())
+}
+
+// Whether the two bytes of the text were made.
+fn is_made(answer: Result<Vec<u8>, TryReserveError>) -> bool {
+    match answer {
+        Ok(v) => stands(&v, &[0xc3, 0xa9], 2),
+        Err(_) => false,
+    }
+}
+
+#[test]
+fn a_text_is_its_bytes(rt: HostRuntime) {
+    assert!(rt; is_made(Vec::from_text(rt.alloc(), "é")));
+    assert!(rt; is_made(Vec::from_text_in("é", rt.alloc())));
 }
 
 #[test]

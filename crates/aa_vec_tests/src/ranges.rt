@@ -3,6 +3,7 @@ use crate::lists::{digits, reads};
 use aa_vec::vec::{Drain, Vec};
 use std::alloc::{AllocError, Global};
 use std::mem::size_of;
+use std::ops::Range;
 use std::test::Fail;
 
 const _: () = prove!(size_of::<Drain<u64, Global>>() == 40);
@@ -21,16 +22,16 @@ fn is_left(range: &Drain<'_, u32>, left: &[u32]) -> bool {
 
 #[test]
 fn a_drain_tells_what_was_not_taken(rt: HostRuntime) -> Result<(), Fail> {
-    let mut v = digits(rt.alloc(), "012345", 6);
+    let mut v = digits(rt.alloc(), 123456, 6);
     let mut range = range_of(&mut v, 1, 4);
     let first = range.next();
-    let is_told = is_left(&range, &[2, 3]);
+    let is_told = is_left(&range, &[3, 4]);
     let text = format!(in rt.alloc(); "{range:?}");
     let _alloc: &Global = range.allocator();
     drop(range);
     drop(v);
-    assert!(rt; first == Some(1) && is_told);
-    assert!(rt; text?.as_str() == "Drain([2, 3])");
+    assert!(rt; first == Some(2) && is_told);
+    assert!(rt; text?.as_str() == "Drain([3, 4])");
     Ok(())
 }
 
@@ -49,37 +50,31 @@ fn first_even(v: &mut Vec<u32>) -> (Option<u32>, usize) {
 
 #[test]
 fn an_element_is_taken_out_by_a_closure_that_is_lent(rt: HostRuntime) {
-    let mut v = digits(rt.alloc(), "5678", 4);
-    assert!(rt; first_even(&mut v) == (Some(6), 2) && reads(&v, "578", 4));
+    let mut v = digits(rt.alloc(), 5678, 4);
+    assert!(rt; first_even(&mut v) == (Some(6), 2) && reads(&v, 578, 4));
 }
 
-// The digits of numbers, a range of their places, as many new numbers from the first, and the numbers and the
-// capacity that are left.
-type Row<'a> = (&'a str, usize, usize, u32, u32, &'a str, usize);
-
-// Replaces a range of a vector, as far as it lies within, by so many numbers.
-fn replaced(v: &mut Vec<u32>, from: usize, to: usize, first: u32, count: u32) -> bool {
+// Replaces a range of a vector, as far as it lies within.
+fn replaced(v: &mut Vec<u32>, (from, to): (usize, usize), with: Range<u32>) -> bool {
     let to = to.min(v.len());
-    let with = first..first.saturating_add(count);
     v.splice(from.min(to)..to, with).finish().is_ok()
 }
 
+// The digits of numbers, their capacity, a range of their places, the new numbers, and the digits
+// and the capacity that are left.
+type Row = (u32, usize, (usize, usize), Range<u32>, u32, usize);
+
 // Whether a row is as the vector has it.
-fn is_so(alloc: Global, (items, from, to, first, count, left, capacity): Row<'_>) -> bool {
-    let mut v = digits(alloc, items, items.len());
-    replaced(&mut v, from, to, first, count) && reads(&v, left, capacity)
+fn is_so(alloc: Global, (items, room, range, with, left, capacity): Row) -> bool {
+    let mut v = digits(alloc, items, room);
+    replaced(&mut v, range, with) && reads(&v, left, capacity)
 }
 
 #[test]
 fn a_range_is_replaced_by_any_iterator(rt: HostRuntime) {
-    let rows: [Row<'_>; 3] = [
-        ("1234", 0, 3, 9, 1, "94", 4),
-        ("12", 1, 1, 9, 1, "192", 4),
-        ("123", 1, 3, 8, 2, "189", 3),
-    ];
-    for row in rows {
-        assert!(rt; is_so(rt.alloc(), row), "{}", row.5);
-    }
+    assert!(rt; is_so(rt.alloc(), (1234, 4, (0, 3), 9..10, 94, 4)));
+    assert!(rt; is_so(rt.alloc(), (12, 2, (1, 1), 9..10, 192, 4)));
+    assert!(rt; is_so(rt.alloc(), (123, 3, (1, 3), 8..10, 189, 3)));
 }
 
 // What a splice of the places 1 and 2 by a seven prints.
@@ -93,9 +88,9 @@ fn printed(alloc: Global, v: &mut Vec<u32>) -> Result<String, AllocError> {
 
 #[test]
 fn a_splice_prints_what_was_not_taken(rt: HostRuntime) -> Result<(), Fail> {
-    let mut v = digits(rt.alloc(), "1234", 4);
+    let mut v = digits(rt.alloc(), 1234, 4);
     let text = printed(rt.alloc(), &mut v);
-    assert!(rt; reads(&v, "174", 4));
+    assert!(rt; reads(&v, 174, 4));
     drop(v);
     assert!(rt; text?.as_str() == "Splice([2, 3])");
     Ok(())
