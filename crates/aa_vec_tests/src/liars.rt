@@ -120,16 +120,12 @@ fn untrue_hints_decide_the_room_alone(rt: HostRuntime) {
     let four = [0, 1, 2, 3].as_slice();
     for (hint, manner, room, fits, left, capacity) in [
         (0, Manner::Stays, 0, true, all, 8),
-        (1, Manner::Stays, 0, true, all, 8),
         (usize::MAX, Manner::Stays, 0, false, [].as_slice(), 0),
         (usize::MAX, Manner::Stays, 4, false, four, 4),
         (usize::MAX, Manner::Stays, 5, true, all, 5),
-        (4, Manner::CountsDown, 0, true, all, 8),
         (5, Manner::CountsDown, 0, true, all, 5),
-        (6, Manner::CountsDown, 0, true, all, 6),
         (9, Manner::TurnsTo(0), 0, true, all, 8),
         (0, Manner::TurnsTo(9), 0, true, all, 10),
-        (usize::MAX, Manner::TurnsTo(0), 0, true, all, 8),
         (0, Manner::TurnsTo(usize::MAX), 0, false, [].as_slice(), 0),
     ] {
         let items = told(hint, manner);
@@ -180,18 +176,12 @@ fn untrue_hints_of_a_splice_decide_the_room_alone(rt: HostRuntime) {
     let full_behind = [1, 2, 0, 1].as_slice();
     for (from, hint, manner, fits, left, capacity) in [
         (1, 0, Manner::Stays, true, all, 8),
-        (1, 1, Manner::Stays, true, all, 8),
         (1, 100, Manner::Stays, true, all, 104),
         (1, usize::MAX, Manner::Stays, false, full, 4),
-        (1, 4, Manner::CountsDown, true, all, 8),
-        (1, 6, Manner::CountsDown, true, all, 8),
         (1, 100, Manner::CountsDown, true, all, 102),
         (1, 9, Manner::TurnsTo(0), true, all, 13),
-        (1, 0, Manner::TurnsTo(9), true, all, 8),
         (1, 1, Manner::TurnsTo(usize::MAX), true, all, 8),
         (1, 0, Manner::TurnsTo(usize::MAX), false, full, 4),
-        (1, usize::MAX, Manner::TurnsTo(0), false, full, 4),
-        (2, 0, Manner::Stays, true, all_behind, 8),
         (2, 100, Manner::Stays, true, all_behind, 105),
         (2, usize::MAX, Manner::Stays, false, full_behind, 4),
         (2, 9, Manner::TurnsTo(usize::MAX), false, full_behind, 4),

@@ -1,10 +1,9 @@
 //! Each call that makes a vector, once on its happy path.
 use crate::clones::{repeated, twin};
-use crate::lists::{digits, list, made, reads};
-use aa_boxed::boxed::Box;
+use crate::lists::{add, digits, list, made, places, reads};
 use aa_raw::collections::TryReserveError;
 use aa_raw::raw_vec::Growth;
-use aa_vec::vec::{ArrayIntoVec, SliceIntoVec, Vec, cautious};
+use aa_vec::vec::{SliceIntoVec, Vec, cautious};
 use std::alloc::Global;
 use std::mem::size_of;
 
@@ -33,7 +32,6 @@ enum Make {
     CloneCopied,
     SplitOff,
     Boxed,
-    OfBoxed,
     Flattened,
 }
 
@@ -69,17 +67,9 @@ fn made_of(call: Make, alloc: Global, v: Vec<u32>) -> Result<Vec<u32>, TryReserv
             v.split_off(at)
         }
         Make::Boxed => Ok(v.into_boxed_slice()?.into_vec()),
-        Make::OfBoxed => of_boxed(alloc),
         Make::FromArray => Ok(Vec::from_array(alloc, [1, 2, 3])?),
         Make::FromArrayIn => Ok(Vec::from_array_in([1, 2, 3], alloc)?),
         _ => Ok(list(alloc, &[[1, 2], [3, 4]], 3).into_flattened()?),
-    }
-}
-
-fn of_boxed(alloc: Global) -> Result<Vec<u32>, TryReserveError> {
-    match Box::new(alloc, [4, 5]) {
-        Ok(array) => Ok(array.into_vec()?),
-        Err(error) => Err(error.into()),
     }
 }
 
@@ -97,7 +87,7 @@ fn is_so(alloc: Global, (call, items, left, capacity): Row) -> bool {
 
 #[test]
 fn vectors_are_made(rt: HostRuntime) {
-    let rows: [Row; 22] = [
+    let rows: [Row; 21] = [
         (Make::New, 0, 0, 0),
         (Make::NewIn, 0, 0, 0),
         (Make::NewGrowingIn, 0, 0, 0),
@@ -118,7 +108,6 @@ fn vectors_are_made(rt: HostRuntime) {
         (Make::CloneCopied, 123, 123, 3),
         (Make::SplitOff, 123, 23, 2),
         (Make::Boxed, 123, 123, 3),
-        (Make::OfBoxed, 0, 45, 2),
         (Make::Flattened, 0, 1234, 6),
     ];
     for row in rows {
@@ -138,4 +127,26 @@ fn a_vector_becomes_an_array(rt: HostRuntime) {
         Ok(array) => assert!(rt; array == [1, 2, 3]),
         Err(_) => assert!(rt; false),
     }
+}
+
+// The vectors of 1 and 2, and of 3.
+fn rows_of(alloc: Global) -> Vec<Vec<u32>> {
+    let mut rows = places(alloc, 2);
+    add(&mut rows, digits(alloc, 12, 2));
+    add(&mut rows, digits(alloc, 3, 1));
+    rows
+}
+
+// Whether its clone is equal to it, whose elements are cloned by the trait.
+fn is_cloned(alloc: Global) -> bool {
+    let rows = rows_of(alloc);
+    match twin(&rows) {
+        Ok(copy) => copy == rows,
+        Err(_) => false,
+    }
+}
+
+#[test]
+fn a_vector_of_vectors_is_cloned(rt: HostRuntime) {
+    assert!(rt; is_cloned(rt.alloc()));
 }
