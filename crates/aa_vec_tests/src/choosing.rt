@@ -29,13 +29,13 @@ fn is_kept(x: &mut u32) -> bool {
     *x != 4
 }
 
-// Where two numbers are near, the last one kept is their sum.
-fn adds_up(x: &mut u32, last: &mut u32) -> bool {
-    let near = *x < 5;
-    if near {
-        *last = x.wrapping_add(*last);
+// A small number takes the place of the last one kept.
+fn takes_place(x: &mut u32, last: &mut u32) -> bool {
+    let is_small = *x < 5;
+    if is_small {
+        *last = *x;
     }
-    near
+    is_small
 }
 
 fn third(x: &mut u32) -> u32 {
@@ -53,8 +53,8 @@ fn chosen(choice: Choice, v: &mut Vec<u32>) -> Result<(), TryReserveError> {
         Choice::RetainMut => v.retain_mut(is_kept),
         Choice::RetainBy => v.retain_by(&mut is_kept),
         Choice::Dedup => v.dedup(),
-        Choice::DedupBy => v.dedup_by(adds_up),
-        Choice::DedupWithin => v.dedup_within(&mut adds_up),
+        Choice::DedupBy => v.dedup_by(takes_place),
+        Choice::DedupWithin => v.dedup_within(&mut takes_place),
         Choice::DedupByKey => v.dedup_by_key(third),
         Choice::DedupWithinKey => v.dedup_within_key(&mut third),
         Choice::ResizeWith => return v.resize_with(5, seven),
@@ -79,8 +79,8 @@ fn elements_are_chosen(rt: HostRuntime) {
         (Choice::RetainMut, 1234, 268),
         (Choice::RetainBy, 1234, 268),
         (Choice::Dedup, 12232, 1232),
-        (Choice::DedupBy, 1239, 69),
-        (Choice::DedupWithin, 1239, 69),
+        (Choice::DedupBy, 12936, 236),
+        (Choice::DedupWithin, 12936, 236),
         (Choice::DedupByKey, 36796, 3696),
         (Choice::DedupWithinKey, 3465, 365),
         (Choice::ResizeWith, 123, 12377),
