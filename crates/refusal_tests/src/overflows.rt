@@ -11,6 +11,7 @@ use std::alloc::Global;
 use std::cell::Cell;
 use std::mem::forget;
 use test_allocators::Faulty;
+use test_allocators::refusing::Refusing;
 
 // One number fewer than the limit on bytes allows is refused for want of memory alone.
 #[test]
@@ -193,4 +194,9 @@ fn no_unit_is_put_behind_as_many_as_can_be_counted(rt: HostRuntime) {
         assert!(rt; end_of_unit(call, &mut v, units(1, rt.alloc())) == End::TooLong);
     }
     forget(v);
+}
+
+#[test]
+fn elements_without_size_take_no_memory(rt: HostRuntime) {
+    assert!(rt; units(5, Refusing).len() == 5);
 }
