@@ -1,11 +1,14 @@
 -- Items that are pushed behind those of a small vector, one by one.
 use Rattle.std.proofs.Common.{◌≡◌, ℕ, ◌+◌, ◌-◌, ◌<◌, Bool, true, false, List, [], ◌∷◌, ◌++◌, length, refl, sym, ap, ◌∙◌, arith, append_assoc, length-append}
-use Rattle.std.specs.Prelude.{nat_le, if◌then◌else◌}
+use Rattle.std.proofs.Common.{inr, subst}
+use Rattle.std.specs.Iterator.{Drains}
+use Rattle.std.specs.Prelude.{Option, Result, Ok, Err, IfErr, OnOk, nat_le, if◌then◌else◌}
 use Rattle.std.proofs.lemmas.Bool.Decides.{nat_tests}
 use Rattle.std.proofs.lemmas.List.{append-nil}
 use Rattle.std.proofs.lemmas.List.Elements.{same_from_all_zip}
 use Rattle.allocator_api2.proofs.Blocks as Blocks
-use Rattle.ex_inline.specs.Extending.{pushed, pushed_all}
+use Rattle.allocator_api2.specs.declared.collections.TryReserveError.{TryReserveError}
+use Rattle.ex_inline.specs.Extending.{pushed, pushed_all, ExtendsByAll, StopsAt, StopsAtItem}
 use Rattle.ex_inline.specs.Inlined.{Inlined, capacity, with_room, wrote, HasRoom}
 
 module _ {T A : Type 0} (size N : ℕ) where
@@ -49,6 +52,21 @@ module _ {T A : Type 0} where
   -- one of n items that have room, and then the others
   pub room-wrote : (N : ℕ) (s : Inlined T A) (x : T) (n i : ℕ) → i < n → HasRoom N s (n - i) → HasRoom N (wrote s (s.items ++ x ∷ []) 1) (n - (i + 1))
   room-wrote N s x n i few room = omega (arith, length-append s.items (x ∷ []), few, room)
+
+module _ {S T A : Type 0} (next_gives : S → Option T → S → Type 0) (size N : ℕ) (iter : S) (old mid new : Inlined T A) where
+  -- all that came stand behind the items that were there
+  pub came_behind : (r : Result Unit TryReserveError) → mid.items ≡ old.items → OnOk r ((xs : List T) × Drains next_gives iter xs × (new ≡ pushed_all size N mid xs)) → OnOk r ((xs : List T) × Drains next_gives iter xs × (new.items ≡ old.items ++ xs))
+  came_behind (Ok u) e p = (p.0, p.1, ap (λ s. s.items) p.2 ∙ items-pushed_all size N mid p.0 ∙ ap (λ ys. ys ++ p.0) e)
+  came_behind (Err e) same p = tt
+
+  module _ (Tells : S → ℕ → Type 0) (told : ℕ) (tells : Tells iter told) (made : mid ≡ with_room size N old told) where
+    pub all_came : (r : Result Unit TryReserveError) → OnOk r ((xs : List T) × Drains next_gives iter xs × (new ≡ pushed_all size N mid xs)) → OnOk r (ExtendsByAll next_gives Tells size N iter old new)
+    all_came (Ok u) p = record { told = told; tells = tells; added = p.0; given = p.1; put = p.2 ∙ ap (λ s. pushed_all size N s p.0) made }
+    all_came (Err e) p = tt
+
+    pub stopped : (r : Result Unit TryReserveError) → IfErr r (λ e. StopsAtItem next_gives size N iter mid e new) → IfErr r (λ e. StopsAt next_gives Tells size N iter old e new)
+    stopped (Ok u) p = tt
+    stopped (Err e) p = record { told = told; tells = tells; why = inr (subst (λ s. StopsAtItem next_gives size N iter s e new) made p) }
 
 pub ruleset pushes = (pushed_all-push, items-pushed_all, length-pushed_all)
 

@@ -1,6 +1,7 @@
 -- What calls of a `Few` want: items at the first places of an array, and a value that is carried through a list.
 use Rattle.std.proofs.Common.{◌≡◌, ℕ, zero, suc, ◌+◌, ◌-◌, ◌<◌, ◌≤◌, List, [], ◌∷◌, ◌++◌, length, take, drop, get_or, Some, refl, sym, ap, ap₂, ◌∙◌, arith, length-set, length-take-le, take-take, length-append, length-drop}
-use Rattle.std.specs.Prelude.{insert, remove, slice_get, slice_set}
+use Rattle.std.specs.Iterator.{MakesProgress, item_count}
+use Rattle.std.specs.Prelude.{None, Option, MatchOption, insert, remove, slice_get, slice_set}
 use Rattle.ex_inline.specs.FewInner.{in_front}
 use Rattle.std.proofs.lemmas.Bool.Decides.{nat_tests}
 use Rattle.std.proofs.lemmas.Grind.{take-set_at}
@@ -52,6 +53,15 @@ module _ {X : Type 0} where
 
   pub left-last : (xs ys : List X) (i : ℕ) (x : X) → i < length xs → xs ≡ ys ++ x ∷ [] → drop i xs ≡ drop i ys ++ x ∷ []
   left-last xs ys i x some e = ap (drop i) e ∙ drop-append-le i ys (x ∷ []) (omega (arith, some, ap length e, length-append ys (x ∷ [])))
+
+  -- what is left where the last one, if there is one, is taken
+  pub left-back : (seen xs ys : List X) (i : ℕ) (r : Option X) → drop i xs ≡ seen → i < length xs → MatchOption r ((xs ≡ []) × (ys ≡ [])) (λ x. xs ≡ ys ++ x ∷ []) → MatchOption r ((seen ≡ []) × (drop i ys ≡ [])) (λ x. seen ≡ drop i ys ++ x ∷ [])
+  left-back seen xs ys i None e some p = absurd (omega (arith, some, ap length p.0))
+  left-back seen xs ys i (Some x) e some p = sym e ∙ left-last xs ys i x some p
+
+  pub fewer-back : (can : List X → Type 0) (may : (s : List X) → can s) (seen rest : List X) (r : Option X) → MatchOption r ((seen ≡ []) × (rest ≡ [])) (λ x. seen ≡ rest ++ x ∷ []) → MakesProgress can (item_count (λ s. s)) seen r rest
+  fewer-back can may seen rest None p = record { on = λ f. tt; keeps = tt; rests = λ f. f }
+  fewer-back can may seen rest (Some x) p = record { on = λ f. (may rest, f, omega (arith, ap length p, length-append rest (x ∷ []))); keeps = may rest; rests = λ f. tt }
 
   pub none-left : (xs : List X) (i : ℕ) → length xs ≤ i → drop i xs ≡ []
   none-left xs i h = drop_all i xs h
