@@ -153,11 +153,19 @@ fn part<A: Allocator>(
     Ok(ledger.bytes())
 }
 
-// Random steps, before each of which a request may be chosen that is turned away.
+// Random steps of all that lives in the allocator.
 fn walk<A: Allocator>(books: Global, heap: &Refereed<A>, course: Course) -> Result<(), Fault> {
     let mut zoo = Zoo::new(books, heap);
+    steps(&mut zoo, heap.watch(), course)
+}
+
+// Random steps, before each of which a request may be chosen that is turned away.
+fn steps<H: Allocator + Copy>(
+    zoo: &mut Zoo<H>,
+    referee: &Referee,
+    course: Course,
+) -> Result<(), Fault> {
     let mut random = Random::new(course.seed);
-    let referee = heap.watch();
     for _ in 0..course.steps {
         referee.next_step();
         referee.turn_away(random.draw() % 4, random.draw() % 2);

@@ -102,32 +102,43 @@ impl fmt::Display for Fault {
 impl Fault {
     // What is wrong with the contents of a block.
     fn write_block<W: fmt::Write>(&self, f: &mut fmt::Formatter<W>) -> fmt::Result {
-        match self.broken {
-            Broken::GivenTwice => write!(f, "a block was given out twice: ")?,
-            Broken::Overlaps => write!(f, "a block overlaps from place {}: ", self.place)?,
-            Broken::GrowLoses => write!(f, "behind `grow`, place {} is lost: ", self.place)?,
-            _ => write!(f, "behind `shrink`, place {} is lost: ", self.place)?,
+        let (place, how) = match self.broken {
+            Broken::GivenTwice => ("", "a block was given out twice"),
+            Broken::Overlaps => ("a block overlaps from place ", ""),
+            Broken::GrowLoses => ("behind `grow`, place ", " is lost"),
+            _ => ("behind `shrink`, place ", " is lost"),
+        };
+        if !place.is_empty() {
+            write!(f, "{place}{}", self.place)?;
         }
-        write!(f, "{} elements of {} bytes", self.count, self.element)
+        write!(
+            f,
+            "{how}: {} elements of {} bytes",
+            self.count, self.element
+        )
     }
 
     // What is wrong with the answer to a request.
     fn write_request<W: fmt::Write>(&self, f: &mut fmt::Formatter<W>) -> fmt::Result {
         let size = self.count;
-        let (bytes, blocks) = (self.bytes, self.blocks);
         match self.broken {
             Broken::GrantsNothing => write!(f, "nothing is granted, ")?,
-            Broken::Refuses => {
-                write!(f, "{size} bytes are refused that had to be granted, ")?;
-                write!(f, "{bytes} out with them in {blocks} blocks, ")?;
-            }
-            Broken::PastLimit => {
-                write!(f, "{size} bytes are granted past the limit, ")?;
-                write!(f, "{bytes} out with them in {blocks} blocks, ")?;
+            Broken::Forgets => {
+                let again = "what came back is not used again";
+                write!(f, "{again}: {size} bytes are refused with nothing out, ")?;
             }
             _ => {
-                write!(f, "what came back is not used again: ")?;
-                write!(f, "{size} bytes are refused with nothing out, ")?;
+                let (bytes, blocks) = (self.bytes, self.blocks);
+                let claim = if self.broken == Broken::Refuses {
+                    "refused that had to be granted"
+                } else {
+                    "granted past the limit"
+                };
+                let out = "out with them";
+                write!(
+                    f,
+                    "{size} bytes are {claim}, {bytes} {out} in {blocks} blocks, "
+                )?;
             }
         }
         write!(f, "{} of {} requests refused", self.refused, self.requests)
@@ -136,15 +147,21 @@ impl Fault {
     // What is wrong with what the inner allocator got back.
     fn write_books<W: fmt::Write>(&self, f: &mut fmt::Formatter<W>) -> fmt::Result {
         let (bytes, blocks) = (self.bytes, self.blocks);
-        match self.broken {
+        let text = match self.broken {
             Broken::NeverPassesOn => {
-                write!(f, "what came back is neither used again nor passed on: ")?;
-                write!(f, "{bytes} bytes in {blocks} blocks")
+                let kept = "neither used again nor passed on";
+                return write!(
+                    f,
+                    "what came back is {kept}: {bytes} bytes in {blocks} blocks"
+                );
             }
-            Broken::LeaksAtDrop => write!(f, "{bytes} bytes leak, in {blocks} blocks"),
-            Broken::PassedOnTwice => write!(f, "more blocks were passed on than taken"),
-            Broken::OtherSize => write!(f, "a block was passed on with another size"),
-            _ => write!(f, "a block was passed on with another alignment"),
-        }
+            Broken::LeaksAtDrop => {
+                return write!(f, "{bytes} bytes leak, in {blocks} blocks");
+            }
+            Broken::PassedOnTwice => "more blocks were passed on than taken",
+            Broken::OtherSize => "a block was passed on with another size",
+            _ => "a block was passed on with another alignment",
+        };
+        f.write_str(text)
     }
 }

@@ -22,18 +22,36 @@ pub(crate) struct Breach {
 pub(crate) struct Referee {
     course: Course,
     step: Cell<u64>,
-    asked: Cell<u64>,
+    asked: Asked,
+    answered: Answered,
+    out: Out,
+    denied: Cell<Option<Breach>>,
+    passed: Cell<Option<Breach>>,
+}
+
+// How many blocks were asked for, and which requests are turned away.
+#[derive(Drop, Default)]
+struct Asked {
+    number: Cell<u64>,
     // Requests from the first number up to, but without, the second are turned away.
     from: Cell<u64>,
     until: Cell<u64>,
     turned_away: Cell<u64>,
+}
+
+// What the allocator did.
+#[derive(Drop, Default)]
+struct Answered {
     granted: Cell<u64>,
     refused: Cell<u64>,
     frees: Cell<u64>,
+}
+
+// What is out.
+#[derive(Drop, Default)]
+struct Out {
     bytes: Cell<usize>,
     blocks: Cell<usize>,
-    denied: Cell<Option<Breach>>,
-    passed: Cell<Option<Breach>>,
 }
 
 impl Referee {
@@ -42,15 +60,9 @@ impl Referee {
         Referee {
             course,
             step: Cell::new(0),
-            asked: Cell::new(0),
-            from: Cell::new(0),
-            until: Cell::new(0),
-            turned_away: Cell::new(0),
-            granted: Cell::new(0),
-            refused: Cell::new(0),
-            frees: Cell::new(0),
-            bytes: Cell::new(0),
-            blocks: Cell::new(0),
+            asked: Asked::default(),
+            answered: Answered::default(),
+            out: Out::default(),
             denied: Cell::new(None),
             passed: Cell::new(None),
         }
@@ -68,39 +80,39 @@ impl Referee {
 
     /// Turns `count` requests away after the next `skip` ones, in place of an earlier range.
     pub(crate) fn turn_away(&self, skip: u64, count: u64) {
-        let from = self.asked.get().saturating_add(skip);
-        self.from.set(from);
-        self.until.set(from.saturating_add(count));
+        let from = self.asked.number.get().saturating_add(skip);
+        self.asked.from.set(from);
+        self.asked.until.set(from.saturating_add(count));
     }
 
     /// How many blocks were asked for, those turned away too.
     pub(crate) fn asked(&self) -> u64 {
-        self.asked.get()
+        self.asked.number.get()
     }
 
     /// How many of these never got to the allocator.
     pub(crate) fn turned_away(&self) -> u64 {
-        self.turned_away.get()
+        self.asked.turned_away.get()
     }
 
     /// How many of these the allocator granted.
     pub(crate) fn granted(&self) -> u64 {
-        self.granted.get()
+        self.answered.granted.get()
     }
 
     /// How many of these the allocator refused.
     pub(crate) fn refused(&self) -> u64 {
-        self.refused.get()
+        self.answered.refused.get()
     }
 
     /// How many blocks were given back.
     pub(crate) fn frees(&self) -> u64 {
-        self.frees.get()
+        self.answered.frees.get()
     }
 
     /// How many bytes are out.
     pub(crate) fn bytes(&self) -> usize {
-        self.bytes.get()
+        self.out.bytes.get()
     }
 
     /// The first request that was refused and had to be granted.
@@ -118,36 +130,41 @@ impl Referee {
         Breach {
             step: self.step.get(),
             size,
-            bytes: self.bytes.get().saturating_add(size),
-            blocks: self.blocks.get().saturating_add(1),
+            bytes: self.out.bytes.get().saturating_add(size),
+            blocks: self.out.blocks.get().saturating_add(1),
         }
     }
 }
 
 impl Watch for Referee {
     fn refuses(&self, _size: usize, _align: usize) -> bool {
-        let number = self.asked.get();
-        self.asked.set(number.saturating_add(1));
-        let away = self.from.get() <= number && number < self.until.get();
+        let number = self.asked.number.get();
+        self.asked.number.set(number.saturating_add(1));
+        let away = self.asked.from.get() <= number && number < self.asked.until.get();
         if away {
-            self.turned_away
-                .set(self.turned_away.get().saturating_add(1));
+            self.asked
+                .turned_away
+                .set(self.asked.turned_away.get().saturating_add(1));
         }
         away
     }
 
     fn grants(&self, size: usize, _align: usize) {
-        self.granted.set(self.granted.get().saturating_add(1));
+        self.answered
+            .granted
+            .set(self.answered.granted.get().saturating_add(1));
         let with = self.with(size);
-        self.bytes.set(with.bytes);
-        self.blocks.set(with.blocks);
+        self.out.bytes.set(with.bytes);
+        self.out.blocks.set(with.blocks);
         if self.passed.get().is_none() && !self.course.allows(with.bytes, with.blocks) {
             self.passed.set(Some(with));
         }
     }
 
     fn misses(&self, size: usize, _align: usize) {
-        self.refused.set(self.refused.get().saturating_add(1));
+        self.answered
+            .refused
+            .set(self.answered.refused.get().saturating_add(1));
         let with = self.with(size);
         if self.denied.get().is_none() && self.course.promises(size, with.bytes, with.blocks) {
             self.denied.set(Some(with));
@@ -155,8 +172,12 @@ impl Watch for Referee {
     }
 
     fn takes_back(&self, size: usize, _align: usize) {
-        self.frees.set(self.frees.get().saturating_add(1));
-        self.bytes.set(self.bytes.get().saturating_sub(size));
-        self.blocks.set(self.blocks.get().saturating_sub(1));
+        self.answered
+            .frees
+            .set(self.answered.frees.get().saturating_add(1));
+        self.out
+            .bytes
+            .set(self.out.bytes.get().saturating_sub(size));
+        self.out.blocks.set(self.out.blocks.get().saturating_sub(1));
     }
 }

@@ -6,14 +6,32 @@ use std::alloc::{Allocator, Global};
 /// All that lives in the allocator, of the alignments 1, 2, 4, 8 and 16.
 #[derive(Drop)]
 pub(crate) struct Zoo<H: Allocator + Copy> {
-    heap: H,
+    small: Small<H>,
+    big: Big<H>,
+    others: Others<H>,
+}
+
+// Elements of up to 4 bytes.
+#[derive(Drop)]
+struct Small<H: Allocator + Copy> {
     none: Set<(), H>,
     bytes: Set<u8, H>,
     shorts: Set<u16, H>,
     numbers: Set<u32, H>,
+}
+
+// Elements of more.
+#[derive(Drop)]
+struct Big<H: Allocator + Copy> {
     sixteens: Set<u128, H>,
     wide: Set<Wide, H>,
     large: Set<Large, H>,
+}
+
+// A text, and blocks that are kept.
+#[derive(Drop)]
+struct Others<H: Allocator + Copy> {
+    heap: H,
     text: Text<H>,
     store: Store<H>,
     great: Great<H>,
@@ -22,45 +40,81 @@ pub(crate) struct Zoo<H: Allocator + Copy> {
 impl<H: Allocator + Copy> Zoo<H> {
     pub(crate) fn new(books: Global, heap: H) -> Zoo<H> {
         Zoo {
-            heap,
-            none: Set::new(books, heap, 1),
-            bytes: Set::new(books, heap, 2),
-            shorts: Set::new(books, heap, 3),
-            numbers: Set::new(books, heap, 4),
-            sixteens: Set::new(books, heap, 5),
-            wide: Set::new(books, heap, 6),
-            large: Set::new(books, heap, 7),
-            text: Text::new(heap),
-            store: Store::new(books),
-            great: Great::new(books),
+            small: Small::new(books, heap),
+            big: Big::new(books, heap),
+            others: Others::new(books, heap),
         }
     }
 
     /// A step of one of them.
     pub(crate) fn step(&mut self, random: &mut Random) -> Result<(), Spot> {
         match random.up_to(9) {
-            0 => self.none.step(random),
-            1 => self.bytes.step(random),
-            2 => self.shorts.step(random),
-            3 => self.numbers.step(random),
-            4 => self.sixteens.step(random),
-            5 => self.wide.step(random),
-            6 => self.large.step(random),
-            7 => self.text.step(random),
-            8 => self.store.step(self.heap, random),
-            _ => self.great.step(self.heap, random),
+            0 => self.small.none.step(random),
+            1 => self.small.bytes.step(random),
+            2 => self.small.shorts.step(random),
+            3 => self.small.numbers.step(random),
+            4 => self.big.sixteens.step(random),
+            5 => self.big.wide.step(random),
+            6 => self.big.large.step(random),
+            7 => self.others.text.step(random),
+            8 => self.others.store.step(self.others.heap, random),
+            _ => self.others.great.step(self.others.heap, random),
         }
     }
 
     /// A look at all places of all of them.
     pub(crate) fn look(&self) -> Result<(), Spot> {
+        self.small.look()?;
+        self.big.look()?;
+        self.others.look()
+    }
+}
+
+impl<H: Allocator + Copy> Small<H> {
+    fn new(books: Global, heap: H) -> Small<H> {
+        Small {
+            none: Set::new(books, heap, 1),
+            bytes: Set::new(books, heap, 2),
+            shorts: Set::new(books, heap, 3),
+            numbers: Set::new(books, heap, 4),
+        }
+    }
+
+    fn look(&self) -> Result<(), Spot> {
         self.none.look()?;
         self.bytes.look()?;
         self.shorts.look()?;
-        self.numbers.look()?;
+        self.numbers.look()
+    }
+}
+
+impl<H: Allocator + Copy> Big<H> {
+    fn new(books: Global, heap: H) -> Big<H> {
+        Big {
+            sixteens: Set::new(books, heap, 5),
+            wide: Set::new(books, heap, 6),
+            large: Set::new(books, heap, 7),
+        }
+    }
+
+    fn look(&self) -> Result<(), Spot> {
         self.sixteens.look()?;
         self.wide.look()?;
-        self.large.look()?;
+        self.large.look()
+    }
+}
+
+impl<H: Allocator + Copy> Others<H> {
+    fn new(books: Global, heap: H) -> Others<H> {
+        Others {
+            heap,
+            text: Text::new(heap),
+            store: Store::new(books),
+            great: Great::new(books),
+        }
+    }
+
+    fn look(&self) -> Result<(), Spot> {
         self.text.look()?;
         self.store.look()?;
         self.great.look()
