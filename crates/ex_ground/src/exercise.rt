@@ -89,8 +89,8 @@ fn exercise_clone<B: Allocator, A: Allocator>(
 const PROBE: usize = 4_096;
 
 // Whether that request is granted.
-fn probe<A: Allocator>(heap: &Refereed<A>) -> bool {
-    Vec::<u8, &Refereed<A>>::with_capacity_in(PROBE, heap).is_ok()
+fn probe<H: Allocator>(heap: H) -> bool {
+    Vec::<u8, H>::with_capacity_in(PROBE, heap).is_ok()
 }
 
 // Exercises one handle: three times the same steps.
@@ -132,8 +132,8 @@ fn part<A: Allocator>(
     course: Course,
     granted: bool,
 ) -> Result<u64, Fault> {
-    walk(books, refereed, course)?;
     let referee = refereed.watch();
+    walk(books, refereed, referee, course)?;
     answers_as_claimed(referee)?;
     for _ in 0..course.steps {
         if granted && !probe(refereed) {
@@ -153,10 +153,15 @@ fn part<A: Allocator>(
     Ok(ledger.bytes())
 }
 
-// Random steps of all that lives in the allocator.
-fn walk<A: Allocator>(books: Global, heap: &Refereed<A>, course: Course) -> Result<(), Fault> {
+// Random steps of all that lives in an allocator.
+fn walk<H: Allocator + Copy>(
+    books: Global,
+    heap: H,
+    referee: &Referee,
+    course: Course,
+) -> Result<(), Fault> {
     let mut zoo = Zoo::new(books, heap);
-    steps(&mut zoo, heap.watch(), course)
+    steps(&mut zoo, referee, course)
 }
 
 // Random steps, before each of which a request may be chosen that is turned away.
@@ -185,7 +190,11 @@ fn steps<H: Allocator + Copy>(
 
 // Random steps of vectors that call `grow` and `shrink`. Each step is looked at, so a wrong mark is of
 // the call that was made in it.
-fn grow_and_shrink<A: Allocator>(heap: &A, referee: &Referee, course: Course) -> Result<(), Fault> {
+fn grow_and_shrink<H: Allocator + Copy>(
+    heap: H,
+    referee: &Referee,
+    course: Course,
+) -> Result<(), Fault> {
     let mut growing = Growing::new(heap);
     let mut random = Random::new(course.seed);
     for _ in 0..course.steps {
