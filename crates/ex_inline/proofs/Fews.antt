@@ -63,6 +63,9 @@ module _ {X : Type 0} where
   fewer-back can may seen rest None p = record { on = λ f. tt; keeps = tt; rests = λ f. f }
   fewer-back can may seen rest (Some x) p = record { on = λ f. (may rest, f, omega (arith, ap length p, length-append rest (x ∷ []))); keeps = may rest; rests = λ f. tt }
 
+  pub fewer-front : (can : List X → Type 0) (may : (s : List X) → can s) (seen rest : List X) (x : X) → seen ≡ x ∷ rest → MakesProgress can (item_count (λ s. s)) seen (Some x) rest
+  fewer-front can may seen rest x p = record { on = λ f. (may rest, f, omega (arith, ap length p)); keeps = may rest; rests = λ f. tt }
+
   pub none-left : (xs : List X) (i : ℕ) → length xs ≤ i → drop i xs ≡ []
   none-left xs i h = drop_all i xs h
 
