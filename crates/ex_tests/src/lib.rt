@@ -1,7 +1,9 @@
-//! Tests of the smaller examples, of the guide's callers and of the bench's cases, a module for
-//! each crate; no part of these.
+//! Tests of the examples, of the guide's callers and of the bench's cases, a module for each crate or
+//! part of it; no part of these.
 #![tactic(auto)]
 
+#[cfg(test)]
+mod allocators;
 #[cfg(test)]
 mod btree;
 #[cfg(test)]
@@ -9,12 +11,22 @@ mod callers;
 #[cfg(test)]
 mod cases;
 #[cfg(test)]
+mod ground;
+#[cfg(test)]
+mod inline;
+#[cfg(test)]
 mod leaf;
+#[cfg(test)]
+mod recycler;
+#[cfg(test)]
+mod ring;
 #[cfg(test)]
 mod slots;
 #[cfg(test)]
 mod small;
 #[cfg(test)]
 mod spaced;
+#[cfg(test)]
+mod table;
 #[cfg(test)]
 mod trees;

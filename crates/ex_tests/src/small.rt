@@ -1,25 +1,43 @@
+//! The smaller collections, and records.
 use allocator_api2::vec::Vec;
 use ex_small::arena::Arena;
 use ex_small::editor::Editor;
 use ex_small::fixed::Fixed;
 use ex_small::records::{decode, encode, push_record};
 use ex_small::text::TextBuilder;
-use std::alloc::Allocator;
+use std::alloc::Global;
 use std::test::Fail;
 use test_allocators::Faulty;
 
+// The value that is handed back, if it is.
+fn handed_back(arena: &mut Arena<u64, &Faulty<Global>>, value: u64) -> Option<u64> {
+    match arena.alloc(value) {
+        Ok(_) => None,
+        Err(back) => Some(back.source),
+    }
+}
+
+// Room that was made is there though all memory is refused, and no more than that.
 #[test]
 fn values_are_found_by_their_handles(rt: HostRuntime) {
     let heap = Faulty::new(rt.alloc());
-    let mut arena: Arena<u64, &Faulty<_>> = Arena::new_in(&heap);
+    let mut arena: Arena<u64, &Faulty<Global>> = Arena::new_in(&heap);
+    heap.refuse(0, 2);
+    assert!(rt; handed_back(&mut arena, 7) == Some(7));
+    for made in [false, true] {
+        assert!(rt; arena.reserve(4).is_ok() == made);
+    }
+    heap.refuse(0, u64::MAX);
     let (Ok(one), Ok(two)) = (arena.alloc(10), arena.alloc(20)) else {
         return assert!(rt; false);
     };
-    assert!(rt; *arena.get(one) == 10);
     *arena.get_mut(one) = 11;
     assert!(rt; arena.replace(two, 21) == 20);
-    let seen = (arena.try_get(one).copied(), arena.try_get(two).copied());
-    assert!(rt; (seen, arena.len()) == ((Some(11), Some(21)), 2));
+    assert!(rt; *arena.get(one) == 11 && arena.try_get(two).copied() == Some(21));
+    for back in [None, None, Some(7)] {
+        assert!(rt; handed_back(&mut arena, 7) == back);
+    }
+    assert!(rt; arena.len() == 4);
 }
 
 #[test]
@@ -27,137 +45,99 @@ fn records_come_back(rt: HostRuntime) -> Result<(), Fail> {
     let records: [&[u8]; 3] = [b"one", b"", b"three"];
     let bytes = encode(&records, rt.alloc())?;
     assert!(rt; bytes.as_slice().len() == 32);
+    assert!(rt; decode(&bytes.as_slice()[1..], rt.alloc())?.is_none());
     match decode(bytes.as_slice(), rt.alloc())? {
-        Some(back) => {
-            assert!(rt; back.len() == 3);
-            assert!(rt; back.as_slice()[2] == b"three".as_slice());
-        }
+        Some(back) => assert!(rt; back.as_slice() == records.as_slice()),
         None => assert!(rt; false),
     }
-    assert!(rt; decode(&bytes.as_slice()[1..], rt.alloc())?.is_none());
     Ok(())
 }
 
+fn is_pushed(log: &mut Vec<u8, &Faulty<Global>>, entry: &[u8]) -> bool {
+    push_record(log, entry).is_ok()
+}
+
 #[test]
-fn a_record_is_pushed(rt: HostRuntime) -> Result<(), Fail> {
-    let mut log = Vec::new(rt.alloc());
-    push_record(&mut log, b"ab")?;
+fn a_record_is_pushed(rt: HostRuntime) {
+    let heap = Faulty::new(rt.alloc());
+    let mut log = Vec::new_in(&heap);
+    heap.refuse(0, 1);
+    for pushed in [false, true] {
+        assert!(rt; is_pushed(&mut log, b"ab") == pushed);
+    }
     assert!(rt; log.as_slice() == b"\x02\0\0\0\0\0\0\0ab".as_slice());
-    Ok(())
+}
+
+fn is_put(text: &mut TextBuilder<&Faulty<Global>>, part: &str) -> bool {
+    text.push_str(part).is_ok()
+}
+
+fn is_put_as_digits(text: &mut TextBuilder<&Faulty<Global>>, number: u64) -> bool {
+    text.push_u64(number).is_ok()
 }
 
 #[test]
-fn text_is_built(rt: HostRuntime) -> Result<(), Fail> {
-    let mut text = TextBuilder::new_in(rt.alloc());
-    text.push_str("n = ")?;
-    text.push_u64(1024)?;
+fn a_text_is_built(rt: HostRuntime) {
+    let heap = Faulty::new(rt.alloc());
+    let mut text: TextBuilder<&Faulty<Global>> = TextBuilder::new_in(&heap);
+    heap.refuse(0, 2);
+    assert!(rt; !is_put(&mut text, "n = "));
+    for made in [false, true] {
+        assert!(rt; text.reserve(8).is_ok() == made);
+    }
+    heap.refuse(0, 2);
+    assert!(rt; is_put(&mut text, "n = "));
+    for put in [false, false, true] {
+        assert!(rt; is_put_as_digits(&mut text, 1024) == put);
+    }
+    assert!(rt; text.as_str() == "n = 1024");
     match text.finish() {
         Ok(done) => assert!(rt; done.as_str() == "n = 1024"),
         Err(_) => assert!(rt; false),
     }
-    Ok(())
+}
+
+type Line<'a> = Editor<&'a Faulty<Global>>;
+
+fn is_typed(line: &mut Line<'_>, bytes: &[u8]) -> bool {
+    line.type_in(bytes).is_ok()
 }
 
 // Whether these bytes stand on either side of the cursor.
-fn shows<A: Allocator>(line: &Editor<A>, before: &[u8], after: &[u8]) -> bool {
+fn shows(line: &Line<'_>, before: &[u8], after: &[u8]) -> bool {
     line.before() == before && line.after() == after
 }
 
 #[test]
-fn a_word_is_typed_into_a_line(rt: HostRuntime) -> Result<(), Fail> {
-    let mut line = Editor::new_in(rt.alloc());
-    line.type_in(b"a line")?;
-    line.go_to(2);
-    line.type_in(b"short ")?;
-    assert!(rt; shows(&line, b"a short ", b"line"));
-    assert!(rt; line.backspace() == Some(b' '));
-    line.go_to(99);
-    assert!(rt; shows(&line, b"a shortline", b""));
-    Ok(())
-}
-
-#[test]
-fn a_refused_word_changes_no_line(rt: HostRuntime) {
+fn a_word_is_typed_into_a_line(rt: HostRuntime) {
     let heap = Faulty::new(rt.alloc());
-    let mut line: Editor<&Faulty<_>> = Editor::new_in(&heap);
-    assert!(rt; line.type_in(b"kept").is_ok());
+    let mut line: Line<'_> = Editor::new_in(&heap);
+    assert!(rt; is_typed(&mut line, b"a line"));
     line.go_to(2);
-    heap.refuse(0, 1000);
-    assert!(rt; line.type_in(b"a much longer word").is_err());
-    assert!(rt; shows(&line, b"ke", b"pt"));
+    heap.refuse(0, 2);
+    assert!(rt; !is_typed(&mut line, b"very long ") && shows(&line, b"a ", b"line"));
+    for made in [false, true] {
+        assert!(rt; line.reserve(10).is_ok() == made);
+    }
+    heap.refuse(0, u64::MAX);
+    assert!(rt; is_typed(&mut line, b"very long ") && line.backspace() == Some(b' '));
+    line.go_to(99);
+    assert!(rt; shows(&line, b"a very longline", b""));
 }
 
 #[test]
 fn a_full_vector_hands_back(rt: HostRuntime) {
     let heap = Faulty::new(rt.alloc());
-    let Ok(mut few) = Fixed::<u64, &Faulty<_>>::with_capacity_in(2, &heap) else {
+    heap.refuse(0, 1);
+    assert!(rt; Fixed::<u64, &Faulty<Global>>::with_capacity_in(2, &heap).is_err());
+    let Ok(mut few) = Fixed::<u64, &Faulty<Global>>::with_capacity_in(2, &heap) else {
         return assert!(rt; false);
     };
-    assert!(rt; (few.push(1), few.push(2), few.push(3)) == (Ok(()), Ok(()), Err(3)));
-    assert!(rt; few.as_slice() == [1u64, 2].as_slice());
-    assert!(rt; (few.pop(), few.push(4), heap.requests()) == (Some(2), Ok(()), 1));
+    for (item, answer) in [(1, Ok(())), (2, Ok(())), (3, Err(3))] {
+        assert!(rt; few.push(item) == answer);
+    }
+    assert!(rt; few.as_slice() == [1u64, 2].as_slice() && few.pop() == Some(2));
+    assert!(rt; (few.len(), few.capacity()) == (1, 2));
     drop(few);
     assert!(rt; heap.outstanding() == 0);
-}
-
-#[test]
-fn a_refused_value_is_handed_back(rt: HostRuntime) {
-    let heap = Faulty::new(rt.alloc());
-    let mut arena: Arena<u64, &Faulty<_>> = Arena::new_in(&heap);
-    heap.refuse(0, 1000);
-    match arena.alloc(7) {
-        Ok(_) => assert!(rt; false),
-        Err(back) => assert!(rt; back.source == 7),
-    }
-    assert!(rt; arena.len() == 0);
-}
-
-// Room that was made is there though all memory is refused, and no more than that.
-#[test]
-fn a_reserved_arena_takes_what_fits(rt: HostRuntime) -> Result<(), Fail> {
-    let heap = Faulty::new(rt.alloc());
-    let mut arena: Arena<u64, &Faulty<_>> = Arena::new_in(&heap);
-    arena.reserve(20)?;
-    heap.refuse(0, 1000);
-    for value in 0..20 {
-        assert!(rt; arena.alloc(value).is_ok());
-    }
-    assert!(rt; heap.refused() == 0);
-    assert!(rt; arena.alloc(20).is_err());
-    Ok(())
-}
-
-#[test]
-fn a_reserved_text_takes_what_fits(rt: HostRuntime) -> Result<(), Fail> {
-    let heap = Faulty::new(rt.alloc());
-    let mut text: TextBuilder<&Faulty<_>> = TextBuilder::new_in(&heap);
-    text.reserve(24)?;
-    heap.refuse(0, 1000);
-    assert!(rt; text.push_str("24 bytes ").is_ok() && text.push_str("are in all here").is_ok());
-    assert!(rt; text.as_str() == "24 bytes are in all here" && heap.refused() == 0);
-    assert!(rt; text.push_u64(7).is_err());
-    Ok(())
-}
-
-#[test]
-fn a_reserved_line_takes_what_fits(rt: HostRuntime) -> Result<(), Fail> {
-    let heap = Faulty::new(rt.alloc());
-    let mut line: Editor<&Faulty<_>> = Editor::new_in(&heap);
-    line.reserve(20)?;
-    heap.refuse(0, 1000);
-    assert!(rt; line.type_in(b"a fairly long line").is_ok());
-    line.go_to(1);
-    assert!(rt; line.type_in(b"s ").is_ok() && heap.refused() == 0);
-    Ok(())
-}
-
-#[test]
-fn a_reserved_log_takes_what_fits(rt: HostRuntime) -> Result<(), Fail> {
-    let heap = Faulty::new(rt.alloc());
-    let mut log: Vec<u8, &Faulty<_>> = Vec::new_in(&heap);
-    log.try_reserve(20)?;
-    heap.refuse(0, 1000);
-    assert!(rt; push_record(&mut log, b"a dozen more").is_ok());
-    assert!(rt; log.len() == 20 && heap.refused() == 0);
-    Ok(())
 }

@@ -1,6 +1,5 @@
 //! Lists and trees that are built, changed and dropped.
 use aa_boxed::boxed::Box;
-use aa_raw::collections::TryReserveErrorKind;
 use aa_vec::vec::Vec;
 use ex_trees::derived::{Link, Sealed, Wood};
 use ex_trees::list::{Node, list_of, pop, push, reversed, total_by_loop};
@@ -8,69 +7,49 @@ use ex_trees::search::{Search, holds, insert};
 use ex_trees::tree::{Tree, add_up, clear, double, leaf, levels, push_child};
 use std::alloc::{AllocError, Allocator, Global};
 use std::fmt::Debug;
-use std::process::Abort;
 use std::test::Fail;
 use test_allocators::Faulty;
 
-type List = Option<Box<Node<Global>, Global>>;
+type List<'a> = Option<Box<Node<&'a Faulty<Global>>, &'a Faulty<Global>>>;
 
 // A list of the numbers from `count - 1` down to 0.
-fn numbers(rt: &HostRuntime, count: u32) -> Result<List, Fail> {
-    let mut head: List = None;
-    for value in 0..count {
-        push(&mut head, value, rt.alloc())?;
-    }
-    Ok(head)
-}
-
-#[test]
-fn a_list_of_100_000_nodes_is_taken_down_by_pops(rt: HostRuntime) -> Result<(), Fail> {
-    let mut head = numbers(&rt, 100_000)?;
-    let mut count: u32 = 0;
-    while let Some(value) = pop(&mut head) {
-        count = count.saturating_add(1);
-        assert!(rt; value.saturating_add(count) == 100_000);
-    }
-    assert!(rt; count == 100_000);
-    Ok(())
-}
-
-type ListIn<'a> = Option<Box<Node<&'a Faulty<Global>>, &'a Faulty<Global>>>;
-
-// A list of the numbers from `count - 1` down to 0, over `heap`.
-fn numbers_in<'a>(heap: &'a Faulty<Global>, count: u32) -> Result<ListIn<'a>, AllocError> {
-    let mut head: ListIn<'a> = None;
+fn numbers<'a>(heap: &'a Faulty<Global>, count: u32) -> Result<List<'a>, AllocError> {
+    let mut head: List<'a> = None;
     for value in 0..count {
         push(&mut head, value, heap)?;
     }
     Ok(head)
 }
 
-// A drop that goes one call deeper for each node has no stack for so many.
-#[test]
-fn a_list_of_100_000_nodes_is_dropped_by_itself(rt: HostRuntime) -> Result<(), Fail> {
-    let heap = Faulty::new(rt.alloc());
-    let mut head = numbers_in(&heap, 100_000)?;
-    ex_trees::list::clear(&mut head);
-    assert!(rt; heap.frees() == 100_000 && heap.outstanding() == 0);
-    head = numbers_in(&heap, 100_000)?;
-    drop(head);
-    assert!(rt; heap.frees() == 200_000 && heap.outstanding() == 0);
-    Ok(())
+// Makes a list of 100,000 nodes, which goes by itself or by `clear`. It answers whether it was made.
+fn is_made(heap: &Faulty<Global>, by_itself: bool) -> bool {
+    let Ok(mut head) = numbers(heap, 100_000) else {
+        return false;
+    };
+    if !by_itself {
+        ex_trees::list::clear(&mut head);
+    }
+    true
 }
 
+// A drop that goes one call deeper for each node has no stack for so many.
 #[test]
-fn a_refusal_in_the_middle_drops_what_is_there(rt: HostRuntime) -> Result<(), Fail> {
+fn long_lists_are_dropped(rt: HostRuntime) {
     let heap = Faulty::new(rt.alloc());
-    heap.refuse(49_999, 1);
-    assert!(rt; numbers_in(&heap, 100_000).is_err());
-    assert!(rt; heap.refused() == 1);
-    assert!(rt; heap.frees() == 49_999 && heap.outstanding() == 0);
-    Ok(())
+    // How it goes, which request is refused, and how many blocks came back then.
+    for (by_itself, refused, frees) in [
+        (true, 100_000, 100_000),
+        (false, 100_000, 200_000),
+        (true, 49_999, 249_999),
+    ] {
+        heap.refuse(refused, 1);
+        assert!(rt; is_made(&heap, by_itself) == (refused == 100_000));
+        assert!(rt; heap.frees() == frees && heap.outstanding() == 0);
+    }
 }
 
 // Whether these values come from the front, one after another.
-fn gives(head: &mut List, values: &[u32]) -> bool {
+fn gives(head: &mut List<'_>, values: &[u32]) -> bool {
     let mut all = true;
     for value in values {
         all = pop(head) == Some(*value) && all;
@@ -80,37 +59,58 @@ fn gives(head: &mut List, values: &[u32]) -> bool {
 
 #[test]
 fn a_list_goes_round(rt: HostRuntime) -> Result<(), Fail> {
-    let mut round = reversed(numbers(&rt, 4)?);
-    assert!(rt; gives(&mut round, &[0, 1]));
-    push(&mut round, 9, rt.alloc())?;
-    assert!(rt; gives(&mut round, &[9, 2, 3]));
-    assert!(rt; pop(&mut round) == None);
+    let heap = Faulty::new(rt.alloc());
+    let mut round = reversed(numbers(&heap, 4)?);
+    assert!(rt; gives(&mut round, &[0, 1, 2, 3]) && pop(&mut round) == None);
     Ok(())
 }
 
+// Whether a list of these numbers is made, and gives them.
+fn is_listed(heap: &Faulty<Global>, values: &[u32]) -> bool {
+    match list_of(values, &heap) {
+        Ok(mut head) => gives(&mut head, values) && pop(&mut head) == None,
+        Err(_) => false,
+    }
+}
+
 #[test]
-fn a_list_of_numbers_is_made_whole_or_not(rt: HostRuntime) -> Result<(), Fail> {
-    let mut head = list_of(&[7, 8, 9], &rt.alloc())?;
-    assert!(rt; gives(&mut head, &[7, 8, 9]));
-    assert!(rt; pop(&mut head) == None);
+fn a_list_of_numbers_is_made_whole_or_not(rt: HostRuntime) {
     let heap = Faulty::new(rt.alloc());
-    heap.refuse(2, 1);
-    assert!(rt; list_of(&[7, 8, 9], &&heap).is_err());
-    assert!(rt; heap.frees() == 2 && heap.outstanding() == 0);
-    Ok(())
+    for (refused, listed) in [(2, false), (3, true)] {
+        heap.refuse(refused, 1);
+        assert!(rt; is_listed(&heap, &[7, 8, 9]) == listed && heap.outstanding() == 0);
+    }
 }
 
 #[test]
 fn a_list_and_a_tree_add_up(rt: HostRuntime) -> Result<(), Fail> {
-    let mut head: List = None;
+    let mut head: Option<Box<Node<Global>, Global>> = None;
     push(&mut head, 9, rt.alloc())?;
     assert!(rt; total_by_loop(&head) == 9);
     assert!(rt; add_up(&leaf(7, rt.alloc())) == 7);
     Ok(())
 }
 
+type Small<'a> = Tree<&'a Faulty<Global>>;
+
+// Puts a leaf below a tree. It answers the value that is handed back.
+fn grown<'a>(tree: &mut Small<'a>, value: u64, heap: &'a Faulty<Global>) -> Option<u64> {
+    match push_child(tree, leaf(value, heap)) {
+        Ok(()) => None,
+        Err(refused) => Some(refused.source.value),
+    }
+}
+
+// Puts a leaf below the first child.
+fn grown_below<'a>(tree: &mut Small<'a>, value: u64, heap: &'a Faulty<Global>) -> Option<u64> {
+    for child in tree.below.as_mut_slice() {
+        return grown(child, value, heap);
+    }
+    None
+}
+
 // The sum of the values, or `u64::MAX`.
-fn sum<A: Allocator>(tree: &Tree<A>) -> u64 {
+fn sum(tree: &Small<'_>) -> u64 {
     let mut all = tree.value;
     for child in tree.below.as_slice() {
         all = sum(child).saturating_add(all);
@@ -119,80 +119,36 @@ fn sum<A: Allocator>(tree: &Tree<A>) -> u64 {
 }
 
 // Whether a tree has so many levels, and this sum.
-fn comes_to<A: Allocator>(tree: &Tree<A>, height: u64, all: u64) -> bool {
+fn comes_to(tree: &Small<'_>, height: u64, all: u64) -> bool {
     levels(tree) == height && sum(tree) == all
 }
 
-// 1 over 2 and 4, and 2 over 3.
-fn three_levels(alloc: &Global) -> Result<Tree<Global>, Fail> {
-    let mut tree = leaf(1, alloc.clone()?);
-    let mut child = leaf(2, alloc.clone()?);
-    child
-        .below
-        .push(leaf(3, alloc.clone()?))
-        .map_err(|_| AllocError)?;
-    tree.below.push(child).map_err(|_| AllocError)?;
-    tree.below
-        .push(leaf(4, alloc.clone()?))
-        .map_err(|_| AllocError)?;
-    Ok(tree)
-}
-
 #[test]
-fn a_tree_of_three_levels_is_changed_in_place(rt: HostRuntime) -> Result<(), Fail> {
-    let mut tree = three_levels(&rt.alloc())?;
-    assert!(rt; comes_to(&tree, 3, 10));
-    for child in tree.below.as_mut_slice() {
-        for below in child.below.as_mut_slice() {
-            below.value = 33;
-        }
-    }
-    assert!(rt; comes_to(&tree, 3, 40));
-    double(&mut tree);
-    assert!(rt; comes_to(&tree, 3, 80));
-    clear(&mut tree);
-    assert!(rt; comes_to(&tree, 3, 0));
-    Ok(())
-}
-
-// Puts a leaf below the first child. It answers the value that was handed back.
-fn grown<'a>(tree: &mut Tree<&'a Faulty<Global>>, heap: &'a Faulty<Global>) -> Option<u64> {
-    for child in tree.below.as_mut_slice() {
-        return match push_child(child, leaf(5, heap)) {
-            Ok(()) => None,
-            Err(refused) => Some(refused.source.value),
-        };
-    }
-    None
-}
-
-#[test]
-fn a_refused_push_into_a_child_leaves_the_tree(rt: HostRuntime) -> Result<(), Fail> {
+fn a_tree_of_three_levels_is_changed_in_place(rt: HostRuntime) {
     let heap = Faulty::new(rt.alloc());
     let mut tree = leaf(1, &heap);
-    assert!(rt; push_child(&mut tree, leaf(2, &heap)).is_ok());
-    heap.refuse(0, 1);
-    assert!(rt; grown(&mut tree, &heap) == Some(5));
-    assert!(rt; heap.refused() == 1 && comes_to(&tree, 2, 3));
-    assert!(rt; grown(&mut tree, &heap) == None);
-    assert!(rt; comes_to(&tree, 3, 8));
+    assert!(rt; grown(&mut tree, 2, &heap) == None);
+    for (refused, back, height, sum) in [(1, Some(5), 2, 3), (0, None, 3, 8)] {
+        heap.refuse(0, refused);
+        assert!(rt; grown_below(&mut tree, 5, &heap) == back && comes_to(&tree, height, sum));
+    }
+    double(&mut tree);
+    assert!(rt; comes_to(&tree, 3, 16));
+    clear(&mut tree);
+    assert!(rt; comes_to(&tree, 3, 0));
     drop(tree);
     assert!(rt; heap.outstanding() == 0);
-    Ok(())
 }
 
 #[test]
-fn a_search_tree_has_what_was_put_in(rt: HostRuntime) -> Result<(), Fail> {
+fn a_search_tree_has_what_was_put_in(rt: HostRuntime) -> Result<(), AllocError> {
     let alloc = rt.alloc();
     let mut tree: Search<Global> = Search::Leaf;
     for key in [5, 2, 8, 2, 9] {
         tree = insert(tree, key, &alloc)?;
     }
-    for key in [2, 5, 8, 9] {
-        assert!(rt; holds(&tree, key));
-    }
-    for key in [0, 3, 7, 10] {
-        assert!(rt; !holds(&tree, key));
+    for key in 0..11 {
+        assert!(rt; holds(&tree, key) == matches!(key, 2 | 5 | 8 | 9));
     }
     Ok(())
 }

@@ -7,7 +7,5 @@
 pub mod counted;
 /// An allocator for tests in which no request is granted.
 pub mod refusing;
-#[cfg(test)]
-mod tests;
 
 pub use ex_watched::faulty::Faulty;

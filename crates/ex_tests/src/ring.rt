@@ -1,0 +1,229 @@
+//! The ring.
+use allocator_api2::vec::Vec;
+use ex_ring::ring::Ring;
+use std::alloc::Global;
+use std::cell::Cell;
+use std::mem::size_of;
+use std::ops::Range;
+use test_allocators::Faulty;
+use test_allocators::counted::Counted;
+
+// A ring over an allocator that may refuse.
+type Small<'a> = Ring<u64, &'a Faulty<Global>>;
+
+// Whether the ring has these items, as it gives them one after the other and by their index.
+fn has(ring: &Small<'_>, items: &[u64]) -> bool {
+    let mut same = ring.len() == items.len();
+    let mut shown = ring.iter();
+    for i in 0..items.len() {
+        let item = Some(items[i]);
+        same = shown.next().copied() == item && ring.get(i).copied() == item && same;
+    }
+    same
+}
+
+// Whether the ring takes these items at its back.
+fn takes(ring: &mut Small<'_>, items: Range<u64>) -> bool {
+    let mut all = true;
+    for item in items {
+        all = ring.push_back(item).is_ok() && all;
+    }
+    all
+}
+
+// Whether the ring takes an item at its front.
+fn takes_in_front(ring: &mut Small<'_>, item: u64) -> bool {
+    ring.push_front(item).is_ok()
+}
+
+// A ring of these items, of which the first two stand behind the others in its block.
+fn turned<'a>(heap: &'a Faulty<Global>, items: Range<u64>) -> Small<'a> {
+    let mut ring: Small<'_> = Ring::new_in(heap);
+    let mut rest = items;
+    let (first, second) = (rest.next(), rest.next());
+    takes(&mut ring, rest);
+    for item in [second, first] {
+        if let Some(item) = item {
+            takes_in_front(&mut ring, item);
+        }
+    }
+    ring
+}
+
+#[test]
+fn items_come_and_go_at_both_ends(rt: HostRuntime) {
+    let heap = Faulty::new(rt.alloc());
+    let mut ring = turned(&heap, 0..6);
+    assert!(rt; (ring.pop_front(), ring.pop_back()) == (Some(0), Some(5)));
+    assert!(rt; has(&ring, &[1, 2, 3, 4]));
+    ring.clear();
+    assert!(rt; ring.is_empty());
+    drop(ring);
+    assert!(rt; heap.outstanding() == 0);
+}
+
+#[test]
+fn items_are_turned_into_one_slice(rt: HostRuntime) {
+    let heap = Faulty::new(rt.alloc());
+    let mut ring = turned(&heap, 0..4);
+    assert!(rt; ring.as_slices().0 == [0, 1].as_slice());
+    ring.make_contiguous();
+    assert!(rt; ring.as_slices().0 == [0, 1, 2, 3].as_slice());
+}
+
+#[test]
+fn each_item_is_dropped_once(rt: HostRuntime) {
+    let heap = Faulty::new(rt.alloc());
+    let drops = Cell::new(0);
+    let mut ring: Ring<Counted<'_>, &Faulty<Global>> = Ring::new_in(&heap);
+    for value in 0u32..5 {
+        let drops = &drops;
+        assert!(rt; ring.push_back(Counted { value, drops }).is_ok());
+        assert!(rt; ring.push_front(Counted { value, drops }).is_ok());
+    }
+    drop(ring.pop_front());
+    assert!(rt; drops.get() == 1);
+    drop(ring);
+    assert!(rt; drops.get() == 10 && heap.outstanding() == 0);
+}
+
+#[test]
+fn items_are_written_where_they_stand(rt: HostRuntime) {
+    let heap = Faulty::new(rt.alloc());
+    let mut ring = turned(&heap, 0..5);
+    if let Some(place) = ring.get_mut(3) {
+        *place = 13;
+    }
+    if let Some(first) = ring.front_mut() {
+        *first = 20;
+    }
+    if let Some(last) = ring.back_mut() {
+        *last = 24;
+    }
+    if ring.len() > 1 {
+        ring[1] = 21;
+    }
+    assert!(rt; (ring.front(), ring.back()) == (Some(&20), Some(&24)));
+    assert!(rt; has(&ring, &[20, 21, 2, 13, 24]));
+}
+
+// The capacity of a vector of all items but the first and the last.
+fn between(ring: &Small<'_>, heap: &Faulty<Global>) -> Option<usize> {
+    let mut items = ring.iter();
+    let (_first, _last) = (items.next()?, items.next_back()?);
+    Some(Vec::from_iter_in(items, heap).ok()?.capacity())
+}
+
+// The same of a ring that goes.
+fn between_owned(ring: Small<'_>, heap: &Faulty<Global>) -> Option<usize> {
+    let mut items = ring.into_iter();
+    let (_first, _last) = (items.next()?, items.next_back()?);
+    Some(Vec::from_iter_in(items, heap).ok()?.capacity())
+}
+
+// A vector of what comes makes one block.
+#[test]
+fn iterators_tell_how_many_come(rt: HostRuntime) {
+    let heap = Faulty::new(rt.alloc());
+    let ring = turned(&heap, 0..1000);
+    let before = heap.requests();
+    assert!(rt; between(&ring, &heap) == Some(998) && between_owned(ring, &heap) == Some(998));
+    assert!(rt; heap.requests().wrapping_sub(before) == 2 && heap.outstanding() == 0);
+}
+
+// A call that takes memory.
+#[derive(Clone, Copy)]
+enum Call {
+    WithCapacity,
+    PushBack,
+    PushFront,
+    Reserve,
+    Extend,
+    FromIter,
+    Append,
+    Clone,
+}
+
+// Does it to a ring, and to another. It answers the length of what it makes or changes.
+fn called<'a>(
+    call: Call,
+    ring: &mut Small<'a>,
+    other: &mut Small<'a>,
+    heap: &'a Faulty<Global>,
+) -> Option<usize> {
+    match call {
+        Call::WithCapacity => return Some(Small::with_capacity_in(5, heap).ok()?.capacity()),
+        Call::PushBack => ring.push_back(4).ok()?,
+        Call::PushFront => ring.push_front(4).ok()?,
+        Call::Reserve => ring.reserve(5).ok()?,
+        Call::Extend => ring.extend(4..9).ok()?,
+        Call::FromIter => return Some(Small::from_iter_in(4..9, heap).ok()?.len()),
+        Call::Append => ring.append(other).ok()?,
+        Call::Clone => return Some(ring.clone().ok()?.len()),
+    }
+    Some(ring.len())
+}
+
+// The calls, and the length of what each makes or leaves of a ring of four items in four places.
+const CALLS: [(Call, usize); 8] = [
+    (Call::WithCapacity, 5),
+    (Call::PushBack, 5),
+    (Call::PushFront, 5),
+    (Call::Reserve, 4),
+    (Call::Extend, 9),
+    (Call::FromIter, 5),
+    (Call::Append, 5),
+    (Call::Clone, 4),
+];
+
+#[test]
+fn a_call_that_is_refused_changes_nothing(rt: HostRuntime) {
+    let heap = Faulty::new(rt.alloc());
+    for (call, len) in CALLS {
+        let (mut ring, mut other) = (turned(&heap, 0..4), turned(&heap, 7..8));
+        heap.refuse(0, 1);
+        assert!(rt; called(call, &mut ring, &mut other, &heap) == None);
+        assert!(rt; has(&ring, &[0, 1, 2, 3]) && has(&other, &[7]));
+        assert!(rt; called(call, &mut ring, &mut other, &heap) == Some(len));
+    }
+    assert!(rt; heap.outstanding() == 0);
+}
+
+#[test]
+fn a_ring_has_its_size(rt: HostRuntime) {
+    assert!(rt; size_of::<Ring<u64, Global>>() == 48);
+}
+
+#[test]
+fn rings_are_compared(rt: HostRuntime) {
+    let heap = Faulty::new(rt.alloc());
+    let (less, more) = (turned(&heap, 0..5), turned(&heap, 0..6));
+    assert!(rt; less == less && less < more);
+}
+
+// Turns the ring to the left, or to the right, where it has as many items.
+fn turns(ring: &mut Small<'_>, left: bool, by: usize) -> bool {
+    if ring.len() < by {
+        return false;
+    }
+    if left {
+        ring.rotate_left(by);
+    } else {
+        ring.rotate_right(by);
+    }
+    true
+}
+
+#[test]
+fn a_ring_turns_both_ways(rt: HostRuntime) {
+    let heap = Faulty::new(rt.alloc());
+    let mut ring = turned(&heap, 0..5);
+    for (left, by, items) in [
+        (true, 1, [1, 2, 3, 4, 0]),
+        (true, 4, [0, 1, 2, 3, 4]),
+        (false, 2, [3, 4, 0, 1, 2]),
+        (false, 5, [3, 4, 0, 1, 2]),
+    ] {
+        assert!(rt; turns(&mut ring, left, by) && has(&ring, &items), "{by}");
+    }
+}

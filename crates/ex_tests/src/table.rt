@@ -1,0 +1,271 @@
+//! The hash table.
+use allocator_api2::boxed::BoxedText;
+use allocator_api2::collections::TryReserveErrorKind;
+use allocator_api2::vec::Vec;
+use ex_table::table::Table;
+use std::alloc::Global;
+use std::hash::{BuildHasher, BuildHasherDefault, FoldHasher, Hasher};
+use std::ops::Range;
+use std::test::Fail;
+use test_allocators::Faulty;
+
+// A table over an allocator that may refuse.
+type Small<'a> = Table<u64, u64, BuildHasherDefault<FoldHasher>, &'a Faulty<Global>>;
+
+fn none<'a>(heap: &'a Faulty<Global>) -> Small<'a> {
+    Table::new_in(heap)
+}
+
+// The value of a key.
+fn has(table: &Small<'_>, key: u64) -> Option<u64> {
+    table.get(&key).copied()
+}
+
+// Whether keys with values of their own number go in as new ones.
+fn takes(table: &mut Small<'_>, keys: Range<u64>) -> bool {
+    let mut all = true;
+    for key in keys {
+        all = matches!(table.insert(key, key), Ok(None)) && all;
+    }
+    all
+}
+
+// Whether a key and its value go out.
+fn gives(table: &mut Small<'_>, key: u64) -> bool {
+    table.remove(&key) == Some(key)
+}
+
+// At a steady size no memory is asked for.
+#[test]
+fn keys_come_and_go_without_memory(rt: HostRuntime) {
+    for (count, times) in [(1u64, 1_000u64), (1_000, 20_000)] {
+        let heap = Faulty::new(rt.alloc());
+        let mut table = none(&heap);
+        assert!(rt; takes(&mut table, 0..count));
+        heap.refuse(0, u64::MAX);
+        for turn in 0..times {
+            let key = turn.checked_rem(count).unwrap_or(0);
+            assert!(rt; gives(&mut table, key) && takes(&mut table, key..key.saturating_add(1)));
+        }
+        assert!(rt; heap.refused() == 0 && table.len() as u64 == count);
+        table.clear();
+        assert!(rt; table.is_empty() && has(&table, 0) == None);
+        drop(table);
+        assert!(rt; heap.outstanding() == 0);
+    }
+}
+
+#[test]
+fn values_are_written_and_all_are_seen(rt: HostRuntime) {
+    let heap = Faulty::new(rt.alloc());
+    let mut table = none(&heap);
+    assert!(rt; takes(&mut table, 1..11));
+    for key in 1u64..12 {
+        match table.get_mut(&key) {
+            Some(value) => *value = key.wrapping_mul(key),
+            None => assert!(rt; key == 11),
+        }
+    }
+    let mut sums = (0u64, 0u64);
+    for (key, value) in table.iter() {
+        sums = (sums.0.saturating_add(*key), sums.1.saturating_add(*value));
+    }
+    assert!(rt; sums == (55, 385) && table.contains_key(&10));
+    assert!(rt; table.insert(10, 0).ok() == Some(Some(100)));
+}
+
+// Makes room: the room then, or why there is none.
+fn reserved(table: &mut Small<'_>, additional: usize) -> Result<usize, TryReserveErrorKind> {
+    match table.reserve(additional) {
+        Ok(()) => Ok(table.room()),
+        Err(error) => Err(error.kind()),
+    }
+}
+
+// Room asked for, the room that there is then, and the requests that it made.
+const ROOMS: [(usize, usize, u64); 5] = [
+    (9, 9, 0),
+    (10, 23, 3),
+    (23, 23, 0),
+    (100, 100, 3),
+    (101, 205, 3),
+];
+
+#[test]
+fn a_reserve_makes_room_for_twice_as_many_or_for_all(rt: HostRuntime) {
+    let heap = Faulty::new(rt.alloc());
+    let mut table = none(&heap);
+    assert!(rt; reserved(&mut table, 0) == Ok(0) && heap.requests() == 0);
+    assert!(rt; takes(&mut table, 0..5));
+    for (additional, room, requests) in ROOMS {
+        let before = heap.requests();
+        assert!(rt;
+            reserved(&mut table, additional) == Ok(room),
+            "{additional}"
+        );
+        assert!(rt;
+            heap.requests().wrapping_sub(before) == requests,
+            "{additional}"
+        );
+    }
+    heap.refuse(0, u64::MAX);
+    assert!(rt; takes(&mut table, 5..210) && (table.len(), table.capacity()) == (210, 210));
+}
+
+// What a refused insert hands back, and why it was refused.
+fn handed_back(table: &mut Small<'_>, key: u64) -> Option<((u64, u64), TryReserveErrorKind)> {
+    match table.insert(key, 7) {
+        Ok(_) => None,
+        Err(back) => Some((back.source, back.error.kind())),
+    }
+}
+
+fn too_many(capacity: usize) -> TryReserveErrorKind {
+    TryReserveErrorKind::AllocError { capacity }
+}
+
+#[test]
+fn a_refusal_has_the_number_asked_for(rt: HostRuntime) {
+    let heap = Faulty::new(rt.alloc());
+    let mut table = none(&heap);
+    assert!(rt; takes(&mut table, 0..14));
+    // Room asked for, and with how many keys, as these are; the block of tags is refused first, then
+    // what is told beside them, and then that of places.
+    for skip in 0u64..3 {
+        for (additional, capacity) in [(1, 28), (14, 28), (15, 29), (1000, 1014)] {
+            heap.refuse(skip, 1);
+            assert!(rt; reserved(&mut table, additional) == Err(too_many(capacity)));
+        }
+        heap.refuse(skip, 1);
+        assert!(rt; handed_back(&mut table, 14) == Some(((14, 7), too_many(28))));
+    }
+    heap.refuse(0, 1000);
+    let most = too_many(2_000_000_000);
+    let none = TryReserveErrorKind::CapacityOverflow;
+    for (additional, kind) in [
+        (1_999_999_986, most),
+        (1_999_999_987, none),
+        (usize::MAX, none),
+    ] {
+        assert!(rt;
+            reserved(&mut table, additional) == Err(kind),
+            "{additional}"
+        );
+    }
+    assert!(rt; (table.len(), has(&table, 7)) == (14, Some(7)));
+}
+
+// Hashers that make one number of all keys.
+#[derive(Clone, Copy, Drop)]
+struct Same;
+
+impl Hasher for Same {
+    ghost write = { λ s _. s };
+
+    ghost finish = { λ _. 7 };
+
+    fn finish(&self) -> u64 {
+        7
+    }
+
+    fn write(&mut self, _bytes: &[u8]) {}
+}
+
+impl BuildHasher for Same {
+    type Hasher = Same;
+
+    ghost build_hasher = { λ s. s };
+
+    fn build_hasher(&self) -> Same {
+        *self
+    }
+}
+
+// A table whose keys are texts in boxes, which all have one hash.
+type Texts = Table<BoxedText<Global>, u64, Same, Global>;
+
+fn key(heap: Global, word: &str) -> Option<BoxedText<Global>> {
+    BoxedText::from_text(heap, word).ok()
+}
+
+// Gives the text a number. It answers the one that it had.
+fn put(table: &mut Texts, key: Option<BoxedText<Global>>, number: u64) -> Option<u64> {
+    table.insert(key?, number).ok()?
+}
+
+// The number of a text, which goes.
+fn taken(table: &mut Texts, key: Option<BoxedText<Global>>) -> Option<u64> {
+    table.remove(&key?)
+}
+
+#[test]
+fn texts_are_keys_by_any_hasher(rt: HostRuntime) {
+    let heap = rt.alloc();
+    let mut table: Texts = Table::with_hasher_in(Same, heap);
+    for (word, number, old) in [("plum", 1, None), ("pear", 2, None), ("plum", 4, Some(1))] {
+        assert!(rt; put(&mut table, key(heap, word), number) == old);
+    }
+    for (word, number) in [
+        ("plum", Some(4)),
+        ("quince", None),
+        ("pear", Some(2)),
+        ("plum", None),
+    ] {
+        assert!(rt; taken(&mut table, key(heap, word)) == number, "{word}");
+    }
+}
+
+// The capacity of a vector of what comes, by each iterator that borrows.
+fn collected(table: &Small<'_>, heap: &Faulty<Global>, way: u32) -> Option<usize> {
+    match way {
+        0 => Some(Vec::from_iter_in(table.iter(), heap).ok()?.capacity()),
+        1 => Some(Vec::from_iter_in(table.keys(), heap).ok()?.capacity()),
+        _ => Some(Vec::from_iter_in(table.values(), heap).ok()?.capacity()),
+    }
+}
+
+// Each vector of what comes makes one block.
+#[test]
+fn iterators_tell_how_many_come(rt: HostRuntime) -> Result<(), Fail> {
+    let heap = Faulty::new(rt.alloc());
+    let mut table: Small<'_> = Table::with_capacity_in(1000, &heap)?;
+    assert!(rt; takes(&mut table, 0..1000) && heap.requests() == 3);
+    for (way, requests) in [(0, 4), (1, 5), (2, 6)] {
+        assert!(rt; collected(&table, &heap, way) == Some(1000) && heap.requests() == requests);
+    }
+    let mut shown = table.iter();
+    assert!(rt; shown.next().is_some() && shown.next_back().is_some() && shown.len() == 998);
+    let mut owned = table.into_iter();
+    assert!(rt; owned.next().is_some() && owned.next_back().is_some());
+    assert!(rt; Vec::from_iter_in(owned, &heap)?.capacity() == 998 && heap.requests() == 7);
+    Ok(())
+}
+
+// Gives back what room is left: the room then, or why it stays.
+fn shrunk(table: &mut Small<'_>) -> Result<usize, TryReserveErrorKind> {
+    match table.shrink_to_fit() {
+        Ok(()) => Ok(table.room()),
+        Err(error) => Err(error.kind()),
+    }
+}
+
+#[test]
+fn what_room_is_left_is_given_back(rt: HostRuntime) {
+    let heap = Faulty::new(rt.alloc());
+    let mut table = none(&heap);
+    assert!(rt; takes(&mut table, 0..20));
+    for (skip, told) in [(0, Err(too_many(20))), (1, Err(too_many(20))), (9, Ok(0))] {
+        heap.refuse(skip, 1);
+        assert!(rt; shrunk(&mut table) == told);
+    }
+    assert!(rt; has(&table, 19) == Some(19));
+}
+
+#[test]
+fn a_key_with_a_value_is_an_index(rt: HostRuntime) {
+    let mut table = Table::new_in(rt.alloc());
+    if let Ok(None) = table.insert(3u64, 4u64) {
+        assert!(rt; table[&3] == 4);
+    }
+    assert!(rt; table.len() == 1);
+}

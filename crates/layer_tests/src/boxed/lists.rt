@@ -1,0 +1,67 @@
+//! Boxed slices and boxed texts.
+use crate::boxed::{has, slice_of, text_of};
+use crate::printed::are_printed;
+use aa_boxed::boxed::{BoxedSlice, BoxedText};
+use std::alloc::Global;
+use std::test::Fail;
+
+#[test]
+fn a_slice_is_made_of_another(rt: HostRuntime) -> Result<(), Fail> {
+    let mut list = slice_of(rt.alloc(), &[1, 2, 3])?;
+    assert!(rt; has(&list, &[1, 2, 3]));
+    list.as_mut_slice().fill(5);
+    assert!(rt; has(&list, &[5, 5, 5]));
+    let _alloc: &Global = list.allocator();
+    let (block, len) = list.into_block();
+    assert!(rt; (block.capacity(), len) == (3, 3));
+    Ok(())
+}
+
+#[test]
+fn a_slice_is_made_of_items(rt: HostRuntime) -> Result<(), Fail> {
+    let list: BoxedSlice<u32> = BoxedSlice::from_iter(rt.alloc(), 0..9)?;
+    assert!(rt; has(&list, &[0, 1, 2, 3, 4, 5, 6, 7, 8]));
+    Ok(())
+}
+
+// Whether a text and a slice are printed so.
+fn both_are_printed(alloc: Global, text: &str, items: &[u32], printed: &str) -> bool {
+    let (Ok(text), Ok(list)) = (text_of(alloc, text), slice_of(alloc, items)) else {
+        return false;
+    };
+    matches!(are_printed(alloc, &text, &list, printed), Ok(true))
+}
+
+// Whether a text is printed for programmers so.
+fn is_printed(alloc: Global, text: &str, printed: &str) -> bool {
+    match text_of(alloc, text) {
+        Ok(text) => matches!(are_printed(alloc, &"is", &text, printed), Ok(true)),
+        Err(_) => false,
+    }
+}
+
+#[test]
+fn a_slice_and_a_text_are_printed(rt: HostRuntime) {
+    assert!(rt; both_are_printed(rt.alloc(), "héllo", &[1, 5, 3], "héllo [1, 5, 3]"));
+    assert!(rt; is_printed(rt.alloc(), "héllo", "is \"héllo\""));
+}
+
+// Whether these bytes become this text, whose bytes they are, or come back.
+fn is_text(alloc: Global, bytes: &[u8], text: Option<&str>) -> bool {
+    let Ok(list) = BoxedSlice::from_slice(alloc, bytes) else {
+        return false;
+    };
+    match BoxedText::from_bytes(list) {
+        Ok(made) => text == Some(made.as_str()) && has(&made.into_bytes(), bytes),
+        Err(back) => text.is_none() && has(&back, bytes),
+    }
+}
+
+#[test]
+fn bytes_in_utf8_become_a_text(rt: HostRuntime) -> Result<(), Fail> {
+    assert!(rt; is_text(rt.alloc(), &[0x68, 0xc3, 0xa9], Some("hé")));
+    assert!(rt; is_text(rt.alloc(), &[0x68, 0xc3], None));
+    let text = text_of(rt.alloc(), "a")?;
+    let _alloc: &Global = text.allocator();
+    Ok(())
+}

@@ -1,0 +1,6 @@
+//! The gap buffer.
+mod claims;
+mod counted;
+mod refusals;
+mod rows;
+mod texts;

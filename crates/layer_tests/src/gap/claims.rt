@@ -1,0 +1,129 @@
+//! Callers whose contracts say what a worked example counts, what an insert writes at the end, and
+//! what edits leave of a new text; and the numbers of a few scripts.
+ghost use Rattle.std.specs.Prelude.{◌≡◌, ℕ, ◌+◌, ◌*◌, ◌<◌, ◌≤◌, List, None, [], ◌∷◌, replicate, fold, IfOk, OnErr, OnOk};
+ghost use Rattle.std.specs.Mem.{type_size};
+ghost use Rattle.std.specs.Iterator.{IsFinite, YieldsThen};
+ghost use Rattle.aa_raw.specs.declared.raw_vec.Growth.TheVariants.{Doubling, Sparing};
+ghost use Rattle.aa_raw.specs.Growth.{sized};
+ghost use Rattle.aa_gap.specs.Buffer.{empty, len, gap};
+ghost use Rattle.aa_gap.specs.Editing.{with_edit};
+ghost use Rattle.aa_gap.specs.Page.{inserts};
+ghost use Rattle.aa_gap.specs.declared.gap_buffer.Edit.{Edit};
+ghost use Rattle.aa_gap.specs.declared.gap_buffer.Edit.TheVariants.{Insert, DeleteBack, DeleteForward, MoveTo};
+
+use aa_gap::gap_buffer::{Edit, GapBuffer};
+use aa_raw::collections::{Refused, TryReserveError};
+use std::alloc::Allocator;
+
+// An insert where no place is free: wherever the cursor is, it moves the text to the new block, each
+// element once, and writes nothing but its item.
+fn added<T, A: Allocator>(text: &mut GapBuffer<T, A>, item: T) -> Result<(), Refused<T>>
+    requires { gap text.old ≡ 0 }
+    ensures grown { OnOk result (text.new.grown ≡ text.old.grown + len text.old) }
+    ensures written { OnOk result (text.new.written ≡ text.old.written + 1) }
+    ensures runs { OnOk result (text.new.runs ≡ text.old.runs + 1) }
+{
+    text.insert(item)
+}
+
+// Room that is made writes nothing, also where places were free, and leaves the cursor.
+fn roomy<T, A: Allocator>(text: &mut GapBuffer<T, A>, count: usize) -> Result<(), TryReserveError>
+    requires { gap text.old < count }
+    ensures parts { OnOk result
+        ((text.new.before ≡ text.old.before) × (text.new.after ≡ text.old.after)) }
+    ensures grown { OnOk result (text.new.grown ≡ text.old.grown + len text.old) }
+    ensures written { OnOk result (text.new.written ≡ text.old.written) }
+    ensures runs { OnOk result (text.new.runs ≡ text.old.runs) }
+    ensures refused { OnErr result (text.new ≡ text.old) }
+{
+    text.reserve(count)
+}
+
+// A text made by edits is the empty one after them, and growth moves at most two elements for each
+// insert, whatever is deleted between.
+#[tactic(auto, using(aa_gap::proofs::Callers::callers))]
+fn made_by<T: Drop, A: Allocator, I: Iterator<Item = Edit<T>>>(
+    edits: &mut I,
+    alloc: A,
+) -> Result<GapBuffer<T, A>, TryReserveError>
+    requires may_ask { I.can_next edits.old }
+    requires ends { IsFinite (I.remaining edits.old) }
+    ensures { let size = type_size T.row in
+        IfOk result
+        (λ text. (done : List (Edit T)) × YieldsThen I.next_gives edits.old done None edits.new
+        × (text ≡ fold (with_edit size) (empty (sized size 0) Doubling alloc) done)
+        × (text.grown ≤ 2 * inserts done)) }
+{
+    let mut text = GapBuffer::new_in(alloc);
+    text.edit_all(edits)?;
+    Ok(text)
+}
+
+// Five inserts: 4 places, and at the fifth 8. The four before it are moved, and each is written
+// once. (A number stands for the allocator.)
+fn five_inserts()
+    ensures { fold (with_edit {T = ℕ} {A = ℕ} 4) (empty 0 Doubling 0) (replicate 5 (Insert 7))
+        ≡ record {
+          before = replicate 5 7;
+          after = [];
+          capacity = 8;
+          growth = Doubling;
+          grown = 4;
+          written = 5;
+          runs = 5;
+          alloc = 0;
+        } }
+{}
+
+// 1, 2 and 3, a move back to behind the first, then 9 and 8; and what stands on either side of the
+// cursor is taken away.
+fn worked()
+    ensures { fold (with_edit {T = ℕ} {A = ℕ} 4) (empty 0 Doubling 0)
+        (Insert 1 ∷ Insert 2 ∷ Insert 3 ∷ MoveTo 1 ∷ Insert 9 ∷ Insert 8 ∷ DeleteForward
+        ∷ DeleteBack ∷ [])
+        ≡ record {
+          before = 1 ∷ 9 ∷ [];
+          after = 3 ∷ [];
+          capacity = 8;
+          growth = Doubling;
+          grown = 4;
+          written = 7;
+          runs = 6;
+          alloc = 0;
+        } }
+{}
+
+// The fifth is put behind the first of four: growth moves the four, and writes none of them again.
+// Over a full text the cursor moves for nothing. The places stay through deletions, so that the
+// insert after them needs no more.
+fn inserts_in_the_middle()
+    ensures { fold (with_edit {T = ℕ} {A = ℕ} 4) (empty 0 Doubling 0)
+        (Insert 1 ∷ Insert 2 ∷ Insert 3 ∷ Insert 4 ∷ MoveTo 1 ∷ Insert 9 ∷ DeleteBack
+        ∷ DeleteForward ∷ Insert 8 ∷ [])
+        ≡ record {
+          before = 1 ∷ 8 ∷ [];
+          after = 3 ∷ 4 ∷ [];
+          capacity = 8;
+          growth = Doubling;
+          grown = 4;
+          written = 6;
+          runs = 6;
+          alloc = 0;
+        } }
+{}
+
+// Bytes have 8 places at first, and a sparing growth makes half as many more of them: 12 for the
+// ninth.
+fn nine_bytes()
+    ensures { fold (with_edit {T = ℕ} {A = ℕ} 1) (empty 0 Sparing 0) (replicate 9 (Insert 7))
+        ≡ record {
+          before = replicate 9 7;
+          after = [];
+          capacity = 12;
+          growth = Sparing;
+          grown = 8;
+          written = 9;
+          runs = 9;
+          alloc = 0;
+        } }
+{}

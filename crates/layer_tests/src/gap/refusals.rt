@@ -1,0 +1,80 @@
+//! Each request for memory refused in turn.
+use crate::gap::texts::{add, edited_twice, made, nine_put, put, reads};
+use aa_gap::gap_buffer::{Edit, GapBuffer};
+use aa_raw::collections::TryReserveErrorKind;
+use std::alloc::Global;
+use test_allocators::Faulty;
+
+type Text<'a> = GapBuffer<u32, &'a Faulty<Global>>;
+
+// What a refused insert hands back, and why it was refused.
+fn handed_back(text: &mut Text<'_>, x: u32) -> Option<(u32, TryReserveErrorKind)> {
+    match text.insert(x) {
+        Ok(()) => None,
+        Err(refused) => Some((refused.source, refused.error.kind())),
+    }
+}
+
+fn has_room(text: &mut Text<'_>, count: usize) -> bool {
+    text.reserve(count).is_ok()
+}
+
+#[test]
+fn a_refused_insert_and_reserve_leave_the_text(rt: HostRuntime) {
+    let heap = Faulty::new(rt.alloc());
+    let mut text = nine_put(&heap);
+    heap.refuse(0, 2);
+    let refused = TryReserveErrorKind::AllocError { capacity: 8 };
+    assert!(rt; handed_back(&mut text, 8) == Some((8, refused)));
+    for (granted, capacity) in [(false, 4), (true, 8)] {
+        assert!(rt; has_room(&mut text, 1) == granted);
+        assert!(rt; reads(&text, &[1, 9], &[2, 3], capacity));
+    }
+    drop(text);
+    assert!(rt; heap.outstanding() == 0);
+}
+
+#[test]
+fn a_refused_block_has_its_number(rt: HostRuntime) {
+    let heap = Faulty::new(rt.alloc());
+    heap.refuse(0, 1);
+    let refused = TryReserveErrorKind::AllocError { capacity: 5 };
+    assert!(rt; made(5, &heap) == Err(refused.into()));
+}
+
+// Twenty numbers, each put at the start.
+fn twenty_inserts(alloc: Global) -> Vec<Edit<u32>> {
+    let mut edits: Vec<Edit<u32>> = Vec::new(alloc);
+    for x in 0..20u32 {
+        add(&mut edits, Edit::Insert(x));
+        add(&mut edits, Edit::MoveTo(0));
+    }
+    edits
+}
+
+// The edits that are left behind a refused one, whether they go well, and the length then.
+fn edited<'a>(heap: &'a Faulty<Global>, edits: Vec<Edit<u32>>) -> (Option<usize>, bool, usize) {
+    let mut text: Text<'a> = GapBuffer::new_in(heap);
+    let (left, well) = edited_twice(&mut text, edits);
+    (left, well, text.len())
+}
+
+#[test]
+fn edits_go_on_behind_a_refused_one(rt: HostRuntime) {
+    let heap = Faulty::new(rt.alloc());
+    // Blocks for 4, 8, 16 and 32 numbers: the edits that are left of 40.
+    for (request, left) in [(0, 39), (1, 31), (2, 23), (3, 7)] {
+        heap.refuse(request, 1);
+        let told = edited(&heap, twenty_inserts(rt.alloc()));
+        assert!(rt; told == (Some(left), true, 19), "request {request}");
+    }
+    assert!(rt; heap.refused() == 4 && heap.outstanding() == 0);
+}
+
+#[test]
+fn elements_without_size_take_no_memory(rt: HostRuntime) {
+    let heap = Faulty::new(rt.alloc());
+    let mut text: GapBuffer<(), &Faulty<Global>> = GapBuffer::new_in(&heap);
+    assert!(rt; text.reserve(1_000_000).is_ok() && put(&mut text, ()));
+    assert!(rt; (text.len(), heap.requests()) == (1, 0));
+}

@@ -1,0 +1,211 @@
+//! What no clause says of a block: sizes, what the tables of capacities give, and each public call
+//! once.
+ghost use Rattle.std.specs.Prelude.{◌≡◌, [], ◌∷◌, Some, None, IfOk};
+
+use aa_raw::collections::{Refused, TryReserveError, TryReserveErrorKind};
+use aa_raw::raw_vec::{Growth, RawVec};
+use std::alloc::{AllocError, Global};
+use std::mem::size_of;
+use std::test::Fail;
+
+const _: () = prove!(size_of::<RawVec<u64, Global>>() == 24);
+
+// A block `10 11 _`.
+fn two_of_three(alloc: Global) -> Result<RawVec<u32>, TryReserveError>
+    ensures { IfOk result (λ block. block.places ≡ Some 10 ∷ Some 11 ∷ None ∷ []) }
+{
+    let mut block: RawVec<u32> = RawVec::with_capacity(alloc, 3)?;
+    block.put(0, 10);
+    block.put(1, 11);
+    Ok(block)
+}
+
+#[test]
+fn places_are_put_and_taken(rt: HostRuntime) -> Result<(), Fail> {
+    let mut block = two_of_three(rt.alloc())?;
+    let _alloc: &Global = block.allocator();
+    block.put(1, 12);
+    assert!(rt; *block.place(1) == 12);
+    assert!(rt; block.take(1) == 12);
+    Ok(())
+}
+
+#[test]
+#[tactic(auto, unfolding(aa_raw::specs::Places::with_run, aa_raw::specs::Places::moved))]
+fn places_are_written_to(rt: HostRuntime) -> Result<(), Fail> {
+    let mut block = two_of_three(rt.alloc())?;
+    *block.place_mut(1) = 13;
+    block.slice_mut(0, 2)[0] = 9;
+    assert!(rt; block.slice(0, 2) == [9, 13].as_slice());
+    Ok(())
+}
+
+#[test]
+fn values_stay_where_a_block_grows_and_is_cut(rt: HostRuntime) -> Result<(), Fail> {
+    let mut block = two_of_three(rt.alloc())?;
+    block.reserve(2, 2)?;
+    assert!(rt; block.capacity() == 6);
+    block.shrink_to_fit(2, 2)?;
+    assert!(rt; block.slice(0, 2) == [10, 11].as_slice());
+    Ok(())
+}
+
+// A call that makes room in an empty block, or gives it back.
+#[derive(Clone, Copy)]
+enum Room {
+    Reserve(usize),
+    TryReserve(usize),
+    ReserveExact(usize),
+    TryReserveExact(usize),
+    ForPush,
+    Shrink(usize),
+}
+
+fn made<T>(room: Room, block: &mut RawVec<T>) -> Result<(), TryReserveError> {
+    match room {
+        Room::Reserve(count) => block.reserve(0, count),
+        Room::TryReserve(count) => block.try_reserve(0, count),
+        Room::ReserveExact(count) => block.reserve_exact(0, count),
+        Room::TryReserveExact(count) => block.try_reserve_exact(0, count),
+        Room::ForPush => block.reserve_for_push(0),
+        Room::Shrink(capacity) => block.shrink_to_fit(0, capacity.min(block.capacity())),
+    }
+}
+
+// The capacity of a new block after each of these calls, which is an overflow where there is none.
+fn goes_to<T>(alloc: Global, growth: Option<Growth>, rooms: &[(Room, Option<usize>)]) -> bool {
+    let mut block: RawVec<T> = match growth {
+        Some(growth) => RawVec::new_growing_in(growth, alloc),
+        None => RawVec::new(alloc),
+    };
+    let mut all = block.growth() == growth.unwrap_or(Growth::Doubling);
+    for (room, capacity) in rooms {
+        all = all && is_so(made(*room, &mut block), block.capacity(), *capacity);
+    }
+    all
+}
+
+fn is_so(answer: Result<(), TryReserveError>, capacity: usize, wanted: Option<usize>) -> bool {
+    match wanted {
+        Some(wanted) => answer.is_ok() && capacity == wanted,
+        None => answer == Err(TryReserveErrorKind::CapacityOverflow.into()),
+    }
+}
+
+// Growths and cuts, one after the other, and the capacity after each. What fits leaves it.
+const ROOMS: [(Room, Option<usize>); 6] = [
+    (Room::TryReserveExact(3), Some(3)),
+    (Room::TryReserveExact(5), Some(5)),
+    (Room::Reserve(5), Some(5)),
+    (Room::ReserveExact(12), Some(12)),
+    (Room::Shrink(2), Some(2)),
+    (Room::Shrink(0), Some(0)),
+];
+
+// Doubling goes on from where an exact need led.
+const DOUBLING: [(Room, Option<usize>); 3] = [
+    (Room::TryReserve(1 << 63), None),
+    (Room::Reserve(9), Some(9)),
+    (Room::Reserve(10), Some(18)),
+];
+
+const SPARING: [(Room, Option<usize>); 2] = [
+    (Room::ForPush, Some(8)),
+    (Room::Reserve(9), Some(12)),
+];
+
+const SIZELESS: [(Room, Option<usize>); 3] = [
+    (Room::TryReserve(usize::MAX), Some(usize::MAX)),
+    (Room::TryReserveExact(usize::MAX), Some(usize::MAX)),
+    (Room::Shrink(0), Some(usize::MAX)),
+];
+
+const FIRST: Room = Room::TryReserve(1);
+
+#[test]
+fn room_is_as_asked_and_as_growth_has_it(rt: HostRuntime) {
+    assert!(rt; goes_to::<u32>(rt.alloc(), None, &ROOMS));
+    assert!(rt; goes_to::<u8>(rt.alloc(), None, &DOUBLING));
+    assert!(rt; goes_to::<u8>(rt.alloc(), Some(Growth::Sparing), &SPARING));
+    assert!(rt; goes_to::<()>(rt.alloc(), None, &SIZELESS));
+    // The least capacity is by the size.
+    assert!(rt; goes_to::<u8>(rt.alloc(), None, &[(FIRST, Some(8))]));
+    assert!(rt; goes_to::<[u8; 1024]>(rt.alloc(), None, &[(FIRST, Some(4))]));
+    assert!(rt; goes_to::<[u8; 1025]>(rt.alloc(), None, &[(FIRST, Some(1))]));
+}
+
+// The capacity of a block made so, and none where that is an overflow.
+fn capacity_of<T>(made: Result<RawVec<T>, TryReserveError>) -> Option<usize> {
+    match made {
+        Ok(block) => Some(block.capacity()),
+        Err(error) if error.kind() == TryReserveErrorKind::CapacityOverflow => None,
+        Err(_) => Some(0),
+    }
+}
+
+#[test]
+fn a_block_is_made_with_the_capacity_asked_for(rt: HostRuntime) {
+    for (capacity, has) in [(3, Some(3)), (1 << 61, None)] {
+        assert!(rt; capacity_of::<u32>(RawVec::with_capacity_in(capacity, rt.alloc())) == has);
+    }
+}
+
+#[test]
+#[tactic(auto, using(aa_raw::proofs::Calls::at_ends))]
+fn elements_without_size_take_no_memory(rt: HostRuntime) {
+    let mut block: RawVec<()> = RawVec::new(rt.alloc());
+    block.put(5, ());
+    let _unit: &() = block.place(5);
+    block.take(5);
+    block.put(0, ());
+    let refused = block.try_reserve(1, usize::MAX);
+    assert!(rt; refused == Err(TryReserveErrorKind::CapacityOverflow.into()));
+    assert!(rt; block.capacity() == usize::MAX);
+}
+
+#[test]
+fn errors_tell_their_kind(rt: HostRuntime) -> Result<(), Fail> {
+    let refused = Refused {
+        source: 7,
+        error: TryReserveErrorKind::AllocError { capacity: 5 }.into(),
+    };
+    let error: TryReserveError = refused.into();
+    assert!(rt; error.kind() == TryReserveErrorKind::AllocError { capacity: 5 });
+    let error: TryReserveError = AllocError.into();
+    assert!(rt; error.kind() == TryReserveErrorKind::AllocError { capacity: 1 });
+    Ok(())
+}
+
+// Of a block of 2^62 bytes, twice as many are too many, though one more would do.
+#[test]
+fn a_growth_past_the_limits_is_no_capacity(rt: HostRuntime) {
+    let many = 1 << 62;
+    for (growth, capacity, required, told) in [
+        (Growth::Doubling, many, many + 1, None),
+        (Growth::Sparing, many, many + 1, Some(many + many / 2)),
+        (Growth::Doubling, 3, 4, Some(8)),
+        (Growth::Doubling, 8, 9, Some(16)),
+        (Growth::Sparing, 8, 9, Some(12)),
+        (Growth::Sparing, 8, 1 << 63, None),
+    ] {
+        assert!(rt; growth.capacity_for::<u8>(capacity, required) == told);
+    }
+}
+
+#[test]
+fn errors_are_printed(rt: HostRuntime) -> Result<(), Fail> {
+    for (kind, text) in [
+        (
+            TryReserveErrorKind::AllocError { capacity: 5 },
+            "memory allocation failed because the memory allocator returned an error",
+        ),
+        (
+            TryReserveErrorKind::CapacityOverflow,
+            "memory allocation failed because the computed capacity exceeded the collection's maximum",
+        ),
+    ] {
+        let error: TryReserveError = kind.into();
+        assert!(rt; error.to_string(rt.alloc())?.as_str() == text);
+    }
+    Ok(())
+}

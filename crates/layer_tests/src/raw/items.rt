@@ -1,0 +1,75 @@
+//! The items of a block, from either end.
+ghost use Rattle.std.specs.Prelude.{◌≡◌, IfOk};
+
+use crate::printed::are_printed;
+use aa_raw::collections::TryReserveError;
+use aa_raw::raw_vec::RawVec;
+use aa_raw::vec::into_iter::IntoIter;
+use std::alloc::{AllocError, Global};
+use std::cell::Cell;
+use std::test::Fail;
+use test_allocators::counted::Counted;
+
+// The two values as items. Where memory is refused they are dropped.
+#[tactic(auto, using(aa_raw::proofs::Calls::at_ends))]
+fn two<T: Drop>(alloc: Global, [first, second]: [T; 2]) -> Result<IntoIter<T>, TryReserveError> {
+    let mut block: RawVec<T> = RawVec::with_capacity_in(2, alloc)?;
+    block.put(0, first);
+    block.put(1, second);
+    Ok(IntoIter::from_block(block, 2))
+}
+
+// The last item and the first, and how many are left then.
+fn taken<T: Drop>(items: &mut IntoIter<T>) -> (Option<T>, Option<T>, usize) {
+    (items.next_back(), items.next(), items.len())
+}
+
+#[test]
+fn items_come_from_both_ends(rt: HostRuntime) -> Result<(), Fail> {
+    let mut items = two(rt.alloc(), [1u32, 2])?;
+    assert!(rt; taken(&mut items) == (Some(2), Some(1), 0));
+    assert!(rt; taken(&mut items) == (None, None, 0));
+    Ok(())
+}
+
+#[test]
+fn items_are_written_to_and_printed(rt: HostRuntime) -> Result<(), Fail> {
+    let mut items = two(rt.alloc(), [1u32, 2])?;
+    let _alloc: &Global = items.allocator();
+    assert!(rt; items.size_hint() == (2, Some(2)));
+    items.as_mut_slice().fill(3);
+    assert!(rt; items.as_slice() == [3, 3].as_slice());
+    assert!(rt; are_printed(rt.alloc(), &"are", &items, "are IntoIter([3, 3])")?);
+    Ok(())
+}
+
+fn counted(drops: &Cell<u32>) -> [Counted<'_>; 2] {
+    [Counted { value: 0, drops }, Counted { value: 0, drops }]
+}
+
+#[test]
+fn items_are_dropped_once(rt: HostRuntime) -> Result<(), Fail> {
+    let drops = Cell::new(0);
+    let mut items = two(rt.alloc(), counted(&drops))?;
+    drop(items.next());
+    assert!(rt; drops.get() == 1);
+    drop(items);
+    assert!(rt; drops.get() == 2);
+    assert!(rt; two(rt.alloc(), counted(&drops))?.count() == 2);
+    assert!(rt; drops.get() == 4);
+    Ok(())
+}
+
+// A generic caller learns the items.
+fn collected(alloc: Global, items: IntoIter<u8, Global>) -> Result<Vec<u8>, AllocError>
+    ensures { IfOk result (λ v. v.items ≡ items.items) }
+{
+    items.collect(alloc)
+}
+
+#[test]
+fn generic_callers_take_the_items(rt: HostRuntime) -> Result<(), Fail> {
+    let seen = collected(rt.alloc(), two(rt.alloc(), [6, 7])?)?;
+    assert!(rt; seen.as_slice() == [6, 7].as_slice());
+    Ok(())
+}
