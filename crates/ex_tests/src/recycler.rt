@@ -1,100 +1,112 @@
 //! The recycler.
-use crate::allocators::{Step, go, has_room, is_granted, pushes, seen};
-use allocator_api2::boxed::Box;
-use ex_allocators::budget::Budget;
-use ex_allocators::counting::Counting;
+use crate::allocators::{Step, go, has_room, pushes};
 use ex_allocators::recycler::Recycler;
-use std::alloc::{AllocError, Allocator};
+use std::alloc::Global;
+use test_allocators::Faulty;
+
+type Over<'a> = Recycler<&'a Faulty<Global>>;
+
+// Each call over the recycler stands in one place, which takes a proof some seconds.
+
+fn has(recycler: &Over<'_>, bytes: usize) -> bool {
+    has_room(recycler, bytes)
+}
+
+fn goes(books: Global, recycler: &Over<'_>, steps: &[Step]) -> bool {
+    go(books, recycler, steps)
+}
+
+fn grows(recycler: &Over<'_>, count: u32) -> bool {
+    pushes(recycler, 7u32, count)
+}
 
 // How many blocks are kept, and their bytes.
-fn kept<B: Allocator>(recycler: &Recycler<B>) -> (usize, usize) {
+fn kept(recycler: &Over<'_>) -> (usize, usize) {
     let kept = recycler.kept();
     (kept.blocks, kept.bytes)
 }
 
-#[test]
-fn growth_takes_the_blocks_that_others_left(rt: HostRuntime) {
-    let heap = Counting::new(rt.alloc());
-    let recycler = Recycler::new(&heap);
-    // Blocks for 4, 8 .. 1,024 numbers are asked for, of 16, 32 .. 4,096 bytes.
-    assert!(rt; pushes(&recycler, 7u32, 1_000) && pushes(&recycler, [1u8; 4], 1_000));
-    assert!(rt; seen(&heap) == (9, 0, 8_176) && kept(&recycler) == (9, 8_176));
-    // Of 24 bytes each, so that blocks of 96, 192 .. 24,576 bytes are rounded up: only those of
-    // 8,192, 16,384 and 32,768 bytes are new.
-    assert!(rt; pushes(&recycler, [1u64; 3], 1_000) && pushes(&recycler, 9u128, 1_000));
-    assert!(rt; seen(&heap) == (12, 0, 65_520));
-    drop(recycler);
-    assert!(rt; seen(&heap) == (12, 12, 0));
+// Requests, blocks given back and bytes that are out.
+fn seen(heap: &Faulty<Global>) -> (u64, u64, u64) {
+    (heap.requests(), heap.frees(), heap.outstanding())
 }
 
 #[test]
-fn a_block_serves_each_type_that_it_has_room_for(rt: HostRuntime) {
-    let heap = Counting::new(rt.alloc());
+fn growth_takes_the_blocks_that_others_left(rt: HostRuntime) {
+    let heap = Faulty::new(rt.alloc());
     let recycler = Recycler::new(&heap);
-    assert!(rt; is_granted(&recycler, 1u8) && is_granted(&recycler, [2u16; 3]));
-    assert!(rt; is_granted(&recycler, [3u32; 4]) && is_granted(&recycler, 4u128));
-    assert!(rt; seen(&heap) == (1, 0, 16));
-    // Two at once need two blocks.
-    assert!(rt; go(rt.alloc(), &recycler, &[Step::Take, Step::Take]));
-    assert!(rt; seen(&heap) == (2, 0, 32));
+    // Blocks for 4, 8 .. 1,024 numbers are asked for, of 16, 32 .. 4,096 bytes.
+    for _ in 0..2 {
+        assert!(rt; grows(&recycler, 1_000));
+        assert!(rt; seen(&heap) == (9, 0, 8_176) && kept(&recycler) == (9, 8_176));
+    }
+    recycler.trim();
+    assert!(rt; seen(&heap) == (9, 9, 0) && kept(&recycler) == (0, 0));
+    assert!(rt; grows(&recycler, 4));
+    drop(recycler);
+    assert!(rt; seen(&heap) == (10, 10, 0));
+}
+
+const MOST: usize = 16 << 20;
+
+// Bytes, and how many blocks were asked for and given back then. Sizes are rounded up to a power of
+// two, and greater blocks than the greatest class has are given back at once.
+const SIZES: [(usize, u64, u64); 8] = [
+    (1, 1, 0),
+    (16, 1, 0),
+    (17, 2, 0),
+    (32, 2, 0),
+    (96, 3, 0),
+    (MOST, 4, 0),
+    (MOST / 2 + 1, 4, 0),
+    (MOST + 1, 5, 1),
+];
+
+#[test]
+fn a_block_serves_each_size_of_its_class(rt: HostRuntime) {
+    let heap = Faulty::new(rt.alloc());
+    let recycler = Recycler::new(&heap);
+    for (bytes, requests, frees) in SIZES {
+        assert!(rt; has(&recycler, bytes));
+        assert!(rt;
+            (heap.requests(), heap.frees()) == (requests, frees),
+            "{bytes}"
+        );
+    }
+    assert!(rt; kept(&recycler) == (4, 16_777_392));
 }
 
 #[test]
 fn a_limit_holds_for_each_class(rt: HostRuntime) {
-    let heap = Counting::new(rt.alloc());
+    let heap = Faulty::new(rt.alloc());
     let recycler = Recycler::with_limit(&heap, 64);
-    assert!(rt; go(rt.alloc(), &recycler, &[Step::Take; 6]));
+    assert!(rt; recycler.limit() == 64 && goes(rt.alloc(), &recycler, &[Step::Take; 6]));
     assert!(rt; kept(&recycler) == (4, 64) && seen(&heap) == (6, 2, 64));
-    assert!(rt; is_granted(&recycler, [0u64; 8]) && is_granted(&recycler, [0u64; 9]));
+    assert!(rt; has(&recycler, 64) && has(&recycler, 65));
     assert!(rt; kept(&recycler) == (5, 128) && seen(&heap) == (8, 3, 128));
 }
 
 #[test]
-fn trim_gives_all_free_blocks_back(rt: HostRuntime) {
-    let heap = Counting::new(rt.alloc());
-    let recycler = Recycler::new(&heap);
-    let Ok(used) = Box::new_in([1u64; 3], &recycler) else {
-        return assert!(rt; false);
-    };
-    assert!(rt; pushes(&recycler, 1u8, 30) && kept(&recycler) == (3, 64));
-    recycler.trim();
-    assert!(rt; kept(&recycler) == (0, 0) && seen(&heap) == (4, 3, 32));
-    assert!(rt; *used == [1; 3]);
-}
-
-#[test]
-fn the_greatest_class_has_16_mib(rt: HostRuntime) {
-    let heap = Counting::new(rt.alloc());
-    let recycler = Recycler::new(&heap);
-    let most = 16 << 20;
-    // A greater block is given back at once.
-    for (count, requests, frees) in [(most, 1, 0), (most / 2 + 1, 1, 0), (most + 1, 2, 1)] {
-        assert!(rt; has_room(&recycler, count));
-        assert!(rt; seen(&heap) == (requests, frees, 16_777_216));
-    }
-}
-
-#[test]
-fn a_clone_keeps_blocks_of_its_own(rt: HostRuntime) -> Result<(), AllocError> {
-    let heap = Counting::new(rt.alloc());
+fn a_clone_keeps_blocks_of_its_own(rt: HostRuntime) {
+    let heap = Faulty::new(rt.alloc());
     let recycler = Recycler::with_limit(&heap, 1_000);
-    let twin = recycler.clone()?;
-    assert!(rt; is_granted(&recycler, 1u64) && is_granted(&twin, 1u64));
-    assert!(rt; (recycler.limit(), twin.limit()) == (1_000, 1_000));
-    twin.trim();
-    assert!(rt; kept(&recycler) == (1, 16) && seen(&heap) == (2, 1, 16));
-    Ok(())
+    match recycler.clone() {
+        Ok(twin) => {
+            assert!(rt; has(&recycler, 8) && has(&twin, 8) && twin.limit() == 1_000);
+            twin.trim();
+            assert!(rt; kept(&recycler) == (1, 16) && seen(&heap) == (2, 1, 16));
+        }
+        Err(_) => assert!(rt; false),
+    }
 }
 
 #[test]
-fn a_recycler_over_a_budget_sheds(rt: HostRuntime) {
-    let heap = Budget::new(rt.alloc(), 100);
+fn what_is_kept_is_granted_though_memory_is_refused(rt: HostRuntime) {
+    let heap = Faulty::new(rt.alloc());
     let recycler = Recycler::new(&heap);
-    // Of 64 bytes, of 128, of 64 that are kept, and of 32. What is kept counts.
-    for (count, granted) in [(40, true), (65, false), (33, true), (20, true)] {
-        assert!(rt; has_room(&recycler, count) == granted);
+    assert!(rt; has(&recycler, 40));
+    heap.refuse(0, u64::MAX);
+    for (bytes, granted) in [(33, true), (65, false), (64, true)] {
+        assert!(rt; has(&recycler, bytes) == granted);
     }
-    assert!(rt; heap.watch().granted() == 96);
-    recycler.trim();
-    assert!(rt; heap.watch().granted() == 0);
 }
