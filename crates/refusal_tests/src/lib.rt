@@ -18,13 +18,13 @@
 //! | `Box::clone` | 1, and 4 of the value | `changes` |
 //! | `BoxedSlice::from_array_in` | 1 | `copies` |
 //! | `BoxedSlice::from_slice` | 1 | `copies` |
-//! | `BoxedSlice::from_iter_in` | 2; 4 for nine items | `changes`, `aa_boxed_tests` |
-//! | `BoxedSlice::from_iter_in_by` | 4 | `aa_boxed_tests` |
+//! | `BoxedSlice::from_iter_in` | 2; 4 for nine items | `changes`, `layer_tests` |
+//! | `BoxedSlice::from_iter_in_by` | 4 | `layer_tests` |
 //! | `BoxedSlice::clone`, by the trait too | 1, and 3 of the elements | `changes`, `clones` |
 //! | `BoxedSlice::try_into_array`, `Box::slice` | 1 | `conversions` |
 //! | `into_vec` of an array in a box | 1 | `conversions` |
 //! | `BoxedText::from_text` | 1 | `copies` |
-//! | `append_texts`, `append_texts_by` | 1 | `copies`, `aa_boxed_tests` |
+//! | `append_texts`, `append_texts_by` | 1 | `copies`, `layer_tests` |
 //! | `Vec::with_capacity_in` | 1 | `copies` |
 //! | `Vec::push` | 1 | `changes` |
 //! | `Vec::insert` | 1 | `changes` |
@@ -54,7 +54,7 @@
 //! | `Vec::into_boxed_slice` | 1 | `conversions` |
 //! | `Vec::into_flattened` | 1 | `conversions` |
 //! | `GapBuffer::with_capacity_in` | 1 | `copies` |
-//! | `GapBuffer::insert`, `reserve`, `edit_all` | 1 | `aa_gap_tests` |
+//! | `GapBuffer::insert`, `reserve`, `edit_all` | 1 | `layer_tests` |
 //! | `run`: `Push`, `Insert`, `Reserve`, `ReserveExact`, `ShrinkTo` | 1 | `run_commands` |
 //! | `run`: `SplitOff`, `Append`, `Resize`, `Drain` | 1 | `run_commands` |
 //! | `run`: `ExtendFromWithin`, `ExtractIf` | 1 | `run_commands` |
