@@ -8,7 +8,6 @@ use aa_raw::collections::{TryReserveError, TryReserveErrorKind};
 use std::alloc::{Allocator, Global};
 use std::cell::Cell;
 use std::string::String;
-use std::test::Fail;
 use test_allocators::Faulty;
 
 // An iterator whose calls of `next` are counted, and that tells nothing of how many items are to
@@ -76,10 +75,12 @@ fn texts(alloc: Global, all: [&str; 3]) -> Result<[BoxedText; 3], TryReserveErro
 }
 
 // A text of one byte, with room for one more.
-fn letter(heap: &Faulty<Global>) -> Result<String<&Faulty<Global>>, Fail> {
-    let mut all = String::with_capacity(heap, 2)?;
-    all.push_str("a")?;
-    Ok(all)
+fn letter(heap: &Faulty<Global>) -> Option<String<&Faulty<Global>>> {
+    let mut all = String::with_capacity(heap, 2).ok()?;
+    if all.push_str("a").is_err() {
+        return None;
+    }
+    Some(all)
 }
 
 // The texts that find room behind the first of two strings, and what is left of them behind the
@@ -137,7 +138,7 @@ fn refused_texts_take_no_further_one(rt: HostRuntime) {
     let Ok(some) = texts(rt.alloc(), ["b", "ccc", "d"]) else {
         return assert!(rt; false);
     };
-    let Ok(mut all) = letter(&heap) else {
+    let Some(mut all) = letter(&heap) else {
         return assert!(rt; false);
     };
     heap.refuse(0, 1);
