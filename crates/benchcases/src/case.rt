@@ -3,11 +3,9 @@ ghost use Rattle.std.specs.Prelude.{◌≡◌, ◌≢◌, ◌++◌, Some, IfSome
 ghost use Rattle.benchcases.specs.Cases.{name_of, name_of_call, suffix_of, name_of_choice};
 ghost use Rattle.benchcases.specs.Cases.{name_of_pieces, name_of_collection, name_of_use};
 
-use std::fmt;
-
 /// What is timed. COUNT is the number of its steps or elements. Elements are `u32` where nothing
 /// else is said.
-#[derive(Clone, Copy, PartialEq, Debug, Drop)]
+#[derive(Clone, Copy, PartialEq, Drop)]
 pub enum Case {
     /// The call over elements of the size.
     Sized(Call, Size),
@@ -74,7 +72,7 @@ pub enum Case {
 }
 
 /// What is timed at each size of the elements.
-#[derive(Clone, Copy, PartialEq, Debug, Drop)]
+#[derive(Clone, Copy, PartialEq, Drop)]
 pub enum Call {
     /// Pushes elements onto an empty vector.
     Push,
@@ -87,7 +85,7 @@ pub enum Call {
 }
 
 /// What is timed of calls that choose which elements stay.
-#[derive(Clone, Copy, PartialEq, Debug, Drop)]
+#[derive(Clone, Copy, PartialEq, Drop)]
 pub enum Choice {
     /// Keeps every other element.
     RetainHalf,
@@ -106,7 +104,7 @@ pub enum Choice {
 }
 
 /// Which pieces of bytes are put behind.
-#[derive(Clone, Copy, PartialEq, Debug, Drop)]
+#[derive(Clone, Copy, PartialEq, Drop)]
 pub enum Pieces {
     /// Pieces of 4 bytes.
     OfFour,
@@ -120,7 +118,7 @@ pub enum Pieces {
 
 /// What is timed of a table from `u64` to `u64`, of a queue and of a small vector. Keys are in no
 /// regular order.
-#[derive(Clone, Copy, PartialEq, Debug, Drop)]
+#[derive(Clone, Copy, PartialEq, Drop)]
 pub enum Collection {
     /// Inserts keys into an empty table.
     TableInsert,
@@ -139,7 +137,7 @@ pub enum Collection {
 }
 
 /// What is timed of what programs do with vectors.
-#[derive(Clone, Copy, PartialEq, Debug, Drop)]
+#[derive(Clone, Copy, PartialEq, Drop)]
 pub enum Use {
     /// Writes records of three fields as bytes.
     Serialise,
@@ -166,7 +164,7 @@ pub enum Use {
 }
 
 /// How large an element is.
-#[derive(Clone, Copy, PartialEq, Debug, Drop)]
+#[derive(Clone, Copy, PartialEq, Drop)]
 pub enum Size {
     /// 4 bytes, a `u32`.
     Four,
@@ -342,134 +340,4 @@ fn used(name: &str) -> Option<Use>
         _ => return None,
     };
     Some(used)
-}
-
-impl fmt::Display for Case {
-    ghost output = { λ case. Some (name_of case) };
-
-    fn fmt<W: fmt::Write>(&self, f: &mut fmt::Formatter<W>) -> fmt::Result {
-        match self {
-            Case::Sized(call, size) => write!(f, "{call}{size}"),
-            Case::Chosen(choice) => write!(f, "{choice}"),
-            Case::Pieces(pieces) => write!(f, "{pieces}"),
-            Case::Held(collection) => write!(f, "{collection}"),
-            Case::Used(used) => write!(f, "{used}"),
-            Case::PushPop => write!(f, "push_pop"),
-            Case::PushReserved => write!(f, "push_reserved"),
-            Case::PushFull => write!(f, "push_full"),
-            Case::FibPush => write!(f, "fib_push"),
-            Case::RetainWide => write!(f, "retain_wide"),
-            Case::InsertFront => write!(f, "insert_front"),
-            Case::RemoveFront => write!(f, "remove_front"),
-            Case::SwapRemove => write!(f, "swap_remove"),
-            Case::ExtendFromSlice => write!(f, "extend_from_slice"),
-            Case::Extend => write!(f, "extend"),
-            Case::ExtendUnhinted => write!(f, "extend_unhinted"),
-            Case::ExtendThrice => write!(f, "extend_thrice"),
-            Case::Append => write!(f, "append"),
-            Case::SplitJoin => write!(f, "split_join"),
-            Case::DrainTaken => write!(f, "drain_taken"),
-            Case::DrainDropped => write!(f, "drain_dropped"),
-            Case::DrainFront => write!(f, "drain_front"),
-            Case::DrainBack => write!(f, "drain_back"),
-            Case::IntoIter => write!(f, "into_iter"),
-            Case::SpliceGrowing => write!(f, "splice_growing"),
-            Case::SpliceInPlace => write!(f, "splice_in_place"),
-            Case::SpliceFront => write!(f, "splice_front"),
-            Case::InsertMiddle => write!(f, "insert_middle"),
-            Case::GapInsert => write!(f, "gap_insert"),
-            Case::GapTyping => write!(f, "gap_typing"),
-        }
-    }
-}
-
-impl fmt::Display for Call {
-    ghost output = { λ call. Some (name_of_call call) };
-
-    fn fmt<W: fmt::Write>(&self, f: &mut fmt::Formatter<W>) -> fmt::Result {
-        match self {
-            Call::Push => write!(f, "push"),
-            Call::InsertPop => write!(f, "insert_pop"),
-            Call::RemovePush => write!(f, "remove_push"),
-            Call::Clone => write!(f, "clone"),
-        }
-    }
-}
-
-impl fmt::Display for Choice {
-    ghost output = { λ choice. Some (name_of_choice choice) };
-
-    fn fmt<W: fmt::Write>(&self, f: &mut fmt::Formatter<W>) -> fmt::Result {
-        match self {
-            Choice::RetainHalf => write!(f, "retain_half"),
-            Choice::RetainMost => write!(f, "retain_most"),
-            Choice::RetainRandom => write!(f, "retain_random"),
-            Choice::RetainNone => write!(f, "retain_none"),
-            Choice::ExtractHalf => write!(f, "extract_half"),
-            Choice::Dedup => write!(f, "dedup"),
-            Choice::DedupByKey => write!(f, "dedup_by_key"),
-        }
-    }
-}
-
-impl fmt::Display for Pieces {
-    ghost output = { λ pieces. Some (name_of_pieces pieces) };
-
-    fn fmt<W: fmt::Write>(&self, f: &mut fmt::Formatter<W>) -> fmt::Result {
-        match self {
-            Pieces::OfFour => write!(f, "pieces_of_4"),
-            Pieces::OfTwenty => write!(f, "pieces_of_20"),
-            Pieces::Mixed => write!(f, "pieces_mixed"),
-            Pieces::Written => write!(f, "write_pieces"),
-        }
-    }
-}
-
-impl fmt::Display for Collection {
-    ghost output = { λ collection. Some (name_of_collection collection) };
-
-    fn fmt<W: fmt::Write>(&self, f: &mut fmt::Formatter<W>) -> fmt::Result {
-        match self {
-            Collection::TableInsert => write!(f, "table_insert"),
-            Collection::TableHit => write!(f, "table_hit"),
-            Collection::TableMiss => write!(f, "table_miss"),
-            Collection::TableRemove => write!(f, "table_remove"),
-            Collection::RingQueue => write!(f, "ring_queue"),
-            Collection::RingPush => write!(f, "ring_push"),
-            Collection::InlineFew => write!(f, "inline_few"),
-        }
-    }
-}
-
-impl fmt::Display for Use {
-    ghost output = { λ used. Some (name_of_use used) };
-
-    fn fmt<W: fmt::Write>(&self, f: &mut fmt::Formatter<W>) -> fmt::Result {
-        match self {
-            Use::Serialise => write!(f, "serialise"),
-            Use::Tokenize => write!(f, "tokenize"),
-            Use::Lines => write!(f, "lines"),
-            Use::Lru => write!(f, "lru"),
-            Use::Merge => write!(f, "merge"),
-            Use::DedupTexts => write!(f, "dedup_texts"),
-            Use::TextTable => write!(f, "text_table"),
-            Use::InsertSorted => write!(f, "insert_sorted"),
-            Use::Grid => write!(f, "grid"),
-            Use::Boxes => write!(f, "boxes"),
-            Use::Window => write!(f, "window"),
-        }
-    }
-}
-
-impl fmt::Display for Size {
-    ghost output = { λ size. Some (suffix_of size) };
-
-    fn fmt<W: fmt::Write>(&self, f: &mut fmt::Formatter<W>) -> fmt::Result {
-        match self {
-            Size::Four => Ok(()),
-            Size::One => write!(f, "_u8"),
-            Size::TwentyFour => write!(f, "_24"),
-            Size::Zero => write!(f, "_sizeless"),
-        }
-    }
 }

@@ -2,11 +2,12 @@
 ghost use Rattle.std.specs.Prelude.{◌≡◌, ◌≢◌, ◌<◌, ◌^◌, IfSome, IfNone, slice_index};
 ghost use Rattle.std.specs.Option.{SomeIff};
 ghost use Rattle.std.specs.Str.Parse.{IsNumeral, digits_value};
+ghost use Rattle.benchcases.specs.Cases.{name_of};
 
 use crate::case::Case;
 
 /// What is asked of a case.
-#[derive(Clone, Copy, PartialEq, Debug, Drop)]
+#[derive(Clone, Copy, PartialEq, Drop)]
 pub enum Mode {
     /// Run it so many times, and tell the time of the fastest.
     Time(u32),
@@ -17,17 +18,20 @@ pub enum Mode {
 }
 
 /// What a line asks for.
-#[derive(Clone, Copy, PartialEq, Debug, Drop)]
-pub struct Task {
+#[derive(Clone, Copy, PartialEq, Drop)]
+pub struct Task<'a> {
     pub mode: Mode,
+    /// What the case is called.
+    pub name: &'a str,
     pub case: Case,
     pub count: u32,
 }
 
 /// The task that the words are, if they are one: `CASE COUNT [REPEAT]`, `check CASE COUNT` or
 /// `setup CASE COUNT`, with numbers above 0.
-pub fn task_of(line: &str) -> Option<Task>
-    ensures { IfSome result (λ task. 0 < task.count) }
+pub fn task_of(line: &str) -> Option<Task<'_>>
+    ensures above_0 { IfSome result (λ task. 0 < task.count) }
+    ensures name { IfSome result (λ task. task.name.now ≡ name_of task.case) }
 {
     let mut words = line.split_ascii_whitespace();
     let (mode, name) = match words.next()? {
@@ -44,7 +48,12 @@ pub fn task_of(line: &str) -> Option<Task>
         (Some(_), Some(_)) => return None,
     };
     match words.next() {
-        None => Some(Task { mode, case, count }),
+        None => Some(Task {
+            mode,
+            name,
+            case,
+            count,
+        }),
         Some(_) => None,
     }
 }

@@ -4,14 +4,23 @@ use benchcases::lines::{Mode, Task, task_of};
 
 #[test]
 fn a_line_is_a_task_or_nothing(rt: HostRuntime) {
-    let (case, count) = (Case::Sized(Call::Push, Size::Four), 10);
+    let (name, case, count) = ("push", Case::Sized(Call::Push, Size::Four), 10);
     for (line, mode) in [
         ("push 10", Mode::Time(1)),
         ("push 10 3", Mode::Time(3)),
         ("check push 10", Mode::Check),
         ("setup push 10", Mode::Setup),
     ] {
-        assert!(rt; task_of(line) == Some(Task { mode, case, count }), "{line}");
+        assert!(rt;
+            task_of(line)
+                == Some(Task {
+                    mode,
+                    name,
+                    case,
+                    count
+                }),
+            "{line}"
+        );
     }
     for line in [
         "push",
@@ -30,30 +39,19 @@ fn a_line_is_a_task_or_nothing(rt: HostRuntime) {
 
 #[test]
 fn a_name_may_have_a_size(rt: HostRuntime) {
-    for (line, case) in [
+    for (name, case) in [
+        ("insert_pop_u8", Case::Sized(Call::InsertPop, Size::One)),
         (
-            "check insert_pop_u8 5",
-            Case::Sized(Call::InsertPop, Size::One),
-        ),
-        (
-            "check remove_push_24 5",
+            "remove_push_24",
             Case::Sized(Call::RemovePush, Size::TwentyFour),
         ),
-        (
-            "check clone_sizeless 5",
-            Case::Sized(Call::Clone, Size::Zero),
-        ),
-        ("check splice_front 5", Case::SpliceFront),
-        ("check dedup_by_key 5", Case::Chosen(Choice::DedupByKey)),
-        ("check pieces_of_4 5", Case::Pieces(Pieces::OfFour)),
-        ("check table_hit 5", Case::Held(Collection::TableHit)),
-        ("check text_table 5", Case::Used(Use::TextTable)),
+        ("clone_sizeless", Case::Sized(Call::Clone, Size::Zero)),
+        ("splice_front", Case::SpliceFront),
+        ("dedup_by_key", Case::Chosen(Choice::DedupByKey)),
+        ("pieces_of_4", Case::Pieces(Pieces::OfFour)),
+        ("table_hit", Case::Held(Collection::TableHit)),
+        ("text_table", Case::Used(Use::TextTable)),
     ] {
-        let task = Task {
-            mode: Mode::Check,
-            case,
-            count: 5,
-        };
-        assert!(rt; task_of(line) == Some(task), "{line}");
+        assert!(rt; Case::named(name) == Some(case), "{name}");
     }
 }

@@ -60,10 +60,10 @@ impl From<io::Error> for Fault {
 /// Vectors that the cases run on.
 pub trait Lists: Sized + Drop {
     /// The vectors as the case finds them, or `None` where memory is refused.
-    fn prepared(alloc: Global, task: Task) -> Option<Self>;
+    fn prepared(alloc: Global, task: Task<'_>) -> Option<Self>;
 
     /// Runs the case. It answers whether all memory was granted.
-    fn run(&mut self, task: Task) -> bool;
+    fn run(&mut self, task: Task<'_>) -> bool;
 
     /// The checksum of what the vectors hold.
     fn checksum(&self) -> u64;
@@ -95,14 +95,10 @@ pub fn bench<R: Input + Print + Clock + Alloc<A = Global>>(rt: &R) -> Result<(),
 }
 
 // Runs a task over both vectors and prints its line.
-fn answer<R: Print + Clock>(rt: &R, alloc: Global, task: Task) -> Result<(), Fault> {
+fn answer<R: Print + Clock>(rt: &R, alloc: Global, task: Task<'_>) -> Result<(), Fault> {
     let first: Measure = measured::<ours::Vectors, R>(rt, alloc, task)?;
     let second: Measure = measured::<standard::Vectors, R>(rt, alloc, task)?;
-    let Task {
-        mode: _,
-        case,
-        count,
-    } = task;
+    let (name, count) = (task.name, task.count);
     let (a, b) = (first.checksum, second.checksum);
     match (first.time, second.time) {
         (Some(ours), Some(standard)) => {
@@ -111,15 +107,19 @@ fn answer<R: Print + Clock>(rt: &R, alloc: Global, task: Task) -> Result<(), Fau
                 time: standard,
                 count,
             };
-            println!(rt; "{case} {count} {x} {y} {a} {b}")?;
+            println!(rt; "{name} {count} {x} {y} {a} {b}")?;
         }
-        _ => println!(rt; "{case} {count} {a} {b}")?,
+        _ => println!(rt; "{name} {count} {a} {b}")?,
     }
     Ok(())
 }
 
 // Prepares the vectors and runs the case on them, as often as the task says.
-fn measured<L: Lists, R: Clock>(clock: &R, alloc: Global, task: Task) -> Result<Measure, Fault> {
+fn measured<L: Lists, R: Clock>(
+    clock: &R,
+    alloc: Global,
+    task: Task<'_>,
+) -> Result<Measure, Fault> {
     match task.mode {
         Mode::Time(repeat) => {
             let mut best = timed::<L, R>(clock, alloc, task)?;
@@ -149,7 +149,7 @@ fn measured<L: Lists, R: Clock>(clock: &R, alloc: Global, task: Task) -> Result<
 }
 
 // Prepares the vectors and runs the case on them once.
-fn timed<L: Lists, R: Clock>(clock: &R, alloc: Global, task: Task) -> Result<Measure, Fault> {
+fn timed<L: Lists, R: Clock>(clock: &R, alloc: Global, task: Task<'_>) -> Result<Measure, Fault> {
     let Some(mut lists) = L::prepared(alloc, task) else {
         return Err(Fault::OutOfMemory);
     };

@@ -44,7 +44,7 @@ struct Pair<E> {
 }
 
 impl Lists for Vectors {
-    fn prepared(alloc: Global, task: Task) -> Option<Self> {
+    fn prepared(alloc: Global, task: Task<'_>) -> Option<Self> {
         let mut vectors = Vectors {
             alloc,
             numbers: Pair::new(alloc),
@@ -65,7 +65,7 @@ impl Lists for Vectors {
         }
     }
 
-    fn run(&mut self, task: Task) -> bool {
+    fn run(&mut self, task: Task<'_>) -> bool {
         let count = task.count;
         let numbers = &mut self.numbers.list;
         match task.case {
