@@ -1,4 +1,4 @@
-use Rattle.std.proofs.Common.{◌≡◌, suc, ◌-◌, length-set, sym, ap, ◌∙◌, length, arith}
+use Rattle.std.proofs.Common.{rules, ◌≡◌, suc, ◌-◌, length-set, sym, ap, ◌∙◌, length, arith}
 use Rattle.ex_inline.proofs.Fews.{carry_back}
 use Rattle.ex_inline.proofs.few.Few.remove.Goals as goal
 
@@ -9,3 +9,9 @@ each-preserved g c =
       omega (arith, c.each-test.true),
       omega (arith, c.each.invariant.2, ap length after, length-set c.each.self k c.each.carried),
     )
+
+pub replace-carried-requires : goal.replace-carried-requires
+replace-carried-requires g c = (search rules, search rules)
+
+pub pop-carried-requires : goal.pop-carried-requires
+pop-carried-requires g c = (search rules, search rules)

@@ -1,4 +1,4 @@
-use Rattle.std.proofs.Common.{◌++◌, length, inl, refl, sym, subst, ap, ◌∙◌}
+use Rattle.std.proofs.Common.{rules, ◌++◌, length, inl, refl, sym, subst, ap, ◌∙◌}
 use Rattle.std.specs.List.{AllZip}
 use Rattle.std.specs.Mem.{type_size}
 use denote.Param.{param}
@@ -18,3 +18,6 @@ returns-then-push_clones-clause-made g c =
       each = subst (λ ys. AllZip g.T.Clone.is_clone c.args.source.now ys) (sym (ap (λ s. s.items) put)) a.each;
       put = put ∙ (λ t. wrote (roomy t) (sym (ap (λ s. s.items) put) t) n);
     }
+
+pub push_clones-requires : goal.push_clones-requires
+push_clones-requires g c = (search rules, search rules)

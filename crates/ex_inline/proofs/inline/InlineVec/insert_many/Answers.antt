@@ -1,4 +1,4 @@
-use Rattle.std.proofs.Common.{length, ap, ◌∙◌}
+use Rattle.std.proofs.Common.{rules, length, ap, ◌∙◌}
 use Rattle.std.specs.Mem.{type_size}
 use denote.Param.{param}
 use Rattle.allocator_api2.specs.Extend.{TellsAtMost}
@@ -20,3 +20,6 @@ returns-clause-refused g c =
     let is = c.bring.ensures ∙ ap (λ n. with_items s (brought c.args.index n s.items)) c.len-len.ensures in
     refused-behind s c.bring.new.self (λ x. with_items x (brought c.args.index (length c.args.self.now.items) x.items)) is c.extend-done.result
     (StopsAt g.I.Iterator.next_gives (TellsAtMost g.I.Iterator.remaining) (type_size (param 0 g.row.T)) g.row.N c.args.iter c.args.self.now) c.extend-done.ensures.refused
+
+pub bring-requires : goal.bring-requires
+bring-requires g c = (search rules, search rules)

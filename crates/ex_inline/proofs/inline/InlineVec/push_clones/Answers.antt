@@ -1,4 +1,4 @@
-use Rattle.std.proofs.Common.{◌≡◌, ◌+◌, ◌++◌, ◌∷◌, [], length, take, sym, subst, ap, ◌∙◌, arith, append_assoc}
+use Rattle.std.proofs.Common.{rules, ◌≡◌, ◌+◌, ◌++◌, ◌∷◌, [], length, take, sym, subst, ap, ◌∙◌, arith, append_assoc}
 use Rattle.std.proofs.lemmas.Grind.{take_at_read}
 use Rattle.std.proofs.lemmas.List.{append-nil}
 use Rattle.std.proofs.lemmas.List.Elements.{AllZip-push}
@@ -20,3 +20,6 @@ each-preserved g c =
       c.put_last.ensures ∙ rw inv.2 (wrote-wrote r (r.items ++ inv.0) ((r.items ++ inv.0) ++ y ∷ []) i 1 ∙ ap (λ zs. wrote r zs (i + 1)) (append_assoc r.items inv.0 (y ∷ []))),
       rw c.put_last.ensures (room-wrote g.row.N c.each.self y (length xs) i c.each-test.true inv.3),
     )
+
+pub put_last-requires : goal.put_last-requires
+put_last-requires g c = (search rules, search rules)

@@ -1,4 +1,4 @@
-use Rattle.std.proofs.Common.{◌≡◌, ◌-◌, [], length, sym, ap, ◌∙◌, arith}
+use Rattle.std.proofs.Common.{rules, ◌≡◌, ◌-◌, [], length, sym, ap, ◌∙◌, arith}
 use Rattle.std.specs.Prelude.{reverse}
 use Rattle.std.specs.Mem.{type_size}
 use Rattle.std.proofs.lemmas.List.{length-reverse}
@@ -19,3 +19,6 @@ returns-clause-taken g c =
     let none = c.new_in-taken.ensures ∙ ap (λ a. in_place [] a) c.allocator.ensures in
     let roomy = c.in_ok-reserve.ensures.made ∙ ap (λ s. with_room (type_size (param 0 g.row.T)) g.row.N s (n - i)) none in
     c.turn.ensures ∙ ap (λ s. with_items s (reverse m.items)) c.move_last.ensures.moved ∙ (λ t. wrote (roomy t) (range t) (count t))
+
+pub bring-requires : goal.bring-requires
+bring-requires g c = (search rules, search rules)
