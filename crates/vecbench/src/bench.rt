@@ -11,7 +11,7 @@ use std::time::{Duration, Instant};
 use std::{fmt, io};
 
 /// Why the program did not end well.
-#[derive(Debug, Drop)]
+#[derive(Drop)]
 pub enum Fault {
     /// The line of this number, counted from 1, is no task.
     BadLine(u64),
