@@ -75,8 +75,5 @@ module _ {F T A : Type 0} (Asks : F → T → T → Bool → F → T → T → T
             let no_others : others ≡ [] = drop_all 1 (behind_items v gap n) (omega (arith, count v gap n stands, one)) in
             behind 1 g w (asked.next_left ∷ others) itself (g, asked.next_left, asked.last_left, asked.next_left ∷ others, called false e, rw no_others (refl, refl), refl)
 
--- elements asked one after the other
-pub ruleset chains = (ChainsBehind-repeat, ChainsBehind-one, ChainsBehind-more)
-
 -- elements lent to who asks them
 pub ruleset lents = (lent-is, refilled, LeavesBehind-view, seen, there, within, IsFront-relent)

@@ -31,8 +31,7 @@ module _ {S T A : Type 0} (steps : S → Option T → S → Type 0) (Tells : S �
   pub PutsRest-gathered : (n : ℕ) (first : T) (more : Vector T A) (u : S) → Gathers steps Tells s first more u → (k : ℕ) → k ≡ len more
       → (v w x : Vector T A) → Widens size old k n v → Becomes v (v.items ++ more.items) (len more) (run_count (len more)) w → w.behind ≡ drop (len more) v.behind → ClosesGap w 0 n x
       → PutsRest steps size s old n first x u
-  PutsRest-gathered n first more u h k e v w x widened filled behind closes =
-      grind (arith, nat_tests, Yields-told, Becomes-at, append_assoc, still_are, moved_some)
+  PutsRest-gathered n first more u h k e v w x widened filled behind closes = grind (arith, nat_tests, Yields-told, Becomes-at, append_assoc, still_are, moved_some)
 
   -- there was no room for them
   pub LacksRest-room : {fails : Type 0} (first : T) (more : Vector T A) (u : S) → Gathers steps Tells s first more u → (k : ℕ) → k ≡ len more → (error : TryReserveError) → LacksRoom size old k error
@@ -95,12 +94,10 @@ module _ {S T A : Type 0} (steps : S → Option T → S → Type 0) (Tells : S �
         new_items = ap (λ u. u.items) r.becomes ∙ put_between head came tail others z.items n z_items tail_count
 
         all_put : PutsAll steps size s old told n new after
-        all_put =
-            grind (arith, nat_tests, z_len, told_came, length-append, Yields-join, new_items, MakesRoom-same, z_room, SameBlock-becomes, z_written, moved_none)
+        all_put = grind (arith, nat_tests, z_len, told_came, length-append, Yields-join, new_items, MakesRoom-same, z_room, SameBlock-becomes, z_written, moved_none)
 
         rest_within : (len old ≤ len new) × PutsWithin old (len old) n new
-        rest_within =
-            grind (arith, nat_tests, new_items, length-append, z_len, head_count, tail_count, z_written, z_becomes, moved_most, moved_none, one_run)
+        rest_within = grind (arith, nat_tests, new_items, length-append, z_len, head_count, tail_count, z_written, z_becomes, moved_most, moved_none, one_run)
 
       pub Puts-rest : (P : A → Type 0) → ((k : S) → (m : ℕ) × Tells k m) → (result : Result Unit TryReserveError) (new : Vector T A) (after : S) → OnOk result (PutsRest steps size u z n first new after) → IfErr result (λ e. LacksRest steps Tells (P z.alloc) size u z first e after × (new ≡ z)) → told < count_of (remaining s)
           → Puts steps Tells (P old.alloc) size s old told n remaining result new after
@@ -126,6 +123,4 @@ module _ {S T A : Type 0} (steps : S → Option T → S → Type 0) (Tells : S �
           })
 
 -- a run put before the last items
-pub ruleset puts = (Puts-told)
-
 pub ruleset runs_put = (still_stand, PutsRest-gathered, LacksRest-room)

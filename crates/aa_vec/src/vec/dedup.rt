@@ -98,7 +98,6 @@ impl<T, A: Allocator> Vec<T, A> {
     // order, each beside the last one kept before it, up to the first repeat. It answers how many
     // are kept before it.
     #[inline(always)]
-    #[tactic(auto, using(crate::proofs::Chains::chains))]
     fn chain_behind<F: FnMut(&mut T, &mut T) -> bool>(
         &mut self,
         gap: usize,

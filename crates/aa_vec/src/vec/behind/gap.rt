@@ -149,7 +149,6 @@ impl<T, A: Allocator> Vec<T, A> {
 
     // Puts the items of `iter` before the last `count` elements: first as many as were told, in
     // room made for them.
-    #[tactic(auto, using(crate::proofs::Replacing::puts))]
     pub(crate) fn put_more<W: Telling<I>, I: Iterator<Item = T>>(
         &mut self,
         told: usize,

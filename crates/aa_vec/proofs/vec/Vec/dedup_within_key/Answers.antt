@@ -8,8 +8,7 @@ dedup_within-requires g c =
     IsCallableAlong-on (λ q. q.0.now) _ (ComparesKeys g.F.FnMut g.K.PartialEq.eq) (λ q x l answer r y k a. search rules) _ (TakesForKeys g.F.FnMut) (λ q x l may p r e d. (λ s f. may.0 s (f ∙ e), λ key next y a s f. may.1 key next y (subst (λ z. CalledAtMut g.F.FnMut q.0.now z key next y) e a) s (f ∙ d))) _ c.args.self.now.items c.requires
 
 pub returns-clause-removed : goal.returns-clause-removed
-returns-clause-removed g c =
-    Deduplicates-lent (λ q. q.0.now) _ (ComparesKeys g.F.FnMut g.K.PartialEq.eq) (λ q x l answer r y k a. search rules) (λ q. q.0.ghost_name) (λ q x l answer r y k a. search rules) _ c.args.self.now _ _ _ c.dedup_within.ensures (λ e. search rules)
+returns-clause-removed g c = Deduplicates-lent (λ q. q.0.now) _ (ComparesKeys g.F.FnMut g.K.PartialEq.eq) (λ q x l answer r y k a. search rules) (λ q. q.0.ghost_name) (λ q x l answer r y k a. search rules) _ c.args.self.now _ _ _ c.dedup_within.ensures (λ e. search rules)
 
 pub returns-clause-steady : goal.returns-clause-steady
 returns-clause-steady g c = λ same steady. Deduplicates_dedup _ same _ _ _ _ (returns-clause-removed g c) steady

@@ -3,8 +3,7 @@ use Rattle.aa_vec.proofs.ExtendLemmas.{Placing-start, Placing-filled, Placing-fu
 use Rattle.aa_vec.proofs.vec.Vec.extend_telling.Goals as goal
 
 pub full-init : goal.full-init
-full-init g c =
-    record { can = c.requires.may_ask; finite = c.requires.ends; placing = Placing-start _ _ _ _ _ (g.W.Telling.some _) (omega (arith, c.known.ensures.within)); fewer = omega arith }
+full-init g c = record { can = c.requires.may_ask; finite = c.requires.ends; placing = Placing-start _ _ _ _ _ (g.W.Telling.some _) (omega (arith, c.known.ensures.within)); fewer = omega arith }
 
 pub full-preserved : goal.full-preserved
 full-preserved g c =
