@@ -6,34 +6,75 @@ use test_allocators::Faulty;
 // A leaf over an allocator that may refuse.
 type Small<'a> = Leaf<u8, &'a Faulty<Global>>;
 
+// Gives a key a value: whether it has it now, and the value that it had, or that comes back.
+fn put(leaf: &mut Small<'_>, key: u64, value: u8) -> (bool, Option<u8>) {
+    match leaf.insert(key, value) {
+        Ok(old) => (true, old),
+        Err(back) => (false, Some(back)),
+    }
+}
+
+// How many inserts into a leaf of four places go so.
+fn goes_in(leaf: &mut Small<'_>) -> u32 {
+    let mut count = 0u32;
+    // A key, its value, whether it has it then, and the value that it had, or that comes back.
+    for (key, value, taken, back) in [
+        (5, 50, true, None),
+        (3, 30, true, None),
+        (9, 90, true, None),
+        (3, 31, true, Some(30)),
+        (7, 70, true, None),
+        (8, 80, false, Some(80)),
+        (9, 91, true, Some(90)),
+    ] {
+        if put(leaf, key, value) == (taken, back) {
+            count = count.saturating_add(1);
+        }
+    }
+    count
+}
+
+fn has(leaf: &Small<'_>, entries: &[(u64, u8)]) -> bool {
+    leaf.entries() == entries
+}
+
+fn has_within(leaf: &Small<'_>, low: u64, high: u64, entries: &[(u64, u8)]) -> bool {
+    leaf.range(low, high) == entries
+}
+
+fn value_of(leaf: &Small<'_>, key: u64) -> Option<u8> {
+    leaf.get(key).copied()
+}
+
+// Writes the value of a key, if it has one.
+fn is_written(leaf: &mut Small<'_>, key: u64, value: u8) -> bool {
+    match leaf.get_mut(key) {
+        Some(old) => {
+            *old = value;
+            true
+        }
+        None => false,
+    }
+}
+
+fn taken(leaf: &mut Small<'_>, key: u64) -> Option<u8> {
+    leaf.remove(key)
+}
+
 #[test]
 fn keys_stay_in_order(rt: HostRuntime) {
     let heap = Faulty::new(rt.alloc());
     let mut leaf: Small<'_> = Leaf::with_capacity_in(4, &heap).expect(&rt, "room");
-    // A key, its value, and what the call answers.
-    for (key, value, answer) in [
-        (5u64, 50u8, Ok(None)),
-        (3, 30, Ok(None)),
-        (9, 90, Ok(None)),
-        (3, 31, Ok(Some(30))),
-        (7, 70, Ok(None)),
-        (8, 80, Err(80)),
-        (9, 91, Ok(Some(90))),
-    ] {
-        assert!(rt; leaf.insert(key, value) == answer);
-    }
-    assert!(rt; leaf.entries() == [(3, 31), (5, 50), (7, 70), (9, 91)].as_slice());
-    assert!(rt; leaf.range(4, 9) == [(5, 50), (7, 70)].as_slice());
-    assert!(rt; leaf.range(9, 4) == [].as_slice());
-    assert!(rt; leaf.get(7).copied() == Some(70) && leaf.get(8).is_none());
-    match leaf.get_mut(7) {
-        Some(value) => *value = 71,
-        None => assert!(rt; false),
-    }
-    assert!(rt; leaf.get_mut(8).is_none());
-    assert!(rt; leaf.remove(5) == Some(50) && leaf.remove(5).is_none());
-    assert!(rt; leaf.entries() == [(3, 31), (7, 71), (9, 91)].as_slice());
-    assert!(rt; heap.requests() == 1);
+    assert!(rt; goes_in(&mut leaf) == 7);
+    assert!(rt;
+        has(&leaf, &[(3, 31), (5, 50), (7, 70), (9, 91)])
+            && has_within(&leaf, 4, 9, &[(5, 50), (7, 70)])
+            && has_within(&leaf, 9, 4, &[])
+    );
+    assert!(rt; (value_of(&leaf, 7), value_of(&leaf, 8)) == (Some(70), None));
+    assert!(rt; is_written(&mut leaf, 7, 71) && !is_written(&mut leaf, 8, 81));
+    assert!(rt; (taken(&mut leaf, 5), taken(&mut leaf, 5)) == (Some(50), None));
+    assert!(rt; has(&leaf, &[(3, 31), (7, 71), (9, 91)]) && heap.requests() == 1);
 }
 
 #[test]
