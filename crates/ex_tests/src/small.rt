@@ -6,51 +6,89 @@ use ex_small::fixed::Fixed;
 use ex_small::records::{decode, encode, push_record};
 use ex_small::text::TextBuilder;
 use std::alloc::Global;
-use std::test::Fail;
 use test_allocators::Faulty;
 
+type Numbers<'a> = Arena<u64, &'a Faulty<Global>>;
+
 // The value that is handed back, if it is.
-fn handed_back(arena: &mut Arena<u64, &Faulty<Global>>, value: u64) -> Option<u64> {
+fn handed_back(arena: &mut Numbers<'_>, value: u64) -> Option<u64> {
     match arena.alloc(value) {
         Ok(_) => None,
         Err(back) => Some(back.source),
     }
 }
 
+// Whether there is room for so many then.
+fn makes_room(arena: &mut Numbers<'_>, additional: usize) -> bool {
+    arena.reserve(additional).is_ok()
+}
+
+// Whether two values are found, and written, by their handles.
+fn is_found(arena: &mut Numbers<'_>) -> bool {
+    let Ok(one) = arena.alloc(10) else {
+        return false;
+    };
+    let Ok(two) = arena.alloc(20) else {
+        return false;
+    };
+    *arena.get_mut(one) = 11;
+    let old = arena.replace(two, 21);
+    old == 20 && *arena.get(one) == 11 && arena.try_get(two).copied() == Some(21)
+}
+
+// Whether two more values are put, and a third comes back.
+fn is_full(arena: &mut Numbers<'_>) -> bool {
+    let mut all = true;
+    for back in [None, None, Some(7)] {
+        all = handed_back(arena, 7) == back && all;
+    }
+    all && arena.len() == 4
+}
+
 // Room that was made is there though all memory is refused, and no more than that.
 #[test]
 fn values_are_found_by_their_handles(rt: HostRuntime) {
     let heap = Faulty::new(rt.alloc());
-    let mut arena: Arena<u64, &Faulty<Global>> = Arena::new_in(&heap);
+    let mut arena: Numbers<'_> = Arena::new_in(&heap);
     heap.refuse(0, 2);
     assert!(rt; handed_back(&mut arena, 7) == Some(7));
     for made in [false, true] {
-        assert!(rt; arena.reserve(4).is_ok() == made);
+        assert!(rt; makes_room(&mut arena, 4) == made);
     }
     heap.refuse(0, u64::MAX);
-    let (Ok(one), Ok(two)) = (arena.alloc(10), arena.alloc(20)) else {
-        return assert!(rt; false);
-    };
-    *arena.get_mut(one) = 11;
-    assert!(rt; arena.replace(two, 21) == 20);
-    assert!(rt; *arena.get(one) == 11 && arena.try_get(two).copied() == Some(21));
-    for back in [None, None, Some(7)] {
-        assert!(rt; handed_back(&mut arena, 7) == back);
+    assert!(rt; is_found(&mut arena) && is_full(&mut arena));
+}
+
+// Whether these bytes are so many records, as those are.
+fn decodes(books: Global, bytes: &[u8], records: &[&[u8]]) -> bool {
+    match decode(bytes, books) {
+        Ok(Some(back)) => back.as_slice() == records,
+        _ => false,
     }
-    assert!(rt; arena.len() == 4);
+}
+
+// Whether these bytes are no records.
+fn is_refused(books: Global, bytes: &[u8]) -> bool {
+    match decode(bytes, books) {
+        Ok(None) => true,
+        _ => false,
+    }
+}
+
+// Whether records are so many bytes, come back from them, and not from all but the first.
+fn come_back(books: Global, records: &[&[u8]], len: usize) -> bool {
+    match encode(records, books) {
+        Ok(bytes) if bytes.as_slice().len() == len && 0 < len => {
+            is_refused(books, &bytes.as_slice()[1..]) && decodes(books, bytes.as_slice(), records)
+        }
+        _ => false,
+    }
 }
 
 #[test]
-fn records_come_back(rt: HostRuntime) -> Result<(), Fail> {
+fn records_come_back(rt: HostRuntime) {
     let records: [&[u8]; 3] = [b"one", b"", b"three"];
-    let bytes = encode(&records, rt.alloc())?;
-    assert!(rt; bytes.as_slice().len() == 32);
-    assert!(rt; decode(&bytes.as_slice()[1..], rt.alloc())?.is_none());
-    match decode(bytes.as_slice(), rt.alloc())? {
-        Some(back) => assert!(rt; back.as_slice() == records.as_slice()),
-        None => assert!(rt; false),
-    }
-    Ok(())
+    assert!(rt; come_back(rt.alloc(), &records, 32));
 }
 
 fn is_pushed(log: &mut Vec<u8, &Faulty<Global>>, entry: &[u8]) -> bool {
@@ -68,33 +106,49 @@ fn a_record_is_pushed(rt: HostRuntime) {
     assert!(rt; log.as_slice() == b"\x02\0\0\0\0\0\0\0ab".as_slice());
 }
 
-fn is_put(text: &mut TextBuilder<&Faulty<Global>>, part: &str) -> bool {
+type Words<'a> = TextBuilder<&'a Faulty<Global>>;
+
+fn is_put(text: &mut Words<'_>, part: &str) -> bool {
     text.push_str(part).is_ok()
 }
 
-fn is_put_as_digits(text: &mut TextBuilder<&Faulty<Global>>, number: u64) -> bool {
+fn is_put_as_digits(text: &mut Words<'_>, number: u64) -> bool {
     text.push_u64(number).is_ok()
+}
+
+fn gets_room(text: &mut Words<'_>, additional: usize) -> bool {
+    text.reserve(additional).is_ok()
+}
+
+// Whether a text is built while some requests are refused.
+fn is_built(heap: &Faulty<Global>, text: &mut Words<'_>) -> bool {
+    heap.refuse(0, 2);
+    let mut all = !is_put(text, "n = ");
+    for made in [false, true] {
+        all = gets_room(text, 8) == made && all;
+    }
+    heap.refuse(0, 2);
+    all = is_put(text, "n = ") && all;
+    for put in [false, false, true] {
+        all = is_put_as_digits(text, 1024) == put && all;
+    }
+    all && text.as_str() == "n = 1024"
+}
+
+// Whether it is this text at last.
+fn is_finished(text: Words<'_>, all: &str) -> bool {
+    match text.finish() {
+        Ok(done) => done.as_str() == all,
+        Err(_) => false,
+    }
 }
 
 #[test]
 fn a_text_is_built(rt: HostRuntime) {
     let heap = Faulty::new(rt.alloc());
-    let mut text: TextBuilder<&Faulty<Global>> = TextBuilder::new_in(&heap);
-    heap.refuse(0, 2);
-    assert!(rt; !is_put(&mut text, "n = "));
-    for made in [false, true] {
-        assert!(rt; text.reserve(8).is_ok() == made);
-    }
-    heap.refuse(0, 2);
-    assert!(rt; is_put(&mut text, "n = "));
-    for put in [false, false, true] {
-        assert!(rt; is_put_as_digits(&mut text, 1024) == put);
-    }
-    assert!(rt; text.as_str() == "n = 1024");
-    match text.finish() {
-        Ok(done) => assert!(rt; done.as_str() == "n = 1024"),
-        Err(_) => assert!(rt; false),
-    }
+    let mut text: Words<'_> = TextBuilder::new_in(&heap);
+    let built = is_built(&heap, &mut text);
+    assert!(rt; is_finished(text, "n = 1024") && built);
 }
 
 type Line<'a> = Editor<&'a Faulty<Global>>;
@@ -103,41 +157,69 @@ fn is_typed(line: &mut Line<'_>, bytes: &[u8]) -> bool {
     line.type_in(bytes).is_ok()
 }
 
+fn is_widened(line: &mut Line<'_>, additional: usize) -> bool {
+    line.reserve(additional).is_ok()
+}
+
+fn goes_to(line: &mut Line<'_>, position: usize) {
+    line.go_to(position);
+}
+
 // Whether these bytes stand on either side of the cursor.
 fn shows(line: &Line<'_>, before: &[u8], after: &[u8]) -> bool {
     line.before() == before && line.after() == after
 }
 
+// Whether a word is typed into a line once there is room.
+fn is_typed_within(heap: &Faulty<Global>, line: &mut Line<'_>) -> bool {
+    let mut all = is_typed(line, b"a line");
+    goes_to(line, 2);
+    heap.refuse(0, 2);
+    all = !is_typed(line, b"very long ") && shows(line, b"a ", b"line") && all;
+    for made in [false, true] {
+        all = is_widened(line, 10) == made && all;
+    }
+    heap.refuse(0, u64::MAX);
+    all = is_typed(line, b"very long ") && line.backspace() == Some(b' ') && all;
+    goes_to(line, 99);
+    shows(line, b"a very longline", b"") && all
+}
+
 #[test]
 fn a_word_is_typed_into_a_line(rt: HostRuntime) {
     let heap = Faulty::new(rt.alloc());
-    let mut line: Line<'_> = Editor::new_in(&heap);
-    assert!(rt; is_typed(&mut line, b"a line"));
-    line.go_to(2);
-    heap.refuse(0, 2);
-    assert!(rt; !is_typed(&mut line, b"very long ") && shows(&line, b"a ", b"line"));
-    for made in [false, true] {
-        assert!(rt; line.reserve(10).is_ok() == made);
+    assert!(rt; is_typed_within(&heap, &mut Editor::new_in(&heap)));
+}
+
+type Few<'a> = Fixed<u64, &'a Faulty<Global>>;
+
+fn pair<'a>(heap: &'a Faulty<Global>) -> Option<Few<'a>> {
+    Fixed::with_capacity_in(2, heap).ok()
+}
+
+// The item that is handed back, if it is.
+fn is_left(few: &mut Few<'_>, item: u64) -> Option<u64> {
+    few.push(item).err()
+}
+
+// Whether two items go in, a third one comes back, and one goes out.
+fn hands_back(few: &mut Few<'_>) -> bool {
+    let mut all = true;
+    for (item, back) in [(1, None), (2, None), (3, Some(3))] {
+        all = is_left(few, item) == back && all;
     }
-    heap.refuse(0, u64::MAX);
-    assert!(rt; is_typed(&mut line, b"very long ") && line.backspace() == Some(b' '));
-    line.go_to(99);
-    assert!(rt; shows(&line, b"a very longline", b""));
+    all = few.as_slice() == [1u64, 2].as_slice() && all;
+    few.pop() == Some(2) && (few.len(), few.capacity()) == (1, 2) && all
 }
 
 #[test]
 fn a_full_vector_hands_back(rt: HostRuntime) {
     let heap = Faulty::new(rt.alloc());
     heap.refuse(0, 1);
-    assert!(rt; Fixed::<u64, &Faulty<Global>>::with_capacity_in(2, &heap).is_err());
-    let Ok(mut few) = Fixed::<u64, &Faulty<Global>>::with_capacity_in(2, &heap) else {
-        return assert!(rt; false);
-    };
-    for (item, answer) in [(1, Ok(())), (2, Ok(())), (3, Err(3))] {
-        assert!(rt; few.push(item) == answer);
+    assert!(rt; pair(&heap).is_none());
+    match pair(&heap) {
+        Some(mut few) => assert!(rt; hands_back(&mut few)),
+        None => assert!(rt; false),
     }
-    assert!(rt; few.as_slice() == [1u64, 2].as_slice() && few.pop() == Some(2));
-    assert!(rt; (few.len(), few.capacity()) == (1, 2));
-    drop(few);
     assert!(rt; heap.outstanding() == 0);
 }
