@@ -21,25 +21,43 @@ fn taken(map: &mut Small<'_>, key: Key) -> Option<u32> {
     map.remove(key)
 }
 
+// Whether a key that went is never found again, and others are.
+fn keeps_keys_apart(map: &mut Small<'_>) -> Option<bool> {
+    let a = put(map, 1)?;
+    let b = put(map, 2)?;
+    let gone = (taken(map, a), taken(map, a)) == (Some(1), None);
+    let c = put(map, 3)?;
+    write(map, b, 20);
+    Some(
+        gone && finds(map, a, None)
+            && finds(map, b, Some(20))
+            && finds(map, c, Some(3))
+            && gives(map, c, b),
+    )
+}
+
+// Writes the value of a key.
+fn write(map: &mut Small<'_>, key: Key, value: u32) {
+    if let Some(old) = map.get_mut(key) {
+        *old = value;
+    }
+}
+
+fn finds(map: &Small<'_>, key: Key, value: Option<u32>) -> bool {
+    has(map, key) == value && map.contains_key(key) == value.is_some()
+}
+
+// Whether the first keys are these, with 3 and 20.
+fn gives(map: &Small<'_>, first: Key, second: Key) -> bool {
+    let mut keys = map.iter();
+    keys.next() == Some((first, &3)) && keys.next() == Some((second, &20))
+}
+
 #[test]
 fn a_key_is_never_found_again(rt: HostRuntime) {
     let heap = Faulty::new(rt.alloc());
     let mut map: Small<'_> = SlotMap::new_in(&heap);
-    let (Some(a), Some(b)) = (put(&mut map, 1), put(&mut map, 2)) else {
-        return assert!(rt; false);
-    };
-    assert!(rt; (taken(&mut map, a), taken(&mut map, a)) == (Some(1), None));
-    let Some(c) = put(&mut map, 3) else {
-        return assert!(rt; false);
-    };
-    if let Some(value) = map.get_mut(b) {
-        *value = 20;
-    }
-    for (key, value) in [(a, None), (b, Some(20)), (c, Some(3))] {
-        assert!(rt; has(&map, key) == value && map.contains_key(key) == value.is_some());
-    }
-    let mut keys = map.iter();
-    assert!(rt; keys.next() == Some((c, &3)) && keys.next() == Some((b, &20)));
+    assert!(rt; keeps_keys_apart(&mut map) == Some(true));
     assert!(rt; heap.requests() == 1 && map.len() == 2);
 }
 
@@ -51,24 +69,38 @@ fn handed_back(map: &mut Small<'_>, value: u32) -> Option<(u32, TryReserveErrorK
     }
 }
 
+fn makes_room(map: &mut Small<'_>, additional: usize) -> bool {
+    map.reserve(additional).is_ok()
+}
+
+// Whether a value goes in, and out again but for the first two.
+fn comes_and_goes(map: &mut Small<'_>, value: u32) -> bool {
+    match put(map, value) {
+        Some(key) => value < 2 || taken(map, key) == Some(value),
+        None => false,
+    }
+}
+
+// Whether there is room for three keys, though all memory is refused.
+fn is_steady(map: &mut Small<'_>) -> bool {
+    let mut all = true;
+    for value in 0u32..1000 {
+        all = comes_and_goes(map, value) && all;
+    }
+    put(map, 3).is_some() && all
+}
+
 // At a steady size no more memory is asked for.
 #[test]
 fn room_is_there_when_the_heap_refuses(rt: HostRuntime) {
     let heap = Faulty::new(rt.alloc());
     let mut map: Small<'_> = SlotMap::new_in(&heap);
+    heap.refuse(0, 1);
     for granted in [false, true] {
-        heap.refuse(0, if granted { 0 } else { 1 });
-        assert!(rt; map.reserve(3).is_ok() == granted);
+        assert!(rt; makes_room(&mut map, 3) == granted);
     }
     heap.refuse(0, u64::MAX);
-    for value in 0u32..1000 {
-        let Some(key) = put(&mut map, value) else {
-            return assert!(rt; false);
-        };
-        assert!(rt; value < 2 || taken(&mut map, key) == Some(value));
-    }
-    assert!(rt; put(&mut map, 3).is_some());
+    assert!(rt; is_steady(&mut map));
     let refused = TryReserveErrorKind::AllocError { capacity: 7 };
-    assert!(rt; handed_back(&mut map, 4) == Some((4, refused)));
-    assert!(rt; map.len() == 3);
+    assert!(rt; handed_back(&mut map, 4) == Some((4, refused)) && map.len() == 3);
 }
