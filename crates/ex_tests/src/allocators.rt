@@ -2,10 +2,9 @@
 use allocator_api2::boxed::Box;
 use allocator_api2::vec::Vec;
 use ex_allocators::budget::Budget;
-use ex_allocators::counting::Counting;
+use ex_allocators::counting::{Counting, Counts};
 use ex_allocators::pool::Pool;
-use std::alloc::{AllocError, Allocator, Global};
-use std::test::Fail;
+use std::alloc::{Allocator, Global};
 
 /// Whether a box for the item is granted; it is given back at once.
 pub(crate) fn is_granted<T: Drop, A: Allocator>(heap: A, item: T) -> bool {
@@ -82,15 +81,27 @@ pub(crate) fn purse<B: Allocator>(heap: &Budget<B>) -> (usize, usize, usize) {
     (purse.granted(), purse.left(), purse.most())
 }
 
+// Whether eight numbers are granted of 48 bytes, and no ninth.
+fn grants_eight(heap: &Budget<Global>) -> bool {
+    let mut all = true;
+    // Room for four is given back once there is room for eight, and nine have none.
+    for (count, granted) in [(8, true), (9, false)] {
+        all = pushes(heap, 7u32, count) == granted && purse(heap) == (0, 48, 48) && all;
+    }
+    all
+}
+
+// Whether the steps go so over a budget, and its purse then.
+fn goes_within(books: Global, limit: usize, steps: &[Step]) -> (bool, (usize, usize, usize)) {
+    let heap = Budget::new(books, limit);
+    let all = go(books, &heap, steps);
+    (all, purse(&heap))
+}
+
 #[test]
 fn a_budget_grants_what_is_left(rt: HostRuntime) {
     let heap = Budget::new(rt.alloc(), 48);
-    assert!(rt; heap.watch().limit() == 48);
-    // Room for four is given back once there is room for eight, and nine have none.
-    for (count, granted) in [(8, true), (9, false)] {
-        assert!(rt; pushes(&heap, 7u32, count) == granted);
-        assert!(rt; purse(&heap) == (0, 48, 48));
-    }
+    assert!(rt; heap.watch().limit() == 48 && grants_eight(&heap));
     let steps = [
         Step::Take,
         Step::Take,
@@ -98,18 +109,23 @@ fn a_budget_grants_what_is_left(rt: HostRuntime) {
         Step::Back(0),
         Step::Take,
     ];
-    let small = Budget::new(&heap, 16);
-    assert!(rt; go(rt.alloc(), &small, &steps));
-    assert!(rt; purse(&small) == (0, 16, 16));
+    assert!(rt; goes_within(rt.alloc(), 16, &steps) == (true, (0, 16, 16)));
+}
+
+// Whether a clone grants a box without a change of the other one.
+fn twin_grants(heap: &Budget<Global>) -> bool {
+    match heap.clone() {
+        Ok(twin) => {
+            is_granted(&twin, 1u64) && (purse(heap), purse(&twin)) == ((0, 8, 0), (0, 8, 8))
+        }
+        Err(_) => false,
+    }
 }
 
 #[test]
-fn a_clone_has_a_budget_of_its_own(rt: HostRuntime) -> Result<(), AllocError> {
+fn a_clone_has_a_budget_of_its_own(rt: HostRuntime) {
     let heap = Budget::new(rt.alloc(), 8);
-    let twin = heap.clone()?;
-    assert!(rt; is_granted(&twin, 1u64));
-    assert!(rt; (purse(&heap), purse(&twin)) == ((0, 8, 0), (0, 8, 8)));
-    Ok(())
+    assert!(rt; twin_grants(&heap));
 }
 
 const REPORT: &str = "\
@@ -123,18 +139,45 @@ up to   1024 bytes: 1
 above  65536 bytes: 3
 ";
 
-#[test]
-fn a_report_says_where_memory_goes(rt: HostRuntime) -> Result<(), Fail> {
-    let heap = Counting::new(Budget::new(rt.alloc(), 500_000));
-    assert!(rt; pushes(&heap, 7u32, 100));
+// Pushes, two vectors that are granted and one that is not: whether it went so, and the counts.
+fn asked(heap: &Counting<Budget<Global>>) -> (bool, Counts) {
+    let mut all = pushes(heap, 7u32, 100);
     for (count, granted) in [(80_000, true), (70_000, true), (800_000, false)] {
-        assert!(rt; has_room(&heap, count) == granted);
+        all = has_room(heap, count) == granted && all;
     }
-    let counts = heap.counts();
-    drop(heap);
-    let printed = format!(in rt.alloc(); "{counts}")?;
-    assert!(rt; printed.as_str() == REPORT, "{printed}");
-    Ok(())
+    (all, heap.counts())
+}
+
+// Whether the counts are printed so.
+fn is_printed(books: Global, counts: Counts, text: &str) -> bool {
+    match format!(in books; "{counts}") {
+        Ok(printed) => printed.as_str() == text,
+        Err(_) => false,
+    }
+}
+
+#[test]
+fn a_report_says_where_memory_goes(rt: HostRuntime) {
+    let (all, counts) = asked(&Counting::new(Budget::new(rt.alloc(), 500_000)));
+    assert!(rt; all && is_printed(rt.alloc(), counts, REPORT));
+}
+
+// A pool over a count and a budget.
+type Pooled<'a> = Pool<&'a Counting<Budget<Global>>>;
+
+// Each call over the pool stands in one place, which takes a proof some seconds.
+
+fn pool_goes(books: Global, pool: &Pooled<'_>, steps: &[Step]) -> bool {
+    go(books, pool, steps)
+}
+
+fn pool_grants<T: Drop>(pool: &Pooled<'_>, item: T) -> bool {
+    is_granted(pool, item)
+}
+
+// A count over so many bytes.
+fn heap_of(books: Global, limit: usize) -> Counting<Budget<Global>> {
+    Counting::new(Budget::new(books, limit))
 }
 
 // Blocks come back in any order. Of seven boxes three find one that was left.
@@ -153,44 +196,53 @@ const POOLED: [Step; 12] = [
     Step::Take,
 ];
 
-#[test]
-fn blocks_given_back_in_any_order_are_used_again(rt: HostRuntime) {
-    let heap = Counting::new(rt.alloc());
-    let pool = Pool::new(&heap, 8);
-    assert!(rt; go(rt.alloc(), &pool, &POOLED));
-    assert!(rt; seen(&heap) == (4, 0, 32));
+// Whether boxes find what was left, nothing is kept once the pool is cleared, and it grants then.
+fn is_used_again(books: Global, heap: &Counting<Budget<Global>>) -> bool {
+    let pool = Pool::new(heap, 8);
+    let used = pool_goes(books, &pool, &POOLED) && seen(heap) == (4, 0, 32);
     pool.clear();
-    assert!(rt; seen(&heap) == (4, 4, 0));
-    assert!(rt; is_granted(&pool, 7u64) && seen(&heap) == (5, 4, 8));
-    drop(pool);
-    assert!(rt; seen(&heap) == (5, 5, 0));
+    let cleared = seen(heap) == (4, 4, 0);
+    used && cleared && pool_grants(&pool, 7u64) && seen(heap) == (5, 4, 8)
 }
 
 #[test]
-fn a_cloned_pool_keeps_blocks_of_its_own(rt: HostRuntime) -> Result<(), AllocError> {
-    let heap = Counting::new(rt.alloc());
-    let pool = Pool::new(&heap, 24);
-    let twin = pool.clone()?;
-    assert!(rt; is_granted(&pool, [0u64; 3]) && is_granted(&twin, [0u64; 3]));
+fn blocks_given_back_in_any_order_are_used_again(rt: HostRuntime) {
+    let heap = heap_of(rt.alloc(), usize::MAX);
+    assert!(rt; is_used_again(rt.alloc(), &heap) && seen(&heap) == (5, 5, 0));
+}
+
+// Whether a pool and its clone keep a block each, and one is cleared alone.
+fn twin_keeps(pool: &Pooled<'_>) -> bool {
+    let Ok(twin) = pool.clone() else {
+        return false;
+    };
+    let granted = pool_grants(pool, [0u64; 3]) && pool_grants(&twin, [0u64; 3]);
     pool.clear();
-    assert!(rt; twin.size() == 24 && seen(&heap) == (2, 1, 24));
-    Ok(())
+    granted && twin.size() == 24 && seen(pool.inner()) == (2, 1, 24)
+}
+
+#[test]
+fn a_cloned_pool_keeps_blocks_of_its_own(rt: HostRuntime) {
+    let heap = heap_of(rt.alloc(), usize::MAX);
+    assert!(rt; twin_keeps(&Pool::new(&heap, 24)));
+}
+
+// Whether boxes of three types are granted. One of the same layout takes what another one left.
+fn grants_layouts(pool: &Pooled<'_>) -> bool {
+    pool_grants(pool, [1u32; 4])
+        && pool_grants(pool, [1u64; 2])
+        && pool_grants(pool, (1u64, 2u32))
+        && seen(pool.inner()) == (2, 1, 16)
 }
 
 #[test]
 fn requests_of_another_layout_are_passed_on(rt: HostRuntime) {
-    let heap = Counting::new(rt.alloc());
-    let pool = Pool::new(&heap, 16);
-    assert!(rt; is_granted(&pool, [1u32; 4]) && is_granted(&pool, [1u64; 2]));
-    // A type of the same layout takes what another one left.
-    assert!(rt; is_granted(&pool, (1u64, 2u32)));
-    assert!(rt; seen(pool.inner()) == (2, 1, 16));
+    let heap = heap_of(rt.alloc(), usize::MAX);
+    assert!(rt; grants_layouts(&Pool::new(&heap, 16)));
 }
 
-#[test]
-fn a_pool_over_a_budget_sheds(rt: HostRuntime) {
-    let heap = Budget::new(rt.alloc(), 24);
-    let pool = Pool::new(&heap, 8);
+// Whether a pool over 24 bytes sheds what it keeps once it is cleared.
+fn sheds(books: Global, pool: &Pooled<'_>) -> bool {
     let steps = [
         Step::Take,
         Step::Take,
@@ -199,10 +251,19 @@ fn a_pool_over_a_budget_sheds(rt: HostRuntime) {
         Step::Back(1),
         Step::Take,
     ];
-    assert!(rt; go(rt.alloc(), &pool, &steps));
+    let mut all = pool_goes(books, pool, &steps);
     // What is kept counts until it is cleared.
-    assert!(rt; !has_room(&pool, 16));
-    pool.clear();
-    assert!(rt; has_room(&pool, 16));
-    assert!(rt; purse(&heap) == (0, 24, 24));
+    for granted in [false, true] {
+        all = pool_grants(pool, [0u8; 16]) == granted && all;
+        pool.clear();
+    }
+    all
+}
+
+#[test]
+fn a_pool_over_a_budget_sheds(rt: HostRuntime) {
+    let heap = heap_of(rt.alloc(), 24);
+    assert!(rt; sheds(rt.alloc(), &Pool::new(&heap, 8)));
+    let counts = heap.counts();
+    assert!(rt; (counts.outstanding, counts.most) == (0, 24));
 }
