@@ -31,82 +31,111 @@ fn seen(heap: &Faulty<Global>) -> (u64, u64, u64) {
     (heap.requests(), heap.frees(), heap.outstanding())
 }
 
+// What was seen of the heap and is kept, as it has to be.
+fn shows(
+    heap: &Faulty<Global>,
+    recycler: &Over<'_>,
+    of_heap: (u64, u64, u64),
+    of_kept: (usize, usize),
+) -> bool {
+    seen(heap) == of_heap && kept(recycler) == of_kept
+}
+
+// Blocks for 4, 8 .. 1,024 numbers are asked for, of 16, 32 .. 4,096 bytes.
+fn growth_is_served(heap: &Faulty<Global>, recycler: &Over<'_>) -> bool {
+    let mut all = true;
+    for _ in 0..2 {
+        all = grows(recycler, 1_000) && shows(heap, recycler, (9, 0, 8_176), (9, 8_176)) && all;
+    }
+    recycler.trim();
+    all && shows(heap, recycler, (9, 9, 0), (0, 0)) && grows(recycler, 4)
+}
+
 #[test]
 fn growth_takes_the_blocks_that_others_left(rt: HostRuntime) {
     let heap = Faulty::new(rt.alloc());
-    let recycler = Recycler::new(&heap);
-    // Blocks for 4, 8 .. 1,024 numbers are asked for, of 16, 32 .. 4,096 bytes.
-    for _ in 0..2 {
-        assert!(rt; grows(&recycler, 1_000));
-        assert!(rt; seen(&heap) == (9, 0, 8_176) && kept(&recycler) == (9, 8_176));
-    }
-    recycler.trim();
-    assert!(rt; seen(&heap) == (9, 9, 0) && kept(&recycler) == (0, 0));
-    assert!(rt; grows(&recycler, 4));
-    drop(recycler);
-    assert!(rt; seen(&heap) == (10, 10, 0));
+    assert!(rt; growth_is_served(&heap, &Recycler::new(&heap)) && seen(&heap) == (10, 10, 0));
 }
 
 const MOST: usize = 16 << 20;
 
 // Bytes, and how many blocks were asked for and given back then. Sizes are rounded up to a power of
 // two, and greater blocks than the greatest class has are given back at once.
-const SIZES: [(usize, u64, u64); 8] = [
-    (1, 1, 0),
-    (16, 1, 0),
-    (17, 2, 0),
-    (32, 2, 0),
-    (96, 3, 0),
-    (MOST, 4, 0),
-    (MOST / 2 + 1, 4, 0),
-    (MOST + 1, 5, 1),
-];
+fn sizes() -> [(usize, u64, u64); 8] {
+    [
+        (1, 1, 0),
+        (16, 1, 0),
+        (17, 2, 0),
+        (32, 2, 0),
+        (96, 3, 0),
+        (MOST, 4, 0),
+        (MOST / 2 + 1, 4, 0),
+        (MOST + 1, 5, 1),
+    ]
+}
+
+// How many sizes are served so.
+fn served(heap: &Faulty<Global>, recycler: &Over<'_>) -> u32 {
+    let mut count = 0u32;
+    for (bytes, requests, frees) in sizes() {
+        if has(recycler, bytes) && (heap.requests(), heap.frees()) == (requests, frees) {
+            count = count.saturating_add(1);
+        }
+    }
+    count
+}
 
 #[test]
 fn a_block_serves_each_size_of_its_class(rt: HostRuntime) {
     let heap = Faulty::new(rt.alloc());
     let recycler = Recycler::new(&heap);
-    for (bytes, requests, frees) in SIZES {
-        assert!(rt; has(&recycler, bytes));
-        assert!(rt;
-            (heap.requests(), heap.frees()) == (requests, frees),
-            "{bytes}"
-        );
+    assert!(rt; served(&heap, &recycler) == 8 && kept(&recycler) == (4, 16_777_392));
+}
+
+// Whether the limit of 64 bytes holds for blocks of 16 bytes, and for others beside them.
+fn is_limited(books: Global, heap: &Faulty<Global>, recycler: &Over<'_>) -> bool {
+    let mut all = recycler.limit() == 64 && goes(books, recycler, &[Step::Take; 6]);
+    all = shows(heap, recycler, (6, 2, 64), (4, 64)) && all;
+    for bytes in [64usize, 65] {
+        all = has(recycler, bytes) && all;
     }
-    assert!(rt; kept(&recycler) == (4, 16_777_392));
+    all && shows(heap, recycler, (8, 3, 128), (5, 128))
 }
 
 #[test]
 fn a_limit_holds_for_each_class(rt: HostRuntime) {
     let heap = Faulty::new(rt.alloc());
-    let recycler = Recycler::with_limit(&heap, 64);
-    assert!(rt; recycler.limit() == 64 && goes(rt.alloc(), &recycler, &[Step::Take; 6]));
-    assert!(rt; kept(&recycler) == (4, 64) && seen(&heap) == (6, 2, 64));
-    assert!(rt; has(&recycler, 64) && has(&recycler, 65));
-    assert!(rt; kept(&recycler) == (5, 128) && seen(&heap) == (8, 3, 128));
+    assert!(rt; is_limited(rt.alloc(), &heap, &Recycler::with_limit(&heap, 64)));
+}
+
+// Whether a recycler and its clone keep a block each, and one is trimmed alone.
+fn twin_keeps(heap: &Faulty<Global>, recycler: &Over<'_>) -> bool {
+    let Ok(twin) = recycler.clone() else {
+        return false;
+    };
+    let granted = has(recycler, 8) && has(&twin, 8) && twin.limit() == 1_000;
+    twin.trim();
+    granted && shows(heap, recycler, (2, 1, 16), (1, 16))
 }
 
 #[test]
 fn a_clone_keeps_blocks_of_its_own(rt: HostRuntime) {
     let heap = Faulty::new(rt.alloc());
-    let recycler = Recycler::with_limit(&heap, 1_000);
-    match recycler.clone() {
-        Ok(twin) => {
-            assert!(rt; has(&recycler, 8) && has(&twin, 8) && twin.limit() == 1_000);
-            twin.trim();
-            assert!(rt; kept(&recycler) == (1, 16) && seen(&heap) == (2, 1, 16));
-        }
-        Err(_) => assert!(rt; false),
+    assert!(rt; twin_keeps(&heap, &Recycler::with_limit(&heap, 1_000)));
+}
+
+// Whether a block of 40 bytes serves those of its class alone while memory is refused.
+fn is_kept(heap: &Faulty<Global>, recycler: &Over<'_>) -> bool {
+    let mut all = true;
+    for (bytes, granted) in [(40, true), (33, true), (65, false), (64, true)] {
+        all = has(recycler, bytes) == granted && all;
+        heap.refuse(0, u64::MAX);
     }
+    all
 }
 
 #[test]
 fn what_is_kept_is_granted_though_memory_is_refused(rt: HostRuntime) {
     let heap = Faulty::new(rt.alloc());
-    let recycler = Recycler::new(&heap);
-    assert!(rt; has(&recycler, 40));
-    heap.refuse(0, u64::MAX);
-    for (bytes, granted) in [(33, true), (65, false), (64, true)] {
-        assert!(rt; has(&recycler, bytes) == granted);
-    }
+    assert!(rt; is_kept(&heap, &Recycler::new(&heap)));
 }
