@@ -1,17 +1,21 @@
 use ex_spaced::spaced::Spaced;
 use ex_watched::counting::Counting;
 use std::alloc::Global;
-use std::test::Fail;
+
+// How many bytes are out below with room for four numbers, of which one is there.
+fn taken(below: &Counting<Global>, heap: &Spaced<&Counting<Global>>) -> Option<u64> {
+    let mut numbers: Vec<u32, &Spaced<&Counting<Global>>> = Vec::with_capacity(heap, 4).ok()?;
+    let pushed = numbers.push(7).is_ok();
+    if pushed {
+        return Some(below.counts().outstanding);
+    }
+    None
+}
 
 #[test]
-fn twice_as_much_is_asked_and_given_back(rt: HostRuntime) -> Result<(), Fail> {
+fn twice_as_much_is_asked_and_given_back(rt: HostRuntime) {
     let below = Counting::new(rt.alloc());
-    let heap = Spaced::new(&below);
-    {
-        let mut numbers: Vec<u32, &Spaced<&Counting<Global>>> = Vec::with_capacity(&heap, 4)?;
-        numbers.push(7)?;
-        assert!(rt; below.counts().outstanding == 32);
-    }
-    assert!(rt; below.counts().frees == 1 && below.counts().outstanding == 0);
-    Ok(())
+    assert!(rt; taken(&below, &Spaced::new(&below)) == Some(32));
+    let counts = below.counts();
+    assert!(rt; (counts.frees, counts.outstanding) == (1, 0));
 }
