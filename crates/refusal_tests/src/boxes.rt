@@ -47,21 +47,27 @@ fn beside<T: Drop, E: Drop>(heap: &Faulty<Global>, made: Result<T, E>) -> (bool,
     }
 }
 
+// What a call makes where its request is refused, and once more, the number of the requests, and
+// whether each block is given back once.
+fn made_twice(alloc: Global, call: Call) -> ((bool, u64), (bool, u64), u64, bool) {
+    let heap = Faulty::new(alloc);
+    heap.refuse(0, 1);
+    let first = made(call, &heap);
+    let then = made(call, &heap);
+    (first, then, heap.requests(), is_given_back(&heap))
+}
+
 #[test]
 fn a_refused_box_is_not_made(rt: HostRuntime) {
-    for (call, bytes) in [
-        (Call::NewIn, 8),
-        (Call::TryNewIn, 8),
-        (Call::TryDefault, 8),
-        (Call::NewUninitIn, 8),
-        (Call::TryNewUninitIn, 8),
-        (Call::IntoBoxedSlice, 8),
+    for call in [
+        Call::NewIn,
+        Call::TryNewIn,
+        Call::TryDefault,
+        Call::NewUninitIn,
+        Call::TryNewUninitIn,
+        Call::IntoBoxedSlice,
     ] {
-        let heap = Faulty::new(rt.alloc());
-        heap.refuse(0, 1);
-        assert!(rt; made(call, &heap) == (false, 0));
-        assert!(rt; made(call, &heap) == (true, bytes));
-        assert!(rt; heap.requests() == 2 && is_given_back(&heap));
+        assert!(rt; made_twice(rt.alloc(), call) == ((false, 0), (true, 8), 2, true));
     }
 }
 
@@ -114,45 +120,55 @@ fn shrunk(block: &mut Block<'_>, count: usize) -> Result<(), TryReserveError> {
     block.shrink_to_fit(0, wanted)
 }
 
-// A call of a block with so many places, the capacity that it asks for if any, and then that of the
-// block.
-type Row = (Room, usize, Option<usize>, usize);
+// A call of a block with so many places, how many requests it makes, the capacity that it asks for,
+// and then that of the block.
+type Row = (Room, usize, u64, usize, usize);
 
 fn rooms() -> [Row; 9] {
     [
-        (Room::Reserve, 0, Some(4), 4),
-        (Room::TryReserve, 0, Some(4), 4),
-        (Room::ReserveExact, 0, Some(3), 3),
-        (Room::TryReserveExact, 0, Some(3), 3),
-        (Room::ForPush, 0, Some(4), 4),
-        (Room::TryReserve, 2, Some(4), 4),
-        (Room::ShrinkToFit(2), 4, Some(2), 2),
-        (Room::ShrinkToFit(4), 4, None, 4),
-        (Room::ShrinkToFit(0), 4, None, 0),
+        (Room::Reserve, 0, 1, 4, 4),
+        (Room::TryReserve, 0, 1, 4, 4),
+        (Room::ReserveExact, 0, 1, 3, 3),
+        (Room::TryReserveExact, 0, 1, 3, 3),
+        (Room::ForPush, 0, 1, 4, 4),
+        (Room::TryReserve, 2, 1, 4, 4),
+        (Room::ShrinkToFit(2), 4, 1, 2, 2),
+        (Room::ShrinkToFit(4), 4, 0, 0, 4),
+        (Room::ShrinkToFit(0), 4, 0, 0, 0),
     ]
 }
 
 // How a call of a block ends where its first request is refused, and how once more, each beside the
 // capacity then.
-fn seen(heap: &Faulty<Global>, call: Room, room: usize) -> [(End, usize); 2] {
+type Seen = (End, usize, End, usize);
+
+fn seen_on(heap: &Faulty<Global>, call: Room, room: usize) -> Seen {
     let Ok(mut block) = RawVec::with_capacity_in(room, heap) else {
-        return [(End::TooLong, 0), (End::TooLong, 0)];
+        return (End::TooLong, 0, End::TooLong, 0);
     };
     heap.refuse(0, 1);
-    let first = (reserved(call, &mut block), block.capacity());
-    let then = (reserved(call, &mut block), block.capacity());
-    [first, then]
+    let first = reserved(call, &mut block);
+    let left = block.capacity();
+    let then = reserved(call, &mut block);
+    (first, left, then, block.capacity())
+}
+
+// That, how many requests are refused, and whether each block is given back once.
+fn seen(alloc: Global, call: Room, room: usize) -> (Seen, u64, bool) {
+    let heap = Faulty::new(alloc);
+    let seen = seen_on(&heap, call, room);
+    (seen, heap.refused(), is_given_back(&heap))
 }
 
 #[test]
 fn a_refused_block_stays(rt: HostRuntime) {
-    for (call, room, asked, capacity) in rooms() {
-        let heap = Faulty::new(rt.alloc());
-        let first = match asked {
-            Some(number) => (End::NoMemory(number), room),
-            None => (End::Done, capacity),
+    for (call, room, refused, asked, capacity) in rooms() {
+        let (first, left) = if refused == 1 {
+            (End::NoMemory(asked), room)
+        } else {
+            (End::Done, capacity)
         };
-        assert!(rt; seen(&heap, call, room) == [first, (End::Done, capacity)]);
-        assert!(rt; heap.refused() == asked.is_some() as u64 && is_given_back(&heap));
+        let wanted = ((first, left, End::Done, capacity), refused, true);
+        assert!(rt; seen(rt.alloc(), call, room) == wanted);
     }
 }

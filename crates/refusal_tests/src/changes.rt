@@ -263,48 +263,48 @@ fn number(back: Option<Held<'_>>) -> u32 {
 // A call on the elements 1, 2 and 3 with room for so many, and 4, 5 and 6; its requests; the number
 // that is told where the first of them is refused, or a later one; and the elements and the
 // capacity where none is.
-type Row = (Call, usize, u64, (usize, usize), u32, usize);
+type Row = (Call, usize, u64, usize, usize, u32, usize);
 
 fn changes() -> [Row; 32] {
     [
-        (Call::Push, 3, 1, (6, 0), 1239, 6),
-        (Call::Insert, 3, 1, (6, 0), 1923, 6),
-        (Call::TryReserve(2), 3, 1, (6, 0), 123, 6),
-        (Call::Reserve(2), 3, 1, (6, 0), 123, 6),
-        (Call::TryReserveExact(2), 3, 1, (5, 0), 123, 5),
-        (Call::ReserveExact(2), 3, 1, (5, 0), 123, 5),
-        (Call::ShrinkTo(4), 10, 1, (4, 0), 123, 4),
-        (Call::ShrinkToFit, 10, 1, (3, 0), 123, 3),
-        (Call::Append, 3, 1, (6, 0), 123456, 6),
-        (Call::SplitOff(1), 4, 1, (2, 0), 1, 4),
-        (Call::SplitOff(0), 4, 1, (4, 0), 0, 4),
-        (Call::ExtendFromSlice, 3, 4, (6, 6), 123456, 6),
-        (Call::ExtendFromWithin, 3, 3, (6, 5), 12323, 6),
-        (Call::Resize(5), 3, 2, (6, 5), 12399, 6),
-        (Call::Fill(Fill::Extend), 3, 1, (6, 0), 123456, 6),
-        (Call::Fill(Fill::ExtendBy), 3, 1, (6, 0), 123456, 6),
-        (Call::ExtendHinted(0), 3, 1, (6, 0), 123456, 6),
-        (Call::ExtendHintedBy(0), 3, 1, (6, 0), 123456, 6),
-        (Call::Fill(Fill::FromIterIn), 3, 1, (4, 0), 123, 3),
-        (Call::Fill(Fill::FromIterInBy), 3, 1, (4, 0), 123, 3),
-        (Call::Fill(Fill::SliceFromIterIn), 3, 2, (4, 3), 123, 3),
-        (Call::FromSliceIn, 3, 4, (3, 3), 123, 3),
-        (Call::FromElemIn(3), 3, 9, (3, 3), 123, 3),
-        (Call::ToVecIn, 3, 4, (3, 3), 123, 3),
-        (Call::ToVecIn2, 3, 4, (3, 3), 123, 3),
-        (Call::Clone, 3, 4, (3, 3), 123, 3),
-        (Call::ItemsClone, 3, 4, (3, 3), 123, 3),
-        (Call::SliceClone, 3, 4, (3, 3), 123, 3),
-        (Call::TraitClone, 3, 4, (0, 0), 123, 3),
-        (Call::TraitItemsClone, 3, 4, (0, 0), 123, 3),
-        (Call::TraitSliceClone, 3, 4, (0, 0), 123, 3),
-        (Call::TraitBoxClone, 3, 6, (1, 0), 123, 3),
+        (Call::Push, 3, 1, 6, 0, 1239, 6),
+        (Call::Insert, 3, 1, 6, 0, 1923, 6),
+        (Call::TryReserve(2), 3, 1, 6, 0, 123, 6),
+        (Call::Reserve(2), 3, 1, 6, 0, 123, 6),
+        (Call::TryReserveExact(2), 3, 1, 5, 0, 123, 5),
+        (Call::ReserveExact(2), 3, 1, 5, 0, 123, 5),
+        (Call::ShrinkTo(4), 10, 1, 4, 0, 123, 4),
+        (Call::ShrinkToFit, 10, 1, 3, 0, 123, 3),
+        (Call::Append, 3, 1, 6, 0, 123456, 6),
+        (Call::SplitOff(1), 4, 1, 2, 0, 1, 4),
+        (Call::SplitOff(0), 4, 1, 4, 0, 0, 4),
+        (Call::ExtendFromSlice, 3, 4, 6, 6, 123456, 6),
+        (Call::ExtendFromWithin, 3, 3, 6, 5, 12323, 6),
+        (Call::Resize(5), 3, 2, 6, 5, 12399, 6),
+        (Call::Fill(Fill::Extend), 3, 1, 6, 0, 123456, 6),
+        (Call::Fill(Fill::ExtendBy), 3, 1, 6, 0, 123456, 6),
+        (Call::ExtendHinted(0), 3, 1, 6, 0, 123456, 6),
+        (Call::ExtendHintedBy(0), 3, 1, 6, 0, 123456, 6),
+        (Call::Fill(Fill::FromIterIn), 3, 1, 4, 0, 123, 3),
+        (Call::Fill(Fill::FromIterInBy), 3, 1, 4, 0, 123, 3),
+        (Call::Fill(Fill::SliceFromIterIn), 3, 2, 4, 3, 123, 3),
+        (Call::FromSliceIn, 3, 4, 3, 3, 123, 3),
+        (Call::FromElemIn(3), 3, 9, 3, 3, 123, 3),
+        (Call::ToVecIn, 3, 4, 3, 3, 123, 3),
+        (Call::ToVecIn2, 3, 4, 3, 3, 123, 3),
+        (Call::Clone, 3, 4, 3, 3, 123, 3),
+        (Call::ItemsClone, 3, 4, 3, 3, 123, 3),
+        (Call::SliceClone, 3, 4, 3, 3, 123, 3),
+        (Call::TraitClone, 3, 4, 0, 0, 123, 3),
+        (Call::TraitItemsClone, 3, 4, 0, 0, 123, 3),
+        (Call::TraitSliceClone, 3, 4, 0, 0, 123, 3),
+        (Call::TraitBoxClone, 3, 6, 1, 0, 123, 3),
     ]
 }
 
 // What is seen of a row where the request numbered `refused` fails: each of these leaves the
 // elements; its first request, the capacity too. A push or an insert hands its element back.
-fn left_of((call, room, requests, (first, later), done, grown): Row, refused: u64) -> Seen {
+fn left_of((call, room, requests, first, later, done, grown): Row, refused: u64) -> Seen {
     if refused == requests {
         return (End::Done, done, grown, requests, 0);
     }

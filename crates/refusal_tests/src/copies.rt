@@ -1,7 +1,7 @@
 //! Calls of plain copies, of bytes and of texts, and those that make room: each request in turn is
 //! refused.
 use crate::items::{copied, copied_by};
-use crate::seen::{End, end_by, end_of, end_of_made, is_given_back, room_for};
+use crate::seen::{End, end_by, end_of, end_of_made, is_given_back, put, room_for};
 use allocator_api2::boxed::{BoxedSlice, BoxedText, append_texts};
 use allocator_api2::collections::{Refused, TryReserveError};
 use allocator_api2::gap_buffer::GapBuffer;
@@ -64,10 +64,13 @@ pub(crate) fn end_of_plain_clone<T: Copy + Drop, A: Allocator + Clone>(v: &Vec<T
     end_of_made(v.clone_copied())
 }
 
-// How it ends to put as many bytes as are missing, by a closure that is given or lent.
+fn d() -> u8 {
+    b'd'
+}
+
+// How it ends to put as many bytes as are missing, by a function that is given or lent.
 #[tactic(auto, using(allocator_api2::proofs::Callers::callers))]
 fn end_of_answers(v: &mut Bytes<'_>, len: usize, is_lent: bool) -> End {
-    let mut d = || b'd';
     if is_lent {
         end_of(v.resize_by(len, &mut d))
     } else {
@@ -207,30 +210,32 @@ fn refused_copies_leave_the_bytes(rt: HostRuntime) {
     }
 }
 
-// How it ends to append two texts to another where the first request is refused.
-fn end_of_texts(heap: &Faulty<Global>, all: &mut String<&Faulty<Global>>, texts: [&str; 2]) -> End {
-    let [one, other] = texts;
-    match (text_of(heap, one), text_of(heap, other)) {
-        (Ok(one), Ok(other)) => appended(heap, all, [one, other]),
-        _ => End::TooLong,
+// These texts in boxes.
+fn texts_of(alloc: Global, all: [&str; 2]) -> Vec<BoxedText<Global>> {
+    let mut texts = room_for(2, alloc);
+    for text in all {
+        if let Ok(text) = text_of(alloc, text) {
+            put(&mut texts, text);
+        }
     }
+    texts
 }
 
-fn appended(
-    heap: &Faulty<Global>,
-    all: &mut String<&Faulty<Global>>,
-    texts: [BoxedText<&Faulty<Global>>; 2],
-) -> End {
+// How it ends to append texts to an `a` where a request is refused, and whether this is left.
+fn end_of_texts(heap: &Faulty<Global>, texts: Vec<BoxedText<Global>>, left: &str) -> (End, bool) {
+    let mut all: String<&Faulty<Global>> = String::new(heap);
+    let _ended = all.push_str("a");
     heap.refuse(0, 1);
-    end_of(append_texts(all, texts.into_iter()))
+    let end = end_of(append_texts(&mut all, texts.into_iter()));
+    (end, all.as_str() == left)
 }
 
 #[test]
 fn a_refused_text_leaves_those_before_it(rt: HostRuntime) {
     let heap = Faulty::new(rt.alloc());
-    let mut all: String<&Faulty<Global>> = String::new(&heap);
-    assert!(rt; all.push_str("a").is_ok());
-    let forty = "cccccccccccccccccccccccccccccccccccccccc";
-    assert!(rt; end_of_texts(&heap, &mut all, ["b", forty]) == End::NoMemory(42));
-    assert!(rt; all.as_str() == "ab");
+    let texts = texts_of(
+        rt.alloc(),
+        ["b", "cccccccccccccccccccccccccccccccccccccccc"],
+    );
+    assert!(rt; end_of_texts(&heap, texts, "ab") == (End::NoMemory(42), true));
 }

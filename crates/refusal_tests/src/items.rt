@@ -2,7 +2,7 @@
 //! trait bounds what that answers, and names no number.
 ghost use Rattle.std.specs.Iterator.{IsFinite};
 
-use crate::seen::{End, end_of, end_of_made, numbers, stands};
+use crate::seen::{End, end_of, end_of_made, put, room_for};
 use allocator_api2::boxed::BoxedSlice;
 use allocator_api2::vec::{Hinted, Items, Vec};
 use std::alloc::{Allocator, Global};
@@ -129,104 +129,58 @@ pub(crate) fn copied_by<'a, I: Iterator<Item = &'a T>, T: Copy + 'a, A: Allocato
     end_of(v.extend_copied_by(items))
 }
 
-const BEHIND_TWO: [u32; 12] = [1, 2, 10, 11, 12, 13, 14, 15, 16, 17, 18, 19];
+// A call on the numbers 1 up to so many in full places, the numbers from one up to another of which
+// `size_hint` tells exactly, the request that is refused, the number that is told of it, the digits
+// of what is left and in how many places, and the requests.
+type Row = (Fill, usize, u32, u32, u64, usize, u64, usize, u64);
 
-// A call on full places, the numbers from one up to another of which `size_hint` tells exactly, the
-// request that is refused, how it ends, what is left and in how many places, and the requests.
-type Row<'a> = (Fill, &'a [u32], (u32, u32), u64, End, &'a [u32], usize, u64);
-
-fn rows() -> [Row<'static>; 7] {
+fn rows() -> [Row; 7] {
+    let between = Fill::Splice(1, 3);
     [
-        (
-            Fill::Extend,
-            &[1, 2],
-            (10, 20),
-            1,
-            End::Done,
-            &BEHIND_TWO,
-            12,
-            1,
-        ),
-        (
-            Fill::FromIterIn,
-            &[1, 2],
-            (10, 20),
-            1,
-            End::Done,
-            &[1, 2],
-            2,
-            1,
-        ),
-        (
-            Fill::Splice(2, 2),
-            &[1, 2],
-            (10, 20),
-            1,
-            End::Done,
-            &BEHIND_TWO,
-            12,
-            1,
-        ),
-        (
-            Fill::Splice(1, 3),
-            &[1, 2, 3, 4],
-            (8, 10),
-            0,
-            End::Done,
-            &[1, 8, 9, 4],
-            4,
-            0,
-        ),
-        (
-            Fill::Splice(1, 3),
-            &[1, 2, 3, 4],
-            (7, 10),
-            1,
-            End::Done,
-            &[1, 7, 8, 9, 4],
-            8,
-            1,
-        ),
-        (
-            Fill::Splice(1, 3),
-            &[1, 2, 3, 4],
-            (7, 10),
-            0,
-            End::NoMemory(8),
-            &[1, 7, 8, 4],
-            4,
-            1,
-        ),
-        (
-            Fill::Splice(1, 3),
-            &[1, 2, 3, 4],
-            (1, 10),
-            1,
-            End::Done,
-            &[1, 1, 2, 3, 4, 5, 6, 7, 8, 9, 4],
-            11,
-            1,
-        ),
+        (Fill::Extend, 2, 0, 10, 1, 0, 120123456789, 12, 1),
+        (Fill::FromIterIn, 2, 0, 10, 1, 0, 12, 2, 1),
+        (Fill::Splice(2, 2), 2, 0, 10, 1, 0, 120123456789, 12, 1),
+        (between, 4, 8, 10, 0, 0, 1894, 4, 0),
+        (between, 4, 7, 10, 1, 0, 17894, 8, 1),
+        (between, 4, 7, 10, 0, 8, 1784, 4, 1),
+        (between, 4, 1, 10, 1, 0, 11234567894, 11, 1),
     ]
 }
 
-// Whether a row ends and leaves what it says.
-fn is_as_told(
-    alloc: Global,
-    (call, first, (from, to), refused, end, left, places, requests): Row<'_>,
-) -> bool {
+// The number with these digits.
+fn digits_of(items: &[u32]) -> u64 {
+    let mut number = 0u64;
+    for x in items {
+        number = number.wrapping_mul(10).wrapping_add(*x as u64);
+    }
+    number
+}
+
+// How a call ends that is given its items, the requests, and the digits of what is left and its
+// places.
+fn came_of(alloc: Global, (call, len, from, to, refused, ..): Row) -> (End, u64, u64, usize) {
     let heap = Faulty::new(alloc);
-    let mut v = numbers(&heap, first, first.len());
+    let mut v = room_for(len, &heap);
+    for x in [1, 2, 3, 4] {
+        if v.len() < len {
+            put(&mut v, x);
+        }
+    }
     let before = heap.requests();
     heap.refuse(refused, 1);
     let came = filled(call, &mut v, from..to, &heap);
     let asked = heap.requests().saturating_sub(before);
-    (came, asked) == (end, requests) && stands(&v, left, places)
+    (came, asked, digits_of(v.as_slice()), v.capacity())
 }
 
 #[test]
 fn room_is_made_at_once_for_what_is_told(rt: HostRuntime) {
     for row in rows() {
-        assert!(rt; is_as_told(rt.alloc(), row));
+        let end = if row.5 == 0 {
+            End::Done
+        } else {
+            End::NoMemory(row.5)
+        };
+        assert!(rt; came_of(rt.alloc(), row) == (end, row.8, row.6, row.7));
     }
 }
