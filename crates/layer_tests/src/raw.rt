@@ -3,3 +3,16 @@ mod blocks;
 mod items;
 mod moves;
 mod runs;
+
+use aa_raw::collections::{TryReserveError, TryReserveErrorKind};
+
+/// Whether room was made, and the capacity that there is or that was refused, or 0 past the limits.
+pub(crate) fn told(room: Result<usize, TryReserveError>) -> (bool, usize) {
+    match room {
+        Ok(capacity) => (true, capacity),
+        Err(error) => match error.kind() {
+            TryReserveErrorKind::AllocError { capacity } => (false, capacity),
+            TryReserveErrorKind::CapacityOverflow => (false, 0),
+        },
+    }
+}

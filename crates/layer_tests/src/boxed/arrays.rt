@@ -7,18 +7,34 @@ use test_allocators::counted::Counted;
 
 // Makes a slice of an array, a boxed array of that, a slice again, and one of its block.
 fn there_and_back<T: Drop>(alloc: Global, array: [T; 2]) -> Option<BoxedSlice<T>> {
-    let list = BoxedSlice::from_array(alloc, array).ok()?;
-    let array = list.try_into_array::<2>().ok()?;
-    let (block, len) = Box::slice(array).ok()?.into_block();
+    let Ok(list) = BoxedSlice::from_array(alloc, array) else {
+        return None;
+    };
+    let Ok(array) = list.try_into_array::<2>() else {
+        return None;
+    };
+    let Ok(list) = Box::slice(array) else {
+        return None;
+    };
+    let (block, len) = list.into_block();
     Some(BoxedSlice::from_block(block, len))
+}
+
+fn is_one_two(list: Option<BoxedSlice<u32>>) -> bool {
+    match list {
+        Some(list) => has(&list, &[1, 2]),
+        None => false,
+    }
 }
 
 #[test]
 fn an_array_becomes_a_slice_and_comes_back(rt: HostRuntime) {
-    let Some(list) = there_and_back(rt.alloc(), [1u32, 2]) else {
-        return assert!(rt; false);
-    };
-    assert!(rt; has(&list, &[1, 2]));
+    assert!(rt; is_one_two(there_and_back(rt.alloc(), [1, 2])));
+}
+
+// Whether there is a slice, and how many elements are dropped before it is.
+fn made_and_dropped<T: Drop>(list: Option<BoxedSlice<T>>, drops: &Cell<u32>) -> (bool, u32) {
+    (list.is_some(), drops.get())
 }
 
 #[test]
@@ -26,19 +42,19 @@ fn each_element_of_an_array_is_dropped_once(rt: HostRuntime) {
     let count = Cell::new(0);
     let drops = &count;
     let two = [Counted { value: 1, drops }, Counted { value: 2, drops }];
-    let list = there_and_back(rt.alloc(), two);
-    assert!(rt; list.is_some() && drops.get() == 0);
-    drop(list);
-    assert!(rt; drops.get() == 2);
+    let (made, dropped) = made_and_dropped(there_and_back(rt.alloc(), two), drops);
+    assert!(rt; made && dropped == 0 && drops.get() == 2);
+}
+
+// The slice that does not become an array of one.
+fn handed_back(alloc: Global, array: [u32; 2]) -> Option<BoxedSlice<u32>> {
+    match BoxedSlice::from_array_in(array, alloc) {
+        Ok(list) => list.try_into_array::<1>().err(),
+        Err(_) => None,
+    }
 }
 
 #[test]
 fn a_slice_of_another_length_is_handed_back(rt: HostRuntime) {
-    let Ok(list) = BoxedSlice::from_array_in([1u32, 2, 3], rt.alloc()) else {
-        return assert!(rt; false);
-    };
-    match list.try_into_array::<2>() {
-        Ok(_) => assert!(rt; false),
-        Err(list) => assert!(rt; has(&list, &[1, 2, 3])),
-    }
+    assert!(rt; is_one_two(handed_back(rt.alloc(), [1, 2])));
 }

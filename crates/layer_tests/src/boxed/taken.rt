@@ -8,6 +8,7 @@ use aa_raw::collections::{TryReserveError, TryReserveErrorKind};
 use std::alloc::{Allocator, Global};
 use std::cell::Cell;
 use std::string::String;
+use std::vec::Vec;
 use test_allocators::Faulty;
 
 // An iterator whose calls of `next` are counted, and that tells nothing of how many items are to
@@ -65,22 +66,14 @@ fn a_refused_slice_takes_no_further_item(rt: HostRuntime) {
 }
 
 // These texts, one after another.
-fn texts(alloc: Global, all: [&str; 3]) -> Result<[BoxedText; 3], TryReserveError> {
-    let [first, second, third] = all;
-    Ok([
-        text_of(alloc, first)?,
-        text_of(alloc, second)?,
-        text_of(alloc, third)?,
-    ])
-}
-
-// A text of one byte, with room for one more.
-fn letter(heap: &Faulty<Global>) -> Option<String<&Faulty<Global>>> {
-    let mut all = String::with_capacity(heap, 2).ok()?;
-    if all.push_str("a").is_err() {
-        return None;
+fn texts(alloc: Global, all: [&str; 3]) -> Vec<BoxedText> {
+    let mut texts: Vec<BoxedText> = Vec::new(alloc);
+    for text in all {
+        if let Ok(text) = text_of(alloc, text) {
+            let _added = texts.push(text);
+        }
     }
-    Some(all)
+    texts
 }
 
 // The texts that find room behind the first of two strings, and what is left of them behind the
@@ -117,17 +110,29 @@ fn slice_over<I: Iterator<Item = T>, T: Drop, A: Allocator>(
     }
 }
 
-fn are_joined(all: &mut String<Global>, some: [BoxedText; 3]) -> bool {
-    append_texts(all, some.into_iter()).is_ok()
-}
-
 #[test]
 fn texts_are_appended(rt: HostRuntime) {
     let mut all = String::new(rt.alloc());
-    match texts(rt.alloc(), ["b", "", "cc"]) {
-        Ok(some) => assert!(rt; are_joined(&mut all, some) && all.as_str() == "bcc"),
-        Err(_) => assert!(rt; false),
-    }
+    let texts = texts(rt.alloc(), ["b", "", "cc"]);
+    assert!(rt; append_texts(&mut all, texts.into_iter()).is_ok());
+    assert!(rt; all.as_str() == "bcc");
+}
+
+// Whether texts find room in the first string, which has room for one byte more, or in the other;
+// and whether the first then reads so.
+fn found_room(
+    heap: &Faulty<Global>,
+    other: &mut String,
+    texts: Vec<BoxedText>,
+    first: &str,
+) -> bool {
+    let Ok(mut all) = String::with_capacity(heap, 2) else {
+        return false;
+    };
+    let begun = all.push_str("a").is_ok();
+    heap.refuse(0, 1);
+    let well = append_over(&mut all, other, &mut texts.into_iter()).is_ok();
+    begun && well && all.as_str() == first
 }
 
 // Of three texts the first finds room, and the second does not.
@@ -135,13 +140,6 @@ fn texts_are_appended(rt: HostRuntime) {
 fn refused_texts_take_no_further_one(rt: HostRuntime) {
     let heap = Faulty::new(rt.alloc());
     let mut other = String::new(rt.alloc());
-    let Ok(some) = texts(rt.alloc(), ["b", "ccc", "d"]) else {
-        return assert!(rt; false);
-    };
-    let Some(mut all) = letter(&heap) else {
-        return assert!(rt; false);
-    };
-    heap.refuse(0, 1);
-    assert!(rt; append_over(&mut all, &mut other, &mut some.into_iter()).is_ok());
-    assert!(rt; (all.as_str(), other.as_str()) == ("ab", "d"));
+    let texts = texts(rt.alloc(), ["b", "ccc", "d"]);
+    assert!(rt; found_room(&heap, &mut other, texts, "ab") && other.as_str() == "d");
 }

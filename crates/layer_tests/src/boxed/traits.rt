@@ -9,14 +9,20 @@ use std::cmp::Ordering;
 use std::hash::{DefaultHasher, Hash, Hasher};
 use std::io;
 use std::io::{BufRead, Cursor, Read, Seek, SeekFrom, Write};
+use std::ops::Range;
 use std::test::Fail;
 use std::vec::Vec;
 
+// The last number, how many are left then, the bounds of that, and the first.
+fn walked(mut b: Box<Range<u32>>) -> (Option<u32>, usize, (usize, Option<usize>), Option<u32>) {
+    let last = b.next_back();
+    (last, b.len(), b.size_hint(), b.next())
+}
+
 #[test]
 fn an_iterator_is_walked_in_its_box(rt: HostRuntime) -> Result<(), Fail> {
-    let mut b = boxed(rt.alloc(), 0..3u32)?;
-    assert!(rt; (b.next_back(), b.len()) == (Some(2), 2));
-    assert!(rt; (b.size_hint(), b.next()) == ((2, Some(2)), Some(0)));
+    let b = boxed(rt.alloc(), 0..3u32)?;
+    assert!(rt; walked(b) == (Some(2), 2, (2, Some(2)), Some(0)));
     Ok(())
 }
 
@@ -118,18 +124,34 @@ fn position_after<S: Seek>(value: &mut S, sought: Sought) -> io::Result<u64> {
     value.stream_position()
 }
 
+// Whether each position is told where it is sought after those before it.
+fn are_sought<S: Seek>(value: &mut S, rows: [(Sought, Option<u64>); 4]) -> bool {
+    let mut all = true;
+    for (sought, position) in rows {
+        all = all && position_after(value, sought).ok() == position;
+    }
+    all
+}
+
+// Whether a box is read as `parts_of` has it, and each position is told behind that.
+fn read_and_sought(mut b: Box<Cursor<&[u8]>>) -> bool {
+    let read = parts_of(&mut b, b"wo").ok();
+    let sought = are_sought(
+        &mut b,
+        [
+            (Sought::At(1), Some(1)),
+            (Sought::Nowhere, Some(1)),
+            (Sought::By(1), Some(2)),
+            (Sought::Start, Some(0)),
+        ],
+    );
+    sought && read == Some((2, *b"on", *b"e ", true))
+}
+
 #[test]
 fn a_buffer_is_read_and_sought_in_its_box(rt: HostRuntime) -> Result<(), Fail> {
-    let mut b = boxed(rt.alloc(), Cursor::new(b"one two".as_slice()))?;
-    assert!(rt; parts_of(&mut b, b"wo").ok() == Some((2, *b"on", *b"e ", true)));
-    for (sought, position) in [
-        (Sought::At(1), 1),
-        (Sought::Nowhere, 1),
-        (Sought::By(1), 2),
-        (Sought::Start, 0),
-    ] {
-        assert!(rt; position_after(&mut b, sought).ok() == Some(position));
-    }
+    let b = boxed(rt.alloc(), Cursor::new(b"one two".as_slice()))?;
+    assert!(rt; read_and_sought(b));
     Ok(())
 }
 
@@ -154,16 +176,29 @@ fn write_number<W: Write, A: Allocator>(b: &mut Box<W, A>, number: u32) -> io::R
     (**b).write_fmt(number)
 }
 
+// How many bytes a box shows, and how many are read of it.
+fn all_read(mut b: Box<Cursor<&[u8]>>, rest: &mut Vec<u8>) -> (Option<usize>, Option<usize>) {
+    (count_shown(&mut b).ok(), read_out(&mut b, rest).ok())
+}
+
+// Whether a number is written, how many bytes are taken behind it, and whether the box then has
+// these.
+fn all_written(mut b: Box<Vec<u8>>, bytes: &[u8]) -> (bool, Option<usize>, bool) {
+    let number = write_number(&mut b, 2).is_ok();
+    let count = three_written(&mut b).ok();
+    (number, count, b.as_slice() == bytes)
+}
+
 #[test]
 fn a_box_is_read_and_written_through_its_value(rt: HostRuntime) -> Result<(), Fail> {
-    let mut b = boxed(rt.alloc(), Cursor::new(b"one".as_slice()))?;
-    let mut rest = Vec::new(rt.alloc());
-    assert!(rt; matches!(count_shown(&mut b), Ok(3)));
-    assert!(rt; matches!(read_out(&mut b, &mut rest), Ok(3)));
-    let mut written = boxed(rt.alloc(), rest)?;
-    assert!(rt; write_number(&mut written, 2).is_ok());
-    assert!(rt; matches!(three_written(&mut written), Ok(3)));
-    assert!(rt; written.as_slice() == b"one2one two3".as_slice());
+    let mut rest: Vec<u8> = Vec::new(rt.alloc());
+    let told = all_read(
+        boxed(rt.alloc(), Cursor::new(b"one".as_slice()))?,
+        &mut rest,
+    );
+    assert!(rt; told == (Some(3), Some(3)));
+    let told = all_written(boxed(rt.alloc(), rest)?, b"one2one two3");
+    assert!(rt; told == (true, Some(3), true));
     Ok(())
 }
 
@@ -237,19 +272,25 @@ fn three_written<W: Write>(writer: &mut W) -> io::Result<usize> {
     Ok(count)
 }
 
+// Whether it is sought, read and written by its own functions. The flush is counted.
+fn acts(mut b: Box<Own>) -> bool {
+    let sought = are_sought(
+        &mut b,
+        [
+            (Sought::At(0), None),
+            (Sought::Nowhere, Some(7)),
+            (Sought::Start, Some(1)),
+            (Sought::By(5), Some(2)),
+        ],
+    );
+    let read = parts_of(&mut b, b"own").ok();
+    let count = three_written(&mut b).ok();
+    sought && read == Some((0, [0; 2], *b"xx", true)) && (count, b.position) == (Some(0), 3)
+}
+
 #[test]
 fn a_value_acts_by_its_own_functions(rt: HostRuntime) -> Result<(), Fail> {
-    let mut b = boxed(rt.alloc(), Own { position: 7 })?;
-    for (sought, position) in [
-        (Sought::At(0), None),
-        (Sought::Nowhere, Some(7)),
-        (Sought::Start, Some(1)),
-        (Sought::By(5), Some(2)),
-    ] {
-        assert!(rt; position_after(&mut b, sought).ok() == position);
-    }
-    assert!(rt; parts_of(&mut b, b"own").ok() == Some((0, [0; 2], *b"xx", true)));
-    // The flush is counted.
-    assert!(rt; three_written(&mut b).ok() == Some(0) && b.position == 3);
+    let b = boxed(rt.alloc(), Own { position: 7 })?;
+    assert!(rt; acts(b));
     Ok(())
 }

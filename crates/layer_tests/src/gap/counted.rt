@@ -43,14 +43,23 @@ fn inserts(alloc: Global, drops: &Cell<u32>, count: u32) -> Vec<Edit<Counted<'_>
     edits
 }
 
+// The edits that are left behind a refused one, whether they go well, and how many elements are
+// dropped by then.
+fn edited(
+    heap: &Faulty<Global>,
+    edits: Vec<Edit<Counted<'_>>>,
+    drops: &Cell<u32>,
+) -> (Option<usize>, bool, u32) {
+    let mut text = GapBuffer::new_in(heap);
+    heap.refuse(0, 1);
+    let (left, well) = edited_twice(&mut text, edits);
+    (left, well, drops.get())
+}
+
 #[test]
 fn edits_drop_what_is_refused_and_deleted(rt: HostRuntime) {
     let heap = Faulty::new(rt.alloc());
     let drops = Cell::new(0);
-    let mut text: GapBuffer<Counted<'_>, &Faulty<Global>> = GapBuffer::new_in(&heap);
-    heap.refuse(0, 1);
-    assert!(rt; edited_twice(&mut text, inserts(rt.alloc(), &drops, 3)) == (Some(3), true));
-    assert!(rt; drops.get() == 2);
-    drop(text);
-    assert!(rt; drops.get() == 3);
+    let edits = inserts(rt.alloc(), &drops, 3);
+    assert!(rt; edited(&heap, edits, &drops) == (Some(3), true, 2) && drops.get() == 3);
 }

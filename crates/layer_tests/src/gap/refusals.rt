@@ -1,7 +1,8 @@
 //! Each request for memory refused in turn.
-use crate::gap::texts::{add, edited_twice, made, nine_put, put, reads};
+use crate::gap::texts::{add, edited_twice, nine_put, put, reads};
+use crate::raw::told;
 use aa_gap::gap_buffer::{Edit, GapBuffer};
-use aa_raw::collections::TryReserveErrorKind;
+use aa_raw::collections::{TryReserveError, TryReserveErrorKind};
 use std::alloc::Global;
 use test_allocators::Faulty;
 
@@ -19,6 +20,12 @@ fn has_room(text: &mut Text<'_>, count: usize) -> bool {
     text.reserve(count).is_ok()
 }
 
+// The capacity of a new text with room for so many numbers.
+fn made(heap: &Faulty<Global>, capacity: usize) -> Result<usize, TryReserveError> {
+    let text: Text<'_> = GapBuffer::with_capacity_in(capacity, heap)?;
+    Ok(text.capacity())
+}
+
 #[test]
 fn a_refused_insert_and_reserve_leave_the_text(rt: HostRuntime) {
     let heap = Faulty::new(rt.alloc());
@@ -28,18 +35,19 @@ fn a_refused_insert_and_reserve_leave_the_text(rt: HostRuntime) {
     assert!(rt; handed_back(&mut text, 8) == Some((8, refused)));
     for (granted, capacity) in [(false, 4), (true, 8)] {
         assert!(rt; has_room(&mut text, 1) == granted);
-        assert!(rt; reads(&text, &[1, 9], &[2, 3], capacity));
+        assert!(rt; reads(&text, 19, 23, capacity));
     }
     drop(text);
     assert!(rt; heap.outstanding() == 0);
 }
 
 #[test]
-fn a_refused_block_has_its_number(rt: HostRuntime) {
+fn a_block_has_its_places_or_its_number(rt: HostRuntime) {
     let heap = Faulty::new(rt.alloc());
-    heap.refuse(0, 1);
-    let refused = TryReserveErrorKind::AllocError { capacity: 5 };
-    assert!(rt; made(5, &heap) == Err(refused.into()));
+    for (count, capacity, granted) in [(0, 3, true), (1, 5, false)] {
+        heap.refuse(0, count);
+        assert!(rt; told(made(&heap, capacity)) == (granted, capacity));
+    }
 }
 
 // Twenty numbers, each put at the start.

@@ -1,8 +1,7 @@
 //! Worked examples, and each call once.
-use crate::gap::texts::{add, edited_twice, made, nine_put, put, reads};
+use crate::gap::texts::{add, edited_twice, nine_put, put, reads};
 use crate::printed::are_printed;
 use aa_gap::gap_buffer::{Edit, GapBuffer};
-use aa_raw::collections::TryReserveError;
 use aa_raw::raw_vec::Growth;
 use std::alloc::Global;
 use std::test::Fail;
@@ -18,90 +17,51 @@ enum Call {
     Clear,
 }
 
-// What a call gives, or hands back.
-fn called(call: Call, text: &mut GapBuffer<u32>) -> Result<Option<u32>, TryReserveError> {
-    match call {
-        Call::Insert(x) => text.insert(x)?,
-        Call::InsertWithin(x) => return Ok(text.insert_within(x).err()),
-        Call::DeleteForward => return Ok(text.delete_forward()),
-        Call::DeleteBack => return Ok(text.delete_back()),
-        Call::Reserve(count) => text.reserve(count)?,
-        Call::Clear => text.clear(),
-    }
-    Ok(None)
+// What a call gives, or hands back; and 0 where it is refused.
+fn called(call: Call, text: &mut GapBuffer<u32>) -> Option<u32> {
+    let granted = match call {
+        Call::Insert(x) => put(text, x),
+        Call::Reserve(count) => text.reserve(count).is_ok(),
+        Call::InsertWithin(x) => return text.insert_within(x).err(),
+        Call::DeleteForward => return text.delete_forward(),
+        Call::DeleteBack => return text.delete_back(),
+        Call::Clear => {
+            text.clear();
+            true
+        }
+    };
+    if granted { None } else { Some(0) }
 }
 
-// Two calls on `[1,9|2,3]`, what the second gives, and the text and the capacity that they leave.
-type Row<'a> = (Call, Call, Option<u32>, &'a [u32], &'a [u32], usize);
+// Two calls on `[1,9|2,3]`, what the second gives, and the digits and the capacity that they leave.
+type Row = (Call, Call, Option<u32>, u32, u32, usize);
 
-const ROWS: [Row<'_>; 8] = [
-    (
-        Call::Reserve(0),
-        Call::InsertWithin(8),
-        Some(8),
-        &[1, 9],
-        &[2, 3],
-        4,
-    ),
-    (
-        Call::InsertWithin(8),
-        Call::Insert(8),
-        None,
-        &[1, 9, 8],
-        &[2, 3],
-        8,
-    ),
-    (
-        Call::Insert(8),
-        Call::DeleteForward,
-        Some(2),
-        &[1, 9, 8],
-        &[3],
-        8,
-    ),
-    (
-        Call::Insert(8),
-        Call::DeleteBack,
-        Some(8),
-        &[1, 9],
-        &[2, 3],
-        8,
-    ),
-    (
-        Call::Reserve(0),
-        Call::Reserve(4),
-        None,
-        &[1, 9],
-        &[2, 3],
-        8,
-    ),
-    (
-        Call::Reserve(4),
-        Call::Reserve(5),
-        None,
-        &[1, 9],
-        &[2, 3],
-        16,
-    ),
-    (Call::Clear, Call::DeleteForward, None, &[], &[], 4),
-    (Call::Clear, Call::InsertWithin(5), None, &[5], &[], 4),
-];
+fn rows() -> [Row; 8] {
+    let (insert, within) = (Call::Insert(8), Call::InsertWithin(8));
+    let forward = Call::DeleteForward;
+    [
+        (Call::Reserve(0), within, Some(8), 19, 23, 4),
+        (within, insert, None, 198, 23, 8),
+        (insert, forward, Some(2), 198, 3, 8),
+        (insert, Call::DeleteBack, Some(8), 19, 23, 8),
+        (Call::Reserve(0), Call::Reserve(4), None, 19, 23, 8),
+        (Call::Reserve(4), Call::Reserve(5), None, 19, 23, 16),
+        (Call::Clear, forward, None, 0, 0, 4),
+        (Call::Clear, within, None, 8, 0, 4),
+    ]
+}
 
 // Whether a row is as the text has it.
-fn is_so(
-    text: &mut GapBuffer<u32>,
-    (first, second, given, before, after, capacity): Row<'_>,
-) -> Result<bool, TryReserveError> {
-    let begun = reads(text, &[1, 9], &[2, 3], 4);
-    let _first = called(first, text)?;
-    Ok(begun && called(second, text)? == given && reads(text, before, after, capacity))
+fn is_so(alloc: Global, (first, second, given, before, after, capacity): Row) -> bool {
+    let mut text = nine_put(alloc);
+    let begun = reads(&text, 19, 23, 4) && called(first, &mut text) != Some(0);
+    begun && called(second, &mut text) == given && reads(&text, before, after, capacity)
 }
 
 #[test]
 fn elements_are_put_and_taken_at_the_cursor(rt: HostRuntime) {
-    for row in ROWS {
-        let so = is_so(&mut nine_put(rt.alloc()), row);
-        assert!(rt; so == Ok(true), "{:?} | {:?}", row.3, row.4);
+    for row in rows() {
+        assert!(rt; is_so(rt.alloc(), row), "{} | {}", row.3, row.4);
     }
 }
 
@@ -127,7 +87,6 @@ fn a_text_is_taken_apart(rt: HostRuntime) {
 
 #[test]
 fn room_is_as_asked(rt: HostRuntime) {
-    assert!(rt; made(3, rt.alloc()) == Ok(3));
     let text: GapBuffer<u32> = GapBuffer::new_in(rt.alloc());
     assert!(rt; text.growth() == Growth::Doubling);
     let _alloc: &Global = text.allocator();
@@ -150,7 +109,7 @@ fn edits_come_from_an_iterator(rt: HostRuntime) {
     add(&mut edits, Edit::MoveTo(9));
     let mut text: GapBuffer<u32> = GapBuffer::new_in(rt.alloc());
     assert!(rt; edited_twice(&mut text, edits) == (None, true));
-    assert!(rt; reads(&text, &[1], &[], 4));
+    assert!(rt; reads(&text, 1, 0, 4));
 }
 
 // So many inserts of a number, so many deletions before the cursor, a move to the start, and so
@@ -170,26 +129,37 @@ fn script(alloc: Global, [first, deleted, second]: [u32; 3]) -> Vec<Edit<u32>> {
     edits
 }
 
-// The capacity of a text of numbers after a script, where it doubles and where it is sparing: 4, 8
-// and 16 places, or 4, 6, 9 and 14. A deletion gives none back, and an insert that finds one free
-// takes no more.
-const CAPACITIES: [([u32; 3], usize, usize); 6] = [
-    ([0, 3, 0], 0, 0),
-    ([4, 0, 0], 4, 4),
-    ([5, 0, 0], 8, 6),
-    ([5, 5, 6], 8, 6),
-    ([8, 4, 5], 16, 9),
-    ([8, 4, 6], 16, 14),
-];
+// The capacity of a text of numbers after a script.
+fn grown(alloc: Global, growth: Growth, counts: [u32; 3]) -> Option<usize> {
+    let mut text: GapBuffer<u32> = GapBuffer::new_growing_in(growth, alloc);
+    match edited_twice(&mut text, script(alloc, counts)) {
+        (None, true) => Some(text.capacity()),
+        _ => None,
+    }
+}
+
+// Where it doubles and where it is sparing: 4, 8 and 16 places, or 4, 6, 9 and 14. A deletion gives
+// none back, and an insert that finds one free takes no more.
+fn capacities() -> [(u32, u32, u32, usize, usize); 6] {
+    [
+        (0, 3, 0, 0, 0),
+        (4, 0, 0, 4, 4),
+        (5, 0, 0, 8, 6),
+        (5, 5, 6, 8, 6),
+        (8, 4, 5, 16, 9),
+        (8, 4, 6, 16, 14),
+    ]
+}
 
 #[test]
 fn a_text_grows_where_an_insert_finds_no_place(rt: HostRuntime) {
-    for (counts, doubling, sparing) in CAPACITIES {
-        for (growth, capacity) in [(Growth::Doubling, doubling), (Growth::Sparing, sparing)] {
-            let mut text: GapBuffer<u32> = GapBuffer::new_growing_in(growth, rt.alloc());
-            let edits = script(rt.alloc(), counts);
-            assert!(rt; edited_twice(&mut text, edits) == (None, true));
-            assert!(rt; text.capacity() == capacity, "{counts:?} {growth:?}");
-        }
+    for (first, deleted, second, doubling, sparing) in capacities() {
+        let counts = [first, deleted, second];
+        let doubled = grown(rt.alloc(), Growth::Doubling, counts);
+        let spared = grown(rt.alloc(), Growth::Sparing, counts);
+        assert!(rt;
+            (doubled, spared) == (Some(doubling), Some(sparing)),
+            "{first}"
+        );
     }
 }

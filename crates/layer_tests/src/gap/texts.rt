@@ -1,6 +1,5 @@
 //! Texts that the tests start from, and what they do to them and compare.
 use aa_gap::gap_buffer::{Edit, GapBuffer};
-use aa_raw::collections::TryReserveError;
 use std::alloc::Allocator;
 
 /// Puts an element before the cursor: whether there was room. One that is refused is dropped.
@@ -24,23 +23,27 @@ pub(crate) fn nine_put<A: Allocator>(alloc: A) -> GapBuffer<u32, A> {
     text
 }
 
-/// The capacity of a new text with room for so many numbers.
-pub(crate) fn made<A: Allocator>(capacity: usize, alloc: A) -> Result<usize, TryReserveError> {
-    let text: GapBuffer<u32, A> = GapBuffer::with_capacity_in(capacity, alloc)?;
-    Ok(text.capacity())
-}
-
-/// Whether a text has these elements on either side of its cursor, in these many places.
+/// Whether a text has elements with these digits on either side of its cursor, in these many
+/// places.
 pub(crate) fn reads<A: Allocator>(
     text: &GapBuffer<u32, A>,
-    before: &[u32],
-    after: &[u32],
+    before: u32,
+    after: u32,
     capacity: usize,
 ) -> bool {
-    text.before() == before
-        && text.after() == after
-        && text.cursor() == before.len()
+    digits(text.before()) == before
+        && digits(text.after()) == after
+        && text.cursor() == text.before().len()
         && text.capacity() == capacity
+}
+
+// The number with these digits: 19 of 1 and 9, 0 of none.
+fn digits(items: &[u32]) -> u32 {
+    let mut number = 0u32;
+    for x in items {
+        number = number.wrapping_mul(10).wrapping_add(*x);
+    }
+    number
 }
 
 /// Applies edits, and once more those behind a refused one. It answers how many these were, and

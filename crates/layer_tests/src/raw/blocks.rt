@@ -2,6 +2,7 @@
 //! once.
 ghost use Rattle.std.specs.Prelude.{◌≡◌, [], ◌∷◌, Some, None, IfOk};
 
+use crate::raw::told;
 use aa_raw::collections::{Refused, TryReserveError, TryReserveErrorKind};
 use aa_raw::raw_vec::{Growth, RawVec};
 use std::alloc::{AllocError, Global};
@@ -134,19 +135,16 @@ fn room_is_as_asked_and_as_growth_has_it(rt: HostRuntime) {
     assert!(rt; goes_to::<[u8; 1025]>(rt.alloc(), None, &[(FIRST, Some(1))]));
 }
 
-// The capacity of a block made so, and none where that is an overflow.
-fn capacity_of<T>(made: Result<RawVec<T>, TryReserveError>) -> Option<usize> {
-    match made {
-        Ok(block) => Some(block.capacity()),
-        Err(error) if error.kind() == TryReserveErrorKind::CapacityOverflow => None,
-        Err(_) => Some(0),
-    }
+// The capacity of a block for numbers that is made with so many places.
+fn made_with(alloc: Global, capacity: usize) -> Result<usize, TryReserveError> {
+    let block: RawVec<u32> = RawVec::with_capacity_in(capacity, alloc)?;
+    Ok(block.capacity())
 }
 
 #[test]
 fn a_block_is_made_with_the_capacity_asked_for(rt: HostRuntime) {
-    for (capacity, has) in [(3, Some(3)), (1 << 61, None)] {
-        assert!(rt; capacity_of::<u32>(RawVec::with_capacity_in(capacity, rt.alloc())) == has);
+    for (capacity, granted, has) in [(3, true, 3), (1 << 61, false, 0)] {
+        assert!(rt; told(made_with(rt.alloc(), capacity)) == (granted, has));
     }
 }
 

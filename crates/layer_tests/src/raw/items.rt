@@ -32,14 +32,22 @@ fn items_come_from_both_ends(rt: HostRuntime) -> Result<(), Fail> {
     Ok(())
 }
 
+// How many items are told, whether both are threes once these are written to all, and whether they
+// are printed so.
+fn written_to(alloc: Global, items: IntoIter<u32>) -> ((usize, Option<usize>), bool, bool) {
+    let mut items = items;
+    let _alloc: &Global = items.allocator();
+    let told = items.size_hint();
+    items.as_mut_slice().fill(3);
+    let written = items.as_slice() == [3, 3].as_slice();
+    let printed = are_printed(alloc, &"are", &items, "are IntoIter([3, 3])");
+    (told, written, matches!(printed, Ok(true)))
+}
+
 #[test]
 fn items_are_written_to_and_printed(rt: HostRuntime) -> Result<(), Fail> {
-    let mut items = two(rt.alloc(), [1u32, 2])?;
-    let _alloc: &Global = items.allocator();
-    assert!(rt; items.size_hint() == (2, Some(2)));
-    items.as_mut_slice().fill(3);
-    assert!(rt; items.as_slice() == [3, 3].as_slice());
-    assert!(rt; are_printed(rt.alloc(), &"are", &items, "are IntoIter([3, 3])")?);
+    let items = two(rt.alloc(), [1u32, 2])?;
+    assert!(rt; written_to(rt.alloc(), items) == ((2, Some(2)), true, true));
     Ok(())
 }
 
@@ -47,16 +55,20 @@ fn counted(drops: &Cell<u32>) -> [Counted<'_>; 2] {
     [Counted { value: 0, drops }, Counted { value: 0, drops }]
 }
 
+// How many items are dropped where one was taken, before the others are.
+fn one_taken<T: Drop>(items: IntoIter<T>, drops: &Cell<u32>) -> u32 {
+    let mut items = items;
+    drop(items.next());
+    drops.get()
+}
+
 #[test]
 fn items_are_dropped_once(rt: HostRuntime) -> Result<(), Fail> {
     let drops = Cell::new(0);
-    let mut items = two(rt.alloc(), counted(&drops))?;
-    drop(items.next());
-    assert!(rt; drops.get() == 1);
-    drop(items);
-    assert!(rt; drops.get() == 2);
-    assert!(rt; two(rt.alloc(), counted(&drops))?.count() == 2);
-    assert!(rt; drops.get() == 4);
+    let dropped = one_taken(two(rt.alloc(), counted(&drops))?, &drops);
+    assert!(rt; dropped == 1 && drops.get() == 2);
+    let count = two(rt.alloc(), counted(&drops))?.count();
+    assert!(rt; count == 2 && drops.get() == 4);
     Ok(())
 }
 

@@ -98,14 +98,16 @@ fn copies_are_put(rt: HostRuntime) -> Result<(), Fail> {
     Ok(())
 }
 
+// Writes to the first of two places, and answers half of the second.
+fn one_more(x: &mut u32, y: &mut u32) -> u32 {
+    *x = y.wrapping_add(1);
+    *y / 2
+}
+
 #[test]
 fn two_places_are_lent_at_once(rt: HostRuntime) -> Result<(), Fail> {
     let mut block = row(rt.alloc(), 10, 11, 12)?;
-    let mut sum = |x: &mut u32, y: &mut u32| {
-        *x = y.wrapping_add(1);
-        *y / 2
-    };
-    assert!(rt; block.pair_with(2, 0, &mut sum) == 5);
-    assert!(rt; block.slice(0, 3) == [10, 11, 11].as_slice());
+    let half = block.pair_with(2, 0, &mut one_more);
+    assert!(rt; half == 5 && block.slice(0, 3) == [10, 11, 11].as_slice());
     Ok(())
 }

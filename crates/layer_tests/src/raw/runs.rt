@@ -1,7 +1,8 @@
 //! Growth that keeps two runs of a block, and its refusals.
 ghost use Rattle.std.specs.Prelude.{◌≡◌, [], ◌∷◌, Some, None, IfOk};
 
-use aa_raw::collections::{TryReserveError, TryReserveErrorKind};
+use crate::raw::told;
+use aa_raw::collections::TryReserveError;
 use aa_raw::raw_vec::RawVec;
 use std::alloc::Global;
 use std::test::Fail;
@@ -10,25 +11,15 @@ use test_allocators::Faulty;
 type Block<'a> = RawVec<u32, &'a Faulty<Global>>;
 
 // A block `12 13 _ 10 11`, as a queue has that went around.
+#[tactic(auto, unfolding(aa_raw::specs::Places::with_run))]
 fn around<'a>(heap: &'a Faulty<Global>) -> Result<Block<'a>, TryReserveError>
     ensures { IfOk result
         (λ block. block.places ≡ Some 12 ∷ Some 13 ∷ None ∷ Some 10 ∷ Some 11 ∷ []) }
 {
     let mut block = RawVec::with_capacity_in(5, heap)?;
-    block.put(0, 12);
-    block.put(1, 13);
-    block.put(3, 10);
-    block.put(4, 11);
+    block.put_array(0, [12, 13]);
+    block.put_array(3, [10, 11]);
     Ok(block)
-}
-
-#[test]
-fn two_runs_stand_in_line_where_a_block_grows(rt: HostRuntime) -> Result<(), Fail> {
-    let heap = Faulty::new(rt.alloc());
-    let mut block = around(&heap)?;
-    assert!(rt; block.try_reserve_joined((3, 2), (0, 2), 2).is_ok());
-    assert!(rt; block.slice(0, 4) == [10, 11, 12, 13].as_slice());
-    Ok(())
 }
 
 // Makes room in such a block, in line or at the ends, and drops it. The capacity then.
@@ -37,45 +28,38 @@ fn room_of(mut block: Block<'_>, in_line: bool, additional: usize) -> Result<usi
 {
     if in_line {
         block.try_reserve_joined((3, 2), (0, 2), additional)?;
+        if additional > 1 && block.slice(0, 4) != [10, 11, 12, 13].as_slice() {
+            return Ok(0);
+        }
     } else {
         block.try_reserve_parted((0, 2), (3, 2), additional)?;
     }
     Ok(block.capacity())
 }
 
-const OVERFLOW: Result<usize, TryReserveErrorKind> = Err(TryReserveErrorKind::CapacityOverflow);
-
-// In line or at the ends, how many more, whether the request is refused, and what comes of it. One
-// more value has room as it is.
-const ROOMS: [(bool, usize, bool, Result<usize, TryReserveErrorKind>); 8] = [
-    (true, 1, true, Ok(5)),
-    (false, 1, true, Ok(5)),
-    (true, 2, false, Ok(10)),
-    (false, 7, false, Ok(11)),
-    (
-        true,
-        2,
-        true,
-        Err(TryReserveErrorKind::AllocError { capacity: 10 }),
-    ),
-    (
-        false,
-        7,
-        true,
-        Err(TryReserveErrorKind::AllocError { capacity: 11 }),
-    ),
-    (true, usize::MAX - 3, false, OVERFLOW),
-    (false, usize::MAX, false, OVERFLOW),
-];
+// In line or at the ends, how many more, how many requests are refused, whether there is room then,
+// and the capacity that there is or that was refused, or 0 past the limits. One more value has room
+// as it is; otherwise those in line stand so.
+fn rooms() -> [(bool, usize, u64, bool, usize); 8] {
+    [
+        (true, 1, 1, true, 5),
+        (false, 1, 1, true, 5),
+        (true, 2, 0, true, 10),
+        (false, 7, 0, true, 11),
+        (true, 2, 1, false, 10),
+        (false, 7, 1, false, 11),
+        (true, usize::MAX - 3, 0, false, 0),
+        (false, usize::MAX, 0, false, 0),
+    ]
+}
 
 #[test]
 fn a_growth_of_two_runs_can_be_refused(rt: HostRuntime) -> Result<(), Fail> {
     let heap = Faulty::new(rt.alloc());
-    for (in_line, additional, refuses, told) in ROOMS {
-        heap.refuse(1, refuses as u64);
-        let room = room_of(around(&heap)?, in_line, additional);
-        assert!(rt; room.map_err(|error| error.kind()) == told);
-        assert!(rt; heap.outstanding() == 0);
+    for (in_line, additional, count, granted, capacity) in rooms() {
+        heap.refuse(1, count);
+        let room = told(room_of(around(&heap)?, in_line, additional));
+        assert!(rt; room == (granted, capacity) && heap.outstanding() == 0);
     }
     Ok(())
 }
