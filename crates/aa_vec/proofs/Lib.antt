@@ -24,7 +24,6 @@ pub mod Handed
 pub mod Callable
 pub mod Steady
 pub mod Callers
-pub mod Sifting
 pub mod BehindLemmas
 pub mod DrainLemmas
 pub mod Walks

@@ -5,5 +5,5 @@
 pub use Rattle.aa_vec.proofs.Becoming.{became}
 pub use Rattle.aa_vec.proofs.Callers.{callers, all_same, filled_up, filled_new, Retains_filter, Retains_filter_reading}
 pub use Rattle.aa_vec.proofs.Counted.{items-all}
-pub use Rattle.aa_vec.proofs.Sifting.{sifts, left-end, Extracts_filter, Extends_filter, takes}
+pub use Rattle.allocator_api2.proofs.Sifting.{sifts, left-end, Extracts_filter, Extends_filter, takes}
 pub use Rattle.allocator_api2.proofs.Repeats.{Deduplicates_dedup, Deduplicates_fewer, Deduplicates_numbers}

@@ -21,4 +21,5 @@ pub mod Taken
 pub mod BlocksMoved
 pub mod Blocks
 pub mod Repeats
+pub mod Sifting
 pub mod Callers

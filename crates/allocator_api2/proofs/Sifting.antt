@@ -1,5 +1,7 @@
 -- Elements that a test takes out of a range: what comes, one after another, and what the vector has at the end.
-use Rattle.aa_vec.proofs.Common.{◌≡◌, ℕ, ◌-◌, Bool, not, List, [], ◌∷◌, ◌++◌, length, map, take, drop, Option, Some, None, sym, ap, ◌∙◌, arith, append_assoc, filter, Result, Ok, Err, OnOk, Yields, Drains, append-nil, map-id, take-append-drop, take_all, drop_all, filter-append, Asked, kept, Extracts, ExtractsRange, ClosesExtract, extract_rest, Vector, len, ExtractBy, ExtractIf, ExtractsAlong}
+use Rattle.aa_vec.proofs.Common.{◌≡◌, ℕ, ◌-◌, Bool, not, List, [], ◌∷◌, ◌++◌, length, map, take, drop, Option, Some, None, sym, ap, ◌∙◌, arith, append_assoc, filter, Result, Ok, Err, OnOk, Yields, Drains, append-nil, map-id, take-append-drop, take_all, drop_all, filter-append, Asked, kept, Extracts, ExtractsRange, ClosesExtract, extract_rest, Vector, len, ExtractsAlong}
+use Rattle.aa_vec.specs.declared.vec.extract_if.ExtractBy.{ExtractBy}
+use Rattle.aa_vec.specs.declared.vec.extract_if.ExtractIf.{ExtractIf}
 use Rattle.aa_vec.specs.Sifting.{still_taken, left_at_end}
 use Rattle.aa_vec.proofs.Callable.{IsCallableInOrder-any}
 use Rattle.aa_vec.proofs.ExtractRuns.{extracts_fewer}
