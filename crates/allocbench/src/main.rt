@@ -214,44 +214,40 @@ fn list<A: Allocator + Copy>(heap: A, count: u32) -> Option<u64> {
 // as five others did.
 const IN_A_ROW: u32 = 4;
 
-// The time of the fastest of a few runs in a row.
-fn time_of<A: Allocator + Copy, R: Clock>(
-    clock: &R,
-    heap: A,
-    case: Case,
-    count: u32,
-) -> Result<u128, Error> {
-    let mut fastest = u128::MAX;
-    for _ in 0..IN_A_ROW {
-        let start = Instant::now(clock)?;
-        let done = case.run(heap, count);
-        let time = start.elapsed(clock)?.as_nanos();
-        if done.is_none() {
-            return Err(Error::from(ErrorKind::OutOfMemory));
-        }
-        fastest = fastest.min(time);
-    }
-    Ok(fastest)
+/// Where a case has its memory from.
+#[derive(Clone, Copy, PartialEq)]
+enum Heap {
+    Global,
+    Budget,
+    Counting,
+    Pool,
+    Recycler,
+    /// The global one, under the toolchain's vector.
+    Theirs,
 }
 
-// The same over the toolchain's vector.
-fn their_time<R: Clock>(clock: &R, alloc: Global, case: Case, count: u32) -> Result<u128, Error> {
-    let mut fastest = u128::MAX;
-    for _ in 0..IN_A_ROW {
-        let start = Instant::now(clock)?;
-        let done = case.run_theirs(alloc, count);
-        let time = start.elapsed(clock)?.as_nanos();
-        if done.is_none() {
-            return Err(Error::from(ErrorKind::OutOfMemory));
+impl Heap {
+    fn name(self) -> &'static str {
+        match self {
+            Heap::Global => "Global",
+            Heap::Budget => "Budget",
+            Heap::Counting => "Counting",
+            Heap::Pool => "Pool",
+            Heap::Recycler => "Recycler",
+            Heap::Theirs => "the toolchain's vector",
         }
-        fastest = fastest.min(time);
     }
-    Ok(fastest)
+
+    // Whether the case can be run over it.
+    fn takes(self, case: Case) -> bool {
+        self != Heap::Theirs || case.is_theirs()
+    }
 }
 
-/// The allocators of a line, beside the global one.
+/// The allocators of a line.
 #[derive(Drop)]
 struct Heaps {
+    alloc: Global,
     budget: Budget<Global>,
     counting: Counting<Global>,
     pool: Pool<Global>,
@@ -261,6 +257,7 @@ struct Heaps {
 impl Heaps {
     fn new(alloc: Global, case: Case) -> Heaps {
         Heaps {
+            alloc,
             budget: Budget::new(alloc, usize::MAX),
             counting: Counting::new(alloc),
             pool: Pool::new(alloc, case.size()),
@@ -268,76 +265,141 @@ impl Heaps {
         }
     }
 
-    // Whether all leave the same, twice where blocks are used again.
-    fn agree(&self, alloc: Global, case: Case, count: u32) -> bool {
-        let global = case.run(alloc, count);
-        global.is_some()
-            && case.run(&self.budget, count) == global
-            && case.run(&self.counting, count) == global
-            && case.run(&self.pool, count) == global
-            && case.run(&self.pool, count) == global
-            && case.run(&self.recycler, count) == global
-            && case.run(&self.recycler, count) == global
-            && (!case.is_theirs() || case.run_theirs(alloc, count) == global)
-    }
-}
-
-/// The fastest of so many runs each.
-#[derive(Clone, Copy)]
-struct Times {
-    global: u128,
-    budget: u128,
-    counting: u128,
-    pool: u128,
-    recycler: u128,
-    theirs: u128,
-}
-
-impl Times {
-    fn none() -> Times {
-        Times {
-            global: u128::MAX,
-            budget: u128::MAX,
-            counting: u128::MAX,
-            pool: u128::MAX,
-            recycler: u128::MAX,
-            theirs: u128::MAX,
+    fn run(&self, heap: Heap, case: Case, count: u32) -> Option<u64> {
+        match heap {
+            Heap::Global => case.run(self.alloc, count),
+            Heap::Budget => case.run(&self.budget, count),
+            Heap::Counting => case.run(&self.counting, count),
+            Heap::Pool => case.run(&self.pool, count),
+            Heap::Recycler => case.run(&self.recycler, count),
+            Heap::Theirs => case.run_theirs(self.alloc, count),
         }
     }
 
-    // After one more run over each.
-    fn after_a_round<R: Clock>(
-        self,
-        clock: &R,
-        alloc: Global,
-        heaps: &Heaps,
-        case: Case,
-        count: u32,
-    ) -> Result<Times, Error> {
-        let global = time_of(clock, alloc, case, count)?;
-        let budget = time_of(clock, &heaps.budget, case, count)?;
-        let counting = time_of(clock, &heaps.counting, case, count)?;
-        let pool = time_of(clock, &heaps.pool, case, count)?;
-        let recycler = time_of(clock, &heaps.recycler, case, count)?;
-        let theirs = if case.is_theirs() {
-            their_time(clock, alloc, case, count)?
-        } else {
-            0
-        };
-        Ok(Times {
-            global: self.global.min(global),
-            budget: self.budget.min(budget),
-            counting: self.counting.min(counting),
-            pool: self.pool.min(pool),
-            recycler: self.recycler.min(recycler),
-            theirs: self.theirs.min(theirs),
-        })
+    // Whether all leave the same, twice where blocks are used again.
+    fn agree(&self, case: Case, count: u32) -> bool {
+        let mut first = None;
+        for heap in [
+            Heap::Global,
+            Heap::Budget,
+            Heap::Counting,
+            Heap::Pool,
+            Heap::Pool,
+            Heap::Recycler,
+            Heap::Recycler,
+            Heap::Theirs,
+        ] {
+            if heap.takes(case) {
+                let Some(sum) = self.run(heap, case, count) else {
+                    return false;
+                };
+                if *first.get_or_insert(sum) != sum {
+                    return false;
+                }
+            }
+        }
+        true
     }
+}
+
+// The time of the fastest of a few runs in a row.
+fn time_of<R: Clock>(
+    clock: &R,
+    heaps: &Heaps,
+    heap: Heap,
+    case: Case,
+    count: u32,
+) -> Result<u128, Error> {
+    let mut fastest = u128::MAX;
+    for _ in 0..IN_A_ROW {
+        let start = Instant::now(clock)?;
+        let done = heaps.run(heap, case, count);
+        let time = start.elapsed(clock)?.as_nanos();
+        if done.is_none() {
+            return Err(Error::from(ErrorKind::OutOfMemory));
+        }
+        fastest = fastest.min(time);
+    }
+    Ok(fastest)
+}
+
+/// An allocator, and the time of its fastest run.
+#[derive(Clone, Copy)]
+struct Timed {
+    heap: Heap,
+    fastest: u128,
+}
+
+impl Timed {
+    fn new(heap: Heap) -> Timed {
+        Timed {
+            heap,
+            fastest: u128::MAX,
+        }
+    }
+}
+
+// The fastest of so many rounds, in which the allocators take turns.
+fn rounds<R: Clock>(
+    clock: &R,
+    heaps: &Heaps,
+    case: Case,
+    count: u32,
+    repeat: u32,
+) -> Result<[Timed; 6], Error> {
+    let mut times = [
+        Timed::new(Heap::Global),
+        Timed::new(Heap::Budget),
+        Timed::new(Heap::Counting),
+        Timed::new(Heap::Pool),
+        Timed::new(Heap::Recycler),
+        Timed::new(Heap::Theirs),
+    ];
+    for _ in 0..repeat {
+        for it in times.iter_mut() {
+            if it.heap.takes(case) {
+                let time = time_of(clock, heaps, it.heap, case, count)?;
+                it.fastest = it.fastest.min(time);
+            }
+        }
+    }
+    Ok(times)
+}
+
+// The rounds over allocators of their own.
+fn times<R: Clock>(
+    clock: &R,
+    alloc: Global,
+    case: Case,
+    count: u32,
+    repeat: u32,
+) -> Result<[Timed; 6], Error> {
+    let heaps = Heaps::new(alloc, case);
+    rounds(clock, &heaps, case, count, repeat)
+}
+
+// Whether all leave the same, and how many requests the counting one had.
+fn check(alloc: Global, case: Case, count: u32) -> (bool, u64) {
+    let heaps = Heaps::new(alloc, case);
+    let same = heaps.agree(case, count);
+    (same, heaps.counting.counts().requests)
 }
 
 // In tenths of a nanosecond for each element.
 fn tenths(time: u128, count: u32) -> u128 {
     time.saturating_mul(10) / u128::from(count.max(1))
+}
+
+fn print_times<R: Print>(rt: &R, case: Case, count: u32, times: [Timed; 6]) -> Result<(), Error> {
+    print!(rt; "{} {count}", case.name())?;
+    let mut before = ":";
+    for it in times {
+        if it.heap.takes(case) {
+            print!(rt; "{before} {} {}", it.heap.name(), tenths(it.fastest, count))?;
+            before = ",";
+        }
+    }
+    println!(rt; " tenths of a nanosecond")
 }
 
 // The line of one case: whether all leave the same, or with a repeat the time of each.
@@ -348,31 +410,13 @@ fn line<R: Print + Clock>(
     count: u32,
     repeat: u32,
 ) -> Result<(), Error> {
-    let heaps = Heaps::new(alloc, case);
-    let name = case.name();
     if repeat == 0 {
-        let same = heaps.agree(alloc, case, count);
-        let requests = heaps.counting.counts().requests;
-        println!(rt; "{name} {count}: the same: {same}, {requests} requests")?;
-        return Ok(());
+        let (same, requests) = check(alloc, case, count);
+        let name = case.name();
+        return println!(rt; "{name} {count}: the same: {same}, {requests} requests");
     }
-    let mut times = Times::none();
-    for _ in 0..repeat {
-        times = times.after_a_round(rt, alloc, &heaps, case, count)?;
-    }
-    print!(rt;
-        "{name} {count}: Global {}, Budget {}, Counting {}, Pool {}, Recycler {}",
-        tenths(times.global, count),
-        tenths(times.budget, count),
-        tenths(times.counting, count),
-        tenths(times.pool, count),
-        tenths(times.recycler, count)
-    )?;
-    if case.is_theirs() {
-        print!(rt; ", the toolchain's vector {}", tenths(times.theirs, count))?;
-    }
-    println!(rt; " tenths of a nanosecond")?;
-    Ok(())
+    let times = times(rt, alloc, case, count, repeat)?;
+    print_times(rt, case, count, times)
 }
 
 // A line of the input: how many elements, and how often; 0 to tell no time.
