@@ -1,6 +1,6 @@
-//! Tests of the library's layers below the vector, the block, the boxes and the gap buffer, of the
-//! allocators that tests take, and callers of them with contracts of their own; no part of the
-//! library.
+//! Tests of the library's layers up to the vector, of the block, the boxes, the gap buffer and the
+//! vector, of the allocators that tests take, and callers of them with contracts of their own; no
+//! part of the library.
 #![tactic(auto)]
 
 #[cfg(test)]
@@ -8,8 +8,30 @@ mod allocators;
 #[cfg(test)]
 mod boxed;
 #[cfg(test)]
+mod calls;
+#[cfg(test)]
+mod choosing;
+#[cfg(test)]
+mod claims;
+#[cfg(test)]
+mod clones;
+#[cfg(test)]
+mod compared;
+#[cfg(test)]
 mod gap;
 #[cfg(test)]
+mod growing;
+#[cfg(test)]
+mod left_early;
+#[cfg(test)]
+mod liars;
+#[cfg(test)]
+mod lists;
+#[cfg(test)]
+mod makes;
+#[cfg(test)]
 mod printed;
+#[cfg(test)]
+mod ranges;
 #[cfg(test)]
 mod raw;

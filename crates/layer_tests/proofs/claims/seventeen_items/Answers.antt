@@ -1,7 +1,7 @@
 use Rattle.std.proofs.lemmas.Result.{on_ok_weaker}
 use Rattle.aa_vec.proofs.Counted.{ExtendsAll-items}
-use Rattle.aa_vec_tests.proofs.Claimed.{seventeen_told}
-use Rattle.aa_vec_tests.proofs.claims.seventeen_items.Goals as goal
+use Rattle.layer_tests.proofs.Claimed.{seventeen_told}
+use Rattle.layer_tests.proofs.claims.seventeen_items.Goals as goal
 
 pub returns : goal.returns
 returns g c =

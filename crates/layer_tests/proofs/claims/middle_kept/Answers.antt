@@ -1,6 +1,6 @@
 use Rattle.std.proofs.Common.{rules}
-use Rattle.aa_vec_tests.proofs.Claimed.{middle_stays}
-use Rattle.aa_vec_tests.proofs.claims.middle_kept.Goals as goal
+use Rattle.layer_tests.proofs.Claimed.{middle_stays}
+use Rattle.layer_tests.proofs.claims.middle_kept.Goals as goal
 
 pub returns : goal.returns
 returns g c =

@@ -1,8 +1,8 @@
 use Rattle.std.proofs.Common.{◌≡◌, ◌+◌, ◌⊎◌}
 use Rattle.aa_raw.specs.declared.raw_vec.Growth.TheVariants.{Doubling}
 use Rattle.aa_vec.specs.Vector.{len}
-use Rattle.aa_vec_tests.proofs.Claimed.{IsPushed}
-use Rattle.aa_vec_tests.proofs.claims.pushes_and_pops.Given as goal
+use Rattle.layer_tests.proofs.Claimed.{IsPushed}
+use Rattle.layer_tests.proofs.claims.pushes_and_pops.Given as goal
 
 abbrev pub invariant-fill : goal.invariant-fill
 invariant-fill g l = IsPushed Doubling l.fn.v l.x l.v

@@ -1,7 +1,7 @@
 use Rattle.std.proofs.Common.{◌≡◌}
 use Rattle.aa_raw.specs.declared.raw_vec.Growth.TheVariants.{Doubling}
 use Rattle.aa_vec.specs.Vector.{len}
-use Rattle.aa_vec_tests.proofs.claims.nine_bytes.Given as goal
+use Rattle.layer_tests.proofs.claims.nine_bytes.Given as goal
 
 -- the vector has one element for each push, in eight places
 abbrev pub invariant-each : goal.invariant-each

@@ -1,6 +1,6 @@
 use Rattle.std.proofs.Common.{rules, None, Some, refl, arith}
-use Rattle.aa_vec_tests.proofs.Claimed.{five_there, told_some, told_none}
-use Rattle.aa_vec_tests.proofs.claims.two_by_three.Goals as goal
+use Rattle.layer_tests.proofs.Claimed.{five_there, told_some, told_none}
+use Rattle.layer_tests.proofs.claims.two_by_three.Goals as goal
 
 pub returns : goal.returns
 returns g c =
