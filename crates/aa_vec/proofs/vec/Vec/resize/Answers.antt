@@ -1,0 +1,7 @@
+use Rattle.std.proofs.Common.{rules}
+use Rattle.aa_vec.proofs.Becoming.{became}
+use Rattle.aa_vec.proofs.CopiesLemmas.{cloned}
+use Rattle.aa_vec.proofs.vec.Vec.resize.Goals as goal
+
+pub returns-clause-refused : goal.returns-clause-refused
+returns-clause-refused g c = search (rules, cloned, became)
