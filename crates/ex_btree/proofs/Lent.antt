@@ -3,8 +3,8 @@ use Rattle.std.proofs.Common.{◌≡◌, ◌+◌, ◌<◌, ℕ, List, arith, ap,
 use Rattle.std.specs.Prelude.{slice_set}
 use Rattle.std.proofs.lemmas.List.{set-get_or}
 use Rattle.std.proofs.lemmas.List.Elements.{All-drop, All-take}
-use Rattle.ex_leaf.specs.Entries.{Ordered, put, value, with_value}
-use Rattle.ex_leaf.proofs.Order.{ascending-put}
+use Rattle.ex_btree.specs.Entries.{Ordered, put, value, with_value}
+use Rattle.ex_btree.proofs.LeafOrder.{ascending-put}
 use Rattle.ex_btree.specs.Leaves.{entries_of, HasPlace, IsSound, IsUsed}
 use Rattle.ex_btree.proofs.Order.{count-old, put-there, some-put, used-at, used-set}
 

@@ -1,3 +1,5 @@
+pub mod LeafOrder
+pub mod LeafLent
 pub mod Order
 pub mod Splitting
 pub mod Lent

@@ -3,14 +3,14 @@ use Rattle.std.proofs.Common.{◌≡◌, ◌+◌, ◌-◌, ◌≤◌, ◌<◌, �
 use Rattle.std.specs.Prelude.{remove, slice_get, slice_set}
 use Rattle.std.proofs.lemmas.Bool.{cases_eq, cases_lt}
 use Rattle.std.proofs.lemmas.Bool.Decides.{nat_tests}
-use Rattle.ex_leaf.proofs.Order.{ascending-put, ascending-without}
+use Rattle.ex_btree.proofs.LeafOrder.{ascending-put, ascending-without}
 use Rattle.std.proofs.lemmas.List.{drop_more, set-get_or, set_split}
 use Rattle.std.proofs.lemmas.List.Concat.{flat_map-append}
 use Rattle.std.proofs.lemmas.List.Elements.{All-append, All-cons, All-head, All-tail, All-nil}
 use Rattle.allocator_api2.specs.declared.collections.TryReserveError.{TryReserveError}
 use Rattle.allocator_api2.specs.declared.collections.TryReserveErrorKind.{TryReserveErrorKind}
 use Rattle.allocator_api2.specs.declared.collections.TryReserveErrorKind.TheVariants.{AllocError, CapacityOverflow}
-use Rattle.ex_leaf.specs.Entries.{Ordered, value, put, without, IsAscending}
+use Rattle.ex_btree.specs.Entries.{Ordered, value, put, without, IsAscending}
 use Rattle.ex_btree.specs.Leaves.{entries_of, AreGreater, AreLess, IsRefusedWithin, IsSound, IsUsed, HasPlace, Takes}
 
 of-kind : (k : TryReserveErrorKind) (n m : ℕ) → IsRefusedWithin (record { kind = k }) n → n ≤ m → IsRefusedWithin (record { kind = k }) m

@@ -4,7 +4,7 @@ use Rattle.std.proofs.lemmas.Bool.{cases_lt}
 use Rattle.std.proofs.lemmas.Bool.Decides.{nat_tests}
 use Rattle.std.proofs.lemmas.List.{take_rest}
 use Rattle.std.proofs.lemmas.List.Elements.{All-head, All-tail}
-use Rattle.ex_leaf.specs.Entries.{Ordered, between, rank, IsAscending}
+use Rattle.ex_btree.specs.Entries.{Ordered, between, rank, IsAscending}
 use Rattle.ex_btree.specs.Leaves.{entries_of, up_to, AreGreater, AreLess, HasPlace, IsSound}
 use Rattle.ex_btree.proofs.Order.{parts-read}
 

@@ -4,7 +4,7 @@ use Rattle.std.specs.Prelude.{insert, slice_get, slice_set}
 use Rattle.std.proofs.lemmas.List.{drop-drop, drop_at, get_or-append-add, get_or_at, get_or_default, get_or_read, length-take-le, take_at}
 use Rattle.std.proofs.lemmas.List.Concat.{flat_map-append}
 use Rattle.std.proofs.lemmas.List.Elements.{All-append, All-cons, All-drop, All-take}
-use Rattle.ex_leaf.specs.Entries.{Ordered}
+use Rattle.ex_btree.specs.Entries.{Ordered}
 use Rattle.ex_btree.specs.Leaves.{entries_of, HasPlace, HasRoom, IsFull, IsSound, IsSplit, IsUsed, Takes}
 use Rattle.ex_btree.proofs.Order.{greater-from-leaf, less-before-leaf, parts}
 

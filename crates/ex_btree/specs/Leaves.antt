@@ -2,7 +2,7 @@
 use Rattle.std.specs.Prelude.{◌≡◌, ℕ, ◌+◌, ◌*◌, ◌<◌, ◌≤◌, ◌⊎◌, List, [], ◌∷◌, ◌++◌, All, flat_map, length, take, drop, is_some, max, true, nat_lt, if◌then◌else◌, slice_index_or, ⊤}
 use Rattle.allocator_api2.specs.declared.collections.TryReserveError.{TryReserveError}
 use Rattle.allocator_api2.specs.declared.collections.TryReserveErrorKind.TheVariants.{AllocError, CapacityOverflow}
-use Rattle.ex_leaf.specs.Entries.{Ordered, value, IsAscending}
+use Rattle.ex_btree.specs.Entries.{Ordered, value, IsAscending}
 
 -- for how many entries each leaf has room, at least
 abbrev pub leaf_room : ℕ

@@ -2,7 +2,7 @@
 use Rattle.std.specs.Prelude.{ℕ, List, Option}
 use Rattle.std.specs.Borrow.{Fml, RattleType, MutBor, LendsIf}
 use Rattle.std.specs.declared.alloc.Allocator.{Ghosts}
-use Rattle.ex_leaf.specs.Entries.{put}
+use Rattle.ex_btree.specs.Entries.{put}
 use Rattle.ex_btree.specs.contracts.map.OrderedMap.{the_row}
 
 -- the key has the last value written through r, and without r the map stays as it is

@@ -1,3 +1,6 @@
+pub mod Entries
+pub mod LeafInside
+pub mod LeafLends
 pub mod Leaves
 pub mod Inside
 pub mod Lends

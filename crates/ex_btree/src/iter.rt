@@ -3,8 +3,8 @@ ghost use Rattle.std.specs.Prelude.{◌≡◌, length, Some, IfSome};
 ghost use Rattle.std.specs.Iterator.{UpTo, YieldsFirstBy, item_count};
 ghost use Rattle.std.specs.Iterator.SizeHint.{IsWithinCount};
 
+use crate::leaf::Leaf;
 use crate::map::OrderedMap;
-use ex_leaf::leaf::Leaf;
 use std::alloc::Allocator;
 use std::iter::FusedIterator;
 use std::marker::Model;

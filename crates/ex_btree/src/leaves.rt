@@ -1,11 +1,11 @@
 //! Leaves in line: the one that a key belongs to, and what becomes of it.
 ghost use Rattle.std.specs.Prelude.{◌≡◌, ℕ, ◌+◌, ◌*◌, ◌<◌, ◌≤◌, ◌↔◌, [], All, drop, false, length, max, take, slice_get, slice_index_or, is_some, true, None, Some, IsOk, IsTrue, IfErr, IfOk, IfSome, OnErr, OnOk};
-ghost use Rattle.ex_leaf.specs.Entries.{put, value, without, Ordered};
+ghost use Rattle.ex_btree.specs.Entries.{put, value, without, Ordered};
 ghost use Rattle.ex_btree.specs.Leaves.{entries_of, leaf_room, most_places, HasPlace, HasRoom, IsFull, IsRefusedWithin, IsSound, IsSplit, IsUsed, Takes};
 
+use crate::leaf::Leaf;
 use allocator_api2::collections::TryReserveError;
 use allocator_api2::vec::Vec;
-use ex_leaf::leaf::Leaf;
 use std::alloc::Allocator;
 
 // How many entries a leaf has room for.

@@ -3,14 +3,14 @@ ghost use Rattle.std.specs.Prelude.{◌≡◌, ◌+◌, ◌-◌, ◌<◌, ◌≤
 ghost use Rattle.std.specs.Borrow.{sem};
 ghost use Rattle.std.specs.Option.{option_copied_mut};
 ghost use Rattle.allocator_api2.specs.declared.collections.TryReserveErrorKind.TheVariants.{CapacityOverflow};
-ghost use Rattle.ex_leaf.specs.Entries.{between, put, value, without, IsAscending};
+ghost use Rattle.ex_btree.specs.Entries.{between, put, value, without, IsAscending};
 ghost use Rattle.ex_btree.specs.Leaves.{leaf_room, most_places, IsRefusedWithin};
 
 use crate::iter::{Iter, Range};
+use crate::leaf::Leaf;
 use crate::leaves::{find, make_room, part, put_in, take_out};
 use allocator_api2::collections::{Refused, TryReserveErrorKind};
 use allocator_api2::vec::Vec;
-use ex_leaf::leaf::Leaf;
 use std::alloc::Allocator;
 use std::marker::Model;
 

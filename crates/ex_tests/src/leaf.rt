@@ -1,5 +1,5 @@
 use allocator_api2::collections::TryReserveErrorKind;
-use ex_leaf::leaf::Leaf;
+use ex_btree::leaf::Leaf;
 use std::alloc::Global;
 use test_allocators::Faulty;
 
@@ -104,7 +104,7 @@ fn a_leaf_is_split(rt: HostRuntime) {
 }
 
 #[test]
-#[tactic(auto, using(ex_leaf::proofs::Order::merged))]
+#[tactic(auto, using(ex_btree::proofs::LeafOrder::merged))]
 fn the_halves_of_a_leaf_are_merged(rt: HostRuntime) {
     let heap = Faulty::new(rt.alloc());
     let mut left: Small<'_> = Leaf::with_capacity_in(4, &heap).expect(&rt, "room");

@@ -1,7 +1,7 @@
 use borrow.Follows.Closed.{read_of}
 use Rattle.std.proofs.Common.{◌≡◌, ◌∙◌, ap, is_some, rules, sym, true}
 use Rattle.std.specs.Option.{ghost_name_of}
-use Rattle.ex_leaf.specs.Entries.{put, value}
+use Rattle.ex_btree.specs.Entries.{put, value}
 use Rattle.ex_btree.specs.Leaves.{entries_of}
 use Rattle.ex_btree.proofs.Lent.{lent-count, lent-put, lent-same, lent-sound}
 use Rattle.ex_btree.proofs.Order.{value-there}

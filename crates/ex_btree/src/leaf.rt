@@ -3,7 +3,7 @@ ghost use Rattle.std.specs.Prelude.{◌≡◌, ℕ, ◌+◌, ◌/◌, ◌<◌, �
 ghost use Rattle.std.specs.Borrow.{sem};
 ghost use Rattle.std.specs.Option.{option_copied_mut};
 ghost use Rattle.allocator_api2.specs.Refusals.{IsRefusedAt};
-ghost use Rattle.ex_leaf.specs.Entries.{between, put, rank, value, without, IsAscending, IsAt, IsGap};
+ghost use Rattle.ex_btree.specs.Entries.{between, put, rank, value, without, IsAscending, IsAt, IsGap};
 
 use crate::moves::{join, part, put_at, swap_at, take_at};
 use allocator_api2::collections::TryReserveError;
@@ -18,20 +18,20 @@ pub struct Leaf<V, A: Allocator> {
 }
 
 impl<V, A: Allocator> Model for Leaf<V, A> {
-    ghost use Rattle.ex_leaf.specs.Entries.{Ordered};
+    ghost use Rattle.ex_btree.specs.Entries.{Ordered};
 
     ghost Value = { Ordered V };
 
-    ghost use Rattle.ex_leaf.specs.Inside.{seen_of, IsLeaf};
+    ghost use Rattle.ex_btree.specs.LeafInside.{seen_of, IsLeaf};
 
     ghost view = { seen_of };
 
     ghost invariant = { IsLeaf };
 }
 
-#[tactic(auto, using(allocator_api2::proofs::Blocks::at_ends, crate::proofs::Order::order))]
+#[tactic(auto, using(allocator_api2::proofs::Blocks::at_ends, crate::proofs::LeafOrder::order))]
 impl<V, A: Allocator> Leaf<V, A> {
-    ghost use Rattle.ex_leaf.specs.Lends.{lends_value};
+    ghost use Rattle.ex_btree.specs.LeafLends.{lends_value};
 
     /// No entries, and room for `capacity`. It takes memory here alone. A refusal has the number
     /// `capacity`.

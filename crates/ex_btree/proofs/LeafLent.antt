@@ -3,8 +3,8 @@ use Rattle.std.proofs.Common.{◌≡◌, ◌<◌, ℕ, List, Option, Some, None,
 use Rattle.std.specs.Prelude.{slice_get, slice_set}
 use Rattle.allocator_api2.specs.Places.{IsRun, run}
 use Rattle.allocator_api2.proofs.Blocks.{at_positions, length-run}
-use Rattle.ex_leaf.specs.Entries.{Ordered, IsAscending, IsAt, put, value, with_value}
-use Rattle.ex_leaf.proofs.Order.{ascending-put}
+use Rattle.ex_btree.specs.Entries.{Ordered, IsAscending, IsAt, put, value, with_value}
+use Rattle.ex_btree.proofs.LeafOrder.{ascending-put}
 
 module _ {V : Type 0} (cs : List (Option (ℕ × V))) (n key at : ℕ) (front : IsRun cs 0 n) (is : IsAt key (run cs 0 n) at) (e : ℕ × V) (read : get_or cs at None ≡ Some e) where
   within : at < n

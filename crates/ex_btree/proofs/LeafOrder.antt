@@ -3,7 +3,7 @@ use Rattle.std.proofs.Common.{◌≡◌, ◌+◌, ◌-◌, ◌≤◌, ◌<◌, �
 use Rattle.std.specs.Prelude.{slice_get, slice_set, ◌≢◌}
 use Rattle.std.proofs.lemmas.Bool.Decides.{nat_tests}
 use Rattle.std.proofs.lemmas.Bool.{cases_lt}
-use Rattle.ex_leaf.specs.Entries.{rank, value, put, without, between, IsAscending, IsAt, IsGap}
+use Rattle.ex_btree.specs.Entries.{rank, value, put, without, between, IsAscending, IsAt, IsGap}
 
 module _ {V : Type 0} where
   -- the key is not at its rank

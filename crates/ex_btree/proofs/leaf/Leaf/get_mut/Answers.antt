@@ -1,7 +1,7 @@
 use Rattle.std.proofs.Common.{ap, inl, subst, sym, ◌∙◌}
-use Rattle.ex_leaf.specs.Entries.{Ordered, IsAt, value}
-use Rattle.ex_leaf.proofs.Lent.{lent-ascending, lent-run, lent-value, lent-view}
-use Rattle.ex_leaf.proofs.leaf.Leaf.get_mut.Goals as goal
+use Rattle.ex_btree.specs.Entries.{Ordered, IsAt, value}
+use Rattle.ex_btree.proofs.LeafLent.{lent-ascending, lent-run, lent-value, lent-view}
+use Rattle.ex_btree.proofs.leaf.Leaf.get_mut.Goals as goal
 
 pub invariant_of-self-lent : goal.invariant_of-self-lent
 invariant_of-self-lent g c w =

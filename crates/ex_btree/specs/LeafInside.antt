@@ -1,8 +1,8 @@
 -- What holds of the fields of a leaf, and what is seen of them.
 use Rattle.std.specs.Prelude.{length}
 use Rattle.allocator_api2.specs.Places.{IsRun, run}
-use Rattle.ex_leaf.specs.Entries.{Ordered, IsAscending}
-use Rattle.ex_leaf.specs.declared.leaf.Leaf.TheInside.{Inside}
+use Rattle.ex_btree.specs.Entries.{Ordered, IsAscending}
+use Rattle.ex_btree.specs.declared.leaf.Leaf.TheInside.{Inside}
 
 module _ {V A : Type 0} where
   -- the entries stand in the first places

@@ -1,6 +1,6 @@
 use Rattle.std.proofs.Common.{◌≡◌, ◌+◌, drop}
-use Rattle.ex_leaf.specs.Entries.{rank}
-use Rattle.ex_leaf.proofs.leaf.rank_of.Given as goal
+use Rattle.ex_btree.specs.Entries.{rank}
+use Rattle.ex_btree.proofs.leaf.rank_of.Given as goal
 
 -- the keys passed come before this one
 abbrev pub invariant-loop-i : goal.invariant-loop-i

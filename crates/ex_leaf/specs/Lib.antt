@@ -1,3 +1,0 @@
-pub mod Entries
-pub mod Inside
-pub mod Lends
