@@ -1,4 +1,5 @@
 mod Pooling
 mod Racking
 mod Shelving
+mod Spacing
 mod Widening

@@ -11,5 +11,7 @@ pub mod recycler;
 /// A layer that rounds the sizes of requests up.
 pub mod rounded;
 mod shelf;
+/// A layer that asks for another layout: the proof by hand that docs/ALLOCATORS.md goes through.
+pub mod spaced;
 
 pub use ex_watched::{budget, counting, watched};

@@ -1,4 +1,4 @@
-use ex_spaced::spaced::Spaced;
+use ex_allocators::spaced::Spaced;
 use ex_watched::counting::Counting;
 use std::alloc::Global;
 

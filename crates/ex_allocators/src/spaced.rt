@@ -1,6 +1,6 @@
 //! A layer that asks for twice the bytes: what is written a little behind a block is nobody's.
 ghost use Rattle.std.specs.Prelude.{◌≡◌};
-ghost use Rattle.ex_spaced.specs.Spacing.{spaced};
+ghost use Rattle.ex_allocators.specs.Spacing.{spaced};
 
 use std::alloc::{AllocError, Allocator};
 

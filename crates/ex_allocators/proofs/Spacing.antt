@@ -5,9 +5,9 @@
 --     halves      room for two is room for one, with a way back
 pub use Rattle.ex_watched.proofs.Walk.{◌≡◌, ℕ, ◌+◌, ◌<◌, ◌^◌, ◌*◌, ◌-◌, List, [], ◌∷◌, refl, w64, Bor, true, false, Ok, Err, subst, sym, ◌∙◌, arith, block_if_ok, owned_block, Al, seen, token, Answer, answer_val, Answer-typed, Answer-Ok, Answer-err, Takes, at_takes, Answered, Takes-goes, Takes-gives, answers, Gives, at_gives, Gives-goes, Gives-Gives, after, proved, Ura, inst_fn, Args, Dict, a_type, dnil, dcons, named, Fn, Body, Ty, ty_array, Val, vunit, vint, vptr, Fml, Lft, ftrue, fsep, flft, fex, froom, fwand, SProp, ent, emp, sep, fst∗, never, apply∗, wand, ◌⊑◌, ⊑_trans, fact, tables, dv_self, capped_is, capped_small, size, align, capped, Env, WpFn, alloc_all, pass_all, free_all, look_at, get, through, sets, lands_as, env, ‵, raw, ◌⊛◌, later, ◌$◌, ◌∵◌, !, qed, move, keep, drop, use0, use1, use2, split, split3, join, fsplit, fjoin, feq_i, await, done, prop, at_ret, Sq, given, learn, suffices, group, regoal, by, fpack, fpick, frame, assume, Logic, sem, agg, whole, stop, fld, addr, lit, no_more, and_then, of_opd, first, branches, skips, exec, returns, returns_within, enter, unit_lit, bin, neg_lit, unhide, bounded, param, uint_vals, uint_Tells, RattleType, owns, Ptr, block_ptr, null_ptr, ptr_val, room_for, in_a_block, rawptr_vals, rawptr_Tells, ShrRef, shr_vals, types_at, nothing, heard, calls_at, framed, walk_of, ends_at, inner_of, dropped, gone, trues, spent}
 pub use Rattle.std.proofs.Common.{◌≤◌, nltb→le}
-pub use Rattle.ex_spaced.specs.Spacing.{spaced}
+pub use Rattle.ex_allocators.specs.Spacing.{spaced}
 use denote.RawPtr.Room.{room_cut, room_glue, past}
-use Rattle.ex_spaced.specs.contracts.spaced.Spaced as layer
+use Rattle.ex_allocators.specs.contracts.spaced.Spaced as layer
 
 abbrev pub generics : RattleType → Dict → Dict → Args
 generics B d drops = bounded (a_type ∷ []) (B, tt) (dcons d (dcons drops dnil))

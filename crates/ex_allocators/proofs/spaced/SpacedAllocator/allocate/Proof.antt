@@ -1,8 +1,8 @@
 -- The inner allocator is asked for a block for two. Assumes `Logic`.
-use Rattle.ex_spaced.proofs.Spacing.{◌≡◌, ◌+◌, ◌<◌, ◌^◌, ◌*◌, ◌-◌, arith, [], ◌∷◌, refl, w64, true, false, Ok, Err, block_if_ok, Al, seen, token, Answer, answer_val, Answer-typed, Answer-Ok, Answer-err, Takes, at_takes, Answered, Takes-goes, Takes-gives, answers, after, proved, inst_fn, Fn, Body, Ty, ty_array, Val, ftrue, fsep, flft, froom, fwand, ent, emp, ◌⊑◌, ⊑_trans, fact, tables, size, align, capped, Env, alloc_all, pass_all, free_all, look_at, get, through, sets, lands_as, env, ‵, raw, ◌⊛◌, later, ◌$◌, ◌∵◌, !, qed, move, keep, use0, use1, use2, split, join, fsplit, fjoin, await, done, prop, at_ret, Sq, suffices, group, fpack, sem, agg, stop, fld, addr, lit, no_more, and_then, first, branches, skips, exec, returns, returns_within, enter, bin, neg_lit, uint_vals, uint_Tells, owns, block_ptr, shr_vals, types_at, nothing, heard, calls_at, framed, walk_of, ends_at, inner_of, dropped, gone, trues, spent, generics, reaches, tiny, doubled, halves, spaced, nltb→le}
-use Rattle.ex_spaced.specs.contracts.spaced.SpacedAllocator.allocate as F
-use Rattle.ex_spaced.proofs.spaced.SpacedAllocator.allocate.Statement.{statement}
-use Rattle.ex_spaced.proofs.spaced.SpacedAllocator.allocate.Code as code
+use Rattle.ex_allocators.proofs.Spacing.{◌≡◌, ◌+◌, ◌<◌, ◌^◌, ◌*◌, ◌-◌, arith, [], ◌∷◌, refl, w64, true, false, Ok, Err, block_if_ok, Al, seen, token, Answer, answer_val, Answer-typed, Answer-Ok, Answer-err, Takes, at_takes, Answered, Takes-goes, Takes-gives, answers, after, proved, inst_fn, Fn, Body, Ty, ty_array, Val, ftrue, fsep, flft, froom, fwand, ent, emp, ◌⊑◌, ⊑_trans, fact, tables, size, align, capped, Env, alloc_all, pass_all, free_all, look_at, get, through, sets, lands_as, env, ‵, raw, ◌⊛◌, later, ◌$◌, ◌∵◌, !, qed, move, keep, use0, use1, use2, split, join, fsplit, fjoin, await, done, prop, at_ret, Sq, suffices, group, fpack, sem, agg, stop, fld, addr, lit, no_more, and_then, first, branches, skips, exec, returns, returns_within, enter, bin, neg_lit, uint_vals, uint_Tells, owns, block_ptr, shr_vals, types_at, nothing, heard, calls_at, framed, walk_of, ends_at, inner_of, dropped, gone, trues, spent, generics, reaches, tiny, doubled, halves, spaced, nltb→le}
+use Rattle.ex_allocators.specs.contracts.spaced.SpacedAllocator.allocate as F
+use Rattle.ex_allocators.proofs.spaced.SpacedAllocator.allocate.Statement.{statement}
+use Rattle.ex_allocators.proofs.spaced.SpacedAllocator.allocate.Code as code
 
 pub allocate_spec : {M : Type 1} → statement M
 allocate_spec 𝓤 𝓛 𝓜 𝓡 wired B L g d d' inner drops =
