@@ -2,14 +2,13 @@
 use Rattle.std.specs.Prelude.{◌≡◌, ◌-◌, ◌≤◌, true, take, drop, is_none}
 use Rattle.std.specs.List.{list_all}
 use Rattle.aa_raw.specs.Places.{IsRun, run}
-use Rattle.aa_raw.specs.IntoIter.{Left}
+use Rattle.aa_raw.specs.IntoIter.{Left, left_in}
 use Rattle.aa_raw.specs.declared.vec.into_iter.IntoIter.TheInside.{Inside}
 
 module _ {X A : Type 0} where
   -- what a contract sees of an iterator with these fields
   abbrev pub left_of : Inside X A → Left X A
-  left_of v =
-      record { items = run v.block.places v.front (v.back - v.front); alloc = v.block.alloc }
+  left_of v = left_in v.block (run v.block.places v.front (v.back - v.front))
 
   -- the places from the front up to the back hold values, and no others do
   pub record IsBetween (v : Inside X A) : Type 0 where

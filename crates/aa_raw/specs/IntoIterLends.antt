@@ -3,11 +3,11 @@ use Rattle.std.specs.Prelude.{List, length}
 use Rattle.std.specs.Borrow.{Fml, RattleType, MutBor, Array, Lends}
 use Rattle.std.specs.List.{refill}
 use Rattle.std.specs.declared.alloc.Allocator.{Ghosts}
-use Rattle.aa_raw.specs.IntoIter.{Left}
+use Rattle.aa_raw.specs.IntoIter.{Left, with_items}
 use Rattle.aa_raw.specs.contracts.vec.into_iter.IntoIter.{the_row}
 
 module _ (R A : RattleType) (g : Ghosts A.Denot) (s : MutBor (Left R.Denot A.Denot)) where
   -- the items are the last values written through r
   abbrev pub lends_left : MutBor (List R.Denot) → Fml
   lends_left r = Lends (the_row R A g) (Array R 0) s r
-      (λ ws. record { items = refill (length s.now.items) r.now ws; alloc = s.now.alloc })
+      (λ ws. with_items s.now (refill (length s.now.items) r.now ws))

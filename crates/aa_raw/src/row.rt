@@ -773,8 +773,11 @@ pub(crate) fn deallocate<T, A: Allocator>(alloc: &A, len: usize, row: Row<T>, cl
     }
 }
 
-/// Lets go of places that take no bytes, and of what stands in them.
-pub(crate) fn forget_row<T, A: Allocator>(row: Row<T>, claim: Claim<T, A>) {
+/// Lets go of places that take no bytes, and of what stands in them. Any others would be lost: their
+/// memory goes back by `deallocate` alone.
+pub(crate) fn forget_row<T, A: Allocator>(row: Row<T>, claim: Claim<T, A>)
+    requires { claim.len * type_size T.row ≡ 0 }
+{
     let Row { ptr: _ } = row;
     let Claim { mark: _ } = claim;
 }

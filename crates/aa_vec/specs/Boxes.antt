@@ -1,5 +1,6 @@
--- A vector that becomes a boxed slice, and a boxed slice that becomes a vector.
+-- A vector that becomes an iterator or a boxed slice, and a boxed slice that becomes a vector.
 use Rattle.std.specs.Prelude.{◌≡◌, ℕ, length}
+use Rattle.aa_raw.specs.IntoIter.{Left}
 use Rattle.aa_raw.specs.Room.{NeedsBlock}
 use Rattle.aa_raw.specs.declared.collections.Refused.{Refused}
 use Rattle.aa_raw.specs.declared.collections.TryReserveErrorKind.TheVariants.{AllocError}
@@ -7,6 +8,18 @@ use Rattle.aa_boxed.specs.Slice.{Slice}
 use Rattle.aa_vec.specs.Vector.{Vector, len, sized}
 
 module _ {T A : Type 0} where
+  -- what an iterator over the items of v has left before its first call, in the block of v
+  abbrev pub all_left : Vector T A → Left T A
+  all_left v =
+      record {
+        items = v.items;
+        capacity = v.capacity;
+        grown = v.grown;
+        written = v.written;
+        runs = v.runs;
+        alloc = v.alloc;
+      }
+
   -- the boxed slice of a vector's list
   abbrev pub boxed : Vector T A → Slice T A
   boxed v = record { items = v.items; growth = v.growth; alloc = v.alloc }

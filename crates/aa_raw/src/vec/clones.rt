@@ -1,8 +1,9 @@
 //! The items of an `IntoIter`, cloned.
-ghost use Rattle.std.specs.Prelude.{◌≡◌, ◌<◌, ◌≤◌, length, take, All, IfOk, IfErr};
+ghost use Rattle.std.specs.Prelude.{◌≡◌, ◌+◌, ◌<◌, ◌≤◌, length, take, All, IfOk, IfErr};
 ghost use Rattle.std.specs.List.{AllZip};
 ghost use Rattle.std.specs.Mem.{type_size};
 ghost use Rattle.aa_raw.specs.Clones.{ClonesFreely, Copies, HoldsClones};
+ghost use Rattle.aa_raw.specs.Growth.{sized};
 ghost use Rattle.aa_raw.specs.Refusals.{RefusesClones};
 
 use crate::collections::{TryReserveError, TryReserveErrorKind};
@@ -11,13 +12,22 @@ use crate::vec::into_iter::IntoIter;
 use std::alloc::{AllocError, Allocator};
 
 impl<T: Clone, A: Allocator + Clone> IntoIter<T, A> {
-    /// A clone of each item that is left, in order, over a clone of the allocator, in room for no
-    /// more. It takes memory before the first clone of an item. Where memory or a clone is refused,
-    /// nothing is made: `CapacityOverflow`, or `AllocError` with the number of items. It stands for
-    /// the original's `Clone`, which can't be refused.
+    /// Returns an iterator over clones of the items that are left, in order, over a clone of the
+    /// allocator. Its capacity is the number of items. Corresponds to the original's `Clone`.
+    ///
+    /// Allocates once, before the first clone, unless there are no items or they are zero-sized.
+    ///
+    /// # Errors
+    /// `CapacityOverflow` if the items take more than `isize::MAX` bytes; `AllocError` with the number
+    /// of items if the allocation, the clone of the allocator or that of an item fails. The clones
+    /// made so far are dropped.
     pub fn clone(&self) -> Result<Self, TryReserveError>
         ensures made { IfOk result (λ copy. AllZip T.is_clone self.now.items copy.items) }
         ensures alloc { IfOk result (λ copy. A.is_clone self.now.alloc copy.alloc) }
+        ensures capacity { IfOk result
+            (λ copy. copy.capacity ≡ sized (type_size T.row) (length self.now.items)) }
+        ensures counts { let n = length self.now.items in IfOk result
+            (λ copy. (copy.grown ≡ 0) × (copy.written ≡ n) × (copy.runs ≡ n)) }
         ensures copied { Copies T.is_clone → IfOk result (λ copy. copy.items ≡ self.now.items) }
         ensures refused { let sure = All T.is_infallible self.now.items
             × A.is_infallible self.now.alloc in
@@ -57,6 +67,10 @@ fn put_clones<T: Clone, A: Allocator>(block: &mut RawVec<T, A>, source: &[T]) ->
     requires room { length source.now ≤ length block.old.places }
     ensures within { result ≤ length source.now }
     ensures put { HoldsClones T.is_clone (take result source.now) block.new.places }
+    ensures capacity { length block.new.places ≡ length block.old.places }
+    ensures counts { (block.new.grown ≡ block.old.grown)
+        × (block.new.written ≡ block.old.written + result)
+        × (block.new.runs ≡ block.old.runs + result) }
     ensures alloc { block.new.alloc ≡ block.old.alloc }
     ensures refused { result < length source.now → ¬ (All T.is_infallible source.now) }
 {

@@ -3,7 +3,7 @@ ghost use Rattle.std.specs.Prelude.{◌≡◌, ◌-◌, ◌≤◌, [], length, S
 ghost use Rattle.std.specs.Borrow.{sem};
 ghost use Rattle.std.specs.Iterator.{YieldsFirst, YieldsLast, UpTo, item_count};
 ghost use Rattle.std.specs.Iterator.SizeHint.{IsWithinCount};
-ghost use Rattle.aa_raw.specs.IntoIter.{Left, gives_first, gives_last};
+ghost use Rattle.aa_raw.specs.IntoIter.{Left, left_in, gives_first, gives_last};
 ghost use Rattle.aa_raw.specs.Places.{IsRun, run};
 ghost use Rattle.aa_raw.specs.IntoIterInner.{left_of, IsBetween};
 
@@ -14,8 +14,8 @@ use std::fmt;
 use std::iter::FusedIterator;
 use std::marker::Model;
 
-/// The items that are left of a block, from either end. Its drop drops them in order and gives the
-/// memory back. It stands for `allocator_api2::vec::IntoIter`.
+/// An iterator over the items that are left of a block, from either end. Contracts also see the
+/// block's capacity and counts. When dropped, it drops the items in order and frees the memory.
 pub struct IntoIter<T, A: Allocator = Global> {
     block: RawVec<T, A>,
     front: usize,
@@ -33,12 +33,12 @@ impl<T, A: Allocator> Model for IntoIter<T, A> {
 impl<T, A: Allocator> IntoIter<T, A> {
     ghost use Rattle.aa_raw.specs.IntoIterLends.{lends_left};
 
-    /// The values in the first `len` places of `block`, which takes over the block. The original
-    /// has no such call: a vector there takes itself apart.
+    /// Returns an iterator over the values in the first `len` places of `block`, which it takes over.
+    /// Does not allocate. Not in allocator-api2: a vector there takes itself apart.
     #[tactic(auto, using(crate::proofs::Calls::in_runs))]
     pub fn from_block(block: RawVec<T, A>, len: usize) -> Self
         requires { IsRun block.places 0 len }
-        ensures { result ≡ record { items = run block.places 0 len; alloc = block.alloc } }
+        ensures { result ≡ left_in block (run block.places 0 len) }
     {
         let mut block = block;
         block.forget_from(len);

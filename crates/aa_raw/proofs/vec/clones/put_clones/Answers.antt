@@ -14,7 +14,7 @@ module _ {X : Type 0} (clones : X → X → Type 0) (places : List (Option X)) w
       record { filled = rw more (IsRun-put places (length xs) y room p.filled); each = rw (more, run-put places (length xs) y room) (AllZip-push clones xs (run places 0 (length xs)) x y p.each c) }
 
 pub each-init : goal.each-init
-each-init g c = record { clones = none-cloned g.T.Clone.is_clone c.args.block.now.places; long = refl; alloc = refl }
+each-init g c = record { clones = none-cloned g.T.Clone.is_clone c.args.block.now.places; long = refl; grown = refl; written = omega arith; runs = omega arith; alloc = refl }
 
 pub each-preserved : goal.each-preserved
 each-preserved g c =
@@ -26,5 +26,8 @@ each-preserved g c =
           rw (c.put.ensures, next) (subst (λ k. HoldsClones clones (take i xs ++ x ∷ []) (slice_set places k (Some y))) long
           (one-cloned clones places (take i xs) x y (omega (arith, long, inv.long, c.requires.room, c.each-test.true)) c.in-Ok.ensures.cases inv.clones));
       long = ap (λ b. length b.places) c.put.ensures ∙ length-set places i (Some y) ∙ inv.long;
+      grown = ap (λ b. b.grown) c.put.ensures ∙ inv.grown;
+      written = omega (arith, ap (λ b. b.written) c.put.ensures, inv.written);
+      runs = omega (arith, ap (λ b. b.runs) c.put.ensures, inv.runs);
       alloc = ap (λ b. b.alloc) c.put.ensures ∙ inv.alloc;
     }

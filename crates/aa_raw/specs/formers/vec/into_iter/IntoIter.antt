@@ -1,9 +1,11 @@
 -- An `IntoIter` inside a recursive type: it holds the items that are left.
 use Rattle.std.specs.Prelude.{◌≡◌, ℕ, ◌-◌, [], List}
+use Rattle.std.specs.Option.{option_map}
 use Rattle.std.proofs.Common.{arith}
 use mathlib.Core.Path.{refl, sym, ◌∙◌}
 use mathlib.Core.Bool.{Bool-set}
 use mathlib.Core.Former.{Former, this, const, pair, list, via, children}
+use lib.ListN.{length-map}
 use native.Mathlib.Bridge.{le_prop}
 use base.Stored.{code_map}
 use denote.RattleType.{RattleType}
@@ -25,14 +27,20 @@ use Rattle.aa_raw.specs.contracts.vec.into_iter.IntoIter as C
 use Rattle.aa_raw.specs.contracts.vec.into_iter.IntoIter.TheInside as I
 use Rattle.aa_raw.specs.formers.raw_vec.RawVec as raw
 
+abbrev Rest : Type 0 → Type 0
+Rest Z = ℕ × (ℕ × (ℕ × (ℕ × Z)))
+
 abbrev pub the_former : Former {0} → Type 0 → Former {0}
-the_former g Z = via (pair (list g) (const Z)) (λ X. Left (g.Of X) Z) (λ X s. (s.items, s.alloc)) (λ X v. record { items = v.0; alloc = v.1 }) (λ X s. refl) (λ X v. refl)
+the_former g Z = via (pair (list g) (const (Rest Z))) (λ X. Left (g.Of X) Z)
+    (λ X s. (s.items, (s.capacity, (s.grown, (s.written, (s.runs, s.alloc))))))
+    (λ X v. record { items = v.0; capacity = v.1.0; grown = v.1.1.0; written = v.1.1.1.0; runs = v.1.1.1.1.0; alloc = v.1.1.1.1.1 })
+    (λ X s. refl) (λ X v. refl)
 
 abbrev pub the_weighed : {g : Former {0}} → Weighed g → (Z : Type 0) → Weighed (the_former g Z)
 the_weighed w Z = record { weight = λ X μ s. most (w.weight X μ) s.items; puts = λ X μ s. List-puts w X μ s.items }
 
 pub the_empty : (Z : Type 0) → Z → Left ⊥ Z
-the_empty Z z = record { items = []; alloc = z }
+the_empty Z z = record { items = []; capacity = 0; grown = 0; written = 0; runs = 0; alloc = z }
 
 abbrev pub the_items : (Z X : Type 0) → Left X Z → List X
 the_items Z X s = s.items
@@ -75,7 +83,14 @@ module _ {X Y Z : Type 0} (k : X → Y) (v : Inside X Z) where
 module _ (Z : RattleType) (G : Ghosts Z.Denot) (R S : RattleType) (h : R.Denot → S.Denot) where
   pub the_places : Alike R S h → Alike (C.the_row R Z G) (C.the_row S Z G) ((the_former this Z.Denot).map R.Denot S.Denot h)
   the_places a = placed.view_places_where (fields Z.Denot) (the_former this Z.Denot) (λ X. view X Z.Denot G)
-      (λ X Y k u i. record { items = run_over k u.front (u.back - u.front) u.block.places i; alloc = u.block.alloc })
+      (λ X Y k u i. record {
+        items = run_over k u.front (u.back - u.front) u.block.places i;
+        capacity = length-map u.block.places (option_map k) i;
+        grown = u.block.grown;
+        written = u.block.written;
+        runs = u.block.runs;
+        alloc = u.block.alloc;
+      })
       (λ X u. IsBetween u) (λ X Y k u. between_under k u) (λ X u. between_held u)
       R.Denot S.Denot h (C.the_row R Z G).coded (C.the_row S Z G).coded
       (invariant R.Denot Z.Denot G) (invariant S.Denot Z.Denot G) between_once between_once (between_over h) (between_under h) (λ u w. w)
@@ -84,4 +99,5 @@ module _ (Z : RattleType) (G : Ghosts Z.Denot) (R S : RattleType) (h : R.Denot �
       (laid _ _ _ (raw.the_places Z G R S h a), ((refl, (λ n. refl, λ n. refl)), ((refl, (λ n. refl, λ n. refl)), tt))))
 
   pub the_codes_placed : Recodes R S h → Recodes (C.the_row R Z G) (C.the_row S Z G) ((the_former this Z.Denot).map R.Denot S.Denot h)
-  the_codes_placed e d = pair_recoded (sym (code_map R.coded.code S.coded.code h (λ x. sym (e x)) d.items)) refl
+  the_codes_placed e d = pair_recoded (sym (code_map R.coded.code S.coded.code h (λ x. sym (e x)) d.items))
+      (pair_recoded refl (pair_recoded refl (pair_recoded refl (pair_recoded refl refl))))
