@@ -1,8 +1,9 @@
 """What carries the rules of SPECIFICATION: the names in brackets behind them.
 
 `[push: fits, pushed]` are clauses of a call, `[Box as Iterator]` is a trait that a type has, `[Replaced: room]` a word of the contracts
-with a field of it, and `[tested: liars]` a test: a crate, a file of one, a function in it, or a file of tests/. Several stand in one bracket, parted by `;`. A
-call without its type is one of the modules that the section's heading names.
+with a field of it, `[tested: liars]` a test: a crate, a file of one, a function in it, or a file of tests/, and `[killed: EDIT]` an edit
+that the checker refuses. Several stand in one bracket, parted by `;`. A call without its type is one of the modules that the section's
+heading names.
 """
 import functools
 import re
@@ -47,6 +48,8 @@ class Carried:
         """Where a name and its clauses are told, each with its text; none where one of them isn't there."""
         if name == "tested":
             return [(it, None) for it in clauses] if all(is_test(it) for it in clauses) else None
+        if name == "killed":
+            return [(it, None) for it in clauses] if set(clauses) <= edits() else None
         if " as " in name:
             found = self.impl(name)
             told = [self.library.href(section) for section, _ in found]
@@ -109,6 +112,12 @@ def tests():
             for file in (crate / "src").rglob("*.rt"):
                 found |= {file.stem} | set(re.findall(r"fn (\w+)", text_of(file)))
     return found
+
+
+@functools.lru_cache(maxsize=None)
+def edits():
+    """The names of the edits that the checker must refuse."""
+    return {it.stem for kind in ("must-fail", "wrong-bodies") for it in (TOP / "crates").glob(f"*/{kind}/*.edit")}
 
 
 def is_test(name):

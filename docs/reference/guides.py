@@ -53,7 +53,7 @@ class Guide:
         for name, clauses in self.site.carried.parts(bracket):
             found = self.site.carried.links(name, clauses, modules) or [(it, None) for it in (name, *clauses)]
             told = [link(href, plain(it), "w type") if href else plain(it) for it, href in found]
-            head, rest = ("tested", told) if name == "tested" else (told[0], told[1:])
+            head, rest = (name, told) if name in ("tested", "killed") else (told[0], told[1:])
             shown.append(head + (": " + ", ".join(rest) if rest else ""))
         return f'<small class="carried">[{"; ".join(shown)}]</small>'
 
