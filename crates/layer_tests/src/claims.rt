@@ -1,7 +1,7 @@
 //! Callers whose contracts say what worked examples write, and what they move by growth.
 ghost use Rattle.std.specs.Prelude.{◌≡◌, ◌+◌, ◌-◌, ◌<◌, ◌≤◌, [], ◌∷◌, length, None, Some, OnOk};
 ghost use Rattle.std.specs.Mem.{type_size};
-ghost use Rattle.aa_raw.specs.declared.raw_vec.Growth.TheVariants.{Doubling};
+ghost use Rattle.aa_raw.specs.declared.raw_vec.Growth.TheVariants.{Doubling, Sparing};
 ghost use Rattle.aa_vec.specs.Vector.{Holds};
 
 use aa_raw::collections::TryReserveError;
@@ -36,6 +36,18 @@ fn seventeen_pushes<A: Allocator>(v: &mut Vec<u32, A>) -> Result<(), TryReserveE
     ensures { OnOk result ((v.new.capacity ≡ 32) × (v.new.grown ≡ v.old.grown + 28)) }
 {
     'each: for x in 0..17 {
+        v.push(x)?;
+    }
+    Ok(())
+}
+
+// Fifteen pushes onto an empty vector that grows sparingly: growth moves 33 elements.
+#[tactic(auto, using(crate::proofs::Claimed::pushed_next))]
+fn fifteen_sparing_pushes<A: Allocator>(v: &mut Vec<u32, A>) -> Result<(), TryReserveError>
+    requires { (v.old.items ≡ []) × (v.old.capacity ≡ 0) × (v.old.growth ≡ Sparing) }
+    ensures { OnOk result ((v.new.capacity ≡ 21) × (v.new.grown ≡ v.old.grown + 33)) }
+{
+    'each: for x in 0..15 {
         v.push(x)?;
     }
     Ok(())
@@ -112,6 +124,18 @@ fn middle_kept<A: Allocator>(v: &mut Vec<u32, A>) -> (Option<u32>, Option<u32>)
     let last = range.next_back();
     range.keep_rest();
     (first, last)
+}
+
+// Doubles each, and removes those that are 4 then: two elements are written, in one run.
+fn doubled_without_four<A: Allocator>(v: &mut Vec<u32, A>)
+    requires { v.old.items ≡ 1 ∷ 2 ∷ 3 ∷ 4 ∷ [] }
+    ensures items { Holds v.old (2 ∷ 6 ∷ 8 ∷ []) v.new }
+    ensures writes { (v.new.written ≡ v.old.written + 2) × (v.new.runs ≤ v.old.runs + 1) }
+{
+    v.retain_mut(|x| {
+        *x = x.wrapping_mul(2);
+        *x != 4
+    });
 }
 
 // Kept elements move as runs: four are written, in two.

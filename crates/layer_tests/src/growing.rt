@@ -13,11 +13,11 @@ fn next_capacity<T: Copy>(v: &mut Vec<T>, x: T) -> usize {
 }
 
 // Whether a new vector, each time that it grows, has these capacities in turn.
-fn grows_to<T: Copy>(alloc: Global, growth: Growth, x: T, capacities: [usize; 3]) -> bool {
+fn grows_to<T: Copy>(alloc: Global, growth: Growth, x: T, capacities: &[usize]) -> bool {
     let mut v = Vec::new_growing_in(growth, alloc);
     let mut all = v.is_empty() && v.capacity() == 0 && v.growth() == growth;
     for capacity in capacities {
-        all = next_capacity(&mut v, x) == capacity && all;
+        all = next_capacity(&mut v, x) == *capacity && all;
     }
     all
 }
@@ -25,11 +25,12 @@ fn grows_to<T: Copy>(alloc: Global, growth: Growth, x: T, capacities: [usize; 3]
 // The first push makes room by the size.
 #[test]
 fn vectors_double_or_grow_by_half(rt: HostRuntime) {
-    assert!(rt; grows_to(rt.alloc(), Growth::Doubling, 7u8, [8, 16, 32]));
-    assert!(rt; grows_to(rt.alloc(), Growth::Doubling, 7u32, [4, 8, 16]));
-    assert!(rt; grows_to(rt.alloc(), Growth::Sparing, [7u8; 1025], [1, 2, 3]));
-    assert!(rt; grows_to(rt.alloc(), Growth::Sparing, 7u8, [8, 12, 18]));
-    assert!(rt; grows_to(rt.alloc(), Growth::Sparing, 7u32, [4, 6, 9]));
+    let (doubling, sparing) = (Growth::Doubling, Growth::Sparing);
+    assert!(rt; grows_to(rt.alloc(), doubling, 7u8, &[8, 16, 32]));
+    assert!(rt; grows_to(rt.alloc(), doubling, 7u32, &[4, 8, 16]));
+    assert!(rt; grows_to(rt.alloc(), sparing, [7u8; 1025], &[1, 2, 3, 5, 8, 12]));
+    assert!(rt; grows_to(rt.alloc(), sparing, 7u8, &[8, 12, 18, 27, 41]));
+    assert!(rt; grows_to(rt.alloc(), sparing, 7u32, &[4, 6, 9, 14, 21]));
 }
 
 // How many elements so many pushes give, and the capacity.

@@ -35,3 +35,5 @@ mod printed;
 mod ranges;
 #[cfg(test)]
 mod raw;
+#[cfg(test)]
+mod recorded;

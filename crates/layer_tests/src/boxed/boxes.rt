@@ -5,6 +5,7 @@ use std::alloc::{AllocError, Global};
 use std::cell::Cell;
 use std::mem::size_of;
 use test_allocators::counted::Counted;
+use test_allocators::refusing::Refusing;
 
 const _: () = prove!(size_of::<Box<u64, Global>>() == 24);
 
@@ -89,4 +90,22 @@ fn each_value_is_dropped_once(rt: HostRuntime) {
         let drops = Cell::new(0);
         assert!(rt; dropped(rt.alloc(), &drops, end) == Some([0, 1, 2]));
     }
+}
+
+// Whether the error is printed so if the allocation of a box fails.
+fn error_is_printed(alloc: Global, text: &str) -> Result<bool, AllocError> {
+    match Box::try_new_in(5u32, Refusing) {
+        Ok(_) => Ok(false),
+        Err(error) => Ok(error.to_string(alloc)?.as_str() == text),
+    }
+}
+
+#[test]
+fn a_failed_allocation_is_printed(rt: HostRuntime) {
+    assert!(rt;
+        matches!(
+            error_is_printed(rt.alloc(), "memory allocation failed"),
+            Ok(true)
+        )
+    );
 }
