@@ -28,6 +28,8 @@ fn vectors_double_or_grow_by_half(rt: HostRuntime) {
     let (doubling, sparing) = (Growth::Doubling, Growth::Sparing);
     assert!(rt; grows_to(rt.alloc(), doubling, 7u8, &[8, 16, 32]));
     assert!(rt; grows_to(rt.alloc(), doubling, 7u32, &[4, 8, 16]));
+    assert!(rt; grows_to(rt.alloc(), doubling, [7u8; 1024], &[4]));
+    assert!(rt; grows_to(rt.alloc(), doubling, [7u8; 1025], &[1]));
     assert!(rt; grows_to(rt.alloc(), sparing, [7u8; 1025], &[1, 2, 3, 5, 8, 12]));
     assert!(rt; grows_to(rt.alloc(), sparing, 7u8, &[8, 12, 18, 27, 41]));
     assert!(rt; grows_to(rt.alloc(), sparing, 7u32, &[4, 6, 9, 14, 21]));

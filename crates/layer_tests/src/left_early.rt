@@ -71,7 +71,15 @@ fn drain_is_so(alloc: Global, (ends, taken, left, values, dropped): DrainRow) ->
     let drops = Cell::new(0u32);
     let mut v = counted_up(alloc, &drops, 10);
     let answer = drained(&mut v, ends, left, &drops);
-    answer == (taken, taken) && drops.get() == dropped && digits(&v) == values
+    let drained = answer == (taken, taken) && drops.get() == dropped && digits(&v) == values;
+    drained && drops_with(v, &drops)
+}
+
+// Whether each element that is left is dropped once with the vector.
+fn drops_with(v: Vec<Counted<'_>>, drops: &Cell<u32>) -> bool {
+    let (before, left) = (drops.get() as usize, v.len());
+    drop(v);
+    drops.get() as usize == before.saturating_add(left)
 }
 
 #[test]

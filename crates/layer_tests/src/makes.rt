@@ -113,7 +113,21 @@ fn vectors_are_made(rt: HostRuntime) {
     for row in rows {
         assert!(rt; is_so(rt.alloc(), row), "{} in {}", row.2, row.3);
     }
-    assert!(rt; cautious(Some(5000)) == 4096);
+    assert!(rt; cautious(Some(5000)) == 4096 && cautious(None) == 0);
+}
+
+// The length and the capacity of the elements of three empty arrays.
+fn flattened(alloc: Global) -> Option<(usize, usize)> {
+    let arrays: Vec<[u32; 0]> = list(alloc, &[[], [], []], 3);
+    match arrays.into_flattened() {
+        Ok(v) => Some((v.len(), v.capacity())),
+        Err(_) => None,
+    }
+}
+
+#[test]
+fn empty_arrays_are_flattened(rt: HostRuntime) {
+    assert!(rt; flattened(rt.alloc()) == Some((0, 0)));
 }
 
 // A vector of another length is handed back.

@@ -87,6 +87,23 @@ fn a_refused_box_drops_its_value(rt: HostRuntime) {
     assert!(rt; is_given_back(&heap));
 }
 
+// What is allocated and deallocated for a box of a unit; or none if it fails.
+fn counts_of_unit(heap: &Faulty<Global>) -> Option<(u64, u64)> {
+    heap.refuse(0, u64::MAX);
+    match tried((), heap) {
+        Ok(unit) => {
+            drop(unit);
+            Some((heap.requests(), heap.frees()))
+        }
+        Err(_) => None,
+    }
+}
+
+#[test]
+fn a_box_of_a_unit_does_not_allocate(rt: HostRuntime) {
+    assert!(rt; counts_of_unit(&Faulty::new(rt.alloc())) == Some((0, 0)));
+}
+
 // Calls of a block without values.
 #[derive(Clone, Copy)]
 enum Room {

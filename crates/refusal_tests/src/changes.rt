@@ -1,7 +1,9 @@
 //! Calls that change a vector or make something of its elements: each request in turn is refused,
 //! those of the elements' clones too.
 use crate::items::{Fill, Watched, filled, spliced};
-use crate::seen::{End, Held, boxed, digits, end_by, end_of, end_of_made, held, is_given_back};
+use crate::seen::{
+    End, Held, boxed, digits, end_by, end_of, end_of_made, held, is_given_back, numbers, stands,
+};
 use allocator_api2::SliceExt;
 use allocator_api2::collections::{Refused, TryReserveError};
 use allocator_api2::vec::{Items, Vec};
@@ -144,7 +146,10 @@ fn called_to_make<T: Clone + Drop, A: Allocator + Clone + Drop>(
         Call::TraitSliceClone => end_of_trait_clone(other),
         Call::TraitBoxClone => end_of_box_clone(other, alloc),
         Call::SplitOff(at) => end_of_made(v.split_off(at.min(v.len()))),
-        _ => end_of(called_with_many(call, v, other)),
+        _ => {
+            let mut other = other;
+            end_of(called_with_many(call, v, &mut other))
+        }
     }
 }
 
@@ -184,13 +189,13 @@ fn end_of_clone<T: Drop>(made: Result<T, AllocError>) -> End {
 pub(crate) fn called_with_many<T: Clone + Drop, A: Allocator + Clone>(
     call: Call,
     v: &mut Vec<T, A>,
-    mut other: Vec<T, A>,
+    other: &mut Vec<T, A>,
 ) -> Result<(), TryReserveError> {
     match call {
-        Call::Append => v.append(&mut other),
+        Call::Append => v.append(other),
         Call::ExtendFromSlice => v.extend_from_slice(other.as_slice()),
         Call::ExtendFromWithin => v.extend_from_within(v.len().min(1)..v.len()),
-        Call::AssignFrom => v.assign_from(&other),
+        Call::AssignFrom => v.assign_from(other),
         _ => called_for_room(call, v),
     }
 }
@@ -338,6 +343,8 @@ enum Start {
     OneFree,
     TwoFree,
     One,
+    OneOfFour,
+    NoneOfThree,
     Four,
     FourForOne,
     ThreeForTwo,
@@ -349,6 +356,8 @@ fn lists(from: Start) -> Before<'static> {
         Start::OneFree => (&[1, 2, 3], 4, &[4, 5, 6]),
         Start::TwoFree => (&[1, 2, 3], 5, &[4, 5, 6, 7, 8]),
         Start::One => (&[1], 1, &[4, 5, 6]),
+        Start::OneOfFour => (&[1], 4, &[]),
+        Start::NoneOfThree => (&[], 3, &[]),
         Start::Four => (&[1, 2, 3, 4], 4, &[7, 8, 9, 10]),
         Start::FourForOne => (&[1, 2, 3, 4], 4, &[9]),
         Start::ThreeForTwo => (&[1, 2, 3], 3, &[8, 9]),
@@ -370,8 +379,9 @@ const UNTRUE_OF_THREE: Call = Call::SpliceHinted(0, 3, Some(usize::MAX));
 
 // Of an extension what fits is kept, of an assignment a beginning, once what stood there is
 // dropped, and of a splice what is behind the range too. A hint that cannot be is refused where
-// items are left and the range is full.
-fn parts() -> [Part; 21] {
+// items are left and the range is full. A `resize` by one element clones nothing, and a vector
+// without elements shrinks to no capacity without allocation.
+fn parts() -> [Part; 23] {
     let (extend, by) = (Call::Fill(Fill::Extend), Call::Fill(Fill::ExtendBy));
     let (hinted, made) = (Call::ExtendHinted(0), Call::Fill(Fill::FromIterIn));
     let assign = Call::AssignFrom;
@@ -390,6 +400,17 @@ fn parts() -> [Part; 21] {
         (assign, Start::One, 2, End::NoMemory(3), 4, 4, 3, 0),
         (assign, Start::One, 3, End::NoMemory(3), 45, 4, 4, 0),
         (assign, Start::One, 4, End::Done, 456, 4, 4, 0),
+        (Call::Resize(2), Start::OneOfFour, 0, End::Done, 19, 4, 0, 0),
+        (
+            Call::ShrinkToFit,
+            Start::NoneOfThree,
+            0,
+            End::Done,
+            0,
+            0,
+            0,
+            0,
+        ),
         (HINT, Start::Four, 0, End::NoMemory(8), 1784, 4, 1, 0),
         (HINT, Start::Four, 1, End::NoMemory(4), 17894, 8, 2, 0),
         (HINT, Start::Four, 2, End::Done, 179004, 8, 2, 0),
@@ -421,4 +442,54 @@ fn each_request_of_many_items_leaves_a_part(rt: HostRuntime) {
     for part in parts() {
         assert!(rt; is_left(rt.alloc(), part));
     }
+}
+
+// How many of five pushes of numbers succeed in four places if every allocation fails; how the next
+// ends, and the number that it returns; and whether the vector then holds those before it.
+fn pushed(heap: &Faulty<Global>) -> (u32, End, Option<u32>, bool) {
+    let mut v = numbers(heap, &[], 4);
+    heap.refuse(0, u64::MAX);
+    for x in 1..=5u32 {
+        let mut one = Some(x);
+        let end = called_with_one(Call::Push, &mut v, &mut one);
+        if end != End::Done {
+            return (x - 1, end, one, stands(&v, &[1, 2, 3, 4], 4));
+        }
+    }
+    (5, End::Done, None, false)
+}
+
+#[test]
+fn a_push_that_fits_does_not_allocate(rt: HostRuntime) {
+    let heap = Faulty::new(rt.alloc());
+    assert!(rt; pushed(&heap) == (4, End::NoMemory(8), Some(5), true));
+    assert!(rt; is_given_back(&heap));
+}
+
+// How it ends to append a vector of one number to one of two if so many allocations fail, and
+// whether the two vectors then have these numbers and places.
+fn appended(
+    heap: &Faulty<Global>,
+    fails: u64,
+    (first, places): (&[u32], usize),
+    (second, others): (&[u32], usize),
+) -> (End, bool) {
+    let mut v = numbers(heap, &[1, 2], 2);
+    let mut other = numbers(heap, &[3], 4);
+    heap.refuse(0, fails);
+    let end = end_of(called_with_many(Call::Append, &mut v, &mut other));
+    (
+        end,
+        stands(&v, first, places) && stands(&other, second, others),
+    )
+}
+
+#[test]
+fn a_failed_append_leaves_both_vectors(rt: HostRuntime) {
+    let heap = Faulty::new(rt.alloc());
+    let failed = appended(&heap, 1, (&[1, 2], 2), (&[3], 4));
+    assert!(rt; failed == (End::NoMemory(4), true));
+    let done = appended(&heap, 0, (&[1, 2, 3], 4), (&[], 4));
+    assert!(rt; done == (End::Done, true));
+    assert!(rt; is_given_back(&heap));
 }

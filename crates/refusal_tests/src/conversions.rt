@@ -120,6 +120,21 @@ fn each_request_of_the_conversions_is_refused(rt: HostRuntime) {
     assert!(rt; is_given_back(&heap));
 }
 
+// The capacity of a vector that is returned because its boxed slice fails.
+fn capacity_returned(heap: &Faulty<Global>) -> Option<usize> {
+    let three = Three::Vector(numbers(heap, &[1, 2, 3], 4));
+    heap.refuse(0, 1);
+    match converted(Step::IntoBoxedSlice, three) {
+        (End::NoMemory(3), Three::Vector(v)) => Some(v.capacity()),
+        _ => None,
+    }
+}
+
+#[test]
+fn a_vector_that_is_returned_keeps_its_capacity(rt: HostRuntime) {
+    assert!(rt; capacity_returned(&Faulty::new(rt.alloc())) == Some(4));
+}
+
 // How a step ends where the allocator's clone is refused, and whether the numbers stand then.
 fn uncloned(alloc: Global, step: Step) -> (End, bool) {
     let heap = Faulty::new(alloc);

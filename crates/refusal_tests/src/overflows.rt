@@ -3,10 +3,10 @@ use crate::changes::{Call, called, called_with_many, called_with_one};
 use crate::copies;
 use crate::items::{Fill, copied, filled};
 use crate::seen::{End, end_of, end_of_made, numbers, put, room_for, stands, units};
-use allocator_api2::SliceExt;
 use allocator_api2::collections::TryReserveError;
 use allocator_api2::gap_buffer::GapBuffer;
 use allocator_api2::vec::Vec;
+use allocator_api2::{SliceExt, vec_of};
 use std::alloc::Global;
 use std::cell::Cell;
 use std::mem::forget;
@@ -47,6 +47,8 @@ enum OnGlobal {
     Repeat2,
     ToVec,
     ToVec2,
+    VecOfCopies,
+    VecOfElements,
 }
 
 // What a call makes, of the numbers 1 and 2 or of so many.
@@ -60,6 +62,8 @@ fn made(alloc: Global, call: OnGlobal, many: usize) -> Result<Vec<u32>, TryReser
         OnGlobal::Repeat2 => s.repeat2(alloc, many),
         OnGlobal::ToVec => SliceExt::to_vec(&s, alloc),
         OnGlobal::ToVec2 => s.to_vec2(alloc),
+        OnGlobal::VecOfCopies => vec_of![in alloc; 7; many],
+        OnGlobal::VecOfElements => Ok(vec_of![in alloc; 1, 2]?),
     }
 }
 
@@ -92,6 +96,8 @@ fn vectors_are_made_of_a_slice(rt: HostRuntime) {
         (OnGlobal::Repeat2, 0, [].as_slice()),
         (OnGlobal::ToVec, 0, [1, 2].as_slice()),
         (OnGlobal::ToVec2, 0, [1, 2].as_slice()),
+        (OnGlobal::VecOfCopies, 3, [7, 7, 7].as_slice()),
+        (OnGlobal::VecOfElements, 0, [1, 2].as_slice()),
     ] {
         assert!(rt; makes(rt.alloc(), call, many, items));
     }
@@ -120,6 +126,20 @@ fn no_vector_grows_past_the_limits(rt: HostRuntime) {
             assert!(rt; end_of_call(rt.alloc(), call) == (End::TooLong, true));
         }
     }
+}
+
+// How it ends to reserve so many more places after one element.
+fn end_of_reserve<T: Clone + Drop>(alloc: Global, x: T, more: usize) -> End {
+    let mut v = room_for(1, alloc);
+    put(&mut v, x);
+    end_of(called_with_many(Call::TryReserve(more), &mut v, &mut room_for(0, alloc)))
+}
+
+#[test]
+fn no_more_places_are_reserved_than_can_be_counted(rt: HostRuntime) {
+    assert!(rt; end_of_reserve(rt.alloc(), 7u8, usize::MAX) == End::TooLong);
+    assert!(rt; end_of_reserve(rt.alloc(), (), usize::MAX) == End::TooLong);
+    assert!(rt; end_of_reserve(rt.alloc(), (), usize::MAX - 1) == End::Done);
 }
 
 // How it ends to make room for so many behind one number of a text.
@@ -175,7 +195,10 @@ const MOST: usize = 18446744073709551615;
 fn end_of_unit(call: Call, v: &mut Vec<()>, other: Vec<()>) -> End {
     match call {
         Call::Push | Call::Insert => called_with_one(call, v, &mut Some(())),
-        Call::Append | Call::ExtendFromSlice => end_of(called_with_many(call, v, other)),
+        Call::Append | Call::ExtendFromSlice => {
+            let mut other = other;
+            end_of(called_with_many(call, v, &mut other))
+        }
         _ => copied(v, [()].iter()),
     }
 }
@@ -199,4 +222,46 @@ fn no_unit_is_put_behind_as_many_as_can_be_counted(rt: HostRuntime) {
 #[test]
 fn elements_without_size_take_no_memory(rt: HostRuntime) {
     assert!(rt; units(5, Refusing).len() == 5);
+}
+
+// Units on an allocator whose allocations all fail.
+type Units = Vec<(), Refusing>;
+
+fn drain_second(v: &mut Units) {
+    let to = v.len().min(2);
+    drop(v.drain(to.min(1)..to));
+}
+
+// Appends one unit, whose iterator says that as many come as can be counted.
+fn end_of_one_more(v: &mut Units) -> End {
+    let (call, one) = (Call::ExtendHinted(usize::MAX), units(1, Refusing));
+    called(call, v, &mut None, one, Refusing, &Cell::new(0))
+}
+
+fn shape(v: &Units) -> (usize, usize) {
+    (v.len(), v.capacity())
+}
+
+// The shapes of three units of which the second is drained, the others are split, and the first are
+// extended by one; or none if a call fails.
+fn shapes() -> Option<[(usize, usize); 2]> {
+    let Ok(mut v) = Vec::with_capacity_in(5, Refusing) else {
+        return None;
+    };
+    for _ in 0..3 {
+        put(&mut v, ());
+    }
+    drain_second(&mut v);
+    let Ok(tail) = v.split_off(v.len().min(1)) else {
+        return None;
+    };
+    match end_of_one_more(&mut v) {
+        End::Done => Some([shape(&v), shape(&tail)]),
+        _ => None,
+    }
+}
+
+#[test]
+fn no_call_on_units_allocates(rt: HostRuntime) {
+    assert!(rt; shapes() == Some([(2, usize::MAX), (1, usize::MAX)]));
 }

@@ -1,6 +1,7 @@
 //! `run`, command by command: on lists of 0 to 100 numbers, with all places full, one free and many
 //! free, and each request refused in turn. What a command replies and what it leaves are in the
-//! contract of `run`. That it is refused only where a request is, or past the limits, is in none.
+//! contract of `run`; what a failed one leaves is compared here too. That it is refused only where a
+//! request is, or past the limits, is in none.
 use crate::seen::{List, put, room_for};
 use allocator_api2::collections::TryReserveErrorKind;
 use allocator_api2::runner::{Command, Reply, run};
@@ -137,29 +138,73 @@ fn ran<'a>(
     ended_by(replies.as_slice())
 }
 
+// Whether numbers are those of a list of pairs from an index on.
+fn are_pairs(numbers: &[u32], from: usize) -> bool {
+    let mut index = from;
+    for x in numbers {
+        if *x as usize != index / 2 {
+            return false;
+        }
+        index = index.saturating_add(1);
+    }
+    true
+}
+
+// The range of main that a command replaces, and the number of its items.
+fn replaced_by(told: Told, len: usize) -> ((usize, usize), usize) {
+    match told {
+        Told::Extend(count, _hint) => ((len, len), count as usize),
+        Told::Splice(count, start, end, _hint) => ((start, end), count as usize),
+        _ => ((len, len), 0),
+    }
+}
+
+// Whether a list of so many pairs is as a failed command leaves it: the numbers before the range and
+// after it, and between them the first of its items. These fill the range, or all places if nothing
+// follows. The capacity changes only with such a part, or if elements are cloned.
+fn is_left(list: &List<'_, u32>, told: Told, len: usize, free: usize) -> bool {
+    let ((start, end), count) = replaced_by(told, len);
+    let (all, behind) = (list.as_slice(), len.saturating_sub(end));
+    let (head, rest) = all.split_at(start.min(all.len()));
+    let (items, tail) = rest.split_at(rest.len().saturating_sub(behind));
+    let places = len.saturating_add(free);
+    let fits = match told {
+        Told::Extend(..) | Told::Splice(..) if behind == 0 => list.capacity() == all.len(),
+        Told::Splice(..) => end <= start.saturating_add(items.len()),
+        Told::ExtendFromWithin(..) | Told::Resize(_) => true,
+        _ => list.capacity() == places,
+    };
+    let counted = head.len() == start && tail.len() == behind && items.len() <= count;
+    let numbered = are_pairs(head, 0) && are_pairs(items, 0) && are_pairs(tail, end);
+    fits && counted && numbered && places <= list.capacity()
+}
+
 // Runs a command on lists of so many numbers, and of three, with so many places more, while the
-// request numbered `refused` of the run fails: how it ends, and whether there was such a request.
+// request numbered `refused` of the run fails: how it ends, whether there was such a request, and
+// whether a failed command leaves the lists as it must.
 fn came_of(
     heap: &Faulty<Global>,
     told: Told,
     len: u32,
     free: usize,
     refused: u64,
-) -> (Ended, bool) {
+) -> (Ended, bool, bool) {
     let mut main = pairs(heap, len, free);
     let mut side = pairs(heap, 3, free);
     let commands = commands_of(heap, told);
     let before = heap.refused();
     let ended = ran(heap, &mut main, &mut side, commands, refused);
-    (ended, heap.refused() != before)
+    let left = ended == Ended::Done
+        || is_left(&main, told, len as usize, free) && is_left(&side, Told::Clear, 3, free);
+    (ended, heap.refused() != before, left)
 }
 
 // Whether a command is refused once wherever a request is, each in turn, and else not for want of
-// memory.
+// memory; and leaves the lists as it must.
 fn is_refused_in_turn(heap: &Faulty<Global>, told: Told, len: u32, free: usize) -> bool {
     for refused in 0..64 {
-        let (ended, any) = came_of(heap, told, len, free, refused);
-        if ended == Ended::NotTold || any != (ended == Ended::NoMemory) {
+        let (ended, any, left) = came_of(heap, told, len, free, refused);
+        if ended == Ended::NotTold || any != (ended == Ended::NoMemory) || !left {
             return false;
         }
         if !any {
@@ -294,7 +339,7 @@ fn each_command_is_refused_where_a_request_is(rt: HostRuntime) {
 
 // Whether a command on three numbers and no place more is refused for a size or a length.
 fn is_too_long(alloc: Global, told: Told) -> bool {
-    came_of(&Faulty::new(alloc), told, 3, 0, u64::MAX) == (Ended::TooLong, false)
+    came_of(&Faulty::new(alloc), told, 3, 0, u64::MAX) == (Ended::TooLong, false, true)
 }
 
 // More than the limit on bytes allows beside three numbers, and more than can be counted.

@@ -68,6 +68,6 @@ fn is_text(alloc: Global, bytes: &[u8], text: Option<&str>) -> bool {
 
 #[test]
 fn bytes_in_utf8_become_a_text(rt: HostRuntime) {
-    assert!(rt; is_text(rt.alloc(), &[0x68, 0xc3, 0xa9], Some("hé")));
+    assert!(rt; is_text(rt.alloc(), b"\x68\xc3\xa9\x6c\x6c\x6f", Some("héllo")));
     assert!(rt; is_text(rt.alloc(), &[0x68, 0xc3], None));
 }

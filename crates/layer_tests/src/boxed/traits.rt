@@ -13,16 +13,18 @@ use std::ops::Range;
 use std::test::Fail;
 use std::vec::Vec;
 
-// The last number, how many are left then, the bounds of that, and the first.
-fn walked(mut b: Box<Range<u32>>) -> (Option<u32>, usize, (usize, Option<usize>), Option<u32>) {
-    let last = b.next_back();
-    (last, b.len(), b.size_hint(), b.next())
+// The numbers at the end, at the start and at the end again, and how many are left after the first.
+fn walked(mut b: Box<Range<u32>>) -> ([Option<u32>; 3], (usize, Option<usize>), usize) {
+    let back = b.next_back();
+    let (hint, len) = (b.size_hint(), b.len());
+    let front = b.next();
+    ([back, front, b.last()], hint, len)
 }
 
 #[test]
 fn an_iterator_is_walked_in_its_box(rt: HostRuntime) -> Result<(), Fail> {
     let b = boxed(rt.alloc(), 0..3u32)?;
-    assert!(rt; walked(b) == (Some(2), 2, (2, Some(2)), Some(0)));
+    assert!(rt; walked(b) == ([Some(2), Some(0), Some(1)], (2, Some(2)), 2));
     Ok(())
 }
 

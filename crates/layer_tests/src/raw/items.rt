@@ -24,11 +24,26 @@ fn taken<T: Drop>(items: &mut IntoIter<T>) -> (Option<T>, Option<T>, usize) {
     (items.next_back(), items.next(), items.len())
 }
 
+// The last item, and how many are left then.
+fn last_taken<T: Drop>(items: &mut IntoIter<T>) -> (Option<T>, usize) {
+    (items.next_back(), items.len())
+}
+
 #[test]
 fn items_come_from_both_ends(rt: HostRuntime) -> Result<(), Fail> {
     let mut items = two(rt.alloc(), [1u32, 2])?;
     assert!(rt; taken(&mut items) == (Some(2), Some(1), 0));
     assert!(rt; taken(&mut items) == (None, None, 0));
+    Ok(())
+}
+
+// The lengths after items are taken from the end until none is left.
+#[test]
+fn items_without_size_are_counted(rt: HostRuntime) -> Result<(), Fail> {
+    let mut items = two(rt.alloc(), [(), ()])?;
+    assert!(rt; last_taken(&mut items) == (Some(()), 1));
+    assert!(rt; last_taken(&mut items) == (Some(()), 0));
+    assert!(rt; last_taken(&mut items) == (None, 0));
     Ok(())
 }
 
