@@ -1,10 +1,11 @@
 //! Each call that changes a vector, once on its happy path, and with the capacity that it leaves.
 use crate::clones::{assigned, behind, filled, within};
-use crate::lists::{counted_up, digits, reads};
+use crate::lists::{add, digits, reads};
+use crate::memory::has_due_requests;
 use aa_raw::collections::TryReserveError;
 use aa_vec::vec::{Items, Vec};
-use std::alloc::Global;
-use std::cell::Cell;
+use std::alloc::{Allocator, Global};
+use test_allocators::Faulty;
 
 // A call that takes elements out of a vector.
 #[derive(Clone, Copy)]
@@ -17,7 +18,7 @@ pub(crate) enum Taking {
 }
 
 // What it gives. One at a place that is not there does nothing.
-fn taken<T: Drop>(taking: Taking, v: &mut Vec<T>) -> Option<T> {
+pub(crate) fn taken<T: Drop, A: Allocator>(taking: Taking, v: &mut Vec<T, A>) -> Option<T> {
     match taking {
         Taking::Pop => return v.pop(),
         Taking::Remove(at) if at < v.len() => return Some(v.remove(at)),
@@ -34,6 +35,8 @@ fn taken<T: Drop>(taking: Taking, v: &mut Vec<T>) -> Option<T> {
 enum Call {
     Take(Taking),
     Push(u32),
+    // A push and a pop, so many times.
+    PushAndPop(u32),
     PushWithinCapacity(u32),
     Insert(usize, u32),
     Append,
@@ -58,10 +61,15 @@ enum Call {
 }
 
 // What a call gives, or hands back.
-fn called(call: Call, v: &mut Vec<u32>, other: Vec<u32>) -> Result<Option<u32>, TryReserveError> {
+fn called<A: Allocator>(
+    call: Call,
+    v: &mut Vec<u32, A>,
+    other: Vec<u32, A>,
+) -> Result<Option<u32>, TryReserveError> {
     match call {
         Call::Take(taking) => return Ok(taken(taking, v)),
         Call::PushWithinCapacity(x) => return Ok(v.push_within_capacity(x).err()),
+        Call::PushAndPop(count) => return Ok(pushed_and_popped(v, count)),
         Call::Push(x) => v.push(x)?,
         Call::Insert(at, x) => v.insert(at.min(v.len()), x)?,
         Call::Reserve(count) => v.reserve(count)?,
@@ -75,8 +83,22 @@ fn called(call: Call, v: &mut Vec<u32>, other: Vec<u32>) -> Result<Option<u32>, 
     Ok(None)
 }
 
+// The last of the elements that are pushed and popped, one after another.
+fn pushed_and_popped<A: Allocator>(v: &mut Vec<u32, A>, count: u32) -> Option<u32> {
+    let mut last = None;
+    for x in 0..count {
+        add(v, x);
+        last = taken(Taking::Pop, v);
+    }
+    last
+}
+
 // The calls that put several elements behind the others, or other ones in their place.
-fn lengthened(call: Call, v: &mut Vec<u32>, other: Vec<u32>) -> Result<(), TryReserveError> {
+fn lengthened<A: Allocator>(
+    call: Call,
+    v: &mut Vec<u32, A>,
+    other: Vec<u32, A>,
+) -> Result<(), TryReserveError> {
     let len = v.len();
     match call {
         Call::ExtendFromSlice => behind(v, other.as_slice()),
@@ -90,7 +112,11 @@ fn lengthened(call: Call, v: &mut Vec<u32>, other: Vec<u32>) -> Result<(), TryRe
 }
 
 // The calls that put all elements of another vector behind the others.
-fn extended(call: Call, v: &mut Vec<u32>, other: Vec<u32>) -> Result<(), TryReserveError> {
+fn extended<A: Allocator>(
+    call: Call,
+    v: &mut Vec<u32, A>,
+    other: Vec<u32, A>,
+) -> Result<(), TryReserveError> {
     match call {
         Call::Extend => v.extend(other.into_iter()),
         Call::ExtendBy => v.extend_by(&mut other.into_iter()),
@@ -109,10 +135,15 @@ fn extended(call: Call, v: &mut Vec<u32>, other: Vec<u32>) -> Result<(), TryRese
 // the digits and the capacity that it leaves.
 type Row = (u32, usize, Call, Option<u32>, u32, usize);
 
-// Whether a row is as the vector has it.
-fn is_so(alloc: Global, (items, room, call, given, left, capacity): Row) -> bool {
-    let mut v = digits(alloc, items, room);
-    called(call, &mut v, digits(alloc, 78, 2)) == Ok(given) && reads(&v, left, capacity)
+// Whether a row is as the vector has it, and the call makes one request if it needs a new block,
+// and else none.
+fn is_so(heap: &Faulty<Global>, (items, room, call, given, left, capacity): Row) -> bool {
+    let mut v = digits(heap, items, room);
+    let other = digits(heap, 78, 2);
+    let before = heap.requests();
+    let came = called(call, &mut v, other);
+    let due = has_due_requests(heap, before, room, v.capacity());
+    came == Ok(given) && due && reads(&v, left, capacity)
 }
 
 #[test]
@@ -147,8 +178,37 @@ fn elements_are_put_and_taken(rt: HostRuntime) {
         (12, 2, Call::ExtendCopied, None, 1278, 4),
         (12, 2, Call::ExtendCopiedBy, None, 1278, 4),
     ];
+    let heap = Faulty::new(rt.alloc());
     for row in rows {
-        assert!(rt; is_so(rt.alloc(), row), "{} in {}", row.4, row.5);
+        assert!(rt; is_so(&heap, row), "{} in {}", row.4, row.5);
+    }
+    assert!(rt; heap.outstanding() == 0);
+}
+
+#[test]
+fn what_fits_does_not_allocate(rt: HostRuntime) {
+    let rows: [Row; 17] = [
+        (123, 4, Call::Push(4), None, 1234, 4),
+        (123, 4, Call::PushAndPop(1000), Some(999), 123, 4),
+        (123, 10, Call::Reserve(7), None, 123, 10),
+        (123, 10, Call::TryReserve(7), None, 123, 10),
+        (123, 10, Call::ReserveExact(7), None, 123, 10),
+        (123, 10, Call::TryReserveExact(7), None, 123, 10),
+        (123, 10, Call::ShrinkTo(10), None, 123, 10),
+        (123, 3, Call::ShrinkToFit, None, 123, 3),
+        (1234, 4, Call::Resize(1, 7), None, 1, 4),
+        (12, 4, Call::ExtendFromSlice, None, 1278, 4),
+        (12, 4, Call::ExtendFromSliceCopied, None, 1278, 4),
+        (12, 4, Call::ExtendFromWithin(0), None, 1212, 4),
+        (12, 4, Call::ExtendFromWithinCopied(0), None, 1212, 4),
+        (12, 4, Call::Append, None, 1278, 4),
+        (12, 4, Call::ExtendBy, None, 1278, 4),
+        (12, 7, Call::ExtendHinted, None, 1278, 7),
+        (12, 4, Call::ExtendCopiedBy, None, 1278, 4),
+    ];
+    let heap = Faulty::new(rt.alloc());
+    for row in rows {
+        assert!(rt; is_so(&heap, row), "{} in {}", row.4, row.5);
     }
 }
 
@@ -185,19 +245,4 @@ fn elements_are_written_in_place(rt: HostRuntime) {
     halve(&mut v);
     assert!(rt; greatest(&v) == Some(3) && reads(&v, 312, 4));
     assert!(rt; sum(v) == 6);
-}
-
-#[test]
-fn each_element_is_dropped_once(rt: HostRuntime) {
-    let drops = Cell::new(0);
-    let mut v = counted_up(rt.alloc(), &drops, 9);
-    for (taking, length, dropped) in [
-        (Taking::Pop, 8, 1),
-        (Taking::Truncate(6), 6, 3),
-        (Taking::SwapRemove(1), 5, 4),
-        (Taking::Clear, 0, 9),
-    ] {
-        drop(taken(taking, &mut v));
-        assert!(rt; (v.len(), drops.get()) == (length, dropped));
-    }
 }

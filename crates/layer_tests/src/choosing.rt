@@ -1,8 +1,10 @@
 //! Each call that is given a closure, once on its happy path.
 use crate::lists::{digits, reads};
+use crate::memory::has_due_requests;
 use aa_raw::collections::TryReserveError;
 use aa_vec::vec::Vec;
-use std::alloc::Global;
+use std::alloc::{Allocator, Global};
+use test_allocators::Faulty;
 
 // A call that asks a closure, which is given away, or lent.
 #[derive(Clone, Copy)]
@@ -47,7 +49,7 @@ fn seven() -> u32 {
 }
 
 #[tactic(auto, using(aa_vec::proofs::Callers::callers))]
-fn chosen(choice: Choice, v: &mut Vec<u32>) -> Result<(), TryReserveError> {
+fn chosen<A: Allocator>(choice: Choice, v: &mut Vec<u32, A>) -> Result<(), TryReserveError> {
     match choice {
         Choice::Retain => v.retain(is_odd),
         Choice::RetainMut => v.retain_mut(is_kept),
@@ -66,10 +68,12 @@ fn chosen(choice: Choice, v: &mut Vec<u32>) -> Result<(), TryReserveError> {
 // A call, the digits of the elements, and those that are left.
 type Row = (Choice, u32, u32);
 
-// Whether a row is as the vector has it.
-fn is_so(alloc: Global, (choice, items, left): Row) -> bool {
-    let mut v = digits(alloc, items, 7);
-    chosen(choice, &mut v).is_ok() && reads(&v, left, 7)
+// Whether a row is as the vector has it, and the call makes no request.
+fn is_so(heap: &Faulty<Global>, (choice, items, left): Row) -> bool {
+    let mut v = digits(heap, items, 7);
+    let before = heap.requests();
+    let came = chosen(choice, &mut v).is_ok();
+    came && has_due_requests(heap, before, 7, v.capacity()) && reads(&v, left, 7)
 }
 
 #[test]
@@ -86,7 +90,8 @@ fn elements_are_chosen(rt: HostRuntime) {
         (Choice::ResizeWith, 123, 12377),
         (Choice::ResizeBy, 123, 12377),
     ];
+    let heap = Faulty::new(rt.alloc());
     for row in rows {
-        assert!(rt; is_so(rt.alloc(), row), "{}", row.2);
+        assert!(rt; is_so(&heap, row), "{}", row.2);
     }
 }

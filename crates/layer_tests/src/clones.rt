@@ -1,17 +1,20 @@
 //! The calls that clone elements, each in one place, for all types that are cloned in the tests.
 use aa_raw::collections::TryReserveError;
 use aa_vec::vec::Vec;
-use std::alloc::Global;
+use std::alloc::{Allocator, Global};
 use std::clone::Clone;
 
 /// `Vec::extend_from_slice`.
-pub(crate) fn behind<T: Clone + Drop>(v: &mut Vec<T>, others: &[T]) -> Result<(), TryReserveError> {
+pub(crate) fn behind<T: Clone + Drop, A: Allocator>(
+    v: &mut Vec<T, A>,
+    others: &[T],
+) -> Result<(), TryReserveError> {
     v.extend_from_slice(others)
 }
 
 /// `Vec::extend_from_within`, as far as there are these places.
-pub(crate) fn within<T: Clone + Drop>(
-    v: &mut Vec<T>,
+pub(crate) fn within<T: Clone + Drop, A: Allocator>(
+    v: &mut Vec<T, A>,
     from: usize,
     to: usize,
 ) -> Result<(), TryReserveError> {
@@ -20,8 +23,8 @@ pub(crate) fn within<T: Clone + Drop>(
 }
 
 /// `Vec::resize`.
-pub(crate) fn filled<T: Clone + Drop>(
-    v: &mut Vec<T>,
+pub(crate) fn filled<T: Clone + Drop, A: Allocator>(
+    v: &mut Vec<T, A>,
     len: usize,
     x: T,
 ) -> Result<(), TryReserveError> {
@@ -29,9 +32,9 @@ pub(crate) fn filled<T: Clone + Drop>(
 }
 
 /// `Vec::assign_from`.
-pub(crate) fn assigned<T: Clone + Drop>(
-    v: &mut Vec<T>,
-    source: &Vec<T>,
+pub(crate) fn assigned<T: Clone + Drop, A: Allocator>(
+    v: &mut Vec<T, A>,
+    source: &Vec<T, A>,
 ) -> Result<(), TryReserveError> {
     v.assign_from(source)
 }

@@ -3,4 +3,4 @@ mod claims;
 mod counted;
 mod refusals;
 mod rows;
-mod texts;
+pub(crate) mod texts;

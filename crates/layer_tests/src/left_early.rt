@@ -7,7 +7,11 @@ use std::alloc::Global;
 use std::cell::Cell;
 use std::mem::forget;
 use std::rc::Rc;
+use test_allocators::Faulty;
 use test_allocators::counted::Counted;
+
+// Elements that count their drops, over an allocator that counts its requests.
+type Many<'a> = Vec<Counted<'a>, &'a Faulty<Global>>;
 
 // How a range is left.
 #[derive(Clone, Copy)]
@@ -37,7 +41,7 @@ macro_rules! taken_from_ends {
 // Takes from both ends of a range, and leaves it so: how many came, and how many elements had been
 // dropped just before it was left.
 fn drained(
-    v: &mut Vec<Counted<'_>>,
+    v: &mut Many<'_>,
     (first, last): (u32, u32),
     left: Left,
     drops: &Cell<u32>,
@@ -54,7 +58,7 @@ fn drained(
 }
 
 // The values of elements, as the digits of a number that begins with 1.
-fn digits(v: &Vec<Counted<'_>>) -> u64 {
+fn digits(v: &Many<'_>) -> u64 {
     let mut all = 1u64;
     for x in v.iter() {
         all = all.wrapping_mul(10).wrapping_add(u64::from(x.value));
@@ -66,20 +70,22 @@ fn digits(v: &Vec<Counted<'_>>) -> u64 {
 // that stand then, and how many were dropped.
 type DrainRow = ((u32, u32), u32, Left, u64, u32);
 
-// Whether a drain of the third to the eighth of ten is so.
-fn drain_is_so(alloc: Global, (ends, taken, left, values, dropped): DrainRow) -> bool {
-    let drops = Cell::new(0u32);
-    let mut v = counted_up(alloc, &drops, 10);
-    let answer = drained(&mut v, ends, left, &drops);
-    let drained = answer == (taken, taken) && drops.get() == dropped && digits(&v) == values;
-    drained && drops_with(v, &drops)
+// Whether ten elements are as they must be once a range was left so, which makes no request: each
+// is dropped once with the vector, unless a range of them was forgotten.
+fn is_left(v: Many<'_>, left: Left, values: u64, drops: &Cell<u32>) -> bool {
+    let stands = digits(&v) == values && v.allocator().requests() == 1;
+    drop(v);
+    stands && (drops.get() == 10) != matches!(left, Left::Forgotten)
 }
 
-// Whether each element that is left is dropped once with the vector.
-fn drops_with(v: Vec<Counted<'_>>, drops: &Cell<u32>) -> bool {
-    let (before, left) = (drops.get() as usize, v.len());
-    drop(v);
-    drops.get() as usize == before.saturating_add(left)
+// Whether a drain of the third to the eighth of ten is so.
+fn drain_is_so(alloc: Global, (ends, taken, left, values, dropped): DrainRow) -> bool {
+    let heap = Faulty::new(alloc);
+    let drops = Cell::new(0u32);
+    let mut v = counted_up(&heap, &drops, 10);
+    let answer = drained(&mut v, ends, left, &drops);
+    let same = answer == (taken, taken) && drops.get() == dropped;
+    is_left(v, left, values, &drops) && same && heap.outstanding() == 0
 }
 
 #[test]
@@ -100,7 +106,7 @@ fn what_is_left_of_a_drain_is_dropped_kept_or_lost(rt: HostRuntime) {
 // Takes the even ones of a range out, up to `count`, and leaves the others: how many the range
 // tells then that it may have at most.
 #[tactic(auto, using(aa_vec::proofs::Callers::callers))]
-fn extracted(v: &mut Vec<Counted<'_>>, count: u32, left: Left) -> Option<usize> {
+fn extracted(v: &mut Many<'_>, count: u32, left: Left) -> Option<usize> {
     let to = v.len().min(8);
     let mut range = v.extract_if(to.min(2)..to, |x| x.value % 2 == 0);
     for _ in 0..count {
@@ -121,10 +127,12 @@ type ExtractRow = (u32, Left, usize, u64, u32);
 
 // Whether an extraction of the third to the eighth of ten is so.
 fn extraction_is_so(alloc: Global, (count, left, told, values, dropped): ExtractRow) -> bool {
+    let heap = Faulty::new(alloc);
     let drops = Cell::new(0u32);
-    let mut v = counted_up(alloc, &drops, 10);
+    let mut v = counted_up(&heap, &drops, 10);
     let answer = extracted(&mut v, count, left);
-    answer == Some(told) && drops.get() == dropped && digits(&v) == values
+    let same = answer == Some(told) && drops.get() == dropped;
+    is_left(v, left, values, &drops) && same && heap.outstanding() == 0
 }
 
 // What was not asked stays where the range ends.

@@ -30,6 +30,8 @@ mod lists;
 #[cfg(test)]
 mod makes;
 #[cfg(test)]
+mod memory;
+#[cfg(test)]
 mod printed;
 #[cfg(test)]
 mod ranges;

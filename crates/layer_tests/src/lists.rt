@@ -3,20 +3,20 @@
 use crate::clones::behind;
 use aa_raw::collections::TryReserveError;
 use aa_vec::vec::Vec;
-use std::alloc::Global;
+use std::alloc::{Allocator, Global};
 use std::cell::Cell;
 use test_allocators::counted::Counted;
 
 /// Puts an element behind the others. One that is refused is dropped at once.
-pub(crate) fn add<T: Drop>(v: &mut Vec<T>, x: T) {
+pub(crate) fn add<T: Drop, A: Allocator>(v: &mut Vec<T, A>, x: T) {
     let _added = v.push(x);
 }
 
 /// An empty vector with so many places.
-pub(crate) fn places<T>(alloc: Global, capacity: usize) -> Vec<T> {
-    match Vec::with_capacity(alloc, capacity) {
+pub(crate) fn places<T, A: Allocator + Copy>(alloc: A, capacity: usize) -> Vec<T, A> {
+    match Vec::with_capacity_in(capacity, alloc) {
         Ok(v) => v,
-        Err(_) => Vec::new(alloc),
+        Err(_) => Vec::new_in(alloc),
     }
 }
 
@@ -29,7 +29,7 @@ pub(crate) fn list<T: Copy>(alloc: Global, items: &[T], capacity: usize) -> Vec<
 
 /// The digits of a number of at most seven, 0 for none, with room for `capacity`. A row of a table
 /// costs less to prove so than with slices.
-pub(crate) fn digits(alloc: Global, number: u32, capacity: usize) -> Vec<u32> {
+pub(crate) fn digits<A: Allocator + Copy>(alloc: A, number: u32, capacity: usize) -> Vec<u32, A> {
     let mut v = places(alloc, capacity);
     for place in [1_000_000, 100_000, 10_000, 1_000, 100, 10, 1u32] {
         if place <= number {
@@ -40,12 +40,16 @@ pub(crate) fn digits(alloc: Global, number: u32, capacity: usize) -> Vec<u32> {
 }
 
 /// Whether a vector has these digits, in these many places.
-pub(crate) fn reads(v: &Vec<u32>, number: u32, capacity: usize) -> bool {
+pub(crate) fn reads<A: Allocator + Copy>(v: &Vec<u32, A>, number: u32, capacity: usize) -> bool {
     *v == digits(*v.allocator(), number, 0) && v.capacity() == capacity
 }
 
 /// The elements with the numbers from 0 up to `end`. One that is refused is counted too early.
-pub(crate) fn counted_up(alloc: Global, drops: &Cell<u32>, end: u32) -> Vec<Counted<'_>> {
+pub(crate) fn counted_up<'a, A: Allocator + Copy>(
+    alloc: A,
+    drops: &'a Cell<u32>,
+    end: u32,
+) -> Vec<Counted<'a>, A> {
     let mut v = places(alloc, 16);
     for value in 0..end {
         add(&mut v, Counted { value, drops });

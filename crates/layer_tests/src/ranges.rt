@@ -1,7 +1,7 @@
 //! Ranges: what they tell before they end, and splices.
 use crate::lists::{digits, reads};
 use aa_vec::vec::{Drain, Vec};
-use std::alloc::{AllocError, Global};
+use std::alloc::{AllocError, Allocator, Global};
 use std::mem::size_of;
 use std::ops::Range;
 use std::test::Fail;
@@ -9,7 +9,11 @@ use std::test::Fail;
 const _: () = prove!(size_of::<Drain<u64, Global>>() == 40);
 
 /// The range of these places, as far as they are there.
-pub(crate) fn range_of<T>(v: &mut Vec<T>, from: usize, to: usize) -> Drain<'_, T> {
+pub(crate) fn range_of<T, A: Allocator>(
+    v: &mut Vec<T, A>,
+    from: usize,
+    to: usize,
+) -> Drain<'_, T, A> {
     let to = to.min(v.len());
     v.drain(from.min(to)..to)
 }

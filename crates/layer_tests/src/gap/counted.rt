@@ -1,37 +1,10 @@
 //! Elements that count how often such an element is dropped.
-use crate::gap::texts::{add, edited_twice, put};
+use crate::gap::texts::{add, edited_twice};
 use aa_gap::gap_buffer::{Edit, GapBuffer};
 use std::alloc::Global;
 use std::cell::Cell;
 use test_allocators::Faulty;
 use test_allocators::counted::Counted;
-
-// Three of them, the cursor behind the first.
-fn three(alloc: Global, drops: &Cell<u32>) -> GapBuffer<Counted<'_>> {
-    let mut text = GapBuffer::new_in(alloc);
-    for value in 0..3 {
-        let _put = put(&mut text, Counted { value, drops });
-    }
-    text.move_to(text.len().min(1));
-    text
-}
-
-#[test]
-fn each_element_is_dropped_once(rt: HostRuntime) {
-    let drops = Cell::new(0);
-    let mut text = three(rt.alloc(), &drops);
-    drop(text.delete_forward());
-    assert!(rt; drops.get() == 1);
-    text.clear();
-    assert!(rt; drops.get() == 3);
-    let added = Counted {
-        value: 3,
-        drops: &drops,
-    };
-    assert!(rt; put(&mut text, added));
-    drop(text);
-    assert!(rt; drops.get() == 4);
-}
 
 // So many edits that put such an element, and one that deletes the last.
 fn inserts(alloc: Global, drops: &Cell<u32>, count: u32) -> Vec<Edit<Counted<'_>>> {

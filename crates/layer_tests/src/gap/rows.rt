@@ -1,10 +1,12 @@
 //! Worked examples, and each call once.
 use crate::gap::texts::{add, edited_twice, nine_put, put, reads};
+use crate::memory::has_due_requests;
 use crate::printed::are_printed;
 use aa_gap::gap_buffer::{Edit, GapBuffer};
 use aa_raw::raw_vec::Growth;
-use std::alloc::Global;
+use std::alloc::{Allocator, Global};
 use std::test::Fail;
+use test_allocators::Faulty;
 
 // A call on a text, with what it is given.
 #[derive(Clone, Copy)]
@@ -18,7 +20,7 @@ enum Call {
 }
 
 // What a call gives, or hands back; and 0 where it is refused.
-fn called(call: Call, text: &mut GapBuffer<u32>) -> Option<u32> {
+fn called<A: Allocator>(call: Call, text: &mut GapBuffer<u32, A>) -> Option<u32> {
     let granted = match call {
         Call::Insert(x) => put(text, x),
         Call::Reserve(count) => text.reserve(count).is_ok(),
@@ -51,18 +53,24 @@ fn rows() -> [Row; 8] {
     ]
 }
 
-// Whether a row is as the text has it.
-fn is_so(alloc: Global, (first, second, given, before, after, capacity): Row) -> bool {
-    let mut text = nine_put(alloc);
+// Whether a row is as the text has it, and the second call makes one request if it needs a new
+// block, and else none.
+fn is_so(heap: &Faulty<Global>, (first, second, given, before, after, capacity): Row) -> bool {
+    let mut text = nine_put(heap);
     let begun = reads(&text, 19, 23, 4) && called(first, &mut text) != Some(0);
-    begun && called(second, &mut text) == given && reads(&text, before, after, capacity)
+    let (places, requests) = (text.capacity(), heap.requests());
+    let came = called(second, &mut text);
+    let due = has_due_requests(heap, requests, places, text.capacity());
+    begun && due && came == given && reads(&text, before, after, capacity)
 }
 
 #[test]
 fn elements_are_put_and_taken_at_the_cursor(rt: HostRuntime) {
+    let heap = Faulty::new(rt.alloc());
     for row in rows() {
-        assert!(rt; is_so(rt.alloc(), row), "{} | {}", row.3, row.4);
+        assert!(rt; is_so(&heap, row), "{} | {}", row.3, row.4);
     }
+    assert!(rt; heap.outstanding() == 0);
 }
 
 #[test]

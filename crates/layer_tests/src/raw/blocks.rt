@@ -2,12 +2,14 @@
 //! once.
 ghost use Rattle.std.specs.Prelude.{◌≡◌, [], ◌∷◌, Some, None, IfOk};
 
+use crate::memory::has_due_requests;
 use crate::raw::told;
 use aa_raw::collections::{Refused, TryReserveError, TryReserveErrorKind};
 use aa_raw::raw_vec::{Growth, RawVec};
-use std::alloc::{AllocError, Global};
+use std::alloc::{AllocError, Allocator, Global};
 use std::mem::size_of;
 use std::test::Fail;
+use test_allocators::Faulty;
 
 const _: () = prove!(size_of::<RawVec<u64, Global>>() == 24);
 
@@ -62,7 +64,7 @@ enum Room {
     Shrink(usize),
 }
 
-fn made<T>(room: Room, block: &mut RawVec<T>) -> Result<(), TryReserveError> {
+fn made<T, A: Allocator>(room: Room, block: &mut RawVec<T, A>) -> Result<(), TryReserveError> {
     match room {
         Room::Reserve(count) => block.reserve(0, count),
         Room::TryReserve(count) => block.try_reserve(0, count),
@@ -74,14 +76,22 @@ fn made<T>(room: Room, block: &mut RawVec<T>) -> Result<(), TryReserveError> {
 }
 
 // The capacity of a new block after each of these calls, which is an overflow where there is none.
-fn goes_to<T>(alloc: Global, growth: Option<Growth>, rooms: &[(Room, Option<usize>)]) -> bool {
-    let mut block: RawVec<T> = match growth {
-        Some(growth) => RawVec::new_growing_in(growth, alloc),
-        None => RawVec::new(alloc),
+// It makes one request if it takes a new block, and else none.
+fn goes_to<T>(
+    heap: &Faulty<Global>,
+    growth: Option<Growth>,
+    rooms: &[(Room, Option<usize>)],
+) -> bool {
+    let mut block: RawVec<T, &Faulty<Global>> = match growth {
+        Some(growth) => RawVec::new_growing_in(growth, heap),
+        None => RawVec::new_in(heap),
     };
     let mut all = block.growth() == growth.unwrap_or(Growth::Doubling);
     for (room, capacity) in rooms {
-        all = all && is_so(made(*room, &mut block), block.capacity(), *capacity);
+        let (places, requests) = (block.capacity(), heap.requests());
+        let came = made(*room, &mut block);
+        all = all && is_so(came, block.capacity(), *capacity);
+        all = all && has_due_requests(heap, requests, places, block.capacity());
     }
     all
 }
@@ -94,10 +104,14 @@ fn is_so(answer: Result<(), TryReserveError>, capacity: usize, wanted: Option<us
 }
 
 // Growths and cuts, one after the other, and the capacity after each. What fits leaves it.
-const ROOMS: [(Room, Option<usize>); 6] = [
+const ROOMS: [(Room, Option<usize>); 10] = [
     (Room::TryReserveExact(3), Some(3)),
     (Room::TryReserveExact(5), Some(5)),
     (Room::Reserve(5), Some(5)),
+    (Room::TryReserve(5), Some(5)),
+    (Room::ReserveExact(5), Some(5)),
+    (Room::ForPush, Some(5)),
+    (Room::Shrink(5), Some(5)),
     (Room::ReserveExact(12), Some(12)),
     (Room::Shrink(2), Some(2)),
     (Room::Shrink(0), Some(0)),
@@ -125,14 +139,16 @@ const FIRST: Room = Room::TryReserve(1);
 
 #[test]
 fn room_is_as_asked_and_as_growth_has_it(rt: HostRuntime) {
-    assert!(rt; goes_to::<u32>(rt.alloc(), None, &ROOMS));
-    assert!(rt; goes_to::<u8>(rt.alloc(), None, &DOUBLING));
-    assert!(rt; goes_to::<u8>(rt.alloc(), Some(Growth::Sparing), &SPARING));
-    assert!(rt; goes_to::<()>(rt.alloc(), None, &SIZELESS));
+    let heap = Faulty::new(rt.alloc());
+    assert!(rt; goes_to::<u32>(&heap, None, &ROOMS));
+    assert!(rt; goes_to::<u8>(&heap, None, &DOUBLING));
+    assert!(rt; goes_to::<u8>(&heap, Some(Growth::Sparing), &SPARING));
+    assert!(rt; goes_to::<()>(&heap, None, &SIZELESS));
     // The least capacity is by the size.
-    assert!(rt; goes_to::<u8>(rt.alloc(), None, &[(FIRST, Some(8))]));
-    assert!(rt; goes_to::<[u8; 1024]>(rt.alloc(), None, &[(FIRST, Some(4))]));
-    assert!(rt; goes_to::<[u8; 1025]>(rt.alloc(), None, &[(FIRST, Some(1))]));
+    assert!(rt; goes_to::<u8>(&heap, None, &[(FIRST, Some(8))]));
+    assert!(rt; goes_to::<[u8; 1024]>(&heap, None, &[(FIRST, Some(4))]));
+    assert!(rt; goes_to::<[u8; 1025]>(&heap, None, &[(FIRST, Some(1))]));
+    assert!(rt; heap.outstanding() == 0);
 }
 
 // The capacity of a block for numbers that is made with so many places.

@@ -58,8 +58,12 @@ fn a_growth_of_two_runs_can_be_refused(rt: HostRuntime) -> Result<(), Fail> {
     let heap = Faulty::new(rt.alloc());
     for (in_line, additional, count, granted, capacity) in rooms() {
         heap.refuse(1, count);
+        let before = heap.requests();
         let room = told(room_of(around(&heap)?, in_line, additional));
         assert!(rt; room == (granted, capacity) && heap.outstanding() == 0);
+        // The block itself is one request, and a growth is another.
+        let growths = if capacity > 5 { 1u64 } else { 0 };
+        assert!(rt; heap.requests().wrapping_sub(before) == growths.wrapping_add(1));
     }
     Ok(())
 }
