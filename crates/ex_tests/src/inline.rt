@@ -1,9 +1,11 @@
 //! The small vector.
+use crate::memory::{End, end_by, end_of, is_given_back};
+use allocator_api2::collections::TryReserveError;
 use allocator_api2::vec::Vec;
 use ex_inline::inline::InlineVec;
 use std::alloc::Global;
 use std::cell::Cell;
-use std::mem::size_of;
+use std::mem::{self, size_of};
 use std::ops::Range;
 use test_allocators::Faulty;
 use test_allocators::counted::Counted;
@@ -27,58 +29,80 @@ fn has(v: &Small<'_>, items: &[u64]) -> bool {
     v.as_slice() == items
 }
 
+// Puts an item at the end.
+fn push(v: &mut Small<'_>, item: u64) -> End {
+    match v.push(item) {
+        Ok(()) => End::Done,
+        Err(refused) => end_by(refused.error),
+    }
+}
+
+// Puts an item at the front.
+fn push_front(v: &mut Small<'_>, item: u64) -> End {
+    match v.insert(0, item) {
+        Ok(()) => End::Done,
+        Err(refused) => end_by(refused.error),
+    }
+}
+
 // Whether the vector takes these items at its end, one after the other.
 fn takes(v: &mut Small<'_>, items: Range<u64>) -> bool {
     let mut all = true;
     for item in items {
-        all = v.push(item).is_ok() && all;
+        all = push(v, item) == End::Done && all;
     }
     all
 }
 
-// Whether the vector takes these items before the one at `index`.
-fn takes_at(v: &mut Small<'_>, index: usize, items: Range<u64>) -> bool {
-    index <= v.len() && v.insert_many(index, items).is_ok()
+// Puts items before the one at `index`, or at the end.
+fn put_at(v: &mut Small<'_>, index: usize, items: Range<u64>) -> End {
+    end_of(v.insert_many(index.min(v.len()), items))
 }
 
 // Whether the vector takes these items at its front, one after the other.
 fn takes_in_front(v: &mut Small<'_>, items: Range<u64>) -> bool {
     let mut all = true;
     for item in items {
-        all = v.insert(0, item).is_ok() && all;
+        all = push_front(v, item) == End::Done && all;
     }
     all
 }
 
 // How many items from `start` on, up to `end`, are taken out.
-fn taken(v: &mut Small<'_>, start: usize, end: usize) -> Option<usize> {
+fn taken(v: &mut Small<'_>, start: usize, end: usize) -> Result<usize, TryReserveError> {
     if start <= end && end <= v.len() {
-        if let Ok(out) = v.take_range(start, end) {
-            return Some(len(&out));
-        }
+        return match v.take_range(start, end) {
+            Ok(out) => Ok(len(&out)),
+            Err(error) => Err(error),
+        };
     }
-    None
+    Ok(0)
+}
+
+// Makes just so many places, or as many as there are items.
+fn set_places(v: &mut Small<'_>, capacity: usize) -> End {
+    end_of(v.grow(capacity.max(v.len())))
 }
 
 // Whether there are just so many places then.
 fn gets_places(v: &mut Small<'_>, capacity: usize) -> bool {
-    v.len() <= capacity && v.grow(capacity).is_ok() && v.capacity() == capacity
+    set_places(v, capacity) == End::Done && v.capacity() == capacity
 }
 
-fn copied<'a>(items: &[u64], heap: &'a Faulty<Global>) -> Option<Small<'a>> {
-    InlineVec::from_slice_in(items, heap).ok()
+fn copied<'a>(items: &[u64], heap: &'a Faulty<Global>) -> Result<Small<'a>, TryReserveError> {
+    InlineVec::from_slice_in(items, heap)
 }
 
 // How many items go into a vector.
-fn poured(v: Small<'_>) -> Option<usize> {
+fn poured(v: Small<'_>) -> Result<usize, TryReserveError> {
     match v.into_vec() {
-        Ok(items) => Some(items.len()),
-        Err(_) => None,
+        Ok(items) => Ok(items.len()),
+        Err(refused) => Err(refused.error),
     }
 }
 
-fn cloned<'a>(v: Small<'a>) -> Option<Small<'a>> {
-    v.clone().ok()
+fn cloned<'a>(v: &Small<'a>) -> Result<Small<'a>, TryReserveError> {
+    v.clone()
 }
 
 // How many items come out, one after the other, into a vector.
@@ -116,7 +140,7 @@ fn the_first_items_take_no_memory(rt: HostRuntime) {
 fn poured_of(heap: &Faulty<Global>, count: u64) -> Option<usize> {
     let mut v = none(heap);
     if takes_in_front(&mut v, 0..count) {
-        return poured(v);
+        return poured(v).ok();
     }
     None
 }
@@ -130,26 +154,38 @@ fn all_go_into_a_vector(rt: HostRuntime) {
     assert!(rt; heap.outstanding() == 0);
 }
 
-// Whether so many items are taken, of which the last goes first.
-fn come_and_go<'a>(heap: &'a Faulty<Global>, drops: &'a Cell<u32>, len: u32) -> bool {
-    let mut v: InlineVec<Option<Counted<'a>>, &'a Faulty<Global>, 2> = InlineVec::new_in(heap);
-    let mut all = true;
+// Up to two elements in place that count their drops.
+type Drops<'a> = InlineVec<Option<Counted<'a>>, &'a Faulty<Global>, 2>;
+
+// How many of so many items are dropped once the last, the first of the others, and an item of each
+// end of what is left were taken, before the rest is.
+fn come_and_go<'a>(heap: &'a Faulty<Global>, drops: &'a Cell<u32>, len: u32) -> u32 {
+    let mut v: Drops<'a> = InlineVec::new_in(heap);
     for value in 0..len {
-        all = v.push(Some(Counted { value, drops })).is_ok() && all;
+        let _pushed = v.push(Some(Counted { value, drops }));
     }
     drop(v.pop());
-    all
+    if v.len() > 0 {
+        drop(v.remove(0));
+    }
+    let mut items = v.into_iter();
+    drop(items.next());
+    drop(items.next_back());
+    drops.get()
 }
 
 #[test]
 fn each_item_is_dropped_once(rt: HostRuntime) {
     let heap = Faulty::new(rt.alloc());
     let drops = Cell::new(0);
-    for len in 0u32..6 {
+    // Two have room in place, three need one block, and five another.
+    for (len, requests) in [(0, 0), (1, 0), (2, 0), (3, 1), (4, 1), (5, 2), (8, 2)] {
         drops.set(0);
-        assert!(rt; come_and_go(&heap, &drops, len) && drops.get() == len);
+        let before = heap.requests();
+        assert!(rt; come_and_go(&heap, &drops, len) == len.min(4) && drops.get() == len);
+        assert!(rt; heap.requests().wrapping_sub(before) == requests, "{len}");
     }
-    assert!(rt; heap.outstanding() == 0);
+    assert!(rt; is_given_back(&heap));
 }
 
 #[test]
@@ -170,12 +206,12 @@ fn many_come(heap: &Faulty<Global>, v: &mut Small<'_>) -> bool {
         (2, 20, 24, 1),
         (7, 100, 1000, 2),
     ] {
-        all = takes_at(v, index, first..end) && heap.requests() == requests && all;
+        all = put_at(v, index, first..end) == End::Done && heap.requests() == requests && all;
     }
     // Four have no place without memory, and three have.
     heap.refuse(0, 9);
     for (end, out) in [(4, None), (3, Some(3))] {
-        all = taken(v, 0, end) == out && all;
+        all = taken(v, 0, end).ok() == out && all;
     }
     all && len(v) == 904
 }
@@ -205,7 +241,8 @@ fn places_are_made_and_given_back(rt: HostRuntime) {
 
 // How many items are in a vector of what comes out of a clone of copies.
 fn passed_on(items: &[u64], heap: &Faulty<Global>) -> Option<usize> {
-    collected(cloned(copied(items, heap)?)?)
+    let small = copied(items, heap).ok()?;
+    collected(cloned(&small).ok()?)
 }
 
 // What a small vector of copies, a clone of it and a vector of what comes out of that ask for.
@@ -218,4 +255,112 @@ fn what_is_told_is_asked_for_once(rt: HostRuntime) {
         assert!(rt; heap.requests() == requests);
     }
     assert!(rt; heap.outstanding() == 0);
+}
+
+// A call that allocates where items have no room in place.
+#[derive(Clone, Copy)]
+enum Call {
+    Push,
+    PushFront,
+    Reserve(usize),
+    Extend(u64),
+    InsertMany(u64),
+    SetPlaces(usize),
+    ShrinkToFit,
+    TakeRange,
+    IntoVec,
+    Clone,
+    FromIter(u64),
+    FromSlice,
+}
+
+// How it ends on a vector. What it makes is dropped.
+fn end_of_call(call: Call, v: &mut Small<'_>, heap: &Faulty<Global>) -> End {
+    let len = len(v);
+    match call {
+        Call::Push => push(v, 7),
+        Call::PushFront => push_front(v, 7),
+        Call::Reserve(additional) => end_of(v.reserve(additional)),
+        Call::Extend(end) => end_of(v.extend(0..end)),
+        Call::InsertMany(end) => put_at(v, 1, 0..end),
+        Call::SetPlaces(capacity) => set_places(v, capacity),
+        Call::ShrinkToFit => end_of(v.shrink_to_fit()),
+        Call::TakeRange => end_of(taken(v, 0, len)),
+        Call::IntoVec => end_of(poured(mem::replace(v, none(*v.allocator())))),
+        Call::Clone => end_of(cloned(v)),
+        Call::FromIter(end) => end_of(Small::from_iter_in(0..end, heap)),
+        Call::FromSlice => end_of(copied(&[1, 2, 3, 4], heap)),
+    }
+}
+
+// A vector of the numbers from 0 up to `count`, how a call ends, and its requests.
+fn seen(heap: &Faulty<Global>, call: Call, count: u64, refused: u64) -> (End, u64) {
+    let mut v = none(heap);
+    takes(&mut v, 0..count);
+    let before = heap.requests();
+    heap.refuse(0, refused);
+    let end = end_of_call(call, &mut v, heap);
+    heap.refuse(0, 0);
+    (end, heap.requests().wrapping_sub(before))
+}
+
+// A call on so many items, of which three have room in place, and the number of elements that it
+// allocates; 0 if it does not allocate.
+fn rows() -> [(Call, u64, usize); 22] {
+    [
+        (Call::Push, 3, 4),
+        (Call::Push, 2, 0),
+        (Call::PushFront, 3, 4),
+        (Call::Reserve(1), 2, 0),
+        (Call::Reserve(7), 3, 10),
+        (Call::Extend(1), 2, 0),
+        (Call::Extend(7), 3, 10),
+        (Call::InsertMany(1), 2, 0),
+        (Call::InsertMany(7), 3, 10),
+        (Call::SetPlaces(9), 3, 9),
+        (Call::SetPlaces(3), 3, 0),
+        (Call::ShrinkToFit, 3, 0),
+        (Call::ShrinkToFit, 5, 5),
+        (Call::TakeRange, 3, 0),
+        (Call::TakeRange, 5, 5),
+        (Call::IntoVec, 3, 4),
+        (Call::IntoVec, 5, 0),
+        (Call::Clone, 3, 0),
+        (Call::Clone, 4, 4),
+        (Call::FromIter(3), 0, 0),
+        (Call::FromIter(4), 0, 4),
+        (Call::FromSlice, 0, 4),
+    ]
+}
+
+#[test]
+fn each_call_allocates_once_or_not(rt: HostRuntime) {
+    let heap = Faulty::new(rt.alloc());
+    for (call, count, number) in rows() {
+        if number == 0 {
+            assert!(rt; seen(&heap, call, count, 1) == (End::Done, 0), "on {count}");
+        } else {
+            assert!(rt;
+                seen(&heap, call, count, 1) == (End::NoMemory(number), 1),
+                "{number}"
+            );
+            assert!(rt; seen(&heap, call, count, 0) == (End::Done, 1), "{number}");
+        }
+    }
+    assert!(rt; is_given_back(&heap));
+}
+
+#[test]
+fn no_small_vector_grows_past_the_limits(rt: HostRuntime) {
+    let heap = Faulty::new(rt.alloc());
+    for call in [
+        Call::Reserve(usize::MAX),
+        Call::Reserve((1 << 60) - 3),
+        Call::Extend(u64::MAX),
+        Call::InsertMany(u64::MAX),
+        Call::SetPlaces(1 << 60),
+        Call::FromIter(u64::MAX),
+    ] {
+        assert!(rt; seen(&heap, call, 3, 0) == (End::TooLong, 0));
+    }
 }

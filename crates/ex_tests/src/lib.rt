@@ -17,6 +17,8 @@ mod inline;
 #[cfg(test)]
 mod leaf;
 #[cfg(test)]
+mod memory;
+#[cfg(test)]
 mod recycler;
 #[cfg(test)]
 mod ring;

@@ -1,12 +1,11 @@
 //! The ring.
+use allocator_api2::collections::{TryReserveError, TryReserveErrorKind};
 use allocator_api2::vec::Vec;
 use ex_ring::ring::Ring;
 use std::alloc::Global;
-use std::cell::Cell;
 use std::mem::size_of;
 use std::ops::Range;
 use test_allocators::Faulty;
-use test_allocators::counted::Counted;
 
 // A ring over an allocator that may refuse.
 type Small<'a> = Ring<u64, &'a Faulty<Global>>;
@@ -72,22 +71,6 @@ fn items_are_turned_into_one_slice(rt: HostRuntime) {
 }
 
 #[test]
-fn each_item_is_dropped_once(rt: HostRuntime) {
-    let heap = Faulty::new(rt.alloc());
-    let drops = Cell::new(0);
-    let mut ring: Ring<Counted<'_>, &Faulty<Global>> = Ring::new_in(&heap);
-    for value in 0u32..5 {
-        let drops = &drops;
-        assert!(rt; ring.push_back(Counted { value, drops }).is_ok());
-        assert!(rt; ring.push_front(Counted { value, drops }).is_ok());
-    }
-    drop(ring.pop_front());
-    assert!(rt; drops.get() == 1);
-    drop(ring);
-    assert!(rt; drops.get() == 10 && heap.outstanding() == 0);
-}
-
-#[test]
 fn items_are_written_where_they_stand(rt: HostRuntime) {
     let heap = Faulty::new(rt.alloc());
     let mut ring = turned(&heap, 0..5);
@@ -131,62 +114,85 @@ fn iterators_tell_how_many_come(rt: HostRuntime) {
     assert!(rt; heap.requests().wrapping_sub(before) == 2 && heap.outstanding() == 0);
 }
 
-// A call that takes memory.
+// A call that allocates.
 #[derive(Clone, Copy)]
 enum Call {
-    WithCapacity,
+    WithCapacity(usize),
     PushBack,
     PushFront,
-    Reserve,
-    Extend,
-    FromIter,
+    Reserve(usize),
+    // Of the numbers from 4 up to this one.
+    Extend(u64),
+    FromIter(u64),
     Append,
     Clone,
 }
 
-// Does it to a ring, and to another. It answers the length of what it makes or changes.
+// Does it to a ring, and to another. It returns the length of what it makes or changes.
 fn called<'a>(
     call: Call,
     ring: &mut Small<'a>,
     other: &mut Small<'a>,
     heap: &'a Faulty<Global>,
-) -> Option<usize> {
+) -> Result<usize, TryReserveError> {
     match call {
-        Call::WithCapacity => return Some(Small::with_capacity_in(5, heap).ok()?.capacity()),
-        Call::PushBack => ring.push_back(4).ok()?,
-        Call::PushFront => ring.push_front(4).ok()?,
-        Call::Reserve => ring.reserve(5).ok()?,
-        Call::Extend => ring.extend(4..9).ok()?,
-        Call::FromIter => return Some(Small::from_iter_in(4..9, heap).ok()?.len()),
-        Call::Append => ring.append(other).ok()?,
-        Call::Clone => return Some(ring.clone().ok()?.len()),
+        Call::WithCapacity(count) => return Ok(Small::with_capacity_in(count, heap)?.capacity()),
+        Call::PushBack => ring.push_back(4)?,
+        Call::PushFront => ring.push_front(4)?,
+        Call::Reserve(count) => ring.reserve(count)?,
+        Call::Extend(end) => ring.extend(4..end)?,
+        Call::FromIter(end) => return Ok(Small::from_iter_in(4..end, heap)?.len()),
+        Call::Append => ring.append(other)?,
+        Call::Clone => return Ok(ring.clone()?.len()),
     }
-    Some(ring.len())
+    Ok(ring.len())
 }
 
-// The calls, and the length of what each makes or leaves of a ring of four items in four places.
-const CALLS: [(Call, usize); 8] = [
-    (Call::WithCapacity, 5),
-    (Call::PushBack, 5),
-    (Call::PushFront, 5),
-    (Call::Reserve, 4),
-    (Call::Extend, 9),
-    (Call::FromIter, 5),
-    (Call::Append, 5),
-    (Call::Clone, 4),
+// The calls, the length of what each makes or leaves of a ring of four items in four places, and
+// the capacity that it requests.
+const CALLS: [(Call, usize, usize); 8] = [
+    (Call::WithCapacity(5), 5, 5),
+    (Call::PushBack, 5, 8),
+    (Call::PushFront, 5, 8),
+    (Call::Reserve(5), 4, 9),
+    (Call::Extend(9), 9, 9),
+    (Call::FromIter(9), 5, 5),
+    (Call::Append, 5, 8),
+    (Call::Clone, 4, 4),
 ];
 
 #[test]
 fn a_call_that_is_refused_changes_nothing(rt: HostRuntime) {
     let heap = Faulty::new(rt.alloc());
-    for (call, len) in CALLS {
+    for (call, len, capacity) in CALLS {
         let (mut ring, mut other) = (turned(&heap, 0..4), turned(&heap, 7..8));
         heap.refuse(0, 1);
-        assert!(rt; called(call, &mut ring, &mut other, &heap) == None);
+        let error = Err(TryReserveErrorKind::AllocError { capacity }.into());
+        assert!(rt; called(call, &mut ring, &mut other, &heap) == error);
         assert!(rt; has(&ring, &[0, 1, 2, 3]) && has(&other, &[7]));
-        assert!(rt; called(call, &mut ring, &mut other, &heap) == Some(len));
+        let before = heap.requests();
+        assert!(rt; called(call, &mut ring, &mut other, &heap) == Ok(len));
+        assert!(rt; heap.requests().wrapping_sub(before) == 1);
     }
     assert!(rt; heap.outstanding() == 0);
+}
+
+#[test]
+fn no_ring_grows_past_the_limits(rt: HostRuntime) {
+    let heap = Faulty::new(rt.alloc());
+    let (mut ring, mut other) = (turned(&heap, 0..4), turned(&heap, 7..8));
+    let before = heap.requests();
+    for call in [
+        Call::WithCapacity(1 << 60),
+        Call::Reserve((1 << 60) - 4),
+        Call::Reserve(usize::MAX),
+        Call::Extend(u64::MAX),
+        Call::FromIter(u64::MAX),
+    ] {
+        let error = Err(TryReserveErrorKind::CapacityOverflow.into());
+        assert!(rt; called(call, &mut ring, &mut other, &heap) == error);
+    }
+    assert!(rt; heap.requests() == before && has(&ring, &[0, 1, 2, 3]));
 }
 
 #[test]

@@ -1,0 +1,102 @@
+//! The ring.
+use crate::memory::is_given_back;
+use ex_ring::ring::Ring;
+use std::alloc::Global;
+use std::cell::Cell;
+use test_allocators::Faulty;
+use test_allocators::counted::Counted;
+
+type Small<'a> = Ring<Counted<'a>, &'a Faulty<Global>>;
+
+// A call on a ring, or what becomes of it.
+#[derive(Clone, Copy)]
+enum Call {
+    PopFront,
+    PopBack,
+    Clear,
+    MakeContiguous,
+    RotateLeft,
+    Reserve(usize),
+    Drop,
+    // With an item taken from each end.
+    IntoIter,
+}
+
+// Six items in eight places, of which the first three are at the end of the block.
+fn six<'a>(heap: &'a Faulty<Global>, drops: &'a Cell<u32>) -> Small<'a> {
+    let mut ring: Small<'a> = match Ring::with_capacity_in(8, heap) {
+        Ok(ring) => ring,
+        Err(_) => Ring::new_in(heap),
+    };
+    for value in 0..3 {
+        let _back = ring.push_back(Counted { value, drops });
+        let _front = ring.push_front(Counted { value, drops });
+    }
+    ring
+}
+
+fn called(call: Call, ring: &mut Small<'_>) {
+    match call {
+        Call::PopFront => drop(ring.pop_front()),
+        Call::PopBack => drop(ring.pop_back()),
+        Call::Clear => ring.clear(),
+        Call::MakeContiguous => ring.make_contiguous(),
+        Call::RotateLeft => ring.rotate_left(ring.len().min(1)),
+        Call::Reserve(count) => {
+            let _made = ring.reserve(count);
+        }
+        Call::Drop | Call::IntoIter => {}
+    }
+}
+
+// How many items are dropped once one was taken from each end, before the others are.
+fn taken_from_ends(ring: Small<'_>, drops: &Cell<u32>) -> u32 {
+    let mut items = ring.into_iter();
+    drop(items.next());
+    drop(items.next_back());
+    drops.get()
+}
+
+// How many requests a call makes, and how many items it drops.
+fn seen(call: Call, ring: Small<'_>, heap: &Faulty<Global>, drops: &Cell<u32>) -> (u64, u32) {
+    let mut ring = ring;
+    let before = heap.requests();
+    let dropped = match call {
+        Call::Drop => {
+            drop(ring);
+            drops.get()
+        }
+        Call::IntoIter => taken_from_ends(ring, drops),
+        _ => {
+            called(call, &mut ring);
+            drops.get()
+        }
+    };
+    (heap.requests().saturating_sub(before), dropped)
+}
+
+// Whether a call makes so many requests and drops so many items, each is dropped once then, and all
+// memory comes back.
+fn is_so(alloc: Global, (call, requests, dropped): (Call, u64, u32)) -> bool {
+    let heap = Faulty::new(alloc);
+    let drops = Cell::new(0);
+    let came = seen(call, six(&heap, &drops), &heap, &drops);
+    came == (requests, dropped) && drops.get() == 6 && is_given_back(&heap)
+}
+
+#[test]
+fn items_of_a_ring_are_dropped_once(rt: HostRuntime) {
+    for row in [
+        (Call::PopFront, 0, 1),
+        (Call::PopBack, 0, 1),
+        (Call::Clear, 0, 6),
+        (Call::MakeContiguous, 0, 0),
+        (Call::RotateLeft, 0, 0),
+        (Call::Reserve(2), 0, 0),
+        (Call::Reserve(3), 1, 0),
+        (Call::Drop, 0, 6),
+        (Call::IntoIter, 0, 2),
+    ] {
+        assert!(rt; is_so(rt.alloc(), row), "{} of {}", row.2, row.1);
+    }
+}

@@ -1,0 +1,178 @@
+//! The hash table, with keys that have memory of their own.
+use crate::memory::{End, end_by, end_of, is_given_back};
+use allocator_api2::boxed::BoxedText;
+use ex_table::table::Table;
+use std::alloc::Global;
+use std::cell::Cell;
+use std::hash::{BuildHasherDefault, FoldHasher};
+use test_allocators::Faulty;
+use test_allocators::counted::Counted;
+
+type Key<'a> = BoxedText<&'a Faulty<Global>>;
+
+type Small<'a> = Table<Key<'a>, Counted<'a>, BuildHasherDefault<FoldHasher>, &'a Faulty<Global>>;
+
+// A call on a table, or what becomes of it.
+#[derive(Clone, Copy)]
+enum Call {
+    Insert,
+    Remove,
+    Get,
+    Clear,
+    Reserve(usize),
+    ShrinkToFit,
+    Drop,
+    // With an entry taken from each end.
+    IntoIter,
+}
+
+// A text in memory of its own; none if that allocation fails.
+fn key<'a>(heap: &'a Faulty<Global>, text: &str) -> Option<Key<'a>> {
+    BoxedText::from_text(heap, text).ok()
+}
+
+// Gives a text a value, and drops the one that it had: how that ends.
+fn put<'a>(table: &mut Small<'a>, key: Option<Key<'a>>, drops: &'a Cell<u32>) -> End {
+    let Some(key) = key else {
+        return End::TooLong;
+    };
+    match table.insert(key, Counted { value: 0, drops }) {
+        Ok(_old) => End::Done,
+        Err(refused) => end_by(refused.error),
+    }
+}
+
+// Looks a text up, or takes it out.
+fn look_up<'a>(table: &mut Small<'a>, key: Option<Key<'a>>, call: Call) {
+    let Some(key) = key else {
+        return;
+    };
+    if matches!(call, Call::Remove) {
+        drop(table.remove(&key));
+    } else {
+        let _value = table.get(&key).is_some();
+    }
+}
+
+// Four texts with values.
+fn four<'a>(heap: &'a Faulty<Global>, drops: &'a Cell<u32>) -> Small<'a> {
+    let mut table: Small<'a> = Table::new_in(heap);
+    for text in ["plum", "pear", "fig", "quince"] {
+        let _end = put(&mut table, key(heap, text), drops);
+    }
+    table
+}
+
+fn called<'a>(
+    call: Call,
+    table: &mut Small<'a>,
+    heap: &'a Faulty<Global>,
+    drops: &'a Cell<u32>,
+) -> End {
+    match call {
+        Call::Insert => return put(table, key(heap, "fig"), drops),
+        Call::Reserve(count) => return end_of(table.reserve(count)),
+        Call::ShrinkToFit => return end_of(table.shrink_to_fit()),
+        Call::Clear => table.clear(),
+        _ => look_up(table, key(heap, "fig"), call),
+    }
+    End::Done
+}
+
+// Takes an entry from each end, and drops it: how many blocks are free then, and values dropped.
+fn taken_from_ends(table: Small<'_>, heap: &Faulty<Global>, drops: &Cell<u32>) -> (u64, u64, u32) {
+    let mut entries = table.into_iter();
+    drop(entries.next());
+    drop(entries.next_back());
+    counts(heap, drops)
+}
+
+// All requests so far, all blocks that came back, and all values that were dropped.
+fn counts(heap: &Faulty<Global>, drops: &Cell<u32>) -> (u64, u64, u32) {
+    (heap.requests(), heap.frees(), drops.get())
+}
+
+// Those once a call is over, before the table is dropped.
+fn seen<'a>(
+    call: Call,
+    table: Small<'a>,
+    heap: &'a Faulty<Global>,
+    drops: &'a Cell<u32>,
+) -> (u64, u64, u32) {
+    let mut table = table;
+    match call {
+        Call::Drop => drop(table),
+        Call::IntoIter => return taken_from_ends(table, heap, drops),
+        _ => {
+            let _end = called(call, &mut table, heap, drops);
+        }
+    }
+    counts(heap, drops)
+}
+
+// A call on four texts with values, its requests, the blocks that it frees, and the values that it
+// drops. A text that it is given is one request. A table has three blocks.
+fn rows() -> [(Call, u64, u64, u32); 9] {
+    [
+        (Call::Insert, 1, 1, 1),
+        (Call::Remove, 1, 2, 1),
+        (Call::Get, 1, 1, 0),
+        (Call::Clear, 0, 4, 4),
+        (Call::Reserve(10), 0, 0, 0),
+        (Call::Reserve(11), 3, 3, 0),
+        (Call::ShrinkToFit, 3, 3, 0),
+        (Call::Drop, 0, 7, 4),
+        (Call::IntoIter, 0, 2, 2),
+    ]
+}
+
+// Whether a row is so, each value is dropped once then, and all memory comes back.
+fn is_so(alloc: Global, (call, requests, frees, dropped): (Call, u64, u64, u32)) -> bool {
+    let heap = Faulty::new(alloc);
+    let drops = Cell::new(0);
+    let came = seen(call, four(&heap, &drops), &heap, &drops);
+    let made = if matches!(call, Call::Insert) { 5 } else { 4 };
+    came == (requests.saturating_add(7), frees, dropped)
+        && drops.get() == made
+        && is_given_back(&heap)
+}
+
+#[test]
+fn entries_of_a_table_are_dropped_once(rt: HostRuntime) {
+    for row in rows() {
+        assert!(rt; is_so(rt.alloc(), row), "{}, {}, {}", row.1, row.2, row.3);
+    }
+}
+
+// How it ends to put an entry into a new table, whose blocks are refused.
+fn first_entry<'a>(heap: &'a Faulty<Global>, drops: &'a Cell<u32>) -> End {
+    let mut table: Small<'a> = Table::new_in(heap);
+    let key = key(heap, "plum");
+    heap.refuse(0, 1);
+    put(&mut table, key, drops)
+}
+
+fn made(heap: &Faulty<Global>, capacity: usize) -> End {
+    let table: Result<Small<'_>, _> = Table::with_capacity_in(capacity, heap);
+    end_of(table)
+}
+
+#[test]
+fn a_new_table_fails_with_its_kind(rt: HostRuntime) {
+    let heap = Faulty::new(rt.alloc());
+    let drops = Cell::new(0);
+    assert!(rt; first_entry(&heap, &drops) == End::NoMemory(14) && drops.get() == 1);
+    for (capacity, end, requests) in [
+        (0, End::Done, 2),
+        (2_000_000_001, End::TooLong, 2),
+        (usize::MAX, End::TooLong, 2),
+        (9, End::NoMemory(14), 3),
+    ] {
+        heap.refuse(0, 1);
+        assert!(rt;
+            made(&heap, capacity) == end && heap.requests() == requests,
+            "{capacity}"
+        );
+    }
+    assert!(rt; is_given_back(&heap));
+}
