@@ -1,5 +1,6 @@
 //! That memory comes back, that each element is dropped once, how many requests a call makes, and
 //! which error it returns: no contract says all of these.
+mod allocators;
 mod maps;
 mod ring;
 mod small;

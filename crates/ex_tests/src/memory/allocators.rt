@@ -1,0 +1,94 @@
+//! Allocators over one that counts: what they pass on, and that it comes back.
+use crate::allocators::has_room;
+use crate::memory::is_given_back;
+use ex_allocators::pool::Pool;
+use ex_allocators::rack::Rack;
+use ex_allocators::recycler::Recycler;
+use ex_allocators::rounded::Rounded;
+use ex_allocators::spaced::Spaced;
+use ex_watched::budget::Budget;
+use ex_watched::counting::Counting;
+use std::alloc::{Allocator, Global};
+use test_allocators::Faulty;
+
+// An allocator over another.
+#[derive(Clone, Copy)]
+enum Layer {
+    // Of 64 bytes.
+    Budget,
+    Counting,
+    Faulty,
+    // Of blocks of 8 bytes, which has none.
+    Pool,
+    Rack,
+    Recycler,
+    Rounded,
+    Spaced,
+}
+
+// Whether a request for so many bytes is granted, and the blocks that came back below by then.
+fn asked<A: Allocator>(heap: A, below: &Faulty<Global>, bytes: usize) -> (bool, u64) {
+    let granted = has_room(&heap, bytes);
+    (granted, below.frees())
+}
+
+// That of each layer, which is dropped then.
+fn asked_of(layer: Layer, below: &Faulty<Global>, bytes: usize) -> (bool, u64) {
+    match layer {
+        Layer::Budget => asked(Budget::new(below, 64), below, bytes),
+        Layer::Counting => asked(Counting::new(below), below, bytes),
+        Layer::Faulty => asked(Faulty::new(below), below, bytes),
+        Layer::Pool => asked(Pool::new(below, 8), below, bytes),
+        Layer::Rack => asked(Rack::new(below, 64), below, bytes),
+        Layer::Recycler => asked(Recycler::new(below), below, bytes),
+        Layer::Rounded => asked(Rounded::over(below), below, bytes),
+        Layer::Spaced => asked(Spaced::new(below), below, bytes),
+    }
+}
+
+// A layer, the bytes that are asked of it, whether the one below refuses; and whether it grants
+// them, the requests below, and the blocks that came back there before it is dropped.
+type Row = (Layer, usize, bool, bool, u64, u64);
+
+fn rows() -> [Row; 17] {
+    [
+        (Layer::Budget, 64, false, true, 1, 1),
+        (Layer::Budget, 65, false, false, 0, 0),
+        (Layer::Budget, 64, true, false, 1, 0),
+        (Layer::Counting, 64, false, true, 1, 1),
+        (Layer::Counting, 64, true, false, 1, 0),
+        (Layer::Faulty, 64, false, true, 1, 1),
+        (Layer::Faulty, 64, true, false, 1, 0),
+        (Layer::Pool, 64, false, true, 1, 1),
+        (Layer::Pool, 64, true, false, 1, 0),
+        (Layer::Rack, 64, false, true, 1, 1),
+        (Layer::Rack, 64, true, false, 1, 0),
+        (Layer::Recycler, 64, false, true, 1, 0),
+        (Layer::Recycler, 64, true, false, 1, 0),
+        (Layer::Rounded, 64, false, true, 1, 1),
+        (Layer::Rounded, 64, true, false, 1, 0),
+        (Layer::Spaced, 64, false, true, 1, 1),
+        (Layer::Spaced, 64, true, false, 1, 0),
+    ]
+}
+
+// Whether a row is so, and all memory comes back.
+fn is_so(alloc: Global, (layer, bytes, refuses, granted, requests, frees): Row) -> bool {
+    let below = Faulty::new(alloc);
+    below.refuse(0, u64::from(refuses));
+    let came = asked_of(layer, &below, bytes);
+    came == (granted, frees) && below.requests() == requests && is_given_back(&below)
+}
+
+#[test]
+fn a_layer_passes_on_one_request(rt: HostRuntime) {
+    for row in rows() {
+        assert!(rt;
+            is_so(rt.alloc(), row),
+            "{} bytes, {} requests, {} back",
+            row.1,
+            row.4,
+            row.5
+        );
+    }
+}
