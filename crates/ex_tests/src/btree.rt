@@ -46,6 +46,7 @@ fn keys_and_values_are_seen(rt: HostRuntime) {
     let mut map = none(&heap);
     assert!(rt; map.first_key_value().is_none());
     assert!(rt; takes(&mut map, 0..100) && map.len() == 100);
+    let before = heap.requests();
     assert!(rt; map.first_key_value() == Some((0, &0)));
     assert!(rt; map.last_key_value() == Some((99, &49)));
     assert!(rt; map.contains_key(99) && has(&map, 100) == None);
@@ -62,6 +63,7 @@ fn keys_and_values_are_seen(rt: HostRuntime) {
         sum = sum.saturating_add(key);
     }
     assert!(rt; sum == 4950 && map.iter().size_hint() == (100, Some(100)));
+    assert!(rt; heap.requests() == before);
 }
 
 #[test]

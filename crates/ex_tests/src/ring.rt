@@ -87,7 +87,8 @@ fn items_are_written_where_they_stand(rt: HostRuntime) {
         ring[1] = 21;
     }
     assert!(rt; (ring.front(), ring.back()) == (Some(&20), Some(&24)));
-    assert!(rt; has(&ring, &[20, 21, 2, 13, 24]));
+    // Blocks for four items and for eight.
+    assert!(rt; has(&ring, &[20, 21, 2, 13, 24]) && heap.requests() == 2);
 }
 
 // The capacity of a vector of all items but the first and the last.
@@ -204,7 +205,7 @@ fn a_ring_has_its_size(rt: HostRuntime) {
 fn rings_are_compared(rt: HostRuntime) {
     let heap = Faulty::new(rt.alloc());
     let (less, more) = (turned(&heap, 0..5), turned(&heap, 0..6));
-    assert!(rt; less == less && less < more);
+    assert!(rt; less == less && less < more && heap.requests() == 4);
 }
 
 // Turns the ring to the left, or to the right, where it has as many items.

@@ -71,7 +71,7 @@ fn values_are_written_and_all_are_seen(rt: HostRuntime) {
         sums = (sums.0.saturating_add(*key), sums.1.saturating_add(*value));
     }
     assert!(rt; sums == (55, 385) && table.contains_key(&10));
-    assert!(rt; table.insert(10, 0).ok() == Some(Some(100)));
+    assert!(rt; table.insert(10, 0).ok() == Some(Some(100)) && heap.requests() == 3);
 }
 
 // Makes room: the room then, or why there is none.

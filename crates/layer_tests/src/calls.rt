@@ -213,24 +213,24 @@ fn what_fits_does_not_allocate(rt: HostRuntime) {
 }
 
 // Writes to the first and the last of three.
-fn put_at_ends(v: &mut Vec<u32>) {
+fn put_at_ends<A: Allocator>(v: &mut Vec<u32, A>) {
     if v.len() == 3 {
         v[0] = v[1].wrapping_add(4);
         v.as_mut_slice()[2] = 5;
     }
 }
 
-fn halve(v: &mut Vec<u32>) {
+fn halve<A: Allocator>(v: &mut Vec<u32, A>) {
     for x in v.iter_mut() {
         *x /= 2;
     }
 }
 
-fn greatest(v: &Vec<u32>) -> Option<u32> {
+fn greatest<A: Allocator>(v: &Vec<u32, A>) -> Option<u32> {
     v.iter().copied().max()
 }
 
-fn sum(v: Vec<u32>) -> u32 {
+fn sum<A: Allocator>(v: Vec<u32, A>) -> u32 {
     let mut sum = 0u32;
     for x in v {
         sum = sum.wrapping_add(x);
@@ -240,9 +240,11 @@ fn sum(v: Vec<u32>) -> u32 {
 
 #[test]
 fn elements_are_written_in_place(rt: HostRuntime) {
-    let mut v = digits(rt.alloc(), 123, 4);
+    let heap = Faulty::new(rt.alloc());
+    let mut v = digits(&heap, 123, 4);
     put_at_ends(&mut v);
     halve(&mut v);
-    assert!(rt; greatest(&v) == Some(3) && reads(&v, 312, 4));
-    assert!(rt; sum(v) == 6);
+    assert!(rt; greatest(&v) == Some(3) && heap.requests() == 1 && reads(&v, 312, 4));
+    let before = heap.requests();
+    assert!(rt; sum(v) == 6 && heap.requests() == before && heap.outstanding() == 0);
 }

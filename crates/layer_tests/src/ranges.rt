@@ -1,10 +1,12 @@
 //! Ranges: what they tell before they end, and splices.
 use crate::lists::{digits, reads};
+use crate::memory::has_due_requests;
 use aa_vec::vec::{Drain, Vec};
 use std::alloc::{AllocError, Allocator, Global};
 use std::mem::size_of;
 use std::ops::Range;
 use std::test::Fail;
+use test_allocators::Faulty;
 
 const _: () = prove!(size_of::<Drain<u64, Global>>() == 40);
 
@@ -19,22 +21,23 @@ pub(crate) fn range_of<T, A: Allocator>(
 }
 
 // Whether a range tells that these are left.
-fn is_left(range: &Drain<'_, u32>, left: &[u32]) -> bool {
+fn is_left<A: Allocator>(range: &Drain<'_, u32, A>, left: &[u32]) -> bool {
     let len = left.len();
     range.size_hint() == (len, Some(len)) && range.len() == len && range.as_slice() == left
 }
 
 #[test]
 fn a_drain_tells_what_was_not_taken(rt: HostRuntime) -> Result<(), Fail> {
-    let mut v = digits(rt.alloc(), 123456, 6);
+    let heap = Faulty::new(rt.alloc());
+    let mut v = digits(&heap, 123456, 6);
     let mut range = range_of(&mut v, 1, 4);
     let first = range.next();
     let is_told = is_left(&range, &[3, 4]);
     let text = format!(in rt.alloc(); "{range:?}");
-    let _alloc: &Global = range.allocator();
+    let _alloc: &&Faulty<Global> = range.allocator();
     drop(range);
     drop(v);
-    assert!(rt; first == Some(2) && is_told);
+    assert!(rt; first == Some(2) && is_told && (heap.requests(), heap.frees()) == (1, 1));
     assert!(rt; text?.as_str() == "Drain([3, 4])");
     Ok(())
 }
@@ -45,7 +48,7 @@ fn is_even(x: &mut u32) -> bool {
 
 // The first even element, taken out of all, and how many were not asked then.
 #[tactic(auto, using(aa_vec::proofs::Callers::callers))]
-fn first_even(v: &mut Vec<u32>) -> (Option<u32>, usize) {
+fn first_even<A: Allocator>(v: &mut Vec<u32, A>) -> (Option<u32>, usize) {
     let to = v.len();
     let mut range = v.extract_by(0..to);
     let first = range.next_by(&mut is_even);
@@ -54,12 +57,18 @@ fn first_even(v: &mut Vec<u32>) -> (Option<u32>, usize) {
 
 #[test]
 fn an_element_is_taken_out_by_a_closure_that_is_lent(rt: HostRuntime) {
-    let mut v = digits(rt.alloc(), 5678, 4);
-    assert!(rt; first_even(&mut v) == (Some(6), 2) && reads(&v, 578, 4));
+    let heap = Faulty::new(rt.alloc());
+    let mut v = digits(&heap, 5678, 4);
+    assert!(rt; first_even(&mut v) == (Some(6), 2) && heap.requests() == 1);
+    assert!(rt; reads(&v, 578, 4));
 }
 
 // Replaces a range of a vector, as far as it lies within.
-fn replaced(v: &mut Vec<u32>, (from, to): (usize, usize), with: Range<u32>) -> bool {
+fn replaced<A: Allocator + Clone>(
+    v: &mut Vec<u32, A>,
+    (from, to): (usize, usize),
+    with: Range<u32>,
+) -> bool {
     let to = to.min(v.len());
     v.splice(from.min(to)..to, with).finish().is_ok()
 }
@@ -68,17 +77,20 @@ fn replaced(v: &mut Vec<u32>, (from, to): (usize, usize), with: Range<u32>) -> b
 // and the capacity that are left.
 type Row = (u32, usize, (usize, usize), Range<u32>, u32, usize);
 
-// Whether a row is as the vector has it.
-fn is_so(alloc: Global, (items, room, range, with, left, capacity): Row) -> bool {
-    let mut v = digits(alloc, items, room);
-    replaced(&mut v, range, with) && reads(&v, left, capacity)
+// Whether a row is as the vector has it, with a request if it needs a new block, and else none.
+fn is_so(heap: &Faulty<Global>, (items, room, range, with, left, capacity): Row) -> bool {
+    let mut v = digits(heap, items, room);
+    let before = heap.requests();
+    let done = replaced(&mut v, range, with);
+    done && has_due_requests(heap, before, room, v.capacity()) && reads(&v, left, capacity)
 }
 
 #[test]
 fn a_range_is_replaced_by_any_iterator(rt: HostRuntime) {
-    assert!(rt; is_so(rt.alloc(), (1234, 4, (0, 3), 9..10, 94, 4)));
-    assert!(rt; is_so(rt.alloc(), (12, 2, (1, 1), 9..10, 192, 4)));
-    assert!(rt; is_so(rt.alloc(), (123, 3, (1, 3), 8..10, 189, 3)));
+    let heap = Faulty::new(rt.alloc());
+    assert!(rt; is_so(&heap, (1234, 4, (0, 3), 9..10, 94, 4)));
+    assert!(rt; is_so(&heap, (12, 2, (1, 1), 9..10, 192, 4)));
+    assert!(rt; is_so(&heap, (123, 3, (1, 3), 8..10, 189, 3)));
 }
 
 // What a splice of the places 1 and 2 by a seven prints.

@@ -75,12 +75,14 @@ fn elements_are_put_and_taken_at_the_cursor(rt: HostRuntime) {
 
 #[test]
 fn the_whole_text_is_read(rt: HostRuntime) -> Result<(), Fail> {
-    let text = nine_put(rt.alloc());
+    let heap = Faulty::new(rt.alloc());
+    let text = nine_put(&heap);
     for (index, x) in [(1, Some(&9)), (2, Some(&2)), (4, None)] {
         assert!(rt; text.get(index) == x);
     }
     assert!(rt; text.iter().eq([1u32, 9, 2, 3].iter()));
     assert!(rt; are_printed(rt.alloc(), &"is", &text, "is [1, 9, 2, 3]")?);
+    assert!(rt; heap.requests() == 1);
     Ok(())
 }
 

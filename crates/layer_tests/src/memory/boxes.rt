@@ -77,10 +77,12 @@ fn a_box_frees_its_memory_and_drops_its_value(rt: HostRuntime) {
 // Makes a text of bytes, bytes of it, a slice of their block, and a vector of that: its length. No
 // text is made of what is not in UTF-8.
 fn text_and_back(list: BoxedSlice<u8, &Faulty<Global>>) -> usize {
-    let bytes = match BoxedText::from_bytes(list) {
+    let mut bytes = match BoxedText::from_bytes(list) {
+        Ok(text) if text.as_str().is_empty() => return 0,
         Ok(text) => text.into_bytes(),
         Err(bytes) => bytes,
     };
+    bytes.as_mut_slice().reverse();
     let (block, len) = bytes.into_block();
     let v: Vec<u8, _> = BoxedSlice::from_block(block, len).into_vec();
     v.len()

@@ -5,15 +5,19 @@ use crate::printed::are_printed;
 use aa_raw::collections::TryReserveError;
 use aa_raw::raw_vec::RawVec;
 use aa_raw::vec::into_iter::IntoIter;
-use std::alloc::{AllocError, Global};
+use std::alloc::{AllocError, Allocator, Global};
 use std::cell::Cell;
 use std::test::Fail;
+use test_allocators::Faulty;
 use test_allocators::counted::Counted;
 
 // The two values as items. Where memory is refused they are dropped.
 #[tactic(auto, using(aa_raw::proofs::Calls::at_ends))]
-fn two<T: Drop>(alloc: Global, [first, second]: [T; 2]) -> Result<IntoIter<T>, TryReserveError> {
-    let mut block: RawVec<T> = RawVec::with_capacity_in(2, alloc)?;
+fn two<T: Drop, A: Allocator>(
+    alloc: A,
+    [first, second]: [T; 2],
+) -> Result<IntoIter<T, A>, TryReserveError> {
+    let mut block: RawVec<T, A> = RawVec::with_capacity_in(2, alloc)?;
     block.put(0, first);
     block.put(1, second);
     Ok(IntoIter::from_block(block, 2))
@@ -49,9 +53,12 @@ fn items_without_size_are_counted(rt: HostRuntime) -> Result<(), Fail> {
 
 // How many items are told, whether both are threes once these are written to all, and whether they
 // are printed so.
-fn written_to(alloc: Global, items: IntoIter<u32>) -> ((usize, Option<usize>), bool, bool) {
+fn written_to(
+    alloc: Global,
+    items: IntoIter<u32, &Faulty<Global>>,
+) -> ((usize, Option<usize>), bool, bool) {
     let mut items = items;
-    let _alloc: &Global = items.allocator();
+    let _alloc: &&Faulty<Global> = items.allocator();
     let told = items.size_hint();
     items.as_mut_slice().fill(3);
     let written = items.as_slice() == [3, 3].as_slice();
@@ -61,8 +68,10 @@ fn written_to(alloc: Global, items: IntoIter<u32>) -> ((usize, Option<usize>), b
 
 #[test]
 fn items_are_written_to_and_printed(rt: HostRuntime) -> Result<(), Fail> {
-    let items = two(rt.alloc(), [1u32, 2])?;
+    let heap = Faulty::new(rt.alloc());
+    let items = two(&heap, [1u32, 2])?;
     assert!(rt; written_to(rt.alloc(), items) == ((2, Some(2)), true, true));
+    assert!(rt; (heap.requests(), heap.frees()) == (1, 1));
     Ok(())
 }
 
