@@ -134,12 +134,13 @@ pub(crate) fn copied_by<'a, I: Iterator<Item = &'a T>, T: Copy + 'a, A: Allocato
 // of what is left and in how many places, and the requests.
 type Row = (Fill, usize, u32, u32, u64, usize, u64, usize, u64);
 
-fn rows() -> [Row; 7] {
+fn rows() -> [Row; 8] {
     let between = Fill::Splice(1, 3);
     [
         (Fill::Extend, 2, 0, 10, 1, 0, 120123456789, 12, 1),
         (Fill::FromIterIn, 2, 0, 10, 1, 0, 12, 2, 1),
         (Fill::Splice(2, 2), 2, 0, 10, 1, 0, 120123456789, 12, 1),
+        (Fill::Splice(1, 2), 3, 8, 9, 0, 0, 183, 3, 0),
         (between, 4, 8, 10, 0, 0, 1894, 4, 0),
         (between, 4, 7, 10, 1, 0, 17894, 8, 1),
         (between, 4, 7, 10, 0, 8, 1784, 4, 1),

@@ -2,6 +2,13 @@
 //! free, and each request refused in turn. What a command replies and what it leaves are in the
 //! contract of `run`; what a failed one leaves is compared here too. That it is refused only where a
 //! request is, or past the limits, is in none.
+ghost use Rattle.std.specs.Prelude.{◌≡◌, ℕ, List, [], ◌∷◌};
+ghost use Rattle.aa_raw.specs.declared.raw_vec.Growth.TheVariants.{Doubling};
+ghost use Rattle.allocator_api2.specs.Run.{cost_of};
+ghost use Rattle.allocator_api2.specs.declared.runner.Command.TheVariants.{ExtractIf};
+ghost use Rattle.allocator_api2.specs.declared.runner.Reply.TheVariants.{Done};
+ghost use Rattle.aa_vec.specs.Vector.{Vector};
+
 use crate::seen::{List, put, room_for};
 use allocator_api2::collections::TryReserveErrorKind;
 use allocator_api2::runner::{Command, Reply, run};
@@ -360,3 +367,20 @@ fn each_command_is_refused_past_the_limits(rt: HostRuntime) {
         assert!(rt; is_too_long(rt.alloc(), told));
     }
 }
+
+// Of `[1,2,3,4,5,6]` an extraction takes out 2 and 4: it writes at most three elements of main. (A
+// number stands for the allocator.)
+fn two_taken_out()
+    ensures { let of : List ℕ → Vector ℕ ℕ = λ xs. record {
+        items = xs;
+        capacity = 6;
+        growth = Doubling;
+        grown = 0;
+        written = 0;
+        runs = 0;
+        alloc = 0;
+        behind = [];
+    } in
+        cost_of (of (1 ∷ 2 ∷ 3 ∷ 4 ∷ 5 ∷ 6 ∷ [])) (of []) (ExtractIf 1 6 2) [] Done
+            (of (1 ∷ 3 ∷ 5 ∷ 6 ∷ [])) ≡ 3 }
+{}
