@@ -179,6 +179,29 @@ fn a_call_that_is_refused_changes_nothing(rt: HostRuntime) {
 }
 
 #[test]
+fn what_fits_does_not_allocate(rt: HostRuntime) {
+    let heap = Faulty::new(rt.alloc());
+    let (mut ring, mut other) = (turned(&heap, 0..4), turned(&heap, 7..8));
+    for (call, len, requests) in [
+        (Call::Reserve(12), 4, 1),
+        (Call::Reserve(12), 4, 0),
+        (Call::PushBack, 5, 0),
+        (Call::PushFront, 6, 0),
+        (Call::Extend(9), 11, 0),
+        (Call::Append, 12, 0),
+        (Call::WithCapacity(0), 0, 0),
+        (Call::FromIter(4), 0, 0),
+    ] {
+        let before = heap.requests();
+        assert!(rt;
+            called(call, &mut ring, &mut other, &heap) == Ok(len),
+            "{len}"
+        );
+        assert!(rt; heap.requests().wrapping_sub(before) == requests, "{len}");
+    }
+}
+
+#[test]
 fn no_ring_grows_past_the_limits(rt: HostRuntime) {
     let heap = Faulty::new(rt.alloc());
     let (mut ring, mut other) = (turned(&heap, 0..4), turned(&heap, 7..8));
