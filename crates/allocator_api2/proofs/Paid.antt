@@ -1,5 +1,7 @@
 -- What a vector was moved by growth is paid for by what was added to it.
-use Rattle.allocator_api2.proofs.Common.{◌≡◌, ℕ, ◌+◌, ◌*◌, ◌-◌, ◌<◌, ◌≤◌, min, max, Option, None, ap, ◌∙◌, arith, Growth, least_of, Vector, len, moves_each}
+use Rattle.allocator_api2.proofs.Common.{◌≡◌, ℕ, ◌+◌, ◌*◌, ◌-◌, ◌<◌, ◌≤◌, min, max, Option, None, ap, ◌∙◌, arith, Growth, Doubling, least_of, Vector, len, moves_each}
+use Rattle.std.specs.Prelude.{◌/◌}
+use Rattle.aa_raw.specs.declared.raw_vec.Growth.TheVariants.{Sparing}
 use Rattle.aa_raw.specs.Growth.{amortized}
 use Rattle.aa_vec.proofs.GrowthLemmas.{MakesRoom-fits, MakesRoom-grows, MakesRoom-rises}
 use Rattle.allocator_api2.proofs.Added.{moves_each-le}
@@ -15,9 +17,22 @@ all_pays G paid g c n k h lt p = grind arith
 least_of-le : (size : ℕ) → least_of size ≤ 8
 least_of-le size = grind arith
 
--- a block that grew is no longer than twice what it needed
-amortized-within : (G : Growth) (c needed m most : ℕ) → c < needed → needed ≤ most → m ≤ 8 → amortized G c needed m ≤ max 8 (2 * most)
-amortized-within G c needed m most lt h e = grind arith
+-- the most places that a growth asks for, from fewer than `most`, where no more than `most` are needed
+abbrev pub places_for : Growth → (most : ℕ) → ℕ
+places_for Doubling most = 2 * most
+places_for Sparing most = most + most / 2 - 1
+
+places_for-mono : (G : Growth) (n k : ℕ) → n ≤ k → places_for G n ≤ places_for G k
+places_for-mono Doubling n k h = omega arith
+places_for-mono Sparing n k h = omega arith
+
+pub places_for-le : (G : Growth) (most : ℕ) → places_for G most ≤ 2 * most
+places_for-le Doubling most = omega arith
+places_for-le Sparing most = omega arith
+
+amortized-within : (G : Growth) (c needed m most : ℕ) → c < needed → needed ≤ most → m ≤ 8 → amortized G c needed m ≤ max 8 (places_for G most)
+amortized-within Doubling c needed m most lt h e = omega arith
+amortized-within Sparing c needed m most lt h e = omega arith
 
 module _ {T A : Type 0} (size : ℕ) where
   Moves-rises : {hint : Option ℕ} {needed : ℕ} {u v : Vector T A} → Moves size hint needed u v → u.capacity ≤ v.capacity
@@ -48,18 +63,24 @@ module _ {T A : Type 0} (size : ℕ) where
         let ends = all_paid (n + k) (c.moves p.fits) (omega (arith, c.full, c.longest, p.counted)) p.growth p.places (moves_each-le G old.grown paid n (n + k) (omega arith) p.moved) in
         record { growth = ends.0; fits = c.fits p.fits; counted = omega (arith, c.longest, p.counted); places = ends.1; moved = ends.2 }
 
-  -- no block is longer than 8 places and twice the greatest length
-  pub record IsPlaced (most : ℕ) (v : Vector T A) : Type 0 where
+  -- a block has no more than 8 places, or as its growth made them for the greatest length
+  pub record IsPlaced (G : Growth) (most : ℕ) (v : Vector T A) : Type 0 where
+    pub growth : v.growth ≡ G
     pub fits : len v ≤ v.capacity
-    pub capacity : v.capacity ≤ max 8 (2 * most)
+    pub capacity : v.capacity ≤ max 8 (places_for G most)
 
-  -- what is told no hint asks for no more than it needs
-  all_placed : {hint : Option ℕ} {needed : ℕ} (most : ℕ) {u v : Vector T A} → hint ≡ None → Moves size hint needed u v → min needed v.capacity ≤ most → u.capacity ≤ max 8 (2 * most) → v.capacity ≤ max 8 (2 * most)
-  all_placed most none (kept b) h p = rw b.capacity p
-  all_placed most {u} none (grown {mid = mid} n more w some lt told m r) h p =
-      let few : n + more ≤ most = omega (arith, h, told none, Moves-rises r, MakesRoom-fits size n more u mid m (omega (arith, w, MakesRoom-rises size n more u mid m))) in
-      all_placed most none r h (rw ((MakesRoom-grows size n more u mid m (omega (arith, w, some))).0) (amortized-within u.growth u.capacity (n + more) (least_of size) most some few (least_of-le size)))
+  module _ (G : Growth) where
+    -- what is told no hint asks for no more than it needs
+    all_placed : {hint : Option ℕ} {needed : ℕ} (most : ℕ) {u v : Vector T A} → hint ≡ None → Moves size hint needed u v → min needed v.capacity ≤ most → u.growth ≡ G → u.capacity ≤ max 8 (places_for G most)
+        → (v.growth ≡ G) × (v.capacity ≤ max 8 (places_for G most))
+    all_placed most none (kept b) h g p = (b.growth ∙ g, rw b.capacity p)
+    all_placed most {u} none (grown {mid = mid} n more w some lt told m r) h g p =
+        let few : n + more ≤ most = omega (arith, h, told none, Moves-rises r, MakesRoom-fits size n more u mid m (omega (arith, w, MakesRoom-rises size n more u mid m))) in
+        let places : mid.capacity ≡ amortized G u.capacity (n + more) (least_of size) = (MakesRoom-grows size n more u mid m (omega (arith, w, some))).0 ∙ ap (λ x. amortized x u.capacity (n + more) (least_of size)) g in
+        all_placed most none r h (m.growth ∙ g) (rw places (amortized-within G u.capacity (n + more) (least_of size) most some few (least_of-le size)))
 
-  pub IsPlaced-change : (hint : Option ℕ) → hint ≡ None → (most k : ℕ) (old new : Vector T A) → IsPlaced most old → Change size hint old k new → IsPlaced (max most (len new)) new
-  IsPlaced-change hint none most k old new p c =
-      record { fits = c.fits p.fits; capacity = all_placed (max most (len new)) none (c.moves p.fits) (omega (arith, c.full)) (omega (arith, p.capacity)) }
+    pub IsPlaced-change : (hint : Option ℕ) → hint ≡ None → (most k : ℕ) (old new : Vector T A) → IsPlaced G most old → Change size hint old k new → IsPlaced G (max most (len new)) new
+    IsPlaced-change hint none most k old new p c =
+        let more : places_for G most ≤ places_for G (max most (len new)) = places_for-mono G most (max most (len new)) (omega arith) in
+        let ends = all_placed (max most (len new)) none (c.moves p.fits) (omega (arith, c.full)) p.growth (omega (arith, p.capacity, more)) in
+        record { growth = ends.0; fits = c.fits p.fits; capacity = ends.1 }

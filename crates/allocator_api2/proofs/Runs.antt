@@ -1,6 +1,8 @@
 -- A run that is not at its end.
-use Rattle.allocator_api2.proofs.Common.{ℕ, ◌≡◌, List, [], ◌∷◌, ◌++◌, map, sym, ap, subst, ◌∙◌, append_assoc, refl, AllByRecursion, append-nil, Command, Reply, State, Calls, IsPossible, DoesStep, Turn, IsRun, RunsWithin, AddsOrRemoves}
+use Rattle.allocator_api2.proofs.Common.{ℕ, ◌≡◌, ◌≤◌, max, List, [], ◌∷◌, ◌++◌, map, sym, ap, subst, arith, ◌∙◌, append_assoc, refl, AllByRecursion, append-nil, Command, Reply, State, Calls, IsPossible, DoesStep, Turn, IsRun, RunsWithin, AddsOrRemoves, None, hint_of}
 use Rattle.std.proofs.lemmas.List.{map-append}
+use Rattle.allocator_api2.specs.Run.{greatest_length}
+use Rattle.allocator_api2.proofs.Paid.{places_for, places_for-le}
 use Rattle.allocator_api2.proofs.WholeRuns.{IsUnhinted, moves_law, places_law, writes_law}
 
 module _ {T A K S : Type 0} (size : ℕ) (calls : Calls T A K S) where
@@ -35,13 +37,16 @@ module _ {T A K S : Type 0} (size : ℕ) (calls : Calls T A K S) where
   -- a run with no command to come
   pub HasRun-end : {old : State T A K S} {all : List (Command T A)} {before replies : List (Reply T)} {now : State T A K S} → HasRun old all before [] replies now → (answered : List (Reply T)) × (replies ≡ before ++ answered) × RunsWithin size calls old all answered now
   HasRun-end {old = old} {all = all} {now = now} h =
-      let are : map (λ t. t.command) h.turns ≡ all = sym (append-nil _) ∙ h.commands_are in (
+      let are : map (λ t. t.command) h.turns ≡ all = sym (append-nil _) ∙ h.commands_are in
+      let places : old.main.items ≡ [] → old.main.capacity ≡ 0 → AllByRecursion (λ command. AddsOrRemoves command × (hint_of command ≡ None)) all → now.main.capacity ≤ max 8 (places_for old.main.growth (greatest_length h.turns)) =
+          λ empty none plain. places_law size calls old h.turns now h.run empty none (subst (AllByRecursion IsUnhinted) (sym are) plain) in (
         map (λ t. t.reply) h.turns,
         h.replies_are,
         record {
           run = record { possible = h.began; turns = h.turns; run = h.run; commands_are = are; replies_are = refl };
           growth = λ empty plain. moves_law size calls old h.turns now h.run empty (subst (AllByRecursion AddsOrRemoves) (sym are) plain);
-          capacity = λ empty none plain. places_law size calls old h.turns now h.run empty none (subst (AllByRecursion IsUnhinted) (sym are) plain);
+          capacity = λ empty none plain. omega (arith, places empty none plain, places_for-le old.main.growth (greatest_length h.turns));
+          sparing = λ grows empty none plain. subst (λ g. now.main.capacity ≤ max 8 (places_for g (greatest_length h.turns))) grows (places empty none plain);
           writes = writes_law size calls old h.turns now h.run;
         },
       )

@@ -1,8 +1,8 @@
 -- Laws over whole runs.
-use Rattle.allocator_api2.proofs.Common.{◌≡◌, ℕ, ◌+◌, ◌*◌, ◌≤◌, max, List, [], ◌∷◌, map, length, sum_by, sym, ap, subst, rules, arith, AllByRecursion, sum_by-cons, Growth, None, len, Command, State, Calls, Turn, IsRun, AddsOrRemoves, hint_of, added, moves_each}
+use Rattle.allocator_api2.proofs.Common.{◌≡◌, ℕ, ◌+◌, ◌*◌, ◌≤◌, max, List, [], ◌∷◌, map, length, sum_by, sym, ap, subst, refl, rules, arith, AllByRecursion, sum_by-cons, Growth, None, len, Command, State, Calls, Turn, IsRun, AddsOrRemoves, hint_of, added, moves_each}
 use Rattle.std.proofs.Common.{add-zero, zero-add}
 use Rattle.allocator_api2.specs.Run.{cost, greatest_length}
-use Rattle.allocator_api2.proofs.Paid.{IsPaid, IsPaid-change, IsPlaced, IsPlaced-change}
+use Rattle.allocator_api2.proofs.Paid.{IsPaid, IsPaid-change, IsPlaced, IsPlaced-change, places_for}
 use Rattle.allocator_api2.proofs.Steps.{change_of}
 
 -- it is told no hint
@@ -27,13 +27,15 @@ module _ {T A K S : Type 0} (size : ℕ) (calls : Calls T A K S) where
       let start : IsPaid size old.main.growth old.main.grown 0 old.main = search (rules, arith, ap length empty) in
       rw zero-add at (paid_run old.main.growth old.main.grown 0 old ts new r start plain).moved
 
-  placed_run : (most : ℕ) (old : State T A K S) (ts : List (Turn T A K S)) (new : State T A K S) → IsRun size calls old ts new → IsPlaced size most old.main → AllByRecursion IsUnhinted (map (λ t. t.command) ts) → IsPlaced size (max most (greatest_length ts)) new.main
-  placed_run most old [] new r p a = rw r (let e : max most 0 ≡ most = omega arith in rw e p)
-  placed_run most old (t ∷ ts) new r p a =
-      let q = IsPlaced-change size (hint_of t.command) a.0.1 most _ t.before.main t.after.main (rw r.0 p) (change_of size calls t.before t.command t.answers t.reply t.after a.0.0 r.1.step) in
+  placed_run : (G : Growth) (most : ℕ) (old : State T A K S) (ts : List (Turn T A K S)) (new : State T A K S) → IsRun size calls old ts new → IsPlaced size G most old.main → AllByRecursion IsUnhinted (map (λ t. t.command) ts) → IsPlaced size G (max most (greatest_length ts)) new.main
+  placed_run G most old [] new r p a = rw r (let e : max most 0 ≡ most = omega arith in rw e p)
+  placed_run G most old (t ∷ ts) new r p a =
+      let q = IsPlaced-change size G (hint_of t.command) a.0.1 most _ t.before.main t.after.main (rw r.0 p) (change_of size calls t.before t.command t.answers t.reply t.after a.0.0 r.1.step) in
       let e : max most (greatest_length (t ∷ ts)) ≡ max (max most (len t.after.main)) (greatest_length ts) = omega arith in
-      subst (λ k. IsPlaced size k new.main) (sym e) (placed_run (max most (len t.after.main)) t.after ts new r.2 q a.1)
+      subst (λ k. IsPlaced size G k new.main) (sym e) (placed_run G (max most (len t.after.main)) t.after ts new r.2 q a.1)
 
-  pub places_law : (old : State T A K S) (ts : List (Turn T A K S)) (new : State T A K S) → IsRun size calls old ts new → old.main.items ≡ [] → old.main.capacity ≡ 0 → AllByRecursion IsUnhinted (map (λ t. t.command) ts) → new.main.capacity ≤ max 8 (2 * greatest_length ts)
+  pub places_law : (old : State T A K S) (ts : List (Turn T A K S)) (new : State T A K S) → IsRun size calls old ts new → old.main.items ≡ [] → old.main.capacity ≡ 0 → AllByRecursion IsUnhinted (map (λ t. t.command) ts) → new.main.capacity ≤ max 8 (places_for old.main.growth (greatest_length ts))
   places_law old ts new r empty none plain =
-      let start : IsPlaced size 0 old.main = omega (arith, ap length empty) in omega (arith, (placed_run 0 old ts new r start plain).capacity)
+      let start : IsPlaced size old.main.growth 0 old.main = record { growth = refl; fits = omega (arith, ap length empty); capacity = omega (arith, none) } in
+      let e : max 0 (greatest_length ts) ≡ greatest_length ts = omega arith in
+      subst (λ n. new.main.capacity ≤ max 8 (places_for old.main.growth n)) e (placed_run old.main.growth 0 old ts new r start plain).capacity

@@ -1,5 +1,5 @@
 -- Whole runs of the list machine, and what is counted on them.
-use Rattle.std.specs.Prelude.{◌≡◌, ℕ, ◌+◌, ◌-◌, ◌*◌, ◌≤◌, max, Bool, not, List, [], ◌∷◌, map, slice_range, sum_by, if◌then◌else◌, Option, None, ⊤}
+use Rattle.std.specs.Prelude.{◌≡◌, ℕ, ◌+◌, ◌-◌, ◌*◌, ◌/◌, ◌≤◌, max, Bool, not, List, [], ◌∷◌, map, slice_range, sum_by, if◌then◌else◌, Option, None, ⊤}
 use Rattle.std.specs.List.{AllByRecursion}
 use Rattle.aa_raw.specs.declared.raw_vec.Growth.{Growth}
 use Rattle.aa_raw.specs.declared.raw_vec.Growth.TheVariants.{Doubling, Sparing}
@@ -152,6 +152,11 @@ module _ {T A K S : Type 0} (size : ℕ) (calls : Calls T A K S) (old : State T 
     pub capacity : old.main.items ≡ [] → old.main.capacity ≡ 0
         → AllByRecursion (λ command. AddsOrRemoves command × (hint_of command ≡ None)) commands
         → new.main.capacity ≤ max 8 (2 * greatest_length run.turns)
+    -- and if it is sparing, it has at most 8 places, or less than one and a half times that length
+    pub sparing : old.main.growth ≡ Sparing → old.main.items ≡ [] → old.main.capacity ≡ 0
+        → AllByRecursion (λ command. AddsOrRemoves command × (hint_of command ≡ None)) commands
+        → let most = greatest_length run.turns in
+        new.main.capacity ≤ max 8 (most + most / 2 - 1)
     -- no more elements were written into main's places than the commands cost
     pub writes : new.main.written ≤ old.main.written + sum_by cost run.turns
 
