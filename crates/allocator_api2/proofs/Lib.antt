@@ -4,6 +4,7 @@ pub mod Callable
 pub mod Taking
 pub mod WholeRuns
 pub mod Differ
+pub mod Distinct
 pub mod ExtractParts
 pub mod Joined
 pub mod ByKind

@@ -1,7 +1,8 @@
 -- Laws that users of the vector rely on, over the steps of the list machine and over what the calls
 -- leave.
 use Rattle.std.specs.Prelude.{◌≡◌, ℕ, ◌≤◌, Bool, false, List, [], ◌∷◌, length, ⊤}
-use Rattle.std.specs.List.{AllByRecursion}
+use Rattle.std.specs.List.{AllByRecursion, IsDistinct, dedup}
+use Rattle.std.specs.List.Sorted.{IsSortedBy, ties}
 use Rattle.aa_raw.specs.declared.collections.Refused.{Refused}
 use Rattle.aa_vec.specs.Vector.{Vector, len, sized}
 use Rattle.aa_vec.specs.Boxes.{boxed, HandsBack, IsUnboxed}
@@ -66,6 +67,18 @@ LeavesNoRepeats {T} {S} eq Repeats =
     TestsEquality eq Repeats
     → (s t : S) (xs left : List T) (answers : List Bool) → Deduplicated Repeats s xs answers t left
     → NeighboursDiffer eq left
+
+-- `lt` orders the elements up to `same`: 'not less than' is transitive, and two are the same just
+-- where neither is less
+pub record OrdersUpTo {T : Type 0} (same lt : T → T → Bool) : Type 0 where
+  pub chain : (x y z : T) → lt x y ≡ false → lt y z ≡ false → lt x z ≡ false
+  pub tie : (x y : T) → same x y ≡ ties lt x y
+
+-- of a list that such an order sorts, `dedup` leaves no two elements that are the same
+abbrev pub LeavesDistinct : {T : Type 0} → (same : T → T → Bool) → Type 0
+LeavesDistinct {T} same =
+    (lt : T → T → Bool) (xs : List T) → OrdersUpTo same lt → IsSortedBy lt xs
+    → IsDistinct same (dedup same xs)
 
 -- a list that becomes a boxed slice, and then a vector, is as it was; a vector that could not
 -- become one is handed back

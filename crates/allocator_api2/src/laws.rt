@@ -1,10 +1,12 @@
 //! Laws that users of the vector rely on. The functions do nothing: their contracts are the laws.
 ghost use Rattle.std.specs.Prelude.{◌≤◌, Bool, List};
 ghost use Rattle.std.specs.Fn.{CalledAtPairMut};
+ghost use Rattle.std.specs.List.{IsDistinct, dedup};
+ghost use Rattle.std.specs.List.Sorted.{IsSorted, IsSortedByKey};
 ghost use Rattle.std.specs.Mem.{type_size};
 ghost use Rattle.aa_vec.specs.Choosing.{Equals, Deduplicated};
 ghost use Rattle.aa_vec.specs.Vector.{len};
-ghost use Rattle.allocator_api2.specs.Laws.{ReserveHolds, CutIsJoined, NeighboursDiffer, LeavesNoRepeats, BoxingKeeps};
+ghost use Rattle.allocator_api2.specs.Laws.{ReserveHolds, CutIsJoined, NeighboursDiffer, LeavesNoRepeats, LeavesDistinct, BoxingKeeps};
 ghost use Rattle.allocator_api2.specs.Comparing.{IsThatOfTheSlice, IsThatOfTheSlices, OrderAgrees};
 
 use aa_vec::vec::Vec;
@@ -39,6 +41,20 @@ where
     ensures dedup { (xs left : List T) (answers : List Bool)
         → Deduplicated (Equals T.eq) tt xs answers tt left → NeighboursDiffer T.eq left }
     ensures dedup_by { LeavesNoRepeats T.eq (CalledAtPairMut S.FnMut) }
+{}
+
+/// Of a sorted list `dedup` removes all duplicates: no two elements that it leaves are equal.
+pub fn dedup_removes_all_duplicates_of_sorted<T: Ord>()
+    ensures { (xs : List T) → IsSorted T.cmp xs → IsDistinct T.eq (dedup T.eq xs) }
+{}
+
+/// Of a list that is sorted by a key `dedup_by_key` leaves no two elements with equal keys. Of one
+/// that an order sorts, `dedup_by` leaves no two elements that are the same, by a test that is true
+/// where neither of two is less than the other, and only there.
+pub fn dedup_by_removes_all_duplicates_of_sorted<T, K: Ord>()
+    ensures by_key { (key : T → K) (xs : List T) → IsSortedByKey key K.cmp xs
+        → IsDistinct (λ x y. K.eq (key x) (key y)) (dedup (λ x y. K.eq (key x) (key y)) xs) }
+    ensures by { (same : T → T → Bool) → LeavesDistinct same }
 {}
 
 /// A list that becomes a boxed slice, and then a vector, is as it was, with room for no more; a
