@@ -1,7 +1,7 @@
 //! Room that is made first, and what is pushed into it.
-ghost use Rattle.std.specs.Prelude.{◌≡◌, ◌+◌, ◌≤◌, [], ◌∷◌, ◌++◌, length, replicate, IfErr, IfOk, OnErr, OnOk, IsOk};
+ghost use Rattle.std.specs.Prelude.{◌≡◌, ◌+◌, ◌≤◌, max, [], ◌∷◌, ◌++◌, length, replicate, IfErr, IfOk, OnErr, OnOk, IsOk};
 ghost use Rattle.allocator_api2.specs.Refusals.{IsRefusedAt};
-ghost use Rattle.allocator_api2.specs.Vector.{HasRoom, Holds};
+ghost use Rattle.allocator_api2.specs.Vector.{HasRoom, Holds, SameBlock};
 
 use allocator_api2::collections::{Refused, TryReserveError};
 use allocator_api2::vec::Vec;
@@ -28,15 +28,18 @@ pub fn add_two<A: Allocator>(v: &mut Vec<u64, A>, a: u64, b: u64) -> Result<(), 
     Ok(())
 }
 
-/// Puts a pair behind the others, or neither. A new block is asked for only where two places are
-/// not free, and for just these. It moves each element there once; a refusal tells how many places
-/// were asked for.
+/// Appends a pair, or neither. Allocates only if fewer than two places are free, and then room for
+/// just two more. Moves each element at most once.
 pub fn add_pair<A: Allocator>(v: &mut Vec<u64, A>, a: u64, b: u64) -> Result<(), TryReserveError>
-    ensures fits { HasRoom v.old 2 → IsOk result }
-    ensures both { OnOk result (v.new.items ≡ v.old.items ++ a ∷ b ∷ []) }
-    ensures moved { OnOk result (v.new.grown ≤ v.old.grown + length v.old.items) }
-    ensures neither { OnErr result (v.new ≡ v.old) }
-    ensures asked { IfErr result (λ e. IsRefusedAt e (length v.old.items + 2)) }
+    // If two more fit, it succeeds in the same block.
+    ensures fits { HasRoom v.old 2 → IsOk result × SameBlock v.old v.new }
+    // Success leaves the pair at the end, and the capacity that is needed for it.
+    ensures appended { OnOk result (v.new.items ≡ v.old.items ++ a ∷ b ∷ []) }
+    ensures capacity { OnOk result (v.new.capacity ≡ max v.old.capacity (length v.old.items + 2)) }
+    ensures counts { OnOk result (v.new.grown ≤ v.old.grown + length v.old.items) }
+    // Failure changes nothing. An `AllocError` has the capacity that was requested.
+    ensures error { IfErr result (λ e. IsRefusedAt e (length v.old.items + 2)) }
+    ensures unchanged { OnErr result (v.new ≡ v.old) }
 {
     v.try_reserve_exact(2)?;
     push_within(v, a);
