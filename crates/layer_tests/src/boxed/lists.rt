@@ -3,7 +3,10 @@ use crate::boxed::{has, slice_of, text_of};
 use crate::printed::are_printed;
 use aa_boxed::boxed::{BoxedSlice, BoxedText};
 use std::alloc::Global;
+use std::mem::size_of;
 use std::test::Fail;
+
+const _: () = prove!(size_of::<BoxedSlice<u64, Global>>() == 32);
 
 // Whether a slice has these elements, and fives once it is filled with them; and the capacity and
 // the length of its block.
