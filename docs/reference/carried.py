@@ -1,7 +1,7 @@
 """What carries the rules of SPECIFICATION: the names in brackets behind them.
 
 `[push: fits, pushed]` are clauses of a call, `[Box as Iterator]` is a trait that a type has, `[Replaced: room]` a word of the contracts
-with a field of it, `[tested: liars]` a test: a crate, a file of one, a function in it, or a file of tests/, and `[killed: EDIT]` an edit
+with a field of it, `[tested: liars]` a test: a function, a file of them, a crate of these, or a file of tests/, and `[killed: EDIT]` an edit
 that the checker refuses. Several stand in one bracket, parted by `;`. A call without its type is one of the modules that the section's
 heading names.
 """
@@ -105,12 +105,12 @@ def words_beside():
 
 @functools.lru_cache(maxsize=None)
 def tests():
-    """The names that a test may have."""
-    found = {it.name for it in (TOP / "tests").iterdir()} | {it.name for it in (TOP / "crates").iterdir()}
-    for crate in sorted((TOP / "crates").iterdir()):
-        if crate.name.endswith("_tests"):
-            for file in (crate / "src").rglob("*.rt"):
-                found |= {file.stem} | set(re.findall(r"fn (\w+)", text_of(file)))
+    """The names that a test may have: those of tests/, test functions, files with one or with a claim, and crates of such files."""
+    found = {it.name for it in (TOP / "tests").iterdir()}
+    for file in sorted((TOP / "crates").glob("*_tests/src/**/*.rt")):
+        named = set(re.findall(r"#\[test\]\n(?:#.*\n)*fn (\w+)", text_of(file)))
+        if named or "ensures" in text_of(file):
+            found |= named | {file.stem, file.relative_to(TOP).parts[1]}
     return found
 
 

@@ -1,0 +1,232 @@
+"""Sees that numbers on pages are those of the sources: lines of code and proof, sizes of types, edits, rows of the bench's tables.
+
+`of_sources`, `of_types` and `of_bench` have a line for each sentence: its page, its text with `{}` in place of each number, and what
+each of these counts. A line break of the page is a blank. A number is written in digits, or as a word up to twelve.
+"""
+import functools
+import itertools
+import re
+
+from sources import text_of
+from words import CRATES, TOP
+
+SMALL = "no one two three four five six seven eight nine ten eleven twelve".split()
+NUMBER = rf"(\d[\d,]*(?:\.\d+)?|(?i:\b(?:{'|'.join(SMALL)})\b))"
+# Of the examples that are a part of a crate, as the first words of their row: the files and folders of its src, specs and proofs. A row
+# that says `the rest` has what is in no other, and any other row its whole crate.
+PARTS = {
+    "A leaf of a B-tree": ("leaf moves", "Entries LeafInside LeafLends", "LeafLent LeafOrder leaf"),
+    "An arena by handles": ("arena", "Lends", ""),
+    "A vector of fixed capacity": ("fixed", "FixedInner", ""),
+    "A text builder": ("text", "", "text"),
+    "What these three are": ("", "Held", ""),
+    "A line editor": ("editor", "Editor", "editor"),
+    "Records as bytes": ("records", "Records", "Decoding Rooms records"),
+    "Allocators with a watch": ("budget counting watched", "Sizes", "Walk Watching watched"),
+    "A layer that asks": ("spaced", "Spacing", "Spacing spaced"),
+}
+FOLDERS = ("src", "specs", "proofs")
+# The columns of the bench's tables, of instructions and then of times.
+SIDES = ("ours", "original", "std", "toolchain")
+
+
+def files_in(crate, folder):
+    """The files of a crate's folder, each by the first part of its path there, without an ending."""
+    top = TOP / "crates" / crate / folder
+    return [(file.relative_to(top).parts[0].split(".")[0], file) for file in sorted(top.rglob("*.*"))]
+
+
+def lines_of(crate, folder, names=None, but=()):
+    """The lines of a crate's folder: of these files and folders, or of all but some."""
+    return sum(text_of(file).count("\n") for name, file in files_in(crate, folder) if name not in but and (names is None or name in names))
+
+
+def example_rows():
+    """The rows of EXAMPLES: the first cell, the crate, whether it is the rest of one, and the numbers, of which a blank is 0."""
+    for row in re.findall(r"^\| (.*) \|$", text_of(TOP / "docs" / "EXAMPLES.md"), re.M):
+        cells = [it.strip() for it in row.split("|")]
+        if len(cells) == 5 and "`ex_" in cells[1]:
+            yield cells[0], re.search(r"ex_\w+", cells[1]).group(), "the rest" in cells[1], [int(it or 0) for it in cells[2:]]
+
+
+def part_of(title):
+    return next((parts for head, parts in PARTS.items() if title.startswith(head)), None)
+
+
+def example_faults():
+    """The numbers of lines in EXAMPLES that are wrong."""
+    rows = list(example_rows())
+    for title, crate, is_rest, said in rows:
+        for at, folder in enumerate(FOLDERS):
+            parts = part_of(title)
+            others = [part_of(it)[at].split() for it, of, _, _ in rows if is_rest and of == crate and part_of(it)]
+            counted = lines_of(crate, folder, parts[at].split() if parts else None, sum(others, []))
+            if said[at] != counted:
+                yield f"docs/EXAMPLES.md: says {said[at]} lines of {folder} for '{title}', there are {counted}"
+
+
+@functools.lru_cache(maxsize=None)
+def sizes():
+    """The bytes of types, as the tests claim them."""
+    tests = [text_of(file) for file in sorted((TOP / "crates").glob("*_tests/src/**/*.rt"))]
+    return dict(re.findall(r"size_of::<(.+?)>\(\) == (\d+)", "\n".join(tests)))
+
+
+def size(of):
+    return f"bytes for {of}", sizes().get(of, "no test of it")
+
+
+@functools.lru_cache(maxsize=None)
+def cases():
+    """The cells of the bench's tables of cases, by the case: four of instructions, and four of times."""
+    page = text_of(TOP / "bench" / "README.md")
+    tables = re.findall(r"<!-- (?:cases|uses), by bench/run page -->\n(.*?)<!-- end -->", page, re.S)
+    rows = [[cell.strip() for cell in row.split("|")] for row in re.findall(r"^\| (`.*) \|$", "".join(tables), re.M)]
+    return {re.match(r"`(\w+)`", row[0]).group(1): row[1:] for row in rows}
+
+
+def ratio(case, other, of="ns"):
+    """What ours takes of the time, or of the instructions, of another side; a number that is no number where that has no such call."""
+    cells = cases()[case][4:] if of == "ns" else cases()[case][:4]
+    ours, theirs = (float(re.match(r"[\d.]+|-", cells[at]).group().replace("-", "nan")) for at in (0, SIDES.index(other)))
+    return 1.0 if ours == theirs else ours / theirs if theirs else float("inf")
+
+
+def ahead(other):
+    """The cases in which another side takes less than ours by more than a tenth."""
+    return f"cases in which {other} is ahead", sum(ratio(case, other) > 1.1 for case in cases())
+
+
+def behind(other):
+    return f"cases in which {other} is behind", sum(1.1 * ratio(case, other) < 1 for case in cases())
+
+
+def takes(case, other, of="ns"):
+    return f"times of {other}, by {of}, for `{case}`", f"{ratio(case, other, of):.2f}"
+
+
+def taken(case, other, of="ns"):
+    """The other way around: what another side takes of ours."""
+    return f"times ours, by {of}, for `{case}` of {other}", f"{1 / ratio(case, other, of):.2f}"
+
+
+def beyond():
+    """The cases of users' programs in which ours takes much longer."""
+    uses = list(cases())[list(cases()).index("serialise") :]
+    return "cases", sum(ratio(case, "original") > 1.2 or ratio(case, "std") > 1.2 for case in uses)
+
+
+def as_original():
+    """The cases with a call of the original, and those of them in which ours is not marked for its instructions."""
+    there = [cells for cells in cases().values() if cells[1] != "-"]
+    return ("cases", sum("!" not in cells[0] for cells in there)), ("cases", len(there))
+
+
+def wrong_allocators():
+    """All wrong allocators, those of which the fault is named, the steps, and those at which the run stops."""
+    text = text_of(TOP / "tests" / "wrong-allocators" / "lib.rt.txt")
+    named = len(re.findall(r"^    assert!.*Broken::", text, re.M))
+    stops = len(re.findall(r"^stops ", text_of(TOP / "tests" / "wrong_allocators"), re.M))
+    steps = re.search(r"const STEPS: u64 = (\d+)", text).group(1)
+    return ("wrong allocators", named + stops), ("named faults", named), ("steps", steps), ("that stop", stops)
+
+
+def refused_scripts():
+    """The scripts of tests/refuse."""
+    lists = re.findall(r'^(?:BAD_)?SCRIPTS = "+([^"]*)"', text_of(TOP / "tests" / "refuse"), re.M)
+    return "scripts", sum(len(it.split()) for it in lists)
+
+
+def must_fail():
+    return "must-fail edits", len(list((TOP / "crates").glob("*/must-fail/*.edit")))
+
+
+def proofs_by_hand(crate, but=()):
+    """The functions of a crate that are proved by a walk."""
+    return "proofs by hand", sum(file.name == "Proof.antt" for name, file in files_in(crate, "proofs") if name not in but)
+
+
+def of_sources():
+    """Sentences with a number of lines, edits or files: the page, the sentence, and of each number what it counts and the count."""
+    trees = [("lines", lines_of("ex_trees", "src", it)) for it in (None, ["list"], ["tree"], ["search"])]
+    yield "README.md", "take in the library's {} crates", [("crates", len(CRATES))]
+    yield "CONTRIBUTING.md", "`allocator_api2` alone, has {} exact ones", [must_fail()]
+    yield "CONTRIBUTING.md", "read and write of {} of them in turn", [refused_scripts()]
+    yield "docs/DECISIONS.md", "The {} that stand for a promise", [must_fail()]
+    yield "docs/ALLOCATORS.md", "has {} wrong allocators. The fault of {} is named, in {} steps. At {} `rt try`", wrong_allocators()
+    yield "docs/CALLING.md", "(`ex_slots`) has {} lines of proof", [("lines", lines_of("ex_slots", "proofs"))]
+    yield "docs/EXAMPLES.md", "Of the {} lines of code {} are for lists, {} for trees, {} for search trees.", trees
+    yield "docs/EXAMPLES.md", "search trees. The tests have {}.", [("lines", lines_of("ex_tests", "src", ["trees"]))]
+    yield "docs/EXAMPLES.md", "the recycler and their shelf {};", [proofs_by_hand("ex_allocators", ["spaced"])]
+
+
+def of_types():
+    """The same of sizes of types."""
+    box, vector, slice_, ring = (size(f"{it}<u64, Global>") for it in ("Box", "Vec", "BoxedSlice", "Ring"))
+    small, bytes_, optional = (size(f"InlineVec<{it}>") for it in ("u64, Global, 4", "u8, Global, 16", "Option<u64>, Global, 4"))
+    yield "docs/DECISIONS.md", "now they take {} and {} (", [small, bytes_]
+    yield "docs/DECISIONS.md", "four of 64 bits make {} bytes", [optional]
+    yield "docs/DECISIONS.md", "**`Box` is {} bytes** over", [box]
+    yield "docs/DECISIONS.md", "**A vector is {}**", [vector]
+    yield "docs/DIFFERENCES.md", "block: {} bytes for a `Box` over", [box]
+    yield "docs/DIFFERENCES.md", "A boxed slice and a vector have {},", [slice_]
+    yield "docs/DIFFERENCES.md", "A boxed slice and a vector have {},", [vector]
+    yield "docs/DIFFERENCES.md", "a ring has {}, and an `InlineVec<u64, Global, 4>` {}.", [ring, small]
+    yield "docs/EXAMPLES.md", "A ring of numbers takes {} bytes", [ring]
+    yield "docs/EXAMPLES.md", "four numbers of 64 bits in place make {} bytes, and sixteen bytes {}.", [small, bytes_]
+    yield "bench/README.md", "a box has {} bytes here, and a vector {}.", [box, vector]
+    yield "bench/README.md", "box and the vector themselves, {} and {} bytes", [box, vector]
+
+
+def of_bench():
+    """The same of the bench's tables."""
+    of_table = [takes(f"table_{it}", side) for it in ("insert", "hit", "miss", "remove") for side in ("std", "toolchain")]
+    yield "README.md", "the original's instructions in {} of {} cases", as_original()
+    yield "README.md", "by more than a tenth in {} of {} cases, and behind in {}.", [ahead("toolchain"), ("cases", len(cases())), behind("toolchain")]
+    yield "README.md", "Rust's std is ahead in {}, and behind in {}.", [ahead("std"), behind("std")]
+    yield "bench/README.md", "{} take more than 1.2 times the time", [beyond()]
+    yield "bench/README.md", "`window`, beside std, by {}:", [takes("window", "std")]
+    yield "bench/README.md", "`boxes` takes {} times its time", [takes("boxes", "original")]
+    yield "bench/README.md", "`lines` {} times its instructions", [takes("lines", "original", "instructions")]
+    yield "bench/README.md", "`gap_typing` at 100,000 takes {} of the time", [takes("gap_typing", "original")]
+    yield "bench/README.md", "over the original, and {} over std", [takes("gap_typing", "std")]
+    yield "bench/README.md", "std takes {} of `pieces_of_4`", [taken("pieces_of_4", "std", "instructions")]
+    yield "bench/README.md", "by time it takes {}, since", [taken("pieces_of_4", "std")]
+    yield "bench/README.md", "| 100,000 | {}, {} | {}, {} | {}, {} | {}, {} |", of_table
+
+
+def value(said):
+    """A number of a page, as it is counted: digits without commas."""
+    return str(SMALL.index(said.lower())) if said.lower() in SMALL else said.replace(",", "")
+
+
+def sentence_faults(page, sentence, counted):
+    """What is wrong with the numbers of a sentence."""
+    pattern = NUMBER.join(re.escape(it) for it in sentence.split("{}"))
+    found = re.findall(pattern, re.sub(r"\s+", " ", text_of(TOP / page)))
+    if len(found) != 1:
+        yield f"{page}: has '{sentence}' {len(found)} times, and docs/reference/counted.py wants it once"
+        return
+    said = found[0] if isinstance(found[0], tuple) else found
+    for one, (what, count) in zip(said, counted, strict=True):
+        if value(one) != str(count):
+            yield f"{page}: says {one} {what}, there are {count}"
+
+
+def unnamed_scripts():
+    """The scripts that `.ci/run` runs and CONTRIBUTING does not name."""
+    if not (TOP / "CONTRIBUTING.md").exists():
+        return
+    page = text_of(TOP / "CONTRIBUTING.md")
+    for script in dict.fromkeys(re.findall(r"^((?:docs|tests|bench)/\w+)", text_of(TOP / ".ci" / "run"), re.M)):
+        if f"`{script}" not in page:
+            yield f"CONTRIBUTING.md: does not name {script}, which .ci/run runs"
+
+
+def faults():
+    """All that is wrong with the numbers on pages."""
+    for page, sentence, counted in itertools.chain(of_sources(), of_types(), of_bench()):
+        if (TOP / page).exists():
+            yield from sentence_faults(page, sentence, counted)
+    yield from example_faults()
+    yield from unnamed_scripts()
