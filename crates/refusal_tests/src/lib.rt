@@ -61,8 +61,9 @@
 //! | `run`: `Extend`, `Splice` | 1; more where fewer are told | `run_commands` |
 //!
 //! `run_commands` runs every command on lists of 0 to 100 numbers, with each request refused in
-//! turn: it is refused for want of memory where a request is, and only there. What it leaves and
-//! replies is in the contract of `run`, and `tests/scripts` compares it with the original.
+//! turn: it is refused for want of memory where a request is, and only there. The lists that a
+//! failed command leaves are compared. What else it leaves and replies is in the contract of `run`,
+//! and `tests/scripts` compares it with the original.
 //!
 //! `changes` counts what the calls take of an iterator that they are given, and `items` looks at
 //! what they ask for where its `size_hint` is exact.
