@@ -14,6 +14,13 @@ module _ {X : Type 0} where
   none-left (None ∷ cs) h = none-left cs (λ s. h (suc s))
   none-left (Some x ∷ cs) h = absurd (let e = h zero in cc)
 
+  -- where no value is in them, all places are empty
+  pub all-none : (cs : List (Option X)) → length (somes cs) ≤ 0 → (s : ℕ) → get_or cs s None ≡ None
+  all-none [] l s = refl
+  all-none (None ∷ cs) l zero = refl
+  all-none (None ∷ cs) l (suc s) = all-none cs l s
+  all-none (Some x ∷ cs) l s = absurd (omega (arith, l))
+
   -- a value of one list of places is in another now
   pub moved-one : (all : List X) (from to : List (Option X)) (s at : ℕ) (x : X) → get_or from s None ≡ Some x → at < length to → get_or to at None ≡ None → IsPermutation all (somes to ++ somes from)
       → IsPermutation all (somes (set to at (Some x)) ++ somes (set from s None))

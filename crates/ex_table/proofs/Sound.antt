@@ -1,5 +1,5 @@
 -- A table stays one: a key comes, goes, or is given way to by its equal.
-use Rattle.std.proofs.Common.{Bool, List, None, Option, Some, [], ap, arith, false, get_or, inr, length, refl, set, subst, suc, sym, true, zero, ℕ, ◌+◌, ◌<◌, ◌∙◌, ◌∷◌, ◌≡◌, ◌≤◌}
+use Rattle.std.proofs.Common.{Bool, List, None, Option, Some, [], ap, arith, false, get_or, length, refl, set, subst, suc, sym, true, zero, ℕ, ◌+◌, ◌<◌, ◌∙◌, ◌∷◌, ◌≡◌, ◌≤◌}
 use Rattle.std.specs.Prelude.{IsPermutation, ◌⊎◌, ◌^◌}
 use Rattle.std.proofs.lemmas.List.{length-set}
 use Rattle.std.proofs.lemmas.List.Sorted.{length_permutation}
@@ -8,7 +8,7 @@ use Rattle.allocator_api2.specs.Places.{somes}
 use Rattle.std.specs.Map.{set_value}
 use Rattle.ex_table.specs.Inside.{filled_in}
 use Rattle.ex_table.specs.Contents.{Filled, value, keys_like, IsMap, Sets}
-use Rattle.ex_table.specs.Slots.{IsIndex}
+use Rattle.ex_table.specs.Slots.{IsIndex, IsMemory}
 use Rattle.ex_table.specs.Places.{AreFindable, AreFree, AreHeld, AreKeys, IsIndexed, IsTable, hashes_of, key_at, tags_of}
 use Rattle.ex_table.specs.declared.index.Named.{Named}
 use Rattle.ex_table.proofs.Maps.{alike-keys, emptied, filled, gone, map-gone, map-new, map-permuted, sets-gone, sets-new, value-gone, value-none, value-permuted}
@@ -135,6 +135,7 @@ module _ {K V A : Type 0} {eq : K → K → Bool} {h : K → ℕ} where
         once = once-written;
         indexed = still index t.indexed;
         room = t.room;
+        memory = rw (length-set b.places s (Some y)) t.memory;
         counted = t.counted ∙ sym as-many;
         within = t.within;
         small = t.small;
@@ -152,13 +153,14 @@ module _ {K V A : Type 0} {eq : K → K → Bool} {h : K → ℕ} where
       one-less = omega (arith, length_permutation (somes b.places) (e ∷ somes (set b.places s None)) without)
 
       pub removed : (i j : Named A) (new : Block (K × V) A) (left : ℕ) → new.places ≡ set b.places s None → length j.tags.items ≡ length i.tags.items
-          → IsIndex j.tags.items j.beyond.items (set (hashes_of h b.places) s None) → (capacity ≡ 0 ⊎ capacity < length i.tags.items) → left + 1 ≡ count
+          → IsIndex j.tags.items j.beyond.items (set (hashes_of h b.places) s None) → (capacity ≡ 0 ⊎ capacity < length i.tags.items) → IsMemory capacity (length i.tags.items) (length b.places) → left + 1 ≡ count
           → IsTable eq h new (Some j) left capacity
-      removed i j new left p slots index room less = rw p (record {
+      removed i j new left p slots index room memory less = rw p (record {
         keys = t.keys;
         once = map-gone eq t.keys.equality e (somes b.places) (somes (set b.places s None)) without t.once;
         indexed = subst (IsIndex j.tags.items j.beyond.items) (sym (hashes-set h b.places s None)) index;
         room = rw slots room;
+        memory = rw (slots, length-set b.places s None) memory;
         counted = omega (arith, one-less, less, t.counted);
         within = omega (arith, t.within, less);
         small = t.small;
@@ -170,26 +172,28 @@ module _ {K V A : Type 0} {eq : K → K → Bool} {h : K → ℕ} where
       with-one = filled b.places s e l empty
 
       pub added : (i j : Named A) (new : Block (K × V) A) → new.places ≡ set b.places s (Some e) → length j.tags.items ≡ length i.tags.items
-          → IsIndex j.tags.items j.beyond.items (set (hashes_of h b.places) s (Some (h e.0))) → (capacity ≡ 0 ⊎ capacity < length i.tags.items) → count + 1 ≤ capacity
+          → IsIndex j.tags.items j.beyond.items (set (hashes_of h b.places) s (Some (h e.0))) → (capacity ≡ 0 ⊎ capacity < length i.tags.items) → IsMemory capacity (length i.tags.items) (length b.places) → count + 1 ≤ capacity
           → IsTable eq h new (Some j) (count + 1) capacity
-      added i j new p slots index room more = rw p (record {
+      added i j new p slots index room memory more = rw p (record {
         keys = t.keys;
         once = map-new eq t.keys.equality e.0 e.1 (somes b.places) (somes (set b.places s (Some e))) with-one new-key t.once;
         indexed = subst (IsIndex j.tags.items j.beyond.items) (sym (hashes-set h b.places s (Some e))) index;
         room = rw slots room;
+        memory = rw (slots, length-set b.places s (Some e)) memory;
         counted = omega (arith, t.counted, length_permutation (e ∷ somes b.places) (somes (set b.places s (Some e))) with-one);
         within = more;
         small = t.small;
       })
 
     -- all entries have other places
-    pub moved : (new : Block (K × V) A) (i : Option (Named A)) (room : ℕ) → IsPermutation (somes b.places) (somes new.places) → IsIndexed eq h i new.places → room < length (tags_of i) → count ≤ room → room < 2 ^ 32
+    pub moved : (new : Block (K × V) A) (i : Option (Named A)) (room : ℕ) → IsPermutation (somes b.places) (somes new.places) → IsIndexed eq h i new.places → (room ≡ 0 ⊎ room < length (tags_of i)) → IsMemory room (length (tags_of i)) (length new.places) → count ≤ room → room < 2 ^ 32
         → IsTable eq h new i count room
-    moved new i room p indexed slots within small = record {
+    moved new i room p indexed slots memory within small = record {
       keys = t.keys;
       once = map-permuted eq (somes b.places) (somes new.places) p t.once;
       indexed = indexed;
-      room = inr slots;
+      room = slots;
+      memory = memory;
       counted = omega (arith, t.counted, length_permutation (somes b.places) (somes new.places) p);
       within = within;
       small = small;
@@ -197,14 +201,15 @@ module _ {K V A : Type 0} {eq : K → K → Bool} {h : K → ℕ} where
 
 module _ {K V A : Type 0} (eq : K → K → Bool) (h : K → ℕ) where
   -- a table without keys
-  pub none-in : (keys : AreKeys eq h) (b : Block (K × V) A) (i : Option (Named A)) (capacity : ℕ) → ((s : ℕ) → get_or b.places s None ≡ None) → IsIndexed eq h i b.places → (capacity ≡ 0 ⊎ capacity < length (tags_of i)) → capacity < 2 ^ 32 → IsTable eq h b i 0 capacity
-  none-in keys b i capacity empty indexed room small =
+  pub none-in : (keys : AreKeys eq h) (b : Block (K × V) A) (i : Option (Named A)) (capacity : ℕ) → ((s : ℕ) → get_or b.places s None ≡ None) → IsIndexed eq h i b.places → (capacity ≡ 0 ⊎ capacity < length (tags_of i)) → IsMemory capacity (length (tags_of i)) (length b.places) → capacity < 2 ^ 32 → IsTable eq h b i 0 capacity
+  none-in keys b i capacity empty indexed room memory small =
       let none : somes b.places ≡ [] = none-left b.places empty in
       record {
         keys = keys;
         once = λ k. rw none (omega arith);
         indexed = indexed;
         room = room;
+        memory = memory;
         counted = ap length (sym none);
         within = omega arith;
         small = small;

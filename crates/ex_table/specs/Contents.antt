@@ -1,5 +1,5 @@
 -- What a table holds for its users, and how much room it makes.
-use Rattle.std.specs.Prelude.{◌≡◌, ℕ, ◌+◌, ◌-◌, ◌≤◌, nat_le, Bool, cond, if◌then◌else◌, List, length, count_by, Option}
+use Rattle.std.specs.Prelude.{◌≡◌, ℕ, ◌+◌, ◌-◌, ◌≤◌, ◌==◌, max, nat_le, Bool, cond, if◌then◌else◌, List, length, count_by, Option}
 use Rattle.std.specs.Map.{lookup}
 use Rattle.allocator_api2.specs.Growth.{amortized}
 use Rattle.allocator_api2.specs.declared.raw_vec.Growth.TheVariants.{Doubling}
@@ -43,3 +43,7 @@ module _ {K V S : Type 0} where
   capacity_for f k =
       let n = length f.entries in
       if nat_le k (f.capacity - n) then f.capacity else amortized Doubling f.capacity (n + k) 14
+
+-- the capacity of a new table that is made for n keys
+abbrev pub fresh_capacity : (n : ℕ) → ℕ
+fresh_capacity n = if n == 0 then 0 else max n 14

@@ -11,7 +11,7 @@ use Rattle.allocator_api2.specs.Places.{IsFilled, somes}
 use Rattle.ex_table.specs.declared.slots.Beyond.{Beyond}
 use Rattle.ex_table.specs.declared.index.Named.{Named}
 use Rattle.ex_table.specs.Contents.{keys_like}
-use Rattle.ex_table.specs.Slots.{tag_at, IsAt, IsIndex, IsSlots}
+use Rattle.ex_table.specs.Slots.{tag_at, IsAt, IsIndex, IsMemory, IsSlots}
 
 -- the number that a hasher of the builder makes of what a key feeds it
 unfoldable pub hash_by : {S H : Type 0} → builder.Ghosts S H → hasher.Ghosts H → S → HashWrites → ℕ
@@ -95,6 +95,7 @@ module _ {K V : Type 0} where
         pub once : (k : K) → keys_like eq k (somes b.places) ≤ 1
         pub indexed : IsIndexed index b.places
         pub room : capacity ≡ 0 ⊎ capacity < length (tags_of index)
+        pub memory : IsMemory capacity (length (tags_of index)) (length b.places)
         pub counted : count ≡ length (somes b.places)
         pub within : count ≤ capacity
         pub small : capacity < 2 ^ 32

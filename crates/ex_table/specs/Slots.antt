@@ -1,5 +1,7 @@
 -- Slots with tags, and where a hash is looked for.
-use Rattle.std.specs.Prelude.{◌≡◌, ◌≢◌, ℕ, zero, suc, ◌+◌, ◌-◌, ◌*◌, ◌/◌, ◌%◌, ◌^◌, ◌<◌, ◌≤◌, min, max, cond, nat_lt, nat_le, ◌==◌, ◌&&◌, ◌||◌, bit_and, Bool, false, List, [], ◌∷◌, Option, None, Some, length, get_or, slice_index_or}
+use Rattle.std.specs.Prelude.{◌≡◌, ◌≢◌, ℕ, zero, suc, ◌+◌, ◌-◌, ◌*◌, ◌/◌, ◌%◌, ◌^◌, ◌<◌, ◌≤◌, min, max, cond, nat_lt, nat_le, ◌==◌, ◌&&◌, ◌||◌, bit_and, Bool, false, List, [], ◌∷◌, Option, None, Some, length, get_or, slice_index_or, ◌⊎◌}
+use Rattle.std.specs.Int.{div_ceil, IsNextPowerOfTwo}
+use Rattle.allocator_api2.specs.Growth.{usize_max}
 use Rattle.ex_table.specs.declared.slots.Beyond.{Beyond}
 
 -- the tag of a slot
@@ -58,6 +60,22 @@ pub record IsSlots (ts : List ℕ) (bs : List Beyond) : Type 0 where
   pub blocks : length ts ≡ 16 * (length ts / 16)
   pub each : length bs ≡ length ts
   pub more : 17 ≤ length ts
+
+-- a table of this capacity, which is not 0, has so many slots: a block of sixteen for each fourteen
+-- keys, the number of blocks rounded up to a power of two, and one block more
+abbrev pub IsSlotCount : (capacity slots : ℕ) → Type 0
+IsSlotCount capacity slots =
+    (slots ≡ 16 * (slots / 16)) × IsNextPowerOfTwo (div_ceil capacity 14) (slots / 16 - 1)
+
+-- there are as many places as slots, or as many as elements without a size have
+abbrev pub HasPlaces : (slots places : ℕ) → Type 0
+HasPlaces slots places = places ≡ slots ⊎ usize_max ≤ places
+
+-- a table of this capacity has so many slots and places, and none where the capacity is 0
+pub record IsMemory (capacity slots places : ℕ) : Type 0 where
+  pub none : capacity ≡ 0 → slots ≡ 0
+  pub some : 0 < capacity → IsSlotCount capacity slots
+  pub enough : HasPlaces slots places
 
 -- a look-up for the hash gets to the slot
 pub record IsAt (ts : List ℕ) (bs : List Beyond) (hash s : ℕ) : Type 0 where

@@ -1,13 +1,13 @@
 //! The table: a finite map from keys to values, by the keys' own equality.
-ghost use Rattle.std.specs.Prelude.{◌≡◌, ◌+◌, ◌-◌, ◌<◌, ◌≤◌, [], ◌∷◌, None, Some, IfOk, IfErr, OnOk, OnErr, IsOk, IsSome, option_copied, is_some, map, max, if◌then◌else◌, true, false, length, ◌==◌, IsPermutation};
+ghost use Rattle.std.specs.Prelude.{◌≡◌, ◌+◌, ◌-◌, ◌<◌, ◌≤◌, [], ◌∷◌, None, Some, IfOk, IfErr, OnOk, OnErr, IsOk, IsSome, option_copied, is_some, map, max, min, if◌then◌else◌, true, false, length, ◌==◌, IsPermutation};
 ghost use Rattle.std.specs.Borrow.{sem};
 ghost use Rattle.std.specs.Option.{option_copied_mut};
 ghost use Rattle.allocator_api2.specs.declared.collections.TryReserveErrorKind.TheVariants.{AllocError, CapacityOverflow};
 ghost use Rattle.allocator_api2.specs.Room.{LacksRoom};
-ghost use Rattle.ex_table.specs.Contents.{value, keys_like, Sets, IsMap, HasRoom, capacity_for, most_keys};
+ghost use Rattle.ex_table.specs.Contents.{value, keys_like, Sets, IsMap, HasRoom, capacity_for, fresh_capacity, most_keys};
 ghost use Rattle.ex_table.specs.Places.{hashes};
 
-use crate::growth::{drop_between, refused, resize};
+use crate::growth::{LEAST_KEYS, drop_between, fit, fresh_capacity, resize};
 use crate::index::{Named, find_in, free_all, hash_of, put_new, tags_in, take_out};
 use crate::iter::{IntoIter, Iter, Keys, Values};
 use allocator_api2::collections::{Refused, TryReserveError, TryReserveErrorKind};
@@ -20,9 +20,6 @@ use std::ops::Index;
 
 // No table makes room for more keys.
 const MOST_KEYS: usize = 2_000_000_000;
-
-// The first growth makes room for so many.
-const LEAST_KEYS: usize = 14;
 
 /// A hash table. A contract sees its keys with their values, for how many keys there is room, and
 /// what makes the hashers.
@@ -86,8 +83,7 @@ impl<K: Eq + Hash + Drop, V: Drop, A: Allocator + Clone> Table<
     pub fn with_capacity_in(capacity: usize, alloc: A) -> Result<Self, TryReserveError>
         ensures entries { IfOk result (λ t. t.entries ≡ []) }
         ensures room { IfOk result (λ t. capacity ≤ t.capacity) }
-        ensures made { IfOk result
-            (λ t. t.capacity ≡ if capacity == 0 then 0 else max capacity 14) }
+        ensures made { IfOk result (λ t. t.capacity ≡ fresh_capacity capacity) }
         ensures lacks { IfErr result (LacksRoom 0 0 capacity (max capacity 14)) }
     {
         let mut table = Table::new_in(alloc);
@@ -351,23 +347,38 @@ impl<K: Eq + Hash + Drop, V: Drop, S: BuildHasher, A: Allocator + Clone> Table<K
         }
     }
 
-    /// Gives back what room there is beside the keys. It takes memory for that; a refusal changes
-    /// nothing, and has the number of keys.
+    /// Lowers the capacity to that of a new table for as many keys, where that is less: to 0 where
+    /// there are none, else to the number of keys, or to 14 for fewer.
+    ///
+    /// Without keys it frees all blocks and does not allocate. Else it allocates new blocks, unless
+    /// they would have as many slots as there are, and may change the order of the keys.
+    ///
+    /// # Errors
+    /// `AllocError` with the capacity that was requested. The table is unchanged.
     pub fn shrink_to_fit(&mut self) -> Result<(), TryReserveError>
+        // Where nothing has to be allocated it succeeds.
+        ensures empty { length self.old.entries ≡ 0 → IsOk result }
+        ensures fits { self.old.capacity ≤ fresh_capacity (length self.old.entries)
+            → IsOk result }
+        // What success leaves.
+        ensures shrunk { OnOk result (self.new.capacity
+            ≡ min self.old.capacity (fresh_capacity (length self.old.entries))) }
+        ensures fitted { self.old.capacity ≤ fresh_capacity (length self.old.entries)
+            → self.new ≡ self.old }
         ensures entries { IsPermutation self.old.entries self.new.entries }
-        ensures capacity { OnOk result (self.new.capacity ≡ length self.old.entries) }
         ensures builder { self.new.builder ≡ self.old.builder }
-        ensures number { IfErr result (λ e. e.kind ≡ AllocError (length self.old.entries)) }
-        ensures refused { OnErr result (self.new ≡ self.old) }
+        // What a failure leaves, and its number.
+        ensures error { IfErr result
+            (λ e. e.kind ≡ AllocError (fresh_capacity (length self.old.entries))) }
+        ensures unchanged { OnErr result (self.new ≡ self.old) }
     {
-        let count = self.count;
-        match resize(&self.builder, &mut self.places, &mut self.index, count) {
-            Ok(()) => {
-                self.capacity = count;
-                Ok(())
-            }
-            Err(_) => Err(refused(count)),
+        let wanted = fresh_capacity(self.count);
+        if self.capacity <= wanted {
+            return Ok(());
         }
+        fit(&self.builder, &mut self.places, &mut self.index, wanted)?;
+        self.capacity = wanted;
+        Ok(())
     }
 }
 

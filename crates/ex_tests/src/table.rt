@@ -241,24 +241,77 @@ fn iterators_tell_how_many_come(rt: HostRuntime) -> Result<(), Fail> {
     Ok(())
 }
 
-// Gives back what room is left: the room then, or why it stays.
+// Shrinks a table: the capacity then, or the error.
 fn shrunk(table: &mut Small<'_>) -> Result<usize, TryReserveErrorKind> {
     match table.shrink_to_fit() {
-        Ok(()) => Ok(table.room()),
+        Ok(()) => Ok(table.capacity()),
         Err(error) => Err(error.kind()),
     }
 }
 
+// The bytes outstanding of a new table for so many keys.
+fn of_new(alloc: Global, keys: usize) -> u64 {
+    let heap = Faulty::new(alloc);
+    let made: Result<Small<'_>, _> = Table::with_capacity_in(keys, &heap);
+    match made {
+        Ok(_table) => heap.outstanding(),
+        Err(_) => u64::MAX,
+    }
+}
+
+// Keys that are inserted, how many of them are removed, and the capacity and the requests of a
+// shrink.
+const SHRINKS: [(u64, u64, usize, u64); 7] = [
+    (0, 0, 0, 0),
+    (10, 0, 14, 0),
+    (14, 0, 14, 0),
+    (20, 0, 20, 0),
+    (20, 20, 0, 0),
+    (20, 6, 14, 3),
+    (100, 70, 30, 3),
+];
+
+// A shrink leaves the memory of a new table, and allocates only where that is less.
 #[test]
-fn what_room_is_left_is_given_back(rt: HostRuntime) {
+fn a_shrink_leaves_what_a_new_table_has(rt: HostRuntime) {
+    for (keys, removed, capacity, requests) in SHRINKS {
+        let heap = Faulty::new(rt.alloc());
+        let mut table = none(&heap);
+        assert!(rt; takes(&mut table, 0..keys));
+        for key in 0..removed {
+            assert!(rt; gives(&mut table, key));
+        }
+        let before = heap.requests();
+        assert!(rt; shrunk(&mut table) == Ok(capacity), "{keys}");
+        assert!(rt; heap.requests().wrapping_sub(before) == requests, "{keys}");
+        assert!(rt;
+            heap.outstanding() == of_new(rt.alloc(), table.len()),
+            "{keys}"
+        );
+        assert!(rt; shrunk(&mut table) == Ok(capacity));
+        assert!(rt; heap.requests().wrapping_sub(before) == requests, "{keys}");
+    }
+}
+
+#[test]
+fn a_shrink_that_fails_changes_nothing(rt: HostRuntime) {
     let heap = Faulty::new(rt.alloc());
     let mut table = none(&heap);
-    assert!(rt; takes(&mut table, 0..20));
-    for (skip, told) in [(0, Err(too_many(20))), (1, Err(too_many(20))), (9, Ok(0))] {
-        heap.refuse(skip, 1);
-        assert!(rt; shrunk(&mut table) == told);
+    assert!(rt; takes(&mut table, 0..100));
+    for key in 0u64..90 {
+        assert!(rt; gives(&mut table, key));
     }
-    assert!(rt; has(&table, 19) == Some(19));
+    for (skip, left) in [
+        (0, Err(too_many(14))),
+        (1, Err(too_many(14))),
+        (2, Err(too_many(14))),
+        (3, Ok(14)),
+    ] {
+        let bytes = heap.outstanding();
+        heap.refuse(skip, 1);
+        assert!(rt; shrunk(&mut table) == left && has(&table, 99) == Some(99));
+        assert!(rt; left.is_ok() || (table.capacity(), heap.outstanding()) == (112, bytes));
+    }
 }
 
 #[test]

@@ -21,6 +21,7 @@ each-init g c =
       λ s l. refl,
       c.requires.index,
       refl,
+      refl,
     )
 
 pub put_new-requires-clause-free : goal.put_new-requires-clause-free
@@ -40,6 +41,7 @@ each-preserved g c = elim c.if-not-is_free.branch [
         λ s l. get_or-set_other c.each.from.places c.each.slot s None None (λ e. omega (arith, l, e)) ∙ i.2 s (omega (arith, l)),
         subst (IsIndex w.put_new.new.index.tags.items w.put_new.new.index.beyond.items) (sym (hashes-set h c.each.to.places at (Some entry))) (rw w.hash_of-hash.ensures at (put.index (hashes_of h c.each.to.places) i.3)),
         ap length put.tags ∙ length-set c.each.index.tags.items at _ ∙ i.4,
+        length-set c.each.to.places at (Some entry) ∙ i.5,
       )
   | else-not-is_free w ↦
       let i = c.each.invariant in
@@ -50,6 +52,7 @@ each-preserved g c = elim c.if-not-is_free.branch [
         λ s l. i.2 s (omega (arith, l)),
         i.3,
         i.4,
+        i.5,
       )
 ]
 

@@ -13,3 +13,4 @@ invariant-each g l =
     × ((s : ℕ) → l.slot ≤ s → get_or l.from.places s None ≡ get_or l.fn.from.places s None)
     × IsIndex l.index.tags.items l.index.beyond.items (hashes_of (hashes g.S.BuildHasher g.S.Hasher.Hasher g.K.Hash.hash_input l.builder) l.to.places)
     × (length l.index.tags.items ≡ length l.fn.index.tags.items)
+    × (length l.to.places ≡ length l.fn.to.places)

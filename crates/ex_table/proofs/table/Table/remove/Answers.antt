@@ -35,7 +35,7 @@ invariant_of-self g c =
     let i = rw c.in-Some-index.is at t.indexed in
     let hash = c.hash_of-hash.ensures ∙ t.keys.agree c.args.key.now entry.0 here in
     removed t c.args.key.now c.in-Some.slot entry out.value here index c.take_out-entry.new.index c.take_out-entry.new.places (c.self.inside.count - 1) out.taken (ap length out.tags ∙ length-set index.tags.items c.in-Some.slot 0)
-    (out.index (hashes_of h cs) i (hash-here h cs i c.in-Some.slot entry out.value ∙ ap Some (sym hash))) (rw c.in-Some-index.is at t.room) (omega (arith, t.counted, one-less t c.args.key.now c.in-Some.slot entry out.value here))
+    (out.index (hashes_of h cs) i (hash-here h cs i c.in-Some.slot entry out.value ∙ ap Some (sym hash))) (rw c.in-Some-index.is at t.room) (rw c.in-Some-index.is at t.memory) (omega (arith, t.counted, one-less t c.args.key.now c.in-Some.slot entry out.value here))
 
 pub returns-clause-old : goal.returns-clause-old
 returns-clause-old g c =
