@@ -14,7 +14,7 @@ use std::alloc::Allocator;
 use std::marker::Model;
 
 /// Names one value of the map that gave it out: its slot, and the number of this key among all that
-/// were given out.
+/// were given out. It has no mark of that map: in another it may find a value.
 #[derive(Clone, Copy, PartialEq, Eq, Drop)]
 pub struct Key {
     pub(crate) index: usize,
@@ -23,6 +23,9 @@ pub struct Key {
 
 /// Values by keys. A contract sees the slots, each free or with a value and the serial of its key;
 /// how many values there may be without further memory; and how many keys were given out.
+///
+/// Use a key only with the map that returned it. Maps have no type of key of their own, and keys no
+/// mark of their map. So a key of another map finds a value where slot and number are the same.
 #[derive(Drop)]
 pub struct SlotMap<T, A: Allocator> {
     slots: Vec<Slot<T>, A>,

@@ -61,6 +61,23 @@ fn a_key_is_never_found_again(rt: HostRuntime) {
     assert!(rt; heap.requests() == 1 && map.len() == 2);
 }
 
+// A key has no mark of its map: another map finds what has the same slot and serial.
+#[test]
+fn a_key_of_another_map_may_find_a_value(rt: HostRuntime) {
+    let heap = Faulty::new(rt.alloc());
+    let mut map: Small<'_> = SlotMap::new_in(&heap);
+    let mut other: Small<'_> = SlotMap::new_in(&heap);
+    let key = put(&mut map, 1);
+    assert!(rt; finds_any(&other, key) == None);
+    assert!(rt; put(&mut other, 2) == key && finds_any(&other, key) == Some(2));
+    assert!(rt; finds_any(&map, key) == Some(1));
+}
+
+// The value of a key, where there is one.
+fn finds_any(map: &Small<'_>, key: Option<Key>) -> Option<u32> {
+    has(map, key?)
+}
+
 // The value that is handed back, and why.
 fn handed_back(map: &mut Small<'_>, value: u32) -> Option<(u32, TryReserveErrorKind)> {
     match map.insert(value) {
