@@ -83,6 +83,29 @@ fn values_are_written_and_taken(rt: HostRuntime) {
     assert!(rt; heap.outstanding() == 0);
 }
 
+// Whether all keys below `end` but each sixteenth are removed.
+fn thins(map: &mut Small<'_>, end: u64) -> bool {
+    let mut all = true;
+    for key in 0..end {
+        if key % 16 > 0 {
+            all = map.remove(key).is_some() && all;
+        }
+    }
+    all
+}
+
+// Leaves are not joined. Keys in ascending order leave 16 in each. Where one of them is left, it
+// keeps a leaf of 32 places of 16 bytes, and its share of the 128 places for leaves, of 40 bytes.
+#[test]
+fn few_entries_may_keep_many_leaves(rt: HostRuntime) {
+    let heap = Faulty::new(rt.alloc());
+    let mut map = none(&heap);
+    assert!(rt; takes(&mut map, 0..1601) && map.remove(1600).is_some());
+    assert!(rt; thins(&mut map, 1600) && map.len() == 100);
+    let bytes = heap.outstanding();
+    assert!(rt; bytes == 100 * 32 * 16 + 128 * 40, "{bytes}");
+}
+
 #[test]
 fn a_refusal_changes_nothing(rt: HostRuntime) {
     // Each request for memory of the first keys is refused in turn.
