@@ -15,6 +15,7 @@ pub fn count_below<B: Allocator>(inner: B) -> Below<B> {
 #[derive(Drop, Default)]
 pub struct Ledger {
     granted: Cell<u64>,
+    refused: Cell<u64>,
     frees: Cell<u64>,
     bytes: Cell<u64>,
     // Sums of a number for each size, and for each size with its alignment, of the blocks that are out.
@@ -22,8 +23,8 @@ pub struct Ledger {
     layouts: Cell<u64>,
 }
 
-// A number that looks random.
-fn spread(number: u64) -> u64 {
+/// A number that looks random.
+pub(crate) fn spread(number: u64) -> u64 {
     let first = number.wrapping_mul(0x9E37_79B9_7F4A_7C15);
     (first ^ (first / 4_294_967_296)).wrapping_mul(0xD134_2543_DE82_EF95)
 }
@@ -53,6 +54,11 @@ impl Ledger {
     /// How many bytes were granted and didn't come back.
     pub fn bytes(&self) -> u64 {
         self.bytes.get()
+    }
+
+    /// How many requests the inner allocator failed.
+    pub fn refused(&self) -> u64 {
+        self.refused.get()
     }
 
     /// What is wrong with what came back, where no block is out. While some are, it can't be told.
@@ -87,7 +93,9 @@ impl Watch for Ledger {
             .set(self.layouts.get().wrapping_add(of_layout(size, align)));
     }
 
-    fn misses(&self, _size: usize, _align: usize) {}
+    fn misses(&self, _size: usize, _align: usize) {
+        self.refused.set(self.refused.get().saturating_add(1));
+    }
 
     fn takes_back(&self, size: usize, align: usize) {
         self.frees.set(self.frees.get().saturating_add(1));

@@ -100,13 +100,13 @@ fn exercise_one<B: Allocator, A: Allocator>(
     heap: &A,
     course: Course,
 ) -> Result<Report, Fault> {
-    let refereed = Watched::with_watch(heap, Referee::new(course));
+    let refereed = Watched::with_watch(heap, Referee::new(course, below.watch()));
     let granted = probe(&refereed);
     let first = part(books, below.watch(), &refereed, heap, course, granted)?;
     let second = part(books, below.watch(), &refereed, heap, course, granted)?;
     let third = part(books, below.watch(), &refereed, heap, course, granted)?;
     let referee = refereed.watch();
-    if first < second && second < third {
+    if grows(first, second) && grows(second, third) {
         return Err(Fault {
             step: referee.step(),
             ..fault_below(Broken::NeverPassesOn, below.watch())
@@ -118,12 +118,38 @@ fn exercise_one<B: Allocator, A: Allocator>(
         turned_away: referee.turned_away(),
         refused: referee.refused(),
         frees: referee.frees(),
-        kept: third,
+        kept: third.bytes,
     })
 }
 
-// One part: the library's calls, the same request again and again, then `grow` and `shrink`. The
-// answer is how many bytes are out below.
+// What a part leaves.
+#[derive(Clone, Copy)]
+struct Left {
+    // How many bytes are out below.
+    bytes: u64,
+    // The number for its requests and their results.
+    results: u64,
+}
+
+// Whether the second of two parts leaves more, though it had the same requests with the same
+// results. Where these differ, as over an inner allocator that fails at times, an allocator may
+// keep more for good reason.
+fn grows(first: Left, second: Left) -> bool {
+    first.results == second.results && first.bytes < second.bytes
+}
+
+// Whether the probe is granted within so many tries, or the inner allocator failed it.
+fn is_granted_again<A: Allocator>(refereed: &Refereed<A>, tries: u64) -> bool {
+    let failed = refereed.watch().failed_below();
+    for _ in 0..tries {
+        if probe(refereed) || refereed.watch().failed_below() > failed {
+            return true;
+        }
+    }
+    false
+}
+
+// One part: the library's calls, the same request again and again, then `grow` and `shrink`.
 fn part<A: Allocator>(
     books: Global,
     ledger: &Ledger,
@@ -131,12 +157,13 @@ fn part<A: Allocator>(
     heap: &A,
     course: Course,
     granted: bool,
-) -> Result<u64, Fault> {
+) -> Result<Left, Fault> {
     let referee = refereed.watch();
+    referee.next_part();
     walk(books, refereed, referee, course)?;
     answers_as_claimed(referee)?;
     for _ in 0..course.steps {
-        if granted && !probe(refereed) {
+        if granted && !is_granted_again(refereed, course.steps) {
             return Err(Fault {
                 count: PROBE,
                 ..fault_above(Broken::Forgets, referee)
@@ -150,7 +177,10 @@ fn part<A: Allocator>(
             ..fault_below(broken, ledger)
         });
     }
-    Ok(ledger.bytes())
+    Ok(Left {
+        bytes: ledger.bytes(),
+        results: referee.results(),
+    })
 }
 
 // Random steps of all that lives in an allocator.
@@ -208,6 +238,7 @@ fn grow_and_shrink<H: Allocator + Copy>(
             };
             return Err(fault_at(spot, broken, referee));
         }
+        referee.add_result(growing.capacity());
     }
     Ok(())
 }

@@ -17,11 +17,11 @@ pub enum Broken {
     Refuses,
     /// More is out than its author said to be the most.
     PastLimit,
-    /// With nothing out, a request is refused that was granted at first: what comes back is not
-    /// used again.
+    /// With nothing out, a request fails again and again that was granted at first: what comes back
+    /// is not used again.
     Forgets,
-    /// With nothing out, the inner allocator has more out after each part of the exercise: what comes
-    /// back is neither used again nor passed on.
+    /// With nothing out, the inner allocator has more out after each part of the exercise, though the
+    /// same requests were granted in each: what comes back is neither used again nor passed on.
     NeverPassesOn,
     /// After the drop, blocks of the inner allocator are out.
     LeaksAtDrop,

@@ -68,6 +68,10 @@ impl<E: Pattern, H: Allocator + Copy> Grown<E, H> {
     fn look(&self) -> Result<(), Spot> {
         looked_at(self.list.as_slice(), self.tag, 0)
     }
+
+    fn capacity(&self) -> u64 {
+        self.list.capacity() as u64
+    }
 }
 
 /// Such vectors of bytes, of elements of 24 and 16 bytes, and of pages.
@@ -106,5 +110,14 @@ impl<H: Allocator + Copy> Growing<H> {
         self.wide.look()?;
         self.sixteens.look()?;
         self.pages.look()
+    }
+
+    /// The sum of the capacities.
+    pub(crate) fn capacity(&self) -> u64 {
+        self.bytes
+            .capacity()
+            .wrapping_add(self.wide.capacity())
+            .wrapping_add(self.sixteens.capacity())
+            .wrapping_add(self.pages.capacity())
     }
 }

@@ -1,9 +1,10 @@
+use crate::below::{Ledger, spread};
 use crate::course::Course;
 use ex_watched::watched::{Watch, Watched};
 use std::cell::Cell;
 
 /// An allocator that is exercised, with a referee in front of it.
-pub(crate) type Refereed<'a, A> = Watched<&'a A, Referee>;
+pub(crate) type Refereed<'a, A> = Watched<&'a A, Referee<'a>>;
 
 /// A request at which a claim didn't hold.
 #[derive(Clone, Copy)]
@@ -19,8 +20,10 @@ pub(crate) struct Breach {
 
 /// Refuses requests of a chosen range, counts, and holds an allocator to its author's claims.
 #[derive(Drop)]
-pub(crate) struct Referee {
+pub(crate) struct Referee<'a> {
     course: Course,
+    // What the inner allocator did.
+    below: &'a Ledger,
     step: Cell<u64>,
     asked: Asked,
     answered: Answered,
@@ -37,6 +40,8 @@ struct Asked {
     from: Cell<u64>,
     until: Cell<u64>,
     turned_away: Cell<u64>,
+    // How many requests the inner allocator had failed when the last one was made.
+    failed_before: Cell<u64>,
 }
 
 // What the allocator did.
@@ -44,7 +49,11 @@ struct Asked {
 struct Answered {
     granted: Cell<u64>,
     refused: Cell<u64>,
+    // How many of the refused ones the inner allocator failed.
+    failed_below: Cell<u64>,
     frees: Cell<u64>,
+    // A number for all requests and their results since the part began.
+    results: Cell<u64>,
 }
 
 // What is out.
@@ -54,11 +63,12 @@ struct Out {
     blocks: Cell<usize>,
 }
 
-impl Referee {
-    /// For a course of which no step was taken.
-    pub(crate) fn new(course: Course) -> Referee {
+impl<'a> Referee<'a> {
+    /// For a course of which no step was taken, over what this ledger counts.
+    pub(crate) fn new(course: Course, below: &'a Ledger) -> Referee<'a> {
         Referee {
             course,
+            below,
             step: Cell::new(0),
             asked: Asked::default(),
             answered: Answered::default(),
@@ -105,6 +115,30 @@ impl Referee {
         self.answered.refused.get()
     }
 
+    /// How many of these the inner allocator failed.
+    pub(crate) fn failed_below(&self) -> u64 {
+        self.answered.failed_below.get()
+    }
+
+    /// A part begins.
+    pub(crate) fn next_part(&self) {
+        self.answered.results.set(0);
+    }
+
+    /// Takes a result into the number for all of the part.
+    pub(crate) fn add_result(&self, outcome: u64) {
+        let results = self.answered.results.get();
+        self.answered
+            .results
+            .set(spread(results.wrapping_add(outcome)));
+    }
+
+    /// A number for all requests and their results since the part began: of two parts with the same
+    /// number the allocator granted and failed the same requests.
+    pub(crate) fn results(&self) -> u64 {
+        self.answered.results.get()
+    }
+
     /// How many blocks were given back.
     pub(crate) fn frees(&self) -> u64 {
         self.answered.frees.get()
@@ -115,7 +149,7 @@ impl Referee {
         self.out.bytes.get()
     }
 
-    /// The first request that was refused and had to be granted.
+    /// The first request that had to be granted and was refused, but not by the inner allocator.
     pub(crate) fn denied(&self) -> Option<Breach> {
         self.denied.get()
     }
@@ -136,10 +170,11 @@ impl Referee {
     }
 }
 
-impl Watch for Referee {
+impl Watch for Referee<'_> {
     fn refuses(&self, _size: usize, _align: usize) -> bool {
         let number = self.asked.number.get();
         self.asked.number.set(number.saturating_add(1));
+        self.asked.failed_before.set(self.below.refused());
         let away = self.asked.from.get() <= number && number < self.asked.until.get();
         if away {
             self.asked
@@ -153,6 +188,7 @@ impl Watch for Referee {
         self.answered
             .granted
             .set(self.answered.granted.get().saturating_add(1));
+        self.add_result(spread(size as u64));
         let with = self.with(size);
         self.out.bytes.set(with.bytes);
         self.out.blocks.set(with.blocks);
@@ -165,6 +201,12 @@ impl Watch for Referee {
         self.answered
             .refused
             .set(self.answered.refused.get().saturating_add(1));
+        self.add_result(size as u64);
+        if self.below.refused() > self.asked.failed_before.get() {
+            let failed = self.answered.failed_below.get();
+            self.answered.failed_below.set(failed.saturating_add(1));
+            return;
+        }
         let with = self.with(size);
         if self.denied.get().is_none() && self.course.promises(size, with.bytes, with.blocks) {
             self.denied.set(Some(with));

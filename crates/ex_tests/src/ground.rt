@@ -5,9 +5,13 @@ use ex_allocators::recycler::Recycler;
 use ex_ground::below::{Below, count_below};
 use ex_ground::course::Course;
 use ex_ground::exercise::{Report, exercise, exercise_with_clone};
+use ex_ground::fault::Fault;
+use ex_ground::random::Random;
 use ex_watched::budget::Budget;
 use ex_watched::counting::Counting;
+use ex_watched::watched::{Watch, Watched};
 use std::alloc::{Allocator, Global};
+use std::cell::Cell;
 
 // What an exercise of it and a clone did, if it was clean.
 fn report_of<B: Allocator, A: Allocator + Clone>(
@@ -92,4 +96,68 @@ fn a_recycler_is_right(rt: HostRuntime) {
     );
     let heap = Recycler::new(&below);
     assert!(rt; kept_of(report_of(rt.alloc(), &below, heap, course), course).is_some());
+}
+
+// Fails one request in so many, at random.
+#[derive(Drop)]
+struct Share {
+    draws: Cell<u64>,
+    one_in: u64,
+}
+
+impl Watch for Share {
+    fn refuses(&self, _size: usize, _align: usize) -> bool {
+        let draw = Random::new(self.draws.get()).draw();
+        self.draws.set(draw);
+        draw.checked_rem(self.one_in) == Some(0)
+    }
+
+    fn grants(&self, _size: usize, _align: usize) {}
+
+    fn misses(&self, _size: usize, _align: usize) {}
+
+    fn takes_back(&self, _size: usize, _align: usize) {}
+}
+
+// An allocator that fails one request in so many.
+fn failing<B: Allocator>(inner: B, seed: u64, one_in: u64) -> Watched<B, Share> {
+    let draws = Cell::new(seed);
+    Watched::with_watch(inner, Share { draws, one_in })
+}
+
+// The fault of a recycler, a pool or a counting allocator, over an inner one that fails at times.
+fn fault_over(books: Global, which: u32, seed: u64, one_in: u64) -> Option<Fault> {
+    let below = count_below(failing(books, seed, one_in));
+    let course = Course::new(seed, 40);
+    match which {
+        0 => exercise(books, &below, Recycler::new(&below), course).err(),
+        1 => exercise(books, &below, Pool::new(&below, 24), course).err(),
+        _ => exercise(books, &below, Counting::new(&below), course).err(),
+    }
+}
+
+// The same of a recycler, where the failures are of an allocator between it and what counts.
+fn fault_between(books: Global, seed: u64, one_in: u64) -> Option<Fault> {
+    let below = count_below(books);
+    let heap = Recycler::new(failing(&below, seed, one_in));
+    let course = Course {
+        grants: 0,
+        ..Course::new(seed, 40)
+    };
+    exercise(books, &below, heap, course).err()
+}
+
+// That an inner allocator fails at times is no fault of the one that is exercised.
+#[test]
+fn an_inner_allocator_may_fail(rt: HostRuntime) {
+    for seed in 20u64..25 {
+        for one_in in [2u64, 10] {
+            for which in 0u32..3 {
+                let fault = fault_over(rt.alloc(), which, seed, one_in);
+                assert!(rt; fault.is_none(), "{seed} {one_in} {which}");
+            }
+            let fault = fault_between(rt.alloc(), seed, one_in);
+            assert!(rt; fault.is_none(), "{seed} {one_in}");
+        }
+    }
 }

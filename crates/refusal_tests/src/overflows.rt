@@ -232,7 +232,7 @@ fn drain_second(v: &mut Units) {
     drop(v.drain(to.min(1)..to));
 }
 
-// Appends one unit, whose iterator says that as many come as can be counted.
+// How it ends to append one unit by an iterator with the lower bound `usize::MAX`.
 fn end_of_one_more(v: &mut Units) -> End {
     let (call, one) = (Call::ExtendHinted(usize::MAX), units(1, Refusing));
     called(call, v, &mut None, one, Refusing, &Cell::new(0))
@@ -242,8 +242,8 @@ fn shape(v: &Units) -> (usize, usize) {
     (v.len(), v.capacity())
 }
 
-// The shapes of three units of which the second is drained, the others are split, and the first are
-// extended by one; or none if a call fails.
+// Pushes three units, drains the second, splits off the last, and appends one to the first. The
+// shapes of both vectors, or none if a call fails.
 fn shapes() -> Option<[(usize, usize); 2]> {
     let Ok(mut v) = Vec::with_capacity_in(5, Refusing) else {
         return None;

@@ -167,21 +167,21 @@ fn replaced_by(told: Told, len: usize) -> ((usize, usize), usize) {
 }
 
 // Whether a list of so many pairs is as a failed command leaves it: the numbers before the range and
-// after it, and between them the first of its items. These fill the range, or all places if nothing
-// follows. The capacity changes only with such a part, or if elements are cloned.
+// after it, and between them the first of its items. The items fill the range, or every place if
+// nothing follows. The capacity changes only for such a command, or for one that clones.
 fn is_left(list: &List<'_, u32>, told: Told, len: usize, free: usize) -> bool {
     let ((start, end), count) = replaced_by(told, len);
-    let (all, behind) = (list.as_slice(), len.saturating_sub(end));
+    let (all, after) = (list.as_slice(), len.saturating_sub(end));
     let (head, rest) = all.split_at(start.min(all.len()));
-    let (items, tail) = rest.split_at(rest.len().saturating_sub(behind));
+    let (items, tail) = rest.split_at(rest.len().saturating_sub(after));
     let places = len.saturating_add(free);
     let fits = match told {
-        Told::Extend(..) | Told::Splice(..) if behind == 0 => list.capacity() == all.len(),
+        Told::Extend(..) | Told::Splice(..) if after == 0 => list.capacity() == all.len(),
         Told::Splice(..) => end <= start.saturating_add(items.len()),
         Told::ExtendFromWithin(..) | Told::Resize(_) => true,
         _ => list.capacity() == places,
     };
-    let counted = head.len() == start && tail.len() == behind && items.len() <= count;
+    let counted = head.len() == start && tail.len() == after && items.len() <= count;
     let numbered = are_pairs(head, 0) && are_pairs(items, 0) && are_pairs(tail, end);
     fits && counted && numbered && places <= list.capacity()
 }
@@ -207,7 +207,7 @@ fn came_of(
 }
 
 // Whether a command is refused once wherever a request is, each in turn, and else not for want of
-// memory; and leaves the lists as it must.
+// memory; and whether each failed one leaves the lists as it must.
 fn is_refused_in_turn(heap: &Faulty<Global>, told: Told, len: u32, free: usize) -> bool {
     for refused in 0..64 {
         let (ended, any, left) = came_of(heap, told, len, free, refused);
