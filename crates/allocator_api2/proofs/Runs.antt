@@ -39,7 +39,7 @@ module _ {T A K S : Type 0} (size : ℕ) (calls : Calls T A K S) where
   HasRun-end {old = old} {all = all} {now = now} h =
       let are : map (λ t. t.command) h.turns ≡ all = sym (append-nil _) ∙ h.commands_are in
       let places : old.main.items ≡ [] → old.main.capacity ≡ 0 → AllByRecursion (λ command. AddsOrRemoves command × (hint_of command ≡ None)) all → now.main.capacity ≤ max 8 (places_for old.main.growth (greatest_length h.turns)) =
-          λ empty none plain. places_law size calls old h.turns now h.run empty none (subst (AllByRecursion IsUnhinted) (sym are) plain) in (
+      λ empty none plain. places_law size calls old h.turns now h.run empty none (subst (AllByRecursion IsUnhinted) (sym are) plain) in (
         map (λ t. t.reply) h.turns,
         h.replies_are,
         record {

@@ -372,15 +372,15 @@ fn each_command_is_refused_past_the_limits(rt: HostRuntime) {
 // number stands for the allocator.)
 fn two_taken_out()
     ensures { let of : List ℕ → Vector ℕ ℕ = λ xs. record {
-        items = xs;
-        capacity = 6;
-        growth = Doubling;
-        grown = 0;
-        written = 0;
-        runs = 0;
-        alloc = 0;
-        behind = [];
+      items = xs;
+      capacity = 6;
+      growth = Doubling;
+      grown = 0;
+      written = 0;
+      runs = 0;
+      alloc = 0;
+      behind = [];
     } in
         cost_of (of (1 ∷ 2 ∷ 3 ∷ 4 ∷ 5 ∷ 6 ∷ [])) (of []) (ExtractIf 1 6 2) [] Done
-            (of (1 ∷ 3 ∷ 5 ∷ 6 ∷ [])) ≡ 3 }
+        (of (1 ∷ 3 ∷ 5 ∷ 6 ∷ [])) ≡ 3 }
 {}
