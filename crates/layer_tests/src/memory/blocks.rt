@@ -10,7 +10,7 @@ use test_allocators::counted::Counted;
 type Block<'a> = RawVec<Counted<'a>, &'a Faulty<Global>>;
 
 // Drops two of three values, and then the block: how many values were dropped before that.
-#[tactic(auto, using(aa_raw::proofs::Calls::in_runs))]
+#[tactic(auto, unfolding(aa_raw::specs::Places::with_run))]
 fn two_dropped<'a>(heap: &'a Faulty<Global>, drops: &'a Cell<u32>) -> Result<u32, TryReserveError> {
     let mut block: Block<'a> = RawVec::with_capacity_in(3, heap)?;
     let one = |value| Counted { value, drops };
