@@ -32,22 +32,22 @@ fn elements(alloc: Global, number: u64) -> Vec<u32> {
     v
 }
 
-// A call, and what its closure returns: of a pair, the element and the last one that was kept.
+// A call, and what its closure does.
 #[derive(Clone, Copy)]
 enum Choice {
     // `retain_mut` with `true` at every second call, from the first on.
     RetainByTurns,
-    // `dedup_by`: adds a small element to the other, and removes it.
+    // `dedup_by`: adds a small element to the last one that was kept, and removes it.
     AddsUp,
     // `dedup_by` with `true` at every second call.
     ByTurns,
-    // `dedup_by`: whether the element is greater by two at most.
+    // `dedup_by`: removes an element that is greater than the last one by two at most.
     Near,
     // `dedup_by_key` with the tens.
     Tens,
 }
 
-// What the closure is called with, as digits.
+// The arguments of all calls of the closure, as digits.
 fn chosen(choice: Choice, v: &mut Vec<u32>) -> u64 {
     match choice {
         Choice::RetainByTurns => retained(v),
@@ -136,8 +136,8 @@ fn closures_are_called_in_order(rt: HostRuntime) {
     }
 }
 
-// Takes out of a range the elements that `divisor` divides, by `count` calls of `next`, with a
-// closure that adds ten to each: what it is called with, and what is taken, as digits.
+// Takes out of a range the elements that `divisor` divides, by `count` calls of `next`. The closure
+// adds ten to each. The arguments of its calls, and the elements taken, as digits.
 #[tactic(auto, using(aa_vec::proofs::Callers::callers))]
 fn extracted(v: &mut Vec<u32>, (from, to): (usize, usize), divisor: u32, count: u32) -> (u64, u64) {
     let to = to.min(v.len());
@@ -158,8 +158,8 @@ fn extracted(v: &mut Vec<u32>, (from, to): (usize, usize), divisor: u32, count: 
     (calls.get(), taken)
 }
 
-// The digits of the elements, a range, a divisor and how often an element is requested; and the
-// digits of the arguments, of the elements taken, and of those left.
+// The digits of the elements, a range, a divisor, and the number of calls of `next`; and the digits
+// of the arguments, of the elements taken, and of those left.
 type Extraction = (u64, (usize, usize), u32, u32, u64, u64, u64);
 
 // Whether an extraction is as the vector has it.
@@ -169,7 +169,7 @@ fn extraction_is_so(alloc: Global, row: Extraction) -> bool {
     extracted(&mut v, range, divisor, count) == (calls, taken) && digits(&v) == left
 }
 
-// After the last element of the range, and when the range is dropped, nothing more is called.
+// The closure is called neither after the range ends nor when it is dropped.
 #[test]
 fn a_closure_takes_elements_out_in_order(rt: HostRuntime) {
     let (six, eight) = (1_02_03_04_05_06, 1_02_03_04_05_06_07_08);

@@ -41,7 +41,7 @@ fn items_come_from_both_ends(rt: HostRuntime) -> Result<(), Fail> {
     Ok(())
 }
 
-// The lengths after items are taken from the end until none is left.
+// The length falls by one with each item.
 #[test]
 fn items_without_size_are_counted(rt: HostRuntime) -> Result<(), Fail> {
     let mut items = two(rt.alloc(), [(), ()])?;
