@@ -120,7 +120,7 @@ fn rows() -> [(Call, u64, u64, u32); 9] {
         (Call::Clear, 0, 4, 4),
         (Call::Reserve(10), 0, 0, 0),
         (Call::Reserve(11), 3, 3, 0),
-        (Call::ShrinkToFit, 3, 3, 0),
+        (Call::ShrinkToFit, 0, 0, 0),
         (Call::Drop, 0, 7, 4),
         (Call::IntoIter, 0, 2, 2),
     ]
