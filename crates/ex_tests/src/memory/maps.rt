@@ -101,7 +101,7 @@ fn stepped<'a>(map: &mut Ordered<'a>, step: Step, drops: &'a Cell<u32>) -> End {
     End::Done
 }
 
-// A step, which of its requests is refused, how it ends, and by then all requests and all values
+// A step, which of its requests fails, how it ends, and by then all requests and all values
 // that were dropped.
 type Row = (Step, u64, End, u64, u32);
 

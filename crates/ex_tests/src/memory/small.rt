@@ -151,7 +151,7 @@ fn end_of_call(call: Call, text: &mut Words<'_>, line: &mut Line<'_>) -> End {
     })
 }
 
-// A call one after another: whether its first request is refused, how it ends, and how many
+// A call one after another: whether its first request fails, how it ends, and how many
 // requests it makes.
 fn rows() -> [(Call, u64, End, u64); 16] {
     let (done, long) = (End::Done, End::TooLong);
@@ -176,7 +176,7 @@ fn rows() -> [(Call, u64, End, u64); 16] {
     ]
 }
 
-// How many rows are so, and how it ends to finish the text where its block is refused.
+// How many rows are so, and how it ends to finish the text where its block fails.
 fn built(heap: &Faulty<Global>) -> (usize, End) {
     let (mut text, mut line) = (TextBuilder::new_in(heap), Editor::new_in(heap));
     let mut right = 0usize;

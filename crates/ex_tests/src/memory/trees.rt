@@ -91,7 +91,7 @@ fn values_that_hold_themselves_free_their_memory(rt: HostRuntime) {
     assert!(rt; forms_made(&heap) == [6, 8, 11, 13] && is_given_back(&heap));
 }
 
-// Whether a value is cloned by one request, and fails to be if that is refused.
+// Whether a value is cloned by one request, and fails to be if that fails.
 fn is_cloned_by_one<T: Clone + Drop>(x: &T, heap: Heap<'_>) -> bool {
     heap.refuse(0, 1);
     let failed = x.clone().is_err();
@@ -204,7 +204,7 @@ fn grown<'a>(tree: &mut Tree<Heap<'a>>, heap: Heap<'a>) -> End {
     }
 }
 
-// Puts four leaves below a tree, one more where memory is refused, and takes one out.
+// Puts four leaves below a tree, one more where the allocation fails, and takes one out.
 fn tree_used(heap: Heap<'_>) -> End {
     let mut tree = leaf(1, heap);
     for _ in 0..4 {
