@@ -47,7 +47,7 @@ pub struct Held {
 }
 
 impl Held {
-    /// Fills the collection as the case finds it; it answers whether there is such a case.
+    /// Fills the collection as the case finds it, and returns whether there is such a case.
     pub fn prepare(&mut self, case: &str, count: u32) -> bool {
         match case {
             "table_insert" => fill_keys(&mut self.keys, count, 0),
@@ -85,7 +85,7 @@ impl Held {
         }
     }
 
-    /// The checksum of what the collections hold and gave. Keys are looked up in their order here.
+    /// The checksum of what the collections hold and returned. Keys are looked up in their order here.
     pub fn checksum(&self, sum: u64) -> u64 {
         let text = self.text.checksum(sum);
         let (first, others) = self.queue.as_slices();

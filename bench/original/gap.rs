@@ -39,7 +39,7 @@ impl GapBuffer {
         self.start += 1;
     }
 
-    // The part before the cursor stays at the beginning, the other goes to the end.
+    // The part before the cursor is kept at the beginning, and the other moves to the end.
     #[cold]
     fn grow(&mut self) {
         let (old, new) = (self.places.len(), (2 * self.places.len()).max(8));

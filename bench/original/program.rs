@@ -1,13 +1,13 @@
 //! The cases of `vecbench` over the vector of allocator-api2 and over Rust's own: `bench/run` builds it by rustc and runs it.
 //!
-//! It reads the lines that `vecbench` reads, and answers in the same form. `CASE COUNT [REPEAT]` gives the nanoseconds for each element
+//! It reads the lines that `vecbench` reads, and prints in the same form. `CASE COUNT [REPEAT]` prints the nanoseconds for each element
 //! over allocator-api2's vector and over Rust's own, the fastest of REPEAT runs each, and a checksum of what each left. `check CASE COUNT`
-//! gives the checksums alone. A - stands where the vector has no such case. Without the `original` configuration it is built over Rust's
+//! prints the checksums alone. It prints a - if the vector has no such case. Without the `original` configuration it is built over Rust's
 //! own vector alone.
 use std::io::BufRead;
 use std::time::{Duration, Instant};
 
-/// An element. It is made from a number, and tells one that the checksum is made from.
+/// An element. It is made from a number, and has a number that the checksum is made from.
 trait Element: Clone {
     fn of(number: u32) -> Self;
     fn number(&self) -> u32;
@@ -90,7 +90,7 @@ fn checksum_from<E: Element>(sum: u64, elements: &[E]) -> u64 {
 
 // The call of a case's name, and the size of its elements.
 fn sized(case: &str) -> (&str, usize) {
-    let sizes = [("_u8", 1), ("_24", 24), ("_sizeless", 0)];
+    let sizes = [("_u8", 1), ("_24", 24), ("_zst", 0)];
     sizes.into_iter().find_map(|(end, size)| Some((case.strip_suffix(end)?, size))).unwrap_or((case, 4))
 }
 
@@ -102,7 +102,7 @@ mod original {
     use std::io::Write;
     use std::ptr::{slice_from_raw_parts_mut, NonNull};
 
-    // Blocks of the C library. A growth takes a new one, copies what is in the old one, and gives that back.
+    // Blocks of the C library. A growth allocates a new one, copies what is in the old one, and frees that.
     #[derive(Clone, Copy)]
     pub struct Blocks;
 
@@ -139,7 +139,7 @@ mod original {
 
     fn extract_half(_list: &mut Vec<u32>) {}
 
-    // It has no table and no queue. A gap buffer in plain Rust stands on its vector.
+    // It has no table and no queue. A gap buffer in plain Rust is built on its vector.
     #[derive(Default)]
     struct Held {
         text: GapBuffer,

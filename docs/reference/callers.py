@@ -1,11 +1,11 @@
-"""The proved functions of guide and examples, and which calls of the library each makes."""
+"""The proved functions of the guide and the examples, and which functions of the library each calls."""
 import collections
 import re
 
 from sources import text_of, type_of
 from words import TOP
 
-# A function that calls: its crate, file, name, first line and text.
+# A function that calls others: its crate, file, name, first line and text, and what it calls.
 Caller = collections.namedtuple("Caller", "crate file name line text calls")
 SKIPPED = {"faulty"}
 
@@ -19,7 +19,7 @@ def sources():
 
 
 def functions(file):
-    """Each function of a file with a body: its name, its first line, the lines of its comment and text, and the type that it is of."""
+    """Each function of a file with a body: its name, its first line, the lines of its comment and text, and its type."""
     lines, owner = text_of(file).split("\n"), ""
     for at, line in enumerate(lines):
         if line.startswith("impl"):
@@ -38,7 +38,7 @@ def functions(file):
 
 
 def types_in(text, types):
-    """What a file says of its names' types: parameters, fields and what calls of a type make."""
+    """The types of names in a text: of parameters, of fields and of what a type's functions return."""
     known = {}
     for name, of in re.findall(r"\b(\w+): (?:&(?:'\w+ )?(?:mut )?)?(?:\w+::)*(\w+)", text):
         if of in types:
@@ -50,13 +50,13 @@ def types_in(text, types):
 
 
 def fields_in(file, types):
-    """The fields of the file's structs that are of the library's types."""
+    """The fields of the file's structs that have a type of the library."""
     inside = re.findall(r"^(?:pub(?:\(crate\))? )?struct \w+.*?\{\n(.*?)^\}", text_of(file), re.M | re.S)
     return types_in("\n".join(inside), types)
 
 
 def calls_of(lines, fields, types, methods):
-    """The library's calls in a function's text, each as its type and name. `methods` has the type that each of them answers, or none."""
+    """The library's functions that a function calls, each as its type and name. `methods` has the type that each returns, or none."""
     text = "\n".join(line for line in lines if not line.strip().startswith("//"))
     parts = re.split(r"\n\s*\{\n|\n\{\n", text, maxsplit=1)
     known = types_in(text, types)
@@ -72,14 +72,14 @@ def calls_of(lines, fields, types, methods):
             found.add((of, name))
             if named and methods[of, name]:
                 known[named] = methods[of, name]
-    # What is called on what a call answers.
+    # What is called on what a call returns.
     for first, name in re.findall(r"\.(\w+)\((?:[^()]|\([^()]*\))*\)\??\.(\w+)(?=\()", inside):
         found |= {(of, name) for of in {methods[it] for it in found if it[1] == first} if (of, name) in methods}
     return found
 
 
 def callers(types, methods):
-    """The functions that call, by the calls."""
+    """The callers of each function of the library."""
     found = collections.defaultdict(list)
     for crate, file in sources():
         fields = fields_in(file, types)

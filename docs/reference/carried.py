@@ -1,9 +1,9 @@
-"""What carries the rules of SPECIFICATION: the names in brackets behind them.
+"""What carries the rules of SPECIFICATION: the names in brackets after them.
 
-`[push: fits, pushed]` are clauses of a call, `[Box as Iterator]` is a trait that a type has, `[Replaced: room]` a word of the contracts
-with a field of it, `[tested: liars]` a test: a function, a file of them, a crate of these, or a file of tests/, and `[killed: EDIT]` an edit
-that the checker refuses. Several stand in one bracket, parted by `;`. A call without its type is one of the modules that the section's
-heading names.
+`[push: fits, pushed]` are clauses of a function, `[Box as Iterator]` is a trait that a type implements, `[Replaced: fits]` is a
+definition with one of its fields, `[tested: liars]` is a test: a function, a file of them, a crate of these, or a file of tests/, and
+`[killed: EDIT]` is a mutant that the checker kills. A bracket may have several, separated by `;`. A function without its type is one of
+the modules that the section's heading names.
 """
 import functools
 import re
@@ -26,13 +26,13 @@ class Carried:
             self.calls.setdefault(name, []).append((of.split(" as ")[0], what))
 
     def parts(self, bracket):
-        """The names of a bracket, each with what is told of it."""
+        """The names of a bracket, each with its clauses."""
         for part in re.sub(r"\s+", " ", bracket).split(";"):
             name, _, clauses = part.strip().partition(": ")
             yield name, [it.strip() for it in clauses.split(",") if it.strip()]
 
     def place(self, name, modules):
-        """The calls, functions and types that a name stands for, those of the section's modules first."""
+        """The functions and types of this name, those of the section's modules before all others."""
         of, _, call = name.rpartition("::")
         there = [what for owner, what in self.calls.get(call, ()) if not of or owner == of]
         near = [it for it in there if self.library.anchors[it][0].key.split("::")[0] in modules]
@@ -45,26 +45,26 @@ class Carried:
         return [(section, items) for section, items in (there.impls if there else ()) if section.trait.split("::")[-1] == trait]
 
     def links(self, name, clauses, modules):
-        """Where a name and its clauses are told, each with its text; none where one of them isn't there."""
+        """The links of a name and its clauses, each with its text; none if one of them does not exist."""
         if name == "tested":
             return [(it, None) for it in clauses] if all(is_test(it) for it in clauses) else None
         if name == "killed":
             return [(it, None) for it in clauses] if set(clauses) <= edits() else None
         if " as " in name:
             found = self.impl(name)
-            told = [self.library.href(section) for section, _ in found]
+            targets = [self.library.href(section) for section, _ in found]
             said = {clause.name for _, items in found for item in items for clause in item.clauses}
         else:
             found = self.place(name, modules)
-            told = [self.library.href(it) for it in found] or self.reference.named.get(name, []) or [None] * (name in words_beside())
+            targets = [self.library.href(it) for it in found] or self.reference.named.get(name, []) or [None] * (name in words_beside())
             said = {clause.name for it in found for clause in getattr(it, "clauses", ())}
             said |= {field for word in self.reference.words if not found and word.name == name for field in fields_of(word)}
-        if not told or not set(clauses) <= said:
+        if not targets or not set(clauses) <= said:
             return None
-        return [(name, told[0])] + [(clause, self.clause(clause, found) or told[0]) for clause in clauses]
+        return [(name, targets[0])] + [(clause, self.clause(clause, found) or targets[0]) for clause in clauses]
 
     def clause(self, name, found):
-        """Where a clause of this name is told, of the first call that has one."""
+        """The link of a clause of this name, of the first function that has one."""
         items = [it for part in found for it in (part[1] if isinstance(part, tuple) else [part])]
         for item in items:
             for at, clause in enumerate(item.clauses):
@@ -73,7 +73,7 @@ class Carried:
         return None
 
     def faults(self):
-        """The names in brackets that stand for nothing."""
+        """The names in brackets that name nothing."""
         modules = set()
         for line in blocks(PAGE.read_text(encoding="utf-8")):
             if line.startswith("#"):
@@ -81,7 +81,7 @@ class Carried:
             for bracket in BRACKET.findall(re.sub(r"`[^`]*`", "", line)):
                 for name, clauses in self.parts(bracket):
                     if not self.links(name, clauses, modules):
-                        yield f"docs/SPECIFICATION.md: [{name}{': ' if clauses else ''}{', '.join(clauses)}] stands for nothing"
+                        yield f"docs/SPECIFICATION.md: [{name}{': ' if clauses else ''}{', '.join(clauses)}] names nothing"
 
 
 def modules_in(heading):
@@ -98,14 +98,14 @@ def blocks(text):
 
 @functools.lru_cache(maxsize=None)
 def words_beside():
-    """The words and calls of crates above the library, which the reference has no page of."""
+    """The definitions and functions of crates above the library, which have no page in the reference."""
     calls = {name for file in (TOP / "crates" / "vecscript" / "src").rglob("*.rt") for name in re.findall(r"pub fn (\w+)", text_of(file))}
     return calls | {name for file in files().values() if file.crate not in CRATES for name in file.words}
 
 
 @functools.lru_cache(maxsize=None)
 def tests():
-    """The names that a test may have: those of tests/, test functions, files with one or with a claim, and crates of such files."""
+    """The names of tests: those of tests/, test functions, files with one or with a proved claim, and crates of such files."""
     found = {it.name for it in (TOP / "tests").iterdir()}
     for file in sorted((TOP / "crates").glob("*_tests/src/**/*.rt")):
         named = set(re.findall(r"#\[test\]\n(?:#.*\n)*fn (\w+)", text_of(file)))
@@ -116,8 +116,8 @@ def tests():
 
 @functools.lru_cache(maxsize=None)
 def edits():
-    """The names of the edits that the checker must refuse."""
-    return {it.stem for kind in ("must-fail", "wrong-bodies") for it in (TOP / "crates").glob(f"*/{kind}/*.edit")}
+    """The names of the mutants."""
+    return {it.stem for kind in ("must-fail", "mutants") for it in (TOP / "crates").glob(f"*/{kind}/*.edit")}
 
 
 def is_test(name):

@@ -1,16 +1,16 @@
-"""Sees that a folder of pages hangs together: each link and anchor leads somewhere, each item and word is there, nothing is asked of
-anywhere."""
+"""Checks the reference in a folder: each link leads to an anchor, each item and definition has a page, and nothing is loaded from
+elsewhere."""
 import html
 import re
 import urllib.parse
 
 from sources import all_modules, hidden_types, text_of
-from text import told_words
+from text import reached_words
 from words import TOP
 
 
 class Page:
-    """The anchors of a page, those that stand twice, what it links to and loads, and links within others."""
+    """The anchors of a page, those that it has twice, what it links to and loads, and links within others."""
 
     def __init__(self, text):
         self.ids, self.links, self.loads, self.twice = set(), [], [], []
@@ -26,13 +26,13 @@ class Page:
 
 
 def read(file):
-    """A page; of one that shows a source, the lines are read by themselves."""
+    """Reads a page; the lines of one that shows a source are read apart."""
     text = file.read_text(encoding="utf-8")
     if file.parent.name != "source":
         return Page(text)
     before, _, rest = text.partition('<pre class="source">')
-    lines, _, behind = rest.partition("</pre>")
-    page = Page(before + behind)
+    lines, _, after = rest.partition("</pre>")
+    page = Page(before + after)
     page.ids |= set(re.findall(r'^<a id="(L\d+)"', lines, re.M))
     return page
 
@@ -49,11 +49,11 @@ def faults(folder):
                 yield f"{name} links to {target}: {wrong}"
         for target in page.loads:
             if re.match(r"(\w+:)?//", target):
-                yield f"{name} asks {target} of elsewhere"
+                yield f"{name} loads {target} from elsewhere"
     yield from missing(pages)
     style, script = ((folder / it).read_text(encoding="utf-8") for it in ("reference.css", "reference.js"))
     if re.search(r"url\(|@import", style) or re.search(r"\b(fetch|XMLHttpRequest|import)\b\s*\(", script):
-        yield "the stylesheet or the script asks for something"
+        yield "the stylesheet or the script loads something"
     if script.count("\n") > 200:
         yield f"the script has {script.count(chr(10))} lines, of 200"
 
@@ -73,7 +73,7 @@ def lost(folder, pages, name, target):
 
 
 def missing(pages):
-    """The public calls, types and words that no page has; found in the sources anew, line by line."""
+    """The public functions, types and definitions that no page has; found in the sources anew, line by line."""
     links = [it for name, page in pages.items() if not name.startswith("source/") for it in page.links]
     named = {urllib.parse.unquote(it) for it in links if it.startswith("source/")}
     for module in all_modules():
@@ -83,11 +83,12 @@ def missing(pages):
                 owner, shown = line, not any(re.search(rf"\b{it}\b", line) for it in hidden)
             elif line == "}":
                 owner, shown = "", True
-            there = re.match(r"    pub fn (\w+)", line) if owner else re.match(r"pub (?:fn|struct|enum|trait) (\w+)", line) if module.public else None
+            of_module = re.match(r"pub (?:fn|struct|enum|trait) (\w+)", line) if module.public else None
+            there = re.match(r"    pub fn (\w+)", line) if owner else of_module
             where = f"source/{'.'.join(module.file.relative_to(TOP / 'crates').parts)}.html#L{at}"
             if there and shown and where not in named:
                 yield f"no page has {there.group(1)} of {module.file.relative_to(TOP)}, line {at}"
     ids = {it for page in pages.values() for it in page.ids}
-    for word in told_words():
+    for word in reached_words():
         if f"{word.file.key[1]}.{word.name}" not in ids:
             yield f"no page has the word {word.name} of {word.file.path.relative_to(TOP)}"

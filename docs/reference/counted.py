@@ -1,7 +1,7 @@
-"""Sees that numbers on pages are those of the sources: lines of code and proof, sizes of types, edits, rows of the bench's tables.
+"""Checks that numbers in the documentation are those of the sources: lines of code and proof, sizes of types, edits, rows of the bench.
 
-`of_sources`, `of_types` and `of_bench` have a line for each sentence: its page, its text with `{}` in place of each number, and what
-each of these counts. A line break of the page is a blank. A number is written in digits, or as a word up to twelve.
+`of_sources`, `of_types` and `of_bench` have a line for each sentence: its file, its text with `{}` in place of each number, and what
+each of these counts. A line break of the file is a blank. A number is written in digits, or as a word up to twelve.
 """
 import functools
 import itertools
@@ -12,10 +12,10 @@ from words import CRATES, TOP
 
 SMALL = "no one two three four five six seven eight nine ten eleven twelve".split()
 NUMBER = rf"(\d[\d,]*(?:\.\d+)?|(?i:\b(?:{'|'.join(SMALL)})\b))"
-# Of the examples that are a part of a crate, as the first words of their row: the files and folders of its src, specs and proofs. A row
-# that says `the rest` has what is in no other, and any other row its whole crate.
+# The examples that are a part of a crate, by the first words of their row: the files and folders of its src, specs and proofs. A row that
+# says `the rest` counts what is in no other, and any other row counts its whole crate.
 PARTS = {
-    "A leaf of a B-tree": ("leaf moves", "Entries LeafInside LeafLends", "LeafLent LeafOrder leaf"),
+    "A leaf of a B-tree": ("leaf moves", "Entries LeafInside LeafLends", "LeafBorrowed LeafOrder leaf"),
     "An arena by handles": ("arena", "Lends", ""),
     "A vector of fixed capacity": ("fixed", "FixedInner", ""),
     "A text builder": ("text", "", "text"),
@@ -23,7 +23,7 @@ PARTS = {
     "A line editor": ("editor", "Editor", "editor"),
     "Records as bytes": ("records", "Records", "Decoding Rooms records"),
     "Allocators with a watch": ("budget counting watched", "Sizes", "Walk Watching watched"),
-    "A layer that asks": ("spaced", "Spacing", "Spacing spaced"),
+    "A layer that": ("spaced", "Spacing", "Spacing spaced"),
 }
 FOLDERS = ("src", "specs", "proofs")
 # The columns of the bench's tables, of instructions and then of times.
@@ -42,7 +42,7 @@ def lines_of(crate, folder, names=None, but=()):
 
 
 def example_rows():
-    """The rows of EXAMPLES: the first cell, the crate, whether it is the rest of one, and the numbers, of which a blank is 0."""
+    """The rows of EXAMPLES: the first cell, the crate, whether it is the rest of one, and the numbers; a blank counts as 0."""
     for row in re.findall(r"^\| (.*) \|$", text_of(TOP / "docs" / "EXAMPLES.md"), re.M):
         cells = [it.strip() for it in row.split("|")]
         if len(cells) == 5 and "`ex_" in cells[1]:
@@ -86,18 +86,18 @@ def cases():
 
 
 def ratio(case, other, of="ns"):
-    """What ours takes of the time, or of the instructions, of another side; a number that is no number where that has no such call."""
+    """Our time, or instructions, divided by those of another side; not a number if that side has no such function."""
     cells = cases()[case][4:] if of == "ns" else cases()[case][:4]
     ours, theirs = (float(re.match(r"[\d.]+|-", cells[at]).group().replace("-", "nan")) for at in (0, SIDES.index(other)))
     return 1.0 if ours == theirs else ours / theirs if theirs else float("inf")
 
 
 def ahead(other):
-    """The cases in which another side takes less than ours by more than a tenth."""
+    """The cases in which another side is faster than ours by more than a tenth."""
     return f"cases in which {other} is ahead", sum(ratio(case, other) > 1.1 for case in cases())
 
 
-def behind(other):
+def slower(other):
     return f"cases in which {other} is behind", sum(1.1 * ratio(case, other) < 1 for case in cases())
 
 
@@ -106,24 +106,24 @@ def takes(case, other, of="ns"):
 
 
 def taken(case, other, of="ns"):
-    """The other way around: what another side takes of ours."""
+    """The other way around: the other side's time divided by ours."""
     return f"times ours, by {of}, for `{case}` of {other}", f"{1 / ratio(case, other, of):.2f}"
 
 
 def beyond():
-    """The cases of users' programs in which ours takes much longer."""
+    """The cases of users' programs in which ours is much slower."""
     uses = list(cases())[list(cases()).index("serialise") :]
     return "cases", sum(ratio(case, "original") > 1.2 or ratio(case, "std") > 1.2 for case in uses)
 
 
 def as_original():
-    """The cases with a call of the original, and those of them in which ours is not marked for its instructions."""
+    """The cases that the original has, too, and those of them in which ours is not marked for its instructions."""
     there = [cells for cells in cases().values() if cells[1] != "-"]
     return ("cases", sum("!" not in cells[0] for cells in there)), ("cases", len(there))
 
 
 def wrong_allocators():
-    """All wrong allocators, those of which the fault is named, the steps, and those at which the run stops."""
+    """The wrong allocators, those whose fault is named, the steps, and those at which the run stops."""
     text = text_of(TOP / "tests" / "wrong-allocators" / "lib.rt.txt")
     named = len(re.findall(r"^    assert!.*Broken::", text, re.M))
     stops = len(re.findall(r"^stops ", text_of(TOP / "tests" / "wrong_allocators"), re.M))
@@ -131,7 +131,7 @@ def wrong_allocators():
     return ("wrong allocators", named + stops), ("named faults", named), ("steps", steps), ("that stop", stops)
 
 
-def refused_scripts():
+def failing_scripts():
     """The scripts of tests/refuse."""
     lists = re.findall(r'^(?:BAD_)?SCRIPTS = "+([^"]*)"', text_of(TOP / "tests" / "refuse"), re.M)
     return "scripts", sum(len(it.split()) for it in lists)
@@ -142,16 +142,16 @@ def must_fail():
 
 
 def proofs_by_hand(crate, but=()):
-    """The functions of a crate that are proved by a walk."""
+    """The functions of a crate that have a proof by hand."""
     return "proofs by hand", sum(file.name == "Proof.antt" for name, file in files_in(crate, "proofs") if name not in but)
 
 
 def of_sources():
-    """Sentences with a number of lines, edits or files: the page, the sentence, and of each number what it counts and the count."""
+    """Sentences with a number of lines, edits or files: the file, the sentence, and for each number what it counts and the count."""
     trees = [("lines", lines_of("ex_trees", "src", it)) for it in (None, ["list"], ["tree"], ["search"])]
     yield "README.md", "take in the library's {} crates", [("crates", len(CRATES))]
     yield "CONTRIBUTING.md", "`allocator_api2` alone, has {} exact ones", [must_fail()]
-    yield "CONTRIBUTING.md", "read and write of {} of them in turn", [refused_scripts()]
+    yield "CONTRIBUTING.md", "read and write of {} of them in turn", [failing_scripts()]
     yield "docs/DECISIONS.md", "The {} that stand for a promise", [must_fail()]
     yield "docs/ALLOCATORS.md", "has {} wrong allocators. The fault of {} is named, in {} steps. At {} `rt try`", wrong_allocators()
     yield "docs/CALLING.md", "(`ex_slots`) has {} lines of proof", [("lines", lines_of("ex_slots", "proofs"))]
@@ -182,8 +182,13 @@ def of_bench():
     """The same of the bench's tables."""
     of_table = [takes(f"table_{it}", side) for it in ("insert", "hit", "miss", "remove") for side in ("std", "toolchain")]
     yield "README.md", "the original's instructions in {} of {} cases", as_original()
-    yield "README.md", "by more than a tenth in {} of {} cases, and behind in {}.", [ahead("toolchain"), ("cases", len(cases())), behind("toolchain")]
-    yield "README.md", "Rust's std is ahead in {}, and behind in {}.", [ahead("std"), behind("std")]
+    yield "README.md", "by more than a tenth in {} of {} cases, and behind in {}.", [ahead("toolchain"), ("cases", len(cases())), slower("toolchain")]
+    yield "README.md", "Rust's std is ahead in {}, and behind in {}.", [ahead("std"), slower("std")]
+    yield "bench/README.md", "{} cases are measured over this library", [("cases", len(cases()))]
+    yield "bench/README.md", "Of the {} cases that also run over the original, ours takes at most 1.05 times its instructions in {}.", list(as_original())[::-1]
+    yield "bench/README.md", "than 1.1 times its time in {}.", [ahead("original")]
+    yield "bench/README.md", "std is ahead by more than a tenth in {} of the {} cases, and behind in {}.", [ahead("std"), ("cases", len(cases())), slower("std")]
+    yield "bench/README.md", "The toolchain is ahead in {}, and behind in {}.", [ahead("toolchain"), slower("toolchain")]
     yield "bench/README.md", "{} take more than 1.2 times the time", [beyond()]
     yield "bench/README.md", "`window`, beside std, by {}:", [takes("window", "std")]
     yield "bench/README.md", "`boxes` takes {} times its time", [takes("boxes", "original")]
@@ -196,7 +201,7 @@ def of_bench():
 
 
 def value(said):
-    """A number of a page, as it is counted: digits without commas."""
+    """A number of the documentation in digits without commas."""
     return str(SMALL.index(said.lower())) if said.lower() in SMALL else said.replace(",", "")
 
 
@@ -205,7 +210,7 @@ def sentence_faults(page, sentence, counted):
     pattern = NUMBER.join(re.escape(it) for it in sentence.split("{}"))
     found = re.findall(pattern, re.sub(r"\s+", " ", text_of(TOP / page)))
     if len(found) != 1:
-        yield f"{page}: has '{sentence}' {len(found)} times, and docs/reference/counted.py wants it once"
+        yield f"{page}: has '{sentence}' {len(found)} times, but docs/reference/counted.py expects it once"
         return
     said = found[0] if isinstance(found[0], tuple) else found
     for one, (what, count) in zip(said, counted, strict=True):
@@ -214,7 +219,7 @@ def sentence_faults(page, sentence, counted):
 
 
 def unnamed_scripts():
-    """The scripts that `.ci/run` runs and CONTRIBUTING does not name."""
+    """The scripts that `.ci/run` runs but CONTRIBUTING does not name."""
     if not (TOP / "CONTRIBUTING.md").exists():
         return
     page = text_of(TOP / "CONTRIBUTING.md")
@@ -224,7 +229,7 @@ def unnamed_scripts():
 
 
 def faults():
-    """All that is wrong with the numbers on pages."""
+    """All that is wrong with the numbers in the documentation."""
     for page, sentence, counted in itertools.chain(of_sources(), of_types(), of_bench()):
         if (TOP / page).exists():
             yield from sentence_faults(page, sentence, counted)

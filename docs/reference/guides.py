@@ -1,4 +1,4 @@
-"""Renders the repository's pages of markdown beside the reference."""
+"""Renders the repository's documentation in markdown beside the reference."""
 import html
 import re
 
@@ -14,7 +14,7 @@ FILES = {
     "tests/scripts/README.md": "scripts.html",
     "tools/vim/README.md": "EDITOR.html",
 }
-# Pages of text that the pages for a browser say better.
+# Files that the reference itself replaces.
 REPLACED = {"docs/INDEX.md": "items.html", "docs/WORDS.md": "words.html"}
 
 
@@ -29,7 +29,7 @@ def title_of(name):
 
 
 class Guide:
-    """One page of markdown: where its links lead, and what its pieces of code are."""
+    """One file of markdown: where its links lead, and how its code is shown."""
 
     def __init__(self, name, site):
         self.name, self.site = name, site
@@ -48,17 +48,17 @@ class Guide:
         return f'{first}</h1><details class="here" open><summary>On this page</summary><ul>{listed}</ul></details>{rest}'
 
     def carried(self, bracket):
-        """What carries a rule: each name leads to where it is told."""
+        """What carries a rule, each name with its link."""
         shown, modules = [], modules_in(self.renderer.title)
         for name, clauses in self.site.carried.parts(bracket):
             found = self.site.carried.links(name, clauses, modules) or [(it, None) for it in (name, *clauses)]
-            told = [link(href, plain(it), "w type") if href else plain(it) for it, href in found]
-            head, rest = (name, told) if name in ("tested", "killed") else (told[0], told[1:])
+            names = [link(href, plain(it), "w type") if href else plain(it) for it, href in found]
+            head, rest = (name, names) if name in ("tested", "killed") else (names[0], names[1:])
             shown.append(head + (": " + ", ".join(rest) if rest else ""))
         return f'<small class="carried">[{"; ".join(shown)}]</small>'
 
     def link(self, target):
-        """Where a link of this page leads in the folder of pages; none where nothing of it is there."""
+        """Where a link of this file leads in the reference; none if the reference does not have it."""
         if re.match(r"\w+:", target):
             return target
         path, _, anchor = target.partition("#")

@@ -1,18 +1,18 @@
-"""Lays out a module's items: signature, comment, contract clause by clause, what it reaches, the original, and callers."""
+"""Lays out a module's items: signature, comment, contract clause by clause, what that reaches, how it differs from the original, callers."""
 import re
 import textwrap
 
 from library import INNER, LIBRARY
 from linked import slug
 from markdown import Renderer
-from sources import comment_of, passed_on, text_of
+from sources import ORIGINAL, comment_of, passed_on, text_of
 from tags import code, entry, folded, here, link, piece, plain, section
 from text import sentence
 from words import TOP, reached, uses
 
 # How many callers are quoted whole.
 QUOTED = 2
-# The original's types, and what DIFFERENCES calls them where it speaks of several.
+# The original's types, and what DIFFERENCES calls several of them.
 OF_TYPES = {
     "Vec": "vectors?", "Box": "boxes|a box", "RawVec": "blocks", "Drain": "drains", "Splice": "splices", "IntoIter": "iterators",
     "SliceExt": "slices", "BoxedSlice": "boxed slices|boxes|a box", "BoxedText": "boxed texts|boxes|a box",
@@ -31,21 +31,21 @@ class Items:
             self.names.setdefault(f"{of}::{name}" if kind == "call" else name, self.library.href(what))
         self.names.update({page.title.split("::", 1)[-1]: page.file for page in self.library.pages.values() if page.key})
         self.differences = differences()
-        self.of, self.given = "", set()  # the type that a comment speaks of, and the names of the call's own parameters
+        self.of, self.given = "", set()  # the type that a comment is of, and the names of the function's parameters
 
     def prose(self, text):
         return self.renderer.inline(text)
 
     def unlinked(self, text):
-        """The same without links, to stand in one."""
+        """The same without links, to put into one."""
         return re.sub(r"`([^`]*)`", r"<code>\1</code>", plain(text))
 
     def first_sentence(self, doc):
         return sentence([it for it in doc if it])
 
     def code(self, text):
-        """A piece of code in a line: a link where it is one item or one word."""
-        # A plain word of English is no name, but of a call of the type at hand.
+        """A piece of code in a line: a link if it names one item or one definition."""
+        # A plain word of English is no name, but of a method of the type at hand.
         common = text in self.given or re.fullmatch(r"[a-z]+", text)
         href = None if text in self.given else self.names.get(f"{self.of}::{text}")
         if not href and not common:
@@ -56,7 +56,7 @@ class Items:
         return code(link(there[0], plain(text), "w own") if len(there) == 1 else plain(text))
 
     def rust(self, text, but=()):
-        """A piece of Rust, with its comments apart and the library's types as links, but for those names."""
+        """A piece of Rust, with its comments marked and the library's types as links, but for these names."""
         out = []
         for line in text.split("\n"):
             before, mark, comment = line.partition("//")
@@ -71,7 +71,7 @@ class Items:
         return re.sub(r"\b[A-Z]\w+\b", linked, plain(text))
 
     def signature(self, lines, file):
-        """A signature, of whose types those are no links that the file takes from the toolchain."""
+        """A signature, in which a type is no link if the file imports it from the toolchain."""
         taken = re.findall(r"^use (?:std|core)::(.*?);", text_of(file), re.M | re.S)
         return self.rust("\n".join(lines), {name for it in taken for name in re.findall(r"\w+", it)})
 
@@ -79,12 +79,12 @@ class Items:
         """A module's page."""
         kind = "Module" if page.key else "Library"
         out = [f'<h1><span class="kind">{kind}</span> {code(plain(page.title))}</h1>']
-        # Of a path that two crates have, the upper one's file speaks.
+        # If two crates have the path, the comment is that of the upper one's file.
         module = [it for it in page.modules if it.public][-1]
         out.append(self.renderer.page(comment_of(module.file)))
         uses = [name for it in page.modules if it.public for path in passed_on(it.file) for name in last_names(path)]
         named = [code(link(self.names[it], plain(it))) if it in self.names else code(plain(it)) for it in dict.fromkeys(uses)]
-        passed = f"It passes on {', '.join(named)}. " if uses else ""
+        passed = f"Re-exports {', '.join(named)}. " if uses else ""
         out.append(f'<p class="where">{passed}{self.source(module.file, 1)}</p>')
         out.append(self.local_contents(page))
         out += [self.type(it) for it in page.types]
@@ -96,12 +96,12 @@ class Items:
         return "\n".join(out)
 
     def local_contents(self, page):
-        """What a page has: its types with their calls, its functions and macros."""
+        """The contents of a page: its types with their methods, its functions and macros."""
         rows = []
         for it in page.types:
             calls = ", ".join(link(self.library.href(call), plain(call.name)) for _, call in it.calls)
-            told = self.prose(self.first_sentence((it.item or it.section).doc))
-            rows.append(entry(link(it.href, code(it.name)), f'{told}<br><span class="calls">{calls}</span>'))
+            said = self.prose(self.first_sentence((it.item or it.section).doc))
+            rows.append(entry(link(it.href, code(it.name)), f'{said}<br><span class="calls">{calls}</span>'))
         for _, item in page.functions + page.macros:
             name = item.name + ("!" if item.kind == "macro" else "")
             rows.append(entry(link(self.library.href(item), code(name)), self.prose(self.first_sentence(item.doc))))
@@ -114,7 +114,7 @@ class Items:
         shown = self.signature(of.item.shown if of.item else [of.section.head], of.section.file)
         out = [f"<h2>{head}</h2>{piece(shown, 'signature')}{self.comment(what.doc)}"]
         if of.item and of.item.derives:
-            out.append("<p>It derives " + ", ".join(code(it) for it in of.item.derives) + ".</p>")
+            out.append("<p>Derives " + ", ".join(code(it) for it in of.item.derives) + ".</p>")
         out.append(self.differing(of.name, None))
         if of.section.head.startswith("pub trait"):
             out.append(self.facts(of.section))
@@ -122,25 +122,25 @@ class Items:
         out += [self.item(section_of, call, of) for section_of, call in of.calls]
         made = section("type", of.name, "\n".join(out))
         if of.impls:
-            made += f"<h3>What else {code(of.name)} does, by traits</h3>"
+            made += f"<h3>Trait implementations of {code(of.name)}</h3>"
             made += "\n".join(self.impl(section_of, items) for section_of, items in of.impls)
         return made
 
     def model(self, of):
-        """What contracts see of a type."""
+        """The model of a type."""
         if not of.model:
             return ""
         value = next(("\n".join(lines) for name, lines, *_ in of.model.facts if name == "Value"), "")
         seen = self.links.mark(value, self.reference.context(of.model))
         record = self.reference.model(of)
         text = piece(self.definition(record)) if record else ""
-        return f'<div class="model"><p>To contracts it is {code(seen)}.</p>{text}</div>'
+        return f'<div class="model"><p>In contracts it is {code(seen)}.</p>{text}</div>'
 
     def definition(self, word, counted=None):
         return self.links.mark(textwrap.dedent(word.text), self.reference.word_context(word), counted)
 
     def facts(self, section_of):
-        """What an `impl` says of its trait's members, or a trait of those that it asks for."""
+        """What an `impl` says of its trait's members, or a trait of those that it requires."""
         context, out = self.reference.context(section_of), []
         for name, lines, _, doc in section_of.facts:
             if name not in INNER:
@@ -174,10 +174,10 @@ class Items:
         self.of, self.given = of, set(re.findall(r"\b(\w+):", signature))
         text = self.renderer.page("\n".join(doc))
         self.of, self.given = "", set()
-        return re.sub(r"(It stands for .*?[.;:])(?=\s|</p>|$)", r'<span class="stands">\1</span>', text, count=1)
+        return ORIGINAL.sub(r'<span class="original">\g<0></span>', text, count=1)
 
     def contract(self, section_of, item, name):
-        """The clauses, each on a row of its own, under the headings of their groups."""
+        """The clauses, each in a row of its own, under the headings of their groups."""
         context, out, group = self.reference.context(section_of, item), [], ""
         for at, clause in enumerate(item.clauses):
             if clause.group != group:
@@ -197,7 +197,7 @@ class Items:
         if not words:
             return ""
         words.sort(key=lambda it: (it.file.key, it.line))
-        title = f"It reaches {len(words)} definition{'s' if len(words) > 1 else ''}"
+        title = f"Its contract reaches {len(words)} definition{'s' if len(words) > 1 else ''}"
         return folded(title, "<p>" + ", ".join(link(self.reference.words[it], plain(it.name), "w own") for it in words) + "</p>")
 
     def differing(self, type_name, item):
@@ -212,7 +212,7 @@ class Items:
         return folded(f"How it differs from the original ({len(rows)})", f"<ul>{listed}</ul><p>{rest}</p>")
 
     def called(self, section_of, item):
-        """Who calls it, in guide and examples: some quoted whole."""
+        """Its callers in the guide and the examples: some quoted whole."""
         there = self.reference.callers.get((section_of.type, item.name), [])
         if not there or section_of.trait:
             return ""
@@ -240,7 +240,7 @@ class Items:
 
 
 def last_names(path):
-    """The names that a `pub use` brings."""
+    """The names that a `pub use` re-exports."""
     inner = re.search(r"\{(.*)\}", path)
     return re.split(r", *", inner.group(1)) if inner else [path.split("::")[-1]]
 
@@ -257,7 +257,7 @@ def differences():
 
 
 def applies(what, named, type_name, name, of_call):
-    """Whether a row of DIFFERENCES speaks of an item: it names it, and where it says of which types, it is of one of them."""
+    """Whether a row of DIFFERENCES is about an item: it names it, and names the item's type, or no type."""
     plain = [re.sub(r"[<(].*", "", it) for it in named]
     if not of_call:
         return name in plain
@@ -266,6 +266,6 @@ def applies(what, named, type_name, name, of_call):
     if name not in plain or type_name not in OF_TYPES:
         return False
     prose = re.sub(r"`[^`]*`", "", what).lower()
-    told = {it for it, word in OF_TYPES.items() if it in plain or re.search(rf"\b{word}\b", prose)}
-    told |= {plain[0].split("::")[0]} & set(OF_TYPES)
-    return not told or type_name in told
+    types = {it for it, word in OF_TYPES.items() if it in plain or re.search(rf"\b{word}\b", prose)}
+    types |= {plain[0].split("::")[0]} & set(OF_TYPES)
+    return not types or type_name in types

@@ -1,4 +1,4 @@
-"""Puts the library's items on pages: one page a module, each type with its calls, in the order of the original's documentation."""
+"""Puts the library's items on pages: one for each module, each type with its methods, in the order of the original's documentation."""
 import functools
 import re
 
@@ -7,16 +7,16 @@ import original
 import toolchain
 from linked import Context, Links, fields_of, names_of_equations, slug
 from sources import all_modules, open_sections, text_of
-from text import told_words
+from text import reached_words
 from words import CRATES, reached, uses
 
 LIBRARY = "allocator_api2"
-# Members of traits that are proofs or how a type is looked at from inside: no contract names them.
+# Members of traits that are proofs, or that relate a type to its fields: no contract names them.
 INNER = {"laws", "total", "matches_partial_cmp", "matches_eq", "respects_eq", "view", "invariant", "also_owns", "also_shares"}
 
 
 class Type:
-    """A public type or trait: its item, the section that it is declared in, and the `impl`s that speak of it."""
+    """A public type or trait: its item, the section that it is declared in, and its `impl`s."""
 
     def __init__(self, page, name, item, section):
         self.page, self.name, self.item, self.section = page, name, item, section
@@ -67,7 +67,7 @@ class Library:
             self.add_impl(page, section, items)
 
     def page_of(self, module):
-        """The page of a module: its own where it is public, else that of the module that it stands in."""
+        """The page of a module: its own if it is public, else that of the module around it."""
         parts = module.path.split("::")[1:]
         if not module.public:
             opened = {it.path for it in all_modules() if it.public}
@@ -102,7 +102,7 @@ class Library:
             there.calls += [(section, it) for it in items]
 
     def order(self):
-        """Pages, types and calls in the original's order; and an anchor for each item."""
+        """Puts pages, types and methods in the original's order, and makes an anchor for each item."""
         rank = {key: at for at, key in enumerate(original.MODULES)}
         empty = [key for key, page in self.pages.items() if not any((page.types, page.functions, page.macros, page.others)) and key not in rank]
         for key in empty:
@@ -144,7 +144,7 @@ class Library:
         return f"{page.file}#{name}"
 
     def entries(self):
-        """Each item as the search knows it: its name, what it is of, its kind, and itself."""
+        """Each item for the search: its name, its type or module, its kind, and itself."""
         for page in self.pages.values():
             for it in page.types:
                 yield it.name, page.title, (it.item.kind if it.item else "trait"), it.item or it.section
@@ -161,11 +161,11 @@ class Library:
 
 
 class Reference:
-    """The library with what its pages link to: words, the toolchain's words, sources and callers."""
+    """The library with what its pages link to: definitions, those of the toolchain, sources and callers."""
 
     def __init__(self):
         self.library = Library()
-        self.words = {word: f"words-{word.file.crate}.html#{slug(word.file.key[1] + '.' + word.name)}" for word in self.told()}
+        self.words = {word: f"words-{word.file.crate}.html#{slug(word.file.key[1] + '.' + word.name)}" for word in self.all_words()}
         types = {name: it.href for name, it in self.library.types.items()}
         members = {name: it.href for it in self.library.types.values() for name, *_ in (it.section.facts if it.section else [])}
         self.links = Links(self.words, types, members)
@@ -178,17 +178,17 @@ class Reference:
             self.named.setdefault(word.name, []).append(href)
 
     def methods(self):
-        """The calls of types, each with the first type of the library that it answers, if there is one."""
+        """The methods of types, each with the first type of the library in what it returns, if there is one."""
         found = {}
         for it in self.library.types.values():
             for _, call in it.calls:
-                answered = call.signature.partition("->")[2].replace("Self", it.name)
-                found[it.name, call.name] = next((name for name in re.findall(r"\w+", answered) if name in self.library.types), None)
+                returned = call.signature.partition("->")[2].replace("Self", it.name)
+                found[it.name, call.name] = next((name for name in re.findall(r"\w+", returned) if name in self.library.types), None)
         return found
 
-    def told(self):
-        """The words that clauses reach, and those that an `impl` reaches by what it says of its trait's members."""
-        seen = list(told_words())
+    def all_words(self):
+        """The definitions that clauses reach, and those that an `impl` reaches by what it says of its trait's members."""
+        seen = list(reached_words())
         for of in self.library.types.values():
             for section in [it for it, _ in of.impls] + ([of.model] if of.model else []):
                 scope = uses(text_of(section.file).split("\n"))
@@ -197,7 +197,7 @@ class Reference:
         return seen
 
     def context(self, section, item=None):
-        """Where the clauses of an item stand."""
+        """The context of an item's clauses."""
         said = item.signature if item else ""
         there = re.finditer(r"[(,<] ?(?:mut )?(\w+): ", said)
         params = {it.group(1): re.split(r"[,)]", said[it.end() :])[0] for it in there}
@@ -212,7 +212,7 @@ class Reference:
         return Context(scope_of(section.file), None, set(params) | set(generics), generics, records)
 
     def records_in(self, text, own):
-        """The names of the records that contracts see the types of a text as."""
+        """The names of the records that are the models of the types in a text."""
         found = []
         for name in re.findall(r"\w+", text.replace("Self", own)):
             of = self.library.types.get(name)
@@ -221,7 +221,7 @@ class Reference:
         return found
 
     def model(self, of):
-        """The record that contracts see a type as, if it is one."""
+        """The record that is the model of a type, if it is one."""
         if not of or not of.model:
             return None
         value = next((" ".join(lines) for name, lines, *_ in of.model.facts if name == "Value"), "")
@@ -230,7 +230,7 @@ class Reference:
         return next((word for word in self.words if path and word.name == there and fields_of(word) and path.endswith(word.file.key[1])), None)
 
     def word_context(self, word):
-        """Where the text of a definition stands."""
+        """The context of a definition's text."""
         given = names_of_equations(word)
         return Context(scope_of(word.file.path), word.file, given, None, {name: [of] for name, of in given.items()})
 

@@ -8,29 +8,29 @@ from signs import SIGNS
 from words import CRATES, parted, word_at
 
 TOKEN = re.compile(r"--[^\n]*|\[\]|[^\W\d](?:[\w'-]*[\w'])?|\d+|[^\s\w(){},;.\[\]]+|[\s\S]")
-# Where names begin that stand for what a clause is given.
+# How a clause binds names.
 BOUND = re.compile(r"λ ([^.]*)\.|\blet ([^\s:]+)|[({]([^(){}:]+?) : ")
 
 
 def slug(text):
-    """A name as an anchor has it."""
+    """A name in the form of an anchor."""
     return "".join(c if re.match(r"[\w.-]", c) else f"-{ord(c):x}" for c in text)
 
 
 class Context:
-    """Where a text stands: the names that its file takes, the specs file itself, and the names that are given there."""
+    """The context of a text: the names that its file imports, the specs file itself, and the names that are bound there."""
 
     def __init__(self, scope, own=None, given=(), bounds=None, records=None):
         self.scope, self.own, self.given, self.bounds = scope, own, set(given), bounds or {}
-        self.records = records or {}  # what has fields, by the names that are given; those without a name under ""
+        self.records = records or {}  # what has fields, by the names that are bound; those without a name under ""
         self.signs = {part: name for name in list(scope) + list(own.words if own else ()) if "◌" in name for part in name.split("◌") if part}
 
 
 class Links:
-    """Knows where each word stands; counts what it linked, and keeps the toolchain's words that are cited."""
+    """Links each word to its definition; counts the links, and keeps the toolchain's words that are cited."""
 
     def __init__(self, words, types, members):
-        self.words, self.types, self.members = words, types, members  # each with where it is told
+        self.words, self.types, self.members = words, types, members  # each with its link
         self.far, self.counts, self.unknown = {}, collections.Counter(), collections.Counter()
         self.fields = collections.defaultdict(list)
         for word in words:
@@ -63,13 +63,13 @@ class Links:
         return "".join(out)
 
     def resolved(self, token, base, context, given, root):
-        """What kind of thing a token is, and where it is told."""
+        """What kind of thing a token is, and its link."""
         if token.isspace() or token.isdigit() or token in set("(){},;.[]"):
             return "mark", None
         if token.startswith("--"):
             return "comment", None
         if base:
-            return self.behind_dot(token, base, context, root)
+            return self.after_dot(token, base, context, root)
         if token in given or token in ("as", "static"):
             return "given", None
         if context.scope.get(token, ("", ""))[1] is None:
@@ -91,13 +91,13 @@ class Links:
         return self.rust(token) if token[0].isupper() else ("unknown", None)
 
     def rust(self, token):
-        """A type or a trait of Rust's library, which a clause names by itself."""
-        far = toolchain.Far(token, "Rust", f"`{token}` of Rust's library, as the toolchain has it")
+        """A type or a trait of Rust's library that a clause names."""
+        far = toolchain.Far(token, "Rust", f"`{token}` of Rust's library, in the toolchain")
         self.far[far.key] = far
         return "far", f"toolchain.html#{slug(far.key)}"
 
     def word(self, name, context):
-        """A word of the library or of the toolchain, by the names that the file takes."""
+        """A word of the library or of the toolchain, by the names that the file imports."""
         if context.own and name in context.own.words and context.own.words[name] in self.words:
             return "own", self.words[context.own.words[name]]
         path, there = context.scope.get(name, (None, None))
@@ -118,7 +118,7 @@ class Links:
             return "far", f"toolchain.html#{slug(far.key)}"
         return ("missing", path) if found or "." in path else None
 
-    def behind_dot(self, token, base, context, root):
+    def after_dot(self, token, base, context, root):
         """A part of something: a module's word, a type's variant, a trait's member, or a field."""
         path, there = context.scope.get(base, (None, None))
         if path and there is None:
@@ -132,7 +132,7 @@ class Links:
         return self.field(token, context, root)
 
     def field(self, token, context, root):
-        """A field, of the record that the name has it of is; else of the one that is near, or of the only one."""
+        """A field: of the record of the name before the dot, else of the one record in reach that has it, or of the only one."""
         for names in (context.records.get(root, ()), [it for there in context.records.values() for it in there], self.fields[token]):
             there = {it for it in names if token in self.known_fields(it)}
             if len(there) == 1:
@@ -164,7 +164,7 @@ class Links:
 
 
 def names_bound(text):
-    """The names that a text itself gives to what it speaks of."""
+    """The names that a text binds."""
     found = set()
     for groups in BOUND.findall(text):
         found |= {name for part in groups for name in re.findall(r"[^\W\d][\w'-]*", part)}
@@ -172,7 +172,7 @@ def names_bound(text):
 
 
 def names_of_equations(word):
-    """The names that a definition's equations and binders give, each with the first word of its type, as far as that is told."""
+    """The names that a definition's equations and binders bind, each with the first word of its type if the text has it."""
     lines, found = word.text.split("\n"), {}
     for names, of in re.findall(r"[({]([^(){}:]+?) : \(?([^\W\d][\w'-]*)", " ".join(word.around) + word.text):
         found.update({name: of for name in names.split()})

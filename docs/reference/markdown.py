@@ -1,4 +1,4 @@
-"""Turns a page of markdown into HTML: as much of it as this repository's pages use."""
+"""Turns markdown into HTML: as much of it as this repository's documentation uses."""
 import html
 import re
 
@@ -52,11 +52,11 @@ class Renderer:
         return f"<em>{self.inline(em)}</em>"
 
     def bracket(self, text):
-        """What stands in brackets and is no link."""
+        """A text in brackets that is no link."""
         return f"[{html.escape(text, quote=False)}]"
 
     def bare(self, text):
-        """The same without links, to stand in one."""
+        """The same without links, to put into one."""
         code, link = self.code, self.link
         self.code, self.link = (lambda it: f"<code>{html.escape(it, quote=False)}</code>"), (lambda it: None)
         made = self.inline(text)
@@ -64,7 +64,7 @@ class Renderer:
         return made
 
     def page(self, text, lower=0):
-        """The whole page; headings stand `lower` levels deeper."""
+        """The whole page; headings are `lower` levels deeper."""
         return "\n".join(self.blocks(text.split("\n"), lower))
 
     def blocks(self, lines, lower=0):
@@ -123,7 +123,7 @@ class Renderer:
         return f'<div class="wide"><table><thead><tr>{head}</tr></thead><tbody>\n{body}</tbody></table></div>', end
 
     def list(self, lines, at):
-        """The list that begins here: items of its column, with what stands deeper inside of them."""
+        """The list that begins here: items of its column, with what has a greater indent inside of them."""
         column, sign, _ = BULLET.match(lines[at]).groups()
         kind = "ul" if sign in "-*" else "ol"
         first = f' start="{int(sign[:-1])}"' if kind == "ol" and sign != "1." else ""
@@ -150,7 +150,7 @@ class Renderer:
         return rest.startswith(" " * (len(column) + 2)) or bool(found and len(found.group(1)) == len(column))
 
     def item(self, lines):
-        """An item: one paragraph stands without a paragraph of its own."""
+        """An item: a single paragraph has no tag of its own."""
         made = list(self.blocks(lines))
         if made and made[0].startswith("<p>"):
             made[0] = made[0][3:-4]

@@ -15,7 +15,7 @@ from tags import code, entry, folded, here, link, piece, plain, section
 from words import CRATES, TOP, cited, files, uses
 
 HERE = TOP / "docs" / "reference"
-# The groups of the table of contents, each with its pages of markdown in order; a page that no group names stands in the last.
+# The groups of the table of contents, each with its pages of markdown in order; a page that no group names is in the last.
 GUIDES = [
     ("Begin", ["README.md", "docs/CALLING.md", "docs/EXAMPLES.md", "docs/ALLOCATORS.md"]),
     ("Rules", ["docs/SPECIFICATION.md", "docs/DIFFERENCES.md", "docs/RULESETS.md"]),
@@ -25,7 +25,7 @@ GUIDES = [
 
 
 class Site:
-    """All pages: makes them in memory, and writes them."""
+    """All pages: made in memory, and written to a folder."""
 
     def __init__(self):
         self.reference = Reference()
@@ -43,7 +43,7 @@ class Site:
         return groups
 
     def source_link(self, file, line=None):
-        """Where a source's line is shown; the source gets a page by this."""
+        """The page of a source, which this adds, and the line on it."""
         name = ".".join(file.relative_to(TOP / "crates").parts) + ".html"
         self.sources[name] = file
         return f"source/{name}" + (f"#L{line}" if line else "")
@@ -75,8 +75,8 @@ class Site:
                 head = link(f"words-{crate}.html#{slug(file.key[1])}", self.items.unlinked(heading(file)))
                 named = ", ".join(link(self.reference.words[it], plain(it.name), "w own") for it in words)
                 rows.append(f"<li>{head}: {named}</li>")
-        told = f"{len(self.reference.words)} definitions, by file: what clauses of public calls reach, and what an {code('impl')} says of its trait."
-        self.add("words.html", "Words", f'<h1>The words of the contracts</h1><p>{told}</p><ul class="plain">{"".join(rows)}</ul>', "words")
+        count = f"{len(self.reference.words)} definitions, by file: those that clauses of public functions reach, or an {code('impl')} of a trait."
+        self.add("words.html", "Words", f'<h1>The words of the contracts</h1><p>{count}</p><ul class="plain">{"".join(rows)}</ul>', "words")
 
     def words_page(self, crate, there, users):
         out = [f"<h1>Words of {code(crate)}</h1>"]
@@ -89,12 +89,12 @@ class Site:
     def word(self, word, calls):
         name = self.reference.words[word].split("#")[1]
         head = f"<h3>{here(name, code(plain(word.name)))} {self.items.source(word.file.path, word.line)}</h3>"
-        used = folded(f"Calls whose clauses name it: {len(calls)}", f"<p>{', '.join(calls)}</p>") if calls else ""
-        told = f"<p>{self.items.prose(word.sentence())}</p>"
-        return section("word", name, head + told + piece(self.items.definition(word, "definition")) + used)
+        used = folded(f"Functions whose clauses name it: {len(calls)}", f"<p>{', '.join(calls)}</p>") if calls else ""
+        comment = f"<p>{self.items.prose(word.sentence())}</p>"
+        return section("word", name, head + comment + piece(self.items.definition(word, "definition")) + used)
 
     def citing(self):
-        """The calls whose clauses name a word, by the word."""
+        """The functions whose clauses name a definition, by the definition."""
         found = {}
         for name, of, kind, what in self.library.entries():
             if kind in ("call", "function"):
@@ -109,9 +109,9 @@ class Site:
         for far in self.links.far.values():
             groups.setdefault(far.place, []).append(far)
         out = ["<h1>Words of the toolchain</h1>"]
-        out.append("<p>What clauses and definitions here name of the toolchain, with its text as far as the toolchain's folder has it.</p>")
+        out.append("<p>What clauses and definitions name of the toolchain, with its text if the toolchain's folder has it.</p>")
         if not toolchain.folder():
-            out.append("<p>These pages were made without that folder. So most of its words stand in clauses without a link, with a mark.</p>")
+            out.append("<p>This reference was made without that folder. So most words of the toolchain are marked in clauses, and are no links.</p>")
         for place in sorted(groups, key=lambda it: (it != "sign", it)):
             title = "Signs, and words of each clause" if place == "sign" else code(plain(place))
             rows = []
@@ -122,7 +122,7 @@ class Site:
         return "\n".join(out)
 
     def contents(self, name, root):
-        """The one table of contents, which stands on each page."""
+        """The one table of contents, which is on each page."""
 
         def row(target, label, deep=False):
             current = ' aria-current="page"' if target == name else ""
@@ -144,17 +144,17 @@ class Site:
 
     def data(self):
         """What the search and the notes of words read."""
-        items, told = [], {}
+        items, notes = [], {}
         for name, of, kind, what in self.library.entries():
             items.append([name, of, kind, self.library.href(what), self.items.first_sentence(what.doc).replace("`", "")])
         for word, href in self.reference.words.items():
             items.append([word.name, word.file.key[1], "word", href, word.sentence().replace("`", "")])
-            told[href] = [word.name, word.sentence(), textwrap.dedent(word.text)]
+            notes[href] = [word.name, word.sentence().replace("`", ""), textwrap.dedent(word.text)]
         for far in self.links.far.values():
-            told[f"toolchain.html#{slug(far.key)}"] = [far.name, far.comment, textwrap.dedent(far.text)]
+            notes[f"toolchain.html#{slug(far.key)}"] = [far.name, far.comment.replace("`", ""), textwrap.dedent(far.text)]
         for of in self.library.types.values():
-            told[of.href] = [of.name, self.items.first_sentence((of.item or of.section).doc), ""]
-        return f"const ITEMS = {json.dumps(items, ensure_ascii=False)};\nconst WORDS = {json.dumps(told, ensure_ascii=False)};\n"
+            notes[of.href] = [of.name, self.items.first_sentence((of.item or of.section).doc).replace("`", ""), ""]
+        return f"const ITEMS = {json.dumps(items, ensure_ascii=False)};\nconst WORDS = {json.dumps(notes, ensure_ascii=False)};\n"
 
     def write(self, folder):
         (folder / "source").mkdir(parents=True, exist_ok=True)
@@ -166,9 +166,8 @@ class Site:
         for picture in sorted((TOP / "docs").glob("*.svg")):
             shutil.copyfile(picture, folder / picture.name)
 
-
-    def told(self):
-        """How many words of clauses there are, and how many of them are links."""
+    def counts(self):
+        """How many words clauses have, and how many of them are links."""
         kinds = ("own", "type", "member", "field", "far", "sign", "unlinked", "missing")
         of = {kind: sum(self.links.counts[where, kind] for where in ("clause", "fact")) for kind in kinds}
         linked = sum(of[kind] for kind in kinds[:-2])

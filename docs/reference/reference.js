@@ -1,12 +1,12 @@
 "use strict";
-// The search box, the notes that words show, and the contents on a narrow screen. All that it reads stands in data.js; it asks
-// nothing of anywhere.
+// The search box, the notes that words show, and the contents on a narrow screen. All that it reads is in data.js; it requests
+// nothing from elsewhere.
 
 const root = document.body.dataset.root;
 const MOST = 40;
 
-// How well an entry answers what is looked for: the less the better, none where it does not.
-function rank([name, of, , , told], wanted) {
+// How well an entry matches the search: the less the better, or null if it does not.
+function rank([name, of, , , summary], wanted) {
   const low = name.toLowerCase();
   if (name === wanted) return 0;
   if (low === wanted.toLowerCase()) return 1;
@@ -20,7 +20,7 @@ function rank([name, of, , , told], wanted) {
     if (low.includes(word)) return 4;
     if (path.includes(word)) return 5;
   }
-  const all = `${path} ${told.toLowerCase()}`;
+  const all = `${path} ${summary.toLowerCase()}`;
   return words.every((it) => all.includes(it)) ? 6 : null;
 }
 
@@ -52,7 +52,7 @@ function setUpSearch() {
     chosen = -1;
   }
 
-  function option([name, of, kind, href, told], at) {
+  function option([name, of, kind, href, summary], at) {
     const line = document.createElement("li");
     line.id = `found-${at}`;
     line.setAttribute("role", "option");
@@ -65,7 +65,7 @@ function setUpSearch() {
     const code = document.createElement("code");
     code.textContent = name;
     const more = document.createElement("small");
-    more.textContent = told;
+    more.textContent = summary;
     link.append(place, code, more);
     line.append(link);
     return line;
@@ -131,12 +131,12 @@ function setUpNotes() {
 
   function show(link) {
     const target = new URL(link.href);
-    const told = WORDS[decodeURI(target.pathname.split("/").pop() + target.hash)] || WORDS[link.getAttribute("href").replace(root, "")];
-    if (!told) return;
+    const entry = WORDS[decodeURI(target.pathname.split("/").pop() + target.hash)] || WORDS[link.getAttribute("href").replace(root, "")];
+    if (!entry) return;
     clearTimeout(leaving);
     hide();
     of = link;
-    const [name, comment, text] = told;
+    const [name, comment, text] = entry;
     const line = document.createElement("p");
     const code = document.createElement("code");
     code.textContent = name;

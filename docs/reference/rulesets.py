@@ -1,4 +1,4 @@
-"""Reads the rulesets that `allocator_api2` hands on, with the statements of their lemmas. `docs/index` writes docs/RULESETS.md by it."""
+"""Reads the rulesets that `allocator_api2` re-exports, with the statements of their lemmas, for docs/RULESETS.md."""
 import functools
 import re
 
@@ -9,26 +9,26 @@ DOORS = ["Blocks", "Callers"]
 USE = re.compile(r"^(?:pub )?use Rattle\.(\w+)\.proofs\.([\w.]+)\.\{(.*)\}$")
 HEAD = """# Rulesets, and what their lemmas say
 
-Written by `docs/index` from the sources; `.ci/run` sees that it is up to date. It has each ruleset that users
+Written by `docs/index` from the sources; `.ci/run` checks that it is up to date. It has each ruleset that users
 name in an attribute, as `#[tactic(auto, using(allocator_api2::proofs::Blocks::at_ends))]`, with its lemmas. The
-search applies them by itself. For an answer by hand import one from the file that stands above it. `rt lemma
-WORD..` finds them by name. Both go where your line of `crates.txt` lists the lemma's crate.
+search applies them by itself. In a proof by hand, import a lemma from the file named above it. `rt lemma WORD..`
+finds lemmas by name. Both need the lemma's crate in your line of `crates.txt`.
 """
 
 
 class Proofs:
-    """A file of proofs: its rulesets, its lemmas with their statements, and the names that it takes from others."""
+    """A file of proofs: its rulesets, its lemmas with their statements, and the names that it imports."""
 
     def __init__(self, crate, path):
         self.name = f"Rattle.{crate}.proofs.{path}"
         file = TOP / "crates" / crate / "proofs" / (path.replace(".", "/") + ".antt")
         self.lines = file.read_text(encoding="utf-8").split("\n")
         self.taken = dict(self.names(self.lines))
-        self.handed_on = dict(self.names(it for it in self.lines if it.startswith("pub ")))
+        self.re_exported = dict(self.names(it for it in self.lines if it.startswith("pub ")))
         self.rulesets = {name: re.split(r",\s*", text) for name, text in re.findall(r"^ *pub ruleset (\w+) = \((.*)\)$", "\n".join(self.lines), re.M)}
 
     def names(self, lines):
-        """Each name that the lines take, with the file of proofs that it comes from and its name there."""
+        """Each name that the lines import, with the file of proofs that it comes from and its name there."""
         for line in lines:
             found = USE.match(line)
             for part in re.split(r",\s*", found.group(3)) if found else []:
@@ -36,7 +36,7 @@ class Proofs:
                 yield here or there, (found.group(1), found.group(2), there)
 
     def statement(self, name):
-        """What the lemma says, with the variables of the modules that it stands in; nothing if it stands elsewhere."""
+        """The lemma's statement, with the variables of the modules that it is in; none if it is in another file."""
         around = []
         for at, line in enumerate(self.lines):
             depth = len(line) - len(line.lstrip())
@@ -62,7 +62,7 @@ def proofs(crate, path):
 
 
 def of_repository(file, name):
-    """The file of this repository where the name stands, and its name there; none where it is the toolchain's."""
+    """The file of this repository that has the name, and its name there; none if it is the toolchain's."""
     while name in file.taken and (TOP / "crates" / file.taken[name][0]).exists():
         crate, path, name = file.taken[name]
         file = proofs(crate, path)
@@ -80,7 +80,7 @@ def lemmas(file, ruleset):
 
 
 def broken(said):
-    """The statement in lines of at most 120 columns, broken before an arrow where one is near, else where a word ends."""
+    """The statement in lines of at most 120 columns, broken before an arrow if one is near, else at the end of a word."""
     while len(said) > 120:
         at = said.rfind(" → ", 40, 120)
         at = at if at > 0 else said.rfind(" ", 40, 120)
@@ -90,7 +90,7 @@ def broken(said):
 
 
 def section(door, name):
-    """The lines of a ruleset on the page."""
+    """The lines of a ruleset."""
     by_file = {}
     for file, lemma in dict.fromkeys(lemmas(*of_repository(door, name))):
         by_file.setdefault(file.name, []).extend(broken(f"{lemma} : {file.statement(lemma)}"))
@@ -106,7 +106,7 @@ def page():
     for path in DOORS:
         door = proofs("allocator_api2", path)
         out.append(f"\n## `allocator_api2::proofs::{path}`")
-        for name in [*door.handed_on, *door.rulesets]:
+        for name in [*door.re_exported, *door.rulesets]:
             there = of_repository(door, name)
             if there and there[1] in there[0].rulesets:
                 out.extend(section(door, name))

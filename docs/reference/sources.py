@@ -1,22 +1,23 @@
 """Reads the crates' sources: their modules, and the items of each with signature, comment and contract.
 
-The pages of text (`text.py`) and those for a browser (`pages.py`) are made of what this finds.
+INDEX and WORDS (`text.py`) and the reference for a browser (`pages.py`) are made of what this returns.
 """
 import collections
 import functools
 import re
 
-from words import CRATES, TOP, told
+from words import CRATES, TOP, whole_clauses
 
 ITEM = re.compile(r"^(\s*)pub (fn|struct|enum|trait|error|source|const|type|union) (\w+)")
 FACT = re.compile(r"\s+ghost (\w+) ?[=:] \{")
-STANDS = re.compile(r"It stands for (.*?)[.;:](?:\s|$)")
+# What a comment says of the original, where the names differ.
+ORIGINAL = re.compile(r"Corresponds to .*?\.(?=\s|<|$)|Not in allocator-api2\.")
 # A source file: its module's path, and whether all modules on the way are public.
 Module = collections.namedtuple("Module", "crate file path public")
 
 
 class Section:
-    """An `impl`, a trait, or a file's items outside of both (with no head): what a contract is told under it, and its items."""
+    """An `impl`, a trait, or a file's items outside of both (with no head): what it says of ghost members, and its items."""
 
     def __init__(self, file, head, line):
         self.file, self.head, self.line = file, head, line
@@ -32,24 +33,23 @@ class Section:
 
     @property
     def trait(self):
-        """The trait that it gives to the type, if it gives one."""
+        """The trait that it implements for the type, if it does."""
         found = re.match(r"impl(<.*?>)? ([\w:]+)(<.*)? for ", self.head)
         return found.group(2) if found else ""
 
 
 class Item:
-    """A public item: its kind and name, its signature on one line and as it stands, its comment, its clauses, and where it is."""
+    """A public item: its kind and name, its signature on one line and on its own lines, its comment, its clauses, and its line."""
 
     def __init__(self, section, kind, name, signature, shown, doc, clauses, line):
         self.section, self.kind, self.name, self.signature, self.shown = section, kind, name, signature, shown
         self.doc, self.clauses, self.line, self.derives = doc, clauses, line, []
 
 
-
-def stands_for(doc):
-    """What of the original a comment says that an item stands for."""
-    found = STANDS.search(" ".join(doc))
-    return found.group(1) if found else ""
+def original_of(doc):
+    """The sentence of a comment on the original, if there is one."""
+    found = ORIGINAL.search(" ".join(doc))
+    return found.group(0) if found else ""
 
 
 @functools.lru_cache(maxsize=None)
@@ -75,7 +75,7 @@ def type_of(head):
 
 
 def joined(lines, at, ends):
-    """The text from line `at` up to where `ends` matches, on one line, and the number of the line behind it."""
+    """The text from line `at` up to where `ends` holds, on one line, and the number of the line after it."""
     text = ""
     while at < len(lines):
         line = lines[at].strip()
@@ -87,7 +87,7 @@ def joined(lines, at, ends):
 
 
 def closed(text):
-    """Whether all brackets that the text opens are closed (arrows left aside)."""
+    """Whether all brackets that the text opens are closed, but for arrows."""
     plain = text.replace("->", "").replace("=>", "")
     return all(plain.count(a) <= plain.count(b) for a, b in ("()", "[]", "<>"))
 
@@ -103,7 +103,7 @@ def is_method(line):
 
 
 class Reader:
-    """Goes over a file's lines once, and keeps its sections."""
+    """Reads a file's lines once, and keeps its sections."""
 
     def __init__(self, file):
         self.file, self.lines = file, text_of(file).split("\n")
@@ -117,7 +117,7 @@ class Reader:
         return self.sections
 
     def line(self, at):
-        """Reads what begins at this line; answers the line behind it."""
+        """Reads what begins at this line, and returns the line after it."""
         line = self.lines[at]
         bare = line.strip()
         if bare.startswith("///"):
@@ -141,17 +141,17 @@ class Reader:
         return at + 1
 
     def head(self, at):
-        text, behind = joined(self.lines, at, lambda t: t.endswith(("{", "}", ";")))
+        text, after = joined(self.lines, at, lambda t: t.endswith(("{", "}", ";")))
         self.section = Section(self.file, signature_of(text), at + 1)
         self.section.bare = text.endswith("{}")
         self.sections.append(self.section)
         self.section.doc, self.doc = self.doc, []
         if text.endswith("{}"):
             self.section = self.sections[0]
-        return behind
+        return after
 
     def fact(self, at):
-        """What an `impl` says of a ghost member of its trait, or a trait of one that it asks for."""
+        """Reads what an `impl` says of a ghost member of its trait, or a trait of one that it requires."""
         start, text = at, [self.lines[at].strip()]
         while "".join(text).count("{") > "".join(text).count("}"):
             at += 1
@@ -169,32 +169,32 @@ class Reader:
 
     def item(self, at):
         lines = self.lines
-        text, behind = joined(lines, at, lambda t: closed(t) and ("fn " not in t or "(" in t))
-        # Where the signature stands alone, its bounds may stand on lines of their own.
-        while behind < len(lines) and lines[behind].strip().startswith("where"):
-            more, behind = joined(lines, behind, lambda t: t.endswith((",", "{")))
+        text, after = joined(lines, at, lambda t: closed(t) and ("fn " not in t or "(" in t))
+        # The bounds may be on lines of their own after the signature.
+        while after < len(lines) and lines[after].strip().startswith("where"):
+            more, after = joined(lines, after, lambda t: t.endswith((",", "{")))
             text += " " + more
-            while behind < len(lines) and re.match(r"\s+[\w:'<>, ]+: [\w:'<>,&() +=?-]+,$", lines[behind]):
-                behind += 1
+            while after < len(lines) and re.match(r"\s+[\w:'<>, ]+: [\w:'<>,&() +=?-]+,$", lines[after]):
+                after += 1
         kind, name = re.search(r"\b(fn|struct|enum|trait|error|source|const|type|union) (\w+)", text).groups()
-        clauses = told(lines, behind)[0] if kind == "fn" else []
+        clauses = whole_clauses(lines, after)[0] if kind == "fn" else []
         section = self.section if lines[at].startswith(" ") else self.sections[0]
-        shown = shape(lines, at, behind) if kind == "fn" else body(lines, at)
+        shown = shape(lines, at, after) if kind == "fn" else body(lines, at)
         item = Item(section, kind, name, signature_of(text), shown, self.doc, clauses, at + 1)
         item.derives, self.doc, self.derives = self.derives, [], []
         section.items.append(item)
-        return behind
+        return after
 
 
-def shape(lines, at, behind):
-    """A call's signature as it stands, without its columns and without what opens its body."""
+def shape(lines, at, after):
+    """The lines of a function's signature, without their indent and without what opens the body."""
     columns = len(lines[at]) - len(lines[at].lstrip())
-    text = "\n".join(line[columns:] for line in lines[at:behind])
+    text = "\n".join(line[columns:] for line in lines[at:after])
     return re.sub(r"\s*(\{|;|\s(requires|ensures)\b.*)$", "", text.rstrip(), flags=re.S).split("\n")
 
 
 def body(lines, at):
-    """A type as it stands, but for fields that are not public."""
+    """The lines of a type, but for fields that are not public."""
     if not lines[at].rstrip().endswith("{"):
         return [lines[at].rstrip()]
     end = next(i for i in range(at, len(lines)) if lines[i] == "}")
@@ -220,19 +220,19 @@ def sections(file):
 
 
 def passed_on(file):
-    """What the file passes on under its own path."""
+    """What the file re-exports under its own path."""
     return [name.rstrip(";") for name in re.findall(r"^pub use (.*;)$", text_of(file), re.M)]
 
 
 @functools.lru_cache(maxsize=None)
 def passed_names(crate):
-    """The names that the crate's files pass on under their own paths."""
+    """The names that the crate's files re-export under their own paths."""
     lists = [text for it in modules(crate) for text in passed_on(it.file)]
     return {name for text in lists for name in re.findall(r"\w+", text)}
 
 
 def hidden_types(module):
-    """The types of a file that can't be named from outside."""
+    """The types of a file that cannot be named from outside."""
     text = text_of(module.file)
     every = set(re.findall(r"^(?:pub(?:\(crate\))? )?(?:struct|enum) (\w+)", text, re.M))
     return every - (set(re.findall(r"^pub (?:struct|enum) (\w+)", text, re.M)) if module.public else passed_names(module.crate))
@@ -247,14 +247,14 @@ def open_sections(module):
         items = section.items
         if not section.head and not module.public:
             items = [it for it in items if it.kind == "macro" or it.name in passed_names(module.crate)]
-        # What the trait says of a call is not said again.
+        # What the trait says of a function is not repeated.
         if section.of_trait and not section.head.startswith("pub trait"):
             items = [it for it in items if it.doc]
         yield section, items
 
 
 def comment_of(file):
-    """A file's own comment, by its paragraphs."""
+    """A file's own comment."""
     lines = [line[3:].strip() for line in text_of(file).split("\n") if line.startswith("//!")]
     return "\n".join(lines)
 

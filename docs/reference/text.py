@@ -1,27 +1,28 @@
-"""Makes docs/INDEX.md and docs/WORDS.md: the items and the words of contracts as text."""
+"""Makes docs/INDEX.md and docs/WORDS.md: the items, and the definitions that contracts use."""
 import functools
 import re
 import textwrap
 
-from sources import all_modules, closed, is_method, joined, modules, open_sections, passed_on, stands_for, text_of
+from sources import all_modules, closed, is_method, joined, modules, open_sections, original_of, passed_on, text_of
 from words import CRATES, TOP, clauses, files, reached, uses
 
 WIDTH = 112
 HEAD = """# Every public item
 
-Written by `docs/index` from the sources; `.ci/run` sees that it is up to date. An item has its signature, its first
-sentence, what of the original it stands for, and its contract, a line for each clause: its name, and what it says.
-`requires` stands in front of what a caller owes; what a call ensures has no word in front. [WORDS](WORDS.md) says what
-the names in clauses mean. `docs/index --html FOLDER` makes the same for a browser, with each name a link.
+Written by `docs/index` from the sources; `.ci/run` checks that it is up to date. An item has its signature, its first
+sentence, what it corresponds to in the original if the names differ, and its contract, a line for each clause: its
+label, and what it says. A clause that the caller must meet begins with `requires`; what a call ensures has no such
+word. [WORDS](WORDS.md) says what the names in clauses mean. `docs/index --html FOLDER` makes the same for a browser,
+with each name a link.
 
-An item is reached by its module, or by the path that stands behind it. Calls of traits of the standard library stand
-under their `impl`, and where a trait's own contract is all, it is not repeated.
+An item is named by the path of its module, or by one of those that re-export it. Functions of the standard library's
+traits are under their `impl`. A contract that is just the trait's own is not repeated.
 """
 WORDS_HEAD = """# The words of the contracts
 
-Written by `docs/index` from the comments in `specs/`; `.ci/run` sees that it is up to date. It has every definition
-that a clause of a public call reaches, by crate and by file. Names of the standard library (`length`, `take`, `OnOk`)
-are the toolchain's, and stand in its guides; `docs/index --html FOLDER` shows them, too.
+Written by `docs/index` from the comments in `specs/`; `.ci/run` checks that it is up to date. It has every definition
+that a clause of a public function reaches, by crate and by file. Names of the standard library (`length`, `take`,
+`OnOk`) are the toolchain's: its guides explain them, and `docs/index --html FOLDER` shows them, too.
 """
 
 
@@ -33,22 +34,22 @@ def sentence(doc):
 
 
 def wrapped(text, first="", rest=""):
-    """Lines of a text that is no code, no longer than a screen is wide."""
+    """Lines of a text that is no code, of at most `WIDTH` columns."""
     return textwrap.wrap(text, WIDTH, initial_indent=first, subsequent_indent=rest, break_long_words=False, break_on_hyphens=False)
 
 
-def told(doc):
-    """What an item does, and what of the original it stands for."""
-    does, of = sentence([it for it in doc if it]), stands_for(doc)
+def summary(doc):
+    """What an item does, and what its comment says of the original."""
+    does, original = sentence([it for it in doc if it]), original_of(doc)
     ended = does + ("" if not does or does.endswith(".") else ".")
-    return " ".join(it for it in (ended, f"For {of}." if of else "") if it)
+    return " ".join(it for it in (ended, "" if original == ended else original) if it)
 
 
-def entry(shown, doc, said):
-    """An item as lines of a piece of code: its signature as it stands, what it does, and each clause."""
+def entry(shown, doc, clauses):
+    """An item as lines of a piece of code: its signature, what it does, and each clause."""
     lines = ["    " + line for line in shown]
-    lines += wrapped(told(doc), " " * 8, " " * 8) if told(doc) else []
-    for word, name, text, group, _ in said:
+    lines += wrapped(summary(doc), " " * 8, " " * 8) if summary(doc) else []
+    for word, name, text, group, _ in clauses:
         head = " ".join(it for it in [word if word == "requires" else "", name] if it)
         lines.append(" " * 8 + (f"{head}: " if head else "") + text[0])
         lines += [" " * 12 + line for line in text[1:]]
@@ -56,12 +57,12 @@ def entry(shown, doc, said):
 
 
 def signature(item):
-    """A signature on as many lines as it has; a type shows what is public in it without comments."""
+    """A signature on as many lines as it has; of a type what is public, without comments."""
     return [line for line in item.shown if not line.strip().startswith("//")]
 
 
 def entries_of(module):
-    """The items of a file, each under the head that it belongs to; macros first."""
+    """The items of a file, each under the head of its section; macros first."""
     found = {}
     in_order = sorted(open_sections(module), key=lambda it: it[1][0].line if it[1] and not it[0].head else it[0].line)
     for section, items in in_order:
@@ -75,7 +76,7 @@ def entries_of(module):
 
 
 def bare_impls(file):
-    """The traits that the file implements without a call, as derived ones and marks."""
+    """The traits that the file implements without a function, as derived ones and markers."""
     return re.findall(r"^(impl[^{\n]* for [^{\n]*) \{\}$", text_of(file), re.M)
 
 
@@ -89,7 +90,7 @@ def page():
             if not (found or passed or marks):
                 continue
             where = f"`{module.file.relative_to(TOP)}`" + ("" if module.public else ", a private module")
-            where += "; passes on " + ", ".join(f"`{it}`" for it in passed) if passed else ""
+            where += "; re-exports " + ", ".join(f"`{it}`" for it in passed) if passed else ""
             out.append(f"\n### `{module.path}`\n\n" + "\n".join(wrapped(where)) + "\n")
             count += sum(len(there) for there in found.values())
             for head, there in found.items():
@@ -101,23 +102,23 @@ def page():
 
 
 def contracts():
-    """The clauses of all public calls: the file's names and the text of each."""
+    """The clauses of all public functions, each with the names of its file."""
     for module in all_modules():
         lines = text_of(module.file).split("\n")
         scope, trait = uses(lines), False
         for at, line in enumerate(lines):
             trait = trait and line != "}" or bool(re.match(r"(pub trait|impl.* for )", line))
             if re.match(r"\s*pub fn \w+", line) or trait and is_method(line):
-                _, behind = joined(lines, at, lambda t: closed(t) and "(" in t)
-                while behind < len(lines) and lines[behind].strip().startswith("where"):
-                    _, behind = joined(lines, behind, lambda t: t.endswith((",", "{")))
-                for _, _, text in clauses(lines, behind)[0]:
+                _, after = joined(lines, at, lambda t: closed(t) and "(" in t)
+                while after < len(lines) and lines[after].strip().startswith("where"):
+                    _, after = joined(lines, after, lambda t: t.endswith((",", "{")))
+                for _, _, text in clauses(lines, after)[0]:
                     yield scope, text
 
 
 @functools.lru_cache(maxsize=None)
-def told_words():
-    """The definitions that clauses of public calls reach, each once."""
+def reached_words():
+    """The definitions that clauses of public functions reach, each once."""
     seen = []
     for scope, text in contracts():
         seen += [it for it in reached(text, scope) if it not in seen]
@@ -125,9 +126,9 @@ def told_words():
 
 
 def words_page():
-    told, out, count = told_words(), [WORDS_HEAD], 0
+    reached_all, out, count = reached_words(), [WORDS_HEAD], 0
     for crate in CRATES:
-        there = [(file, [it for it in file.words.values() if it in told]) for file in files().values() if file.crate == crate]
+        there = [(file, [it for it in file.words.values() if it in reached_all]) for file in files().values() if file.crate == crate]
         if not any(words for _, words in there):
             continue
         out.append(f"\n## `{crate}`\n")

@@ -1,6 +1,6 @@
-"""The toolchain's words, as far as its folder has their text: those of specs, and the ghost members of its traits.
+"""The toolchain's words, if its folder has their text: those of specs, and the ghost members of its traits.
 
-The folder is looked for beside `rt`. Where there is none, all this knows is the signs of `signs.py`.
+The folder is looked up beside `rt`. If there is none, only the signs of `signs.py` are known.
 """
 import functools
 import pathlib
@@ -14,7 +14,7 @@ USE = re.compile(r"(?:pub |ghost )*use ([\w.]+?)(?:\.\{(.*?)\}| as (\w+))?;?\s*$
 
 
 class Far:
-    """A word of the toolchain: its name, comment and text, and where it stands."""
+    """A word of the toolchain: its name, comment and text, and the module that it is in."""
 
     def __init__(self, name, place, comment="", text=""):
         self.name, self.place, self.comment, self.text = name, place, comment, text
@@ -33,7 +33,7 @@ def folder():
 
 
 def used_names(lines):
-    """What the lines take: each name with the path of its module and its name there; a module's own name has none."""
+    """What the lines import: each name with the path of its module and its name there; a module's own name has none."""
     names, text = {}, ""
     for line in lines:
         line = line.strip()
@@ -56,7 +56,7 @@ def used_names(lines):
 
 @functools.lru_cache(maxsize=None)
 def file_of(crate, file):
-    """The specs file of a toolchain's crate; std passes on most of the others'."""
+    """The specs file of a toolchain's crate; std re-exports most of the others'."""
     if not folder():
         return None
     path = folder() / crate / "specs" / (file.replace(".", "/") + ".antt")
@@ -96,7 +96,7 @@ def definitions(path):
 
 
 def logic_file(path):
-    """The file of a module of the logic that the toolchain's words stand on."""
+    """The file of a module of the logic that the toolchain's words are built on."""
     parts = path.split(".")
     roots = {"mathlib.Core": "antt/lib/src", "native.Mathlib": "antt/lib/native/src/Mathlib"}
     root = roots.get(".".join(parts[:2]))
@@ -130,7 +130,7 @@ def place_of(file):
 
 
 def declared_as(path, name):
-    """What a name stands for that the toolchain makes of a type of Rust."""
+    """What a name that the toolchain derives from a type of Rust means."""
     parts = path.split(".")
     if parts[-1] == "TheVariants":
         return f"{name} of the type {parts[-2]}"

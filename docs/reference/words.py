@@ -1,6 +1,6 @@
 """Reads the definitions of the crates' specs, and which of them a clause reaches.
 
-`docs/index` writes docs/WORDS.md and the pages for a browser by it, and `docs/reach` counts by it.
+`docs/index` uses it for docs/WORDS.md and the reference for a browser, and `docs/reach` for its counts.
 """
 import collections
 import functools
@@ -8,7 +8,7 @@ import pathlib
 import re
 
 TOP = pathlib.Path(__file__).resolve().parent.parent.parent
-# The library's crates, from the ground up.
+# The library's crates, each after those that it depends on.
 CRATES = ["aa_raw", "aa_boxed", "aa_vec", "aa_gap", "allocator_api2"]
 HEAD = re.compile(r"^((?:  )*)(?:(abbrev|unfoldable|opaque|irreducible) )?pub (?:(record|data) )?([^\s.:{}()]+)(?=[\s:(]|$)")
 NAME = re.compile(r"[^\s(){},;.\[\]λ]+")
@@ -16,24 +16,24 @@ USE = re.compile(r"(?:pub |ghost )*use Rattle\.(\w+)\.specs\.([\w.]+?)(?:\.\{(.*
 
 
 class Word:
-    """A definition of a specs file: its name, comment, head, all of its text, and the line where that begins."""
+    """A definition of a specs file: its name, its comment, its text, and the line where that begins."""
 
     def __init__(self, file, name, comment, text, around, line):
         self.file, self.name, self.comment, self.text, self.line = file, name, comment, text, line
-        self.around = around  # the heads of the modules that it stands in
+        self.around = around  # the heads of the modules that it is in
 
     def sentence(self):
         return " ".join(self.comment)
 
     def parameters(self):
-        """How many parameters it takes, but for those in braces: its own, and those of the modules that it stands in."""
+        """How many parameters it takes, but for those in braces: its own, and those of the modules that it is in."""
         head = re.split(r"\bwhere\b|\n\s*" + re.escape(self.name) + r"\s", self.text)[0]
         bound, _, arrows = parted(head.split(self.name, 1)[1], ":")
-        return sum(named(part) for part in self.around) + named(bound) + behind(arrows)
+        return sum(named(part) for part in self.around) + named(bound) + arrow_parameters(arrows)
 
 
 def sliced(lines, at, indent, name):
-    """The lines of the definition that begins here: those that stand deeper, and the equations that begin with its name."""
+    """The lines of the definition that begins here: those with a greater indent, and the equations that begin with its name."""
     end = at + 1
     while end < len(lines) and lines[end].strip() and lines[end].startswith((indent + "  ", indent + name)):
         end += 1
@@ -41,7 +41,7 @@ def sliced(lines, at, indent, name):
 
 
 def parted(text, mark):
-    """The text before the first mark outside of all brackets, the mark, and the text behind it."""
+    """The text before the first mark outside of all brackets, the mark, and the text after it."""
     depth = 0
     for at, letter in enumerate(text):
         depth += (letter in "({[") - (letter in ")}]")
@@ -56,7 +56,7 @@ def named(text):
 
 
 def groups(text):
-    """The bracketed parts of a text that stand in no other."""
+    """The bracketed parts of a text that are in no other."""
     depth, start = 0, 0
     for at, letter in enumerate(text):
         if letter in "({":
@@ -68,20 +68,20 @@ def groups(text):
                 yield text[start : at + 1]
 
 
-def behind(text):
+def arrow_parameters(text):
     """How many parameters the arrows of a type `A → (b c : B) → {D : E} → F` take, but for those in braces."""
     first, arrow, rest = parted(text, "→")
     if not arrow:
         return 0
     part = first.strip()
     if part.startswith("{"):
-        return behind(rest)
+        return arrow_parameters(rest)
     names = parted(part[1:-1], ":") if part.startswith("(") and len(list(groups(part))) == 1 else ("", "", "")
-    return (len(names[0].split()) if names[1] else 1) + behind(rest)
+    return (len(names[0].split()) if names[1] else 1) + arrow_parameters(rest)
 
 
 class File:
-    """A specs file: its path of names, its first comment, its definitions, and the names that it takes from others."""
+    """A specs file: its path of names, its first comment, its definitions, and the names that it imports."""
 
     def __init__(self, crate, path):
         self.crate, self.path = crate, path
@@ -117,7 +117,7 @@ class File:
 
 
 def uses(lines):
-    """What the lines take from specs: each name with the crate, the file and the name there; a module has none."""
+    """What the lines import from specs: each name with its crate, its file and its name there; for a module the last is none."""
     names, text = {}, []
     for line in lines:
         line = line.strip()
@@ -151,7 +151,7 @@ def files():
 
 
 def word_at(crate, file, name):
-    """The definition of this name in a file, or in one that the file passes it on from."""
+    """The definition of this name in a file, or in one that the file re-exports it from."""
     there = files().get((crate, file))
     if not there:
         return None
@@ -162,7 +162,7 @@ def word_at(crate, file, name):
 
 
 def cited(text, scope, own=None):
-    """The definitions that a text cites, where names mean what `scope` and the file `own` say."""
+    """The definitions that a text cites, if names mean what `scope` and the file `own` say."""
     text = re.sub(r"--.*", "", text)
     for module, name in re.findall(r"\b(\w+)\.(\w[^\s(){},;.]*)", text):
         place = scope.get(module)
@@ -180,7 +180,7 @@ def cited(text, scope, own=None):
 
 
 def reached(text, scope):
-    """All definitions that a clause reaches, by those that it cites."""
+    """All definitions that a clause reaches: those that it cites, and those that these cite."""
     seen, left = [], list(cited(text, scope))
     while left:
         word = left.pop()
@@ -190,13 +190,13 @@ def reached(text, scope):
     return seen
 
 
-# A clause as it stands: `requires` or `ensures`, its name, its text line by line without the clause's own columns, the heading of its
-# group (the `//` lines above the group's first clause), and its line.
+# A clause: `requires` or `ensures`, its label, the lines of its text without the clause's own indent, the heading of its group (the `//`
+# lines above the group's first clause), and its line.
 Clause = collections.namedtuple("Clause", "word name lines group line")
 
 
-def told(lines, at):
-    """The clauses from line `at` to the body, as they stand; and the line behind them."""
+def whole_clauses(lines, at):
+    """The clauses from line `at` to the body, and the line after them."""
     found, group, heading = [], "", []
     while at < len(lines):
         line = lines[at].strip()
@@ -220,6 +220,6 @@ def told(lines, at):
 
 
 def clauses(lines, at):
-    """The clauses from line `at` to the body: word, name and text of each; and the line behind them."""
-    found, behind_them = told(lines, at)
-    return [(it.word, it.name, " ".join(line.strip() for line in it.lines)) for it in found], behind_them
+    """The clauses from line `at` to the body: the word, label and text of each; and the line after them."""
+    found, after = whole_clauses(lines, at)
+    return [(it.word, it.name, " ".join(line.strip() for line in it.lines)) for it in found], after

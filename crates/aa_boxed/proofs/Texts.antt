@@ -1,5 +1,5 @@
--- Texts that come of an iterator, and are put behind a text.
-use Rattle.aa_boxed.proofs.Common.{LacksBytes, List, Option, PutsTexts, Some, StopsAtText, String, Text, TryReserveError, Yields, Yields-more, [], ap, append-nil, append_assoc, arith, flat_map, length, length-append, room_after, room_for, string_bytes, string_capacity, sym, ℕ, ◌++◌, ◌+◌, ◌∙◌, ◌∷◌, ◌≡◌}
+-- Texts that are taken from an iterator and appended to a text.
+use Rattle.aa_boxed.proofs.Common.{StringReserveFails, List, Option, AppendsTexts, Some, FailsAtText, String, Text, TryReserveError, Yields, Yields-more, [], ap, append-nil, append_assoc, arith, flat_map, length, length-append, appended_capacity, reserved_capacity, string_bytes, string_capacity, sym, ℕ, ◌++◌, ◌+◌, ◌∙◌, ◌∷◌, ◌≡◌}
 
 module _ {A : Type 0} where
   abbrev pub joined : List (Text A) → List ℕ
@@ -9,45 +9,45 @@ module _ {A : Type 0} where
   joined-next [] t = append-nil t.bytes
   joined-next (u ∷ ts) t = ap (λ bs. u.bytes ++ bs) (joined-next ts t) ∙ sym (append_assoc u.bytes (joined ts) t.bytes)
 
-  -- the room after one more text is that for it after the others
-  room_after-next : (c len : ℕ) (ts : List (Text A)) (t : Text A) (n : ℕ) → n ≡ len + length (joined ts)
-      → room_after c len (ts ++ t ∷ []) ≡ room_for (room_after c len ts) n (length t.bytes)
-  room_after-next c len [] t n e =
+  -- the capacity after one more text is that reserved for it after the others
+  appended_capacity-next : (c len : ℕ) (ts : List (Text A)) (t : Text A) (n : ℕ) → n ≡ len + length (joined ts)
+      → appended_capacity c len (ts ++ t ∷ []) ≡ reserved_capacity (appended_capacity c len ts) n (length t.bytes)
+  appended_capacity-next c len [] t n e =
       let same : len ≡ n = omega (arith, e) in
-      ap (λ k. room_for c k (length t.bytes)) same
-  room_after-next c len (u ∷ ts) t n e =
-      room_after-next (room_for c len (length u.bytes)) (len + length u.bytes) ts t n (omega (arith, e, length-append u.bytes (joined ts)))
+      ap (λ k. reserved_capacity c k (length t.bytes)) same
+  appended_capacity-next c len (u ∷ ts) t n e =
+      appended_capacity-next (reserved_capacity c len (length u.bytes)) (len + length u.bytes) ts t n (omega (arith, e, length-append u.bytes (joined ts)))
 
   module _ {S Z : Type 0} (steps : S → Option (Text A) → S → Type 0) (iter : S) (old : String Z) where
-    -- the texts that came from iter, which is now s, were put behind old, which is now text
+    -- the texts taken from iter, which is now s, were appended to old, which is now text
     pub record Joining (s : S) (text : String Z) : Type 0 where
       pub placed : List (Text A)
-      pub came : Yields steps iter placed s
-      pub put : PutsTexts placed old text
+      pub yields : Yields steps iter placed s
+      pub appended : AppendsTexts placed old text
 
     module _ (s : S) (text : String Z) (p : Joining s text) where
       len_now : length (string_bytes text) ≡ length (string_bytes old) + length (joined p.placed)
-      len_now = ap length p.put.bytes ∙ length-append (string_bytes old) (joined p.placed)
+      len_now = ap length p.appended.bytes ∙ length-append (string_bytes old) (joined p.placed)
 
-      -- one more text t was put behind it, which is new now
+      -- one more text t was appended to it, which is new now
       pub Joining-next : (t : Text A) (u : S) → steps s (Some t) u → (new : String Z) (more : List ℕ) → more ≡ t.bytes → string_bytes new ≡ string_bytes text ++ more
-          → string_capacity new ≡ room_for (string_capacity text) (length (string_bytes text)) (length more) → Joining u new
+          → string_capacity new ≡ reserved_capacity (string_capacity text) (length (string_bytes text)) (length more) → Joining u new
       Joining-next t u step new more is bytes room = record {
         placed = p.placed ++ t ∷ [];
-        came = Yields-more steps iter p.placed s t u p.came step;
-        put = record {
-          bytes = bytes ∙ ap (λ bs. string_bytes text ++ bs) is ∙ ap (λ bs. bs ++ t.bytes) p.put.bytes ∙ append_assoc (string_bytes old) (joined p.placed) t.bytes ∙ ap (λ bs. string_bytes old ++ bs) (sym (joined-next p.placed t));
-          capacity = room ∙ ap (λ bs. room_for (string_capacity text) (length (string_bytes text)) (length bs)) is ∙ ap (λ c. room_for c (length (string_bytes text)) (length t.bytes)) p.put.capacity ∙ sym (room_after-next (string_capacity old) (length (string_bytes old)) p.placed t (length (string_bytes text)) len_now);
+        yields = Yields-more steps iter p.placed s t u p.yields step;
+        appended = record {
+          bytes = bytes ∙ ap (λ bs. string_bytes text ++ bs) is ∙ ap (λ bs. bs ++ t.bytes) p.appended.bytes ∙ append_assoc (string_bytes old) (joined p.placed) t.bytes ∙ ap (λ bs. string_bytes old ++ bs) (sym (joined-next p.placed t));
+          capacity = room ∙ ap (λ bs. reserved_capacity (string_capacity text) (length (string_bytes text)) (length bs)) is ∙ ap (λ c. reserved_capacity c (length (string_bytes text)) (length t.bytes)) p.appended.capacity ∙ sym (appended_capacity-next (string_capacity old) (length (string_bytes old)) p.placed t (length (string_bytes text)) len_now);
         };
       }
 
-      -- room for one more text t was refused, and the string is as it was
-      pub Joining-stopped : (t : Text A) (u : S) → steps s (Some t) u → (new : String Z) → string_bytes new ≡ string_bytes text → string_capacity new ≡ string_capacity text
-          → (e : TryReserveError) → LacksBytes new (length t.bytes) e → StopsAtText steps iter old e new u
-      Joining-stopped t u step new bytes room e lacks = record {
+      -- reserving capacity for one more text t failed, and the string is unchanged
+      pub Joining-fails : (t : Text A) (u : S) → steps s (Some t) u → (new : String Z) → string_bytes new ≡ string_bytes text → string_capacity new ≡ string_capacity text
+          → (e : TryReserveError) → StringReserveFails new (length t.bytes) e → FailsAtText steps iter old e new u
+      Joining-fails t u step new bytes room e cause = record {
         placed = p.placed;
-        refused = t;
-        came = Yields-more steps iter p.placed s t u p.came step;
-        put = record { bytes = bytes ∙ p.put.bytes; capacity = room ∙ p.put.capacity };
-        lacks = lacks;
+        failed = t;
+        yields = Yields-more steps iter p.placed s t u p.yields step;
+        appended = record { bytes = bytes ∙ p.appended.bytes; capacity = room ∙ p.appended.capacity };
+        cause = cause;
       }

@@ -1,27 +1,28 @@
--- What holds of the fields of a `BoxedSlice` and of a `Filling`, and what is seen of them.
+-- The invariants of `BoxedSlice` and `Builder`, and the models of their fields.
 use Rattle.std.specs.Prelude.{◌≡◌, length, drop, is_none, true}
 use Rattle.std.specs.List.{list_all}
 use Rattle.aa_raw.specs.Places.{IsRun, run}
-use Rattle.aa_boxed.specs.Room.{IsJustFor}
-use Rattle.aa_boxed.specs.Slice.{Slice, Begun, slice_of}
+use Rattle.aa_boxed.specs.Room.{IsExactFor}
+use Rattle.aa_boxed.specs.Slice.{Slice, Building, slice_of}
 use Rattle.aa_boxed.specs.declared.boxed.slice.BoxedSlice.TheInside.{Inside as InsideSlice}
-use Rattle.aa_boxed.specs.declared.boxed.filling.Filling.TheInside.{Inside as InsideFilling}
+use Rattle.aa_boxed.specs.declared.boxed.builder.Builder.TheInside.{Inside as InsideBuilder}
 
 module _ {T A : Type 0} where
-  -- the values in its places
+  -- the boxed slice with the fields `v`: the first `v.len` values of its block
   abbrev pub view_of : InsideSlice T A → Slice T A
   view_of v = slice_of v.block v.len
 
-  -- the first places are filled, as many as the slice is long, and there are no others that could
-  -- be, or none of them is
+  -- the first `v.len` places are filled and no others are, and there are `v.len` places or
+  -- `usize::MAX`
   pub record IsWhole (v : InsideSlice T A) : Type 0 where
     pub filled : IsRun v.block.places 0 v.len
-    pub room : IsJustFor v.len v.block.places
+    pub exact : IsExactFor v.len v.block.places
     pub others : list_all is_none (drop v.len v.block.places) ≡ true
 
-  -- the values in the first places, and room for as many as there are places
-  abbrev pub begun_of : InsideFilling T A → Begun T A
-  begun_of v =
+  -- the builder with the fields `v`: the first `v.len` values of its block, and as much capacity as
+  -- there are places
+  abbrev pub building_of : InsideBuilder T A → Building T A
+  building_of v =
       record {
         items = run v.block.places 0 v.len;
         capacity = length v.block.places;
@@ -29,6 +30,6 @@ module _ {T A : Type 0} where
         alloc = v.block.alloc;
       }
 
-  -- the first places are filled, as many as there are items so far
-  abbrev pub IsFront : InsideFilling T A → Type 0
+  -- the first `v.len` places are filled
+  abbrev pub IsFront : InsideBuilder T A → Type 0
   IsFront v = IsRun v.block.places 0 v.len

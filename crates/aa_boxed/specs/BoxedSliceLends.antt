@@ -1,4 +1,4 @@
--- What a boxed slice ends as, once a `&mut` to its items has ended.
+-- The boxed slice after a `&mut` borrow of its items has ended.
 use Rattle.std.specs.Prelude.{List, length}
 use Rattle.std.specs.Borrow.{Fml, RattleType, MutBor, Array, Lends}
 use Rattle.std.specs.List.{refill}
@@ -7,7 +7,7 @@ use Rattle.aa_boxed.specs.Slice.{Slice}
 use Rattle.aa_boxed.specs.contracts.boxed.slice.BoxedSlice.{the_row}
 
 module _ (R A : RattleType) (g : Ghosts A.Denot) (s : MutBor (Slice R.Denot A.Denot)) where
-  -- the items are the last values written through r
+  -- the items of `s` are then the last values written through `r`
   abbrev pub lends_items : MutBor (List R.Denot) → Fml
   lends_items r =
       Lends (the_row R A g) (Array R 0) s r

@@ -1,36 +1,36 @@
--- What an iterator tells of how many items are to come, and the room that is asked for then.
+-- The lower bounds of size hints, and the capacity that is requested by them.
 use Rattle.std.specs.Prelude.{◌≡◌, ℕ, ◌+◌, ◌-◌, ◌^◌, min, List, [], ◌∷◌, length, Option, Some, None, ◌⊎◌}
 use Rattle.std.specs.Iterator.{Count}
 use Rattle.std.specs.Iterator.SizeHint.{IsWithinCount}
 
--- in this state it may tell n, as a lower bound of what remains
-abbrev pub TellsAtMost : {S : Type 0} → (S → Count) → S → ℕ → Type 0
-TellsAtMost remaining s n = IsWithinCount n (remaining s)
+-- in the state `s` the lower bound of the size hint may be `n`, which is at most what remains
+abbrev pub LowerAtMost : {S : Type 0} → (S → Count) → S → ℕ → Type 0
+LowerAtMost remaining s n = IsWithinCount n (remaining s)
 
--- where an item finds no place and `told` others are told, how many places are asked for
-abbrev pub asked_with : (told : ℕ) → ℕ
-asked_with told = min (told + 1) (2 ^ 64 - 1)
+-- how many places are requested for an item that does not fit, if the lower bound of those after it
+-- is `lower`
+abbrev pub requested_with : (lower : ℕ) → ℕ
+requested_with lower = min (lower + 1) (2 ^ 64 - 1)
 
--- `after` is where calls stopped that had led to `last`: there, or behind one further call, which
--- gave none
+-- calls that led to `last` ended at `after`: there, or after one more call, which returned none
 abbrev pub EndsAt : {S T : Type 0} → (S → Option T → S → Type 0) → (last after : S) → Type 0
 EndsAt next_gives last after = (last ≡ after) ⊎ next_gives last None after
 
-module _ {S T : Type 0} (next_gives : S → Option T → S → Type 0) (Tells : S → ℕ → Type 0) where
-  -- calls from s gave xs and led to t, and in each state, with k of xs still to come, it may tell
-  -- `lower k`
-  abbrev pub YieldsTelling : (lower : ℕ → ℕ) → S → List T → S → Type 0
-  YieldsTelling lower s [] t = Tells s (lower 0) × (s ≡ t)
-  YieldsTelling lower s (x ∷ xs) t =
-      Tells s (lower (length (x ∷ xs))) × (j : S) × next_gives s (Some x) j
-      × YieldsTelling lower j xs t
+module _ {S T : Type 0} (next_gives : S → Option T → S → Type 0) (LowerIs : S → ℕ → Type 0) where
+  -- calls from `s` yielded the items `xs` and led to `t`. In each state, with `k` of them still to
+  -- come, the lower bound may be `lower k`
+  abbrev pub YieldsWithLower : (lower : ℕ → ℕ) → S → List T → S → Type 0
+  YieldsWithLower lower s [] t = LowerIs s (lower 0) × (s ≡ t)
+  YieldsWithLower lower s (x ∷ xs) t =
+      LowerIs s (lower (length (x ∷ xs))) × (j : S) × next_gives s (Some x) j
+      × YieldsWithLower lower j xs t
 
-  -- what came from `iter`: the items that calls gave, what it told of how many were still to come,
-  -- and the state that they led to. Went says where they went, and what is left of it
+  -- the items `taken` from `iter`, the lower bounds `lower` on the way, and the state `last` that
+  -- this led to. `Outcome` says what became of them
   pub record Takes (iter : S)
-      (Went : (lower : ℕ → ℕ) → (taken : List T) → (last : S) → Type 0) : Type 0 where
+      (Outcome : (lower : ℕ → ℕ) → (taken : List T) → (last : S) → Type 0) : Type 0 where
     pub taken : List T
     pub lower : ℕ → ℕ
     pub last : S
-    pub told : YieldsTelling lower iter taken last
-    pub went : Went lower taken last
+    pub yields : YieldsWithLower lower iter taken last
+    pub outcome : Outcome lower taken last

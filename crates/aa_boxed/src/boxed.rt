@@ -1,4 +1,4 @@
-//! `Box`: one value over an allocator. It stands for `allocator_api2::boxed`.
+//! `Box`, which holds one value in memory of an allocator.
 ghost use Rattle.std.specs.Prelude.{◌≡◌, ◌<◌, IfOk, IfErr, Some, None, get_or, [], ◌∷◌};
 ghost use Rattle.std.specs.Mem.{type_size};
 ghost use Rattle.std.specs.Borrow.{sem};
@@ -13,24 +13,27 @@ use std::marker::Model;
 use std::ops::{Deref, DerefMut};
 
 mod arrays;
-mod cloned;
-mod compared;
-mod filling;
-mod handed_on;
-mod reading;
+mod builder;
+mod cloning;
+mod compare;
+mod forward;
+mod io;
 mod slice;
-mod slice_compared;
+mod slice_compare;
 mod text;
-mod text_compared;
+mod text_compare;
 mod uninit;
 
 pub use slice::BoxedSlice;
 pub use text::{BoxedText, append_texts, append_texts_by};
 pub use uninit::UninitBox;
 
-/// A value in memory of the allocator `A`. A value without size takes no memory. Its drop drops the
-/// value and gives the memory back. It stands for `allocator_api2::boxed::Box`, for values with a
-/// size that the compiler knows.
+/// A value in memory of the allocator `A`.
+///
+/// Does not allocate for a zero-sized value. When dropped, drops the value and deallocates the
+/// memory.
+///
+/// Unlike allocator-api2's, holds only values of sized types.
 pub struct Box<T, A: Allocator = Global> {
     block: RawVec<T, A>,
     ghost filled: { IsFilled block.places 0 },
@@ -48,86 +51,120 @@ impl<T, A: Allocator> Model for Box<T, A> {
 }
 
 impl<T> Box<T, Global> {
-    /// A box of `x` on the global allocator; it is refused as `new_in` is. It stands for
-    /// `Box::new`, which aborts on a refusal.
+    /// Returns a box that holds `x`, allocated by the global allocator.
+    ///
+    /// Does not allocate if `T` is zero-sized.
+    ///
+    /// # Errors
+    /// `AllocError` if the allocation fails, and never for a zero-sized `T`. `x` is dropped.
+    ///
+    /// allocator-api2's `new` aborts instead of returning an error.
     pub fn new(alloc: Global, x: T) -> Result<Self, AllocError>
     where
         T: Drop,
         ensures made { IfOk result (λ b. b ≡ record { value = x; alloc = alloc }) }
-        ensures refused { IfErr result (λ _. 0 < type_size T.row) }
+        ensures error { IfErr result (λ _. 0 < type_size T.row) }
     {
         Box::new_in(x, alloc)
     }
 
-    /// Room for a value on the global allocator, that is to be written; it is refused as
-    /// `new_uninit_in` is. It stands for `Box::new_uninit`, which aborts on a refusal.
+    /// Returns a box for a value that is still to be written, allocated by the global allocator.
+    ///
+    /// Does not allocate if `T` is zero-sized.
+    ///
+    /// # Errors
+    /// `AllocError` if the allocation fails, and never for a zero-sized `T`.
+    ///
+    /// allocator-api2's `new_uninit` aborts instead of returning an error.
     pub fn new_uninit(alloc: Global) -> Result<UninitBox<T, Global>, AllocError>
         ensures made { IfOk result (λ b. b ≡ alloc) }
-        ensures refused { IfErr result (λ _. 0 < type_size T.row) }
+        ensures error { IfErr result (λ _. 0 < type_size T.row) }
     {
         Box::new_uninit_in(alloc)
     }
 
-    /// The same as `new`. It stands for `Box::try_new`.
+    /// Returns the same as `new`.
+    ///
+    /// Allocates and fails as that does.
     pub fn try_new(alloc: Global, x: T) -> Result<Self, AllocError>
     where
         T: Drop,
         ensures made { IfOk result (λ b. b ≡ record { value = x; alloc = alloc }) }
-        ensures refused { IfErr result (λ _. 0 < type_size T.row) }
+        ensures error { IfErr result (λ _. 0 < type_size T.row) }
     {
         Box::new(alloc, x)
     }
 
-    /// The same as `new_uninit`. It stands for `Box::try_new_uninit`.
+    /// Returns the same as `new_uninit`.
+    ///
+    /// Allocates and fails as that does.
     pub fn try_new_uninit(alloc: Global) -> Result<UninitBox<T, Global>, AllocError>
         ensures made { IfOk result (λ b. b ≡ alloc) }
-        ensures refused { IfErr result (λ _. 0 < type_size T.row) }
+        ensures error { IfErr result (λ _. 0 < type_size T.row) }
     {
         Box::new_uninit(alloc)
     }
 }
 
 impl<T, A: Allocator> Box<T, A> {
-    /// A box of `x`. It takes memory where `x` has a size. Where that is refused, the value is
-    /// dropped. It stands for `Box::new_in`, which aborts on a refusal.
+    /// Returns a box that holds `x`, allocated by `alloc`.
+    ///
+    /// Does not allocate if `T` is zero-sized.
+    ///
+    /// # Errors
+    /// `AllocError` if the allocation fails, and never for a zero-sized `T`. `x` is dropped.
+    ///
+    /// allocator-api2's `new_in` aborts instead of returning an error.
     pub fn new_in(x: T, alloc: A) -> Result<Self, AllocError>
     where
         T: Drop,
         ensures made { IfOk result (λ b. b ≡ record { value = x; alloc = alloc }) }
-        ensures refused { IfErr result (λ _. 0 < type_size T.row) }
+        ensures error { IfErr result (λ _. 0 < type_size T.row) }
     {
         let room = Box::new_uninit_in(alloc)?;
         Ok(UninitBox::write(room, x))
     }
 
-    /// The same as `new_in`. It stands for `Box::try_new_in`.
+    /// Returns the same as `new_in`.
+    ///
+    /// Allocates and fails as that does.
     pub fn try_new_in(x: T, alloc: A) -> Result<Self, AllocError>
     where
         T: Drop,
         ensures made { IfOk result (λ b. b ≡ record { value = x; alloc = alloc }) }
-        ensures refused { IfErr result (λ _. 0 < type_size T.row) }
+        ensures error { IfErr result (λ _. 0 < type_size T.row) }
     {
         Self::new_in(x, alloc)
     }
 
-    /// Room for a value, that is to be written. It takes memory where such a value has a size. It
-    /// stands for `Box::new_uninit_in`, which aborts on a refusal.
+    /// Returns a box for a value that is still to be written, allocated by `alloc`.
+    ///
+    /// Does not allocate if `T` is zero-sized.
+    ///
+    /// # Errors
+    /// `AllocError` if the allocation fails, and never for a zero-sized `T`.
+    ///
+    /// allocator-api2's `new_uninit_in` aborts instead of returning an error.
     pub fn new_uninit_in(alloc: A) -> Result<UninitBox<T, A>, AllocError>
         ensures made { IfOk result (λ b. b ≡ alloc) }
-        ensures refused { IfErr result (λ _. 0 < type_size T.row) }
+        ensures error { IfErr result (λ _. 0 < type_size T.row) }
     {
-        UninitBox::taken(alloc)
+        UninitBox::allocate_in(alloc)
     }
 
-    /// The same as `new_uninit_in`. It stands for `Box::try_new_uninit_in`.
+    /// Returns the same as `new_uninit_in`.
+    ///
+    /// Allocates and fails as that does.
     pub fn try_new_uninit_in(alloc: A) -> Result<UninitBox<T, A>, AllocError>
         ensures made { IfOk result (λ b. b ≡ alloc) }
-        ensures refused { IfErr result (λ _. 0 < type_size T.row) }
+        ensures error { IfErr result (λ _. 0 < type_size T.row) }
     {
         Self::new_uninit_in(alloc)
     }
 
-    /// The value as a list of one. It takes no memory. It stands for `Box::into_boxed_slice`.
+    /// Returns the value as a boxed slice of one element, in the same block.
+    ///
+    /// Does not allocate.
     pub fn into_boxed_slice(b: Box<T, A>) -> BoxedSlice<T, A>
         ensures { result ≡ new_slice (b.value ∷ []) b.alloc }
     {
@@ -135,8 +172,9 @@ impl<T, A: Allocator> Box<T, A> {
         BoxedSlice::from_block(block, 1)
     }
 
-    /// The value, moved out of the box, whose memory is given back. It stands for
-    /// `Box::into_inner`.
+    /// Moves the value out of the box and returns it.
+    ///
+    /// Deallocates the memory of the box.
     pub fn into_inner(b: Box<T, A>) -> T
         ensures { result ≡ b.value }
     {
@@ -144,34 +182,47 @@ impl<T, A: Allocator> Box<T, A> {
         block.take(0)
     }
 
-    /// The allocator under the box. It stands for `Box::allocator`.
+    /// Returns a reference to the allocator.
     pub fn allocator(b: &Box<T, A>) -> &A
         ensures { result.now ≡ b.now.alloc }
     {
         b.block.allocator()
     }
 
-    /// A box of the default value; it is refused as `new_in` is. It stands for `Box`'s `Default`,
-    /// which aborts on a refusal.
+    /// Returns a box that holds the default value of `T`.
+    ///
+    /// Allocates and fails as `new_in` does.
+    ///
+    /// # Errors
+    /// `AllocError` if the allocation fails, and never for a zero-sized `T`. The value is dropped.
+    ///
+    /// Corresponds to allocator-api2's `Default` for `Box`, which aborts instead of returning an
+    /// error.
     pub fn try_default(alloc: A) -> Result<Self, AllocError>
     where
         T: Default + Drop,
         ensures made { IfOk result (λ b. T.is_default b.value) }
         ensures alloc { IfOk result (λ b. b.alloc ≡ alloc) }
-        ensures refused { IfErr result (λ _. 0 < type_size T.row) }
+        ensures error { IfErr result (λ _. 0 < type_size T.row) }
     {
         Box::new_in(T::default(), alloc)
     }
 
-    /// A box of a clone of the value, over a clone of the allocator. It is refused where a clone
-    /// is, or as `new_in`. It stands for `Box`'s `Clone`, which aborts on a refusal.
+    /// Returns a box that holds a clone of the value, over a clone of the allocator.
+    ///
+    /// Does not allocate if `T` is zero-sized.
+    ///
+    /// # Errors
+    /// `AllocError` if the clone of the allocator, the clone of the value, or the allocation fails.
+    ///
+    /// allocator-api2's `clone` aborts instead of returning an error.
     pub fn clone(&self) -> Result<Self, AllocError>
     where
         T: Clone + Drop,
         A: Clone,
         ensures made { IfOk result (λ b. T.is_clone self.now.value b.value) }
         ensures alloc { IfOk result (λ b. A.is_clone self.now.alloc b.alloc) }
-        ensures refused { let sure = T.is_infallible self.now.value
+        ensures error { let sure = T.is_infallible self.now.value
             × A.is_infallible self.now.alloc in
             IfErr result (λ _. sure → 0 < type_size T.row) }
     {
@@ -179,8 +230,8 @@ impl<T, A: Allocator> Box<T, A> {
         Box::new_in((**self).clone()?, alloc)
     }
 
-    // The box of a block for one value, which is there.
-    fn of(block: RawVec<T, A>) -> Self
+    // Returns the box of a block for one value, which is in its first place.
+    fn from_filled_block(block: RawVec<T, A>) -> Self
         requires { IsFilled block.places 0 × IsForOne block }
         ensures alloc { result.alloc ≡ block.alloc }
         ensures value { get_or block.places 0 None ≡ Some result.value }
@@ -190,7 +241,7 @@ impl<T, A: Allocator> Box<T, A> {
 }
 
 impl<T: Drop, A: Allocator> Drop for Box<T, A> {
-    /// Drops the value, and gives the memory back.
+    /// Drops the value and deallocates the memory.
     fn drop(self) {
         let Box { mut block } = self;
         let _value = block.take(0);
@@ -202,7 +253,7 @@ impl<T, A: Allocator> Deref for Box<T, A> {
 
     ghost deref_gives = { λ b x. x ≡ b.value };
 
-    /// The value.
+    /// Returns a reference to the value.
     fn deref(&self) -> &T
         ensures { result.now ≡ self.now.value }
     {
@@ -215,7 +266,9 @@ impl<T, A: Allocator> DerefMut for Box<T, A> {
 
     ghost deref_mut_gives = { λ b x. x ≡ b.value };
 
-    /// The value, to write to: what it is at the end is in the box.
+    /// Returns a mutable reference to the value.
+    ///
+    /// The last value written through it is the value of the box afterwards.
     fn deref_mut(&mut self) -> &mut T
         ensures* writes_back { sem 𝓛 (lends_value T.row A.row A.Allocator self.entry result) }
         ensures value { result.now ≡ self.old.value }

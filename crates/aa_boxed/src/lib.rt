@@ -1,4 +1,4 @@
-//! The boxes of the port, on the block of `aa_raw`.
+//! The boxes of the port: `Box`, `BoxedSlice` and `BoxedText`, built on the block of `aa_raw`.
 #![tactic(auto)]
 
 pub mod boxed;

@@ -1,5 +1,5 @@
 -- What edits take, one after another, where the text fits into its places.
-use Rattle.aa_gap.proofs.Common.{Buffer, DeleteBack, DeleteForward, Doubling, Edit, Edits, GrowsWithin, Growth, Insert, List, MoveTo, Page, Sparing, [], amortized, ap, append_assoc, arith, cursor, drop, drop-append_seam, edited, fold, gap, insert, inserts, least_of, len, length, length-append, length-drop, length-take, min, moved_over, nat_tests, page, put, refl, remove, remove-append_right, rules, run_count, subst, sym, take, take-append-drop, take-append-le, take-append_seam, text, total, with_edit, with_room, written_by, ℕ, ◌++◌, ◌+◌, ◌-◌, ◌∙◌, ◌∷◌, ◌≡◌, ◌≤◌}
+use Rattle.aa_gap.proofs.Common.{Buffer, DeleteBack, DeleteForward, Doubling, Edit, Edits, GrowsWithin, Growth, Insert, List, MoveTo, Page, Sparing, [], amortized, ap, append_assoc, arith, cursor, drop, drop-append_seam, edited, fold, gap, insert, inserts, min_capacity, len, length, length-append, length-drop, length-take, min, moved_over, nat_tests, page, put, refl, remove, remove-append_right, rules, run_count, subst, sym, take, take-append-drop, take-append-le, take-append_seam, text, total, with_edit, with_room, written_by, ℕ, ◌++◌, ◌+◌, ◌-◌, ◌∙◌, ◌∷◌, ◌≡◌, ◌≤◌}
 
 -- Edits, one after another, and what they leave of the text machine's page.
 module _ {T : Type 0} where
@@ -72,7 +72,7 @@ module _ {T A : Type 0} (size : ℕ) where
   Edits-edit : (b : Buffer T A) (e : Edit T) → Fits b → Edits size b (e ∷ []) (with_edit size b e)
   Edits-edit b (Insert x) h =
       let p = page-edit size b (Insert x) in let n = length-append b.before (x ∷ []) in let new = put (with_room size b 1) x in
-      let g : GrowsWithin b.growth b 1 new = grind (arith, nat_tests, GrowsWithin-grows b.growth b new (least_of size), GrowsWithin-stays b.growth b new 1) in search (rules, nat_tests)
+      let g : GrowsWithin b.growth b 1 new = grind (arith, nat_tests, GrowsWithin-grows b.growth b new (min_capacity size), GrowsWithin-stays b.growth b new 1) in search (rules, nat_tests)
   Edits-edit b DeleteBack h =
       let p = page-edit size b DeleteBack in let n = length-take (cursor b - 1) b.before in let g = GrowsWithin-stays b.growth b (with_edit size b DeleteBack) 0 refl refl in search (rules, nat_tests)
   Edits-edit b DeleteForward h =

@@ -1,12 +1,12 @@
 -- Places in two parts with a gap between them, and how the calls of the block change them.
-use Rattle.aa_gap.proofs.Common.{AreApart-before, AreParted, Block, HasGap, IsRun, IsRun-first, IsRun-joined, IsRun-last, IsRun-long, IsRun-lowered, IsRun-moved-above, IsRun-of_none, IsRun-part, IsRun-raised, IsRun-raised-below, IsRun-set-above, IsRun-set-below, IsRun-take_first, IsRun-with-above, List, Option, ap, arith, drop, length, length-drop, length-moved, length-replicate, length-run, length-set, lengths, moved, nat_tests, refl, run, run-drop, run-lowered, run-moved-above, run-of_none, run-raised, run-raised-below, run-set-above, run-set-below, run-split, run-take, run-take_first, subst, sym, take, ℕ, ◌++◌, ◌+◌, ◌-◌, ◌∙◌, ◌≡◌, ◌≤◌}
+use Rattle.aa_gap.proofs.Common.{AreApart-before, AreParted, Block, HasGap, IsRun, IsRun-first, IsRun-joined, IsRun-last, IsRun-long, IsRun-shifted_down, IsRun-moved-above, IsRun-of_none, IsRun-part, IsRun-shifted_up, IsRun-shifted_up-below, IsRun-set-above, IsRun-set-below, IsRun-take_first, IsRun-with-above, List, Option, ap, arith, drop, length, length-drop, length-moved, length-replicate, length-run, length-set, lengths, moved, nat_tests, refl, run, run-drop, run-shifted_down, run-moved-above, run-of_none, run-shifted_up, run-shifted_up-below, run-set-above, run-set-below, run-split, run-take, run-take_first, subst, sym, take, ℕ, ◌++◌, ◌+◌, ◌-◌, ◌∙◌, ◌≡◌, ◌≤◌}
 
 -- Values are moved across the gap.
 module _ {X : Type 0} (cs : List (Option X)) (start end by : ℕ) (h : HasGap cs start end) where
   abbrev n : ℕ
   n = length cs - end
 
-  -- the last before it, to behind it
+  -- the last before it, to after it
   module _ (enough : by ≤ start) where
     abbrev back : List (Option X)
     back = moved cs (start - by) (end - by) by
@@ -15,21 +15,21 @@ module _ {X : Type 0} (cs : List (Option X)) (start end by : ℕ) (h : HasGap cs
     length_back = let b = h.between in let f = h.after.0 in length-moved cs (start - by) (end - by) by (omega arith) (omega arith)
 
     pub before_back : run back 0 (start - by) ≡ take (start - by) (run cs 0 start)
-    before_back = let b = h.between in let f = h.after.0 in run-raised-below cs start (end - by) by enough (omega arith) (omega arith) h.before
+    before_back = let b = h.between in let f = h.after.0 in run-shifted_up-below cs start (end - by) by enough (omega arith) (omega arith) h.before
 
     pub after_back : run back (end - by) (length back - (end - by)) ≡ drop (start - by) (run cs 0 start) ++ run cs end n
     after_back =
         let b = h.between in let f = h.after.0 in let there = run-moved-above cs (start - by) (end - by) by end n (omega arith) (omega arith) (omega arith) (omega arith) in
-        run-split back (end - by) end by n (length back - (end - by)) (omega arith) (omega (arith, length_back)) ∙ (λ i. run-raised cs start (end - by) by enough (omega arith) h.before i ++ there i)
+        run-split back (end - by) end by n (length back - (end - by)) (omega arith) (omega (arith, length_back)) ∙ (λ i. run-shifted_up cs start (end - by) by enough (omega arith) h.before i ++ there i)
 
     pub HasGap_back : HasGap back (start - by) (end - by)
     HasGap_back = let b = h.between in let f = h.after.0 in record {
       between = omega arith;
-      before = IsRun-raised-below cs start (end - by) by enough (omega arith) (omega arith) h.before;
-      after = IsRun-joined back (end - by) end by n (length back - (end - by)) (omega arith) (omega (arith, length_back)) (IsRun-raised cs start (end - by) by enough (omega arith) h.before) (IsRun-moved-above cs (start - by) (end - by) by end n (omega arith) (omega arith) (omega arith) (omega arith) h.after);
+      before = IsRun-shifted_up-below cs start (end - by) by enough (omega arith) (omega arith) h.before;
+      after = IsRun-joined back (end - by) end by n (length back - (end - by)) (omega arith) (omega (arith, length_back)) (IsRun-shifted_up cs start (end - by) by enough (omega arith) h.before) (IsRun-moved-above cs (start - by) (end - by) by end n (omega arith) (omega arith) (omega arith) (omega arith) h.after);
     }
 
-  -- and the first behind it, to before it
+  -- and the first after it, to before it
   module _ (enough : by ≤ n) where
     abbrev forward : List (Option X)
     forward = moved cs end start by
@@ -41,7 +41,7 @@ module _ {X : Type 0} (cs : List (Option X)) (start end by : ℕ) (h : HasGap cs
     part = IsRun-part cs end n end by (omega arith) (omega arith) h.after
 
     pub before_forward : run forward 0 (start + by) ≡ run cs 0 start ++ take by (run cs end n)
-    before_forward = run-lowered cs start end by h.between h.before part ∙ ap (λ ys. run cs 0 start ++ ys) (sym (run-take cs end by n enough h.after))
+    before_forward = run-shifted_down cs start end by h.between h.before part ∙ ap (λ ys. run cs 0 start ++ ys) (sym (run-take cs end by n enough h.after))
 
     pub after_forward : run forward (end + by) (length forward - (end + by)) ≡ drop by (run cs end n)
     after_forward =
@@ -51,46 +51,46 @@ module _ {X : Type 0} (cs : List (Option X)) (start end by : ℕ) (h : HasGap cs
     pub HasGap_forward : HasGap forward (start + by) (end + by)
     HasGap_forward = let b = h.between in let f = h.after.0 in record {
       between = omega arith;
-      before = IsRun-lowered cs start end by h.between h.before part;
+      before = IsRun-shifted_down cs start end by h.between h.before part;
       after = IsRun-long forward (end + by) (length forward - (end + by)) (omega (arith, ap length after_forward, length-drop by (run cs end n), length-run cs end n h.after, length_forward)) (omega (arith, length_forward));
     }
 
 pub ruleset across = (length_back, HasGap_back, before_back, after_back, length_forward, HasGap_forward, before_forward, after_forward, length-run, nat_tests, IsRun-last, IsRun-first)
 
--- The places of a block, from which values are taken.
+-- The places of a block, from which values are removed.
 module _ {X : Type 0} where
-  -- what stands up to the end, counted from there
+  -- the values up to the end, counted from there
   pub run-to_end : (cs : List (Option X)) (i : ℕ) → i ≤ length cs → run cs (length cs - (length cs - i)) (length cs - i) ≡ run cs i (length cs - i)
   run-to_end cs i h = let e : length cs - (length cs - i) ≡ i = omega arith in ap (λ k. run cs k (length cs - i)) e
 
   pub IsRun-to_end : (cs : List (Option X)) (i : ℕ) → IsRun cs i (length cs - i) → IsRun cs (length cs - (length cs - i)) (length cs - i)
   IsRun-to_end cs i r = let e : i ≡ length cs - (length cs - i) = omega (arith, r.0) in subst (λ k. IsRun cs k (length cs - i)) e r
 
--- the first of the places up to the end taken
-pub ruleset from_behind = (run-take_first, IsRun-take_first, run-set-below, IsRun-set-below, run-set-above, IsRun-set-above, length-run, length-set, run-of_none, IsRun-first)
+-- the first of the places up to the end is removed
+pub ruleset first_after = (run-take_first, IsRun-take_first, run-set-below, IsRun-set-below, run-set-above, IsRun-set-above, length-run, length-set, run-of_none, IsRun-first)
 
--- all taken
+-- all are removed
 pub ruleset emptied = (nat_tests, lengths, length-replicate, run-of_none, IsRun-of_none, IsRun-with-above)
 
--- the parts of a block that is handed on
+-- the parts of a block that is returned
 pub ruleset apart = (nat_tests, run-to_end, IsRun-to_end)
 
 -- What growth leaves of the places: the elements before the cursor at the beginning, and those after it at the end.
-module _ {X A : Type 0} (old new : Block X A) (start end behind : ℕ) (p : AreParted old new (0, start) (end, behind)) (fit : start + behind ≤ length new.places) where
-  counted_back : length new.places - (length new.places - behind) ≡ behind
+module _ {X A : Type 0} (old new : Block X A) (start end after : ℕ) (p : AreParted old new (0, start) (end, after)) (fit : start + after ≤ length new.places) where
+  counted_back : length new.places - (length new.places - after) ≡ after
   counted_back = omega (arith, fit)
 
-  pub HasGap-parted : HasGap new.places start (length new.places - behind)
+  pub HasGap-parted : HasGap new.places start (length new.places - after)
   HasGap-parted = record {
     between = omega (arith, fit);
     before = p.before;
-    after = subst (λ n. IsRun new.places (length new.places - behind) n) (sym counted_back) p.behind;
+    after = subst (λ n. IsRun new.places (length new.places - after) n) (sym counted_back) p.after;
   }
 
   pub before-parted : run new.places 0 start ≡ run old.places 0 start
   before-parted = p.front
 
-  pub after-parted : run new.places (length new.places - behind) (length new.places - (length new.places - behind)) ≡ run old.places end behind
-  after-parted = ap (run new.places (length new.places - behind)) counted_back ∙ p.back
+  pub after-parted : run new.places (length new.places - after) (length new.places - (length new.places - after)) ≡ run old.places end after
+  after-parted = ap (run new.places (length new.places - after)) counted_back ∙ p.back
 
 pub ruleset at_both_ends = (nat_tests, length-run, AreApart-before, HasGap-parted, before-parted, after-parted)

@@ -1,17 +1,18 @@
--- A gap buffer as contracts see it: a text in two parts, and a block that counts what it does.
+-- The model of a gap buffer: a text in two parts, and a block with ghost counters.
 use Rattle.std.specs.Prelude.{ℕ, ◌+◌, ◌-◌, ◌*◌, ◌≤◌, max, List, [], ◌∷◌, ◌++◌, length, take, drop, nat_le, if◌then◌else◌}
 use Rattle.aa_raw.specs.declared.raw_vec.Growth.{Growth}
 use Rattle.aa_raw.specs.declared.raw_vec.Growth.TheVariants.{Doubling, Sparing}
 use Rattle.aa_raw.specs.declared.collections.TryReserveError.{TryReserveError}
-use Rattle.aa_raw.specs.Growth.{amortized, least_of}
+use Rattle.aa_raw.specs.Growth.{amortized, min_capacity}
 pub use Rattle.aa_raw.specs.Room.{run_count, moved_over}
 use Rattle.aa_raw.specs.Room as Room
 
--- a text in two parts beside a capacity, in a block that counts what it does
+-- a text in two parts, and the capacity, the growth policy, the ghost counters and the allocator of
+-- its block
 pub record Buffer (T A : Type 0) : Type 0 where
   pub before : List T
   pub after : List T
-  pub capacity : ℕ  -- how many elements there may be
+  pub capacity : ℕ  -- how many elements fit
   pub growth : Growth
   pub grown : ℕ  -- elements moved by growth so far
   pub written : ℕ  -- elements written into places so far
@@ -19,7 +20,7 @@ pub record Buffer (T A : Type 0) : Type 0 where
   pub alloc : A
 
 module _ {T A : Type 0} where
-  -- no text, in a new block of c places
+  -- the empty text in a new block of `c` places, with the growth policy `g` and the allocator `a`
   abbrev pub empty : (c : ℕ) → Growth → A → Buffer T A
   empty c g a =
       record {
@@ -33,59 +34,60 @@ module _ {T A : Type 0} where
         alloc = a;
       }
 
-  -- the whole text
+  -- the whole text of `b`
   abbrev pub text : Buffer T A → List T
   text b = b.before ++ b.after
 
-  -- how many elements stand before the cursor
+  -- the position of the cursor of `b`: how many elements are before it
   abbrev pub cursor : Buffer T A → ℕ
   cursor b = length b.before
 
-  -- how long the text is
+  -- the length of the text of `b`
   abbrev pub len : Buffer T A → ℕ
   len b = length b.before + length b.after
 
-  -- how many places are free
+  -- how many places of `b` are free
   abbrev pub gap : Buffer T A → ℕ
   gap b = b.capacity - len b
 
-  -- b with other parts
+  -- `b` with the parts `before` and `after`
   abbrev pub with_parts : Buffer T A → (before after : List T) → Buffer T A
   with_parts b before after = record b { before = before; after = after }
 
-  -- b after one call that wrote n elements
-  abbrev pub wrote : Buffer T A → ℕ → Buffer T A
-  wrote b n = record b { written = b.written + n; runs = b.runs + run_count n }
+  -- `b` after a call that wrote `n` elements
+  abbrev pub with_written : Buffer T A → ℕ → Buffer T A
+  with_written b n = record b { written = b.written + n; runs = b.runs + run_count n }
 
-  -- b with the cursor at a position of its text: the elements that it passes are moved over the gap
+  -- `b` with the cursor at `position` of its text: the elements that it passes are moved across the
+  -- gap
   abbrev pub moved_to : Buffer T A → (position : ℕ) → Buffer T A
   moved_to b position =
       let before = take position (text b) in let after = drop position (text b) in
       let passed = (cursor b - position) + (position - cursor b) in
-      wrote (with_parts b before after) (moved_over (gap b) passed)
+      with_written (with_parts b before after) (moved_over (gap b) passed)
 
-  -- k more elements fit
+  -- `b` has spare capacity for `k` more elements
   abbrev pub HasRoom : Buffer T A → ℕ → Type 0
   HasRoom b k = k ≤ b.capacity - len b
 
-  -- b with room for k more elements of `size` bytes: where they do not fit, a growth with room to
-  -- spare moved each element once
+  -- `b` with capacity reserved for `k` more elements of `size` bytes: if they do not fit, an
+  -- amortized growth moved each element once
   abbrev pub with_room : (size : ℕ) → Buffer T A → (k : ℕ) → Buffer T A
   with_room size b k =
       record b {
         capacity = if nat_le k (gap b)
             then b.capacity
-            else amortized b.growth b.capacity (len b + k) (least_of size);
+            else amortized b.growth b.capacity (len b + k) (min_capacity size);
         grown = if nat_le k (gap b) then b.grown else b.grown + len b;
       }
 
-  -- b with x put into the first free place
+  -- `b` with `x` inserted before the cursor, in the first free place
   abbrev pub put : Buffer T A → (x : T) → Buffer T A
-  put b x = wrote (with_parts b (b.before ++ x ∷ []) b.after) 1
+  put b x = with_written (with_parts b (b.before ++ x ∷ []) b.after) 1
 
-  -- while n elements were put into old, growth moved at most one element for each place that was
-  -- added, or two where it is sparing. From a buffer of no places that is at most two moves for
-  -- each of the n, or three
+  -- while `n` elements were inserted into `old`, growth moved at most one element for each place
+  -- that it added, or two if sparing. From a buffer without places that is at most two moves for
+  -- each of the `n`, or three
   abbrev pub GrowsWithin : Growth → Buffer T A → (n : ℕ) → Buffer T A → Type 0
   GrowsWithin Doubling old n new =
       (new.grown + old.capacity ≤ old.grown + new.capacity)
@@ -94,9 +96,11 @@ module _ {T A : Type 0} where
       (new.grown + 2 * old.capacity ≤ old.grown + 2 * new.capacity)
       × (new.grown + 2 * old.capacity ≤ old.grown + max (2 * old.capacity) (3 * (len old + n)))
 
-  -- k more than old has did not fit, and a growth with room to spare was refused with this error
+  -- `k` more elements of `size` bytes did not fit in `old`, and an amortized growth for them failed
+  -- with `error`
   abbrev pub LacksRoom : (size : ℕ) → Buffer T A → (k : ℕ) → TryReserveError → Type 0
   LacksRoom size old k error =
       let n = len old in
-      Room.LacksRoom old.capacity n k (amortized old.growth old.capacity (n + k) (least_of size))
+      Room.LacksRoom old.capacity n k (amortized old.growth old.capacity (n + k)
+      (min_capacity size))
       error

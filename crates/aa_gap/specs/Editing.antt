@@ -1,4 +1,4 @@
--- What edits leave of a gap buffer.
+-- Gap buffers after edits.
 use Rattle.std.specs.Prelude.{◌≡◌, ℕ, ◌+◌, ◌-◌, ◌≤◌, min, List, [], ◌∷◌, ◌++◌, take, drop, fold, Option, None}
 use Rattle.std.specs.Iterator.{Yields, YieldsThen}
 use Rattle.aa_raw.specs.declared.collections.TryReserveError.{TryReserveError}
@@ -7,18 +7,18 @@ use Rattle.aa_gap.specs.declared.gap_buffer.Edit.TheVariants.{Insert, DeleteBack
 use Rattle.aa_gap.specs.Buffer.{Buffer, cursor, len, with_parts, moved_to, with_room, put, run_count, GrowsWithin, LacksRoom}
 use Rattle.aa_gap.specs.Page.{page, edited, written_by, inserts, total}
 
--- of elements of `size` bytes
+-- for elements of `size` bytes
 module _ {T A : Type 0} (size : ℕ) where
-  -- b after an edit. An insert that finds no free place grows, and no other edit takes memory
+  -- `b` after an edit: an insert without a free place grows, and no other edit allocates
   abbrev pub with_edit : Buffer T A → Edit T → Buffer T A
   with_edit b (Insert x) = put (with_room size b 1) x
   with_edit b DeleteBack = with_parts b (take (cursor b - 1) b.before) b.after
   with_edit b DeleteForward = with_parts b b.before (drop 1 b.after)
   with_edit b (MoveTo q) = moved_to b (min q (len b))
 
-  -- new is old after these edits, one after another: exactly, with its capacity and all that it
-  -- counts, and as a page. At most they took an element more for each insert, what they write, a
-  -- run for each edit that writes any, and what growth moved
+  -- `new` is `old` after these `edits`, one after another: exactly, with its capacity and its
+  -- counters, and as a page. The length grew by at most one for each insert, and each edit wrote at
+  -- most what `written_by` says, in one run at most. Growth moved at most what `GrowsWithin` says
   pub record Edits (old : Buffer T A) (edits : List (Edit T)) (new : Buffer T A) : Type 0 where
     pub exact : new ≡ fold with_edit old edits
     pub leaves : page new ≡ fold edited (page old) edits
@@ -33,16 +33,17 @@ module _ {T A : Type 0} (size : ℕ) where
 module _ {T A : Type 0} where
   module _ {I : Type 0} (steps : I → Option (Edit T) → I → Type 0) (from : I)
       (size : ℕ) (old : Buffer T A) where
-    -- all that came from an iterator was done
+    -- all edits that came from `from` were applied to `old`, which is `new`
     pub record EditsAll (to : I) (new : Buffer T A) : Type 0 where
       pub edits : List (Edit T)
-      pub given : YieldsThen steps from edits None to
+      pub yields : YieldsThen steps from edits None to
       pub done : Edits size old edits new
 
-    -- what came before an insert was done, which found no room
-    pub record EditsUpTo (error : TryReserveError) (to : I) (new : Buffer T A) : Type 0 where
+    -- the edits before an insert of `item` were applied to `old`, which is `new`, and then growth
+    -- failed with `error`
+    pub record EditsFail (error : TryReserveError) (to : I) (new : Buffer T A) : Type 0 where
       pub edits : List (Edit T)
       pub item : T
-      pub given : Yields steps from (edits ++ Insert item ∷ []) to
+      pub yields : Yields steps from (edits ++ Insert item ∷ []) to
       pub done : Edits size old edits new
-      pub lacks : LacksRoom size new 1 error
+      pub cause : LacksRoom size new 1 error

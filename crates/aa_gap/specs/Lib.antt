@@ -2,4 +2,4 @@ pub mod Buffer
 pub mod GapBufferInner
 pub mod Page
 pub mod Editing
-pub mod Taken
+pub mod IntoParts

@@ -1,4 +1,4 @@
--- The text machine: a text and a position in it, with no gap.
+-- The text machine, a reference model: a text and a position in it, without a gap.
 use Rattle.std.specs.Prelude.{ℕ, ◌+◌, ◌-◌, min, List, [], ◌∷◌, ◌++◌, length, take, drop, insert, remove}
 use Rattle.aa_gap.specs.declared.gap_buffer.Edit.{Edit}
 use Rattle.aa_gap.specs.declared.gap_buffer.Edit.TheVariants.{Insert, DeleteBack, DeleteForward, MoveTo}
@@ -9,12 +9,12 @@ pub record Page (T : Type 0) : Type 0 where
   pub text : List T
   pub position : ℕ
 
--- a gap buffer, without its gap
+-- the gap buffer `b` without its gap
 abbrev pub page : {T A : Type 0} → Buffer T A → Page T
 page b = record { text = text b; position = cursor b }
 
 module _ {T : Type 0} where
-  -- the page after an edit
+  -- the page `p` after an edit
   abbrev pub edited : Page T → Edit T → Page T
   edited p (Insert x) = record { text = insert p.text p.position x; position = p.position + 1 }
   edited p DeleteBack =
@@ -23,7 +23,8 @@ module _ {T : Type 0} where
   edited p DeleteForward = record { text = remove p.text p.position; position = p.position }
   edited p (MoveTo q) = record { text = p.text; position = min q (length p.text) }
 
-  -- how many elements an edit writes at most: those that the cursor passes, and one that is put
+  -- how many elements an edit of the page `p` writes at most: those that the cursor passes, and the
+  -- one that it inserts
   abbrev pub written_by : Edit T → Page T → ℕ
   written_by (Insert x) p = 1
   written_by DeleteBack p = 0
@@ -31,7 +32,7 @@ module _ {T : Type 0} where
   written_by (MoveTo q) p =
       let there = min q (length p.text) in (p.position - there) + (there - p.position)
 
-  -- how many of these edits put an element
+  -- how many of these edits insert an element
   abbrev pub inserts : List (Edit T) → ℕ
   inserts [] = 0
   inserts (Insert x ∷ es) = inserts es + 1
@@ -39,7 +40,7 @@ module _ {T : Type 0} where
   inserts (DeleteForward ∷ es) = inserts es
   inserts (MoveTo q ∷ es) = inserts es
 
-  -- the sum of what `by` says of each of these edits and the page that it finds
+  -- the sum of `by` over these edits, each with the page that it is applied to
   abbrev pub total : (by : Edit T → Page T → ℕ) → List (Edit T) → Page T → ℕ
   total by [] p = 0
   total by (e ∷ es) p = by e p + total by es (edited p e)

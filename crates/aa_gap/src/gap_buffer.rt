@@ -1,12 +1,12 @@
-//! `GapBuffer`: a text with a cursor, in one block whose free places stand at the cursor.
+//! `GapBuffer`, a text with a cursor, in one block whose free places are at the cursor.
 ghost use Rattle.std.specs.Prelude.{◌≡◌, ◌+◌, ◌-◌, ◌*◌, ◌<◌, ◌≤◌, ◌∷◌, ◌++◌, [], length, take, drop, slice_get, option_copied, IfOk, IfErr, OnOk, OnErr, IsOk, IsTrue, false, MatchOption};
 ghost use Rattle.std.specs.Mem.{type_size};
 ghost use Rattle.std.specs.Iterator.{IsFinite};
-ghost use Rattle.aa_raw.specs.Growth.{sized, usize_max};
+ghost use Rattle.aa_raw.specs.Growth.{new_capacity, usize_max};
 ghost use Rattle.aa_raw.specs.Places.{IsCapacity};
-ghost use Rattle.aa_raw.specs.Refusals.{RefusesBlock};
-ghost use Rattle.aa_gap.specs.Buffer.{Buffer, empty, text, cursor, len, gap, moved_over, with_parts, wrote, moved_to, with_room, put, HasRoom, LacksRoom};
-ghost use Rattle.aa_gap.specs.Taken.{IsPartedIn};
+ghost use Rattle.aa_raw.specs.Errors.{AllocationFails};
+ghost use Rattle.aa_gap.specs.Buffer.{Buffer, empty, text, cursor, len, gap, moved_over, with_parts, with_written, moved_to, with_room, put, HasRoom, LacksRoom};
+ghost use Rattle.aa_gap.specs.IntoParts.{HasParts};
 ghost use Rattle.aa_gap.specs.GapBufferInner.{view_of, IsParted};
 
 use aa_raw::collections::{Refused, TryReserveError, TryReserveErrorKind};
@@ -20,21 +20,23 @@ mod iter;
 /// An edit at the cursor of a text.
 #[derive(Debug, Drop)]
 pub enum Edit<T> {
-    /// Puts an element before the cursor.
+    /// Inserts an element before the cursor.
     Insert(T),
-    /// Takes the element before the cursor away, if there is one.
+    /// Removes the element before the cursor, if there is one.
     DeleteBack,
-    /// Takes the element after the cursor away, if there is one.
+    /// Removes the element after the cursor, if there is one.
     DeleteForward,
-    /// Moves the cursor behind so many elements, or to the end where there are fewer.
+    /// Moves the cursor to this position, or to the end if the text is shorter.
     MoveTo(usize),
 }
 
-/// A text in two parts, before and after a cursor, over the allocator `A`. Its free places stand
-/// between the two parts, so that an edit at the cursor moves nothing.
+/// A text in two parts, before and after a cursor, over the allocator `A`.
+///
+/// Its free places, the gap, are between the two parts, so that an edit at the cursor moves no
+/// other element.
 pub struct GapBuffer<T, A: Allocator = Global> {
     block: RawVec<T, A>,
-    // the gap: the first of its places, and the first one behind it
+    // the gap: its first place, and the first place after it
     start: usize,
     end: usize,
 }
@@ -49,34 +51,42 @@ impl<T, A: Allocator> Model for GapBuffer<T, A> {
 
 #[tactic(auto, using(aa_raw::proofs::Calls::at_ends))]
 impl<T, A: Allocator> GapBuffer<T, A> {
-    /// An empty text. It takes no memory.
+    /// Returns an empty text.
+    ///
+    /// Does not allocate.
     pub fn new_in(alloc: A) -> Self
-        ensures { result ≡ empty (sized (type_size T.row) 0) Growth.Doubling alloc }
+        ensures { result ≡ empty (new_capacity (type_size T.row) 0) Growth.Doubling alloc }
     {
-        GapBuffer::over(RawVec::new_in(alloc))
+        GapBuffer::with_block(RawVec::new_in(alloc))
     }
 
-    /// An empty text that will grow as `growth` says. It takes no memory.
-    pub fn new_growing_in(growth: Growth, alloc: A) -> Self
-        ensures { result ≡ empty (sized (type_size T.row) 0) growth alloc }
+    /// Returns an empty text with the growth policy `growth`.
+    ///
+    /// Does not allocate.
+    pub fn with_growth_in(growth: Growth, alloc: A) -> Self
+        ensures { result ≡ empty (new_capacity (type_size T.row) 0) growth alloc }
     {
-        GapBuffer::over(RawVec::new_growing_in(growth, alloc))
+        GapBuffer::with_block(RawVec::with_growth_in(growth, alloc))
     }
 
-    /// An empty text with room for exactly `capacity` elements. It takes memory where `capacity` is
-    /// above 0 and elements have a size. A refusal is `CapacityOverflow`, or `AllocError` with this
-    /// capacity.
+    /// Returns an empty text with capacity for exactly `capacity` elements.
+    ///
+    /// Does not allocate if `capacity` is 0 or elements are zero-sized. The capacity for zero-sized
+    /// elements is `usize::MAX`.
+    ///
+    /// # Errors
+    /// `CapacityOverflow`; or `AllocError` with `capacity`.
     pub fn with_capacity_in(capacity: usize, alloc: A) -> Result<Self, TryReserveError>
         ensures made { IfOk result
-            (λ v. v ≡ empty (sized (type_size T.row) capacity) Growth.Doubling alloc) }
-        ensures refused { IfErr result (RefusesBlock capacity (type_size T.row)) }
+            (λ v. v ≡ empty (new_capacity (type_size T.row) capacity) Growth.Doubling alloc) }
+        ensures error { IfErr result (AllocationFails capacity (type_size T.row)) }
     {
         let block = RawVec::with_capacity_in(capacity, alloc)?;
-        Ok(GapBuffer::over(block))
+        Ok(GapBuffer::with_block(block))
     }
 
-    // A text of none of the places of a block.
-    fn over(block: RawVec<T, A>) -> Self
+    // Returns an empty text in `block`, all of whose places become the gap.
+    fn with_block(block: RawVec<T, A>) -> Self
         ensures { result ≡ record {
           before = [];
           after = [];
@@ -96,7 +106,7 @@ impl<T, A: Allocator> GapBuffer<T, A> {
         }
     }
 
-    /// How many elements there are.
+    /// Returns the number of elements.
     pub fn len(&self) -> usize
         ensures count { result ≡ len self.now }
         ensures within { len self.now ≤ self.now.capacity }
@@ -104,37 +114,38 @@ impl<T, A: Allocator> GapBuffer<T, A> {
         self.start + (self.block.capacity() - self.end)
     }
 
-    /// How many of them stand before the cursor.
+    /// Returns the position of the cursor, which is the number of elements before it.
     pub fn cursor(&self) -> usize
         ensures { result ≡ cursor self.now }
     {
         self.start
     }
 
-    /// How many elements there may be before the block grows; `usize::MAX` for elements without
-    /// size.
+    /// Returns the number of elements that fit without growth.
+    ///
+    /// It is `usize::MAX` for zero-sized elements.
     pub fn capacity(&self) -> usize
         ensures count { result ≡ self.now.capacity }
-        ensures may_be { IsCapacity T.row result }
+        ensures possible { IsCapacity T.row result }
     {
         self.block.capacity()
     }
 
-    /// The allocator under the text.
+    /// Returns a reference to the allocator.
     pub fn allocator(&self) -> &A
         ensures { result.now ≡ self.now.alloc }
     {
         self.block.allocator()
     }
 
-    /// How the block grows.
+    /// Returns the growth policy.
     pub fn growth(&self) -> Growth
         ensures { result ≡ self.now.growth }
     {
         self.block.growth()
     }
 
-    /// The elements before the cursor.
+    /// Returns the elements before the cursor as a slice.
     #[tactic(auto, using(aa_raw::proofs::Calls::shown))]
     pub fn before(&self) -> &[T]
         ensures { result.now ≡ self.now.before }
@@ -142,7 +153,7 @@ impl<T, A: Allocator> GapBuffer<T, A> {
         self.block.slice(0, self.start)
     }
 
-    /// The elements after the cursor.
+    /// Returns the elements after the cursor as a slice.
     #[tactic(auto, using(aa_raw::proofs::Calls::shown))]
     pub fn after(&self) -> &[T]
         ensures { result.now ≡ self.now.after }
@@ -150,8 +161,8 @@ impl<T, A: Allocator> GapBuffer<T, A> {
         self.block.slice(self.end, self.block.capacity() - self.end)
     }
 
-    /// The element at `index` of the whole text, if there is one.
-    #[tactic(auto, using(crate::proofs::Texts::lent))]
+    /// Returns a reference to the element at `index` of the whole text, or `None` if there is none.
+    #[tactic(auto, using(crate::proofs::Texts::get_item))]
     pub fn get(&self, index: usize) -> Option<&T>
         ensures { option_copied result ≡ slice_get (text self.now) index }
     {
@@ -163,14 +174,14 @@ impl<T, A: Allocator> GapBuffer<T, A> {
         }
     }
 
-    // How many places are free.
-    fn free(&self) -> usize
+    // Returns the number of free places.
+    fn gap_len(&self) -> usize
         ensures { result ≡ gap self.now }
     {
         self.end - self.start
     }
 
-    // Puts `item` before the cursor.
+    // Inserts `item` before the cursor, into the first free place.
     #[inline(always)]
     fn put(&mut self, item: T)
         requires { HasRoom self.old 1 }
@@ -181,13 +192,17 @@ impl<T, A: Allocator> GapBuffer<T, A> {
         self.start = start + 1;
     }
 
-    /// Puts `item` before the cursor where there is a place, and hands it back where there is none.
-    /// It takes no memory.
+    /// Inserts `item` before the cursor, if there is a free place.
+    ///
+    /// Does not allocate.
+    ///
+    /// # Errors
+    /// `item`, if there is no free place. The text is unchanged.
     pub fn insert_within(&mut self, item: T) -> Result<(), T>
-        ensures fitted { OnOk result (HasRoom self.old 1) }
+        ensures fits { OnOk result (HasRoom self.old 1) }
         ensures inserted { OnOk result (self.new ≡ put self.old item) }
         ensures full { OnErr result (len self.old ≡ self.old.capacity) }
-        ensures handed_back { IfErr result (λ x. x ≡ item) }
+        ensures returned { IfErr result (λ x. x ≡ item) }
         ensures unchanged { OnErr result (self.new ≡ self.old) }
     {
         if self.len() == self.capacity() {
@@ -197,21 +212,24 @@ impl<T, A: Allocator> GapBuffer<T, A> {
         Ok(())
     }
 
-    /// Puts `item` before the cursor. It takes memory only where there is no free place, and grows
-    /// then with room to spare. A refusal hands the item back and changes nothing:
-    /// `CapacityOverflow`, for sure where the length would pass `usize::MAX`, or `AllocError` with
-    /// the capacity asked for.
+    /// Inserts `item` before the cursor.
+    ///
+    /// Allocates only if there is no free place, and then grows by the growth policy.
+    ///
+    /// # Errors
+    /// `CapacityOverflow`, always if the new length would exceed `usize::MAX`; or `AllocError` with
+    /// the requested capacity. The text is unchanged and `item` is returned in the error.
     #[inline(always)]
     pub fn insert(&mut self, item: T) -> Result<(), Refused<T>>
-        // What fits is put in.
+        // An item that fits is inserted.
         ensures fits { HasRoom self.old 1 → IsOk result }
-        ensures sizeless { type_size T.row ≡ 0 → len self.old < usize_max → HasRoom self.old 1 }
-        ensures inserted { let roomy = with_room (type_size T.row) self.old 1 in
-            OnOk result (self.new ≡ put roomy item) }
+        ensures zst { type_size T.row ≡ 0 → len self.old < usize_max → HasRoom self.old 1 }
+        ensures inserted { let reserved = with_room (type_size T.row) self.old 1 in
+            OnOk result (self.new ≡ put reserved item) }
 
-        // A refusal hands the item back, and changes nothing.
-        ensures handed_back { IfErr result (λ r. r.source ≡ item) }
-        ensures refused { IfErr result (λ r. LacksRoom (type_size T.row) self.old 1 r.error) }
+        // Failure returns the item in the error, and changes nothing.
+        ensures returned { IfErr result (λ r. r.source ≡ item) }
+        ensures error { IfErr result (λ r. LacksRoom (type_size T.row) self.old 1 r.error) }
         ensures unchanged { OnErr result (self.new ≡ self.old) }
     {
         if let Err(error) = self.reserve(1) {
@@ -224,58 +242,64 @@ impl<T, A: Allocator> GapBuffer<T, A> {
         Ok(())
     }
 
-    /// Makes room for `additional` more elements. Where they fit it does nothing. Else it takes a
-    /// new block with room to spare, and moves each element there once. A refusal, as that of
-    /// `insert`, changes nothing. Elements without size need no memory: all that `usize` counts
-    /// fit.
+    /// Reserves capacity for at least `additional` more elements.
+    ///
+    /// Does nothing if they fit. Otherwise allocates a new block by the growth policy, and moves
+    /// each element there once. Never allocates for zero-sized elements, of which as many fit as
+    /// `usize` counts.
+    ///
+    /// # Errors
+    /// `CapacityOverflow`, always if the new length would exceed `usize::MAX`; or `AllocError` with
+    /// the requested capacity. The text is unchanged.
     #[inline(always)]
     pub fn reserve(&mut self, additional: usize) -> Result<(), TryReserveError>
-        // What fits is granted, and where it is there is room.
+        // The call succeeds if the elements fit, and success leaves capacity for them.
         ensures fits { HasRoom self.old additional → IsOk result }
-        ensures sizeless { type_size T.row ≡ 0 → len self.old + additional ≤ usize_max
+        ensures zst { type_size T.row ≡ 0 → len self.old + additional ≤ usize_max
             → HasRoom self.old additional }
-        ensures room { OnOk result (HasRoom self.new additional) }
-        ensures made { OnOk result (self.new ≡ with_room (type_size T.row) self.old additional) }
+        ensures enough { OnOk result (HasRoom self.new additional) }
+        ensures reserved { OnOk result (self.new ≡ with_room
+            (type_size T.row) self.old additional) }
 
-        // A refusal changes nothing.
-        ensures refused { IfErr result (LacksRoom (type_size T.row) self.old additional) }
+        // Failure changes nothing.
+        ensures error { IfErr result (LacksRoom (type_size T.row) self.old additional) }
         ensures unchanged { OnErr result (self.new ≡ self.old) }
     {
-        self.block.known();
-        if additional <= self.free() || self.make_room(additional) {
+        self.block.prove_capacity_bounds();
+        if additional <= self.gap_len() || self.make_room(additional) {
             return Ok(());
         }
-        Err(self.refusal(additional))
+        Err(self.reserve_error(additional))
     }
 
-    // The growth of a reserve, out of line. It answers in a register, so that the test for room
-    // costs no stack.
+    // Grows the block for `reserve`, out of line. Returns `true` on success, in a register, so that
+    // the test for spare capacity uses no stack.
     #[cold]
     #[inline(never)]
     #[tactic(auto, using(crate::proofs::Parts::at_both_ends))]
     fn make_room(&mut self, additional: usize) -> bool
         requires { gap self.old < additional }
-        ensures made { IsTrue result
+        ensures reserved { IsTrue result
             → self.new ≡ with_room (type_size T.row) self.old additional }
-        ensures kept { result ≡ false → self.new ≡ self.old }
+        ensures unchanged { result ≡ false → self.new ≡ self.old }
     {
-        let behind = self.block.capacity() - self.end;
+        let tail = self.block.capacity() - self.end;
         match self
             .block
-            .try_reserve_parted((0, self.start), (self.end, behind), additional)
+            .try_reserve_parted((0, self.start), (self.end, tail), additional)
         {
             Ok(()) => {
-                self.end = self.block.capacity() - behind;
+                self.end = self.block.capacity() - tail;
                 true
             }
             Err(_) => false,
         }
     }
 
-    // Why `make_room` answered no.
+    // Returns the error of a call of `make_room` that returned `false`.
     #[cold]
     #[inline(never)]
-    fn refusal(&self, additional: usize) -> TryReserveError
+    fn reserve_error(&self, additional: usize) -> TryReserveError
         requires { gap self.now < additional }
         ensures { LacksRoom (type_size T.row) self.now additional result }
     {
@@ -288,11 +312,13 @@ impl<T, A: Allocator> GapBuffer<T, A> {
         }
     }
 
-    /// Takes the element before the cursor, if there is one.
+    /// Removes the element before the cursor and returns it, or `None` if there is none.
+    ///
+    /// Does not allocate, and does not change the capacity.
     pub fn delete_back(&mut self) -> Option<T>
         ensures taken { MatchOption result ((self.old.before ≡ []) × (self.new.before ≡ []))
             (λ x. self.old.before ≡ self.new.before ++ x ∷ []) }
-        ensures rest { self.new ≡ with_parts self.old self.new.before self.old.after }
+        ensures removed { self.new ≡ with_parts self.old self.new.before self.old.after }
     {
         if self.start == 0 {
             return None;
@@ -303,12 +329,14 @@ impl<T, A: Allocator> GapBuffer<T, A> {
         Some(item)
     }
 
-    /// Takes the element after the cursor, if there is one.
-    #[tactic(auto, using(crate::proofs::Parts::from_behind))]
+    /// Removes the element after the cursor and returns it, or `None` if there is none.
+    ///
+    /// Does not allocate, and does not change the capacity.
+    #[tactic(auto, using(crate::proofs::Parts::first_after))]
     pub fn delete_forward(&mut self) -> Option<T>
         ensures taken { MatchOption result ((self.old.after ≡ []) × (self.new.after ≡ []))
             (λ x. self.old.after ≡ x ∷ self.new.after) }
-        ensures rest { self.new ≡ with_parts self.old self.old.before self.new.after }
+        ensures removed { self.new ≡ with_parts self.old self.old.before self.new.after }
     {
         if self.end == self.block.capacity() {
             return None;
@@ -318,15 +346,15 @@ impl<T, A: Allocator> GapBuffer<T, A> {
         Some(item)
     }
 
-    // Moves the last `by` elements before the cursor to the other side.
+    // Moves the last `by` elements before the cursor across the gap.
     #[tactic(auto, using(crate::proofs::Parts::across))]
-    fn go_back(&mut self, by: usize)
+    fn move_back(&mut self, by: usize)
         requires { by ≤ cursor self.old }
         ensures { let at = cursor self.old - by in
             let before = take at self.old.before in
             let after = drop at self.old.before ++ self.old.after in
             self.new
-            ≡ wrote (with_parts self.old before after) (moved_over (gap self.old) by) }
+            ≡ with_written (with_parts self.old before after) (moved_over (gap self.old) by) }
     {
         let start = self.start - by;
         let end = self.end - by;
@@ -335,22 +363,24 @@ impl<T, A: Allocator> GapBuffer<T, A> {
         self.end = end;
     }
 
-    // Moves the first `by` elements after the cursor to the other side.
+    // Moves the first `by` elements after the cursor across the gap.
     #[tactic(auto, using(crate::proofs::Parts::across))]
-    fn go_forward(&mut self, by: usize)
+    fn move_forward(&mut self, by: usize)
         requires { by ≤ length self.old.after }
         ensures { let before = self.old.before ++ take by self.old.after in
             let after = drop by self.old.after in
             self.new
-            ≡ wrote (with_parts self.old before after) (moved_over (gap self.old) by) }
+            ≡ with_written (with_parts self.old before after) (moved_over (gap self.old) by) }
     {
-        self.block.known();
+        self.block.prove_capacity_bounds();
         self.block.move_run(self.end, self.start, by);
         self.start += by;
         self.end += by;
     }
 
-    /// Drops all elements. The capacity stays.
+    /// Drops all elements.
+    ///
+    /// Does not change the capacity.
     #[tactic(auto, using(crate::proofs::Parts::emptied))]
     pub fn clear(&mut self)
     where
@@ -365,39 +395,46 @@ impl<T, A: Allocator> GapBuffer<T, A> {
         self.end = capacity;
     }
 
-    /// The block, and how many elements stand at its first places and how many at its last. It
-    /// takes no memory.
+    /// Returns the block, and how many elements are in its first places and how many in its last.
+    ///
+    /// Does not allocate.
     #[tactic(auto, using(crate::proofs::Parts::apart))]
     pub fn into_parts(self) -> (RawVec<T, A>, usize, usize)
-        ensures { IsPartedIn self result.0 result.1 result.2 }
+        ensures { HasParts self result.0 result.1 result.2 }
     {
         let GapBuffer { block, start, end } = self;
-        let behind = block.capacity() - end;
-        (block, start, behind)
+        let tail = block.capacity() - end;
+        (block, start, tail)
     }
 
-    /// Moves the cursor to `position`. Each element that passes the gap is written once, and none
-    /// where there is no gap.
-    #[tactic(auto, using(crate::proofs::Texts::cut_behind))]
+    /// Moves the cursor to `position`, which is at most the length.
+    ///
+    /// Writes each element that the cursor passes once, or none if there is no gap. Does not
+    /// allocate.
+    #[tactic(auto, using(crate::proofs::Texts::cut_after))]
     pub fn move_to(&mut self, position: usize)
         requires { position ≤ len self.old }
         ensures { self.new ≡ moved_to self.old position }
     {
         let cursor = self.cursor();
         if position < cursor {
-            self.go_back(cursor - position);
+            self.move_back(cursor - position);
         } else {
-            self.go_forward(position - cursor);
+            self.move_forward(position - cursor);
         }
     }
 }
 
 impl<T, A: Allocator> GapBuffer<T, A> {
-    ghost use Rattle.aa_gap.specs.Editing.{with_edit, EditsAll, EditsUpTo};
+    ghost use Rattle.aa_gap.specs.Editing.{with_edit, EditsAll, EditsFail};
 
-    /// Does the edits of an iterator that ends, one after another. A refusal is that of an `Insert`
-    /// which found no free place; its element is dropped, the edits before it are done, and those
-    /// after it are left in the iterator.
+    /// Applies the edits of an iterator, in order.
+    ///
+    /// The iterator must be finite. Allocates only for an `Insert` that finds no free place.
+    ///
+    /// # Errors
+    /// That of an `Insert` whose allocation fails, as for `insert`. Its element is dropped. The
+    /// edits before it are applied, and those after it remain in the iterator.
     #[tactic(auto, using(crate::proofs::Pages::one_by_one))]
     pub fn edit_all<I: Iterator<Item = Edit<T>>>(
         &mut self,
@@ -405,16 +442,16 @@ impl<T, A: Allocator> GapBuffer<T, A> {
     ) -> Result<(), TryReserveError>
     where
         T: Drop,
-        requires may_ask { I.can_next edits.old }
-        requires ends { IsFinite (I.remaining edits.old) }
-        ensures done { let size = type_size T.row in
+        requires callable { I.can_next edits.old }
+        requires finite { IsFinite (I.remaining edits.old) }
+        ensures edited { let size = type_size T.row in
             OnOk result (EditsAll I.next_gives edits.old size self.old edits.new self.new) }
-        ensures refused { let size = type_size T.row in
+        ensures failed { let size = type_size T.row in
             IfErr result
-            (λ e. EditsUpTo I.next_gives edits.old size self.old e edits.new self.new) }
-        ensures goes_on { OnErr result (I.can_next edits.new × IsFinite (I.remaining edits.new)) }
+            (λ e. EditsFail I.next_gives edits.old size self.old e edits.new self.new) }
+        ensures resumable { OnErr result (I.can_next edits.new × IsFinite (I.remaining edits.new)) }
     {
-        // It tells the prover that there are as many places as elements.
+        // This shows the prover that there are at least as many places as elements.
         let _within = self.len();
         while let Some(edit) = edits.next() {
             self.edit(edit)?;
@@ -422,14 +459,14 @@ impl<T, A: Allocator> GapBuffer<T, A> {
         Ok(())
     }
 
-    // Does one edit.
+    // Applies one edit.
     fn edit(&mut self, edit: Edit<T>) -> Result<(), TryReserveError>
     where
         T: Drop,
-        ensures done { OnOk result (self.new ≡ with_edit (type_size T.row) self.old edit) }
-        ensures refused { IfErr result (LacksRoom (type_size T.row) self.old 1) }
+        ensures edited { OnOk result (self.new ≡ with_edit (type_size T.row) self.old edit) }
+        ensures error { IfErr result (LacksRoom (type_size T.row) self.old 1) }
         ensures unchanged { OnErr result (self.new ≡ self.old) }
-        ensures inserts { OnErr result ((x : T) × (edit ≡ Edit.Insert x)) }
+        ensures only_inserts { OnErr result ((x : T) × (edit ≡ Edit.Insert x)) }
     {
         match edit {
             Edit::Insert(item) => {
@@ -454,7 +491,7 @@ impl<T, A: Allocator> GapBuffer<T, A> {
 
 #[tactic(auto, using(aa_raw::proofs::Calls::in_runs))]
 impl<T: Drop, A: Allocator> Drop for GapBuffer<T, A> {
-    /// Drops the elements in order, and gives the memory back.
+    /// Drops the elements in order and deallocates the memory.
     fn drop(self) {
         let GapBuffer {
             mut block,

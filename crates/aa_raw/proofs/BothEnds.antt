@@ -1,7 +1,7 @@
 -- Lemmas on runs that begin anywhere, in the form that the search applies: values are put and taken at both ends, and read. An
 -- author of a queue names one of these rulesets, and no more than are wanted, since the search proves less with many:
---     at_both_ends     a run told by its first place and how many values it has
---     between     one told by its first place and the first place behind it
+--     at_both_ends     a run by its first place and its length
+--     between     one by its first place and the first place after it
 --     two_runs     a value of two lists in line, of which the first is a run
 --     by_arithmetic     the same calls at any numbers that arithmetic finds equal
 use Rattle.aa_raw.proofs.Common.{IsFilled, IsRun, List, None, Option, Some, [], ap, arith, drop, drop_at, get_or, length, length-set, nat_tests, refl, run, slice_get, slice_get_past, slice_get_read, slice_set, suc, sym, take, take_at, zero, ℕ, ◌++◌, ◌+◌, ◌-◌, ◌<◌, ◌∙◌, ◌∷◌, ◌≡◌, ◌≤◌}
@@ -17,10 +17,10 @@ module _ {X : Type 0} where
   slice_get-front (x ∷ xs) ys zero h = refl
   slice_get-front (x ∷ xs) ys (suc i) h = slice_get-front xs ys i (omega (arith, h))
 
-  pub slice_get-behind : (xs ys : List X) (i : ℕ) → length xs ≤ i → slice_get (xs ++ ys) i ≡ slice_get ys (i - length xs)
-  slice_get-behind [] ys i h = let z : i ≡ i - 0 = omega arith in ap (slice_get ys) z
-  slice_get-behind (x ∷ xs) ys zero h = absurd (omega (arith, h))
-  slice_get-behind (x ∷ xs) ys (suc i) h = let k : i - length xs ≡ suc i - length (x ∷ xs) = omega arith in slice_get-behind xs ys i (omega (arith, h)) ∙ ap (slice_get ys) k
+  pub slice_get-after : (xs ys : List X) (i : ℕ) → length xs ≤ i → slice_get (xs ++ ys) i ≡ slice_get ys (i - length xs)
+  slice_get-after [] ys i h = let z : i ≡ i - 0 = omega arith in ap (slice_get ys) z
+  slice_get-after (x ∷ xs) ys zero h = absurd (omega (arith, h))
+  slice_get-after (x ∷ xs) ys (suc i) h = let k : i - length xs ≡ suc i - length (x ∷ xs) = omega arith in slice_get-after xs ys i (omega (arith, h)) ∙ ap (slice_get ys) k
 
   -- two lists in line that are rotated by the length of the first
   pub rotated : (xs ys : List X) (n : ℕ) → length xs ≡ n → drop n (xs ++ ys) ++ take n (xs ++ ys) ≡ ys ++ xs
@@ -38,12 +38,12 @@ module _ {X : Type 0} where
 
   pub ruleset by_arithmetic = (run-push, IsRun-push, run-pop, IsRun-pop, run-shift, IsRun-shift, run-unshift, IsRun-unshift, run-split, IsRun-part)
 
-  -- a value put behind the n from a place on, and before them
-  pub run-put_behind : (cs : List (Option X)) (from n : ℕ) (x : X) → from + n < length cs → run (slice_set cs (from + n) (Some x)) from (n + 1) ≡ run cs from n ++ x ∷ []
-  run-put_behind cs from n x room = run-push cs from n x (from + n) (n + 1) refl refl room
+  -- a value written after the n from a place on, and before them
+  pub run-put_after : (cs : List (Option X)) (from n : ℕ) (x : X) → from + n < length cs → run (slice_set cs (from + n) (Some x)) from (n + 1) ≡ run cs from n ++ x ∷ []
+  run-put_after cs from n x room = run-push cs from n x (from + n) (n + 1) refl refl room
 
-  pub IsRun-put_behind : (cs : List (Option X)) (from n : ℕ) (x : X) → from + n < length cs → IsRun cs from n → IsRun (slice_set cs (from + n) (Some x)) from (n + 1)
-  IsRun-put_behind cs from n x room r = IsRun-push cs from n x (from + n) (n + 1) refl refl room r
+  pub IsRun-put_after : (cs : List (Option X)) (from n : ℕ) (x : X) → from + n < length cs → IsRun cs from n → IsRun (slice_set cs (from + n) (Some x)) from (n + 1)
+  IsRun-put_after cs from n x room r = IsRun-push cs from n x (from + n) (n + 1) refl refl room r
 
   pub run-put_before : (cs : List (Option X)) (from n : ℕ) (x : X) → 0 < from → from ≤ length cs → run (slice_set cs (from - 1) (Some x)) (from - 1) (n + 1) ≡ x ∷ run cs from n
   run-put_before cs from n x some within = run-unshift cs from n x (from - 1) (n + 1) (omega arith) refl (omega arith)
@@ -58,20 +58,20 @@ module _ {X : Type 0} where
   pub IsRun-take_front : (cs : List (Option X)) (from n : ℕ) → 0 < n → IsRun cs from n → IsRun (slice_set cs from None) (from + 1) (n - 1)
   IsRun-take_front cs from n some r = IsRun-shift cs from (n - 1) (from + 1) n refl (omega arith) r
 
-  pub run-take_behind : (cs : List (Option X)) (from n : ℕ) (x : X) → 0 < n → IsRun cs from n → get_or cs (from + n - 1) None ≡ Some x → run (slice_set cs (from + n - 1) None) from (n - 1) ++ x ∷ [] ≡ run cs from n
-  run-take_behind cs from n x some r e = sym (run-pop cs from (n - 1) x (from + n - 1) n (omega arith) (omega arith) r e)
+  pub run-take_after : (cs : List (Option X)) (from n : ℕ) (x : X) → 0 < n → IsRun cs from n → get_or cs (from + n - 1) None ≡ Some x → run (slice_set cs (from + n - 1) None) from (n - 1) ++ x ∷ [] ≡ run cs from n
+  run-take_after cs from n x some r e = sym (run-pop cs from (n - 1) x (from + n - 1) n (omega arith) (omega arith) r e)
 
-  pub IsRun-take_behind : (cs : List (Option X)) (from n : ℕ) → 0 < n → IsRun cs from n → IsRun (slice_set cs (from + n - 1) None) from (n - 1)
-  IsRun-take_behind cs from n some r = IsRun-pop cs from (n - 1) (from + n - 1) n (omega arith) (omega arith) r
+  pub IsRun-take_after : (cs : List (Option X)) (from n : ℕ) → 0 < n → IsRun cs from n → IsRun (slice_set cs (from + n - 1) None) from (n - 1)
+  IsRun-take_after cs from n some r = IsRun-pop cs from (n - 1) (from + n - 1) n (omega arith) (omega arith) r
 
-  pub filled-behind : (cs : List (Option X)) (from n : ℕ) → 0 < n → IsRun cs from n → IsFilled cs (from + n - 1)
-  filled-behind cs from n some r = last-filled cs from (n - 1) (from + n - 1) n (omega arith) (omega arith) r
+  pub filled-after : (cs : List (Option X)) (from n : ℕ) → 0 < n → IsRun cs from n → IsFilled cs (from + n - 1)
+  filled-after cs from n some r = last-filled cs from (n - 1) (from + n - 1) n (omega arith) (omega arith) r
 
   -- a value read among them
   pub slice_get-run_from : (cs : List (Option X)) (from n i : ℕ) (x : X) → IsRun cs from n → i < n → get_or cs (from + i) None ≡ Some x → slice_get (run cs from n) i ≡ Some x
   slice_get-run_from cs from n i x r h e = slice_get_read (run cs from n) n i x (sym (length-run cs from n r)) h (run-at_from cs from n i x r h e)
 
-  pub ruleset at_both_ends = (nat_tests, run-put_behind, IsRun-put_behind, run-put_before, IsRun-put_before, run-take_front, IsRun-take_front, run-take_behind, IsRun-take_behind, first-filled, filled-behind, run_filled, run-set-above, IsRun-set-above, run-set-below, IsRun-set-below, length-set, length-run)
+  pub ruleset at_both_ends = (nat_tests, run-put_after, IsRun-put_after, run-put_before, IsRun-put_before, run-take_front, IsRun-take_front, run-take_after, IsRun-take_after, first-filled, filled-after, run_filled, run-set-above, IsRun-set-above, run-set-below, IsRun-set-below, length-set, length-run)
 
   -- the same of a run up to a place
   pub run-put_back : (cs : List (Option X)) (front back : ℕ) (x : X) → front ≤ back → back < length cs → run (slice_set cs back (Some x)) front (back + 1 - front) ≡ run cs front (back - front) ++ x ∷ []
@@ -88,12 +88,12 @@ module _ {X : Type 0} where
 
   pub ruleset between = (nat_tests, run-put_back, IsRun-put_back, run-put_front, IsRun-put_front, run-take_first, IsRun-take_first, run-take_back, IsRun-take_back, first-filled, filled-back, run-set-above, IsRun-set-above, run-set-below, IsRun-set-below, length-set, length-run)
 
-  -- a value of a run with others behind it, and of those
+  -- a value of a run with others after it, and of those
   pub slice_get-in_first : (cs : List (Option X)) (from n i : ℕ) (ys : List X) (x : X) → IsRun cs from n → i < n → get_or cs (from + i) None ≡ Some x → slice_get (run cs from n ++ ys) i ≡ Some x
   slice_get-in_first cs from n i ys x r h e = slice_get-front (run cs from n) ys i (omega (arith, h, length-run cs from n r)) ∙ slice_get-run_from cs from n i x r h e
 
   pub slice_get-in_second : (cs : List (Option X)) (from n i m : ℕ) (x : X) → IsRun cs from n → IsRun cs 0 m → n ≤ i → i - n < m → get_or cs (i - n) None ≡ Some x → slice_get (run cs from n ++ run cs 0 m) i ≡ Some x
   slice_get-in_second cs from n i m x r s h l e =
-      slice_get-behind (run cs from n) (run cs 0 m) i (omega (arith, h, length-run cs from n r)) ∙ ap (λ j. slice_get (run cs 0 m) (i - j)) (length-run cs from n r) ∙ slice_get-run cs m (i - n) x s l e
+      slice_get-after (run cs from n) (run cs 0 m) i (omega (arith, h, length-run cs from n r)) ∙ ap (λ j. slice_get (run cs 0 m) (i - j)) (length-run cs from n r) ∙ slice_get-run cs m (i - n) x s l e
 
   pub ruleset two_runs = (nat_tests, slice_get-in_first, slice_get-in_second, slice_get_past, run_filled, first_filled, length-run)

@@ -2,7 +2,7 @@
 -- make. Whoever builds on a block names a ruleset in an attribute, `#[tactic(auto, using(aa_raw::proofs::Calls::at_ends))]`:
 --     at_ends     put, take, place, place_mut at the first places or the last, and the tests of numbers beside them
 --     with_room     the constructors, the reserves and the shrinks
---     shown     slice, slice_mut, and what a loan wrote back
+--     shown     slice, slice_mut, and what was written through a `&mut`
 --     in_runs     move_one, move_run, move_down, transfer, drop_run, put_array, take_array, put_copies
 use Rattle.aa_raw.proofs.Common.{Block, IsFilled, IsRun, List, None, Option, Reserves, Some, [], ap, arith, drop, drop-drop, drop-set-lt, get_or, length, length-append, length-drop, length-map, length-replicate, length-set, length-take, length_refill, map, moved, nat_tests, places, refl, replicate, rules, run, same_lists, slice_get, slice_get_past, slice_get_read, slice_set, somes, subst, sym, take, take-append-le, take-take, take_all, with_run, zero-add, ℕ, ◌++◌, ◌+◌, ◌-◌, ◌<◌, ◌∙◌, ◌∷◌, ◌≡◌, ◌≤◌}
 use Rattle.aa_raw.proofs.Firsts.{run-at}
@@ -11,7 +11,7 @@ use Rattle.aa_raw.proofs.Places.{length-empty_places, length-moved, length-with_
 use Rattle.aa_raw.proofs.Runs.{IsRun-kept, IsRun-long, IsRun-moved, IsRun-nil, IsRun-part, IsRun-pop, IsRun-push, IsRun-same, IsRun-set-above, IsRun-set-below, IsRun-shift, IsRun-with, drop-with, first-filled, last-filled, length-run, run-drop, run-filled, run-moved, run-moved-below, run-pop, run-push, run-set-above, run-set-below, run-shift, run-split, run-take, run-with, run-with-above, run-with-below, run_same, somes-map}
 
 module _ {X : Type 0} where
-  -- a value put behind the first n
+  -- a value written after the first n
   pub run-put : (cs : List (Option X)) (n : ℕ) (x : X) → n < length cs → run (slice_set cs n (Some x)) 0 (n + 1) ≡ run cs 0 n ++ x ∷ []
   run-put cs n x room = run-push cs 0 n x n (n + 1) (omega arith) refl room
 
@@ -55,7 +55,7 @@ module _ {X : Type 0} where
   pub IsRun-first : (cs : List (Option X)) (i by : ℕ) → by ≤ length cs - i → IsRun cs i (length cs - i) → IsRun cs i by
   IsRun-first cs i by h r = IsRun-part cs i (length cs - i) i by (omega arith) (omega arith) r
 
-  -- those that a block keeps which made room
+  -- those that a block keeps which reserved capacity
   pub run-kept : (cs ds : List (Option X)) (n : ℕ) → take n ds ≡ take n cs → run ds 0 n ≡ run cs 0 n
   run-kept cs ds n e = run_same ds cs 0 n e
 
@@ -81,7 +81,7 @@ module _ {X : Type 0} where
   unfolding run
   run-shown cs from n = refl
 
-  -- values behind the first n, all at once
+  -- values after the first n, all at once
   pub run-put_all : (cs : List (Option X)) (n k : ℕ) (xs : List X) → n + k ≤ length cs → length xs ≡ k → run (with_run cs n k (map Some xs)) 0 (n + k) ≡ run cs 0 n ++ xs
   run-put_all cs n k xs fits long =
       let ds : List (Option X) = with_run cs n k (map Some xs) in
@@ -91,7 +91,7 @@ module _ {X : Type 0} where
   IsRun-put_all cs n k xs fits long r =
       IsRun-long (with_run cs n k (map Some xs)) 0 (n + k) (ap length (run-put_all cs n k xs fits long) ∙ length-append (run cs 0 n) xs ∙ omega (arith, length-run cs 0 n r, long)) (omega (arith, fits, length-with_run cs n k (map Some xs) fits (length-map xs (λ (x : X). Some x) ∙ long)))
 
-  -- and those that stand in another block
+  -- and those of another block
   pub run-transferred : (cs ds : List (Option X)) (n from k : ℕ) → n + k ≤ length cs → IsRun ds from k → run (with_run cs n k (take k (drop from ds))) 0 (n + k) ≡ run cs 0 n ++ run ds from k
   run-transferred cs ds n from k fits r = ap (λ ys. run (with_run cs n k ys) 0 (n + k)) (run-filled ds from k r) ∙ run-put_all cs n k (run ds from k) fits (length-run ds from k r)
 
@@ -104,7 +104,7 @@ module _ {X : Type 0} where
   pub IsRun-transferred_there : (cs ds : List (Option X)) (to from k : ℕ) → to + k ≤ length cs → IsRun ds from k → IsRun (with_run cs to k (take k (drop from ds))) to k
   IsRun-transferred_there cs ds to from k fits r = subst (λ ys. IsRun (with_run cs to k ys) to k) (sym (run-filled ds from k r)) (IsRun-with cs to k (run ds from k) fits (length-run ds from k r))
 
-  -- other places leave a run before them, or behind them
+  -- other places leave a run before them unchanged, and one after them
   pub IsRun-with-below : (cs : List (Option X)) (from n : ℕ) (ys : List (Option X)) (a k : ℕ) → from + n ≤ length cs → length ys ≡ n → a + k ≤ from → IsRun cs a k → IsRun (with_run cs from n ys) a k
   IsRun-with-below cs from n ys a k fits long h r = IsRun-same cs (with_run cs from n ys) a k (length-with_run cs from n ys fits long) (run-with-below cs from n ys a k fits h) r
 
@@ -119,7 +119,7 @@ module _ {X : Type 0} where
   IsRun-dropped cs m n h r =
       IsRun-with-below cs m (n - m) (replicate (n - m) None) 0 m (omega (arith, r.0)) (length-replicate (n - m) None) (omega arith) (IsRun-part cs 0 n 0 m (omega arith) (omega arith) r)
 
-  -- a move leaves a run that lies before both runs, behind both, or between them
+  -- a move leaves a run unchanged that is before both runs, after both, or between them
   pub run-moved-above : (cs : List (Option X)) (from to n a k : ℕ) → from + n ≤ length cs → to + n ≤ length cs → from + n ≤ a → to + n ≤ a → run (moved cs from to n) a k ≡ run cs a k
   unfolding moved with_run
   run-moved-above cs from to n a k f t b c = run_same (moved cs from to n) cs a k (same_lists _ _ (search (rules, places)) (λ j d h. grind (arith, places)))
@@ -130,29 +130,29 @@ module _ {X : Type 0} where
   pub IsRun-moved-above : (cs : List (Option X)) (from to n a k : ℕ) → from + n ≤ length cs → to + n ≤ length cs → from + n ≤ a → to + n ≤ a → IsRun cs a k → IsRun (moved cs from to n) a k
   IsRun-moved-above cs from to n a k f t b c r = IsRun-same cs (moved cs from to n) a k (length-moved cs from to n f t) (run-moved-above cs from to n a k f t b c) r
 
-  -- the last `by` values of the first k moved to a place at or above them, and the first `by` behind k moved down to them
-  pub run-lowered : (cs : List (Option X)) (k from by : ℕ) → k ≤ from → IsRun cs 0 k → IsRun cs from by → run (moved cs from k by) 0 (k + by) ≡ run cs 0 k ++ run cs from by
-  run-lowered cs k from by h r s =
+  -- the last `by` values of the first k moved to a place at or above them, and the first `by` after k moved down to them
+  pub run-shifted_down : (cs : List (Option X)) (k from by : ℕ) → k ≤ from → IsRun cs 0 k → IsRun cs from by → run (moved cs from k by) 0 (k + by) ≡ run cs 0 k ++ run cs from by
+  run-shifted_down cs k from by h r s =
       let ds : List (Option X) = moved cs from k by in
       run-split ds 0 k k by (k + by) (omega arith) refl ∙ ap (λ ys. ys ++ run ds k by) (run-moved-below cs from k by 0 k s.0 (omega (arith, s.0)) (omega arith) (omega arith)) ∙ ap (λ ys. run cs 0 k ++ ys) (run-moved cs from k by s (omega (arith, s.0)))
 
-  pub IsRun-lowered : (cs : List (Option X)) (k from by : ℕ) → k ≤ from → IsRun cs 0 k → IsRun cs from by → IsRun (moved cs from k by) 0 (k + by)
-  IsRun-lowered cs k from by h r s =
-      IsRun-long (moved cs from k by) 0 (k + by) (ap length (run-lowered cs k from by h r s) ∙ length-append (run cs 0 k) (run cs from by) ∙ omega (arith, length-run cs 0 k r, length-run cs from by s)) (omega (arith, s.0, length-moved cs from k by s.0 (omega (arith, s.0))))
+  pub IsRun-shifted_down : (cs : List (Option X)) (k from by : ℕ) → k ≤ from → IsRun cs 0 k → IsRun cs from by → IsRun (moved cs from k by) 0 (k + by)
+  IsRun-shifted_down cs k from by h r s =
+      IsRun-long (moved cs from k by) 0 (k + by) (ap length (run-shifted_down cs k from by h r s) ∙ length-append (run cs 0 k) (run cs from by) ∙ omega (arith, length-run cs 0 k r, length-run cs from by s)) (omega (arith, s.0, length-moved cs from k by s.0 (omega (arith, s.0))))
 
-  pub run-raised-below : (cs : List (Option X)) (k to by : ℕ) → by ≤ k → k - by ≤ to → to + by ≤ length cs → IsRun cs 0 k → run (moved cs (k - by) to by) 0 (k - by) ≡ take (k - by) (run cs 0 k)
-  run-raised-below cs k to by h l t r = run-moved-below cs (k - by) to by 0 (k - by) (omega (arith, r.0)) t (omega arith) (omega arith) ∙ sym (run-take cs 0 (k - by) k (omega arith) r)
+  pub run-shifted_up-below : (cs : List (Option X)) (k to by : ℕ) → by ≤ k → k - by ≤ to → to + by ≤ length cs → IsRun cs 0 k → run (moved cs (k - by) to by) 0 (k - by) ≡ take (k - by) (run cs 0 k)
+  run-shifted_up-below cs k to by h l t r = run-moved-below cs (k - by) to by 0 (k - by) (omega (arith, r.0)) t (omega arith) (omega arith) ∙ sym (run-take cs 0 (k - by) k (omega arith) r)
 
-  pub run-raised : (cs : List (Option X)) (k to by : ℕ) → by ≤ k → to + by ≤ length cs → IsRun cs 0 k → run (moved cs (k - by) to by) to by ≡ drop (k - by) (run cs 0 k)
-  run-raised cs k to by h t r = run-moved cs (k - by) to by (IsRun-last cs k by h r) t ∙ sym (run-drop cs 0 (k - by) (k - by) k by (omega arith) (omega arith) r)
+  pub run-shifted_up : (cs : List (Option X)) (k to by : ℕ) → by ≤ k → to + by ≤ length cs → IsRun cs 0 k → run (moved cs (k - by) to by) to by ≡ drop (k - by) (run cs 0 k)
+  run-shifted_up cs k to by h t r = run-moved cs (k - by) to by (IsRun-last cs k by h r) t ∙ sym (run-drop cs 0 (k - by) (k - by) k by (omega arith) (omega arith) r)
 
-  pub IsRun-raised-below : (cs : List (Option X)) (k to by : ℕ) → by ≤ k → k - by ≤ to → to + by ≤ length cs → IsRun cs 0 k → IsRun (moved cs (k - by) to by) 0 (k - by)
-  IsRun-raised-below cs k to by h l t r = IsRun-moved-below cs (k - by) to by 0 (k - by) (omega (arith, r.0)) t (omega arith) (omega arith) (IsRun-part cs 0 k 0 (k - by) (omega arith) (omega arith) r)
+  pub IsRun-shifted_up-below : (cs : List (Option X)) (k to by : ℕ) → by ≤ k → k - by ≤ to → to + by ≤ length cs → IsRun cs 0 k → IsRun (moved cs (k - by) to by) 0 (k - by)
+  IsRun-shifted_up-below cs k to by h l t r = IsRun-moved-below cs (k - by) to by 0 (k - by) (omega (arith, r.0)) t (omega arith) (omega arith) (IsRun-part cs 0 k 0 (k - by) (omega arith) (omega arith) r)
 
-  pub IsRun-raised : (cs : List (Option X)) (k to by : ℕ) → by ≤ k → to + by ≤ length cs → IsRun cs 0 k → IsRun (moved cs (k - by) to by) to by
-  IsRun-raised cs k to by h t r = IsRun-moved cs (k - by) to by (IsRun-last cs k by h r) t
+  pub IsRun-shifted_up : (cs : List (Option X)) (k to by : ℕ) → by ≤ k → to + by ≤ length cs → IsRun cs 0 k → IsRun (moved cs (k - by) to by) to by
+  IsRun-shifted_up cs k to by h t r = IsRun-moved cs (k - by) to by (IsRun-last cs k by h r) t
 
-  -- what stands behind the first places, where calls put and take at them
+  -- what is after the first places, when calls write and take at them
   pub drop-put_next : (cs : List (Option X)) (n : ℕ) (c : Option X) → drop (n + 1) (slice_set cs n c) ≡ drop 1 (drop n cs)
   drop-put_next cs n c = drop-set-lt (n + 1) cs n c (omega arith) ∙ sym (drop-drop 1 n cs)
 
@@ -163,17 +163,17 @@ module _ {X : Type 0} where
   pub left_next : (qs : List (Option X)) (from n k m : ℕ) → IsRun qs from n → k + m ≤ n → IsRun (with_run qs from k (replicate k None)) (from + k) m
   left_next qs from n k m r h = IsRun-with-above qs from k (replicate k None) (from + k) m (omega (arith, r.0)) (length-replicate k None) (omega arith) (IsRun-part qs from n (from + k) m (omega arith) (omega arith) r)
 
-  pub lowered_next : (cs : List (Option X)) (from to k a m n : ℕ) → IsRun cs from n → to ≤ from → from + k ≤ a → a + m ≤ from + n → IsRun (moved cs from to k) a m
-  lowered_next cs from to k a m n r low h l = IsRun-moved-above cs from to k a m (omega (arith, r.0)) (omega (arith, r.0)) h (omega arith) (IsRun-part cs from n a m (omega arith) l r)
+  pub shifted_down_next : (cs : List (Option X)) (from to k a m n : ℕ) → IsRun cs from n → to ≤ from → from + k ≤ a → a + m ≤ from + n → IsRun (moved cs from to k) a m
+  shifted_down_next cs from to k a m n r low h l = IsRun-moved-above cs from to k a m (omega (arith, r.0)) (omega (arith, r.0)) h (omega arith) (IsRun-part cs from n a m (omega arith) l r)
 
-  pub lowered_first : (cs : List (Option X)) (i n k : ℕ) → IsRun cs i n → k ≤ n → IsRun cs i k
-  lowered_first cs i n k r h = IsRun-part cs i n i k (omega arith) (omega arith) r
+  pub shifted_down_first : (cs : List (Option X)) (i n k : ℕ) → IsRun cs i n → k ≤ n → IsRun cs i k
+  shifted_down_first cs i n k r h = IsRun-part cs i n i k (omega arith) (omega arith) r
 
-  pub raised_next : (cs : List (Option X)) (by n left from m : ℕ) → IsRun cs 0 n → by + n ≤ length cs → left ≤ n → from + m ≤ left → IsRun (moved cs left (by + left) (n - left)) from m
-  raised_next cs by n left from m r room h l = IsRun-moved-below cs left (by + left) (n - left) from m (omega (arith, room)) (omega arith) l (omega arith) (IsRun-part cs 0 n from m (omega arith) (omega arith) r)
+  pub shifted_up_next : (cs : List (Option X)) (by n left from m : ℕ) → IsRun cs 0 n → by + n ≤ length cs → left ≤ n → from + m ≤ left → IsRun (moved cs left (by + left) (n - left)) from m
+  shifted_up_next cs by n left from m r room h l = IsRun-moved-below cs left (by + left) (n - left) from m (omega (arith, room)) (omega arith) l (omega arith) (IsRun-part cs 0 n from m (omega arith) (omega arith) r)
 
-  pub raised_first : (cs : List (Option X)) (by n left : ℕ) → IsRun cs 0 n → by + n ≤ length cs → left ≤ n → IsRun (moved cs left (by + left) (n - left)) 0 left
-  raised_first cs by n left r room h = raised_next cs by n left 0 left r room h (omega arith)
+  pub shifted_up_first : (cs : List (Option X)) (by n left : ℕ) → IsRun cs 0 n → by + n ≤ length cs → left ≤ n → IsRun (moved cs left (by + left) (n - left)) 0 left
+  shifted_up_first cs by n left r room h = shifted_up_next cs by n left 0 left r room h (omega arith)
 
   -- and what they do
   pub left_more : (qs : List (Option X)) (from k m : ℕ) → from + (k + m) ≤ length qs → with_run (with_run qs from k (replicate k None)) (from + k) m (replicate m None) ≡ with_run qs from (k + m) (replicate (k + m) None)
@@ -186,21 +186,21 @@ module _ {X : Type 0} where
   put_more cs qs to from k m room fits = same_lists _ _ (search (rules, places)) (λ j d h. grind (arith, places))
 
   -- first
-  pub raised_none : (cs : List (Option X)) (by n : ℕ) → by + n ≤ length cs → moved cs n (by + n) (n - n) ≡ cs
-  raised_none cs by n room = let none : n - n ≡ 0 = omega arith in ap (moved cs n (by + n)) none ∙ moved_none cs n (by + n) (omega arith) (omega arith)
+  pub shifted_up_none : (cs : List (Option X)) (by n : ℕ) → by + n ≤ length cs → moved cs n (by + n) (n - n) ≡ cs
+  shifted_up_none cs by n room = let none : n - n ≡ 0 = omega arith in ap (moved cs n (by + n)) none ∙ moved_none cs n (by + n) (omega arith) (omega arith)
 
-  pub ruleset lowered_in_arrays = (lengths, length-drop, lowered_next, lowered_first, moved_on_down, moved_none)
+  pub ruleset shifted_down_in_arrays = (lengths, length-drop, shifted_down_next, shifted_down_first, moved_on_down, moved_none)
 
-  pub ruleset raised_in_arrays = (lengths, raised_next, raised_first, moved_on_up, raised_none)
+  pub ruleset shifted_up_in_arrays = (lengths, shifted_up_next, shifted_up_first, moved_on_up, shifted_up_none)
 
   pub ruleset put_in_arrays = (lengths, with_none, left_next, left_more, put_more)
 
 module _ {X A : Type 0} where
-  pub run-reserved : (size : ℕ) (old : Block X A) (n k wanted : ℕ) (new : Block X A) → Reserves size old n k wanted new → run new.places 0 n ≡ run old.places 0 n
-  run-reserved size old n k wanted new made = run-kept old.places new.places n made.kept
+  pub run-reserved : (size : ℕ) (old : Block X A) (n k requested : ℕ) (new : Block X A) → Reserves size old n k requested new → run new.places 0 n ≡ run old.places 0 n
+  run-reserved size old n k requested new made = run-kept old.places new.places n made.kept
 
-  pub IsRun-reserved : (size : ℕ) (old : Block X A) (n k wanted : ℕ) (new : Block X A) → Reserves size old n k wanted new → IsRun old.places 0 n → IsRun new.places 0 n
-  IsRun-reserved size old n k wanted new made r = let m : n + k ≤ length new.places = made.room in IsRun-kept old.places new.places n made.kept (omega arith) r
+  pub IsRun-reserved : (size : ℕ) (old : Block X A) (n k requested : ℕ) (new : Block X A) → Reserves size old n k requested new → IsRun old.places 0 n → IsRun new.places 0 n
+  IsRun-reserved size old n k requested new made r = let m : n + k ≤ length new.places = made.room in IsRun-kept old.places new.places n made.kept (omega arith) r
 
 pub ruleset at_ends = (nat_tests, run-put, IsRun-put, run-take_last, IsRun-take_last, run-take_first, IsRun-take_first, run-take_back, IsRun-take_back, run-set-below, IsRun-set-below, run-set-above, IsRun-set-above, slice_get-run, slice_get_past, length-run, length-set, length-replicate, length-empty_places, run-of_none, IsRun-last, IsRun-first, first-filled, filled-back, drop-put_next)
 
@@ -208,4 +208,4 @@ pub ruleset with_room = (nat_tests, run-reserved, IsRun-reserved, run-kept, run-
 
 pub ruleset shown = (run-shown, somes-map, length-run, length_refill, length-map, run-with, IsRun-with, drop-with-first, length-with_run)
 
-pub ruleset in_runs = (nat_tests, lengths, length-run, length_refill, take_all, run-take, run-dropped, IsRun-dropped, with_none, moved_none, IsRun-last, IsRun-rest, IsRun-first, run-put_all, IsRun-put_all, run-transferred, IsRun-transferred, run-transferred_there, IsRun-transferred_there, run-with-below, IsRun-with-below, run-with-above, IsRun-with-above, run-moved, IsRun-moved, run-moved-below, IsRun-moved-below, run-moved-above, IsRun-moved-above, run-lowered, IsRun-lowered, run-raised, run-raised-below, IsRun-raised, IsRun-raised-below, run-of_none)
+pub ruleset in_runs = (nat_tests, lengths, length-run, length_refill, take_all, run-take, run-dropped, IsRun-dropped, with_none, moved_none, IsRun-last, IsRun-rest, IsRun-first, run-put_all, IsRun-put_all, run-transferred, IsRun-transferred, run-transferred_there, IsRun-transferred_there, run-with-below, IsRun-with-below, run-with-above, IsRun-with-above, run-moved, IsRun-moved, run-moved-below, IsRun-moved-below, run-moved-above, IsRun-moved-above, run-shifted_down, IsRun-shifted_down, run-shifted_up, run-shifted_up-below, IsRun-shifted_up, IsRun-shifted_up-below, run-of_none)

@@ -1,13 +1,13 @@
 -- The names from elsewhere that proofs here cite, passed on.
-pub use Rattle.aa_raw.specs.Block.{Block, Reserves, fresh, shrunk_to, with_places, wrote}
+pub use Rattle.aa_raw.specs.Block.{Block, Reserves, fresh, shrunk_to, with_places, with_written}
 pub use Rattle.aa_raw.specs.Clones.{HoldsClones}
 pub use Rattle.aa_raw.specs.RawVecInner.{view_of}
-pub use Rattle.aa_raw.specs.Growth.{sized, usize_max}
-pub use Rattle.aa_raw.specs.Ownership.{each, few_bytes, roomy, row_lends, row_owns, spot, spot_seen, token_for}
+pub use Rattle.aa_raw.specs.Growth.{new_capacity, usize_max}
+pub use Rattle.aa_raw.specs.Ownership.{each, fits_isize, capacity_bounds, row_shares, row_owns, place_owns, place_shares, token_for}
 pub use Rattle.aa_raw.specs.RowLends.{holding}
-unfoldable pub use Rattle.aa_raw.specs.Places.{IsCapacity, IsFilled, IsRun, empty_places, endless_places, moved, run, somes, with_run}
+unfoldable pub use Rattle.aa_raw.specs.Places.{IsCapacity, IsFilled, IsRun, empty_places, zst_places, moved, run, somes, with_run}
 pub use Rattle.aa_raw.specs.TwoRuns.{AreApart, AreJoined, AreParted, IsFull, ReservesRuns, both, grown_with}
-pub use Rattle.aa_raw.specs.contracts.tally.Tally.{the_row as tally_row}
+pub use Rattle.aa_raw.specs.contracts.counter.Counter.{the_row as tally_row}
 pub use Rattle.core.proofs.alloc.Calls.{Al, Answer-typed, Answered, Gives, Gives-Gives, Gives-goes, Goes-blank, Takes, Takes-gives, Takes-goes, answers, at_gives, at_takes, token}
 pub use Rattle.core.proofs.mem.Facts.{says_three, says_two}
 pub use Rattle.core.proofs.mem.Param.{El as MemEl, lawful, one}

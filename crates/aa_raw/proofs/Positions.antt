@@ -34,7 +34,7 @@ module _ {T : Type 0} where
       pub IsRun-inserted : IsRun (inserted i x) 0 (n + 1)
       IsRun-inserted = IsRun-long (inserted i x) 0 (n + 1) (grind (arith, run-inserted, length-append, length-take, length-drop, length-run)) (omega (arith, length-inserted))
 
-    -- place i is emptied, and those behind it are moved down by one
+    -- place i is emptied, and those after it are moved down by one
     abbrev pub removed : (i : ℕ) → List (Option T)
     removed i = moved (slice_set cs i None) (i + 1) i (n - 1 - i)
 
@@ -42,9 +42,9 @@ module _ {T : Type 0} where
       taken : length (slice_set cs i None) ≡ length cs
       taken = length-set cs i None
 
-      -- those behind it are still there
-      pub IsRun-behind : IsRun (slice_set cs i None) (i + 1) (n - 1 - i)
-      IsRun-behind = IsRun-set-below cs (i + 1) (n - 1 - i) i None (omega arith) (IsRun-part cs 0 n (i + 1) (n - 1 - i) (omega arith) (omega arith) front)
+      -- those after it are still there
+      pub IsRun-after : IsRun (slice_set cs i None) (i + 1) (n - 1 - i)
+      IsRun-after = IsRun-set-below cs (i + 1) (n - 1 - i) i None (omega arith) (IsRun-part cs 0 n (i + 1) (n - 1 - i) (omega arith) (omega arith) front)
 
       pub length-removed : length (removed i) ≡ length cs
       length-removed = length-moved (slice_set cs i None) (i + 1) i (n - 1 - i) (omega (arith, taken, front.0)) (omega (arith, taken, front.0)) ∙ taken
@@ -56,7 +56,7 @@ module _ {T : Type 0} where
           let before : run (removed i) 0 i ≡ take i (run cs 0 n) =
           run-moved-below ds (i + 1) i k 0 i (omega (arith, taken, front.0)) (omega (arith, taken, front.0)) (omega arith) (omega arith) ∙ run-set-above cs 0 i i None (omega (arith, front.0)) (omega arith) ∙ sym (run-take cs 0 i n (omega arith) front) in
           let behind : run (removed i) i k ≡ drop (suc i) (run cs 0 n) =
-          run-moved ds (i + 1) i k IsRun-behind (omega (arith, taken, front.0)) ∙ run-set-below cs (i + 1) k i None (omega arith) ∙ sym (run-drop cs 0 (i + 1) (suc i) n k (omega arith) (omega arith) front) in
+          run-moved ds (i + 1) i k IsRun-after (omega (arith, taken, front.0)) ∙ run-set-below cs (i + 1) k i None (omega arith) ∙ sym (run-drop cs 0 (i + 1) (suc i) n k (omega arith) (omega arith) front) in
           run-split (removed i) 0 i i k (n - 1) (omega arith) (omega arith) ∙ (λ t. before t ++ behind t)
 
       pub IsRun-removed : IsRun (removed i) 0 (n - 1)
@@ -104,16 +104,16 @@ module _ {T : Type 0} where
           let d = (value_of (get_or cs i None) (first_filled cs n i front within)).0 in
           IsRun-long swapped 0 (n - 1) (grind (arith, run-swapped d h, length-take, length-set, length-run)) (omega (arith, length-swapped, front.0))
 
-  -- the first of the first n taken, and those behind it moved down by one
+  -- the first of the first n taken, and those after it moved down by one
   module _ (cs : List (Option T)) (n : ℕ) (some : 0 < n) (front : IsRun cs 0 n) where
-    pub IsRun-behind_first : IsRun (slice_set cs 0 None) 1 (n - 1)
-    IsRun-behind_first = IsRun-shift cs 0 (n - 1) 1 n refl (omega arith) front
+    pub IsRun-after_first : IsRun (slice_set cs 0 None) 1 (n - 1)
+    IsRun-after_first = IsRun-shift cs 0 (n - 1) 1 n refl (omega arith) front
 
     pub IsRun-removed_first : IsRun (moved (slice_set cs 0 None) 1 0 (n - 1)) 0 (n - 1)
-    IsRun-removed_first = IsRun-moved (slice_set cs 0 None) 1 0 (n - 1) IsRun-behind_first (omega (arith, length-set cs 0 None, front.0))
+    IsRun-removed_first = IsRun-moved (slice_set cs 0 None) 1 0 (n - 1) IsRun-after_first (omega (arith, length-set cs 0 None, front.0))
 
     pub run-removed_first : (x : T) → get_or cs 0 None ≡ Some x → x ∷ run (moved (slice_set cs 0 None) 1 0 (n - 1)) 0 (n - 1) ≡ run cs 0 n
     run-removed_first x e =
-        ap (λ ys. x ∷ ys) (run-moved (slice_set cs 0 None) 1 0 (n - 1) IsRun-behind_first (omega (arith, length-set cs 0 None, front.0))) ∙ sym (run-shift cs 0 (n - 1) x 1 n refl (omega arith) front e)
+        ap (λ ys. x ∷ ys) (run-moved (slice_set cs 0 None) 1 0 (n - 1) IsRun-after_first (omega (arith, length-set cs 0 None, front.0))) ∙ sym (run-shift cs 0 (n - 1) x 1 n refl (omega arith) front e)
 
-pub ruleset at_positions = (nat_tests, lengths, length-run, length-set, run-of_none, IsRun-rest, run-reserved, IsRun-reserved, first_filled, slice_get-run, length-inserted, run-inserted, IsRun-inserted, IsRun-behind, length-removed, run-removed, IsRun-removed, IsRun-behind_first, run-removed_first, IsRun-removed_first, run-last_removed, IsRun-last_removed, last-filled, length-swapped, run-swapped, IsRun-swapped, IsRun-set, run-set, run-at)
+pub ruleset at_positions = (nat_tests, lengths, length-run, length-set, run-of_none, IsRun-rest, run-reserved, IsRun-reserved, first_filled, slice_get-run, length-inserted, run-inserted, IsRun-inserted, IsRun-after, length-removed, run-removed, IsRun-removed, IsRun-after_first, run-removed_first, IsRun-removed_first, run-last_removed, IsRun-last_removed, last-filled, length-swapped, run-swapped, IsRun-swapped, IsRun-set, run-set, run-at)

@@ -1,12 +1,12 @@
 -- What a reserve leaves, and how many places there are after the calls of a block.
 use Rattle.aa_raw.proofs.Common.{Block, Reserves, length, length_refill, nat_tests, rules, usize_max, ℕ, ◌+◌, ◌-◌, ◌≤◌}
-use Rattle.aa_raw.proofs.Places.{endless-empty, lengths, sized-empty, with_none}
+use Rattle.aa_raw.proofs.Places.{endless-empty, lengths, new_capacity-empty, with_none}
 
-module _ {X A : Type 0} (size : ℕ) (old : Block X A) (n k wanted : ℕ) where
-  -- where they fit, the block stays
-  pub Reserves-stays : n + k ≤ length old.places → length old.places ≤ usize_max → Reserves size old n k wanted old
-  Reserves-stays fits within = search (rules, nat_tests)
+module _ {X A : Type 0} (size : ℕ) (old : Block X A) (n k requested : ℕ) where
+  -- if they fit, the block is unchanged
+  pub Reserves-unchanged : n + k ≤ length old.places → length old.places ≤ usize_max → Reserves size old n k requested old
+  Reserves-unchanged fits within = search (rules, nat_tests)
 
-pub ruleset made_empty = (endless-empty, sized-empty, lengths)
+pub ruleset made_empty = (endless-empty, new_capacity-empty, lengths)
 
-pub ruleset after_calls = (lengths, with_none, length_refill, Reserves-stays)
+pub ruleset after_calls = (lengths, with_none, length_refill, Reserves-unchanged)

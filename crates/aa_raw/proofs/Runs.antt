@@ -102,7 +102,7 @@ module _ {X : Type 0} where
   pub IsRun-set-below : (cs : List (Option X)) (from n i : ℕ) (c : Option X) → i < from → IsRun cs from n → IsRun (slice_set cs i c) from n
   IsRun-set-below cs from n i c h r = IsRun-same cs (slice_set cs i c) from n (length-set cs i c) (run-set-below cs from n i c h) r
 
-  -- a value put behind a run
+  -- a value written after a run
   pub run-push : (cs : List (Option X)) (from n : ℕ) (x : X) (i k : ℕ) → from + n ≡ i → n + 1 ≡ k → i < length cs → run (slice_set cs i (Some x)) from k ≡ run cs from n ++ x ∷ []
   run-push cs from n x i k e f l =
       run-split (slice_set cs i (Some x)) from i n 1 k e f ∙ ap (λ ys. ys ++ run (slice_set cs i (Some x)) i 1) (run-set-above cs from n i (Some x) l (omega arith)) ∙ ap (λ ys. run cs from n ++ ys) (run-set-same cs i x l)
@@ -174,7 +174,7 @@ module _ {X : Type 0} where
   run-drop cs from a m n k e f r =
       ap (drop m) (run-split cs from a m k n e f) ∙ drop_at (run cs from m) (run cs a k) m (length-run cs from m (IsRun-part cs from n from m (omega arith) (omega arith) r))
 
-  -- other places leave a run that lies before them, or behind them
+  -- other places leave a run before them unchanged, and one after them
   pub run-with-below : (cs : List (Option X)) (from n : ℕ) (ys : List (Option X)) (a k : ℕ) → from + n ≤ length cs → a + k ≤ from → run (with_run cs from n ys) a k ≡ run cs a k
   unfolding with_run
   run-with-below cs from n ys a k h l = run_same (with_run cs from n ys) cs a k (same_lists _ _ (grind (arith, places)) (λ j d t. grind (arith, places)))

@@ -1,4 +1,4 @@
--- What growth that keeps two runs leaves.
+-- The result of growth that keeps two runs.
 use Rattle.aa_raw.proofs.Common.{AreApart, AreJoined, AreParted, Block, IsFull, IsRun, List, None, Option, ReservesRuns, Some, ap, arith, both, drop, grown_with, inl, inr, length, length-replicate, length_refill, map, nat_tests, refl, replicate, rules, run, subst, sym, take, usize_max, with_run, ℕ, ◌++◌, ◌+◌, ◌-◌, ◌<◌, ◌∙◌, ◌≡◌, ◌≤◌}
 use Rattle.aa_raw.proofs.Calls.{IsRun-transferred_there, IsRun-with-below, run-transferred_there}
 use Rattle.aa_raw.proofs.Places.{length-with_run, lengths}
@@ -7,11 +7,11 @@ use Rattle.aa_raw.proofs.Runs.{IsRun-joined, IsRun-same, cut-long, run-filled, r
 pub AreApart-before : (a m b n : ℕ) → a + m ≤ b → AreApart (a, m) (b, n)
 AreApart-before a m b n h = inl h
 
-pub AreApart-behind : (a m b n : ℕ) → b + n ≤ a → AreApart (a, m) (b, n)
-AreApart-behind a m b n h = inr h
+pub AreApart-after : (a m b n : ℕ) → b + n ≤ a → AreApart (a, m) (b, n)
+AreApart-after a m b n h = inr h
 
--- the first run is the one before the second in the block, or behind it
-pub ruleset apart = (AreApart-before, AreApart-behind)
+-- the first run is before the second in the block, or after it
+pub ruleset apart = (AreApart-before, AreApart-after)
 
 module _ {X : Type 0} (cs : List (Option X)) (first second : ℕ × ℕ) (r : IsRun cs first.0 first.1) (s : IsRun cs second.0 second.1) where
   module _ (apart : AreApart first second) where
@@ -21,7 +21,7 @@ module _ {X : Type 0} (cs : List (Option X)) (first second : ℕ × ℕ) (r : Is
     abbrev none : List (Option X)
     none = replicate first.1 None
 
-    -- the places once the values of the first run are gone: those of the second are there
+    -- the places without the values of the first run: those of the second are there
     abbrev left : List (Option X)
     left = with_run cs first.0 first.1 none
 
@@ -69,35 +69,35 @@ module _ {X : Type 0} (cs : List (Option X)) (first second : ℕ × ℕ) (r : Is
           run-transferred_there one cs to second.0 second.1 room s,
         )
 
-module _ {X A : Type 0} (size : ℕ) (old : Block X A) (first second : ℕ × ℕ) (k wanted to : ℕ) where
-  -- where they fit, the block stays
-  pub ReservesRuns-stays : both first second + k ≤ length old.places → length old.places ≤ usize_max → ReservesRuns size old first second k wanted to old
-  ReservesRuns-stays fits within = search (rules, nat_tests)
+module _ {X A : Type 0} (size : ℕ) (old : Block X A) (first second : ℕ × ℕ) (k requested to : ℕ) where
+  -- if they fit, the block is unchanged
+  pub ReservesRuns-unchanged : both first second + k ≤ length old.places → length old.places ≤ usize_max → ReservesRuns size old first second k requested to old
+  ReservesRuns-unchanged fits within = search (rules, nat_tests)
 
   -- where they don't, it has grown
-  pub ReservesRuns-grows : IsFull old first second k → IsRun old.places first.0 first.1 → IsRun old.places second.0 second.1 → first.1 ≤ to → to + second.1 ≤ wanted
-      → both first second + k ≤ wanted → wanted ≤ usize_max → 0 < size → ReservesRuns size old first second k wanted to (grown_with old first second to wanted)
+  pub ReservesRuns-grows : IsFull old first second k → IsRun old.places first.0 first.1 → IsRun old.places second.0 second.1 → first.1 ≤ to → to + second.1 ≤ requested
+      → both first second + k ≤ requested → requested ≤ usize_max → 0 < size → ReservesRuns size old first second k requested to (grown_with old first second to requested)
   ReservesRuns-grows full r s low high enough few has_size =
-      let long = length-two old.places first second r s wanted to low high in grind (arith, nat_tests, long)
+      let long = length-two old.places first second r s requested to low high in grind (arith, nat_tests, long)
 
-module _ {X A : Type 0} (size : ℕ) (old : Block X A) (first second : ℕ × ℕ) (k wanted : ℕ) (new : Block X A) (full : IsFull old first second k) (r : IsRun old.places first.0 first.1) (s : IsRun old.places second.0 second.1) where
-  enough : (to : ℕ) → ReservesRuns size old first second k wanted to new → both first second ≤ wanted
+module _ {X A : Type 0} (size : ℕ) (old : Block X A) (first second : ℕ × ℕ) (k requested : ℕ) (new : Block X A) (full : IsFull old first second k) (r : IsRun old.places first.0 first.1) (s : IsRun old.places second.0 second.1) where
+  enough : (to : ℕ) → ReservesRuns size old first second k requested to new → both first second ≤ requested
   enough to made = let room = made.room in let capacity = made.capacity in grind (arith, nat_tests)
 
   -- the values of both, the second from `to` on
-  kept : (to : ℕ) → ReservesRuns size old first second k wanted to new → first.1 ≤ to → to + second.1 ≤ wanted
-      → IsRun new.places 0 first.1 × (run new.places 0 first.1 ≡ run old.places first.0 first.1) × IsRun new.places to second.1 × (run new.places to second.1 ≡ run old.places second.0 second.1) × (length new.places ≡ wanted)
-  kept to made low high = let p = two-kept old.places first second r s wanted to low high in rw ((made.grows full).1) (p.0, p.1, p.2, p.3, length-two old.places first second r s wanted to low high)
+  kept : (to : ℕ) → ReservesRuns size old first second k requested to new → first.1 ≤ to → to + second.1 ≤ requested
+      → IsRun new.places 0 first.1 × (run new.places 0 first.1 ≡ run old.places first.0 first.1) × IsRun new.places to second.1 × (run new.places to second.1 ≡ run old.places second.0 second.1) × (length new.places ≡ requested)
+  kept to made low high = let p = two-kept old.places first second r s requested to low high in rw ((made.grows full).1) (p.0, p.1, p.2, p.3, length-two old.places first second r s requested to low high)
 
   -- in line
-  pub AreJoined-made : ReservesRuns size old first second k wanted first.1 new → AreJoined old new first second
+  pub AreJoined-made : ReservesRuns size old first second k requested first.1 new → AreJoined old new first second
   AreJoined-made made = let m = first.1 in let n = second.1 in let p = kept m made (omega arith) (enough m made) in
       record { there = IsRun-joined _ 0 m m n (m + n) (omega arith) refl p.0 p.2; same = run-split _ 0 m m n (m + n) (omega arith) refl ∙ (λ i. p.1 i ++ p.3 i) }
 
   -- at both ends
-  pub AreParted-made : ReservesRuns size old first second k wanted (wanted - second.1) new → AreParted old new first second
+  pub AreParted-made : ReservesRuns size old first second k requested (requested - second.1) new → AreParted old new first second
   AreParted-made made =
-      let n = second.1 in let all : both first second ≤ wanted = enough (wanted - n) made in let p = kept (wanted - n) made (omega arith) (omega arith) in let same : wanted - n ≡ length new.places - n = omega (arith, p.4) in
-      record { before = p.0; front = p.1; behind = subst (λ i. IsRun new.places i n) same p.2; back = ap (λ i. run new.places i n) (sym same) ∙ p.3 }
+      let n = second.1 in let all : both first second ≤ requested = enough (requested - n) made in let p = kept (requested - n) made (omega arith) (omega arith) in let same : requested - n ≡ length new.places - n = omega (arith, p.4) in
+      record { before = p.0; front = p.1; after = subst (λ i. IsRun new.places i n) same p.2; back = ap (λ i. run new.places i n) (sym same) ∙ p.3 }
 
-pub ruleset kept_runs = (lengths, nat_tests, length_refill, both-fit, length-left, IsRun-left, cut-left, ReservesRuns-stays, ReservesRuns-grows, AreJoined-made, AreParted-made)
+pub ruleset kept_runs = (lengths, nat_tests, length_refill, both-fit, length-left, IsRun-left, cut-left, ReservesRuns-unchanged, ReservesRuns-grows, AreJoined-made, AreParted-made)

@@ -1,17 +1,17 @@
--- Closures that are lent two values of a block.
+-- Closures that are called with two values of a block.
 use denote.Ref.{MutBor}
 use denote.Param.Members.{Mut}
 use Rattle.std.specs.Prelude.{◌≡◌, ℕ, get_or, slice_set, Some, None}
 use Rattle.aa_raw.specs.Block.{Block, with_places}
 
--- f may be called at a `&mut` to x and one to y
-abbrev pub TakesPairMut : {F T R : Type 0}
+-- `f` may be called with a `&mut` to `x` and one to `y`
+abbrev pub CallableAtPairMut : {F T R : Type 0}
     → Mut F (MutBor T × (MutBor T × Unit {0})) (R × (MutBor T × (MutBor T × Unit {0})))
     → F → T → T → Type 0
-TakesPairMut {F} {T} g f x y = (p q : MutBor T) → p.now ≡ x → q.now ≡ y → g.pre f (p, (q, tt))
+CallableAtPairMut {F} {T} g f x y = (p q : MutBor T) → p.now ≡ x → q.now ≡ y → g.pre f (p, (q, tt))
 
--- f was called once at the values in the places i and j of old. It answered r and became g, and
--- what it left of the two is where they were
+-- `f` was called once with the values in the places `i` and `j` of `old`. It returned `r` and
+-- became `g`, and `new` has in these places what it left there
 pub record CalledAtPlaces {F T R A : Type 0} (Calls : F → T → T → R → F → T → T → Type 0)
     (f : F) (old : Block T A) (i j : ℕ) (r : R) (g : F) (new : Block T A) : Type 0 where
   pub first : T

@@ -1,8 +1,8 @@
--- Places as a former: what a list of places holds that are each empty or filled.
+-- Places as a former: the values in a list of places, each of which is empty or filled.
 --     option, w_option      an option, and its `Weighed`
 --     slots, w_slots        places
---     slots_recoded         their code goes by the code of what they hold
---     pair_recoded          a pair's code by those of its parts
+--     slots_recoded         the codes of the values determine the code of the places
+--     pair_recoded          the codes of its parts determine the code of a pair
 use Rattle.std.specs.Prelude.{◌≡◌, ℕ, max, List, map, Option, Some, None}
 use Rattle.std.specs.Option.{option_map}
 use mathlib.Core.Path.{refl, sym}
@@ -12,7 +12,7 @@ use denote.Param.Nested.{deepest}
 use denote.Param.Weighed.{Weighed, none_max, w_list}
 
 module _ (g : Former {0}) where
-  -- how many values an option has in a row, behind which n others stand
+  -- the number of values in a row that has those of an option and then `n` more
   abbrev pub option_count : Option g.Shape → Count → Count
   option_count None n = n
   option_count (Some a) n = g.count a n

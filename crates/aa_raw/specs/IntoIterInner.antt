@@ -1,18 +1,18 @@
--- What holds of the fields of an `IntoIter`.
+-- The view of the fields of an `IntoIter`, and their invariant.
 use Rattle.std.specs.Prelude.{◌≡◌, ◌-◌, ◌≤◌, true, take, drop, is_none}
 use Rattle.std.specs.List.{list_all}
 use Rattle.aa_raw.specs.Places.{IsRun, run}
-use Rattle.aa_raw.specs.IntoIter.{Left, left_in}
+use Rattle.aa_raw.specs.IntoIter.{Remaining, remaining_in}
 use Rattle.aa_raw.specs.declared.vec.into_iter.IntoIter.TheInside.{Inside}
 
 module _ {X A : Type 0} where
-  -- what a contract sees of an iterator with these fields
-  abbrev pub left_of : Inside X A → Left X A
-  left_of v = left_in v.block (run v.block.places v.front (v.back - v.front))
+  -- the iterator with the fields `v`, as contracts see it
+  abbrev pub view_of : Inside X A → Remaining X A
+  view_of v = remaining_in v.block (run v.block.places v.front (v.back - v.front))
 
-  -- the places from the front up to the back hold values, and no others do
+  -- the places from `front` up to `back` hold values, and no others do
   pub record IsBetween (v : Inside X A) : Type 0 where
     pub between : v.front ≤ v.back
     pub filled : IsRun v.block.places v.front (v.back - v.front)
     pub before : list_all is_none (take v.front v.block.places) ≡ true
-    pub behind : list_all is_none (drop v.back v.block.places) ≡ true
+    pub after : list_all is_none (drop v.back v.block.places) ≡ true

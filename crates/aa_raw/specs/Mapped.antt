@@ -1,11 +1,11 @@
--- Places whose values are changed one by one: as many stand in the same places, in the same order.
+-- Places whose values are changed one by one: as many are in the same places, in the same order.
 --     none_over, first_none_over, others_over      no value is there, or none in the first n
---                                                  places, or none behind them
+--                                                  places, or none after them
 --     run_over                           the values of a run are the changed ones
 --     IsRun-over, IsRun-under, IsRun-once      the places of a run hold values where they did, of
 --                                              which there is one proof
 --     nothing_held, run_held             a former counts no value in places without one, and those
---                                        of a run where no others stand
+--                                        of a run if no other place is filled
 use Rattle.std.specs.Prelude.{◌≡◌, ℕ, zero, suc, ◌+◌, ◌≤◌, true, List, [], ◌∷◌, map, length, take, drop, Option, Some, None, is_some, is_none}
 use Rattle.std.specs.List.{list_all, take-map, drop-map}
 use Rattle.std.specs.Option.{option_map}
@@ -100,14 +100,14 @@ module _ {X : Type 0} where
       → list_all is_none (take from cs) ≡ true → list_all is_some (take n (drop from cs)) ≡ true
       → list_all is_none (drop to cs) ≡ true
       → placed.held (list this) X (somes (take n (drop from cs))) ≡ placed.held (slots this) X cs
-  between_held zero n to cs e within before filled behind =
+  between_held zero n to cs e within before filled after =
       front_held n cs filled
-      (subst (λ k. list_all is_none (drop k cs) ≡ true) (omega (arith, e)) behind)
-  between_held (suc from) n to [] e within before filled behind = absurd (omega (arith, within))
-  between_held (suc from) n zero (c ∷ cs) e within before filled behind = absurd (omega (arith, e))
-  between_held (suc from) n (suc to) (None ∷ cs) e within before filled behind =
-      between_held from n to cs (omega (arith, e)) (omega (arith, within)) before filled behind
-  between_held (suc from) n (suc to) (Some x ∷ cs) e within before filled behind =
+      (subst (λ k. list_all is_none (drop k cs) ≡ true) (omega (arith, e)) after)
+  between_held (suc from) n to [] e within before filled after = absurd (omega (arith, within))
+  between_held (suc from) n zero (c ∷ cs) e within before filled after = absurd (omega (arith, e))
+  between_held (suc from) n (suc to) (None ∷ cs) e within before filled after =
+      between_held from n to cs (omega (arith, e)) (omega (arith, within)) before filled after
+  between_held (suc from) n (suc to) (Some x ∷ cs) e within before filled after =
       absurd (true≢false (sym before))
 
   pub run_held : (from n to : ℕ) (cs : List (Option X)) → from + n ≡ to
@@ -115,5 +115,5 @@ module _ {X : Type 0} where
       → list_all is_none (drop to cs) ≡ true
       → placed.held (list this) X (run cs from n) ≡ placed.held (slots this) X cs
   unfolding run
-  run_held from n to cs e before filled behind =
-      between_held from n to cs e filled.0 before filled.1 behind
+  run_held from n to cs e before filled after =
+      between_held from n to cs e filled.0 before filled.1 after

@@ -1,2 +1,2 @@
-//! The toolchain's allocator interface. It stands for `allocator_api2::alloc`.
+//! The toolchain's allocator interface. Corresponds to `allocator_api2::alloc`.
 pub use std::alloc::{AllocError, Allocator, Global, Layout};

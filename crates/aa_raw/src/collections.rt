@@ -1,32 +1,34 @@
-//! Why room was refused: the errors of every call that takes memory.
+//! The errors returned by calls that allocate.
 ghost use Rattle.std.specs.Prelude.{◌≡◌, Some};
-ghost use Rattle.aa_raw.specs.Refusals.{text_of};
+ghost use Rattle.aa_raw.specs.Errors.{text_of};
 
 use std::alloc::AllocError;
 use std::convert::From;
 use std::error::Error;
 use std::fmt;
 
-/// Why a reserve was refused. Contracts say which of the two it is where a length would pass
-/// `usize::MAX`, and where the allocator alone can refuse; else tests show it. Bytes that pass
-/// `isize::MAX` are the first (`overflows` in `refusal_tests`), a refusing allocator gives the
-/// second (all others there). It stands for `allocator_api2::collections::TryReserveErrorKind`.
+/// Why a reserve failed.
+///
+/// Contracts say which of the two it is if a length would exceed `usize::MAX`, and if only the
+/// allocator can fail. Elsewhere the tests of `refusal_tests` show it: more than `isize::MAX` bytes
+/// are a `CapacityOverflow` (`overflows`), and a failed allocation is an `AllocError` (all others).
 #[derive(Clone, Copy, PartialEq, Eq, Debug, Drop)]
 pub enum TryReserveErrorKind {
-    /// The capacity that was needed passes `usize::MAX` elements, or its bytes pass `isize::MAX`.
+    /// The required capacity exceeds `usize::MAX` elements or `isize::MAX` bytes.
     CapacityOverflow,
-    /// The allocator refused a block of `capacity` elements. The original keeps a layout here.
+    /// The allocation of a block of `capacity` elements failed. In allocator-api2 this variant
+    /// holds a layout instead.
     AllocError { capacity: usize },
 }
 
-/// The error of a refused reserve. It stands for `allocator_api2::collections::TryReserveError`.
+/// The error returned when a reserve fails.
 #[derive(Clone, Copy, PartialEq, Eq, Debug, Drop)]
 pub struct TryReserveError {
     kind: TryReserveErrorKind,
 }
 
 impl TryReserveError {
-    /// The details: which of the two refusals it was.
+    /// Returns the kind of the error: `CapacityOverflow` or `AllocError`.
     pub fn kind(&self) -> TryReserveErrorKind
         ensures { result ≡ self.now.kind }
     {
@@ -37,7 +39,7 @@ impl TryReserveError {
 impl From<TryReserveErrorKind> for TryReserveError {
     ghost from_gives = { λ kind error. error.kind ≡ kind };
 
-    /// The error of this kind.
+    /// Returns the error of this kind.
     fn from(kind: TryReserveErrorKind) -> TryReserveError {
         TryReserveError { kind }
     }
@@ -48,8 +50,9 @@ impl From<AllocError> for TryReserveError {
 
     ghost from_gives = { λ _ error. error.kind ≡ TryReserveErrorKind.AllocError 1 };
 
-    /// A refusal of room for one element, so that `?` works for who makes a box and a vector in one
-    /// function. The original has none.
+    /// Returns the error for a failed allocation of one element: `AllocError` with capacity 1.
+    ///
+    /// With it, `?` works in a function that makes both a box and a vector. Not in allocator-api2.
     fn from(_: AllocError) -> TryReserveError {
         TryReserveErrorKind::AllocError { capacity: 1 }.into()
     }
@@ -74,21 +77,22 @@ impl fmt::Display for TryReserveError {
 
 impl Error for TryReserveError {}
 
-/// What a refused call that took a value answers: the value comes back in `source`. It passes
-/// through `?` as it is, and as the error alone where that is what the function answers. The
-/// original has none, since its calls abort.
+/// The error of a call that takes a value: returns the value in `source`.
+///
+/// `?` returns it as it is, or as the error alone in a function that returns a `TryReserveError`.
+/// Not in allocator-api2, whose calls abort.
 #[derive(Debug, Drop)]
 pub struct Refused<S> {
-    /// What the call was given.
+    /// The value that was passed to the call.
     pub source: S,
-    /// Why it was refused.
+    /// Why the call failed.
     pub error: TryReserveError,
 }
 
 impl<S: Drop> From<Refused<S>> for TryReserveError {
     ghost from_gives = { λ refused error. error ≡ refused.error };
 
-    /// Drops the source and keeps the error, so that `?` works.
+    /// Drops `source` and returns the error, so that `?` works.
     fn from(refused: Refused<S>) -> TryReserveError {
         refused.error
     }

@@ -1,12 +1,14 @@
-//! The base of the port: the allocator interface, the errors, and `RawVec`, a block of places over
-//! an allocator. The modules `row`, `size` and `tally` are the only code here that touches memory
-//! by pointers, or takes none for counts.
+//! The base of the library: the allocator interface, the errors, and `RawVec`, a block of places
+//! over an allocator.
+//!
+//! Only the modules `row`, `size` and `counter` access memory through pointers, read the size of a
+//! type, or define a ghost counter.
 #![tactic(auto)]
 
 pub mod alloc;
 pub mod collections;
+mod counter;
 pub mod raw_vec;
 mod row;
 mod size;
-mod tally;
 pub mod vec;

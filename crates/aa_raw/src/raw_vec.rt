@@ -1,74 +1,79 @@
-//! `RawVec`: a block of places over an allocator. Each place is empty or filled; which ones are
-//! filled is known to the caller and to contracts, and not to the running block.
+//! `RawVec`: a block of places over an allocator.
+//!
+//! Each place is empty or filled. The caller and the contracts know which places are filled; the
+//! block does not know it at run time.
 ghost use Rattle.std.specs.Prelude.{◌≡◌, ◌≢◌, ◌+◌, ◌-◌, ◌*◌, ◌^◌, ◌<◌, ◌≤◌, length, map, take, drop, replicate, get_or, slice_set, Some, None, IfOk, IfErr, IfSome, IfNone, OnOk, OnErr, IsOk, IsTrue, false, if◌then◌else◌, ◌==◌};
 ghost use Rattle.std.specs.Mem.{type_size};
 ghost use Rattle.std.specs.Borrow.{sem};
 ghost use Rattle.std.specs.Fn.{CalledAtPairMut};
 ghost use Rattle.aa_raw.specs.Places.{IsCapacity, IsFilled, IsRun, moved, with_run};
-ghost use Rattle.aa_raw.specs.Block.{fresh, with_places, without, with_moved, wrote, grown_to, shrunk_to, cut_to, wanted, wanted_by, Reserves, Reserved};
-ghost use Rattle.aa_raw.specs.Closures.{TakesPairMut, CalledAtPlaces};
-ghost use Rattle.aa_raw.specs.Growth.{amortized, least_of, usize_max};
-ghost use Rattle.aa_raw.specs.Refusals.{IsRefusedAt, RefusesBlock};
-ghost use Rattle.aa_raw.specs.Room.{LacksRoom, NeedsBlock};
+ghost use Rattle.aa_raw.specs.Block.{fresh, with_places, without, with_moved, with_written, grown_to, shrunk_to, cut_to, growth_capacity, reserve_capacity, Reserves, ReserveResult};
+ghost use Rattle.aa_raw.specs.Closures.{CallableAtPairMut, CalledAtPlaces};
+ghost use Rattle.aa_raw.specs.Growth.{amortized, min_capacity, usize_max};
+ghost use Rattle.aa_raw.specs.Errors.{IsErrorFor, AllocationFails};
+ghost use Rattle.aa_raw.specs.Room.{LacksRoom, NeedsNewBlock};
 
 use crate::collections::{TryReserveError, TryReserveErrorKind};
-use crate::row::{Claim, Row, allocate, dangle, deallocate, forget_row};
-use crate::size::{fits_in_block, is_sizeless, least_capacity};
-use crate::tally::Tally;
+use crate::counter::Counter;
+use crate::row::{Claim, Row, allocate, dangling, deallocate, forget_row};
+use crate::size::{fits_in_block, is_zst, min_non_zero_capacity};
 use std::alloc::{AllocError, Allocator, Global};
 use std::marker::Model;
 use std::mem::replace;
 
 mod two_runs;
 
-/// How much more than it needs a growth asks for.
+/// The growth policy: how much spare capacity a growth requests.
 #[derive(Clone, Copy, PartialEq, Eq, Debug, Drop)]
 pub enum Growth {
-    /// Twice the capacity, as the original does.
+    /// Doubles the capacity, as allocator-api2 does.
     Doubling,
-    /// Half as much again.
+    /// Adds half of the capacity.
     Sparing,
 }
 
 impl Growth {
-    /// The capacity that a growth with room to spare asks for, from `capacity` elements of type `T`
-    /// to at least `required`; none where its bytes pass `isize::MAX`. It takes no memory. The
-    /// original has no such call.
+    /// Returns the capacity that an amortized growth requests, from `capacity` elements of type `T`
+    /// to at least `required`.
+    ///
+    /// Returns `None` if its bytes exceed `isize::MAX`. Does not allocate. Not in allocator-api2.
     pub fn capacity_for<T>(self, capacity: usize, required: usize) -> Option<usize>
         requires { capacity < 2 ^ 63 }
         ensures some { IfSome result
-            (λ c. c ≡ amortized self capacity required (least_of (type_size T.row))) }
+            (λ c. c ≡ amortized self capacity required (min_capacity (type_size T.row))) }
         ensures fits { IfSome result (λ c. c * type_size T.row < 2 ^ 63) }
-        ensures none { let c = amortized self capacity required (least_of (type_size T.row)) in
+        ensures none { let c = amortized self capacity required (min_capacity (type_size T.row)) in
             IfNone result (2 ^ 63 ≤ c * type_size T.row) }
     {
         let next = match self {
             Growth::Doubling => 2 * capacity,
             Growth::Sparing => capacity + (capacity + 1) / 2,
         };
-        block_capacity::<T>(next.max(required).max(least_capacity::<T>()))
+        block_capacity::<T>(next.max(required).max(min_non_zero_capacity::<T>()))
     }
 }
 
-// What a reserve asks for: room to spare by the block's growth, so that moves are few over many
-// calls, or no more than is needed.
+// The capacity that a reserve requests: more by the growth policy, so that elements rarely move
+// over many calls, or exactly what is required.
 #[derive(Clone, Copy, Drop)]
-enum Room {
+enum ReserveKind {
     Amortized,
     Exact,
 }
 
-/// A block of places over the allocator `A`. Elements without size take no memory and have
-/// `usize::MAX` places. A block that is dropped frees its memory; what stands in its places is not
-/// dropped. It stands for the original's `RawVec`, which is private there.
+/// A block of places over the allocator `A`.
+///
+/// When dropped, it deallocates its memory, but does not drop the values in its places. A block of
+/// zero-sized elements has `usize::MAX` places and never allocates. In allocator-api2 this type is
+/// private.
 pub struct RawVec<T, A: Allocator = Global> {
     row: Row<T>,
     capacity: usize,
     growth: Growth,
     claim: Claim<T, A>,
-    grown: Tally,
-    written: Tally,
-    runs: Tally,
+    grown: Counter,
+    written: Counter,
+    runs: Counter,
     alloc: A,
 }
 
@@ -85,20 +90,26 @@ impl<T, A: Allocator> Model for RawVec<T, A> {
 }
 
 impl<T> RawVec<T, Global> {
-    /// An empty block on the global allocator. It takes no memory. It stands for `RawVec::new`.
+    /// Returns an empty block on the global allocator.
+    ///
+    /// Does not allocate.
     pub fn new(alloc: Global) -> Self
         ensures { result ≡ fresh (type_size T.row) 0 Growth.Doubling alloc }
     {
         RawVec::new_in(alloc)
     }
 
-    /// A block of `capacity` empty places on the global allocator. Where elements have a size and
-    /// `capacity` is above 0 it takes memory, and is refused as `with_capacity_in` is. It stands
-    /// for `RawVec::with_capacity`.
+    /// Returns a block of `capacity` empty places on the global allocator.
+    ///
+    /// Allocates unless `capacity` is 0 or the elements are zero-sized.
+    ///
+    /// # Errors
+    /// As for `with_capacity_in`: `CapacityOverflow`, or `AllocError` with `capacity` if the
+    /// allocation fails.
     pub fn with_capacity(alloc: Global, capacity: usize) -> Result<Self, TryReserveError>
         ensures made { IfOk result
             (λ v. v ≡ fresh (type_size T.row) capacity Growth.Doubling alloc) }
-        ensures refused { IfErr result (RefusesBlock capacity (type_size T.row)) }
+        ensures error { IfErr result (AllocationFails capacity (type_size T.row)) }
     {
         RawVec::with_capacity_in(capacity, alloc)
     }
@@ -108,48 +119,57 @@ impl<T> RawVec<T, Global> {
 impl<T, A: Allocator> RawVec<T, A> {
     ghost use Rattle.aa_raw.specs.BlockLends.{lends_places, lends_place};
 
-    /// An empty block. It takes no memory. It stands for `RawVec::new_in`.
+    /// Returns an empty block.
+    ///
+    /// Does not allocate.
     pub fn new_in(alloc: A) -> Self
         ensures { result ≡ fresh (type_size T.row) 0 Growth.Doubling alloc }
     {
-        RawVec::new_growing_in(Growth::Doubling, alloc)
+        RawVec::with_growth_in(Growth::Doubling, alloc)
     }
 
-    /// An empty block that will grow as `growth` says. It takes no memory. The original has no such
-    /// choice.
+    /// Returns an empty block with the growth policy `growth`.
+    ///
+    /// Does not allocate. Not in allocator-api2.
     #[tactic(auto, using(crate::proofs::Reserving::made_empty))]
-    pub fn new_growing_in(growth: Growth, alloc: A) -> Self
+    pub fn with_growth_in(growth: Growth, alloc: A) -> Self
         ensures { result ≡ fresh (type_size T.row) 0 growth alloc }
     {
-        let capacity = if is_sizeless::<T>() { usize::MAX } else { 0 };
-        let row = dangle(&alloc, capacity);
+        let capacity = if is_zst::<T>() { usize::MAX } else { 0 };
+        let row = dangling(&alloc, capacity);
         from_row(alloc, growth, capacity, row)
     }
 
-    /// A block of `capacity` empty places. Where elements have a size and `capacity` is above 0 it
-    /// takes memory; a refusal is `CapacityOverflow`, or `AllocError` with this capacity. It stands
-    /// for `RawVec::with_capacity_in`.
+    /// Returns a block of `capacity` empty places.
+    ///
+    /// Allocates unless `capacity` is 0 or the elements are zero-sized.
+    ///
+    /// # Errors
+    /// `CapacityOverflow` if the block would exceed `isize::MAX` bytes; `AllocError` with
+    /// `capacity` if the allocation fails.
     pub fn with_capacity_in(capacity: usize, alloc: A) -> Result<Self, TryReserveError>
         ensures made { IfOk result
             (λ v. v ≡ fresh (type_size T.row) capacity Growth.Doubling alloc) }
-        ensures refused { IfErr result (RefusesBlock capacity (type_size T.row)) }
+        ensures error { IfErr result (AllocationFails capacity (type_size T.row)) }
     {
-        RawVec::with_capacity_growing_in(Growth::Doubling, capacity, alloc)
+        RawVec::with_capacity_and_growth_in(capacity, Growth::Doubling, alloc)
     }
 
-    /// The same for a block that will grow as `growth` says. The original has no such choice.
+    /// Returns a block of `capacity` empty places with the growth policy `growth`.
+    ///
+    /// Allocates and fails as `with_capacity_in` does. Not in allocator-api2.
     #[tactic(auto, using(crate::proofs::Reserving::made_empty))]
-    pub fn with_capacity_growing_in(
-        growth: Growth,
+    pub fn with_capacity_and_growth_in(
         capacity: usize,
+        growth: Growth,
         alloc: A,
     ) -> Result<Self, TryReserveError>
         ensures made { IfOk result
             (λ v. v ≡ fresh (type_size T.row) capacity growth alloc) }
-        ensures refused { IfErr result (RefusesBlock capacity (type_size T.row)) }
+        ensures error { IfErr result (AllocationFails capacity (type_size T.row)) }
     {
-        if capacity == 0 || is_sizeless::<T>() {
-            return Ok(RawVec::new_growing_in(growth, alloc));
+        if capacity == 0 || is_zst::<T>() {
+            return Ok(RawVec::with_growth_in(growth, alloc));
         }
         if !fits_in_block::<T>(capacity) {
             return Err(TryReserveErrorKind::CapacityOverflow.into());
@@ -160,60 +180,64 @@ impl<T, A: Allocator> RawVec<T, A> {
         }
     }
 
-    /// How many places there are; `usize::MAX` for elements without size. It stands for
-    /// `RawVec::capacity`.
+    /// Returns the number of places; `usize::MAX` for zero-sized elements.
     #[inline]
     pub fn capacity(&self) -> usize
         ensures count { result ≡ length self.now.places }
-        ensures may_be { IsCapacity T.row result }
+        ensures possible { IsCapacity T.row result }
     {
-        self.claim.known();
+        self.claim.prove_capacity_bounds();
         let capacity = self.capacity;
-        // Elements without size have `usize::MAX` places. Said so, the compiler knows it and reads
-        // no field.
-        if is_sizeless::<T>() {
+        // Zero-sized elements have `usize::MAX` places. With this call of `max` the compiler knows
+        // it and reads no field.
+        if is_zst::<T>() {
             return capacity.max(usize::MAX);
         }
         capacity
     }
 
-    /// Does nothing when the program runs. It tells the prover that there are at most `usize::MAX`
-    /// places, and how many there may be. The original has no such call.
+    /// Proves that the number of places is a valid capacity, of at most `usize::MAX`.
+    ///
+    /// Does nothing at run time. Not in allocator-api2.
     #[inline(always)]
-    pub fn known(&self)
-        ensures few { length self.now.places ≤ usize_max }
-        ensures may_be { IsCapacity T.row (length self.now.places) }
+    pub fn prove_capacity_bounds(&self)
+        ensures fits_usize { length self.now.places ≤ usize_max }
+        ensures possible { IsCapacity T.row (length self.now.places) }
     {
-        self.claim.known();
+        self.claim.prove_capacity_bounds();
         let _capacity = self.capacity;
     }
 
-    /// The allocator under the block. It stands for `RawVec::allocator`.
+    /// Returns a reference to the underlying allocator.
     pub fn allocator(&self) -> &A
         ensures { result.now ≡ self.now.alloc }
     {
         &self.alloc
     }
 
-    /// How the block grows.
+    /// Returns the growth policy of the block.
     pub fn growth(&self) -> Growth
         ensures { result ≡ self.now.growth }
     {
         self.growth
     }
 
-    /// Puts `item` into place `at`. A value that stood there is forgotten, not dropped.
+    /// Writes `item` into the place `at`.
+    ///
+    /// A value that was there is forgotten, not dropped.
     #[inline(always)]
     pub fn put(&mut self, at: usize, item: T)
         requires { at < length self.old.places }
-        ensures { self.new ≡ wrote self.old (slice_set self.old.places at (Some item)) 1 }
+        ensures { self.new ≡ with_written self.old (slice_set self.old.places at (Some item)) 1 }
     {
         self.row.write(at, item);
         self.written.add(1);
         self.runs.add(1);
     }
 
-    /// Moves the value out of the filled place `at`, which is empty afterwards.
+    /// Moves the value out of the filled place `at` and returns it.
+    ///
+    /// The place is empty afterwards.
     #[inline(always)]
     pub fn take(&mut self, at: usize) -> T
         requires { IsFilled self.old.places at }
@@ -223,7 +247,9 @@ impl<T, A: Allocator> RawVec<T, A> {
         self.row.read(at)
     }
 
-    /// Forgets what stands in the places from `from` on. It does nothing when the program runs.
+    /// Forgets the values in the places from `from` on.
+    ///
+    /// Does nothing at run time.
     #[inline(always)]
     pub fn forget_from(&mut self, from: usize)
         requires { from ≤ length self.old.places }
@@ -233,7 +259,9 @@ impl<T, A: Allocator> RawVec<T, A> {
         self.row.forget(from, count);
     }
 
-    /// Drops the `count` values from place `from` on, in order; their places are empty afterwards.
+    /// Drops the `count` values from the place `from` on, in order.
+    ///
+    /// Their places are empty afterwards.
     #[inline]
     pub fn drop_run(&mut self, from: usize, count: usize)
     where
@@ -241,13 +269,13 @@ impl<T, A: Allocator> RawVec<T, A> {
         requires { IsRun self.old.places from count }
         ensures { self.new ≡ without self.old from count }
     {
-        self.known();
+        self.prove_capacity_bounds();
         'each: for dropped in 0..count {
             drop(self.take(from + dropped));
         }
     }
 
-    /// The value in the filled place `at`.
+    /// Returns a reference to the value in the filled place `at`.
     pub fn place(&self, at: usize) -> &T
         requires { IsFilled self.now.places at }
         ensures { get_or self.now.places at None ≡ Some result.now }
@@ -255,7 +283,7 @@ impl<T, A: Allocator> RawVec<T, A> {
         &self.row.slice(at, 1)[0]
     }
 
-    /// The value in the filled place `at`, to write to.
+    /// Returns a mutable reference to the value in the filled place `at`.
     pub fn place_mut(&mut self, at: usize) -> &mut T
         requires { IsFilled self.old.places at }
         ensures* writes_back { sem 𝓛 (lends_place T.row A.row A.Allocator self.entry at result) }
@@ -264,8 +292,11 @@ impl<T, A: Allocator> RawVec<T, A> {
         self.row.get_mut(at)
     }
 
-    /// Lends the values in two different filled places to `f`, once, and puts back what it leaves
-    /// of them. Nothing is counted as written. The original has no such call.
+    /// Calls `f` once with mutable references to the values in two different filled places, and
+    /// returns its result.
+    ///
+    /// What `f` leaves of the values is in their places afterwards. Nothing is counted as written.
+    /// Not in allocator-api2.
     #[inline(always)]
     pub fn pair_with<R, F: FnMut(&mut T, &mut T) -> R>(
         &mut self,
@@ -275,20 +306,21 @@ impl<T, A: Allocator> RawVec<T, A> {
     ) -> R
         requires filled { IsFilled self.old.places i × IsFilled self.old.places j × (i ≢ j) }
         requires callable { (x y : T) → get_or self.old.places i None ≡ Some x
-            → get_or self.old.places j None ≡ Some y → TakesPairMut F.FnMut f.old x y }
+            → get_or self.old.places j None ≡ Some y → CallableAtPairMut F.FnMut f.old x y }
         ensures { CalledAtPlaces (CalledAtPairMut F.FnMut)
             f.old self.old i j result f.new self.new }
     {
         let mut x = self.row.read(i);
         let mut y = self.row.read(j);
-        let answer = call_at_one_lifetime(f, &mut x, &mut y);
+        let returned = call_at_one_lifetime(f, &mut x, &mut y);
         self.row.write(i, x);
         self.row.write(j, y);
-        answer
+        returned
     }
 
-    /// The `count` values from place `from` on. Where `count` is 0, `from` is still at most the
-    /// capacity.
+    /// Returns the `count` values from the place `from` on as a slice.
+    ///
+    /// `from` is at most the capacity, even if `count` is 0.
     pub fn slice(&self, from: usize, count: usize) -> &[T]
         requires { IsRun self.now.places from count }
         ensures { take count (drop from self.now.places) ≡ map Some result.now }
@@ -296,8 +328,9 @@ impl<T, A: Allocator> RawVec<T, A> {
         self.row.slice(from, count)
     }
 
-    /// The `count` values from place `from` on, to write to. Where `count` is 0, `from` is still at
-    /// most the capacity.
+    /// Returns the `count` values from the place `from` on as a mutable slice.
+    ///
+    /// `from` is at most the capacity, even if `count` is 0.
     pub fn slice_mut(&mut self, from: usize, count: usize) -> &mut [T]
         requires { IsRun self.old.places from count }
         ensures* writes_back { sem 𝓛
@@ -307,8 +340,9 @@ impl<T, A: Allocator> RawVec<T, A> {
         self.row.slice_mut(from, count)
     }
 
-    /// Moves the value in the filled place `from` to the place `to`. A value that stood there is
-    /// forgotten.
+    /// Moves the value in the filled place `from` to the place `to`.
+    ///
+    /// A value that was there is forgotten, not dropped.
     #[inline(always)]
     pub fn move_one(&mut self, from: usize, to: usize)
         requires { IsFilled self.old.places from × (to < length self.old.places) }
@@ -321,8 +355,9 @@ impl<T, A: Allocator> RawVec<T, A> {
         self.put(to, item);
     }
 
-    /// Moves a run of `count` values, of which the first stands in place `from`, to where the first
-    /// is in place `to`. The two may share places. Other values that stood there are forgotten.
+    /// Moves the `count` values from the place `from` on to the places from `to` on.
+    ///
+    /// The two ranges may overlap. Other values that were there are forgotten, not dropped.
     #[inline]
     pub fn move_run(&mut self, from: usize, to: usize, count: usize)
         requires { IsRun self.old.places from count × (to + count ≤ length self.old.places) }
@@ -338,8 +373,9 @@ impl<T, A: Allocator> RawVec<T, A> {
         }
     }
 
-    /// Moves the `count` values from place `from` on down to the places from `to` on, as `move_run`
-    /// does, with far less work where they are few.
+    /// Moves the `count` values from the place `from` on down to the places from `to` on.
+    ///
+    /// Like `move_run`, but much faster if the values are few.
     #[inline(always)]
     pub fn move_down(&mut self, from: usize, to: usize, count: usize)
         requires { IsRun self.old.places from count × (to ≤ from) }
@@ -348,21 +384,23 @@ impl<T, A: Allocator> RawVec<T, A> {
         if from == to {
             return;
         }
-        self.row.lower_run(from, to, count);
+        self.row.move_run_down(from, to, count);
         self.written.add(count);
         if count != 0 {
             self.runs.add(1);
         }
     }
 
-    /// Moves the `count` values from place `from` on of the block `other` to the places from `to`
-    /// on of this one. Values that stood there are forgotten.
+    /// Moves the `count` values from the place `from` of the block `other` on to the places from
+    /// `to` on of this block.
+    ///
+    /// Values that were there are forgotten, not dropped.
     #[inline]
     pub fn transfer(&mut self, to: usize, other: &mut RawVec<T, A>, from: usize, count: usize)
         requires { IsRun other.old.places from count × (to + count ≤ length self.old.places) }
-        ensures here { let values = take count (drop from other.old.places) in
-            self.new ≡ wrote self.old (with_run self.old.places to count values) count }
-        ensures there { other.new ≡ without other.old from count }
+        ensures moved { let values = take count (drop from other.old.places) in
+            self.new ≡ with_written self.old (with_run self.old.places to count values) count }
+        ensures emptied { other.new ≡ without other.old from count }
     {
         self.row.take_run(to, &mut other.row, from, count);
         self.written.add(count);
@@ -371,11 +409,14 @@ impl<T, A: Allocator> RawVec<T, A> {
         }
     }
 
-    /// Puts `items` into the places from `at` on, each as by `put`.
+    /// Writes `items` into the places from `at` on.
+    ///
+    /// Values that were there are forgotten, not dropped.
     #[inline]
     pub fn put_array<const N: usize>(&mut self, at: usize, items: [T; N])
         requires { at + N ≤ length self.old.places }
-        ensures { self.new ≡ wrote self.old (with_run self.old.places at N (map Some items)) N }
+        ensures { self.new ≡ with_written self.old (with_run self.old.places at N
+            (map Some items)) N }
     {
         self.row.write_array(at, items);
         self.written.add(N);
@@ -384,8 +425,10 @@ impl<T, A: Allocator> RawVec<T, A> {
         }
     }
 
-    /// Puts copies of all of `source` into the places from `at` on, each as by `put`: with one copy
-    /// of memory.
+    /// Writes copies of all elements of `source` into the places from `at` on, with one copy of
+    /// memory.
+    ///
+    /// Values that were there are forgotten, not dropped.
     #[inline(always)]
     pub fn put_copies(&mut self, at: usize, source: &[T])
     where
@@ -393,7 +436,7 @@ impl<T, A: Allocator> RawVec<T, A> {
         requires { at + length source.now ≤ length self.old.places }
         ensures { let count = length source.now in
             let places = with_run self.old.places at count (map Some source.now) in
-            self.new ≡ wrote self.old places count }
+            self.new ≡ with_written self.old places count }
     {
         let count = source.len();
         self.row.write_copies(at, source);
@@ -403,7 +446,9 @@ impl<T, A: Allocator> RawVec<T, A> {
         }
     }
 
-    /// Moves the values out of the first `N` places, which are empty afterwards.
+    /// Moves the values out of the first `N` places and returns them.
+    ///
+    /// These places are empty afterwards.
     #[inline]
     pub fn take_array<const N: usize>(&mut self) -> [T; N]
         requires { IsRun self.old.places 0 N }
@@ -413,35 +458,51 @@ impl<T, A: Allocator> RawVec<T, A> {
         self.row.read_array()
     }
 
-    /// Makes room for `additional` more than the first `len` places, which are filled. Where they
-    /// fit, it does nothing; else it takes a new block with room to spare, moves the `len` values
-    /// there and gives the old block back. A refusal changes nothing: `CapacityOverflow`, for sure
-    /// where `len + additional` passes `usize::MAX`, or `AllocError` with the capacity asked for.
-    /// It stands for `RawVec::try_reserve`.
+    /// Reserves capacity for at least `additional` more elements than the `len` in the first
+    /// places.
+    ///
+    /// Allocates only if they do not fit in the capacity, and then grows by the growth policy. The
+    /// `len` values move to the new block, and the old one is deallocated.
+    ///
+    /// # Errors
+    /// `CapacityOverflow` if the new capacity would exceed `usize::MAX` elements or `isize::MAX`
+    /// bytes, and always if `len + additional` exceeds `usize::MAX`. `AllocError` with the
+    /// requested capacity if the allocation fails. The block is unchanged.
     #[inline(always)]
     pub fn try_reserve(&mut self, len: usize, additional: usize) -> Result<(), TryReserveError>
         requires { IsRun self.old.places 0 len }
-        ensures { Reserved (type_size T.row) self.old len additional
-            (wanted (type_size T.row) self.old (len + additional)) result self.new }
+        ensures { ReserveResult (type_size T.row) self.old len additional
+            (growth_capacity (type_size T.row) self.old (len + additional)) result self.new }
     {
-        if additional <= self.capacity - len || self.grow_for(Room::Amortized, len, additional) {
+        if additional <= self.capacity - len
+            || self.grow_for(ReserveKind::Amortized, len, additional)
+        {
             return Ok(());
         }
-        Err(self.refusal(Room::Amortized, len, additional))
+        Err(self.reserve_error(ReserveKind::Amortized, len, additional))
     }
 
-    /// The same as `try_reserve`. It stands for `RawVec::reserve`, which aborts on a refusal.
+    /// Reserves capacity for at least `additional` more elements than the `len` in the first
+    /// places.
+    ///
+    /// Allocates and fails as `try_reserve` does. In allocator-api2 this call aborts if the
+    /// allocation fails.
     pub fn reserve(&mut self, len: usize, additional: usize) -> Result<(), TryReserveError>
         requires { IsRun self.old.places 0 len }
-        ensures { Reserved (type_size T.row) self.old len additional
-            (wanted (type_size T.row) self.old (len + additional)) result self.new }
+        ensures { ReserveResult (type_size T.row) self.old len additional
+            (growth_capacity (type_size T.row) self.old (len + additional)) result self.new }
     {
         self.try_reserve(len, additional)
     }
 
-    /// Makes room for `additional` more than the first `len` places, which are filled, as
-    /// `try_reserve` does and refused as it is, but takes a block of no more places than needed. It
-    /// stands for `RawVec::try_reserve_exact`.
+    /// Reserves capacity for exactly `additional` more elements than the `len` in the first places.
+    ///
+    /// Allocates only if they do not fit in the capacity, and then a block of `len + additional`
+    /// places. The `len` values move to the new block, and the old one is deallocated.
+    ///
+    /// # Errors
+    /// As for `try_reserve`: `CapacityOverflow`, or `AllocError` with the requested capacity. The
+    /// block is unchanged.
     #[inline(always)]
     pub fn try_reserve_exact(
         &mut self,
@@ -449,70 +510,81 @@ impl<T, A: Allocator> RawVec<T, A> {
         additional: usize,
     ) -> Result<(), TryReserveError>
         requires { IsRun self.old.places 0 len }
-        ensures { Reserved (type_size T.row) self.old len additional (len + additional)
+        ensures { ReserveResult (type_size T.row) self.old len additional (len + additional)
             result self.new }
     {
-        if additional <= self.capacity - len || self.grow_for(Room::Exact, len, additional) {
+        if additional <= self.capacity - len || self.grow_for(ReserveKind::Exact, len, additional) {
             return Ok(());
         }
-        Err(self.refusal(Room::Exact, len, additional))
+        Err(self.reserve_error(ReserveKind::Exact, len, additional))
     }
 
-    /// The same as `try_reserve_exact`. It stands for `RawVec::reserve_exact`, which aborts on a
-    /// refusal.
+    /// Reserves capacity for exactly `additional` more elements than the `len` in the first places.
+    ///
+    /// Allocates and fails as `try_reserve_exact` does. In allocator-api2 this call aborts if the
+    /// allocation fails.
     pub fn reserve_exact(&mut self, len: usize, additional: usize) -> Result<(), TryReserveError>
         requires { IsRun self.old.places 0 len }
-        ensures { Reserved (type_size T.row) self.old len additional (len + additional)
+        ensures { ReserveResult (type_size T.row) self.old len additional (len + additional)
             result self.new }
     {
         self.try_reserve_exact(len, additional)
     }
 
-    /// `try_reserve` for one more than the first `len` places; it tests for room itself. It stands
-    /// for `RawVec::reserve_for_push`, whose caller has found the block full.
+    /// Reserves capacity for one more element than the `len` in the first places.
+    ///
+    /// Allocates and fails as `try_reserve` does. It tests for spare capacity itself; in
+    /// allocator-api2 the caller has found the block full.
     #[inline(always)]
     pub fn reserve_for_push(&mut self, len: usize) -> Result<(), TryReserveError>
         requires { IsRun self.old.places 0 len }
-        ensures { Reserved (type_size T.row) self.old len 1
-            (wanted (type_size T.row) self.old (len + 1)) result self.new }
+        ensures { ReserveResult (type_size T.row) self.old len 1
+            (growth_capacity (type_size T.row) self.old (len + 1)) result self.new }
     {
-        if len < self.capacity() || self.grow_for(Room::Amortized, len, 1) {
+        if len < self.capacity() || self.grow_for(ReserveKind::Amortized, len, 1) {
             return Ok(());
         }
-        Err(self.refusal(Room::Amortized, len, 1))
+        Err(self.reserve_error(ReserveKind::Amortized, len, 1))
     }
 
-    /// Cuts the block to `capacity` places, of which the first `len` are filled, in a new block;
-    /// the old one is given back. To no places it takes no memory. A refusal changes nothing. It
-    /// stands for `RawVec::shrink_to_fit`, which aborts on a refusal.
+    /// Shrinks the block to `capacity` places, of which the first `len` are filled.
+    ///
+    /// Allocates a new block, moves the `len` values there and deallocates the old one. Does not
+    /// allocate if `capacity` is 0 or the current capacity, or if the elements are zero-sized:
+    /// these keep all their places.
+    ///
+    /// # Errors
+    /// `AllocError` with `capacity` if the allocation fails. The block is unchanged.
+    ///
+    /// In allocator-api2 this call aborts if the allocation fails.
     pub fn shrink_to_fit(&mut self, len: usize, capacity: usize) -> Result<(), TryReserveError>
         requires { IsRun self.old.places 0 len × (len ≤ capacity)
             × (capacity ≤ length self.old.places) }
         ensures shrunk { OnOk result (self.new ≡ cut_to (type_size T.row) self.old len capacity) }
-        ensures only_for_memory { let size = type_size T.row in
-            OnErr result (NeedsBlock size (length self.old.places) capacity) }
-        ensures number { IfErr result (λ e. e.kind ≡ TryReserveErrorKind.AllocError capacity) }
+        ensures only_if_allocating { let size = type_size T.row in
+            OnErr result (NeedsNewBlock size (length self.old.places) capacity) }
+        ensures error { IfErr result (λ e. e.kind ≡ TryReserveErrorKind.AllocError capacity) }
         ensures unchanged { OnErr result (self.new ≡ self.old) }
     {
-        if capacity == self.capacity || is_sizeless::<T>() {
+        if capacity == self.capacity || is_zst::<T>() {
             return Ok(());
         }
-        self.claim.known();
+        self.claim.prove_capacity_bounds();
         if self.move_to(len, capacity) {
             return Ok(());
         }
         Err(TryReserveErrorKind::AllocError { capacity }.into())
     }
 
-    // The growth of a reserve, out of line. It answers in a register, so that the test for room
-    // costs no stack.
+    // Grows the block for a reserve, out of line, and returns `false` if that fails. The result is
+    // in a register, so that the test for spare capacity needs no stack.
     #[cold]
     #[inline(never)]
-    fn grow_for(&mut self, room: Room, len: usize, additional: usize) -> bool
+    fn grow_for(&mut self, room: ReserveKind, len: usize, additional: usize) -> bool
         requires { IsRun self.old.places 0 len × (length self.old.places < len + additional) }
         ensures grown { IsTrue result → Reserves (type_size T.row) self.old len additional
-            (wanted_by room (type_size T.row) self.old (len + additional)) self.new }
-        ensures kept { result ≡ false → self.new ≡ self.old }
+            (reserve_capacity room (type_size T.row) self.old (len + additional)) self.new }
+        ensures unchanged { result ≡ false → self.new ≡ self.old }
     {
         match self.capacity_for(room, len, additional) {
             Some(capacity) => self.grow_to(len, capacity),
@@ -520,13 +592,13 @@ impl<T, A: Allocator> RawVec<T, A> {
         }
     }
 
-    // Why `grow_for` answered no.
+    // Returns the error of a reserve after `grow_for` returned `false`.
     #[cold]
     #[inline(never)]
-    fn refusal(&self, room: Room, len: usize, additional: usize) -> TryReserveError
+    fn reserve_error(&self, room: ReserveKind, len: usize, additional: usize) -> TryReserveError
         requires { (len ≤ length self.now.places) × (length self.now.places < len + additional) }
         ensures { LacksRoom (length self.now.places) len additional
-            (wanted_by room (type_size T.row) self.now (len + additional)) result }
+            (reserve_capacity room (type_size T.row) self.now (len + additional)) result }
     {
         match self.capacity_for(room, len, additional) {
             Some(capacity) => TryReserveErrorKind::AllocError { capacity }.into(),
@@ -534,31 +606,36 @@ impl<T, A: Allocator> RawVec<T, A> {
         }
     }
 
-    // The capacity that a growth asks for, unless a number passes what it may be.
-    fn capacity_for(&self, room: Room, len: usize, additional: usize) -> Option<usize>
+    // Returns the capacity that a growth requests, or `None` if it exceeds `usize::MAX` elements or
+    // `isize::MAX` bytes.
+    fn capacity_for(&self, room: ReserveKind, len: usize, additional: usize) -> Option<usize>
         requires { (len ≤ length self.now.places) × (length self.now.places < len + additional) }
+
+        // A returned capacity is enough, and a block can have it.
         ensures some { IfSome result
-            (λ c. c ≡ wanted_by room (type_size T.row) self.now (len + additional)) }
+            (λ c. c ≡ reserve_capacity room (type_size T.row) self.now (len + additional)) }
         ensures enough { IfSome result (λ c. len + additional ≤ c) }
         ensures has_size { IfSome result (λ _. 0 < type_size T.row) }
-        ensures may_be { IfSome result (IsCapacity T.row) }
+        ensures possible { IfSome result (IsCapacity T.row) }
+
+        // There is none if the number of elements exceeds `usize::MAX`.
         ensures none { usize_max < len + additional → result ≡ None }
     {
-        self.claim.known();
+        self.claim.prove_capacity_bounds();
         let required = len.checked_add(additional)?;
         match room {
-            Room::Exact => block_capacity::<T>(required),
-            Room::Amortized => self.growth.capacity_for::<T>(self.capacity, required),
+            ReserveKind::Exact => block_capacity::<T>(required),
+            ReserveKind::Amortized => self.growth.capacity_for::<T>(self.capacity, required),
         }
     }
 
-    // Moves the first `len` values to a new block of `capacity` places, by a growth, unless it is
-    // refused.
+    // Grows to a new block of `capacity` places that holds the first `len` values. Returns `false`
+    // if the allocation fails.
     fn grow_to(&mut self, len: usize, capacity: usize) -> bool
         requires { IsRun self.old.places 0 len × (len ≤ capacity) × (0 < type_size T.row)
             × IsCapacity T.row capacity }
         ensures grown { IsTrue result → self.new ≡ grown_to self.old len capacity }
-        ensures kept { result ≡ false → self.new ≡ self.old }
+        ensures unchanged { result ≡ false → self.new ≡ self.old }
     {
         if !self.move_to(len, capacity) {
             return false;
@@ -567,18 +644,19 @@ impl<T, A: Allocator> RawVec<T, A> {
         true
     }
 
-    // Moves the first `len` values to a new block of `capacity` places, and gives the old one back.
+    // Moves the first `len` values to a new block of `capacity` places and deallocates the old one.
+    // Returns `false` if the allocation fails.
     fn move_to(&mut self, len: usize, capacity: usize) -> bool
         requires { IsRun self.old.places 0 len × (len ≤ capacity) × IsCapacity T.row capacity }
         ensures moved { IsTrue result → self.new ≡ shrunk_to self.old len capacity }
-        ensures kept { result ≡ false → (self.new ≡ self.old) × (0 < capacity) }
+        ensures unchanged { result ≡ false → (self.new ≡ self.old) × (0 < capacity) }
     {
-        match row_of(&self.alloc, capacity) {
+        match new_row(&self.alloc, capacity) {
             Ok((mut row, claim)) => {
                 row.take_run(0, &mut self.row, 0, len);
                 let old_row = replace(&mut self.row, row);
                 let old_claim = replace(&mut self.claim, claim);
-                give_back(&self.alloc, self.capacity, old_row, old_claim);
+                free_block(&self.alloc, self.capacity, old_row, old_claim);
                 self.capacity = capacity;
                 true
             }
@@ -587,20 +665,20 @@ impl<T, A: Allocator> RawVec<T, A> {
     }
 }
 
-// Both references have one lifetime, which the borrow checker's proof needs.
+// Calls `f` with two references of one lifetime, which the borrow checker's proof needs.
 #[inline(always)]
 fn call_at_one_lifetime<'a, T, R, F: FnMut(&mut T, &mut T) -> R>(
     f: &mut F,
     x: &'a mut T,
     y: &'a mut T,
 ) -> R
-    requires { TakesPairMut F.FnMut f.old x.old y.old }
+    requires { CallableAtPairMut F.FnMut f.old x.old y.old }
     ensures { CalledAtPairMut F.FnMut f.old x.old y.old result f.new x.new y.new }
 {
     f(x, y)
 }
 
-// A block over a row that was just made.
+// Returns a new block over `row`.
 fn from_row<T, A: Allocator>(
     alloc: A,
     growth: Growth,
@@ -624,20 +702,21 @@ fn from_row<T, A: Allocator>(
         capacity,
         growth,
         claim,
-        grown: Tally::zero(),
-        written: Tally::zero(),
-        runs: Tally::zero(),
+        grown: Counter::zero(),
+        written: Counter::zero(),
+        runs: Counter::zero(),
         alloc,
     }
 }
 
-/// The refusal of a first growth to `required` elements, by a block that doubles: for who could not
-/// make that block, since the clone of its allocator was refused. `CapacityOverflow`, or
-/// `AllocError` with the capacity that the growth would have asked for. It takes no memory. The
-/// original has no such call.
-pub fn first_refusal<T>(required: usize) -> TryReserveError
-    ensures { IsRefusedAt result
-        (amortized Growth.Doubling 0 required (least_of (type_size T.row))) }
+/// Returns the error of a first growth to `required` elements, for a block that doubles.
+///
+/// It is for a caller that could not make the block, because the clone of its allocator failed. The
+/// error is `CapacityOverflow`, or `AllocError` with the capacity that the growth would have
+/// requested. Does not allocate. Not in allocator-api2.
+pub fn first_growth_error<T>(required: usize) -> TryReserveError
+    ensures { IsErrorFor result
+        (amortized Growth.Doubling 0 required (min_capacity (type_size T.row))) }
 {
     match Growth::Doubling.capacity_for::<T>(0, required) {
         Some(capacity) => TryReserveErrorKind::AllocError { capacity }.into(),
@@ -645,7 +724,7 @@ pub fn first_refusal<T>(required: usize) -> TryReserveError
     }
 }
 
-// `capacity` elements, unless their bytes pass what a block may have.
+// Returns `capacity`, or `None` if so many elements exceed `isize::MAX` bytes.
 fn block_capacity<T>(capacity: usize) -> Option<usize>
     ensures some { IfSome result (λ c. c ≡ capacity) }
     ensures fits { IfSome result (λ c. c * type_size T.row < 2 ^ 63) }
@@ -658,28 +737,28 @@ fn block_capacity<T>(capacity: usize) -> Option<usize>
     }
 }
 
-// A row of `capacity` empty places. For none no memory is asked.
-fn row_of<T, A: Allocator>(alloc: &A, capacity: usize) -> Result<(Row<T>, Claim<T, A>), AllocError>
+// Returns a row of `capacity` empty places. Does not allocate if `capacity` is 0.
+fn new_row<T, A: Allocator>(alloc: &A, capacity: usize) -> Result<(Row<T>, Claim<T, A>), AllocError>
     requires { IsCapacity T.row capacity }
     ensures row { IfOk result (λ r. (r.0.places ≡ replicate capacity None) × (r.1.ptr ≡ r.0.ptr)
         × (r.1.len ≡ capacity) × (r.1.alloc ≡ alloc.now)) }
-    ensures refused { OnErr result (0 < capacity) }
+    ensures only_if_allocating { OnErr result (0 < capacity) }
 {
     if capacity == 0 {
-        Ok(dangle(alloc, capacity))
+        Ok(dangling(alloc, capacity))
     } else {
         allocate(alloc, capacity)
     }
 }
 
-// Gives the memory of a row back, where it takes any, and forgets what stands in its places.
-fn give_back<T, A: Allocator>(alloc: &A, capacity: usize, row: Row<T>, claim: Claim<T, A>)
+// Deallocates the memory of a row, if it has any, and forgets the values in its places.
+fn free_block<T, A: Allocator>(alloc: &A, capacity: usize, row: Row<T>, claim: Claim<T, A>)
     requires { (length row.places ≡ capacity) × (claim.ptr ≡ row.ptr) × (claim.len ≡ capacity)
         × (claim.alloc ≡ alloc.now) }
 {
     if capacity == 0 {
         forget_row(row, claim);
-    } else if is_sizeless::<T>() {
+    } else if is_zst::<T>() {
         forget_row(row, claim);
     } else {
         deallocate(alloc, capacity, row, claim);
@@ -698,6 +777,6 @@ impl<T, A: Allocator> Drop for RawVec<T, A> {
             runs: _,
             alloc,
         } = self;
-        give_back(&alloc, capacity, row, claim);
+        free_block(&alloc, capacity, row, claim);
     }
 }

@@ -1,4 +1,4 @@
-//! The raw layer: a row of places in memory, and the right to give that memory back.
+//! The raw layer: a row of places in memory, and the right to deallocate that memory.
 ghost use Rattle.std.specs.Prelude.{◌≡◌, ℕ, ◌+◌, ◌*◌, ◌^◌, ◌<◌, ◌≤◌, List, ◌++◌, Option, Some, None, map, length, take, drop, replicate, get_or, slice_set, IfOk};
 ghost use Rattle.core.specs.Ptr.{ptr_add};
 ghost use Rattle.core.specs.Mem.Slots.{slots_items, slots_len, slots_ptr, IsFull};
@@ -6,7 +6,7 @@ ghost use Rattle.std.specs.Mem.{type_size};
 ghost use Rattle.std.specs.Borrow.{sem};
 ghost use denote.RawPtr.{Ptr};
 ghost use Rattle.aa_raw.specs.Places.{IsRun, IsFilled, IsCapacity, moved, with_run};
-ghost use Rattle.aa_raw.specs.Ownership.{row_owns, row_lends, claim_owns, roomy};
+ghost use Rattle.aa_raw.specs.Ownership.{row_owns, row_shares, claim_owns, capacity_bounds};
 
 mod across;
 
@@ -19,8 +19,9 @@ use std::marker::{Model, PhantomData};
 use std::mem::{align_of, size_of};
 use std::slice;
 
-/// Places side by side in memory from `ptr` on, each empty or holding a value. It owns them, and
-/// not the right to free them.
+/// Adjacent places in memory from `ptr` on, each of which is empty or holds a value.
+///
+/// A row owns its places, but not the right to deallocate them.
 pub struct Row<T> {
     ptr: *mut T,
     ghost places: { List (Option T) },
@@ -29,11 +30,12 @@ pub struct Row<T> {
 impl<T> Model for Row<T> {
     ghost also_owns = { λ r. row_owns T.row r.ptr r.places };
 
-    ghost also_shares = { λ r _ κ. row_lends T.row r.ptr r.places κ };
+    ghost also_shares = { λ r _ κ. row_shares T.row r.ptr r.places κ };
 }
 
-/// The right to give the memory of `len` places at `ptr` back to `alloc`. It takes no bytes, and
-/// says how many places there may be.
+/// The right to deallocate the memory of `len` places at `ptr` with `alloc`.
+///
+/// It is zero-sized at run time, and also bounds the number of places.
 pub struct Claim<T, A: Allocator> {
     mark: PhantomData<*const (T, A)>,
     ghost ptr: { Ptr },
@@ -44,12 +46,12 @@ pub struct Claim<T, A: Allocator> {
 impl<T, A: Allocator> Model for Claim<T, A> {
     ghost also_owns = { λ c. claim_owns T.row (A.dealloc_token c.alloc) c.ptr c.len };
 
-    ghost also_shares = { λ c _ _. roomy T.row c.len };
+    ghost also_shares = { λ c _ _. capacity_bounds T.row c.len };
 }
 
 impl<T, A: Allocator> Claim<T, A> {
-    /// Does nothing: it tells how many places there may be.
-    pub(crate) fn known(&self)
+    /// Proves the bounds of the number of places. Does nothing at run time.
+    pub(crate) fn prove_capacity_bounds(&self)
         ensures { IsCapacity T.row self.now.len }
     {}
 }
@@ -57,7 +59,7 @@ impl<T, A: Allocator> Claim<T, A> {
 impl<T> Row<T> {
     ghost use Rattle.aa_raw.specs.RowLends.{lends_at, lends_from};
 
-    /// Puts `item` into a place. A value that stood there is forgotten.
+    /// Writes `item` into the place `index`. A value that was there is forgotten.
     #[inline(always)]
     pub(crate) fn write(&mut self, index: usize, item: T)
         requires { index < length self.old.places }
@@ -67,7 +69,7 @@ impl<T> Row<T> {
         unsafe { self.ptr.add(index).write(item) }
     }
 
-    /// Moves the value out of a filled place.
+    /// Moves the value out of the filled place `index` and returns it.
     #[inline(always)]
     pub(crate) fn read(&mut self, index: usize) -> T
         requires { IsFilled self.old.places index }
@@ -78,6 +80,7 @@ impl<T> Row<T> {
         unsafe { self.ptr.add(index).read() }
     }
 
+    /// Returns a mutable reference to the value in the filled place `index`.
     pub(crate) fn get_mut(&mut self, index: usize) -> &mut T
         requires { IsFilled self.old.places index }
         ensures* writes_back { sem 𝓛 (lends_at T.row self.entry index result) }
@@ -86,7 +89,7 @@ impl<T> Row<T> {
         unsafe { &mut *self.ptr.add(index) }
     }
 
-    /// The `len` values from `from` on.
+    /// Returns the `len` values from the place `from` on.
     pub(crate) fn slice(&self, from: usize, len: usize) -> &[T]
         requires { IsRun self.now.places from len }
         ensures { take len (drop from self.now.places) ≡ map Some result.now }
@@ -94,6 +97,7 @@ impl<T> Row<T> {
         unsafe { slice::from_raw_parts(self.ptr.add(from), len) }
     }
 
+    /// Returns the `len` values from the place `from` on as a mutable slice.
     pub(crate) fn slice_mut(&mut self, from: usize, len: usize) -> &mut [T]
         requires { IsRun self.old.places from len }
         ensures* writes_back { sem 𝓛 (lends_from T.row self.entry from len result) }
@@ -102,7 +106,7 @@ impl<T> Row<T> {
         unsafe { slice::from_raw_parts_mut(self.ptr.add(from), len) }
     }
 
-    /// Puts `items` into the places from `index` on. Values that stood there are forgotten.
+    /// Writes `items` into the places from `index` on. Values that were there are forgotten.
     #[inline(always)]
     pub(crate) fn write_array<const N: usize>(&mut self, index: usize, items: [T; N])
         requires { index + N ≤ length self.old.places }
@@ -112,8 +116,8 @@ impl<T> Row<T> {
         unsafe { self.ptr.add(index).cast::<[T; N]>().write(items) }
     }
 
-    /// Puts copies of all of `source` into the places from `index` on. Values that stood there are
-    /// forgotten.
+    /// Writes copies of all elements of `source` into the places from `index` on. Values that were
+    /// there are forgotten.
     #[inline(always)]
     #[tactic(auto, using(crate::proofs::Places::put_runs))]
     pub(crate) fn write_copies(&mut self, index: usize, source: &[T])
@@ -125,14 +129,14 @@ impl<T> Row<T> {
             ≡ with_run self.old.places index (length source.now) (map Some source.now)) }
     {
         let mut row = self.cut(index);
-        let behind = row.cut(source.len());
-        let mut row = copied(row, source);
-        row.join(behind);
+        let tail = row.cut(source.len());
+        let mut row = copy_from(row, source);
+        row.join(tail);
         self.join(row);
     }
 
-    // Moves the run of `N` values at `from` to where `to` begins. All of them are read before one is
-    // written, so the two may share places.
+    // Moves the `N` values from the place `from` on to the places from `to` on. All are read before
+    // the first is written, so the two ranges may overlap.
     #[inline(always)]
     #[tactic(auto, using(crate::proofs::Places::array_moves))]
     fn move_array<const N: usize>(&mut self, from: usize, to: usize)
@@ -146,7 +150,7 @@ impl<T> Row<T> {
         self.write_array(to, items);
     }
 
-    /// Moves the first `N` values out.
+    /// Moves the first `N` values out and returns them.
     #[inline(always)]
     pub(crate) fn read_array<const N: usize>(&mut self) -> [T; N]
         requires { IsRun self.old.places 0 N }
@@ -157,8 +161,7 @@ impl<T> Row<T> {
         unsafe { self.ptr.cast::<[T; N]>().read() }
     }
 
-    /// Does nothing when the program runs: what stands in the `_count` places from `_from` on is
-    /// forgotten.
+    /// Forgets the values in the `_count` places from `_from` on. Does nothing at run time.
     #[inline(always)]
     pub(crate) fn forget(&mut self, _from: usize, _count: usize)
         requires { _from + _count ≤ length self.old.places }
@@ -166,8 +169,8 @@ impl<T> Row<T> {
             × (self.new.places ≡ with_run self.old.places _from _count (replicate _count None)) }
     {}
 
-    /// Moves a run of `count` values, of which the first stands at `from`, to where the first is at
-    /// `to`. The two may share places.
+    /// Moves the `count` values from the place `from` on to the places from `to` on. The two ranges
+    /// may overlap.
     #[inline]
     #[tactic(auto, using(crate::proofs::Places::cut_moves))]
     pub(crate) fn move_run(&mut self, from: usize, to: usize, count: usize)
@@ -178,35 +181,35 @@ impl<T> Row<T> {
     {
         if from < to {
             let run = self.cut(from);
-            self.join(raise(run, to - from, count));
+            self.join(shift_up(run, to - from, count));
         } else if to < from {
             let run = self.cut(to);
-            self.join(lower(run, from - to, count));
+            self.join(shift_down(run, from - to, count));
         }
     }
 
-    /// The same, to places that begin before them. A few values are moved in line.
+    /// Like `move_run`, for a `to` before `from`. A few values are moved inline.
     #[inline(always)]
     #[tactic(auto, using(crate::proofs::Places::cut_moves))]
-    pub(crate) fn lower_run(&mut self, from: usize, to: usize, count: usize)
+    pub(crate) fn move_run_down(&mut self, from: usize, to: usize, count: usize)
         requires { IsRun self.old.places from count × (to < from)
             × (length self.old.places < 2 ^ 64) }
         ensures { (self.new.ptr ≡ self.old.ptr)
             × (self.new.places ≡ moved self.old.places from to count) }
     {
         let run = self.cut(to);
-        self.join(lower_any(run, from - to, count));
+        self.join(shift_down_inline(run, from - to, count));
     }
 
-    /// Moves the `count` values from `from` on of `other` to the places from `to` on.
+    /// Moves the `count` values from the place `from` of `other` on to the places from `to` on.
     #[inline]
     pub(crate) fn take_run(&mut self, to: usize, other: &mut Row<T>, from: usize, count: usize)
-        requires here { (to + count ≤ length self.old.places) × (length self.old.places < 2 ^ 64) }
-        requires there { IsRun other.old.places from count × (length other.old.places < 2 ^ 64) }
-        ensures here { (self.new.ptr ≡ self.old.ptr)
+        requires room { (to + count ≤ length self.old.places) × (length self.old.places < 2 ^ 64) }
+        requires filled { IsRun other.old.places from count × (length other.old.places < 2 ^ 64) }
+        ensures moved { (self.new.ptr ≡ self.old.ptr)
             × (self.new.places
             ≡ with_run self.old.places to count (take count (drop from other.old.places))) }
-        ensures there { (other.new.ptr ≡ other.old.ptr)
+        ensures emptied { (other.new.ptr ≡ other.old.ptr)
             × (other.new.places ≡ with_run other.old.places from count (replicate count None)) }
     {
         let row = self.cut(0);
@@ -216,16 +219,16 @@ impl<T> Row<T> {
         other.join(source);
     }
 
-    // The same with one copy of memory.
+    // Like `take_run`, with one copy of memory.
     #[inline(always)]
     #[tactic(auto, using(crate::proofs::Places::put_runs))]
-    fn take_at_once(&mut self, to: usize, other: &mut Row<T>, from: usize, count: usize)
-        requires here { to + count ≤ length self.old.places }
-        requires there { IsRun other.old.places from count }
-        ensures here { (self.new.ptr ≡ self.old.ptr)
+    fn take_run_in_one_copy(&mut self, to: usize, other: &mut Row<T>, from: usize, count: usize)
+        requires room { to + count ≤ length self.old.places }
+        requires filled { IsRun other.old.places from count }
+        ensures moved { (self.new.ptr ≡ self.old.ptr)
             × (self.new.places
             ≡ with_run self.old.places to count (take count (drop from other.old.places))) }
-        ensures there { (other.new.ptr ≡ other.old.ptr)
+        ensures emptied { (other.new.ptr ≡ other.old.ptr)
             × (other.new.places ≡ with_run other.old.places from count (replicate count None)) }
     {
         let row = self.cut(to);
@@ -235,253 +238,254 @@ impl<T> Row<T> {
         other.join(source);
     }
 
-    // Takes the places from `at` on off the end, as a row of their own.
+    // Splits off the places from `at` on and returns them as a separate row.
     #[inline(always)]
     fn cut(&mut self, at: usize) -> Row<T>
         requires { at ≤ length self.old.places }
         ensures before { (self.new.ptr ≡ self.old.ptr)
             × (self.new.places ≡ take at self.old.places) }
-        ensures behind { (result.ptr ≡ ptr_add T.row at self.old.ptr)
+        ensures tail { (result.ptr ≡ ptr_add T.row at self.old.ptr)
             × (result.places ≡ drop at self.old.places) }
-        ensures few { length self.old.places * type_size T.row < 2 ^ 63 }
+        ensures bytes { length self.old.places * type_size T.row < 2 ^ 63 }
     {
         Row {
             ptr: unsafe { self.ptr.add(at) },
         }
     }
 
-    // Puts the places of `behind` back, which begin where these end.
+    // Appends the places of `tail`, which begin where these end.
     #[inline(always)]
-    fn join(&mut self, behind: Row<T>)
-        requires begins { behind.ptr ≡ ptr_add T.row (length self.old.places) self.old.ptr }
-        requires few { (length self.old.places + length behind.places) * type_size T.row < 2 ^ 63 }
+    fn join(&mut self, tail: Row<T>)
+        requires adjacent { tail.ptr ≡ ptr_add T.row (length self.old.places) self.old.ptr }
+        requires bytes { (length self.old.places + length tail.places) * type_size T.row < 2 ^ 63 }
         ensures { (self.new.ptr ≡ self.old.ptr)
-            × (self.new.places ≡ self.old.places ++ behind.places) }
+            × (self.new.places ≡ self.old.places ++ tail.places) }
     {
-        let Row { ptr: _ } = behind;
+        let Row { ptr: _ } = tail;
     }
 }
 
-// The loops own the rows that they move within: the bases then stay in registers, and a move is one
-// pass that the compiler can vectorise. Behind a `&mut` each store would make it load the base
-// again. Where both addresses are a parameter's and a constant, it makes one copy of memory of the
-// loop, before it puts the function in line. So the places that move are cut off as a row, and a
-// move by one place has a function of its own; elements of several words need both that one and its
-// caller.
+// The loops own the rows in which they move values. The base addresses then remain in registers,
+// and a move is one pass that the compiler can vectorise. Through a `&mut` it would load the base
+// again after each store. If both addresses are a parameter plus a constant, the compiler turns the
+// loop into one copy of memory before it inlines the function. So the places that move are split
+// off as a row, and a move by one place has its own function. Elements of several words need both
+// that function and its caller.
 
-// How many values are worth a call.
+// The number of values from which a call is worth its cost.
 const FEW: usize = 8;
 
-// How many bytes an element may have of which few are copied in line.
+// The maximum size in bytes of elements that are copied inline if they are few.
 const SMALL: usize = 8;
 
 // Moves the first `count` values up by `by` places.
-fn raise<T>(row: Row<T>, by: usize, count: usize) -> Row<T>
+fn shift_up<T>(row: Row<T>, by: usize, count: usize) -> Row<T>
     requires { (0 < by) × IsRun row.places 0 count × (by + count ≤ length row.places)
         × (length row.places < 2 ^ 64) }
     ensures { (result.ptr ≡ row.ptr) × (result.places ≡ moved row.places 0 by count) }
 {
     if by == 1 {
-        raise_by_one(row, count)
+        shift_up_by_one(row, count)
     } else {
-        raise_in_arrays(row, by, count)
+        shift_up_in_arrays(row, by, count)
     }
 }
 
-// The same by one place.
-fn raise_by_one<T>(row: Row<T>, count: usize) -> Row<T>
+// Like `shift_up`, by one place.
+fn shift_up_by_one<T>(row: Row<T>, count: usize) -> Row<T>
     requires { IsRun row.places 0 count × (1 + count ≤ length row.places)
         × (length row.places < 2 ^ 64) }
     ensures { (result.ptr ≡ row.ptr) × (result.places ≡ moved row.places 0 1 count) }
 {
-    move_up(row, 1, count)
+    shift_up_each(row, 1, count)
 }
 
-// `lower`, in line where the values are few.
+// Like `shift_down`, inline if the values are few.
 #[inline(always)]
-fn lower_any<T>(row: Row<T>, by: usize, count: usize) -> Row<T>
+fn shift_down_inline<T>(row: Row<T>, by: usize, count: usize) -> Row<T>
     requires { (0 < by) × IsRun row.places by count × (length row.places < 2 ^ 64) }
     ensures { (result.ptr ≡ row.ptr) × (result.places ≡ moved row.places by 0 count) }
 {
     if FEW <= count {
-        lower_many(row, by, count)
+        shift_down_large(row, by, count)
     } else {
-        move_down(row, by, count)
+        shift_down_each(row, by, count)
     }
 }
 
-// `lower`, out of line.
+// Like `shift_down`, out of line.
 #[inline(never)]
-fn lower_many<T>(row: Row<T>, by: usize, count: usize) -> Row<T>
+fn shift_down_large<T>(row: Row<T>, by: usize, count: usize) -> Row<T>
     requires { (0 < by) × IsRun row.places by count × (length row.places < 2 ^ 64) }
     ensures { (result.ptr ≡ row.ptr) × (result.places ≡ moved row.places by 0 count) }
 {
     if by == 1 {
-        lower_by_one(row, count)
+        shift_down_by_one(row, count)
     } else {
-        lower_in_arrays(row, by, count)
+        shift_down_in_arrays(row, by, count)
     }
 }
 
-// Moves the `count` values from place `by` on down to the first place.
-fn lower<T>(row: Row<T>, by: usize, count: usize) -> Row<T>
+// Moves the `count` values from the place `by` on down to the first places.
+fn shift_down<T>(row: Row<T>, by: usize, count: usize) -> Row<T>
     requires { (0 < by) × IsRun row.places by count × (length row.places < 2 ^ 64) }
     ensures { (result.ptr ≡ row.ptr) × (result.places ≡ moved row.places by 0 count) }
 {
     if by == 1 {
-        lower_by_one(row, count)
+        shift_down_by_one(row, count)
     } else {
-        lower_many(row, by, count)
+        shift_down_large(row, by, count)
     }
 }
 
-// The same by one place.
-fn lower_by_one<T>(row: Row<T>, count: usize) -> Row<T>
+// Like `shift_down`, by one place.
+fn shift_down_by_one<T>(row: Row<T>, count: usize) -> Row<T>
     requires { IsRun row.places 1 count × (length row.places < 2 ^ 64) }
     ensures { (result.ptr ≡ row.ptr) × (result.places ≡ moved row.places 1 0 count) }
 {
-    move_down(row, 1, count)
+    shift_down_each(row, 1, count)
 }
 
-// `raise` in arrays of 64 to 128 bytes, which are less work than a loop over values. Elements of
-// several words are moved one by one; of those without size the compiler leaves no move.
+// Like `shift_up`, in arrays of 64 to 128 bytes, which is cheaper than a loop over values. Elements
+// of several words are moved one by one; for zero-sized elements the compiler leaves no move.
 #[inline(never)]
-fn raise_in_arrays<T>(row: Row<T>, by: usize, count: usize) -> Row<T>
+fn shift_up_in_arrays<T>(row: Row<T>, by: usize, count: usize) -> Row<T>
     requires { (0 < by) × IsRun row.places 0 count × (by + count ≤ length row.places)
         × (length row.places < 2 ^ 64) }
     ensures { (result.ptr ≡ row.ptr) × (result.places ≡ moved row.places 0 by count) }
 {
     if is_long::<T>(by) && is_long::<T>(count) {
-        return raise_far(row, by, count);
+        return shift_up_long(row, by, count);
     }
     match element_size::<T>() {
-        1 | 2 => raise_by_arrays::<T, 64>(row, by, count),
-        3 | 4 => raise_by_arrays::<T, 32>(row, by, count),
-        5..=SMALL => raise_by_arrays::<T, 16>(row, by, count),
-        _ => move_up(row, by, count),
+        1 | 2 => shift_up_in_arrays_of::<T, 64>(row, by, count),
+        3 | 4 => shift_up_in_arrays_of::<T, 32>(row, by, count),
+        5..=SMALL => shift_up_in_arrays_of::<T, 16>(row, by, count),
+        _ => shift_up_each(row, by, count),
     }
 }
 
-// `lower` likewise.
+// Like `shift_down`, in the arrays of `shift_up_in_arrays`.
 #[inline(always)]
-fn lower_in_arrays<T>(row: Row<T>, by: usize, count: usize) -> Row<T>
+fn shift_down_in_arrays<T>(row: Row<T>, by: usize, count: usize) -> Row<T>
     requires { (0 < by) × IsRun row.places by count × (length row.places < 2 ^ 64) }
     ensures { (result.ptr ≡ row.ptr) × (result.places ≡ moved row.places by 0 count) }
 {
     if is_long::<T>(count / 2) {
-        return lower_long(row, by, count);
+        return shift_down_long(row, by, count);
     }
     match element_size::<T>() {
-        1 | 2 => lower_by_arrays::<T, 64>(row, by, count),
-        3 | 4 => lower_by_arrays::<T, 32>(row, by, count),
-        5..=SMALL => lower_by_arrays::<T, 16>(row, by, count),
-        _ => move_down(row, by, count),
+        1 | 2 => shift_down_in_arrays_of::<T, 64>(row, by, count),
+        3 | 4 => shift_down_in_arrays_of::<T, 32>(row, by, count),
+        5..=SMALL => shift_down_in_arrays_of::<T, 16>(row, by, count),
+        _ => shift_down_each(row, by, count),
     }
 }
 
-// The same of long runs. By up to twelve places they are moved by a function that knows how many
-// places: of its loop the compiler makes one call of the C library's `memmove`.
+// Like `shift_down`, for long runs. A distance of up to twelve places becomes a constant: the
+// compiler then turns the loop into one call of the C library's `memmove`.
 #[inline(never)]
-fn lower_long<T>(row: Row<T>, by: usize, count: usize) -> Row<T>
+fn shift_down_long<T>(row: Row<T>, by: usize, count: usize) -> Row<T>
     requires { (0 < by) × IsRun row.places by count × (length row.places < 2 ^ 64) }
     ensures { (result.ptr ≡ row.ptr) × (result.places ≡ moved row.places by 0 count) }
 {
     match by {
-        2 => lower_by::<T, 2>(row, count),
-        3 => lower_by::<T, 3>(row, count),
-        4 => lower_by::<T, 4>(row, count),
-        5 => lower_by::<T, 5>(row, count),
-        6 => lower_by::<T, 6>(row, count),
-        7 => lower_by::<T, 7>(row, count),
-        8 => lower_by::<T, 8>(row, count),
-        9 => lower_by::<T, 9>(row, count),
-        10 => lower_by::<T, 10>(row, count),
-        11 => lower_by::<T, 11>(row, count),
-        12 => lower_by::<T, 12>(row, count),
-        _ => lower_in_big_arrays(row, by, count),
+        2 => shift_down_by::<T, 2>(row, count),
+        3 => shift_down_by::<T, 3>(row, count),
+        4 => shift_down_by::<T, 4>(row, count),
+        5 => shift_down_by::<T, 5>(row, count),
+        6 => shift_down_by::<T, 6>(row, count),
+        7 => shift_down_by::<T, 7>(row, count),
+        8 => shift_down_by::<T, 8>(row, count),
+        9 => shift_down_by::<T, 9>(row, count),
+        10 => shift_down_by::<T, 10>(row, count),
+        11 => shift_down_by::<T, 11>(row, count),
+        12 => shift_down_by::<T, 12>(row, count),
+        _ => shift_down_in_large_arrays(row, by, count),
     }
 }
 
-// `lower` by `N` places.
-fn lower_by<T, const N: usize>(row: Row<T>, count: usize) -> Row<T>
+// Like `shift_down`, by `N` places.
+fn shift_down_by<T, const N: usize>(row: Row<T>, count: usize) -> Row<T>
     requires { (0 < N) × IsRun row.places N count × (length row.places < 2 ^ 64) }
     ensures { (result.ptr ≡ row.ptr) × (result.places ≡ moved row.places N 0 count) }
 {
-    move_down(row, N, count)
+    shift_down_each(row, N, count)
 }
 
-// The same by any number of places, in arrays of up to 1,024 bytes: the compiler makes such a call of
-// each of more than 128 bytes.
+// Like `shift_down_long`, by any number of places, in arrays of up to 1,024 bytes. The compiler
+// turns each array of more than 128 bytes into a call of `memmove`.
 #[inline(never)]
-fn lower_in_big_arrays<T>(row: Row<T>, by: usize, count: usize) -> Row<T>
+fn shift_down_in_large_arrays<T>(row: Row<T>, by: usize, count: usize) -> Row<T>
     requires { (0 < by) × IsRun row.places by count × (length row.places < 2 ^ 64) }
     ensures { (result.ptr ≡ row.ptr) × (result.places ≡ moved row.places by 0 count) }
 {
     if is_long::<T>(by) {
-        return lower_in_pieces(row, by, count);
+        return shift_down_in_pieces(row, by, count);
     }
     match element_size::<T>() {
-        1 | 2 => lower_by_arrays::<T, 512>(row, by, count),
-        3 | 4 => lower_by_arrays::<T, 256>(row, by, count),
-        5..=SMALL => lower_by_arrays::<T, 128>(row, by, count),
-        _ => move_down(row, by, count),
+        1 | 2 => shift_down_in_arrays_of::<T, 512>(row, by, count),
+        3 | 4 => shift_down_in_arrays_of::<T, 256>(row, by, count),
+        5..=SMALL => shift_down_in_arrays_of::<T, 128>(row, by, count),
+        _ => shift_down_each(row, by, count),
     }
 }
 
-// `raise` of long runs by many places: in arrays of up to 4,096 bytes, of each of which the compiler
-// makes a call of the C library's `memmove`, and then in pieces.
+// Like `shift_up`, for long runs and by many places: in arrays of up to 4,096 bytes, and then in
+// pieces. The compiler turns each array into a call of the C library's `memmove`.
 #[cold]
 #[inline(never)]
-fn raise_far<T>(row: Row<T>, by: usize, count: usize) -> Row<T>
+fn shift_up_long<T>(row: Row<T>, by: usize, count: usize) -> Row<T>
     requires { (0 < by) × IsRun row.places 0 count × (by + count ≤ length row.places)
         × (length row.places < 2 ^ 64) }
     ensures { (result.ptr ≡ row.ptr) × (result.places ≡ moved row.places 0 by count) }
 {
     match element_size::<T>() {
-        1 | 2 => raise_by_big_arrays::<T, 2048>(row, by, count),
-        3 | 4 => raise_by_big_arrays::<T, 1024>(row, by, count),
-        5..=SMALL => raise_by_big_arrays::<T, 512>(row, by, count),
-        _ => raise_in_pieces(row, by, count),
+        1 | 2 => shift_up_in_large_arrays_of::<T, 2048>(row, by, count),
+        3 | 4 => shift_up_in_large_arrays_of::<T, 1024>(row, by, count),
+        5..=SMALL => shift_up_in_large_arrays_of::<T, 512>(row, by, count),
+        _ => shift_up_in_pieces(row, by, count),
     }
 }
 
-// `raise` in arrays of `N`, unless pieces have as many, and then in pieces.
+// Like `shift_up`, in arrays of `N` values and then in pieces; only in pieces if each has at least
+// `N` values.
 #[inline(always)]
-fn raise_by_big_arrays<T, const N: usize>(row: Row<T>, by: usize, count: usize) -> Row<T>
+fn shift_up_in_large_arrays_of<T, const N: usize>(row: Row<T>, by: usize, count: usize) -> Row<T>
     requires { (0 < N) × (0 < by) × IsRun row.places 0 count × (by + count ≤ length row.places)
         × (length row.places < 2 ^ 64) }
     ensures { (result.ptr ≡ row.ptr) × (result.places ≡ moved row.places 0 by count) }
 {
     if N <= by {
-        return raise_in_pieces(row, by, count);
+        return shift_up_in_pieces(row, by, count);
     }
-    let (row, left) = raise_whole_arrays::<T, N>(row, by, count);
-    raise_in_pieces(row, by, left)
+    let (row, left) = shift_up_whole_arrays::<T, N>(row, by, count);
+    shift_up_in_pieces(row, by, left)
 }
 
-// `raise` in arrays of `N`, and then value by value.
+// Like `shift_up`, in arrays of `N` values and then value by value.
 #[inline(always)]
-fn raise_by_arrays<T, const N: usize>(row: Row<T>, by: usize, count: usize) -> Row<T>
+fn shift_up_in_arrays_of<T, const N: usize>(row: Row<T>, by: usize, count: usize) -> Row<T>
     requires { (0 < N) × (0 < by) × IsRun row.places 0 count × (by + count ≤ length row.places)
         × (length row.places < 2 ^ 64) }
     ensures { (result.ptr ≡ row.ptr) × (result.places ≡ moved row.places 0 by count) }
 {
-    let (row, left) = raise_whole_arrays::<T, N>(row, by, count);
-    move_up(row, by, left)
+    let (row, left) = shift_up_whole_arrays::<T, N>(row, by, count);
+    shift_up_each(row, by, left)
 }
 
-// The loop of `raise` in arrays of `N`, the last first. It answers how many values are left, fewer
-// than `N`.
+// The loop of `shift_up` over arrays of `N` values, from the last to the first. Returns the number
+// of values that remain, fewer than `N`.
 #[inline(always)]
-#[tactic(auto, using(crate::proofs::Calls::raised_in_arrays))]
-fn raise_whole_arrays<T, const N: usize>(
+#[tactic(auto, using(crate::proofs::Calls::shifted_up_in_arrays))]
+fn shift_up_whole_arrays<T, const N: usize>(
     mut row: Row<T>,
     by: usize,
     count: usize,
 ) -> (Row<T>, usize)
     requires { (0 < N) × (0 < by) × IsRun row.places 0 count × (by + count ≤ length row.places)
         × (length row.places < 2 ^ 64) }
-    ensures left { IsRun result.0.places 0 result.1 × (by + result.1 ≤ length row.places) }
+    ensures remaining { IsRun result.0.places 0 result.1 × (by + result.1 ≤ length row.places) }
     ensures row { (result.0.ptr ≡ row.ptr) × (length result.0.places ≡ length row.places) }
     ensures then { moved result.0.places 0 by result.1 ≡ moved row.places 0 by count }
 {
@@ -493,10 +497,11 @@ fn raise_whole_arrays<T, const N: usize>(
     (row, left)
 }
 
-// The loop of `lower` in arrays of `N`, the first first, and then what is left.
+// Like `shift_down`, in a loop over arrays of `N` values from the first to the last, and then the
+// remaining values.
 #[inline(always)]
-#[tactic(auto, using(crate::proofs::Calls::lowered_in_arrays))]
-fn lower_by_arrays<T, const N: usize>(mut row: Row<T>, by: usize, count: usize) -> Row<T>
+#[tactic(auto, using(crate::proofs::Calls::shifted_down_in_arrays))]
+fn shift_down_in_arrays_of<T, const N: usize>(mut row: Row<T>, by: usize, count: usize) -> Row<T>
     requires { (0 < N) × (N ≤ 512) × (0 < by) × IsRun row.places by count
         × (length row.places < 2 ^ 64) }
     ensures { (result.ptr ≡ row.ptr) × (result.places ≡ moved row.places by 0 count) }
@@ -506,33 +511,34 @@ fn lower_by_arrays<T, const N: usize>(mut row: Row<T>, by: usize, count: usize) 
         row.move_array::<N>(by + at, at);
         at += N;
     }
-    lower_rest(row, by, at, count - at)
+    shift_down_rest(row, by, at, count - at)
 }
 
-// `lower` of the `left` values that stand behind the first `at`, in smaller and smaller arrays.
+// Moves the `left` values that remain after the first `at`, in arrays of decreasing length.
 #[inline(always)]
-#[tactic(auto, using(crate::proofs::Calls::lowered_in_arrays))]
-fn lower_rest<T>(row: Row<T>, by: usize, at: usize, left: usize) -> Row<T>
+#[tactic(auto, using(crate::proofs::Calls::shifted_down_in_arrays))]
+fn shift_down_rest<T>(row: Row<T>, by: usize, at: usize, left: usize) -> Row<T>
     requires run { (0 < by) × IsRun row.places (by + at) left × (length row.places < 2 ^ 64) }
     requires few { left < 512 }
     ensures { (result.ptr ≡ row.ptr) × (result.places ≡ moved row.places (by + at) at left) }
 {
-    let (row, at, left) = lower_array::<T, 256>(row, by, at, left);
-    let (row, at, left) = lower_array::<T, 128>(row, by, at, left);
-    let (row, at, left) = lower_array::<T, 64>(row, by, at, left);
-    let (row, at, left) = lower_array::<T, 32>(row, by, at, left);
-    let (row, at, left) = lower_array::<T, 16>(row, by, at, left);
-    let (row, at, left) = lower_array::<T, 8>(row, by, at, left);
-    let (row, at, left) = lower_array::<T, 4>(row, by, at, left);
-    let (row, at, left) = lower_array::<T, 2>(row, by, at, left);
-    let (row, _, _) = lower_array::<T, 1>(row, by, at, left);
+    let (row, at, left) = shift_down_array::<T, 256>(row, by, at, left);
+    let (row, at, left) = shift_down_array::<T, 128>(row, by, at, left);
+    let (row, at, left) = shift_down_array::<T, 64>(row, by, at, left);
+    let (row, at, left) = shift_down_array::<T, 32>(row, by, at, left);
+    let (row, at, left) = shift_down_array::<T, 16>(row, by, at, left);
+    let (row, at, left) = shift_down_array::<T, 8>(row, by, at, left);
+    let (row, at, left) = shift_down_array::<T, 4>(row, by, at, left);
+    let (row, at, left) = shift_down_array::<T, 2>(row, by, at, left);
+    let (row, _, _) = shift_down_array::<T, 1>(row, by, at, left);
     row
 }
 
-// The first `N` of them, where so many are left. It answers how many have moved, and are left.
+// Moves the first `N` of the `left` values that remain, if there are so many. Returns how many
+// values have moved and how many remain.
 #[inline(always)]
-#[tactic(auto, using(crate::proofs::Calls::lowered_in_arrays))]
-fn lower_array<T, const N: usize>(
+#[tactic(auto, using(crate::proofs::Calls::shifted_down_in_arrays))]
+fn shift_down_array<T, const N: usize>(
     mut row: Row<T>,
     by: usize,
     at: usize,
@@ -540,7 +546,7 @@ fn lower_array<T, const N: usize>(
 ) -> (Row<T>, usize, usize)
     requires run { (0 < by) × IsRun row.places (by + at) left × (length row.places < 2 ^ 64) }
     requires few { left < N + N }
-    ensures left { IsRun result.0.places (by + result.1) result.2 × (result.2 < N) }
+    ensures remaining { IsRun result.0.places (by + result.1) result.2 × (result.2 < N) }
     ensures row { (result.0.ptr ≡ row.ptr) × (length result.0.places ≡ length row.places) }
     ensures then { moved result.0.places (by + result.1) result.1 result.2
         ≡ moved row.places (by + at) at left }
@@ -552,12 +558,12 @@ fn lower_array<T, const N: usize>(
     (row, at + N, left - N)
 }
 
-// The loop of `raise` in pieces of `by` values, the last first. A piece and the places that it goes
-// to do not overlap.
+// Like `shift_up`, in a loop over pieces of `by` values from the last to the first. A piece does
+// not overlap the places to which it moves.
 #[cold]
 #[inline(never)]
-#[tactic(auto, using(crate::proofs::Calls::raised_in_arrays))]
-fn raise_in_pieces<T>(mut row: Row<T>, by: usize, count: usize) -> Row<T>
+#[tactic(auto, using(crate::proofs::Calls::shifted_up_in_arrays))]
+fn shift_up_in_pieces<T>(mut row: Row<T>, by: usize, count: usize) -> Row<T>
     requires { (0 < by) × IsRun row.places 0 count × (by + count ≤ length row.places)
         × (length row.places < 2 ^ 64) }
     ensures { (result.ptr ≡ row.ptr) × (result.places ≡ moved row.places 0 by count) }
@@ -565,58 +571,60 @@ fn raise_in_pieces<T>(mut row: Row<T>, by: usize, count: usize) -> Row<T>
     let mut left = count;
     'up: while by <= left {
         left -= by;
-        row = raise_apart(row, left, by + left, by);
+        row = shift_up_apart(row, left, by + left, by);
     }
-    raise_apart(row, 0, by, left)
+    shift_up_apart(row, 0, by, left)
 }
 
-// The loop of `lower` in such pieces, the first first.
+// Like `shift_down`, in a loop over pieces of `by` values from the first to the last.
 #[cold]
 #[inline(never)]
-#[tactic(auto, using(crate::proofs::Calls::lowered_in_arrays))]
-fn lower_in_pieces<T>(mut row: Row<T>, by: usize, count: usize) -> Row<T>
+#[tactic(auto, using(crate::proofs::Calls::shifted_down_in_arrays))]
+fn shift_down_in_pieces<T>(mut row: Row<T>, by: usize, count: usize) -> Row<T>
     requires { (0 < by) × IsRun row.places by count × (length row.places < 2 ^ 64) }
     ensures { (result.ptr ≡ row.ptr) × (result.places ≡ moved row.places by 0 count) }
 {
     let mut at = 0;
     'down: while by <= count - at {
-        row = lower_apart(row, by + at, at, by);
+        row = shift_down_apart(row, by + at, at, by);
         at += by;
     }
-    lower_apart(row, by + at, at, count - at)
+    shift_down_apart(row, by + at, at, count - at)
 }
 
-// Moves the `count` values from `from` on up to the places from `to` on, with one copy of memory.
+// Moves the `count` values from the place `from` on up to the places from `to` on, with one copy of
+// memory. The two ranges do not overlap.
 #[inline(always)]
 #[tactic(auto, using(crate::proofs::Places::apart_moves))]
-fn raise_apart<T>(mut row: Row<T>, from: usize, to: usize, count: usize) -> Row<T>
+fn shift_up_apart<T>(mut row: Row<T>, from: usize, to: usize, count: usize) -> Row<T>
     requires { IsRun row.places from count × (from + count ≤ to)
         × (to + count ≤ length row.places) }
     ensures { (result.ptr ≡ row.ptr) × (result.places ≡ moved row.places from to count) }
 {
     let mut high = row.cut(to);
-    high.take_at_once(0, &mut row, from, count);
+    high.take_run_in_one_copy(0, &mut row, from, count);
     row.join(high);
     row
 }
 
-// The same down.
+// Moves the `count` values from the place `from` on down to the places from `to` on, with one copy
+// of memory. The two ranges do not overlap.
 #[inline(always)]
 #[tactic(auto, using(crate::proofs::Places::apart_moves))]
-fn lower_apart<T>(mut row: Row<T>, from: usize, to: usize, count: usize) -> Row<T>
+fn shift_down_apart<T>(mut row: Row<T>, from: usize, to: usize, count: usize) -> Row<T>
     requires { IsRun row.places from count × (to + count ≤ from) }
     ensures { (result.ptr ≡ row.ptr) × (result.places ≡ moved row.places from to count) }
 {
     let mut high = row.cut(from);
-    row.take_at_once(to, &mut high, 0, count);
+    row.take_run_in_one_copy(to, &mut high, 0, count);
     row.join(high);
     row
 }
 
-// The loop of `raise`, the last value first.
+// Like `shift_up`, in a loop over the values from the last to the first.
 #[inline(always)]
 #[tactic(auto, using(crate::proofs::Places::moved_one_by_one))]
-fn move_up<T>(mut row: Row<T>, by: usize, count: usize) -> Row<T>
+fn shift_up_each<T>(mut row: Row<T>, by: usize, count: usize) -> Row<T>
     requires { (0 < by) × IsRun row.places 0 count × (by + count ≤ length row.places)
         × (length row.places < 2 ^ 64) }
     ensures { (result.ptr ≡ row.ptr) × (result.places ≡ moved row.places 0 by count) }
@@ -629,10 +637,10 @@ fn move_up<T>(mut row: Row<T>, by: usize, count: usize) -> Row<T>
     row
 }
 
-// The loop of `lower`, the first value first.
+// Like `shift_down`, in a loop over the values from the first to the last.
 #[inline(always)]
 #[tactic(auto, using(crate::proofs::Places::moved_one_by_one))]
-fn move_down<T>(mut row: Row<T>, by: usize, count: usize) -> Row<T>
+fn shift_down_each<T>(mut row: Row<T>, by: usize, count: usize) -> Row<T>
     requires { (0 < by) × IsRun row.places by count × (length row.places < 2 ^ 64) }
     ensures { (result.ptr ≡ row.ptr) × (result.places ≡ moved row.places by 0 count) }
 {
@@ -643,43 +651,44 @@ fn move_down<T>(mut row: Row<T>, by: usize, count: usize) -> Row<T>
     row
 }
 
-// Moves the first `count` values of `source` to the first places of `row`, with one copy of memory.
+// Moves the first `count` values of `source` to the first places of `row`, with one copy of memory,
+// and returns both rows.
 #[inline(always)]
 fn copy_apart<T>(row: Row<T>, source: Row<T>, count: usize) -> (Row<T>, Row<T>)
-    requires here { count ≤ length row.places }
-    requires there { IsRun source.places 0 count }
-    ensures here { (result.0.ptr ≡ row.ptr)
+    requires room { count ≤ length row.places }
+    requires filled { IsRun source.places 0 count }
+    ensures moved { (result.0.ptr ≡ row.ptr)
         × (result.0.places ≡ take count source.places ++ drop count row.places) }
-    ensures there { (result.1.ptr ≡ source.ptr)
+    ensures emptied { (result.1.ptr ≡ source.ptr)
         × (result.1.places ≡ replicate count None ++ drop count source.places) }
 {
     unsafe { copy_nonoverlapping(source.ptr, row.ptr, count) };
     (row, source)
 }
 
-// Puts copies of all of `source` into as many places. A short run of small elements is two arrays,
-// one at each end, which may overlap: that is far less work than a call.
+// Writes copies of all elements of `source` into as many places. A short run of small elements is
+// copied as two arrays, one at each end, which may overlap: this is much cheaper than a call.
 #[inline(always)]
-fn copied<T: Copy>(row: Row<T>, source: &[T]) -> Row<T>
+fn copy_from<T: Copy>(row: Row<T>, source: &[T]) -> Row<T>
     requires { length row.places ≡ length source.now }
     ensures { (result.ptr ≡ row.ptr) × (result.places ≡ map Some source.now) }
 {
     let count = source.len();
     if SMALL < element_size::<T>() || count < 4 || 32 < count {
-        copied_at_once(row, source)
+        copy_in_one(row, source)
     } else if count <= 8 {
-        copied_from_ends::<T, 4>(row, source)
+        copy_from_ends::<T, 4>(row, source)
     } else if count <= 16 {
-        copied_from_ends::<T, 8>(row, source)
+        copy_from_ends::<T, 8>(row, source)
     } else {
-        copied_from_ends::<T, 16>(row, source)
+        copy_from_ends::<T, 16>(row, source)
     }
 }
 
-// `copied` of at least `N` and at most twice as many.
+// Like `copy_from`, for at least `N` and at most `2 * N` elements.
 #[inline(always)]
 #[tactic(auto, using(crate::proofs::Places::lengths))]
-fn copied_from_ends<T: Copy, const N: usize>(mut row: Row<T>, source: &[T]) -> Row<T>
+fn copy_from_ends<T: Copy, const N: usize>(mut row: Row<T>, source: &[T]) -> Row<T>
     requires places { length row.places ≡ length source.now }
     requires within { (N ≤ length source.now) × (length source.now ≤ N + N) }
     ensures { (result.ptr ≡ row.ptr) × (result.places ≡ map Some source.now) }
@@ -695,21 +704,22 @@ fn copied_from_ends<T: Copy, const N: usize>(mut row: Row<T>, source: &[T]) -> R
     row
 }
 
-// `copied` of any number. The toolchain's `Slots` does it by one copy of memory.
+// Like `copy_from`, for any number of elements. The toolchain's `Slots` does it with one copy of
+// memory.
 #[inline(always)]
-fn copied_at_once<T: Copy>(row: Row<T>, source: &[T]) -> Row<T>
+fn copy_in_one<T: Copy>(row: Row<T>, source: &[T]) -> Row<T>
     requires { length row.places ≡ length source.now }
     ensures { (result.ptr ≡ row.ptr) × (result.places ≡ map Some source.now) }
 {
-    let mut slots = emptied(row, source);
+    let mut slots = into_slots(row, source);
     slots.copy_in(0, source);
-    filled(slots)
+    from_slots(slots)
 }
 
-// The places of a row as slots, which copy from a loan. What stood there is forgotten. A slot has a
-// value even while it is empty: here one of `like`.
+// Returns the places of a row as slots, which can copy from a borrowed slice. Values that were
+// there are forgotten. In contracts, a slot has a value even if it is empty: here one of `like`.
 #[inline(always)]
-fn emptied<T>(row: Row<T>, like: &[T]) -> Slots<T>
+fn into_slots<T>(row: Row<T>, like: &[T]) -> Slots<T>
     requires { length row.places ≡ length like.now }
     ensures { (slots_ptr result ≡ row.ptr) × (slots_len result ≡ length like.now)
         × (slots_items result ≡ like.now) }
@@ -718,9 +728,9 @@ fn emptied<T>(row: Row<T>, like: &[T]) -> Slots<T>
     unsafe { Slots::from_raw_parts(ptr, like.len()) }
 }
 
-// Slots that all hold their values, as places.
+// Returns full slots as places that hold their values.
 #[inline(always)]
-fn filled<T>(slots: Slots<T>) -> Row<T>
+fn from_slots<T>(slots: Slots<T>) -> Row<T>
     requires { IsFull slots }
     ensures { (result.ptr ≡ slots_ptr slots) × (result.places ≡ map Some (slots_items slots)) }
 {
@@ -728,8 +738,8 @@ fn filled<T>(slots: Slots<T>) -> Row<T>
     Row { ptr: parts.0 }
 }
 
-/// Places that take no bytes, with no call to an allocator.
-pub(crate) fn dangle<T, A: Allocator>(_alloc: &A, _len: usize) -> (Row<T>, Claim<T, A>)
+/// Returns `_len` empty places that take no bytes. Does not allocate.
+pub(crate) fn dangling<T, A: Allocator>(_alloc: &A, _len: usize) -> (Row<T>, Claim<T, A>)
     requires { IsCapacity T.row _len × (_len * type_size T.row ≡ 0) }
     ensures { (result.0.places ≡ replicate _len None) × (result.1.ptr ≡ result.0.ptr)
         × (result.1.len ≡ _len) × (result.1.alloc ≡ _alloc.now) }
@@ -741,7 +751,10 @@ pub(crate) fn dangle<T, A: Allocator>(_alloc: &A, _len: usize) -> (Row<T>, Claim
     (row, Claim { mark: PhantomData })
 }
 
-/// `len` empty places from the allocator.
+/// Allocates `len` empty places.
+///
+/// # Errors
+/// `AllocError` if the allocation fails.
 pub(crate) fn allocate<T, A: Allocator>(
     alloc: &A,
     len: usize,
@@ -761,7 +774,7 @@ pub(crate) fn allocate<T, A: Allocator>(
     }
 }
 
-/// Gives the memory back. What stands in the places is forgotten.
+/// Deallocates the memory of `row`. Values in its places are forgotten.
 pub(crate) fn deallocate<T, A: Allocator>(alloc: &A, len: usize, row: Row<T>, claim: Claim<T, A>)
     requires { (length row.places ≡ len) × (claim.ptr ≡ row.ptr) × (claim.len ≡ len)
         × (claim.alloc ≡ alloc.now) × (0 < len * type_size T.row) }
@@ -773,8 +786,9 @@ pub(crate) fn deallocate<T, A: Allocator>(alloc: &A, len: usize, row: Row<T>, cl
     }
 }
 
-/// Lets go of places that take no bytes, and of what stands in them. Any others would be lost: their
-/// memory goes back by `deallocate` alone.
+/// Forgets places that take no bytes, with the values in them.
+///
+/// Other places would leak: only `deallocate` frees their memory.
 pub(crate) fn forget_row<T, A: Allocator>(row: Row<T>, claim: Claim<T, A>)
     requires { claim.len * type_size T.row ≡ 0 }
 {

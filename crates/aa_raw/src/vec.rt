@@ -1,4 +1,4 @@
-//! What a vector of the original gives up when it ends: the iterator over its items. The vector
-//! itself stands above this crate.
+//! The iterator that a vector of allocator-api2 is turned into. The vector itself is defined above
+//! this crate, in `aa_vec`.
 mod clones;
 pub mod into_iter;

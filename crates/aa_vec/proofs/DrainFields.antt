@@ -1,4 +1,4 @@
--- A drain that is given up, and a range out of which elements were taken: the fields, and what a call asks that is handed them.
+-- A drain that is consumed, and a range from which elements were taken: the fields, and what a call requires that takes them.
 use Rattle.aa_vec.proofs.Common.{Ura, ent, sep, emp, mono∗, id⊢, ◌⊑◌, Lfts, fact, param, RattleType, named_lft, Declared, Ghosts}
 use denote.Struct.Laws as laws
 use Rattle.aa_vec.specs.contracts.vec.Vec as V

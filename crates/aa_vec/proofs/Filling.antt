@@ -1,37 +1,37 @@
--- A gap before the elements behind the items of a vector: items are put into it, and it is made.
-use Rattle.aa_vec.proofs.Common.{◌≡◌, ℕ, ◌+◌, ◌-◌, ◌<◌, ◌≤◌, List, [], ◌∷◌, ◌++◌, length, drop, Option, Some, None, refl, sym, ap, ◌∙◌, subst, arith, length-append, length-take, if◌then◌else◌, ◌==◌, Yields, append-nil, drop-drop, wrote, IsRun, run, moved, length-moved, length-run, IsRun-long, IsRun-same, run-moved, run-moved-below, Vector, len, Becomes, with_room, view_of, IsFront, StandsBehind, SetsBack, ClosesGap, Widens, Placed, FillsGap, FillsAndCloses, Inside, OpensGap, nat_tests, Comes}
+-- A gap before the tail of a vector: how it is made, and how items are put into it.
+use Rattle.aa_vec.proofs.Common.{◌≡◌, ℕ, ◌+◌, ◌-◌, ◌<◌, ◌≤◌, List, [], ◌∷◌, ◌++◌, length, drop, Option, Some, None, refl, sym, ap, ◌∙◌, subst, arith, length-append, length-take, if◌then◌else◌, ◌==◌, Yields, append-nil, drop-drop, with_written, IsRun, run, moved, length-moved, length-run, IsRun-long, IsRun-same, run-moved, run-moved-below, Vector, len, Becomes, with_room, view_of, IsFront, HasTail, SetsTail, ClosesGap, WidensGap, Placed, FillsGap, FillsAndCloses, Inside, OpensGap, nat_tests, YieldsForGap}
 use Rattle.aa_vec.proofs.Becoming.{Becomes-at, Becomes-more, Becomes-refl, GrowsTo-becomes}
 use Rattle.aa_vec.proofs.GrowthLemmas.{MakesRoom-has}
-use Rattle.aa_vec.proofs.BehindLemmas.{still_stand, still_are}
+use Rattle.aa_vec.proofs.TailLemmas.{still_tail, still_are}
 use Rattle.aa_vec.proofs.Gaps.{run-of_drop, IsRun-to_drop, there, elements}
 
--- items that came after others
+-- items that were returned after others
 module _ {S T : Type 0} (steps : S → Option T → S → Type 0) where
   pub Yields-join : (s : S) (xs : List T) (t : S) (ys : List T) (u : S) → Yields steps s xs t → Yields steps t ys u → Yields steps s (xs ++ ys) u
   Yields-join s [] t ys u y z = subst (λ k. Yields steps k ys u) (sym y) z
   Yields-join s (x ∷ xs) t ys u y z = (y.0, y.1, Yields-join y.0 xs t ys u y.2 z)
 
   module _ {A : Type 0} (s : S) (old : Vector T A) (gap n : ℕ) where
-    pub Placed-start : StandsBehind old gap n → Placed steps s old gap n gap s old
-    Placed-start stands =
-        let comes : Comes steps s gap gap s = record { added = []; given = refl; count = omega arith } in
-        record { comes = comes; becomes = rw (append-nil old.items) (Becomes-refl old); stands = stands; elements = refl }
+    pub Placed-start : HasTail old gap n → Placed steps s old gap n gap s old
+    Placed-start has_tail =
+        let comes : YieldsForGap steps s gap gap s = record { added = []; yields = refl; count = omega arith } in
+        record { comes = comes; becomes = rw (append-nil old.items) (Becomes-refl old); has_tail = has_tail; elements = refl }
 
     module _ (left : ℕ) (t : S) (v : Vector T A) (p : Placed steps s old gap n left t v) where
-      -- one more came
-      pub Placed-put : 0 < left → (x : T) (u : S) → steps t (Some x) u → (w : Vector T A) → Becomes v (v.items ++ x ∷ []) 1 1 w → w.behind ≡ drop 1 v.behind → Placed steps s old gap n (left - 1) u w
-      Placed-put h x u step w put behind =
+      -- one more was returned
+      pub Placed-put : 0 < left → (x : T) (u : S) → steps t (Some x) u → (w : Vector T A) → Becomes v (v.items ++ x ∷ []) 1 1 w → w.spare ≡ drop 1 v.spare → Placed steps s old gap n (left - 1) u w
+      Placed-put h x u step w put spare =
           let added : List T = p.comes.added in
           let longer : length (added ++ x ∷ []) ≡ length added + 1 = length-append added (x ∷ []) in
-          let same : drop (left - 1) w.behind ≡ drop left v.behind = ap (drop (left - 1)) behind ∙ drop-drop (left - 1) 1 v.behind ∙ ap (λ i. drop i v.behind) (omega (arith, h)) in
+          let same : drop (left - 1) w.spare ≡ drop left v.spare = ap (drop (left - 1)) spare ∙ drop-drop (left - 1) 1 v.spare ∙ ap (λ i. drop i v.spare) (omega (arith, h)) in
           record {
-            comes = record { added = added ++ x ∷ []; given = Yields-join s added t (x ∷ []) u p.comes.given (u, step, refl); count = omega (arith, longer, p.comes.count, h) };
+            comes = record { added = added ++ x ∷ []; yields = Yields-join s added t (x ∷ []) u p.comes.yields (u, step, refl); count = omega (arith, longer, p.comes.count, h) };
             becomes = Becomes-more old v w added (x ∷ []) _ _ 1 1 _ _ p.becomes put (sym longer) (sym longer);
-            stands = still_stand v w left (left - 1) n p.stands (omega (arith, p.stands.0, ap len put, length-append v.items (x ∷ []), ap (λ u. u.capacity) put, h)) same;
+            has_tail = still_tail v w left (left - 1) n p.has_tail (omega (arith, p.has_tail.0, ap len put, length-append v.items (x ∷ []), ap (λ u. u.capacity) put, h)) same;
             elements = still_are v w left (left - 1) n same ∙ p.elements;
           }
 
-      -- no item is to come
+      -- no item remains
       pub Placed-ended : 0 < left → (u : S) → steps t None u → FillsGap steps s old gap n left u v
       Placed-ended h u step = record { last = t; placed = p; stops = record { full = λ e. absurd (omega (arith, h, e)); ended = λ _. step } }
 
@@ -45,8 +45,8 @@ module _ {S T : Type 0} (steps : S → Option T → S → Type 0) where
         let p = f.placed in
         record { last = f.last; comes = p.comes; stops = f.stops; becomes = rw (← p.elements) (Becomes-more old v w p.comes.added _ _ _ _ _ _ _ p.becomes c.becomes refl refl) }
 
--- the places of a block whose elements behind the items were moved up
-module _ {T A : Type 0} (v : Inside T A) (front : IsFront v) (gap n : ℕ) (stands : StandsBehind (view_of v) 0 n) (room : len (view_of v) + gap + n ≤ length v.block.places) where
+-- the places of a block whose tail was moved up
+module _ {T A : Type 0} (v : Inside T A) (front : IsFront v) (gap n : ℕ) (has_tail : HasTail (view_of v) 0 n) (room : len (view_of v) + gap + n ≤ length v.block.places) where
   counted : len (view_of v) ≡ v.len
   counted = length-run v.block.places 0 v.len front
 
@@ -54,7 +54,7 @@ module _ {T A : Type 0} (v : Inside T A) (front : IsFront v) (gap n : ℕ) (stan
   fits = omega (arith, room, counted)
 
   run_there : IsRun v.block.places v.len n
-  run_there = let P : ℕ → Type 0 = λ i. IsRun v.block.places i n in subst P (omega arith) (there v front 0 n stands)
+  run_there = let P : ℕ → Type 0 = λ i. IsRun v.block.places i n in subst P (omega arith) (there v front 0 n has_tail)
 
   abbrev pub raised : List (Option T)
   raised = moved v.block.places v.len (v.len + gap) n
@@ -71,28 +71,28 @@ module _ {T A : Type 0} (v : Inside T A) (front : IsFront v) (gap n : ℕ) (stan
   pub IsFront-raised : IsRun raised 0 v.len
   IsFront-raised = IsRun-same v.block.places raised 0 v.len long same-front front
 
-  pub OpensGap-view : OpensGap (view_of v) gap n (view_of (record { block = wrote v.block raised (if v.len == v.len + gap then 0 else n); len = v.len }))
+  pub OpensGap-view : OpensGap (view_of v) gap n (view_of (record { block = with_written v.block raised (if v.len == v.len + gap then 0 else n); len = v.len }))
   OpensGap-view =
       let deep : drop gap (drop v.len raised) ≡ drop (v.len + gap) raised = drop-drop gap v.len raised in
       let up : IsRun raised (v.len + gap) n = IsRun-long raised (v.len + gap) n (ap length same-elements ∙ length-run v.block.places v.len n run_there) (omega (arith, long, fits)) in
-      grind (arith, nat_tests, deep, up, same-front, counted, long, fits, run-of_drop, IsRun-to_drop raised (v.len + gap) n up, same-elements, elements v front 0 n stands, ap length same-front)
+      grind (arith, nat_tests, deep, up, same-front, counted, long, fits, run-of_drop, IsRun-to_drop raised (v.len + gap) n up, same-elements, elements v front 0 n has_tail, ap length same-front)
 
--- room is made, the last n items are set back, and moved up
-module _ {T A : Type 0} (size : ℕ) (old w x : Vector T A) (gap n : ℕ) (few : n ≤ len old) (g : Becomes (with_room size old (len old) gap) old.items 0 0 w) (k : ℕ) (e : k ≡ len w) (sets : SetsBack w (k - n) x) where
+-- capacity is reserved, the last n items are set apart as the tail, and moved up
+module _ {T A : Type 0} (size : ℕ) (old w x : Vector T A) (gap n : ℕ) (few : n ≤ len old) (g : Becomes (with_room size old (len old) gap) old.items 0 0 w) (k : ℕ) (e : k ≡ len w) (sets : SetsTail w (k - n) x) where
   same_len : len w ≡ len old
   same_len = ap len g
 
   at_end : len w - (k - n) ≡ n
   at_end = omega (arith, few, same_len, e)
 
-  pub widen_stands : StandsBehind x 0 n
-  widen_stands = subst (StandsBehind x 0) at_end sets.stands
+  pub widen_tail : HasTail x 0 n
+  widen_tail = subst (HasTail x 0) at_end sets.has_tail
 
   pub widen_room : len x + gap + n ≤ x.capacity
-  widen_room = omega (arith, MakesRoom-has size (len old) gap old w (GrowsTo-becomes _ _ _ _ _ size gap g).room, widen_stands.0, ap len sets.becomes, length-take (k - n) w.items, same_len, e, few, ap (λ u. u.capacity) sets.becomes)
+  widen_room = omega (arith, MakesRoom-has size (len old) gap old w (GrowsTo-becomes _ _ _ _ _ size gap g).room, widen_tail.0, ap len sets.becomes, length-take (k - n) w.items, same_len, e, few, ap (λ u. u.capacity) sets.becomes)
 
-  pub Widens-opened : (y : Vector T A) → OpensGap x gap n y → Widens size old gap n y
-  Widens-opened y o = grind (arith, same_len, Becomes-at, at_end)
+  pub WidensGap-opened : (y : Vector T A) → OpensGap x gap n y → WidensGap size old gap n y
+  WidensGap-opened y o = grind (arith, same_len, Becomes-at, at_end)
 
--- a gap, as it is made and filled
-pub ruleset gaps = (Placed-ended, Placed-full, widen_stands, widen_room, Widens-opened)
+-- a gap, as it is opened and filled
+pub ruleset gaps = (Placed-ended, Placed-full, widen_tail, widen_room, WidensGap-opened)

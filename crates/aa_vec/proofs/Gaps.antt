@@ -1,7 +1,7 @@
--- Elements behind the items of a vector, and the gap before them, as the places of its block.
-use Rattle.aa_vec.proofs.Common.{◌≡◌, ℕ, ◌+◌, ◌-◌, ◌<◌, ◌≤◌, List, [], ◌∷◌, ◌++◌, length, map, take, drop, replicate, get_or, Option, Some, None, refl, sym, ap, ◌∙◌, subst, arith, length-append, length-drop, length-set, length-take, slice_set, if◌then◌else◌, ◌==◌, drop-append-le, drop-drop, drop-map, drop-take, drop-set, drop-set-add, drop-set-lt, length-map, length-replicate, length-take-le, take-append-drop, take_at, drop_at, IsRun, length-moved, length-run, IsRun-long, IsRun-part, drop-with, run-drop, run-filled, run-moved, run-moved-below, run-split, run-take, run-is, run-set-above, IsRun-set-above, StandsBehind, LeavesBehind, behind_items, Vector, len, view_of, IsFront, Inside, refill, length_refill, with_places, IsRun-with-below, length-with_run, first-filled, run-one, run-push, run-with-below, cut-long, IsFilled, run, moved, with_run}
+-- The tail of a vector, and the gap before it, as the places of its block.
+use Rattle.aa_vec.proofs.Common.{◌≡◌, ℕ, ◌+◌, ◌-◌, ◌<◌, ◌≤◌, List, [], ◌∷◌, ◌++◌, length, map, take, drop, replicate, get_or, Option, Some, None, refl, sym, ap, ◌∙◌, subst, arith, length-append, length-drop, length-set, length-take, slice_set, if◌then◌else◌, ◌==◌, drop-append-le, drop-drop, drop-map, drop-take, drop-set, drop-set-add, drop-set-lt, length-map, length-replicate, length-take-le, take-append-drop, take_at, drop_at, IsRun, length-moved, length-run, IsRun-long, IsRun-part, drop-with, run-drop, run-filled, run-moved, run-moved-below, run-split, run-take, run-is, run-set-above, IsRun-set-above, HasTail, LeavesInTail, tail_items, Vector, len, view_of, IsFront, Inside, refill, length_refill, with_places, IsRun-with-below, length-with_run, first-filled, run-one, run-push, run-with-below, cut-long, IsFilled, run, moved, with_run}
 
--- where the same stands above two places, the same stands as far above them
+-- if the places above two places are the same, so are the places as far above them
 pub further : {Y : Type 0} (ds es : List Y) (a b c d : ℕ) → a ≤ c → c + b ≡ d + a → drop a ds ≡ drop b es → drop c ds ≡ drop d es
 further ds es a b c d h h' e = grind (arith, drop-drop (c - a) a ds, drop-drop (c - a) b es)
 
@@ -32,7 +32,7 @@ module _ {X : Type 0} where
       let some : X → Option X = λ x. Some x in let all : List X = run cs 0 n in
       cc (take-append-drop n cs, run-filled cs 0 n r, drop-append-le a (map some all) (drop n cs) (omega (arith, h, length-map all some, length-run cs 0 n r)), drop-map some a all)
 
-  -- what stands above a run that was moved down is where it was
+  -- the places above a run that was moved down are unchanged
   pub drop-moved : (cs : List (Option X)) (from to n : ℕ) → to ≤ from → from + n ≤ length cs → drop (from + n) (moved cs from to n) ≡ drop (from + n) cs
   unfolding moved with_run
   drop-moved cs from to n h l =
@@ -45,10 +45,10 @@ pub over_gap : (l gap n : ℕ) → (if l + gap == l then 0 else n) ≡ (if gap =
 over_gap l gap n = grind arith
 
 -- places after a run was moved down over a gap to the l before it
-module _ {X : Type 0} (cs : List (Option X)) (l gap n : ℕ) (stands : IsRun (drop gap (drop l cs)) 0 n) (fits : l + gap + n ≤ length cs) where
+module _ {X : Type 0} (cs : List (Option X)) (l gap n : ℕ) (has_tail : IsRun (drop gap (drop l cs)) 0 n) (fits : l + gap + n ≤ length cs) where
   pub run-closed : run (moved cs (l + gap) l n) 0 (l + n) ≡ run cs 0 l ++ run (drop gap (drop l cs)) 0 n
   run-closed =
-      let there : IsRun cs (l + gap) n = IsRun-of_drop cs (l + gap) n fits (subst (λ ds. IsRun ds 0 n) (drop-drop gap l cs) stands) in
+      let there : IsRun cs (l + gap) n = IsRun-of_drop cs (l + gap) n fits (subst (λ ds. IsRun ds 0 n) (drop-drop gap l cs) has_tail) in
       grind (arith, run-split (moved cs (l + gap) l n) 0 l l n (l + n) (omega arith) refl, run-moved-below cs (l + gap) l n 0 l fits (omega (arith, fits)) (omega arith) (omega arith), run-moved cs (l + gap) l n there (omega (arith, fits)), drop-drop gap l cs, run-of_drop cs (l + gap) n)
 
   pub drop-closed : drop gap (drop (l + n) (moved cs (l + gap) l n)) ≡ drop n (drop gap (drop l cs))
@@ -56,9 +56,9 @@ module _ {X : Type 0} (cs : List (Option X)) (l gap n : ℕ) (stands : IsRun (dr
 
   pub IsRun-closed : IsRun cs 0 l → IsRun (moved cs (l + gap) l n) 0 (l + n)
   IsRun-closed front =
-      IsRun-long (moved cs (l + gap) l n) 0 (l + n) (omega (arith, ap length run-closed, length-append {A = X}, length-run cs 0 l front, length-run (drop gap (drop l cs)) 0 n stands)) (omega (arith, fits, length-moved cs (l + gap) l n fits (omega (arith, fits))))
+      IsRun-long (moved cs (l + gap) l n) 0 (l + n) (omega (arith, ap length run-closed, length-append {A = X}, length-run cs 0 l front, length-run (drop gap (drop l cs)) 0 n has_tail)) (omega (arith, fits, length-moved cs (l + gap) l n fits (omega (arith, fits))))
 
--- other places in a run's stead, over a gap behind the first l
+-- other places instead of a run, over a gap after the first l
 pub drop-laid : {X : Type 0} (cs es : List (Option X)) (l gap n : ℕ) → l + gap + n ≤ length cs → drop gap (drop l (with_run cs (l + gap) n es)) ≡ es ++ drop n (drop gap (drop l cs))
 unfolding with_run
 drop-laid cs es l gap n h =
@@ -74,33 +74,33 @@ take-laid cs es l gap n h =
 pub IsRun-cleared : {X : Type 0} (cs : List (Option X)) (l gap n : ℕ) → IsRun cs 0 l → l + gap + n ≤ length cs → IsRun (with_run cs (l + gap) n (replicate n None)) 0 l
 IsRun-cleared cs l gap n r h = IsRun-with-below cs (l + gap) n (replicate n None) 0 l h (length-replicate n None) (omega arith) r
 
--- what stands behind the vector that is seen
-pub seen : {T A : Type 0} (v : Inside T A) (w : Vector T A) → view_of v ≡ w → (gap n : ℕ) → StandsBehind w gap n → StandsBehind (view_of v) gap n
-seen v w is gap n stands = subst (λ u. StandsBehind u gap n) (sym is) stands
+-- the tail of the view of a vector
+pub seen : {T A : Type 0} (v : Inside T A) (w : Vector T A) → view_of v ≡ w → (gap n : ℕ) → HasTail w gap n → HasTail (view_of v) gap n
+seen v w is gap n has_tail = subst (λ u. HasTail u gap n) (sym is) has_tail
 
 module _ {T A : Type 0} (v : Inside T A) (front : IsFront v) where
-  module _ (gap n : ℕ) (stands : StandsBehind (view_of v) gap n) where
+  module _ (gap n : ℕ) (has_tail : HasTail (view_of v) gap n) where
     pub within : v.len + gap + n ≤ length v.block.places
-    within = omega (arith, stands.0, length-run v.block.places 0 v.len front)
+    within = omega (arith, has_tail.0, length-run v.block.places 0 v.len front)
 
-    -- they are a run of the block
+    -- the elements of the tail are a run of the block
     pub there : IsRun v.block.places (v.len + gap) n
     there =
-        IsRun-of_drop v.block.places (v.len + gap) n within (subst (λ ds. IsRun ds 0 n) (drop-drop gap v.len v.block.places) stands.1)
+        IsRun-of_drop v.block.places (v.len + gap) n within (subst (λ ds. IsRun ds 0 n) (drop-drop gap v.len v.block.places) has_tail.1)
 
-    pub elements : behind_items (view_of v) gap n ≡ run v.block.places (v.len + gap) n
+    pub elements : tail_items (view_of v) gap n ≡ run v.block.places (v.len + gap) n
     elements = ap (λ ds. run ds 0 n) (drop-drop gap v.len v.block.places) ∙ run-of_drop v.block.places (v.len + gap) n
 
   -- one of them is taken
-  module _ (gap : ℕ) (stands : StandsBehind (view_of v) gap 1) where
+  module _ (gap : ℕ) (has_tail : HasTail (view_of v) gap 1) where
     pub filled : IsFilled v.block.places (v.len + gap)
-    filled = first-filled v.block.places (v.len + gap) 1 (there gap 1 stands) (omega arith)
+    filled = first-filled v.block.places (v.len + gap) 1 (there gap 1 has_tail) (omega arith)
 
-    pub taken-value : (x : T) → get_or v.block.places (v.len + gap) None ≡ Some x → behind_items (view_of v) gap 1 ≡ x ∷ []
-    taken-value x e = elements gap 1 stands ∙ run-one v.block.places (v.len + gap) x (omega (arith, within gap 1 stands)) e
+    pub taken-value : (x : T) → get_or v.block.places (v.len + gap) None ≡ Some x → tail_items (view_of v) gap 1 ≡ x ∷ []
+    taken-value x e = elements gap 1 has_tail ∙ run-one v.block.places (v.len + gap) x (omega (arith, within gap 1 has_tail)) e
 
 -- the last item, and an element after the gap
-module _ {T A : Type 0} (v : Inside T A) (front : IsFront v) (some : 0 < v.len) (gap : ℕ) (stands : StandsBehind (view_of v) gap 1) where
+module _ {T A : Type 0} (v : Inside T A) (front : IsFront v) (some : 0 < v.len) (gap : ℕ) (has_tail : HasTail (view_of v) gap 1) where
   abbrev pub before : List T
   before = run v.block.places 0 (v.len - 1)
 
@@ -117,7 +117,7 @@ module _ {T A : Type 0} (v : Inside T A) (front : IsFront v) (some : 0 < v.len) 
     rewritten = slice_set (slice_set v.block.places (v.len + gap) (Some y)) (v.len - 1) (Some m)
 
     inside : v.len + gap < length v.block.places
-    inside = omega (arith, within v front gap 1 stands)
+    inside = omega (arith, within v front gap 1 has_tail)
 
     pub run-rewritten : run rewritten 0 v.len ≡ before ++ m ∷ []
     run-rewritten =
@@ -129,54 +129,54 @@ module _ {T A : Type 0} (v : Inside T A) (front : IsFront v) (some : 0 < v.len) 
         let b = v.block.places in
         cc (drop-drop gap v.len rewritten, drop-set-lt (v.len + gap) (slice_set b (v.len + gap) (Some y)) (v.len - 1) (Some m) (omega arith), drop-set b (v.len + gap) (Some y) inside, drop-drop 1 (v.len + gap) b, drop-drop gap v.len b)
 
--- the n elements after the gap, as they were left by who was lent them
-module _ {T A : Type 0} (v : Inside T A) (front : IsFront v) (gap n : ℕ) (stands : StandsBehind (view_of v) gap n) (xs ws : List T) (shown : take n (drop (v.len + gap) v.block.places) ≡ map Some xs) where
-  -- what was lent
-  pub lent-is : behind_items (view_of v) gap n ≡ xs
-  lent-is = elements v front gap n stands ∙ run-is v.block.places (v.len + gap) n xs shown
+-- the n elements after the gap, as the call that borrowed them left them
+module _ {T A : Type 0} (v : Inside T A) (front : IsFront v) (gap n : ℕ) (has_tail : HasTail (view_of v) gap n) (xs ws : List T) (shown : take n (drop (v.len + gap) v.block.places) ≡ map Some xs) where
+  -- what was borrowed
+  pub borrowed-is : tail_items (view_of v) gap n ≡ xs
+  borrowed-is = elements v front gap n has_tail ∙ run-is v.block.places (v.len + gap) n xs shown
 
-  count-lent : n ≡ length xs
-  count-lent = sym (length-run v.block.places (v.len + gap) n (there v front gap n stands)) ∙ ap length (run-is v.block.places (v.len + gap) n xs shown)
+  count-borrowed : n ≡ length xs
+  count-borrowed = sym (length-run v.block.places (v.len + gap) n (there v front gap n has_tail)) ∙ ap length (run-is v.block.places (v.len + gap) n xs shown)
 
-  abbrev pub relent : List (Option T)
-  relent = with_run v.block.places (v.len + gap) n (map Some (refill n xs ws))
+  abbrev pub restored : List (Option T)
+  restored = with_run v.block.places (v.len + gap) n (map Some (refill n xs ws))
 
   full : length (map (λ (x : T). Some x) (refill n xs ws)) ≡ n
-  full = length-map (refill n xs ws) (λ (x : T). Some x) ∙ sym (length_refill n xs ws count-lent)
+  full = length-map (refill n xs ws) (λ (x : T). Some x) ∙ sym (length_refill n xs ws count-borrowed)
 
-  pub IsFront-relent : IsRun relent 0 v.len
-  IsFront-relent = IsRun-with-below v.block.places (v.len + gap) n (map Some (refill n xs ws)) 0 v.len (within v front gap n stands) full (omega arith) front
+  pub IsFront-restored : IsRun restored 0 v.len
+  IsFront-restored = IsRun-with-below v.block.places (v.len + gap) n (map Some (refill n xs ws)) 0 v.len (within v front gap n has_tail) full (omega arith) front
 
-  -- as many were left as were lent
+  -- as many were left as were borrowed
   pub refilled : length ws ≡ length xs → refill n xs ws ≡ ws
-  refilled e = take_at ws (drop (length ws) xs) n (omega (arith, e, count-lent))
+  refilled e = take_at ws (drop (length ws) xs) n (omega (arith, e, count-borrowed))
 
-  pub LeavesBehind-view : LeavesBehind (view_of v) gap n (refill n xs ws) (view_of (record { block = with_places v.block relent; len = v.len }))
-  LeavesBehind-view =
-      let room : v.len + gap + n ≤ length v.block.places = within v front gap n stands in
+  pub LeavesInTail-view : LeavesInTail (view_of v) gap n (refill n xs ws) (view_of (record { block = with_places v.block restored; len = v.len }))
+  LeavesInTail-view =
+      let room : v.len + gap + n ≤ length v.block.places = within v front gap n has_tail in
       record {
-        same = λ i. record (view_of v) { items = run-with-below v.block.places (v.len + gap) n (map Some (refill n xs ws)) 0 v.len room (omega arith) i; capacity = length-with_run v.block.places (v.len + gap) n (map Some (refill n xs ws)) room full i; behind = drop v.len relent };
+        same = λ i. record (view_of v) { items = run-with-below v.block.places (v.len + gap) n (map Some (refill n xs ws)) 0 v.len room (omega arith) i; capacity = length-with_run v.block.places (v.len + gap) n (map Some (refill n xs ws)) room full i; spare = drop v.len restored };
         below = take-laid v.block.places (map Some (refill n xs ws)) v.len gap n room;
-        behind = drop-laid v.block.places (map Some (refill n xs ws)) v.len gap n room;
+        spare = drop-laid v.block.places (map Some (refill n xs ws)) v.len gap n room;
       }
 
--- places behind the items, as those of the block
-pub ruleset behind = (run-of_drop, IsRun-to_drop, drop-moved, over_gap, drop-drop, drop-set-lt)
+-- places after the items, as those of the block
+pub ruleset spare = (run-of_drop, IsRun-to_drop, drop-moved, over_gap, drop-drop, drop-set-lt)
 
 -- a gap that was closed
 pub ruleset closed = (run-closed, drop-closed, IsRun-closed, over_gap, length-moved, length-run, drop-drop)
 
--- elements that were set back
+-- elements that were set apart as the tail
 pub ruleset set_apart = (drop-set_apart, length-drop, length-take, run-back, IsRun-back, IsRun-front, run-take, length-run)
 
 -- an element that was taken
 pub ruleset emptied = (run-one, run-set-above, length-set, drop-set-add, drop-drop, first-filled, run-of_drop, length-run, IsRun-set-above)
 
--- elements that are lent
-pub ruleset lent = (run-is, drop-drop, run-of_drop, length-run)
+-- elements that are borrowed
+pub ruleset borrowed = (run-is, drop-drop, run-of_drop, length-run)
 
 -- elements that were dropped
 pub ruleset cleared = (drop-laid, drop-drop, run-with-below, IsRun-cleared, length-with_run, length-replicate, length-run)
 
--- an element that is asked beside the last item
+-- an element after the gap for which a closure is called with the last item
 pub ruleset beside = (seen, filled, last-filled, length-run)

@@ -1,4 +1,5 @@
--- A struct by value that a function takes apart, and whose `&mut` it hands on for good. At the return it owes no struct, and so none of the facts of the struct's ghost fields.
+-- A struct by value that a function takes apart, and whose `&mut` it passes on for good. At the return it owes no struct, and so none of
+-- the facts of the struct's ghost fields.
 use Rattle.aa_vec.proofs.Walks.{ℕ, subst, List, [], ◌∷◌, Val, ‵, ◌∵◌, !, qed, fsplit, owns, fields}
 use Rattle.aa_vec.proofs.Common.{Ura, ent, sep, emp, emp∗, via, mono∗, id⊢, Logic, sem, ◌$◌, by, fpick, Lfts, fact, fact_use, fact_i, Are, Ises, owns_show, showss, RattleType, Valss, Declared, row, all_tell, valss, plain}
 use types.Kit.{drop}
@@ -14,7 +15,7 @@ module _ (n : ℕ) (F : Lfts n → RattleType) (k : Kept) where
   pub goes : {M : Type 1} {𝓤 : Ura M} (𝓛 : Logic 𝓤) → Goes 𝓛 n (plain F) k only_said
   goes 𝓛 κs d w vs ok = 𝓛.laws.⇛_intro _
 
--- a struct, each of whose fields tells its machine value, owns what its fields own
+-- a struct, each of whose fields has a machine value, owns what its fields own
 module _ (S : Declared) (L : laws.Laws S) where
   abbrev pub words : S.D → Valss (fields S)
   words d = valss (fields S) (laws.spells S.parts L) (S.to d)

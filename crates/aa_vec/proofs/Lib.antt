@@ -10,8 +10,8 @@ pub mod Joining
 pub mod Room
 pub mod Turns
 pub mod Gaps
-pub mod Asking
-pub mod Stands
+pub mod Calling
+pub mod Tails
 pub mod Chains
 pub mod Stages
 pub mod Retaining
@@ -20,11 +20,11 @@ pub mod Deduplicating
 pub mod ExtractTurns
 pub mod ExtractLemmas
 pub mod ExtractRuns
-pub mod Handed
+pub mod Forwarded
 pub mod Callable
-pub mod Steady
+pub mod PureTests
 pub mod Callers
-pub mod BehindLemmas
+pub mod TailLemmas
 pub mod DrainLemmas
 pub mod Walks
 pub mod GivenUp
@@ -36,6 +36,6 @@ pub mod Reading
 pub mod Replacing
 pub mod SpliceLemmas
 pub mod SpliceFields
-pub mod Answered
+pub mod Outcomes
 pub mod SpliceByItems
 pub mod Flattening

@@ -1,4 +1,4 @@
--- A splice that is given up: its fields, of which the iterator tells no machine value of its own, and what a call asks that is handed them.
+-- A splice that is consumed: its fields, of which the iterator has no machine value of its own, and what a call requires that takes them.
 use Rattle.aa_vec.proofs.Common.{◌∙◌}
 use Rattle.aa_vec.proofs.Walks.{◌≡◌, refl, sym, ap, subst, List, [], ◌∷◌, Val, sep, id⊢, ‵, ◌∵◌, !, qed, fsplit, feq_l, fact, unit, owns, fields}
 pub use Rattle.aa_vec.proofs.Common.{Vector, Ura, ent, emp, emp∗, via, mono∗, Logic, sem, ◌$◌, by, fpick, ◌⊑◌, Lfts, fact_use, fact_i, Are, Ises, owns_show, showss, param, RattleType, Valss, named_lft, Declared, row, Ghosts}
@@ -66,8 +66,8 @@ module _ (I A X : RattleType) (gI : It.Ghosts I.Denot X.Denot) (gA : Ghosts A.De
   Fits κs d v = (T (has_ty (layout I) v) × WT v) × (T (has_tys (to_tys (mirs (fields (Decl κs)))) (of_list (flat (fields (Decl κs)) (words κs d v)))) × WTs (of_list (flat (fields (Decl κs)) (words κs d v))))
 
   module _ {M : Type 1} {𝓤 : Ura M} (𝓛 : Logic 𝓤) (LI : param_law.Laws I) where
-    told : (κs : Lfts 5) (d : D) (vss : Valss (fields (Decl κs))) → Are (fields (Decl κs)) (Ises (fields (Decl κs))) ((Decl κs).to d) vss → (v : Val) × ((vss ≡ words κs d v) × Fits κs d v)
-    told κs d vss are =
+    known : (κs : Lfts 5) (d : D) (vss : Valss (fields (Decl κs))) → Are (fields (Decl κs)) (Ises (fields (Decl κs))) ((Decl κs).to d) vss → (v : Val) × ((vss ≡ words κs d v) × Fits κs d v)
+    known κs d vss are =
         let Rs = fields (Decl κs) in
         let one = alone (layout I) vss.1.1.1.1.1.0 (((param_law.param_laws 0 I LI).lawful 𝓛).typed d.iter vss.1.1.1.1.1.0 are.1.1.1.1.1.0) in
         let vec = mut_Tells (named 0) κs.0 (V.the_row (param 2 X) (param 1 A) gA) d.vec vss.0 are.0 in
@@ -86,7 +86,7 @@ module _ (I A X : RattleType) (gI : It.Ghosts I.Denot X.Denot) (gA : Ghosts A.De
         let Φ : Val → SProp 𝓤 = λ v. sep 𝓤 (fact 𝓤 ((us ≡ word κs d v ∷ []) × Fits κs d v)) (sem 𝓛 (owns Rs a (words κs d v))) in
         qed 𝓛 (‵ ((Row κs).own_val d us) ∷ []) ∵ fpick ! (λ vss. fsplit ! $ feq_l ! (λ e.
         by ! (fact_use 𝓤 (Are Rs (Ises Rs) a vss) (owns_show 𝓛 Rs (Ises Rs) (showss 𝓛 Rs) a vss) (λ are.
-        let w = told κs d vss are in let P : SProp 𝓤 = sem 𝓛 (owns Rs a (words κs d w.0)) in
+        let w = known κs d vss are in let P : SProp 𝓤 = sem 𝓛 (owns Rs a (words κs d w.0)) in
         subst (λ ws. ent 𝓤 (sem 𝓛 (owns Rs a ws)) (ex 𝓤 Φ)) (sym w.1.0)
         (via 𝓤 (Φ w.0) (via 𝓤 (sep 𝓤 (emp 𝓤) P) (emp∗ 𝓤 P) (mono∗ 𝓤 (fact_i 𝓤 _ (emp 𝓤) (e ∙ ap (λ (ws : Valss Rs). vstruct (of_list (flat Rs ws)) ∷ []) w.1.0, w.1.1)) (id⊢ 𝓤 P))) (ex_i 𝓤 Φ w.0))))))
 
@@ -94,7 +94,7 @@ module _ (I A X : RattleType) (gI : It.Ghosts I.Denot X.Denot) (gA : Ghosts A.De
 with_fact : {M : Type 1} (𝓤 : Ura M) {P Q : SProp 𝓤} {φ : Type 0} → φ → ent 𝓤 P Q → ent 𝓤 P (sep 𝓤 (fact 𝓤 φ) Q)
 with_fact 𝓤 {P = P} x rest = via 𝓤 (sep 𝓤 (emp 𝓤) P) (emp∗ 𝓤 P) (mono∗ 𝓤 (fact_i 𝓤 _ (emp 𝓤) x) rest)
 
--- the bounds on the four type parameters and what else the caller asked, and two facts before that
+-- the bounds on the four type parameters and what else the caller required, and two facts before that
 pub asks : {M : Type 1} (𝓤 : Ura M) (I A X W : RattleType) (κs : Lfts 5) (Can : SProp 𝓤) {φ ψ : Type 0} → φ → ψ
     → ent 𝓤 (sep 𝓤 (fact 𝓤 (κs.1.0 ⊑ I.lives)) (sep 𝓤 (fact 𝓤 (κs.1.1.0 ⊑ A.lives)) (sep 𝓤 (fact 𝓤 (κs.1.1.1.0 ⊑ X.lives)) (sep 𝓤 (fact 𝓤 (κs.1.1.1.1.0 ⊑ W.lives)) Can))))
     (sep 𝓤 (fact 𝓤 (κs.1.0 ⊑ I.lives)) (sep 𝓤 (fact 𝓤 (κs.1.1.0 ⊑ A.lives)) (sep 𝓤 (fact 𝓤 (κs.1.1.1.0 ⊑ X.lives)) (sep 𝓤 (fact 𝓤 (κs.1.1.1.1.0 ⊑ W.lives)) (sep 𝓤 (fact 𝓤 φ) (sep 𝓤 (fact 𝓤 ψ) Can))))))

@@ -1,18 +1,18 @@
--- A range that was replaced by items: what an iterator told of them, and what its phases left.
-use Rattle.aa_vec.proofs.Common.{◌≡◌, ℕ, ◌+◌, ◌-◌, ◌*◌, ◌<◌, ◌≤◌, List, [], ◌++◌, length, Option, append_assoc, refl, sym, ap, ◌∙◌, subst, arith, inl, inr, length-append, Result, Ok, Err, Count, Yields, count_of, append-nil, TryReserveError, Vector, len, HasRoom, SameBlock, tail_moves, run_count, moved_over, behind_items, with_behind, Extended, OnOk, IfErr, SplicesAll, FillsAndCloses, PutsAll, Puts, PutsWithin, Replaced, PutsFront, IsFinite, nat_tests, Becomes}
+-- A range that was replaced by items: the lower bounds of an iterator, and what the phases left.
+use Rattle.aa_vec.proofs.Common.{◌≡◌, ℕ, ◌+◌, ◌-◌, ◌*◌, ◌<◌, ◌≤◌, List, [], ◌++◌, length, Option, append_assoc, refl, sym, ap, ◌∙◌, subst, arith, inl, inr, length-append, Result, Ok, Err, Count, Yields, count_of, append-nil, TryReserveError, Vector, len, HasRoom, SameBlock, tail_moves, run_count, moved_over, tail_items, with_spare, ExtendResult, OnOk, IfErr, SplicesAll, FillsAndCloses, PutsAll, Puts, PutsWithin, Replaced, PutsFront, IsFinite, nat_tests, Becomes}
 use Rattle.std.specs.declared.iter.Iterator.{Ghosts}
-use Rattle.aa_vec.proofs.Answered.{IsOk, on_ok, if_err, done_unless}
+use Rattle.aa_vec.proofs.Outcomes.{IsOk, on_ok, if_err, done_unless}
 use Rattle.aa_vec.proofs.Closed.{moved_none, moved_some, moved_most, one_run}
 use Rattle.aa_vec.proofs.Becoming.{SameBlock-becomes}
 use Rattle.aa_vec.proofs.GrowthLemmas.{Extends-items, MakesRoomTwice, MakesRoomTwice-same, SameBlock-trans, MakesRoom-same}
-use Rattle.aa_vec.proofs.ExtendLemmas.{Yields-told, whole_run}
+use Rattle.aa_vec.proofs.ExtendLemmas.{Yields-with_lower, whole_run}
 use Rattle.aa_vec.proofs.Gathered.{LacksOthers-same}
 use Rattle.aa_vec.proofs.HintLemmas.{tells_each, tell_between}
 use Rattle.aa_vec.proofs.SpliceByItems.{Extends-same, SplicesByAll, SplicesByFront, cut_off}
 use Rattle.aa_vec.proofs.Replacing.{moves_beyond, put_between}
 
--- in each state something may be told
-module _ {S T A : Type 0} (g : Ghosts S T) (Tells : S → ℕ → Type 0) (tell : (s : S) → (n : ℕ) × Tells s n) (P : A → Type 0) (size : ℕ) (iter : S) (old : Vector T A) (gap : ℕ) where
+-- in each state there is some bound
+module _ {S T A : Type 0} (g : Ghosts S T) (LowerIs : S → ℕ → Type 0) (tell : (s : S) → (n : ℕ) × LowerIs s n) (P : A → Type 0) (size : ℕ) (iter : S) (old : Vector T A) (gap : ℕ) where
   abbrev steps : S → Option T → S → Type 0
   steps = g.next_gives
 
@@ -21,49 +21,49 @@ module _ {S T A : Type 0} (g : Ghosts S T) (Tells : S → ℕ → Type 0) (tell 
 
   module _ (tail : List T) (r : Result Unit TryReserveError) (new : Vector T A) where
     abbrev pub Spliced : Type 0
-    Spliced = Replaced g Tells (P old.alloc) size iter (cut_off old gap tail) r new
+    Spliced = Replaced g LowerIs (P old.alloc) size iter (cut_off old gap tail) r new
 
     -- a splice, by its two outcomes
-    spliced : OnOk r (SplicesByAll steps Tells size iter (cut_off old gap tail) new) → IfErr r (λ e. SplicesByFront steps Tells size iter (cut_off old gap tail) (P old.alloc) e new) → (count_of (left_of iter) < gap → IsOk r)
-        → (((s : S) (n : ℕ) → IsFinite (left_of s) → count_of (left_of s) ≡ 0 → Tells s n → n ≡ 0) → count_of (left_of iter) ≤ gap → IsOk r) → (tail ≡ [] → HasRoom old (count_of (left_of iter)) → IsOk r)
-        → ((h : ℕ) → ((xs : List T) (t : S) (n : ℕ) → Yields steps iter xs t → length xs ≡ gap → Tells t n → n ≡ h) → count_of (left_of iter) ≤ gap + h → len old + gap + length tail + h ≤ old.capacity → IsOk r)
+    spliced : OnOk r (SplicesByAll steps LowerIs size iter (cut_off old gap tail) new) → IfErr r (λ e. SplicesByFront steps LowerIs size iter (cut_off old gap tail) (P old.alloc) e new) → (count_of (left_of iter) < gap → IsOk r)
+        → (((s : S) (n : ℕ) → IsFinite (left_of s) → count_of (left_of s) ≡ 0 → LowerIs s n → n ≡ 0) → count_of (left_of iter) ≤ gap → IsOk r) → (tail ≡ [] → HasRoom old (count_of (left_of iter)) → IsOk r)
+        → ((h : ℕ) → ((xs : List T) (t : S) (n : ℕ) → Yields steps iter xs t → length xs ≡ gap → LowerIs t n → n ≡ h) → count_of (left_of iter) ≤ gap + h → len old + gap + length tail + h ≤ old.capacity → IsOk r)
         → PutsWithin old (len old + length tail) (length tail) new → Spliced
-    spliced room refused fits_gap fits_full fits_end fits_told writes =
-        let ran = on_ok r room (λ a. (a.taken, (a.went.0.0, (a.last, Yields-told steps Tells a.lower iter a.taken a.last a.told, a.went.0.1)), a.went.1.items)) in record {
+    spliced room failed fits_gap fits_full fits_end fits_lower writes =
+        let ran = on_ok r room (λ a. (a.taken, (a.outcome.0.0, (a.last, Yields-with_lower steps LowerIs a.lower iter a.taken a.last a.yields, a.outcome.0.1)), a.outcome.1.items)) in record {
           items = ran;
           runs = on_ok r ran (whole_run steps iter (λ xs. new.items ≡ old.items ++ (xs ++ tail)));
           fits_gap = fits_gap;
           fits_full = fits_full;
           fits_end = fits_end;
-          fits_told = fits_told;
-          room = room;
+          fits_lower = fits_lower;
+          spliced = room;
           writes = writes;
-          refused = refused;
+          error = failed;
         }
 
   -- the elements of the range were dropped
   module _ (places : List (Option T)) where
     abbrev w : Vector T A
-    w = with_behind old places
+    w = with_spare old places
 
     block : SameBlock old w
     block = record { capacity = refl; growth = refl; grown = refl; alloc = refl }
 
-    -- nothing stands behind the range, and the vector was extended
-    pub Spliced-extended : (after : S) (r : Result Unit TryReserveError) (new : Vector T A) → len old + gap ≤ old.capacity → Extended steps Tells left_of size iter w after r new → Spliced [] r new
-    Spliced-extended after r new fits e =
-        let z = e.writes in
+    -- nothing is after the range, and the vector was extended
+    pub Spliced-extended : (after : S) (r : Result Unit TryReserveError) (new : Vector T A) → len old + gap ≤ old.capacity → (HasRoom w (count_of (left_of iter)) → IsOk r) → ExtendResult steps LowerIs size iter w after r new → Spliced [] r new
+    Spliced-extended after r new fits enough e =
+        let z = e.written in
         let items : (xs : List T) → new.items ≡ old.items ++ xs → new.items ≡ old.items ++ (xs ++ []) = λ xs is. is ∙ ap (λ ys. old.items ++ ys) (sym (append-nil xs)) in
         spliced [] r new
-        (on_ok r e.room (λ t.
-        let all : SplicesAll size t.lower (cut_off old gap []) t.taken new = grind (arith, Extends-items, append-nil, Extends-same block (Ok tt) t.went.1) in
-        record { taken = t.taken; lower = t.lower; last = t.last; told = t.told; went = ((after, t.went.0), all, omega (arith, z.written, ap length (Extends-items t.went.1), length-append old.items t.taken)) }))
-        (if_err r e.refused (λ error t. record { taken = t.taken; lower = t.lower; last = t.last; told = t.told; went = inl (refl, Extends-same block (Err error) t.went.1) }))
-        (λ few. e.fits (omega (arith, few, fits))) (λ _ few. e.fits (omega (arith, few, fits))) (λ _ room. e.fits room) (λ h _ few room. e.fits (omega (arith, few, room)))
-        (omega (arith, z.written, z.runs))
+        (on_ok r e.appended (λ t.
+        let all : SplicesAll size t.lower (cut_off old gap []) t.taken new = grind (arith, Extends-items, append-nil, Extends-same block (Ok tt) t.outcome.1) in
+        record { taken = t.taken; lower = t.lower; last = t.last; yields = t.yields; outcome = ((after, t.outcome.0), all, omega (arith, z.0, ap length (Extends-items t.outcome.1), length-append old.items t.taken)) }))
+        (if_err r e.error (λ error t. record { taken = t.taken; lower = t.lower; last = t.last; yields = t.yields; outcome = inl (refl, Extends-same block (Err error) t.outcome.1) }))
+        (λ few. enough (omega (arith, few, fits))) (λ _ few. enough (omega (arith, few, fits))) (λ _ room. enough room) (λ h _ few room. enough (omega (arith, few, room)))
+        (omega (arith, z.0, z.1))
 
-    -- some elements stand behind the range, and what came filled it, or a part of it
-    module _ (tail : List T) (n : ℕ) (kept : behind_items w gap n ≡ tail) (tail_count : length tail ≡ n) (some : 0 < n) (left : ℕ) (t : S) (x : Vector T A) (f : FillsAndCloses steps iter w gap n left t x) where
+    -- some elements are after the range, and what came filled it, or a part of it
+    module _ (tail : List T) (n : ℕ) (kept : tail_items w gap n ≡ tail) (tail_count : length tail ≡ n) (some : 0 < n) (left : ℕ) (t : S) (x : Vector T A) (f : FillsAndCloses steps iter w gap n left t x) where
       abbrev came : List T
       came = f.comes.added
 
@@ -85,50 +85,50 @@ module _ {S T A : Type 0} (g : Ghosts S T) (Tells : S → ℕ → Type 0) (tell 
       pub Spliced-ended : 0 < left → Spliced tail (Ok tt) x
       Spliced-ended h =
           let few : length came < gap = omega (arith, f.comes.count, h) in
-          let b = tells_each steps Tells tell iter came f.last f.comes.given in
+          let b = tells_each steps LowerIs tell iter came f.last f.comes.yields in
           let all : SplicesAll size b.0 (cut_off old gap tail) came x = grind (arith, x_items, x_block, tail_count, few, some) in
           let written : x.written ≡ old.written + (length came + tail_moves gap (b.0 (length came - gap)) (length came) * length tail) = grind (arith, nat_tests, ap (λ u. u.written) x_becomes, tail_count, moved_some left n h) in
-          spliced tail (Ok tt) x (record { taken = came; lower = b.0; last = f.last; told = b.1; went = ((t, f.stops.ended h), all, written) }) tt (λ _. refl) (λ _ _. refl) (λ _ _. refl) (λ _ _ _ _. refl)
+          spliced tail (Ok tt) x (record { taken = came; lower = b.0; last = f.last; yields = b.1; outcome = ((t, f.stops.ended h), all, written) }) tt (λ _. refl) (λ _ _. refl) (λ _ _. refl) (λ _ _ _ _. refl)
           (omega (arith, ap (λ u. u.written) x_becomes, ap (λ u. u.runs) x_becomes, x_len, tail_count, moved_most left n, one_run (moved_over left n)))
 
-      -- the gap is full, `told` is told then, and the others were put behind
-      module _ (full : left ≡ 0) (told : ℕ) (tells : Tells t told) where
+      -- the gap is full, the lower bound is read then, and the others were put after
+      module _ (full : left ≡ 0) (bound : ℕ) (tells : LowerIs t bound) where
         gap_came : length came ≡ gap
         gap_came = omega (arith, f.comes.count, full)
 
-        given : Yields steps iter came t
-        given = subst (Yields steps iter came) (sym (f.stops.full full)) f.comes.given
+        yields : Yields steps iter came t
+        yields = subst (Yields steps iter came) (sym (f.stops.full full)) f.comes.yields
 
         whole : len x ≡ len old + gap + length tail
         whole = omega (arith, x_len, gap_came, tail_count)
 
-        more_spliced : (new : Vector T A) (after : S) → PutsAll steps size t x told n new after → SplicesByAll steps Tells size iter (cut_off old gap tail) new
+        more_spliced : (new : Vector T A) (after : S) → PutsAll steps size t x bound n new after → SplicesByAll steps LowerIs size iter (cut_off old gap tail) new
         more_spliced new after p =
             let all : List T = came ++ p.added in
-            let e = tells_each steps Tells tell t p.added p.last p.given in
-            let r = tell_between steps Tells tell iter came t given told tells e.0 p.added p.last e.1 in
+            let e = tells_each steps LowerIs tell t p.added p.last p.yields in
+            let r = tell_between steps LowerIs tell iter came t yields bound tells e.0 p.added p.last e.1 in
             let longer : length all ≡ gap + length p.added = omega (arith, length-append came p.added, gap_came) in
             let over_is : length all - gap ≡ length p.added = omega (arith, longer) in
-            let told_is : r.0 (length all - gap) ≡ told = ap r.0 over_is ∙ r.2 in
-            let m : MakesRoomTwice size old (len x) told (length p.added - told) new = MakesRoomTwice-same size (len x) told (length p.added - told) x_block p.room in
+            let bound_is : r.0 (length all - gap) ≡ bound = ap r.0 over_is ∙ r.2 in
+            let m : MakesRoomTwice size old (len x) bound (length p.added - bound) new = MakesRoomTwice-same size (len x) bound (length p.added - bound) x_block p.room in
             let items : new.items ≡ old.items ++ (all ++ tail) = p.items ∙ put_between old.items came tail p.added x.items n x_items tail_count in
-            let whole_put : SplicesAll size r.0 (cut_off old gap tail) all new = grind (arith, items, m, told_is, over_is, whole, tail_count, some, longer) in
+            let whole_put : SplicesAll size r.0 (cut_off old gap tail) all new = grind (arith, items, m, bound_is, over_is, whole, tail_count, some, longer) in
             let written : new.written ≡ old.written + (length all + tail_moves gap (r.0 (length all - gap)) (length all) * length tail) =
-            rw (told_is, tail_count, moves_beyond gap told (length all) (length p.added) longer) (omega (arith, p.written, ap (λ u. u.written) x_becomes, moved_none left n full, longer, gap_came)) in
-            record { taken = all; lower = r.0; last = p.last; told = r.3; went = ((after, p.ends), whole_put, written) }
+            rw (bound_is, tail_count, moves_beyond gap bound (length all) (length p.added) longer) (omega (arith, p.written, ap (λ u. u.written) x_becomes, moved_none left n full, longer, gap_came)) in
+            record { taken = all; lower = r.0; last = p.last; yields = r.3; outcome = ((after, p.ends), whole_put, written) }
 
-        more_refused : (error : TryReserveError) (new : Vector T A) (after : S) → PutsFront steps Tells (P x.alloc) size t x told n error new after → SplicesByFront steps Tells size iter (cut_off old gap tail) (P old.alloc) error new
+        more_refused : (error : TryReserveError) (new : Vector T A) (after : S) → PutsFront steps LowerIs (P x.alloc) size t x bound n error new after → SplicesByFront steps LowerIs size iter (cut_off old gap tail) (P old.alloc) error new
         more_refused error new after p =
             let put : List T = p.front ++ p.others in
-            let r = tell_between steps Tells tell iter came t given told tells p.lower put p.last p.given in
-            let told_is : r.0 (length (came ++ put) - gap) ≡ told = ap r.0 (omega (arith, length-append came put, gap_came)) ∙ r.2 in
+            let r = tell_between steps LowerIs tell iter came t yields bound tells p.lower put p.last p.yields in
+            let bound_is : r.0 (length (came ++ put) - gap) ≡ bound = ap r.0 (omega (arith, length-append came put, gap_came)) ∙ r.2 in
             let count : length (came ++ p.front) ≡ gap + length p.front = omega (arith, length-append came p.front, gap_came) in
             record {
               taken = came ++ put;
               lower = r.0;
               last = p.last;
-              told = r.3;
-              went = inr (
+              yields = r.3;
+              outcome = inr (
                 omega (arith, tail_count, some),
                 record {
                   front = came ++ p.front;
@@ -136,11 +136,11 @@ module _ {S T A : Type 0} (g : Ghosts S T) (Tells : S → ℕ → Type 0) (tell 
                   begins = sym (append_assoc came p.front p.others);
                   items = p.items ∙ put_between old.items came tail p.front x.items n x_items tail_count;
                   why = elim p.why [
-                    | inl h ↦ inl (omega (arith, count, h.0, length-append p.front p.others), SameBlock-trans x_block h.1, rw told_is h.2)
+                    | inl h ↦ inl (omega (arith, count, h.0, length-append p.front p.others), SameBlock-trans x_block h.1, rw bound_is h.2)
                     | inr h ↦
                         inr (
-                          omega (arith, count, h.0, told_is),
-                          rw (told_is, ← whole) (MakesRoom-same size (len x) told x_block h.2),
+                          omega (arith, count, h.0, bound_is),
+                          rw (bound_is, ← whole) (MakesRoom-same size (len x) bound x_block h.2),
                           h.1,
                           LacksOthers-same size p.lower r.0 p.others h.1 (λ k l. r.1 k (omega (arith, l, length-append p.front p.others))) _ _ _ (subst P x_block.alloc) new error h.3,
                         )
@@ -149,17 +149,17 @@ module _ {S T A : Type 0} (g : Ghosts S T) (Tells : S → ℕ → Type 0) (tell 
               );
             }
 
-        pub Spliced-more : (after : S) (r : Result Unit TryReserveError) (new : Vector T A) → Puts steps Tells (P x.alloc) size t x told n left_of r new after → IsFinite (left_of t) → gap + count_of (left_of t) ≤ count_of (left_of iter) → Spliced tail r new
+        pub Spliced-more : (after : S) (r : Result Unit TryReserveError) (new : Vector T A) → Puts steps LowerIs (P x.alloc) size t x bound n left_of r new after → IsFinite (left_of t) → gap + count_of (left_of t) ≤ count_of (left_of iter) → Spliced tail r new
         Spliced-more after r new p ends goes =
             let z = p.writes in
-            spliced tail r new (on_ok r p.all (more_spliced new after)) (if_err r p.refused (λ e front. more_refused e new after front))
+            spliced tail r new (on_ok r p.all (more_spliced new after)) (if_err r p.error (λ e front. more_refused e new after front))
             (λ few. absurd (omega (arith, few, goes)))
             (λ tells_none few.
             let none : count_of (left_of t) ≡ 0 = omega (arith, few, goes) in
-            let is : told ≡ 0 = tells_none t told ends none tells in
+            let is : bound ≡ 0 = tells_none t bound ends none tells in
             done_unless r (if_err r p.few (λ e less. absurd (omega (arith, less (omega (arith, is)), none)))))
             (λ e _. absurd (omega (arith, ap length e, tail_count, some)))
             (λ h once few room.
-            let is : told ≡ h = once came t told given gap_came tells in
+            let is : bound ≡ h = once came t bound yields gap_came tells in
             done_unless r (if_err r p.few (λ e less. absurd (omega (arith, less (omega (arith, is, room, whole, x_block.capacity)), is, few, goes)))))
             (omega (arith, z.1.written, z.1.runs, z.0, ap (λ u. u.written) x_becomes, ap (λ u. u.runs) x_becomes, x_len, tail_count, moved_none left n full, ap run_count (moved_none left n full)))

@@ -1,5 +1,5 @@
 -- The names that a walk by hand cites.
-pub use Rattle.aa_vec.proofs.Common.{ℕ, ◌-◌, ◌+◌, ◌≡◌, refl, sym, ap, subst, List, [], ◌∷◌, ◌++◌, length, sep, id⊢, fact, fact_i, emp, row, Vector, ClosesTwice, ClosesExtract, ◌$◌}
+pub use Rattle.aa_vec.proofs.Common.{ℕ, ◌-◌, ◌+◌, ◌≡◌, refl, sym, ap, subst, List, [], ◌∷◌, ◌++◌, length, sep, id⊢, fact, fact_i, emp, row, Vector, ClosesTwoGaps, ClosesExtract, ◌$◌}
 pub use mir.Syntax.{Args, dcons, dnil, a_type}
 pub use mir.MapTy.{inst_fn}
 pub use mir.Val.{Val, vunit}

@@ -1,31 +1,33 @@
--- Arrays that become vectors, and vectors of arrays whose elements become one list.
+-- Conversions between arrays and vectors, and the flattening of vectors of arrays.
 use Rattle.std.specs.Prelude.{◌≡◌, ℕ, ◌*◌, ◌<◌, ◌≤◌, List, length}
 use Rattle.std.specs.List.{flat_map}
 use Rattle.aa_raw.specs.Growth.{usize_max}
-use Rattle.aa_raw.specs.Refusals.{IsRefusedAt}
+use Rattle.aa_raw.specs.Errors.{IsErrorFor}
 use Rattle.aa_raw.specs.declared.collections.TryReserveError.{TryReserveError}
 use Rattle.aa_raw.specs.declared.collections.TryReserveErrorKind.TheVariants.{CapacityOverflow}
 use Rattle.aa_raw.specs.declared.raw_vec.Growth.TheVariants.{Doubling}
 use Rattle.aa_boxed.specs.Boxed.{Boxed}
-use Rattle.aa_vec.specs.Vector.{Vector, len, sized}
+use Rattle.aa_vec.specs.Vector.{Vector, len, new_capacity}
 
--- the lists of a list, joined in order
+-- the lists of `xss`, concatenated in order
 abbrev pub flattened : {T : Type 0} → List (List T) → List T
 flattened xss = flat_map (λ xs. xs) xss
 
 module _ {T A : Type 0} where
-  -- room for all elements of v, whose arrays have n elements of `size` bytes each, was refused with
-  -- this error, or the allocator's clone was, which succeeds where it is sure to
-  pub record LacksRoomForAll (sure : Type 0) (n size : ℕ) (v : Vector (List T) A)
+  -- capacity for all elements of `v`, whose arrays have `n` elements of `size` bytes each, could
+  -- not be allocated, with this `error`, or the clone of the allocator failed, which `sure`
+  -- excludes
+  pub record LacksRoomForFlattened (sure : Type 0) (n size : ℕ) (v : Vector (List T) A)
       (error : TryReserveError) : Type 0 where
     pub overflow : usize_max < len v * n → error.kind ≡ CapacityOverflow
     pub cause : len v * n ≤ usize_max → sure → (0 < v.capacity * n) × (0 < size)
-    pub number : IsRefusedAt error (sized size (v.capacity * n))
+    pub number : IsErrorFor error (new_capacity size (v.capacity * n))
 
-  -- v has the elements, of `size` bytes, of the array in b, and no room for more
+  -- `v` has the elements, of `size` bytes each, of the array in `b`, no spare capacity, and a clone
+  -- of the allocator
   pub record IsUnboxedArray (clones : A → A → Type 0) (size : ℕ) (b : Boxed (List T) A)
       (v : Vector T A) : Type 0 where
     pub items : v.items ≡ b.value
-    pub capacity : v.capacity ≡ sized size (length b.value)
+    pub capacity : v.capacity ≡ new_capacity size (length b.value)
     pub growth : v.growth ≡ Doubling
     pub alloc : clones b.alloc v.alloc

@@ -1,56 +1,61 @@
--- A vector that items are put behind, one by one, as an iterator gives them, and what the iterator
--- tells of how many are to come.
-use Rattle.std.specs.Prelude.{◌≡◌, ℕ, ◌+◌, ◌-◌, ◌<◌, ◌≤◌, List, [], ◌++◌, length, Option, Some, None, Result, Ok, Err, IfErr, OnOk, IsOk}
+-- A vector to which the items of an iterator are appended one by one, and the lower bounds that the
+-- iterator returns of how many remain.
+use Rattle.std.specs.Prelude.{◌≡◌, ℕ, ◌+◌, ◌-◌, ◌<◌, ◌≤◌, List, [], ◌++◌, length, Option, Some, None, Result, Ok, Err, IfOk, IfErr, OnOk}
 use Rattle.std.specs.Borrow.{Bor}
-use Rattle.std.specs.Iterator.{Count, YieldsFirst, Drains, size as count}
+use Rattle.std.specs.Iterator.{YieldsFirst, Drains}
 use Rattle.std.specs.Iterator.Runs.{WholeRun}
-use Rattle.aa_raw.specs.Growth.{amortized, least_of}
+use Rattle.aa_raw.specs.Growth.{amortized, min_capacity}
 use Rattle.aa_raw.specs.Room.{LacksRoom}
 use Rattle.aa_raw.specs.declared.collections.TryReserveError.{TryReserveError}
-pub use Rattle.aa_boxed.specs.Hints.{TellsAtMost, asked_with, EndsAt, YieldsTelling, Takes}
-use Rattle.aa_vec.specs.Vector.{Vector, len, HasRoom, Writes}
+pub use Rattle.aa_boxed.specs.Hints.{LowerAtMost, requested_with, EndsAt, YieldsWithLower, Takes}
+use Rattle.aa_raw.specs.declared.raw_vec.Growth.TheVariants.{Doubling}
+use Rattle.aa_vec.specs.Vector.{Vector, IsNew}
 
--- what an `Items` has: the items that are to come, in order, and the number that it tells of them
-pub record ItemsLeft (T : Type 0) : Type 0 where
+-- what an `Items` holds: the remaining items, in order, and the hint that it returns of their
+-- number
+pub record RemainingItems (T : Type 0) : Type 0 where
   pub items : List T
-  pub hint : Option ℕ  -- none: it tells how many there are
+  pub hint : Option ℕ  -- for `None` it is how many there are
 
--- an `Items` gave r and left t: the first item, if there was one, and the hint stays
-abbrev pub gives_item : {T : Type 0} → ItemsLeft T → Option T → ItemsLeft T → Type 0
-gives_item s r t = YieldsFirst (λ left. left.items) s r t × (t.hint ≡ s.hint)
+-- an `Items` in the state `s` yielded `r` and is then `t`: `r` is the first item, if there was one,
+-- and the hint is unchanged
+abbrev pub takes_item : {T : Type 0} → RemainingItems T → Option T → RemainingItems T → Type 0
+takes_item s r t = YieldsFirst (λ left. left.items) s r t × (t.hint ≡ s.hint)
 
--- what an `Items` with this hint tells, when `left` items are to come
-abbrev pub lower_by : Option ℕ → (left : ℕ) → ℕ
-lower_by None left = left
-lower_by (Some hint) left = hint
+-- the lower bound that an `Items` with this hint returns when `left` items remain
+abbrev pub lower_bound_of : Option ℕ → (left : ℕ) → ℕ
+lower_bound_of None left = left
+lower_bound_of (Some hint) left = hint
 
 module _ {T A : Type 0} where
-  -- old, of elements of `size` bytes, grew while it was full and had not room for `needed`, any
-  -- number of times, and new has its block. Each time it asked room for the first that found no
-  -- place and as many as were told then: `lower k`, where k others found none
-  pub data GrowsInSteps (size : ℕ) (lower : ℕ → ℕ) (needed : ℕ) : Vector T A → Vector T A → Type 0 where
-    stays : {old new : Vector T A}
+  -- `old`, of elements of `size` bytes, grew any number of times while it was full and had no
+  -- capacity for `needed`, and `new` has its block. Each growth requested capacity for the first
+  -- item without a place and for `lower k` more, where k others had none
+  pub data GrowsInSteps (size : ℕ) (lower : ℕ → ℕ) (needed : ℕ) : Vector T A → Vector T A
+      → Type 0 where
+    unchanged : {old new : Vector T A}
         → new
         ≡ record old {
           items = new.items;
           written = new.written;
           runs = new.runs;
-          behind = new.behind;
+          spare = new.spare;
         }
         → GrowsInSteps size lower needed old new
     grows : {old new : Vector T A} → old.capacity < needed
         → GrowsInSteps size lower needed
         (record old {
           capacity = amortized old.growth old.capacity
-              (old.capacity + asked_with (lower (needed - old.capacity - 1))) (least_of size);
+              (old.capacity + requested_with (lower (needed - old.capacity - 1)))
+              (min_capacity size);
           grown = old.grown + old.capacity;
         })
         new
         → GrowsInSteps size lower needed old new
 
-  -- new has xs and `front`, a beginning of `added`, behind them, in the block of old or the first
-  -- that it grew to with places for all. With this result `front` is all; or it fills the places,
-  -- and the room asked for when the first of the others found none was refused
+  -- `new` has `xs` and after it `front`, a beginning of `added`, in the block of `old` or the first
+  -- that it grew to with places for all. On success `front` is all of `added`; else it fills the
+  -- places, and the growth failed that was requested when the first of the others had no place
   pub record Extends (size : ℕ) (lower : ℕ → ℕ) (old : Vector T A) (xs added : List T)
       (result : Result Unit TryReserveError) (new : Vector T A) : Type 0 where
     pub front : List T
@@ -61,33 +66,58 @@ module _ {T A : Type 0} where
     pub items : new.items ≡ xs ++ front
     pub fits : length xs + length front ≤ new.capacity
     pub all : OnOk result (others ≡ [])
-    pub refused : IfErr result (λ e.
-        let more = asked_with (lower (length others - 1)) in
+    pub error : IfErr result (λ e.
+        let more = requested_with (lower (length others - 1)) in
         (0 < length others) × (length xs + length front ≡ new.capacity)
         × LacksRoom new.capacity (length new.items) more
-        (amortized new.growth new.capacity (length new.items + more) (least_of size)) e)
+        (amortized new.growth new.capacity (length new.items + more) (min_capacity size)) e)
 
--- a call that gave a `&` gave a value equal to what stands there
-abbrev pub CopiesOf : {S T : Type 0} → (S → Option (Bor T) → S → Type 0) → S → Option T → S → Type 0
-CopiesOf next_gives s None t = next_gives s None t
-CopiesOf {T = T} next_gives s (Some x) t = (r : Bor T) × next_gives s (Some r) t × (x ≡ r.now)
+-- a call that yielded a `&` yielded a value equal to what it refers to
+abbrev pub YieldsCopies : {S T : Type 0} → (S → Option (Bor T) → S → Type 0) → S → Option T → S
+    → Type 0
+YieldsCopies next_gives s None t = next_gives s None t
+YieldsCopies {T = T} next_gives s (Some x) t = (r : Bor T) × next_gives s (Some r) t × (x ≡ r.now)
 
--- in this state an iterator tells the number that `lower_of` has for it
-abbrev pub TellsExactly : {S : Type 0} → (S → ℕ) → S → ℕ → Type 0
-TellsExactly lower_of s n = n ≡ lower_of s
+-- in the state `s` the lower bound is the number that `lower_of` has for it
+abbrev pub LowerExactly : {S : Type 0} → (S → ℕ) → S → ℕ → Type 0
+LowerExactly lower_of s n = n ≡ lower_of s
 
--- items of `iter`, of which `remaining` bounds how many are to come and `after` is what is left,
--- were put behind those of old, which is new, with this result: nothing was taken but what was
--- placed and, where room was refused, one item more
-pub record Extended {S T A : Type 0} (next_gives : S → Option T → S → Type 0)
-    (Tells : S → ℕ → Type 0) (remaining : S → Count) (size : ℕ) (iter : S) (old : Vector T A)
-    (after : S) (result : Result Unit TryReserveError) (new : Vector T A) : Type 0 where
+-- `new` is `old` with items of `iter` appended, after a call with this result; `after` is what is
+-- left of `iter`. Only the items that were placed were taken and, if a growth failed, one more
+pub record ExtendResult {S T A : Type 0} (next_gives : S → Option T → S → Type 0)
+    (LowerIs : S → ℕ → Type 0) (size : ℕ) (iter : S) (old : Vector T A) (after : S)
+    (result : Result Unit TryReserveError) (new : Vector T A) : Type 0 where
+  -- on success all items are appended, in order
   pub items : OnOk result ((xs : List T) × Drains next_gives iter xs
       × (new.items ≡ old.items ++ xs))
   pub runs : OnOk result (WholeRun next_gives iter (λ p. new.items ≡ old.items ++ p.items))
-  pub fits : HasRoom old (count (remaining iter)) → IsOk result
-  pub room : OnOk result (Takes next_gives Tells iter (λ lower xs last.
+  -- and the vector grew while it was full
+  pub appended : OnOk result (Takes next_gives LowerIs iter (λ lower xs last.
       next_gives last None after × Extends size lower old old.items xs (Ok tt) new))
-  pub writes : let n = len new - len old in Writes old n n new
-  pub refused : IfErr result (λ e. Takes next_gives Tells iter (λ lower xs last. (last ≡ after)
+  -- each appended item was written once
+  pub written : let n = length new.items - length old.items in
+      (new.written ≡ old.written + n) × (new.runs ≡ old.runs + n)
+  -- on an error `new` has a beginning of the items, and one item more was taken
+  pub error : IfErr result (λ e. Takes next_gives LowerIs iter (λ lower xs last. (last ≡ after)
       × (stop : Extends size lower old old.items xs (Err e) new) × (length stop.others ≡ 1)))
+
+-- a new vector over the allocator `a` was extended with the items of `iter`; the result is the
+-- vector, or the error after which it was dropped
+pub record CollectResult {S T A : Type 0} (next_gives : S → Option T → S → Type 0)
+    (LowerIs : S → ℕ → Type 0) (size : ℕ) (iter : S) (a : A) (after : S)
+    (result : Result (Vector T A) TryReserveError) : Type 0 where
+  -- on success the vector holds all items, in order
+  pub items : IfOk result (λ v. Drains next_gives iter v.items)
+  pub runs : IfOk result (λ v. WholeRun next_gives iter (λ p. v.items ≡ p.items))
+  -- and grew from nothing, as an extension does
+  pub made : IfOk result (λ v. Takes next_gives LowerIs iter (λ lower xs last.
+      next_gives last None after × (new : Vector T A) × IsNew size 0 a new
+      × Extends size lower new new.items xs (Ok tt) v))
+  pub growth : IfOk result (λ v. v.growth ≡ Doubling)
+  pub alloc : IfOk result (λ v. v.alloc ≡ a)
+  -- each item was written once
+  pub written : IfOk result (λ v. (v.written ≡ length v.items) × (v.runs ≡ length v.items))
+  -- on an error a beginning of the items is dropped, and one item more was taken
+  pub error : IfErr result (λ e. Takes next_gives LowerIs iter (λ lower xs last. (last ≡ after)
+      × (new : Vector T A) × (stop : Vector T A) × IsNew size 0 a new
+      × (full : Extends size lower new new.items xs (Err e) stop) × (length full.others ≡ 1)))

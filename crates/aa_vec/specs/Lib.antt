@@ -1,6 +1,6 @@
 pub use Rattle.aa_raw.specs.Closures
 pub use Rattle.aa_raw.specs.Growth
-pub use Rattle.aa_raw.specs.Refusals
+pub use Rattle.aa_raw.specs.Errors
 pub use Rattle.aa_raw.specs.Places
 pub mod Vector
 pub mod VecInner
@@ -10,7 +10,7 @@ pub mod Split
 pub mod Extend
 pub mod Extract
 pub mod Sifting
-pub mod Behind
+pub mod Tail
 pub mod Choosing
 pub mod Until
 pub mod Boxes

@@ -1,5 +1,5 @@
--- What a contract sees of a `Splice`: the range, as a `Drain` has it, and the items that are to
--- come in its place.
+-- What contracts see of a `Splice`: the range, as a `Drain` has it, and the iterator whose items
+-- replace it.
 use Rattle.std.specs.Prelude.{◌≡◌, slice_range, filter_map, Option}
 use Rattle.std.specs.declared.iter.Iterator.{Ghosts}
 use Rattle.aa_vec.specs.Drain.{drains_first, drains_last}
@@ -8,7 +8,7 @@ use Rattle.aa_vec.specs.declared.vec.drain.Drain.{Drain}
 use Rattle.aa_vec.specs.declared.vec.splice.Splice.{Splice}
 
 module _ {I A T : Type 0} {g : Ghosts I T} where
-  -- the range, as a drain of it
+  -- the range of the splice `s`, as a drain of it
   abbrev pub splice_range : Splice I A T g → Drain T A
   splice_range s = record {
     vec = s.vec;
@@ -20,22 +20,23 @@ module _ {I A T : Type 0} {g : Ghosts I T} where
     held = s.held;
   }
 
-  -- what is to come in its place
+  -- the iterator whose items replace the range
   abbrev pub splice_iter : Splice I A T g → I
   splice_iter s = s.iter
 
   -- the vector without the range: the elements before it, which are the items of the vector, how
-  -- many places it had, and the elements behind it, in the places from `end` up to `total`
+  -- many places the range had, and the elements after it, in the places from `end` up to `total`
   abbrev pub splice_gap : Splice I A T g → Gapped T A
   splice_gap s =
       record {
         block = s.vec.now;
         head = s.vec.now.items;
         gap = s.end;
-        tail = filter_map (λ c. c) (slice_range s.vec.now.behind s.end s.total);
+        tail = filter_map (λ c. c) (slice_range s.vec.now.spare s.end s.total);
       }
 
-  -- r was taken from the front of the range of s, which is t afterwards, or nothing was left
+  -- `r` was taken from the front of the range of the splice `s`, which is then `t`, or none
+  -- remained
   abbrev pub splices_first : Splice I A T g → Option T → Splice I A T g → Type 0
   splices_first s r t =
       drains_first (splice_range s) r (splice_range t) × (splice_iter t ≡ splice_iter s)

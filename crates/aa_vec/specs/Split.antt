@@ -1,14 +1,14 @@
--- A vector that is cut in two.
+-- A vector that is split in two.
 use Rattle.std.specs.Prelude.{◌≡◌, ℕ, ◌-◌, ◌<◌, [], take, drop}
 use Rattle.aa_vec.specs.Copies.{IsMade}
 use Rattle.aa_vec.specs.Vector.{Vector, len, Becomes, run_count}
 
 module _ {T A : Type 0} where
-  -- The first `at` elements stay in old's block, and the others were moved into one with room for
-  -- no more. Cut at 0, old goes away with its block, and a new one of the same capacity stands in
-  -- its place
+  -- `head` has the first `at` elements of `old` in its block, and `tail` the others in a new block
+  -- with capacity for exactly these. If `at` is 0, `tail` is `old` with its block, and `head` is
+  -- new, with the same capacity
   pub record Splits (size : ℕ) (old : Vector T A) (at : ℕ) (head tail : Vector T A) : Type 0 where
-    pub head_stays : 0 < at → Becomes old (take at old.items) 0 0 head
+    pub head_kept : 0 < at → Becomes old (take at old.items) 0 0 head
     pub tail_made : 0 < at →
         IsMade size (len old - at) old.growth (drop at old.items) (run_count (len old - at)) tail
     pub tail_all : at ≡ 0 → tail ≡ old

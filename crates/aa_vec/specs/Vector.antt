@@ -1,46 +1,47 @@
--- A vector as contracts see it, and how it makes room.
+-- A vector as contracts see it, and how it reserves capacity.
 use Rattle.std.specs.Prelude.{◌≡◌, ℕ, ◌+◌, ◌-◌, ◌≤◌, min, List, [], length, Option, if◌then◌else◌, nat_le}
 use Rattle.aa_raw.specs.declared.raw_vec.Growth.{Growth}
 use Rattle.aa_raw.specs.declared.raw_vec.Growth.TheVariants.{Doubling}
 use Rattle.aa_raw.specs.declared.collections.TryReserveError.{TryReserveError}
-pub use Rattle.aa_raw.specs.Growth.{sized}
-use Rattle.aa_raw.specs.Growth.{amortized, least_of}
+pub use Rattle.aa_raw.specs.Growth.{new_capacity}
+use Rattle.aa_raw.specs.Growth.{amortized, min_capacity}
 pub use Rattle.aa_raw.specs.Room.{moved_over, run_count}
 use Rattle.aa_raw.specs.Room as Room
 
--- a list beside a capacity, in a block that counts what it does
+-- a list with a capacity, in a block that counts its operations
 pub record Vector (T A : Type 0) : Type 0 where
   pub items : List T
-  pub capacity : ℕ  -- how many items there may be, `usize::MAX` where they have no size
+  pub capacity : ℕ  -- the number of items without growing, `usize::MAX` for zero-sized elements
   pub growth : Growth
   pub grown : ℕ  -- elements moved by growth so far
   pub written : ℕ  -- elements written into places so far
-  pub runs : ℕ  -- calls that wrote any
+  pub runs : ℕ  -- calls of the block that wrote any so far
   pub alloc : A
-  -- the places behind the items, of which only a call speaks that has taken a range out
-  pub behind : List (Option T)
+  -- the places after the items: only calls that remove a range say what they hold
+  pub spare : List (Option T)
 
 module _ {T A : Type 0} where
-  -- how many items v has
+  -- the number of items of `v`
   abbrev pub len : Vector T A → ℕ
   len v = length v.items
 
-  -- k more elements fit
+  -- `v` has spare capacity for `k` more elements
   abbrev pub HasRoom : Vector T A → ℕ → Type 0
   HasRoom v k = k ≤ v.capacity - length v.items
 
-  -- v with room for k more than n elements of `size` bytes: where they do not fit, a growth with room
-  -- to spare moved the n to a new block
+  -- `v` with capacity for `k` more than `n` elements of `size` bytes: if they did not fit, the
+  -- block grew by its policy and the `n` elements were moved
   abbrev pub with_room : (size : ℕ) → Vector T A → (n k : ℕ) → Vector T A
   with_room size v n k =
       record v {
         capacity = if nat_le k (v.capacity - n)
             then v.capacity
-            else amortized v.growth v.capacity (n + k) (least_of size);
+            else amortized v.growth v.capacity (n + k) (min_capacity size);
         grown = if nat_le k (v.capacity - n) then v.grown else v.grown + n;
       }
 
-  -- the same, where a growth makes room for just the n and k
+  -- `v` with capacity for `k` more than `n` elements: if they did not fit, the block grew to
+  -- exactly `n + k` places and the `n` elements were moved
   abbrev pub with_exact_room : Vector T A → (n k : ℕ) → Vector T A
   with_exact_room v n k =
       record v {
@@ -48,57 +49,60 @@ module _ {T A : Type 0} where
         grown = if nat_le k (v.capacity - n) then v.grown else v.grown + n;
       }
 
-  -- v with room for n elements of `size` bytes, or with as many places as before if those are fewer
+  -- `v` with capacity for `n` elements of `size` bytes, or with its own if that is less
   abbrev pub with_less : (size : ℕ) → Vector T A → (n : ℕ) → Vector T A
-  with_less size v n = record v { capacity = min v.capacity (sized size n) }
+  with_less size v n = record v { capacity = min v.capacity (new_capacity size n) }
 
-  -- k more than old has did not fit, and a growth with room to spare was refused with this error
+  -- `old` has no spare capacity for `k` more elements, and growing by its policy failed with this
+  -- `error`
   abbrev pub LacksRoom : (size : ℕ) → Vector T A → (k : ℕ) → TryReserveError → Type 0
   LacksRoom size old k error =
       let n = length old.items in
-      Room.LacksRoom old.capacity n k (amortized old.growth old.capacity (n + k) (least_of size))
+      Room.LacksRoom old.capacity n k (amortized old.growth old.capacity (n + k)
+      (min_capacity size))
       error
 
-  -- the same of a growth to just as many places as are needed
+  -- `old` has no spare capacity for `k` more elements, and growing to exactly the new length failed
+  -- with this `error`
   abbrev pub LacksExactRoom : Vector T A → (k : ℕ) → TryReserveError → Type 0
   LacksExactRoom old k error =
       let n = length old.items in Room.LacksRoom old.capacity n k (n + k) error
 
-  -- v is empty and was just made, with room for n elements of `size` bytes over the allocator a
+  -- `v` is new and empty, with capacity for `n` elements of `size` bytes, over the allocator `a`
   pub record IsNew (size n : ℕ) (a : A) (v : Vector T A) : Type 0 where
     pub items : v.items ≡ []
-    pub capacity : v.capacity ≡ sized size n
+    pub capacity : v.capacity ≡ new_capacity size n
     pub growth : v.growth ≡ Doubling
     pub grown : v.grown ≡ 0
     pub written : v.written ≡ 0
     pub runs : v.runs ≡ 0
     pub alloc : v.alloc ≡ a
 
-  -- new has the block of old
+  -- `new` has the block of `old`
   pub record SameBlock (old new : Vector T A) : Type 0 where
     pub capacity : new.capacity ≡ old.capacity
     pub growth : new.growth ≡ old.growth
     pub grown : new.grown ≡ old.grown
     pub alloc : new.alloc ≡ old.alloc
 
-  -- new has the items xs, and made room for k more than old has
+  -- `new` has the items `xs`, and the block of `old` with capacity reserved for `k` more elements
   pub record GrowsTo (size : ℕ) (old : Vector T A) (k : ℕ) (xs : List T)
       (new : Vector T A) : Type 0 where
     pub items : new.items ≡ xs
     pub room : SameBlock (with_room size old (length old.items) k) new
 
-  -- new has the items xs, in the block of old
+  -- `new` has the items `xs`, in the block of `old`
   pub record Holds (old : Vector T A) (xs : List T) (new : Vector T A) : Type 0 where
     pub items : new.items ≡ xs
     pub block : SameBlock old new
 
-  -- n elements were written into places, by k calls of the block
+  -- `new` is `old` after `k` calls of the block that wrote `n` elements into places
   pub record Writes (old : Vector T A) (n k : ℕ) (new : Vector T A) : Type 0 where
     pub written : new.written ≡ old.written + n
     pub runs : new.runs ≡ old.runs + k
 
-  -- new is old with the items xs, after k calls of the block that wrote n elements; what stands in
-  -- the places behind the items is left open
+  -- `new` is `old` with the items `xs`, after `k` calls of the block that wrote `n` elements; the
+  -- places after the items are left open
   abbrev pub Becomes : (old : Vector T A) → (xs : List T) → (n k : ℕ) → (new : Vector T A) → Type 0
   Becomes old xs n k new =
       new
@@ -106,9 +110,9 @@ module _ {T A : Type 0} where
         items = xs;
         written = old.written + n;
         runs = old.runs + k;
-        behind = new.behind;
+        spare = new.spare;
       }
 
-  -- v with other items as many as it had
+  -- `v` with the items `xs`, as many as it had
   abbrev pub with_items : Vector T A → List T → Vector T A
   with_items v xs = record v { items = xs }

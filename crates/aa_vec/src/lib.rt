@@ -1,4 +1,5 @@
-//! The vector of the port, on the block of `aa_raw`.
+//! The vector of the port: a `Vec` that returns errors instead of aborting, on the block of
+//! `aa_raw`.
 #![tactic(auto)]
 
 pub mod vec;

@@ -1,10 +1,10 @@
-//! `Vec`: a growable list over an allocator. It stands for `allocator_api2::vec`.
+//! `Vec`: a growable list over an allocator. Corresponds to `allocator_api2::vec`.
 ghost use Rattle.std.specs.Prelude.{◌≡◌, ◌+◌, ◌*◌, ◌^◌, ◌<◌, ◌≤◌, [], ◌∷◌, ◌++◌, length, IfOk, IfErr, IfNone, OnOk, OnErr, IsOk, IsTrue, ◌↔◌, MatchOption};
 ghost use Rattle.std.specs.Mem.{type_size};
 ghost use Rattle.std.specs.Borrow.{sem};
 ghost use Rattle.aa_raw.specs.Growth.{usize_max};
 ghost use Rattle.aa_raw.specs.Places.{IsCapacity};
-ghost use Rattle.aa_raw.specs.Refusals.{RefusesBlock};
+ghost use Rattle.aa_raw.specs.Errors.{AllocationFails};
 ghost use Rattle.aa_vec.specs.Copies.{IsMade};
 ghost use Rattle.aa_vec.specs.Vector.{Vector, len, HasRoom, LacksRoom, IsNew, Becomes, with_room};
 ghost use Rattle.aa_vec.specs.VecInner.{view_of, IsFront};
@@ -26,7 +26,6 @@ use std::default::Default;
 use std::marker::Model;
 
 mod append;
-mod behind;
 mod bytes;
 mod clones;
 mod compare;
@@ -43,10 +42,12 @@ mod put;
 mod reserve;
 mod retain;
 pub mod splice;
+mod tail;
 
-/// A growable list over the allocator `A`. It stands for `allocator_api2::vec::Vec`; a call that
-/// takes memory answers a `Result` in place of aborting. Elements without size take no memory and
-/// have the capacity `usize::MAX`.
+/// A growable list over the allocator `A`.
+///
+/// Calls that allocate return a `Result`, where those of the original abort. For zero-sized
+/// elements (ZSTs) the capacity is `usize::MAX`, and no call allocates.
 pub struct Vec<T, A: Allocator = Global> {
     block: RawVec<T, A>,
     len: usize,
@@ -61,18 +62,25 @@ impl<T, A: Allocator> Model for Vec<T, A> {
 }
 
 impl<T> Vec<T, Global> {
-    /// An empty vector on the global allocator. It takes no memory. It stands for `Vec::new`.
+    /// Returns an empty vector on the global allocator.
+    ///
+    /// Does not allocate.
     pub fn new(alloc: Global) -> Self
         ensures { IsNew (type_size T.row) 0 alloc result }
     {
         Vec::new_in(alloc)
     }
 
-    /// An empty vector with room for `capacity` elements on the global allocator; it is refused as
-    /// `with_capacity_in` is. It stands for `Vec::with_capacity`.
+    /// Returns an empty vector on the global allocator with capacity for exactly `capacity`
+    /// elements.
+    ///
+    /// Allocates as `with_capacity_in` does.
+    ///
+    /// # Errors
+    /// Returns the same errors as `with_capacity_in`.
     pub fn with_capacity(alloc: Global, capacity: usize) -> Result<Self, TryReserveError>
         ensures made { IfOk result (λ v. IsNew (type_size T.row) capacity alloc v) }
-        ensures refused { IfErr result (RefusesBlock capacity (type_size T.row)) }
+        ensures error { IfErr result (AllocationFails capacity (type_size T.row)) }
     {
         Vec::with_capacity_in(capacity, alloc)
     }
@@ -82,95 +90,109 @@ impl<T> Vec<T, Global> {
 impl<T, A: Allocator> Vec<T, A> {
     ghost use Rattle.aa_vec.specs.VecLends.{lends_items};
 
-    /// An empty vector. It takes no memory. It stands for `Vec::new_in`.
+    /// Returns an empty vector.
+    ///
+    /// Does not allocate.
     pub fn new_in(alloc: A) -> Self
         ensures { IsNew (type_size T.row) 0 alloc result }
     {
-        Vec::new_growing_in(Growth::Doubling, alloc)
+        Vec::with_growth_in(Growth::Doubling, alloc)
     }
 
-    /// An empty vector that will grow as `growth` says: one that doubles moves fewer elements, and
-    /// one that spares keeps less room that it does not use. It takes no memory. The original has
-    /// no such choice.
+    /// Returns an empty vector with the growth policy `growth`.
+    ///
+    /// A vector that doubles moves fewer elements; one that grows sparingly has less unused
+    /// capacity. Does not allocate.
+    ///
+    /// Not in allocator-api2.
     #[tactic(auto, using(aa_raw::proofs::Calls::with_room))]
-    pub fn new_growing_in(growth: Growth, alloc: A) -> Self
+    pub fn with_growth_in(growth: Growth, alloc: A) -> Self
         ensures made { IsMade (type_size T.row) 0 growth [] 0 result }
         ensures alloc { result.alloc ≡ alloc }
     {
         Vec {
-            block: RawVec::new_growing_in(growth, alloc),
+            block: RawVec::with_growth_in(growth, alloc),
             len: 0,
         }
     }
 
-    /// An empty vector with room for exactly `capacity` elements. It takes memory where `capacity`
-    /// is above 0 and elements have a size. A refusal is `CapacityOverflow`, or `AllocError` with
-    /// this capacity. It stands for `Vec::with_capacity_in`.
+    /// Returns an empty vector with capacity for exactly `capacity` elements.
+    ///
+    /// Allocates if `capacity` is above 0 and the elements are not zero-sized.
+    ///
+    /// # Errors
+    /// Returns `CapacityOverflow`, or `AllocError` with the number `capacity`.
     #[tactic(auto, using(aa_raw::proofs::Calls::with_room))]
     pub fn with_capacity_in(capacity: usize, alloc: A) -> Result<Self, TryReserveError>
         ensures made { IfOk result (λ v. IsNew (type_size T.row) capacity alloc v) }
-        ensures refused { IfErr result (RefusesBlock capacity (type_size T.row)) }
+        ensures error { IfErr result (AllocationFails capacity (type_size T.row)) }
     {
         let block = RawVec::with_capacity_in(capacity, alloc)?;
         Ok(Vec { block, len: 0 })
     }
 
-    /// How many elements there are. It stands for `Vec::len`.
+    /// Returns the number of elements.
     #[inline]
     pub fn len(&self) -> usize
         ensures count { result ≡ len self.now }
         ensures within { len self.now ≤ self.now.capacity }
-        ensures small { result * type_size T.row < 2 ^ 63 }
+        ensures bytes { result * type_size T.row < 2 ^ 63 }
     {
-        self.block.known();
+        self.block.prove_capacity_bounds();
         self.len
     }
 
-    /// Whether there is no element. It stands for `Vec::is_empty`.
+    /// Returns `true` if the vector has no elements.
     pub fn is_empty(&self) -> bool
         ensures { IsTrue result ↔ (self.now.items ≡ []) }
     {
         self.len() == 0
     }
 
-    /// How many elements there may be before the vector grows; `usize::MAX` for elements without
-    /// size. It stands for `Vec::capacity`.
+    /// Returns the number of elements that the vector can hold without growing.
+    ///
+    /// This is `usize::MAX` for zero-sized elements.
     #[inline]
     pub fn capacity(&self) -> usize
         ensures count { result ≡ self.now.capacity }
         ensures within { len self.now ≤ self.now.capacity }
-        ensures may_be { IsCapacity T.row result }
+        ensures possible { IsCapacity T.row result }
     {
         self.block.capacity()
     }
 
-    /// Does nothing when the program runs. It tells the prover that there are at most `usize::MAX`
-    /// places, how many there may be, and no more elements than them. The original has no such
-    /// call.
+    /// Proves the bounds of length and capacity, and does nothing at run time.
+    ///
+    /// The capacity is at most `usize::MAX`, and one that a block of such elements can have. The
+    /// length is at most the capacity.
+    ///
+    /// Not in allocator-api2.
     #[inline(always)]
-    pub fn known(&self)
+    pub fn prove_capacity_bounds(&self)
         ensures within { len self.now ≤ self.now.capacity }
-        ensures few { self.now.capacity ≤ usize_max }
-        ensures may_be { IsCapacity T.row self.now.capacity }
+        ensures fits_usize { self.now.capacity ≤ usize_max }
+        ensures possible { IsCapacity T.row self.now.capacity }
     {
-        self.block.known();
+        self.block.prove_capacity_bounds();
     }
 
-    /// The allocator under the vector. It stands for `Vec::allocator`.
+    /// Returns a reference to the underlying allocator.
     pub fn allocator(&self) -> &A
         ensures { result.now ≡ self.now.alloc }
     {
         self.block.allocator()
     }
 
-    /// How the vector grows.
+    /// Returns the growth policy.
+    ///
+    /// Not in allocator-api2.
     pub fn growth(&self) -> Growth
         ensures { result ≡ self.now.growth }
     {
         self.block.growth()
     }
 
-    /// The elements. It stands for `Vec::as_slice`.
+    /// Returns a slice of all elements.
     #[tactic(auto, using(aa_raw::proofs::Calls::shown))]
     pub fn as_slice(&self) -> &[T]
         ensures { result.now ≡ self.now.items }
@@ -178,7 +200,7 @@ impl<T, A: Allocator> Vec<T, A> {
         self.block.slice(0, self.len)
     }
 
-    /// The elements, to write to. It stands for `Vec::as_mut_slice`.
+    /// Returns a mutable slice of all elements.
     #[tactic(auto, using(aa_raw::proofs::Calls::shown))]
     pub fn as_mut_slice(&mut self) -> &mut [T]
         ensures* writes_back { sem 𝓛 (lends_items T.row A.row A.Allocator self.entry result) }
@@ -187,18 +209,23 @@ impl<T, A: Allocator> Vec<T, A> {
         self.block.slice_mut(0, self.len)
     }
 
-    /// Puts `value` behind the last element. It takes memory only where the vector is full, and
-    /// grows then with room to spare. A refusal hands the value back and changes nothing:
-    /// `CapacityOverflow`, for sure where the length would pass `usize::MAX`, or `AllocError` with
-    /// the capacity asked for. It stands for `Vec::push`.
+    /// Appends `value`.
+    ///
+    /// Allocates only if the vector is full, and then grows by its growth policy.
+    ///
+    /// # Errors
+    /// Returns `CapacityOverflow`, always if the new length would exceed `usize::MAX`; or
+    /// `AllocError` with the requested capacity. The vector is unchanged and `value` is returned in
+    /// the error.
     #[inline]
     #[tactic(auto, using(aa_raw::proofs::Calls::with_room, crate::proofs::Room::placed_in_room))]
     pub fn push(&mut self, value: T) -> Result<(), Refused<T>>
         ensures fits { HasRoom self.old 1 → IsOk result }
-        ensures pushed { let roomy = with_room (type_size T.row) self.old (length self.old.items) 1 in
+        ensures pushed { let n = length self.old.items in
+            let roomy = with_room (type_size T.row) self.old n 1 in
             OnOk result (Becomes roomy (self.old.items ++ value ∷ []) 1 1 self.new) }
-        ensures refused { IfErr result (λ r. LacksRoom (type_size T.row) self.old 1 r.error) }
-        ensures handed_back { IfErr result (λ r. r.source ≡ value) }
+        ensures error { IfErr result (λ r. LacksRoom (type_size T.row) self.old 1 r.error) }
+        ensures returned { IfErr result (λ r. r.source ≡ value) }
         ensures unchanged { OnErr result (self.new ≡ self.old) }
     {
         let len = self.len;
@@ -213,14 +240,16 @@ impl<T, A: Allocator> Vec<T, A> {
         Ok(())
     }
 
-    /// Takes the last element, if there is one. The capacity stays. It stands for `Vec::pop`.
+    /// Removes the last element and returns it, or `None` if the vector is empty.
+    ///
+    /// Does not allocate, and does not change the capacity.
     #[inline]
     #[tactic(auto, using(aa_raw::proofs::Calls::at_ends, crate::proofs::Becoming::becomes))]
     pub fn pop(&mut self) -> Option<T>
         ensures cases { MatchOption result (self.old.items ≡ [])
             (λ y. self.old.items ≡ self.new.items ++ y ∷ []) }
         ensures empty { IfNone result (self.new ≡ self.old) }
-        ensures left { Becomes self.old self.new.items 0 0 self.new }
+        ensures popped { Becomes self.old self.new.items 0 0 self.new }
     {
         if self.len == 0 {
             return None;
@@ -234,14 +263,16 @@ impl<T, A: Allocator> Vec<T, A> {
 impl<T, A: Allocator + Default> Default for Vec<T, A> {
     ghost is_default = { λ v. (a : A) × A.is_default a × IsNew (type_size T.row) 0 a v };
 
-    /// An empty vector over a default allocator. It takes no memory.
+    /// Returns an empty vector over a default allocator.
+    ///
+    /// Does not allocate.
     fn default() -> Self {
         Vec::new_in(A::default())
     }
 }
 
 impl<T: Drop, A: Allocator> Drop for Vec<T, A> {
-    /// Drops the elements in order, and gives the memory back.
+    /// Drops the elements in order, and deallocates the block.
     fn drop(self) {
         let Vec { mut block, len } = self;
         block.drop_run(0, len);

@@ -1,19 +1,19 @@
 -- The names from elsewhere that several proofs here cite, passed on.
-pub use Rattle.aa_raw.specs.Growth.{least_of}
+pub use Rattle.aa_raw.specs.Growth.{min_capacity}
 pub use Rattle.aa_raw.specs.declared.collections.TryReserveError.{TryReserveError}
 pub use Rattle.aa_raw.specs.declared.collections.TryReserveErrorKind.{TryReserveErrorKind}
 pub use Rattle.aa_raw.specs.declared.raw_vec.Growth.{Growth}
 pub use Rattle.aa_raw.specs.declared.raw_vec.Growth.TheVariants.{Doubling}
 pub use Rattle.aa_vec.proofs.GrowthLemmas.{GrowsInSteps-rises, Holds-more, MakesRoom-has, SameBlock-refl, SameBlock-trans}
-pub use Rattle.aa_vec.specs.Choosing.{Asked, AskedInOrder, ChainsFrom, Deduplicated, TakesMut, answers_of}
+pub use Rattle.aa_vec.specs.Choosing.{Call, CalledInOrder, ChainsFrom, Deduplicated, CallableAtMut, results_of}
 pub use Rattle.aa_vec.specs.Copies.{IsMadeWithin, WritesAtMost}
-pub use Rattle.aa_vec.specs.Drain.{TakesRange, drain_rest, drain_tail, drain_vec, range_len}
-pub use Rattle.aa_vec.specs.Extend.{GrowsInSteps, Extends, lower_by}
-pub use Rattle.aa_vec.specs.SpliceItems.{SplicesShort}
+pub use Rattle.aa_vec.specs.Drain.{TakesRange, drain_remaining, drain_tail, drain_vec, range_len}
+pub use Rattle.aa_vec.specs.Extend.{GrowsInSteps, Extends, lower_bound_of}
+pub use Rattle.aa_vec.specs.SpliceItems.{SpliceFails}
 pub use Rattle.aa_vec.specs.Vector.{GrowsTo, HasRoom, Holds, IsNew, SameBlock, Vector, len}
-pub use Rattle.allocator_api2.specs.Commands.{Does, DoesOnMain, DoesStep, asking}
+pub use Rattle.allocator_api2.specs.Commands.{Performs, PerformsOnMain, PerformsStep, state_with_keep}
 pub use Rattle.allocator_api2.specs.RangeCommands.{Chosen, TakesBack, TakesFront}
-pub use Rattle.allocator_api2.specs.Machine.{Answers, Calls, IsPossible, State, Step, calls_of, state_of}
+pub use Rattle.allocator_api2.specs.Machine.{Replies, Calls, IsPossible, State, Step, calls_of, state_of}
 pub use Rattle.allocator_api2.specs.Run.{AddsOrRemoves, IsRun, MayRun, RunsWithin, Turn, added, added_by, hint_of, moves_each}
 pub use Rattle.allocator_api2.specs.declared.runner.Command.{Command}
 pub use Rattle.allocator_api2.specs.declared.runner.Command.TheVariants.{Append, Clear, Dedup, Drain, Extend, ExtractIf, Insert, Pop, Push, Remove, Retain, Splice, SplitOff, SwapRemove, Truncate, Within}

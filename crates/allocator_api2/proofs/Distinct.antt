@@ -45,7 +45,7 @@ module _ {T : Type 0} where
         let first : lt y x ≡ false = h zero x (omega arith) (omega arith) in
         ((first, all_map (λ z l. o.chain z y x l first) ys rest.0), rest)
 
-    -- k differs from x behind it, and so from each y that is not less than x
+    -- k differs from x after it, and so from each y that is not less than x
     apart : (k x y : T) → lt x k ≡ false → same x k ≡ false → lt y x ≡ false → same k y ≡ false
     apart k x y up differ l =
         let less : lt k x ≡ true = not_less (lt x k) (lt k x) up (sym (o.tie x k) ∙ differ) in
@@ -71,7 +71,7 @@ tie_of c Less e = ap is_eq e ∙ sym (ap (λ b. not (is_lt b) && false) e)
 tie_of c Equal e = ap is_eq e ∙ sym (ap (λ b. not (is_lt b) && true) e)
 tie_of c Greater e = ap is_eq e ∙ sym (ap (λ b. not (is_lt b) && true) e)
 
--- an order that `cmp` gives, of keys
+-- the order of keys by `cmp`
 pub by_key : {T K : Type 0} {E : K → K → Bool} {R : K → K → Ordering} → IsTotalOrder R → ((x y : K) → E x y ≡ eq_by_cmp R x y) → (key : T → K) → OrdersUpTo (λ x y. E (key x) (key y)) (λ x y. is_lt (R (key x) (key y)))
 by_key {R = R} o tied key = record {
   chain = (ranks_by o key).chain;

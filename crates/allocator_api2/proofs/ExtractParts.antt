@@ -1,10 +1,10 @@
 -- Elements that a run takes out of a range of main.
-use Rattle.allocator_api2.proofs.Common.{◌≡◌, ℕ, ◌+◌, ◌-◌, ◌<◌, ◌≤◌, Bool, List, [], ◌∷◌, ◌++◌, length, take, drop, Some, None, refl, sym, ap, ◌∙◌, subst, arith, inl, inr, length-append, length-drop, length-take, slice_range, ◌⊎◌, append-nil, drop-drop, take-append-drop, Asked, AskedInOrder, Vector, len, HasRoom, Holds, SameBlock-refl, SameBlock-trans, Chosen, State, asking, Holds-more, length-map}
+use Rattle.allocator_api2.proofs.Common.{◌≡◌, ℕ, ◌+◌, ◌-◌, ◌<◌, ◌≤◌, Bool, List, [], ◌∷◌, ◌++◌, length, take, drop, Some, None, refl, sym, ap, ◌∙◌, subst, arith, inl, inr, length-append, length-drop, length-take, slice_range, ◌⊎◌, append-nil, drop-drop, take-append-drop, Call, CalledInOrder, Vector, len, HasRoom, Holds, SameBlock-refl, SameBlock-trans, Chosen, State, state_with_keep, Holds-more, length-map}
 use Rattle.std.specs.Prelude.{filter, not}
 use Rattle.std.proofs.lemmas.List.{drop-append-le}
 use Rattle.std.proofs.lemmas.List.Filters.{length-filter_both}
 use Rattle.aa_vec.specs.Choosing.{EndsTrue, IsCallableInOrder, kept, passed_over}
-use Rattle.aa_vec.specs.Extract.{ClosesExtract, Extracts, ExtractsRange, extract_rest, extract_tail}
+use Rattle.aa_vec.specs.Extract.{ClosesExtract, Extracts, ExtractsRange, extract_remaining, extract_tail}
 use Rattle.aa_vec.specs.declared.vec.extract_if.ExtractBy.{ExtractBy}
 use Rattle.aa_vec.proofs.Becoming.{SameBlock-becomes}
 use Rattle.aa_vec.proofs.ExtractRuns.{ExtractedTo, ExtractedTo-none, Extracted-more, Extracted-end, asked_count, extracts_may}
@@ -12,54 +12,54 @@ use Rattle.allocator_api2.proofs.Taking.{choice_le}
 use Rattle.allocator_api2.specs.RangeCommands.{TakesUpTo}
 use Rattle.allocator_api2.specs.Machine.{TakesOut}
 
-passed_few : {T : Type 0} (told : List (Asked T)) → length (passed_over told) ≤ length told
-passed_few {T} told = omega (arith, length-map (filter (λ (t : Asked T). not t.answer) told) (λ t. t.left), length-filter_both (λ (t : Asked T). t.answer) (λ t. not t.answer) (λ t. refl) told)
+passed_few : {T : Type 0} (calls : List (Call T)) → length (passed_over calls) ≤ length calls
+passed_few {T} calls = omega (arith, length-map (filter (λ (t : Call T). not t.result) calls) (λ t. t.left), length-filter_both (λ (t : Call T). t.result) (λ t. not t.result) (λ t. refl) calls)
 
 module _ {K T : Type 0} (Keeps : K → T → Bool → K → T → Type 0) where
   module _ {A : Type 0} where
     pub length-taken_out : {S : Type 0} (size : ℕ) (old : State T A K S) (start end count : ℕ) (new : State T A K S) → start ≤ end → end ≤ len old.main → (t : TakesOut Keeps size old start end count new)
-        → length (take start old.main.items ++ (passed_over t.told ++ drop (start + length t.told) old.main.items)) ≤ len old.main
+        → length (take start old.main.items ++ (passed_over t.calls ++ drop (start + length t.calls) old.main.items)) ≤ len old.main
     length-taken_out size old start end count new low high t =
-        omega (arith, passed_few t.told, asked_count Keeps old.keep new.keep _ t.told t.asked, length-append {A = T}, length-take {A = T}, length-drop {A = T})
+        omega (arith, passed_few t.calls, asked_count Keeps old.keep new.keep _ t.calls t.called, length-append {A = T}, length-take {A = T}, length-drop {A = T})
 
-    -- so many elements were taken, and stand behind those of side; others may be asked
+    -- so many elements were taken and appended to side; the closure may be called for others
     pub record TakenSoFar (Takes : K → T → Type 0) (k : K) (range : ExtractBy T A) (side : Vector T A) (count : ℕ) (h : K) (later : ExtractBy T A) (new : Vector T A) : Type 0 where
-      pub given : List T
-      pub extracted : ExtractedTo Keeps k range given h later
-      pub many : length given ≡ count
-      pub holds : Holds side (side.items ++ given) new
-      pub may : IsCallableInOrder Keeps Takes h (extract_rest later)
+      pub taken : List T
+      pub extracted : ExtractedTo Keeps k range taken h later
+      pub many : length taken ≡ count
+      pub holds : Holds side (side.items ++ taken) new
+      pub may : IsCallableInOrder Keeps Takes h (extract_remaining later)
 
     module _ (Takes : K → T → Type 0) (k : K) (range : ExtractBy T A) (side : Vector T A) where
-      pub TakenSoFar-none : IsCallableInOrder Keeps Takes k (extract_rest range) → TakenSoFar Takes k range side 0 k range side
-      TakenSoFar-none may = record { given = []; extracted = ExtractedTo-none Keeps k range; many = refl; holds = record { items = sym (append-nil side.items); block = SameBlock-refl side }; may = may }
+      pub TakenSoFar-none : IsCallableInOrder Keeps Takes k (extract_remaining range) → TakenSoFar Takes k range side 0 k range side
+      TakenSoFar-none may = record { taken = []; extracted = ExtractedTo-none Keeps k range; many = refl; holds = record { items = sym (append-nil side.items); block = SameBlock-refl side }; may = may }
 
       module _ (count : ℕ) (h g : K) (t w : ExtractBy T A) (mid : Vector T A) (now : TakenSoFar Takes k range side count h t mid) where
         pub TakenSoFar-more : (x : T) (new : Vector T A) → Extracts Keeps h t (Some x) g w → Holds mid (mid.items ++ x ∷ []) new → TakenSoFar Takes k range side (count + 1) g w new
         TakenSoFar-more x new next put =
-            let more = Extracted-more Keeps k h g range t w now.given now.extracted.0 x next in
-            let held = Holds-more side mid new now.given (x ∷ []) now.holds put in
-            search (arith, now.many, length-append now.given (x ∷ []), more, held, extracts_may Keeps h g t w x next Takes now.may)
+            let more = Extracted-more Keeps k h g range t w now.taken now.extracted.0 x next in
+            let held = Holds-more side mid new now.taken (x ∷ []) now.holds put in
+            search (arith, now.many, length-append now.taken (x ∷ []), more, held, extracts_may Keeps h g t w x next Takes now.may)
 
         -- none was left
         pub TakesUpTo-end : (most : ℕ) → count < most → Extracts Keeps h t None g w → TakesUpTo Keeps k range side most g w mid
-        TakesUpTo-end most less next = record { given = now.given; extracted = Extracted-end Keeps k h g range t w now.given now.extracted.0 next; enough = inr (omega (arith, now.many, less), next.cases.1); holds = now.holds }
+        TakesUpTo-end most less next = record { taken = now.taken; extracted = Extracted-end Keeps k h g range t w now.taken now.extracted.0 next; enough = inr (omega (arith, now.many, less), next.cases.1); holds = now.holds }
 
       module _ (count most : ℕ) (h : K) (t : ExtractBy T A) (mid : Vector T A) (now : TakenSoFar Takes k range side count h t mid) where
         -- as many as were to be taken
         pub TakesUpTo-all : count ≤ most → most ≤ count → TakesUpTo Keeps k range side most h t mid
-        TakesUpTo-all few all = record { given = now.given; extracted = now.extracted.0; enough = inl (omega (arith, now.many, few, all), now.extracted.1); holds = now.holds }
+        TakesUpTo-all few all = record { taken = now.taken; extracted = now.extracted.0; enough = inl (omega (arith, now.many, few, all), now.extracted.1); holds = now.holds }
 
         pub room_left : count < most → HasRoom side most → HasRoom mid 1
-        room_left less room = omega (arith, ap length now.holds.items, length-append side.items now.given, now.many, now.holds.block.capacity, room, less)
+        room_left less room = omega (arith, ap length now.holds.items, length-append side.items now.taken, now.many, now.holds.block.capacity, room, less)
 
     -- and the range is closed
     module _ (main side : Vector T A) (k : K) (start end most : ℕ) (ordered : (start ≤ end) × (end ≤ len main)) (range : ExtractBy T A) (takes : ExtractsRange main start end range) (k' : K) (later : ExtractBy T A) (side' : Vector T A) (up : TakesUpTo Keeps k range side most k' later side') (main' : Vector T A) (closes : ClosesExtract later main') where
-      abbrev told : List (Asked T)
-      told = up.extracted.told
+      abbrev calls : List (Call T)
+      calls = up.extracted.calls
 
       abbrev q : ℕ
-      q = length told
+      q = length calls
 
       abbrev middle : List T
       middle = slice_range main.items start end
@@ -67,31 +67,31 @@ module _ {K T : Type 0} (Keeps : K → T → Bool → K → T → Type 0) where
       middle_long : length middle ≡ end - start
       middle_long = omega (arith, length-take (end - start) (drop start main.items), length-drop start main.items, ordered)
 
-      asked : AskedInOrder Keeps k (take q middle) told k'
-      asked = subst (λ l. AskedInOrder Keeps k (take q l) told k') takes.rest up.extracted.asked
+      asked : CalledInOrder Keeps k (take q middle) calls k'
+      asked = subst (λ l. CalledInOrder Keeps k (take q l) calls k') takes.rest up.extracted.called
 
       few : q ≤ end - start
-      few = omega (arith, asked_count Keeps k k' (take q middle) told asked, length-take q middle, middle_long)
+      few = omega (arith, asked_count Keeps k k' (take q middle) calls asked, length-take q middle, middle_long)
 
-      rest_are : extract_rest later ++ extract_tail later ≡ drop (start + q) main.items
+      rest_are : extract_remaining later ++ extract_tail later ≡ drop (start + q) main.items
       rest_are =
           let n : ℕ = end - start in let ys : List T = drop start main.items in
           let tail : extract_tail later ≡ drop n ys = up.extracted.tail ∙ takes.tail ∙ ap (λ i. drop i main.items) (omega (arith, ordered)) ∙ sym (drop-drop n start main.items) in
           (λ i. (up.extracted.rest ∙ ap (drop q) takes.rest) i ++ tail i) ∙ sym (drop-append-le q (take n ys) (drop n ys) (omega (arith, few, middle_long))) ∙ ap (drop q) (take-append-drop n ys) ∙ drop-drop q start main.items
 
-      left_items : main'.items ≡ take start main.items ++ (passed_over told ++ drop (start + q) main.items)
-      left_items = ap (λ v. v.items) closes ∙ (λ i. (ap (λ v. v.items) up.extracted.becomes ∙ ap (λ v. v.items) takes.becomes) i ++ ((up.extracted.kept ∙ ap (λ l. l ++ passed_over told) takes.kept) i ++ rest_are i))
+      left_items : main'.items ≡ take start main.items ++ (passed_over calls ++ drop (start + q) main.items)
+      left_items = ap (λ v. v.items) closes ∙ (λ i. (ap (λ v. v.items) up.extracted.becomes ∙ ap (λ v. v.items) takes.becomes) i ++ ((up.extracted.kept ∙ ap (λ l. l ++ passed_over calls) takes.kept) i ++ rest_are i))
 
-      enough : (length (kept told) ≡ most) × EndsTrue told ⊎ (length (kept told) < most) × (length told ≡ end - start)
+      enough : (length (kept calls) ≡ most) × EndsTrue calls ⊎ (length (kept calls) < most) × (length calls ≡ end - start)
       enough = grind (arith, up.enough, up.extracted.items, few, middle_long, up.extracted.rest, length-drop, takes.rest)
 
-      pub chosen : Chosen Keeps (asking main side k) start end most (asking main' side' k')
+      pub chosen : Chosen Keeps (state_with_keep main side k) start end most (state_with_keep main' side' k')
       chosen =
           let block = SameBlock-trans (SameBlock-becomes _ _ _ _ _ takes.becomes) (SameBlock-trans (SameBlock-becomes _ _ _ _ _ up.extracted.becomes) (SameBlock-becomes _ _ _ _ _ closes)) in
-          let left : Holds main (take start main.items ++ (passed_over told ++ drop (start + q) main.items)) main' = record { items = left_items; block = block } in
-          let gave : Holds side (side.items ++ kept told) side' = grind (arith, up.holds, up.extracted.items) in
+          let left : Holds main (take start main.items ++ (passed_over calls ++ drop (start + q) main.items)) main' = record { items = left_items; block = block } in
+          let appended : Holds side (side.items ++ kept calls) side' = grind (arith, up.holds, up.extracted.items) in
           let written : main'.written ≤ main.written + (len main' - start) = grind (arith, left_items, rest_are, choice_le, up.extracted.few, length-append, length-take) in
-          search (asked, enough, left, gave, written)
+          search (asked, enough, left, appended, written)
 
--- what a loop that takes such elements wants
+-- what a loop that takes such elements needs
 pub ruleset choosing = (TakenSoFar-none, TakenSoFar-more, room_left)

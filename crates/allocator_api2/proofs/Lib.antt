@@ -15,9 +15,9 @@ pub mod Reserved
 pub mod Runs
 pub mod Kept
 pub mod Steps
-pub mod SpliceRefusals
+pub mod SpliceErrors
 pub mod SpliceRanges
-pub mod Stops
+pub mod ExtendErrors
 pub mod Taken
 pub mod BlocksMoved
 pub mod Blocks

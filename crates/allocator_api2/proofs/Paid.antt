@@ -1,5 +1,5 @@
 -- What a vector was moved by growth is paid for by what was added to it.
-use Rattle.allocator_api2.proofs.Common.{◌≡◌, ℕ, ◌+◌, ◌*◌, ◌-◌, ◌<◌, ◌≤◌, min, max, Option, None, ap, ◌∙◌, arith, Growth, Doubling, least_of, Vector, len, moves_each}
+use Rattle.allocator_api2.proofs.Common.{◌≡◌, ℕ, ◌+◌, ◌*◌, ◌-◌, ◌<◌, ◌≤◌, min, max, Option, None, ap, ◌∙◌, arith, Growth, Doubling, min_capacity, Vector, len, moves_each}
 use Rattle.std.specs.Prelude.{◌/◌}
 use Rattle.aa_raw.specs.declared.raw_vec.Growth.TheVariants.{Sparing}
 use Rattle.aa_raw.specs.Growth.{amortized}
@@ -14,10 +14,10 @@ grown_pays G paid g c n needed m h lt p = grind arith
 all_pays : (G : Growth) (paid g c n k : ℕ) → n ≤ k → c ≤ k → g ≤ paid + (moves_each G - 1) * c → g + n ≤ paid + moves_each G * k
 all_pays G paid g c n k h lt p = grind arith
 
-least_of-le : (size : ℕ) → least_of size ≤ 8
-least_of-le size = grind arith
+min_capacity-le : (size : ℕ) → min_capacity size ≤ 8
+min_capacity-le size = grind arith
 
--- the most places that a growth asks for, from fewer than `most`, where no more than `most` are needed
+-- the most places that a growth requests, from fewer than `most`, if no more than `most` are needed
 abbrev pub places_for : Growth → (most : ℕ) → ℕ
 places_for Doubling most = 2 * most
 places_for Sparing most = most + most / 2 - 1
@@ -54,9 +54,9 @@ module _ {T A : Type 0} (size : ℕ) where
     all_paid k (kept b) h g p q = (b.growth ∙ g, rw (b.grown, b.capacity) p, rw b.grown q)
     all_paid k {u} {v} (grown {mid = mid} n more w some lt told m r) h g p q =
         let b = MakesRoom-grows size n more u mid m (omega (arith, w, some)) in
-        let places : mid.capacity ≡ amortized G u.capacity (n + more) (least_of size) = b.0 ∙ ap (λ x. amortized x u.capacity (n + more) (least_of size)) g in
+        let places : mid.capacity ≡ amortized G u.capacity (n + more) (min_capacity size) = b.0 ∙ ap (λ x. amortized x u.capacity (n + more) (min_capacity size)) g in
         let few : u.capacity ≤ k = omega (arith, h, lt, Moves-rises r, MakesRoom-rises size n more u mid m) in
-        all_paid k r h (m.growth ∙ g) (rw (b.1, places) (grown_pays G paid u.grown u.capacity n (n + more) (least_of size) w some p)) (rw b.1 (all_pays G paid u.grown u.capacity n k (omega (arith, w, few)) few p))
+        all_paid k r h (m.growth ∙ g) (rw (b.1, places) (grown_pays G paid u.grown u.capacity n (n + more) (min_capacity size) w some p)) (rw b.1 (all_pays G paid u.grown u.capacity n k (omega (arith, w, few)) few p))
 
     pub IsPaid-change : (hint : Option ℕ) (n k : ℕ) (old new : Vector T A) → IsPaid n old → Change size hint old k new → IsPaid (n + k) new
     IsPaid-change hint n k old new p c =
@@ -70,14 +70,14 @@ module _ {T A : Type 0} (size : ℕ) where
     pub capacity : v.capacity ≤ max 8 (places_for G most)
 
   module _ (G : Growth) where
-    -- what is told no hint asks for no more than it needs
+    -- a command without a hint requests no more than it needs
     all_placed : {hint : Option ℕ} {needed : ℕ} (most : ℕ) {u v : Vector T A} → hint ≡ None → Moves size hint needed u v → min needed v.capacity ≤ most → u.growth ≡ G → u.capacity ≤ max 8 (places_for G most)
         → (v.growth ≡ G) × (v.capacity ≤ max 8 (places_for G most))
     all_placed most none (kept b) h g p = (b.growth ∙ g, rw b.capacity p)
     all_placed most {u} none (grown {mid = mid} n more w some lt told m r) h g p =
         let few : n + more ≤ most = omega (arith, h, told none, Moves-rises r, MakesRoom-fits size n more u mid m (omega (arith, w, MakesRoom-rises size n more u mid m))) in
-        let places : mid.capacity ≡ amortized G u.capacity (n + more) (least_of size) = (MakesRoom-grows size n more u mid m (omega (arith, w, some))).0 ∙ ap (λ x. amortized x u.capacity (n + more) (least_of size)) g in
-        all_placed most none r h (m.growth ∙ g) (rw places (amortized-within G u.capacity (n + more) (least_of size) most some few (least_of-le size)))
+        let places : mid.capacity ≡ amortized G u.capacity (n + more) (min_capacity size) = (MakesRoom-grows size n more u mid m (omega (arith, w, some))).0 ∙ ap (λ x. amortized x u.capacity (n + more) (min_capacity size)) g in
+        all_placed most none r h (m.growth ∙ g) (rw places (amortized-within G u.capacity (n + more) (min_capacity size) most some few (min_capacity-le size)))
 
     pub IsPlaced-change : (hint : Option ℕ) → hint ≡ None → (most k : ℕ) (old new : Vector T A) → IsPlaced G most old → Change size hint old k new → IsPlaced G (max most (len new)) new
     IsPlaced-change hint none most k old new p c =

@@ -25,12 +25,12 @@ module _ {T A : Type 0} where
   pub Writes-none : (n : ℕ) (xs : List T) (v : Vector T A) → n ≡ 0 → WritesAtMost v (n * length xs) v
   Writes-none n xs v z = rw z (record { written = omega arith; runs = omega arith })
 
-  -- what stands in a new vector with room for just that
+  -- the items of a new vector with capacity for just these
   pub IsMadeWithin-repeated : (size n : ℕ) (xs : List T) (a : A) (new v : Vector T A)
       → IsNew size (n * length xs) a new
       → Holds new (repeat n xs) v
       → WritesAtMost new (n * length xs) v
       → IsMadeWithin size Doubling (repeat n xs) v
-  IsMadeWithin-repeated size n xs a new v made held wrote = grind (arith, length-repeat xs n)
+  IsMadeWithin-repeated size n xs a new v made held with_written = grind (arith, length-repeat xs n)
 
 pub ruleset repeated = (length-repeat, repeat-add, take-repeat, Holds-none, Writes-none, IsMadeWithin-repeated)

@@ -1,4 +1,4 @@
--- What `dedup_by_key` and its like leave by a closure that answers for each pair alike and changes nothing.
+-- What `dedup_by_key` and its like leave with a closure whose result depends on the pair alone and that changes nothing.
 use denote.Param.Members.{Mut}
 use denote.Ref.{MutBor}
 use Rattle.std.proofs.Common.{◌≡◌, ℕ, ◌≤◌, Bool, nat_eq, length, ◌∙◌}
@@ -6,11 +6,11 @@ use Rattle.std.specs.Fn.{CalledAtMut, ComparesKeys}
 use Rattle.std.specs.List.{dedup}
 use Rattle.aa_vec.specs.Choosing.{Deduplicates}
 use Rattle.aa_vec.specs.Vector.{Vector}
-pub use Rattle.aa_vec.proofs.Steady.{Deduplicates_dedup}
+pub use Rattle.aa_vec.proofs.PureTests.{Deduplicates_dedup}
 
 -- no more are left than there were
-pub Deduplicates_fewer : {F T A : Type 0} (Asks : F → T → T → Bool → F → T → T → Type 0) (f : F) (old : Vector T A) (g : F) (new : Vector T A) → Deduplicates Asks f old g new → length new.items ≤ length old.items
-Deduplicates_fewer Asks f old g new d = d.fewer
+pub Deduplicates_fewer : {F T A : Type 0} (Calls : F → T → T → Bool → F → T → T → Type 0) (f : F) (old : Vector T A) (g : F) (new : Vector T A) → Deduplicates Calls f old g new → length new.items ≤ length old.items
+Deduplicates_fewer Calls f old g new d = d.fewer
 
 -- by a closure that reads a number off each element
 pub Deduplicates_numbers : {F T A : Type 0} (asks : Mut F (MutBor T × Unit {0}) (ℕ × (MutBor T × Unit {0}))) (key : T → ℕ) (f : F) (old : Vector T A) (g : F) (new : Vector T A) → Deduplicates (ComparesKeys asks nat_eq) f old g new

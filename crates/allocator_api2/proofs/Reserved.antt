@@ -1,13 +1,13 @@
--- Room that a reserve made lasts for as many pushes.
-use Rattle.allocator_api2.proofs.Common.{ℕ, ◌+◌, ◌-◌, ◌≤◌, List, [], ◌∷◌, ◌++◌, length, ap, arith, rules, AllByRecursion, Vector, len, HasRoom, Within, Reply, Done, Back, Range, Answers, MakesRoom-has, ⊤}
+-- The capacity that a reserve made lasts for as many pushes.
+use Rattle.allocator_api2.proofs.Common.{ℕ, ◌+◌, ◌-◌, ◌≤◌, List, [], ◌∷◌, ◌++◌, length, ap, arith, rules, AllByRecursion, Vector, len, HasRoom, Within, Reply, Done, Back, Range, Replies, MakesRoom-has, ⊤}
 use Rattle.aa_vec.proofs.Becoming.{GrowsTo-becomes, Holds-becomes}
 use Rattle.std.proofs.lemmas.List.{length-append}
 use Rattle.allocator_api2.specs.Laws.{IsDone, PushesWithin, ReserveHolds}
 
 module _ {T A : Type 0} (size : ℕ) where
-  -- a push within the capacity finds room, and leaves room for one fewer
+  -- a push within the capacity succeeds, and leaves spare capacity for one fewer
   push_done : (k : ℕ) (main side : Vector T A) (x : T) (reply : Reply T) (main' side' : Vector T A)
-      → HasRoom main (k + 1) → Answers size ⊤ main side (Within x) reply main' side' → IsDone reply × HasRoom main' k
+      → HasRoom main (k + 1) → Replies size ⊤ main side (Within x) reply main' side' → IsDone reply × HasRoom main' k
   push_done k main side x Done main' side' h s = (tt, grind (arith, Holds-becomes main (main.items ++ x ∷ []) 1 1 main' s.1.0.1, length-append main.items (x ∷ [])))
   push_done k main side x (Back y) main' side' h s = absurd (omega (arith, h, s.1.0.0))
   push_done k main side x Range main' side' h s = absurd (s.0 tt)

@@ -1,17 +1,17 @@
 -- A run that is not at its end.
-use Rattle.allocator_api2.proofs.Common.{ℕ, ◌≡◌, ◌≤◌, max, List, [], ◌∷◌, ◌++◌, map, sym, ap, subst, arith, ◌∙◌, append_assoc, refl, AllByRecursion, append-nil, Command, Reply, State, Calls, IsPossible, DoesStep, Turn, IsRun, RunsWithin, AddsOrRemoves, None, hint_of}
+use Rattle.allocator_api2.proofs.Common.{ℕ, ◌≡◌, ◌≤◌, max, List, [], ◌∷◌, ◌++◌, map, sym, ap, subst, arith, ◌∙◌, append_assoc, refl, AllByRecursion, append-nil, Command, Reply, State, Calls, IsPossible, PerformsStep, Turn, IsRun, RunsWithin, AddsOrRemoves, None, hint_of}
 use Rattle.std.proofs.lemmas.List.{map-append}
 use Rattle.allocator_api2.specs.Run.{greatest_length}
 use Rattle.allocator_api2.proofs.Paid.{places_for, places_for-le}
 use Rattle.allocator_api2.proofs.WholeRuns.{IsUnhinted, moves_law, places_law, writes_law}
 
 module _ {T A K S : Type 0} (size : ℕ) (calls : Calls T A K S) where
-  -- two runs, one behind the other, are one
+  -- two runs, one after the other, are one
   pub IsRun-append : (old : State T A K S) (ts : List (Turn T A K S)) (mid : State T A K S) (us : List (Turn T A K S)) (new : State T A K S) → IsRun size calls old ts mid → IsRun size calls mid us new → IsRun size calls old (ts ++ us) new
   IsRun-append old [] mid us new r s = subst (λ m. IsRun size calls m us new) r s
   IsRun-append old (t ∷ ts) mid us new r s = (r.0, r.1, IsRun-append t.after ts mid us new r.2 s)
 
-  -- of all commands those of `rest` are still to come
+  -- of all commands those of `rest` remain
   pub record HasRun (old : State T A K S) (all : List (Command T A)) (before : List (Reply T)) (rest : List (Command T A)) (replies : List (Reply T)) (now : State T A K S) : Type 0 where
     pub turns : List (Turn T A K S)
     pub run : IsRun size calls old turns now
@@ -23,9 +23,9 @@ module _ {T A K S : Type 0} (size : ℕ) (calls : Calls T A K S) where
   HasRun-start old all before possible =
       record { turns = []; run = refl; commands_are = refl; replies_are = sym (append-nil before); began = possible }
 
-  pub HasRun-more : {old : State T A K S} {all : List (Command T A)} {before replies replies' : List (Reply T)} {rest : List (Command T A)} {now new : State T A K S} {command : Command T A} {reply : Reply T} → HasRun old all before (command ∷ rest) replies now → DoesStep size calls now command reply new → IsPossible new.main new.side → replies' ≡ replies ++ reply ∷ [] → HasRun old all before rest replies' new
+  pub HasRun-more : {old : State T A K S} {all : List (Command T A)} {before replies replies' : List (Reply T)} {rest : List (Command T A)} {now new : State T A K S} {command : Command T A} {reply : Reply T} → HasRun old all before (command ∷ rest) replies now → PerformsStep size calls now command reply new → IsPossible new.main new.side → replies' ≡ replies ++ reply ∷ [] → HasRun old all before rest replies' new
   HasRun-more {old = old} {before = before} {now = now} {new} {command} {reply} h s possible e =
-      let t : Turn T A K S = record { before = now; command = command; answers = s.answers; reply = reply; after = new } in
+      let t : Turn T A K S = record { before = now; command = command; results = s.results; reply = reply; after = new } in
       record {
         began = h.began;
         turns = h.turns ++ t ∷ [];
@@ -34,7 +34,7 @@ module _ {T A K S : Type 0} (size : ℕ) (calls : Calls T A K S) where
         replies_are = rw map-append (e ∙ (ap (λ xs. xs ++ reply ∷ []) h.replies_are ∙ append_assoc before _ (reply ∷ [])));
       }
 
-  -- a run with no command to come
+  -- a run with no remaining command
   pub HasRun-end : {old : State T A K S} {all : List (Command T A)} {before replies : List (Reply T)} {now : State T A K S} → HasRun old all before [] replies now → (answered : List (Reply T)) × (replies ≡ before ++ answered) × RunsWithin size calls old all answered now
   HasRun-end {old = old} {all = all} {now = now} h =
       let are : map (λ t. t.command) h.turns ≡ all = sym (append-nil _) ∙ h.commands_are in

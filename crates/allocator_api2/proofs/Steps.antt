@@ -1,20 +1,20 @@
--- What a step of the list machine does to main: it stays in its block, has grown once, or grew any number of times while it was full.
-use Rattle.allocator_api2.proofs.Common.{◌≡◌, ℕ, suc, ◌+◌, ◌-◌, ◌<◌, ◌≤◌, max, min, Bool, List, [], ◌∷◌, length, take, drop, None, Option, refl, sym, subst, ap, ◌∙◌, arith, rules, inl, inr, length-take, length-drop, Vector, len, SameBlock, GrowsTo, Holds, Command, Splice, SplitOff, Push, Within, Pop, Insert, Remove, SwapRemove, Truncate, Clear, Append, Extend, Retain, Dedup, Drain, ExtractIf, Reply, Done, Item, Nothing, Back, Refused, Range, GrowsInSteps, Extends, lower_by, TryReserveError, TryReserveErrorKind, State, Calls, Step, Answers, AddsOrRemoves, hint_of, added_by}
+-- What a step of the list machine does to main: it keeps its block, has grown once, or grew any number of times while it was full.
+use Rattle.allocator_api2.proofs.Common.{◌≡◌, ℕ, suc, ◌+◌, ◌-◌, ◌<◌, ◌≤◌, max, min, Bool, List, [], ◌∷◌, length, take, drop, None, Option, refl, sym, subst, ap, ◌∙◌, arith, rules, inl, inr, length-take, length-drop, Vector, len, SameBlock, GrowsTo, Holds, Command, Splice, SplitOff, Push, Within, Pop, Insert, Remove, SwapRemove, Truncate, Clear, Append, Extend, Retain, Dedup, Drain, ExtractIf, Reply, Done, Item, Nothing, Back, Refused, Range, GrowsInSteps, Extends, lower_bound_of, TryReserveError, TryReserveErrorKind, State, Calls, Step, Replies, AddsOrRemoves, hint_of, added_by}
 use Rattle.std.proofs.Common.{length-set}
 use Rattle.std.specs.Prelude.{Result, Ok, Err, slice_set, slice_index_or}
 use Rattle.std.proofs.lemmas.List.{length-append}
 use Rattle.std.proofs.lemmas.Bool.{cases_lt}
-use Rattle.aa_vec.specs.Extend.{grows, stays}
-use Rattle.aa_vec.proofs.GrowthLemmas.{MakesRoom, MakesRoom-has, MakesRoom-rises, MakesRoom-stays, SameBlock-refl, asks, block_of, grown_room}
+use Rattle.aa_vec.specs.Extend.{grows, unchanged}
+use Rattle.aa_vec.proofs.GrowthLemmas.{MakesRoom, MakesRoom-has, MakesRoom-rises, MakesRoom-unchanged, SameBlock-refl, asks, block_of, grown_room}
 use Rattle.aa_vec.specs.Vector.{Becomes, with_room}
 use Rattle.aa_vec.proofs.Becoming.{GrowsTo-becomes, Holds-becomes}
 use Rattle.allocator_api2.proofs.Kept.{length-kept}
 use Rattle.allocator_api2.proofs.ExtractParts.{length-taken_out}
-use Rattle.allocator_api2.proofs.Ranges.{length-left_of}
-use Rattle.allocator_api2.specs.Machine.{InRange, Makes, Leaves, ends_of}
+use Rattle.allocator_api2.proofs.Ranges.{length-remaining_of}
+use Rattle.allocator_api2.specs.Machine.{InRange, Succeeds, FailsWith, ends_of}
 
 module _ {T A : Type 0} (size : ℕ) where
-  -- old made room any number of times while it had not places for `needed`, and is new; told of no hint, it asked for no more than is needed
+  -- old grew any number of times while it had not places for `needed`, and is new; without a hint, it requested no more than is needed
   pub data Moves (hint : Option ℕ) (needed : ℕ) : Vector T A → Vector T A → Type 0 where
     kept : {old new : Vector T A} → SameBlock old new → Moves hint needed old new
     grown : {old mid new : Vector T A} (n more : ℕ) → n ≤ old.capacity → old.capacity < n + more → old.capacity < needed → (hint ≡ None → n + more ≤ needed) → MakesRoom size old n more mid
@@ -35,7 +35,7 @@ module _ {T A : Type 0} (size : ℕ) where
   adds {hint} old k xs new h g =
       let n : ℕ = len old in let l : len new ≡ n + k = ap length g.items ∙ h in
       let moves : n ≤ old.capacity → Moves hint (n + k) old new = λ w. elim (cases_lt old.capacity (n + k)) [
-        | inr le ↦ kept (MakesRoom-stays size n k old new g.room (omega (arith, le)))
+        | inr le ↦ kept (MakesRoom-unchanged size n k old new g.room (omega (arith, le)))
         | inl lt ↦ grown n k w lt lt (λ none. omega arith) g.room (kept (SameBlock-refl new))
       ] in
       record { needed = n + k; moves = moves; longest = omega (arith, l); fits = λ w. omega (arith, l, w, MakesRoom-has size n k old new g.room, MakesRoom-rises size n k old new g.room); full = omega (arith, l) }
@@ -47,26 +47,26 @@ module _ {T A : Type 0} (size : ℕ) where
   grows_by : {hint : Option ℕ} (old : Vector T A) (k : ℕ) (xs : List T) (n j : ℕ) (new : Vector T A) → length xs ≡ len old + k → Becomes (with_room size old (len old) k) xs n j new → Change hint old k new
   grows_by old k xs n j new h e = adds old k xs new h (GrowsTo-becomes old xs n j new size k e)
 
-  grown_in_steps : (hint : Option ℕ) (needed : ℕ) {u v : Vector T A} → GrowsInSteps size (lower_by hint) needed u v → Moves hint needed u v
-  grown_in_steps hint needed {u} {v} (stays b) = kept (block_of u v b)
+  grown_in_steps : (hint : Option ℕ) (needed : ℕ) {u v : Vector T A} → GrowsInSteps size (lower_bound_of hint) needed u v → Moves hint needed u v
+  grown_in_steps hint needed {u} {v} (unchanged b) = kept (block_of u v b)
   grown_in_steps hint needed (grows {old = u} h r) =
-      grown u.capacity (asks size (lower_by hint) needed u) (omega arith) (omega arith) h (λ none. subst (λ x. u.capacity + asks size (lower_by x) needed u ≤ needed) (sym none) (omega (arith, h))) (grown_room size (lower_by hint) needed u) (grown_in_steps hint needed r)
+      grown u.capacity (asks size (lower_bound_of hint) needed u) (omega arith) (omega arith) h (λ none. subst (λ x. u.capacity + asks size (lower_bound_of x) needed u ≤ needed) (sym none) (omega (arith, h))) (grown_room size (lower_bound_of hint) needed u) (grown_in_steps hint needed r)
 
   -- all were put there, or the places that there are were filled
   ends : (lower : ℕ → ℕ) (old : Vector T A) (added : List T) (r : Result Unit TryReserveError) (new : Vector T A) → Extends size lower old old.items added r new → min (len old + length added) new.capacity ≤ len new
   ends lower old added (Ok x) new e = omega (arith, ap length e.items ∙ length-append old.items e.front, ap length e.begins ∙ length-append e.front e.others, ap length e.all)
-  ends lower old added (Err x) new e = omega (arith, ap length e.items ∙ length-append old.items e.front, e.refused.1)
+  ends lower old added (Err x) new e = omega (arith, ap length e.items ∙ length-append old.items e.front, e.error.1)
 
-  extends : (hint : Option ℕ) (old : Vector T A) (added : List T) (r : Result Unit TryReserveError) (new : Vector T A) → Extends size (lower_by hint) old old.items added r new → Change hint old (len new - len old) new
+  extends : (hint : Option ℕ) (old : Vector T A) (added : List T) (r : Result Unit TryReserveError) (new : Vector T A) → Extends size (lower_bound_of hint) old old.items added r new → Change hint old (len new - len old) new
   extends hint old added r new e =
       let l = ap length e.items ∙ length-append old.items e.front in
-      record { needed = len old + length added; moves = λ w. grown_in_steps hint _ e.in_steps; longest = omega arith; fits = λ w. omega (arith, l, e.fits); full = ends (lower_by hint) old added r new e }
+      record { needed = len old + length added; moves = λ w. grown_in_steps hint _ e.in_steps; longest = omega arith; fits = λ w. omega (arith, l, e.fits); full = ends (lower_bound_of hint) old added r new e }
 
   same : {hint : Option ℕ} (old new : Vector T A) → new ≡ old → Change hint old 0 new
   same old new e = rw e (holds old 0 old.items old (omega arith) (record { items = refl; block = SameBlock-refl old }))
 
-  -- what a command that was done has made of main
-  change_done : (main side : Vector T A) (command : Command T A) (reply : Reply T) (main' side' : Vector T A) → AddsOrRemoves command → InRange main command → Makes size main side command reply main' side' → Change (hint_of command) main (added_by main side command reply main') main'
+  -- what a command that succeeded has made of main
+  change_done : (main side : Vector T A) (command : Command T A) (reply : Reply T) (main' side' : Vector T A) → AddsOrRemoves command → InRange main command → Succeeds size main side command reply main' side' → Change (hint_of command) main (added_by main side command reply main') main'
   change_done main side (Push x) Done main' side' a r m = grows_by main 1 _ 1 1 main' (length-append main.items (x ∷ [])) m.0
   change_done main side (Within x) Done main' side' a r m = becomes main 1 _ 1 1 main' (omega (arith, m.0.0, length-append main.items (x ∷ []))) m.0.1
   change_done main side Pop (Item y) main' side' a r m = becomes main 0 main'.items 0 0 main' (omega (arith, ap length m.0.0, length-append main'.items (y ∷ []))) m.0.1
@@ -78,34 +78,34 @@ module _ {T A : Type 0} (size : ℕ) where
   change_done main side Append Done main' side' a r m = grows_by main (len side) _ _ _ main' (length-append main.items side.items) m.0
   change_done main side (Extend items hint) Done main' side' a r m = extends hint main items.items (Ok tt) main' m.0
   change_done main side (Drain start end front back keep) Done main' side' a r m =
-      holds main 0 _ main' (omega (arith, length-left_of main.items (ends_of start end front back) keep r.0 r.1)) m.0
+      holds main 0 _ main' (omega (arith, length-remaining_of main.items (ends_of start end front back) keep r.0 r.1)) m.0
   change_done main side (Within x) (Back y) main' side' a r m = same main main' m.0.2
   change_done main side Pop Nothing main' side' a r m = same main main' m.0.1
   change_done main side command reply main' side' a r m = search rules
 
-  -- what one that was refused has left of it
-  change_refused : (fails : Type 0) (main side : Vector T A) (command : Command T A) (kind : TryReserveErrorKind) (main' : Vector T A) → AddsOrRemoves command → Leaves size fails main side command (record { kind = kind }) main' → Change (hint_of command) main (added_by main side command (Refused kind) main') main'
-  change_refused fails main side (Extend items hint) kind main' a s = extends hint main items.items (Err (record { kind = kind })) main' s
-  change_refused fails main side command kind main' a s = search (rules, same)
+  -- what one that failed has left of it
+  change_failed : (fails : Type 0) (main side : Vector T A) (command : Command T A) (kind : TryReserveErrorKind) (main' : Vector T A) → AddsOrRemoves command → FailsWith size fails main side command (record { kind = kind }) main' → Change (hint_of command) main (added_by main side command (Refused kind) main') main'
+  change_failed fails main side (Extend items hint) kind main' a s = extends hint main items.items (Err (record { kind = kind })) main' s
+  change_failed fails main side command kind main' a s = search (rules, same)
 
-  -- and one whose range lies outside
+  -- and one whose range is out of bounds
   change_range : (main side : Vector T A) (command : Command T A) (main' : Vector T A) → AddsOrRemoves command → main' ≡ main → Change (hint_of command) main (added_by main side command Range main') main'
   change_range main side (Extend items hint) main' a e = let none : len main' - len main ≡ 0 = omega (arith, ap len e) in rw none (same main main' e)
   change_range main side command main' a e = same main main' e
 
-  change_lists : (fails : Type 0) (main side : Vector T A) (command : Command T A) (reply : Reply T) (main' side' : Vector T A) → AddsOrRemoves command → Answers size fails main side command reply main' side' → Change (hint_of command) main (added_by main side command reply main') main'
+  change_lists : (fails : Type 0) (main side : Vector T A) (command : Command T A) (reply : Reply T) (main' side' : Vector T A) → AddsOrRemoves command → Replies size fails main side command reply main' side' → Change (hint_of command) main (added_by main side command reply main') main'
   change_lists fails main side command Range main' side' a s = change_range main side command main' a s.1
-  change_lists fails main side command (Refused kind) main' side' a s = change_refused fails main side command kind main' a s.2
+  change_lists fails main side command (Refused kind) main' side' a s = change_failed fails main side command kind main' a s.2
   change_lists fails main side command reply main' side' a s = change_done main side command reply main' side' a s.0 s.1
 
   module _ {K S : Type 0} (calls : Calls T A K S) where
-    pub change_of : (old : State T A K S) (command : Command T A) (answers : List Bool) (reply : Reply T) (new : State T A K S) → AddsOrRemoves command → Step size calls old command answers reply new → Change (hint_of command) old.main (added_by old.main old.side command reply new.main) new.main
-    change_of old (SplitOff at) answers reply new a s = absurd a
-    change_of old (Splice start end items hint) answers reply new a s = absurd a
-    change_of old Retain answers reply new a s =
-        let r = s.retains in holds old.main 0 _ new.main (omega (arith, length-kept calls.keeps old.keep old.main.items r.told new.keep r.asked)) (Holds-becomes _ _ _ _ _ r.becomes)
-    change_of old Dedup answers reply new a s =
+    pub change_of : (old : State T A K S) (command : Command T A) (results : List Bool) (reply : Reply T) (new : State T A K S) → AddsOrRemoves command → Step size calls old command results reply new → Change (hint_of command) old.main (added_by old.main old.side command reply new.main) new.main
+    change_of old (SplitOff at) results reply new a s = absurd a
+    change_of old (Splice start end items hint) results reply new a s = absurd a
+    change_of old Retain results reply new a s =
+        let r = s.retains in holds old.main 0 _ new.main (omega (arith, length-kept calls.keeps old.keep old.main.items r.calls new.keep r.called)) (Holds-becomes _ _ _ _ _ r.becomes)
+    change_of old Dedup results reply new a s =
         let r = s.removes in holds old.main 0 _ new.main (omega (arith, r.fewer, ap (λ v. length v.items) r.becomes)) (Holds-becomes _ _ _ _ _ r.becomes)
-    change_of old (ExtractIf start end count) answers Done new a s =
+    change_of old (ExtractIf start end count) results Done new a s =
         let t = s.takes in holds old.main 0 _ new.main (omega (arith, length-taken_out calls.keeps size old start end count new s.in_range.0 s.in_range.1 t)) t.leaves
-    change_of old command answers reply new a s = change_lists (¬ (calls.sure old.main.alloc)) old.main old.side command reply new.main new.side a s.lists
+    change_of old command results reply new a s = change_lists (¬ (calls.infallible old.main.alloc)) old.main old.side command reply new.main new.side a s.lists

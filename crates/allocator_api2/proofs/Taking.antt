@@ -1,5 +1,5 @@
--- Items taken out of a drain, one after the other, and put behind the elements of another vector.
-use Rattle.allocator_api2.proofs.Common.{◌≡◌, ℕ, ◌+◌, ◌-◌, ◌<◌, ◌≤◌, List, [], ◌∷◌, ◌++◌, length, take, drop, reverse, Bool, true, false, Some, refl, sym, ap, subst, ◌∙◌, arith, append_assoc, length-append, length-take, length-drop, length-reverse, slice_range, if◌then◌else◌, append-nil, drop-drop, take_all, take-append-drop, reverse-append, TakesRange, drain_rest, drain_tail, drain_vec, Vector, len, HasRoom, SameBlock, Holds, SameBlock-refl, SameBlock-trans, TakesFront, TakesBack, Holds-more}
+-- Items taken out of a drain, one after the other, and appended to another vector.
+use Rattle.allocator_api2.proofs.Common.{◌≡◌, ℕ, ◌+◌, ◌-◌, ◌<◌, ◌≤◌, List, [], ◌∷◌, ◌++◌, length, take, drop, reverse, Bool, true, false, Some, refl, sym, ap, subst, ◌∙◌, arith, append_assoc, length-append, length-take, length-drop, length-reverse, slice_range, if◌then◌else◌, append-nil, drop-drop, take_all, take-append-drop, reverse-append, TakesRange, drain_remaining, drain_tail, drain_vec, Vector, len, HasRoom, SameBlock, Holds, SameBlock-refl, SameBlock-trans, TakesFront, TakesBack, Holds-more}
 use Rattle.std.proofs.Math.Seq.{take-add}
 use Rattle.std.proofs.lemmas.List.{drop_all, drop_at, take_at, take-take}
 use Rattle.aa_vec.specs.Drain.{Closes, KeepsRest, drains_first, drains_last}
@@ -7,7 +7,7 @@ use Rattle.aa_vec.specs.declared.vec.drain.Drain.{Drain}
 use Rattle.aa_vec.proofs.Becoming.{SameBlock-becomes}
 use Rattle.aa_vec.proofs.DrainLemmas.{keeps-same, keeps-then}
 use Rattle.allocator_api2.specs.RangeCommands.{Drained, ends_at}
-use Rattle.allocator_api2.specs.Machine.{given_of}
+use Rattle.allocator_api2.specs.Machine.{drained_of}
 
 -- a choice is no more than the greater
 pub choice_le : (t : Bool) (a b : ℕ) → a ≤ b → (if t then a else b) ≤ b
@@ -16,19 +16,19 @@ choice_le false a b h = omega arith
 
 module _ {T A : Type 0} (d : Drain T A) (side : Vector T A) where
   abbrev all : List T
-  all = drain_rest d
+  all = drain_remaining d
 
   pub TakesFront-none : TakesFront d side 0 d side
   TakesFront-none = record { keeps = keeps-same d; rest = refl; front = omega arith; back = refl; holds = record { items = sym (append-nil side.items); block = SameBlock-refl side } }
 
   pub TakesFront-more : (k : ℕ) (e f : Drain T A) (s t : Vector T A) (x : T) → TakesFront d side k e s → drains_first e (Some x) f → Holds s (s.items ++ x ∷ []) t → TakesFront d side (k + 1) f t
   TakesFront-more k e f s t x h n p =
-      let here : drop k all ≡ x ∷ drain_rest f = sym h.rest ∙ n.1.0 in
+      let here : drop k all ≡ x ∷ drain_remaining f = sym h.rest ∙ n.1.0 in
       let more : take (k + 1) all ≡ take k all ++ x ∷ [] = take-add k 1 all ∙ ap (λ l. take k all ++ take 1 l) here in
       let held : Holds side (side.items ++ take (k + 1) all) t = rw more (Holds-more side s t (take k all) (x ∷ []) h.holds p) in
       grind (arith, keeps-then d e f h.keeps n.0, here, drop-drop 1 k all, held)
 
-  -- and there is room for one more
+  -- and there is spare capacity for one more
   pub TakesFront-room : (k n : ℕ) (e : Drain T A) (s : Vector T A) → TakesFront d side k e s → k < n → HasRoom side n → HasRoom s 1
   TakesFront-room k n e s h less room = omega (arith, ap length h.holds.items, length-append side.items (take k all), length-take k all, h.holds.block.capacity, room, less)
 
@@ -44,7 +44,7 @@ module _ {T A : Type 0} (d : Drain T A) (side : Vector T A) where
   pub TakesBack-more : (k : ℕ) (e f : Drain T A) (s t : Vector T A) (x : T) → k < length all → TakesBack d side k e s → drains_last e (Some x) f → Holds s (s.items ++ x ∷ []) t → TakesBack d side (k + 1) f t
   TakesBack-more k e f s t x less h n p =
       let a : ℕ = length all - k in let b : ℕ = length all - (k + 1) in
-      let parts = last_taken k (drain_rest f) x less (sym h.rest ∙ n.1.0) in
+      let parts = last_taken k (drain_remaining f) x less (sym h.rest ∙ n.1.0) in
       let turned : reverse (drop b all) ≡ reverse (drop a all) ++ x ∷ [] = ap reverse parts.1 ∙ reverse-append (x ∷ []) (drop a all) in
       let held : Holds side (side.items ++ reverse (drop b all)) t = rw turned (Holds-more side s t (reverse (drop a all)) (x ∷ []) h.holds p) in
       search (arith, keeps-then d e f h.keeps n.0, parts.0, n.1.1 ∙ h.front, n.1.2, h.back, held)
@@ -52,10 +52,10 @@ module _ {T A : Type 0} (d : Drain T A) (side : Vector T A) where
   pub TakesBack-room : (k n : ℕ) (e : Drain T A) (s : Vector T A) → TakesBack d side k e s → k < n → HasRoom side n → HasRoom s 1
   TakesBack-room k n e s h less room = grind (arith, h.holds, length-append, length-reverse, length-drop)
 
--- what a loop over a drain wants
+-- what a loop over a drain needs
 pub ruleset takes = (TakesFront-none, TakesFront-room, TakesBack-none, TakesBack-room)
 
--- a range is taken out of `old`, f and b of it from either end put behind the elements of `side`, and then it is closed
+-- a range is taken out of `old`, f and b of it from either end appended to `side`, and then it is closed
 module _ {T A : Type 0} (old side : Vector T A) (start end f b : ℕ) (ordered : start ≤ end) (within : end ≤ len old) (few : f + b ≤ end - start)
     (d0 d1 d2 : Drain T A) (s1 s2 : Vector T A) (drains : TakesRange old start end d0) (fronts : TakesFront d0 side f d1 s1) (backs : TakesBack d1 s1 b d2 s2) where
   abbrev m : ℕ
@@ -67,21 +67,21 @@ module _ {T A : Type 0} (old side : Vector T A) (start end f b : ℕ) (ordered :
   count_middle : length middle ≡ m
   count_middle = omega (arith, length-take m (drop start old.items), length-drop start old.items, ordered, within)
 
-  rest_front : drain_rest d1 ≡ drop f middle
+  rest_front : drain_remaining d1 ≡ drop f middle
   rest_front = fronts.rest ∙ ap (drop f) drains.rest
 
-  rest_back : drain_rest d2 ≡ slice_range middle f (m - b)
+  rest_back : drain_remaining d2 ≡ slice_range middle f (m - b)
   rest_back = grind (arith, rest_front, count_middle, backs.rest, length-drop)
 
-  given_back : drop (length (drain_rest d1) - b) (drain_rest d1) ≡ drop (m - b) middle
+  given_back : drop (length (drain_remaining d1) - b) (drain_remaining d1) ≡ drop (m - b) middle
   given_back = grind (arith, rest_front, count_middle, length-drop, drop-drop)
 
-  side_gave : Holds side (side.items ++ given_of old.items (ends_at start end f b)) s2
+  side_gave : Holds side (side.items ++ drained_of old.items (ends_at start end f b)) s2
   side_gave =
       subst (λ l. Holds side (side.items ++ l) s2) (λ i. take f (drains.rest i) ++ reverse (given_back i))
-      (Holds-more side s1 s2 (take f (drain_rest d0)) (reverse (drop (length (drain_rest d1) - b) (drain_rest d1))) fronts.holds backs.holds)
+      (Holds-more side s1 s2 (take f (drain_remaining d0)) (reverse (drop (length (drain_remaining d1) - b) (drain_remaining d1))) fronts.holds backs.holds)
 
-  -- what is before the range and behind it stays
+  -- what is before the range and after it is kept
   stays : ((drain_vec d2).items ≡ take start old.items) × (drain_tail d2 ≡ drop end old.items) × SameBlock old (drain_vec d2) × ((drain_vec d2).written ≡ old.written)
   stays = grind (arith, keeps-then, drains.becomes, drains.tail, SameBlock-trans, SameBlock-becomes)
 

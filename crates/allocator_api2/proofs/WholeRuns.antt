@@ -5,7 +5,7 @@ use Rattle.allocator_api2.specs.Run.{cost, greatest_length}
 use Rattle.allocator_api2.proofs.Paid.{IsPaid, IsPaid-change, IsPlaced, IsPlaced-change, places_for}
 use Rattle.allocator_api2.proofs.Steps.{change_of}
 
--- it is told no hint
+-- the command has no hint
 abbrev pub IsUnhinted : {T A : Type 0} → Command T A → Type 0
 IsUnhinted command = AddsOrRemoves command × (hint_of command ≡ None)
 
@@ -18,7 +18,7 @@ module _ {T A K S : Type 0} (size : ℕ) (calls : Calls T A K S) where
   paid_run : (G : Growth) (paid n : ℕ) (old : State T A K S) (ts : List (Turn T A K S)) (new : State T A K S) → IsRun size calls old ts new → IsPaid size G paid n old.main → AllByRecursion AddsOrRemoves (map (λ t. t.command) ts) → IsPaid size G paid (n + sum_by added ts) new.main
   paid_run G paid n old [] new r p a = rw (r, add-zero) p
   paid_run G paid n old (t ∷ ts) new r p a =
-      let q : IsPaid size G paid (n + added t) t.after.main = IsPaid-change size G paid (hint_of t.command) n _ t.before.main t.after.main (rw r.0 p) (change_of size calls t.before t.command t.answers t.reply t.after a.0 r.1.step) in
+      let q : IsPaid size G paid (n + added t) t.after.main = IsPaid-change size G paid (hint_of t.command) n _ t.before.main t.after.main (rw r.0 p) (change_of size calls t.before t.command t.results t.reply t.after a.0 r.1.step) in
       let e : n + sum_by added (t ∷ ts) ≡ n + added t + sum_by added ts = omega (arith, sum_by-cons added t ts) in
       subst (λ k. IsPaid size G paid k new.main) (sym e) (paid_run G paid (n + added t) t.after ts new r.2 q a.1)
 
@@ -30,7 +30,7 @@ module _ {T A K S : Type 0} (size : ℕ) (calls : Calls T A K S) where
   placed_run : (G : Growth) (most : ℕ) (old : State T A K S) (ts : List (Turn T A K S)) (new : State T A K S) → IsRun size calls old ts new → IsPlaced size G most old.main → AllByRecursion IsUnhinted (map (λ t. t.command) ts) → IsPlaced size G (max most (greatest_length ts)) new.main
   placed_run G most old [] new r p a = rw r (let e : max most 0 ≡ most = omega arith in rw e p)
   placed_run G most old (t ∷ ts) new r p a =
-      let q = IsPlaced-change size G (hint_of t.command) a.0.1 most _ t.before.main t.after.main (rw r.0 p) (change_of size calls t.before t.command t.answers t.reply t.after a.0.0 r.1.step) in
+      let q = IsPlaced-change size G (hint_of t.command) a.0.1 most _ t.before.main t.after.main (rw r.0 p) (change_of size calls t.before t.command t.results t.reply t.after a.0.0 r.1.step) in
       let e : max most (greatest_length (t ∷ ts)) ≡ max (max most (len t.after.main)) (greatest_length ts) = omega arith in
       subst (λ k. IsPlaced size G k new.main) (sym e) (placed_run G (max most (len t.after.main)) t.after ts new r.2 q a.1)
 

@@ -1,14 +1,14 @@
 pub use Rattle.aa_gap.specs.Buffer
 pub use Rattle.aa_gap.specs.Editing
 pub use Rattle.aa_gap.specs.Page
-pub use Rattle.aa_gap.specs.Taken
+pub use Rattle.aa_gap.specs.IntoParts
 pub use Rattle.aa_raw.specs.Block
 pub use Rattle.aa_raw.specs.Clones
 pub use Rattle.aa_raw.specs.Closures
 pub use Rattle.aa_raw.specs.Growth
 pub use Rattle.aa_raw.specs.IntoIter
 pub use Rattle.aa_raw.specs.Places
-pub use Rattle.aa_raw.specs.Refusals
+pub use Rattle.aa_raw.specs.Errors
 pub use Rattle.aa_raw.specs.Room
 pub use Rattle.aa_raw.specs.TwoRuns
 pub use Rattle.aa_vec.specs.Arrays

@@ -1,6 +1,7 @@
-//! allocator-api2 in Rattle: the vector and the box that take an allocator, proved. The modules
-//! have the original's paths; `gap_buffer` is this project's own; `runner` runs lists of commands
-//! on two vectors, and its contract is the library's main theorem.
+//! allocator-api2 in Rattle: a vector and a box that allocate with any allocator, proved.
+//!
+//! The modules have the paths of the original. `gap_buffer` is not in allocator-api2. `runner` runs
+//! lists of commands on two vectors, and its contract is the library's main theorem.
 #![tactic(auto)]
 
 pub use aa_boxed::boxed;

@@ -1,9 +1,13 @@
-//! The macro for vectors.
+//! The macro that creates vectors.
 
-/// A vector over an allocator. `vec_of![in alloc]` is an empty one, and takes no memory;
-/// `vec_of![in alloc; x; n]` is what `Vec::from_elem_in(x, n, alloc)` answers, and
-/// `vec_of![in alloc; a, b]` what `Vec::from_array_in([a, b], alloc)` does. It stands for the
-/// original's `vec!` with `in`; the other forms, on a global allocator, aren't there.
+/// Creates a vector that allocates with `alloc`.
+///
+/// - `vec_of![in alloc]` returns an empty vector, and does not allocate.
+/// - `vec_of![in alloc; x; n]` returns the result of `Vec::from_elem_in(x, n, alloc)`.
+/// - `vec_of![in alloc; a, b]` returns the result of `Vec::from_array_in([a, b], alloc)`.
+///
+/// Corresponds to allocator-api2's `vec!` with `in`. The forms that allocate with the global
+/// allocator are not provided.
 #[macro_export]
 macro_rules! vec_of {
     (in $alloc:expr $(;)?) => {

@@ -1,9 +1,9 @@
-//! `run`: a list of commands on two vectors, and the list machine that its contract speaks of.
+//! `run`, which runs a list of commands on two vectors, as a run of the list machine.
 ghost use Rattle.std.specs.Prelude.{◌≡◌, List, [], ◌∷◌, ◌++◌, length};
 ghost use Rattle.std.specs.Mem.{type_size};
-ghost use Rattle.aa_vec.specs.Copies.{Copies};
+ghost use Rattle.aa_vec.specs.Copies.{ClonesAreEqual};
 ghost use Rattle.aa_vec.specs.Vector.{HasRoom, Holds, SameBlock};
-ghost use Rattle.allocator_api2.specs.Commands.{DoesStep};
+ghost use Rattle.allocator_api2.specs.Commands.{PerformsStep};
 ghost use Rattle.allocator_api2.specs.Machine.{state_of, calls_of, IsPossible};
 ghost use Rattle.allocator_api2.specs.Run.{RunsWithin, MayCall, IsCallableOnRuns};
 
@@ -15,80 +15,78 @@ mod commands;
 mod draining;
 mod extracting;
 
-/// What `run` is told to do with the main vector.
+/// A command for `run`, which acts on the vector `main`, and in some cases on `side` too.
 #[derive(Drop)]
 pub enum Command<T, A: Allocator = Global> {
-    /// Puts an element behind the last one.
+    /// Appends an element.
     Push(T),
-    /// Puts an element behind the last one, where the capacity has room for it.
+    /// Appends an element if there is spare capacity, and otherwise returns it. Does not allocate.
     Within(T),
-    /// Takes the last element.
+    /// Removes the last element and returns it.
     Pop,
-    /// Puts an element at an index, which is at most the length.
+    /// Inserts an element at an index, which is at most the length.
     Insert(usize, T),
-    /// Takes the element at an index, and closes the gap.
+    /// Removes the element at an index and returns it, and moves those after it down by one.
     Remove(usize),
-    /// Takes the element at an index, and puts the last one there.
+    /// Removes the element at an index and returns it, replacing it with the last element.
     SwapRemove(usize),
-    /// Drops all but the first so many elements.
+    /// Shortens main to this length, dropping the rest. Does nothing if main is not longer.
     Truncate(usize),
     /// Drops all elements.
     Clear,
-    /// Makes room for so many more elements, with room to spare.
+    /// Reserves capacity for at least this many more elements, growing by the growth policy.
     Reserve(usize),
-    /// Makes room for so many more elements and no others.
+    /// Reserves capacity for this many more elements, growing to no more than that.
     ReserveExact(usize),
-    /// Gives back all but so many places, or as many as there are elements.
+    /// Shrinks the capacity to this lower bound, or to the length if that is greater.
     ShrinkTo(usize),
-    /// Cuts the list at an index, which is at most the length; the elements from there on replace
+    /// Splits main at an index, which is at most the length. The elements from there on replace
     /// those of side.
     SplitOff(usize),
-    /// Moves all elements of side behind the last one.
+    /// Appends all elements of side, leaving side empty.
     Append,
-    /// Puts items behind the last one, which are told to be so many, true or not, or as many as
-    /// they are.
+    /// Appends the items of an iterator, with this lower bound in its size hint.
     Extend {
         /// The items, in order.
         items: Vec<T, A>,
-        /// What is told of their number.
+        /// The lower bound, which need not be true; `None` for the number of remaining items.
         hint: Option<usize>,
     },
-    /// Puts clones of the elements from one index to before another behind the last one.
+    /// Appends clones of the elements from the first index up to, but not including, the second.
     ExtendFromWithin(usize, usize),
-    /// Cuts the list to so many elements, or fills it up to that many with clones of an element,
-    /// and it last.
+    /// Truncates main to this length, or appends clones of an element up to it, and the element
+    /// itself last.
     Resize(usize, T),
-    /// Asks `keep` of each element once, in order, and drops those at which it answers false.
+    /// Calls `keep` once for each element, in order, and drops those for which it returns `false`.
     Retain,
-    /// Asks `same` of each element but the first beside the last one kept before it, and drops it
-    /// where the answer is true.
+    /// Calls `same` for each element but the first, with the last element kept before it, and drops
+    /// the element if `same` returns `true`.
     Dedup,
-    /// Takes items out of a range, so many from the front and then so many from the back, and puts
-    /// them behind the last element of side, in the order in which they came.
+    /// Removes elements from the front and then from the back of a range, and appends them to side
+    /// in this order.
     Drain {
         /// The index of the range's first element.
         start: usize,
         /// The index before which it ends, which is at most the length.
         end: usize,
-        /// How many items come from the front, or as many as there are.
+        /// How many elements are removed from the front, or the length of the range if smaller.
         front: usize,
-        /// How many of the others come from the back, or as many as there are.
+        /// How many of the others are removed from the back, or all of them if they are fewer.
         back: usize,
-        /// Whether what is left of the range stays in main.
+        /// Whether the remaining elements of the range are kept in main, or else dropped.
         keep: bool,
     },
-    /// Takes out of a range the elements at which `keep` answers true, so many at most, and puts
-    /// them behind the last element of side. No other is asked after the last of them.
+    /// Removes from a range the elements for which `keep` returns `true`, up to a number of them,
+    /// and appends them to side. `keep` is not called after the last of them.
     ExtractIf {
         /// The index of the range's first element.
         start: usize,
         /// The index before which it ends, which is at most the length.
         end: usize,
-        /// How many elements are taken at most.
+        /// The greatest number of elements that are removed.
         take: usize,
     },
-    /// Puts items in place of a range, which are told to be so many, true or not, or as many as
-    /// they are.
+    /// Replaces a range with the items of an iterator, with this lower bound in its size hint.
     Splice {
         /// The index of the range's first element.
         start: usize,
@@ -96,37 +94,41 @@ pub enum Command<T, A: Allocator = Global> {
         end: usize,
         /// The items, in order.
         items: Vec<T, A>,
-        /// What is told of their number.
+        /// The lower bound, which need not be true; `None` for the number of remaining items.
         hint: Option<usize>,
     },
 }
 
-/// What `run` answers to a command.
+/// The reply of `run` to a command.
 #[derive(Drop)]
 pub enum Reply<T> {
-    /// It was done.
+    /// The command succeeded.
     Done,
-    /// The element that was taken.
+    /// The command succeeded and returns the element that it removed.
     Item(T),
-    /// There was none to take.
+    /// There was no element to return.
     Nothing,
-    /// The element comes back, since there was no room within the capacity.
+    /// The element is returned, since there was no spare capacity.
     Back(T),
-    /// Memory or a clone was refused, with an error of this kind.
+    /// The command failed: the capacity overflowed, or an allocation or a clone failed. The error
+    /// is of this kind.
     Refused(TryReserveErrorKind),
-    /// An index or a range lies outside the list; nothing was done.
+    /// An index or a range is out of bounds, and both vectors are unchanged.
     Range,
 }
 
-/// Runs the commands in order on the two vectors, and puts a reply for each behind those in
-/// `replies`, which has room for them. `keep` is asked by `Retain` and `ExtractIf`, and `same` by
-/// `Dedup`; each goes on from the state that its last call left. It takes memory where a vector
-/// grows; a refused growth is the command's reply, and the next command goes on.
+/// Runs the commands on the two vectors, in order, and appends a reply for each to `replies`.
+///
+/// `replies` has spare capacity for them, and does not grow. `Retain` and `ExtractIf` call `keep`,
+/// and `Dedup` calls `same`. Each closure continues from the state that its last call left.
+///
+/// Allocates where a vector grows. A failed allocation is returned as the command's reply, and the
+/// run continues with the next command.
 ///
 /// **For every element type, allocator, pair of closures and list of commands, `run` leaves the two
 /// lists, capacities and replies of a run of the list machine, in which only a command that does
-/// not fit may be refused; and from an empty vector, adding n elements by pushes, inserts, appends
-/// and extensions, under any size hints, whatever is removed between, moves at most 2n elements by
+/// not fit may fail; and from an empty vector, adding n elements by pushes, inserts, appends and
+/// extensions, under any size hints, whatever is removed between, moves at most 2n elements by
 /// growth, or 3n if sparing.**
 pub fn run<T, A, K, S>(
     main: &mut Vec<T, A>,
@@ -141,29 +143,29 @@ where
     A: Allocator + Clone + Drop,
     K: FnMut(&mut T) -> bool,
     S: FnMut(&mut T, &mut T) -> bool,
-    // There is room for the replies, a clone is its source, and the closures may be called.
+    // There is spare capacity for the replies, clones are equal, and the closures may be called.
     requires room { HasRoom replies.old (length commands.items) }
-    requires copies { Copies T.is_clone }
+    requires copies { ClonesAreEqual T.is_clone }
     requires callable { IsCallableOnRuns (type_size T.row)
         (calls_of A.is_clone A.is_infallible K.FnMut S.FnMut)
         (state_of main.old side.old keep.old same.old) commands.items }
 
-    // A run of the list machine, whose replies stand behind those that were there.
-    ensures run { (answered : List (Reply T)) × (replies.new.items ≡ replies.old.items ++ answered)
+    // It is a run of the list machine, whose replies are appended to those before.
+    ensures run { (replied : List (Reply T)) × (replies.new.items ≡ replies.old.items ++ replied)
         × RunsWithin (type_size T.row) (calls_of A.is_clone A.is_infallible K.FnMut S.FnMut)
-        (state_of main.old side.old keep.old same.old) commands.items answered
+        (state_of main.old side.old keep.old same.old) commands.items replied
         (state_of main.new side.new keep.new same.new) }
-    ensures replies_stay { SameBlock replies.old replies.new }
+    ensures same_block { SameBlock replies.old replies.new }
 {
-    find_possible(main, side);
+    prove_possible(main, side);
     for command in commands {
         let reply = step(main, side, command, keep, same);
-        find_possible(main, side);
+        prove_possible(main, side);
         push_within(replies, reply);
     }
 }
 
-// Puts a value behind the last one of a vector that has room for it.
+// Appends a value to a vector that has spare capacity for it.
 #[tactic(auto, using(aa_vec::proofs::Becoming::became))]
 pub(crate) fn push_within<T: Drop, A: Allocator>(list: &mut Vec<T, A>, value: T)
     requires { HasRoom list.old 1 }
@@ -175,16 +177,16 @@ pub(crate) fn push_within<T: Drop, A: Allocator>(list: &mut Vec<T, A>, value: T)
     }
 }
 
-// What every two vectors are.
-fn find_possible<T, A: Allocator>(main: &Vec<T, A>, side: &Vec<T, A>)
+// Proves that any two vectors are a possible state of the machine. Does nothing when called.
+fn prove_possible<T, A: Allocator>(main: &Vec<T, A>, side: &Vec<T, A>)
     ensures { IsPossible main.now side.now }
 {
-    main.known();
-    side.known();
+    main.prove_capacity_bounds();
+    side.prove_capacity_bounds();
 }
 
-// One command.
-#[tactic(auto, using(crate::proofs::Taken::answered))]
+// Performs one command, and returns its reply.
+#[tactic(auto, using(crate::proofs::Taken::replied))]
 fn step<T, A, K, S>(
     main: &mut Vec<T, A>,
     side: &mut Vec<T, A>,
@@ -197,10 +199,11 @@ where
     A: Allocator + Clone + Drop,
     K: FnMut(&mut T) -> bool,
     S: FnMut(&mut T, &mut T) -> bool,
-    requires copies { Copies T.is_clone }
-    requires callable { MayCall (type_size T.row) (calls_of A.is_clone A.is_infallible K.FnMut S.FnMut)
+    requires copies { ClonesAreEqual T.is_clone }
+    requires callable { MayCall (type_size T.row)
+        (calls_of A.is_clone A.is_infallible K.FnMut S.FnMut)
         (state_of main.old side.old keep.old same.old) command }
-    ensures { DoesStep (type_size T.row) (calls_of A.is_clone A.is_infallible K.FnMut S.FnMut)
+    ensures { PerformsStep (type_size T.row) (calls_of A.is_clone A.is_infallible K.FnMut S.FnMut)
         (state_of main.old side.old keep.old same.old) command result
         (state_of main.new side.new keep.new same.new) }
 {

@@ -1,26 +1,32 @@
-//! Vectors of copies of a slice's elements. It stands for `allocator_api2::slice`.
+//! Vectors of copies of the elements of a slice.
 ghost use Rattle.std.specs.Prelude.{◌≡◌, ◌*◌, ◌<◌, ◌≤◌, ◌++◌, List, [], length, take, All, IfOk, IfErr};
 ghost use Rattle.std.specs.List.{repeat};
 ghost use Rattle.std.specs.Mem.{type_size};
-ghost use Rattle.aa_raw.specs.Refusals.{RefusesClones};
+ghost use Rattle.aa_raw.specs.Errors.{ClonesFail};
 ghost use Rattle.aa_raw.specs.declared.raw_vec.Growth.TheVariants.{Doubling};
-ghost use Rattle.aa_vec.specs.Vector.{len, sized, HasRoom, Holds};
-ghost use Rattle.aa_vec.specs.Copies.{Copies, IsMade, IsMadeOf, IsMadeWithin, WritesAtMost};
-ghost use Rattle.allocator_api2.specs.Slices.{RefusesCopies};
+ghost use Rattle.aa_vec.specs.Vector.{len, new_capacity, HasRoom, Holds};
+ghost use Rattle.aa_vec.specs.Copies.{ClonesAreEqual, IsMade, IsMadeOf, IsMadeWithin, WritesAtMost};
+ghost use Rattle.allocator_api2.specs.Slices.{CopiesFail};
 
 use aa_raw::collections::{TryReserveError, TryReserveErrorKind};
 use aa_vec::vec::Vec;
 use std::alloc::{Allocator, Global};
 
-/// Vectors of this library made of a slice. It stands for the original's `SliceExt`, for `&[T]`.
-/// Each call has a second name, with a 2 at its end, for where a call by dot would be one of the
-/// toolchain's.
+/// Conversions of a slice to vectors of this library, implemented for `&[T]`.
+///
+/// Each method has a second name that ends in 2, for places where a method call would resolve to
+/// one of the standard library.
 pub trait SliceExt<T> {
     /// The elements of the slice.
     ghost elements: { Self → List T };
 
-    /// A vector of a clone of each element on the global allocator, with room for no more; it is
-    /// refused as `to_vec_in2` is. It stands for `SliceExt::to_vec`, which aborts on a refusal.
+    /// Returns a vector of a clone of each element, allocated with the global allocator.
+    ///
+    /// The vector has the exact capacity. Allocates before the first clone, unless the slice is
+    /// empty or the elements are zero-sized. The original aborts if the allocation fails.
+    ///
+    /// # Errors
+    /// As for `to_vec_in2`.
     fn to_vec(&self, alloc: Global) -> Result<Vec<T, Global>, TryReserveError>
     where
         T: Clone,
@@ -28,12 +34,12 @@ pub trait SliceExt<T> {
             IfOk result (λ v. IsMadeOf T.is_clone (type_size T.row) Doubling xs v) }
         ensures alloc { IfOk result (λ v. v.alloc ≡ alloc) }
         ensures copied { let xs = elements self.now in
-            Copies T.is_clone
+            ClonesAreEqual T.is_clone
             → IfOk result (IsMade (type_size T.row) (length xs) Doubling xs (length xs)) }
-        ensures refused { let xs = elements self.now in
-            IfErr result (RefusesClones (All T.is_infallible xs) (length xs) (type_size T.row)) };
+        ensures error { let xs = elements self.now in
+            IfErr result (ClonesFail (All T.is_infallible xs) (length xs) (type_size T.row)) };
 
-    /// The same as `to_vec`. It stands for `SliceExt::to_vec2`.
+    /// Same as `to_vec`.
     fn to_vec2(&self, alloc: Global) -> Result<Vec<T, Global>, TryReserveError>
     where
         T: Clone,
@@ -41,12 +47,12 @@ pub trait SliceExt<T> {
             IfOk result (λ v. IsMadeOf T.is_clone (type_size T.row) Doubling xs v) }
         ensures alloc { IfOk result (λ v. v.alloc ≡ alloc) }
         ensures copied { let xs = elements self.now in
-            Copies T.is_clone
+            ClonesAreEqual T.is_clone
             → IfOk result (IsMade (type_size T.row) (length xs) Doubling xs (length xs)) }
-        ensures refused { let xs = elements self.now in
-            IfErr result (RefusesClones (All T.is_infallible xs) (length xs) (type_size T.row)) };
+        ensures error { let xs = elements self.now in
+            IfErr result (ClonesFail (All T.is_infallible xs) (length xs) (type_size T.row)) };
 
-    /// The same as `to_vec_in2`. It stands for `SliceExt::to_vec_in`, which aborts on a refusal.
+    /// Same as `to_vec_in2`. The original aborts if the allocation fails.
     fn to_vec_in<A: Allocator>(&self, alloc: A) -> Result<Vec<T, A>, TryReserveError>
     where
         T: Clone,
@@ -54,15 +60,19 @@ pub trait SliceExt<T> {
             IfOk result (λ v. IsMadeOf T.is_clone (type_size T.row) Doubling xs v) }
         ensures alloc { IfOk result (λ v. v.alloc ≡ alloc) }
         ensures copied { let xs = elements self.now in
-            Copies T.is_clone
+            ClonesAreEqual T.is_clone
             → IfOk result (IsMade (type_size T.row) (length xs) Doubling xs (length xs)) }
-        ensures refused { let xs = elements self.now in
-            IfErr result (RefusesClones (All T.is_infallible xs) (length xs) (type_size T.row)) };
+        ensures error { let xs = elements self.now in
+            IfErr result (ClonesFail (All T.is_infallible xs) (length xs) (type_size T.row)) };
 
-    /// A vector of a clone of each element, with room for no more. It takes memory before the first
-    /// clone, where there are elements and they have a size. Where that or a clone is refused,
-    /// nothing is made: `CapacityOverflow`, or `AllocError` with the number of elements. It stands
-    /// for `SliceExt::to_vec_in2`, which aborts on a refusal.
+    /// Returns a vector of a clone of each element, allocated with `alloc`.
+    ///
+    /// The vector has the exact capacity. Allocates before the first clone, unless the slice is
+    /// empty or the elements are zero-sized. The original aborts if the allocation fails.
+    ///
+    /// # Errors
+    /// `CapacityOverflow`, or `AllocError` with the number of elements, if the allocation or a
+    /// clone fails. No vector is returned then.
     fn to_vec_in2<A: Allocator>(&self, alloc: A) -> Result<Vec<T, A>, TryReserveError>
     where
         T: Clone,
@@ -70,15 +80,20 @@ pub trait SliceExt<T> {
             IfOk result (λ v. IsMadeOf T.is_clone (type_size T.row) Doubling xs v) }
         ensures alloc { IfOk result (λ v. v.alloc ≡ alloc) }
         ensures copied { let xs = elements self.now in
-            Copies T.is_clone
+            ClonesAreEqual T.is_clone
             → IfOk result (IsMade (type_size T.row) (length xs) Doubling xs (length xs)) }
-        ensures refused { let xs = elements self.now in
-            IfErr result (RefusesClones (All T.is_infallible xs) (length xs) (type_size T.row)) };
+        ensures error { let xs = elements self.now in
+            IfErr result (ClonesFail (All T.is_infallible xs) (length xs) (type_size T.row)) };
 
-    /// A vector of the elements `n` times over on the global allocator, in order, with room for no
-    /// more. It takes memory where there are elements to put and they have a size. A refusal is
-    /// `CapacityOverflow`, for sure where their number passes `usize::MAX`, or `AllocError` with
-    /// their number. It stands for `SliceExt::repeat`, which aborts on a refusal.
+    /// Returns a vector that repeats the elements `n` times, in order, allocated with the global
+    /// allocator.
+    ///
+    /// The vector has the exact capacity. Allocates unless it is empty or the elements are
+    /// zero-sized. The original aborts if the allocation fails.
+    ///
+    /// # Errors
+    /// `CapacityOverflow`, always if the length of the vector would exceed `usize::MAX`; else also
+    /// `AllocError` with this length, if the allocation fails.
     fn repeat(&self, alloc: Global, n: usize) -> Result<Vec<T, Global>, TryReserveError>
     where
         T: Repeat,
@@ -86,11 +101,11 @@ pub trait SliceExt<T> {
             (λ v. IsMadeWithin (type_size T.row) Doubling (repeat n (elements self.now)) v) }
         ensures alloc { IfOk result (λ v. v.alloc ≡ alloc) }
         ensures capacity { IfOk result
-            (λ v. v.capacity ≡ sized (type_size T.row) (n * length (elements self.now))) }
-        ensures refused { IfErr result
-            (RefusesCopies (type_size T.row) (n * length (elements self.now))) };
+            (λ v. v.capacity ≡ new_capacity (type_size T.row) (n * length (elements self.now))) }
+        ensures error { IfErr result
+            (CopiesFail (type_size T.row) (n * length (elements self.now))) };
 
-    /// The same as `repeat`. It stands for `SliceExt::repeat2`.
+    /// Same as `repeat`.
     fn repeat2(&self, alloc: Global, n: usize) -> Result<Vec<T, Global>, TryReserveError>
     where
         T: Repeat,
@@ -98,9 +113,9 @@ pub trait SliceExt<T> {
             (λ v. IsMadeWithin (type_size T.row) Doubling (repeat n (elements self.now)) v) }
         ensures alloc { IfOk result (λ v. v.alloc ≡ alloc) }
         ensures capacity { IfOk result
-            (λ v. v.capacity ≡ sized (type_size T.row) (n * length (elements self.now))) }
-        ensures refused { IfErr result
-            (RefusesCopies (type_size T.row) (n * length (elements self.now))) };
+            (λ v. v.capacity ≡ new_capacity (type_size T.row) (n * length (elements self.now))) }
+        ensures error { IfErr result
+            (CopiesFail (type_size T.row) (n * length (elements self.now))) };
 }
 
 impl<T> SliceExt<T> for &[T] {
@@ -149,11 +164,16 @@ impl<T> SliceExt<T> for &[T] {
     }
 }
 
-/// What elements can be put into a vector many times over: all that are `Copy`. The original asks
-/// `Copy` itself.
+/// Types whose elements can be repeated in a vector: all that are `Copy`.
+///
+/// Not in allocator-api2, which requires `Copy` itself.
 pub trait Repeat: Sized {
-    /// A vector of the elements of `source` `n` times over, over any allocator; it is refused as
-    /// `SliceExt::repeat` is. The original has no such call.
+    /// Returns a vector that repeats the elements of `source` `n` times, allocated with `alloc`.
+    ///
+    /// Allocates unless the vector is empty or the elements are zero-sized. Not in allocator-api2.
+    ///
+    /// # Errors
+    /// As for `SliceExt::repeat`.
     fn repeat_in<A: Allocator>(
         source: &[Self],
         n: usize,
@@ -163,9 +183,9 @@ pub trait Repeat: Sized {
             (λ v. IsMadeWithin (type_size Self.row) Doubling (repeat n source.now) v) }
         ensures alloc { IfOk result (λ v. v.alloc ≡ alloc) }
         ensures capacity { IfOk result
-            (λ v. v.capacity ≡ sized (type_size Self.row) (n * length source.now)) }
-        ensures refused { let count = n * length source.now in
-            IfErr result (RefusesCopies (type_size Self.row) count) };
+            (λ v. v.capacity ≡ new_capacity (type_size Self.row) (n * length source.now)) }
+        ensures error { let count = n * length source.now in
+            IfErr result (CopiesFail (type_size Self.row) count) };
 }
 
 impl<T: Copy> Repeat for T {
@@ -178,7 +198,7 @@ impl<T: Copy> Repeat for T {
     }
 }
 
-// A vector of the elements `n` times over.
+// Returns a vector that repeats the elements `n` times.
 #[tactic(auto, using(crate::proofs::Repeated::repeated))]
 fn repeat_in<T: Copy, A: Allocator>(
     source: &[T],
@@ -189,8 +209,8 @@ fn repeat_in<T: Copy, A: Allocator>(
         (λ v. IsMadeWithin (type_size T.row) Doubling (repeat n source.now) v) }
     ensures alloc { IfOk result (λ v. v.alloc ≡ alloc) }
     ensures capacity { IfOk result
-        (λ v. v.capacity ≡ sized (type_size T.row) (n * length source.now)) }
-    ensures refused { IfErr result (RefusesCopies (type_size T.row) (n * length source.now)) }
+        (λ v. v.capacity ≡ new_capacity (type_size T.row) (n * length source.now)) }
+    ensures error { IfErr result (CopiesFail (type_size T.row) (n * length source.now)) }
 {
     let Some(count) = n.checked_mul(source.len()) else {
         return Err(TryReserveErrorKind::CapacityOverflow.into());
@@ -202,17 +222,17 @@ fn repeat_in<T: Copy, A: Allocator>(
     Ok(made)
 }
 
-// Puts the elements of `source` `n` times over into an empty vector that has room for them: once,
-// and then what is there again.
+// Appends the elements of `source` `n` times to an empty vector with capacity for them: once from
+// `source`, and then from the vector itself.
 #[tactic(auto, using(crate::proofs::Repeated::repeated))]
 fn put_repeated<T: Copy, A: Allocator>(made: &mut Vec<T, A>, source: &[T], n: usize)
     requires some { 0 < n }
     requires empty { made.old.items ≡ [] }
     requires room { n * length source.now ≤ made.old.capacity }
     ensures items { Holds made.old (repeat n source.now) made.new }
-    ensures writes { WritesAtMost made.old (n * length source.now) made.new }
+    ensures written { WritesAtMost made.old (n * length source.now) made.new }
 {
-    made.known();
+    made.prove_capacity_bounds();
     put_copies(made, source);
     let mut done = 1;
     'each: while done < n {
@@ -222,22 +242,22 @@ fn put_repeated<T: Copy, A: Allocator>(made: &mut Vec<T, A>, source: &[T], n: us
     }
 }
 
-// How many of the copies that are there are put again, where `left` are still to come.
+// Returns how many of the `done` copies are appended again, if `left` copies remain.
 fn next_count(done: usize, left: usize) -> usize
     requires { (0 < done) × (0 < left) }
     ensures some { 0 < result }
     ensures done { result ≤ done }
-    ensures left { result ≤ left }
+    ensures remaining { result ≤ left }
 {
     if left < done { left } else { done }
 }
 
-// Puts copies of all of `source` behind the last element of a vector that has room for them.
+// Appends copies of all elements of `source` to a vector that has spare capacity for them.
 #[tactic(auto, using(aa_vec::proofs::Becoming::became))]
 fn put_copies<T: Copy, A: Allocator>(made: &mut Vec<T, A>, source: &[T])
     requires room { HasRoom made.old (length source.now) }
     ensures items { Holds made.old (made.old.items ++ source.now) made.new }
-    ensures writes { WritesAtMost made.old (length source.now) made.new }
+    ensures written { WritesAtMost made.old (length source.now) made.new }
 {
     match made.extend_from_slice_copied(source) {
         Ok(()) => {}
@@ -245,14 +265,14 @@ fn put_copies<T: Copy, A: Allocator>(made: &mut Vec<T, A>, source: &[T])
     }
 }
 
-// Puts copies of its own first `count` elements behind the last one of a vector that has room for
+// Appends copies of the first `count` elements to the same vector, which has spare capacity for
 // them.
 #[tactic(auto, using(aa_vec::proofs::Becoming::became))]
 fn put_again<T: Copy, A: Allocator>(made: &mut Vec<T, A>, count: usize)
     requires within { count ≤ len made.old }
     requires room { HasRoom made.old count }
     ensures items { Holds made.old (made.old.items ++ take count made.old.items) made.new }
-    ensures writes { WritesAtMost made.old count made.new }
+    ensures written { WritesAtMost made.old count made.new }
 {
     match made.extend_from_within_copied(0..count) {
         Ok(()) => {}

@@ -1,5 +1,7 @@
-//! Times vectors and boxes over the allocators of `ex_allocators`, beside the global one: what each
-//! layer costs. Pushes stand beside those onto the toolchain's vector, which grows in place.
+//! Measures vectors and boxes over the allocators of `ex_allocators`, beside the global allocator.
+//!
+//! The times show what each layer costs. Pushes are measured beside pushes onto the toolchain's
+//! vector, which grows in place.
 #![tactic(auto)]
 
 use allocator_api2::boxed::Box;
@@ -14,18 +16,18 @@ use std::mem::size_of;
 use std::rt::Clock;
 use std::time::Instant;
 
-/// What is done over an allocator.
+/// A case: what is done over an allocator.
 #[derive(Clone, Copy)]
 enum Case {
-    /// Numbers of 4 bytes are pushed onto one vector.
+    /// Pushes numbers of 4 bytes onto one vector.
     Pushes,
-    /// Elements of 24 bytes are.
+    /// Pushes elements of 24 bytes onto one vector.
     Pushes24,
-    /// Boxes are made and dropped, one after the other.
+    /// Allocates boxes and drops them, one after the other.
     Boxes,
-    /// Boxes are kept in one vector, and then all dropped.
+    /// Keeps boxes in one vector, and then drops all.
     Kept,
-    /// Boxes are linked into a list, and then taken out of it.
+    /// Links boxes into a list, and then removes them.
     List,
 }
 
@@ -40,7 +42,7 @@ impl Case {
         }
     }
 
-    // How many bytes a block has of which the case wants many.
+    // Returns the size in bytes of the blocks that the case mostly requests.
     fn size(self) -> usize {
         match self {
             Case::Pushes | Case::Pushes24 | Case::Boxes | Case::Kept => size_of::<u64>(),
@@ -48,7 +50,7 @@ impl Case {
         }
     }
 
-    // Runs the case, and answers a sum of what it held; none where memory is refused.
+    // Runs the case and returns the sum of its elements, or `None` if an allocation fails.
     fn run<A: Allocator + Copy>(self, heap: A, count: u32) -> Option<u64> {
         match self {
             Case::Pushes => pushes(heap, count),
@@ -59,7 +61,7 @@ impl Case {
         }
     }
 
-    // Whether it can be run over the toolchain's vector.
+    // Returns whether the case can be run over the toolchain's vector.
     fn is_theirs(self) -> bool {
         match self {
             Case::Pushes | Case::Pushes24 => true,
@@ -67,7 +69,7 @@ impl Case {
         }
     }
 
-    // The same over the toolchain's vector, where it can be.
+    // Runs the case over the toolchain's vector, if it can be.
     fn run_theirs(self, alloc: Global, count: u32) -> Option<u64> {
         match self {
             Case::Pushes => their_pushes(alloc, count),
@@ -163,7 +165,7 @@ fn kept<A: Allocator + Copy>(heap: A, count: u32) -> Option<u64> {
     Some(sum)
 }
 
-/// A number, and the rest of the list.
+/// A node: a number, and the rest of the list.
 struct Node<A: Allocator> {
     next: Option<Box<Node<A>, A>>,
     number: u64,
@@ -210,11 +212,11 @@ fn list<A: Allocator + Copy>(heap: A, count: u32) -> Option<u64> {
     Some(sum)
 }
 
-// How many runs each allocator has in a row: the later ones find its memory as it left it, and not
-// as five others did.
+// The number of runs of each allocator in a row. The later runs find its memory as it left it, and
+// not as five others did.
 const IN_A_ROW: u32 = 4;
 
-/// Where a case has its memory from.
+/// The allocator of a case.
 #[derive(Clone, Copy, PartialEq)]
 enum Heap {
     Global,
@@ -222,7 +224,7 @@ enum Heap {
     Counting,
     Pool,
     Recycler,
-    /// The global one, under the toolchain's vector.
+    /// The global allocator, under the toolchain's vector.
     Theirs,
 }
 
@@ -238,7 +240,7 @@ impl Heap {
         }
     }
 
-    // Whether the case can be run over it.
+    // Returns whether the case can be run over this allocator.
     fn takes(self, case: Case) -> bool {
         self != Heap::Theirs || case.is_theirs()
     }
@@ -276,7 +278,7 @@ impl Heaps {
         }
     }
 
-    // Whether all leave the same, twice where blocks are used again.
+    // Returns whether all allocators lead to the same sum, twice for those that reuse blocks.
     fn agree(&self, case: Case, count: u32) -> bool {
         let mut first = None;
         for heap in [
@@ -302,7 +304,7 @@ impl Heaps {
     }
 }
 
-// The time of the fastest of a few runs in a row.
+// Returns the time of the fastest of a few runs in a row.
 fn time_of<R: Clock>(
     clock: &R,
     heaps: &Heaps,
@@ -339,7 +341,7 @@ impl Timed {
     }
 }
 
-// The fastest of so many rounds, in which the allocators take turns.
+// Returns the fastest times of `repeat` rounds, in which the allocators take turns.
 fn rounds<R: Clock>(
     clock: &R,
     heaps: &Heaps,
@@ -366,7 +368,7 @@ fn rounds<R: Clock>(
     Ok(times)
 }
 
-// The rounds over allocators of their own.
+// Returns the times of the rounds, over new allocators.
 fn times<R: Clock>(
     clock: &R,
     alloc: Global,
@@ -378,14 +380,14 @@ fn times<R: Clock>(
     rounds(clock, &heaps, case, count, repeat)
 }
 
-// Whether all leave the same, and how many requests the counting one had.
+// Returns whether all lead to the same sum, and the number of requests to the counting allocator.
 fn check(alloc: Global, case: Case, count: u32) -> (bool, u64) {
     let heaps = Heaps::new(alloc, case);
     let same = heaps.agree(case, count);
     (same, heaps.counting.counts().requests)
 }
 
-// In tenths of a nanosecond for each element.
+// Returns the time in tenths of a nanosecond for each element.
 fn tenths(time: u128, count: u32) -> u128 {
     time.saturating_mul(10) / u128::from(count.max(1))
 }
@@ -402,7 +404,8 @@ fn print_times<R: Print>(rt: &R, case: Case, count: u32, times: [Timed; 6]) -> R
     println!(rt; " tenths of a nanosecond")
 }
 
-// The line of one case: whether all leave the same, or with a repeat the time of each.
+// Prints the line of one case: the time of each allocator, or with `repeat` 0 whether all lead to
+// the same sum.
 fn line<R: Print + Clock>(
     rt: &R,
     alloc: Global,
@@ -419,7 +422,7 @@ fn line<R: Print + Clock>(
     print_times(rt, case, count, times)
 }
 
-// A line of the input: how many elements, and how often; 0 to tell no time.
+// Parses a line of the input: the number of elements, and that of rounds, or 0 to report no time.
 fn numbers(line: &str) -> Option<(u32, u32)> {
     let mut words = line.split_ascii_whitespace();
     let count = words.next()?.parse().ok()?;

@@ -1,4 +1,4 @@
--- What the cases are called.
+-- The names of the cases.
 use Rattle.std.specs.Prelude.{ℕ, List, codes, ◌++◌}
 use Rattle.benchcases.specs.declared.case.Case.{Case}
 use Rattle.benchcases.specs.declared.case.Case.TheVariants.{Sized, Chosen, Pieces as PiecesCase, Held, Used, PushPop, PushReserved, PushFull, FibPush, RetainWide, InsertFront, RemoveFront, SwapRemove, ExtendFromSlice, Extend, ExtendUnhinted, ExtendThrice, Append, SplitJoin, DrainTaken, DrainDropped, DrainFront, DrainBack, IntoIter, SpliceGrowing, SpliceInPlace, SpliceFront, InsertMiddle, GapInsert, GapTyping}
@@ -21,12 +21,12 @@ name_of_call InsertPop = codes "insert_pop"
 name_of_call RemovePush = codes "remove_push"
 name_of_call Clone = codes "clone"
 
--- what a name has behind the call: nothing for elements of 4 bytes
+-- what follows the call in a name, by the size of the elements: nothing for 4 bytes
 abbrev pub suffix_of : Size → List ℕ
 suffix_of Four = codes ""
 suffix_of One = codes "_u8"
 suffix_of TwentyFour = codes "_24"
-suffix_of Zero = codes "_sizeless"
+suffix_of Zero = codes "_zst"
 
 abbrev pub name_of_choice : Choice → List ℕ
 name_of_choice RetainHalf = codes "retain_half"

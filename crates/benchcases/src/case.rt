@@ -1,27 +1,28 @@
-//! The cases, by their names.
+//! The cases of the benchmark, by name.
 ghost use Rattle.std.specs.Prelude.{◌≡◌, ◌≢◌, ◌++◌, Some, IfSome, IfNone};
 ghost use Rattle.benchcases.specs.Cases.{name_of, name_of_call, suffix_of, name_of_choice};
 ghost use Rattle.benchcases.specs.Cases.{name_of_pieces, name_of_collection, name_of_use};
 
-/// What is timed. COUNT is the number of its steps or elements. Elements are `u32` where nothing
-/// else is said.
+/// A case: a call, or a small program, whose time is measured.
+///
+/// COUNT is the number of its steps or elements. Elements are `u32` unless said otherwise.
 #[derive(Clone, Copy, PartialEq, Drop)]
 pub enum Case {
-    /// The call over elements of the size.
+    /// A call over elements of the given size.
     Sized(Call, Size),
-    /// A call that chooses which elements stay.
+    /// A call that chooses which elements are kept.
     Chosen(Choice),
-    /// Pieces of bytes put behind the others, COUNT of them.
+    /// Appends COUNT pieces of bytes.
     Pieces(Pieces),
-    /// Keys or items go into another collection than a vector, or out of it.
+    /// Inserts or removes keys or items of a collection other than a vector.
     Held(Collection),
-    /// What programs do with vectors.
+    /// A small program that uses vectors.
     Used(Use),
     /// Pushes a number and pops it.
     PushPop,
-    /// Reserves room for numbers and pushes them.
+    /// Reserves capacity for numbers and pushes them.
     PushReserved,
-    /// Pushes a number onto a full vector, which moves all of it.
+    /// Pushes a number onto a full vector, which moves all its elements.
     PushFull,
     /// Pushes the sum of the last two numbers onto an empty vector.
     FibPush,
@@ -31,19 +32,19 @@ pub enum Case {
     InsertFront,
     /// Removes the first `u64` and pushes, a hundred times.
     RemoveFront,
-    /// Takes the middle element out, the last one in its place, until none is left.
+    /// Removes the middle element, replacing it by the last, until the vector is empty.
     SwapRemove,
     /// Extends an empty vector by a slice of bytes.
     ExtendFromSlice,
     /// Extends an empty vector by a range, which knows its length.
     Extend,
-    /// Extends an empty vector by an iterator that does not tell how many items come.
+    /// Extends an empty vector by an iterator without a lower bound.
     ExtendUnhinted,
-    /// Extends an empty vector by three ranges, by a call for each. Its room is made before.
+    /// Extends an empty vector by three ranges, with a call for each. Reserves the capacity before.
     ExtendThrice,
     /// Appends a vector to an empty one.
     Append,
-    /// Splits a hundred `u64` in the middle and joins them, so often that COUNT come to be joined.
+    /// Splits a hundred `u64` in the middle and joins them, until COUNT elements are joined.
     SplitJoin,
     /// Drains the middle half of a vector twice as long, and takes each item.
     DrainTaken,
@@ -51,27 +52,27 @@ pub enum Case {
     DrainDropped,
     /// Drains the first `u64` and pushes, a hundred times.
     DrainFront,
-    /// Drains ten from the middle of 1,000 `u16` into another vector and appends that, so often
-    /// that COUNT come to be drained.
+    /// Drains ten from the middle of 1,000 `u16` into another vector and appends that, until COUNT
+    /// elements are drained.
     DrainBack,
-    /// Takes each item out of a vector given up.
+    /// Takes each item of a vector that is consumed.
     IntoIter,
     /// Splices a hundred items at a time into the middle of a vector, empty at first.
     SpliceGrowing,
-    /// Splices a hundred items at a time in place of the hundred in the middle.
+    /// Replaces the hundred items in the middle by a hundred others, by splices.
     SpliceInPlace,
-    /// Splices an item in before the first `u64` and pops, a hundred times.
+    /// Splices in an item before the first `u64` and pops, a hundred times.
     SpliceFront,
-    /// Inserts a thousand numbers in the middle, each behind the one before.
+    /// Inserts a thousand numbers in the middle, each after the one before.
     InsertMiddle,
-    /// The same at the cursor of a gap buffer; over the toolchain's vector as `InsertMiddle`.
+    /// Does the same at the cursor of a gap buffer. The standard vector does `InsertMiddle`.
     GapInsert,
     /// Inserts COUNT numbers into a text of as many, in a gap buffer whose cursor jumps before each
-    /// hundredth; over the toolchain's vector a hundred are spliced in at a time.
+    /// hundredth. The standard vector splices in a hundred at a time.
     GapTyping,
 }
 
-/// What is timed at each size of the elements.
+/// A call that is measured at each size of the elements.
 #[derive(Clone, Copy, PartialEq, Drop)]
 pub enum Call {
     /// Pushes elements onto an empty vector.
@@ -84,7 +85,7 @@ pub enum Call {
     Clone,
 }
 
-/// What is timed of calls that choose which elements stay.
+/// A call that chooses which elements are kept.
 #[derive(Clone, Copy, PartialEq, Drop)]
 pub enum Choice {
     /// Keeps every other element.
@@ -95,15 +96,15 @@ pub enum Choice {
     RetainRandom,
     /// Keeps no element.
     RetainNone,
-    /// Takes every other element out.
+    /// Extracts every other element.
     ExtractHalf,
-    /// Drops repeats, in runs of three equal elements.
+    /// Removes repeated elements, in runs of three equal ones.
     Dedup,
-    /// Drops repeats, in runs of three elements with equal keys.
+    /// Removes repeated elements, in runs of three with equal keys.
     DedupByKey,
 }
 
-/// Which pieces of bytes are put behind.
+/// The pieces of bytes that are appended.
 #[derive(Clone, Copy, PartialEq, Drop)]
 pub enum Pieces {
     /// Pieces of 4 bytes.
@@ -116,15 +117,16 @@ pub enum Pieces {
     Written,
 }
 
-/// What is timed of a table from `u64` to `u64`, of a queue and of a small vector. Keys are in no
-/// regular order.
+/// A call on a table from `u64` to `u64`, on a queue or on a small vector.
+///
+/// Keys are in no regular order.
 #[derive(Clone, Copy, PartialEq, Drop)]
 pub enum Collection {
     /// Inserts keys into an empty table.
     TableInsert,
-    /// Looks each key of a table up.
+    /// Looks up each key of a table.
     TableHit,
-    /// Looks keys up that are not there, as many as the table has.
+    /// Looks up keys that are missing, as many as the table has.
     TableMiss,
     /// Removes each key of a table.
     TableRemove,
@@ -132,53 +134,53 @@ pub enum Collection {
     RingQueue,
     /// Pushes at the back of an empty queue.
     RingPush,
-    /// Makes a vector of eight numbers and takes them out, COUNT numbers in all.
+    /// Makes vectors of eight numbers and takes the numbers, COUNT in all.
     InlineFew,
 }
 
-/// What is timed of what programs do with vectors.
+/// A small program that uses vectors.
 #[derive(Clone, Copy, PartialEq, Drop)]
 pub enum Use {
     /// Writes records of three fields as bytes.
     Serialise,
-    /// Lists where each word of a text of COUNT bytes begins and ends.
+    /// Lists the places where each word of a text of COUNT bytes begins and ends.
     Tokenize,
     /// Reads lines from COUNT bytes, each into a vector of its own.
     Lines,
-    /// Asks for COUNT keys, of which the 16 last ones are kept in the order of their use.
+    /// Looks up COUNT keys in a cache of the last 16 ones, in the order of their use.
     Lru,
-    /// Puts batches of a hundred behind others, a half by a drain and the rest by an append.
+    /// Appends batches of a hundred, one half by a drain and the rest by an append.
     Merge,
-    /// Drops texts that equal the one before, in runs of three.
+    /// Removes texts that equal the one before, in runs of three.
     DedupTexts,
     /// Writes COUNT rows of two columns, padded with blanks.
     TextTable,
-    /// Inserts each number at its place in a sorted vector, which is emptied at 1,000.
+    /// Inserts each number at its place in a sorted vector, which is cleared at 1,000.
     InsertSorted,
     /// Computes each cell of a grid of a hundred columns from those above and to the left.
     Grid,
-    /// Makes a vector of boxes and takes them out.
+    /// Makes a vector of boxes and takes them.
     Boxes,
-    /// Pushes numbers, and removes the first where there are more than a hundred.
+    /// Pushes numbers, and removes the first if there are more than a hundred.
     Window,
 }
 
-/// How large an element is.
+/// The size of an element.
 #[derive(Clone, Copy, PartialEq, Drop)]
 pub enum Size {
     /// 4 bytes, a `u32`.
     Four,
-    /// A byte.
+    /// 1 byte.
     One,
     /// 24 bytes.
     TwentyFour,
-    /// No byte.
+    /// No bytes: a zero-sized element.
     Zero,
 }
 
 impl Case {
-    /// The case of this name.
-    pub fn named(name: &str) -> Option<Case>
+    /// Returns the case of this name, or `None` if no case has it.
+    pub fn from_name(name: &str) -> Option<Case>
         ensures some { IfSome result (λ case. name.now ≡ name_of case) }
         ensures none { IfNone result ((case : Case) → name.now ≢ name_of case) }
     {
@@ -208,15 +210,18 @@ impl Case {
             "insert_middle" => Case::InsertMiddle,
             "gap_insert" => Case::GapInsert,
             "gap_typing" => Case::GapTyping,
-            _ => return grouped(name),
+            _ => return from_name_in_groups(name),
         };
         Some(case)
     }
 }
 
-// The case of this name among those of a choice, of pieces, of a collection, of a use or of a size.
-fn grouped(name: &str) -> Option<Case>
+// Returns the case of this name among choices, pieces, collections, uses, and calls with a size.
+fn from_name_in_groups(name: &str) -> Option<Case>
+    // A case that is returned has this name.
     ensures some { IfSome result (λ case. name.now ≡ name_of case) }
+
+    // If none is returned, no case of any group has this name.
     ensures no_choice { IfNone result ((choice : Choice) → name.now ≢ name_of_choice choice) }
     ensures no_pieces { IfNone result ((pieces : Pieces) → name.now ≢ name_of_pieces pieces) }
     ensures no_collection { IfNone result
@@ -225,24 +230,24 @@ fn grouped(name: &str) -> Option<Case>
     ensures no_size { IfNone result
         ((call : Call) → (size : Size) → name.now ≢ name_of_call call ++ suffix_of size) }
 {
-    if let Some(choice) = chosen(name) {
+    if let Some(choice) = choice_of(name) {
         return Some(Case::Chosen(choice));
     }
-    if let Some(pieces) = pieced(name) {
+    if let Some(pieces) = pieces_of(name) {
         return Some(Case::Pieces(pieces));
     }
-    if let Some(collection) = held(name) {
+    if let Some(collection) = collection_of(name) {
         return Some(Case::Held(collection));
     }
-    if let Some(used) = used(name) {
+    if let Some(used) = use_of(name) {
         return Some(Case::Used(used));
     }
-    let (call, size) = sized(name)?;
+    let (call, size) = call_and_size(name)?;
     Some(Case::Sized(call, size))
 }
 
-// The call and the size that a case of this name has.
-fn sized(name: &str) -> Option<(Call, Size)>
+// Returns the call and the size of the case of this name.
+fn call_and_size(name: &str) -> Option<(Call, Size)>
     ensures some { IfSome result (λ case. name.now ≡ name_of_call case.0 ++ suffix_of case.1) }
     ensures none { IfNone result
         ((call : Call) → (size : Size) → name.now ≢ name_of_call call ++ suffix_of size) }
@@ -251,26 +256,26 @@ fn sized(name: &str) -> Option<(Call, Size)>
         "push" => (Call::Push, Size::Four),
         "push_u8" => (Call::Push, Size::One),
         "push_24" => (Call::Push, Size::TwentyFour),
-        "push_sizeless" => (Call::Push, Size::Zero),
+        "push_zst" => (Call::Push, Size::Zero),
         "insert_pop" => (Call::InsertPop, Size::Four),
         "insert_pop_u8" => (Call::InsertPop, Size::One),
         "insert_pop_24" => (Call::InsertPop, Size::TwentyFour),
-        "insert_pop_sizeless" => (Call::InsertPop, Size::Zero),
+        "insert_pop_zst" => (Call::InsertPop, Size::Zero),
         "remove_push" => (Call::RemovePush, Size::Four),
         "remove_push_u8" => (Call::RemovePush, Size::One),
         "remove_push_24" => (Call::RemovePush, Size::TwentyFour),
-        "remove_push_sizeless" => (Call::RemovePush, Size::Zero),
+        "remove_push_zst" => (Call::RemovePush, Size::Zero),
         "clone" => (Call::Clone, Size::Four),
         "clone_u8" => (Call::Clone, Size::One),
         "clone_24" => (Call::Clone, Size::TwentyFour),
-        "clone_sizeless" => (Call::Clone, Size::Zero),
+        "clone_zst" => (Call::Clone, Size::Zero),
         _ => return None,
     };
     Some(case)
 }
 
-// The choice of this name.
-fn chosen(name: &str) -> Option<Choice>
+// Returns the choice of this name.
+fn choice_of(name: &str) -> Option<Choice>
     ensures some { IfSome result (λ choice. name.now ≡ name_of_choice choice) }
     ensures none { IfNone result ((choice : Choice) → name.now ≢ name_of_choice choice) }
 {
@@ -287,8 +292,8 @@ fn chosen(name: &str) -> Option<Choice>
     Some(choice)
 }
 
-// The pieces of this name.
-fn pieced(name: &str) -> Option<Pieces>
+// Returns the pieces of this name.
+fn pieces_of(name: &str) -> Option<Pieces>
     ensures some { IfSome result (λ pieces. name.now ≡ name_of_pieces pieces) }
     ensures none { IfNone result ((pieces : Pieces) → name.now ≢ name_of_pieces pieces) }
 {
@@ -302,8 +307,8 @@ fn pieced(name: &str) -> Option<Pieces>
     Some(pieces)
 }
 
-// The case of a collection of this name.
-fn held(name: &str) -> Option<Collection>
+// Returns the collection call of this name.
+fn collection_of(name: &str) -> Option<Collection>
     ensures some { IfSome result (λ collection. name.now ≡ name_of_collection collection) }
     ensures none { IfNone result ((held : Collection) → name.now ≢ name_of_collection held) }
 {
@@ -320,8 +325,8 @@ fn held(name: &str) -> Option<Collection>
     Some(collection)
 }
 
-// The use of this name.
-fn used(name: &str) -> Option<Use>
+// Returns the use of this name.
+fn use_of(name: &str) -> Option<Use>
     ensures some { IfSome result (λ used. name.now ≡ name_of_use used) }
     ensures none { IfNone result ((used : Use) → name.now ≢ name_of_use used) }
 {

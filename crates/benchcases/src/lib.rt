@@ -1,4 +1,4 @@
-//! The cases of the bench: what they are called, and which lines of its script are tasks.
+//! The cases of the benchmark: their names, and which lines of its script are tasks.
 #![tactic(auto)]
 
 pub mod case;

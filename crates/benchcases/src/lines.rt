@@ -1,4 +1,4 @@
-//! From a line to the task that it writes.
+//! Parses lines into tasks.
 ghost use Rattle.std.specs.Prelude.{◌≡◌, ◌≢◌, ◌<◌, ◌^◌, IfSome, IfNone, slice_index};
 ghost use Rattle.std.specs.Option.{SomeIff};
 ghost use Rattle.std.specs.Str.Parse.{IsNumeral, digits_value};
@@ -6,29 +6,31 @@ ghost use Rattle.benchcases.specs.Cases.{name_of};
 
 use crate::case::Case;
 
-/// What is asked of a case.
+/// What to do with a case.
 #[derive(Clone, Copy, PartialEq, Drop)]
 pub enum Mode {
-    /// Run it so many times, and tell the time of the fastest.
+    /// Run it so many times, and report the time of the fastest run.
     Time(u32),
-    /// Run it once, and tell no time.
+    /// Run it once, and report no time.
     Check,
-    /// Prepare it, and do not run it.
+    /// Prepare it, but do not run it.
     Setup,
 }
 
-/// What a line asks for.
+/// The task of a line.
 #[derive(Clone, Copy, PartialEq, Drop)]
 pub struct Task<'a> {
     pub mode: Mode,
-    /// What the case is called.
+    /// The name of the case.
     pub name: &'a str,
     pub case: Case,
     pub count: u32,
 }
 
-/// The task that the words are, if they are one: `CASE COUNT [REPEAT]`, `check CASE COUNT` or
-/// `setup CASE COUNT`, with numbers above 0.
+/// Returns the task of a line, or `None` if the line is not a task.
+///
+/// A task is `CASE COUNT [REPEAT]`, `check CASE COUNT` or `setup CASE COUNT`, with numbers above
+/// 0.
 pub fn task_of(line: &str) -> Option<Task<'_>>
     ensures above_0 { IfSome result (λ task. 0 < task.count) }
     ensures name { IfSome result (λ task. task.name.now ≡ name_of task.case) }
@@ -39,7 +41,7 @@ pub fn task_of(line: &str) -> Option<Task<'_>>
         "setup" => (Some(Mode::Setup), words.next()?),
         name => (None, name),
     };
-    let case = Case::named(name)?;
+    let case = Case::from_name(name)?;
     let count = positive(words.next()?)?;
     let mode = match (mode, words.next()) {
         (None, None) => Mode::Time(1),
@@ -58,10 +60,11 @@ pub fn task_of(line: &str) -> Option<Task<'_>>
     }
 }
 
-// The number above 0 that the word writes in decimal digits, if it fits.
+// Returns the number above 0 that the word writes in decimal digits, if it fits in a `u32`.
 fn positive(word: &str) -> Option<u32>
     ensures { SomeIff result
-        (IsNumeral 10 word.now × (0 < digits_value 10 word.now) × (digits_value 10 word.now < 2 ^ 32))
+        (IsNumeral 10 word.now × (0 < digits_value 10 word.now)
+        × (digits_value 10 word.now < 2 ^ 32))
         (digits_value 10 word.now) }
 {
     match digits(word)?.parse() {
@@ -71,7 +74,7 @@ fn positive(word: &str) -> Option<u32>
     }
 }
 
-// The word, if it begins with a digit, so that `parse` meets no sign.
+// Returns the word, if it begins with a digit, so that `parse` does not see a sign.
 fn digits(word: &str) -> Option<&str>
     ensures text { IfSome result (λ text. text.now ≡ word.now) }
     ensures no_sign { IfSome result (λ _. slice_index word.now 0 ≢ 43) }

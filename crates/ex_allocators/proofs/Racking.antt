@@ -1,7 +1,7 @@
 -- What the walks of a rack's calls have in common. Assumes `Logic`.
---     reaches      a `&Rack` is a `&` to its inner allocator, and stays one to the rack
---     Finds, finding      the contract of `shelf`, and what a call of it is given.        finds, found     what it is handed, and what a caller has of it
-pub use Rattle.ex_allocators.proofs.Pooling.{Shelved, hands_shelf}
+--     reaches      a `&Rack` is a `&` to its inner allocator, and still one to the rack
+--     Finds, finding      the contract of `shelf`, and the arguments of a call of it.        finds, found     what is passed to it, and what a caller has of it
+pub use Rattle.ex_allocators.proofs.Pooling.{Shelved, passes_shelf}
 use Rattle.ex_allocators.proofs.Pooling.{◌≡◌, ℕ, ◌<◌, ◌^◌, List, [], ◌∷◌, refl, ap, w64, Bor, Al, seen, Ura, named, Val, vint, vptr, Fml, Lft, ftrue, flft, SProp, ent, emp, sep, ◌⊑◌, fact, fact_i, ‵, raw, ◌⊛◌, some, later, ◌$◌, ◌∵◌, !, qed, move, keep, drop, use0, use1, use2, split, split3, join, fsplit, fjoin, feq_l, await, done, rewrite, Logic, sem, unhide, param, param_laws, ShrRef, shr_vals, nothing, only, heard, triple_of, inner_of}
 use Rattle.ex_watched.proofs.Walk.{Share, Contract, Memory, Routine, Fun, ex, id⊢, updating, at_once, show, flt_i, feq_i, pick, hidden_shr, shr_dup, trues, ⊑_refl}
 use base.Share

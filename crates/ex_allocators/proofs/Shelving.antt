@@ -1,13 +1,13 @@
 -- What the walks over a pool's shelf have in common. Assumes `Logic`.
 --     generics      the type arguments of a shelf's functions, and of a pool's
---     shelf_val, shelf_own      the machine value of a shelf's fields, and what they own by themselves.        shelf_told, shelf_made     what such a value tells, and how it is made
---     opens_shelf, shuts_shelf      a shelf behind a `&` is reached with the thread's token, and left again
+--     shelf_val, shelf_own      the machine value of a shelf's fields, and what they own by themselves.        shelf_fields, shelf_made     the fields of such a value, and how it is made
+--     opens_shelf, shuts_shelf      a shelf is reached through a `&` with the thread's token, and left again
 --     holding_token, proved_alone       a contract beside that token, and a walk that has it
 --     exact, align_exact      a size or an alignment is what it is at a machine's word
---     fills       what the tests of a size and an alignment tell
---     left_block        what runs behind a block of code
+--     fills       what the tests of a size and an alignment show
+--     left_block        what runs after a block of code
 --     carves      the room of a block has room for a pointer in it
---     regrants, readies      so a free block can be granted again, and one that was given back can be kept
+--     regrants, readies      so a free block can be allocated again, and a freed one can be kept
 pub use Rattle.ex_watched.proofs.Walk.{◌≡◌, ℕ, ◌+◌, ◌<◌, ◌^◌, Bool, List, [], ◌∷◌, refl, ap, w64, true, false, Ok, Err, T, arith, lit<, subst, suc, sym, ◌*◌, ◌++◌, ◌-◌, ◌/◌, ◌∙◌, block_if_ok, owned_block, full_share, usize, Ghosts, Answer, answer_val, Answer-typed, Answer-Ok, Answer-err, after, head, inside, is_not, is_so, leaves, proved_at, Ura, inst_fn, Args, Dict, a_type, dnil, dcons, Fn, Body, Ty, ty_array, ty_ptr, Callee, ty_int, ty_struct, tcons, tnil, Val, vint, vptr, vbool, WT, has_ty, vstruct, vcons, vnil, of_list, Fml, Lft, Share, ftrue, fsep, flft, fat, fex, froom, ftok, fwand, Incl-refl, SProp, ent, emp, sep, fst∗, never, apply∗, wand, via, snd∗, every, less, ◌⊑◌, fact, fact_i, fact_use, tables, Running, Carries, bare_tables, Dv, dv_self, capped_is, capped_small, size, align, capped, over, ◌≼⁺◌, Env, Wp, after_seq, WpFn, Calls, Loops, Tables, after_block, alloc_all, pass_all, free_all, look_at, get, through, sets, sets_last, env, ‵, raw, ◌⊛◌, some, later, ◌$◌, ◌∵◌, !, qed, move, keep, drop, use0, use1, use2, split, split3, join, fsplit, fjoin, feq_i, await, done, prop, at_ret, any_q, Sq, Post, regoal, by, fjoin3, fpack, fpick, fsplit3, rewrite, post, Item, Goal, Seq, Step, Soaks, step, use3, frame, assume, Logic, sem, na_acc_in, agg, whole, look_in, store_in, sub, stop, fld, addr, lit, no_more, and_then, of_opd, first, branches, skips, exec, returns, returns_within, enter, assigns, bin, blocks, false_lit, load, true_lit, neg_lit, init, look, Ises, Are, owns_show, showss, Typed, hidden_shr, cell_at, unhide, bounded, param, RattleType, owns, RawPtr, Ptr, block_ptr, null_ptr, ptr_val, in_a_block, rawptr_Lawful, types_at, nothing, heard, Ended, Clauses, closing, on_entry, alive, triple_of, Meets, entered, Stays, walk_of, AllGo, walk_Meets, dropped, gone, trues, spent}
 use prog.Model.{Model}
 use prog.Align.{align_w, align-bytes, →dv}
@@ -20,7 +20,7 @@ use denote.RawPtr.Room.{room_cut, room_glue, past}
 use denote.Shadow.{shadow, makes_shadow, pure_l}
 use denote.Struct.Struct.{Struct}
 use denote.Triple.Handed.{holding, hands}
-pub use Rattle.ex_allocators.specs.Shelves.{Fills, IsKept, block_unless, free_block, holds_at, kept_blocks, right_to, stack}
+pub use Rattle.ex_allocators.specs.Shelves.{HasSizeAndAlign, IsKept, block_unless, free_block, holds_at, kept_blocks, right_to, stack}
 use Rattle.ex_allocators.specs.contracts.shelf.Shelf as shelf
 use Rattle.ex_allocators.specs.contracts.shelf.Shelf.TheInside as within
 
@@ -43,8 +43,8 @@ shelf_own p n k m a = (only_fields (RawPtr ∷ usize ∷ usize ∷ usize ∷ usi
 abbrev pub Fit : ℕ → ℕ → ℕ → ℕ → Type 0
 Fit n k m a = (n < 2 ^ 64) × (k < 2 ^ 64) × (m < 2 ^ 64) × (a < 2 ^ 64)
 
-pub shelf_told : (p : Ptr) (n k m a : ℕ) (vs : List Val) → shadow (shelf_own p n k m a vs) → (vs ≡ shelf_val p n k m a ∷ []) × Fit n k m a
-shelf_told p n k m a vs s = (
+pub shelf_fields : (p : Ptr) (n k m a : ℕ) (vs : List Val) → shadow (shelf_own p n k m a vs) → (vs ≡ shelf_val p n k m a ∷ []) × Fit n k m a
+shelf_fields p n k m a vs s = (
   s.1.0 ∙ (λ i. vstruct (of_list (s.1.1.0 i ++ (s.1.1.1.0.0 i ++ (s.1.1.1.1.0.0 i ++ (s.1.1.1.1.1.0.0 i ++ (s.1.1.1.1.1.1.0.0 i ++ (s.1.1.1.1.1.1.1.0.1.0 i ++ []))))))) ∷ []),
   (s.1.1.1.0.1, s.1.1.1.1.0.1, s.1.1.1.1.1.0.1, s.1.1.1.1.1.1.0.1),
 )
@@ -85,7 +85,7 @@ module _ (B : RattleType) (g : Ghosts B.Denot) (c : (shelf.the_row B g).Denot) (
     opens_shelf t z {κ} {q} next =
         unhide t $ use3 𝓛 (later (‵ P ⊛ Shut 𝓛 κ q)) (na_acc_in 𝓛 κ ((κ, q) ∷ []) every (b, o) P (Incl-refl κ) refl) $ await t z $ split t $
         fpick t (λ vs. fsplit t $ move t (1 ∷ []) $ fpick t (λ i. fsplit t $ pure_l t (shelf_own i.top i.count i.most i.size i.align vs) (λ s.
-        let told = shelf_told i.top i.count i.most i.size i.align vs s in
+        let told = shelf_fields i.top i.count i.most i.size i.align vs s in
         rewrite t 1 (λ (us : List Val). ‵ (cell_at full_share F.mir us b o)) told.0 refl $ move t (1 ∷ []) $ next i.top i.count i.most i.size i.align told.1)))
 
     pub shuts_shelf : K → Soaks G → {κ : Lft} {q : Share} (p : Ptr) (n k m a : ℕ) → Fit n k m a
@@ -109,11 +109,11 @@ bytes_fit w32 = lit< tt
 bytes_fit w64 = lit< tt
 bytes_fit w128 = lit< tt
 
--- an alignment is never too great for a word
+-- an alignment always fits in a word
 pub align_exact : (τ : Ty) (a : ℕ) → capped (align τ) ≡ a → align τ ≡ a
 align_exact τ a e = sym (capped_is (align τ) (subst (λ (j : ℕ). j < 2 ^ 64) (sym (align-bytes τ)) (bytes_fit (align_w τ)))) ∙ e
 
-pub fills : (τ : Ty) (m b n a : ℕ) → IsKept m b → m ≡ n → b ≡ a → (capped (size τ) ≡ n) × (capped (align τ) ≡ a) → Fills τ m b
+pub fills : (τ : Ty) (m b n a : ℕ) → IsKept m b → m ≡ n → b ≡ a → (capped (size τ) ≡ n) × (capped (align τ) ≡ a) → HasSizeAndAlign τ m b
 fills τ m b n a kept same alike is = (exact (size τ) m (is.0 ∙ sym same) kept.2, align_exact τ b (is.1 ∙ sym alike))
 
 module _ {M : Type 1} {𝓤 : Ura M} (𝓛 : Logic 𝓤) (E : Ended) (stays : Stays E.signature.params E.kept) (c : Clauses 𝓤 E) where
@@ -145,11 +145,11 @@ module _ {M : Type 1} {𝓤 : Ura M} (𝓛 : Logic 𝓤) (E : Ended) (stays : St
 module _ {M : Type 1} {𝓤 : Ura M} (𝓛 : Logic 𝓤) where
   open 𝓛 use {H}
 
-  -- what runs once a block of code is left that has the code b behind it
+  -- what runs once a block of code is left that is followed by the code b
   abbrev pub left_block : Calls 𝓤 H → Loops 𝓤 H → Env 𝓤 H → Body → Post 𝓤 H → Post 𝓤 H
   left_block C Λ E b q = any_q (after_block 𝓤 H (post 𝓤 H (any_q (after_seq 𝓤 H (Wp 𝓤 H C Λ E b (post 𝓤 H q)) (post 𝓤 H q)))))
 
-  pub carves : (b o : ℕ) (σ : Ty) (n a : ℕ) → Fills σ n a → IsKept n a
+  pub carves : (b o : ℕ) (σ : Ty) (n a : ℕ) → HasSizeAndAlign σ n a → IsKept n a
       → ent 𝓤 (H.room σ b o) (sep 𝓤 (H.room ty_ptr b o) (wand 𝓤 (H.room ty_ptr b o) (H.room σ b o)))
   carves b o σ n a fills kept =
       let k = n / 8 - 1 in let big = kept.0 in let even = kept.1 in let filled = fills.0 in let whole : (1 + k) * 8 ≡ size σ = omega arith in
@@ -162,8 +162,8 @@ module _ {M : Type 1} {𝓤 : Ura M} (𝓛 : Logic 𝓤) where
       frame ! $ assume ! (raw Head) $ use2 𝓛 (raw (Words 1)) (apply∗ 𝓤 Head (Words 1)) $
       use2 𝓛 (raw (Words (1 + k))) (room_glue 𝓛 ty_ptr 1 k b o) $ by ! (apply∗ 𝓤 (Words (1 + k)) Whole)
 
-  -- a free block lends its word, and is then granted for a type of its layout
-  pub regrants : (b o : ℕ) (t : Ty → Ptr → Fml) (n a : ℕ) (next : Ptr) (τ : Ty) → Fills τ n a → ent 𝓤 (sem 𝓛 (free_block t n a (b, o) next))
+  -- a free block lends its word, and is then allocated for a type of its layout
+  pub regrants : (b o : ℕ) (t : Ty → Ptr → Fml) (n a : ℕ) (next : Ptr) (τ : Ty) → HasSizeAndAlign τ n a → ent 𝓤 (sem 𝓛 (free_block t n a (b, o) next))
       (sep 𝓤 (H.at full_share ty_ptr b o (ptr_val next)) (wand 𝓤 (H.at full_share ty_ptr b o (ptr_val next)) (sem 𝓛 (owned_block (right_to t) τ (block_ptr b o)))))
   regrants b o t n a next τ to =
       let p : Ptr = block_ptr b o in let Word = H.at full_share ty_ptr b o (ptr_val next) in
@@ -175,15 +175,15 @@ module _ {M : Type 1} {𝓤 : Ura M} (𝓛 : Logic 𝓤) where
       move ! (2 ∷ []) $ fpack ! (Alike σ) (λ _. t σ p) (from.0 ∙ sym to.0, from.1 ∙ sym to.1) $
       fpack ! Ty (λ σ'. fex (Alike σ') (λ _. t σ' p)) σ $ move ! (1 ∷ 0 ∷ []) $ fjoin ! $ keep ! (0 ∷ []) $ done !))
 
-  -- a block that was given back lends room for a word, and is then free
-  pub readies : (b o : ℕ) (t : Ty → Ptr → Fml) (n a : ℕ) (next : Ptr) (τ : Ty) → Fills τ n a → IsKept n a → ent 𝓤 (sem 𝓛 (owned_block (right_to t) τ (block_ptr b o)))
+  -- a freed block lends room for a word, and is then free to be kept
+  pub readies : (b o : ℕ) (t : Ty → Ptr → Fml) (n a : ℕ) (next : Ptr) (τ : Ty) → HasSizeAndAlign τ n a → IsKept n a → ent 𝓤 (sem 𝓛 (owned_block (right_to t) τ (block_ptr b o)))
       (sep 𝓤 (H.room ty_ptr b o) (wand 𝓤 (H.at full_share ty_ptr b o (ptr_val next)) (sem 𝓛 (free_block t n a (b, o) next))))
   readies b o t n a next τ fills kept =
       let p : Ptr = block_ptr b o in let Word : Fml = fat full_share ty_ptr b o (ptr_val next) in let Room : Ty → Fml = λ σ. froom σ b o in
       qed 𝓛 (‵ (owned_block (right_to t) τ p) ∷ []) ∵ fsplit ! $ move ! (1 ∷ []) $ fpick ! (λ σ. fpick ! (λ alike. move ! (1 ∷ []) $
-      let filled : Fills σ n a = (alike.0 ∙ fills.0, alike.1 ∙ fills.1) in
+      let filled : HasSizeAndAlign σ n a = (alike.0 ∙ fills.0, alike.1 ∙ fills.1) in
       use1 𝓛 (‵ (Room σ) ⊛ ‵ (fwand (Room σ) (Room τ)))
       (𝓛.laws.room_as τ σ b o alike.0 (subst (λ (j : ℕ × ℕ). Dv j.0 j.1) (λ i. (sym filled.1 i, sym fills.1 i)) (dv_self a))) $ split ! $ move ! (1 ∷ []) $ drop ! $
       use1 𝓛 (‵ (Room ty_ptr) ⊛ ‵ (fwand (Room ty_ptr) (Room σ))) (carves b o σ n a filled kept) $ split ! $ frame ! $ assume ! (‵ Word) $ fjoin3 ! $
-      fpack ! (Fills σ n a) (λ _. fsep Word (fsep (fwand (Room ty_ptr) (Room σ)) (t σ p))) filled $
-      fpack ! Ty (λ σ. fex (Fills σ n a) (λ _. fsep Word (fsep (fwand (Room ty_ptr) (Room σ)) (t σ p)))) σ $ done !))
+      fpack ! (HasSizeAndAlign σ n a) (λ _. fsep Word (fsep (fwand (Room ty_ptr) (Room σ)) (t σ p))) filled $
+      fpack ! Ty (λ σ. fex (HasSizeAndAlign σ n a) (λ _. fsep Word (fsep (fwand (Room ty_ptr) (Room σ)) (t σ p)))) σ $ done !))

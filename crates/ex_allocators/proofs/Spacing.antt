@@ -1,7 +1,7 @@
 -- What the walks of `allocate` and `deallocate` have in common. Assumes `Logic`.
 --     generics      the type arguments of both
 --     reaches      a `&Spaced` is a `&` to its inner allocator
---     tiny, doubled      what the test of a size tells, and that the inner allocator is asked for a layout
+--     tiny, doubled      what the test of a size shows, and that a layout is requested from the inner allocator
 --     halves      room for two is room for one, with a way back
 pub use Rattle.ex_watched.proofs.Walk.{◌≡◌, ℕ, ◌+◌, ◌<◌, ◌^◌, ◌*◌, ◌-◌, List, [], ◌∷◌, refl, w64, Bor, true, false, Ok, Err, subst, sym, ◌∙◌, arith, block_if_ok, owned_block, Al, seen, token, Answer, answer_val, Answer-typed, Answer-Ok, Answer-err, Takes, at_takes, Answered, Takes-goes, Takes-gives, answers, Gives, at_gives, Gives-goes, Gives-Gives, after, proved, Ura, inst_fn, Args, Dict, a_type, dnil, dcons, named, Fn, Body, Ty, ty_array, Val, vunit, vint, vptr, Fml, Lft, ftrue, fsep, flft, fex, froom, fwand, SProp, ent, emp, sep, fst∗, never, apply∗, wand, ◌⊑◌, ⊑_trans, fact, tables, dv_self, capped_is, capped_small, size, align, capped, Env, WpFn, alloc_all, pass_all, free_all, look_at, get, through, sets, lands_as, env, ‵, raw, ◌⊛◌, later, ◌$◌, ◌∵◌, !, qed, move, keep, drop, use0, use1, use2, split, split3, join, fsplit, fjoin, feq_i, await, done, prop, at_ret, Sq, given, learn, suffices, group, regoal, by, fpack, fpick, frame, assume, Logic, sem, agg, whole, stop, fld, addr, lit, no_more, and_then, of_opd, first, branches, skips, exec, returns, returns_within, enter, unit_lit, bin, neg_lit, unhide, bounded, param, uint_vals, uint_Tells, RattleType, owns, Ptr, block_ptr, null_ptr, ptr_val, room_for, in_a_block, rawptr_vals, rawptr_Tells, ShrRef, shr_vals, types_at, nothing, heard, calls_at, framed, walk_of, ends_at, inner_of, dropped, gone, trues, spent}
 pub use Rattle.std.proofs.Common.{◌≤◌, nltb→le}

@@ -1,9 +1,9 @@
 -- What the walks of a rounding layer have in common. Assumes `Logic`.
 --     reaches      a `&Rounded` is a `&` to its inner allocator
---     Rooms, Aligns      the contracts of `room_of` and `align_for`.        rooms, aligns     what a call of either is given.        rooms_go, aligns_go     what it is handed
---     one_room      only one number is asked for in place of another
---     wider      the type that is asked for in place of a τ.        is_sized, is_lined, is_wide     it has the layout that is asked for
---     is_lent      the room for it lends room for a τ
+--     Rooms, Aligns      the contracts of `rounded_size` and `align_for`.        rooms, aligns     the arguments of a call of either.        rooms_go, aligns_go     what is passed to it
+--     one_rounded_size      a size is rounded up to one size only
+--     wider      the type that is requested in place of a τ.        is_sized, is_lined, is_wide     it has the layout that is requested
+--     has_part      the room for it lends room for a τ
 pub use Rattle.ex_watched.proofs.Walk.{◌≡◌, ℕ, ◌+◌, ◌<◌, ◌^◌, Bool, List, [], ◌∷◌, refl, ap, w64, Bor, true, false, Ok, Err, T, arith, lit<, subst, suc, sym, ◌*◌, ◌++◌, ◌/◌, ◌∙◌, ◌%◌, ◌-◌, block_if_ok, owned_block, bool, usize, Al, α, seen, token, Answer, answer_val, Answer-typed, Answer-Ok, Answer-err, Takes, at_takes, Answered, Takes-goes, Takes-gives, answers, Gives, at_gives, Gives-goes, Gives-Gives, after, front, arm_body, proved, leaves, Ura, inst_fn, Args, Dict, a_type, dnil, dcons, named, Fn, Body, Ty, ty_array, ty_ptr, ty_int, ty_unit, Val, vunit, vint, vptr, vbool, WT, has_ty, Fml, Lft, Share, ftrue, fsep, flft, fex, froom, fwand, SProp, ent, emp, sep, wand, id⊢, fst∗, never, apply∗, ◌⊑◌, ⊑_trans, ⊑_meet, ⊑_static, Fun, fact, fact_i, tables, Dv, dv_self, capped_is, Memory, size, align, up, capped, Routine, Env, Wp, after_seq, at_return, WpFn, alloc_all, pass_all, free_all, look_at, get, get_in, get_tag, through, sets, sets_last, lands_as, env, lands_last, ‵, raw, ◌⊛◌, some, later, ◌$◌, ◌∵◌, !, qed, move, keep, drop, use0, use1, use2, split, split3, join, pick, fsplit, fjoin, feq_i, feq_l, flt_i, await, done, prop, at_ret, any_q, Sq, Post, given, learn, suffices, group, regoal, fpack, fpick, rewrite, frame, assume, by, Logic, sem, vrt, in_variant, agg, whole, stop, fld, addr, lit, no_more, and_then, of_opd, first, branches, skips, switches_on, exec, returns, returns_within, enter, unit_lit, blocks, false_lit, true_lit, hidden_shr, unhide, hide, bounded, param, layout, uint_vals, uint_Tells, RattleType, owns, Ptr, block_ptr, null_ptr, ptr_val, room_for, in_a_block, rawptr_vals, rawptr_Tells, ShrRef, shr_vals, types_at, nothing, only, heard, calls_at, calls_at_last, triple_of, Contract, framed, walk_of, ends_at, inner_of, dropped, gone, trues, spent}
 pub use types.Kit.{flt_l}
 use mir.Syntax.{Width, w8, w16, w32, w128}
@@ -13,7 +13,7 @@ use prog.Align.{align_w, align-bytes, align_size, dv→}
 use denote.RawPtr.Room.{room_cut, room_glue, past}
 use Rattle.std.specs.Prelude.{◌≤◌, nat_le, if◌then◌else◌}
 pub use denote.Triple.Clauses.{Lasts, lasts}
-pub use Rattle.ex_allocators.specs.Rounding.{IsRoom, IsWide, wide_right, room_align, greatest_class}
+pub use Rattle.ex_allocators.specs.Rounding.{IsRoundedSize, IsWide, wide_right, rounded_align, greatest_class}
 use Rattle.std.specs.Int.{IsNextPowerOfTwo}
 use Rattle.std.proofs.Common.{max, not, pow_mono, pow-add, pow-suc, lt_of_not-le}
 use mathlib.Core.Logic.{dite}
@@ -21,7 +21,7 @@ use native.Mathlib.Decide.{dec_le}
 pub use Rattle.ex_allocators.proofs.Shelving.{generics}
 use Rattle.ex_allocators.proofs.Shelving.{exact}
 use Rattle.ex_allocators.specs.contracts.rounded.Rounded as rounded
-use Rattle.ex_allocators.specs.contracts.rounded.room_of as room_of
+use Rattle.ex_allocators.specs.contracts.rounded.rounded_size as rounded_size
 use Rattle.ex_allocators.specs.contracts.rounded.align_for as align_for
 
 module _ (Z : Al) where
@@ -32,7 +32,7 @@ module _ (Z : Al) where
 
 module _ {M : Type 1} {𝓤 : Ura M} (𝓛 : Logic 𝓤) (at_mem : Memory → SProp 𝓤) (run : Routine → Fun 𝓤) where
   abbrev pub Rooms : Contract 𝓤
-  Rooms = triple_of 𝓛 room_of.signature (room_of.spec 𝓛 at_mem run)
+  Rooms = triple_of 𝓛 rounded_size.signature (rounded_size.spec 𝓛 at_mem run)
 
   abbrev pub rooms : ℕ → Rooms.Ghost
   rooms n = ((tt, tt, tt, (n, tt), (vint w64 n ∷ [], tt)), tt)
@@ -72,14 +72,14 @@ at_most n m k one other pos =
     let twice : 2 ^ suc j ≤ 2 ^ i = pow_mono fewer in let double : 2 ^ suc j ≡ 2 ^ j * 2 = pow-suc 2 j in
     let half = one.2 in let enough = other.1 in absurd (omega (arith, is, is', twice, double, half, enough, pos)))
 
-one_room_by : (n m k : ℕ) → IsRoom n m → IsRoom n k → (x : Bool) → rounds n ≡ x → m ≡ k
-one_room_by n m k one other true e =
+one_rounded_size_by : (n m k : ℕ) → IsRoundedSize n m → IsRoundedSize n k → (x : Bool) → rounds n ≡ x → m ≡ k
+one_rounded_size_by n m k one other true e =
     let le = is_small n e in let pos : 0 < max 16 n = omega arith in
     let up = at_most (max 16 n) m k (one.0 le) (other.0 le) pos in let down = at_most (max 16 n) k m (other.0 le) (one.0 le) pos in omega (arith, up, down)
-one_room_by n m k one other false e = one.1 (is_great n e) ∙ sym (other.1 (is_great n e))
+one_rounded_size_by n m k one other false e = one.1 (is_great n e) ∙ sym (other.1 (is_great n e))
 
-pub one_room : (n m k : ℕ) → IsRoom n m → IsRoom n k → m ≡ k
-one_room n m k one other = one_room_by n m k one other (rounds n) refl
+pub one_rounded_size : (n m k : ℕ) → IsRoundedSize n m → IsRoundedSize n k → m ≡ k
+one_rounded_size n m k one other = one_rounded_size_by n m k one other (rounds n) refl
 
 few : (k : ℕ) → k < 4 → 2 ^ k < 16
 few k small = let most : 2 ^ k ≤ 2 ^ 3 = pow_mono {i = k} {j = 3} (omega (arith, small)) in omega (arith, most)
@@ -119,7 +119,7 @@ module _ {M : Type 1} {𝓤 : Ura M} (𝓛 : Logic 𝓤) where
   carved w64 τ m b o al even fits units = carve w64 τ (m / 16) (size τ / 8) (m / 8 - size τ / 8) b o (omega arith) tt (omega arith) al
   carved w128 τ m b o al even fits units = carve w128 τ (m / 16) (size τ / 16) (m / 16 - size τ / 16) b o (omega arith) tt (omega arith) al
 
-  module _ (τ : Ty) (n al m k : ℕ) (fits : (capped (size τ) ≡ n) × (capped (align τ) ≡ al)) (roomy : IsRoom n m) (lined : k ≡ room_align n al) where
+  module _ (τ : Ty) (n al m k : ℕ) (fits : (capped (size τ) ≡ n) × (capped (align τ) ≡ al)) (roomy : IsRoundedSize n m) (lined : k ≡ rounded_align n al) where
     next : rounds n ≡ true → IsNextPowerOfTwo (max 16 n) m
     next e = roomy.0 (is_small n e)
 
@@ -135,12 +135,12 @@ module _ {M : Type 1} {𝓤 : Ura M} (𝓛 : Logic 𝓤) where
 
     pub is_wide : (x : Bool) → rounds n ≡ x → IsWide τ (wider τ m x)
     is_wide x e =
-        (subst (λ (y : ℕ × ℕ). IsRoom y.0 y.1) (λ i. (sym fits.0 i, sym (is_sized x e) i)) roomy, is_lined x e ∙ (lined ∙ (λ i. room_align (sym fits.0 i) (sym fits.1 i))))
+        (subst (λ (y : ℕ × ℕ). IsRoundedSize y.0 y.1) (λ i. (sym fits.0 i, sym (is_sized x e) i)) roomy, is_lined x e ∙ (lined ∙ (λ i. rounded_align (sym fits.0 i) (sym fits.1 i))))
 
-    pub is_lent : (x : Bool) → rounds n ≡ x → (b o : ℕ) → Lends τ (wider τ m x) b o
-    is_lent true e b o =
+    pub has_part : (x : Bool) → rounds n ≡ x → (b o : ℕ) → Lends τ (wider τ m x) b o
+    has_part true e b o =
         let is = next e in let w = align_w τ in let small = is_small n e in
         let same = exact (size τ) n fits.0 (omega (arith, small)) in
         carved w τ m b o (align-bytes τ)
         (dv→ (bytes w) (size τ) (subst (λ (a : ℕ). Dv a (size τ)) (align-bytes τ) (align_size τ))) (omega (arith, is.1, same)) (in_units (max 16 n) m is (omega arith))
-    is_lent false e b o = 𝓛.laws.room_as τ τ b o refl (dv_self (align τ))
+    has_part false e b o = 𝓛.laws.room_as τ τ b o refl (dv_self (align τ))

@@ -2,15 +2,18 @@
 ghost use Rattle.std.specs.Prelude.{◌≡◌};
 ghost use Rattle.ex_allocators.specs.Shelves.{IsKept, right_to};
 
-use crate::shelf::{Shelf, give_one};
+use crate::shelf::{Shelf, free_one};
 use std::alloc::{AllocError, Allocator};
 
-// The alignment of the blocks: that of a type which holds pointers.
+// The alignment of the blocks: that of a type that holds pointers.
 const ALIGN: usize = 8;
 
-/// Keeps blocks of one size that come back, and grants them again without a call of the inner
-/// allocator: what a list or a tree wants, whose nodes are of one size. All other requests are
-/// passed on. A collection takes `&pool`. What is kept goes back when the pool is dropped.
+/// An allocator that keeps freed blocks of one size and reuses them.
+///
+/// `allocate` returns a kept block of that size without a call of the inner allocator, if there is
+/// one. All other requests are passed on. This suits a list or a tree, whose nodes have one size.
+///
+/// A collection takes `&pool` as its allocator. Dropping the pool deallocates all kept blocks.
 pub struct Pool<B: Allocator> {
     inner: B,
     size: usize,
@@ -20,9 +23,10 @@ pub struct Pool<B: Allocator> {
 }
 
 impl<B: Allocator> Pool<B> {
-    /// A pool over `inner`, with nothing kept yet, for blocks of `size` bytes at alignment 8. Types
-    /// with that alignment have a size above 0 that is a multiple of 8; any other is rounded down
-    /// to one.
+    /// Creates an empty pool over `inner`, for blocks of `size` bytes at alignment 8.
+    ///
+    /// Types with that alignment have a size that is a multiple of 8 and not 0. Any other `size` is
+    /// rounded down to such a multiple, or up to 8. Does not allocate.
     pub fn new(inner: B, size: usize) -> Pool<B>
         ensures inner { result.inner ≡ inner }
         ensures size { IsKept size 8 → result.size ≡ size }
@@ -32,24 +36,24 @@ impl<B: Allocator> Pool<B> {
         Pool { inner, size, shelf }
     }
 
-    /// How many bytes a block has that is kept.
+    /// Returns the size in bytes of the blocks that the pool keeps.
     pub fn size(&self) -> usize
         ensures { result ≡ self.now.size }
     {
         self.size
     }
 
-    /// The allocator that has the memory.
+    /// Returns a reference to the inner allocator.
     pub fn inner(&self) -> &B
         ensures { result.now ≡ self.now.inner }
     {
         &self.inner
     }
 
-    /// Gives all blocks that are kept back to the inner allocator.
+    /// Deallocates all kept blocks with the inner allocator.
     pub fn clear(&self) {
         for _ in 0..u64::MAX {
-            if !give_one(&self.shelf, &self.inner, self.size, ALIGN) {
+            if !free_one(&self.shelf, &self.inner, self.size, ALIGN) {
                 break;
             }
         }
@@ -68,8 +72,8 @@ impl<B: Allocator> Drop for Pool<B> {
 }
 
 unsafe impl<B: Allocator> Allocator for Pool<B> {
-    // The right to free a block is the inner allocator's, for whichever type of the same layout it
-    // was granted.
+    // The right to free a block is the inner allocator's right, for some type of the same layout
+    // that the block was allocated for.
     ghost dealloc_token = { λ pool. right_to (B.dealloc_token pool.inner) };
 
     fn allocate(&self, size: usize, align: usize) -> Result<*mut u8, AllocError> {
@@ -87,8 +91,10 @@ unsafe impl<B: Allocator> Allocator for Pool<B> {
     }
 }
 
-/// A clone is a pool of its own for blocks of the same size, over a clone of `inner`, with nothing
-/// kept.
+/// Returns an empty pool for blocks of the same size, over a clone of `inner`.
+///
+/// # Errors
+/// `AllocError` if the clone of `inner` fails.
 impl<B: Allocator + Clone> Clone for Pool<B> {
     ghost is_clone = { λ pool twin. (twin.size ≡ pool.size) × B.is_clone pool.inner twin.inner };
 

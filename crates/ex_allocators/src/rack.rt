@@ -1,35 +1,38 @@
-//! Free blocks of many sizes.
+//! An allocator that keeps freed blocks of many sizes.
 ghost use Rattle.std.specs.Prelude.{◌≡◌, ◌^◌, ◌<◌, ◌≤◌, ◌%◌};
 ghost use Rattle.ex_allocators.specs.Shelves.{IsKept, right_to};
 
 use crate::rounded::LEAST;
-use crate::shelf::{Shelf, give_one};
+use crate::shelf::{Shelf, free_one};
 use std::alloc::{AllocError, Allocator};
 
-/// How many classes there are: blocks of 16, 32, 64 .. bytes, up to 16 MiB.
+/// The number of classes: blocks of 16, 32, 64 .. bytes, up to 16 MiB.
 pub(crate) const CLASSES: usize = 21;
 
 // The alignment of the blocks.
 const ALIGN: usize = 16;
 
-/// Keeps blocks that come back, if their size is a class and their alignment 16, and grants them
-/// again without a call of the inner allocator. All other requests are passed on.
+/// An allocator that keeps freed blocks and reuses them, if their size is a class and their
+/// alignment is 16.
+///
+/// `allocate` returns a kept block of the same size without a call of the inner allocator, if there
+/// is one. All other requests are passed on.
 pub struct Rack<B: Allocator> {
     inner: B,
     limit: usize,
-    // Of 16 bytes up to 1 KiB.
+    // Blocks of 16 bytes up to 1 KiB.
     small: Seven<B>,
-    // Of 2 KiB up to 128 KiB.
+    // Blocks of 2 KiB up to 128 KiB.
     middle: Seven<B>,
-    // Of 256 KiB up to 16 MiB.
+    // Blocks of 256 KiB up to 16 MiB.
     great: Seven<B>,
     ghost small_ours: { small.first ≡ inner },
     ghost middle_ours: { middle.first ≡ inner },
     ghost great_ours: { great.first ≡ inner },
 }
 
-// Shelves for seven classes that follow one another, all of one handle. They are fields and no
-// array, since an array's places may be reached only where its struct is known to fit in memory.
+// Shelves for seven classes in a row, all of one inner allocator. They are fields and not an array,
+// since an array can only be indexed if its struct is known to fit in memory.
 struct Seven<B: Allocator> {
     first: Shelf<B>,
     second: Shelf<B>,
@@ -46,7 +49,7 @@ struct Seven<B: Allocator> {
     ghost seventh_too: { seventh ≡ first },
 }
 
-// A shelf for blocks of `size` bytes that holds at most `limit` bytes.
+// Creates an empty shelf for blocks of `size` bytes that holds at most `limit` bytes.
 fn empty<B: Allocator>(inner: &B, size: usize, limit: usize) -> Shelf<B>
     requires { IsKept size 16 }
     ensures { result ≡ inner.now }
@@ -54,7 +57,7 @@ fn empty<B: Allocator>(inner: &B, size: usize, limit: usize) -> Shelf<B>
     Shelf::new(inner, size, ALIGN, limit / size)
 }
 
-// Where the shelf stands for blocks of `size` bytes, if that is a class.
+// Returns the index of the shelf for blocks of `size` bytes, if that is a class.
 fn place_of(size: usize) -> usize
     ensures { result < 21 }
 {
@@ -64,7 +67,7 @@ fn place_of(size: usize) -> usize
 }
 
 impl<B: Allocator> Seven<B> {
-    // Empty ones, for blocks of `least` bytes, twice as many and so on.
+    // Creates empty shelves, for blocks of `least` bytes, twice as many and so on.
     fn new(heap: &B, least: usize, limit: usize) -> Seven<B>
         requires multiple { least % 16 ≡ 0 }
         requires range { (16 ≤ least) × (least < 2 ^ 32) }
@@ -111,7 +114,9 @@ impl<B: Allocator> Drop for Seven<B> {
 }
 
 impl<B: Allocator> Rack<B> {
-    /// A rack over `inner`, with nothing kept yet. Of each class it keeps at most `limit` bytes.
+    /// Creates an empty rack over `inner` that keeps at most `limit` bytes of each class.
+    ///
+    /// Does not allocate.
     pub fn new(inner: B, limit: usize) -> Rack<B>
         ensures inner { result.inner ≡ inner }
         ensures limit { result.limit ≡ limit }
@@ -128,21 +133,21 @@ impl<B: Allocator> Rack<B> {
         }
     }
 
-    /// How many bytes of each class are kept at most.
+    /// Returns the maximum number of bytes that are kept of each class.
     pub fn limit(&self) -> usize
         ensures { result ≡ self.now.limit }
     {
         self.limit
     }
 
-    /// The allocator that has the memory.
+    /// Returns a reference to the inner allocator.
     pub fn inner(&self) -> &B
         ensures { result.now ≡ self.now.inner }
     {
         &self.inner
     }
 
-    // The shelf for blocks of `size` bytes, if that is a class.
+    // Returns the shelf for blocks of `size` bytes, if that is a class.
     fn shelf(&self, size: usize) -> &Shelf<B>
         ensures { result.now ≡ self.now.inner }
     {
@@ -156,17 +161,17 @@ impl<B: Allocator> Rack<B> {
         self.great.at(place - 14)
     }
 
-    /// How many blocks of `size` bytes are kept, where that is a class.
+    /// Returns the number of kept blocks of `size` bytes, if that is a class.
     pub(crate) fn count(&self, size: usize) -> usize {
         self.shelf(size).count()
     }
 
-    /// Gives all blocks that are kept back to the inner allocator.
+    /// Deallocates all kept blocks with the inner allocator.
     pub fn clear(&self) {
         for class in 0..CLASSES {
             let size = LEAST << class;
             for _ in 0..u64::MAX {
-                if !give_one(self.shelf(size), &self.inner, size, ALIGN) {
+                if !free_one(self.shelf(size), &self.inner, size, ALIGN) {
                     break;
                 }
             }
@@ -188,8 +193,8 @@ impl<B: Allocator> Drop for Rack<B> {
 }
 
 unsafe impl<B: Allocator> Allocator for Rack<B> {
-    // The right to free a block is the inner allocator's, for whichever type of the same layout it
-    // was granted.
+    // The right to free a block is the inner allocator's right, for some type of the same layout
+    // that the block was allocated for.
     ghost dealloc_token = { λ rack. right_to (B.dealloc_token rack.inner) };
 
     fn allocate(&self, size: usize, align: usize) -> Result<*mut u8, AllocError> {
@@ -209,7 +214,10 @@ unsafe impl<B: Allocator> Allocator for Rack<B> {
     }
 }
 
-/// A clone is a rack of its own with the same limit, over a clone of `inner`, with nothing kept.
+/// Returns an empty rack with the same limit, over a clone of `inner`.
+///
+/// # Errors
+/// `AllocError` if the clone of `inner` fails.
 impl<B: Allocator + Clone> Clone for Rack<B> {
     ghost is_clone = { λ rack twin. (twin.limit ≡ rack.limit) × B.is_clone rack.inner twin.inner };
 

@@ -1,36 +1,43 @@
-//! A recycler: blocks of all sizes are kept, and granted again.
+//! An allocator that rounds sizes up and reuses freed blocks.
 ghost use Rattle.std.specs.Prelude.{◌≡◌};
 
 use crate::rack::{CLASSES, Rack};
 use crate::rounded::{LEAST, Rounded};
 use std::alloc::Allocator;
 
-/// Keeps blocks that come back, and grants them again without a call of the inner allocator. For
-/// this each request of up to 16 MiB is rounded up to a class: a power of two of bytes, from 16 on,
-/// at alignment 16. So vectors that grow again and again take the blocks that others left. Greater
-/// requests are passed on. A collection takes `&recycler`. What is kept goes back when the recycler
-/// is dropped.
+/// An allocator that keeps freed blocks of up to 16 MiB and reuses them.
+///
+/// Each request of up to 16 MiB is rounded up to a class: a power of two of bytes, 16 or more, at
+/// alignment 16. `allocate` returns a kept block of the class, if there is one, without a call of
+/// the inner allocator. So vectors that grow again and again reuse the blocks that others freed.
+/// Larger requests are passed on.
+///
+/// A collection takes `&recycler` as its allocator. Dropping the recycler deallocates all kept
+/// blocks.
 pub type Recycler<B> = Rounded<Rack<B>>;
 
-/// What a recycler keeps.
+/// The blocks that a recycler keeps.
 #[derive(Clone, Copy, PartialEq, Eq, Debug)]
 pub struct Kept {
-    /// How many blocks.
+    /// The number of blocks.
     pub blocks: usize,
-    /// How many bytes they have in all.
+    /// The total size of the blocks in bytes.
     pub bytes: usize,
 }
 
 impl<B: Allocator> Rounded<Rack<B>> {
-    /// A recycler over `inner`, with nothing kept yet, that keeps all that comes back.
+    /// Creates an empty recycler over `inner`, without a limit on what it keeps.
+    ///
+    /// Does not allocate.
     pub fn new(inner: B) -> Recycler<B>
         ensures { result.inner.inner ≡ inner }
     {
         Recycler::with_limit(inner, usize::MAX)
     }
 
-    /// A recycler that keeps at most `limit` bytes of each class. Further blocks go back to `inner`
-    /// at once.
+    /// Creates an empty recycler over `inner` that keeps at most `limit` bytes of each class.
+    ///
+    /// A freed block past the limit is deallocated with `inner` at once. Does not allocate.
     pub fn with_limit(inner: B, limit: usize) -> Recycler<B>
         ensures inner { result.inner.inner ≡ inner }
         ensures limit { result.inner.limit ≡ limit }
@@ -38,19 +45,19 @@ impl<B: Allocator> Rounded<Rack<B>> {
         Rounded::over(Rack::new(inner, limit))
     }
 
-    /// How many bytes of each class are kept at most.
+    /// Returns the maximum number of bytes that are kept of each class.
     pub fn limit(&self) -> usize
         ensures { result ≡ self.now.inner.limit }
     {
         self.inner().limit()
     }
 
-    /// Gives all blocks that are kept back to the inner allocator.
+    /// Deallocates all kept blocks with the inner allocator.
     pub fn trim(&self) {
         self.inner().clear();
     }
 
-    /// What is kept.
+    /// Returns the number and the total size of the kept blocks.
     pub fn kept(&self) -> Kept {
         let mut blocks = 0usize;
         let mut bytes = 0usize;

@@ -1,4 +1,4 @@
-//! Where a pool keeps the blocks that came back.
+//! The list of freed blocks of a pool.
 ghost use Rattle.std.specs.Prelude.{◌≡◌, ◌%◌, ◌⊎◌};
 ghost use mir.Syntax.{Ty};
 ghost use base.Fml.{fex, fsep};
@@ -10,10 +10,11 @@ use std::alloc::{AllocError, Allocator};
 use std::marker::{Move, Owns, PhantomData};
 use std::ptr::null_mut;
 
-/// Free blocks of one layout that an allocator `B` granted, `most` of them at most. The first word
-/// of each leads to the next.
+/// A list of at most `most` free blocks of one layout that an allocator `B` allocated.
+///
+/// The first word of each block points to the next one.
 pub(crate) struct Shelf<B: Allocator> {
-    // The block that came last, where `count` is not 0.
+    // The block that was put last, if `count` is not 0.
     top: *mut u8,
     count: usize,
     most: usize,
@@ -22,7 +23,7 @@ pub(crate) struct Shelf<B: Allocator> {
     marker: PhantomData<B>,
 }
 
-// What is known of a shelf is the handle that granted its blocks.
+// The model of a shelf is the allocator that allocated its blocks.
 impl<B: Allocator> Owns for Shelf<B> {
     ghost Value = { B };
 
@@ -36,7 +37,9 @@ impl<B: Allocator> Move for Shelf<B> {
 }
 
 impl<B: Allocator> Shelf<B> {
-    /// An empty shelf for at most `most` blocks of `_heap`.
+    /// Creates an empty shelf for at most `most` blocks of `_heap`.
+    ///
+    /// Does not allocate.
     pub(crate) fn new(_heap: &B, size: usize, align: usize, most: usize) -> Shelf<B>
         requires { IsKept size align }
         ensures { result ≡ _heap.now }
@@ -51,13 +54,16 @@ impl<B: Allocator> Shelf<B> {
         }
     }
 
-    /// How many blocks there are.
+    /// Returns the number of blocks.
     pub(crate) fn count(&self) -> usize {
         let this = self as *const Shelf<B> as *mut Shelf<B>;
         unsafe { (*this).count }
     }
 
-    /// Takes the block that came last, if there is one and the layout is that of the shelf.
+    /// Removes the block that was put last and returns it.
+    ///
+    /// # Errors
+    /// `AllocError` if the shelf is empty or the layout is not that of the shelf.
     pub(crate) fn take(&self, size: usize, align: usize) -> Result<*mut u8, AllocError>
         ghost ty: { Ty }
         requires { HasLayout ty size align }
@@ -82,8 +88,9 @@ impl<B: Allocator> Shelf<B> {
         }
     }
 
-    /// Puts a block on top, if its layout is that of the shelf and there is room for it. With
-    /// `false` it is the caller's still.
+    /// Adds a block, if its layout is that of the shelf and the shelf is not full.
+    ///
+    /// Returns whether it did. If it returns `false`, the caller still owns the block.
     pub(crate) unsafe fn put(&self, block: *mut u8, size: usize, align: usize) -> bool
         ghost ty: { Ty }
         requires layout { HasLayout ty size align }
@@ -110,9 +117,10 @@ impl<B: Allocator> Shelf<B> {
     }
 }
 
-/// Takes one block off a shelf and gives it back to `inner`, which granted it. With `false` there was
-/// none.
-pub(crate) fn give_one<B: Allocator>(shelf: &Shelf<B>, inner: &B, size: usize, align: usize) -> bool
+/// Removes one block from a shelf and deallocates it with `inner`, which allocated it.
+///
+/// Returns `false` if the shelf is empty.
+pub(crate) fn free_one<B: Allocator>(shelf: &Shelf<B>, inner: &B, size: usize, align: usize) -> bool
     requires granter { shelf.now ≡ inner.now }
     requires units { size % align ≡ 0 }
     requires words { (align ≡ 8) ⊎ (align ≡ 16) }

@@ -1,17 +1,21 @@
-//! A layer that asks for twice the bytes: what is written a little behind a block is nobody's.
+//! A layer that requests twice the bytes, so that no other block follows a block directly.
 ghost use Rattle.std.specs.Prelude.{◌≡◌};
 ghost use Rattle.ex_allocators.specs.Spacing.{spaced};
 
 use std::alloc::{AllocError, Allocator};
 
-/// Asks `inner` for twice the bytes of each request, at its alignment. A request is refused whose
-/// double is no `usize`.
+/// An allocator that requests twice the bytes of each request from `inner`, at its alignment.
+///
+/// # Errors
+/// `allocate` returns `AllocError` if twice the size exceeds `usize::MAX`, or if `inner` does.
 pub struct Spaced<B: Allocator> {
     inner: B,
 }
 
 impl<B: Allocator> Spaced<B> {
-    /// A layer over `inner`.
+    /// Creates a layer over `inner`.
+    ///
+    /// Does not allocate.
     pub fn new(inner: B) -> Spaced<B>
         ensures { result.inner ≡ inner }
     {

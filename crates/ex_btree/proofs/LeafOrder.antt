@@ -1,4 +1,4 @@
--- Keys stay in order, and what stands at the rank of a key tells what the entries have of it.
+-- Keys remain in order, and the entry at the rank of a key decides whether the entries have it.
 use Rattle.std.proofs.Common.{◌≡◌, ◌+◌, ◌-◌, ◌≤◌, ◌<◌, ◌++◌, ℕ, suc, zero, List, [], ◌∷◌, Option, Some, None, inl, inr, refl, arith, length, take, drop, add-one, sym, ap, ◌∙◌, length-append, take-append-drop}
 use Rattle.std.specs.Prelude.{slice_get, slice_set, ◌≢◌}
 use Rattle.std.proofs.lemmas.Bool.Decides.{nat_tests}
@@ -80,7 +80,7 @@ module _ {V : Type 0} where
     | inr g ↦ let o : x.0 ≢ key = n x (rw (rank-above key x xs g) refl) in rw (rank-above key x xs g) (grind (arith, nat_tests, o))
   ]
 
-  -- the keys stay in order
+  -- the keys remain in order
   pub ascending-put : (low key : ℕ) (v : V) (xs : List (ℕ × V)) → low ≤ key → IsAscending low xs → IsAscending low (put key v xs)
   ascending-put low key v [] h s = (h, tt)
   ascending-put low key v (x ∷ xs) h s = elim (cases_lt x.0 key) [
@@ -102,7 +102,7 @@ module _ {V : Type 0} where
   ascending-drop low (suc n) [] s = tt
   ascending-drop low (suc n) (x ∷ xs) s = ascending-drop low n xs (lower (x.0 + 1) low xs (omega (arith, s.0)) s.1)
 
-  -- those between two keys stand between their ranks
+  -- those between two keys are between their ranks
   rank-least : (low key : ℕ) (xs : List (ℕ × V)) → key ≤ low → IsAscending low xs → rank key xs ≡ 0
   rank-least low key [] h s = refl
   rank-least low key (x ∷ xs) h s = rank-above key x xs (omega (arith, h, s.0))
@@ -110,15 +110,15 @@ module _ {V : Type 0} where
   pub between-ranks : (least low high : ℕ) (xs : List (ℕ × V)) → IsAscending least xs → between low high xs ≡ take (rank high xs - rank low xs) (drop (rank low xs) xs)
   between-ranks least low high [] s = refl
   between-ranks least low high (x ∷ xs) s =
-      let behind = between-ranks (x.0 + 1) low high xs s.1 in
+      let after = between-ranks (x.0 + 1) low high xs s.1 in
       elim (cases_lt x.0 low) [
         | inl l ↦ elim (cases_lt x.0 high) [
-          | inl h ↦ let e : suc (rank high xs) - suc (rank low xs) ≡ rank high xs - rank low xs = omega arith in rw (rank-below low x xs l, rank-below high x xs h, e) (grind (arith, nat_tests, l, h, behind))
-          | inr h ↦ let e : 0 - suc (rank low xs) ≡ 0 = omega arith in let f : 0 - rank low xs ≡ 0 = omega arith in rw (rank-below low x xs l, rank-above high x xs h, e) (grind (arith, nat_tests, l, h, rw (rank-least (x.0 + 1) high xs (omega arith) s.1, f) at behind))
+          | inl h ↦ let e : suc (rank high xs) - suc (rank low xs) ≡ rank high xs - rank low xs = omega arith in rw (rank-below low x xs l, rank-below high x xs h, e) (grind (arith, nat_tests, l, h, after))
+          | inr h ↦ let e : 0 - suc (rank low xs) ≡ 0 = omega arith in let f : 0 - rank low xs ≡ 0 = omega arith in rw (rank-below low x xs l, rank-above high x xs h, e) (grind (arith, nat_tests, l, h, rw (rank-least (x.0 + 1) high xs (omega arith) s.1, f) at after))
         ]
         | inr l ↦ elim (cases_lt x.0 high) [
-          | inl h ↦ let n : suc (rank high xs) - 0 ≡ suc (rank high xs) = omega arith in let m : rank high xs - 0 ≡ rank high xs = omega arith in rw (rank-above low x xs l, rank-below high x xs h, n) (grind (arith, nat_tests, l, h, rw (rank-least (x.0 + 1) low xs (omega arith) s.1, m) at behind))
-          | inr h ↦ let f : 0 - rank low xs ≡ 0 = omega arith in rw (rank-above low x xs l, rank-above high x xs h) (grind (arith, nat_tests, l, h, rw (rank-least (x.0 + 1) high xs (omega arith) s.1, f) at behind))
+          | inl h ↦ let n : suc (rank high xs) - 0 ≡ suc (rank high xs) = omega arith in let m : rank high xs - 0 ≡ rank high xs = omega arith in rw (rank-above low x xs l, rank-below high x xs h, n) (grind (arith, nat_tests, l, h, rw (rank-least (x.0 + 1) low xs (omega arith) s.1, m) at after))
+          | inr h ↦ let f : 0 - rank low xs ≡ 0 = omega arith in rw (rank-above low x xs l, rank-above high x xs h) (grind (arith, nat_tests, l, h, rw (rank-least (x.0 + 1) high xs (omega arith) s.1, f) at after))
         ]
       ]
 

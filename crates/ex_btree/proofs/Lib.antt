@@ -1,6 +1,6 @@
 pub mod LeafOrder
-pub mod LeafLent
+pub mod LeafBorrowed
 pub mod Order
 pub mod Splitting
-pub mod Lent
+pub mod Borrowed
 pub mod Ranges

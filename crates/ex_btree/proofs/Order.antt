@@ -1,4 +1,4 @@
--- What a list of entries in three parts has of a key that belongs into the middle.
+-- A key in a list of entries of three parts, where it belongs to the middle part.
 use Rattle.std.proofs.Common.{◌≡◌, ◌+◌, ◌-◌, ◌≤◌, ◌<◌, ◌++◌, ℕ, suc, List, [], ◌∷◌, Some, None, All, is_some, true, inl, inr, refl, arith, length, take, drop, get_or, add-one, ap, sym, subst, ◌∙◌, append-nil, length-append, take-append-drop}
 use Rattle.std.specs.Prelude.{remove, slice_get, slice_set}
 use Rattle.std.proofs.lemmas.Bool.{cases_eq, cases_lt}
@@ -11,13 +11,13 @@ use Rattle.allocator_api2.specs.declared.collections.TryReserveError.{TryReserve
 use Rattle.allocator_api2.specs.declared.collections.TryReserveErrorKind.{TryReserveErrorKind}
 use Rattle.allocator_api2.specs.declared.collections.TryReserveErrorKind.TheVariants.{AllocError, CapacityOverflow}
 use Rattle.ex_btree.specs.Entries.{Ordered, value, put, without, IsAscending}
-use Rattle.ex_btree.specs.Leaves.{entries_of, AreGreater, AreLess, IsRefusedWithin, IsSound, IsUsed, HasPlace, Takes}
+use Rattle.ex_btree.specs.Leaves.{entries_of, AreGreater, AreLess, IsErrorForAtMost, IsSound, IsUsed, HasPlace, Accepts}
 
-of-kind : (k : TryReserveErrorKind) (n m : ℕ) → IsRefusedWithin (record { kind = k }) n → n ≤ m → IsRefusedWithin (record { kind = k }) m
+of-kind : (k : TryReserveErrorKind) (n m : ℕ) → IsErrorForAtMost (record { kind = k }) n → n ≤ m → IsErrorForAtMost (record { kind = k }) m
 of-kind CapacityOverflow n m r h = tt
 of-kind (AllocError places) n m r h = (r.0, omega (arith, r.1, h))
 
-pub within-more : (e : TryReserveError) (n m : ℕ) → IsRefusedWithin e n → n ≤ m → IsRefusedWithin e m
+pub within-more : (e : TryReserveError) (n m : ℕ) → IsErrorForAtMost e n → n ≤ m → IsErrorForAtMost e m
 within-more e n m r h = of-kind e.kind n m r h
 
 module _ {V : Type 0} (key : ℕ) where
@@ -82,18 +82,18 @@ module _ {V : Type 0} (key : ℕ) where
   less-before low (b ∷ bs) es cs n h s = let l = first-least (b.0 + 1) bs es cs n h s.1 in All-cons IsLess b bs (omega (arith, l)) (less-before (b.0 + 1) bs es cs n h s.1)
 
   -- those from a part on whose first key is greater
-  pub greater-behind : (low : ℕ) (bs es cs : List (ℕ × V)) → 0 < length es → ((e : ℕ × V) → slice_get es 0 ≡ Some e → key < e.0) → IsAscending low (bs ++ (es ++ cs)) → AreGreater key (es ++ cs)
-  greater-behind low [] [] cs n h s = absurd (omega arith)
-  greater-behind low [] (e ∷ es) cs n h s = let l = h e refl in All-cons IsGreater e (es ++ cs) l (greater-from (e.0 + 1) (es ++ cs) (omega (arith, l)) s.1)
-  greater-behind low (b ∷ bs) es cs n h s = greater-behind (b.0 + 1) bs es cs n h s.1
+  pub greater-after : (low : ℕ) (bs es cs : List (ℕ × V)) → 0 < length es → ((e : ℕ × V) → slice_get es 0 ≡ Some e → key < e.0) → IsAscending low (bs ++ (es ++ cs)) → AreGreater key (es ++ cs)
+  greater-after low [] [] cs n h s = absurd (omega arith)
+  greater-after low [] (e ∷ es) cs n h s = let l = h e refl in All-cons IsGreater e (es ++ cs) l (greater-from (e.0 + 1) (es ++ cs) (omega (arith, l)) s.1)
+  greater-after low (b ∷ bs) es cs n h s = greater-after (b.0 + 1) bs es cs n h s.1
 
 -- the last entry is that of the last leaf
-last-behind : {X : Type 0} (xs ys : List X) (y : X) → slice_get ys (length ys - 1) ≡ Some y → slice_get (xs ++ ys) (length (xs ++ ys) - 1) ≡ Some y
-last-behind [] ys y h = h
-last-behind (x ∷ xs) [] y h = absurd (cc)
-last-behind (x ∷ xs) (z ∷ ys) y h =
+last-after : {X : Type 0} (xs ys : List X) (y : X) → slice_get ys (length ys - 1) ≡ Some y → slice_get (xs ++ ys) (length (xs ++ ys) - 1) ≡ Some y
+last-after [] ys y h = h
+last-after (x ∷ xs) [] y h = absurd (cc)
+last-after (x ∷ xs) (z ∷ ys) y h =
     let n : suc (length (xs ++ z ∷ ys)) - 1 ≡ suc (length (xs ++ z ∷ ys) - 1) = omega (arith, length-append xs (z ∷ ys)) in
-    rw n (last-behind xs (z ∷ ys) y h)
+    rw n (last-after xs (z ∷ ys) y h)
 
 module _ {V : Type 0} where
   pub last-there : (ls : List (Ordered V)) (l : Ordered V) (e : ℕ × V) → slice_get ls (length ls - 1) ≡ Some l → slice_get l.entries (length l.entries - 1) ≡ Some e → slice_get (entries_of ls) (length (entries_of ls) - 1) ≡ Some e
@@ -101,7 +101,7 @@ module _ {V : Type 0} where
   last-there (m ∷ []) l e p q = let same : m ≡ l = cc in rw (append-nil m.entries, same) q
   last-there (m ∷ n ∷ ls) l e p q =
       let c : suc (suc (length ls)) - 1 ≡ suc (suc (length ls) - 1) = omega arith in
-      last-behind m.entries (entries_of (n ∷ ls)) e (last-there (n ∷ ls) l e (rw c at p) q)
+      last-after m.entries (entries_of (n ∷ ls)) e (last-there (n ∷ ls) l e (rw c at p) q)
 
 -- how many entries there are once a key was put in
 module _ {V : Type 0} (key : ℕ) where
@@ -132,8 +132,8 @@ module _ {V : Type 0} (key : ℕ) where
 
 pub ruleset counted = (count-new, count-old, without-none, count-without, ascending-put, ascending-without)
 
--- a leaf that takes the key is used then
-pub used-put : {V : Type 0} (key : ℕ) (v : V) (l m : Ordered V) → Takes key l → m.entries ≡ put key v l.entries → m.capacity ≡ l.capacity → IsUsed m
+-- a leaf that accepts the key is used then
+pub used-put : {V : Type 0} (key : ℕ) (v : V) (l m : Ordered V) → Accepts key l → m.entries ≡ put key v l.entries → m.capacity ≡ l.capacity → IsUsed m
 used-put key v l m t e c = record { some = rw e (some-put key v l.entries); room = rw c t.room }
 
 -- each leaf has entries
@@ -141,7 +141,7 @@ pub leaves-few : {V : Type 0} (ls : List (Ordered V)) → All IsUsed ls → leng
 leaves-few [] u = omega arith
 leaves-few (l ∷ ls) u = omega (arith, (All-head IsUsed l ls u).some, leaves-few ls (All-tail IsUsed l ls u), length-append l.entries (entries_of ls))
 
--- the leaves before one, that one, and those behind it
+-- the leaves before one, that one, and those after it
 module _ {V : Type 0} (ls : List (Ordered V)) (at : ℕ) where
   pub rest : (d : Ordered V) → at < length ls → entries_of (drop at ls) ≡ (get_or ls at d).entries ++ entries_of (drop (at + 1) ls)
   rest d h = ap entries_of (drop_more ls at d h)
@@ -176,12 +176,12 @@ module _ {V : Type 0} (ls : List (Ordered V)) (at : ℕ) where
       less-before-leaf key f = less-before key 0 (entries_of (take at ls)) l.entries (entries_of (drop (at + 1) ls)) used-at.some f (rw parts-read at sound.ascending)
 
       pub greater-from-leaf : (key : ℕ) → ((e : ℕ × V) → slice_get l.entries 0 ≡ Some e → key < e.0) → AreGreater key (entries_of (drop at ls))
-      greater-from-leaf key f = rw rest-read (greater-behind key 0 (entries_of (take at ls)) l.entries (entries_of (drop (at + 1) ls)) used-at.some f (rw parts-read at sound.ascending))
+      greater-from-leaf key f = rw rest-read (greater-after key 0 (entries_of (take at ls)) l.entries (entries_of (drop (at + 1) ls)) used-at.some f (rw parts-read at sound.ascending))
 
     pub value-there : (key : ℕ) → HasPlace key ls at → value key l.entries ≡ value key (entries_of ls)
-    value-there key p = rw parts-read (sym (value-middle key (entries_of (take at ls)) l.entries (entries_of (drop (at + 1) ls)) p.before p.behind))
+    value-there key p = rw parts-read (sym (value-middle key (entries_of (take at ls)) l.entries (entries_of (drop (at + 1) ls)) p.before p.after))
 
-    -- the leaf is used as the others, or is taken out
+    -- the leaf is used as the others, or is removed
     pub used-kept : All IsUsed (take at ls) → All IsUsed (drop (at + 1) ls) → IsUsed l → All IsUsed ls
     used-kept b c u = subst (All IsUsed) (ap (slice_set ls at) read ∙ set-get_or ls at l) (used-set l h b c u)
 
@@ -195,12 +195,12 @@ module _ {V : Type 0} (ls : List (Ordered V)) (at : ℕ) where
 
       pub put-there : (key : ℕ) (v : V) → HasPlace key ls at → m.entries ≡ put key v l.entries → entries_of (slice_set ls at m) ≡ put key v (entries_of ls)
       put-there key v p e =
-          rw (parts-read, put-middle key v (entries_of (take at ls)) l.entries (entries_of (drop (at + 1) ls)) p.before p.behind)
+          rw (parts-read, put-middle key v (entries_of (take at ls)) l.entries (entries_of (drop (at + 1) ls)) p.before p.after)
           (set-parts ∙ ap (λ es. entries_of (take at ls) ++ (es ++ entries_of (drop (at + 1) ls))) e)
 
       pub without-there : (key : ℕ) → HasPlace key ls at → m.entries ≡ without key l.entries → entries_of (slice_set ls at m) ≡ without key (entries_of ls)
       without-there key p e =
-          rw (parts-read, without-middle key (entries_of (take at ls)) l.entries (entries_of (drop (at + 1) ls)) p.before p.behind)
+          rw (parts-read, without-middle key (entries_of (take at ls)) l.entries (entries_of (drop (at + 1) ls)) p.before p.after)
           (set-parts ∙ ap (λ es. entries_of (take at ls) ++ (es ++ entries_of (drop (at + 1) ls))) e)
 
 pub ruleset written = (value-there, put-there, without-there)

@@ -1,11 +1,11 @@
--- Leaves, once half the entries of one went to a new one behind it.
+-- Leaves, once half the entries of one were moved to a new one after it.
 use Rattle.std.proofs.Common.{◌≡◌, ◌+◌, ◌≤◌, ◌<◌, ◌/◌, ◌++◌, ℕ, suc, zero, List, [], ◌∷◌, Some, inl, refl, arith, length, take, drop, get_or, add-one, ap, sym, subst, ◌∙◌, append_assoc, length-append, length-drop, take-append-drop}
 use Rattle.std.specs.Prelude.{insert, slice_get, slice_set}
 use Rattle.std.proofs.lemmas.List.{drop-drop, drop_at, get_or-append-add, get_or_at, get_or_default, get_or_read, length-take-le, take_at}
 use Rattle.std.proofs.lemmas.List.Concat.{flat_map-append}
 use Rattle.std.proofs.lemmas.List.Elements.{All-append, All-cons, All-drop, All-take}
 use Rattle.ex_btree.specs.Entries.{Ordered}
-use Rattle.ex_btree.specs.Leaves.{entries_of, HasPlace, HasRoom, IsFull, IsSound, IsSplit, IsUsed, Takes}
+use Rattle.ex_btree.specs.Leaves.{entries_of, HasPlace, HasRoom, IsFull, IsSound, IsSplit, IsUsed, Accepts}
 use Rattle.ex_btree.proofs.Order.{greater-from-leaf, less-before-leaf, parts}
 
 pub set-then-insert : {X : Type 0} (xs : List X) (i : ℕ) (x y : X) → i < length xs → insert (slice_set xs i x) (suc i) y ≡ take i xs ++ x ∷ y ∷ drop (suc i) xs
@@ -58,7 +58,7 @@ module _ {V : Type 0} {ls new : List (Ordered V)} {at : ℕ} (within : at < leng
   pub split-within : at + 1 < length new
   split-within = rw (s.leaves, length-append (take at ls) (s.left ∷ s.right ∷ drop (at + 1) ls)) (omega (arith, count))
 
-  -- where the two stand
+  -- the indices of the two
   first : (d : Ordered V) → get_or new at d ≡ s.left
   first d = rw s.leaves (get_or_at (take at ls) s.left (s.right ∷ drop (at + 1) ls) d at count)
 
@@ -76,11 +76,11 @@ module _ {V : Type 0} {ls new : List (Ordered V)} {at : ℕ} (within : at < leng
         within = omega (arith, split-within);
         place = record {
           before = rw (s.leaves, take_at (take at ls) (s.left ∷ s.right ∷ drop (at + 1) ls) at count) place.before;
-          behind = greater-from-leaf new (at + 1) read split-within split-sound key f;
+          after = greater-from-leaf new (at + 1) read split-within split-sound key f;
         };
-        takes = λ n r. subst (Takes key) (sym (r ∙ first n)) (record { may = inl s.room_left; room = s.used_left.room });
+        accepts = λ n r. subst (Accepts key) (sym (r ∙ first n)) (record { may = inl s.room_left; room = s.used_left.room });
         before = All-take IsUsed at new split-sound.used;
-        behind = All-drop IsUsed (at + 1) new split-sound.used;
+        after = All-drop IsUsed (at + 1) new split-sound.used;
       }
 
       rest-new : drop (at + 1 + 1) new ≡ drop (at + 1) ls
@@ -91,9 +91,9 @@ module _ {V : Type 0} {ls new : List (Ordered V)} {at : ℕ} (within : at < leng
         within = split-within;
         place = record {
           before = less-before-leaf new (at + 1) read split-within split-sound key f;
-          behind = rw rest-new place.behind;
+          after = rw rest-new place.after;
         };
-        takes = λ n r. subst (Takes key) (sym (r ∙ second n)) (record { may = inl s.room_right; room = s.used_right.room });
+        accepts = λ n r. subst (Accepts key) (sym (r ∙ second n)) (record { may = inl s.room_right; room = s.used_right.room });
         before = All-take IsUsed (at + 1) new split-sound.used;
-        behind = All-drop IsUsed (at + 1 + 1) new split-sound.used;
+        after = All-drop IsUsed (at + 1 + 1) new split-sound.used;
       }

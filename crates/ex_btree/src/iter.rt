@@ -1,4 +1,4 @@
-//! The entries of a map, one after the other.
+//! Iterators over the entries of a map.
 ghost use Rattle.std.specs.Prelude.{◌≡◌, length, Some, IfSome};
 ghost use Rattle.std.specs.Iterator.{UpTo, YieldsFirstBy, item_count};
 ghost use Rattle.std.specs.Iterator.SizeHint.{IsWithinCount};
@@ -9,8 +9,9 @@ use std::alloc::Allocator;
 use std::iter::FusedIterator;
 use std::marker::Model;
 
-/// The keys that are left, each with its value, in the order of the keys. A contract sees them as a
-/// list of pairs.
+/// An iterator over the entries of a map, in the order of the keys.
+///
+/// Returned by `OrderedMap::iter`. A contract sees it as the list of the remaining entries.
 #[derive(Drop)]
 pub struct Iter<'a, V, A: Allocator> {
     pub(crate) front: &'a [(u64, V)],
@@ -36,7 +37,7 @@ impl<'a, V, A: Allocator> Iterator for Iter<'a, V, A> {
 
     ghost remaining = { item_count (λ rest. rest) };
 
-    /// The next key with its value, if one is left.
+    /// Returns the next key with its value, or `None` if none remains.
     fn next(&mut self) -> Option<(u64, &'a V)> {
         loop {
             if let Some((first, others)) = self.front.split_first() {
@@ -50,7 +51,7 @@ impl<'a, V, A: Allocator> Iterator for Iter<'a, V, A> {
         }
     }
 
-    /// How many keys are left, exactly.
+    /// Returns the exact number of remaining entries, as both bounds.
     fn size_hint(&self) -> (usize, Option<usize>)
         ensures lower { IsWithinCount result.0 (item_count (λ rest. rest) self.now) }
         ensures upper { IfSome result.1 (UpTo (item_count (λ rest. rest) self.now)) }
@@ -68,8 +69,9 @@ impl<'a, V, A: Allocator> ExactSizeIterator for Iter<'a, V, A> {
 
 impl<'a, V, A: Allocator> FusedIterator for Iter<'a, V, A> {}
 
-/// The keys that are left of a range, each with its value, in the order of the keys. A contract sees
-/// them as a list of pairs.
+/// An iterator over a range of the entries of a map, in the order of the keys.
+///
+/// Returned by `OrderedMap::range`. A contract sees it as the list of the remaining entries.
 #[derive(Drop)]
 pub struct Range<'a, V, A: Allocator> {
     pub(crate) front: &'a [(u64, V)],
@@ -93,7 +95,7 @@ impl<'a, V, A: Allocator> Iterator for Range<'a, V, A> {
 
     ghost remaining = { item_count (λ rest. rest) };
 
-    /// The next key of the range with its value, if one is left.
+    /// Returns the next key of the range with its value, or `None` if none remains.
     fn next(&mut self) -> Option<(u64, &'a V)> {
         loop {
             if let Some((first, others)) = self.front.split_first() {

@@ -1,17 +1,19 @@
-//! The leaf: a map from keys to values, with its entries in order.
+//! The leaf: a map of fixed capacity, with its entries in the order of the keys.
 ghost use Rattle.std.specs.Prelude.{◌≡◌, ℕ, ◌+◌, ◌/◌, ◌<◌, ◌≤◌, ◌↔◌, [], ◌++◌, length, take, drop, slice_get, is_some, true, None, Some, IsOk, IsTrue, IfErr, IfOk, OnErr, OnOk, option_copied};
 ghost use Rattle.std.specs.Borrow.{sem};
 ghost use Rattle.std.specs.Option.{option_copied_mut};
-ghost use Rattle.allocator_api2.specs.Refusals.{IsRefusedAt};
+ghost use Rattle.allocator_api2.specs.Errors.{IsErrorFor};
 ghost use Rattle.ex_btree.specs.Entries.{between, put, rank, value, without, IsAscending, IsAt, IsGap};
 
-use crate::moves::{join, part, put_at, swap_at, take_at};
+use crate::moves::{insert_at, join, remove_at, replace_at, split_off};
 use allocator_api2::collections::TryReserveError;
 use allocator_api2::raw_vec::RawVec;
 use std::alloc::Allocator;
 use std::marker::Model;
 
-/// Values by keys, in the order of the keys. A contract sees the entries and how many there may be.
+/// A map of fixed capacity, sorted by its keys.
+///
+/// A contract sees a leaf as its entries and its capacity.
 pub struct Leaf<V, A: Allocator> {
     block: RawVec<(u64, V), A>,
     len: usize,
@@ -22,9 +24,9 @@ impl<V, A: Allocator> Model for Leaf<V, A> {
 
     ghost Value = { Ordered V };
 
-    ghost use Rattle.ex_btree.specs.LeafInside.{seen_of, IsLeaf};
+    ghost use Rattle.ex_btree.specs.LeafInside.{view_of, IsLeaf};
 
-    ghost view = { seen_of };
+    ghost view = { view_of };
 
     ghost invariant = { IsLeaf };
 }
@@ -33,19 +35,24 @@ impl<V, A: Allocator> Model for Leaf<V, A> {
 impl<V, A: Allocator> Leaf<V, A> {
     ghost use Rattle.ex_btree.specs.LeafLends.{lends_value};
 
-    /// No entries, and room for `capacity`. It takes memory here alone. A refusal has the number
-    /// `capacity`.
+    /// Returns an empty leaf with capacity for at least `capacity` entries.
+    ///
+    /// Allocates; no other function of a leaf does.
+    ///
+    /// # Errors
+    /// `CapacityOverflow` if the bytes exceed `isize::MAX`; `AllocError` with the number `capacity`
+    /// if the allocation fails.
     #[tactic(auto, using(allocator_api2::proofs::Blocks::with_room))]
     pub fn with_capacity_in(capacity: usize, alloc: A) -> Result<Self, TryReserveError>
         ensures none { IfOk result (λ l. l.entries ≡ []) }
         ensures room { IfOk result (λ l. capacity ≤ l.capacity) }
-        ensures number { IfErr result (λ e. IsRefusedAt e capacity) }
+        ensures error { IfErr result (λ e. IsErrorFor e capacity) }
     {
         let block = RawVec::with_capacity_in(capacity, alloc)?;
         Ok(Leaf { block, len: 0 })
     }
 
-    /// How many entries there are.
+    /// Returns the number of entries.
     pub fn len(&self) -> usize
         ensures len { result ≡ length self.now.entries }
         ensures within { result ≤ self.now.capacity }
@@ -53,14 +60,14 @@ impl<V, A: Allocator> Leaf<V, A> {
         self.len
     }
 
-    /// How many there may be.
+    /// Returns the number of entries that the leaf can hold.
     pub fn capacity(&self) -> usize
         ensures { result ≡ self.now.capacity }
     {
         self.block.capacity()
     }
 
-    /// The keys with their values, in the order of the keys.
+    /// Returns a slice of all entries, in the order of the keys.
     #[tactic(auto, using(allocator_api2::proofs::Blocks::shown))]
     pub fn entries(&self) -> &[(u64, V)]
         ensures all { result.now ≡ self.now.entries }
@@ -69,7 +76,7 @@ impl<V, A: Allocator> Leaf<V, A> {
         self.block.slice(0, self.len)
     }
 
-    /// How many keys come before this one.
+    /// Returns the number of keys that are less than `key`.
     pub fn rank(&self, key: u64) -> usize
         ensures rank { result ≡ rank key self.now.entries }
         ensures within { result ≤ length self.now.entries }
@@ -77,7 +84,7 @@ impl<V, A: Allocator> Leaf<V, A> {
         rank_of(self.entries(), key)
     }
 
-    /// The value of a key.
+    /// Returns a reference to the value of `key`, or `None` if the key is absent.
     pub fn get(&self, key: u64) -> Option<&V>
         ensures { option_copied result ≡ value key self.now.entries }
     {
@@ -88,7 +95,7 @@ impl<V, A: Allocator> Leaf<V, A> {
         }
     }
 
-    /// The entries whose keys are at least `low` and below `high`, in order.
+    /// Returns a slice of the entries whose keys are at least `low` and less than `high`, in order.
     pub fn range(&self, low: u64, high: u64) -> &[(u64, V)]
         ensures { result.now ≡ between low high self.now.entries }
     {
@@ -97,7 +104,7 @@ impl<V, A: Allocator> Leaf<V, A> {
         &self.entries()[from..to]
     }
 
-    /// The value of a key, to write to.
+    /// Returns a mutable reference to the value of `key`, or `None` if the key is absent.
     #[tactic(auto, using(allocator_api2::proofs::Blocks::at_positions))]
     pub fn get_mut(&mut self, key: u64) -> Option<&mut V>
         ensures* writes_back { sem 𝓛 (lends_value V.row A.row A.Allocator self.entry key result) }
@@ -109,34 +116,45 @@ impl<V, A: Allocator> Leaf<V, A> {
         }
     }
 
-    /// Gives the key this value, and answers the one that it had. It takes no memory: a new key is
-    /// refused where the leaf is full, which hands the value back and changes nothing.
+    /// Inserts `key` with the value `item`, and returns the old value of the key, if it had one.
+    ///
+    /// Does not allocate.
+    ///
+    /// # Errors
+    /// If the key is absent and the leaf is full, the error is `item`. The leaf is unchanged.
     pub fn insert(&mut self, key: u64, item: V) -> Result<Option<V>, V>
+        // If the leaf is not full, or has the key, it succeeds.
         ensures fits { length self.old.entries < self.old.capacity → IsOk result }
         ensures there { is_some (value key self.old.entries) ≡ true → IsOk result }
+
+        // On success, the key has the new value, and the old value is returned.
         ensures old { IfOk result (λ old. old ≡ value key self.old.entries) }
         ensures put { OnOk result (self.new.entries ≡ put key item self.old.entries) }
         ensures capacity { self.new.capacity ≡ self.old.capacity }
-        ensures back { IfErr result (λ v. v ≡ item) }
-        ensures refused { OnErr result (self.new ≡ self.old) }
+
+        // An error returns the value, and leaves the leaf unchanged.
+        ensures returned { IfErr result (λ v. v ≡ item) }
+        ensures unchanged { OnErr result (self.new ≡ self.old) }
     {
         match seek(self.entries(), key) {
             Ok(at) => {
-                let old = swap_at(&mut self.block, self.len, at, (key, item));
+                let old = replace_at(&mut self.block, self.len, at, (key, item));
                 Ok(Some(old.1))
             }
             Err(at) => {
                 if self.len == self.block.capacity() {
                     return Err(item);
                 }
-                put_at(&mut self.block, self.len, at, (key, item));
+                insert_at(&mut self.block, self.len, at, (key, item));
                 self.len += 1;
                 Ok(None)
             }
         }
     }
 
-    /// Takes the key away, and answers the value that it had.
+    /// Removes `key` and returns its value, or `None` if the key is absent.
+    ///
+    /// Does not change the capacity.
     pub fn remove(&mut self, key: u64) -> Option<V>
         ensures old { result ≡ value key self.old.entries }
         ensures removed { self.new.entries ≡ without key self.old.entries }
@@ -144,7 +162,7 @@ impl<V, A: Allocator> Leaf<V, A> {
     {
         match seek(self.entries(), key) {
             Ok(at) => {
-                let old = take_at(&mut self.block, self.len, at);
+                let old = remove_at(&mut self.block, self.len, at);
                 self.len -= 1;
                 Some(old.1)
             }
@@ -152,10 +170,15 @@ impl<V, A: Allocator> Leaf<V, A> {
         }
     }
 
-    /// Moves the upper half of the entries to an empty leaf that has room for them.
+    /// Moves the upper half of the entries to `right`, which is empty and has sufficient capacity.
+    ///
+    /// Does not allocate, and does not change the capacities.
     pub fn split(&mut self, right: &mut Self)
+        // The other leaf is empty, with sufficient capacity.
         requires empty { right.old.entries ≡ [] }
         requires room { length self.old.entries ≤ right.old.capacity }
+
+        // Each leaf has its half of the entries, and its capacity.
         ensures lower { self.new.entries ≡ take (length self.old.entries / 2) self.old.entries }
         ensures upper { right.new.entries ≡ drop (length self.old.entries / 2) self.old.entries }
         ensures capacity { self.new.capacity ≡ self.old.capacity }
@@ -163,21 +186,26 @@ impl<V, A: Allocator> Leaf<V, A> {
     {
         let half = self.len / 2;
         let moved = self.len - half;
-        part(&mut self.block, self.len, half, &mut right.block);
+        split_off(&mut self.block, self.len, half, &mut right.block);
         self.len = half;
         right.len = moved;
     }
 
-    /// Moves all entries of a leaf with greater keys behind those of this one, which has room.
+    /// Moves all entries of `right`, whose keys are greater, to the end of this leaf.
+    ///
+    /// Does not allocate, and does not change the capacities: that of this leaf is sufficient.
     pub fn merge(&mut self, right: &mut Self)
+        // The keys of the other leaf are greater, and the capacity is sufficient for both.
         requires apart { IsAscending 0 (self.old.entries ++ right.old.entries) }
         requires room { length self.old.entries + length right.old.entries ≤ self.old.capacity }
+
+        // This leaf has all entries, and the other none.
         ensures all { self.new.entries ≡ self.old.entries ++ right.old.entries }
         ensures emptied { right.new.entries ≡ [] }
         ensures capacity { self.new.capacity ≡ self.old.capacity }
         ensures capacity_there { right.new.capacity ≡ right.old.capacity }
     {
-        self.block.known();
+        self.block.prove_capacity_bounds();
         join(&mut self.block, self.len, &mut right.block, right.len);
         self.len += right.len;
         right.len = 0;
@@ -192,7 +220,7 @@ impl<V: Drop, A: Allocator> Drop for Leaf<V, A> {
     }
 }
 
-// Where a key is, or where it belongs.
+// Returns `Ok` with the position of a key, or `Err` with the position at which to insert it.
 fn seek<V>(entries: &[(u64, V)], key: u64) -> Result<usize, usize>
     requires { IsAscending 0 entries.now }
     ensures found { IfOk result (IsAt key entries.now) }
@@ -206,7 +234,7 @@ fn seek<V>(entries: &[(u64, V)], key: u64) -> Result<usize, usize>
     }
 }
 
-// Whether the entry at a position has this key.
+// Returns `true` if there is an entry at position `at`, and it has this key.
 fn has_key<V>(entries: &[(u64, V)], at: usize, key: u64) -> bool
     ensures within { IsTrue result → at < length entries.now }
     ensures there { (e : ℕ × V) → slice_get entries.now at ≡ Some e
@@ -215,7 +243,7 @@ fn has_key<V>(entries: &[(u64, V)], at: usize, key: u64) -> bool
     at < entries.len() && entries[at].0 == key
 }
 
-// How many keys come before this one.
+// Returns the number of keys that are less than `key`.
 fn rank_of<V>(entries: &[(u64, V)], key: u64) -> usize
     ensures rank { result ≡ rank key entries.now }
     ensures within { result ≤ length entries.now }

@@ -1,19 +1,21 @@
-//! Leaves in line: the one that a key belongs to, and what becomes of it.
+//! Operations on the leaves of a map: finding the leaf of a key, splitting and removing leaves.
 ghost use Rattle.std.specs.Prelude.{◌≡◌, ℕ, ◌+◌, ◌*◌, ◌<◌, ◌≤◌, ◌↔◌, [], All, drop, false, length, max, take, slice_get, slice_index_or, is_some, true, None, Some, IsOk, IsTrue, IfErr, IfOk, IfSome, OnErr, OnOk};
 ghost use Rattle.ex_btree.specs.Entries.{put, value, without, Ordered};
-ghost use Rattle.ex_btree.specs.Leaves.{entries_of, leaf_room, most_places, HasPlace, HasRoom, IsFull, IsRefusedWithin, IsSound, IsSplit, IsUsed, Takes};
+ghost use Rattle.ex_btree.specs.Leaves.{entries_of, leaf_room, most_places, HasPlace, HasRoom, IsFull, IsErrorForAtMost, IsSound, IsSplit, IsUsed, Accepts};
 
 use crate::leaf::Leaf;
 use allocator_api2::collections::TryReserveError;
 use allocator_api2::vec::Vec;
 use std::alloc::Allocator;
 
-// How many entries a leaf has room for.
+// The capacity of the first leaf.
 const CAPACITY: usize = 32;
 
-/// Where the leaf stands that a key belongs to: the last one whose first key is no greater, or the
-/// first leaf.
-pub fn part<V, A: Allocator>(leaves: &[Leaf<V, A>], key: u64) -> usize
+/// Returns the index of the leaf that a key belongs to.
+///
+/// This is the last leaf whose first key is no greater than `key`, or the first leaf. Returns 0 if
+/// there are no leaves.
+pub fn leaf_for<V, A: Allocator>(leaves: &[Leaf<V, A>], key: u64) -> usize
     requires { IsSound leaves.now }
     ensures place { HasPlace key leaves.now result }
     ensures within { length leaves.now ≤ result → leaves.now ≡ [] }
@@ -31,7 +33,7 @@ pub fn part<V, A: Allocator>(leaves: &[Leaf<V, A>], key: u64) -> usize
     low
 }
 
-/// Where the leaf stands that has this key.
+/// Returns the index of the leaf that has this key, or `None` if the key is absent.
 #[tactic(auto, using(crate::proofs::Order::placed))]
 pub fn find<V, A: Allocator>(leaves: &[Leaf<V, A>], key: u64) -> Option<usize>
     requires { IsSound leaves.now }
@@ -39,7 +41,7 @@ pub fn find<V, A: Allocator>(leaves: &[Leaf<V, A>], key: u64) -> Option<usize>
     ensures within { IfSome result (λ at. at < length leaves.now) }
     ensures there { is_some result ≡ is_some (value key (entries_of leaves.now)) }
 {
-    let at = part(leaves, key);
+    let at = leaf_for(leaves, key);
     if at < leaves.len() && leaves[at].get(key).is_some() {
         Some(at)
     } else {
@@ -47,7 +49,7 @@ pub fn find<V, A: Allocator>(leaves: &[Leaf<V, A>], key: u64) -> Option<usize>
     }
 }
 
-// Whether the first key of a leaf is greater.
+// Returns `true` if the first key of a leaf is greater than `key`.
 fn begins_above<V, A: Allocator>(leaf: &Leaf<V, A>, key: u64) -> bool
     requires { 0 < length leaf.now.entries }
     ensures { (e : ℕ × V) → slice_get leaf.now.entries 0 ≡ Some e → (IsTrue result ↔ (key < e.0)) }
@@ -55,44 +57,55 @@ fn begins_above<V, A: Allocator>(leaf: &Leaf<V, A>, key: u64) -> bool
     key < leaf.entries()[0].0
 }
 
-/// Makes room for the key in the leaf that it belongs to, and answers where that leaf stands. It
-/// takes memory only where there is no leaf, or where that one is full and the key is not there:
-/// then half of its entries go to a new one. All memory is asked for before an entry moves.
+/// Reserves capacity for a key in the leaf that it belongs to, and returns the index of that leaf.
+///
+/// Allocates only if there is no leaf, or if the leaf is full and the key is absent. A full leaf is
+/// split: half of its entries move to a new leaf. Everything is allocated before an entry moves.
+///
+/// # Errors
+/// `CapacityOverflow`, or `AllocError` with the number of requested places: at most 32, or twice
+/// the number of entries if that is more. The leaves are unchanged.
 #[tactic(auto, using(crate::proofs::Order::placed))]
 pub fn make_room<V, A: Allocator + Copy>(
     leaves: &mut Vec<Leaf<V, A>, A>,
     key: u64,
 ) -> Result<usize, TryReserveError>
     requires { IsSound leaves.old.items }
+
+    // It succeeds if the key is present, and if there are from 1 to 31 entries.
     ensures there { is_some (value key (entries_of leaves.old.items)) ≡ true → IsOk result }
     ensures fits { 0 < length (entries_of leaves.old.items)
         → length (entries_of leaves.old.items) < leaf_room → IsOk result }
+
+    // On success, the leaf at the result accepts the key. The entries do not change.
     ensures room { IfOk result (HasRoom key leaves.new.items) }
     ensures same { entries_of leaves.new.items ≡ entries_of leaves.old.items }
-    ensures number { IfErr result
-        (λ e. IsRefusedWithin e (most_places (length (entries_of leaves.old.items)))) }
-    ensures refused { OnErr result (leaves.new.items ≡ leaves.old.items) }
+
+    // An error has the number of requested places, and leaves the leaves unchanged.
+    ensures error { IfErr result
+        (λ e. IsErrorForAtMost e (most_places (length (entries_of leaves.old.items)))) }
+    ensures unchanged { OnErr result (leaves.new.items ≡ leaves.old.items) }
 {
-    let at = part(leaves.as_slice(), key);
+    let at = leaf_for(leaves.as_slice(), key);
     if at >= leaves.len() {
         return add_first(leaves, key);
     }
-    if takes(&leaves[at], key) {
+    if accepts(&leaves[at], key) {
         return Ok(at);
     }
     split_for(leaves, at, key)
 }
 
-// Whether a leaf has the key, or has room for it.
-fn takes<V, A: Allocator>(leaf: &Leaf<V, A>, key: u64) -> bool
-    ensures takes { IsTrue result → leaf_room ≤ leaf.now.capacity → Takes key leaf.now }
+// Returns `true` if a leaf has the key or spare capacity for it.
+fn accepts<V, A: Allocator>(leaf: &Leaf<V, A>, key: u64) -> bool
+    ensures accepts { IsTrue result → leaf_room ≤ leaf.now.capacity → Accepts key leaf.now }
     ensures full { result ≡ false → IsFull leaf.now }
     ensures none { result ≡ false → value key leaf.now.entries ≡ None }
 {
     leaf.len() < leaf.capacity() || leaf.get(key).is_some()
 }
 
-// A new leaf, once there is room for it beside the others.
+// Reserves a place among the leaves, and returns a new leaf for it.
 fn new_leaf<V, A: Allocator + Copy>(
     leaves: &mut Vec<Leaf<V, A>, A>,
     capacity: usize,
@@ -100,16 +113,16 @@ fn new_leaf<V, A: Allocator + Copy>(
     ensures none { IfOk result (λ l. l.entries ≡ []) }
     ensures capacity { IfOk result (λ l. capacity ≤ l.capacity) }
     ensures room { OnOk result (length leaves.new.items < leaves.new.capacity) }
-    ensures number { 0 < capacity → IfErr result
-        (λ e. IsRefusedWithin e (max capacity (max 8 (2 * length leaves.old.items)))) }
+    ensures error { 0 < capacity → IfErr result
+        (λ e. IsErrorForAtMost e (max capacity (max 8 (2 * length leaves.old.items)))) }
     ensures same { leaves.new.items ≡ leaves.old.items }
 {
-    leaves.known();
+    leaves.prove_capacity_bounds();
     leaves.try_reserve(1)?;
     Leaf::with_capacity_in(capacity, *leaves.allocator())
 }
 
-// Adds a leaf where there is none.
+// Appends the first leaf, and returns its index, which is 0.
 fn add_first<V, A: Allocator + Copy>(
     leaves: &mut Vec<Leaf<V, A>, A>,
     key: u64,
@@ -117,8 +130,8 @@ fn add_first<V, A: Allocator + Copy>(
     requires { leaves.old.items ≡ [] }
     ensures room { IfOk result (HasRoom key leaves.new.items) }
     ensures same { entries_of leaves.new.items ≡ [] }
-    ensures number { IfErr result (λ e. IsRefusedWithin e leaf_room) }
-    ensures refused { OnErr result (leaves.new.items ≡ []) }
+    ensures error { IfErr result (λ e. IsErrorForAtMost e leaf_room) }
+    ensures unchanged { OnErr result (leaves.new.items ≡ []) }
 {
     let leaf = new_leaf(leaves, CAPACITY)?;
     match leaves.push_within_capacity(leaf) {
@@ -127,7 +140,7 @@ fn add_first<V, A: Allocator + Copy>(
     }
 }
 
-// Moves half the entries of a full leaf to a new one behind it.
+// Moves the upper half of the entries of a full leaf to a new leaf after it.
 fn split<V, A: Allocator + Copy>(
     leaves: &mut Vec<Leaf<V, A>, A>,
     at: usize,
@@ -136,40 +149,45 @@ fn split<V, A: Allocator + Copy>(
     requires full { (l : Ordered V) → l ≡ slice_index_or leaves.old.items at l
         → IsFull l × IsUsed l }
     ensures split { OnOk result (IsSplit leaves.old.items at leaves.new.items) }
-    ensures number { IfErr result (λ e. IsRefusedWithin e
+    ensures error { IfErr result (λ e. IsErrorForAtMost e
         (max (most_places (length leaves.old.items)) (length (entries_of leaves.old.items)))) }
-    ensures refused { OnErr result (leaves.new.items ≡ leaves.old.items) }
+    ensures unchanged { OnErr result (leaves.new.items ≡ leaves.old.items) }
 {
-    leaves.known();
-    let behind = at + 1;
+    leaves.prove_capacity_bounds();
+    let after = at + 1;
     let count = leaves[at].len();
     let mut right = new_leaf(leaves, count)?;
     leaves[at].split(&mut right);
-    match leaves.insert(behind, right) {
+    match leaves.insert(after, right) {
         Ok(()) => Ok(()),
         Err(_) => unreachable!(),
     }
 }
 
-// Splits the leaf at a position, to which a key belongs, and answers where the one stands that it
-// belongs to then.
+// Splits the leaf at index `at`, to which the key belongs, and returns the index of the half to
+// which it belongs then.
 fn split_for<V, A: Allocator + Copy>(
     leaves: &mut Vec<Leaf<V, A>, A>,
     at: usize,
     key: u64,
 ) -> Result<usize, TryReserveError>
+    // The leaf is that of the key, and full.
     requires sound { IsSound leaves.old.items }
     requires within { at < length leaves.old.items }
     requires place { HasPlace key leaves.old.items at }
     requires full { (l : Ordered V) → l ≡ slice_index_or leaves.old.items at l → IsFull l }
+
+    // On success, the leaf at the result accepts the key. The entries do not change.
     ensures room { IfOk result (HasRoom key leaves.new.items) }
     ensures same { entries_of leaves.new.items ≡ entries_of leaves.old.items }
-    ensures number { IfErr result
-        (λ e. IsRefusedWithin e (most_places (length (entries_of leaves.old.items)))) }
-    ensures refused { OnErr result (leaves.new.items ≡ leaves.old.items) }
+
+    // An error has the number of requested places, and leaves the leaves unchanged.
+    ensures error { IfErr result
+        (λ e. IsErrorForAtMost e (most_places (length (entries_of leaves.old.items)))) }
+    ensures unchanged { OnErr result (leaves.new.items ≡ leaves.old.items) }
 {
     split(leaves, at)?;
-    leaves.known();
+    leaves.prove_capacity_bounds();
     if begins_above(&leaves[at + 1], key) {
         Ok(at)
     } else {
@@ -177,7 +195,9 @@ fn split_for<V, A: Allocator + Copy>(
     }
 }
 
-/// Gives the key this value in the leaf at a position, and answers the one that it had.
+/// Inserts the key with the value `item` into the leaf at index `at`, and returns its old value.
+///
+/// Returns `None` if the key had no value. Does not allocate.
 #[tactic(auto, using(crate::proofs::Order::written))]
 pub fn put_in<V: Drop, A: Allocator>(
     leaves: &mut Vec<Leaf<V, A>, A>,
@@ -196,8 +216,9 @@ pub fn put_in<V: Drop, A: Allocator>(
     }
 }
 
-/// Takes the key out of the leaf that it belongs to, and answers the value that it had. A leaf
-/// without entries is taken out, too.
+/// Removes the key from the leaf that it belongs to, and returns its value.
+///
+/// Returns `None` if the key is absent. A leaf without entries is removed, too. Does not allocate.
 #[tactic(auto, using(crate::proofs::Order::written))]
 pub fn take_out<V: Drop, A: Allocator>(leaves: &mut Vec<Leaf<V, A>, A>, key: u64) -> Option<V>
     requires { IsSound leaves.old.items }
@@ -205,7 +226,7 @@ pub fn take_out<V: Drop, A: Allocator>(leaves: &mut Vec<Leaf<V, A>, A>, key: u64
     ensures taken { entries_of leaves.new.items ≡ without key (entries_of leaves.old.items) }
     ensures used { All IsUsed leaves.new.items }
 {
-    let at = part(leaves.as_slice(), key);
+    let at = leaf_for(leaves.as_slice(), key);
     if at >= leaves.len() {
         return None;
     }
@@ -214,13 +235,16 @@ pub fn take_out<V: Drop, A: Allocator>(leaves: &mut Vec<Leaf<V, A>, A>, key: u64
     old
 }
 
-// Takes out the leaf at a position if it has no entries.
+// Removes the leaf at index `at` if it has no entries.
 fn drop_empty<V: Drop, A: Allocator>(leaves: &mut Vec<Leaf<V, A>, A>, at: usize)
+    // All other leaves have entries.
     requires within { at < length leaves.old.items }
     requires before { All IsUsed (take at leaves.old.items) }
-    requires behind { All IsUsed (drop (at + 1) leaves.old.items) }
+    requires after { All IsUsed (drop (at + 1) leaves.old.items) }
     requires room { (l : Ordered V) → l ≡ slice_index_or leaves.old.items at l
         → leaf_room ≤ l.capacity }
+
+    // The entries do not change, and all leaves have some.
     ensures same { entries_of leaves.new.items ≡ entries_of leaves.old.items }
     ensures used { All IsUsed leaves.new.items }
 {

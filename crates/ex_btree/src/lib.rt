@@ -1,5 +1,6 @@
-//! An ordered map over any allocator: a B-tree of two levels, whose leaves stand in a vector of
-//! the library.
+//! An ordered map over any allocator: a B-tree of two levels.
+//!
+//! Its leaves are the elements of a vector of the library.
 #![tactic(auto)]
 
 pub mod iter;

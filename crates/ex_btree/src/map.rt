@@ -1,25 +1,27 @@
-//! The map: values by keys, in the order of the keys.
+//! The ordered map: a sorted map from integer keys to values.
 ghost use Rattle.std.specs.Prelude.{◌≡◌, ◌+◌, ◌-◌, ◌<◌, ◌≤◌, ◌^◌, [], length, is_some, true, false, None, IfErr, IfOk, IsOk, IsTrue, OnErr, OnOk, ◌↔◌, option_copied, option_map, slice_get};
 ghost use Rattle.std.specs.Borrow.{sem};
 ghost use Rattle.std.specs.Option.{option_copied_mut};
 ghost use Rattle.allocator_api2.specs.declared.collections.TryReserveErrorKind.TheVariants.{CapacityOverflow};
 ghost use Rattle.ex_btree.specs.Entries.{between, put, value, without, IsAscending};
-ghost use Rattle.ex_btree.specs.Leaves.{leaf_room, most_places, IsRefusedWithin};
+ghost use Rattle.ex_btree.specs.Leaves.{leaf_room, most_places, IsErrorForAtMost};
 
 use crate::iter::{Iter, Range};
 use crate::leaf::Leaf;
-use crate::leaves::{find, make_room, part, put_in, take_out};
+use crate::leaves::{find, leaf_for, make_room, put_in, take_out};
 use allocator_api2::collections::{Refused, TryReserveErrorKind};
 use allocator_api2::vec::Vec;
 use std::alloc::Allocator;
 use std::marker::Model;
 
-/// Values by keys. A contract sees the list of the keys with their values, in the order of the keys.
+/// An ordered map from keys to values.
 ///
-/// A leaf is freed with its last entry; leaves are not joined, and their vector keeps its capacity.
-/// So a map from which nearly all keys were removed may keep a whole leaf for each entry: with
-/// values of 8 bytes 512 bytes, and 40 for each place among the leaves. To free them, insert the
-/// entries into a new map.
+/// A contract sees a map as the list of its entries, in the order of the keys.
+///
+/// A leaf is freed with its last entry. Leaves are not merged, and the capacity of their vector
+/// does not shrink. So a map from which nearly all keys were removed may keep a whole leaf for each
+/// entry. With values of 8 bytes these are 512 bytes, and 40 for each place among the leaves. To
+/// free them, insert the entries into a new map.
 #[derive(Drop)]
 pub struct OrderedMap<V, A: Allocator> {
     leaves: Vec<Leaf<V, A>, A>,
@@ -31,9 +33,9 @@ impl<V, A: Allocator> Model for OrderedMap<V, A> {
 
     ghost Value = { List (ℕ × V) };
 
-    ghost use Rattle.ex_btree.specs.Inside.{seen_of, IsMap};
+    ghost use Rattle.ex_btree.specs.Inside.{view_of, IsMap};
 
-    ghost view = { seen_of };
+    ghost view = { view_of };
 
     ghost invariant = { IsMap };
 }
@@ -41,7 +43,9 @@ impl<V, A: Allocator> Model for OrderedMap<V, A> {
 impl<V, A: Allocator> OrderedMap<V, A> {
     ghost use Rattle.ex_btree.specs.Lends.{lends_value};
 
-    /// No entries. It takes no memory.
+    /// Returns an empty map.
+    ///
+    /// Does not allocate.
     pub fn new_in(alloc: A) -> Self
         ensures { result ≡ [] }
     {
@@ -51,40 +55,40 @@ impl<V, A: Allocator> OrderedMap<V, A> {
         }
     }
 
-    /// How many entries there are.
+    /// Returns the number of entries.
     pub fn len(&self) -> usize
         ensures { result ≡ length self.now }
     {
         self.len
     }
 
-    /// Whether there is no entry.
+    /// Returns `true` if the map has no entries.
     pub fn is_empty(&self) -> bool
         ensures { IsTrue result ↔ (self.now ≡ []) }
     {
         self.len == 0
     }
 
-    /// The value of a key.
+    /// Returns a reference to the value of `key`, or `None` if the key is absent.
     #[tactic(auto, using(crate::proofs::Order::placed))]
     pub fn get(&self, key: u64) -> Option<&V>
         ensures { option_copied result ≡ value key self.now }
     {
         let leaves = self.leaves.as_slice();
-        match leaves.get(part(leaves, key)) {
+        match leaves.get(leaf_for(leaves, key)) {
             Some(leaf) => leaf.get(key),
             None => None,
         }
     }
 
-    /// Whether the key has a value.
+    /// Returns `true` if the map has a value for `key`.
     pub fn contains_key(&self, key: u64) -> bool
         ensures { result ≡ is_some (value key self.now) }
     {
         self.get(key).is_some()
     }
 
-    /// The value of a key, to write to.
+    /// Returns a mutable reference to the value of `key`, or `None` if the key is absent.
     pub fn get_mut(&mut self, key: u64) -> Option<&mut V>
         ensures* writes_back { sem 𝓛 (lends_value V.row A.row A.Allocator self.entry key result) }
         ensures value { option_copied_mut result ≡ value key self.old }
@@ -95,7 +99,7 @@ impl<V, A: Allocator> OrderedMap<V, A> {
         }
     }
 
-    /// The keys with their values, in the order of the keys.
+    /// Returns an iterator over the keys and their values, in the order of the keys.
     pub fn iter(&self) -> Iter<'_, V, A>
         ensures all { result ≡ self.now }
         ensures ascending { IsAscending 0 result }
@@ -107,13 +111,13 @@ impl<V, A: Allocator> OrderedMap<V, A> {
         }
     }
 
-    /// The keys that are at least `low` and below `high`, with their values, in order.
+    /// Returns an iterator over the entries with keys in `low..high`, in the order of the keys.
     #[tactic(auto, using(crate::proofs::Ranges::ranged))]
     pub fn range(&self, low: u64, high: u64) -> Range<'_, V, A>
         ensures { result ≡ between low high self.now }
     {
         let leaves = self.leaves.as_slice();
-        let at = part(leaves, low);
+        let at = leaf_for(leaves, low);
         if at >= leaves.len() {
             return Range {
                 front: &[],
@@ -129,14 +133,14 @@ impl<V, A: Allocator> OrderedMap<V, A> {
         }
     }
 
-    /// The least key with its value, if there is one.
+    /// Returns the least key with its value, or `None` if the map is empty.
     pub fn first_key_value(&self) -> Option<(u64, &V)>
         ensures { option_map (λ e. (e.0, e.1.now)) result ≡ slice_get self.now 0 }
     {
         self.iter().next()
     }
 
-    /// The greatest key with its value, if there is one.
+    /// Returns the greatest key with its value, or `None` if the map is empty.
     pub fn last_key_value(&self) -> Option<(u64, &V)>
         ensures { option_map (λ e. (e.0, e.1.now)) result
             ≡ slice_get self.now (length self.now - 1) }
@@ -148,7 +152,7 @@ impl<V, A: Allocator> OrderedMap<V, A> {
 }
 
 impl<V: Drop, A: Allocator + Copy> OrderedMap<V, A> {
-    // Whether the key would be one more than can be counted.
+    // Returns `true` if the key is absent, and the number of entries cannot grow.
     fn is_full(&self, key: u64) -> bool
         ensures none { IsTrue result → value key self.now ≡ None }
         ensures full { IsTrue result → 2 ^ 64 ≤ length self.now + 1 }
@@ -157,23 +161,33 @@ impl<V: Drop, A: Allocator + Copy> OrderedMap<V, A> {
         self.len == usize::MAX && !self.contains_key(key)
     }
 
-    /// Gives the key this value, and answers the one that it had. It takes memory where a new key
-    /// finds its leaf full, or none there: for a leaf, and for its place. So it takes none beside 1
-    /// to 31 others. A refusal hands key and value back and changes nothing: `AllocError` with the
-    /// number of places that were asked for, 32 or at most twice as many as there are entries, or
-    /// `CapacityOverflow`, as for a new key beside 2^64 - 1 others.
+    /// Inserts `key` with the value `item`, and returns the old value of the key, if it had one.
+    ///
+    /// Allocates only if the key is absent and its leaf is full, or there is no leaf: a leaf, and a
+    /// place for it. So it does not allocate if there are from 1 to 31 entries.
+    ///
+    /// # Errors
+    /// `CapacityOverflow` if the number of entries cannot grow, or the bytes exceed `isize::MAX`.
+    /// `AllocError` with the number of requested places if an allocation fails: at most 32, or
+    /// twice the number of entries if that is more.
+    /// The map is unchanged, and key and value are returned in the error.
     #[tactic(auto, using(crate::proofs::Order::counted))]
     pub fn insert(&mut self, key: u64, item: V) -> Result<Option<V>, Refused<(u64, V)>>
+        // If the key is present, or there are from 1 to 31 entries, it succeeds.
         ensures there { is_some (value key self.old) ≡ true → IsOk result }
         ensures fits { 0 < length self.old → length self.old < leaf_room → IsOk result }
+
+        // On success, the key has the new value, and the old value is returned.
         ensures old { IfOk result (λ old. old ≡ value key self.old) }
         ensures put { OnOk result (self.new ≡ put key item self.old) }
-        ensures back { IfErr result (λ r. r.source ≡ (key, item)) }
-        ensures number { IfErr result
-            (λ r. IsRefusedWithin r.error (most_places (length self.old))) }
+
+        // An error returns key and value, says why it failed, and leaves the map unchanged.
+        ensures returned { IfErr result (λ r. r.source ≡ (key, item)) }
+        ensures error { IfErr result
+            (λ r. IsErrorForAtMost r.error (most_places (length self.old))) }
         ensures overflow { IfErr result
             (λ r. 2 ^ 64 ≤ length self.old + 1 → r.error.kind ≡ CapacityOverflow) }
-        ensures refused { OnErr result (self.new ≡ self.old) }
+        ensures unchanged { OnErr result (self.new ≡ self.old) }
     {
         if self.is_full(key) {
             return Err(Refused {
@@ -198,7 +212,9 @@ impl<V: Drop, A: Allocator + Copy> OrderedMap<V, A> {
 }
 
 impl<V: Drop, A: Allocator> OrderedMap<V, A> {
-    /// Takes the key out, and answers the value that it had. It takes no memory.
+    /// Removes `key` and returns its value, or `None` if the key is absent.
+    ///
+    /// Does not allocate. Frees a leaf with its last entry.
     #[tactic(auto, using(crate::proofs::Order::counted))]
     pub fn remove(&mut self, key: u64) -> Option<V>
         ensures old { result ≡ value key self.old }

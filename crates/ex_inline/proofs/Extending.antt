@@ -1,4 +1,4 @@
--- Items that are pushed behind those of a small vector, one by one.
+-- Items that are appended to a small vector, one by one.
 use Rattle.std.proofs.Common.{◌≡◌, ℕ, ◌+◌, ◌-◌, ◌<◌, Bool, true, false, List, [], ◌∷◌, ◌++◌, length, refl, sym, ap, ◌∙◌, arith, append_assoc, length-append}
 use Rattle.std.proofs.Common.{inr, subst}
 use Rattle.std.specs.Iterator.{Drains}
@@ -8,8 +8,8 @@ use Rattle.std.proofs.lemmas.List.{append-nil}
 use Rattle.std.proofs.lemmas.List.Elements.{same_from_all_zip}
 use Rattle.allocator_api2.proofs.Blocks as Blocks
 use Rattle.allocator_api2.specs.declared.collections.TryReserveError.{TryReserveError}
-use Rattle.ex_inline.specs.Extending.{pushed, pushed_all, ExtendsByAll, StopsAt, StopsAtItem}
-use Rattle.ex_inline.specs.Inlined.{Inlined, capacity, with_room, wrote, HasRoom}
+use Rattle.ex_inline.specs.Extending.{pushed, pushed_all, ExtendsByAll, ExtendFails, FailsAtItem}
+use Rattle.ex_inline.specs.Inlined.{Inlined, capacity, with_room, with_written, HasRoom}
 
 module _ {T A : Type 0} (size N : ℕ) where
   -- one more of them
@@ -17,7 +17,7 @@ module _ {T A : Type 0} (size N : ℕ) where
   pushed_all-push s [] x = refl
   pushed_all-push s (y ∷ xs) x = pushed_all-push (pushed size N s y) xs x
 
-  -- they stand behind the others, in order
+  -- they are appended, in order
   pub items-pushed_all : (s : Inlined T A) (xs : List T) → (pushed_all size N s xs).items ≡ s.items ++ xs
   items-pushed_all s [] = sym (append-nil s.items)
   items-pushed_all s (x ∷ xs) = items-pushed_all (pushed size N s x) xs ∙ append_assoc s.items (x ∷ []) xs
@@ -25,14 +25,14 @@ module _ {T A : Type 0} (size N : ℕ) where
   pub length-pushed_all : (s : Inlined T A) (xs : List T) → length (pushed_all size N s xs).items ≡ length s.items + length xs
   length-pushed_all s xs = ap length (items-pushed_all s xs) ∙ length-append s.items xs
 
-  -- room for m items is room for one and fewer others
+  -- if m items fit, one fits and then fewer others
   pub room-pushed : (s : Inlined T A) (x : T) (m n : ℕ) → n < m → HasRoom N s m → HasRoom N (pushed size N s x) n
   unfolding with_room
   room-pushed s x m n fewer room =
       let one : nat_le 1 (capacity N s - length s.items) ≡ true = grind (arith, nat_tests, fewer, room) in
       rw one (omega (arith, length-append s.items (x ∷ []), fewer, room))
 
--- what was moved, where the items stand in a block
+-- what was moved, if the items are in a block
 twice : (b : Bool) (k m n : ℕ) → k + (if b then m else 0) + (if b then n else 0) ≡ k + (if b then m + n else 0)
 twice true k m n = omega arith
 twice false k m n = omega arith
@@ -43,30 +43,30 @@ unmoved false k = omega arith
 
 module _ {T A : Type 0} where
   -- two writes in turn are one
-  pub wrote-wrote : (s : Inlined T A) (xs ys : List T) (m n : ℕ) → wrote (wrote s xs m) ys n ≡ wrote s ys (m + n)
-  wrote-wrote s xs ys m n = λ t. record { items = ys; spilled = s.spilled; block = s.block; moved = twice s.spilled s.moved m n t; alloc = s.alloc }
+  pub with_written-with_written : (s : Inlined T A) (xs ys : List T) (m n : ℕ) → with_written (with_written s xs m) ys n ≡ with_written s ys (m + n)
+  with_written-with_written s xs ys m n = λ t. record { items = ys; spilled = s.spilled; block = s.block; moved = twice s.spilled s.moved m n t; alloc = s.alloc }
 
-  pub wrote-none : (s : Inlined T A) → wrote s s.items 0 ≡ s
-  wrote-none s = λ t. record { items = s.items; spilled = s.spilled; block = s.block; moved = unmoved s.spilled s.moved t; alloc = s.alloc }
+  pub with_written-none : (s : Inlined T A) → with_written s s.items 0 ≡ s
+  with_written-none s = λ t. record { items = s.items; spilled = s.spilled; block = s.block; moved = unmoved s.spilled s.moved t; alloc = s.alloc }
 
-  -- one of n items that have room, and then the others
-  pub room-wrote : (N : ℕ) (s : Inlined T A) (x : T) (n i : ℕ) → i < n → HasRoom N s (n - i) → HasRoom N (wrote s (s.items ++ x ∷ []) 1) (n - (i + 1))
-  room-wrote N s x n i few room = omega (arith, length-append s.items (x ∷ []), few, room)
+  -- one of n items that fit, and then the others
+  pub room-with_written : (N : ℕ) (s : Inlined T A) (x : T) (n i : ℕ) → i < n → HasRoom N s (n - i) → HasRoom N (with_written s (s.items ++ x ∷ []) 1) (n - (i + 1))
+  room-with_written N s x n i few room = omega (arith, length-append s.items (x ∷ []), few, room)
 
 module _ {S T A : Type 0} (next_gives : S → Option T → S → Type 0) (size N : ℕ) (iter : S) (old mid new : Inlined T A) where
-  -- all that came stand behind the items that were there
-  pub came_behind : (r : Result Unit TryReserveError) → mid.items ≡ old.items → OnOk r ((xs : List T) × Drains next_gives iter xs × (new ≡ pushed_all size N mid xs)) → OnOk r ((xs : List T) × Drains next_gives iter xs × (new.items ≡ old.items ++ xs))
-  came_behind (Ok u) e p = (p.0, p.1, ap (λ s. s.items) p.2 ∙ items-pushed_all size N mid p.0 ∙ ap (λ ys. ys ++ p.0) e)
-  came_behind (Err e) same p = tt
+  -- all items of the iterator are appended
+  pub came_after : (r : Result Unit TryReserveError) → mid.items ≡ old.items → OnOk r ((xs : List T) × Drains next_gives iter xs × (new ≡ pushed_all size N mid xs)) → OnOk r ((xs : List T) × Drains next_gives iter xs × (new.items ≡ old.items ++ xs))
+  came_after (Ok u) e p = (p.0, p.1, ap (λ s. s.items) p.2 ∙ items-pushed_all size N mid p.0 ∙ ap (λ ys. ys ++ p.0) e)
+  came_after (Err e) same p = tt
 
-  module _ (Tells : S → ℕ → Type 0) (told : ℕ) (tells : Tells iter told) (made : mid ≡ with_room size N old told) where
-    pub all_came : (r : Result Unit TryReserveError) → OnOk r ((xs : List T) × Drains next_gives iter xs × (new ≡ pushed_all size N mid xs)) → OnOk r (ExtendsByAll next_gives Tells size N iter old new)
-    all_came (Ok u) p = record { told = told; tells = tells; added = p.0; given = p.1; put = p.2 ∙ ap (λ s. pushed_all size N s p.0) made }
+  module _ (LowerIs : S → ℕ → Type 0) (bound : ℕ) (is_lower : LowerIs iter bound) (made : mid ≡ with_room size N old bound) where
+    pub all_came : (r : Result Unit TryReserveError) → OnOk r ((xs : List T) × Drains next_gives iter xs × (new ≡ pushed_all size N mid xs)) → OnOk r (ExtendsByAll next_gives LowerIs size N iter old new)
+    all_came (Ok u) p = record { bound = bound; is_lower = is_lower; added = p.0; yields = p.1; put = p.2 ∙ ap (λ s. pushed_all size N s p.0) made }
     all_came (Err e) p = tt
 
-    pub stopped : (r : Result Unit TryReserveError) → IfErr r (λ e. StopsAtItem next_gives size N iter mid e new) → IfErr r (λ e. StopsAt next_gives Tells size N iter old e new)
+    pub stopped : (r : Result Unit TryReserveError) → IfErr r (λ e. FailsAtItem next_gives size N iter mid e new) → IfErr r (λ e. ExtendFails next_gives LowerIs size N iter old e new)
     stopped (Ok u) p = tt
-    stopped (Err e) p = record { told = told; tells = tells; why = inr (subst (λ s. StopsAtItem next_gives size N iter s e new) made p) }
+    stopped (Err e) p = record { bound = bound; is_lower = is_lower; why = inr (subst (λ s. FailsAtItem next_gives size N iter s e new) made p) }
 
 pub ruleset pushes = (pushed_all-push, items-pushed_all, length-pushed_all)
 

@@ -1,4 +1,4 @@
--- What calls of a `Few` want: items at the first places of an array, and a value that is carried through a list.
+-- What calls of a `Few` need: items at the first places of an array, and a value that is carried through a list.
 use Rattle.std.proofs.Common.{◌≡◌, ℕ, zero, suc, ◌+◌, ◌-◌, ◌<◌, ◌≤◌, List, [], ◌∷◌, ◌++◌, length, take, drop, get_or, Some, refl, sym, ap, ap₂, ◌∙◌, arith, length-set, length-take-le, take-take, length-append, length-drop}
 use Rattle.std.specs.Iterator.{MakesProgress, item_count}
 use Rattle.std.specs.Prelude.{None, Option, MatchOption, insert, remove, slice_get, slice_set}
@@ -15,7 +15,7 @@ module _ {X : Type 0} where
   pub front-none : (xs : List X) (m : ℕ) → length xs ≡ m → in_front m 0 xs ≡ []
   front-none xs m e = front xs m 0 e (omega arith)
 
-  -- what was lent of them, written anew
+  -- the borrowed ones, written anew
   pub front-lent : (xs ys : List X) (m n : ℕ) → length xs ≡ m → n ≤ m → in_front m n (ys ++ drop n xs) ≡ ys
   front-lent xs ys m n e h = take_at ys (drop n xs) (length (ys ++ drop n xs) - (m - n)) (omega (arith, e, h, length-append ys (drop n xs), length-drop n xs))
 
@@ -47,14 +47,14 @@ module _ {X : Type 0} where
       let here : get_or xs i d ≡ get_or ys i d = ap (λ zs. get_or zs 0 d) (sym (drop_more xs i d (omega (arith, few, same))) ∙ sym e ∙ drop_more ys i d few) in
       take_more xs i d (omega (arith, few, same)) ∙ ap (λ y. take i xs ++ y ∷ []) (here ∙ sym is)
 
-  -- what is left behind the first i, where the next one is taken, and the last
+  -- the items after the first i, if the next one is taken, and if the last one is
   pub left-next : (xs : List X) (i : ℕ) (x b : X) → i < length xs → slice_get xs i ≡ Some x → drop i xs ≡ x ∷ drop (i + 1) (slice_set xs i b)
   left-next xs i x b few e = drop_more xs i x few ∙ (λ t. get_or_from_slice_get xs i x x e t ∷ sym (drop-set-lt (i + 1) xs i b (omega arith)) t)
 
   pub left-last : (xs ys : List X) (i : ℕ) (x : X) → i < length xs → xs ≡ ys ++ x ∷ [] → drop i xs ≡ drop i ys ++ x ∷ []
   left-last xs ys i x some e = ap (drop i) e ∙ drop-append-le i ys (x ∷ []) (omega (arith, some, ap length e, length-append ys (x ∷ [])))
 
-  -- what is left where the last one, if there is one, is taken
+  -- the remaining items, if the last one, where there is one, is taken
   pub left-back : (seen xs ys : List X) (i : ℕ) (r : Option X) → drop i xs ≡ seen → i < length xs → MatchOption r ((xs ≡ []) × (ys ≡ [])) (λ x. xs ≡ ys ++ x ∷ []) → MatchOption r ((seen ≡ []) × (drop i ys ≡ [])) (λ x. seen ≡ drop i ys ++ x ∷ [])
   left-back seen xs ys i None e some p = absurd (omega (arith, some, ap length p.0))
   left-back seen xs ys i (Some x) e some p = sym e ∙ left-last xs ys i x some p
@@ -69,7 +69,7 @@ module _ {X : Type 0} where
   pub none-left : (xs : List X) (i : ℕ) → length xs ≤ i → drop i xs ≡ []
   none-left xs i h = drop_all i xs h
 
-  -- what stood at k is carried on, where what was carried took its place
+  -- the value at k is carried on, after the carried one replaced it
   pub carry : (xs : List X) (k : ℕ) (c x : X) → slice_get xs k ≡ Some x → insert (slice_set xs k c) (suc k) x ≡ insert xs k c
   carry [] k c x e = cc
   carry (y ∷ xs) zero c x e = cc

@@ -6,7 +6,7 @@ use Rattle.allocator_api2.specs.Vector as Vectors
 use Rattle.allocator_api2.specs.Vector.{Vector, len, GrowsTo, IsNew, SameBlock, Writes, Becomes}
 use Rattle.ex_inline.specs.Inlined.{block_of, in_block, in_place}
 
--- the items that stood in place were moved into a new block with room for `needed`
+-- the inline items were moved into a new block with capacity for `needed`
 pub spilled : {T A : Type 0} (size needed : ℕ) (few : List T) (a : A) (new roomy poured : Vector T A) → IsNew size 0 a new → Becomes (Vectors.with_room size new (len new) needed) new.items 0 0 roomy
     → poured.items ≡ roomy.items ++ few → SameBlock roomy poured → Writes roomy (length few) (length few) poured → block_of poured ≡ in_block size needed (in_place few a)
 unfolding in_block

@@ -1,68 +1,72 @@
--- A small vector that items are put behind, one after the other, and one that has clones.
+-- A small vector after items were appended, one by one, and one with clones.
 use Rattle.std.specs.Prelude.{◌≡◌, ℕ, List, [], ◌∷◌, ◌++◌, length, take, drop, Option, ◌⊎◌}
 use Rattle.std.specs.Iterator.{Drains, Yields}
 use Rattle.std.specs.List.{AllZip, fold, slice_range}
 use Rattle.allocator_api2.specs.declared.collections.TryReserveError.{TryReserveError}
 use Rattle.allocator_api2.specs.declared.collections.TryReserveErrorKind.TheVariants.{AllocError}
-use Rattle.ex_inline.specs.Inlined.{Inlined, in_place, wrote, with_room, LacksRoom}
+use Rattle.ex_inline.specs.Inlined.{Inlined, in_place, with_written, with_room, LacksRoom}
 
--- xs with those from place n on before the one at i, which is no further back
-abbrev pub brought : {T : Type 0} → (i n : ℕ) → List T → List T
-brought i n xs = (take i xs ++ drop n xs) ++ slice_range xs i n
+-- the list `xs` with the items from place `n` on moved before the one at `i`, which is at most `n`
+abbrev pub with_tail_at : {T : Type 0} → (i n : ℕ) → List T → List T
+with_tail_at i n xs = (take i xs ++ drop n xs) ++ slice_range xs i n
 
 module _ {T A : Type 0} where
-  -- s after one more item was pushed behind the others, of `size` bytes
+  -- the small vector `s` after the item `x` of `size` bytes was pushed
   abbrev pub pushed : (size N : ℕ) → Inlined T A → T → Inlined T A
-  pushed size N s x = wrote (with_room size N s 1) (s.items ++ x ∷ []) 1
+  pushed size N s x = with_written (with_room size N s 1) (s.items ++ x ∷ []) 1
 
-  -- s after these were, the first of them first
+  -- the small vector `s` after the items `xs` were pushed, in order
   abbrev pub pushed_all : (size N : ℕ) → Inlined T A → List T → Inlined T A
   pushed_all size N s xs = fold (pushed size N) s xs
 
-  -- new is old with a clone of each of xs behind the others
-  pub record AddsClones (clones : T → T → Type 0) (old : Inlined T A) (xs : List T)
+  -- `new` is `old` with a clone of each of `xs` appended
+  pub record AppendsClones (clones : T → T → Type 0) (old : Inlined T A) (xs : List T)
       (new : Inlined T A) : Type 0 where
     pub added : List T
     pub each : AllZip clones xs added
-    pub put : new ≡ wrote old (old.items ++ added) (length xs)
+    pub put : new ≡ with_written old (old.items ++ added) (length xs)
 
-  -- s was just made, with a clone of each of xs in room that was made for all of them at once
+  -- `s` is a new small vector over `a` with a clone of each of `xs`; capacity for all of them was
+  -- reserved at once
   pub record IsMadeOf (clones : T → T → Type 0) (size N : ℕ) (xs : List T) (a : A)
       (s : Inlined T A) : Type 0 where
     pub each : AllZip clones xs s.items
-    pub put : s ≡ wrote (with_room size N (in_place [] a) (length xs)) s.items (length xs)
+    pub put : s ≡ with_written (with_room size N (in_place [] a) (length xs)) s.items (length xs)
 
-  -- room in s for n more items was refused, or there was a failure, and the number is n
-  abbrev pub StopsCloning : (failure : Type 0) (size N : ℕ) → Inlined T A → (n : ℕ)
+  -- capacity in `s` for `n` more items could not be reserved, or `failure` holds and the number of
+  -- `error` is `n`
+  abbrev pub CloningFails : (failure : Type 0) (size N : ℕ) → Inlined T A → (n : ℕ)
       → TryReserveError → Type 0
-  StopsCloning failure size N s n error =
+  CloningFails failure size N s n error =
       LacksRoom size N s n error ⊎ (failure × (error.kind ≡ AllocError n))
 
 module _ {S T A : Type 0} (next_gives : S → Option T → S → Type 0) (size N : ℕ) (iter : S)
     (old : Inlined T A) where
-  -- `front` of what `iter` gave was pushed behind old's items; room for the next one was refused
-  pub record StopsAtItem (error : TryReserveError) (new : Inlined T A) : Type 0 where
+  -- `new` is `old` after the items `front` of `iter` were pushed; capacity for the next item could
+  -- not be reserved
+  pub record FailsAtItem (error : TryReserveError) (new : Inlined T A) : Type 0 where
     pub front : List T
     pub item : T
     pub last : S
-    pub given : Yields next_gives iter (front ++ item ∷ []) last
+    pub yields : Yields next_gives iter (front ++ item ∷ []) last
     pub put : new ≡ pushed_all size N old front
     pub lacks : LacksRoom size N new 1 error
 
-module _ {S T A : Type 0} (next_gives : S → Option T → S → Type 0) (Tells : S → ℕ → Type 0)
+module _ {S T A : Type 0} (next_gives : S → Option T → S → Type 0) (LowerIs : S → ℕ → Type 0)
     (size N : ℕ) (iter : S) (old : Inlined T A) where
-  -- new is old, with room for as many as `iter` told, after all that came from `iter` was pushed
+  -- `new` is `old` after capacity for the lower bound of `iter` was reserved and all its items were
+  -- pushed
   pub record ExtendsByAll (new : Inlined T A) : Type 0 where
-    pub told : ℕ
-    pub tells : Tells iter told
+    pub bound : ℕ
+    pub is_lower : LowerIs iter bound
     pub added : List T
-    pub given : Drains next_gives iter added
-    pub put : new ≡ pushed_all size N (with_room size N old told) added
+    pub yields : Drains next_gives iter added
+    pub put : new ≡ pushed_all size N (with_room size N old bound) added
 
-  -- room for as many as `iter` told was refused and nothing has changed, or room for one of the
-  -- items
-  pub record StopsAt (error : TryReserveError) (new : Inlined T A) : Type 0 where
-    pub told : ℕ
-    pub tells : Tells iter told
-    pub why : (LacksRoom size N old told error × (new ≡ old))
-        ⊎ StopsAtItem next_gives size N iter (with_room size N old told) error new
+  -- capacity for the lower bound of `iter` could not be reserved and `new` is `old`, or capacity
+  -- for one of its items could not be reserved
+  pub record ExtendFails (error : TryReserveError) (new : Inlined T A) : Type 0 where
+    pub bound : ℕ
+    pub is_lower : LowerIs iter bound
+    pub why : (LacksRoom size N old bound error × (new ≡ old))
+        ⊎ FailsAtItem next_gives size N iter (with_room size N old bound) error new

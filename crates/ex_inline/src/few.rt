@@ -1,4 +1,4 @@
-//! `Few`: up to `N` items in place.
+//! `Few`: up to `N` items in an array.
 ghost use Rattle.std.specs.Prelude.{◌≡◌, ◌+◌, ◌-◌, ◌<◌, ◌≤◌, [], ◌∷◌, ◌++◌, length, slice_get, slice_index_or, slice_set, insert, remove, take, Some};
 ghost use Rattle.std.specs.Borrow.{sem};
 ghost use Rattle.allocator_api2.specs.Vector.{HasRoom, SameBlock, Writes};
@@ -8,8 +8,10 @@ use std::alloc::Allocator;
 use std::marker::Model;
 use std::{array, mem};
 
-/// Up to `N` items in place. They stand at the first places; each other place holds a blank, a
-/// default of `T`. A contract sees a list.
+/// Up to `N` items in an array.
+///
+/// They are at the first places. Every other place holds a blank, which is a default of `T`.
+/// Contracts see a list.
 #[derive(Drop)]
 pub struct Few<T, const N: usize> {
     places: [T; N],
@@ -31,7 +33,7 @@ impl<T, const N: usize> Model for Few<T, N> {
 impl<T, const N: usize> Few<T, N> {
     ghost use Rattle.ex_inline.specs.FewLends.{lends_all, lends_one};
 
-    /// How many items there are.
+    /// Returns the number of items.
     pub fn len(&self) -> usize
         ensures count { result ≡ length self.now }
         ensures within { result ≤ N }
@@ -39,14 +41,14 @@ impl<T, const N: usize> Few<T, N> {
         self.len
     }
 
-    /// The items.
+    /// Returns the items as a slice.
     pub fn as_slice(&self) -> &[T]
         ensures { result.now ≡ self.now }
     {
         &self.places[..self.len]
     }
 
-    /// The items, to write to.
+    /// Returns the items as a mutable slice.
     pub fn as_mut_slice(&mut self) -> &mut [T]
         ensures* writes_back { sem 𝓛 (lends_all T.row N.row self.entry result) }
         ensures value { result.now ≡ self.old }
@@ -54,19 +56,19 @@ impl<T, const N: usize> Few<T, N> {
         &mut self.places[..self.len]
     }
 
-    /// The item at `index`, to write to.
+    /// Returns a mutable reference to the item at `index`, which must be below the length.
     pub fn item_mut(&mut self, index: usize) -> &mut T
         requires { index < length self.old }
         ensures* writes_back { sem 𝓛 (lends_one T.row N.row self.entry index result) }
         ensures value { slice_get self.old index ≡ Some result.now }
     {
-        // The two lines tell the prover that the place is one of the array's.
+        // These two lines prove that the place is in the array.
         let _len = self.len();
         prove!(index < N);
         &mut self.places[index]
     }
 
-    /// Puts `item` behind the others.
+    /// Appends `item`. The length must be below `N`.
     pub fn push(&mut self, item: T)
     where
         T: Drop,
@@ -77,16 +79,16 @@ impl<T, const N: usize> Few<T, N> {
         self.len += 1;
     }
 
-    /// Puts another item at `index`, and gives the one that stood there.
+    /// Replaces the item at `index` by `item` and returns the old one.
     pub fn replace(&mut self, index: usize, item: T) -> T
         requires { index < length self.old }
         ensures old { slice_get self.old index ≡ Some result }
-        ensures now { self.new ≡ slice_set self.old index item }
+        ensures replaced { self.new ≡ slice_set self.old index item }
     {
         exchange(&mut self.places, index, item)
     }
 
-    /// Puts `item` at `index`, and moves those from there on up by one.
+    /// Inserts `item` at `index`, and shifts the items from there on up by one.
     #[tactic(auto, using(crate::proofs::Fews::carried))]
     pub fn insert(&mut self, index: usize, item: T)
     where
@@ -106,7 +108,7 @@ impl<T, const N: usize> Few<T, N> {
 
 #[tactic(auto, using(crate::proofs::Fews::in_places))]
 impl<T: Default, const N: usize> Few<T, N> {
-    /// No items.
+    /// Returns an empty list: all places hold blanks.
     pub fn new() -> Self
         ensures { result ≡ [] }
     {
@@ -116,7 +118,7 @@ impl<T: Default, const N: usize> Few<T, N> {
         }
     }
 
-    /// Takes the last item.
+    /// Removes the last item and returns it. The list must not be empty.
     pub fn pop(&mut self) -> T
         requires { 0 < length self.old }
         ensures { self.old ≡ self.new ++ result ∷ [] }
@@ -125,7 +127,7 @@ impl<T: Default, const N: usize> Few<T, N> {
         mem::take(&mut self.places[self.len])
     }
 
-    /// Takes the item at `index`, and moves those behind it down by one.
+    /// Removes the item at `index` and returns it. The items after it shift down by one.
     #[tactic(auto, using(crate::proofs::Fews::carried))]
     pub fn remove(&mut self, index: usize) -> T
         requires { index < length self.old }
@@ -141,20 +143,21 @@ impl<T: Default, const N: usize> Few<T, N> {
         carried
     }
 
-    /// Moves all items, in order, behind those of a vector that has room for them.
+    /// Moves all items, in order, to the end of a vector, in which they must fit. Leaves this list
+    /// empty.
     pub fn pour<A: Allocator>(&mut self, into: &mut Vec<T, A>)
         requires { HasRoom into.old (length self.old) }
-        ensures left { self.new ≡ [] }
+        ensures emptied { self.new ≡ [] }
         ensures items { into.new.items ≡ into.old.items ++ self.old }
         ensures block { SameBlock into.old into.new }
-        ensures writes { Writes into.old (length self.old) (length self.old) into.new }
+        ensures written { Writes into.old (length self.old) (length self.old) into.new }
     {
         pour_first(&mut self.places, self.len, into);
         self.len = 0;
     }
 }
 
-// Puts another item at `i`, and gives the one that stood there.
+// Replaces the value at `i` by `item` and returns the old one.
 fn exchange<T, const N: usize>(places: &mut [T; N], i: usize, item: T) -> T
     requires { i < length places.old }
     ensures value { result ≡ slice_index_or places.old i result }
@@ -163,31 +166,34 @@ fn exchange<T, const N: usize>(places: &mut [T; N], i: usize, item: T) -> T
     mem::replace(&mut places[i], item)
 }
 
-// Moves the first `len` of `places` behind those of a vector that has room for them, and leaves
+// Moves the first `len` values of `places` to the end of a vector, in which they must fit. Leaves
 // blanks.
 fn pour_first<T: Default, A: Allocator, const N: usize>(
     places: &mut [T; N],
     len: usize,
     into: &mut Vec<T, A>,
 )
+    // The values are there, and fit in the vector.
     requires within { len ≤ length places.old }
     requires room { HasRoom into.old len }
+
+    // The vector has them now, in the same block.
     ensures same { length places.new ≡ length places.old }
     ensures items { into.new.items ≡ into.old.items ++ take len places.old }
     ensures block { SameBlock into.old into.new }
-    ensures writes { Writes into.old len len into.new }
+    ensures written { Writes into.old len len into.new }
 {
     'each: for i in 0..len {
         push_within(into, mem::take(&mut places[i]));
     }
 }
 
-// Puts `item` into a vector that has room for it.
+// Appends `item` to a vector, in which it must fit.
 pub fn push_within<T, A: Allocator>(into: &mut Vec<T, A>, item: T)
     requires { HasRoom into.old 1 }
     ensures items { into.new.items ≡ into.old.items ++ item ∷ [] }
     ensures block { SameBlock into.old into.new }
-    ensures writes { Writes into.old 1 1 into.new }
+    ensures written { Writes into.old 1 1 into.new }
 {
     match into.push_within_capacity(item) {
         Ok(()) => {}
@@ -195,13 +201,13 @@ pub fn push_within<T, A: Allocator>(into: &mut Vec<T, A>, item: T)
     }
 }
 
-// Puts `item` at `index` of a vector that has room for it.
+// Inserts `item` at `index` of a vector, in which it must fit.
 pub fn insert_within<T: Drop, A: Allocator>(into: &mut Vec<T, A>, index: usize, item: T)
     requires within { index ≤ length into.old.items }
     requires room { HasRoom into.old 1 }
     ensures items { into.new.items ≡ insert into.old.items index item }
     ensures block { SameBlock into.old into.new }
-    ensures writes { into.new.written ≡ into.old.written + (length into.old.items - index + 1) }
+    ensures written { into.new.written ≡ into.old.written + (length into.old.items - index + 1) }
 {
     match into.insert(index, item) {
         Ok(()) => {}

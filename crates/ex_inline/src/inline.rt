@@ -1,9 +1,9 @@
-//! `InlineVec`: a vector whose first items stand in place.
+//! `InlineVec`: a vector that stores its first items inline.
 ghost use Rattle.std.specs.Prelude.{◌≡◌, ◌+◌, ◌-◌, ◌<◌, ◌≤◌, true, false, Some, [], ◌∷◌, ◌++◌, length, insert, remove, slice_get, slice_set, option_copied, IfErr, IfOk, OnErr, OnOk, IsOk, IsTrue, ◌↔◌, MatchOption};
 ghost use Rattle.std.specs.Mem.{type_size};
-ghost use Rattle.allocator_api2.specs.Growth.{sized};
+ghost use Rattle.allocator_api2.specs.Growth.{new_capacity};
 ghost use Rattle.allocator_api2.specs.declared.raw_vec.Growth.TheVariants.{Doubling};
-ghost use Rattle.ex_inline.specs.Inlined.{capacity, in_place, with_items, wrote, in_block, all_in_block, block_of, with_room, HasRoom, LacksBlock, LacksRoom};
+ghost use Rattle.ex_inline.specs.Inlined.{capacity, in_place, with_items, with_written, in_block, all_in_block, block_of, with_room, HasRoom, LacksBlock, LacksRoom};
 
 use crate::few::{Few, insert_within, push_within};
 use allocator_api2::collections::{Refused, TryReserveError, TryReserveErrorKind};
@@ -23,9 +23,11 @@ pub(crate) enum Data<T, A: Allocator, const N: usize> {
     InBlock(Vec<T, A>),
 }
 
-/// A vector over the allocator `A`, of which up to `N` items stand in place. Where one more comes,
-/// all move into a block, and stand there from then on. Places without an item hold a blank, a
-/// default of `T`.
+/// A vector over the allocator `A` that stores up to `N` items inline.
+///
+/// If one more is added, it spills: all items move into a block, where they remain until `grow` or
+/// `shrink_to_fit` moves them back. Inline places without an item hold a blank, which is a default
+/// of `T`.
 #[derive(Drop)]
 pub struct InlineVec<T, A: Allocator, const N: usize> {
     pub(crate) data: Data<T, A, N>,
@@ -44,7 +46,7 @@ impl<T, A: Allocator, const N: usize> Model for InlineVec<T, A, N> {
 }
 
 impl<T, A: Allocator, const N: usize> InlineVec<T, A, N> {
-    /// How many items there are.
+    /// Returns the number of items.
     pub fn len(&self) -> usize
         ensures { result ≡ length self.now.items }
     {
@@ -54,14 +56,14 @@ impl<T, A: Allocator, const N: usize> InlineVec<T, A, N> {
         }
     }
 
-    /// Whether there is no item.
+    /// Returns `true` if the vector has no items.
     pub fn is_empty(&self) -> bool
         ensures { IsTrue result ↔ (self.now.items ≡ []) }
     {
         self.len() == 0
     }
 
-    /// How many items there may be before memory is asked for.
+    /// Returns the number of items that the vector can hold before it allocates.
     pub fn capacity(&self) -> usize
         ensures { result ≡ capacity N self.now }
     {
@@ -71,7 +73,7 @@ impl<T, A: Allocator, const N: usize> InlineVec<T, A, N> {
         }
     }
 
-    // How many more items fit.
+    // Returns how many more items fit.
     fn room(&self) -> usize
         ensures { result ≡ capacity N self.now - length self.now.items }
     {
@@ -81,7 +83,7 @@ impl<T, A: Allocator, const N: usize> InlineVec<T, A, N> {
         }
     }
 
-    /// Whether the items stand in a block.
+    /// Returns `true` if the items are in a block.
     pub fn spilled(&self) -> bool
         ensures { result ≡ self.now.spilled }
     {
@@ -91,7 +93,7 @@ impl<T, A: Allocator, const N: usize> InlineVec<T, A, N> {
         }
     }
 
-    /// The allocator.
+    /// Returns a reference to the allocator.
     pub fn allocator(&self) -> &A
         ensures { result.now ≡ self.now.alloc }
     {
@@ -101,7 +103,7 @@ impl<T, A: Allocator, const N: usize> InlineVec<T, A, N> {
         }
     }
 
-    /// The items, in order.
+    /// Returns the items, in order, as a slice.
     pub fn as_slice(&self) -> &[T]
         ensures { result.now ≡ self.now.items }
     {
@@ -111,18 +113,20 @@ impl<T, A: Allocator, const N: usize> InlineVec<T, A, N> {
         }
     }
 
-    /// The item at `index`, the first one at 0, if there is one.
+    /// Returns a reference to the item at `index`, or `None` if there is none.
+    ///
+    /// The first item is at index 0.
     pub fn get(&self, index: usize) -> Option<&T>
         ensures { option_copied result ≡ slice_get self.now.items index }
     {
         self.as_slice().get(index)
     }
 
-    /// Puts another item at `index`, and gives the one that stood there.
+    /// Replaces the item at `index` by `item` and returns the old one.
     pub fn replace(&mut self, index: usize, item: T) -> T
         requires { index < length self.old.items }
         ensures old { slice_get self.old.items index ≡ Some result }
-        ensures now { self.new ≡ with_items self.old (slice_set self.old.items index item) }
+        ensures replaced { self.new ≡ with_items self.old (slice_set self.old.items index item) }
     {
         match &mut self.data {
             Data::InPlace(few, _) => return few.replace(index, item),
@@ -132,7 +136,9 @@ impl<T, A: Allocator, const N: usize> InlineVec<T, A, N> {
 }
 
 impl<T: Default + Drop, A: Allocator + Copy, const N: usize> InlineVec<T, A, N> {
-    /// No items. It takes no memory.
+    /// Returns an empty vector.
+    ///
+    /// Does not allocate.
     pub fn new_in(alloc: A) -> Self
         ensures { result ≡ in_place [] alloc }
     {
@@ -141,18 +147,30 @@ impl<T: Default + Drop, A: Allocator + Copy, const N: usize> InlineVec<T, A, N> 
         }
     }
 
-    /// Makes room for `additional` more items. Where they fit, in place or in the block, it does
-    /// nothing. Else it takes a block with room to spare, and moves each item there once. A refusal
-    /// changes nothing: `CapacityOverflow`, for sure where the length would pass `usize::MAX`, or
-    /// `AllocError` with the capacity asked for.
+    /// Reserves capacity for at least `additional` more items.
+    ///
+    /// Does nothing if they fit, inline or in the block. Else allocates a block with the capacity
+    /// that the growth policy chooses, and moves each item there once.
+    ///
+    /// # Errors
+    /// `CapacityOverflow` if the new length would exceed `usize::MAX` or the block would be too
+    /// large. `AllocError` with the requested capacity if the allocation fails. The vector is
+    /// unchanged.
     #[tactic(auto, unfolding(crate::specs::Inlined::with_room), using(std::proofs::lemmas::Bool::Decides::nat_tests))]
     pub fn reserve(&mut self, additional: usize) -> Result<(), TryReserveError>
+        // If they fit, the call succeeds.
         ensures fits { HasRoom N self.old additional → IsOk result }
-        ensures room { OnOk result (HasRoom N self.new additional) }
-        ensures made { OnOk result
+
+        // Success reserves the capacity.
+        ensures enough { OnOk result (HasRoom N self.new additional) }
+        ensures reserved { OnOk result
             (self.new ≡ with_room (type_size T.row) N self.old additional) }
+
+        // The items are the same in either case.
         ensures items { self.new.items ≡ self.old.items }
-        ensures refused { IfErr result (LacksRoom (type_size T.row) N self.old additional) }
+
+        // Failure changes nothing.
+        ensures error { IfErr result (LacksRoom (type_size T.row) N self.old additional) }
         ensures unchanged { OnErr result (self.new ≡ self.old) }
     {
         if additional <= self.room() {
@@ -161,16 +179,21 @@ impl<T: Default + Drop, A: Allocator + Copy, const N: usize> InlineVec<T, A, N> 
         self.spill(additional)
     }
 
-    /// Puts `item` behind the others. It takes no memory where one more has room: in place while
-    /// there are fewer than `N` and none has moved yet, else in the block. A refusal hands the item
-    /// back and changes nothing: `CapacityOverflow`, for sure where the length would pass
-    /// `usize::MAX`, or `AllocError` with the capacity asked for.
+    /// Appends `item`.
+    ///
+    /// Does not allocate if it fits: inline if the vector has not spilled and has fewer than `N`
+    /// items, else in the block.
+    ///
+    /// # Errors
+    /// `CapacityOverflow` if the new length would exceed `usize::MAX` or the block would be too
+    /// large. `AllocError` with the requested capacity if the allocation fails. The vector is
+    /// unchanged and `item` is returned in the error.
     pub fn push(&mut self, item: T) -> Result<(), Refused<T>>
         ensures fits { HasRoom N self.old 1 → IsOk result }
         ensures pushed { let roomy = with_room (type_size T.row) N self.old 1 in
-            OnOk result (self.new ≡ wrote roomy (self.old.items ++ item ∷ []) 1) }
-        ensures handed_back { IfErr result (λ r. r.source ≡ item) }
-        ensures refused { IfErr result (λ r. LacksRoom (type_size T.row) N self.old 1 r.error) }
+            OnOk result (self.new ≡ with_written roomy (self.old.items ++ item ∷ []) 1) }
+        ensures returned { IfErr result (λ r. r.source ≡ item) }
+        ensures error { IfErr result (λ r. LacksRoom (type_size T.row) N self.old 1 r.error) }
         ensures unchanged { OnErr result (self.new ≡ self.old) }
     {
         if let Err(error) = self.reserve(1) {
@@ -183,11 +206,13 @@ impl<T: Default + Drop, A: Allocator + Copy, const N: usize> InlineVec<T, A, N> 
         Ok(())
     }
 
-    /// Takes the last item, if there is one. The others stay where they stand.
+    /// Removes the last item and returns it, or returns `None` if the vector is empty.
+    ///
+    /// Does not allocate, and does not move the other items.
     pub fn pop(&mut self) -> Option<T>
         ensures taken { MatchOption result ((self.old.items ≡ []) × (self.new.items ≡ []))
             (λ x. self.old.items ≡ self.new.items ++ x ∷ []) }
-        ensures rest { self.new ≡ with_items self.old self.new.items }
+        ensures kept { self.new ≡ with_items self.old self.new.items }
     {
         match &mut self.data {
             Data::InPlace(few, _) if few.len() == 0 => return None,
@@ -196,17 +221,27 @@ impl<T: Default + Drop, A: Allocator + Copy, const N: usize> InlineVec<T, A, N> 
         }
     }
 
-    /// Puts `item` at `index`, and moves those from there on up by one. It takes memory, and is
-    /// refused, as `push` is.
+    /// Inserts `item` at `index`, and shifts the items from there on up by one.
+    ///
+    /// Allocates only if `item` does not fit, as `push` does.
+    ///
+    /// # Errors
+    /// `CapacityOverflow` or `AllocError`, as `push` returns them. The vector is unchanged and
+    /// `item` is returned in the error.
     pub fn insert(&mut self, index: usize, item: T) -> Result<(), Refused<T>>
+        // The index is at most the length.
         requires { index ≤ length self.old.items }
+
+        // If one more item fits, the call succeeds.
         ensures fits { HasRoom N self.old 1 → IsOk result }
-        ensures inserted { let behind = length self.old.items - index in
+        ensures inserted { let tail_len = length self.old.items - index in
             let roomy = with_room (type_size T.row) N self.old 1 in
             OnOk result
-            (self.new ≡ wrote roomy (insert self.old.items index item) (behind + 1)) }
-        ensures handed_back { IfErr result (λ r. r.source ≡ item) }
-        ensures refused { IfErr result (λ r. LacksRoom (type_size T.row) N self.old 1 r.error) }
+            (self.new ≡ with_written roomy (insert self.old.items index item) (tail_len + 1)) }
+
+        // Failure changes nothing, and returns the item.
+        ensures returned { IfErr result (λ r. r.source ≡ item) }
+        ensures error { IfErr result (λ r. LacksRoom (type_size T.row) N self.old 1 r.error) }
         ensures unchanged { OnErr result (self.new ≡ self.old) }
     {
         if let Err(error) = self.reserve(1) {
@@ -219,13 +254,14 @@ impl<T: Default + Drop, A: Allocator + Copy, const N: usize> InlineVec<T, A, N> 
         Ok(())
     }
 
-    /// Takes the item at `index`, and moves those behind it down by one. They stay where they
-    /// stand, in place or in the block.
+    /// Removes the item at `index` and returns it. The items after it shift down by one.
+    ///
+    /// Does not allocate. The other items remain inline, or in the block.
     pub fn remove(&mut self, index: usize) -> T
         requires { index < length self.old.items }
         ensures value { slice_get self.old.items index ≡ Some result }
-        ensures rest { let behind = length self.old.items - index - 1 in
-            self.new ≡ wrote self.old (remove self.old.items index) behind }
+        ensures removed { let tail_len = length self.old.items - index - 1 in
+            self.new ≡ with_written self.old (remove self.old.items index) tail_len }
     {
         match &mut self.data {
             Data::InPlace(few, _) => return few.remove(index),
@@ -233,16 +269,20 @@ impl<T: Default + Drop, A: Allocator + Copy, const N: usize> InlineVec<T, A, N> 
         }
     }
 
-    /// The items as a vector, which doubles. It takes memory only where they stand in place and
-    /// there are any, and moves each of those once. A refusal hands the small vector back as it
-    /// was: `CapacityOverflow`, or `AllocError` with the capacity asked for.
+    /// Converts the small vector into a `Vec` that doubles.
+    ///
+    /// Allocates only if the items are inline and there are any, and then moves each of them once.
+    ///
+    /// # Errors
+    /// `CapacityOverflow`, or `AllocError` with the requested capacity, if the allocation fails.
+    /// The small vector is returned in the error, as it was.
     #[tactic(auto, unfolding(crate::specs::Inlined::all_in_block))]
     pub fn into_vec(self) -> Result<Vec<T, A>, Refused<Self>>
         ensures fits { self.spilled ≡ true → IsOk result }
         ensures made { IfOk result (λ v. block_of v ≡ all_in_block (type_size T.row) self) }
         ensures doubles { IfOk result (λ v. v.growth ≡ Doubling) }
-        ensures handed_back { IfErr result (λ r. r.source ≡ self) }
-        ensures refused { let n = length self.items in
+        ensures returned { IfErr result (λ r. r.source ≡ self) }
+        ensures error { let n = length self.items in
             IfErr result (λ r. LacksBlock (type_size T.row) n r.error) }
     {
         let InlineVec { data } = self;
@@ -251,7 +291,7 @@ impl<T: Default + Drop, A: Allocator + Copy, const N: usize> InlineVec<T, A, N> 
             Data::InPlace(few, alloc) => {
                 let mut few = few;
                 let needed = few.len();
-                match in_a_block(&mut few, alloc, needed) {
+                match move_to_block(&mut few, alloc, needed) {
                     Ok(heap) => Ok(heap),
                     Err(error) => Err(Refused {
                         source: InlineVec {
@@ -264,15 +304,23 @@ impl<T: Default + Drop, A: Allocator + Copy, const N: usize> InlineVec<T, A, N> 
         }
     }
 
-    // Moves them into a block, or a longer one, with room for `additional` more, which do not fit.
+    // Moves the items into a block, or into a larger one, with capacity for `additional` more
+    // items, which do not fit.
     #[tactic(auto, unfolding(crate::specs::Inlined::in_block, crate::specs::Inlined::LacksRoom, crate::specs::Inlined::LacksBlock))]
     fn spill(&mut self, additional: usize) -> Result<(), TryReserveError>
+        // The additional items do not fit.
         requires { capacity N self.old - length self.old.items < additional }
-        ensures room { OnOk result (HasRoom N self.new additional) }
+
+        // Success reserves capacity for them.
+        ensures enough { OnOk result (HasRoom N self.new additional) }
         ensures made { let needed = length self.old.items + additional in
             OnOk result (self.new ≡ in_block (type_size T.row) needed self.old) }
+
+        // The items are the same in either case.
         ensures items { self.new.items ≡ self.old.items }
-        ensures refused { IfErr result (LacksRoom (type_size T.row) N self.old additional) }
+
+        // Failure changes nothing.
+        ensures error { IfErr result (LacksRoom (type_size T.row) N self.old additional) }
         ensures unchanged { OnErr result (self.new ≡ self.old) }
     {
         match &mut self.data {
@@ -281,17 +329,17 @@ impl<T: Default + Drop, A: Allocator + Copy, const N: usize> InlineVec<T, A, N> 
                 let Some(needed) = few.len().checked_add(additional) else {
                     return Err(TryReserveErrorKind::CapacityOverflow.into());
                 };
-                let heap = in_a_block(few, *alloc, needed)?;
+                let heap = move_to_block(few, *alloc, needed)?;
                 self.data = Data::InBlock(heap);
                 Ok(())
             }
         }
     }
 
-    // Puts `item` behind the others, where there is room.
+    // Appends `item`, which must fit.
     fn put_last(&mut self, item: T)
         requires { HasRoom N self.old 1 }
-        ensures { self.new ≡ wrote self.old (self.old.items ++ item ∷ []) 1 }
+        ensures { self.new ≡ with_written self.old (self.old.items ++ item ∷ []) 1 }
     {
         match &mut self.data {
             Data::InPlace(few, _) => return few.push(item),
@@ -299,12 +347,12 @@ impl<T: Default + Drop, A: Allocator + Copy, const N: usize> InlineVec<T, A, N> 
         }
     }
 
-    // Puts `item` at `index`, where there is room.
+    // Inserts `item` at `index`, where it must fit.
     fn put(&mut self, index: usize, item: T)
         requires within { index ≤ length self.old.items }
         requires room { HasRoom N self.old 1 }
-        ensures { let behind = length self.old.items - index in
-            self.new ≡ wrote self.old (insert self.old.items index item) (behind + 1) }
+        ensures { let tail_len = length self.old.items - index in
+            self.new ≡ with_written self.old (insert self.old.items index item) (tail_len + 1) }
     {
         match &mut self.data {
             Data::InPlace(few, _) => return few.insert(index, item),
@@ -313,19 +361,25 @@ impl<T: Default + Drop, A: Allocator + Copy, const N: usize> InlineVec<T, A, N> 
     }
 }
 
-// The items of `few`, moved into a new block of at least `needed` places.
+// Moves the items of `few` into a new block of at least `needed` places, and returns it as a
+// vector.
 #[tactic(auto, unfolding(crate::specs::Inlined::LacksBlock))]
-fn in_a_block<T: Default + Drop, A: Allocator, const N: usize>(
+fn move_to_block<T: Default + Drop, A: Allocator, const N: usize>(
     few: &mut Few<T, N>,
     alloc: A,
     needed: usize,
 ) -> Result<Vec<T, A>, TryReserveError>
+    // The items fit in that many places.
     requires { length few.old ≤ needed }
+
+    // Success returns a vector of them that doubles.
     ensures made { IfOk result
         (λ v. block_of v ≡ in_block (type_size T.row) needed (in_place few.old alloc)) }
     ensures doubles { IfOk result (λ v. v.growth ≡ Doubling) }
-    ensures refused { IfErr result (LacksBlock (type_size T.row) needed) }
-    ensures fits { needed ≤ sized (type_size T.row) 0 → IsOk result }
+
+    // Only an allocation can fail, and failure changes nothing.
+    ensures error { IfErr result (LacksBlock (type_size T.row) needed) }
+    ensures fits { needed ≤ new_capacity (type_size T.row) 0 → IsOk result }
     ensures unchanged { OnErr result (few.new ≡ few.old) }
 {
     let mut heap = Vec::new_in(alloc);

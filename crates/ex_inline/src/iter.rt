@@ -1,4 +1,4 @@
-//! The items of a small vector: by their index, one after the other, and taken out.
+//! The items of a small vector: by their index, and by its iterators.
 ghost use Rattle.std.specs.Prelude.{◌≡◌, ◌<◌, length, slice_get, slice_index_or, IfSome, Some};
 ghost use Rattle.std.specs.Borrow.{sem};
 ghost use Rattle.std.specs.Option.{option_copied_mut};
@@ -18,16 +18,16 @@ use std::slice::{Iter, IterMut};
 impl<T, A: Allocator, const N: usize> InlineVec<T, A, N> {
     ghost use Rattle.ex_inline.specs.Lends.{lends_item, lends_if_there, lends_items, lends_all};
 
-    /// The items in order, from either end.
+    /// Returns a double-ended iterator over references to the items, in order.
     pub fn iter(&self) -> Iter<'_, T>
-        ensures rest { iter_rest result ≡ self.now.items }
+        ensures remaining { iter_rest result ≡ self.now.items }
         ensures runs { IterYieldsInOrder T }
         ensures runs_back { IterYieldsInReverse T }
     {
         self.as_slice().iter()
     }
 
-    /// The items, to write to.
+    /// Returns the items as a mutable slice.
     #[tactic(auto, unfolding(crate::specs::Lends::written))]
     pub fn as_mut_slice(&mut self) -> &mut [T]
         ensures* writes_back { sem 𝓛
@@ -40,15 +40,15 @@ impl<T, A: Allocator, const N: usize> InlineVec<T, A, N> {
         }
     }
 
-    /// The items in order, from either end, to write to.
+    /// Returns a double-ended iterator over mutable references to the items, in order.
     pub fn iter_mut(&mut self) -> IterMut<'_, T>
         ensures* writes_back { sem 𝓛 (lends_all T.row A.row N.row A.Allocator self.entry result) }
-        ensures rest { iter_mut_rest result ≡ self.old.items }
+        ensures remaining { iter_mut_rest result ≡ self.old.items }
     {
         self.as_mut_slice().iter_mut()
     }
 
-    // The item at `index`, to write to.
+    // Returns a mutable reference to the item at `index`.
     fn item_mut(&mut self, index: usize) -> &mut T
         requires { index < length self.old.items }
         ensures* writes_back { sem 𝓛
@@ -61,7 +61,9 @@ impl<T, A: Allocator, const N: usize> InlineVec<T, A, N> {
         }
     }
 
-    /// The item at `index`, the first one at 0, to write to, if there is one.
+    /// Returns a mutable reference to the item at `index`, or `None` if there is none.
+    ///
+    /// The first item is at index 0.
     pub fn get_mut(&mut self, index: usize) -> Option<&mut T>
         ensures* writes_back { sem 𝓛
             (lends_if_there T.row A.row N.row A.Allocator self.entry index result) }
@@ -81,7 +83,7 @@ impl<T, A: Allocator, const N: usize> Index<usize> for InlineVec<T, A, N> {
 
     ghost index_gives = { λ s i x. x ≡ slice_index_or s.items i x };
 
-    /// The item at the index, which is below the length.
+    /// Returns a reference to the item at `index`, which must be below the length.
     fn index(&self, index: usize) -> &T {
         &self.as_slice()[index]
     }
@@ -90,7 +92,7 @@ impl<T, A: Allocator, const N: usize> Index<usize> for InlineVec<T, A, N> {
 impl<T, A: Allocator, const N: usize> IndexMut<usize> for InlineVec<T, A, N> {
     ghost use Rattle.ex_inline.specs.Lends.{lends_item};
 
-    /// The item at the index, which is below the length, to write to.
+    /// Returns a mutable reference to the item at `index`, which must be below the length.
     fn index_mut(&mut self, index: usize) -> &mut T
         requires { index < length self.old.items }
         ensures* writes_back { sem 𝓛
@@ -101,12 +103,14 @@ impl<T, A: Allocator, const N: usize> IndexMut<usize> for InlineVec<T, A, N> {
     }
 }
 
-/// The items of a small vector that are left, taken from either end. Its drop drops them, and gives
-/// the memory back. A contract sees them as a list.
+/// A double-ended iterator that owns the items of a small vector.
+///
+/// When dropped, it drops the remaining items and deallocates the block. Contracts see it as the
+/// list of the remaining items.
 #[derive(Drop)]
 pub struct IntoIter<T, A: Allocator, const N: usize> {
     rest: InlineVec<T, A, N>,
-    // how many were taken from the front; blanks stand there
+    // The number of items taken from the front, where blanks are now.
     front: usize,
 }
 
@@ -121,7 +125,9 @@ impl<T, A: Allocator, const N: usize> Model for IntoIter<T, A, N> {
 }
 
 impl<T, A: Allocator, const N: usize> InlineVec<T, A, N> {
-    /// The items, which come from either end of what this answers. It takes no memory.
+    /// Returns a double-ended iterator that owns the items.
+    ///
+    /// Does not allocate.
     pub fn into_iter(self) -> IntoIter<T, A, N>
         ensures { result ≡ self.items }
     {
@@ -151,7 +157,7 @@ impl<T: Default + Drop, A: Allocator + Copy, const N: usize> Iterator for IntoIt
 
     ghost remaining = { item_count (λ rest. rest) };
 
-    /// The next item, if one is left.
+    /// Returns the next item, or `None` if none remains.
     #[tactic(auto, using(crate::proofs::Fews::left))]
     fn next(&mut self) -> Option<T> {
         let front = self.front;
@@ -162,7 +168,7 @@ impl<T: Default + Drop, A: Allocator + Copy, const N: usize> Iterator for IntoIt
         Some(self.rest.replace(front, T::default()))
     }
 
-    /// How many items are left, exactly.
+    /// Returns the exact number of the remaining items.
     #[tactic(auto, using(crate::proofs::Fews::left))]
     fn size_hint(&self) -> (usize, Option<usize>)
         ensures lower { IsWithinCount result.0 (item_count (λ rest. rest) self.now) }
@@ -178,7 +184,7 @@ impl<T: Default + Drop, A: Allocator + Copy, const N: usize> DoubleEndedIterator
     for IntoIter<T, A, N> {
     ghost next_back_gives = { YieldsLast (λ rest. rest) };
 
-    /// The last item, if one is left.
+    /// Returns the last of the remaining items, or `None` if none remains.
     #[tactic(auto, using(crate::proofs::Fews::left))]
     fn next_back(&mut self) -> Option<T> {
         if self.front == self.rest.len() {

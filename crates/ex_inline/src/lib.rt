@@ -1,4 +1,5 @@
-//! A small vector over any allocator: its first items stand in place, more of them in a block.
+//! A small vector over any allocator: it stores its first items inline, and more of them in a
+//! block.
 #![tactic(auto)]
 
 mod few;

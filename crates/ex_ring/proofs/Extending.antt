@@ -1,4 +1,4 @@
--- Items that are pushed behind those of a ring, one by one.
+-- Items that are appended to a ring, one by one.
 use Rattle.std.proofs.Common.{◌≡◌, ℕ, ◌<◌, List, [], ◌∷◌, ◌++◌, refl, sym, ◌∙◌, arith, append_assoc, length-append}
 use Rattle.std.proofs.lemmas.Bool.Decides.{nat_tests}
 use Rattle.std.proofs.lemmas.List.{append-nil}
@@ -13,12 +13,12 @@ module _ {T A : Type 0} (size : ℕ) where
   pushed_all-push r [] x = refl
   pushed_all-push r (y ∷ xs) x = pushed_all-push (pushed size r y) xs x
 
-  -- they stand behind the others, in order
+  -- they are appended, in order
   pub items-pushed_all : (r : Ringed T A) (xs : List T) → (pushed_all size r xs).items ≡ r.items ++ xs
   items-pushed_all r [] = sym (append-nil r.items)
   items-pushed_all r (x ∷ xs) = items-pushed_all (pushed size r x) xs ∙ append_assoc r.items (x ∷ []) xs
 
-  -- room for m items is room for one and fewer others
+  -- if m items fit, one fits and then fewer others
   pub room-pushed : (r : Ringed T A) (x : T) (m n : ℕ) → n < m → HasRoom r m → HasRoom (pushed size r x) n
   room-pushed r x m n fewer room = grind (arith, nat_tests, length-append r.items (x ∷ []))
 

@@ -18,17 +18,17 @@ module _ {X : Type 0} where
   run-rewritten : (cs : List (Option X)) (from n p i : ℕ) (x : X) → from + i ≡ p → i < n → IsRun cs from n → run (slice_set cs p (Some x)) from n ≡ slice_set (run cs from n) i x
   run-rewritten cs from n p i x e few r =
       let ds : List (Option X) = slice_set cs p (Some x) in let k : ℕ = n - i - 1 in
-      let before : List X = run cs from i in let here : List X = run cs p 1 in let behind : List X = run cs (p + 1) k in
+      let before : List X = run cs from i in let here : List X = run cs p 1 in let after : List X = run cs (p + 1) k in
       let long : length before ≡ i = length-run cs from i (IsRun-part cs from n from i (omega arith) (omega arith) r) in
       let one : length here ≡ 1 = length-run cs p 1 (IsRun-part cs from n p 1 (omega arith) (omega arith) r) in
       let parted : (es : List (Option X)) → run es from n ≡ run es from i ++ (run es p 1 ++ run es (p + 1) k) =
       λ es. run-split es from p i (k + 1) n e (omega arith) ∙ ap (λ ys. run es from i ++ ys) (run-split es p (p + 1) 1 k (k + 1) refl (omega arith)) in
       let start : i - i ≡ 0 = omega arith in
-      let left : run ds from n ≡ before ++ (x ∷ behind) =
+      let left : run ds from n ≡ before ++ (x ∷ after) =
       rw (parted ds, run-set-above cs from i p (Some x) (omega (arith, r.0)) (omega arith), run-set-same cs p x (omega (arith, r.0)), run-set-below cs (p + 1) k p (Some x) (omega arith)) refl in
       left
-      ∙ sym (ap (λ ys. slice_set ys i x) (parted cs) ∙ set-append_right before (here ++ behind) i i x long (omega arith)
-      ∙ ap (λ j. before ++ slice_set (here ++ behind) j x) start ∙ ap (λ ys. before ++ ys) (set-append_left here behind 0 x (omega (arith, one)) ∙ ap (λ ys. ys ++ behind) (only_one here x one)))
+      ∙ sym (ap (λ ys. slice_set ys i x) (parted cs) ∙ set-append_right before (here ++ after) i i x long (omega arith)
+      ∙ ap (λ j. before ++ slice_set (here ++ after) j x) start ∙ ap (λ ys. before ++ ys) (set-append_left here after 0 x (omega (arith, one)) ∙ ap (λ ys. ys ++ after) (only_one here x one)))
 
   IsRun-rewritten : (cs : List (Option X)) (from n p i : ℕ) (x : X) → from + i ≡ p → i < n → IsRun cs from n → IsRun (slice_set cs p (Some x)) from n
   IsRun-rewritten cs from n p i x e few r =
@@ -37,14 +37,14 @@ module _ {X : Type 0} where
       IsRun-joined ds from p i (k + 1) n e (omega arith) (IsRun-set-above cs from i p (Some x) (omega arith) (omega arith) (IsRun-part cs from n from i (omega arith) (omega arith) r))
       (IsRun-joined ds p (p + 1) 1 k (k + 1) refl (omega arith) here (IsRun-set-below cs (p + 1) k p (Some x) (omega arith) (IsRun-part cs from n (p + 1) k (omega arith) (omega arith) r)))
 
-  -- the items: the first ones, and those behind them
+  -- the items: the first ones, and the wrapped ones after them
   abbrev pub parts : List (Option X) → (front count wrapped : ℕ) → List X
   parts cs f n w = run cs f n ++ run cs 0 w
 
   none_at : (cs : List (Option X)) (w : ℕ) → w ≡ 0 → IsRun cs 0 w
   none_at cs w e = rw e (IsRun-nil cs 0 (omega arith))
 
-  -- no item is behind the first ones
+  -- there is no wrapped item
   no_others : (cs : List (Option X)) (f n w : ℕ) → w ≡ 0 → parts cs f n w ≡ run cs f n
   no_others cs f n w e = ap (λ ys. run cs f n ++ ys) (run-none cs 0 w e) ∙ append-nil (run cs f n)
 
@@ -60,14 +60,14 @@ module _ {X : Type 0} where
     free room some = grind (arith, h.ends, h.first.0)
 
     module _ (x : X) where
-      -- an item put behind the first ones
+      -- an item put after the first ones
       pub has-put_first : f + n < length cs → HasParts (slice_set cs (f + n) (Some x)) f (n + 1) w
       has-put_first room = grind (arith, IsRun-push cs f n x (f + n) (n + 1) refl refl room h.first, none_at (slice_set cs (f + n) (Some x)) w (short room), short room, h.apart)
 
       pub put_first : f + n < length cs → parts (slice_set cs (f + n) (Some x)) f (n + 1) w ≡ parts cs f n w ++ x ∷ []
       put_first room = rw (no_others (slice_set cs (f + n) (Some x)) f (n + 1) w (short room), no_others cs f n w (short room)) (run-push cs f n x (f + n) (n + 1) refl refl room)
 
-      -- and behind the others
+      -- and after the wrapped ones
       pub has-put_other : n + w < length cs → length cs ≤ f + n → HasParts (slice_set cs w (Some x)) f n (w + 1)
       has-put_other room full =
           grind (arith, IsRun-set-below cs f n w (Some x) (omega (arith, h.first.0)) h.first, IsRun-push cs 0 w x w (w + 1) (omega arith) refl (omega arith) h.others, length-set cs w (Some x), h.first.0)
@@ -163,17 +163,17 @@ module _ {X : Type 0} where
     pub last-there : 0 < n → IsFilled cs (f + (n - 1))
     last-there some = last-filled cs f (n - 1) (f + (n - 1)) n refl (omega arith) h.first
 
--- the others are there where the first ones are gone
+-- the wrapped ones are filled after the first ones were dropped
 pub others-left : {X : Type 0} (cs : List (Option X)) (f n w : ℕ) → HasParts cs f n w → IsRun (with_run cs f n (replicate n None)) 0 w
 unfolding with_run
 others-left {X} cs f n w h =
     let front : List (Option X) = take f cs in
-    let gone : List (Option X) = replicate n None in
+    let removed : List (Option X) = replicate n None in
     let rest : List (Option X) = drop (f + n) cs in
     let first = h.first.0 in let low = h.apart in
     let long : length front ≡ f = length-take-le f cs (omega arith) in (
-      omega (arith, length-append front (gone ++ rest), length-append gone rest, long),
-      ap (list_all is_some) (take-append-le w front (gone ++ rest) (omega arith) ∙ take-take w f cs low) ∙ h.others.1,
+      omega (arith, length-append front (removed ++ rest), length-append removed rest, long),
+      ap (list_all is_some) (take-append-le w front (removed ++ rest) (omega arith) ∙ take-take w f cs low) ∙ h.others.1,
     )
 
 -- no items at all
@@ -212,12 +212,12 @@ pub ruleset rewritten = (shown, refilled, length-turned)
 -- how many items there are
 pub ruleset counted = (nat_tests, length-parts)
 
--- what each call wants
+-- what each call needs
 pub ruleset read = (two_runs, counted)
 
 pub ruleset written_anew = (two_runs, length-parts, set_first, has-set_first, set_other, has-set_other)
 
-pub ruleset roomy = (apart, counted, in_line)
+pub ruleset reserving = (apart, counted, in_line)
 
 pub ruleset put_at_back = (nat_tests, length-set, length-parts, has-put_first, put_first, has-put_other, put_other)
 

@@ -1,4 +1,4 @@
--- Items that go from one end of a ring to the other, one by one.
+-- Items that are moved from one end of a ring to the other, one by one.
 use Rattle.std.proofs.Common.{◌≡◌, ℕ, ◌+◌, ◌-◌, ◌<◌, ◌≤◌, List, [], ◌∷◌, ◌++◌, length, take, drop, get_or, sym, ap, ◌∙◌, arith, append_assoc}
 use Rattle.std.specs.Prelude.{reverse}
 use Rattle.std.proofs.lemmas.Bool.Decides.{nat_tests}
@@ -6,7 +6,7 @@ use Rattle.std.proofs.lemmas.List.{append-nil, drop_all, drop_more, reverse-appe
 use Rattle.ex_ring.proofs.Rings.{length-turned}
 
 module _ {X : Type 0} where
-  -- the first goes to the back
+  -- the first is moved to the back
   pub turned_on : (xs ys : List X) (i : ℕ) (x : X) → i < length xs → drop i xs ++ take i xs ≡ x ∷ ys → ys ++ x ∷ [] ≡ drop (i + 1) xs ++ take (i + 1) xs
   turned_on xs ys i x few e =
       let a : X = get_or xs i x in let b : List X = drop (i + 1) xs in let c : List X = take i xs in

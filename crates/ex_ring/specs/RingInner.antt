@@ -1,11 +1,11 @@
--- What holds of the fields of a `Ring`, and what is seen of them.
+-- The fields of a `Ring`: what holds of them, and what contracts see.
 use Rattle.std.specs.Prelude.{◌≡◌, ℕ, ◌+◌, ◌<◌, ◌≤◌, List, ◌++◌, length, Option}
 use Rattle.allocator_api2.specs.Places.{IsRun, run}
 use Rattle.ex_ring.specs.Ringed.{Ringed}
 use Rattle.ex_ring.specs.declared.ring.Ring.TheInside.{Inside}
 
--- the first items are the `count` from place `front` on, and others behind them stand at the first
--- places. Where there are others, the first ones reach to the end
+-- `count` items at the places from `front` on, and then `wrapped` items at the first places; if
+-- there are wrapped items, the others reach to the end of the block
 pub record HasParts {X : Type 0} (places : List (Option X)) (front count wrapped : ℕ) : Type 0 where
   pub first : IsRun places front count
   pub others : IsRun places 0 wrapped
@@ -13,7 +13,7 @@ pub record HasParts {X : Type 0} (places : List (Option X)) (front count wrapped
   pub ends : 0 < wrapped → front + count ≡ length places
 
 module _ {T A : Type 0} where
-  -- what a contract sees of a ring with these fields
+  -- the model of the ring with the fields `r`
   abbrev pub view_of : Inside T A → Ringed T A
   view_of r =
       record {
@@ -25,6 +25,6 @@ module _ {T A : Type 0} where
         alloc = r.block.alloc;
       }
 
-  -- the items stand where these fields say
+  -- the places of `r` hold items where its fields say
   abbrev pub IsRing : Inside T A → Type 0
   IsRing r = HasParts r.block.places r.front r.count r.wrapped

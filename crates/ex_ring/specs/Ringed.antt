@@ -1,50 +1,53 @@
--- What contracts see of a ring.
+-- The model of a ring: what contracts see.
 use Rattle.std.specs.Prelude.{ℕ, ◌+◌, ◌-◌, ◌≤◌, List, [], length, nat_le, if◌then◌else◌}
-use Rattle.allocator_api2.specs.Growth.{amortized, least_of}
+use Rattle.allocator_api2.specs.Growth.{amortized, min_capacity}
 use Rattle.allocator_api2.specs.Room as Room
 use Rattle.allocator_api2.specs.declared.collections.TryReserveError.{TryReserveError}
 use Rattle.allocator_api2.specs.declared.raw_vec.Growth.{Growth}
 
--- a list beside a capacity, in a block that counts what it does
+-- a list with a capacity, in a block that counts the elements it moves and writes
 pub record Ringed (T A : Type 0) : Type 0 where
   pub items : List T
-  pub capacity : ℕ  -- how many items there may be before memory is asked for
+  pub capacity : ℕ  -- how many items fit before the ring allocates
   pub growth : Growth
   pub grown : ℕ  -- items moved by growth so far
   pub written : ℕ  -- items written into places so far
   pub alloc : A
 
 module _ {T A : Type 0} where
-  -- no items, in a new block of c places
+  -- an empty ring over `a`, in a new block of `c` places that grows by `g`
   abbrev pub empty : (c : ℕ) → Growth → A → Ringed T A
   empty c g a = record { items = []; capacity = c; growth = g; grown = 0; written = 0; alloc = a }
 
-  -- k more items fit
+  -- `k` more items fit in `r`
   abbrev pub HasRoom : Ringed T A → ℕ → Type 0
   HasRoom r k = k ≤ r.capacity - length r.items
 
-  -- r with other items
+  -- `r` with the items `xs`
   abbrev pub with_items : Ringed T A → List T → Ringed T A
   with_items r xs = record r { items = xs }
 
-  -- the same, after n were written
-  abbrev pub wrote : Ringed T A → List T → (n : ℕ) → Ringed T A
-  wrote r xs n = record r { items = xs; written = r.written + n }
+  -- `r` with the items `xs`, after `n` items were written
+  abbrev pub with_written : Ringed T A → List T → (n : ℕ) → Ringed T A
+  with_written r xs n = record r { items = xs; written = r.written + n }
 
-  -- how many places a growth of r asks for, of `size` bytes each, that has room for k more items
-  abbrev pub wanted : (size : ℕ) → Ringed T A → (k : ℕ) → ℕ
-  wanted size r k = amortized r.growth r.capacity (length r.items + k) (least_of size)
+  -- the capacity that `r` requests when it grows for `k` more items of `size` bytes
+  abbrev pub growth_capacity : (size : ℕ) → Ringed T A → (k : ℕ) → ℕ
+  growth_capacity size r k = amortized r.growth r.capacity (length r.items + k) (min_capacity size)
 
-  -- r with room for k more items: where they don't fit, all items were moved once
+  -- `r` after capacity for `k` more items was reserved: if they did not fit, all items were moved
+  -- once
   abbrev pub with_room : (size : ℕ) → Ringed T A → (k : ℕ) → Ringed T A
   with_room size r k =
       record r {
-        capacity = if nat_le k (r.capacity - length r.items) then r.capacity else wanted size r k;
+        capacity = if nat_le k
+            (r.capacity - length r.items) then r.capacity else growth_capacity size r k;
         grown =
             if nat_le k (r.capacity - length r.items) then r.grown
             else r.grown + length r.items;
       }
 
-  -- k more items did not fit, and a growth was refused with this error
+  -- `k` more items did not fit in `r`, and growing failed with `error`
   abbrev pub LacksRoom : (size : ℕ) → Ringed T A → (k : ℕ) → TryReserveError → Type 0
-  LacksRoom size r k error = Room.LacksRoom r.capacity (length r.items) k (wanted size r k) error
+  LacksRoom size r k error = Room.LacksRoom r.capacity (length r.items) k
+      (growth_capacity size r k) error

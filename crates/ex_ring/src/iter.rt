@@ -1,4 +1,4 @@
-//! The items of a ring, one after the other.
+//! The iterators of a ring.
 ghost use Rattle.std.specs.Prelude.{◌≡◌, length, IfSome, Some};
 ghost use Rattle.std.specs.Iterator.{UpTo, YieldsFirst, YieldsLast, at_most, item_count};
 ghost use Rattle.std.specs.Iterator.SizeHint.{IsWithinCount};
@@ -9,7 +9,9 @@ use std::alloc::{Allocator, Global};
 use std::iter::FusedIterator;
 use std::marker::Model;
 
-/// The items that are left, lent from either end. A contract sees them as a list.
+/// A double-ended iterator over references to the items.
+///
+/// Contracts see it as the list of the remaining items.
 #[derive(Drop)]
 pub struct Iter<'a, T> {
     first: &'a [T],
@@ -27,11 +29,11 @@ impl<'a, T> Model for Iter<'a, T> {
 }
 
 impl<T, A: Allocator> Ring<T, A> {
-    /// The items, the first one first.
+    /// Returns a double-ended iterator over references to the items, from front to back.
     pub fn iter(&self) -> Iter<'_, T>
         ensures { result ≡ self.now.items }
     {
-        // It tells the prover that their number is one of `usize`.
+        // The contract of `len` says that the number of items is a `usize`.
         let _len = self.len();
         let (first, others) = self.as_slices();
         Iter { first, others }
@@ -45,7 +47,7 @@ impl<'a, T> Iterator for Iter<'a, T> {
 
     ghost remaining = { λ left. at_most (length left) };
 
-    /// The next item, if one is left.
+    /// Returns the next item, or `None` if none remains.
     fn next(&mut self) -> Option<&'a T> {
         let first = self.first;
         if !first.is_empty() {
@@ -60,7 +62,7 @@ impl<'a, T> Iterator for Iter<'a, T> {
         Some(&others[0])
     }
 
-    /// How many items are left, exactly.
+    /// Returns the exact number of the remaining items.
     fn size_hint(&self) -> (usize, Option<usize>)
         ensures lower { IsWithinCount result.0 (at_most (length self.now)) }
         ensures upper { IfSome result.1 (UpTo (at_most (length self.now))) }
@@ -74,7 +76,7 @@ impl<'a, T> Iterator for Iter<'a, T> {
 impl<'a, T> DoubleEndedIterator for Iter<'a, T> {
     ghost next_back_gives = { TakesLast deref };
 
-    /// The last item, if one is left.
+    /// Returns the last of the remaining items, or `None` if none remains.
     fn next_back(&mut self) -> Option<&'a T> {
         let others = self.others;
         if !others.is_empty() {
@@ -112,8 +114,10 @@ impl<'a, T, A: Allocator> IntoIterator for &'a Ring<T, A> {
     }
 }
 
-/// The items of a ring that are left, taken from either end. Its drop drops them in order and gives
-/// the memory back. A contract sees them as a list.
+/// A double-ended iterator that owns the items of a ring.
+///
+/// When dropped, it drops the remaining items in order and deallocates the block. Contracts see it
+/// as the list of the remaining items.
 #[derive(Drop)]
 pub struct IntoIter<T, A: Allocator = Global> {
     rest: Ring<T, A>,
@@ -128,8 +132,9 @@ impl<T, A: Allocator> Model for IntoIter<T, A> {
 }
 
 impl<T, A: Allocator> Ring<T, A> {
-    /// The items, which come from either end of what this answers. It takes over the block and
-    /// takes no memory.
+    /// Returns a double-ended iterator that owns the items.
+    ///
+    /// It owns the block as well, so this does not allocate.
     pub fn into_iter(self) -> IntoIter<T, A>
         ensures { result ≡ self.items }
     {
@@ -156,12 +161,12 @@ impl<T: Drop, A: Allocator> Iterator for IntoIter<T, A> {
 
     ghost remaining = { item_count (λ rest. rest) };
 
-    /// The next item, if one is left.
+    /// Returns the next item, or `None` if none remains.
     fn next(&mut self) -> Option<T> {
         self.rest.pop_front()
     }
 
-    /// How many items are left, exactly.
+    /// Returns the exact number of the remaining items.
     fn size_hint(&self) -> (usize, Option<usize>)
         ensures lower { IsWithinCount result.0 (item_count (λ rest. rest) self.now) }
         ensures upper { IfSome result.1 (UpTo (item_count (λ rest. rest) self.now)) }
@@ -175,7 +180,7 @@ impl<T: Drop, A: Allocator> Iterator for IntoIter<T, A> {
 impl<T: Drop, A: Allocator> DoubleEndedIterator for IntoIter<T, A> {
     ghost next_back_gives = { YieldsLast (λ rest. rest) };
 
-    /// The last item, if one is left.
+    /// Returns the last of the remaining items, or `None` if none remains.
     fn next_back(&mut self) -> Option<T> {
         self.rest.pop_back()
     }

@@ -1,4 +1,4 @@
-//! What is proved of many calls.
+//! What is proved about sequences of calls.
 ghost use Rattle.std.specs.Prelude.{length, OnOk};
 ghost use Rattle.ex_ring.specs.Paid.{IsPaid};
 
@@ -6,8 +6,13 @@ use crate::ring::Ring;
 use allocator_api2::collections::TryReserveError;
 use std::alloc::Allocator;
 
-/// Puts items into a ring that began empty, each at the end that is told with it: before the others
-/// where that is true. Growth moves at most two for each of them.
+/// Pushes each item at the end that its flag names: at the front if it is `true`.
+///
+/// The ring must be empty, must double, and must not have grown before. Growth then moves at most
+/// two items for each item that is pushed.
+///
+/// # Errors
+/// Returns the first error of a push. The items before it are pushed.
 #[tactic(auto, using(crate::proofs::Paid::paid))]
 pub fn push_all<T: Copy + Drop, A: Allocator>(
     ring: &mut Ring<T, A>,

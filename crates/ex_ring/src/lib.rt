@@ -1,4 +1,4 @@
-//! A double-ended queue over any allocator, on the block of the library.
+//! `Ring`, a double-ended queue over any allocator, built on the block of the library.
 #![tactic(auto)]
 
 pub mod iter;

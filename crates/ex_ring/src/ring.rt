@@ -1,30 +1,31 @@
-//! `Ring`: a list that takes and gives at both ends.
+//! `Ring`: a double-ended queue.
 ghost use Rattle.std.specs.Prelude.{◌≡◌, ◌+◌, ◌-◌, ◌<◌, ◌≤◌, [], ◌∷◌, ◌++◌, length, take, drop, slice_get, option_copied, IfErr, IfOk, OnErr, OnOk, IsOk, IsTrue, MatchOption, ◌↔◌};
 ghost use Rattle.std.specs.Mem.{type_size};
 ghost use Rattle.allocator_api2.specs.Block.{with_places};
-ghost use Rattle.allocator_api2.specs.Growth.{sized};
+ghost use Rattle.allocator_api2.specs.Growth.{new_capacity};
 ghost use Rattle.allocator_api2.specs.Places.{IsRun, run};
-ghost use Rattle.allocator_api2.specs.Refusals.{RefusesBlock};
-ghost use Rattle.ex_ring.specs.Ringed.{empty, wrote, with_room, HasRoom, LacksRoom};
+ghost use Rattle.allocator_api2.specs.Errors.{AllocationFails};
+ghost use Rattle.ex_ring.specs.Ringed.{empty, with_written, with_room, HasRoom, LacksRoom};
 
 use allocator_api2::collections::{Refused, TryReserveError};
 use allocator_api2::raw_vec::RawVec;
 use std::alloc::{Allocator, Global};
 use std::marker::Model;
 
+mod access;
 mod compare;
-mod lending;
 mod many;
 mod turns;
 
-/// A double-ended queue over the allocator `A`. It is a ring of places, and doubles where it has no
-/// free one.
+/// A double-ended queue over the allocator `A`.
+///
+/// The items are in one circular block. It doubles when it is full and one more item is pushed.
 pub struct Ring<T, A: Allocator = Global> {
     block: RawVec<T, A>,
-    // the first items: the place where they begin, and how many they are
+    // The first `count` items are at the places from `front` on.
     front: usize,
     count: usize,
-    // how many items are behind them, at the first places of the block
+    // The `wrapped` items after them are at the first places of the block.
     wrapped: usize,
 }
 
@@ -44,28 +45,34 @@ impl<T, A: Allocator> Model for Ring<T, A> {
 impl<T, A: Allocator> Ring<T, A> {
     ghost use Rattle.allocator_api2.specs.declared.raw_vec.Growth.TheVariants.{Doubling};
 
-    /// No items. It takes no memory.
+    /// Returns an empty ring.
+    ///
+    /// Does not allocate.
     #[tactic(auto, using(allocator_api2::proofs::Blocks::with_room))]
     pub fn new_in(alloc: A) -> Self
-        ensures { result ≡ empty (sized (type_size T.row) 0) Doubling alloc }
+        ensures { result ≡ empty (new_capacity (type_size T.row) 0) Doubling alloc }
     {
-        Ring::over(RawVec::new_in(alloc))
+        Ring::from_block(RawVec::new_in(alloc))
     }
 
-    /// No items, and room for exactly `capacity`. It takes memory where `capacity` is above 0 and
-    /// items have a size. A refusal is `CapacityOverflow`, or `AllocError` with this capacity.
+    /// Returns an empty ring with capacity for exactly `capacity` items.
+    ///
+    /// Allocates if `capacity` is above 0, except for zero-sized items.
+    ///
+    /// # Errors
+    /// `CapacityOverflow`, or `AllocError` with `capacity`, if the allocation fails.
     #[tactic(auto, using(allocator_api2::proofs::Blocks::with_room))]
     pub fn with_capacity_in(capacity: usize, alloc: A) -> Result<Self, TryReserveError>
         ensures made { IfOk result
-            (λ r. r ≡ empty (sized (type_size T.row) capacity) Doubling alloc) }
-        ensures refused { IfErr result (RefusesBlock capacity (type_size T.row)) }
+            (λ r. r ≡ empty (new_capacity (type_size T.row) capacity) Doubling alloc) }
+        ensures error { IfErr result (AllocationFails capacity (type_size T.row)) }
     {
-        Ok(Ring::over(RawVec::with_capacity_in(capacity, alloc)?))
+        Ok(Ring::from_block(RawVec::with_capacity_in(capacity, alloc)?))
     }
 
-    // A ring of none of the places of a block.
+    // Returns an empty ring that owns `block`.
     #[tactic(auto, using(allocator_api2::proofs::Blocks::with_room))]
-    fn over(block: RawVec<T, A>) -> Self
+    fn from_block(block: RawVec<T, A>) -> Self
         ensures { result ≡ record {
           items = [];
           capacity = length block.places;
@@ -83,35 +90,39 @@ impl<T, A: Allocator> Ring<T, A> {
         }
     }
 
-    /// How many items there are.
+    /// Returns the number of items.
     pub fn len(&self) -> usize
         ensures count { result ≡ length self.now.items }
         ensures within { result ≤ self.now.capacity }
     {
-        self.block.known();
+        self.block.prove_capacity_bounds();
         self.count + self.wrapped
     }
 
-    /// Whether there is no item.
+    /// Returns `true` if the ring has no items.
     pub fn is_empty(&self) -> bool
         ensures { IsTrue result ↔ (self.now.items ≡ []) }
     {
         self.len() == 0
     }
 
-    /// How many items there may be before memory is asked for; `usize::MAX` for items without size.
+    /// Returns the number of items that the ring can hold before it allocates.
+    ///
+    /// Returns `usize::MAX` for zero-sized items.
     pub fn capacity(&self) -> usize
         ensures { result ≡ self.now.capacity }
     {
         self.block.capacity()
     }
 
-    /// The item at `index`, the first one at 0, if there is one.
+    /// Returns a reference to the item at `index`, or `None` if there is none.
+    ///
+    /// The first item is at index 0.
     #[tactic(auto, using(crate::proofs::Rings::read))]
     pub fn get(&self, index: usize) -> Option<&T>
         ensures { option_copied result ≡ slice_get self.now.items index }
     {
-        self.block.known();
+        self.block.prove_capacity_bounds();
         if index < self.count {
             return Some(self.block.place(self.front + index));
         }
@@ -121,7 +132,7 @@ impl<T, A: Allocator> Ring<T, A> {
         None
     }
 
-    /// The items in two slices: the second one's stand behind the first one's.
+    /// Returns a pair of slices that contain, in order, the items of the ring.
     #[tactic(auto, using(allocator_api2::proofs::Blocks::shown))]
     pub fn as_slices(&self) -> (&[T], &[T])
         ensures { result.0.now ++ result.1.now ≡ self.now.items }
@@ -130,11 +141,11 @@ impl<T, A: Allocator> Ring<T, A> {
         (first, self.block.slice(0, self.wrapped))
     }
 
-    // Puts `item` behind the others. The `prove!` tells the prover that a place is free.
+    // Appends `item`, which must fit. The `prove!` says that a place is free.
     #[tactic(auto, using(crate::proofs::Rings::put_at_back))]
     fn put_back(&mut self, item: T)
         requires { HasRoom self.old 1 }
-        ensures { self.new ≡ wrote self.old (self.old.items ++ item ∷ []) 1 }
+        ensures { self.new ≡ with_written self.old (self.old.items ++ item ∷ []) 1 }
     {
         let capacity = self.block.capacity();
         prove!(self.count + self.wrapped < capacity);
@@ -148,11 +159,11 @@ impl<T, A: Allocator> Ring<T, A> {
         }
     }
 
-    // Puts `item` before the others, and tells the prover the same.
+    // Prepends `item`, which must fit. The `prove!` says that a place is free.
     #[tactic(auto, using(crate::proofs::Rings::put_at_front))]
     fn put_front(&mut self, item: T)
         requires { HasRoom self.old 1 }
-        ensures { self.new ≡ wrote self.old (item ∷ self.old.items) 1 }
+        ensures { self.new ≡ with_written self.old (item ∷ self.old.items) 1 }
     {
         let capacity = self.block.capacity();
         prove!(self.count + self.wrapped < capacity);
@@ -161,7 +172,7 @@ impl<T, A: Allocator> Ring<T, A> {
             self.block.put(self.front, item);
             self.count += 1;
         } else {
-            // The items begin with the block. They become the ones behind the first.
+            // The items start at the first place of the block. They become the wrapped ones.
             let last = capacity - 1;
             self.block.put(last, item);
             self.wrapped = self.count;
@@ -170,14 +181,19 @@ impl<T, A: Allocator> Ring<T, A> {
         }
     }
 
-    /// Puts `item` behind the others. Where it has no place, it takes memory first, as `reserve(1)`
-    /// does. A refusal hands the item back and changes nothing.
+    /// Appends `item` to the back.
+    ///
+    /// Allocates only if the ring is full, and then as `reserve(1)` does.
+    ///
+    /// # Errors
+    /// `CapacityOverflow` or `AllocError`, as `reserve(1)` returns them. The ring is unchanged and
+    /// `item` is returned in the error.
     pub fn push_back(&mut self, item: T) -> Result<(), Refused<T>>
         ensures fits { HasRoom self.old 1 → IsOk result }
         ensures pushed { let roomy = with_room (type_size T.row) self.old 1 in
-            OnOk result (self.new ≡ wrote roomy (self.old.items ++ item ∷ []) 1) }
-        ensures handed_back { IfErr result (λ r. r.source ≡ item) }
-        ensures refused { IfErr result (λ r. LacksRoom (type_size T.row) self.old 1 r.error) }
+            OnOk result (self.new ≡ with_written roomy (self.old.items ++ item ∷ []) 1) }
+        ensures returned { IfErr result (λ r. r.source ≡ item) }
+        ensures error { IfErr result (λ r. LacksRoom (type_size T.row) self.old 1 r.error) }
         ensures unchanged { OnErr result (self.new ≡ self.old) }
     {
         if let Err(error) = self.reserve(1) {
@@ -190,13 +206,19 @@ impl<T, A: Allocator> Ring<T, A> {
         Ok(())
     }
 
-    /// Puts `item` before the others, as `push_back` puts it behind them.
+    /// Prepends `item` to the front.
+    ///
+    /// Allocates only if the ring is full, and then as `reserve(1)` does.
+    ///
+    /// # Errors
+    /// `CapacityOverflow` or `AllocError`, as `reserve(1)` returns them. The ring is unchanged and
+    /// `item` is returned in the error.
     pub fn push_front(&mut self, item: T) -> Result<(), Refused<T>>
         ensures fits { HasRoom self.old 1 → IsOk result }
         ensures pushed { let roomy = with_room (type_size T.row) self.old 1 in
-            OnOk result (self.new ≡ wrote roomy (item ∷ self.old.items) 1) }
-        ensures handed_back { IfErr result (λ r. r.source ≡ item) }
-        ensures refused { IfErr result (λ r. LacksRoom (type_size T.row) self.old 1 r.error) }
+            OnOk result (self.new ≡ with_written roomy (item ∷ self.old.items) 1) }
+        ensures returned { IfErr result (λ r. r.source ≡ item) }
+        ensures error { IfErr result (λ r. LacksRoom (type_size T.row) self.old 1 r.error) }
         ensures unchanged { OnErr result (self.new ≡ self.old) }
     {
         if let Err(error) = self.reserve(1) {
@@ -209,14 +231,16 @@ impl<T, A: Allocator> Ring<T, A> {
         Ok(())
     }
 
-    /// Takes the first item, if there is one.
+    /// Removes the first item and returns it, or returns `None` if the ring is empty.
+    ///
+    /// Does not allocate, and does not change the capacity.
     #[tactic(auto, using(crate::proofs::Rings::taken_first))]
     pub fn pop_front(&mut self) -> Option<T>
         ensures taken { MatchOption result ((self.old.items ≡ []) × (self.new.items ≡ []))
             (λ x. self.old.items ≡ x ∷ self.new.items) }
-        ensures rest { self.new ≡ wrote self.old self.new.items 0 }
+        ensures kept { self.new ≡ with_written self.old self.new.items 0 }
     {
-        self.block.known();
+        self.block.prove_capacity_bounds();
         if self.count > 0 {
             let item = self.block.take(self.front);
             self.front += 1;
@@ -233,14 +257,16 @@ impl<T, A: Allocator> Ring<T, A> {
         Some(item)
     }
 
-    /// Takes the last item, if there is one.
+    /// Removes the last item and returns it, or returns `None` if the ring is empty.
+    ///
+    /// Does not allocate, and does not change the capacity.
     #[tactic(auto, using(crate::proofs::Rings::taken_last))]
     pub fn pop_back(&mut self) -> Option<T>
         ensures taken { MatchOption result ((self.old.items ≡ []) × (self.new.items ≡ []))
             (λ x. self.old.items ≡ self.new.items ++ x ∷ []) }
-        ensures rest { self.new ≡ wrote self.old self.new.items 0 }
+        ensures kept { self.new ≡ with_written self.old self.new.items 0 }
     {
-        self.block.known();
+        self.block.prove_capacity_bounds();
         if self.wrapped != 0 {
             self.wrapped -= 1;
             return Some(self.block.take(self.wrapped));
@@ -252,12 +278,14 @@ impl<T, A: Allocator> Ring<T, A> {
         Some(self.block.take(self.front + self.count))
     }
 
-    /// Drops all items, in order. The capacity stays.
+    /// Removes and drops all items, in order.
+    ///
+    /// The capacity does not change.
     #[tactic(auto, using(allocator_api2::proofs::Blocks::in_runs))]
     pub fn clear(&mut self)
     where
         T: Drop,
-        ensures { self.new ≡ wrote self.old [] 0 }
+        ensures { self.new ≡ with_written self.old [] 0 }
     {
         self.block.drop_run(self.front, self.count);
         self.block.drop_run(0, self.wrapped);
@@ -266,16 +294,22 @@ impl<T, A: Allocator> Ring<T, A> {
         self.wrapped = 0;
     }
 
-    /// Makes room for `additional` more items. Where they fit, it does nothing. Else it takes a new
-    /// block with room to spare, and moves each item there once. A refusal changes nothing:
-    /// `CapacityOverflow`, for sure where the length would pass `usize::MAX`, or `AllocError` with
-    /// the capacity asked for.
-    #[tactic(auto, using(crate::proofs::Rings::roomy))]
+    /// Reserves capacity for at least `additional` more items.
+    ///
+    /// Does nothing if they fit. Else allocates a block with the capacity that the growth policy
+    /// chooses, and moves each item there once.
+    ///
+    /// # Errors
+    /// `CapacityOverflow` if the new length would exceed `usize::MAX` or the block would be too
+    /// large. `AllocError` with the requested capacity if the allocation fails. The ring is
+    /// unchanged.
+    #[tactic(auto, using(crate::proofs::Rings::reserving))]
     pub fn reserve(&mut self, additional: usize) -> Result<(), TryReserveError>
         ensures fits { HasRoom self.old additional → IsOk result }
-        ensures room { OnOk result (HasRoom self.new additional) }
-        ensures made { OnOk result (self.new ≡ with_room (type_size T.row) self.old additional) }
-        ensures refused { IfErr result (LacksRoom (type_size T.row) self.old additional) }
+        ensures enough { OnOk result (HasRoom self.new additional) }
+        ensures reserved { OnOk result (self.new ≡ with_room
+            (type_size T.row) self.old additional) }
+        ensures error { IfErr result (LacksRoom (type_size T.row) self.old additional) }
         ensures unchanged { OnErr result (self.new ≡ self.old) }
     {
         let len = self.len();
@@ -290,12 +324,14 @@ impl<T, A: Allocator> Ring<T, A> {
         Ok(())
     }
 
-    /// Moves the items so that they stand in one slice, the first of `as_slices`.
+    /// Moves the items into one slice, the first that `as_slices` returns.
+    ///
+    /// Preserves their order. Does not allocate, and does not change the capacity.
     pub fn make_contiguous(&mut self)
         ensures items { self.new.items ≡ self.old.items }
-        ensures writes { self.new.written ≤ self.old.written + length self.old.items }
-        ensures rest { let n = self.new.written - self.old.written in
-            self.new ≡ wrote self.old self.old.items n }
+        ensures written { self.new.written ≤ self.old.written + length self.old.items }
+        ensures kept { let n = self.new.written - self.old.written in
+            self.new ≡ with_written self.old self.old.items n }
     {
         let len = self.len();
         if self.wrapped == 0 {
@@ -309,16 +345,21 @@ impl<T, A: Allocator> Ring<T, A> {
     }
 }
 
-// Puts the run that stands from `from` on behind the other one, which stands at the first places.
+// Moves the run from `from` on down to the end of the run at the first places.
 #[tactic(auto, using(allocator_api2::proofs::Blocks::in_runs))]
 fn close<T, A: Allocator>(block: &mut RawVec<T, A>, from: usize, count: usize, others: usize)
+    // The two runs are filled, and do not overlap.
     requires { IsRun block.old.places 0 others × IsRun block.old.places from count
         × (others ≤ from) }
-    ensures there { IsRun block.new.places 0 (others + count) }
+
+    // They are one run now, at the first places.
+    ensures filled { IsRun block.new.places 0 (others + count) }
     ensures items { run block.new.places 0 (others + count)
         ≡ run block.old.places 0 others ++ run block.old.places from count }
+
+    // Everything else of the block is as before, and at most `count` elements were written.
     ensures capacity { length block.new.places ≡ length block.old.places }
-    ensures rest { (block.new.growth ≡ block.old.growth) × (block.new.grown ≡ block.old.grown)
+    ensures kept { (block.new.growth ≡ block.old.growth) × (block.new.grown ≡ block.old.grown)
         × (block.new.alloc ≡ block.old.alloc) }
     ensures written { (block.old.written ≤ block.new.written)
         × (block.new.written ≤ block.old.written + count) }
@@ -326,20 +367,20 @@ fn close<T, A: Allocator>(block: &mut RawVec<T, A>, from: usize, count: usize, o
     block.move_run(from, others, count);
 }
 
-// Puts the first `by` of the first `len` values behind the others.
+// Rotates the first `len` values of the block to the left by `by`.
 #[tactic(auto, using(crate::proofs::Rings::rewritten))]
 fn turn<T, A: Allocator>(block: &mut RawVec<T, A>, len: usize, by: usize)
     requires { IsRun block.old.places 0 len × (by ≤ len) }
-    ensures there { IsRun block.new.places 0 len }
+    ensures filled { IsRun block.new.places 0 len }
     ensures items { let before = run block.old.places 0 len in
         run block.new.places 0 len ≡ drop by before ++ take by before }
-    ensures rest { block.new ≡ with_places block.old block.new.places }
+    ensures kept { block.new ≡ with_places block.old block.new.places }
     ensures capacity { length block.new.places ≡ length block.old.places }
 {
     rotate(block.slice_mut(0, len), by);
 }
 
-// Puts the first `by` items behind the others.
+// Rotates a slice to the left by `by`.
 #[tactic(auto, using(crate::proofs::Rings::turned))]
 fn rotate<T>(items: &mut [T], by: usize)
     requires { by ≤ length items.old }
@@ -353,7 +394,7 @@ fn rotate<T>(items: &mut [T], by: usize)
 }
 
 impl<T: Drop, A: Allocator> Drop for Ring<T, A> {
-    /// Drops the items in order, and gives the memory back.
+    /// Drops the items in order, and deallocates the block.
     #[tactic(auto, using(allocator_api2::proofs::Blocks::in_runs))]
     fn drop(self) {
         let Ring {

@@ -1,4 +1,4 @@
--- What keys find, and how many values there are, when a slot is written.
+-- The values that keys find, and their number, when a slot is written.
 use Rattle.ex_slots.proofs.Common.{Key, List, None, Option, Puts, Some, [], arith, cond, count, entries_from, inl, inr, is_some, length, refl, slice_set, slot_at, suc, true, value_under, with_at, zero, ℕ, ◌++◌, ◌+◌, ◌<◌, ◌∷◌, ◌≡◌, ◌≢◌, ◌≤◌}
 use Rattle.std.proofs.Common.{get_or-set_other}
 use Rattle.std.proofs.lemmas.Bool.{cases_eq}
@@ -11,9 +11,9 @@ module _ {X : Type 0} where
   with_at-within (y ∷ xs) zero x h = refl
   with_at-within (y ∷ xs) (suc i) x h = rw (with_at-within xs i x (omega arith))
 
-  pub with_at-behind : (xs : List X) (x : X) → with_at xs (length xs) x ≡ xs ++ x ∷ []
-  with_at-behind [] x = refl
-  with_at-behind (y ∷ xs) x = rw (with_at-behind xs x)
+  pub with_at-after : (xs : List X) (x : X) → with_at xs (length xs) x ≡ xs ++ x ∷ []
+  with_at-after [] x = refl
+  with_at-after (y ∷ xs) x = rw (with_at-after xs x)
 
 alike : (j k : Key) → j.index ≡ k.index → j.serial ≡ k.serial → j ≡ k
 alike j k p q i = record { index = p i; serial = q i }
@@ -71,14 +71,14 @@ module _ {T : Type 0} where
     pub count-put : count new ≡ count ss + 1
     count-put = rw p.put (count-with_at ss i (serial, x) p.within p.free)
 
-  -- a slot has nothing for another serial than its own
+  -- a slot has no value for another serial than its own
   other : (o : Option (ℕ × T)) (own serial : ℕ) (x : T) → value_under own o ≡ Some x → serial ≢ own → None ≡ value_under serial o
   other None own serial x f n = refl
   other (Some e) own serial x f n = grind (arith, nat_tests, f, n)
 
   module _ (ss : List (Option (ℕ × T))) (k : Key) where
-    pub gone : value_under k.serial (slot_at (slice_set ss k.index None) k.index) ≡ None
-    gone = rw (slot-freed ss k.index) refl
+    pub absent : value_under k.serial (slot_at (slice_set ss k.index None) k.index) ≡ None
+    absent = rw (slot-freed ss k.index) refl
 
     pub others-freed : (x : T) → value_under k.serial (slot_at ss k.index) ≡ Some x → (j : Key) → j ≢ k → value_under j.serial (slot_at (slice_set ss k.index None) j.index) ≡ value_under j.serial (slot_at ss j.index)
     others-freed x f j n = elim (cases_eq j.index k.index) [
@@ -86,4 +86,4 @@ module _ {T : Type 0} where
       | inr o ↦ rw (get_or-set_other ss k.index j.index None None o) refl
     ]
 
-pub ruleset finds = (nat_tests, found-put, others-put, count-put, gone, others-freed, count-freed, length-entries)
+pub ruleset finds = (nat_tests, found-put, others-put, count-put, absent, others-freed, count-freed, length-entries)

@@ -1,6 +1,6 @@
 -- What slots are once one of them is written.
 use Rattle.ex_slots.proofs.Common.{Chain, Free, Held, IsChain, IsSound, Key, List, None, Option, Puts, Slot, Slotted, Some, [], ap, arith, cond, count, find, get_or, held, is_some, length, length-set, refl, rewritten, seen, slice_get, slice_set, slot_at, suc, sym, true, value_of, value_under, with_value, zero, ℕ, ◌++◌, ◌+◌, ◌<◌, ◌∙◌, ◌∷◌, ◌≡◌, ◌≢◌, ◌≤◌}
-use Rattle.ex_slots.proofs.Finds.{count-cons, with_at-behind, with_at-within}
+use Rattle.ex_slots.proofs.Finds.{count-cons, with_at-after, with_at-within}
 use Rattle.std.proofs.lemmas.Bool.Decides.{nat_tests}
 use Rattle.std.proofs.lemmas.List.{length-map, map-append, map-set}
 use Rattle.std.proofs.lemmas.Option.{get_or_from_slice_get, slice_get_read, slice_get_within}
@@ -39,7 +39,7 @@ module _ {T : Type 0} where
   count-written (z ∷ ss) zero s t h = let e : z ≡ s = cc in rw e (omega (arith, count-cons (held s) (seen ss), count-cons (held t) (seen ss)))
   count-written (z ∷ ss) (suc i) s t h = omega (arith, count-written ss i s t h, count-cons (held z) (seen ss), count-cons (held z) (seen (slice_set ss i t)))
 
-  -- the chain stays where another slot than its own is written
+  -- the list of free slots is unchanged where another slot than its own is written
   chain-set : (ss : List (Slot T)) (first n i : ℕ) (t : Slot T) → IsChain ss first n → ((next m : ℕ) → slice_get ss i ≡ Some (Free next m) → n ≤ m) → IsChain (slice_set ss i t) first n
   chain-set ss first zero i t c h = tt
   chain-set ss first (suc n) i t c h =
@@ -47,31 +47,31 @@ module _ {T : Type 0} where
       (c.0, rw (get-set_other ss i first t other) c.1, chain-set ss c.0 n i t c.2 (λ next m e. let l = h next m e in omega (arith, l)))
 
   -- the first of the chain
-  chain-first : (ss : List (Slot T)) (first n : ℕ) (old : Slot T) (next behind : ℕ) → 0 < n → IsChain ss first n → old ≡ get_or ss first old → old ≡ Free next behind → (slice_get ss first ≡ Some (Free next behind)) × (n ≡ behind + 1) × IsChain ss next behind
-  chain-first ss first zero old next behind h c r e = absurd (omega arith)
-  chain-first ss first (suc n) old next behind h c r e =
-      let p : Free c.0 n ≡ Free next behind = sym (r ∙ get_or_from_slice_get ss first (Free c.0 n) old c.1) ∙ e in
+  chain-first : (ss : List (Slot T)) (first n : ℕ) (old : Slot T) (next after : ℕ) → 0 < n → IsChain ss first n → old ≡ get_or ss first old → old ≡ Free next after → (slice_get ss first ≡ Some (Free next after)) × (n ≡ after + 1) × IsChain ss next after
+  chain-first ss first zero old next after h c r e = absurd (omega arith)
+  chain-first ss first (suc n) old next after h c r e =
+      let p : Free c.0 n ≡ Free next after = sym (r ∙ get_or_from_slice_get ss first (Free c.0 n) old c.1) ∙ e in
       let a : c.0 ≡ next = grind (arith, p) in
-      let b : n ≡ behind = grind (arith, p) in
+      let b : n ≡ after = grind (arith, p) in
       (rw (a, b) at c.1, omega (arith, b), rw (a, b) at c.2)
 
   module _ {ss : List (Slot T)} {free : Chain} (sound : IsSound ss free) where
     -- the first free slot is filled
-    module _ {old s : Slot T} {next behind serial : ℕ} {x : T} (some : 0 < free.count) (read : old ≡ get_or ss free.first old) (was : old ≡ Free next behind) (is : s ≡ Held serial x) where
-      first : (slice_get ss free.first ≡ Some (Free next behind)) × (free.count ≡ behind + 1) × IsChain ss next behind
-      first = chain-first ss free.first free.count old next behind some sound.chain read was
+    module _ {old s : Slot T} {next after serial : ℕ} {x : T} (some : 0 < free.count) (read : old ≡ get_or ss free.first old) (was : old ≡ Free next after) (is : s ≡ Held serial x) where
+      first : (slice_get ss free.first ≡ Some (Free next after)) × (free.count ≡ after + 1) × IsChain ss next after
+      first = chain-first ss free.first free.count old next after some sound.chain read was
 
-      pub filled-sound : IsSound (slice_set ss free.first s) (record { first = next; count = behind })
+      pub filled-sound : IsSound (slice_set ss free.first s) (record { first = next; count = after })
       filled-sound = record {
-        chain = chain-set ss next behind free.first s first.2 (λ q m e. let l : behind ≡ m = grind (arith, first.0, e) in omega (arith, l));
-        counted = rw is (omega (arith, count-written ss free.first (Free next behind) (Held serial x) first.0, sound.counted, first.1, length-set ss free.first (Held serial x)));
+        chain = chain-set ss next after free.first s first.2 (λ q m e. let l : after ≡ m = grind (arith, first.0, e) in omega (arith, l));
+        counted = rw is (omega (arith, count-written ss free.first (Free next after) (Held serial x) first.0, sound.counted, first.1, length-set ss free.first (Held serial x)));
       }
 
       pub filled-puts : Puts (seen ss) (record { index = free.first; serial = serial }) x (seen (slice_set ss free.first s))
       filled-puts =
-          let within = slice_get_within ss free.first (Free next behind) first.0 in
+          let within = slice_get_within ss free.first (Free next after) first.0 in
           record {
-            free = slot-seen ss free.first (Free next behind) first.0;
+            free = slot-seen ss free.first (Free next after) first.0;
             within = omega (arith, within, length-map ss held);
             put = rw is (map-set held ss free.first (Held serial x) ∙ sym (with_at-within (seen ss) free.first (Some (serial, x)) (omega (arith, within, length-map ss held))));
           }
@@ -98,27 +98,27 @@ module _ {T : Type 0} where
           let more : free.count + 1 ≡ suc free.count = omega arith in
           record { chain = rw more chain; counted = grind (arith, count-written ss i s t there, sound.counted, length-set ss i t, own, e) }
 
-  -- one behind the others
-  pub behind-puts : (ss new : List (Slot T)) (i serial : ℕ) (x : T) → i ≡ length ss → new ≡ ss ++ Held serial x ∷ [] → Puts (seen ss) (record { index = i; serial = serial }) x (seen new)
-  behind-puts ss new i serial x e f =
+  -- one after the others
+  pub after-puts : (ss new : List (Slot T)) (i serial : ℕ) (x : T) → i ≡ length ss → new ≡ ss ++ Held serial x ∷ [] → Puts (seen ss) (record { index = i; serial = serial }) x (seen new)
+  after-puts ss new i serial x e f =
       let l : length (seen ss) ≡ length ss = length-map ss held in
       rw (e, f) (record {
         free = slot-past ss;
         within = omega (arith, l);
-        put = map-append held ss (Held serial x ∷ []) ∙ sym (rw l at (with_at-behind (seen ss) (Some (serial, x))));
+        put = map-append held ss (Held serial x ∷ []) ∙ sym (rw l at (with_at-after (seen ss) (Some (serial, x))));
       })
 
-  -- a slot whose key is asked for
+  -- a slot whose key is searched for
   under-held : (o : Option (ℕ × T)) (serial : ℕ) → is_some (value_under serial o) ≡ true → is_some o ≡ true
   under-held None serial h = absurd (cc)
   under-held (Some e) serial h = refl
 
   under-rewritten : (s : Slot T) (serial : ℕ) (w : T) → is_some (value_under serial (held s)) ≡ true → held (rewritten s w) ≡ Some (serial, w)
-  under-rewritten (Free next behind) serial w h = absurd (cc)
+  under-rewritten (Free next after) serial w h = absurd (cc)
   under-rewritten (Held own x) serial w h = let e : own ≡ serial = grind (arith, nat_tests, h) in rw e refl
 
   under-value : (s : Slot T) (serial : ℕ) → is_some (value_under serial (held s)) ≡ true → value_under serial (held s) ≡ value_of s
-  under-value (Free next behind) serial h = refl
+  under-value (Free next after) serial h = refl
   under-value (Held own x) serial h = grind (arith, nat_tests, h)
 
   module _ (ss : List (Slot T)) {s : Slot T} (k : Key) (read : s ≡ get_or ss k.index s) (found : is_some (value_under k.serial (slot_at (seen ss) k.index)) ≡ true) where
@@ -137,4 +137,4 @@ module _ {T : Type 0} where
           let at : seen (slice_set ss k.index (rewritten s w)) ≡ slice_set (seen ss) k.index (Some (k.serial, w)) = map-set held ss k.index (rewritten s w) ∙ ap (slice_set (seen ss) k.index) (under-rewritten s k.serial w (rw here at found)) in
           (λ i. record { slots = at i; capacity = capacity; issued = issued }) ∙ ap (λ (n : Slotted T). with_value n k w) is
 
-pub ruleset behind = (behind-puts)
+pub ruleset after = (after-puts)

@@ -1,4 +1,4 @@
--- What a slot map ends as, once a `&mut` into it has ended.
+-- The final state of a slot map after a mutable borrow of one of its values has ended.
 use Rattle.std.specs.Prelude.{Option}
 use Rattle.std.specs.Borrow.{Fml, RattleType, MutBor, LendsIf}
 use Rattle.std.specs.declared.alloc.Allocator.{Ghosts}
@@ -6,7 +6,8 @@ use Rattle.ex_slots.specs.declared.map.Key.{Key}
 use Rattle.ex_slots.specs.Slotted.{Slotted, with_value}
 use Rattle.ex_slots.specs.contracts.map.SlotMap.{the_row}
 
--- the key has the last value written through r, and without r the map stays as it is
+-- the final state of the map `m`: the key `k` has the last value written through `r`, or the map is
+-- unchanged if `r` is `None`
 abbrev pub lends_value : (T A : RattleType) (g : Ghosts A.Denot) → MutBor (Slotted T.Denot) → Key
     → Option (MutBor T.Denot) → Fml
 lends_value T A g m k r = LendsIf (the_row T A g) T m r (λ x. with_value m.now k x) m.now

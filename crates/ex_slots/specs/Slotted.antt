@@ -1,58 +1,58 @@
--- A slot map as its users see it.
+-- The view of a slot map.
 use Rattle.std.specs.Prelude.{◌≡◌, ℕ, zero, suc, ◌+◌, ◌-◌, ◌≤◌, max, List, [], ◌∷◌, length, count_by, is_some, Option, None, Some, nat_eq, nat_lt, nat_le, if◌then◌else◌, slice_index_or, slice_set}
 use Rattle.ex_slots.specs.declared.map.Key.{Key}
 
--- the slots, each free or with the serial of a key and its value; how many values there may be
--- without further memory; how many keys were given out
+-- the view of a slot map: its slots, each free or with the serial of a key and its value; the
+-- number of values that it can hold without another allocation; and the number of keys issued
 pub record Slotted (T : Type 0) : Type 0 where
   pub slots : List (Option (ℕ × T))
   pub capacity : ℕ
   pub issued : ℕ
 
--- how many values a map has room for once it has grown because its c slots were full
+-- the capacity of a map of `c` slots, all full, after it has grown
 abbrev pub grown : (c : ℕ) → ℕ
 grown c = c + max c 4
 
 module _ {X : Type 0} where
-  -- the list with x at index i, which is one of it or the next
+  -- the list with `x` at index `i`, which is at most its length
   abbrev pub with_at : List X → (i : ℕ) → X → List X
   with_at [] i x = x ∷ []
   with_at (y ∷ ys) zero x = x ∷ ys
   with_at (y ∷ ys) (suc i) x = y ∷ with_at ys i x
 
 module _ {T : Type 0} where
-  -- the slot at an index, a free one where there is none
+  -- the slot at index `i` of `ss`, free if there is no such slot
   abbrev pub slot_at : List (Option (ℕ × T)) → (i : ℕ) → Option (ℕ × T)
   slot_at ss i = slice_index_or ss i None
 
-  -- what a slot has for the key with this serial
+  -- the value that a slot has for the key with this serial
   abbrev pub value_under : (serial : ℕ) → Option (ℕ × T) → Option T
   value_under serial None = None
   value_under serial (Some e) = if nat_eq e.0 serial then Some e.1 else None
 
-  -- how many slots have a value
+  -- the number of slots of `ss` with a value
   abbrev pub count : List (Option (ℕ × T)) → ℕ
   count ss = count_by is_some ss
 
-  -- the value of a key
+  -- the value of the key `k` in the map `m`
   abbrev pub find : Slotted T → Key → Option T
   find m k = value_under k.serial (slot_at m.slots k.index)
 
-  -- the keys with their values, of slots that begin at index i
+  -- the keys and values of the slots that begin at index `i`
   abbrev pub entries_from : (i : ℕ) → List (Option (ℕ × T)) → List (Key × T)
   entries_from i [] = []
   entries_from i (None ∷ ss) = entries_from (i + 1) ss
   entries_from i (Some e ∷ ss) = (record { index = i; serial = e.0 }, e.1) ∷ entries_from (i + 1) ss
 
-  -- the keys with their values, in the order of their slots
+  -- the keys and values of the map `m`, in the order of the slots
   abbrev pub entries : Slotted T → List (Key × T)
   entries m = entries_from 0 m.slots
 
-  -- k more values fit
+  -- the map `m` has spare capacity for `k` more values
   abbrev pub HasRoom : Slotted T → (k : ℕ) → Type 0
   HasRoom m k = k ≤ m.capacity - count m.slots
 
-  -- the map with room for k more values, and for no more where they did not fit
+  -- the map `m` after it reserved `k` more values: exactly these, if its capacity was insufficient
   abbrev pub with_room : Slotted T → (k : ℕ) → Slotted T
   with_room m k =
       record m {
@@ -61,17 +61,17 @@ module _ {T : Type 0} where
             else count m.slots + k;
       }
 
-  -- a free slot, or a new one behind the others, has this key and its value
+  -- `new` has the key `k` with the value `x` in a slot that is free in `ss`, or in the next one
   pub record Puts (ss : List (Option (ℕ × T))) (k : Key) (x : T)
       (new : List (Option (ℕ × T))) : Type 0 where
     pub free : slot_at ss k.index ≡ None
     pub within : k.index ≤ length ss
     pub put : new ≡ with_at ss k.index (Some (k.serial, x))
 
-  -- the map with another value under a key that has one
+  -- the map `m` with the value `x` for the key `k`, which has one
   abbrev pub with_value : Slotted T → Key → T → Slotted T
   with_value m k x = record m { slots = slice_set m.slots k.index (Some (k.serial, x)) }
 
-  -- the map without the value of a key that has one
+  -- the map `m` without the value of the key `k`, which has one
   abbrev pub without : Slotted T → Key → Slotted T
   without m k = record m { slots = slice_set m.slots k.index None }

@@ -1,12 +1,13 @@
-//! The keys of a slot map with their values, one after the other.
+//! An iterator over the keys and values of a slot map.
 ghost use Rattle.std.specs.Iterator.{YieldsFirstBy, item_count};
 
 use crate::map::Key;
 use crate::slots::Slot;
 use std::marker::Model;
 
-/// The keys that are left, each with its value, in the order of their slots. A contract sees them as
-/// a list of pairs.
+/// An iterator over the keys and values of a slot map, in the order of the slots.
+///
+/// Returned by `SlotMap::iter`. A contract sees it as the list of the remaining pairs.
 #[derive(Drop)]
 pub struct Iter<'a, T> {
     pub(crate) slots: &'a [Slot<T>],
@@ -31,7 +32,7 @@ impl<'a, T> Iterator for Iter<'a, T> {
 
     ghost remaining = { item_count (λ rest. rest) };
 
-    /// The next key with its value, if one is left.
+    /// Returns the next key with its value, or `None` if none remains.
     fn next(&mut self) -> Option<(Key, &'a T)> {
         while self.at < self.slots.len() {
             let index = self.at;

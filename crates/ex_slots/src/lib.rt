@@ -1,5 +1,6 @@
-//! A slot map over any allocator: values that are found again by the keys that were given out for
-//! them, on the vector of the library.
+//! A slot map over any allocator: a map that issues a key for each value inserted.
+//!
+//! It is built on the library's vector.
 #![tactic(auto)]
 
 pub mod iter;

@@ -1,8 +1,8 @@
-//! The slot map: values by keys, none of which is given out twice.
+//! The slot map: a map from keys that it issues to values, in which no key is issued twice.
 ghost use Rattle.std.specs.Prelude.{◌≡◌, ◌≢◌, ◌+◌, ◌<◌, ◌^◌, [], length, is_some, nat_lt, if◌then◌else◌, None, Some, IfErr, IfOk, IfSome, IfNone, IsOk, OnErr, OnOk, option_copied};
 ghost use Rattle.std.specs.Borrow.{sem};
 ghost use Rattle.std.specs.Option.{option_copied_mut};
-ghost use Rattle.allocator_api2.specs.Refusals.{IsRefusedAt};
+ghost use Rattle.allocator_api2.specs.Errors.{IsErrorFor};
 ghost use Rattle.ex_slots.specs.Slotted.{count, entries, find, grown, with_room, without, HasRoom, Puts};
 ghost use Rattle.ex_slots.specs.declared.map.Key.{Key};
 
@@ -13,19 +13,23 @@ use allocator_api2::vec::Vec;
 use std::alloc::Allocator;
 use std::marker::Model;
 
-/// Names one value of the map that gave it out: its slot, and the number of this key among all that
-/// were given out. It has no mark of that map: in another it may find a value.
+/// A key of one value in the map that issued it.
+///
+/// It consists of the index of its slot, and its serial: the number of keys issued before it. It
+/// does not identify its map: in another map it may find a value.
 #[derive(Clone, Copy, PartialEq, Eq, Drop)]
 pub struct Key {
     pub(crate) index: usize,
     pub(crate) serial: u64,
 }
 
-/// Values by keys. A contract sees the slots, each free or with a value and the serial of its key;
-/// how many values there may be without further memory; and how many keys were given out.
+/// A slot map: it returns a key for each value inserted, which finds the value until it is removed.
 ///
-/// Use a key only with the map that returned it. Maps have no type of key of their own, and keys no
-/// mark of their map. So a key of another map finds a value where slot and number are the same.
+/// A contract sees a map as its slots, its capacity, and the number of keys issued. A slot is free,
+/// or has a value and the serial of its key.
+///
+/// Use a key only with the map that returned it. Maps have no key type of their own, and keys do
+/// not identify their map. So a key of another map finds a value if slot and serial are the same.
 #[derive(Drop)]
 pub struct SlotMap<T, A: Allocator> {
     slots: Vec<Slot<T>, A>,
@@ -38,9 +42,9 @@ impl<T, A: Allocator> Model for SlotMap<T, A> {
 
     ghost Value = { Slotted T };
 
-    ghost use Rattle.ex_slots.specs.Inside.{seen_of, IsSound};
+    ghost use Rattle.ex_slots.specs.Inside.{view_of, IsSound};
 
-    ghost view = { λ m. seen_of m.slots m.issued };
+    ghost view = { λ m. view_of m.slots m.issued };
 
     ghost invariant = { λ m. IsSound m.slots.items m.free };
 }
@@ -49,7 +53,9 @@ impl<T, A: Allocator> Model for SlotMap<T, A> {
 impl<T: Drop, A: Allocator> SlotMap<T, A> {
     ghost use Rattle.ex_slots.specs.Lends.{lends_value};
 
-    /// No values, and no keys given out. It takes no memory.
+    /// Returns an empty map that has issued no keys.
+    ///
+    /// Does not allocate.
     pub fn new_in(alloc: A) -> Self
         ensures slots { result.slots ≡ [] }
         ensures issued { result.issued ≡ 0 }
@@ -61,14 +67,14 @@ impl<T: Drop, A: Allocator> SlotMap<T, A> {
         }
     }
 
-    /// How many values there are.
+    /// Returns the number of values.
     pub fn len(&self) -> usize
         ensures { result ≡ count self.now.slots }
     {
         self.slots.len() - self.free.count
     }
 
-    /// The value of a key.
+    /// Returns a reference to the value of `key`, or `None` if it has none.
     pub fn get(&self, key: Key) -> Option<&T>
         ensures { option_copied result ≡ find self.now key }
     {
@@ -78,14 +84,14 @@ impl<T: Drop, A: Allocator> SlotMap<T, A> {
         }
     }
 
-    /// Whether the key has a value.
+    /// Returns `true` if the map has a value for `key`.
     pub fn contains_key(&self, key: Key) -> bool
         ensures { result ≡ is_some (find self.now key) }
     {
         self.get(key).is_some()
     }
 
-    /// The value of a key, to write to.
+    /// Returns a mutable reference to the value of `key`, or `None` if it has none.
     pub fn get_mut(&mut self, key: Key) -> Option<&mut T>
         ensures* writes_back { sem 𝓛 (lends_value T.row A.row A.Allocator self.entry key result) }
         ensures value { option_copied_mut result ≡ find self.old key }
@@ -97,7 +103,7 @@ impl<T: Drop, A: Allocator> SlotMap<T, A> {
         }
     }
 
-    /// The keys with their values, in the order of their slots.
+    /// Returns an iterator over the keys and their values, in the order of the slots.
     pub fn iter(&self) -> Iter<'_, T>
         ensures all { result ≡ entries self.now }
         ensures count { length result ≡ count self.now.slots }
@@ -108,34 +114,46 @@ impl<T: Drop, A: Allocator> SlotMap<T, A> {
         }
     }
 
-    /// Makes room for so many more values, and for no more where they do not fit. A refusal has the
-    /// number of values that room was asked for, and changes nothing.
+    /// Reserves capacity for exactly `additional` more values.
+    ///
+    /// Does not allocate if the capacity is already sufficient.
+    ///
+    /// # Errors
+    /// `CapacityOverflow` if the bytes exceed `isize::MAX`; `AllocError` with the requested
+    /// capacity, the number of values with `additional` more, if the allocation fails. The map is
+    /// unchanged.
     pub fn reserve(&mut self, additional: usize) -> Result<(), TryReserveError>
         ensures fits { HasRoom self.old additional → IsOk result }
-        ensures room { OnOk result (HasRoom self.new additional) }
-        ensures made { OnOk result (self.new ≡ with_room self.old additional) }
-        ensures number { IfErr result
-            (λ e. IsRefusedAt e (count self.old.slots + additional)) }
-        ensures refused { OnErr result (self.new ≡ self.old) }
+        ensures enough { OnOk result (HasRoom self.new additional) }
+        ensures reserved { OnOk result (self.new ≡ with_room self.old additional) }
+        ensures error { IfErr result
+            (λ e. IsErrorFor e (count self.old.slots + additional)) }
+        ensures unchanged { OnErr result (self.new ≡ self.old) }
     {
-        self.slots.known();
+        self.slots.prove_capacity_bounds();
         if additional <= self.free.count {
             return Ok(());
         }
         self.slots.try_reserve_exact(additional - self.free.count)
     }
 
-    // Makes room for one more value, and then for as many more as there are, four at least.
+    // Reserves capacity for one more value. If the map is full, doubles the capacity, or adds four
+    // if that is more.
     fn make_room(&mut self) -> Result<(), TryReserveError>
+        // If the map is not full, it succeeds.
         ensures fits { HasRoom self.old 1 → IsOk result }
-        ensures room { OnOk result (count self.new.slots < self.new.capacity) }
+
+        // On success, there is capacity for one more value. Only the capacity may change.
+        ensures enough { OnOk result (count self.new.slots < self.new.capacity) }
         ensures slots { self.new.slots ≡ self.old.slots }
         ensures issued { self.new.issued ≡ self.old.issued }
         ensures capacity { OnOk result (self.new.capacity ≡
             (if nat_lt (count self.old.slots) self.old.capacity then self.old.capacity
             else grown self.old.capacity)) }
-        ensures number { IfErr result (λ e. IsRefusedAt e (grown self.old.capacity)) }
-        ensures refused { OnErr result (self.new ≡ self.old) }
+
+        // An error has the requested capacity, and leaves the map unchanged.
+        ensures error { IfErr result (λ e. IsErrorFor e (grown self.old.capacity)) }
+        ensures unchanged { OnErr result (self.new ≡ self.old) }
     {
         let len = self.len();
         if len < self.slots.capacity() {
@@ -144,25 +162,37 @@ impl<T: Drop, A: Allocator> SlotMap<T, A> {
         self.reserve(len.max(4))
     }
 
-    /// Puts a value in, under a key that was not given out before. It takes memory only where no
-    /// slot is free and there is no room for another: then it asks for twice the room, or for four
-    /// more. A refusal has that number, hands the value back and changes nothing. Once
-    /// 2^64 - 1 keys were given out, it is `CapacityOverflow`.
+    /// Inserts `value` and returns its key, which was not issued before.
+    ///
+    /// Allocates only if the map is full, and then doubles its capacity, or adds four if that is
+    /// more.
+    ///
+    /// # Errors
+    /// `CapacityOverflow` if 2^64 - 1 keys were issued, or the bytes exceed `isize::MAX`;
+    /// `AllocError` with the requested capacity if the allocation fails.
+    /// The map is unchanged, and `value` is returned in the error.
     pub fn insert(&mut self, value: T) -> Result<Key, Refused<T>>
+        // If the map is not full, and keys remain to be issued, it succeeds.
         ensures fits { HasRoom self.old 1 → self.old.issued + 1 < 2 ^ 64 → IsOk result }
+
+        // On success, the key is new and finds the value; the other keys find what they found.
         ensures put { IfOk result (λ k. Puts self.old.slots k value self.new.slots) }
         ensures fresh { IfOk result (λ k. k.serial ≡ self.old.issued) }
         ensures issued { OnOk result (self.new.issued ≡ self.old.issued + 1) }
         ensures found { IfOk result (λ k. find self.new k ≡ Some value) }
         ensures others { IfOk result
             (λ k. (j : Key) → j ≢ k → find self.new j ≡ find self.old j) }
+
+        // There is one value more, and the capacity grows only if the map was full.
         ensures count { OnOk result (count self.new.slots ≡ count self.old.slots + 1) }
         ensures capacity { OnOk result (self.new.capacity ≡
             (if nat_lt (count self.old.slots) self.old.capacity then self.old.capacity
             else grown self.old.capacity)) }
-        ensures back { IfErr result (λ r. r.source ≡ value) }
-        ensures number { IfErr result (λ r. IsRefusedAt r.error (grown self.old.capacity)) }
-        ensures refused { OnErr result (self.new ≡ self.old) }
+
+        // An error returns the value, has the requested capacity, and leaves the map unchanged.
+        ensures returned { IfErr result (λ r. r.source ≡ value) }
+        ensures error { IfErr result (λ r. IsErrorFor r.error (grown self.old.capacity)) }
+        ensures unchanged { OnErr result (self.new ≡ self.old) }
     {
         let serial = self.issued;
         if serial == u64::MAX {
@@ -182,12 +212,17 @@ impl<T: Drop, A: Allocator> SlotMap<T, A> {
         Ok(Key { index, serial })
     }
 
-    /// Takes the value of a key out. The key has none from then on. It takes no memory.
+    /// Removes the value of `key` and returns it, or `None` if the key has none.
+    ///
+    /// Afterwards the key has no value. Does not allocate.
     pub fn remove(&mut self, key: Key) -> Option<T>
+        // It returns the value of the key. If there was none, nothing changes.
         ensures value { result ≡ find self.old key }
         ensures removed { IfSome result (λ _. self.new ≡ without self.old key) }
         ensures none { IfNone result (self.new ≡ self.old) }
-        ensures gone { find self.new key ≡ None }
+
+        // The key then has no value; the other keys find what they found.
+        ensures absent { find self.new key ≡ None }
         ensures others { (j : Key) → j ≢ key → find self.new j ≡ find self.old j }
         ensures count { IfSome result (λ _. count self.new.slots + 1 ≡ count self.old.slots) }
     {

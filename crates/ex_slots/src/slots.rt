@@ -1,4 +1,4 @@
-//! The slots of a map: each has a value or is free, and the free ones stand in a chain.
+//! The slots of a map: each has a value or is free, and the free slots form a linked list.
 ghost use Rattle.std.specs.Prelude.{◌≡◌, ◌<◌, ◌≤◌, [], ◌∷◌, ◌++◌, length, is_some, true, None, Some, option_copied, option_map, slice_set};
 ghost use Rattle.std.specs.Borrow.{sem, Lends};
 ghost use Rattle.ex_slots.specs.Inside.{held, rewritten, seen, value_of, IsSound};
@@ -9,16 +9,16 @@ use allocator_api2::vec::Vec;
 use std::alloc::Allocator;
 use std::mem;
 
-/// A place for one value.
+/// A slot for one value.
 #[derive(Drop)]
 pub enum Slot<T> {
-    /// No value: where the next free slot is, and how many of the chain are behind this one.
+    /// No value: the index of the next free slot, and the number of free slots after this one.
     Free(usize, usize),
     /// The serial of a key, and its value.
     Held(u64, T),
 }
 
-/// The free slots: where the first of them is, and how many they are.
+/// The list of free slots: the index of the first, and their number.
 #[derive(Clone, Copy)]
 pub struct Chain {
     pub first: usize,
@@ -28,7 +28,7 @@ pub struct Chain {
 impl<T> Slot<T> {
     ghost use Rattle.ex_slots.specs.contracts.slots.Slot.{the_row};
 
-    /// The value of the key with this serial.
+    /// Returns a reference to the value of the key with this serial, or `None` if it is not here.
     pub fn value(&self, serial: u64) -> Option<&T>
         ensures { option_copied result ≡ value_under serial (held self.now) }
     {
@@ -38,7 +38,7 @@ impl<T> Slot<T> {
         }
     }
 
-    /// The value that is here, to write to.
+    /// Returns a mutable reference to the value in this slot, which is not free.
     pub fn value_mut(&mut self) -> &mut T
         requires { is_some (held self.old) ≡ true }
         ensures* writes_back { sem 𝓛 (Lends (the_row T.row) T.row
@@ -51,7 +51,7 @@ impl<T> Slot<T> {
         }
     }
 
-    /// The value that was here.
+    /// Consumes the slot and returns its value, or `None` if it is free.
     pub fn into_value(self) -> Option<T>
         ensures { result ≡ value_of self }
     {
@@ -62,7 +62,7 @@ impl<T> Slot<T> {
     }
 }
 
-// Puts a value into the first free slot, and answers where that is.
+// Writes a value into the first free slot, and returns its index.
 fn put_first<T: Drop, A: Allocator>(
     slots: &mut Vec<Slot<T>, A>,
     free: &mut Chain,
@@ -74,27 +74,27 @@ fn put_first<T: Drop, A: Allocator>(
     ensures sound { IsSound slots.new.items free.new }
     ensures put { Puts (seen slots.old.items) (record { index = result; serial = serial }) value
         (seen slots.new.items) }
-    ensures room { slots.new.capacity ≡ slots.old.capacity }
+    ensures capacity { slots.new.capacity ≡ slots.old.capacity }
 {
     let at = free.first;
     match mem::replace(&mut slots[at], Slot::Held(serial, value)) {
-        Slot::Free(next, behind) => {
+        Slot::Free(next, after) => {
             free.first = next;
-            free.count = behind;
+            free.count = after;
         }
         Slot::Held(_, _) => unreachable!(),
     }
     at
 }
 
-// Puts a value into a new slot behind the others.
-#[tactic(auto, using(crate::proofs::Writing::behind))]
-fn put_behind<T, A: Allocator>(slots: &mut Vec<Slot<T>, A>, serial: u64, value: T) -> usize
+// Appends a new slot with a value, and returns its index.
+#[tactic(auto, using(crate::proofs::Writing::after))]
+fn push_new<T, A: Allocator>(slots: &mut Vec<Slot<T>, A>, serial: u64, value: T) -> usize
     requires { length slots.old.items < slots.old.capacity }
-    ensures behind { slots.new.items ≡ slots.old.items ++ Held serial value ∷ [] }
+    ensures pushed { slots.new.items ≡ slots.old.items ++ Held serial value ∷ [] }
     ensures put { Puts (seen slots.old.items) (record { index = result; serial = serial }) value
         (seen slots.new.items) }
-    ensures room { slots.new.capacity ≡ slots.old.capacity }
+    ensures capacity { slots.new.capacity ≡ slots.old.capacity }
 {
     let at = slots.len();
     match slots.push_within_capacity(Slot::Held(serial, value)) {
@@ -104,8 +104,9 @@ fn put_behind<T, A: Allocator>(slots: &mut Vec<Slot<T>, A>, serial: u64, value: 
     at
 }
 
-/// Puts a value into a free slot or behind the others, where there is room for one, and answers
-/// where it is.
+/// Writes a value into a free slot, or into a new one if no slot is free, and returns its index.
+///
+/// Does not allocate: there is capacity for one more value.
 pub fn put<T: Drop, A: Allocator>(
     slots: &mut Vec<Slot<T>, A>,
     free: &mut Chain,
@@ -117,29 +118,34 @@ pub fn put<T: Drop, A: Allocator>(
     ensures sound { IsSound slots.new.items free.new }
     ensures put { Puts (seen slots.old.items) (record { index = result; serial = serial }) value
         (seen slots.new.items) }
-    ensures room { slots.new.capacity ≡ slots.old.capacity }
+    ensures capacity { slots.new.capacity ≡ slots.old.capacity }
 {
     if free.count == 0 {
-        put_behind(slots, serial, value)
+        push_new(slots, serial, value)
     } else {
         put_first(slots, free, serial, value)
     }
 }
 
-/// Takes the value out of a slot, which is the first free one then.
+/// Removes the value from a slot and returns it. The slot is then the first free one.
+///
+/// Does not allocate.
 pub fn release<T: Drop, A: Allocator>(
     slots: &mut Vec<Slot<T>, A>,
     free: &mut Chain,
     at: usize,
 ) -> Option<T>
+    // The slot has a value.
     requires sound { IsSound slots.old.items free.old }
     requires held { is_some (slot_at (seen slots.old.items) at) ≡ true }
+
+    // The value is returned, and the slot is free.
     ensures sound { IsSound slots.new.items free.new }
     ensures value { result ≡ option_map (λ e. e.1) (slot_at (seen slots.old.items) at) }
     ensures freed { seen slots.new.items ≡ slice_set (seen slots.old.items) at None }
-    ensures room { slots.new.capacity ≡ slots.old.capacity }
+    ensures capacity { slots.new.capacity ≡ slots.old.capacity }
 {
-    slots.known();
+    slots.prove_capacity_bounds();
     let old = mem::replace(&mut slots[at], Slot::Free(free.first, free.count));
     free.first = at;
     free.count += 1;

@@ -15,9 +15,9 @@ encoded_same r x s t fr fx e =
     let whole : a ++ (r ++ s) ≡ b ++ (x ++ t) = sym (append_assoc a r s) ∙ e ∙ append_assoc b x t in
     let first : a ≡ b = sym (take_at a (r ++ s) 8 refl) ∙ ap (take 8) whole ∙ take_at b (x ++ t) 8 refl in
     let count : length r ≡ length x = sym (from_le_bytes-to_le_bytes_8 (length r) fr) ∙ ap (from_le_bytes w64) first ∙ from_le_bytes-to_le_bytes_8 (length x) fx in
-    let behind : r ++ s ≡ x ++ t = sym (drop_at a (r ++ s) 8 refl) ∙ ap (drop 8) whole ∙ drop_at b (x ++ t) 8 refl in (
-      sym (take_at r s (length r) refl) ∙ ap (take (length r)) behind ∙ take_at x t (length r) (sym count),
-      sym (drop_at r s (length r) refl) ∙ ap (drop (length r)) behind ∙ drop_at x t (length r) (sym count),
+    let after : r ++ s ≡ x ++ t = sym (drop_at a (r ++ s) 8 refl) ∙ ap (drop 8) whole ∙ drop_at b (x ++ t) 8 refl in (
+      sym (take_at r s (length r) refl) ∙ ap (take (length r)) after ∙ take_at x t (length r) (sym count),
+      sym (drop_at r s (length r) refl) ∙ ap (drop (length r)) after ∙ drop_at x t (length r) (sym count),
     )
 
 -- what begins with the bytes of some records begins with these records
@@ -32,7 +32,7 @@ split (x ∷ xs) (r ∷ rs) rest fx fr e =
     let more = split xs rs rest fx.1 fr.1 same.1 in
     (more.0, (λ i. same.0 i ∷ more.1 i), more.2, more.3)
 
--- the bytes so far are these records, and the rest is to come
+-- the bytes so far are these records, and `rest` is to come
 pub record IsDecoding (bytes rest : List ℕ) (rs : List (List ℕ)) : Type 0 where
   pub whole : encoding rs ++ rest ≡ bytes
   pub fit : AllFit rs
@@ -47,7 +47,7 @@ no_records bytes rest rs d some none all fits e =
     ] in
     stops cut.0 cut.2 cut.3
 
--- and where nothing is left, they are just the records so far
+-- and if none remain, they are just the records so far
 pub those_records : (bytes rest : List ℕ) (rs : List (List ℕ)) → IsDecoding bytes rest rs → length rest ≡ 0 → (all : List (List ℕ)) → AllFit all → encoding all ≡ bytes → rs ≡ all
 those_records bytes rest rs d none all fits e =
     let cut = split rs all rest d.fit fits (e ∙ sym d.whole) in

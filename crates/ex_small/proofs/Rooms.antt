@@ -1,10 +1,10 @@
--- What is put into the room that a vector made.
+-- What is appended within reserved capacity.
 use Rattle.std.proofs.Common.{◌≡◌, ℕ, ◌+◌, ◌-◌, ◌≤◌, List, ◌++◌, length, ap, ◌∙◌, arith, append_assoc, length-append}
 use Rattle.allocator_api2.proofs.Callers.{callers}
 use Rattle.allocator_api2.specs.Vector.{Vector, GrowsTo, Holds, HasRoom}
 
 module _ {T A : Type 0} (size n : ℕ) (old mid : Vector T A) (made : GrowsTo size old n old.items mid) (next : Vector T A) (xs : List T) (first : Holds mid (mid.items ++ xs) next) where
-  -- the second of two lists fits, where room was made for both
+  -- the second of two lists fits, if capacity for both was reserved
   pub HasRoom_second : (ys : List T) → n ≡ length xs + length ys → HasRoom next (length ys)
   HasRoom_second ys e =
       let left : n ≤ mid.capacity - length mid.items = search callers in

@@ -1,35 +1,40 @@
--- A line with a cursor in it.
+-- A line with a cursor: what contracts see of an editor.
 use Rattle.std.specs.Prelude.{ℕ, ◌+◌, ◌-◌, ◌≤◌, List, ◌++◌, length}
 use Rattle.allocator_api2.specs.Buffer.{Buffer}
-use Rattle.ex_small.specs.Held.{room}
+use Rattle.ex_small.specs.Held.{reserved_capacity}
 
--- what is before the cursor, what is after it, and how long the line may be without further memory
+-- the bytes before the cursor, those after it, and the capacity of the line
 pub record Line : Type 0 where
   pub before : List ℕ
   pub after : List ℕ
-  pub capacity : ℕ  -- how many bytes there may be
+  pub capacity : ℕ  -- how many bytes fit before the line allocates
 
--- the line that a gap buffer holds
+-- the line in the gap buffer `b`
 abbrev pub line_of : {A : Type 0} → Buffer ℕ A → Line
 line_of b = record { before = b.before; after = b.after; capacity = b.capacity }
 
--- the whole line
+-- all bytes of the line `l`
 abbrev pub text : Line → List ℕ
 text l = l.before ++ l.after
 
--- the same capacity, other bytes
+-- `l` with these bytes before and after the cursor
 abbrev pub with_parts : Line → (before after : List ℕ) → Line
 with_parts l before after = record { before = before; after = after; capacity = l.capacity }
 
--- how long the line is
+-- the length of the line `l`
 abbrev pub len : Line → ℕ
 len l = length l.before + length l.after
 
--- k more bytes fit
+-- `k` more bytes fit in `l`
 abbrev pub HasRoom : Line → ℕ → Type 0
 HasRoom l k = k ≤ l.capacity - len l
 
--- l with room for k more bytes
+-- `l` after capacity for `k` more bytes was reserved
 abbrev pub with_room : Line → (k : ℕ) → Line
 with_room l k =
-    record { before = l.before; after = l.after; capacity = room 1 l.capacity (len l) k }
+    record {
+      before = l.before;
+      after = l.after;
+      capacity = reserved_capacity 1 l.capacity
+          (len l) k;
+    }

@@ -6,8 +6,9 @@ use allocator_api2::gap_buffer::GapBuffer;
 use std::alloc::Allocator;
 use std::marker::Model;
 
-/// A line of bytes with a cursor. A contract sees what is before the cursor, what is after it, and
-/// how long the line may be without further memory.
+/// A line of bytes with a cursor.
+///
+/// Contracts see the bytes before the cursor, the bytes after it, and the capacity of the line.
 #[derive(Drop)]
 pub struct Editor<A: Allocator> {
     line: GapBuffer<u8, A>,
@@ -28,7 +29,9 @@ impl<A: Allocator> Model for Editor<A> {
 impl<A: Allocator> Editor<A> {
     ghost use Rattle.ex_small.specs.Editor.{text, with_parts, with_room, HasRoom};
 
-    /// An empty line. It takes no memory.
+    /// Returns an empty line.
+    ///
+    /// Does not allocate.
     pub fn new_in(alloc: A) -> Self
         ensures { result ≡ record { before = []; after = []; capacity = 0 } }
     {
@@ -37,40 +40,49 @@ impl<A: Allocator> Editor<A> {
         }
     }
 
-    /// What is before the cursor.
+    /// Returns the bytes before the cursor.
     pub fn before(&self) -> &[u8]
         ensures { result.now ≡ self.now.before }
     {
         self.line.before()
     }
 
-    /// What is after the cursor.
+    /// Returns the bytes after the cursor.
     pub fn after(&self) -> &[u8]
         ensures { result.now ≡ self.now.after }
     {
         self.line.after()
     }
 
-    /// Makes room for so many more bytes, with some to spare where they do not fit. A refusal
-    /// changes nothing.
+    /// Reserves capacity for at least `additional` more bytes.
+    ///
+    /// Does nothing if they fit. Else allocates as a gap buffer that doubles does.
+    ///
+    /// # Errors
+    /// `CapacityOverflow` or `AllocError`, as `GapBuffer::reserve` returns them. The line is
+    /// unchanged.
     pub fn reserve(&mut self, additional: usize) -> Result<(), TryReserveError>
         ensures fits { HasRoom self.old additional → IsOk result × (self.new ≡ self.old) }
-        ensures room { OnOk result (HasRoom self.new additional) }
-        ensures made { OnOk result (self.new ≡ with_room self.old additional) }
-        ensures refused { OnErr result (self.new ≡ self.old) }
+        ensures enough { OnOk result (HasRoom self.new additional) }
+        ensures reserved { OnOk result (self.new ≡ with_room self.old additional) }
+        ensures unchanged { OnErr result (self.new ≡ self.old) }
     {
         self.line.reserve(additional)
     }
 
-    /// Types bytes at the cursor: all of them, or none where memory is refused. Where there is room
-    /// it takes none.
+    /// Inserts `bytes` before the cursor: all of them, or none.
+    ///
+    /// Does not allocate if they fit.
+    ///
+    /// # Errors
+    /// `CapacityOverflow` or `AllocError`, as `reserve` returns them. The line is unchanged.
     pub fn type_in(&mut self, bytes: &[u8]) -> Result<(), TryReserveError>
         ensures fits { HasRoom self.old (length bytes.now)
             → IsOk result × (self.new.capacity ≡ self.old.capacity) }
         ensures typed { OnOk result
             (self.new ≡ with_parts (with_room self.old (length bytes.now))
             (self.old.before ++ bytes.now) self.old.after) }
-        ensures refused { OnErr result (self.new ≡ self.old) }
+        ensures unchanged { OnErr result (self.new ≡ self.old) }
     {
         self.line.reserve(bytes.len())?;
         for byte in bytes {
@@ -82,16 +94,18 @@ impl<A: Allocator> Editor<A> {
         Ok(())
     }
 
-    /// Takes the byte before the cursor away, and gives it, if there is one.
+    /// Removes the byte before the cursor and returns it, or returns `None` if there is none.
+    ///
+    /// Does not allocate, and does not change the capacity.
     pub fn backspace(&mut self) -> Option<u8>
         ensures taken { MatchOption result ((self.old.before ≡ []) × (self.new.before ≡ []))
             (λ x. self.old.before ≡ self.new.before ++ x ∷ []) }
-        ensures rest { self.new ≡ with_parts self.old self.new.before self.old.after }
+        ensures kept { self.new ≡ with_parts self.old self.new.before self.old.after }
     {
         self.line.delete_back()
     }
 
-    /// Moves the cursor behind so many bytes, or to the end where there are fewer.
+    /// Moves the cursor to `position`, or to the end if the line is shorter.
     pub fn go_to(&mut self, position: usize)
         ensures { let at = min position (length (text self.old))
             in self.new ≡ with_parts self.old (take at (text self.old)) (drop at (text self.old)) }

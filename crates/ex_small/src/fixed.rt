@@ -1,18 +1,18 @@
-//! A vector of a fixed capacity on a block of its own: one request for memory when it is made, and
-//! none after it.
+//! A vector of fixed capacity, built on a block: it allocates when it is made, and never again.
 ghost use Rattle.std.specs.Prelude.{◌≡◌, ◌<◌, [], ◌∷◌, ◌++◌, length, IfOk, IfErr, OnOk, IsOk, MatchOption};
 ghost use Rattle.std.specs.Mem.{type_size};
-ghost use Rattle.allocator_api2.specs.Growth.{sized};
-ghost use Rattle.allocator_api2.specs.Refusals.{RefusesBlock};
-ghost use Rattle.ex_small.specs.Held.{none_of, with_items};
+ghost use Rattle.allocator_api2.specs.Growth.{new_capacity};
+ghost use Rattle.allocator_api2.specs.Errors.{AllocationFails};
+ghost use Rattle.ex_small.specs.Held.{empty, with_items};
 
 use allocator_api2::collections::TryReserveError;
 use allocator_api2::raw_vec::RawVec;
 use std::alloc::Allocator;
 use std::marker::Model;
 
-/// As many values as it was made for, and no more. A contract sees the values and how many there
-/// may be.
+/// A vector with the capacity that it was made with.
+///
+/// Contracts see the values and the capacity.
 pub struct Fixed<T, A: Allocator> {
     block: RawVec<T, A>,
     len: usize,
@@ -32,33 +32,36 @@ impl<T, A: Allocator> Model for Fixed<T, A> {
 
 #[tactic(auto, using(allocator_api2::proofs::Blocks::at_ends))]
 impl<T, A: Allocator> Fixed<T, A> {
-    /// No values, and room for `capacity` of them; values without size have room for `usize::MAX`.
-    /// It takes memory here alone. A refusal is `CapacityOverflow`, or `AllocError` with this
-    /// capacity.
+    /// Returns an empty vector with capacity for `capacity` values.
+    ///
+    /// The capacity for zero-sized values is `usize::MAX`. This is the only call that allocates.
+    ///
+    /// # Errors
+    /// `CapacityOverflow`, or `AllocError` with `capacity`, if the allocation fails.
     #[tactic(auto, using(allocator_api2::proofs::Blocks::with_room))]
     pub fn with_capacity_in(capacity: usize, alloc: A) -> Result<Self, TryReserveError>
-        ensures made { IfOk result (λ v. v ≡ none_of (sized (type_size T.row) capacity)) }
-        ensures refused { IfErr result (RefusesBlock capacity (type_size T.row)) }
+        ensures made { IfOk result (λ v. v ≡ empty (new_capacity (type_size T.row) capacity)) }
+        ensures error { IfErr result (AllocationFails capacity (type_size T.row)) }
     {
         let block = RawVec::with_capacity_in(capacity, alloc)?;
         Ok(Fixed { block, len: 0 })
     }
 
-    /// How many values there are.
+    /// Returns the number of values.
     pub fn len(&self) -> usize
         ensures { result ≡ length self.now.items }
     {
         self.len
     }
 
-    /// How many there may be.
+    /// Returns the number of values that the vector can hold.
     pub fn capacity(&self) -> usize
         ensures { result ≡ self.now.capacity }
     {
         self.block.capacity()
     }
 
-    /// The values.
+    /// Returns the values as a slice.
     #[tactic(auto, using(allocator_api2::proofs::Blocks::shown))]
     pub fn as_slice(&self) -> &[T]
         ensures { result.now ≡ self.now.items }
@@ -66,8 +69,12 @@ impl<T, A: Allocator> Fixed<T, A> {
         self.block.slice(0, self.len)
     }
 
-    /// Puts a value behind the last, unless it is full: then it hands the value back and changes
-    /// nothing.
+    /// Appends `item`.
+    ///
+    /// Does not allocate.
+    ///
+    /// # Errors
+    /// Returns `item` if the vector is full. The vector is unchanged.
     pub fn push(&mut self, item: T) -> Result<(), T>
         ensures fits { length self.old.items < self.old.capacity → IsOk result }
         ensures pushed { OnOk result
@@ -83,11 +90,11 @@ impl<T, A: Allocator> Fixed<T, A> {
         Ok(())
     }
 
-    /// Takes the last value, if there is one.
+    /// Removes the last value and returns it, or returns `None` if the vector is empty.
     pub fn pop(&mut self) -> Option<T>
         ensures taken { MatchOption result ((self.old.items ≡ []) × (self.new.items ≡ []))
             (λ x. self.old.items ≡ self.new.items ++ x ∷ []) }
-        ensures rest { self.new ≡ with_items self.old self.new.items }
+        ensures kept { self.new ≡ with_items self.old self.new.items }
     {
         if self.len == 0 {
             return None;
@@ -101,7 +108,7 @@ impl<T, A: Allocator> Fixed<T, A> {
 
 #[tactic(auto, using(allocator_api2::proofs::Blocks::in_runs))]
 impl<T: Drop, A: Allocator> Drop for Fixed<T, A> {
-    /// Drops the values in order, and gives the memory back.
+    /// Drops the values in order, and deallocates the block.
     fn drop(self) {
         let Fixed { mut block, len } = self;
         block.drop_run(0, len);

@@ -1,4 +1,4 @@
-//! Records: each is its length in 8 bytes, the low one first, and then its bytes.
+//! Records: each is its length in eight bytes, the least significant first, and then its bytes.
 ghost use Rattle.std.specs.Prelude.{◌≡◌, ℕ, ◌<◌, List, ◌++◌, length, map, IfOk, IfSome, IsOk, IsSomeAnd, MatchOption, OnOk, OnErr};
 ghost use Rattle.std.specs.Io.KnownBytes.{Appends};
 ghost use Rattle.allocator_api2.specs.Vector.{GrowsTo, HasRoom, Holds};
@@ -10,7 +10,7 @@ use allocator_api2::vec::Vec;
 use std::alloc::Allocator;
 use std::io::{Error, ErrorKind, Result as Written, Write};
 
-/// Puts a record behind what a writer holds.
+/// Writes `entry` as a record to `writer`.
 pub fn write_record<W: Write>(writer: &mut W, entry: &[u8]) -> Written<()>
     ensures { OnOk result
         (Appends (W.contents writer.old) (W.contents writer.new) (encoded entry.now)) }
@@ -20,17 +20,21 @@ pub fn write_record<W: Write>(writer: &mut W, entry: &[u8]) -> Written<()>
     writer.write_all(entry)
 }
 
-/// Puts a record behind the bytes of a vector. It is there whole, or not at all; where there is
-/// room it takes no memory.
+/// Appends `entry` as a record to the bytes of a vector: all of it, or nothing.
+///
+/// Does not allocate if the record fits.
+///
+/// # Errors
+/// `CapacityOverflow` or `AllocError`, as `Vec::try_reserve` returns them. The vector is unchanged.
 #[tactic(auto, using(crate::proofs::Rooms::rooms, allocator_api2::proofs::Callers::became))]
 pub fn push_record<A: Allocator>(log: &mut Vec<u8, A>, entry: &[u8]) -> Result<(), TryReserveError>
     ensures fits { HasRoom log.old (length (encoded entry.now)) → IsOk result }
     ensures pushed { OnOk result
         (GrowsTo 1 log.old (length (encoded entry.now))
         (log.old.items ++ encoded entry.now) log.new) }
-    ensures refused { OnErr result (log.new ≡ log.old) }
+    ensures unchanged { OnErr result (log.new ≡ log.old) }
 {
-    log.known();
+    log.prove_capacity_bounds();
     let count = (entry.len() as u64).to_le_bytes();
     let Some(more) = entry.len().checked_add(count.len()) else {
         return Err(TryReserveErrorKind::CapacityOverflow.into());
@@ -41,7 +45,7 @@ pub fn push_record<A: Allocator>(log: &mut Vec<u8, A>, entry: &[u8]) -> Result<(
     Ok(())
 }
 
-// Puts bytes behind those of a vector that has room for them.
+// Appends `bytes` to a vector, in which they must fit.
 fn put<A: Allocator>(log: &mut Vec<u8, A>, bytes: &[u8])
     requires { HasRoom log.old (length bytes.now) }
     ensures { Holds log.old (log.old.items ++ bytes.now) log.new }
@@ -52,7 +56,10 @@ fn put<A: Allocator>(log: &mut Vec<u8, A>, bytes: &[u8])
     }
 }
 
-/// The bytes of all records, one after the other.
+/// Returns the bytes of all records, one after the other, as a boxed slice.
+///
+/// # Errors
+/// An error of the writer, or `OutOfMemory` if the boxed slice cannot be allocated.
 pub fn encode<A: Allocator>(records: &[&[u8]], alloc: A) -> Written<BoxedSlice<u8, A>>
     ensures { IfOk result (λ b. b.items ≡ encoding (map (λ r. r.now) records.now)) }
 {
@@ -66,7 +73,8 @@ pub fn encode<A: Allocator>(records: &[&[u8]], alloc: A) -> Written<BoxedSlice<u
     }
 }
 
-// The first record, and what is behind it.
+// Returns the first record and the bytes after it, or `None` if the bytes do not start with a
+// record.
 fn next_record(bytes: &[u8]) -> Option<(&[u8], &[u8])>
     ensures cases { MatchOption result ((r t : List ℕ) → Fits r → encoded r ++ t ≡ bytes.now → ⊥)
         (λ p. (encoded p.0.now ++ p.1.now ≡ bytes.now) × Fits p.0.now) }
@@ -82,7 +90,13 @@ fn next_record(bytes: &[u8]) -> Option<(&[u8], &[u8])>
     Some(tail.split_at(count as usize))
 }
 
-/// The records that these bytes are, if they are any.
+/// Returns the records whose encoding is `bytes`, or `None` if `bytes` is not an encoding of
+/// records.
+///
+/// Allocates a vector of the records, which are slices of `bytes`.
+///
+/// # Errors
+/// `CapacityOverflow` or `AllocError`, as `Vec::push` returns them.
 pub fn decode<'a, A: Allocator>(
     bytes: &'a [u8],
     alloc: A,
@@ -96,13 +110,13 @@ pub fn decode<'a, A: Allocator>(
     let mut records = Vec::new_in(alloc);
     let mut rest = bytes;
     while !rest.is_empty() {
-        let Some((entry, behind)) = next_record(rest) else {
+        let Some((entry, tail)) = next_record(rest) else {
             return Ok(None);
         };
         if let Err(refused) = records.push(entry) {
             return Err(refused.error);
         }
-        rest = behind;
+        rest = tail;
     }
     Ok(Some(records))
 }

@@ -4,7 +4,7 @@ use Rattle.std.proofs.lemmas.Bool.{cases_eq, cases_lt}
 use Rattle.std.proofs.lemmas.List.{length-replicate}
 use Rattle.ex_table.specs.Slots.{tag_at, IsIndex, IsSlots}
 use Rattle.ex_table.specs.Places.{AreFree, hashes_of}
-use Rattle.ex_table.specs.declared.slots.Beyond.{Beyond}
+use Rattle.ex_table.specs.declared.slots.Overflow.{Overflow}
 use Rattle.ex_table.proofs.Moving.{all-free, past}
 use Rattle.ex_table.proofs.Naming.{none-taken}
 use Rattle.ex_table.proofs.Placed.{hash-none, length-hashes}
@@ -17,8 +17,8 @@ module _ {K V : Type 0} (ts : List ℕ) (old new : List (Option (K × V))) where
     | inr n ↦ elim (cases_lt s (length ts)) [ inl l ↦ gone s (omega arith) l n | inr m ↦ absurd (n (past ts s m)) ]
   ]
 
-  -- freed slots name none
-  pub index-cleared : (h : K → ℕ) (bs : List Beyond) → IsSlots ts bs → length ts ≤ length new → ((s : ℕ) → get_or new s None ≡ None) → {ts' : List ℕ} {bs' : List Beyond} → ts' ≡ replicate (length ts) 0 → length bs' ≡ length bs → IsIndex ts' bs' (hashes_of h new)
-  index-cleared h bs slots many none {ts'} {bs'} tags beyond =
+  -- freed slots index no key
+  pub index-cleared : (h : K → ℕ) (bs : List Overflow) → IsSlots ts bs → length ts ≤ length new → ((s : ℕ) → get_or new s None ≡ None) → {ts' : List ℕ} {bs' : List Overflow} → ts' ≡ replicate (length ts) 0 → length bs' ≡ length bs → IsIndex ts' bs' (hashes_of h new)
+  index-cleared h bs slots many none {ts'} {bs'} tags overflows =
       let same : length ts' ≡ length ts = ap length tags ∙ length-replicate (length ts) 0 in
-      none-taken ts' bs' (hashes_of h new) (record { blocks = rw same slots.blocks; each = omega (arith, same, beyond, slots.each); more = omega (arith, same, slots.more) }) (omega (arith, same, many, length-hashes h new)) (hash-none h new none) (all-free ts' (tags ∙ ap (λ n. replicate n 0) (sym same)))
+      none-taken ts' bs' (hashes_of h new) (record { groups = rw same slots.groups; each = omega (arith, same, overflows, slots.each); more = omega (arith, same, slots.more) }) (omega (arith, same, many, length-hashes h new)) (hash-none h new none) (all-free ts' (tags ∙ ap (λ n. replicate n 0) (sym same)))

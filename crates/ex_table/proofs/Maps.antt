@@ -1,4 +1,4 @@
--- What stands in places, as a map: what becomes of it where a place is filled or emptied, and where keys change places.
+-- The entries in places as a map: the effect of filling or emptying a place, and of moving entries.
 use Rattle.std.proofs.Common.{All, Bool, inl, inr, List, None, Option, Some, [], ap, arith, cond, eqb, get_or, length, refl, set, suc, subst, sym, true, zero, ℕ, ◌+◌, ◌<◌, ◌∙◌, ◌∷◌, ◌≡◌, ◌≢◌, ◌≤◌}
 use Rattle.std.specs.Prelude.{IsPermutation}
 use Rattle.std.specs.Cmp.{IsEquivalence}
@@ -98,7 +98,7 @@ module _ {K V : Type 0} (eq : K → K → Bool) where
     pub map-new : (k : K) (v : V) (es new : List (K × V)) → IsPermutation ((k, v) ∷ es) new → keys_like eq k es ≡ 0 → IsMap eq es → IsMap eq new
     map-new k v es new p n m = map-permuted ((k, v) ∷ es) new p (λ q. elim (cases_Bool (eq q k)) [ inl t ↦ grind (arith, keys-cons q (k, v) es, alike-keys q k es t) | inr f ↦ grind (arith, keys-cons q (k, v) es, m q) ])
 
-    -- a key is gone
+    -- a key is removed
     pub map-gone : (e : K × V) (es new : List (K × V)) → IsPermutation es (e ∷ new) → IsMap eq es → IsMap eq new
     map-gone e es new p m q = omega (arith, map-permuted es (e ∷ new) p m q, keys-cons q e new)
 

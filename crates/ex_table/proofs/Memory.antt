@@ -3,14 +3,14 @@ use Rattle.std.proofs.Common.{Bool, List, None, Option, arith, false, inl, inr, 
 use Rattle.std.specs.Prelude.{◌==◌, if◌then◌else◌}
 use Rattle.std.proofs.lemmas.List.{length-replicate}
 use Rattle.allocator_api2.specs.Growth.{usize_max}
-use Rattle.allocator_api2.specs.Places.{empty_places, endless_places}
+use Rattle.allocator_api2.specs.Places.{empty_places, zst_places}
 use Rattle.ex_table.specs.Slots.{HasPlaces, IsMemory, IsSlotCount}
 
-length-endless : (X : Type 0) → length (endless_places {X = X}) ≡ usize_max
-unfolding endless_places
+length-endless : (X : Type 0) → length (zst_places {X = X}) ≡ usize_max
+unfolding zst_places
 length-endless X = length-replicate {A = Option X} usize_max None
 
-chosen : (X : Type 0) (t : Bool) (n : ℕ) → HasPlaces n (length (if t then endless_places {X = X} else replicate n None))
+chosen : (X : Type 0) (t : Bool) (n : ℕ) → HasPlaces n (length (if t then zst_places {X = X} else replicate n None))
 chosen X true n = inr (omega (arith, length-endless X))
 chosen X false n = inl (length-replicate {A = Option X} n None)
 

@@ -1,10 +1,10 @@
--- Keys that go from some places into others.
+-- Keys that are moved from some places to others.
 use Rattle.std.proofs.Common.{Bool, true, false, replicate, List, None, Option, Some, [], ap, arith, get_or, length, refl, set, suc, subst, zero, ℕ, ◌+◌, ◌<◌, ◌∙◌, ◌∷◌, ◌≡◌, ◌≤◌, ◌++◌}
 use Rattle.std.specs.Prelude.{IsPermutation, ◌==◌, if◌then◌else◌}
 use Rattle.std.proofs.lemmas.List.{append-nil, length-append}
 use Rattle.std.proofs.lemmas.List.Sorted.{IsPermutation-trans, IsPermutation-middle, IsPermutation-append_left, IsPermutation-append_right, length_permutation}
 use Rattle.allocator_api2.specs.Growth.{usize_max}
-use Rattle.allocator_api2.specs.Places.{somes, empty_places, endless_places}
+use Rattle.allocator_api2.specs.Places.{somes, empty_places, zst_places}
 use Rattle.ex_table.specs.Slots.{tag_at}
 use Rattle.ex_table.proofs.Maps.{emptied, filled}
 
@@ -52,8 +52,8 @@ module _ {X : Type 0} where
   none-of (suc n) zero = refl
   none-of (suc n) (suc s) = none-of n s
 
-  endless-none : (s : ℕ) → get_or {A = Option X} endless_places s None ≡ None
-  unfolding endless_places
+  endless-none : (s : ℕ) → get_or {A = Option X} zst_places s None ≡ None
+  unfolding zst_places
   endless-none s = none-of usize_max s
 
   either : (t : Bool) (cs ds : List (Option X)) (s : ℕ) → get_or cs s None ≡ None → get_or ds s None ≡ None → get_or (if t then cs else ds) s None ≡ None
@@ -61,7 +61,7 @@ module _ {X : Type 0} where
   either false cs ds s c d = d
 
   pub empty-at : (size n s : ℕ) → get_or {A = Option X} (empty_places size n) s None ≡ None
-  empty-at size n s = either (size == 0) endless_places (replicate n None) s (endless-none s) (none-of n s)
+  empty-at size n s = either (size == 0) zst_places (replicate n None) s (endless-none s) (none-of n s)
 
 -- past the last slot there is no tag
 pub past : (ts : List ℕ) (s : ℕ) → length ts ≤ s → tag_at ts s ≡ 0

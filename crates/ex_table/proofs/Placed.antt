@@ -1,4 +1,4 @@
--- Keys in places, and what slots tell of them.
+-- Keys in places, and the index that has their slots.
 use Rattle.std.proofs.Common.{Bool, List, None, Option, Some, [], ap, arith, cond, false, get_or, length, refl, set, suc, true, zero, ℕ, ◌+◌, ◌<◌, ◌∙◌, ◌∷◌, ◌≡◌, ◌≢◌, ◌≤◌, ◌==◌}
 use Rattle.std.specs.Prelude.{count_by, is_some}
 use Rattle.std.specs.Map.{set_value}
@@ -8,8 +8,8 @@ use Rattle.std.proofs.lemmas.List.Sums.{sum_by-cons}
 use Rattle.allocator_api2.specs.Places.{somes}
 use Rattle.ex_table.specs.Contents.{keys_like}
 use Rattle.ex_table.specs.Slots.{tag_at, IsIndex}
-use Rattle.ex_table.specs.Places.{AreKeys, AreFree, AreHeld, IsNamed, has_key, hashes_of, key_at}
-use Rattle.ex_table.specs.declared.slots.Beyond.{Beyond}
+use Rattle.ex_table.specs.Places.{AreKeys, AreFree, AreHeld, IsReachable, has_key, hashes_of, key_at}
+use Rattle.ex_table.specs.declared.slots.Overflow.{Overflow}
 use Rattle.ex_table.proofs.Maps.{keys-cons}
 
 module _ {X : Type 0} where
@@ -76,7 +76,7 @@ module _ {K V : Type 0} (h : K → ℕ) where
   length-hashes [] = refl
   length-hashes (c ∷ cs) = ap suc (length-hashes cs)
 
-  module _ {ts : List ℕ} {bs : List Beyond} (cs : List (Option (K × V))) (index : IsIndex ts bs (hashes_of h cs)) where
+  module _ {ts : List ℕ} {bs : List Overflow} (cs : List (Option (K × V))) (index : IsIndex ts bs (hashes_of h cs)) where
     pub hash-here : (s : ℕ) (e : K × V) → get_or cs s None ≡ Some e → get_or (hashes_of h cs) s None ≡ Some (h e.0)
     hash-here s e at = rw (hash-at cs s, at) refl
 
@@ -89,7 +89,7 @@ module _ {K V : Type 0} (h : K → ℕ) where
 
     free-at : (s : ℕ) (o : Option (K × V)) → get_or cs s None ≡ o → tag_at ts s ≡ 0 → o ≡ None
     free-at s None at z = refl
-    free-at s (Some e) at z = absurd (let x = index.named s (h e.0) (hash-here s e at) in omega (arith, x.tag, z))
+    free-at s (Some e) at z = absurd (let x = index.reachable s (h e.0) (hash-here s e at) in omega (arith, x.tag, z))
 
     pub free : AreFree ts cs
     free s z = free-at s (get_or cs s None) refl z
@@ -98,8 +98,8 @@ module _ {K V : Type 0} (h : K → ℕ) where
     places = omega (arith, index.places, length-hashes cs)
 
     module _ {eq : K → K → Bool} (keys : AreKeys eq h) where
-      pub named : (k : K) (hash : ℕ) → hash ≡ h k → IsNamed eq ts bs cs hash k
-      named k hash e s t = let x = entry-at eq k cs s t in rw (e, keys.agree k x.entry.0 x.here) (index.named s (h x.entry.0) (hash-here s x.entry x.at))
+      pub reachable : (k : K) (hash : ℕ) → hash ≡ h k → IsReachable eq ts bs cs hash k
+      reachable k hash e s t = let x = entry-at eq k cs s t in rw (e, keys.agree k x.entry.0 x.here) (index.reachable s (h x.entry.0) (hash-here s x.entry x.at))
 
   -- no key, no hash
   pub hash-none : (cs : List (Option (K × V))) → ((s : ℕ) → get_or cs s None ≡ None) → (s : ℕ) → get_or (hashes_of h cs) s None ≡ None

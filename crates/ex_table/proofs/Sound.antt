@@ -1,4 +1,4 @@
--- A table stays one: a key comes, goes, or is given way to by its equal.
+-- A table remains one: a key is inserted, removed, or replaced by its equal.
 use Rattle.std.proofs.Common.{Bool, List, None, Option, Some, [], ap, arith, false, get_or, length, refl, set, subst, suc, sym, true, zero, ℕ, ◌+◌, ◌<◌, ◌∙◌, ◌∷◌, ◌≡◌, ◌≤◌}
 use Rattle.std.specs.Prelude.{IsPermutation, ◌⊎◌, ◌^◌}
 use Rattle.std.proofs.lemmas.List.{length-set}
@@ -6,14 +6,14 @@ use Rattle.std.proofs.lemmas.List.Sorted.{length_permutation}
 use Rattle.allocator_api2.specs.Block.{Block}
 use Rattle.allocator_api2.specs.Places.{somes}
 use Rattle.std.specs.Map.{set_value}
-use Rattle.ex_table.specs.Inside.{filled_in}
-use Rattle.ex_table.specs.Contents.{Filled, value, keys_like, IsMap, Sets}
+use Rattle.ex_table.specs.Inside.{view_of}
+use Rattle.ex_table.specs.Contents.{TableView, value, keys_like, IsMap, Sets}
 use Rattle.ex_table.specs.Slots.{IsIndex, IsMemory}
 use Rattle.ex_table.specs.Places.{AreFindable, AreFree, AreHeld, AreKeys, IsIndexed, IsTable, hashes_of, key_at, tags_of}
-use Rattle.ex_table.specs.declared.index.Named.{Named}
+use Rattle.ex_table.specs.declared.index.HashIndex.{HashIndex}
 use Rattle.ex_table.proofs.Maps.{alike-keys, emptied, filled, gone, map-gone, map-new, map-permuted, sets-gone, sets-new, value-gone, value-none, value-permuted}
 use Rattle.ex_table.proofs.Moving.{none-left}
-use Rattle.ex_table.proofs.Placed.{free, hash-here, hashes-set, held, named, nowhere, places, value-written}
+use Rattle.ex_table.proofs.Placed.{free, hash-here, hashes-set, held, reachable, nowhere, places, value-written}
 
 module _ {X : Type 0} where
   set-set : (cs : List X) (s : ℕ) (x y : X) → set (set cs s x) s y ≡ set cs s y
@@ -37,30 +37,30 @@ module _ {X : Type 0} where
   some-within (c ∷ cs) zero x e = omega arith
   some-within (c ∷ cs) (suc s) x e = omega (arith, some-within cs s x e)
 
-  -- one value stands for another
+  -- one value is replaced by another
   pub swapped-one : (cs : List (Option X)) (s : ℕ) (x y : X) → get_or cs s None ≡ Some x → IsPermutation (y ∷ somes (set cs s None)) (somes (set cs s (Some y)))
   swapped-one cs s x y e =
       subst (λ ds. IsPermutation (y ∷ somes (set cs s None)) (somes ds)) (set-set cs s None (Some y)) (filled (set cs s None) s y (omega (arith, length-set cs s None, some-within cs s x e)) (get-set cs s))
 
 module _ {K V A : Type 0} (eq : K → K → Bool) (h : K → ℕ) where
-  held-any : (cs : List (Option (K × V))) (i : Option (Named A)) → IsIndexed eq h i cs → AreHeld (tags_of i) cs
+  held-any : (cs : List (Option (K × V))) (i : Option (HashIndex A)) → IsIndexed eq h i cs → AreHeld (tags_of i) cs
   held-any cs None x = λ s l n. absurd (omega arith)
   held-any cs (Some i) x = held h cs x
 
-  free-any : (cs : List (Option (K × V))) (i : Option (Named A)) → IsIndexed eq h i cs → AreFree (tags_of i) cs
+  free-any : (cs : List (Option (K × V))) (i : Option (HashIndex A)) → IsIndexed eq h i cs → AreFree (tags_of i) cs
   free-any cs None x = λ s z. x s
   free-any cs (Some i) x = free h cs x
 
-  placed-any : (cs : List (Option (K × V))) (i : Option (Named A)) → IsIndexed eq h i cs → length (tags_of i) ≤ length cs
+  placed-any : (cs : List (Option (K × V))) (i : Option (HashIndex A)) → IsIndexed eq h i cs → length (tags_of i) ≤ length cs
   placed-any cs None x = omega arith
   placed-any cs (Some i) x = places h cs x
 
 module _ {K V A : Type 0} {eq : K → K → Bool} {h : K → ℕ} where
-  find-any : (cs : List (Option (K × V))) (keys : AreKeys eq h) (i : Option (Named A)) → IsIndexed eq h i cs → (k : K) (hash : ℕ) → hash ≡ h k → AreFindable eq i cs hash k
+  find-any : (cs : List (Option (K × V))) (keys : AreKeys eq h) (i : Option (HashIndex A)) → IsIndexed eq h i cs → (k : K) (hash : ℕ) → hash ≡ h k → AreFindable eq i cs hash k
   find-any cs keys None x k hash e = x
-  find-any cs keys (Some i) x k hash e = record { slots = x.slots; held = held h cs x; named = named h cs x keys k hash e }
+  find-any cs keys (Some i) x k hash e = record { slots = x.slots; held = held h cs x; reachable = reachable h cs x keys k hash e }
 
-  module _ {b : Block (K × V) A} {index : Option (Named A)} {count capacity : ℕ} (t : IsTable eq h b index count capacity) where
+  module _ {b : Block (K × V) A} {index : Option (HashIndex A)} {count capacity : ℕ} (t : IsTable eq h b index count capacity) where
     pub findable : (k : K) (hash : ℕ) → hash ≡ h k → AreFindable eq index b.places hash k
     findable = find-any b.places t.keys index t.indexed
 
@@ -122,12 +122,12 @@ module _ {K V A : Type 0} {eq : K → K → Bool} {h : K → ℕ} where
       hash-same : h y.0 ≡ h e.0
       hash-same = sym (t.keys.agree k y.0 same) ∙ t.keys.agree k e.0 here
 
-      still : (i : Option (Named A)) → IsIndexed eq h i b.places → IsIndexed eq h i (set b.places s (Some y))
+      still : (i : Option (HashIndex A)) → IsIndexed eq h i b.places → IsIndexed eq h i (set b.places s (Some y))
       still None x = absurd (let other : None ≡ Some e = sym (x s) ∙ at in cc)
       still (Some i) x =
           let hs = hashes_of h b.places in
           let same : set hs s (Some (h y.0)) ≡ hs = set-same hs s (Some (h y.0)) None (some-within hs s (h e.0) (hash-here h b.places x s e at)) (hash-here h b.places x s e at ∙ ap Some (sym hash-same)) in
-          subst (IsIndex i.tags.items i.beyond.items) (sym (hashes-set h b.places s (Some y) ∙ same)) x
+          subst (IsIndex i.tags.items i.overflows.items) (sym (hashes-set h b.places s (Some y) ∙ same)) x
 
       pub written : (new : Block (K × V) A) → new.places ≡ set b.places s (Some y) → IsTable eq h new index count capacity
       written new p = rw p (record {
@@ -141,7 +141,7 @@ module _ {K V A : Type 0} {eq : K → K → Bool} {h : K → ℕ} where
         small = t.small;
       })
 
-    -- an entry goes
+    -- an entry is removed
     module _ (k : K) (s : ℕ) (e : K × V) (at : get_or b.places s None ≡ Some e) (here : eq k e.0 ≡ true) where
       pub without : IsPermutation (somes b.places) (e ∷ somes (set b.places s None))
       without = emptied b.places s e at
@@ -152,13 +152,13 @@ module _ {K V A : Type 0} {eq : K → K → Bool} {h : K → ℕ} where
       pub one-less : length (somes (set b.places s None)) + 1 ≡ length (somes b.places)
       one-less = omega (arith, length_permutation (somes b.places) (e ∷ somes (set b.places s None)) without)
 
-      pub removed : (i j : Named A) (new : Block (K × V) A) (left : ℕ) → new.places ≡ set b.places s None → length j.tags.items ≡ length i.tags.items
-          → IsIndex j.tags.items j.beyond.items (set (hashes_of h b.places) s None) → (capacity ≡ 0 ⊎ capacity < length i.tags.items) → IsMemory capacity (length i.tags.items) (length b.places) → left + 1 ≡ count
+      pub removed : (i j : HashIndex A) (new : Block (K × V) A) (left : ℕ) → new.places ≡ set b.places s None → length j.tags.items ≡ length i.tags.items
+          → IsIndex j.tags.items j.overflows.items (set (hashes_of h b.places) s None) → (capacity ≡ 0 ⊎ capacity < length i.tags.items) → IsMemory capacity (length i.tags.items) (length b.places) → left + 1 ≡ count
           → IsTable eq h new (Some j) left capacity
       removed i j new left p slots index room memory less = rw p (record {
         keys = t.keys;
         once = map-gone eq t.keys.equality e (somes b.places) (somes (set b.places s None)) without t.once;
-        indexed = subst (IsIndex j.tags.items j.beyond.items) (sym (hashes-set h b.places s None)) index;
+        indexed = subst (IsIndex j.tags.items j.overflows.items) (sym (hashes-set h b.places s None)) index;
         room = rw slots room;
         memory = rw (slots, length-set b.places s None) memory;
         counted = omega (arith, one-less, less, t.counted);
@@ -166,18 +166,18 @@ module _ {K V A : Type 0} {eq : K → K → Bool} {h : K → ℕ} where
         small = t.small;
       })
 
-    -- a new entry comes
+    -- a new entry is inserted
     module _ (e : K × V) (s : ℕ) (l : s < length b.places) (empty : get_or b.places s None ≡ None) (new-key : keys_like eq e.0 (somes b.places) ≡ 0) where
       pub with-one : IsPermutation (e ∷ somes b.places) (somes (set b.places s (Some e)))
       with-one = filled b.places s e l empty
 
-      pub added : (i j : Named A) (new : Block (K × V) A) → new.places ≡ set b.places s (Some e) → length j.tags.items ≡ length i.tags.items
-          → IsIndex j.tags.items j.beyond.items (set (hashes_of h b.places) s (Some (h e.0))) → (capacity ≡ 0 ⊎ capacity < length i.tags.items) → IsMemory capacity (length i.tags.items) (length b.places) → count + 1 ≤ capacity
+      pub added : (i j : HashIndex A) (new : Block (K × V) A) → new.places ≡ set b.places s (Some e) → length j.tags.items ≡ length i.tags.items
+          → IsIndex j.tags.items j.overflows.items (set (hashes_of h b.places) s (Some (h e.0))) → (capacity ≡ 0 ⊎ capacity < length i.tags.items) → IsMemory capacity (length i.tags.items) (length b.places) → count + 1 ≤ capacity
           → IsTable eq h new (Some j) (count + 1) capacity
       added i j new p slots index room memory more = rw p (record {
         keys = t.keys;
         once = map-new eq t.keys.equality e.0 e.1 (somes b.places) (somes (set b.places s (Some e))) with-one new-key t.once;
-        indexed = subst (IsIndex j.tags.items j.beyond.items) (sym (hashes-set h b.places s (Some e))) index;
+        indexed = subst (IsIndex j.tags.items j.overflows.items) (sym (hashes-set h b.places s (Some e))) index;
         room = rw slots room;
         memory = rw (slots, length-set b.places s (Some e)) memory;
         counted = omega (arith, t.counted, length_permutation (e ∷ somes b.places) (somes (set b.places s (Some e))) with-one);
@@ -186,7 +186,7 @@ module _ {K V A : Type 0} {eq : K → K → Bool} {h : K → ℕ} where
       })
 
     -- all entries have other places
-    pub moved : (new : Block (K × V) A) (i : Option (Named A)) (room : ℕ) → IsPermutation (somes b.places) (somes new.places) → IsIndexed eq h i new.places → (room ≡ 0 ⊎ room < length (tags_of i)) → IsMemory room (length (tags_of i)) (length new.places) → count ≤ room → room < 2 ^ 32
+    pub moved : (new : Block (K × V) A) (i : Option (HashIndex A)) (room : ℕ) → IsPermutation (somes b.places) (somes new.places) → IsIndexed eq h i new.places → (room ≡ 0 ⊎ room < length (tags_of i)) → IsMemory room (length (tags_of i)) (length new.places) → count ≤ room → room < 2 ^ 32
         → IsTable eq h new i count room
     moved new i room p indexed slots memory within small = record {
       keys = t.keys;
@@ -201,7 +201,7 @@ module _ {K V A : Type 0} {eq : K → K → Bool} {h : K → ℕ} where
 
 module _ {K V A : Type 0} (eq : K → K → Bool) (h : K → ℕ) where
   -- a table without keys
-  pub none-in : (keys : AreKeys eq h) (b : Block (K × V) A) (i : Option (Named A)) (capacity : ℕ) → ((s : ℕ) → get_or b.places s None ≡ None) → IsIndexed eq h i b.places → (capacity ≡ 0 ⊎ capacity < length (tags_of i)) → IsMemory capacity (length (tags_of i)) (length b.places) → capacity < 2 ^ 32 → IsTable eq h b i 0 capacity
+  pub none-in : (keys : AreKeys eq h) (b : Block (K × V) A) (i : Option (HashIndex A)) (capacity : ℕ) → ((s : ℕ) → get_or b.places s None ≡ None) → IsIndexed eq h i b.places → (capacity ≡ 0 ⊎ capacity < length (tags_of i)) → IsMemory capacity (length (tags_of i)) (length b.places) → capacity < 2 ^ 32 → IsTable eq h b i 0 capacity
   none-in keys b i capacity empty indexed room memory small =
       let none : somes b.places ≡ [] = none-left b.places empty in
       record {
@@ -216,10 +216,10 @@ module _ {K V A : Type 0} (eq : K → K → Bool) (h : K → ℕ) where
       }
 
 -- the key has another value
-abbrev pub put : {K V S : Type 0} → (K → K → Bool) → K → V → Filled K V S → Filled K V S
+abbrev pub put : {K V S : Type 0} → (K → K → Bool) → K → V → TableView K V S → TableView K V S
 put eq k v f = record { entries = set_value (eq k) f.entries v; capacity = f.capacity; builder = f.builder }
 
--- a table with a value written through what was lent
+-- a table with a value written through a mutable borrow
 pub written-filled : {K V S : Type 0} (eq : K → K → Bool) (k : K) (cs : List (Option (K × V))) (s : ℕ) (e : K × V) (v : V) → get_or cs s None ≡ Some e → eq k e.0 ≡ true → keys_like eq k (somes cs) ≤ 1
-    → {b : S} {room : ℕ} {f : Filled K V S} → filled_in b cs room ≡ f → filled_in b (set cs s (Some (e.0, v))) room ≡ put eq k v f
+    → {b : S} {room : ℕ} {f : TableView K V S} → view_of b cs room ≡ f → view_of b (set cs s (Some (e.0, v))) room ≡ put eq k v f
 written-filled eq k cs s e v at here once {b} {room} seen = ap (λ xs. record { entries = xs; capacity = room; builder = b }) (value-written eq k cs s e v at here once) ∙ ap (put eq k v) seen

@@ -1,8 +1,8 @@
--- What a table is inside.
+-- The view of the fields of a table.
 use Rattle.std.specs.Prelude.{ℕ, List, Option}
 use Rattle.allocator_api2.specs.Places.{somes}
-use Rattle.ex_table.specs.Contents.{Filled}
+use Rattle.ex_table.specs.Contents.{TableView}
 
--- what the places are to the table's users
-abbrev pub filled_in : {K V S : Type 0} → S → List (Option (K × V)) → ℕ → Filled K V S
-filled_in b cs capacity = record { entries = somes cs; capacity = capacity; builder = b }
+-- the view of a table with the builder `b`, the places `cs` and this capacity
+abbrev pub view_of : {K V S : Type 0} → S → List (Option (K × V)) → ℕ → TableView K V S
+view_of b cs capacity = record { entries = somes cs; capacity = capacity; builder = b }

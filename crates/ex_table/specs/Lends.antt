@@ -1,4 +1,4 @@
--- What a table ends as, once a `&mut` into it has ended.
+-- The final state of a table after a mutable borrow of one of its values has ended.
 use Rattle.std.specs.Prelude.{Bool, Option}
 use Rattle.std.specs.Borrow.{Fml, RattleType, MutBor, LendsIf}
 use Rattle.std.specs.Hash.{HashWrites}
@@ -6,17 +6,18 @@ use Rattle.std.specs.Map.{set_value}
 use Rattle.std.specs.declared.alloc.Allocator as alloc
 use Rattle.std.specs.declared.hash.Hasher as hasher
 use Rattle.std.specs.declared.hash.BuildHasher as builder
-use Rattle.ex_table.specs.Contents.{Filled}
+use Rattle.ex_table.specs.Contents.{TableView}
 use Rattle.ex_table.specs.contracts.table.Table.{the_row}
 
--- what a clause has as `K.Hash`
+-- equality and hash input of the keys, as a clause names them `K.Hash`
 abbrev pub OfKeys : Type 0 → Type 0
 OfKeys K = record { eq : K → K → Bool; hash_input : K → HashWrites }
 
--- the key has the last value written through r, and without r the table stays as it is
+-- the final state of the table `t`: `k` has the last value written through `r`, or the table is
+-- unchanged if `r` is `None`
 abbrev pub lends_value : (K V S A H : RattleType) (g : OfKeys K.Denot)
     (b : builder.Ghosts S.Denot H.Denot) (w : hasher.Ghosts H.Denot) (a : alloc.Ghosts A.Denot)
-    → MutBor (Filled K.Denot V.Denot S.Denot) → K.Denot → Option (MutBor V.Denot) → Fml
+    → MutBor (TableView K.Denot V.Denot S.Denot) → K.Denot → Option (MutBor V.Denot) → Fml
 lends_value K V S A H g b w a t key r =
     LendsIf (the_row K V S A H (record { eq = g.eq }) (record { hash_input = g.hash_input }) b w a)
     V t r

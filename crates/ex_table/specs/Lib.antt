@@ -1,6 +1,6 @@
 pub mod Slots
 pub mod Contents
 pub mod Places
-pub mod Iterated
+pub mod Remaining
 pub mod Inside
 pub mod Lends

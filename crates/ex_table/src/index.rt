@@ -1,26 +1,26 @@
-//! What names the keys of a table by their hashes, and where a key is found.
+//! The index of a table: finds the slot of a key by the hash of the key.
 ghost use Rattle.std.specs.Prelude.{◌≡◌, ◌≢◌, ℕ, ◌+◌, ◌*◌, ◌/◌, ◌<◌, ◌≤◌, suc, true, false, List, Option, None, Some, length, get_or, slice_set, replicate, count_by, ◌==◌, IfSome, IfNone};
 ghost use Rattle.allocator_api2.specs.Places.{IsFilled};
-ghost use Rattle.ex_table.specs.Slots.{tag_at, tag_of, window_of, reach_of, IsSlots, IsIndex};
-ghost use Rattle.ex_table.specs.Places.{key_at, hashes, tags_of, AreHeld, Lacks, IsNamed, AreFindable};
+ghost use Rattle.ex_table.specs.Slots.{tag_at, tag_of, probe_start, reach_of, IsSlots, IsIndex};
+ghost use Rattle.ex_table.specs.Places.{key_at, hashes, tags_of, AreHeld, Lacks, IsReachable, AreFindable};
 
 use crate::slots::{
-    Beyond, WINDOW, block_after, clear_all, goes_on, home, put, reach, release, slot_of, slot_past,
-    tag,
+    GROUP_SIZE, Overflow, clear_all, has_overflow, home, probe_group, put, reach, release, slot_of,
+    slot_past, tag,
 };
 use allocator_api2::raw_vec::RawVec;
 use allocator_api2::vec::Vec;
 use std::alloc::Allocator;
 use std::hash::{BuildHasher, Hash, Hasher};
 
-/// The tags of all slots, and what is told of each.
+/// The tags and the overflow bytes of all slots.
 #[derive(Drop)]
-pub struct Named<A: Allocator> {
+pub struct HashIndex<A: Allocator> {
     pub tags: Vec<u8, A>,
-    pub beyond: Vec<Beyond, A>,
+    pub overflows: Vec<Overflow, A>,
 }
 
-/// The number that a key is looked for by.
+/// Returns the hash of a key.
 #[tactic(auto, unfolding(crate::specs::Places::hash_by))]
 #[inline(always)]
 pub fn hash_of<K: Eq + Hash, S: BuildHasher>(builder: &S, key: &K) -> u64
@@ -31,7 +31,7 @@ pub fn hash_of<K: Eq + Hash, S: BuildHasher>(builder: &S, key: &K) -> u64
     state.finish()
 }
 
-// Whether this key is in the place.
+// Returns `true` if the key in this slot is equal to `key`.
 #[inline(always)]
 fn is_at<K: Eq, V, A: Allocator>(places: &RawVec<(K, V), A>, slot: usize, key: &K) -> bool
     requires { IsFilled places.now.places slot }
@@ -40,7 +40,8 @@ fn is_at<K: Eq, V, A: Allocator>(places: &RawVec<(K, V), A>, slot: usize, key: &
     *key == places.place(slot).0
 }
 
-// The slot of a key with this tag, of the sixteen from `from` on.
+// Returns the slot of the key in the group from `from` on, or `None` if no slot with this tag has
+// it.
 #[inline]
 fn slot_with<K: Eq, V, A: Allocator>(
     tags: &[u8],
@@ -57,7 +58,7 @@ fn slot_with<K: Eq, V, A: Allocator>(
     ensures none { IfNone result (Lacks K.eq tags.now places.now.places from tag key.now) }
 {
     let mut past = 0;
-    'each: while past < WINDOW {
+    'each: while past < GROUP_SIZE {
         let Some(slot) = slot_past(tags, from, past, tag) else {
             return None;
         };
@@ -69,49 +70,49 @@ fn slot_with<K: Eq, V, A: Allocator>(
     None
 }
 
-// The slot of a key past its first window, block by block.
+// Returns the slot of a key outside its home group, searching group by group.
 #[cold]
 #[inline(never)]
-fn far_slot<K: Eq, V, A: Allocator>(
+fn find_overflow<K: Eq, V, A: Allocator>(
     tags: &[u8],
-    beyond: &[Beyond],
+    overflows: &[Overflow],
     places: &RawVec<(K, V), A>,
     hash: u64,
     key: &K,
 ) -> Option<usize>
-    requires slots { IsSlots tags.now beyond.now }
+    requires slots { IsSlots tags.now overflows.now }
     requires held { AreHeld tags.now places.now.places }
     ensures some { IfSome result (λ s. (s < length tags.now)
         × (key_at K.eq key.now places.now.places s ≡ true)) }
-    ensures none { IfNone result ((step : ℕ) → step < reach_of beyond.now (length tags.now) hash
+    ensures none { IfNone result ((step : ℕ) → step < reach_of overflows.now (length tags.now) hash
         → Lacks K.eq tags.now places.now.places
-        (window_of (length tags.now) hash (suc step)) (tag_of hash) key.now) }
+        (probe_start (length tags.now) hash (suc step)) (tag_of hash) key.now) }
 {
     let tag = tag(hash);
     let from = home(hash, tags.len());
-    let blocks = tags.len() / WINDOW;
-    'each: for before in 0..reach(beyond, from, blocks) {
-        let at = block_after(from / WINDOW, before + 1, blocks);
-        if let Some(slot) = slot_with(tags, at * WINDOW, tag, places, key) {
+    let groups = tags.len() / GROUP_SIZE;
+    'each: for before in 0..reach(overflows, from, groups) {
+        let at = probe_group(from / GROUP_SIZE, before + 1, groups);
+        if let Some(slot) = slot_with(tags, at * GROUP_SIZE, tag, places, key) {
             return Some(slot);
         }
     }
     None
 }
 
-// The slot of a key with this hash: of the first window, or past it.
+// Like `find`, but never inlined: compares all slots with the tag, in the home group and after it.
 #[cold]
 #[inline(never)]
-fn find_any<K: Eq, V, A: Allocator>(
+fn find_slow<K: Eq, V, A: Allocator>(
     tags: &[u8],
-    beyond: &[Beyond],
+    overflows: &[Overflow],
     places: &RawVec<(K, V), A>,
     hash: u64,
     key: &K,
 ) -> Option<usize>
-    requires slots { IsSlots tags.now beyond.now }
+    requires slots { IsSlots tags.now overflows.now }
     requires held { AreHeld tags.now places.now.places }
-    requires named { IsNamed K.eq tags.now beyond.now places.now.places hash key.now }
+    requires reachable { IsReachable K.eq tags.now overflows.now places.now.places hash key.now }
     ensures found { IfSome result (λ s. (s < length tags.now)
         × (key_at K.eq key.now places.now.places s ≡ true)) }
     ensures absent { IfNone result ((s : ℕ) → key_at K.eq key.now places.now.places s ≡ false) }
@@ -120,26 +121,28 @@ fn find_any<K: Eq, V, A: Allocator>(
     if let Some(slot) = slot_with(tags, from, tag(hash), places, key) {
         return Some(slot);
     }
-    if goes_on(beyond, from) {
-        far_slot(tags, beyond, places, hash, key)
+    if has_overflow(overflows, from) {
+        find_overflow(tags, overflows, places, hash, key)
     } else {
         None
     }
 }
 
-/// The slot of a key with this hash. Mostly the first slot with its tag tells, or
-/// that there is none.
+/// Returns the slot of a key with this hash, or `None` if the key is absent.
+///
+/// Compares `key` with the first key of the home group that has its tag. The search continues only
+/// if that is another key, or if keys overflowed the home group.
 #[inline(always)]
 pub fn find<K: Eq, V, A: Allocator>(
     tags: &[u8],
-    beyond: &[Beyond],
+    overflows: &[Overflow],
     places: &RawVec<(K, V), A>,
     hash: u64,
     key: &K,
 ) -> Option<usize>
-    requires slots { IsSlots tags.now beyond.now }
+    requires slots { IsSlots tags.now overflows.now }
     requires held { AreHeld tags.now places.now.places }
-    requires named { IsNamed K.eq tags.now beyond.now places.now.places hash key.now }
+    requires reachable { IsReachable K.eq tags.now overflows.now places.now.places hash key.now }
     ensures found { IfSome result (λ s. (s < length tags.now)
         × (key_at K.eq key.now places.now.places s ≡ true)) }
     ensures absent { IfNone result ((s : ℕ) → key_at K.eq key.now places.now.places s ≡ false) }
@@ -152,19 +155,19 @@ pub fn find<K: Eq, V, A: Allocator>(
             }
         }
         None => {
-            if goes_on(beyond, from) {
-                return far_slot(tags, beyond, places, hash, key);
+            if has_overflow(overflows, from) {
+                return find_overflow(tags, overflows, places, hash, key);
             }
             return None;
         }
     }
-    find_any(tags, beyond, places, hash, key)
+    find_slow(tags, overflows, places, hash, key)
 }
 
-/// The slot of a key with this hash, where there are any.
+/// Returns the slot of a key with this hash, or `None` if the key is absent or there is no index.
 #[inline(always)]
 pub fn find_in<K: Eq, V, A: Allocator>(
-    index: &Option<Named<A>>,
+    index: &Option<HashIndex<A>>,
     places: &RawVec<(K, V), A>,
     hash: u64,
     key: &K,
@@ -177,7 +180,7 @@ pub fn find_in<K: Eq, V, A: Allocator>(
     match index {
         Some(made) => find(
             made.tags.as_slice(),
-            made.beyond.as_slice(),
+            made.overflows.as_slice(),
             places,
             hash,
             key,
@@ -186,61 +189,79 @@ pub fn find_in<K: Eq, V, A: Allocator>(
     }
 }
 
-/// Puts a new key with its value into a free place, and answers which.
+/// Inserts an absent key with its value into a free slot, and returns the slot.
+///
+/// Does not allocate.
 #[inline(always)]
 pub fn put_new<K: Eq, V, A: Allocator>(
-    index: &mut Named<A>,
+    index: &mut HashIndex<A>,
     places: &mut RawVec<(K, V), A>,
     hash: u64,
     entry: (K, V),
 ) -> usize
-    requires slots { IsSlots index.old.tags.items index.old.beyond.items }
+    // There is a free slot, and a place for each slot.
+    requires slots { IsSlots index.old.tags.items index.old.overflows.items }
     requires free { 0 < count_by (λ t. t == 0) index.old.tags.items }
     requires places { length index.old.tags.items ≤ length places.old.places }
+
+    // The result was free, and has the entry and the tag of the hash.
     ensures within { result < length index.old.tags.items }
     ensures was_free { tag_at index.old.tags.items result ≡ 0 }
     ensures tags { index.new.tags.items ≡ slice_set index.old.tags.items result (tag_of hash) }
     ensures put { places.new.places ≡ slice_set places.old.places result (Some entry) }
+
+    // The index remains one, with the hash in this slot.
     ensures index { (hs : List (Option ℕ))
-        → IsIndex index.old.tags.items index.old.beyond.items hs
-        → IsIndex index.new.tags.items index.new.beyond.items (slice_set hs result (Some hash)) }
+        → IsIndex index.old.tags.items index.old.overflows.items hs
+        → IsIndex index.new.tags.items index.new.overflows.items (slice_set hs result (Some hash)) }
 {
-    let slot = put(index.tags.as_mut_slice(), index.beyond.as_mut_slice(), hash);
+    let slot = put(
+        index.tags.as_mut_slice(),
+        index.overflows.as_mut_slice(),
+        hash,
+    );
     places.put(slot, entry);
     slot
 }
 
-/// Takes a key with its value out of its place.
+/// Removes a key with its value from its slot, and returns them.
+///
+/// Does not allocate.
 #[inline(always)]
 pub fn take_out<K: Eq, V, A: Allocator>(
-    index: &mut Named<A>,
+    index: &mut HashIndex<A>,
     places: &mut RawVec<(K, V), A>,
     hash: u64,
     slot: usize,
 ) -> (K, V)
-    requires slots { IsSlots index.old.tags.items index.old.beyond.items }
+    // The slot has an entry.
+    requires slots { IsSlots index.old.tags.items index.old.overflows.items }
     requires within { slot < length index.old.tags.items }
     requires filled { IsFilled places.old.places slot }
+
+    // The entry is returned, and the slot is free.
     ensures value { get_or places.old.places slot None ≡ Some result }
     ensures taken { places.new.places ≡ slice_set places.old.places slot None }
     ensures tags { index.new.tags.items ≡ slice_set index.old.tags.items slot 0 }
+
+    // The index remains one, without a hash in this slot.
     ensures index { (hs : List (Option ℕ))
-        → IsIndex index.old.tags.items index.old.beyond.items hs
+        → IsIndex index.old.tags.items index.old.overflows.items hs
         → get_or hs slot None ≡ Some hash
-        → IsIndex index.new.tags.items index.new.beyond.items (slice_set hs slot None) }
+        → IsIndex index.new.tags.items index.new.overflows.items (slice_set hs slot None) }
 {
     release(
         index.tags.as_mut_slice(),
-        index.beyond.as_mut_slice(),
+        index.overflows.as_mut_slice(),
         hash,
         slot,
     );
     places.take(slot)
 }
 
-/// The tags of all slots, none before the first key.
+/// Returns the tags of all slots, or an empty slice if there is no index.
 #[inline]
-pub fn tags_in<A: Allocator>(index: &Option<Named<A>>) -> &[u8]
+pub fn tags_in<A: Allocator>(index: &Option<HashIndex<A>>) -> &[u8]
     ensures { result.now ≡ tags_of index.now }
 {
     match index {
@@ -250,9 +271,9 @@ pub fn tags_in<A: Allocator>(index: &Option<Named<A>>) -> &[u8]
 }
 
 /// Frees all slots.
-pub fn free_all<A: Allocator>(index: &mut Named<A>)
+pub fn free_all<A: Allocator>(index: &mut HashIndex<A>)
     ensures tags { index.new.tags.items ≡ replicate (length index.old.tags.items) 0 }
-    ensures beyond { length index.new.beyond.items ≡ length index.old.beyond.items }
+    ensures overflows { length index.new.overflows.items ≡ length index.old.overflows.items }
 {
-    clear_all(index.tags.as_mut_slice(), index.beyond.as_mut_slice());
+    clear_all(index.tags.as_mut_slice(), index.overflows.as_mut_slice());
 }

@@ -1,4 +1,4 @@
-//! The keys of a table with their values, one after the other, from either end.
+//! Double-ended iterators over the keys and values of a table.
 ghost use Rattle.std.specs.Prelude.{◌≡◌, ◌≤◌, length, Some, IfSome};
 ghost use Rattle.std.specs.Iterator.{YieldsFirst, YieldsFirstBy, YieldsLast, YieldsLastBy, UpTo, item_count};
 ghost use Rattle.std.specs.Iterator.SizeHint.{IsWithinCount};
@@ -6,27 +6,29 @@ ghost use Rattle.allocator_api2.specs.Places.{somes};
 ghost use Rattle.ex_table.specs.Places.{tags_of, AreFree, AreHeld};
 
 use crate::growth::drop_between;
-use crate::index::{Named, tags_in};
+use crate::index::{HashIndex, tags_in};
 use crate::slots::{last_taken, next_taken};
 use allocator_api2::raw_vec::RawVec;
 use std::alloc::Allocator;
 use std::iter::FusedIterator;
 use std::marker::Model;
 
-// What an iterator tells that has so many left.
+// Returns the size hint of an iterator with `left` remaining items.
 #[inline]
-fn exactly(left: usize) -> (usize, Option<usize>)
+fn exact_hint(left: usize) -> (usize, Option<usize>)
     ensures { result ≡ (left, Some left) }
 {
     (left, Some(left))
 }
 
-/// The keys that are left, each with its value. A contract sees them as a list of pairs.
+/// An iterator over the keys and values of a table.
+///
+/// Returned by `Table::iter`. A contract sees it as the list of the remaining pairs.
 #[derive(Drop)]
 pub struct Iter<'a, K, V, A: Allocator> {
     tags: &'a [u8],
     places: &'a RawVec<(K, V), A>,
-    // the slots that are left, and how many of them have a key
+    // the remaining slots, and the number of keys in them
     from: usize,
     end: usize,
     left: usize,
@@ -34,18 +36,18 @@ pub struct Iter<'a, K, V, A: Allocator> {
 
 impl<'a, K, V, A: Allocator> Model for Iter<'a, K, V, A> {
     ghost use Rattle.std.specs.Prelude.{List};
-    ghost use Rattle.ex_table.specs.Iterated.{left_of, IsLeft};
+    ghost use Rattle.ex_table.specs.Remaining.{remaining_in, IsRemaining};
 
     ghost Value = { List (K × V) };
 
-    ghost view = { λ it. left_of it.places.now.places it.from it.end };
+    ghost view = { λ it. remaining_in it.places.now.places it.from it.end };
 
-    ghost invariant = { λ it. IsLeft it.tags.now it.places.now.places it.from it.end it.left };
+    ghost invariant = { λ it. IsRemaining it.tags.now it.places.now.places it.from it.end it.left };
 }
 
 impl<'a, K, V, A: Allocator> Iter<'a, K, V, A> {
-    /// All keys of a table, of which there are so many.
-    #[tactic(auto, using(crate::proofs::Lefts::all_slots))]
+    /// Returns an iterator over all keys of a table with `count` keys.
+    #[tactic(auto, using(crate::proofs::Remaining::all_slots))]
     pub(crate) fn over(tags: &'a [u8], places: &'a RawVec<(K, V), A>, count: usize) -> Self
         requires places { length tags.now ≤ length places.now.places }
         requires held { AreHeld tags.now places.now.places }
@@ -70,8 +72,8 @@ impl<'a, K, V, A: Allocator> Iterator for Iter<'a, K, V, A> {
 
     ghost remaining = { item_count (λ rest. rest) };
 
-    /// The next key with its value, if one is left.
-    #[tactic(auto, using(crate::proofs::Lefts::from_first))]
+    /// Returns the next key with its value, or `None` if none remains.
+    #[tactic(auto, using(crate::proofs::Remaining::from_first))]
     fn next(&mut self) -> Option<(&'a K, &'a V)> {
         let slot = next_taken(self.tags, self.from, self.end)?;
         let entry = self.places.place(slot);
@@ -80,21 +82,21 @@ impl<'a, K, V, A: Allocator> Iterator for Iter<'a, K, V, A> {
         Some((&entry.0, &entry.1))
     }
 
-    /// How many keys are left, exactly.
+    /// Returns the exact number of remaining keys, as both bounds.
     fn size_hint(&self) -> (usize, Option<usize>)
         ensures lower { IsWithinCount result.0 (item_count (λ rest. rest) self.now) }
         ensures upper { IfSome result.1 (UpTo (item_count (λ rest. rest) self.now)) }
         ensures exact { result ≡ (length self.now, Some (length self.now)) }
     {
-        exactly(self.left)
+        exact_hint(self.left)
     }
 }
 
 impl<'a, K, V, A: Allocator> DoubleEndedIterator for Iter<'a, K, V, A> {
     ghost next_back_gives = { YieldsLastBy (λ item. (item.0.now, item.1.now)) (λ rest. rest) };
 
-    /// The last key with its value, if one is left.
-    #[tactic(auto, using(crate::proofs::Lefts::from_last))]
+    /// Returns the last remaining key with its value, or `None` if none remains.
+    #[tactic(auto, using(crate::proofs::Remaining::from_last))]
     fn next_back(&mut self) -> Option<(&'a K, &'a V)> {
         let slot = last_taken(self.tags, self.from, self.end)?;
         let entry = self.places.place(slot);
@@ -112,7 +114,9 @@ impl<'a, K, V, A: Allocator> ExactSizeIterator for Iter<'a, K, V, A> {
 
 impl<'a, K, V, A: Allocator> FusedIterator for Iter<'a, K, V, A> {}
 
-/// The keys that are left, without their values. A contract sees them as a list.
+/// An iterator over the keys of a table.
+///
+/// Returned by `Table::keys`. A contract sees it as the list of the remaining keys.
 #[derive(Drop)]
 pub struct Keys<'a, K, V, A: Allocator> {
     pub(crate) rest: Iter<'a, K, V, A>,
@@ -133,7 +137,7 @@ impl<'a, K, V, A: Allocator> Iterator for Keys<'a, K, V, A> {
 
     ghost remaining = { item_count (λ rest. rest) };
 
-    /// The next key, if one is left.
+    /// Returns the next key, or `None` if none remains.
     fn next(&mut self) -> Option<&'a K> {
         match self.rest.next() {
             Some((key, _)) => Some(key),
@@ -141,7 +145,7 @@ impl<'a, K, V, A: Allocator> Iterator for Keys<'a, K, V, A> {
         }
     }
 
-    /// How many keys are left, exactly.
+    /// Returns the exact number of remaining keys, as both bounds.
     fn size_hint(&self) -> (usize, Option<usize>)
         ensures lower { IsWithinCount result.0 (item_count (λ rest. rest) self.now) }
         ensures upper { IfSome result.1 (UpTo (item_count (λ rest. rest) self.now)) }
@@ -159,7 +163,9 @@ impl<'a, K, V, A: Allocator> ExactSizeIterator for Keys<'a, K, V, A> {
 
 impl<'a, K, V, A: Allocator> FusedIterator for Keys<'a, K, V, A> {}
 
-/// The values that are left, without their keys. A contract sees them as a list.
+/// An iterator over the values of a table.
+///
+/// Returned by `Table::values`. A contract sees it as the list of the remaining values.
 #[derive(Drop)]
 pub struct Values<'a, K, V, A: Allocator> {
     pub(crate) rest: Iter<'a, K, V, A>,
@@ -180,7 +186,7 @@ impl<'a, K, V, A: Allocator> Iterator for Values<'a, K, V, A> {
 
     ghost remaining = { item_count (λ rest. rest) };
 
-    /// The next value, if one is left.
+    /// Returns the next value, or `None` if none remains.
     fn next(&mut self) -> Option<&'a V> {
         match self.rest.next() {
             Some((_, value)) => Some(value),
@@ -188,7 +194,7 @@ impl<'a, K, V, A: Allocator> Iterator for Values<'a, K, V, A> {
         }
     }
 
-    /// How many values are left, exactly.
+    /// Returns the exact number of remaining values, as both bounds.
     fn size_hint(&self) -> (usize, Option<usize>)
         ensures lower { IsWithinCount result.0 (item_count (λ rest. rest) self.now) }
         ensures upper { IfSome result.1 (UpTo (item_count (λ rest. rest) self.now)) }
@@ -206,12 +212,13 @@ impl<'a, K, V, A: Allocator> ExactSizeIterator for Values<'a, K, V, A> {
 
 impl<'a, K, V, A: Allocator> FusedIterator for Values<'a, K, V, A> {}
 
-/// The keys with their values, as they come out of a table that is gone. A contract sees them as a
-/// list of pairs.
+/// An iterator that owns the keys and values of a table.
+///
+/// Returned by `Table::into_iter`. A contract sees it as the list of the remaining pairs.
 pub struct IntoIter<K, V, A: Allocator> {
-    index: Option<Named<A>>,
+    index: Option<HashIndex<A>>,
     places: RawVec<(K, V), A>,
-    // the slots that are left, and how many of them have a key
+    // the remaining slots, and the number of keys in them
     from: usize,
     end: usize,
     left: usize,
@@ -219,20 +226,21 @@ pub struct IntoIter<K, V, A: Allocator> {
 
 impl<K, V, A: Allocator> Model for IntoIter<K, V, A> {
     ghost use Rattle.std.specs.Prelude.{List};
-    ghost use Rattle.ex_table.specs.Iterated.{left_of, IsLeft};
+    ghost use Rattle.ex_table.specs.Remaining.{remaining_in, IsRemaining};
     ghost use Rattle.ex_table.specs.Places.{tags_of};
 
     ghost Value = { List (K × V) };
 
-    ghost view = { λ it. left_of it.places.places it.from it.end };
+    ghost view = { λ it. remaining_in it.places.places it.from it.end };
 
-    ghost invariant = { λ it. IsLeft (tags_of it.index) it.places.places it.from it.end it.left };
+    ghost invariant = { λ it. IsRemaining
+        (tags_of it.index) it.places.places it.from it.end it.left };
 }
 
 impl<K, V, A: Allocator> IntoIter<K, V, A> {
-    /// All keys of a table, of which there are so many.
-    #[tactic(auto, using(crate::proofs::Lefts::all_slots))]
-    pub(crate) fn over(index: Option<Named<A>>, places: RawVec<(K, V), A>, count: usize) -> Self
+    /// Returns an iterator over all keys of a table with `count` keys.
+    #[tactic(auto, using(crate::proofs::Remaining::all_slots))]
+    pub(crate) fn over(index: Option<HashIndex<A>>, places: RawVec<(K, V), A>, count: usize) -> Self
         requires places { length (tags_of index) ≤ length places.places }
         requires held { AreHeld (tags_of index) places.places }
         requires free { AreFree (tags_of index) places.places }
@@ -251,7 +259,7 @@ impl<K, V, A: Allocator> IntoIter<K, V, A> {
 }
 
 impl<K: Drop, V: Drop, A: Allocator> Drop for IntoIter<K, V, A> {
-    /// Drops the keys that are left with their values, and gives the memory back.
+    /// Drops the remaining keys and values, and frees the blocks.
     fn drop(self) {
         let IntoIter {
             index,
@@ -272,8 +280,8 @@ impl<K: Drop, V: Drop, A: Allocator> Iterator for IntoIter<K, V, A> {
 
     ghost remaining = { item_count (λ rest. rest) };
 
-    /// The next key with its value, if one is left.
-    #[tactic(auto, using(crate::proofs::Lefts::from_first))]
+    /// Returns the next key with its value, or `None` if none remains.
+    #[tactic(auto, using(crate::proofs::Remaining::from_first))]
     fn next(&mut self) -> Option<(K, V)> {
         let slot = next_taken(tags_in(&self.index), self.from, self.end)?;
         self.from = slot + 1;
@@ -281,21 +289,21 @@ impl<K: Drop, V: Drop, A: Allocator> Iterator for IntoIter<K, V, A> {
         Some(self.places.take(slot))
     }
 
-    /// How many keys are left, exactly.
+    /// Returns the exact number of remaining keys, as both bounds.
     fn size_hint(&self) -> (usize, Option<usize>)
         ensures lower { IsWithinCount result.0 (item_count (λ rest. rest) self.now) }
         ensures upper { IfSome result.1 (UpTo (item_count (λ rest. rest) self.now)) }
         ensures exact { result ≡ (length self.now, Some (length self.now)) }
     {
-        exactly(self.left)
+        exact_hint(self.left)
     }
 }
 
 impl<K: Drop, V: Drop, A: Allocator> DoubleEndedIterator for IntoIter<K, V, A> {
     ghost next_back_gives = { YieldsLast (λ rest. rest) };
 
-    /// The last key with its value, if one is left.
-    #[tactic(auto, using(crate::proofs::Lefts::from_last))]
+    /// Returns the last remaining key with its value, or `None` if none remains.
+    #[tactic(auto, using(crate::proofs::Remaining::from_last))]
     fn next_back(&mut self) -> Option<(K, V)> {
         let slot = last_taken(tags_in(&self.index), self.from, self.end)?;
         self.end = slot;

@@ -1,5 +1,6 @@
-//! A hash table generic in its keys, over any allocator that can be cloned, on the block and the
-//! vector of the library.
+//! A hash table generic in its keys, over any allocator that can be cloned.
+//!
+//! It is built on the library's block and vector.
 #![tactic(auto)]
 
 pub mod growth;

@@ -1,80 +1,84 @@
-//! Slots, sixteen asked at once: where a hash is looked for. Each has a tag, a part of the hash of
-//! the key that is there.
+//! The slots of a table: control bytes that are searched in probe groups of sixteen.
+//!
+//! The control byte (tag) of a slot is 0 if the slot is free, and otherwise a part of the hash of
+//! its key. A search begins with the home group: the sixteen slots from the home slot of the hash.
+//! It continues with whole groups only if a key with that home slot has overflowed its home group.
 ghost use Rattle.std.specs.Prelude.{◌≡◌, ◌≢◌, ℕ, ◌+◌, ◌-◌, ◌*◌, ◌/◌, ◌<◌, ◌≤◌, List, Option, length, get_or, slice_set, count_by, replicate, min, IsFalse, ◌↔◌, if◌then◌else◌, Some, None, IfSome, IfNone, ◌==◌};
-ghost use Rattle.ex_table.specs.Slots.{tag_at, tag_of, home_of, after, window_of, reach_of, told_of, keys_in, blocks_in, one_more, one_less, IsSlots, IsAt, IsIndex};
+ghost use Rattle.ex_table.specs.Slots.{tag_at, tag_of, home_of, probe_group_of, probe_start, reach_of, overflow_at, overflow_count, overflow_groups, one_more, one_less, IsSlots, ProbeReaches, IsIndex};
 
 use std::simd::prelude::*;
 
-/// How many slots are asked at once.
-pub const WINDOW: usize = 16;
+/// The number of slots in a probe group, whose tags are compared at once.
+pub const GROUP_SIZE: usize = 16;
 
-// No key is there.
+// The tag of a free slot.
 const FREE: u8 = 0;
 
-// So many or more: it is not known how many.
+// The greatest count of a half byte, which means 15 or more.
 const MANY: u8 = 15;
 
-/// What is known of the keys that are looked for first at a slot, and are not in the window that
-/// begins there: how many they are, and for how many blocks of slots a look-up goes on for them.
-/// Each is half of the byte.
+/// The overflow byte of a home slot: what is known of the keys that overflowed its home group.
+///
+/// The upper half counts these keys. The lower half is the number of further groups that a search
+/// for them visits. Each is at most 15: a count of 15 is not exact, and 15 groups are all groups.
 #[derive(Clone, Copy)]
-pub struct Beyond {
-    told: u8,
+pub struct Overflow {
+    byte: u8,
 }
 
-impl Beyond {
-    /// There are none.
-    pub fn none() -> Beyond
-        ensures { result ≡ record { told = 0 } }
+impl Overflow {
+    /// Returns the overflow byte of a home slot whose keys are all in its home group.
+    pub fn none() -> Overflow
+        ensures { result ≡ record { byte = 0 } }
     {
-        Beyond { told: 0 }
+        Overflow { byte: 0 }
     }
 
-    // How many keys there are.
+    // Returns the number of keys that overflowed, at most 15.
     #[inline]
     fn keys(self) -> u8
-        ensures value { result ≡ keys_in self }
+        ensures value { result ≡ overflow_count self }
         ensures within { result ≤ 15 }
     {
-        self.told / 16
+        self.byte / 16
     }
 
-    // For how many blocks a look-up goes on.
+    // Returns the number of further groups to search; 15 means all of them.
     #[inline]
-    fn blocks(self) -> u8
-        ensures value { result ≡ blocks_in self }
+    fn groups(self) -> u8
+        ensures value { result ≡ overflow_groups self }
         ensures within { result ≤ 15 }
     {
-        self.told % 16
+        self.byte % 16
     }
 
-    // There is one key more, put so many blocks on.
+    // Returns the byte with one more key, which is `step` groups away.
     #[inline]
-    fn one_more(self, step: usize) -> Beyond
+    fn one_more(self, step: usize) -> Overflow
         ensures { result ≡ one_more self step }
     {
         let keys = (self.keys() + 1).min(MANY);
-        let blocks = self.blocks().max(step.min(15) as u8);
-        Beyond {
-            told: 16 * keys + blocks,
+        let groups = self.groups().max(step.min(15) as u8);
+        Overflow {
+            byte: 16 * keys + groups,
         }
     }
 
-    // There is one key less.
-    fn one_less(self) -> Beyond
+    // Returns the byte with one key less.
+    fn one_less(self) -> Overflow
         ensures { result ≡ one_less self }
     {
         match self.keys() {
             MANY => self,
-            0 | 1 => Beyond::none(),
-            _ => Beyond {
-                told: self.told - 16,
+            0 | 1 => Overflow::none(),
+            _ => Overflow {
+                byte: self.byte - 16,
             },
         }
     }
 }
 
-/// Whether no key is in the slot.
+/// Returns `true` if the slot is free.
 #[inline(always)]
 pub fn is_free(tags: &[u8], slot: usize) -> bool
     requires { slot < length tags.now }
@@ -83,7 +87,7 @@ pub fn is_free(tags: &[u8], slot: usize) -> bool
     tags[slot] == FREE
 }
 
-/// The tag of a slot with a key of this hash. It is never that of a free one.
+/// Returns the tag for keys with this hash, which is never that of a free slot.
 #[inline(always)]
 pub fn tag(hash: u64) -> u8
     ensures { result ≡ tag_of hash }
@@ -91,17 +95,19 @@ pub fn tag(hash: u64) -> u8
     ((hash >> 56) as u8).max(1)
 }
 
-/// The slot at which a hash is looked for first, of so many.
+/// Returns the home slot of a hash in a table with `count` slots.
 #[inline(always)]
 pub fn home(hash: u64, count: usize) -> usize
     requires { 17 ≤ count }
     ensures value { result ≡ home_of count hash }
     ensures within { result + 16 ≤ count }
 {
-    hash as usize & (count - WINDOW - 1)
+    hash as usize & (count - GROUP_SIZE - 1)
 }
 
-/// The first slot with the tag, of the sixteen from `from` on, past so many of them.
+/// Returns the first slot with the tag in the group from `from` on, after its first `past` slots.
+///
+/// Returns `None` if no such slot has the tag.
 #[inline(always)]
 pub fn slot_past(tags: &[u8], from: usize, past: usize, tag: u8) -> Option<usize>
     requires room { from + 16 ≤ length tags.now }
@@ -113,7 +119,7 @@ pub fn slot_past(tags: &[u8], from: usize, past: usize, tag: u8) -> Option<usize
     ensures none { IfNone result
         ((i : ℕ) → from + past ≤ i → i < from + 16 → tag_at tags.now i ≢ tag) }
 {
-    let same = u8x16::from_slice(&tags[from..from + WINDOW])
+    let same = u8x16::from_slice(&tags[from..from + GROUP_SIZE])
         .simd_eq(u8x16::splat(tag))
         .to_bitmask();
     let later = same >> past;
@@ -124,7 +130,9 @@ pub fn slot_past(tags: &[u8], from: usize, past: usize, tag: u8) -> Option<usize
     }
 }
 
-/// The first slot with the tag, of the sixteen from `from` on.
+/// Returns the first slot with the tag in the group of sixteen slots from `from` on.
+///
+/// Returns `None` if no slot of the group has the tag.
 #[inline(always)]
 pub fn slot_of(tags: &[u8], from: usize, tag: u8) -> Option<usize>
     requires { from + 16 ≤ length tags.now }
@@ -136,13 +144,14 @@ pub fn slot_of(tags: &[u8], from: usize, tag: u8) -> Option<usize>
     slot_past(tags, from, 0, tag)
 }
 
-/// The block of sixteen slots that is so many steps after another, where the first comes after the
-/// last.
+/// Returns the probe group that is `step` steps after the group `home`, of `count` groups.
+///
+/// The first group follows the last.
 #[inline(always)]
-pub fn block_after(home: usize, step: usize, count: usize) -> usize
+pub fn probe_group(home: usize, step: usize, count: usize) -> usize
     requires home { home < count }
     requires step { step ≤ count }
-    ensures value { result ≡ after count home step }
+    ensures value { result ≡ probe_group_of count home step }
     ensures within { result < count }
 {
     let left = count - home;
@@ -153,113 +162,128 @@ pub fn block_after(home: usize, step: usize, count: usize) -> usize
     }
 }
 
-/// Whether a key that is looked for first at this slot may be past the window that begins there.
+/// Returns `true` if a key with this home slot may have overflowed the home group.
 #[inline(always)]
-pub fn goes_on(beyond: &[Beyond], home: usize) -> bool
-    requires { home < length beyond.now }
-    ensures { IsFalse result ↔ ((told_of beyond.now home).told ≡ 0) }
+pub fn has_overflow(overflows: &[Overflow], home: usize) -> bool
+    requires { home < length overflows.now }
+    ensures { IsFalse result ↔ ((overflow_at overflows.now home).byte ≡ 0) }
 {
-    beyond[home].told != 0
+    overflows[home].byte != 0
 }
 
-/// For how many blocks of slots a look-up goes on.
+/// Returns the number of groups that a search visits after the home group.
 #[inline]
-pub fn reach(beyond: &[Beyond], home: usize, blocks: usize) -> usize
-    requires { home < length beyond.now }
-    ensures { let b = blocks_in (told_of beyond.now home) in
-        result ≡ if b == 15 then blocks else min blocks b }
+pub fn reach(overflows: &[Overflow], home: usize, groups: usize) -> usize
+    requires { home < length overflows.now }
+    ensures { let b = overflow_groups (overflow_at overflows.now home) in
+        result ≡ if b == 15 then groups else min groups b }
 {
-    let told = beyond[home].blocks();
-    if told == MANY {
-        blocks
+    let byte = overflows[home].groups();
+    if byte == MANY {
+        groups
     } else {
-        blocks.min(told as usize)
+        groups.min(byte as usize)
     }
 }
 
-// One more key is past its first window, by so many blocks.
+// Counts one more key that overflowed its home group, by `step` groups.
 #[inline]
-fn count_far(beyond: &mut [Beyond], home: usize, step: usize)
-    requires { home < length beyond.old }
-    ensures { beyond.new
-        ≡ slice_set beyond.old home (one_more (told_of beyond.old home) step) }
+fn add_overflow(overflows: &mut [Overflow], home: usize, step: usize)
+    requires { home < length overflows.old }
+    ensures { overflows.new
+        ≡ slice_set overflows.old home (one_more (overflow_at overflows.old home) step) }
 {
-    beyond[home] = beyond[home].one_more(step);
+    overflows[home] = overflows[home].one_more(step);
 }
 
-// One key less is past its first window.
+// Counts one key less that overflowed its home group.
 #[cold]
 #[inline(never)]
-fn discount_far(beyond: &mut [Beyond], home: usize)
-    requires { home < length beyond.old }
-    ensures { beyond.new ≡ slice_set beyond.old home (one_less (told_of beyond.old home)) }
+fn remove_overflow(overflows: &mut [Overflow], home: usize)
+    requires { home < length overflows.old }
+    ensures { overflows.new ≡ slice_set overflows.old home
+        (one_less (overflow_at overflows.old home)) }
 {
-    beyond[home] = beyond[home].one_less();
+    overflows[home] = overflows[home].one_less();
 }
 
-// Takes the first free slot past the first window, block by block.
+// Takes the first free slot for a key whose home group is full, group by group, and returns it.
 #[cold]
 #[inline(never)]
-fn put_far(tags: &mut [u8], beyond: &mut [Beyond], hash: u64) -> usize
-    requires slots { IsSlots tags.old beyond.old }
+fn put_overflow(tags: &mut [u8], overflows: &mut [Overflow], hash: u64) -> usize
+    // There is a free slot.
+    requires slots { IsSlots tags.old overflows.old }
     requires free { 0 < count_by (λ t. t == 0) tags.old }
+
+    // The result was free, and has the tag of the hash.
     ensures within { result < length tags.old }
     ensures was_free { tag_at tags.old result ≡ 0 }
     ensures tags { tags.new ≡ slice_set tags.old result (tag_of hash) }
-    ensures index { (hs : List (Option ℕ)) → IsIndex tags.old beyond.old hs
-        → IsIndex tags.new beyond.new (slice_set hs result (Some hash)) }
+
+    // An index remains one, with the hash in this slot.
+    ensures index { (hs : List (Option ℕ)) → IsIndex tags.old overflows.old hs
+        → IsIndex tags.new overflows.new (slice_set hs result (Some hash)) }
 {
     let count = tags.len();
     let from = home(hash, count);
-    let blocks = count / WINDOW;
-    'each: for before in 0..blocks {
-        let at = block_after(from / WINDOW, before + 1, blocks);
-        if let Some(slot) = slot_of(tags, at * WINDOW, FREE) {
+    let groups = count / GROUP_SIZE;
+    'each: for before in 0..groups {
+        let at = probe_group(from / GROUP_SIZE, before + 1, groups);
+        if let Some(slot) = slot_of(tags, at * GROUP_SIZE, FREE) {
             tags[slot] = tag(hash);
-            count_far(beyond, from, before + 1);
+            add_overflow(overflows, from, before + 1);
             return slot;
         }
     }
     unreachable!()
 }
 
-/// Takes the first free slot for a key of this hash. Mostly it is in the first window.
+/// Takes a free slot for a key with this hash, and returns it.
+///
+/// The slot is in the home group unless that is full.
 #[inline(always)]
-pub fn put(tags: &mut [u8], beyond: &mut [Beyond], hash: u64) -> usize
-    requires slots { IsSlots tags.old beyond.old }
+pub fn put(tags: &mut [u8], overflows: &mut [Overflow], hash: u64) -> usize
+    // There is a free slot.
+    requires slots { IsSlots tags.old overflows.old }
     requires free { 0 < count_by (λ t. t == 0) tags.old }
+
+    // The result was free, and has the tag of the hash.
     ensures within { result < length tags.old }
     ensures was_free { tag_at tags.old result ≡ 0 }
     ensures tags { tags.new ≡ slice_set tags.old result (tag_of hash) }
-    ensures index { (hs : List (Option ℕ)) → IsIndex tags.old beyond.old hs
-        → IsIndex tags.new beyond.new (slice_set hs result (Some hash)) }
+
+    // An index remains one, with the hash in this slot.
+    ensures index { (hs : List (Option ℕ)) → IsIndex tags.old overflows.old hs
+        → IsIndex tags.new overflows.new (slice_set hs result (Some hash)) }
 {
     let from = home(hash, tags.len());
     if let Some(slot) = slot_of(tags, from, FREE) {
         tags[slot] = tag(hash);
         return slot;
     }
-    put_far(tags, beyond, hash)
+    put_overflow(tags, overflows, hash)
 }
 
-/// Frees the slot of a key of this hash.
+/// Frees the slot of a key with this hash.
 #[inline(always)]
-pub fn release(tags: &mut [u8], beyond: &mut [Beyond], hash: u64, slot: usize)
-    requires slots { IsSlots tags.old beyond.old }
+pub fn release(tags: &mut [u8], overflows: &mut [Overflow], hash: u64, slot: usize)
+    requires slots { IsSlots tags.old overflows.old }
     requires slot { slot < length tags.old }
     ensures tags { tags.new ≡ slice_set tags.old slot 0 }
-    ensures index { (hs : List (Option ℕ)) → IsIndex tags.old beyond.old hs
+    ensures index { (hs : List (Option ℕ)) → IsIndex tags.old overflows.old hs
         → get_or hs slot None ≡ Some hash
-        → IsIndex tags.new beyond.new (slice_set hs slot None) }
+        → IsIndex tags.new overflows.new (slice_set hs slot None) }
 {
     let from = home(hash, tags.len());
     tags[slot] = FREE;
-    if slot < from || slot - from >= WINDOW {
-        discount_far(beyond, from);
+    if slot < from || slot - from >= GROUP_SIZE {
+        remove_overflow(overflows, from);
     }
 }
 
-/// The first slot with a key, of those from `from` on and before `end`.
+/// Returns the first slot with a key, from `from` on and before `end`.
+///
+/// Returns `None` if there is none.
 #[inline]
 pub fn next_taken(tags: &[u8], from: usize, end: usize) -> Option<usize>
     requires { end ≤ length tags.now }
@@ -276,7 +300,9 @@ pub fn next_taken(tags: &[u8], from: usize, end: usize) -> Option<usize>
     None
 }
 
-/// The last slot with a key, of those from `from` on and before `end`.
+/// Returns the last slot with a key, from `from` on and before `end`.
+///
+/// Returns `None` if there is none.
 #[inline]
 pub fn last_taken(tags: &[u8], from: usize, end: usize) -> Option<usize>
     requires { end ≤ length tags.now }
@@ -293,11 +319,11 @@ pub fn last_taken(tags: &[u8], from: usize, end: usize) -> Option<usize>
     None
 }
 
-/// Frees all slots.
-pub fn clear_all(tags: &mut [u8], beyond: &mut [Beyond])
+/// Frees all slots and clears their overflow bytes.
+pub fn clear_all(tags: &mut [u8], overflows: &mut [Overflow])
     ensures tags { tags.new ≡ replicate (length tags.old) 0 }
-    ensures beyond { beyond.new ≡ replicate (length beyond.old) (record { told = 0 }) }
+    ensures overflows { overflows.new ≡ replicate (length overflows.old) (record { byte = 0 }) }
 {
     tags.fill_with(|| FREE);
-    beyond.fill_with(|| Beyond::none());
+    overflows.fill_with(|| Overflow::none());
 }

@@ -1,14 +1,14 @@
-//! The table: a finite map from keys to values, by the keys' own equality.
+//! The hash table: a finite map from keys to values, by the equality of the keys.
 ghost use Rattle.std.specs.Prelude.{◌≡◌, ◌+◌, ◌-◌, ◌<◌, ◌≤◌, [], ◌∷◌, None, Some, IfOk, IfErr, OnOk, OnErr, IsOk, IsSome, option_copied, is_some, map, max, min, if◌then◌else◌, true, false, length, ◌==◌, IsPermutation};
 ghost use Rattle.std.specs.Borrow.{sem};
 ghost use Rattle.std.specs.Option.{option_copied_mut};
 ghost use Rattle.allocator_api2.specs.declared.collections.TryReserveErrorKind.TheVariants.{AllocError, CapacityOverflow};
 ghost use Rattle.allocator_api2.specs.Room.{LacksRoom};
-ghost use Rattle.ex_table.specs.Contents.{value, keys_like, Sets, IsMap, HasRoom, capacity_for, fresh_capacity, most_keys};
+ghost use Rattle.ex_table.specs.Contents.{value, keys_like, Sets, IsMap, HasRoom, capacity_for, fresh_capacity, max_keys};
 ghost use Rattle.ex_table.specs.Places.{hashes};
 
-use crate::growth::{LEAST_KEYS, drop_between, fit, fresh_capacity, resize};
-use crate::index::{Named, find_in, free_all, hash_of, put_new, tags_in, take_out};
+use crate::growth::{MIN_CAPACITY, drop_between, fit, fresh_capacity, resize};
+use crate::index::{HashIndex, find_in, free_all, hash_of, put_new, tags_in, take_out};
 use crate::iter::{IntoIter, Iter, Keys, Values};
 use allocator_api2::collections::{Refused, TryReserveError, TryReserveErrorKind};
 use allocator_api2::raw_vec::RawVec;
@@ -18,32 +18,35 @@ use std::marker::Model;
 use std::mem;
 use std::ops::Index;
 
-// No table makes room for more keys.
-const MOST_KEYS: usize = 2_000_000_000;
+// The most keys for which `reserve` allocates.
+const MAX_KEYS: usize = 2_000_000_000;
 
-/// A hash table. A contract sees its keys with their values, for how many keys there is room, and
-/// what makes the hashers.
+/// A hash table over any allocator that can be cloned.
+///
+/// A contract sees a table as its entries, its capacity and the builder of its hashers. Each key
+/// has a home slot, and each slot a tag: a byte of the hash of its key.
 pub struct Table<K: Eq + Hash, V, S: BuildHasher, A: Allocator> {
-    // each key with its value, at the place that is numbered as its slot
+    // each key with its value, in the place with the number of its slot
     places: RawVec<(K, V), A>,
-    // none before the first growth
-    index: Option<Named<A>>,
+    // `None` until the table first allocates
+    index: Option<HashIndex<A>>,
     builder: S,
     count: usize,
     capacity: usize,
 }
 
 impl<K: Eq + Hash, V, S: BuildHasher, A: Allocator> Model for Table<K, V, S, A> {
-    ghost use Rattle.ex_table.specs.Contents.{Filled};
+    ghost use Rattle.ex_table.specs.Contents.{TableView};
 
-    ghost Value = { Filled K V S };
+    ghost Value = { TableView K V S };
 
     ghost use Rattle.ex_table.specs.Places.{hashes, IsTable};
-    ghost use Rattle.ex_table.specs.Inside.{filled_in};
+    ghost use Rattle.ex_table.specs.Inside.{view_of};
 
-    ghost view = { λ t. filled_in t.builder t.places.places t.capacity };
+    ghost view = { λ t. view_of t.builder t.places.places t.capacity };
 
-    ghost invariant = { λ t. IsTable K.eq (hashes S.BuildHasher S.Hasher.Hasher K.hash_input t.builder)
+    ghost invariant = { λ t. IsTable K.eq
+        (hashes S.BuildHasher S.Hasher.Hasher K.hash_input t.builder)
         t.places t.index t.count t.capacity };
 }
 
@@ -69,7 +72,9 @@ impl<K: Eq + Hash + Drop, V: Drop, A: Allocator + Clone> Table<
     BuildHasherDefault<FoldHasher>,
     A,
 > {
-    /// A table with no keys, by the toolchain's hasher. It takes no memory.
+    /// Returns an empty table with the toolchain's hasher.
+    ///
+    /// Does not allocate.
     pub fn new_in(alloc: A) -> Self
         ensures entries { result.entries ≡ [] }
         ensures capacity { result.capacity ≡ 0 }
@@ -77,14 +82,20 @@ impl<K: Eq + Hash + Drop, V: Drop, A: Allocator + Clone> Table<
         Table::with_hasher_in(BuildHasherDefault::new(), alloc)
     }
 
-    /// A table with no keys, and room for so many, by the toolchain's hasher. It is refused as
-    /// `reserve` is.
+    /// Returns an empty table with capacity for `capacity` keys or more.
+    ///
+    /// Uses the toolchain's hasher. The capacity is 0 for 0 keys, and at least 14 for more.
+    /// Does not allocate if `capacity` is 0.
+    ///
+    /// # Errors
+    /// `CapacityOverflow` if `capacity` is more than 2,000,000,000 or the bytes exceed
+    /// `isize::MAX`; `AllocError` with the greater of `capacity` and 14 if the allocation fails.
     #[tactic(auto, using(crate::proofs::Maps::none_permuted))]
     pub fn with_capacity_in(capacity: usize, alloc: A) -> Result<Self, TryReserveError>
         ensures entries { IfOk result (λ t. t.entries ≡ []) }
         ensures room { IfOk result (λ t. capacity ≤ t.capacity) }
         ensures made { IfOk result (λ t. t.capacity ≡ fresh_capacity capacity) }
-        ensures lacks { IfErr result (LacksRoom 0 0 capacity (max capacity 14)) }
+        ensures error { IfErr result (LacksRoom 0 0 capacity (max capacity 14)) }
     {
         let mut table = Table::new_in(alloc);
         table.reserve(capacity)?;
@@ -95,7 +106,9 @@ impl<K: Eq + Hash + Drop, V: Drop, A: Allocator + Clone> Table<
 impl<K: Eq + Hash + Drop, V: Drop, S: BuildHasher, A: Allocator + Clone> Table<K, V, S, A> {
     ghost use Rattle.ex_table.specs.Lends.{lends_value};
 
-    /// A table with no keys, whose hashers this builder makes. It takes no memory.
+    /// Returns an empty table whose hashers are made by `builder`.
+    ///
+    /// Does not allocate.
     pub fn with_hasher_in(builder: S, alloc: A) -> Self
         ensures { result ≡ record { entries = []; capacity = 0; builder = builder } }
     {
@@ -108,7 +121,7 @@ impl<K: Eq + Hash + Drop, V: Drop, S: BuildHasher, A: Allocator + Clone> Table<K
         }
     }
 
-    /// How many keys there are. No key is there twice.
+    /// Returns the number of keys, each of which is counted once.
     pub fn len(&self) -> usize
         ensures count { result ≡ length self.now.entries }
         ensures once { IsMap K.eq self.now.entries }
@@ -117,28 +130,28 @@ impl<K: Eq + Hash + Drop, V: Drop, S: BuildHasher, A: Allocator + Clone> Table<K
         self.count
     }
 
-    /// Whether there is no key.
+    /// Returns `true` if the table has no keys.
     pub fn is_empty(&self) -> bool
         ensures { result ≡ (length self.now.entries == 0) }
     {
         self.count == 0
     }
 
-    /// For how many keys there is room, those that are there with them.
+    /// Returns the number of keys that the table can hold without another allocation.
     pub fn capacity(&self) -> usize
         ensures { result ≡ self.now.capacity }
     {
         self.capacity
     }
 
-    /// For how many new keys there is room: so many inserts take no memory.
+    /// Returns the number of new keys that can be inserted without another allocation.
     pub fn room(&self) -> usize
         ensures { result ≡ self.now.capacity - length self.now.entries }
     {
         self.capacity - self.count
     }
 
-    /// The value of a key.
+    /// Returns a reference to the value of `key`, or `None` if the key is absent.
     #[inline]
     pub fn get(&self, key: &K) -> Option<&V>
         ensures { option_copied result ≡ value K.eq self.now.entries key.now }
@@ -150,7 +163,7 @@ impl<K: Eq + Hash + Drop, V: Drop, S: BuildHasher, A: Allocator + Clone> Table<K
         }
     }
 
-    /// Whether the key has a value.
+    /// Returns `true` if the table has a value for `key`.
     #[inline]
     pub fn contains_key(&self, key: &K) -> bool
         ensures { result ≡ is_some (value K.eq self.now.entries key.now) }
@@ -158,7 +171,9 @@ impl<K: Eq + Hash + Drop, V: Drop, S: BuildHasher, A: Allocator + Clone> Table<K
         self.get(key).is_some()
     }
 
-    /// The value of a key, to write to. The keys and their order stay.
+    /// Returns a mutable reference to the value of `key`, or `None` if the key is absent.
+    ///
+    /// Preserves the keys and their order.
     #[inline]
     pub fn get_mut(&mut self, key: &K) -> Option<&mut V>
         ensures* writes_back { sem 𝓛 (lends_value K.row V.row S.row A.row S.Hasher.row
@@ -172,7 +187,9 @@ impl<K: Eq + Hash + Drop, V: Drop, S: BuildHasher, A: Allocator + Clone> Table<K
         }
     }
 
-    /// The keys with their values, each key once, in no order that is promised.
+    /// Returns an iterator over the keys and their values.
+    ///
+    /// Each key is returned once. The order is not specified.
     pub fn iter(&self) -> Iter<'_, K, V, A>
         ensures { result ≡ self.now.entries }
     {
@@ -180,26 +197,30 @@ impl<K: Eq + Hash + Drop, V: Drop, S: BuildHasher, A: Allocator + Clone> Table<K
         Iter::over(tags, &self.places, self.count)
     }
 
-    /// The keys, in the order of `iter`.
+    /// Returns an iterator over the keys, in the order of `iter`.
     pub fn keys(&self) -> Keys<'_, K, V, A>
         ensures { result ≡ map (λ e. e.0) self.now.entries }
     {
         Keys { rest: self.iter() }
     }
 
-    /// The values, in the order of `iter`.
+    /// Returns an iterator over the values, in the order of `iter`.
     pub fn values(&self) -> Values<'_, K, V, A>
         ensures { result ≡ map (λ e. e.1) self.now.entries }
     {
         Values { rest: self.iter() }
     }
 
-    // Puts a new key into a free place.
+    // Inserts an absent key into a free slot of a table that is not full.
     #[inline(always)]
     fn add(&mut self, hash: u64, key: K, item: V)
-        requires hash { hash ≡ hashes S.BuildHasher S.Hasher.Hasher K.hash_input self.old.builder key }
+        // The key is absent, and the table is not full.
+        requires hash { hash
+            ≡ hashes S.BuildHasher S.Hasher.Hasher K.hash_input self.old.builder key }
         requires room { HasRoom self.old 1 }
         requires absent { keys_like K.eq key self.old.entries ≡ 0 }
+
+        // The table has the entry too. Only the order of the others may change.
         ensures added { IsPermutation ((key, item) ∷ self.old.entries) self.new.entries }
         ensures capacity { self.new.capacity ≡ self.old.capacity }
         ensures builder { self.new.builder ≡ self.old.builder }
@@ -213,13 +234,17 @@ impl<K: Eq + Hash + Drop, V: Drop, S: BuildHasher, A: Allocator + Clone> Table<K
         self.count += 1;
     }
 
-    // The same, after a growth: a call, so that an insert with room is short.
+    // Like `add`, but never inlined: the cold path of `insert`, after the table has grown.
     #[cold]
     #[inline(never)]
-    fn add_late(&mut self, hash: u64, key: K, item: V)
-        requires hash { hash ≡ hashes S.BuildHasher S.Hasher.Hasher K.hash_input self.old.builder key }
+    fn add_slow(&mut self, hash: u64, key: K, item: V)
+        // The key is absent, and the table is not full.
+        requires hash { hash
+            ≡ hashes S.BuildHasher S.Hasher.Hasher K.hash_input self.old.builder key }
         requires room { HasRoom self.old 1 }
         requires absent { keys_like K.eq key self.old.entries ≡ 0 }
+
+        // The table has the entry too. Only the order of the others may change.
         ensures added { IsPermutation ((key, item) ∷ self.old.entries) self.new.entries }
         ensures capacity { self.new.capacity ≡ self.old.capacity }
         ensures builder { self.new.builder ≡ self.old.builder }
@@ -227,30 +252,44 @@ impl<K: Eq + Hash + Drop, V: Drop, S: BuildHasher, A: Allocator + Clone> Table<K
         self.add(hash, key, item);
     }
 
-    /// Gives the key this value, and answers the one that it had. A key that is there gives way to
-    /// its equal. It takes memory only for a new key that has no room, as `reserve(1)` does, and is
-    /// refused as that is. A refusal hands key and value back and changes nothing.
+    /// Inserts `key` with the value `item`, and returns the old value of the key, if it had one.
+    ///
+    /// A key that is present is replaced by `key`, which is equal to it.
+    /// Allocates only if the key is absent and the table is full, and then as `reserve(1)` does.
+    ///
+    /// # Errors
+    /// The errors of `reserve(1)`. The table is unchanged, and key and value are returned in the
+    /// error.
     #[inline]
     pub fn insert(&mut self, key: K, item: V) -> Result<Option<V>, Refused<(K, V)>>
+        // If the table is not full, it succeeds.
         ensures fits { HasRoom self.old 1 → IsOk result }
+
+        // On success, the key has the new value, and the old value is returned.
         ensures old { IfOk result (λ old. old ≡ value K.eq self.old.entries key) }
         ensures inserted { OnOk result
             (Sets K.eq self.old.entries key (Some item) self.new.entries) }
+
+        // The number of keys and the capacity grow only for a new key.
         ensures one_more { IfOk result (λ old. is_some old ≡ false →
             length self.new.entries ≡ length self.old.entries + 1) }
-        ensures as_many { IfOk result (λ old. is_some old ≡ true →
+        ensures replaced_count { IfOk result (λ old. is_some old ≡ true →
             length self.new.entries ≡ length self.old.entries) }
         ensures made { IfOk result (λ old. is_some old ≡ false →
             self.new.capacity ≡ capacity_for self.old 1) }
         ensures replaced { IfOk result (λ old. is_some old ≡ true →
             self.new.capacity ≡ self.old.capacity) }
+
+        // The builder does not change.
         ensures builder { self.new.builder ≡ self.old.builder }
-        ensures back { IfErr result (λ r. r.source ≡ (key, item)) }
+
+        // An error returns key and value, says why it failed, and leaves the table unchanged.
+        ensures returned { IfErr result (λ r. r.source ≡ (key, item)) }
         ensures new { OnErr result (value K.eq self.old.entries key ≡ None) }
-        ensures lacks { IfErr result
+        ensures error { IfErr result
             (λ r. LacksRoom self.old.capacity (length self.old.entries) 1 (capacity_for self.old 1)
             r.error) }
-        ensures refused { OnErr result (self.new ≡ self.old) }
+        ensures unchanged { OnErr result (self.new ≡ self.old) }
     {
         let hash = hash_of(&self.builder, &key);
         if let Some(slot) = find_in(&self.index, &self.places, hash, &key) {
@@ -267,51 +306,69 @@ impl<K: Eq + Hash + Drop, V: Drop, S: BuildHasher, A: Allocator + Clone> Table<K
                 error,
             });
         }
-        self.add_late(hash, key, item);
+        self.add_slow(hash, key, item);
         Ok(None)
     }
 
-    /// Makes room for this many new keys, where there is less: then it takes memory, for twice as
-    /// many keys as there was room for, or for all that there would be, and the keys may come into
-    /// another order. A refusal changes nothing:
-    /// `CapacityOverflow` where there would be more than 2,000,000,000 keys or the bytes pass
-    /// `isize::MAX`, else `AllocError` with how many keys the room was asked for.
+    /// Reserves capacity for at least `additional` new keys.
+    ///
+    /// Does not allocate if the capacity is already sufficient, and then changes nothing. Otherwise
+    /// allocates new blocks and moves all keys, which may change their order. The new capacity is
+    /// the greatest of twice the old one, the number of keys with `additional` more, and 14.
+    ///
+    /// # Errors
+    /// `CapacityOverflow` if there would be more than 2,000,000,000 keys or the bytes exceed
+    /// `isize::MAX`; `AllocError` with the requested capacity if the allocation fails.
+    /// The table is unchanged.
     #[inline]
     pub fn reserve(&mut self, additional: usize) -> Result<(), TryReserveError>
+        // If the capacity is sufficient, it succeeds.
         ensures fits { HasRoom self.old additional → IsOk result }
+
+        // On success, the capacity is exact, and sufficient.
         ensures made { OnOk result (self.new.capacity ≡ capacity_for self.old additional) }
         ensures enough { OnOk result (HasRoom self.new additional) }
-        ensures lacks { IfErr result (LacksRoom self.old.capacity (length self.old.entries)
+
+        // An error says why it failed.
+        ensures error { IfErr result (LacksRoom self.old.capacity (length self.old.entries)
             additional (capacity_for self.old additional)) }
-        ensures most { IfErr result (λ e. most_keys < length self.old.entries + additional
+        ensures overflow { IfErr result (λ e. max_keys < length self.old.entries + additional
             → e.kind ≡ CapacityOverflow) }
+
+        // Only the order of the entries may change, and only if an allocation succeeds.
         ensures same { IsPermutation self.old.entries self.new.entries }
-        ensures enough_before { HasRoom self.old additional → self.new ≡ self.old }
+        ensures sufficient { HasRoom self.old additional → self.new ≡ self.old }
         ensures builder { self.new.builder ≡ self.old.builder }
-        ensures refused { OnErr result (self.new ≡ self.old) }
+        ensures unchanged { OnErr result (self.new ≡ self.old) }
     {
         let keys = self.count.saturating_add(additional);
         if keys <= self.capacity {
             return Ok(());
         }
-        if keys > MOST_KEYS {
+        if keys > MAX_KEYS {
             return Err(TryReserveErrorKind::CapacityOverflow.into());
         }
-        let capacity = (2 * self.capacity).max(keys).max(LEAST_KEYS);
+        let capacity = (2 * self.capacity).max(keys).max(MIN_CAPACITY);
         resize(&self.builder, &mut self.places, &mut self.index, capacity)?;
         self.capacity = capacity;
         Ok(())
     }
 
-    /// Takes the key away, and answers the value that it had. It takes no memory, and the room of
-    /// the key is there for another.
+    /// Removes `key` and returns its value, or `None` if the key is absent.
+    ///
+    /// Does not allocate, and does not change the capacity: another key can then be inserted.
     #[inline]
     pub fn remove(&mut self, key: &K) -> Option<V>
+        // It returns the value of the key, which then has none.
         ensures old { result ≡ value K.eq self.old.entries key.now }
         ensures removed { Sets K.eq self.old.entries key.now None self.new.entries }
+
+        // If the key was present, there is one key less, and capacity for one more.
         ensures one_less { IsSome result
             → length self.new.entries + 1 ≡ length self.old.entries }
         ensures room { IsSome result → HasRoom self.new 1 }
+
+        // Capacity and builder do not change; if the key was absent, nothing does.
         ensures capacity { self.new.capacity ≡ self.old.capacity }
         ensures builder { self.new.builder ≡ self.old.builder }
         ensures absent { result ≡ None → self.new ≡ self.old }
@@ -328,7 +385,9 @@ impl<K: Eq + Hash + Drop, V: Drop, S: BuildHasher, A: Allocator + Clone> Table<K
         Some(entry.1)
     }
 
-    /// Takes all keys away. The room stays. It takes no memory.
+    /// Removes all keys and drops them with their values.
+    ///
+    /// Does not allocate, and does not change the capacity.
     pub fn clear(&mut self)
         ensures { self.new ≡ record {
           entries = [];
@@ -347,43 +406,50 @@ impl<K: Eq + Hash + Drop, V: Drop, S: BuildHasher, A: Allocator + Clone> Table<K
         }
     }
 
-    /// Lowers the capacity to that of a new table for as many keys, where that is less: to 0 where
-    /// there are none, else to the number of keys, or to 14 for fewer.
+    /// Shrinks the capacity to that of a new table for as many keys, if that is less.
     ///
-    /// Without keys it frees all blocks and does not allocate. Else it allocates new blocks, unless
-    /// they would have as many slots as there are, and may change the order of the keys.
+    /// A new table for n keys has the capacity n, but at least 14, or 0 if n is 0.
+    /// If the table is empty, frees all blocks and does not allocate. Otherwise allocates new
+    /// blocks, which may change the order of the keys, unless they would have as many slots as
+    /// before.
     ///
     /// # Errors
-    /// `AllocError` with the capacity that was requested. The table is unchanged.
+    /// `AllocError` with the requested capacity. The table is unchanged.
     pub fn shrink_to_fit(&mut self) -> Result<(), TryReserveError>
-        // Where nothing has to be allocated it succeeds.
+        // If nothing has to be allocated, it succeeds.
         ensures empty { length self.old.entries ≡ 0 → IsOk result }
         ensures fits { self.old.capacity ≤ fresh_capacity (length self.old.entries)
             → IsOk result }
-        // What success leaves.
+
+        // On success, the capacity is that of a new table, or the old one if that is less.
         ensures shrunk { OnOk result (self.new.capacity
             ≡ min self.old.capacity (fresh_capacity (length self.old.entries))) }
-        ensures fitted { self.old.capacity ≤ fresh_capacity (length self.old.entries)
+        ensures sufficient { self.old.capacity ≤ fresh_capacity (length self.old.entries)
             → self.new ≡ self.old }
+
+        // The entries and the builder do not change, except for the order.
         ensures entries { IsPermutation self.old.entries self.new.entries }
         ensures builder { self.new.builder ≡ self.old.builder }
-        // What a failure leaves, and its number.
+
+        // An error has the requested capacity, and leaves the table unchanged.
         ensures error { IfErr result
             (λ e. e.kind ≡ AllocError (fresh_capacity (length self.old.entries))) }
         ensures unchanged { OnErr result (self.new ≡ self.old) }
     {
-        let wanted = fresh_capacity(self.count);
-        if self.capacity <= wanted {
+        let requested = fresh_capacity(self.count);
+        if self.capacity <= requested {
             return Ok(());
         }
-        fit(&self.builder, &mut self.places, &mut self.index, wanted)?;
-        self.capacity = wanted;
+        fit(&self.builder, &mut self.places, &mut self.index, requested)?;
+        self.capacity = requested;
         Ok(())
     }
 }
 
 impl<K: Eq + Hash + Drop, V: Drop, S: BuildHasher + Drop, A: Allocator> Table<K, V, S, A> {
-    /// The keys with their values, each taken out of the table. It takes no memory.
+    /// Consumes the table and returns an iterator over its keys and values.
+    ///
+    /// Does not allocate.
     pub fn into_iter(self) -> IntoIter<K, V, A>
         ensures { result ≡ self.entries }
     {
@@ -407,7 +473,7 @@ impl<'k, K: Eq + Hash + Drop, V: Drop, S: BuildHasher, A: Allocator + Clone> Ind
 
     ghost index_gives = { λ t k v. value K.eq t.entries k.now ≡ Some v };
 
-    /// The value of a key that has one.
+    /// Returns a reference to the value of `key`, which must be present.
     fn index(&self, key: &'k K) -> &V {
         match self.get(key) {
             Some(value) => value,

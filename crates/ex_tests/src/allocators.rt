@@ -6,17 +6,17 @@ use ex_allocators::counting::{Counting, Counts};
 use ex_allocators::pool::Pool;
 use std::alloc::{Allocator, Global};
 
-/// Whether a box for the item is granted; it is given back at once.
+/// Returns whether a box for the item can be allocated. It is freed at once.
 pub(crate) fn is_granted<T: Drop, A: Allocator>(heap: A, item: T) -> bool {
     Box::new_in(item, heap).is_ok()
 }
 
-/// Whether a vector of so many bytes is granted; it is given back at once.
+/// Returns whether a vector of so many bytes can be allocated. It is freed at once.
 pub(crate) fn has_room<A: Allocator>(heap: A, count: usize) -> bool {
     Vec::<u8, A>::with_capacity_in(count, heap).is_ok()
 }
 
-/// Whether so many pushes onto an empty vector are granted.
+/// Returns whether so many pushes onto an empty vector succeed.
 pub(crate) fn pushes<T: Copy, A: Allocator>(heap: A, item: T, count: u32) -> bool {
     let mut list: Vec<T, A> = Vec::new_in(heap);
     for _ in 0..count {
@@ -30,15 +30,15 @@ pub(crate) fn pushes<T: Copy, A: Allocator>(heap: A, item: T, count: u32) -> boo
 /// What is done with boxes over an allocator.
 #[derive(Clone, Copy)]
 pub(crate) enum Step {
-    /// One more box is granted.
+    /// One more box is allocated.
     Take,
-    /// One more box is refused.
+    /// The allocation of one more box fails.
     Refused,
-    /// The box of this place goes, and the last one stands there.
+    /// The box of this place is dropped, and the last one takes its place.
     Back(usize),
 }
 
-// One more box for its number, if it is granted.
+// Allocates one more box for its number, and returns whether this succeeded.
 fn taken<A: Allocator>(heap: A, boxes: &mut Vec<Box<u64, A>, Global>) -> bool {
     let Ok(one) = Box::new_in(boxes.len() as u64, heap) else {
         return false;
@@ -46,15 +46,15 @@ fn taken<A: Allocator>(heap: A, boxes: &mut Vec<Box<u64, A>, Global>) -> bool {
     boxes.push(one).is_ok()
 }
 
-// The number of a box that goes.
-fn given_back<A: Allocator>(boxes: &mut Vec<Box<u64, A>, Global>, at: usize) -> Option<u64> {
+// Drops a box, and returns its number.
+fn freed<A: Allocator>(boxes: &mut Vec<Box<u64, A>, Global>, at: usize) -> Option<u64> {
     if at < boxes.len() {
         return Some(*boxes.swap_remove(at));
     }
     None
 }
 
-/// Whether the steps go so. All boxes are given back then.
+/// Returns whether the steps are so. All boxes are freed then.
 pub(crate) fn go<A: Allocator + Copy>(books: Global, heap: A, steps: &[Step]) -> bool {
     let mut boxes: Vec<Box<u64, A>, Global> = Vec::new_in(books);
     let mut all = true;
@@ -63,13 +63,13 @@ pub(crate) fn go<A: Allocator + Copy>(books: Global, heap: A, steps: &[Step]) ->
             && match *step {
                 Step::Take => taken(heap, &mut boxes),
                 Step::Refused => !taken(heap, &mut boxes),
-                Step::Back(at) => given_back(&mut boxes, at).is_some(),
+                Step::Back(at) => freed(&mut boxes, at).is_some(),
             };
     }
     all
 }
 
-/// Requests, blocks given back and bytes that are out.
+/// Returns the numbers of requests, of freed blocks and of outstanding bytes.
 pub(crate) fn seen<B: Allocator>(heap: &Counting<B>) -> (u64, u64, u64) {
     let counts = heap.counts();
     (counts.requests, counts.frees, counts.outstanding)
@@ -78,13 +78,13 @@ pub(crate) fn seen<B: Allocator>(heap: &Counting<B>) -> (u64, u64, u64) {
 /// What is out of a budget, what is left, and the most that ever was out.
 pub(crate) fn purse<B: Allocator>(heap: &Budget<B>) -> (usize, usize, usize) {
     let purse = heap.watch();
-    (purse.granted(), purse.left(), purse.most())
+    (purse.granted(), purse.remaining(), purse.most())
 }
 
-// Whether eight numbers are granted of 48 bytes, and no ninth.
+// Returns whether eight numbers fit in 48 bytes, and no ninth.
 fn grants_eight(heap: &Budget<Global>) -> bool {
     let mut all = true;
-    // Room for four is given back once there is room for eight, and nine have none.
+    // The block for four is freed once that for eight is allocated, and nine do not fit.
     for (count, granted) in [(8, true), (9, false)] {
         all = pushes(heap, 7u32, count) == granted && purse(heap) == (0, 48, 48) && all;
     }
@@ -92,7 +92,7 @@ fn grants_eight(heap: &Budget<Global>) -> bool {
 }
 
 // Whether the steps go so over a budget, and its purse then.
-fn goes_within(books: Global, limit: usize, steps: &[Step]) -> (bool, (usize, usize, usize)) {
+fn keeps_limit(books: Global, limit: usize, steps: &[Step]) -> (bool, (usize, usize, usize)) {
     let heap = Budget::new(books, limit);
     let all = go(books, &heap, steps);
     (all, purse(&heap))
@@ -109,10 +109,10 @@ fn a_budget_grants_what_is_left(rt: HostRuntime) {
         Step::Back(0),
         Step::Take,
     ];
-    assert!(rt; goes_within(rt.alloc(), 16, &steps) == (true, (0, 16, 16)));
+    assert!(rt; keeps_limit(rt.alloc(), 16, &steps) == (true, (0, 16, 16)));
 }
 
-// Whether a clone grants a box without a change of the other one.
+// Returns whether a clone allocates a box without a change of the other one.
 fn twin_grants(heap: &Budget<Global>) -> bool {
     match heap.clone() {
         Ok(twin) => {
@@ -129,7 +129,7 @@ fn a_clone_has_a_budget_of_its_own(rt: HostRuntime) {
 }
 
 const REPORT: &str = "\
-9 requests, 1 refused, 8 blocks given back
+9 requests, 1 failed, 8 blocks freed
 151008 bytes granted in all, 0 outstanding, 80000 at most
 the greatest request: 800000 bytes
 up to     16 bytes: 1
@@ -139,8 +139,9 @@ up to   1024 bytes: 1
 above  65536 bytes: 3
 ";
 
-// Pushes, two vectors that are granted and one that is not: whether it went so, and the counts.
-fn asked(heap: &Counting<Budget<Global>>) -> (bool, Counts) {
+// Makes pushes, and two vectors that succeed and one that fails. Returns whether it is so, and the
+// counts.
+fn request_all(heap: &Counting<Budget<Global>>) -> (bool, Counts) {
     let mut all = pushes(heap, 7u32, 100);
     for (count, granted) in [(80_000, true), (70_000, true), (800_000, false)] {
         all = has_room(heap, count) == granted && all;
@@ -157,17 +158,17 @@ fn is_printed(books: Global, counts: Counts, text: &str) -> bool {
 }
 
 #[test]
-fn a_report_says_where_memory_goes(rt: HostRuntime) {
-    let (all, counts) = asked(&Counting::new(Budget::new(rt.alloc(), 500_000)));
+fn a_report_shows_what_was_allocated(rt: HostRuntime) {
+    let (all, counts) = request_all(&Counting::new(Budget::new(rt.alloc(), 500_000)));
     assert!(rt; all && is_printed(rt.alloc(), counts, REPORT));
 }
 
 // A pool over a count and a budget.
 type Pooled<'a> = Pool<&'a Counting<Budget<Global>>>;
 
-// Each call over the pool stands in one place, which takes a proof some seconds.
+// Each call over the pool is in one place, which takes a proof some seconds.
 
-fn pool_goes(books: Global, pool: &Pooled<'_>, steps: &[Step]) -> bool {
+fn pool_steps_are_right(books: Global, pool: &Pooled<'_>, steps: &[Step]) -> bool {
     go(books, pool, steps)
 }
 
@@ -180,7 +181,7 @@ fn heap_of(books: Global, limit: usize) -> Counting<Budget<Global>> {
     Counting::new(Budget::new(books, limit))
 }
 
-// Blocks come back in any order. Of seven boxes three find one that was left.
+// Blocks are freed in any order. Of seven boxes three reuse a block.
 const POOLED: [Step; 12] = [
     Step::Take,
     Step::Take,
@@ -196,17 +197,18 @@ const POOLED: [Step; 12] = [
     Step::Take,
 ];
 
-// Whether boxes find what was left, nothing is kept once the pool is cleared, and it grants then.
+// Returns whether boxes reuse blocks, nothing is kept once the pool is cleared, and it still
+// allocates then.
 fn is_used_again(books: Global, heap: &Counting<Budget<Global>>) -> bool {
     let pool = Pool::new(heap, 8);
-    let used = pool_goes(books, &pool, &POOLED) && seen(heap) == (4, 0, 32);
+    let used = pool_steps_are_right(books, &pool, &POOLED) && seen(heap) == (4, 0, 32);
     pool.clear();
     let cleared = seen(heap) == (4, 4, 0);
     used && cleared && pool_grants(&pool, 7u64) && seen(heap) == (5, 4, 8)
 }
 
 #[test]
-fn blocks_given_back_in_any_order_are_used_again(rt: HostRuntime) {
+fn blocks_freed_in_any_order_are_reused(rt: HostRuntime) {
     let heap = heap_of(rt.alloc(), usize::MAX);
     assert!(rt; is_used_again(rt.alloc(), &heap) && seen(&heap) == (5, 5, 0));
 }
@@ -227,7 +229,8 @@ fn a_cloned_pool_keeps_blocks_of_its_own(rt: HostRuntime) {
     assert!(rt; twin_keeps(&Pool::new(&heap, 24)));
 }
 
-// Whether boxes of three types are granted. One of the same layout takes what another one left.
+// Returns whether boxes of three types are allocated. One of the same layout reuses the block of
+// another.
 fn grants_layouts(pool: &Pooled<'_>) -> bool {
     pool_grants(pool, [1u32; 4])
         && pool_grants(pool, [1u64; 2])
@@ -251,7 +254,7 @@ fn sheds(books: Global, pool: &Pooled<'_>) -> bool {
         Step::Back(1),
         Step::Take,
     ];
-    let mut all = pool_goes(books, pool, &steps);
+    let mut all = pool_steps_are_right(books, pool, &steps);
     // What is kept counts until it is cleared.
     for granted in [false, true] {
         all = pool_grants(pool, [0u8; 16]) == granted && all;

@@ -4,14 +4,14 @@ use std::alloc::Global;
 use std::ops::Range;
 use test_allocators::Faulty;
 
-// A map over an allocator that may refuse.
+// A map over an allocator that may fail.
 type Small<'a> = OrderedMap<u64, &'a Faulty<Global>>;
 
 fn none<'a>(heap: &'a Faulty<Global>) -> Small<'a> {
     OrderedMap::new_in(heap)
 }
 
-// Gives a key a value. It answers the one that it had, or what is handed back.
+// Sets the value of a key. Returns the old value, or what the error returns.
 fn put(map: &mut Small<'_>, key: u64, value: u64) -> Result<Option<u64>, (u64, u64)> {
     match map.insert(key, value) {
         Ok(old) => Ok(old),
@@ -107,20 +107,20 @@ fn few_entries_may_keep_many_leaves(rt: HostRuntime) {
 }
 
 #[test]
-fn a_refusal_changes_nothing(rt: HostRuntime) {
-    // Each request for memory of the first keys is refused in turn.
-    for refused in 0u64..9 {
+fn a_failed_call_changes_nothing(rt: HostRuntime) {
+    // Each request for memory of the first keys fails in turn.
+    for failed in 0u64..9 {
         let heap = Faulty::new(rt.alloc());
         let mut map = none(&heap);
-        heap.refuse(refused, 1);
+        heap.fail_requests(failed, 1);
         for key in 0u64..120 {
-            let before = heap.refused();
-            let told = put(&mut map, key, key);
-            if heap.refused() > before {
-                assert!(rt; told == Err((key, key)) && map.len() as u64 == key);
+            let before = heap.failures();
+            let result = put(&mut map, key, key);
+            if heap.failures() > before {
+                assert!(rt; result == Err((key, key)) && map.len() as u64 == key);
                 assert!(rt; put(&mut map, key, key) == Ok(None));
             }
         }
-        assert!(rt; heap.refused() == 1 && has(&map, 119) == Some(119));
+        assert!(rt; heap.failures() == 1 && has(&map, 119) == Some(119));
     }
 }

@@ -45,13 +45,13 @@ fn a_name_may_have_a_size(rt: HostRuntime) {
             "remove_push_24",
             Case::Sized(Call::RemovePush, Size::TwentyFour),
         ),
-        ("clone_sizeless", Case::Sized(Call::Clone, Size::Zero)),
+        ("clone_zst", Case::Sized(Call::Clone, Size::Zero)),
         ("splice_front", Case::SpliceFront),
         ("dedup_by_key", Case::Chosen(Choice::DedupByKey)),
         ("pieces_of_4", Case::Pieces(Pieces::OfFour)),
         ("table_hit", Case::Held(Collection::TableHit)),
         ("text_table", Case::Used(Use::TextTable)),
     ] {
-        assert!(rt; Case::named(name) == Some(case), "{name}");
+        assert!(rt; Case::from_name(name) == Some(case), "{name}");
     }
 }

@@ -1,5 +1,5 @@
 //! The small vector.
-use crate::memory::{End, end_by, end_of, is_given_back};
+use crate::memory::{End, end_by, end_of, is_all_freed};
 use allocator_api2::collections::TryReserveError;
 use allocator_api2::vec::Vec;
 use ex_inline::inline::InlineVec;
@@ -10,10 +10,10 @@ use std::ops::Range;
 use test_allocators::Faulty;
 use test_allocators::counted::Counted;
 
-// Up to three items in place, over an allocator that may refuse.
+// Up to three items inline, over an allocator that may fail.
 type Small<'a> = InlineVec<u64, &'a Faulty<Global>, 3>;
 
-// Each call of the small vector stands in one place, in a function without a contract: such a place
+// Each call of the small vector is in one place, in a function without a contract: such a place
 // takes a proof some seconds, and a call of the function much less.
 
 fn none<'a>(heap: &'a Faulty<Global>) -> Small<'a> {
@@ -115,25 +115,25 @@ fn collected(v: Small<'_>) -> Option<usize> {
 }
 
 // Whether items come so, and with so many requests.
-fn asks(heap: &Faulty<Global>, v: &mut Small<'_>) -> bool {
+fn requests_lower_bound(heap: &Faulty<Global>, v: &mut Small<'_>) -> bool {
     let mut all = true;
-    // The first item and the one behind the last, how many requests are refused, whether they come,
-    // how many requests there were then.
-    for (first, end, refused, come, requests) in [
+    // The first item and the one after the last, how many requests fail, whether they come, and how
+    // many requests there were then.
+    for (first, end, failed, come, requests) in [
         (0, 3, 9, true, 0),
         (3, 4, 1, false, 1),
         (3, 4, 0, true, 2),
     ] {
-        heap.refuse(0, refused);
+        heap.fail_requests(0, failed);
         all = takes(v, first..end) == come && heap.requests() == requests && all;
     }
     all && has(v, &[0, 1, 2, 3])
 }
 
 #[test]
-fn the_first_items_take_no_memory(rt: HostRuntime) {
+fn the_first_items_do_not_allocate(rt: HostRuntime) {
     let heap = Faulty::new(rt.alloc());
-    assert!(rt; asks(&heap, &mut none(&heap)) && heap.outstanding() == 0);
+    assert!(rt; requests_lower_bound(&heap, &mut none(&heap)) && heap.outstanding() == 0);
 }
 
 // How many items go into a vector that came in front.
@@ -178,14 +178,14 @@ fn come_and_go<'a>(heap: &'a Faulty<Global>, drops: &'a Cell<u32>, len: u32) -> 
 fn each_item_is_dropped_once(rt: HostRuntime) {
     let heap = Faulty::new(rt.alloc());
     let drops = Cell::new(0);
-    // Two have room in place, three need one block, and five another.
+    // Two fit inline, three need one block, and five another.
     for (len, requests) in [(0, 0), (1, 0), (2, 0), (3, 1), (4, 1), (5, 2), (8, 2)] {
         drops.set(0);
         let before = heap.requests();
         assert!(rt; come_and_go(&heap, &drops, len) == len.min(4) && drops.get() == len);
         assert!(rt; heap.requests().wrapping_sub(before) == requests, "{len}");
     }
-    assert!(rt; is_given_back(&heap));
+    assert!(rt; is_all_freed(&heap));
 }
 
 #[test]
@@ -198,7 +198,7 @@ fn an_empty_place_takes_what_an_item_takes(rt: HostRuntime) {
 // Whether many items come and go so.
 fn many_come(heap: &Faulty<Global>, v: &mut Small<'_>) -> bool {
     let mut all = true;
-    // Where they are put, the first and the one behind the last, and how many requests there were
+    // Where they are put, the first and the one after the last, and how many requests there were
     // then.
     for (index, first, end, requests) in [
         (0, 0, 2, 0),
@@ -209,7 +209,7 @@ fn many_come(heap: &Faulty<Global>, v: &mut Small<'_>) -> bool {
         all = put_at(v, index, first..end) == End::Done && heap.requests() == requests && all;
     }
     // Four have no place without memory, and three have.
-    heap.refuse(0, 9);
+    heap.fail_requests(0, 9);
     for (end, out) in [(4, None), (3, Some(3))] {
         all = taken(v, 0, end).ok() == out && all;
     }
@@ -217,26 +217,26 @@ fn many_come(heap: &Faulty<Global>, v: &mut Small<'_>) -> bool {
 }
 
 #[test]
-fn many_items_come_and_go(rt: HostRuntime) {
+fn many_items_are_pushed_and_taken(rt: HostRuntime) {
     let heap = Faulty::new(rt.alloc());
     assert!(rt; many_come(&heap, &mut none(&heap)));
 }
 
-// Whether places are made and given back so, with three items.
-fn gives_places(heap: &Faulty<Global>, v: &mut Small<'_>) -> bool {
+// Returns whether capacity is reserved and freed so, with three items.
+fn reserves_places(heap: &Faulty<Global>, v: &mut Small<'_>) -> bool {
     let mut all = takes(v, 0..3);
-    // How many places, how many requests are refused, and whether there are so many then.
-    for (capacity, refused, made) in [(9, 0, true), (5, 0, true), (8, 1, false), (3, 9, true)] {
-        heap.refuse(0, refused);
+    // How many places, how many requests fail, and whether there are so many then.
+    for (capacity, failed, made) in [(9, 0, true), (5, 0, true), (8, 1, false), (3, 9, true)] {
+        heap.fail_requests(0, failed);
         all = gets_places(v, capacity) == made && has(v, &[0, 1, 2]) && all;
     }
     all && heap.outstanding() == 0
 }
 
 #[test]
-fn places_are_made_and_given_back(rt: HostRuntime) {
+fn capacity_is_reserved_and_released(rt: HostRuntime) {
     let heap = Faulty::new(rt.alloc());
-    assert!(rt; gives_places(&heap, &mut none(&heap)));
+    assert!(rt; reserves_places(&heap, &mut none(&heap)));
 }
 
 // How many items are in a vector of what comes out of a clone of copies.
@@ -245,9 +245,10 @@ fn passed_on(items: &[u64], heap: &Faulty<Global>) -> Option<usize> {
     collected(cloned(&small).ok()?)
 }
 
-// What a small vector of copies, a clone of it and a vector of what comes out of that ask for.
+// The requests of a small vector of copies, of a clone of it, and of a vector of what is taken from
+// that.
 #[test]
-fn what_is_told_is_asked_for_once(rt: HostRuntime) {
+fn the_lower_bound_is_requested_once(rt: HostRuntime) {
     let heap = Faulty::new(rt.alloc());
     let items = [1u64, 2, 3, 4, 5];
     for (count, requests) in [(3, 1), (5, 4)] {
@@ -257,7 +258,7 @@ fn what_is_told_is_asked_for_once(rt: HostRuntime) {
     assert!(rt; heap.outstanding() == 0);
 }
 
-// A call that allocates where items have no room in place.
+// A call that allocates if items do not fit inline.
 #[derive(Clone, Copy)]
 enum Call {
     Push,
@@ -294,18 +295,18 @@ fn end_of_call(call: Call, v: &mut Small<'_>, heap: &Faulty<Global>) -> End {
 }
 
 // A vector of the numbers from 0 up to `count`, how a call ends, and its requests.
-fn seen(heap: &Faulty<Global>, call: Call, count: u64, refused: u64) -> (End, u64) {
+fn seen(heap: &Faulty<Global>, call: Call, count: u64, failed: u64) -> (End, u64) {
     let mut v = none(heap);
     takes(&mut v, 0..count);
     let before = heap.requests();
-    heap.refuse(0, refused);
+    heap.fail_requests(0, failed);
     let end = end_of_call(call, &mut v, heap);
-    heap.refuse(0, 0);
+    heap.fail_requests(0, 0);
     (end, heap.requests().wrapping_sub(before))
 }
 
-// A call on so many items, of which three have room in place, and the number of elements that it
-// allocates; 0 if it does not allocate.
+// A call on so many items, of which three fit inline, and the number of elements that it allocates;
+// 0 if it does not allocate.
 fn rows() -> [(Call, u64, usize); 22] {
     [
         (Call::Push, 3, 4),
@@ -347,7 +348,7 @@ fn each_call_allocates_once_or_not(rt: HostRuntime) {
             assert!(rt; seen(&heap, call, count, 0) == (End::Done, 1), "{number}");
         }
     }
-    assert!(rt; is_given_back(&heap));
+    assert!(rt; is_all_freed(&heap));
 }
 
 #[test]

@@ -3,10 +3,11 @@ use ex_btree::leaf::Leaf;
 use std::alloc::Global;
 use test_allocators::Faulty;
 
-// A leaf over an allocator that may refuse.
+// A leaf over an allocator that may fail.
 type Small<'a> = Leaf<u8, &'a Faulty<Global>>;
 
-// Gives a key a value: whether it has it now, and the value that it had, or that comes back.
+// Sets the value of a key. Returns whether the key has it now, and the old value, or the one that
+// the error returns.
 fn put(leaf: &mut Small<'_>, key: u64, value: u8) -> (bool, Option<u8>) {
     match leaf.insert(key, value) {
         Ok(old) => (true, old),
@@ -15,9 +16,10 @@ fn put(leaf: &mut Small<'_>, key: u64, value: u8) -> (bool, Option<u8>) {
 }
 
 // How many inserts into a leaf of four places go so.
-fn goes_in(leaf: &mut Small<'_>) -> u32 {
+fn put_all(leaf: &mut Small<'_>) -> u32 {
     let mut count = 0u32;
-    // A key, its value, whether it has it then, and the value that it had, or that comes back.
+    // A key, its value, whether it has it then, and the old value, or the one that the error
+    // returns.
     for (key, value, taken, back) in [
         (5, 50, true, None),
         (3, 30, true, None),
@@ -62,10 +64,10 @@ fn taken(leaf: &mut Small<'_>, key: u64) -> Option<u8> {
 }
 
 #[test]
-fn keys_stay_in_order(rt: HostRuntime) {
+fn keys_are_kept_in_order(rt: HostRuntime) {
     let heap = Faulty::new(rt.alloc());
     let mut leaf: Small<'_> = Leaf::with_capacity_in(4, &heap).expect(&rt, "room");
-    assert!(rt; goes_in(&mut leaf) == 7);
+    assert!(rt; put_all(&mut leaf) == 7);
     assert!(rt;
         has(&leaf, &[(3, 31), (5, 50), (7, 70), (9, 91)])
             && has_within(&leaf, 4, 9, &[(5, 50), (7, 70)])
@@ -93,9 +95,9 @@ fn a_leaf_is_split(rt: HostRuntime) {
     drop(left);
     drop(right);
     assert!(rt; heap.outstanding() == 0);
-    heap.refuse(0, 1);
-    let refused: Result<Small<'_>, _> = Leaf::with_capacity_in(5, &heap);
-    match refused {
+    heap.fail_requests(0, 1);
+    let failed: Result<Small<'_>, _> = Leaf::with_capacity_in(5, &heap);
+    match failed {
         Ok(_) => assert!(rt; false),
         Err(error) => {
             assert!(rt; error.kind() == TryReserveErrorKind::AllocError { capacity: 5 });

@@ -1,5 +1,5 @@
-//! Tests of the examples, of the guide's callers and of the bench's cases, a module for each crate or
-//! part of it; no part of these.
+//! Tests of the examples, of the guide's callers and of the benchmark's cases, with a module for
+//! each crate or part of it. Not part of these.
 #![tactic(auto)]
 
 #[cfg(test)]
@@ -10,8 +10,6 @@ mod btree;
 mod callers;
 #[cfg(test)]
 mod cases;
-#[cfg(test)]
-mod ground;
 #[cfg(test)]
 mod inline;
 #[cfg(test)]
@@ -28,6 +26,8 @@ mod slots;
 mod small;
 #[cfg(test)]
 mod spaced;
+#[cfg(test)]
+mod stress;
 #[cfg(test)]
 mod table;
 #[cfg(test)]

@@ -1,4 +1,4 @@
-//! That memory comes back, that each element is dropped once, how many requests a call makes, and
+//! That memory is freed, that each element is dropped once, how many requests a call makes, and
 //! which error it returns: no contract says all of these.
 mod allocators;
 mod maps;
@@ -35,8 +35,8 @@ pub(crate) fn end_of<T: Drop>(ended: Result<T, TryReserveError>) -> End {
     }
 }
 
-/// Whether each block that was granted came back once.
-pub(crate) fn is_given_back(heap: &Faulty<Global>) -> bool {
-    let granted = heap.requests().saturating_sub(heap.refused());
+/// Returns whether each allocated block was freed once.
+pub(crate) fn is_all_freed(heap: &Faulty<Global>) -> bool {
+    let granted = heap.requests().saturating_sub(heap.failures());
     heap.outstanding() == 0 && heap.frees() == granted
 }

@@ -6,13 +6,13 @@ use test_allocators::Faulty;
 
 type Over<'a> = Recycler<&'a Faulty<Global>>;
 
-// Each call over the recycler stands in one place, which takes a proof some seconds.
+// Each call over the recycler is in one place, which takes a proof some seconds.
 
 fn has(recycler: &Over<'_>, bytes: usize) -> bool {
     has_room(recycler, bytes)
 }
 
-fn goes(books: Global, recycler: &Over<'_>, steps: &[Step]) -> bool {
+fn steps_are_right(books: Global, recycler: &Over<'_>, steps: &[Step]) -> bool {
     go(books, recycler, steps)
 }
 
@@ -26,7 +26,7 @@ fn kept(recycler: &Over<'_>) -> (usize, usize) {
     (kept.blocks, kept.bytes)
 }
 
-// Requests, blocks given back and bytes that are out.
+// Returns the numbers of requests, of freed blocks and of outstanding bytes.
 fn seen(heap: &Faulty<Global>) -> (u64, u64, u64) {
     (heap.requests(), heap.frees(), heap.outstanding())
 }
@@ -41,7 +41,7 @@ fn shows(
     seen(heap) == of_heap && kept(recycler) == of_kept
 }
 
-// Blocks for 4, 8 .. 1,024 numbers are asked for, of 16, 32 .. 4,096 bytes.
+// Blocks for 4, 8 .. 1,024 numbers are requested, of 16, 32 .. 4,096 bytes.
 fn growth_is_served(heap: &Faulty<Global>, recycler: &Over<'_>) -> bool {
     let mut all = true;
     for _ in 0..2 {
@@ -52,15 +52,15 @@ fn growth_is_served(heap: &Faulty<Global>, recycler: &Over<'_>) -> bool {
 }
 
 #[test]
-fn growth_takes_the_blocks_that_others_left(rt: HostRuntime) {
+fn growth_reuses_freed_blocks(rt: HostRuntime) {
     let heap = Faulty::new(rt.alloc());
     assert!(rt; growth_is_served(&heap, &Recycler::new(&heap)) && seen(&heap) == (10, 10, 0));
 }
 
 const MOST: usize = 16 << 20;
 
-// Bytes, and how many blocks were asked for and given back then. Sizes are rounded up to a power of
-// two, and greater blocks than the greatest class has are given back at once.
+// Bytes, and how many blocks were requested and freed then. Sizes are rounded up to a power of two,
+// and blocks larger than the largest class are freed at once.
 fn sizes() -> [(usize, u64, u64); 8] {
     [
         (1, 1, 0),
@@ -94,7 +94,7 @@ fn a_block_serves_each_size_of_its_class(rt: HostRuntime) {
 
 // Whether the limit of 64 bytes holds for blocks of 16 bytes, and for others beside them.
 fn is_limited(books: Global, heap: &Faulty<Global>, recycler: &Over<'_>) -> bool {
-    let mut all = recycler.limit() == 64 && goes(books, recycler, &[Step::Take; 6]);
+    let mut all = recycler.limit() == 64 && steps_are_right(books, recycler, &[Step::Take; 6]);
     all = shows(heap, recycler, (6, 2, 64), (4, 64)) && all;
     for bytes in [64usize, 65] {
         all = has(recycler, bytes) && all;
@@ -124,18 +124,19 @@ fn a_clone_keeps_blocks_of_its_own(rt: HostRuntime) {
     assert!(rt; twin_keeps(&heap, &Recycler::with_limit(&heap, 1_000)));
 }
 
-// Whether a block of 40 bytes serves those of its class alone while memory is refused.
+// Returns whether a block of 40 bytes serves only those of its class when the inner allocator
+// fails.
 fn is_kept(heap: &Faulty<Global>, recycler: &Over<'_>) -> bool {
     let mut all = true;
     for (bytes, granted) in [(40, true), (33, true), (65, false), (64, true)] {
         all = has(recycler, bytes) == granted && all;
-        heap.refuse(0, u64::MAX);
+        heap.fail_requests(0, u64::MAX);
     }
     all
 }
 
 #[test]
-fn what_is_kept_is_granted_though_memory_is_refused(rt: HostRuntime) {
+fn kept_blocks_are_granted_when_the_inner_allocator_fails(rt: HostRuntime) {
     let heap = Faulty::new(rt.alloc());
     assert!(rt; is_kept(&heap, &Recycler::new(&heap)));
 }

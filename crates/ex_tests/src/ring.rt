@@ -7,10 +7,10 @@ use std::mem::size_of;
 use std::ops::Range;
 use test_allocators::Faulty;
 
-// A ring over an allocator that may refuse.
+// A ring over an allocator that may fail.
 type Small<'a> = Ring<u64, &'a Faulty<Global>>;
 
-// Whether the ring has these items, as it gives them one after the other and by their index.
+// Returns whether the ring has these items, by its iterator and by their index.
 fn has(ring: &Small<'_>, items: &[u64]) -> bool {
     let mut same = ring.len() == items.len();
     let mut shown = ring.iter();
@@ -35,7 +35,7 @@ fn takes_in_front(ring: &mut Small<'_>, item: u64) -> bool {
     ring.push_front(item).is_ok()
 }
 
-// A ring of these items, of which the first two stand behind the others in its block.
+// Returns a ring of these items, of which the first two are after the others in its block.
 fn turned<'a>(heap: &'a Faulty<Global>, items: Range<u64>) -> Small<'a> {
     let mut ring: Small<'_> = Ring::new_in(heap);
     let mut rest = items;
@@ -50,7 +50,7 @@ fn turned<'a>(heap: &'a Faulty<Global>, items: Range<u64>) -> Small<'a> {
 }
 
 #[test]
-fn items_come_and_go_at_both_ends(rt: HostRuntime) {
+fn items_are_pushed_and_popped_at_both_ends(rt: HostRuntime) {
     let heap = Faulty::new(rt.alloc());
     let mut ring = turned(&heap, 0..6);
     assert!(rt; (ring.pop_front(), ring.pop_back()) == (Some(0), Some(5)));
@@ -71,7 +71,7 @@ fn items_are_turned_into_one_slice(rt: HostRuntime) {
 }
 
 #[test]
-fn items_are_written_where_they_stand(rt: HostRuntime) {
+fn items_are_written_in_place(rt: HostRuntime) {
     let heap = Faulty::new(rt.alloc());
     let mut ring = turned(&heap, 0..5);
     if let Some(place) = ring.get_mut(3) {
@@ -98,7 +98,7 @@ fn between(ring: &Small<'_>, heap: &Faulty<Global>) -> Option<usize> {
     Some(Vec::from_iter_in(items, heap).ok()?.capacity())
 }
 
-// The same of a ring that goes.
+// The same of a ring that is consumed.
 fn between_owned(ring: Small<'_>, heap: &Faulty<Global>) -> Option<usize> {
     let mut items = ring.into_iter();
     let (_first, _last) = (items.next()?, items.next_back()?);
@@ -107,7 +107,7 @@ fn between_owned(ring: Small<'_>, heap: &Faulty<Global>) -> Option<usize> {
 
 // A vector of what comes makes one block.
 #[test]
-fn iterators_tell_how_many_come(rt: HostRuntime) {
+fn iterators_know_their_length(rt: HostRuntime) {
     let heap = Faulty::new(rt.alloc());
     let ring = turned(&heap, 0..1000);
     let before = heap.requests();
@@ -163,11 +163,11 @@ const CALLS: [(Call, usize, usize); 8] = [
 ];
 
 #[test]
-fn a_call_that_is_refused_changes_nothing(rt: HostRuntime) {
+fn a_failed_call_changes_nothing(rt: HostRuntime) {
     let heap = Faulty::new(rt.alloc());
     for (call, len, capacity) in CALLS {
         let (mut ring, mut other) = (turned(&heap, 0..4), turned(&heap, 7..8));
-        heap.refuse(0, 1);
+        heap.fail_requests(0, 1);
         let error = Err(TryReserveErrorKind::AllocError { capacity }.into());
         assert!(rt; called(call, &mut ring, &mut other, &heap) == error);
         assert!(rt; has(&ring, &[0, 1, 2, 3]) && has(&other, &[7]));
@@ -231,7 +231,7 @@ fn rings_are_compared(rt: HostRuntime) {
     assert!(rt; less == less && less < more && heap.requests() == 4);
 }
 
-// Turns the ring to the left, or to the right, where it has as many items.
+// Turns the ring to the left, or to the right, if it has as many items.
 fn turns(ring: &mut Small<'_>, left: bool, by: usize) -> bool {
     if ring.len() < by {
         return false;

@@ -4,7 +4,7 @@ use ex_slots::map::{Key, SlotMap};
 use std::alloc::Global;
 use test_allocators::Faulty;
 
-// A map over an allocator that may refuse.
+// A map over an allocator that may fail.
 type Small<'a> = SlotMap<u32, &'a Faulty<Global>>;
 
 fn put(map: &mut Small<'_>, value: u32) -> Option<Key> {
@@ -16,7 +16,7 @@ fn has(map: &Small<'_>, key: Key) -> Option<u32> {
     map.get(key).copied()
 }
 
-// The value of a key, which goes.
+// Removes a key, and returns its value.
 fn taken(map: &mut Small<'_>, key: Key) -> Option<u32> {
     map.remove(key)
 }
@@ -25,14 +25,15 @@ fn taken(map: &mut Small<'_>, key: Key) -> Option<u32> {
 fn keeps_keys_apart(map: &mut Small<'_>) -> Option<bool> {
     let a = put(map, 1)?;
     let b = put(map, 2)?;
-    let gone = (taken(map, a), taken(map, a)) == (Some(1), None);
+    let removed = (taken(map, a), taken(map, a)) == (Some(1), None);
     let c = put(map, 3)?;
     write(map, b, 20);
     Some(
-        gone && finds(map, a, None)
+        removed
+            && finds(map, a, None)
             && finds(map, b, Some(20))
             && finds(map, c, Some(3))
-            && gives(map, c, b),
+            && has_new_key(map, c, b),
     )
 }
 
@@ -48,7 +49,7 @@ fn finds(map: &Small<'_>, key: Key, value: Option<u32>) -> bool {
 }
 
 // Whether the first keys are these, with 3 and 20.
-fn gives(map: &Small<'_>, first: Key, second: Key) -> bool {
+fn has_new_key(map: &Small<'_>, first: Key, second: Key) -> bool {
     let mut keys = map.iter();
     keys.next() == Some((first, &3)) && keys.next() == Some((second, &20))
 }
@@ -73,13 +74,13 @@ fn a_key_of_another_map_may_find_a_value(rt: HostRuntime) {
     assert!(rt; finds_any(&map, key) == Some(1));
 }
 
-// The value of a key, where there is one.
+// Returns the value of a key, if there is one.
 fn finds_any(map: &Small<'_>, key: Option<Key>) -> Option<u32> {
     has(map, key?)
 }
 
-// The value that is handed back, and why.
-fn handed_back(map: &mut Small<'_>, value: u32) -> Option<(u32, TryReserveErrorKind)> {
+// Returns the value in the error, and the kind of the error.
+fn returned(map: &mut Small<'_>, value: u32) -> Option<(u32, TryReserveErrorKind)> {
     match map.insert(value) {
         Ok(_) => None,
         Err(back) => Some((back.source, back.error.kind())),
@@ -90,34 +91,35 @@ fn makes_room(map: &mut Small<'_>, additional: usize) -> bool {
     map.reserve(additional).is_ok()
 }
 
-// Whether a value goes in, and out again but for the first two.
-fn comes_and_goes(map: &mut Small<'_>, value: u32) -> bool {
+// Inserts a value, and removes it again unless it is one of the first two. Returns whether this
+// succeeds.
+fn insert_and_remove(map: &mut Small<'_>, value: u32) -> bool {
     match put(map, value) {
         Some(key) => value < 2 || taken(map, key) == Some(value),
         None => false,
     }
 }
 
-// Whether there is room for three keys, though all memory is refused.
+// Returns whether there is capacity for three keys, though all requests fail.
 fn is_steady(map: &mut Small<'_>) -> bool {
     let mut all = true;
     for value in 0u32..1000 {
-        all = comes_and_goes(map, value) && all;
+        all = insert_and_remove(map, value) && all;
     }
     put(map, 3).is_some() && all
 }
 
-// At a steady size no more memory is asked for.
+// At a steady size no more memory is requested.
 #[test]
-fn room_is_there_when_the_heap_refuses(rt: HostRuntime) {
+fn reserved_capacity_is_used_when_the_heap_fails(rt: HostRuntime) {
     let heap = Faulty::new(rt.alloc());
     let mut map: Small<'_> = SlotMap::new_in(&heap);
-    heap.refuse(0, 1);
+    heap.fail_requests(0, 1);
     for granted in [false, true] {
         assert!(rt; makes_room(&mut map, 3) == granted);
     }
-    heap.refuse(0, u64::MAX);
+    heap.fail_requests(0, u64::MAX);
     assert!(rt; is_steady(&mut map));
-    let refused = TryReserveErrorKind::AllocError { capacity: 7 };
-    assert!(rt; handed_back(&mut map, 4) == Some((4, refused)) && map.len() == 3);
+    let failed = TryReserveErrorKind::AllocError { capacity: 7 };
+    assert!(rt; returned(&mut map, 4) == Some((4, failed)) && map.len() == 3);
 }

@@ -10,15 +10,15 @@ use test_allocators::Faulty;
 
 type Numbers<'a> = Arena<u64, &'a Faulty<Global>>;
 
-// The value that is handed back, if it is.
-fn handed_back(arena: &mut Numbers<'_>, value: u64) -> Option<u64> {
+// Returns the value in the error, if the call fails.
+fn returned(arena: &mut Numbers<'_>, value: u64) -> Option<u64> {
     match arena.alloc(value) {
         Ok(_) => None,
         Err(back) => Some(back.source),
     }
 }
 
-// Whether there is room for so many then.
+// Returns whether there is capacity for so many then.
 fn makes_room(arena: &mut Numbers<'_>, additional: usize) -> bool {
     arena.reserve(additional).is_ok()
 }
@@ -36,26 +36,26 @@ fn is_found(arena: &mut Numbers<'_>) -> bool {
     old == 20 && *arena.get(one) == 11 && arena.try_get(two).copied() == Some(21)
 }
 
-// Whether two more values are put, and a third comes back.
+// Returns whether two more values are put, and a third is returned.
 fn is_full(arena: &mut Numbers<'_>) -> bool {
     let mut all = true;
     for back in [None, None, Some(7)] {
-        all = handed_back(arena, 7) == back && all;
+        all = returned(arena, 7) == back && all;
     }
     all && arena.len() == 4
 }
 
-// Room that was made is there though all memory is refused, and no more than that.
+// Capacity that was reserved is there though all requests fail, and no more than that.
 #[test]
 fn values_are_found_by_their_handles(rt: HostRuntime) {
     let heap = Faulty::new(rt.alloc());
     let mut arena: Numbers<'_> = Arena::new_in(&heap);
-    heap.refuse(0, 2);
-    assert!(rt; handed_back(&mut arena, 7) == Some(7));
+    heap.fail_requests(0, 2);
+    assert!(rt; returned(&mut arena, 7) == Some(7));
     for made in [false, true] {
         assert!(rt; makes_room(&mut arena, 4) == made);
     }
-    heap.refuse(0, u64::MAX);
+    heap.fail_requests(0, u64::MAX);
     assert!(rt; is_found(&mut arena) && is_full(&mut arena));
 }
 
@@ -68,18 +68,18 @@ fn decodes(books: Global, bytes: &[u8], records: &[&[u8]]) -> bool {
 }
 
 // Whether these bytes are no records.
-fn is_refused(books: Global, bytes: &[u8]) -> bool {
+fn is_error(books: Global, bytes: &[u8]) -> bool {
     match decode(bytes, books) {
         Ok(None) => true,
         _ => false,
     }
 }
 
-// Whether records are so many bytes, come back from them, and not from all but the first.
+// Returns whether records are so many bytes, are decoded from them, and not from all but the first.
 fn come_back(books: Global, records: &[&[u8]], len: usize) -> bool {
     match encode(records, books) {
         Ok(bytes) if bytes.as_slice().len() == len && 0 < len => {
-            is_refused(books, &bytes.as_slice()[1..]) && decodes(books, bytes.as_slice(), records)
+            is_error(books, &bytes.as_slice()[1..]) && decodes(books, bytes.as_slice(), records)
         }
         _ => false,
     }
@@ -99,7 +99,7 @@ fn is_pushed(log: &mut Vec<u8, &Faulty<Global>>, entry: &[u8]) -> bool {
 fn a_record_is_pushed(rt: HostRuntime) {
     let heap = Faulty::new(rt.alloc());
     let mut log = Vec::new_in(&heap);
-    heap.refuse(0, 1);
+    heap.fail_requests(0, 1);
     for pushed in [false, true] {
         assert!(rt; is_pushed(&mut log, b"ab") == pushed);
     }
@@ -120,14 +120,14 @@ fn gets_room(text: &mut Words<'_>, additional: usize) -> bool {
     text.reserve(additional).is_ok()
 }
 
-// Whether a text is built while some requests are refused.
+// Returns whether a text is built while some requests fail.
 fn is_built(heap: &Faulty<Global>, text: &mut Words<'_>) -> bool {
-    heap.refuse(0, 2);
+    heap.fail_requests(0, 2);
     let mut all = !is_put(text, "n = ");
     for made in [false, true] {
         all = gets_room(text, 8) == made && all;
     }
-    heap.refuse(0, 2);
+    heap.fail_requests(0, 2);
     all = is_put(text, "n = ") && all;
     for put in [false, false, true] {
         all = is_put_as_digits(text, 1024) == put && all;
@@ -161,27 +161,27 @@ fn is_widened(line: &mut Line<'_>, additional: usize) -> bool {
     line.reserve(additional).is_ok()
 }
 
-fn goes_to(line: &mut Line<'_>, position: usize) {
+fn moves_to(line: &mut Line<'_>, position: usize) {
     line.go_to(position);
 }
 
-// Whether these bytes stand on either side of the cursor.
+// Returns whether these bytes are on either side of the cursor.
 fn shows(line: &Line<'_>, before: &[u8], after: &[u8]) -> bool {
     line.before() == before && line.after() == after
 }
 
-// Whether a word is typed into a line once there is room.
+// Returns whether a word is typed into a line once there is capacity.
 fn is_typed_within(heap: &Faulty<Global>, line: &mut Line<'_>) -> bool {
     let mut all = is_typed(line, b"a line");
-    goes_to(line, 2);
-    heap.refuse(0, 2);
+    moves_to(line, 2);
+    heap.fail_requests(0, 2);
     all = !is_typed(line, b"very long ") && shows(line, b"a ", b"line") && all;
     for made in [false, true] {
         all = is_widened(line, 10) == made && all;
     }
-    heap.refuse(0, u64::MAX);
+    heap.fail_requests(0, u64::MAX);
     all = is_typed(line, b"very long ") && line.backspace() == Some(b' ') && all;
-    goes_to(line, 99);
+    moves_to(line, 99);
     shows(line, b"a very longline", b"") && all
 }
 
@@ -197,13 +197,13 @@ fn pair<'a>(heap: &'a Faulty<Global>) -> Option<Few<'a>> {
     Fixed::with_capacity_in(2, heap).ok()
 }
 
-// The item that is handed back, if it is.
+// Returns the item in the error, if the call fails.
 fn is_left(few: &mut Few<'_>, item: u64) -> Option<u64> {
     few.push(item).err()
 }
 
-// Whether two items go in, a third one comes back, and one goes out.
-fn hands_back(few: &mut Few<'_>) -> bool {
+// Returns whether two items are put, a third one is returned, and one is taken.
+fn is_returned(few: &mut Few<'_>) -> bool {
     let mut all = true;
     for (item, back) in [(1, None), (2, None), (3, Some(3))] {
         all = is_left(few, item) == back && all;
@@ -213,12 +213,12 @@ fn hands_back(few: &mut Few<'_>) -> bool {
 }
 
 #[test]
-fn a_full_vector_hands_back(rt: HostRuntime) {
+fn a_full_vector_returns_the_value(rt: HostRuntime) {
     let heap = Faulty::new(rt.alloc());
-    heap.refuse(0, 1);
+    heap.fail_requests(0, 1);
     assert!(rt; pair(&heap).is_none());
     match pair(&heap) {
-        Some(mut few) => assert!(rt; hands_back(&mut few)),
+        Some(mut few) => assert!(rt; is_returned(&mut few)),
         None => assert!(rt; false),
     }
     assert!(rt; heap.outstanding() == 0);

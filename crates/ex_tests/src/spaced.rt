@@ -2,7 +2,8 @@ use ex_allocators::spaced::Spaced;
 use ex_watched::counting::Counting;
 use std::alloc::Global;
 
-// How many bytes are out below with room for four numbers, of which one is there.
+// Returns how many bytes of the inner allocator are allocated for capacity for four numbers, of
+// which one is there.
 fn taken(below: &Counting<Global>, heap: &Spaced<&Counting<Global>>) -> Option<u64> {
     let mut numbers: Vec<u32, &Spaced<&Counting<Global>>> = Vec::with_capacity(heap, 4).ok()?;
     let pushed = numbers.push(7).is_ok();
@@ -13,7 +14,7 @@ fn taken(below: &Counting<Global>, heap: &Spaced<&Counting<Global>>) -> Option<u
 }
 
 #[test]
-fn twice_as_much_is_asked_and_given_back(rt: HostRuntime) {
+fn twice_the_size_is_requested_and_freed(rt: HostRuntime) {
     let below = Counting::new(rt.alloc());
     assert!(rt; taken(&below, &Spaced::new(&below)) == Some(32));
     let counts = below.counts();

@@ -9,7 +9,7 @@ use std::ops::Range;
 use std::test::Fail;
 use test_allocators::Faulty;
 
-// A table over an allocator that may refuse.
+// A table over an allocator that may fail.
 type Small<'a> = Table<u64, u64, BuildHasherDefault<FoldHasher>, &'a Faulty<Global>>;
 
 fn none<'a>(heap: &'a Faulty<Global>) -> Small<'a> {
@@ -31,23 +31,25 @@ fn takes(table: &mut Small<'_>, keys: Range<u64>) -> bool {
 }
 
 // Whether a key and its value go out.
-fn gives(table: &mut Small<'_>, key: u64) -> bool {
+fn returns_value(table: &mut Small<'_>, key: u64) -> bool {
     table.remove(&key) == Some(key)
 }
 
-// At a steady size no memory is asked for.
+// At a steady size no memory is requested.
 #[test]
-fn keys_come_and_go_without_memory(rt: HostRuntime) {
+fn keys_are_inserted_and_removed_without_allocating(rt: HostRuntime) {
     for (count, times) in [(1u64, 1_000u64), (1_000, 20_000)] {
         let heap = Faulty::new(rt.alloc());
         let mut table = none(&heap);
         assert!(rt; takes(&mut table, 0..count));
-        heap.refuse(0, u64::MAX);
+        heap.fail_requests(0, u64::MAX);
         for turn in 0..times {
             let key = turn.checked_rem(count).unwrap_or(0);
-            assert!(rt; gives(&mut table, key) && takes(&mut table, key..key.saturating_add(1)));
+            assert!(rt;
+                returns_value(&mut table, key) && takes(&mut table, key..key.saturating_add(1))
+            );
         }
-        assert!(rt; heap.refused() == 0 && table.len() as u64 == count);
+        assert!(rt; heap.failures() == 0 && table.len() as u64 == count);
         table.clear();
         assert!(rt; table.is_empty() && has(&table, 0) == None);
         drop(table);
@@ -74,7 +76,7 @@ fn values_are_written_and_all_are_seen(rt: HostRuntime) {
     assert!(rt; table.insert(10, 0).ok() == Some(Some(100)) && heap.requests() == 3);
 }
 
-// Makes room: the room then, or why there is none.
+// Reserves capacity. Returns the spare capacity then, or the kind of the error.
 fn reserved(table: &mut Small<'_>, additional: usize) -> Result<usize, TryReserveErrorKind> {
     match table.reserve(additional) {
         Ok(()) => Ok(table.room()),
@@ -82,7 +84,7 @@ fn reserved(table: &mut Small<'_>, additional: usize) -> Result<usize, TryReserv
     }
 }
 
-// Room asked for, the room that there is then, and the requests that it made.
+// The capacity requested, the spare capacity then, and the requests that were made.
 const ROOMS: [(usize, usize, u64); 5] = [
     (9, 9, 0),
     (10, 23, 3),
@@ -92,7 +94,7 @@ const ROOMS: [(usize, usize, u64); 5] = [
 ];
 
 #[test]
-fn a_reserve_makes_room_for_twice_as_many_or_for_all(rt: HostRuntime) {
+fn a_reserve_doubles_the_capacity_or_fits_all(rt: HostRuntime) {
     let heap = Faulty::new(rt.alloc());
     let mut table = none(&heap);
     assert!(rt; reserved(&mut table, 0) == Ok(0) && heap.requests() == 0);
@@ -108,12 +110,12 @@ fn a_reserve_makes_room_for_twice_as_many_or_for_all(rt: HostRuntime) {
             "{additional}"
         );
     }
-    heap.refuse(0, u64::MAX);
+    heap.fail_requests(0, u64::MAX);
     assert!(rt; takes(&mut table, 5..210) && (table.len(), table.capacity()) == (210, 210));
 }
 
-// What a refused insert hands back, and why it was refused.
-fn handed_back(table: &mut Small<'_>, key: u64) -> Option<((u64, u64), TryReserveErrorKind)> {
+// Returns the entry in the error of a failed insert, and the kind of the error.
+fn returned(table: &mut Small<'_>, key: u64) -> Option<((u64, u64), TryReserveErrorKind)> {
     match table.insert(key, 7) {
         Ok(_) => None,
         Err(back) => Some((back.source, back.error.kind())),
@@ -125,21 +127,21 @@ fn too_many(capacity: usize) -> TryReserveErrorKind {
 }
 
 #[test]
-fn a_refusal_has_the_number_asked_for(rt: HostRuntime) {
+fn an_error_has_the_number_requested(rt: HostRuntime) {
     let heap = Faulty::new(rt.alloc());
     let mut table = none(&heap);
     assert!(rt; takes(&mut table, 0..14));
-    // Room asked for, and with how many keys, as these are; the block of tags is refused first, then
-    // what is told beside them, and then that of places.
+    // The capacity requested, and with how many keys, as these are. The block of tags fails first,
+    // then that of the overflow counts beside them, and then that of places.
     for skip in 0u64..3 {
         for (additional, capacity) in [(1, 28), (14, 28), (15, 29), (1000, 1014)] {
-            heap.refuse(skip, 1);
+            heap.fail_requests(skip, 1);
             assert!(rt; reserved(&mut table, additional) == Err(too_many(capacity)));
         }
-        heap.refuse(skip, 1);
-        assert!(rt; handed_back(&mut table, 14) == Some(((14, 7), too_many(28))));
+        heap.fail_requests(skip, 1);
+        assert!(rt; returned(&mut table, 14) == Some(((14, 7), too_many(28))));
     }
-    heap.refuse(0, 1000);
+    heap.fail_requests(0, 1000);
     let most = too_many(2_000_000_000);
     let none = TryReserveErrorKind::CapacityOverflow;
     for (additional, kind) in [
@@ -188,12 +190,12 @@ fn key(heap: Global, word: &str) -> Option<BoxedText<Global>> {
     BoxedText::from_text(heap, word).ok()
 }
 
-// Gives the text a number. It answers the one that it had.
+// Sets the number of a text, and returns the old one.
 fn put(table: &mut Texts, key: Option<BoxedText<Global>>, number: u64) -> Option<u64> {
     table.insert(key?, number).ok()?
 }
 
-// The number of a text, which goes.
+// Removes a text, and returns its number.
 fn taken(table: &mut Texts, key: Option<BoxedText<Global>>) -> Option<u64> {
     table.remove(&key?)
 }
@@ -226,7 +228,7 @@ fn collected(table: &Small<'_>, heap: &Faulty<Global>, way: u32) -> Option<usize
 
 // Each vector of what comes makes one block.
 #[test]
-fn iterators_tell_how_many_come(rt: HostRuntime) -> Result<(), Fail> {
+fn iterators_know_their_length(rt: HostRuntime) -> Result<(), Fail> {
     let heap = Faulty::new(rt.alloc());
     let mut table: Small<'_> = Table::with_capacity_in(1000, &heap)?;
     assert!(rt; takes(&mut table, 0..1000) && heap.requests() == 3);
@@ -271,7 +273,7 @@ const SHRINKS: [(u64, u64, usize, u64); 7] = [
     (100, 70, 30, 3),
 ];
 
-// A shrink leaves the memory of a new table, and allocates only where that is less.
+// A shrink leaves the memory of a new table, and allocates only if that is less.
 #[test]
 fn a_shrink_leaves_what_a_new_table_has(rt: HostRuntime) {
     for (keys, removed, capacity, requests) in SHRINKS {
@@ -279,7 +281,7 @@ fn a_shrink_leaves_what_a_new_table_has(rt: HostRuntime) {
         let mut table = none(&heap);
         assert!(rt; takes(&mut table, 0..keys));
         for key in 0..removed {
-            assert!(rt; gives(&mut table, key));
+            assert!(rt; returns_value(&mut table, key));
         }
         let before = heap.requests();
         assert!(rt; shrunk(&mut table) == Ok(capacity), "{keys}");
@@ -299,7 +301,7 @@ fn a_shrink_that_fails_changes_nothing(rt: HostRuntime) {
     let mut table = none(&heap);
     assert!(rt; takes(&mut table, 0..100));
     for key in 0u64..90 {
-        assert!(rt; gives(&mut table, key));
+        assert!(rt; returns_value(&mut table, key));
     }
     for (skip, left) in [
         (0, Err(too_many(14))),
@@ -308,7 +310,7 @@ fn a_shrink_that_fails_changes_nothing(rt: HostRuntime) {
         (3, Ok(14)),
     ] {
         let bytes = heap.outstanding();
-        heap.refuse(skip, 1);
+        heap.fail_requests(skip, 1);
         assert!(rt; shrunk(&mut table) == left && has(&table, 99) == Some(99));
         assert!(rt; left.is_ok() || (table.capacity(), heap.outstanding()) == (112, bytes));
     }

@@ -2,7 +2,7 @@
 use aa_boxed::boxed::Box;
 use aa_vec::vec::Vec;
 use ex_trees::derived::{Link, Sealed, Wood};
-use ex_trees::list::{Node, list_of, pop, push, reversed, total_by_loop};
+use ex_trees::list::{Node, into_reversed, list_of, pop, push, total_by_loop};
 use ex_trees::search::{Search, holds, insert};
 use ex_trees::tree::{Tree, add_up, clear, double, leaf, levels, push_child};
 use std::alloc::{AllocError, Allocator, Global};
@@ -21,7 +21,8 @@ fn numbers<'a>(heap: &'a Faulty<Global>, count: u32) -> Result<List<'a>, AllocEr
     Ok(head)
 }
 
-// Makes a list of 100,000 nodes, which goes by itself or by `clear`. It answers whether it was made.
+// Makes a list of 100,000 nodes, which is dropped by itself or by `clear`. Returns whether it was
+// made.
 fn is_made(heap: &Faulty<Global>, by_itself: bool) -> bool {
     let Ok(mut head) = numbers(heap, 100_000) else {
         return false;
@@ -32,24 +33,24 @@ fn is_made(heap: &Faulty<Global>, by_itself: bool) -> bool {
     true
 }
 
-// A drop that goes one call deeper for each node has no stack for so many.
+// A recursive drop, with one call for each node, has no stack for so many.
 #[test]
 fn long_lists_are_dropped(rt: HostRuntime) {
     let heap = Faulty::new(rt.alloc());
-    // How it goes, which request is refused, and how many blocks came back then.
-    for (by_itself, refused, frees) in [
+    // How it is dropped, which request fails, and how many blocks were freed then.
+    for (by_itself, failed, frees) in [
         (true, 100_000, 100_000),
         (false, 100_000, 200_000),
         (true, 49_999, 249_999),
     ] {
-        heap.refuse(refused, 1);
-        assert!(rt; is_made(&heap, by_itself) == (refused == 100_000));
+        heap.fail_requests(failed, 1);
+        assert!(rt; is_made(&heap, by_itself) == (failed == 100_000));
         assert!(rt; heap.frees() == frees && heap.outstanding() == 0);
     }
 }
 
 // Whether these values come from the front, one after another.
-fn gives(head: &mut List<'_>, values: &[u32]) -> bool {
+fn yields_values(head: &mut List<'_>, values: &[u32]) -> bool {
     let mut all = true;
     for value in values {
         all = pop(head) == Some(*value) && all;
@@ -58,17 +59,17 @@ fn gives(head: &mut List<'_>, values: &[u32]) -> bool {
 }
 
 #[test]
-fn a_list_goes_round(rt: HostRuntime) -> Result<(), Fail> {
+fn a_list_is_reversed_and_traversed(rt: HostRuntime) -> Result<(), Fail> {
     let heap = Faulty::new(rt.alloc());
-    let mut round = reversed(numbers(&heap, 4)?);
-    assert!(rt; gives(&mut round, &[0, 1, 2, 3]) && pop(&mut round) == None);
+    let mut round = into_reversed(numbers(&heap, 4)?);
+    assert!(rt; yields_values(&mut round, &[0, 1, 2, 3]) && pop(&mut round) == None);
     Ok(())
 }
 
-// Whether a list of these numbers is made, and gives them.
+// Returns whether a list of these numbers is made, and returns them.
 fn is_listed(heap: &Faulty<Global>, values: &[u32]) -> bool {
     match list_of(values, &heap) {
-        Ok(mut head) => gives(&mut head, values) && pop(&mut head) == None,
+        Ok(mut head) => yields_values(&mut head, values) && pop(&mut head) == None,
         Err(_) => false,
     }
 }
@@ -76,8 +77,8 @@ fn is_listed(heap: &Faulty<Global>, values: &[u32]) -> bool {
 #[test]
 fn a_list_of_numbers_is_made_whole_or_not(rt: HostRuntime) {
     let heap = Faulty::new(rt.alloc());
-    for (refused, listed) in [(2, false), (3, true)] {
-        heap.refuse(refused, 1);
+    for (failed, listed) in [(2, false), (3, true)] {
+        heap.fail_requests(failed, 1);
         assert!(rt; is_listed(&heap, &[7, 8, 9]) == listed && heap.outstanding() == 0);
     }
 }
@@ -93,7 +94,7 @@ fn a_list_and_a_tree_add_up(rt: HostRuntime) -> Result<(), Fail> {
 
 type Small<'a> = Tree<&'a Faulty<Global>>;
 
-// Puts a leaf below a tree. It answers the value that is handed back.
+// Puts a leaf below a tree, and returns the value in the error, if this fails.
 fn grown<'a>(tree: &mut Small<'a>, value: u64, heap: &'a Faulty<Global>) -> Option<u64> {
     match push_child(tree, leaf(value, heap)) {
         Ok(()) => None,
@@ -128,8 +129,8 @@ fn a_tree_of_three_levels_is_changed_in_place(rt: HostRuntime) {
     let heap = Faulty::new(rt.alloc());
     let mut tree = leaf(1, &heap);
     assert!(rt; grown(&mut tree, 2, &heap) == None);
-    for (refused, back, height, sum) in [(1, Some(5), 2, 3), (0, None, 3, 8)] {
-        heap.refuse(0, refused);
+    for (failed, back, height, sum) in [(1, Some(5), 2, 3), (0, None, 3, 8)] {
+        heap.fail_requests(0, failed);
         assert!(rt; grown_below(&mut tree, 5, &heap) == back && comes_to(&tree, height, sum));
     }
     double(&mut tree);

@@ -13,10 +13,10 @@ use Rattle.ex_trees.specs.declared.list.Node.TheFolds.{fold-roll-Node, fold_out-
 abbrev pub with_last : ℕ → List ℕ → List ℕ
 with_last x ys = take (length ys - 1) ys ++ x ∷ []
 
--- the value behind the others of a list that has one
-last_behind : (v x : ℕ) (ys : List ℕ) → 0 < length ys → v ∷ with_last x ys ≡ with_last x (v ∷ ys)
-last_behind v x [] h = absurd (omega (arith, h))
-last_behind v x (y ∷ ys) h = simp unary_clauses refl
+-- the last value of a list that has one
+last_after : (v x : ℕ) (ys : List ℕ) → 0 < length ys → v ∷ with_last x ys ≡ with_last x (v ∷ ys)
+last_after v x [] h = absurd (omega (arith, h))
+last_after v x (y ∷ ys) h = simp unary_clauses refl
 
 module _ {A : Type 0} where
   some : (n : Node A) → 0 < length (values n)
@@ -42,5 +42,5 @@ module _ {A : Type 0} where
   last_set n m b x e h =
       fold-roll-Node A (List ℕ) values_step (record { next = Some (with_value b m); value = (out-Node A n).value })
       ∙ ap (λ ys. (out-Node A n).value ∷ ys) h
-      ∙ last_behind (out-Node A n).value x (values b.value) (some b.value)
+      ∙ last_after (out-Node A n).value x (values b.value) (some b.value)
       ∙ ap (with_last x) (sym (rw e at (fold_out-Node A (List ℕ) values_step n)))

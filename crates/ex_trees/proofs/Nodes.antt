@@ -1,4 +1,4 @@
--- The equations of `nodes`, and what a walk over the children leaves.
+-- The equations of `nodes`, and the result of a walk over the children.
 use Rattle.std.proofs.Common.{◌≡◌, ℕ, zero, suc, ◌+◌, ◌<◌, ◌≤◌, List, [], ◌∷◌, ◌++◌, map, take, drop, set, length, get_or, refl, sym, ap, ◌∙◌, arith, add-one, append_assoc}
 use Rattle.std.proofs.lemmas.List.{append-nil, drop_all, length-map, map-append, take_all, take_at}
 use Rattle.std.specs.Prelude.{flat_map}

@@ -1,4 +1,4 @@
--- The equations of `total` and of `height`, and a tree whose push was refused.
+-- The equations of `total` and of `height`, and a tree whose push failed.
 use Rattle.std.proofs.Common.{◌≡◌, ℕ, suc, ◌+◌, ◌<◌, List, [], ◌∷◌, ◌++◌, length, drop, get_or, map, sym, ap, ◌∙◌, arith}
 use Rattle.std.specs.Prelude.{min, max}
 use Rattle.std.proofs.lemmas.List.{drop_more}
@@ -33,7 +33,7 @@ module _ {A : Type 0} where
       let here : height_of_all (drop i xs) ≡ max (height d) rest = ap height_of_all (drop_more xs i d lt) ∙ ap (λ u. max (height u) rest) (sym is) in
       rw l (more_levels (height d) most rest top ∙ ap (λ k. min (suc (max most k)) top) (sym here) ∙ inv)
 
-  pub refused_leaves : (t : Tree A) (below : Vector (Tree A) A) → below ≡ (out-Tree A t).below → roll-Tree A (record { below = below; value = (out-Tree A t).value }) ≡ t
-  refused_leaves t below same = ap (λ v. roll-Tree A (record { below = v; value = (out-Tree A t).value })) same ∙ roll-out-Tree A t
+  pub failed_unchanged : (t : Tree A) (below : Vector (Tree A) A) → below ≡ (out-Tree A t).below → roll-Tree A (record { below = below; value = (out-Tree A t).value }) ≡ t
+  failed_unchanged t below same = ap (λ v. roll-Tree A (record { below = v; value = (out-Tree A t).value })) same ∙ roll-out-Tree A t
 
-pub ruleset totals = (total_roll, total_out, total_of_all_push, refused_leaves)
+pub ruleset totals = (total_roll, total_out, total_of_all_push, failed_unchanged)

@@ -1,17 +1,17 @@
-//! Other types that hold themselves.
+//! Other forms of recursive types.
 use aa_boxed::boxed::{Box, BoxedSlice};
 use aa_raw::vec::into_iter::IntoIter;
 use aa_vec::vec::Vec;
 use std::alloc::{Allocator, Global};
 
-/// Over the global allocator.
+/// A type that is recursive through a box, over the global allocator.
 #[derive(Drop)]
 pub struct Plain {
     pub value: u32,
     pub next: Option<Box<Plain>>,
 }
 
-/// In several ways.
+/// A type that is recursive through vectors, boxes and boxed slices.
 #[derive(Drop)]
 pub enum Json<A: Allocator> {
     Null,
@@ -23,37 +23,39 @@ pub enum Json<A: Allocator> {
     Fixed(BoxedSlice<Json<A>, A>),
 }
 
-/// Boxes in a vector.
+/// A type that is recursive through a vector of boxes.
 #[derive(Drop)]
 pub struct Boxes<A: Allocator> {
     pub below: Vec<Box<Boxes<A>, A>, A>,
 }
 
-/// A vector in a box.
+/// A type that is recursive through a boxed vector.
 #[derive(Drop)]
-pub struct Behind<A: Allocator> {
-    pub below: Box<Vec<Behind<A>, A>, A>,
+pub struct BoxedVec<A: Allocator> {
+    pub below: Box<Vec<BoxedVec<A>, A>, A>,
 }
 
-/// The items of a vector that are left.
+/// A type that is recursive through the iterator over a vector's items.
 #[derive(Drop)]
 pub struct Rest<A: Allocator> {
     pub left: IntoIter<Rest<A>, A>,
 }
 
-/// Takes the first that is left.
+/// Returns the first remaining item, or `None` if none remains.
 pub fn first_left<A: Allocator>(rest: &mut Rest<A>) -> Option<Rest<A>> {
     rest.left.next()
 }
 
-/// Nothing below.
+/// Returns a value with no others below it.
+///
+/// Does not allocate.
 pub fn none_below<A: Allocator>(alloc: A) -> Boxes<A> {
     Boxes {
         below: Vec::new_in(alloc),
     }
 }
 
-/// Whether a text stands in it at some depth, but for its fields.
+/// Returns `true` if the value contains a text at some depth, not counting `Fields`.
 #[cycle(text)]
 pub fn has_text<A: Allocator>(json: &Json<A>) -> bool {
     match json {

@@ -1,4 +1,4 @@
-//! Tests of types that hold themselves through the library's boxes and vectors, and no part of it.
+//! Recursive types over the library's boxes and vectors: a test, and no part of the library.
 #![tactic(auto)]
 
 pub mod derived;

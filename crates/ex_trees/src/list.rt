@@ -1,17 +1,17 @@
-//! A list that is linked by boxes.
+//! A singly linked list of boxes.
 ghost use Rattle.std.specs.Prelude.{◌≡◌, ◌^◌, ◌<◌, ◌-◌, ◌∷◌, ◌++◌, [], IfOk, IfErr, OnOk, MatchOption, sum, length, take, drop, reverse};
 ghost use Rattle.ex_trees.specs.Linked.{values, values_of};
 
 use aa_boxed::boxed::{Box, UninitBox};
 use std::alloc::{AllocError, Allocator};
 
-/// A value, and the rest of the list.
+/// A node of the list: a value, and the nodes after it.
 pub struct Node<A: Allocator> {
     pub next: Option<Box<Node<A>, A>>,
     pub value: u32,
 }
 
-// A derived drop would go one call deeper for each node. This one is a loop: a list of any length
+// A derived drop would recurse once for each node. This one is a loop, so that a list of any length
 // needs no deep stack.
 impl<A: Allocator> Drop for Node<A> {
     fn drop(mut self) {
@@ -26,7 +26,7 @@ impl<A: Allocator> Drop for Node<A> {
 }
 
 impl<A: Allocator> Node<A> {
-    /// The value, and the rest of the list.
+    /// Consumes the node and returns its value and the nodes after it.
     pub fn into_parts(self) -> (u32, Option<Box<Node<A>, A>>)
         ensures { values self ≡ result.0 ∷ values_of result.1 }
     {
@@ -35,7 +35,12 @@ impl<A: Allocator> Node<A> {
     }
 }
 
-/// A list with a value before those of `head`. A refusal drops the list; `push` keeps it.
+/// Returns the list `head` with `value` before the others.
+///
+/// Allocates one node.
+///
+/// # Errors
+/// `AllocError` if the allocation fails. The list is then dropped; `push` keeps it.
 pub fn push_front<A: Allocator>(
     head: Option<Box<Node<A>, A>>,
     value: u32,
@@ -46,33 +51,38 @@ pub fn push_front<A: Allocator>(
     Box::new_in(Node { next: head, value }, alloc)
 }
 
-/// The first value, and the list of the others.
+/// Removes the first node, and returns its value and the list of the others.
 pub fn pop_front<A: Allocator>(head: Box<Node<A>, A>) -> (u32, Option<Box<Node<A>, A>>)
     ensures { values head.value ≡ result.0 ∷ values_of result.1 }
 {
     Box::into_inner(head).into_parts()
 }
 
-/// Puts a value before the others. A refusal leaves the list as it was.
+/// Inserts `value` before the others.
+///
+/// Allocates one node.
+///
+/// # Errors
+/// `AllocError` if the allocation fails. The list is unchanged.
 pub fn push<A: Allocator>(
     head: &mut Option<Box<Node<A>, A>>,
     value: u32,
     alloc: A,
 ) -> Result<(), AllocError>
-    ensures done { OnOk result (values_of head.new ≡ value ∷ values_of head.old) }
-    ensures refused { IfErr result (λ _. head.new ≡ head.old) }
+    ensures pushed { OnOk result (values_of head.new ≡ value ∷ values_of head.old) }
+    ensures unchanged { IfErr result (λ _. head.new ≡ head.old) }
 {
-    let room = Box::new_uninit_in(alloc)?;
+    let uninit = Box::new_uninit_in(alloc)?;
     let next = head.take();
-    *head = Some(UninitBox::write(room, Node { next, value }));
+    *head = Some(UninitBox::write(uninit, Node { next, value }));
     Ok(())
 }
 
-/// Takes the first value out.
+/// Removes the first value and returns it, or `None` if the list is empty.
 pub fn pop<A: Allocator>(head: &mut Option<Box<Node<A>, A>>) -> Option<u32>
     ensures cases { MatchOption result (values_of head.old ≡ [])
         (λ x. values_of head.old ≡ x ∷ values_of head.new) }
-    ensures rest { values_of head.new ≡ drop 1 (values_of head.old) }
+    ensures remaining { values_of head.new ≡ drop 1 (values_of head.old) }
 {
     match head.take() {
         None => None,
@@ -84,7 +94,13 @@ pub fn pop<A: Allocator>(head: &mut Option<Box<Node<A>, A>>) -> Option<u32>
     }
 }
 
-/// A list of these numbers, in order. A refusal drops those that are there by then, in a loop.
+/// Returns a list of these numbers, in order.
+///
+/// Allocates a node for each number.
+///
+/// # Errors
+/// `AllocError` if a clone of the allocator or an allocation fails. The nodes made so far are
+/// dropped, in a loop.
 pub fn list_of<A: Allocator + Clone>(
     numbers: &[u32],
     alloc: &A,
@@ -95,17 +111,17 @@ pub fn list_of<A: Allocator + Clone>(
     'each: for number in numbers {
         push(&mut turned, *number, alloc.clone()?)?;
     }
-    Ok(reversed(turned))
+    Ok(into_reversed(turned))
 }
 
-/// Drops all values, in a loop.
+/// Removes all values, and drops the nodes in a loop.
 pub fn clear<A: Allocator>(head: &mut Option<Box<Node<A>, A>>)
     ensures { head.new ≡ None }
 {
     *head = None;
 }
 
-/// The sum of the values, by recursion.
+/// Returns the sum of the values, by recursion.
 pub fn total<A: Allocator>(node: &Node<A>) -> u64
     requires { sum (values node.now) < 2 ^ 64 }
     ensures { result ≡ sum (values node.now) }
@@ -116,7 +132,7 @@ pub fn total<A: Allocator>(node: &Node<A>) -> u64
     }
 }
 
-/// The sum of the values, by a loop.
+/// Returns the sum of the values, by a loop.
 pub fn total_by_loop<A: Allocator>(head: &Option<Box<Node<A>, A>>) -> u64
     requires { sum (values_of head.now) < 2 ^ 64 }
     ensures { result ≡ sum (values_of head.now) }
@@ -130,8 +146,10 @@ pub fn total_by_loop<A: Allocator>(head: &Option<Box<Node<A>, A>>) -> u64
     sum
 }
 
-/// Turns a list round.
-pub fn reversed<A: Allocator>(head: Option<Box<Node<A>, A>>) -> Option<Box<Node<A>, A>>
+/// Returns the list with its values in reverse order.
+///
+/// Does not allocate.
+pub fn into_reversed<A: Allocator>(head: Option<Box<Node<A>, A>>) -> Option<Box<Node<A>, A>>
     ensures { values_of result ≡ reverse (values_of head) }
 {
     let mut rest = head;
@@ -144,14 +162,14 @@ pub fn reversed<A: Allocator>(head: Option<Box<Node<A>, A>>) -> Option<Box<Node<
     done
 }
 
-/// Sets the first value.
+/// Sets the first value to `value`.
 pub fn set_first<A: Allocator>(head: &mut Box<Node<A>, A>, value: u32)
     ensures { values head.new.value ≡ value ∷ drop 1 (values head.old.value) }
 {
     head.value = value;
 }
 
-/// Sets the last value.
+/// Sets the last value to `value`.
 pub fn set_last<A: Allocator>(node: &mut Node<A>, value: u32)
     ensures { values node.new
         ≡ take (length (values node.old) - 1) (values node.old) ++ value ∷ [] }
@@ -162,13 +180,18 @@ pub fn set_last<A: Allocator>(node: &mut Node<A>, value: u32)
     }
 }
 
-/// A list of its own with the same values.
-pub fn copied<A: Allocator + Clone>(node: &Node<A>, alloc: &A) -> Result<Node<A>, AllocError>
+/// Returns a new list with the same values.
+///
+/// Allocates each node but the first.
+///
+/// # Errors
+/// `AllocError` if a clone of the allocator or an allocation fails.
+pub fn try_clone<A: Allocator + Clone>(node: &Node<A>, alloc: &A) -> Result<Node<A>, AllocError>
     ensures { IfOk result (λ n. values n ≡ values node.now) }
 {
     let next = match &node.next {
         None => None,
-        Some(next) => Some(Box::new_in(copied(&**next, alloc)?, alloc.clone()?)?),
+        Some(next) => Some(Box::new_in(try_clone(&**next, alloc)?, alloc.clone()?)?),
     };
     Ok(Node {
         next,

@@ -1,18 +1,18 @@
-//! A search tree that is linked by boxes.
+//! A binary search tree of boxes.
 ghost use Rattle.std.specs.Prelude.{◌≡◌, ◌≢◌, ℕ, IfOk, true};
 ghost use Rattle.ex_trees.specs.Searches.{finds};
 
 use aa_boxed::boxed::Box;
 use std::alloc::{AllocError, Allocator};
 
-/// No keys, or a key between those below and those above it.
+/// A search tree: empty, or a key between the trees of the lesser and the greater keys.
 #[derive(Drop)]
 pub enum Search<A: Allocator> {
     Leaf,
     Fork(Box<Search<A>, A>, u64, Box<Search<A>, A>),
 }
 
-/// Whether the tree has the key.
+/// Returns `true` if the tree has the key.
 #[tactic(auto, using(crate::proofs::Found::found))]
 pub fn holds<A: Allocator>(tree: &Search<A>, key: u64) -> bool
     ensures { result ≡ finds tree.now key }
@@ -31,7 +31,12 @@ pub fn holds<A: Allocator>(tree: &Search<A>, key: u64) -> bool
     }
 }
 
-/// The tree with the key as well. A refusal drops the tree.
+/// Returns the tree with `key` in it.
+///
+/// Does not allocate if the root has the key.
+///
+/// # Errors
+/// `AllocError` if a clone of the allocator or an allocation fails. The tree is dropped.
 #[tactic(auto, using(crate::proofs::Found::found))]
 pub fn insert<A: Allocator + Clone>(
     tree: Search<A>,
@@ -39,7 +44,8 @@ pub fn insert<A: Allocator + Clone>(
     alloc: &A,
 ) -> Result<Search<A>, AllocError>
     ensures there { IfOk result (λ t. finds t key ≡ true) }
-    ensures others { IfOk result (λ t. (other : ℕ) → other ≢ key → finds t other ≡ finds tree other) }
+    ensures others { IfOk result (λ t. (other : ℕ) → other ≢ key → finds t other
+        ≡ finds tree other) }
 {
     match tree {
         Search::Leaf => {

@@ -1,4 +1,4 @@
-//! A tree whose nodes hold those below them in vectors.
+//! A tree whose nodes hold their children in vectors.
 ghost use Rattle.std.specs.Prelude.{◌≡◌, ◌^◌, ◌+◌, ◌-◌, ◌*◌, ◌<◌, ◌∷◌, ◌++◌, [], OnOk, IfErr, IfNone, IfSome, MatchOption, min};
 ghost use Rattle.ex_trees.specs.Trees.{total, height, nodes, with_values};
 ghost use Rattle.ex_trees.specs.declared.tree.Tree.{out-Tree};
@@ -7,14 +7,16 @@ use aa_raw::collections::Refused;
 use aa_vec::vec::Vec;
 use std::alloc::Allocator;
 
-/// A value, and the trees below it.
+/// A tree: a value, and its children.
 #[derive(Drop)]
 pub struct Tree<A: Allocator> {
     pub below: Vec<Tree<A>, A>,
     pub value: u64,
 }
 
-/// A tree with nothing below.
+/// Returns a tree without children.
+///
+/// Does not allocate.
 pub fn leaf<A: Allocator>(value: u64, alloc: A) -> Tree<A>
     ensures value { (out-Tree A result).value ≡ value }
     ensures below { (out-Tree A result).below.items ≡ [] }
@@ -26,19 +28,24 @@ pub fn leaf<A: Allocator>(value: u64, alloc: A) -> Tree<A>
     }
 }
 
-/// Puts a tree below, behind the others. A refusal hands it back and leaves the tree as it was.
+/// Appends a child.
+///
+/// Allocates only if the vector of children is full.
+///
+/// # Errors
+/// The errors of `Vec::push`. The tree is unchanged, and `child` is returned in the error.
 #[tactic(auto, using(crate::proofs::Totals::totals))]
 pub fn push_child<A: Allocator>(tree: &mut Tree<A>, child: Tree<A>) -> Result<(), Refused<Tree<A>>>
-    ensures done { OnOk result
+    ensures pushed { OnOk result
         ((out-Tree A tree.new).below.items ≡ (out-Tree A tree.old).below.items ++ child ∷ []) }
     ensures value { (out-Tree A tree.new).value ≡ (out-Tree A tree.old).value }
     ensures total { OnOk result (total tree.new ≡ total tree.old + total child) }
-    ensures refused { IfErr result (λ r. (r.source ≡ child) × (tree.new ≡ tree.old)) }
+    ensures failed { IfErr result (λ r. (r.source ≡ child) × (tree.new ≡ tree.old)) }
 {
     tree.below.push(child)
 }
 
-/// The sum of the values.
+/// Returns the sum of all values.
 #[tactic(auto, using(crate::proofs::Totals::total_out))]
 pub fn add_up<A: Allocator>(tree: &Tree<A>) -> u64
     requires { total tree.now < 2 ^ 64 }
@@ -51,7 +58,7 @@ pub fn add_up<A: Allocator>(tree: &Tree<A>) -> u64
     sum
 }
 
-/// How many levels a tree has, or `u64::MAX` if there are more.
+/// Returns the number of levels of a tree, at most `u64::MAX`.
 #[tactic(auto, using(crate::proofs::Totals::height_out))]
 pub fn levels<A: Allocator>(tree: &Tree<A>) -> u64
     ensures { result ≡ min (height tree.now) (2 ^ 64 - 1) }
@@ -63,7 +70,7 @@ pub fn levels<A: Allocator>(tree: &Tree<A>) -> u64
     most.saturating_add(1)
 }
 
-/// Takes the last child out.
+/// Removes the last child and returns it, or `None` if there are no children.
 #[tactic(auto, using(crate::proofs::Totals::totals))]
 pub fn pop_child<A: Allocator>(tree: &mut Tree<A>) -> Option<Tree<A>>
     ensures cases { MatchOption result ((out-Tree A tree.old).below.items ≡ [])
@@ -75,7 +82,7 @@ pub fn pop_child<A: Allocator>(tree: &mut Tree<A>) -> Option<Tree<A>>
     tree.below.pop()
 }
 
-/// Sets each value to 0, the children by their index.
+/// Sets each value to 0, visiting the children by index.
 #[tactic(auto, using(crate::proofs::Nodes::changed))]
 pub fn clear<A: Allocator>(tree: &mut Tree<A>)
     ensures { nodes tree.new ≡ with_values (λ _. 0) (nodes tree.old) }
@@ -86,8 +93,9 @@ pub fn clear<A: Allocator>(tree: &mut Tree<A>)
     }
 }
 
-/// Doubles each value, the children as a slice. A value that would be too great stays at
-/// `u64::MAX`.
+/// Doubles each value, visiting the children as a slice.
+///
+/// A value saturates at `u64::MAX`.
 #[tactic(auto, using(crate::proofs::Nodes::changed))]
 pub fn double<A: Allocator>(tree: &mut Tree<A>)
     ensures { nodes tree.new ≡ with_values (λ n. min (n * 2) (2 ^ 64 - 1)) (nodes tree.old) }

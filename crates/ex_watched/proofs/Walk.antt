@@ -1,7 +1,7 @@
 -- The names that the walks of this crate and of the crates above it cite, passed on, and what the walks share. Assumes `Logic`.
 --     inner_of      where the first field of a struct lies, if that is the inner allocator
 --     dropped, gone      of no parameter is anything left at the return, where nothing is said of its last value.        trues, spent      what is then had of n parameters
---     ended      a proof's step: what a caller has, once a call of n parameters returns that was lent a token in two halves: the result, the `ensures` and the token
+--     ended      a proof's step: what a caller has, once a call of n parameters returns that borrowed a token in two halves: the result, the `ensures` and the token
 pub use Rattle.std.proofs.Common.{◌≡◌, ℕ, ◌+◌, ◌<◌, ◌^◌, Bool, List, [], ◌∷◌, refl, ap, w64, Bor, true, false, Ok, Err, T, arith, lit<, subst, suc, sym, zero, ◌*◌, ◌++◌, ◌-◌, ◌/◌, ◌∙◌, ◌%◌}
 pub use Rattle.std.specs.Allocator.{block_if_ok, owned_block}
 pub use Rattle.std.specs.Borrow.{full_share, bool, unit, usize}

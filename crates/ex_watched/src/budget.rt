@@ -4,18 +4,22 @@ use crate::watched::{Watch, Watched};
 use std::alloc::{AllocError, Allocator};
 use std::cell::Cell;
 
-/// Grants at most so many bytes in all from an inner allocator. What is given back can be granted
-/// again. A collection over `&budget` answers a refusal as an error; its caller sheds and goes on.
+/// An allocator that limits the number of bytes that are allocated at once from an inner one.
+///
+/// Freed bytes can be allocated again. An allocation past the limit returns an error. A collection
+/// over `&budget` returns this error to its caller, which can free memory and continue.
 pub type Budget<B> = Watched<B, Purse>;
 
 impl<B: Allocator> Watched<B, Purse> {
-    /// An allocator over `inner` that never has more than `limit` bytes out.
+    /// Creates an allocator over `inner` that never has more than `limit` bytes allocated.
+    ///
+    /// Does not allocate.
     pub fn new(inner: B, limit: usize) -> Budget<B> {
         Watched::with_watch(inner, Purse::new(limit))
     }
 }
 
-/// How many bytes a `Budget` may grant, and how many are out.
+/// The limit of a `Budget`, and the number of bytes that are allocated.
 #[derive(Drop)]
 pub struct Purse {
     limit: usize,
@@ -24,7 +28,7 @@ pub struct Purse {
 }
 
 impl Purse {
-    /// A purse of `limit` bytes, of which none is out.
+    /// Creates a purse of `limit` bytes, of which none is allocated.
     pub fn new(limit: usize) -> Purse
         ensures { result.limit ≡ limit }
     {
@@ -35,52 +39,52 @@ impl Purse {
         }
     }
 
-    /// How many bytes there may be out at once.
+    /// Returns the maximum number of bytes that may be allocated at once.
     pub fn limit(&self) -> usize
         ensures { result ≡ self.now.limit }
     {
         self.limit
     }
 
-    /// How many bytes are out.
+    /// Returns the number of bytes that are allocated.
     pub fn granted(&self) -> usize {
         self.granted.get()
     }
 
-    /// How many bytes may still be granted.
-    pub fn left(&self) -> usize
+    /// Returns the number of bytes that may still be allocated.
+    pub fn remaining(&self) -> usize
         ensures { result ≤ self.now.limit }
     {
         self.limit.saturating_sub(self.granted.get())
     }
 
-    /// The most bytes that were ever out at once.
+    /// Returns the largest number of bytes that were ever allocated at once.
     pub fn most(&self) -> usize {
         self.most.get()
     }
 }
 
 impl Watch for Purse {
-    fn refuses(&self, size: usize, _align: usize) -> bool
+    fn should_fail(&self, size: usize, _align: usize) -> bool
         ensures { self.now.limit < size → IsTrue result }
     {
-        self.left() < size
+        self.remaining() < size
     }
 
-    fn grants(&self, size: usize, _align: usize) {
+    fn on_allocate(&self, size: usize, _align: usize) {
         let granted = self.granted.get().saturating_add(size);
         self.granted.set(granted);
         self.most.set(self.most.get().max(granted));
     }
 
-    fn misses(&self, _size: usize, _align: usize) {}
+    fn on_failure(&self, _size: usize, _align: usize) {}
 
-    fn takes_back(&self, size: usize, _align: usize) {
+    fn on_deallocate(&self, size: usize, _align: usize) {
         self.granted.set(self.granted.get().saturating_sub(size));
     }
 }
 
-/// A clone has the same limit, and nothing of it is out.
+/// Returns a purse with the same limit, of which no byte is allocated.
 impl Clone for Purse {
     fn clone(&self) -> Result<Purse, AllocError> {
         Ok(Purse::new(self.limit))

@@ -6,24 +6,27 @@ use std::alloc::{AllocError, Allocator};
 use std::cell::Cell;
 use std::fmt;
 
-/// Passes each request on to an inner allocator, and counts: how an author finds where a
-/// collection's memory goes. A collection takes `&counting`; `counting.watch().counts()` tells, and
-/// prints as a report.
-pub type Counting<B> = Watched<B, Tally>;
+/// An allocator that passes each request on to an inner one and counts.
+///
+/// With it an author finds where a collection's memory goes. A collection takes `&counting` as its
+/// allocator. `counting.counts()` returns the counts, which print as a report.
+pub type Counting<B> = Watched<B, Counter>;
 
-impl<B: Allocator> Watched<B, Tally> {
-    /// An allocator over `inner` with all counts 0.
+impl<B: Allocator> Watched<B, Counter> {
+    /// Creates an allocator over `inner` with all counts 0.
+    ///
+    /// Does not allocate.
     pub fn new(inner: B) -> Counting<B> {
-        Watched::with_watch(inner, Tally::default())
+        Watched::with_watch(inner, Counter::default())
     }
 
-    /// What was asked so far.
+    /// Returns the counts so far.
     pub fn counts(&self) -> Counts {
         self.watch().counts()
     }
 }
 
-// The number of a size's class: sizes up to 16, 64, 256 .. 65,536 bytes, and greater ones.
+// Returns the class of a size: up to 16, 64, 256 .. 65,536 bytes, or larger.
 fn class_of(size: usize) -> usize
     ensures { IsClass size result }
 {
@@ -39,7 +42,7 @@ fn class_of(size: usize) -> usize
     }
 }
 
-// The greatest size of a class but the last.
+// Returns the largest size of a class, except the last.
 fn greatest_in(class: usize) -> usize
     requires { class < 7 }
     ensures { result ≡ greatest_of class }
@@ -55,31 +58,33 @@ fn greatest_in(class: usize) -> usize
     }
 }
 
-/// What a `Counting` allocator was asked so far. A count that reaches `u64::MAX` stays there.
+/// The counts of a `Counting` allocator so far.
+///
+/// A count that reaches `u64::MAX` does not change any more.
 #[derive(Clone, Copy, PartialEq, Eq, Debug, Default)]
 pub struct Counts {
-    /// How many blocks were asked for. One that grows or shrinks is asked for anew.
+    /// The number of blocks that were requested. A block that grows or shrinks is requested anew.
     pub requests: u64,
-    /// How many blocks were granted.
+    /// The number of blocks that were allocated.
     pub granted: u64,
-    /// How many blocks were given back.
+    /// The number of blocks that were deallocated.
     pub frees: u64,
-    /// The bytes of all blocks that were granted.
+    /// The total size in bytes of all blocks that were allocated.
     pub bytes: u64,
-    /// The bytes of those that were not given back.
+    /// The total size in bytes of the blocks that were not deallocated.
     pub outstanding: u64,
-    /// The most bytes that were ever outstanding at once.
+    /// The largest number of bytes that were ever outstanding at once.
     pub most: u64,
-    /// The bytes of the greatest request.
+    /// The size in bytes of the largest request.
     pub greatest: usize,
-    /// How many blocks were asked for of up to 16 bytes, up to 64, 256, 1,024, 4,096, 16,384,
-    /// 65,536, and of more.
+    /// The number of requests of up to 16 bytes, up to 64, 256, 1,024, 4,096, 16,384, 65,536, and
+    /// of more.
     pub by_size: [u64; 8],
 }
 
 impl Counts {
-    // A block of `size` bytes is asked for.
-    fn asked(self, size: usize) -> Counts {
+    // Returns the counts after a request for `size` bytes.
+    fn with_request(self, size: usize) -> Counts {
         let mut by_size = self.by_size;
         let class = class_of(size);
         by_size[class] = by_size[class].saturating_add(1);
@@ -91,8 +96,8 @@ impl Counts {
         }
     }
 
-    // It is granted.
-    fn granted(self, size: usize) -> Counts {
+    // Returns the counts after a block of `size` bytes is allocated.
+    fn with_grant(self, size: usize) -> Counts {
         let outstanding = self.outstanding.saturating_add(size as u64);
         Counts {
             granted: self.granted.saturating_add(1),
@@ -103,8 +108,8 @@ impl Counts {
         }
     }
 
-    // It is given back.
-    fn given_back(self, size: usize) -> Counts {
+    // Returns the counts after a block of `size` bytes is deallocated.
+    fn with_free(self, size: usize) -> Counts {
         Counts {
             frees: self.frees.saturating_add(1),
             outstanding: self.outstanding.saturating_sub(size as u64),
@@ -115,10 +120,10 @@ impl Counts {
 
 impl fmt::Display for Counts {
     fn fmt<W: fmt::Write>(&self, f: &mut fmt::Formatter<W>) -> fmt::Result {
-        let refused = self.requests.saturating_sub(self.granted);
+        let failed = self.requests.saturating_sub(self.granted);
         writeln!(
             f,
-            "{} requests, {refused} refused, {} blocks given back",
+            "{} requests, {failed} failed, {} blocks freed",
             self.requests, self.frees
         )?;
         writeln!(
@@ -142,39 +147,39 @@ impl fmt::Display for Counts {
     }
 }
 
-/// The counts of a `Counting` allocator.
+/// The watch of a `Counting` allocator.
 #[derive(Drop, Default)]
-pub struct Tally {
+pub struct Counter {
     counts: Cell<Counts>,
 }
 
-impl Tally {
-    /// What was asked so far.
+impl Counter {
+    /// Returns the counts so far.
     pub fn counts(&self) -> Counts {
         self.counts.get()
     }
 }
 
-impl Watch for Tally {
-    fn refuses(&self, size: usize, _align: usize) -> bool {
-        self.counts.set(self.counts.get().asked(size));
+impl Watch for Counter {
+    fn should_fail(&self, size: usize, _align: usize) -> bool {
+        self.counts.set(self.counts.get().with_request(size));
         false
     }
 
-    fn grants(&self, size: usize, _align: usize) {
-        self.counts.set(self.counts.get().granted(size));
+    fn on_allocate(&self, size: usize, _align: usize) {
+        self.counts.set(self.counts.get().with_grant(size));
     }
 
-    fn misses(&self, _size: usize, _align: usize) {}
+    fn on_failure(&self, _size: usize, _align: usize) {}
 
-    fn takes_back(&self, size: usize, _align: usize) {
-        self.counts.set(self.counts.get().given_back(size));
+    fn on_deallocate(&self, size: usize, _align: usize) {
+        self.counts.set(self.counts.get().with_free(size));
     }
 }
 
-/// The counts of a clone begin at 0.
-impl Clone for Tally {
-    fn clone(&self) -> Result<Tally, AllocError> {
-        Ok(Tally::default())
+/// Returns a watch with all counts 0.
+impl Clone for Counter {
+    fn clone(&self) -> Result<Counter, AllocError> {
+        Ok(Counter::default())
     }
 }

@@ -2,102 +2,116 @@ use crate::watched::{Watch, Watched};
 use std::alloc::{AllocError, Allocator};
 use std::cell::Cell;
 
-/// An allocator that refuses the requests of a chosen range and passes the others on to an inner
-/// allocator. A test gives a collection `&heap`, and keeps `heap` to choose the range and to read
-/// the counts. A clone is an allocator of its own over a clone of the inner one. Its counts are 0,
-/// and it refuses nothing.
+/// An allocator that fails the requests of a chosen range and passes the others on to an inner one.
+///
+/// A test passes `&heap` to a collection, and keeps `heap` to choose the range and to read the
+/// counts. A clone is an allocator of its own over a clone of the inner one. Its counts are 0, and
+/// it fails no request.
 pub type Faulty<B> = Watched<B, Plan>;
 
-/// What was asked so far, and what is to be refused. A count that reaches `u64::MAX` stays there.
+/// The counts of a `Faulty` allocator so far, and which requests are to fail.
+///
+/// A count that reaches `u64::MAX` does not change any more.
 #[derive(Drop, Default)]
 pub struct Plan {
     requests: Cell<u64>,
-    refused: Cell<u64>,
+    failures: Cell<u64>,
     frees: Cell<u64>,
     outstanding: Cell<u64>,
-    // Requests are numbered from 0. Those from the first number up to, but without, the second are
-    // refused.
-    refuse_from: Cell<u64>,
-    refuse_until: Cell<u64>,
-    refuses_clones: Cell<bool>,
+    // Requests are numbered from 0. Those from the first number up to, but without, the second
+    // fail.
+    fail_from: Cell<u64>,
+    fail_until: Cell<u64>,
+    clones_fail: Cell<bool>,
 }
 
 impl<B: Allocator> Watched<B, Plan> {
-    /// An allocator over `inner` with all counts 0. It refuses nothing until `refuse` or
-    /// `refuse_clones` is called.
+    /// Creates an allocator over `inner` with all counts 0.
+    ///
+    /// It fails nothing until `fail_requests` or `fail_clones` is called. Does not allocate.
     pub fn new(inner: B) -> Faulty<B> {
         Watched::with_watch(inner, Plan::default())
     }
 
-    /// Refuses `count` requests after the next `skip` ones, and passes all others on.
-    /// It replaces the range of an earlier call, so after `refuse(0, 0)` no request is refused.
-    pub fn refuse(&self, skip: u64, count: u64) {
+    /// Fails `count` requests after the next `skip` ones, and passes all others on.
+    ///
+    /// This replaces the range of an earlier call, so after `fail_requests(0, 0)` no request is
+    /// failed. A failed request returns `AllocError`.
+    pub fn fail_requests(&self, skip: u64, count: u64) {
         let plan = self.watch();
         let from = plan.requests.get().saturating_add(skip);
-        plan.refuse_from.set(from);
-        plan.refuse_until.set(from.saturating_add(count));
+        plan.fail_from.set(from);
+        plan.fail_until.set(from.saturating_add(count));
     }
 
-    /// With `true`, `clone` answers `Err(AllocError)` from now on. With `false` it clones `inner`
-    /// again.
-    pub fn refuse_clones(&self, refuses: bool) {
-        self.watch().refuses_clones.set(refuses);
+    /// Sets whether `clone` fails from now on.
+    ///
+    /// With `true`, `clone` returns `Err(AllocError)`. With `false`, it clones `inner` again.
+    pub fn fail_clones(&self, should_fail: bool) {
+        self.watch().clones_fail.set(should_fail);
     }
 
-    /// The number of blocks that were asked for so far, refused ones too. A block that grows or
-    /// shrinks is asked for anew.
+    /// Returns the number of blocks that were requested so far, failed requests included.
+    ///
+    /// A block that grows or shrinks is requested anew.
     pub fn requests(&self) -> u64 {
         self.watch().requests.get()
     }
 
-    /// The number of requests that were refused so far for the range of `refuse`. Those that
-    /// `inner` refused are not counted.
-    pub fn refused(&self) -> u64 {
-        self.watch().refused.get()
+    /// Returns the number of requests that failed so far because of the range of `fail_requests`.
+    ///
+    /// Requests that `inner` failed are not counted.
+    pub fn failures(&self) -> u64 {
+        self.watch().failures.get()
     }
 
-    /// The number of blocks that were given back so far. A block that grows or shrinks is given
-    /// back once the new one is granted.
+    /// Returns the number of blocks that were deallocated so far.
+    ///
+    /// A block that grows or shrinks is deallocated once the new one is allocated.
     pub fn frees(&self) -> u64 {
         self.watch().frees.get()
     }
 
-    /// The number of bytes in the blocks that were granted and not yet given back. Once nothing is
-    /// in use, it is what leaked.
+    /// Returns the number of bytes in the blocks that were allocated and not yet deallocated.
+    ///
+    /// Once nothing is in use, this is the number of bytes that leaked.
     pub fn outstanding(&self) -> u64 {
         self.watch().outstanding.get()
     }
 }
 
 impl Watch for Plan {
-    fn refuses(&self, _size: usize, _align: usize) -> bool {
+    fn should_fail(&self, _size: usize, _align: usize) -> bool {
         let number = self.requests.get();
         self.requests.set(number.saturating_add(1));
-        let refused = self.refuse_from.get() <= number && number < self.refuse_until.get();
-        if refused {
-            self.refused.set(self.refused.get().saturating_add(1));
+        let fails = self.fail_from.get() <= number && number < self.fail_until.get();
+        if fails {
+            self.failures.set(self.failures.get().saturating_add(1));
         }
-        refused
+        fails
     }
 
-    fn grants(&self, size: usize, _align: usize) {
+    fn on_allocate(&self, size: usize, _align: usize) {
         self.outstanding
             .set(self.outstanding.get().saturating_add(size as u64));
     }
 
-    fn misses(&self, _size: usize, _align: usize) {}
+    fn on_failure(&self, _size: usize, _align: usize) {}
 
-    fn takes_back(&self, size: usize, _align: usize) {
+    fn on_deallocate(&self, size: usize, _align: usize) {
         self.frees.set(self.frees.get().saturating_add(1));
         self.outstanding
             .set(self.outstanding.get().saturating_sub(size as u64));
     }
 }
 
-/// The counts of a clone are 0, and it refuses nothing. It fails after `refuse_clones(true)`.
+/// Returns a plan with all counts 0 that fails nothing.
+///
+/// # Errors
+/// `AllocError` after `fail_clones(true)`.
 impl Clone for Plan {
     fn clone(&self) -> Result<Plan, AllocError> {
-        if self.refuses_clones.get() {
+        if self.clones_fail.get() {
             return Err(AllocError);
         }
         Ok(Plan::default())

@@ -1,12 +1,12 @@
-//! Allocators that ask a watch before each request: one with a budget, one that counts, and one for
-//! tests that refuses what it is told.
+//! Allocators that call a watch before each allocation: one with a budget, one that counts, and one
+//! for tests that fails chosen requests.
 #![tactic(auto)]
 
-/// An allocator with a limit on what it has granted.
+/// An allocator with a limit on the bytes in use.
 pub mod budget;
-/// An allocator that counts what it is asked.
+/// An allocator that counts its requests.
 pub mod counting;
-/// An allocator for tests that refuses the requests of a chosen range.
+/// An allocator for tests that fails the requests of a chosen range.
 pub mod faulty;
-/// An allocator that asks a watch before each request.
+/// An allocator that calls a watch before each allocation.
 pub mod watched;

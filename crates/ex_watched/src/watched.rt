@@ -1,35 +1,41 @@
 use std::alloc::{AllocError, Allocator};
 
-/// What stands between a collection and the allocator that has the memory. A watch decides and
-/// counts. It never sees a block, so it is written without a proof by hand.
+/// A watch that decides about the requests of a collection to an allocator, and counts them.
+///
+/// It never sees a block, so implementing it needs no proof by hand.
 pub trait Watch: Drop {
-    /// Asked before each request for `size` bytes at that alignment. With `true` it is refused, else
-    /// it is passed on.
-    fn refuses(&self, size: usize, align: usize) -> bool;
+    /// Returns whether a request for `size` bytes at alignment `align` is to fail.
+    ///
+    /// Called before each request. If it returns `false`, the request is passed on.
+    fn should_fail(&self, size: usize, align: usize) -> bool;
 
-    /// Told that such a block was granted.
-    fn grants(&self, size: usize, align: usize);
+    /// Called after the inner allocator allocated such a block.
+    fn on_allocate(&self, size: usize, align: usize);
 
-    /// Told that the inner allocator refused such a request.
-    fn misses(&self, size: usize, align: usize);
+    /// Called after the inner allocator failed such a request.
+    fn on_failure(&self, size: usize, align: usize);
 
-    /// Told that such a block was given back.
-    fn takes_back(&self, size: usize, align: usize);
+    /// Called before such a block is deallocated.
+    fn on_deallocate(&self, size: usize, align: usize);
 }
 
-/// An allocator that passes on to `inner` what its watch doesn't refuse.
+/// An allocator that passes each request on to `inner`, unless its watch fails it.
+///
+/// `allocate` returns `AllocError` if the watch fails the request or `inner` does.
 pub struct Watched<B: Allocator, W: Watch> {
     inner: B,
     watch: W,
 }
 
 impl<B: Allocator, W: Watch> Watched<B, W> {
-    /// An allocator over `inner` that asks `watch`: how an allocator with a watch of one's own is made.
+    /// Creates an allocator over `inner` that calls `watch`.
+    ///
+    /// This is how to make an allocator with a watch of one's own. Does not allocate.
     pub fn with_watch(inner: B, watch: W) -> Watched<B, W> {
         Watched { inner, watch }
     }
 
-    /// The watch, which knows what was asked.
+    /// Returns a reference to the watch.
     pub fn watch(&self) -> &W {
         &self.watch
     }
@@ -46,24 +52,27 @@ unsafe impl<B: Allocator, W: Watch> Allocator for Watched<B, W> {
     ghost dealloc_token = { λ heap ty ptr. B.dealloc_token heap.inner ty ptr };
 
     fn allocate(&self, size: usize, align: usize) -> Result<*mut u8, AllocError> {
-        if self.watch.refuses(size, align) {
+        if self.watch.should_fail(size, align) {
             return Err(AllocError);
         }
         let Ok(block) = self.inner.allocate(size, align) else {
-            self.watch.misses(size, align);
+            self.watch.on_failure(size, align);
             return Err(AllocError);
         };
-        self.watch.grants(size, align);
+        self.watch.on_allocate(size, align);
         Ok(block)
     }
 
     unsafe fn deallocate(&self, ptr: *mut u8, size: usize, align: usize) {
-        self.watch.takes_back(size, align);
+        self.watch.on_deallocate(size, align);
         self.inner.deallocate(ptr, size, align);
     }
 }
 
-/// A clone is an allocator of its own, over a clone of `inner`, with a clone of the watch.
+/// Returns an allocator over a clone of `inner`, with a clone of the watch.
+///
+/// # Errors
+/// `AllocError` if the clone of the watch or of `inner` fails.
 impl<B: Allocator + Clone, W: Watch + Clone> Clone for Watched<B, W> {
     fn clone(&self) -> Result<Watched<B, W>, AllocError> {
         let watch = self.watch.clone()?;

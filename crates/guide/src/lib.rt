@@ -1,10 +1,12 @@
-//! Callers that list `allocator_api2` alone: one for each group of calls, as `docs/CALLING.md`
-//! shows them, and one that concludes from `run`'s contract what it wants to know.
+//! Callers that depend on `allocator_api2` alone.
+//!
+//! `docs/CALLING.md` shows one module for each group of calls. The function below draws a
+//! conclusion from the contract of `run`.
 #![tactic(auto)]
 
 ghost use Rattle.std.specs.Prelude.{◌≡◌, ◌+◌, ◌*◌, ◌≤◌, [], length};
 ghost use Rattle.std.specs.List.{AllByRecursion};
-ghost use Rattle.allocator_api2.specs.Copies.{Copies};
+ghost use Rattle.allocator_api2.specs.Copies.{ClonesAreEqual};
 ghost use Rattle.allocator_api2.specs.Run.{AddsOneAtMost};
 ghost use Rattle.allocator_api2.specs.Vector.{HasRoom};
 ghost use Rattle.allocator_api2.specs.declared.raw_vec.Growth.TheVariants.{Doubling};
@@ -24,9 +26,10 @@ use allocator_api2::runner::{Command, Reply, run};
 use allocator_api2::vec::Vec;
 use std::alloc::Allocator;
 
-/// Runs commands such as `Push`, `Insert` and `Pop` from an empty list: growth moves at most twice
-/// as many elements as there are commands, and each has one reply.
-pub fn grown_by_commands<T, A>(
+/// Runs commands such as `Push`, `Insert` and `Pop` on an empty list.
+///
+/// Growth moves at most twice as many elements as there are commands. Each command has one reply.
+pub fn run_from_empty<T, A>(
     main: &mut Vec<T, A>,
     side: &mut Vec<T, A>,
     commands: Vec<Command<T, A>, A>,
@@ -35,11 +38,16 @@ pub fn grown_by_commands<T, A>(
 where
     T: Clone + Drop,
     A: Allocator + Clone + Drop,
+    // The list is empty and doubles. Each command adds at most one element.
     requires empty { main.old.items ≡ [] }
     requires doubling { main.old.growth ≡ Doubling }
     requires few { AllByRecursion AddsOneAtMost commands.items }
+
+    // The replies fit, and clones are equal to their originals.
     requires room { HasRoom replies.old (length commands.items) }
-    requires copies { Copies T.is_clone }
+    requires copies { ClonesAreEqual T.is_clone }
+
+    // Growth is bounded by the number of commands.
     ensures grown { main.new.grown ≤ main.old.grown + 2 * length commands.items }
     ensures replied { length replies.new.items ≡ length replies.old.items + length commands.items }
 {

@@ -1,4 +1,4 @@
-//! Elements that go from one vector to another, or to the toolchain's own and back.
+//! Elements moved from one vector to another, or to a vector of the standard library and back.
 ghost use Rattle.std.specs.Prelude.{◌≡◌, ◌*◌, ◌++◌, filter, flat_map, map, nat_lt, not, IfOk, OnOk};
 
 use allocator_api2::collections::TryReserveError;
@@ -6,7 +6,7 @@ use allocator_api2::vec::Vec;
 use std::alloc::{AllocError, Allocator};
 use std::vec::Vec as StdVec;
 
-/// Puts the elements of one vector, each by a push, behind those of another.
+/// Moves the elements of one vector, each by a push, to the end of another.
 #[tactic(auto, using(allocator_api2::proofs::Callers::callers))]
 pub fn push_each<A: Allocator>(
     from: Vec<u64, A>,
@@ -20,8 +20,8 @@ pub fn push_each<A: Allocator>(
     Ok(())
 }
 
-/// Parts a vector: the numbers below `pivot` go behind those of `small`, the others behind those of
-/// `big`.
+/// Partitions a vector: moves the numbers below `pivot` to the end of `small`, and the others to
+/// the end of `big`.
 pub fn part_at<A: Allocator>(
     from: Vec<u64, A>,
     pivot: u64,
@@ -43,7 +43,7 @@ pub fn part_at<A: Allocator>(
     Ok(())
 }
 
-/// Moves the elements of all rows, in order, behind those of another vector.
+/// Moves the elements of all rows, in order, to the end of another vector.
 pub fn join_rows<A: Allocator>(
     rows: Vec<Vec<u32, A>, A>,
     to: &mut Vec<u32, A>,
@@ -56,12 +56,13 @@ pub fn join_rows<A: Allocator>(
     Ok(())
 }
 
-/// A vector of the doubles of the small numbers.
+/// Returns a vector of the doubles of the numbers below 100.
 pub fn doubled_small<A: Allocator>(
     numbers: &[u32],
     alloc: A,
 ) -> Result<Vec<u32, A>, TryReserveError>
-    ensures { IfOk result (λ v. v.items ≡ map (λ x. x * 2) (filter (λ x. nat_lt x 100) numbers.now)) }
+    ensures { IfOk result (λ v. v.items ≡ map (λ x. x * 2)
+        (filter (λ x. nat_lt x 100) numbers.now)) }
 {
     Vec::from_iter_in(
         numbers.iter().copied().filter(|x| *x < 100).map(|x| x * 2),
@@ -69,8 +70,8 @@ pub fn doubled_small<A: Allocator>(
     )
 }
 
-/// The elements of the toolchain's vector in one of ours.
-pub fn taken_over<A: Allocator, B: Allocator>(
+/// Returns a vector of the elements of a vector of the standard library.
+pub fn from_std_vec<A: Allocator, B: Allocator>(
     from: StdVec<u64, B>,
     alloc: A,
 ) -> Result<Vec<u64, A>, TryReserveError>
@@ -79,8 +80,8 @@ pub fn taken_over<A: Allocator, B: Allocator>(
     Vec::from_iter_in(from.into_iter(), alloc)
 }
 
-/// The elements of one of ours in the toolchain's.
-pub fn given_over<A: Allocator, B: Allocator>(
+/// Returns a vector of the standard library with the elements of one of this library.
+pub fn to_std_vec<A: Allocator, B: Allocator>(
     from: Vec<u64, A>,
     alloc: B,
 ) -> Result<StdVec<u64, B>, AllocError>

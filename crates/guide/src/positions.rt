@@ -5,8 +5,8 @@ use allocator_api2::collections::{Refused, TryReserveError};
 use allocator_api2::vec::Vec;
 use std::alloc::Allocator;
 
-/// Puts a number before the one at `index`.
-pub fn put_before<A: Allocator>(
+/// Inserts a number before the one at `index`.
+pub fn insert_before<A: Allocator>(
     v: &mut Vec<u32, A>,
     index: usize,
     x: u32,
@@ -17,8 +17,8 @@ pub fn put_before<A: Allocator>(
     v.insert(index, x)
 }
 
-/// Takes the first number.
-pub fn first_taken<A: Allocator>(v: &mut Vec<u32, A>) -> u32
+/// Removes the first number and returns it.
+pub fn remove_first<A: Allocator>(v: &mut Vec<u32, A>) -> u32
     requires { 0 < length v.old.items }
     ensures { v.old.items ≡ result ∷ v.new.items }
 {
@@ -34,7 +34,10 @@ pub fn add_one_at<A: Allocator>(v: &mut Vec<u32, A>, index: usize)
     v[index] += 1;
 }
 
-/// Cuts a vector in two.
+/// Splits a vector in two: keeps the first `at` numbers, and returns a vector of the others.
+///
+/// # Errors
+/// If the allocation fails, the vector is unchanged.
 pub fn cut<A: Allocator + Clone>(
     v: &mut Vec<u32, A>,
     at: usize,
@@ -42,12 +45,12 @@ pub fn cut<A: Allocator + Clone>(
     requires { at ≤ length v.old.items }
     ensures head { OnOk result (v.new.items ≡ take at v.old.items) }
     ensures tail { IfOk result (λ rest. rest.items ≡ drop at v.old.items) }
-    ensures refused { OnErr result (v.new ≡ v.old) }
+    ensures unchanged { OnErr result (v.new ≡ v.old) }
 {
     v.split_off(at)
 }
 
-/// The sum of the numbers: an iterator's own call needs no invariant.
+/// Returns the sum of the numbers. A method of the iterator needs no loop invariant.
 pub fn total<A: Allocator>(v: &Vec<u32, A>) -> u32
     requires { sum v.now.items < 2 ^ 32 }
     ensures { result ≡ sum v.now.items }
@@ -55,7 +58,7 @@ pub fn total<A: Allocator>(v: &Vec<u32, A>) -> u32
     v.iter().sum()
 }
 
-/// Clears each number, by a loop over the slice that is lent.
+/// Sets each number to zero, by a loop over the mutable slice.
 pub fn clear_each<A: Allocator>(v: &mut Vec<u32, A>)
     ensures len { length v.new.items ≡ length v.old.items }
     ensures all { EachIndex v.new.items (λ k. slice_index v.new.items k ≡ 0) }
@@ -66,7 +69,7 @@ pub fn clear_each<A: Allocator>(v: &mut Vec<u32, A>)
     }
 }
 
-/// Puts a zero in place of each number, by a loop over the positions.
+/// Sets each number to zero, by a loop over the positions.
 pub fn clear_by_index<A: Allocator>(v: &mut Vec<u32, A>)
     ensures { v.new.items ≡ replicate (length v.old.items) 0 }
 {

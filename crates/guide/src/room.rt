@@ -1,22 +1,32 @@
-//! Room that is made first, and what is pushed into it.
+//! Capacity that is reserved first, and pushes that use it.
 ghost use Rattle.std.specs.Prelude.{◌≡◌, ◌+◌, ◌≤◌, max, [], ◌∷◌, ◌++◌, length, replicate, IfErr, IfOk, OnErr, OnOk, IsOk};
-ghost use Rattle.allocator_api2.specs.Refusals.{IsRefusedAt};
+ghost use Rattle.allocator_api2.specs.Errors.{IsErrorFor};
 ghost use Rattle.allocator_api2.specs.Vector.{HasRoom, Holds, SameBlock};
 
 use allocator_api2::collections::{Refused, TryReserveError};
 use allocator_api2::vec::Vec;
 use std::alloc::Allocator;
 
-/// Puts a number behind the others. A refusal hands it back; there is none where a place is free.
+/// Appends a number.
+///
+/// Succeeds if the vector has spare capacity.
+///
+/// # Errors
+/// If the allocation fails, the vector is unchanged and `x` is returned in the error.
 pub fn add<A: Allocator>(v: &mut Vec<u64, A>, x: u64) -> Result<(), Refused<u64>>
     ensures fits { HasRoom v.old 1 → IsOk result }
     ensures added { OnOk result (v.new.items ≡ v.old.items ++ x ∷ []) }
-    ensures refused { IfErr result (λ r. (r.source ≡ x) × (v.new ≡ v.old)) }
+    ensures failed { IfErr result (λ r. (r.source ≡ x) × (v.new ≡ v.old)) }
 {
     v.push(x)
 }
 
-/// Puts two numbers behind the others, or neither; both where two places are free.
+/// Appends two numbers, or neither.
+///
+/// Succeeds if the vector has spare capacity for both.
+///
+/// # Errors
+/// If the allocation fails, the vector is unchanged.
 pub fn add_two<A: Allocator>(v: &mut Vec<u64, A>, a: u64, b: u64) -> Result<(), TryReserveError>
     ensures fits { HasRoom v.old 2 → IsOk result }
     ensures both { OnOk result (v.new.items ≡ v.old.items ++ a ∷ b ∷ []) }
@@ -28,8 +38,10 @@ pub fn add_two<A: Allocator>(v: &mut Vec<u64, A>, a: u64, b: u64) -> Result<(), 
     Ok(())
 }
 
-/// Appends a pair, or neither. Allocates only if fewer than two places are free, and then room for
-/// just two more. Moves each element at most once.
+/// Appends a pair, or neither.
+///
+/// Allocates only if fewer than two places are free, and then for exactly two more. Moves each
+/// element at most once.
 pub fn add_pair<A: Allocator>(v: &mut Vec<u64, A>, a: u64, b: u64) -> Result<(), TryReserveError>
     // If two more fit, it succeeds in the same block.
     ensures fits { HasRoom v.old 2 → IsOk result × SameBlock v.old v.new }
@@ -38,7 +50,7 @@ pub fn add_pair<A: Allocator>(v: &mut Vec<u64, A>, a: u64, b: u64) -> Result<(),
     ensures capacity { OnOk result (v.new.capacity ≡ max v.old.capacity (length v.old.items + 2)) }
     ensures counts { OnOk result (v.new.grown ≤ v.old.grown + length v.old.items) }
     // Failure changes nothing. An `AllocError` has the capacity that was requested.
-    ensures error { IfErr result (λ e. IsRefusedAt e (length v.old.items + 2)) }
+    ensures error { IfErr result (λ e. IsErrorFor e (length v.old.items + 2)) }
     ensures unchanged { OnErr result (v.new ≡ v.old) }
 {
     v.try_reserve_exact(2)?;
@@ -47,7 +59,7 @@ pub fn add_pair<A: Allocator>(v: &mut Vec<u64, A>, a: u64, b: u64) -> Result<(),
     Ok(())
 }
 
-/// A vector of two numbers.
+/// Returns a vector of two numbers.
 pub fn two_in<A: Allocator>(alloc: A, a: u64, b: u64) -> Result<Vec<u64, A>, TryReserveError>
     ensures { IfOk result (λ v. v.items ≡ a ∷ b ∷ []) }
 {
@@ -57,7 +69,7 @@ pub fn two_in<A: Allocator>(alloc: A, a: u64, b: u64) -> Result<Vec<u64, A>, Try
     Ok(v)
 }
 
-/// Puts `count` zeroes behind the others, or none.
+/// Appends `count` zeroes, or none.
 pub fn add_zeroes<A: Allocator>(v: &mut Vec<u64, A>, count: usize) -> Result<(), TryReserveError>
     ensures fits { HasRoom v.old count → IsOk result }
     ensures all { OnOk result (v.new.items ≡ v.old.items ++ replicate count 0) }
@@ -70,7 +82,7 @@ pub fn add_zeroes<A: Allocator>(v: &mut Vec<u64, A>, count: usize) -> Result<(),
     Ok(())
 }
 
-// Puts a number into room that is there: the block stays.
+// Appends a number, which must fit, and so does not allocate.
 fn push_within<A: Allocator>(v: &mut Vec<u64, A>, x: u64)
     requires room { HasRoom v.old 1 }
     ensures { Holds v.old (v.old.items ++ x ∷ []) v.new }

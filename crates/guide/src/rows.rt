@@ -7,8 +7,8 @@ use allocator_api2::collections::{Refused, TryReserveError};
 use allocator_api2::vec::Vec;
 use std::alloc::Allocator;
 
-/// Puts a number behind those of a row.
-pub fn put_in_row<A: Allocator>(
+/// Appends a number to a row.
+pub fn push_to_row<A: Allocator>(
     rows: &mut Vec<Vec<u32, A>, A>,
     row: usize,
     x: u32,
@@ -19,7 +19,7 @@ pub fn put_in_row<A: Allocator>(
     rows[row].push(x)
 }
 
-/// How many numbers the rows have.
+/// Returns how many numbers the rows have.
 pub fn count_all<A: Allocator>(rows: &Vec<Vec<u32, A>, A>) -> usize
     requires { sum (map (λ r. length r.items) rows.now.items) < 2 ^ 64 }
     ensures { result ≡ sum (map (λ r. length r.items) rows.now.items) }
@@ -27,13 +27,17 @@ pub fn count_all<A: Allocator>(rows: &Vec<Vec<u32, A>, A>) -> usize
     rows.iter().map(|row| row.len()).sum()
 }
 
-/// Puts a boxed number behind the others. A refusal of its box or of its place leaves them.
+/// Appends a number in a box.
+///
+/// # Errors
+/// If the allocation of the box or of the vector fails, the vector is unchanged.
 pub fn push_boxed<A: Allocator + Copy>(
     v: &mut Vec<Box<u64, A>, A>,
     x: u64,
 ) -> Result<(), TryReserveError>
-    ensures done { OnOk result (map (λ b. b.value) v.new.items ≡ map (λ b. b.value) v.old.items ++ x ∷ []) }
-    ensures refused { OnErr result (v.new ≡ v.old) }
+    ensures pushed { OnOk result (map (λ b. b.value) v.new.items ≡ map
+        (λ b. b.value) v.old.items ++ x ∷ []) }
+    ensures unchanged { OnErr result (v.new ≡ v.old) }
 {
     let b = Box::new_in(x, *v.allocator())?;
     v.push(b)?;

@@ -1,4 +1,4 @@
-//! A collection of its own, on the block: its items stand at the first places.
+//! A collection of one's own, built on a block: its items are at the first places.
 ghost use Rattle.std.specs.Prelude.{◌≡◌, ◌<◌, [], ◌∷◌, ◌++◌, length, slice_get, slice_set, Some, IfErr, MatchOption, OnOk};
 
 use allocator_api2::collections::Refused;
@@ -7,7 +7,7 @@ use std::alloc::{Allocator, Global};
 use std::marker::Model;
 use std::mem;
 
-/// A stack: a list to contracts.
+/// A stack, which contracts see as a list.
 pub struct Stack<T, A: Allocator = Global> {
     block: RawVec<T, A>,
     len: usize,
@@ -27,6 +27,9 @@ impl<T, A: Allocator> Model for Stack<T, A> {
 
 #[tactic(auto, using(allocator_api2::proofs::Blocks::at_ends))]
 impl<T, A: Allocator> Stack<T, A> {
+    /// Returns an empty stack.
+    ///
+    /// Does not allocate.
     #[tactic(auto, using(allocator_api2::proofs::Blocks::with_room))]
     pub fn new_in(alloc: A) -> Self
         ensures { result.items ≡ [] }
@@ -37,10 +40,14 @@ impl<T, A: Allocator> Stack<T, A> {
         }
     }
 
+    /// Appends `item`.
+    ///
+    /// # Errors
+    /// If the allocation fails, the stack is unchanged and `item` is returned in the error.
     #[tactic(auto, using(allocator_api2::proofs::Blocks::at_ends, allocator_api2::proofs::Blocks::with_room))]
     pub fn push(&mut self, item: T) -> Result<(), Refused<T>>
         ensures pushed { OnOk result (self.new.items ≡ self.old.items ++ item ∷ []) }
-        ensures refused { IfErr result (λ r. (r.source ≡ item) × (self.new ≡ self.old)) }
+        ensures failed { IfErr result (λ r. (r.source ≡ item) × (self.new ≡ self.old)) }
     {
         if let Err(error) = self.block.try_reserve(self.len, 1) {
             return Err(Refused {
@@ -53,6 +60,7 @@ impl<T, A: Allocator> Stack<T, A> {
         Ok(())
     }
 
+    /// Removes the last item and returns it, or returns `None` if the stack is empty.
     pub fn pop(&mut self) -> Option<T>
         ensures { MatchOption result ((self.old.items ≡ []) × (self.new ≡ self.old))
             (λ x. self.old.items ≡ self.new.items ++ x ∷ []) }
@@ -64,7 +72,9 @@ impl<T, A: Allocator> Stack<T, A> {
         Some(self.block.take(self.len))
     }
 
-    // The items behind the first move down by one place.
+    /// Removes the first item and returns it, or returns `None` if the stack is empty.
+    ///
+    /// The items after it shift down by one.
     #[tactic(auto, using(allocator_api2::proofs::Blocks::at_positions))]
     pub fn pop_first(&mut self) -> Option<T>
         ensures { MatchOption result ((self.old.items ≡ []) × (self.new ≡ self.old))
@@ -80,12 +90,12 @@ impl<T, A: Allocator> Stack<T, A> {
         Some(first)
     }
 
-    /// Puts an item in the place of another, and answers that one.
+    /// Replaces the item at `index` by `item` and returns the old one.
     #[tactic(auto, using(allocator_api2::proofs::Blocks::at_positions))]
     pub fn replace(&mut self, index: usize, item: T) -> T
         requires { index < length self.old.items }
         ensures old { slice_get self.old.items index ≡ Some result }
-        ensures now { self.new.items ≡ slice_set self.old.items index item }
+        ensures replaced { self.new.items ≡ slice_set self.old.items index item }
     {
         mem::replace(self.block.place_mut(index), item)
     }

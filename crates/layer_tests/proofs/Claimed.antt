@@ -7,11 +7,11 @@ use Rattle.aa_raw.specs.declared.raw_vec.Growth.{Growth}
 use Rattle.aa_raw.specs.declared.raw_vec.Growth.TheVariants.{Doubling}
 use Rattle.aa_raw.specs.Growth.{amortized}
 use Rattle.aa_vec.specs.Vector.{Vector, len, Becomes, Holds, with_room}
-use Rattle.aa_vec.specs.Extend.{GrowsInSteps, stays as no_more, grows as once_more, Extends, asked_with, ItemsLeft, gives_item, lower_by, TellsExactly}
-use Rattle.aa_vec.specs.Drain.{TakesRange, KeepsRest, drain_vec, drain_rest, drain_tail, range_len, taken_front, taken_back, drains_first, drains_last}
+use Rattle.aa_vec.specs.Extend.{GrowsInSteps, unchanged as no_more, grows as once_more, Extends, requested_with, RemainingItems, takes_item, lower_bound_of, LowerExactly}
+use Rattle.aa_vec.specs.Drain.{TakesRange, KeepsRest, drain_vec, drain_remaining, drain_tail, range_len, taken_front, taken_back, drains_first, drains_last}
 use Rattle.aa_vec.specs.SpliceItems.{SplicesAll, tail_moves}
 use Rattle.aa_vec.specs.declared.vec.drain.Drain.{Drain}
-use Rattle.aa_vec.proofs.GrowthLemmas.{MakesRoom, MakesRoomTwice, MakesRoom-stays, MakesRoom-grows, Extends-fits, GrowsInSteps-fits, SameBlock-refl, SameBlock-trans, asks, grown_by, grown_room}
+use Rattle.aa_vec.proofs.GrowthLemmas.{MakesRoom, MakesRoomTwice, MakesRoom-unchanged, MakesRoom-grows, Extends-fits, GrowsInSteps-fits, SameBlock-refl, SameBlock-trans, asks, grown_by, grown_room}
 use Rattle.aa_vec.proofs.Becoming.{GrowsTo-becomes, SameBlock-becomes}
 use Rattle.aa_vec.proofs.Counted.{items_lower}
 use Rattle.aa_vec.proofs.DrainLemmas.{keeps-then}
@@ -20,7 +20,7 @@ use Rattle.aa_vec.proofs.SpliceByItems.{SplicesByAll, SplicesAll-items, cut_off,
 module _ {T A : Type 0} {g : Growth} (v w : Vector T A) (c n k : ℕ) (places : v.capacity ≡ c) (grows : v.growth ≡ g) (room : MakesRoom 4 v n k w) where
   -- room that is there is kept
   pub kept_at : k ≤ c - n → (w.capacity ≡ c) × (w.growth ≡ g) × (w.grown ≡ v.grown)
-  kept_at fits = let b = MakesRoom-stays 4 n k v w room (omega (arith, fits, places)) in (b.capacity ∙ places, b.growth ∙ grows, b.grown)
+  kept_at fits = let b = MakesRoom-unchanged 4 n k v w room (omega (arith, fits, places)) in (b.capacity ∙ places, b.growth ∙ grows, b.grown)
 
   -- and else a block of elements of 4 bytes grows, or takes what is needed
   pub grows_to : c - n < k → (w.capacity ≡ amortized g c (n + k) 4) × (w.growth ≡ g) × (w.grown ≡ v.grown + n)
@@ -29,8 +29,8 @@ module _ {T A : Type 0} {g : Growth} (v w : Vector T A) (c n k : ℕ) (places : 
       (b.0 ∙ ap (λ h. amortized h v.capacity (n + k) 4) grows ∙ ap (λ m. amortized g m (n + k) 4) places, room.growth ∙ grows, b.1)
 
 -- the two in the middle of four, in four places, are replaced by three, of which h are told once two are placed
-module _ {A : Type 0} {old : Vector ℕ A} {iter given : ItemsLeft ℕ} {d : Drain ℕ A} {new : Vector ℕ A} (drains : TakesRange old 1 3 d)
-    (s : SplicesByAll gives_item (TellsExactly items_lower) 4 iter (cut_off (drain_vec d) (range_len d) (drain_tail d)) new) (same : iter ≡ given)
+module _ {A : Type 0} {old : Vector ℕ A} {iter given : RemainingItems ℕ} {d : Drain ℕ A} {new : Vector ℕ A} (drains : TakesRange old 1 3 d)
+    (s : SplicesByAll takes_item (LowerExactly items_lower) 4 iter (cut_off (drain_vec d) (range_len d) (drain_tail d)) new) (same : iter ≡ given)
     (was : (old.items ≡ 1 ∷ 2 ∷ 3 ∷ 4 ∷ []) × (old.capacity ≡ 4) × (old.growth ≡ Doubling)) (new_items : given.items ≡ 7 ∷ 8 ∷ 9 ∷ []) where
   come : iter.items ≡ 7 ∷ 8 ∷ 9 ∷ []
   come = ap (λ i. i.items) same ∙ new_items
@@ -38,14 +38,14 @@ module _ {A : Type 0} {old : Vector ℕ A} {iter given : ItemsLeft ℕ} {d : Dra
   before : (drain_vec d).items ≡ 1 ∷ []
   before = ap (λ v. v.items) drains.becomes ∙ ap (take 1) was.0
 
-  behind : drain_tail d ≡ 4 ∷ []
-  behind = drains.tail ∙ ap (drop 3) was.0
+  spare : drain_tail d ≡ 4 ∷ []
+  spare = drains.tail ∙ ap (drop 3) was.0
 
-  spliced : SplicesAll 4 (lower_by iter.hint) (cut_off (drain_vec d) (range_len d) (drain_tail d)) iter.items new
+  spliced : SplicesAll 4 (lower_bound_of iter.hint) (cut_off (drain_vec d) (range_len d) (drain_tail d)) iter.items new
   spliced = SplicesAll-items iter 4 (drain_vec d) (range_len d) (drain_tail d) new s
 
   pub five_there : new.items ≡ 1 ∷ 7 ∷ 8 ∷ 9 ∷ 4 ∷ []
-  five_there = spliced.items ∙ (λ i. before i ++ (come i ++ behind i))
+  five_there = spliced.items ∙ (λ i. before i ++ (come i ++ spare i))
 
   three : length iter.items ≡ 3
   three = ap length come
@@ -53,9 +53,9 @@ module _ {A : Type 0} {old : Vector ℕ A} {iter given : ItemsLeft ℕ} {d : Dra
   left_one : length iter.items - range_len d ≡ 1
   left_one = omega (arith, three, drains.range)
 
-  module _ (h : ℕ) (told : lower_by iter.hint 1 ≡ h) where
-    tells : lower_by iter.hint (length iter.items - range_len d) ≡ h
-    tells = ap (lower_by iter.hint) left_one ∙ told
+  module _ (h : ℕ) (told : lower_bound_of iter.hint 1 ≡ h) where
+    tells : lower_bound_of iter.hint (length iter.items - range_len d) ≡ h
+    tells = ap (lower_bound_of iter.hint) left_one ∙ told
 
     pub five_written : new.written ≡ old.written + (3 + tail_moves 2 h 3 * 1)
     five_written =
@@ -63,14 +63,14 @@ module _ {A : Type 0} {old : Vector ℕ A} {iter given : ItemsLeft ℕ} {d : Dra
         let moved : ℕ → ℕ → ℕ → Type 0 = λ g k t. new.written ≡ (drain_vec d).written + (length iter.items + tail_moves g k (length iter.items) * t) in
         let first : moved (range_len d) h (length (drain_tail d)) = subst (λ k. moved (range_len d) k (length (drain_tail d))) tells (items-written iter 4 (drain_vec d) (range_len d) (drain_tail d) new s) in
         let second : moved 2 h (length (drain_tail d)) = subst (λ g. moved g h (length (drain_tail d))) drains.range first in
-        let third : moved 2 h 1 = subst (λ t. moved 2 h t) (ap length behind) second in
+        let third : moved 2 h 1 = subst (λ t. moved 2 h t) (ap length spare) second in
         let fourth : P 3 = subst P three third in
         fourth ∙ ap (λ w. w + (3 + tail_moves 2 h 3 * 1)) (omega (arith, ap (λ v. v.written) drains.becomes))
 
     pub five_room : MakesRoomTwice 4 (drain_vec d) 4 h (1 - h) new
     five_room =
-        let all : len (drain_vec d) + range_len d + length (drain_tail d) ≡ 4 = omega (arith, ap length before, ap length behind, drains.range) in
-        rw (all, tells, left_one) at (spliced.beyond (omega (arith, ap length behind)) (omega (arith, three, drains.range)))
+        let all : len (drain_vec d) + range_len d + length (drain_tail d) ≡ 4 = omega (arith, ap length before, ap length spare, drains.range) in
+        rw (all, tells, left_one) at (spliced.beyond (omega (arith, ap length spare)) (omega (arith, three, drains.range)))
 
     pub places : (drain_vec d).capacity ≡ 4
     places = ap (λ v. v.capacity) drains.becomes ∙ was.1
@@ -79,9 +79,9 @@ module _ {A : Type 0} {old : Vector ℕ A} {iter given : ItemsLeft ℕ} {d : Dra
     doubles = ap (λ v. v.growth) drains.becomes ∙ was.2
 
   -- some: as many as there are, or a hundred
-  pub told_some : (hint : Option ℕ) (h c : ℕ) → given.hint ≡ hint → lower_by hint 1 ≡ h → 0 < h → amortized Doubling 4 (4 + h) 4 ≡ c → 4 + h ≤ c → (new.capacity ≡ c) × (new.written ≡ old.written + (3 + tail_moves 2 h 3 * 1))
+  pub told_some : (hint : Option ℕ) (h c : ℕ) → given.hint ≡ hint → lower_bound_of hint 1 ≡ h → 0 < h → amortized Doubling 4 (4 + h) 4 ≡ c → 4 + h ≤ c → (new.capacity ≡ c) × (new.written ≡ old.written + (3 + tail_moves 2 h 3 * 1))
   told_some hint h c has told some is enough =
-      let at_two : lower_by iter.hint 1 ≡ h = ap (λ i. lower_by i.hint 1) same ∙ ap (λ m. lower_by m 1) has ∙ told in
+      let at_two : lower_bound_of iter.hint 1 ≡ h = ap (λ i. lower_bound_of i.hint 1) same ∙ ap (λ m. lower_bound_of m 1) has ∙ told in
       let roomy : Vector ℕ A = with_room 4 (drain_vec d) 4 h in
       let mid = grows_to (drain_vec d) roomy 4 4 h (places h at_two) (doubles h at_two) (SameBlock-refl roomy) (omega (arith, some)) in
       ((kept_at roomy new c (4 + h) (1 - h) (mid.0 ∙ is) mid.1 (five_room h at_two) (omega (arith, some, enough))).0, five_written h at_two)
@@ -89,7 +89,7 @@ module _ {A : Type 0} {old : Vector ℕ A} {iter given : ItemsLeft ℕ} {d : Dra
   -- none
   pub told_none : given.hint ≡ Some 0 → (new.capacity ≡ 8) × (new.written ≡ old.written + 4)
   told_none has =
-      let at_two : lower_by iter.hint 1 ≡ 0 = ap (λ i. lower_by i.hint 1) same ∙ ap (λ m. lower_by m 1) has in
+      let at_two : lower_bound_of iter.hint 1 ≡ 0 = ap (λ i. lower_bound_of i.hint 1) same ∙ ap (λ m. lower_bound_of m 1) has in
       let roomy : Vector ℕ A = with_room 4 (drain_vec d) 4 0 in
       let mid = kept_at (drain_vec d) roomy 4 4 0 (places 0 at_two) (doubles 0 at_two) (SameBlock-refl roomy) (omega arith) in
       ((grows_to roomy new 4 4 1 mid.0 mid.1 (five_room 0 at_two) (omega arith)).0, five_written 0 at_two)
@@ -128,7 +128,7 @@ module _ {T A : Type 0} (g : Growth) (old : Vector T A) where
           record { count = counts; growth = d.1; capacity = rw e (d.0 ∙ ap (λ n. amortized g (reached g k).0 (n + 1) 4) p.count); grown = rw e (omega (arith, d.2, p.grown, p.count)) }
 
 -- a full vector of c places that asks for room for 6 more
-grows_once : {T A : Type 0} (lower : ℕ → ℕ) (needed c : ℕ) (v w : Vector T A) → v.capacity ≡ c → v.growth ≡ Doubling → c < needed → ((n : ℕ) → asked_with (lower (n - 1)) ≡ 6) → needed ≤ w.capacity → GrowsInSteps 4 lower needed v w
+grows_once : {T A : Type 0} (lower : ℕ → ℕ) (needed c : ℕ) (v w : Vector T A) → v.capacity ≡ c → v.growth ≡ Doubling → c < needed → ((n : ℕ) → requested_with (lower (n - 1)) ≡ 6) → needed ≤ w.capacity → GrowsInSteps 4 lower needed v w
     → (mid : Vector T A) × (mid.capacity ≡ amortized Doubling c (c + 6) 4) × (mid.growth ≡ Doubling) × (mid.grown ≡ v.grown + c) × GrowsInSteps 4 lower needed mid w
 grows_once lower needed c v w is doubles short six enough (no_more b) = absurd (omega (arith, ap (λ u. u.capacity) b, is, short, enough))
 grows_once lower needed c v w is doubles short six enough (once_more h r) =
@@ -137,13 +137,13 @@ grows_once lower needed c v w is doubles short six enough (once_more h r) =
     (mid, d.0 ∙ ap (λ k. amortized Doubling c (k + more) 4) is ∙ ap (λ k. amortized Doubling c (c + k) 4) (six (needed - v.capacity)), d.1, d.2 ∙ ap (λ k. v.grown + k) is, r)
 
 -- an empty vector is extended by 17, of which 5 are told to be left each time
-pub seventeen_told : {A : Type 0} (old new : Vector ℕ A) (iter : ItemsLeft ℕ) → old.items ≡ [] → old.capacity ≡ 0 → old.growth ≡ Doubling → length iter.items ≡ 17 → iter.hint ≡ Some 5
-    → Extends 4 (lower_by iter.hint) old old.items iter.items (Ok tt) new → (new.capacity ≡ 24) × (new.grown ≡ old.grown + 18)
+pub seventeen_told : {A : Type 0} (old new : Vector ℕ A) (iter : RemainingItems ℕ) → old.items ≡ [] → old.capacity ≡ 0 → old.growth ≡ Doubling → length iter.items ≡ 17 → iter.hint ≡ Some 5
+    → Extends 4 (lower_bound_of iter.hint) old old.items iter.items (Ok tt) new → (new.capacity ≡ 24) × (new.grown ≡ old.grown + 18)
 seventeen_told old new iter none places doubles count five x =
-    let five_each : ℕ → ℕ = lower_by (Some 5) in
+    let five_each : ℕ → ℕ = lower_bound_of (Some 5) in
     let needed : length old.items + length iter.items ≡ 17 = omega (arith, ap length none, count) in
     let in_steps : GrowsInSteps 4 five_each 17 old new =
-    subst (λ n. GrowsInSteps 4 five_each n old new) needed (subst (λ h. GrowsInSteps 4 (lower_by h) (length old.items + length iter.items) old new) five x.in_steps) in
+    subst (λ n. GrowsInSteps 4 five_each n old new) needed (subst (λ h. GrowsInSteps 4 (lower_bound_of h) (length old.items + length iter.items) old new) five x.in_steps) in
     let enough : 17 ≤ new.capacity = omega (arith, needed, Extends-fits x) in
     let a = grows_once five_each 17 0 old new places doubles (omega arith) (λ n. refl) enough in_steps in
     let b = grows_once five_each 17 6 a.0 new a.1 a.2 (omega arith) (λ n. refl) enough a.4 in
@@ -152,16 +152,16 @@ seventeen_told old new iter none places doubles count five x =
     (same.capacity ∙ d.1, omega (arith, same.grown, d.3, b.3, a.3))
 
 -- an item from the front, and one from the back of two
-one_front : {T A : Type 0} (d e : Drain T A) (r : Option T) → drains_first d r e → (x : T) (xs : List T) → drain_rest d ≡ x ∷ xs → (drain_rest e ≡ xs) × (taken_front e ≡ taken_front d + 1) × (taken_back e ≡ taken_back d)
+one_front : {T A : Type 0} (d e : Drain T A) (r : Option T) → drains_first d r e → (x : T) (xs : List T) → drain_remaining d ≡ x ∷ xs → (drain_remaining e ≡ xs) × (taken_front e ≡ taken_front d + 1) × (taken_back e ≡ taken_back d)
 one_front d e None h x xs rest = absurd (omega (arith, ap length (sym rest ∙ h.1.0)))
 one_front d e (Some y) h x xs rest = (ap (drop 1) (sym h.1.0 ∙ rest), h.1.1, h.1.2)
 
-one_back : {T A : Type 0} (d e : Drain T A) (r : Option T) → drains_last d r e → (x y : T) → drain_rest d ≡ x ∷ y ∷ [] → (drain_rest e ≡ x ∷ []) × (taken_front e ≡ taken_front d) × (taken_back e ≡ taken_back d + 1)
+one_back : {T A : Type 0} (d e : Drain T A) (r : Option T) → drains_last d r e → (x y : T) → drain_remaining d ≡ x ∷ y ∷ [] → (drain_remaining e ≡ x ∷ []) × (taken_front e ≡ taken_front d) × (taken_back e ≡ taken_back d + 1)
 one_back d e None h x y rest = absurd (omega (arith, ap length (sym rest ∙ h.1.0)))
 one_back d e (Some z) h x y rest =
-    let all : drain_rest e ++ z ∷ [] ≡ x ∷ y ∷ [] = sym h.1.0 ∙ rest in
-    let one : length (drain_rest e) ≡ 1 = omega (arith, ap length all, length-append (drain_rest e) (z ∷ [])) in
-    (sym (take_at (drain_rest e) (z ∷ []) 1 one) ∙ ap (take 1) all, h.1.1, h.1.2)
+    let all : drain_remaining e ++ z ∷ [] ≡ x ∷ y ∷ [] = sym h.1.0 ∙ rest in
+    let one : length (drain_remaining e) ≡ 1 = omega (arith, ap length all, length-append (drain_remaining e) (z ∷ [])) in
+    (sym (take_at (drain_remaining e) (z ∷ []) 1 one) ∙ ap (take 1) all, h.1.1, h.1.2)
 
 -- of the middle half of six one is taken from each end, and the other is kept
 pub middle_stays : {A : Type 0} (old new : Vector ℕ A) (d e f : Drain ℕ A) (r q : Option ℕ) → old.items ≡ 0 ∷ 1 ∷ 2 ∷ 3 ∷ 4 ∷ 5 ∷ [] → TakesRange old 1 4 d → drains_first d r e → drains_last e q f → KeepsRest f new
@@ -176,7 +176,7 @@ middle_stays old new d e f r q items drains first last kept =
     let back : taken_back f ≡ 1 = b.2 ∙ ap (λ n. n + 1) (a.2 ∙ drains.none_back) in
     let P : ℕ → ℕ → ℕ → ℕ → Type 0 = λ i j m n. new.written ≡ (drain_vec f).written + ((if i == 0 then 0 else m) + (if i + j == 0 then 0 else n)) in
     let w : P 1 1 1 2 =
-    subst (λ i. P i 1 1 2) front (subst (λ j. P (taken_front f) j 1 2) back (subst (λ m. P (taken_front f) (taken_back f) m 2) (ap length b.0) (subst (λ n. P (taken_front f) (taken_back f) (length (drain_rest f)) n) (ap length tail) (ap (λ v. v.written) kept)))) in (
+    subst (λ i. P i 1 1 2) front (subst (λ j. P (taken_front f) j 1 2) back (subst (λ m. P (taken_front f) (taken_back f) m 2) (ap length b.0) (subst (λ n. P (taken_front f) (taken_back f) (length (drain_remaining f)) n) (ap length tail) (ap (λ v. v.written) kept)))) in (
       record {
         items = ap (λ v. v.items) kept ∙ (λ i. head i ++ (b.0 i ++ tail i));
         block = SameBlock-trans (SameBlock-becomes _ _ _ _ _ drains.becomes) (SameBlock-trans (SameBlock-becomes _ _ _ _ _ keeps.becomes) (SameBlock-becomes _ _ _ _ _ kept));

@@ -2,20 +2,19 @@
 use std::alloc::{Allocator, Global};
 use std::mem::forget;
 use test_allocators::Faulty;
-use test_allocators::refusing::Refusing;
+use test_allocators::failing::Failing;
 
-// How many requests there were, how many of them were refused, how many blocks came back, and the
-// bytes that are out.
+// Returns the number of requests, of failed requests, of freed blocks, and of outstanding bytes.
 fn counts<B: Allocator>(heap: &Faulty<B>) -> (u64, u64, u64, u64) {
     (
         heap.requests(),
-        heap.refused(),
+        heap.failures(),
         heap.frees(),
         heap.outstanding(),
     )
 }
 
-// A vector with room for five numbers, if it is granted.
+// Returns a vector with capacity for five numbers, if the allocation succeeds.
 fn room<A: Allocator>(heap: A) -> Option<Vec<u32, A>> {
     Vec::with_capacity(heap, 5).ok()
 }
@@ -24,7 +23,7 @@ fn is_granted<A: Allocator>(heap: A) -> bool {
     room(heap).is_some()
 }
 
-// Whether so many pushes onto an empty vector are granted.
+// Returns whether so many pushes onto an empty vector succeed.
 fn pushes<A: Allocator>(heap: A, count: u32) -> bool {
     let mut numbers: Vec<u32, A> = Vec::new(heap);
     for number in 0..count {
@@ -45,24 +44,27 @@ fn what_grows_and_what_leaks_is_counted(rt: HostRuntime) {
 }
 
 #[test]
-fn a_range_refuses_its_requests_alone(rt: HostRuntime) {
+fn only_requests_of_the_range_fail(rt: HostRuntime) {
     let heap = Faulty::new(rt.alloc());
-    // What is skipped and refused, and which of the next four requests are then refused.
-    for (skip, count, refused) in [
+    // What is skipped and fails, and which of the next four requests then fail.
+    for (skip, count, failed) in [
         (0, 0, [false, false, false, false]),
         (1, 1, [false, true, false, false]),
         (0, 2, [true, true, false, false]),
         (2, u64::MAX, [false, false, true, true]),
     ] {
-        heap.refuse(skip, count);
-        for want in refused {
-            assert!(rt; is_granted(&heap) != want, "after refuse({skip}, {count})");
+        heap.fail_requests(skip, count);
+        for want in failed {
+            assert!(rt;
+                is_granted(&heap) != want,
+                "after fail_requests({skip}, {count})"
+            );
         }
     }
     assert!(rt; counts(&heap) == (16, 5, 11, 0));
 }
 
-// What a clone counts once it was asked for a block, or none where it is refused.
+// Returns the counts of a clone after one request, or `None` if the clone fails.
 fn twin_counts(heap: &Faulty<Global>) -> Option<(u64, u64, u64, u64)> {
     let Ok(twin) = heap.clone() else {
         return None;
@@ -71,18 +73,18 @@ fn twin_counts(heap: &Faulty<Global>) -> Option<(u64, u64, u64, u64)> {
     Some(counts(&twin))
 }
 
-// A clone refuses nothing of what the other refuses.
+// A clone does not fail the requests that the original fails.
 #[test]
-fn a_clone_can_be_refused(rt: HostRuntime) {
+fn a_clone_can_fail(rt: HostRuntime) {
     let heap = Faulty::new(rt.alloc());
-    heap.refuse(0, u64::MAX);
-    for (refuses, told) in [(true, None), (false, Some((1, 0, 1, 0)))] {
-        heap.refuse_clones(refuses);
-        assert!(rt; twin_counts(&heap) == told);
+    heap.fail_requests(0, u64::MAX);
+    for (fails, expected) in [(true, None), (false, Some((1, 0, 1, 0)))] {
+        heap.fail_clones(fails);
+        assert!(rt; twin_counts(&heap) == expected);
     }
 }
 
 #[test]
-fn one_refuses_every_request(rt: HostRuntime) {
-    assert!(rt; !is_granted(Refusing::default()));
+fn every_request_to_failing_fails(rt: HostRuntime) {
+    assert!(rt; !is_granted(Failing::default()));
 }

@@ -1,4 +1,4 @@
-//! The boxes. A call of the library that several of these tests make stands here, in one place.
+//! The boxes. A call of the library that several of these tests make is here, in one place.
 mod arrays;
 mod boxes;
 mod lists;

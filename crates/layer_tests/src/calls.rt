@@ -1,5 +1,5 @@
 //! Each call that changes a vector, once on its happy path, and with the capacity that it leaves.
-use crate::clones::{assigned, behind, filled, within};
+use crate::clones::{append_slice, assigned, filled, within};
 use crate::lists::{add, digits, reads};
 use crate::memory::has_due_requests;
 use aa_raw::collections::TryReserveError;
@@ -17,7 +17,7 @@ pub(crate) enum Taking {
     Clear,
 }
 
-// What it gives. One at a place that is not there does nothing.
+// Returns the outcome of a call. A call at a place that does not exist does nothing.
 pub(crate) fn taken<T: Drop, A: Allocator>(taking: Taking, v: &mut Vec<T, A>) -> Option<T> {
     match taking {
         Taking::Pop => return v.pop(),
@@ -30,7 +30,7 @@ pub(crate) fn taken<T: Drop, A: Allocator>(taking: Taking, v: &mut Vec<T, A>) ->
     None
 }
 
-// A call that changes a vector, with what it is given.
+// A call that changes a vector, with its arguments.
 #[derive(Clone, Copy)]
 enum Call {
     Take(Taking),
@@ -60,7 +60,7 @@ enum Call {
     ExtendCopiedBy,
 }
 
-// What a call gives, or hands back.
+// Returns the outcome of a call, or the value in its error.
 fn called<A: Allocator>(
     call: Call,
     v: &mut Vec<u32, A>,
@@ -93,7 +93,7 @@ fn pushed_and_popped<A: Allocator>(v: &mut Vec<u32, A>, count: u32) -> Option<u3
     last
 }
 
-// The calls that put several elements behind the others, or other ones in their place.
+// The calls that append several elements, or replace a range by them.
 fn lengthened<A: Allocator>(
     call: Call,
     v: &mut Vec<u32, A>,
@@ -101,7 +101,7 @@ fn lengthened<A: Allocator>(
 ) -> Result<(), TryReserveError> {
     let len = v.len();
     match call {
-        Call::ExtendFromSlice => behind(v, other.as_slice()),
+        Call::ExtendFromSlice => append_slice(v, other.as_slice()),
         Call::ExtendFromSliceCopied => v.extend_from_slice_copied(other.as_slice()),
         Call::ExtendFromWithin(from) => within(v, from, len),
         Call::ExtendFromWithinCopied(from) => v.extend_from_within_copied(from.min(len)..len),
@@ -111,7 +111,7 @@ fn lengthened<A: Allocator>(
     }
 }
 
-// The calls that put all elements of another vector behind the others.
+// The calls that append all elements of another vector.
 fn extended<A: Allocator>(
     call: Call,
     v: &mut Vec<u32, A>,
@@ -131,19 +131,19 @@ fn extended<A: Allocator>(
     }
 }
 
-// The digits of numbers, the capacity, a call on them and on the others 7 and 8, what it gives, and
+// The digits of numbers, the capacity, a call on them and on the others 7 and 8, its outcome, and
 // the digits and the capacity that it leaves.
 type Row = (u32, usize, Call, Option<u32>, u32, usize);
 
 // Whether a row is as the vector has it, and the call makes one request if it needs a new block,
 // and else none.
-fn is_so(heap: &Faulty<Global>, (items, room, call, given, left, capacity): Row) -> bool {
+fn is_so(heap: &Faulty<Global>, (items, room, call, outcome, left, capacity): Row) -> bool {
     let mut v = digits(heap, items, room);
     let other = digits(heap, 78, 2);
     let before = heap.requests();
     let came = called(call, &mut v, other);
     let due = has_due_requests(heap, before, room, v.capacity());
-    came == Ok(given) && due && reads(&v, left, capacity)
+    came == Ok(outcome) && due && reads(&v, left, capacity)
 }
 
 #[test]

@@ -1,4 +1,4 @@
-//! Each call that is given a closure, once on its happy path.
+//! Each call that takes a closure, once on its happy path.
 use crate::lists::{digits, reads};
 use crate::memory::has_due_requests;
 use aa_raw::collections::TryReserveError;
@@ -6,7 +6,7 @@ use aa_vec::vec::Vec;
 use std::alloc::{Allocator, Global};
 use test_allocators::Faulty;
 
-// A call that asks a closure, which is given away, or lent.
+// A call that takes a closure, owned or by `&mut`.
 #[derive(Clone, Copy)]
 enum Choice {
     Retain,

@@ -8,13 +8,14 @@ use aa_raw::collections::TryReserveError;
 use aa_vec::vec::{Items, Vec};
 use std::alloc::Allocator;
 
-// Two of four are replaced by three. Where these tell their number, or that none comes, the one
-// behind is written once; where they tell a hundred, twice.
+// Two of four are replaced by three. If the hint is exact or 0, the element after the range is
+// written once; if it is a hundred, twice.
 fn two_by_three<A: Allocator + Clone>(
     v: &mut Vec<u32, A>,
     items: Items<u32, A>,
 ) -> Result<(), TryReserveError>
-    requires old { (v.old.items ≡ 1 ∷ 2 ∷ 3 ∷ 4 ∷ []) × (v.old.capacity ≡ 4) × (v.old.growth ≡ Doubling) }
+    requires old { (v.old.items ≡ 1 ∷ 2 ∷ 3 ∷ 4 ∷ []) × (v.old.capacity ≡ 4)
+        × (v.old.growth ≡ Doubling) }
     requires new { items.items ≡ 7 ∷ 8 ∷ 9 ∷ [] }
     ensures items { OnOk result (v.new.items ≡ 1 ∷ 7 ∷ 8 ∷ 9 ∷ 4 ∷ []) }
     ensures exact { items.hint ≡ None
@@ -70,8 +71,8 @@ fn pushes_and_pops<A: Allocator>(v: &mut Vec<u32, A>) -> Result<(), TryReserveEr
     Ok(())
 }
 
-// Seventeen items onto an empty vector, which tell each time that five are left: 18 elements are
-// moved by growth.
+// Seventeen items are appended to an empty vector, with a hint of five each time: growth moves 18
+// elements.
 fn seventeen_items<A: Allocator>(
     v: &mut Vec<u32, A>,
     items: Items<u32, A>,
@@ -86,7 +87,8 @@ fn seventeen_items<A: Allocator>(
 // An insert before two of three elements: three are written.
 fn one_put_in<A: Allocator>(v: &mut Vec<u32, A>) -> Result<(), TryReserveError>
     requires { v.old.items ≡ 1 ∷ 2 ∷ 3 ∷ [] }
-    ensures { OnOk result ((v.new.items ≡ 1 ∷ 9 ∷ 2 ∷ 3 ∷ []) × (v.new.written ≡ v.old.written + 3)) }
+    ensures { OnOk result ((v.new.items ≡ 1 ∷ 9 ∷ 2 ∷ 3 ∷ [])
+        × (v.new.written ≡ v.old.written + 3)) }
 {
     v.insert(1, 9)?;
     Ok(())
@@ -114,7 +116,8 @@ fn nine_bytes<A: Allocator>(v: &mut Vec<u8, A>) -> Result<(), TryReserveError>
     Ok(())
 }
 
-// Of the middle half of six one is taken from each end, and the other stays: three are written.
+// From the middle half of six one element is taken at each end, and the other is kept: three are
+// written.
 fn middle_kept<A: Allocator>(v: &mut Vec<u32, A>) -> (Option<u32>, Option<u32>)
     requires { v.old.items ≡ 0 ∷ 1 ∷ 2 ∷ 3 ∷ 4 ∷ 5 ∷ [] }
     ensures { Holds v.old (0 ∷ 2 ∷ 4 ∷ 5 ∷ []) v.new × (v.new.written ≡ v.old.written + 3) }
@@ -130,7 +133,7 @@ fn middle_kept<A: Allocator>(v: &mut Vec<u32, A>) -> (Option<u32>, Option<u32>)
 fn doubled_without_four<A: Allocator>(v: &mut Vec<u32, A>)
     requires { v.old.items ≡ 1 ∷ 2 ∷ 3 ∷ 4 ∷ [] }
     ensures items { Holds v.old (2 ∷ 6 ∷ 8 ∷ []) v.new }
-    ensures writes { (v.new.written ≡ v.old.written + 2) × (v.new.runs ≤ v.old.runs + 1) }
+    ensures written { (v.new.written ≡ v.old.written + 2) × (v.new.runs ≤ v.old.runs + 1) }
 {
     v.retain_mut(|x| {
         *x = x.wrapping_mul(2);
@@ -142,7 +145,7 @@ fn doubled_without_four<A: Allocator>(v: &mut Vec<u32, A>)
 fn without_two_and_six<A: Allocator>(v: &mut Vec<u32, A>)
     requires { v.old.items ≡ 1 ∷ 2 ∷ 3 ∷ 4 ∷ 5 ∷ 6 ∷ 7 ∷ [] }
     ensures items { Holds v.old (1 ∷ 3 ∷ 4 ∷ 5 ∷ 7 ∷ []) v.new }
-    ensures writes { (v.new.written ≡ v.old.written + 4) × (v.new.runs ≤ v.old.runs + 2) }
+    ensures written { (v.new.written ≡ v.old.written + 4) × (v.new.runs ≤ v.old.runs + 2) }
 {
     v.retain(|x| *x % 4 != 2);
 }
@@ -151,12 +154,13 @@ fn without_two_and_six<A: Allocator>(v: &mut Vec<u32, A>)
 fn repeats_removed<A: Allocator>(v: &mut Vec<u32, A>)
     requires { v.old.items ≡ 1 ∷ 1 ∷ 2 ∷ 3 ∷ 3 ∷ 4 ∷ [] }
     ensures items { Holds v.old (1 ∷ 2 ∷ 3 ∷ 4 ∷ []) v.new }
-    ensures writes { (v.new.written ≡ v.old.written + 3) × (v.new.runs ≤ v.old.runs + 2) }
+    ensures written { (v.new.written ≡ v.old.written + 3) × (v.new.runs ≤ v.old.runs + 2) }
 {
     v.dedup();
 }
 
-// Where room has to be made the elements have a size: without one there are all places there can be.
+// If capacity has to be reserved, the elements have a size: zero-sized elements always have all
+// places.
 fn grows_by_size_alone<T, A: Allocator>(
     v: &mut Vec<T, A>,
     additional: usize,
@@ -164,8 +168,8 @@ fn grows_by_size_alone<T, A: Allocator>(
     ensures { OnOk result (v.old.capacity - length v.old.items < additional
         → 0 < type_size T.row) }
 {
-    v.known();
+    v.prove_capacity_bounds();
     v.try_reserve(additional)?;
-    v.known();
+    v.prove_capacity_bounds();
     Ok(())
 }

@@ -5,7 +5,7 @@ use std::alloc::{Allocator, Global};
 use std::clone::Clone;
 
 /// `Vec::extend_from_slice`.
-pub(crate) fn behind<T: Clone + Drop, A: Allocator>(
+pub(crate) fn append_slice<T: Clone + Drop, A: Allocator>(
     v: &mut Vec<T, A>,
     others: &[T],
 ) -> Result<(), TryReserveError> {

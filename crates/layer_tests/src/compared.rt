@@ -1,6 +1,6 @@
 //! What no clause says of comparing, printing and writing vectors: each once, and by callers that
 //! know a bound alone.
-use crate::lists::{list, stands};
+use crate::lists::{has_items, list};
 use aa_raw::collections::TryReserveError;
 use aa_vec::vec::{Vec, same};
 use std::alloc::{AllocError, Global};
@@ -48,9 +48,9 @@ fn vectors_hash_and_print_as_their_slices(rt: HostRuntime) -> Result<(), Fail> {
 }
 
 // Whether the two bytes of the text were made.
-fn is_made(answer: Result<Vec<u8>, TryReserveError>) -> bool {
-    match answer {
-        Ok(v) => stands(&v, &[0xc3, 0xa9], 2),
+fn is_made(outcome: Result<Vec<u8>, TryReserveError>) -> bool {
+    match outcome {
+        Ok(v) => has_items(&v, &[0xc3, 0xa9], 2),
         Err(_) => false,
     }
 }
@@ -66,5 +66,5 @@ fn bytes_are_written(rt: HostRuntime) {
     let mut v = list(rt.alloc(), &[], 0);
     assert!(rt; matches!(v.write(b"ab"), Ok(2)));
     assert!(rt; v.write_all(b"abcd").is_ok() && v.flush().is_ok());
-    assert!(rt; stands(&v, b"ababcd", 8));
+    assert!(rt; has_items(&v, b"ababcd", 8));
 }

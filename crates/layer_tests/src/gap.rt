@@ -1,6 +1,6 @@
 //! The gap buffer.
 mod claims;
 mod counted;
-mod refusals;
+mod failures;
 mod rows;
 pub(crate) mod texts;

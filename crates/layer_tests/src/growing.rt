@@ -14,7 +14,7 @@ fn next_capacity<T: Copy>(v: &mut Vec<T>, x: T) -> usize {
 
 // Whether a new vector, each time that it grows, has these capacities in turn.
 fn grows_to<T: Copy>(alloc: Global, growth: Growth, x: T, capacities: &[usize]) -> bool {
-    let mut v = Vec::new_growing_in(growth, alloc);
+    let mut v = Vec::with_growth_in(growth, alloc);
     let mut all = v.is_empty() && v.capacity() == 0 && v.growth() == growth;
     for capacity in capacities {
         all = next_capacity(&mut v, x) == *capacity && all;
@@ -22,7 +22,7 @@ fn grows_to<T: Copy>(alloc: Global, growth: Growth, x: T, capacities: &[usize]) 
     all
 }
 
-// The first push makes room by the size.
+// The first push reserves capacity by the size.
 #[test]
 fn vectors_double_or_grow_by_half(rt: HostRuntime) {
     let (doubling, sparing) = (Growth::Doubling, Growth::Sparing);
@@ -35,7 +35,7 @@ fn vectors_double_or_grow_by_half(rt: HostRuntime) {
     assert!(rt; grows_to(rt.alloc(), sparing, 7u32, &[4, 6, 9, 14, 21]));
 }
 
-// How many elements so many pushes give, and the capacity.
+// Returns the number of elements after so many pushes, and the capacity.
 fn pushed(alloc: Global, count: u32) -> (usize, usize) {
     let mut v = Vec::new(alloc);
     for x in 0..count {

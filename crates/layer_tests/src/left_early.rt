@@ -1,4 +1,4 @@
-//! Ranges that are left early, forgotten, or taken from both ends until they meet: what stands then,
+//! Ranges that are dropped early, forgotten, or taken from both ends until they meet: what is left,
 //! and what is dropped.
 use crate::lists::{add, counted_up, places};
 use crate::ranges::range_of;
@@ -66,16 +66,16 @@ fn digits(v: &Many<'_>) -> u64 {
     all
 }
 
-// From which ends elements are taken, how many come, how the others are left, the digits of those
-// that stand then, and how many were dropped.
+// The numbers of elements taken from either end, how many came, how the range is left, the digits
+// of the elements then, and how many were dropped.
 type DrainRow = ((u32, u32), u32, Left, u64, u32);
 
 // Whether ten elements are as they must be once a range was left so, which makes no request: each
 // is dropped once with the vector, unless a range of them was forgotten.
 fn is_left(v: Many<'_>, left: Left, values: u64, drops: &Cell<u32>) -> bool {
-    let stands = digits(&v) == values && v.allocator().requests() == 1;
+    let is_right = digits(&v) == values && v.allocator().requests() == 1;
     drop(v);
-    stands && (drops.get() == 10) != matches!(left, Left::Forgotten)
+    is_right && (drops.get() == 10) != matches!(left, Left::Forgotten)
 }
 
 // Whether a drain of the third to the eighth of ten is so.
@@ -83,8 +83,8 @@ fn drain_is_so(alloc: Global, (ends, taken, left, values, dropped): DrainRow) ->
     let heap = Faulty::new(alloc);
     let drops = Cell::new(0u32);
     let mut v = counted_up(&heap, &drops, 10);
-    let answer = drained(&mut v, ends, left, &drops);
-    let same = answer == (taken, taken) && drops.get() == dropped;
+    let outcome = drained(&mut v, ends, left, &drops);
+    let same = outcome == (taken, taken) && drops.get() == dropped;
     is_left(v, left, values, &drops) && same && heap.outstanding() == 0
 }
 
@@ -103,8 +103,8 @@ fn what_is_left_of_a_drain_is_dropped_kept_or_lost(rt: HostRuntime) {
     }
 }
 
-// Takes the even ones of a range out, up to `count`, and leaves the others: how many the range
-// tells then that it may have at most.
+// Extracts the even elements of a range, up to `count`, and leaves the others. Returns the upper
+// bound of the size hint then.
 #[tactic(auto, using(aa_vec::proofs::Callers::callers))]
 fn extracted(v: &mut Many<'_>, count: u32, left: Left) -> Option<usize> {
     let to = v.len().min(8);
@@ -112,32 +112,32 @@ fn extracted(v: &mut Many<'_>, count: u32, left: Left) -> Option<usize> {
     for _ in 0..count {
         drop(range.next());
     }
-    let (_none, told) = range.size_hint();
+    let (_none, upper) = range.size_hint();
     if matches!(left, Left::Ended) {
         drop(range);
     } else {
         forget(range);
     }
-    told
+    upper
 }
 
-// How often a range is asked, how it is left, how many it may have then, the digits of the elements
-// that stand, and how many were dropped.
+// How often a range is called, how it is left, its upper bound then, the digits of the elements,
+// and how many were dropped.
 type ExtractRow = (u32, Left, usize, u64, u32);
 
 // Whether an extraction of the third to the eighth of ten is so.
-fn extraction_is_so(alloc: Global, (count, left, told, values, dropped): ExtractRow) -> bool {
+fn extraction_is_so(alloc: Global, (count, left, upper, values, dropped): ExtractRow) -> bool {
     let heap = Faulty::new(alloc);
     let drops = Cell::new(0u32);
     let mut v = counted_up(&heap, &drops, 10);
-    let answer = extracted(&mut v, count, left);
-    let same = answer == Some(told) && drops.get() == dropped;
+    let outcome = extracted(&mut v, count, left);
+    let same = outcome == Some(upper) && drops.get() == dropped;
     is_left(v, left, values, &drops) && same && heap.outstanding() == 0
 }
 
-// What was not asked stays where the range ends.
+// The elements that were not tested are kept at the end of the range.
 #[test]
-fn what_is_left_of_an_extraction_stays_or_is_lost(rt: HostRuntime) {
+fn what_is_left_of_an_extraction_is_kept_or_lost(rt: HostRuntime) {
     for row in [
         (0, Left::Ended, 6, 10123456789, 0),
         (2, Left::Ended, 3, 101356789, 2),
@@ -149,7 +149,7 @@ fn what_is_left_of_an_extraction_stays_or_is_lost(rt: HostRuntime) {
     }
 }
 
-// Elements without references that can be counted: as many stand as `origin` is shared by.
+// Elements without references that can be counted: the vector has as many as `origin` is shared by.
 fn sharing(alloc: Global, origin: &Rc<()>, count: usize) -> Vec<Rc<()>> {
     let mut v = places(alloc, count);
     for _ in 0..count {
@@ -160,8 +160,8 @@ fn sharing(alloc: Global, origin: &Rc<()>, count: usize) -> Vec<Rc<()>> {
     v
 }
 
-// Replaces six of ten by items, once elements were taken from both ends: how many came, and what is
-// told of the others; none where the items were refused.
+// Replaces six of ten by items, once elements were taken from both ends. Returns how many came, and
+// the size hint of the others, or `None` if the splice fails.
 fn spliced(
     v: &mut Vec<Rc<()>>,
     items: Items<Rc<()>>,
@@ -176,16 +176,16 @@ fn spliced(
     Some((taken, len, most))
 }
 
-// Whether so many come and are left of them, where two are put in their place, and all that do not
-// stand then are dropped.
+// Returns whether so many come and are left, if two are put in their place, and whether all other
+// elements are dropped.
 fn splice_is_so(alloc: Global, ends: (u32, u32), taken: u32, left: usize) -> bool {
     let Ok(origin) = Rc::new(alloc, ()) else {
         return false;
     };
     let mut v = sharing(alloc, &origin, 10);
     let items = Items::new(sharing(alloc, &origin, 2), None);
-    let answer = spliced(&mut v, items, ends);
-    answer == Some((taken, left, Some(left))) && v.len() == 6 && Rc::strong_count(&origin) == 7
+    let outcome = spliced(&mut v, items, ends);
+    outcome == Some((taken, left, Some(left))) && v.len() == 6 && Rc::strong_count(&origin) == 7
 }
 
 // A splice must be ended, so that none is forgotten.

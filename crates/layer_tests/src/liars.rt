@@ -1,11 +1,11 @@
-//! What lies: hints, iterators that end early, closures that answer by turns, an equality that
-//! never holds, clones that differ.
+//! Untrue arguments: hints, iterators that end early, closures with alternating results, an
+//! equality that never holds, clones that differ.
 ghost use Rattle.std.specs.Prelude.{◌≡◌, ◌-◌, false};
 ghost use Rattle.std.specs.Iterator.{at_most};
 ghost use Rattle.std.proofs.Common.{refl};
 
-use crate::clones::{assigned, behind, filled, repeated, twin, within};
-use crate::lists::{add, counted_up, list, places, stands};
+use crate::clones::{append_slice, assigned, filled, repeated, twin, within};
+use crate::lists::{add, counted_up, has_items, list, places};
 use aa_raw::collections::{TryReserveError, TryReserveErrorKind};
 use aa_vec::vec::{Hinted, Vec};
 use std::alloc::{AllocError, Global};
@@ -16,7 +16,7 @@ use test_allocators::counted::Counted;
 // What becomes of a hint as an item comes.
 #[derive(Clone, Copy)]
 enum Manner {
-    Stays,
+    Constant,
     CountsDown,
     TurnsTo(usize),
 }
@@ -24,15 +24,15 @@ enum Manner {
 impl Manner {
     fn next_hint(self, hint: usize) -> (usize, Manner) {
         match self {
-            Manner::Stays => (hint, self),
+            Manner::Constant => (hint, self),
             Manner::CountsDown => (hint.saturating_sub(1), self),
             Manner::TurnsTo(other) => (other, Manner::TurnsTo(hint)),
         }
     }
 }
 
-// The numbers from `next` up to `end`, of whose number `hint` is told. Where it pauses, each third
-// number is an end, behind which the others are given.
+// The numbers from `next` up to `end`, with `hint` as the lower bound. If it pauses, each third
+// number is an end, after which the others follow.
 #[derive(Drop)]
 struct Liar {
     next: u32,
@@ -72,7 +72,7 @@ impl Hinted for Liar {
 }
 
 // The numbers from 0 to 4.
-fn told(hint: usize, manner: Manner) -> Liar {
+fn items_with(hint: usize, manner: Manner) -> Liar {
     Liar {
         next: 0,
         end: 5,
@@ -82,15 +82,15 @@ fn told(hint: usize, manner: Manner) -> Liar {
     }
 }
 
-// What a call answers whose numbers fit, or pass the limit.
-fn answer(fits: bool) -> Result<(), TryReserveError> {
+// Returns the result of a call whose numbers fit, or are past the limit.
+fn result_of(fits: bool) -> Result<(), TryReserveError> {
     if fits {
         return Ok(());
     }
     Err(TryReserveErrorKind::CapacityOverflow.into())
 }
 
-// Puts items behind the others, with or without what is told.
+// Appends items, with or without their hint.
 fn extended(v: &mut Vec<u32>, items: &mut Liar, hinted: bool) -> Result<(), TryReserveError> {
     if hinted {
         v.extend_hinted_by(items)
@@ -99,8 +99,8 @@ fn extended(v: &mut Vec<u32>, items: &mut Liar, hinted: bool) -> Result<(), TryR
     }
 }
 
-// Whether an empty vector with so much room is extended so, has these numbers then, and this
-// capacity.
+// Returns whether an empty vector with so much capacity is extended with this result, and then has
+// these numbers and this capacity.
 fn extends_to(
     alloc: Global,
     room: usize,
@@ -111,32 +111,32 @@ fn extends_to(
 ) -> bool {
     let mut items = items;
     let mut v = places(alloc, room);
-    extended(&mut v, &mut items, true) == answer(fits) && stands(&v, left, capacity)
+    extended(&mut v, &mut items, true) == result_of(fits) && has_items(&v, left, capacity)
 }
 
 #[test]
-fn untrue_hints_decide_the_room_alone(rt: HostRuntime) {
+fn untrue_hints_decide_the_capacity_alone(rt: HostRuntime) {
     let all = [0, 1, 2, 3, 4].as_slice();
     let four = [0, 1, 2, 3].as_slice();
     for (hint, manner, room, fits, left, capacity) in [
-        (0, Manner::Stays, 0, true, all, 8),
-        (usize::MAX, Manner::Stays, 0, false, [].as_slice(), 0),
-        (usize::MAX, Manner::Stays, 4, false, four, 4),
-        (usize::MAX, Manner::Stays, 5, true, all, 5),
+        (0, Manner::Constant, 0, true, all, 8),
+        (usize::MAX, Manner::Constant, 0, false, [].as_slice(), 0),
+        (usize::MAX, Manner::Constant, 4, false, four, 4),
+        (usize::MAX, Manner::Constant, 5, true, all, 5),
         (5, Manner::CountsDown, 0, true, all, 5),
         (9, Manner::TurnsTo(0), 0, true, all, 8),
         (0, Manner::TurnsTo(9), 0, true, all, 10),
         (0, Manner::TurnsTo(usize::MAX), 0, false, [].as_slice(), 0),
     ] {
-        let items = told(hint, manner);
+        let items = items_with(hint, manner);
         assert!(rt;
             extends_to(rt.alloc(), room, items, fits, left, capacity),
-            "{hint} told"
+            "hint {hint}"
         );
     }
 }
 
-// Replaces a range of a vector, as far as it lies within, with or without what is told.
+// Replaces a range of a vector, as far as it exists, with or without the hint.
 fn spliced(
     v: &mut Vec<u32>,
     (from, to): (usize, usize),
@@ -152,8 +152,8 @@ fn spliced(
     }
 }
 
-// Replaces two places from this one, and says whether the call answers so, and leaves these numbers
-// with this capacity.
+// Replaces two places from this one, and returns whether the call has this result, and leaves these
+// numbers with this capacity.
 fn splices_to(
     alloc: Global,
     from: usize,
@@ -163,39 +163,39 @@ fn splices_to(
     capacity: usize,
 ) -> bool {
     let mut v = list(alloc, &[1, 2, 3, 4], 4);
-    let answered = spliced(&mut v, (from, from.saturating_add(2)), items, true);
-    answered == answer(fits) && stands(&v, left, capacity)
+    let spliced_as = spliced(&mut v, (from, from.saturating_add(2)), items, true);
+    spliced_as == result_of(fits) && has_items(&v, left, capacity)
 }
 
 // In the middle, and at the end.
 #[test]
-fn untrue_hints_of_a_splice_decide_the_room_alone(rt: HostRuntime) {
+fn untrue_hints_of_a_splice_decide_the_capacity_alone(rt: HostRuntime) {
     let all = [1, 0, 1, 2, 3, 4, 4].as_slice();
     let full = [1, 0, 1, 4].as_slice();
-    let all_behind = [1, 2, 0, 1, 2, 3, 4].as_slice();
-    let full_behind = [1, 2, 0, 1].as_slice();
+    let all_appended = [1, 2, 0, 1, 2, 3, 4].as_slice();
+    let full_appended = [1, 2, 0, 1].as_slice();
     for (from, hint, manner, fits, left, capacity) in [
-        (1, 0, Manner::Stays, true, all, 8),
-        (1, 100, Manner::Stays, true, all, 104),
-        (1, usize::MAX, Manner::Stays, false, full, 4),
+        (1, 0, Manner::Constant, true, all, 8),
+        (1, 100, Manner::Constant, true, all, 104),
+        (1, usize::MAX, Manner::Constant, false, full, 4),
         (1, 100, Manner::CountsDown, true, all, 102),
         (1, 9, Manner::TurnsTo(0), true, all, 13),
         (1, 1, Manner::TurnsTo(usize::MAX), true, all, 8),
         (1, 0, Manner::TurnsTo(usize::MAX), false, full, 4),
-        (2, 100, Manner::Stays, true, all_behind, 105),
-        (2, usize::MAX, Manner::Stays, false, full_behind, 4),
-        (2, 9, Manner::TurnsTo(usize::MAX), false, full_behind, 4),
-        (2, usize::MAX, Manner::TurnsTo(9), true, all_behind, 14),
+        (2, 100, Manner::Constant, true, all_appended, 105),
+        (2, usize::MAX, Manner::Constant, false, full_appended, 4),
+        (2, 9, Manner::TurnsTo(usize::MAX), false, full_appended, 4),
+        (2, usize::MAX, Manner::TurnsTo(9), true, all_appended, 14),
     ] {
-        let items = told(hint, manner);
+        let items = items_with(hint, manner);
         assert!(rt;
             splices_to(rt.alloc(), from, items, fits, left, capacity),
-            "{hint} told from {from} on"
+            "hint {hint} from {from} on"
         );
     }
 }
 
-// The numbers from this one up to 9, with pauses. As many are told as there are up to 9.
+// The numbers from this one up to 9, with pauses. The hint is the number of these up to 9.
 fn pausing(next: u32) -> Liar {
     Liar {
         next,
@@ -206,8 +206,8 @@ fn pausing(next: u32) -> Liar {
     }
 }
 
-// Whether a vector with so much room takes 1 and 2, then 4 and 5, and then 7 and 8, since 3 and 6
-// are ends.
+// Returns whether a vector with so much capacity takes 1 and 2, then 4 and 5, and then 7 and 8,
+// since 3 and 6 are ends.
 fn stops_at_ends(alloc: Global, room: usize) -> bool {
     let mut v = places(alloc, room);
     let mut items = pausing(1);
@@ -220,7 +220,7 @@ fn stops_at_ends(alloc: Global, room: usize) -> bool {
 }
 
 #[test]
-fn behind_an_end_nothing_is_asked(rt: HostRuntime) {
+fn an_iterator_is_not_called_after_its_end(rt: HostRuntime) {
     for room in [0, 1, 2, 3, 4, 9] {
         assert!(rt; stops_at_ends(rt.alloc(), room), "{room}");
     }
@@ -238,7 +238,7 @@ fn is_replaced(alloc: Global, range: (usize, usize), first: u32, left: &[u32]) -
 }
 
 #[test]
-fn a_splice_asks_nothing_behind_an_end(rt: HostRuntime) {
+fn a_splice_does_not_call_an_iterator_after_its_end(rt: HostRuntime) {
     for (range, first, left) in [
         ((1, 3), 0, [7, 7].as_slice()),
         ((1, 4), 1, [7, 1, 2].as_slice()),
@@ -251,7 +251,7 @@ fn a_splice_asks_nothing_behind_an_end(rt: HostRuntime) {
     }
 }
 
-// The closure answers true at each call whose number `turn` divides: how many calls there were.
+// The closure returns `true` at each call whose number `turn` divides. Returns the number of calls.
 #[tactic(auto, using(aa_vec::proofs::Callers::callers))]
 fn retained_by_turns<T: Drop>(v: &mut Vec<T>, turn: u32) -> u32 {
     let mut calls = 0u32;
@@ -286,7 +286,7 @@ fn left_by_turns(alloc: Global, removes: bool, turn: u32) -> (usize, u32, u32) {
 }
 
 #[test]
-fn answers_by_turns_keep_and_remove(rt: HostRuntime) {
+fn alternating_results_keep_and_remove(rt: HostRuntime) {
     for (turn, kept, dropped, distinct, repeats) in [
         (1, 9, 0, 1, 8),
         (2, 4, 5, 5, 4),
@@ -359,17 +359,17 @@ fn digits(v: &[Drifting]) -> u64 {
     all
 }
 
-// What 2 and 6 become, where clones are put behind them.
+// Returns what 2 and 6 become when clones are appended to them.
 fn lengthened(v: Vec<Drifting>) -> u64 {
     let mut v = v;
-    let _put = behind(&mut v, &[valued(8)]);
+    let _put = append_slice(&mut v, &[valued(8)]);
     let _repeated = within(&mut v, 1, 3);
     let _filled = filled(&mut v, 8, valued(30));
     digits(v.as_slice())
 }
 
 #[test]
-fn clones_that_differ_are_put_behind(rt: HostRuntime) {
+fn clones_that_differ_are_appended(rt: HostRuntime) {
     match Vec::from_slice(rt.alloc(), &[valued(1), valued(5)]) {
         Ok(v) => assert!(rt; lengthened(v) == 2_06_09_07_10_31_31_30),
         Err(_) => assert!(rt; false),

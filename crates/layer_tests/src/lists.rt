@@ -1,13 +1,13 @@
 //! Lists that the tests start from, and how they are compared, each call in one place. None of
-//! these says that it was refused: what stands then is not what the tests look for.
-use crate::clones::behind;
+//! these reports a failure: the list is then not what the tests look for.
+use crate::clones::append_slice;
 use aa_raw::collections::TryReserveError;
 use aa_vec::vec::Vec;
 use std::alloc::{Allocator, Global};
 use std::cell::Cell;
 use test_allocators::counted::Counted;
 
-/// Puts an element behind the others. One that is refused is dropped at once.
+/// Appends an element. If this fails, the element is dropped at once.
 pub(crate) fn add<T: Drop, A: Allocator>(v: &mut Vec<T, A>, x: T) {
     let _added = v.push(x);
 }
@@ -20,15 +20,15 @@ pub(crate) fn places<T, A: Allocator + Copy>(alloc: A, capacity: usize) -> Vec<T
     }
 }
 
-/// The elements of a slice, with room for `capacity`.
+/// Returns the elements of a slice, in a vector with capacity `capacity`.
 pub(crate) fn list<T: Copy>(alloc: Global, items: &[T], capacity: usize) -> Vec<T> {
     let mut v = places(alloc, capacity);
-    let _put = behind(&mut v, items);
+    let _put = append_slice(&mut v, items);
     v
 }
 
-/// The digits of a number of at most seven, 0 for none, with room for `capacity`. A row of a table
-/// costs less to prove so than with slices.
+/// Returns the digits of a number of at most seven, 0 for none, in a vector with capacity
+/// `capacity`. A row of a table is proved faster so than with slices.
 pub(crate) fn digits<A: Allocator + Copy>(alloc: A, number: u32, capacity: usize) -> Vec<u32, A> {
     let mut v = places(alloc, capacity);
     for place in [1_000_000, 100_000, 10_000, 1_000, 100, 10, 1u32] {
@@ -44,7 +44,8 @@ pub(crate) fn reads<A: Allocator + Copy>(v: &Vec<u32, A>, number: u32, capacity:
     *v == digits(*v.allocator(), number, 0) && v.capacity() == capacity
 }
 
-/// The elements with the numbers from 0 up to `end`. One that is refused is counted too early.
+/// Returns the elements with the numbers from 0 up to `end`. One that fails to be pushed is counted
+/// too early.
 pub(crate) fn counted_up<'a, A: Allocator + Copy>(
     alloc: A,
     drops: &'a Cell<u32>,
@@ -58,17 +59,17 @@ pub(crate) fn counted_up<'a, A: Allocator + Copy>(
 }
 
 /// Whether a vector has these elements, in these many places.
-pub(crate) fn stands<T: PartialEq>(v: &Vec<T>, items: &[T], capacity: usize) -> bool {
+pub(crate) fn has_items<T: PartialEq>(v: &Vec<T>, items: &[T], capacity: usize) -> bool {
     v.as_slice() == items && v.capacity() == capacity
 }
 
 /// Whether a call made such a vector.
 pub(crate) fn made(
-    answer: Result<Vec<u32>, TryReserveError>,
+    outcome: Result<Vec<u32>, TryReserveError>,
     number: u32,
     capacity: usize,
 ) -> bool {
-    match answer {
+    match outcome {
         Ok(v) => reads(&v, number, capacity),
         Err(_) => false,
     }

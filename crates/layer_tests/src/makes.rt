@@ -35,12 +35,12 @@ enum Make {
     Flattened,
 }
 
-// What it makes, of a vector where it needs one.
+// Returns what the call makes, of a vector if it needs one.
 fn made_by(call: Make, alloc: Global, v: Vec<u32>) -> Result<Vec<u32>, TryReserveError> {
     match call {
         Make::New => Ok(Vec::new(alloc)),
         Make::NewIn => Ok(Vec::new_in(alloc)),
-        Make::NewGrowingIn => Ok(Vec::new_growing_in(Growth::Sparing, alloc)),
+        Make::NewGrowingIn => Ok(Vec::with_growth_in(Growth::Sparing, alloc)),
         Make::WithCapacity => Vec::with_capacity(alloc, 3),
         Make::WithCapacityIn => Vec::with_capacity_in(7, alloc),
         Make::FromSlice => Vec::from_slice(alloc, v.as_slice()),
@@ -73,7 +73,7 @@ fn made_of(call: Make, alloc: Global, v: Vec<u32>) -> Result<Vec<u32>, TryReserv
     }
 }
 
-// A call, the digits of the vector that it is given, those of what it makes, and the capacity.
+// A call, the digits of its vector, those of what it makes, and the capacity.
 type Row = (Make, u32, u32, usize);
 
 // Whether a row is as the vector has it.
@@ -130,7 +130,7 @@ fn empty_arrays_are_flattened(rt: HostRuntime) {
     assert!(rt; flattened(rt.alloc()) == Some((0, 0)));
 }
 
-// A vector of another length is handed back.
+// A vector of another length is returned.
 #[test]
 fn a_vector_becomes_an_array(rt: HostRuntime) {
     let Err(back) = <[u32; 2]>::try_from(digits(rt.alloc(), 123, 3)) else {

@@ -1,5 +1,5 @@
-//! That memory comes back, that each element is dropped once, and how many requests a call makes:
-//! no contract says these.
+//! That memory is freed, that each element is dropped once, and how many requests a call makes: no
+//! contract says these.
 mod blocks;
 mod boxes;
 mod texts;
@@ -14,8 +14,8 @@ pub(crate) fn has_due_requests(heap: &Faulty<Global>, before: u64, from: usize, 
     heap.requests().saturating_sub(before) == due
 }
 
-/// Whether each block that was granted came back once.
-pub(crate) fn is_given_back(heap: &Faulty<Global>) -> bool {
-    let granted = heap.requests().saturating_sub(heap.refused());
+/// Returns whether each allocated block was freed once.
+pub(crate) fn is_all_freed(heap: &Faulty<Global>) -> bool {
+    let granted = heap.requests().saturating_sub(heap.failures());
     heap.outstanding() == 0 && heap.frees() == granted
 }

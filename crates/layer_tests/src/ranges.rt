@@ -1,4 +1,4 @@
-//! Ranges: what they tell before they end, and splices.
+//! Ranges: what they show before they end, and splices.
 use crate::lists::{digits, reads};
 use crate::memory::has_due_requests;
 use aa_vec::vec::{Drain, Vec};
@@ -20,24 +20,24 @@ pub(crate) fn range_of<T, A: Allocator>(
     v.drain(from.min(to)..to)
 }
 
-// Whether a range tells that these are left.
+// Returns whether a range shows that these elements are left.
 fn is_left<A: Allocator>(range: &Drain<'_, u32, A>, left: &[u32]) -> bool {
     let len = left.len();
     range.size_hint() == (len, Some(len)) && range.len() == len && range.as_slice() == left
 }
 
 #[test]
-fn a_drain_tells_what_was_not_taken(rt: HostRuntime) -> Result<(), Fail> {
+fn a_drain_shows_what_was_not_taken(rt: HostRuntime) -> Result<(), Fail> {
     let heap = Faulty::new(rt.alloc());
     let mut v = digits(&heap, 123456, 6);
     let mut range = range_of(&mut v, 1, 4);
     let first = range.next();
-    let is_told = is_left(&range, &[3, 4]);
+    let is_right = is_left(&range, &[3, 4]);
     let text = format!(in rt.alloc(); "{range:?}");
     let _alloc: &&Faulty<Global> = range.allocator();
     drop(range);
     drop(v);
-    assert!(rt; first == Some(2) && is_told && (heap.requests(), heap.frees()) == (1, 1));
+    assert!(rt; first == Some(2) && is_right && (heap.requests(), heap.frees()) == (1, 1));
     assert!(rt; text?.as_str() == "Drain([3, 4])");
     Ok(())
 }
@@ -46,17 +46,17 @@ fn is_even(x: &mut u32) -> bool {
     *x % 2 == 0
 }
 
-// The first even element, taken out of all, and how many were not asked then.
+// Extracts the first even element, and returns how many were not tested then.
 #[tactic(auto, using(aa_vec::proofs::Callers::callers))]
 fn first_even<A: Allocator>(v: &mut Vec<u32, A>) -> (Option<u32>, usize) {
     let to = v.len();
     let mut range = v.extract_by(0..to);
     let first = range.next_by(&mut is_even);
-    (first, range.left())
+    (first, range.remaining_len())
 }
 
 #[test]
-fn an_element_is_taken_out_by_a_closure_that_is_lent(rt: HostRuntime) {
+fn an_element_is_extracted_by_a_borrowed_closure(rt: HostRuntime) {
     let heap = Faulty::new(rt.alloc());
     let mut v = digits(&heap, 5678, 4);
     assert!(rt; first_even(&mut v) == (Some(6), 2) && heap.requests() == 1);

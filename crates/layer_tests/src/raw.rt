@@ -6,8 +6,9 @@ mod runs;
 
 use aa_raw::collections::{TryReserveError, TryReserveErrorKind};
 
-/// Whether room was made, and the capacity that there is or that was refused, or 0 past the limits.
-pub(crate) fn told(room: Result<usize, TryReserveError>) -> (bool, usize) {
+/// Returns whether capacity was reserved, and the capacity that there is or that was requested in
+/// vain, or 0 past the limits.
+pub(crate) fn outcome_of(room: Result<usize, TryReserveError>) -> (bool, usize) {
     match room {
         Ok(capacity) => (true, capacity),
         Err(error) => match error.kind() {

@@ -1,4 +1,5 @@
-//! How calls use their closures: in which order, with which arguments, and what the closures remove.
+//! How calls use their closures: in which order, with which arguments, and what the closures
+//! remove.
 use crate::lists::{add, places};
 use aa_vec::vec::Vec;
 use std::alloc::Global;

@@ -1,5 +1,5 @@
-//! Boxes and blocks over an allocator that refuses.
-use crate::seen::{End, boxed, end_of, is_given_back};
+//! Boxes and blocks over an allocator that fails.
+use crate::seen::{End, boxed, end_of, is_all_freed};
 use allocator_api2::boxed::{Box, BoxedSlice};
 use allocator_api2::collections::TryReserveError;
 use allocator_api2::raw_vec::RawVec;
@@ -39,26 +39,26 @@ fn made<'a>(call: Call, heap: &'a Faulty<Global>) -> (bool, u64) {
     }
 }
 
-// Whether something was made, and how many bytes are outstanding while it stands.
+// Returns whether something was made, and how many bytes are outstanding until it is dropped.
 fn beside<T: Drop, E: Drop>(heap: &Faulty<Global>, made: Result<T, E>) -> (bool, u64) {
     match made {
-        Ok(_stands) => (true, heap.outstanding()),
+        Ok(_is_kept) => (true, heap.outstanding()),
         Err(_) => (false, heap.outstanding()),
     }
 }
 
-// What a call makes where its request is refused, and once more, the number of the requests, and
-// whether each block is given back once.
+// Returns what a call makes when its request fails, and once more, the number of the requests, and
+// whether each block is freed once.
 fn made_twice(alloc: Global, call: Call) -> ((bool, u64), (bool, u64), u64, bool) {
     let heap = Faulty::new(alloc);
-    heap.refuse(0, 1);
+    heap.fail_requests(0, 1);
     let first = made(call, &heap);
     let then = made(call, &heap);
-    (first, then, heap.requests(), is_given_back(&heap))
+    (first, then, heap.requests(), is_all_freed(&heap))
 }
 
 #[test]
-fn a_refused_box_is_not_made(rt: HostRuntime) {
+fn a_failed_box_is_not_made(rt: HostRuntime) {
     for call in [
         Call::NewIn,
         Call::TryNewIn,
@@ -80,16 +80,16 @@ fn box_of_box(heap: &Faulty<Global>) -> bool {
 }
 
 #[test]
-fn a_refused_box_drops_its_value(rt: HostRuntime) {
+fn a_failed_box_drops_its_value(rt: HostRuntime) {
     let heap = Faulty::new(rt.alloc());
-    heap.refuse(1, 1);
+    heap.fail_requests(1, 1);
     assert!(rt; !box_of_box(&heap));
-    assert!(rt; is_given_back(&heap));
+    assert!(rt; is_all_freed(&heap));
 }
 
 // What is allocated and deallocated for a box of a unit; or none if it fails.
 fn counts_of_unit(heap: &Faulty<Global>) -> Option<(u64, u64)> {
-    heap.refuse(0, u64::MAX);
+    heap.fail_requests(0, u64::MAX);
     match tried((), heap) {
         Ok(unit) => {
             drop(unit);
@@ -118,7 +118,8 @@ enum Room {
 // Numbers on the allocator of a test.
 type Block<'a> = RawVec<u32, &'a Faulty<Global>>;
 
-// How a call ends that makes room for three, or for one, or gives all but so many places back.
+// Reserves capacity for three, or for one, or frees all but so many places, and returns how this
+// ends.
 fn reserved(call: Room, block: &mut Block<'_>) -> End {
     end_of(match call {
         Room::Reserve => block.reserve(0, 3),
@@ -130,14 +131,14 @@ fn reserved(call: Room, block: &mut Block<'_>) -> End {
     })
 }
 
-// What it answers to give all but so many places back.
+// Returns the result of freeing all but so many places.
 #[tactic(auto, using(aa_raw::proofs::Calls::with_room))]
 fn shrunk(block: &mut Block<'_>, count: usize) -> Result<(), TryReserveError> {
     let wanted = count.min(block.capacity());
     block.shrink_to_fit(0, wanted)
 }
 
-// A call of a block with so many places, how many requests it makes, the capacity that it asks for,
+// A call of a block with so many places, the number of its requests, the capacity that it requests,
 // and then that of the block.
 type Row = (Room, usize, u64, usize, usize);
 
@@ -155,7 +156,7 @@ fn rooms() -> [Row; 9] {
     ]
 }
 
-// How a call of a block ends where its first request is refused, and how once more, each beside the
+// How a call of a block ends when its first request fails, and how once more, each beside the
 // capacity then.
 type Seen = (End, usize, End, usize);
 
@@ -163,29 +164,29 @@ fn seen_on(heap: &Faulty<Global>, call: Room, room: usize) -> Seen {
     let Ok(mut block) = RawVec::with_capacity_in(room, heap) else {
         return (End::TooLong, 0, End::TooLong, 0);
     };
-    heap.refuse(0, 1);
+    heap.fail_requests(0, 1);
     let first = reserved(call, &mut block);
     let left = block.capacity();
     let then = reserved(call, &mut block);
     (first, left, then, block.capacity())
 }
 
-// That, how many requests are refused, and whether each block is given back once.
+// Returns that, how many requests fail, and whether each block is freed once.
 fn seen(alloc: Global, call: Room, room: usize) -> (Seen, u64, bool) {
     let heap = Faulty::new(alloc);
     let seen = seen_on(&heap, call, room);
-    (seen, heap.refused(), is_given_back(&heap))
+    (seen, heap.failures(), is_all_freed(&heap))
 }
 
 #[test]
-fn a_refused_block_stays(rt: HostRuntime) {
-    for (call, room, refused, asked, capacity) in rooms() {
-        let (first, left) = if refused == 1 {
-            (End::NoMemory(asked), room)
+fn a_failed_growth_keeps_the_block(rt: HostRuntime) {
+    for (call, room, failed, requested, capacity) in rooms() {
+        let (first, left) = if failed == 1 {
+            (End::NoMemory(requested), room)
         } else {
             (End::Done, capacity)
         };
-        let wanted = ((first, left, End::Done, capacity), refused, true);
+        let wanted = ((first, left, End::Done, capacity), failed, true);
         assert!(rt; seen(rt.alloc(), call, room) == wanted);
     }
 }

@@ -1,8 +1,8 @@
-//! Calls that change a vector or make something of its elements: each request in turn is refused,
-//! those of the elements' clones too.
+//! Calls that change a vector or make something of its elements: each request fails in turn, also
+//! those of the elements' clones.
 use crate::items::{Fill, Watched, filled, spliced};
 use crate::seen::{
-    End, Held, boxed, digits, end_by, end_of, end_of_made, held, is_given_back, numbers, stands,
+    End, Held, boxed, digits, end_by, end_of, end_of_made, has_items, held, is_all_freed, numbers,
 };
 use allocator_api2::SliceExt;
 use allocator_api2::collections::{Refused, TryReserveError};
@@ -29,14 +29,14 @@ pub(crate) enum Call {
     ExtendFromWithin,
     Resize(usize),
     AssignFrom,
-    // Of an iterator that tells nothing of how many items are to come.
+    // Of an iterator without a lower bound.
     Fill(Fill),
     ExtendHinted(usize),
     ExtendHintedBy(usize),
-    // With one element of the range taken first, and what is told of the items.
+    // With one element of the range taken first, and the hint of the items.
     SpliceHinted(usize, usize, Option<usize>),
-    // Of the other list's items, of which is told how many they are.
-    SpliceTold(usize, usize),
+    // Of the items of the other list, with an exact hint.
+    SpliceExact(usize, usize),
     // What these make is dropped.
     FromSliceIn,
     FromElemIn(usize),
@@ -45,7 +45,7 @@ pub(crate) enum Call {
     Clone,
     ItemsClone,
     SliceClone,
-    // These by the trait, whose error tells no number.
+    // These by the trait, whose error has no number.
     TraitClone,
     TraitItemsClone,
     TraitSliceClone,
@@ -53,8 +53,8 @@ pub(crate) enum Call {
     TraitBoxClone,
 }
 
-// How a call ends that is given another element and another vector; where the element is handed
-// back it is there again. It counts how often an item is asked for.
+// Returns how a call ends that takes another element and another vector. If the element is returned
+// in the error, it is put back. Counts how often the iterator is called.
 pub(crate) fn called<T: Clone + Drop, A: Allocator + Clone + Drop>(
     call: Call,
     v: &mut Vec<T, A>,
@@ -69,7 +69,7 @@ pub(crate) fn called<T: Clone + Drop, A: Allocator + Clone + Drop>(
     }
 }
 
-// How a call ends that is given an element.
+// Returns how a call ends that takes an element.
 pub(crate) fn called_with_one<T: Clone + Drop, A: Allocator>(
     call: Call,
     v: &mut Vec<T, A>,
@@ -79,25 +79,25 @@ pub(crate) fn called_with_one<T: Clone + Drop, A: Allocator>(
         return End::TooLong;
     };
     match call {
-        Call::Push => handed(v.push(x), one),
-        Call::Insert => handed(v.insert(v.len().min(1), x), one),
+        Call::Push => end_with_value(v.push(x), one),
+        Call::Insert => end_with_value(v.insert(v.len().min(1), x), one),
         Call::Resize(len) => end_of(v.resize(len, x)),
         _ => End::TooLong,
     }
 }
 
-// How a call ends that hands its element back where it is refused.
-fn handed<T: Drop>(ended: Result<(), Refused<T>>, one: &mut Option<T>) -> End {
+// Returns how a call ends that returns its element in the error.
+fn end_with_value<T: Drop>(ended: Result<(), Refused<T>>, one: &mut Option<T>) -> End {
     match ended {
         Ok(()) => End::Done,
-        Err(refusal) => {
-            *one = Some(refusal.source);
-            end_by(refusal.error)
+        Err(error) => {
+            *one = Some(error.source);
+            end_by(error.error)
         }
     }
 }
 
-// How a call ends that is given items, and counts how often one is asked for.
+// Returns how a call ends that takes items, and counts how often the iterator is called.
 fn called_with_items<T: Clone + Drop, A: Allocator + Clone + Drop>(
     call: Call,
     v: &mut Vec<T, A>,
@@ -110,16 +110,16 @@ fn called_with_items<T: Clone + Drop, A: Allocator + Clone + Drop>(
             let inner = Items::new(other, None);
             filled(fill, v, Watched { inner, calls }, alloc)
         }
-        Call::SpliceHinted(from, to, told) => spliced(v, (from, to), Items::new(other, told)),
-        Call::SpliceTold(from, to) => {
+        Call::SpliceHinted(from, to, hint) => spliced(v, (from, to), Items::new(other, hint)),
+        Call::SpliceExact(from, to) => {
             filled(Fill::Splice(from, to), v, other.into_iter(), alloc)
         }
-        Call::ExtendHinted(told) => {
-            let inner = Items::new(other, Some(told));
+        Call::ExtendHinted(hint) => {
+            let inner = Items::new(other, Some(hint));
             end_of(v.extend_hinted(Watched { inner, calls }))
         }
-        Call::ExtendHintedBy(told) => {
-            let inner = Items::new(other, Some(told));
+        Call::ExtendHintedBy(hint) => {
+            let inner = Items::new(other, Some(hint));
             end_of(v.extend_hinted_by(&mut Watched { inner, calls }))
         }
         _ => called_to_make(call, v, other, alloc),
@@ -154,16 +154,16 @@ fn called_to_make<T: Clone + Drop, A: Allocator + Clone + Drop>(
 }
 
 // How the clone of a boxed slice of full places ends, which needs no memory to be boxed.
-fn end_of_boxed_clone<T: Clone + Drop, A: Allocator + Clone>(given: Vec<T, A>) -> End {
-    match given.into_boxed_slice() {
+fn end_of_boxed_clone<T: Clone + Drop, A: Allocator + Clone>(items: Vec<T, A>) -> End {
+    match items.into_boxed_slice() {
         Ok(list) => end_of_made(list.clone()),
         Err(_) => End::TooLong,
     }
 }
 
 // The same of the clone by the trait.
-fn end_of_trait_clone<T: Clone + Drop, A: Allocator + Clone + Drop>(given: Vec<T, A>) -> End {
-    match given.into_boxed_slice() {
+fn end_of_trait_clone<T: Clone + Drop, A: Allocator + Clone + Drop>(items: Vec<T, A>) -> End {
+    match items.into_boxed_slice() {
         Ok(list) => end_of_clone(Clone::clone(&list)),
         Err(_) => End::TooLong,
     }
@@ -177,7 +177,7 @@ fn end_of_box_clone<T: Clone + Drop, A: Allocator + Clone + Drop>(x: T, alloc: A
     }
 }
 
-// How a clone by the trait ends, whose error tells no number.
+// Returns how a clone by the trait ends, whose error has no number.
 fn end_of_clone<T: Drop>(made: Result<T, AllocError>) -> End {
     match made {
         Ok(_) => End::Done,
@@ -185,7 +185,7 @@ fn end_of_clone<T: Drop>(made: Result<T, AllocError>) -> End {
     }
 }
 
-// What a call answers that is given another vector.
+// Returns the result of a call that takes another vector.
 pub(crate) fn called_with_many<T: Clone + Drop, A: Allocator + Clone>(
     call: Call,
     v: &mut Vec<T, A>,
@@ -200,7 +200,7 @@ pub(crate) fn called_with_many<T: Clone + Drop, A: Allocator + Clone>(
     }
 }
 
-// What a call answers that changes the capacity alone.
+// Returns the result of a call that only changes the capacity.
 fn called_for_room<T: Drop, A: Allocator>(
     call: Call,
     v: &mut Vec<T, A>,
@@ -216,26 +216,26 @@ fn called_for_room<T: Drop, A: Allocator>(
 }
 
 // How a call ended, the elements as the digits of a number, the capacity, the number of requests,
-// and the number that is handed back, or 0.
+// and the number that is returned in the error, or 0.
 type Seen = (End, u32, usize, u64, u32);
 
-// The numbers and the room of a vector, and the numbers of the other.
+// The numbers and the capacity of a vector, and the numbers of the other.
 type Before<'a> = (&'a [u32], usize, &'a [u32]);
 
-// What is seen of a call with the element 9, where the request numbered `refused` fails; how often
-// an item is asked for, and whether each block is given back once.
-fn seen(alloc: Global, call: Call, before: Before<'_>, refused: u64) -> (Seen, u32, bool) {
+// Returns what is seen of a call with the element 9, when the request numbered `failed` fails; how
+// often the iterator is called, and whether each block is freed once.
+fn seen(alloc: Global, call: Call, before: Before<'_>, failed: u64) -> (Seen, u32, bool) {
     let heap = Faulty::new(alloc);
     let calls = Cell::new(0);
-    let seen = seen_on(&heap, call, before, refused, &calls);
-    (seen, calls.get(), is_given_back(&heap))
+    let seen = seen_on(&heap, call, before, failed, &calls);
+    (seen, calls.get(), is_all_freed(&heap))
 }
 
 fn seen_on(
     heap: &Faulty<Global>,
     call: Call,
     (first, room, others): Before<'_>,
-    refused: u64,
+    failed: u64,
     calls: &Cell<u32>,
 ) -> Seen {
     let mut v = held(heap, first, room);
@@ -245,7 +245,7 @@ fn seen_on(
         _ => None,
     };
     let before = heap.requests();
-    heap.refuse(refused, 1);
+    heap.fail_requests(failed, 1);
     let end = called(call, &mut v, &mut one, other, heap, calls);
     let requests = heap.requests().saturating_sub(before);
     (
@@ -257,7 +257,7 @@ fn seen_on(
     )
 }
 
-// The number in an element that may have been handed back.
+// Returns the number in an element that may have been returned.
 fn number(back: Option<Held<'_>>) -> u32 {
     match back {
         Some(one) => *one,
@@ -265,9 +265,9 @@ fn number(back: Option<Held<'_>>) -> u32 {
     }
 }
 
-// A call on the elements 1, 2 and 3 with room for so many, and 4, 5 and 6; its requests; the number
-// that is told where the first of them is refused, or a later one; and the elements and the
-// capacity where none is.
+// A call on the elements 1, 2 and 3 with capacity for so many, and 4, 5 and 6; its requests; the
+// number in the error if the first of them fails, or a later one; and the elements and the capacity
+// if none does.
 type Row = (Call, usize, u64, usize, usize, u32, usize);
 
 fn changes() -> [Row; 32] {
@@ -307,31 +307,32 @@ fn changes() -> [Row; 32] {
     ]
 }
 
-// What is seen of a row where the request numbered `refused` fails: each of these leaves the
-// elements; its first request, the capacity too. A push or an insert hands its element back.
-fn left_of((call, room, requests, first, later, done, grown): Row, refused: u64) -> Seen {
-    if refused == requests {
+// Returns what is seen of a row when the request numbered `failed` fails: the elements are
+// unchanged, and at the first request the capacity too. A push or an insert returns its element in
+// the error.
+fn left_of((call, room, requests, first, later, done, grown): Row, failed: u64) -> Seen {
+    if failed == requests {
         return (End::Done, done, grown, requests, 0);
     }
-    let asked = refused.saturating_add(1);
+    let requested = failed.saturating_add(1);
     match call {
-        Call::Push | Call::Insert => (End::NoMemory(first), 123, room, asked, 9),
-        _ if refused == 0 => (End::NoMemory(first), 123, room, asked, 0),
-        _ => (End::NoMemory(later), 123, grown, asked, 0),
+        Call::Push | Call::Insert => (End::NoMemory(first), 123, room, requested, 9),
+        _ if failed == 0 => (End::NoMemory(first), 123, room, requested, 0),
+        _ => (End::NoMemory(later), 123, grown, requested, 0),
     }
 }
 
 #[test]
-fn each_request_of_a_change_is_refused_in_turn(rt: HostRuntime) {
+fn each_request_of_a_change_can_fail(rt: HostRuntime) {
     for row in changes() {
-        for refused in 0..row.2.saturating_add(1) {
+        for failed in 0..row.2.saturating_add(1) {
             let (came, _calls, once) = seen(
                 rt.alloc(),
                 row.0,
                 (&[1, 2, 3], row.1, &[4, 5, 6]),
-                refused,
+                failed,
             );
-            assert!(rt; came == left_of(row, refused) && once);
+            assert!(rt; came == left_of(row, failed) && once);
         }
     }
 }
@@ -364,23 +365,23 @@ fn lists(from: Start) -> Before<'static> {
     }
 }
 
-// A call, what it begins with, the request that is refused; how it ends, the elements, the capacity
-// and the requests; and how often an item is asked for: of an extension that is each that is placed
-// and one more, or the end.
+// A call, what it begins with, the request that fails; how it ends, the elements, the capacity and
+// the requests; and how often the iterator is called: in an extension once for each element that is
+// placed and once more, or for the end.
 type Part = (Call, Start, u64, End, u32, usize, u64, u32);
 
 const HINT: Call = Call::SpliceHinted(1, 3, Some(1));
 
-const TOLD: Call = Call::SpliceTold(1, 3);
+const HINTED: Call = Call::SpliceExact(1, 3);
 
 const UNTRUE: Call = Call::SpliceHinted(1, 2, Some(usize::MAX));
 
 const UNTRUE_OF_THREE: Call = Call::SpliceHinted(0, 3, Some(usize::MAX));
 
-// Of an extension what fits is kept, of an assignment a beginning, once what stood there is
-// dropped, and of a splice what is behind the range too. A hint that cannot be is refused where
-// items are left and the range is full. A `resize` by one element clones nothing, and a vector
-// without elements shrinks to no capacity without allocation.
+// After an extension what fits is kept. After an assignment a part is kept, and the old elements
+// are dropped. After a splice the elements after the range are kept too. A hint past the limits is
+// an error if items are left and the range is full. A `resize` by one element clones nothing, and a
+// vector without elements shrinks to no capacity without allocation.
 fn parts() -> [Part; 23] {
     let (extend, by) = (Call::Fill(Fill::Extend), Call::Fill(Fill::ExtendBy));
     let (hinted, made) = (Call::ExtendHinted(0), Call::Fill(Fill::FromIterIn));
@@ -414,8 +415,8 @@ fn parts() -> [Part; 23] {
         (HINT, Start::Four, 0, End::NoMemory(8), 1784, 4, 1, 0),
         (HINT, Start::Four, 1, End::NoMemory(4), 17894, 8, 2, 0),
         (HINT, Start::Four, 2, End::Done, 179004, 8, 2, 0),
-        (TOLD, Start::Four, 0, End::NoMemory(8), 1784, 4, 1, 0),
-        (TOLD, Start::Four, 1, End::Done, 179004, 8, 1, 0),
+        (HINTED, Start::Four, 0, End::NoMemory(8), 1784, 4, 1, 0),
+        (HINTED, Start::Four, 1, End::Done, 179004, 8, 1, 0),
         (
             UNTRUE_OF_THREE,
             Start::FourForOne,
@@ -432,9 +433,9 @@ fn parts() -> [Part; 23] {
 
 // Whether what is seen of a part is what it says.
 fn is_left(alloc: Global, part: Part) -> bool {
-    let (call, from, refused, end, digits, capacity, requests, calls) = part;
+    let (call, from, failed, end, digits, capacity, requests, calls) = part;
     let left = (end, digits, capacity, requests, 0);
-    seen(alloc, call, lists(from), refused) == (left, calls, true)
+    seen(alloc, call, lists(from), failed) == (left, calls, true)
 }
 
 #[test]
@@ -448,12 +449,12 @@ fn each_request_of_many_items_leaves_a_part(rt: HostRuntime) {
 // ends, and the number that it returns; and whether the vector then holds those before it.
 fn pushed(heap: &Faulty<Global>) -> (u32, End, Option<u32>, bool) {
     let mut v = numbers(heap, &[], 4);
-    heap.refuse(0, u64::MAX);
+    heap.fail_requests(0, u64::MAX);
     for x in 1..=5u32 {
         let mut one = Some(x);
         let end = called_with_one(Call::Push, &mut v, &mut one);
         if end != End::Done {
-            return (x - 1, end, one, stands(&v, &[1, 2, 3, 4], 4));
+            return (x - 1, end, one, has_items(&v, &[1, 2, 3, 4], 4));
         }
     }
     (5, End::Done, None, false)
@@ -463,7 +464,7 @@ fn pushed(heap: &Faulty<Global>) -> (u32, End, Option<u32>, bool) {
 fn a_push_that_fits_does_not_allocate(rt: HostRuntime) {
     let heap = Faulty::new(rt.alloc());
     assert!(rt; pushed(&heap) == (4, End::NoMemory(8), Some(5), true));
-    assert!(rt; is_given_back(&heap));
+    assert!(rt; is_all_freed(&heap));
 }
 
 // How it ends to append a vector of one number to one of two if so many allocations fail, and
@@ -476,11 +477,11 @@ fn appended(
 ) -> (End, bool) {
     let mut v = numbers(heap, &[1, 2], 2);
     let mut other = numbers(heap, &[3], 4);
-    heap.refuse(0, fails);
+    heap.fail_requests(0, fails);
     let end = end_of(called_with_many(Call::Append, &mut v, &mut other));
     (
         end,
-        stands(&v, first, places) && stands(&other, second, others),
+        has_items(&v, first, places) && has_items(&other, second, others),
     )
 }
 
@@ -491,5 +492,5 @@ fn a_failed_append_leaves_both_vectors(rt: HostRuntime) {
     assert!(rt; failed == (End::NoMemory(4), true));
     let done = appended(&heap, 0, (&[1, 2, 3], 4), (&[], 4));
     assert!(rt; done == (End::Done, true));
-    assert!(rt; is_given_back(&heap));
+    assert!(rt; is_all_freed(&heap));
 }

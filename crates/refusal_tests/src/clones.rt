@@ -1,16 +1,16 @@
-//! Calls that clone the allocator: each refused, with the number where one is told.
+//! Calls that clone the allocator: each fails, with the number if there is one.
 use crate::changes::{Call, called};
 use crate::copies::end_of_plain_clone;
-use crate::seen::{End, numbers, stands};
+use crate::seen::{End, has_items, numbers};
 use allocator_api2::vec::Vec;
 use std::alloc::Global;
 use std::cell::Cell;
 use test_allocators::Faulty;
 
-// Numbers in full places, on an allocator whose clones are refused.
+// Numbers in full places, on an allocator whose clones fail.
 fn uncloned(alloc: Global, items: &[u32]) -> Vec<u32, Faulty<Global>> {
     let v = numbers(Faulty::new(alloc), items, items.len());
-    v.allocator().refuse_clones(true);
+    v.allocator().fail_clones(true);
     v
 }
 
@@ -33,12 +33,12 @@ fn end_of_call(
         Faulty::new(alloc),
         &Cell::new(0),
     );
-    (end, stands(&v, left, places))
+    (end, has_items(&v, left, places))
 }
 
-// A refused clone ends a splice like the first growth.
+// A failed clone ends a splice like the first growth.
 #[test]
-fn a_refused_clone_of_the_allocator_leaves_a_vector(rt: HostRuntime) {
+fn a_failed_clone_of_the_allocator_leaves_a_vector(rt: HostRuntime) {
     let (four, spliced) = ([1, 2, 3, 4].as_slice(), [1, 7, 8, 9, 4].as_slice());
     assert!(rt; end_of_plain_clone(&uncloned(rt.alloc(), four)) == End::NoMemory(4));
     for (call, others, number, left, places) in [

@@ -1,12 +1,11 @@
-//! Vectors, boxed slices and arrays in boxes that become each other: what is refused is handed
-//! back.
-use crate::seen::{End, boxed, end_by, is_given_back, numbers, put, room_for};
+//! Conversions between vectors, boxed slices and arrays in boxes: an error returns the value.
+use crate::seen::{End, boxed, end_by, is_all_freed, numbers, put, room_for};
 use allocator_api2::boxed::{Box, BoxedSlice};
 use allocator_api2::vec::{ArrayIntoVec, SliceIntoVec, Vec};
 use std::alloc::{Allocator, Global};
 use test_allocators::Faulty;
 
-// Three numbers, as they may stand.
+// Three numbers, in one of their forms.
 #[derive(Drop)]
 enum Three<A: Allocator> {
     Vector(Vec<u32, A>),
@@ -24,12 +23,12 @@ enum Step {
     SliceIntoVec,
 }
 
-// How a step ends, and what there is then. A refusal of `try_into_array` tells nothing.
+// Returns how a step ends, and what there is then. The error of `try_into_array` has no number.
 fn converted<A: Allocator + Clone + Drop>(step: Step, three: Three<A>) -> (End, Three<A>) {
     match (step, three) {
         (Step::IntoBoxedSlice, Three::Vector(v)) => match v.into_boxed_slice() {
             Ok(list) => (End::Done, Three::List(list)),
-            Err(refusal) => (end_by(refusal.error), Three::Vector(refusal.source)),
+            Err(error) => (end_by(error.error), Three::Vector(error.source)),
         },
         (Step::TryIntoArray, Three::List(list)) => match list.try_into_array::<3>() {
             Ok(array) => (End::Done, Three::Boxed(array)),
@@ -43,17 +42,17 @@ fn converted<A: Allocator + Clone + Drop>(step: Step, three: Three<A>) -> (End, 
 
 // The same of an array in a box.
 fn from_boxed<A: Allocator + Clone>(step: Step, array: Box<[u32; 3], A>) -> (End, Three<A>) {
-    let refusal = match step {
+    let error = match step {
         Step::Slice => match Box::slice(array) {
             Ok(list) => return (End::Done, Three::List(list)),
-            Err(refusal) => refusal,
+            Err(error) => error,
         },
         _ => match array.into_vec() {
             Ok(v) => return (End::Done, Three::Vector(v)),
-            Err(refusal) => refusal,
+            Err(error) => error,
         },
     };
-    (end_by(refusal.error), Three::Boxed(refusal.source))
+    (end_by(error.error), Three::Boxed(error.source))
 }
 
 // Whether they are 1, 2 and 3.
@@ -66,7 +65,7 @@ fn is_whole<A: Allocator>(three: &Three<A>) -> bool {
         }
 }
 
-// Each step asks once, and tells this number where it is refused; or it asks for nothing.
+// Each step makes one request, and fails with this number; or it makes none.
 fn steps() -> [(Step, Option<usize>); 7] {
     [
         (Step::IntoBoxedSlice, Some(3)),
@@ -79,15 +78,15 @@ fn steps() -> [(Step, Option<usize>); 7] {
     ]
 }
 
-// Takes a step, where it is refused once more: whether it ends as it must, and what there is then.
+// Takes a step, after one that fails: whether it ends as it must, and what there is then.
 fn stepped<A: Allocator + Clone + Drop>(
     step: Step,
-    refusal: Option<usize>,
+    error: Option<usize>,
     three: Three<A>,
 ) -> (bool, Three<A>) {
     let (end, left) = converted(step, three);
     let whole = is_whole(&left);
-    match refusal {
+    match error {
         Some(number) if end == End::NoMemory(number) && whole => {
             let (end, made) = converted(step, left);
             (end == End::Done && is_whole(&made), made)
@@ -97,13 +96,13 @@ fn stepped<A: Allocator + Clone + Drop>(
     }
 }
 
-// Takes each step, the first request of each refused: how many end as they must.
+// Takes each step, and fails the first request of each. Returns how many end as they must.
 fn steps_taken(heap: &Faulty<Global>) -> usize {
     let mut three = Three::Vector(numbers(heap, &[1, 2, 3], 4));
     let mut taken = 0usize;
-    for (step, refusal) in steps() {
-        heap.refuse(0, 1);
-        let (right, made) = stepped(step, refusal, three);
+    for (step, error) in steps() {
+        heap.fail_requests(0, 1);
+        let (right, made) = stepped(step, error, three);
         if right {
             taken = taken.saturating_add(1);
         }
@@ -113,17 +112,17 @@ fn steps_taken(heap: &Faulty<Global>) -> usize {
 }
 
 #[test]
-fn each_request_of_the_conversions_is_refused(rt: HostRuntime) {
+fn each_request_of_the_conversions_can_fail(rt: HostRuntime) {
     let heap = Faulty::new(rt.alloc());
     assert!(rt; steps_taken(&heap) == steps().len());
-    assert!(rt; (heap.requests(), heap.refused()) == (11, 5));
-    assert!(rt; is_given_back(&heap));
+    assert!(rt; (heap.requests(), heap.failures()) == (11, 5));
+    assert!(rt; is_all_freed(&heap));
 }
 
 // The capacity of a vector that is returned because its boxed slice fails.
 fn capacity_returned(heap: &Faulty<Global>) -> Option<usize> {
     let three = Three::Vector(numbers(heap, &[1, 2, 3], 4));
-    heap.refuse(0, 1);
+    heap.fail_requests(0, 1);
     match converted(Step::IntoBoxedSlice, three) {
         (End::NoMemory(3), Three::Vector(v)) => Some(v.capacity()),
         _ => None,
@@ -135,10 +134,10 @@ fn a_vector_that_is_returned_keeps_its_capacity(rt: HostRuntime) {
     assert!(rt; capacity_returned(&Faulty::new(rt.alloc())) == Some(4));
 }
 
-// How a step ends where the allocator's clone is refused, and whether the numbers stand then.
+// Returns how a step ends when the allocator's clone fails, and whether the numbers are kept then.
 fn uncloned(alloc: Global, step: Step) -> (End, bool) {
     let heap = Faulty::new(alloc);
-    heap.refuse_clones(true);
+    heap.fail_clones(true);
     let (end, left) = match step {
         Step::TryIntoArray => {
             let three = Three::Vector(numbers(heap, &[1, 2, 3], 3));
@@ -154,7 +153,7 @@ fn uncloned(alloc: Global, step: Step) -> (End, bool) {
 }
 
 #[test]
-fn a_refused_clone_of_the_allocator_hands_back(rt: HostRuntime) {
+fn a_failed_clone_of_the_allocator_returns_the_vector(rt: HostRuntime) {
     for (step, number) in [
         (Step::Slice, 3),
         (Step::IntoVec, 3),
@@ -164,7 +163,7 @@ fn a_refused_clone_of_the_allocator_hands_back(rt: HostRuntime) {
     }
 }
 
-// How it ends to join two pairs, and whether their numbers stand then.
+// Joins two pairs. Returns how this ends, and whether their numbers are kept then.
 fn flattened<A: Allocator + Clone>(alloc: A) -> (End, bool) {
     let mut pairs = room_for(2, alloc);
     put(&mut pairs, [1u32, 2]);
@@ -175,21 +174,21 @@ fn flattened<A: Allocator + Clone>(alloc: A) -> (End, bool) {
 fn joined<A: Allocator + Clone>(pairs: Vec<[u32; 2], A>) -> (End, bool) {
     match pairs.into_flattened() {
         Ok(flat) => (End::Done, flat.as_slice() == [1, 2, 3, 4].as_slice()),
-        Err(refusal) => {
-            let whole = refusal.source.as_slice() == [[1, 2], [3, 4]].as_slice();
-            (end_by(refusal.error), whole)
+        Err(error) => {
+            let whole = error.source.as_slice() == [[1, 2], [3, 4]].as_slice();
+            (end_by(error.error), whole)
         }
     }
 }
 
 #[test]
-fn a_refused_flattening_hands_the_vector_back(rt: HostRuntime) {
+fn a_failed_flattening_returns_the_vector(rt: HostRuntime) {
     let heap = Faulty::new(rt.alloc());
-    heap.refuse(1, 1);
+    heap.fail_requests(1, 1);
     assert!(rt; flattened(&heap) == (End::NoMemory(4), true));
     assert!(rt; flattened(&heap) == (End::Done, true));
-    assert!(rt; is_given_back(&heap));
+    assert!(rt; is_all_freed(&heap));
     let uncloned = Faulty::new(rt.alloc());
-    uncloned.refuse_clones(true);
+    uncloned.fail_clones(true);
     assert!(rt; flattened(uncloned) == (End::NoMemory(4), true));
 }

@@ -1,7 +1,7 @@
-//! Calls of plain copies, of bytes and of texts, and those that make room: each request in turn is
-//! refused.
+//! Calls of plain copies, of bytes and of texts, and those that reserve capacity: each request
+//! fails in turn.
 use crate::items::{copied, copied_by};
-use crate::seen::{End, end_by, end_of, end_of_made, is_given_back, put, room_for};
+use crate::seen::{End, end_by, end_of, end_of_made, is_all_freed, put, room_for};
 use allocator_api2::boxed::{BoxedSlice, BoxedText, append_texts};
 use allocator_api2::collections::{Refused, TryReserveError};
 use allocator_api2::gap_buffer::GapBuffer;
@@ -44,7 +44,8 @@ pub(crate) enum Call {
     TextFromText,
 }
 
-// How a write of two bytes ends, which tells how many it wrote. A refused one tells its kind alone.
+// Returns how a write of two bytes ends, which returns how many it wrote. A failed one has only its
+// kind.
 fn end_of_write(written: Written<usize>) -> End {
     match written {
         Ok(2) => End::Done,
@@ -54,7 +55,7 @@ fn end_of_write(written: Written<usize>) -> End {
     }
 }
 
-// How it ends to put plain copies of a slice behind the elements.
+// Appends plain copies of a slice, and returns how this ends.
 pub(crate) fn end_of_copies<T: Copy, A: Allocator>(v: &mut Vec<T, A>, others: &[T]) -> End {
     end_of(v.extend_from_slice_copied(others))
 }
@@ -68,10 +69,11 @@ fn d() -> u8 {
     b'd'
 }
 
-// How it ends to put as many bytes as are missing, by a function that is given or lent.
+// Appends as many bytes as are missing, by a function that is passed owned or by `&mut`, and
+// returns how this ends.
 #[tactic(auto, using(allocator_api2::proofs::Callers::callers))]
-fn end_of_answers(v: &mut Bytes<'_>, len: usize, is_lent: bool) -> End {
-    if is_lent {
+fn end_of_results(v: &mut Bytes<'_>, len: usize, is_borrowed: bool) -> End {
+    if is_borrowed {
         end_of(v.resize_by(len, &mut d))
     } else {
         end_of(v.resize_with(len, d))
@@ -88,8 +90,8 @@ pub(crate) fn called<'a>(call: Call, v: &mut Bytes<'a>, heap: &'a Faulty<Global>
         }
         Call::ExtendCopied => copied(v, b"defghijklm".iter()),
         Call::ExtendCopiedBy => copied_by(v, &mut b"de".iter()),
-        Call::ResizeWith(len) => end_of_answers(v, len, false),
-        Call::ResizeBy(len) => end_of_answers(v, len, true),
+        Call::ResizeWith(len) => end_of_results(v, len, false),
+        Call::ResizeBy(len) => end_of_results(v, len, true),
         Call::CloneCopied => end_of_plain_clone(v),
         Call::Write => end_of_write(v.write(b"de")),
         Call::WriteAll => match v.write_all(b"de") {
@@ -100,7 +102,7 @@ pub(crate) fn called<'a>(call: Call, v: &mut Bytes<'a>, heap: &'a Faulty<Global>
     }
 }
 
-// How a call ends that makes something, or room.
+// Returns how a call ends that makes something, or reserves capacity.
 fn made(call: Call, heap: &Faulty<Global>) -> End {
     match call {
         Call::BlockWithCapacityIn(many) => {
@@ -122,14 +124,14 @@ fn made(call: Call, heap: &Faulty<Global>) -> End {
     }
 }
 
-// How it ends to make something of the numbers 1 to 3, which a refusal hands back.
+// Makes something of the numbers 1 to 3, which an error returns, and returns how this ends.
 fn end_of_array<T: Drop>(ended: Result<T, Refused<[u32; 3]>>) -> End {
     match ended {
         Ok(_) => End::Done,
-        Err(refusal) => {
-            let back = refusal.source;
+        Err(error) => {
+            let back = error.source;
             if back == [1, 2, 3] {
-                end_by(refusal.error)
+                end_by(error.error)
             } else {
                 End::TooLong
             }
@@ -142,32 +144,27 @@ fn text_of<A: Allocator>(alloc: A, text: &str) -> Result<BoxedText<A>, TryReserv
     BoxedText::from_text(alloc, text)
 }
 
-// How a call on the bytes a, b and c in full places ends where its first request is refused or
-// granted, how many there were, whether the bytes are those of `left`, and the capacity; and
-// whether each block is given back once.
-fn seen(alloc: Global, call: Call, refused: u64, left: &[u8]) -> ((End, u64, bool, usize), bool) {
+// Returns how a call on the bytes a, b and c in full places ends when its first request fails or
+// succeeds, how many there were, whether the bytes are those of `left`, and the capacity; and
+// whether each block is freed once.
+fn seen(alloc: Global, call: Call, failed: u64, left: &[u8]) -> ((End, u64, bool, usize), bool) {
     let heap = Faulty::new(alloc);
-    let seen = seen_on(&heap, call, refused, left);
-    (seen, is_given_back(&heap))
+    let seen = seen_on(&heap, call, failed, left);
+    (seen, is_all_freed(&heap))
 }
 
-fn seen_on(
-    heap: &Faulty<Global>,
-    call: Call,
-    refused: u64,
-    left: &[u8],
-) -> (End, u64, bool, usize) {
+fn seen_on(heap: &Faulty<Global>, call: Call, failed: u64, left: &[u8]) -> (End, u64, bool, usize) {
     let mut v = room_for(3, heap);
     let _ended = end_of_copies(&mut v, b"abc");
     let before = heap.requests();
-    heap.refuse(refused, 1);
+    heap.fail_requests(failed, 1);
     let end = called(call, &mut v, heap);
     let requests = heap.requests().saturating_sub(before);
     (end, requests, v.as_slice() == left, v.capacity())
 }
 
-// A call, how many requests it makes, the number that is told where the first is refused, and the
-// bytes and the capacity where none is. With no request, the first would be refused.
+// A call, how many requests it makes, the number in the error if the first fails, and the bytes and
+// the capacity if none does. With no request, the first would fail.
 type Row<'a> = (Call, u64, usize, &'a [u8], usize);
 
 fn copies() -> [Row<'static>; 23] {
@@ -199,7 +196,7 @@ fn copies() -> [Row<'static>; 23] {
 }
 
 #[test]
-fn refused_copies_leave_the_bytes(rt: HostRuntime) {
+fn failed_copies_leave_the_bytes(rt: HostRuntime) {
     for (call, requests, number, done, grown) in copies() {
         if requests > 0 {
             let left = (End::NoMemory(number), 1, true, 3);
@@ -221,17 +218,17 @@ fn texts_of(alloc: Global, all: [&str; 2]) -> Vec<BoxedText<Global>> {
     texts
 }
 
-// How it ends to append texts to an `a` where a request is refused, and whether this is left.
+// Appends texts to an `a` when a request fails. Returns how this ends, and whether this is left.
 fn end_of_texts(heap: &Faulty<Global>, texts: Vec<BoxedText<Global>>, left: &str) -> (End, bool) {
     let mut all: String<&Faulty<Global>> = String::new(heap);
     let _ended = all.push_str("a");
-    heap.refuse(0, 1);
+    heap.fail_requests(0, 1);
     let end = end_of(append_texts(&mut all, texts.into_iter()));
     (end, all.as_str() == left)
 }
 
 #[test]
-fn a_refused_text_leaves_those_before_it(rt: HostRuntime) {
+fn a_failed_text_leaves_those_before_it(rt: HostRuntime) {
     let heap = Faulty::new(rt.alloc());
     let texts = texts_of(
         rt.alloc(),

@@ -1,5 +1,5 @@
-//! Calls that are given an iterator: that room is made at once for what `size_hint` tells. The
-//! trait bounds what that answers, and names no number.
+//! Calls that take an iterator: that capacity for the lower bound of `size_hint` is reserved at
+//! once. The contract bounds what `size_hint` returns, and names no number.
 ghost use Rattle.std.specs.Iterator.{IsFinite};
 
 use crate::seen::{End, end_of, end_of_made, put, room_for};
@@ -43,8 +43,7 @@ impl<I: Hinted> Hinted for Watched<'_, I> {
     }
 }
 
-// A call that puts items behind the elements, in place of a range, or into a vector or a boxed
-// slice that it makes.
+// A call that appends items, replaces a range by them, or makes a vector or a boxed slice of them.
 #[derive(Clone, Copy)]
 pub(crate) enum Fill {
     Extend,
@@ -55,15 +54,15 @@ pub(crate) enum Fill {
     Splice(usize, usize),
 }
 
-// How a call ends that is given its items. What it makes is dropped.
+// Returns how a call ends that takes its items owned. What it makes is dropped.
 pub(crate) fn filled<I: Iterator<Item = T> + Drop, T: Drop, A: Allocator + Clone + Drop>(
     call: Fill,
     v: &mut Vec<T, A>,
     items: I,
     alloc: A,
 ) -> End
-    requires may_ask { I.can_next items }
-    requires ends { IsFinite (I.remaining items) }
+    requires callable { I.can_next items }
+    requires finite { IsFinite (I.remaining items) }
 {
     let mut items = items;
     match call {
@@ -77,15 +76,15 @@ pub(crate) fn filled<I: Iterator<Item = T> + Drop, T: Drop, A: Allocator + Clone
     }
 }
 
-// How a call ends that is lent its items.
+// Returns how a call ends that takes its items by `&mut`.
 pub(crate) fn filled_by<I: Iterator<Item = T>, T: Drop, A: Allocator + Drop>(
     call: Fill,
     v: &mut Vec<T, A>,
     items: &mut I,
     alloc: A,
 ) -> End
-    requires may_ask { I.can_next items.old }
-    requires ends { IsFinite (I.remaining items.old) }
+    requires callable { I.can_next items.old }
+    requires finite { IsFinite (I.remaining items.old) }
 {
     match call {
         Fill::ExtendBy => end_of(v.extend_by(items)),
@@ -93,7 +92,7 @@ pub(crate) fn filled_by<I: Iterator<Item = T>, T: Drop, A: Allocator + Drop>(
     }
 }
 
-// Replaces a range, from which one element is taken first, by items that tell of their number.
+// Replaces a range, from which one element is taken first, by items with a hint.
 pub(crate) fn spliced<T: Drop, A: Allocator + Clone>(
     v: &mut Vec<T, A>,
     (from, to): (usize, usize),
@@ -107,31 +106,31 @@ pub(crate) fn spliced<T: Drop, A: Allocator + Clone>(
     end_of(range.finish_hinted())
 }
 
-// How it ends to put copies behind the elements.
+// Appends copies, and returns how this ends.
 pub(crate) fn copied<'a, I: Iterator<Item = &'a T>, T: Copy + 'a, A: Allocator>(
     v: &mut Vec<T, A>,
     items: I,
 ) -> End
-    requires may_ask { I.can_next items }
-    requires ends { IsFinite (I.remaining items) }
+    requires callable { I.can_next items }
+    requires finite { IsFinite (I.remaining items) }
 {
     end_of(v.extend_copied(items))
 }
 
-// The same of an iterator that is lent.
+// The same of an iterator that is taken by `&mut`.
 pub(crate) fn copied_by<'a, I: Iterator<Item = &'a T>, T: Copy + 'a, A: Allocator>(
     v: &mut Vec<T, A>,
     items: &mut I,
 ) -> End
-    requires may_ask { I.can_next items.old }
-    requires ends { IsFinite (I.remaining items.old) }
+    requires callable { I.can_next items.old }
+    requires finite { IsFinite (I.remaining items.old) }
 {
     end_of(v.extend_copied_by(items))
 }
 
-// A call on the numbers 1 up to so many in full places, the numbers from one up to another of which
-// `size_hint` tells exactly, the request that is refused, the number that is told of it, the digits
-// of what is left and in how many places, and the requests.
+// A call on the numbers 1 up to so many in full places, the numbers from one up to another with an
+// exact `size_hint`, the request that fails, the number in its error, the digits of what is left
+// and in how many places, and the requests.
 type Row = (Fill, usize, u32, u32, u64, usize, u64, usize, u64);
 
 fn rows() -> [Row; 8] {
@@ -157,9 +156,9 @@ fn digits_of(items: &[u32]) -> u64 {
     number
 }
 
-// How a call ends that is given its items, the requests, and the digits of what is left and its
-// places.
-fn came_of(alloc: Global, (call, len, from, to, refused, ..): Row) -> (End, u64, u64, usize) {
+// Returns how a call ends that takes its items, the requests, and the digits of what is left and
+// its places.
+fn came_of(alloc: Global, (call, len, from, to, failed, ..): Row) -> (End, u64, u64, usize) {
     let heap = Faulty::new(alloc);
     let mut v = room_for(len, &heap);
     for x in [1, 2, 3, 4] {
@@ -168,14 +167,14 @@ fn came_of(alloc: Global, (call, len, from, to, refused, ..): Row) -> (End, u64,
         }
     }
     let before = heap.requests();
-    heap.refuse(refused, 1);
+    heap.fail_requests(failed, 1);
     let came = filled(call, &mut v, from..to, &heap);
-    let asked = heap.requests().saturating_sub(before);
-    (came, asked, digits_of(v.as_slice()), v.capacity())
+    let requested = heap.requests().saturating_sub(before);
+    (came, requested, digits_of(v.as_slice()), v.capacity())
 }
 
 #[test]
-fn room_is_made_at_once_for_what_is_told(rt: HostRuntime) {
+fn capacity_for_the_lower_bound_is_reserved_at_once(rt: HostRuntime) {
     for row in rows() {
         let end = if row.5 == 0 {
             End::Done

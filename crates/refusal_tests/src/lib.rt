@@ -1,13 +1,12 @@
-//! Tests over the whole library, and no part of it: every request for memory refused in turn, what
-//! is given back, and runs of commands.
+//! Tests of the whole library, and not part of it: every allocation request fails in turn. They
+//! check what is freed, and run commands.
 //!
-//! Each public call that takes memory or clones, the number of its requests in a worked case, and
-//! the module whose test refuses each of them in turn and looks at the error, at what stands then,
-//! and at what comes back. `clones` and `conversions` refuse the clone of an allocator, and
-//! `overflows` and `run_commands` ask for lengths past `usize::MAX` and for bytes past
-//! `isize::MAX`.
+//! The table has each public call that allocates or clones, the number of its requests in a worked
+//! case, and the module with its test. The test fails each request in turn and checks the error,
+//! what is left, and what is freed. `clones` and `conversions` fail the clone of an allocator.
+//! `overflows` and `run_commands` request lengths past `usize::MAX` and bytes past `isize::MAX`.
 //!
-//! | Call | Requests | Refused in |
+//! | Call | Requests | Tested in |
 //! |---|---|---|
 //! | `RawVec::with_capacity_in` | 1 | `copies` |
 //! | `RawVec::reserve`, `reserve_exact`, `reserve_for_push` | 1 | `boxes` |
@@ -58,18 +57,18 @@
 //! | `run`: `Push`, `Insert`, `Reserve`, `ReserveExact`, `ShrinkTo` | 1 | `run_commands` |
 //! | `run`: `SplitOff`, `Append`, `Resize`, `Drain` | 1 | `run_commands` |
 //! | `run`: `ExtendFromWithin`, `ExtractIf` | 1 | `run_commands` |
-//! | `run`: `Extend`, `Splice` | 1; more where fewer are told | `run_commands` |
+//! | `run`: `Extend`, `Splice` | 1; more if the hint is too low | `run_commands` |
 //!
-//! `run_commands` runs every command on lists of 0 to 100 numbers, with each request refused in
-//! turn: it is refused for want of memory where a request is, and only there. The lists that a
-//! failed command leaves are compared. What else it leaves and replies is in the contract of `run`,
-//! and `tests/scripts` compares it with the original.
+//! `run_commands` runs every command on lists of 0 to 100 numbers, with each request failing in
+//! turn. A command fails for lack of memory if and only if a request does. The lists that a failed
+//! command leaves are compared. What else it leaves and replies is in the contract of `run`, and
+//! `tests/scripts` compares it with the original.
 //!
-//! `changes` counts what the calls take of an iterator that they are given, and `items` looks at
-//! what they ask for where its `size_hint` is exact.
+//! `changes` counts what the calls take from their iterator, and `items` checks what they request
+//! if its `size_hint` is exact.
 //!
-//! The calls of the same names on the global allocator hand on to these; nothing here refuses what
-//! that grants, but lengths and bytes past the limits.
+//! The calls of the same names on the global allocator pass on to these. No test fails a request
+//! that it would grant, except for lengths and bytes past the limits.
 #![tactic(auto)]
 
 #[cfg(test)]

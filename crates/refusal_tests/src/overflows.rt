@@ -2,7 +2,7 @@
 use crate::changes::{Call, called, called_with_many, called_with_one};
 use crate::copies;
 use crate::items::{Fill, copied, filled};
-use crate::seen::{End, end_of, end_of_made, numbers, put, room_for, stands, units};
+use crate::seen::{End, end_of, end_of_made, has_items, numbers, put, room_for, units};
 use allocator_api2::collections::TryReserveError;
 use allocator_api2::gap_buffer::GapBuffer;
 use allocator_api2::vec::Vec;
@@ -11,14 +11,14 @@ use std::alloc::Global;
 use std::cell::Cell;
 use std::mem::forget;
 use test_allocators::Faulty;
-use test_allocators::refusing::Refusing;
+use test_allocators::failing::Failing;
 
-// One number fewer than the limit on bytes allows is refused for want of memory alone.
+// One number fewer than the limit on bytes allows fails only for lack of memory.
 #[test]
-fn no_room_is_made_past_the_limits(rt: HostRuntime) {
+fn no_capacity_is_reserved_past_the_limits(rt: HostRuntime) {
     let heap = Faulty::new(rt.alloc());
     let mut bytes = room_for(0, &heap);
-    heap.refuse(0, u64::MAX);
+    heap.fail_requests(0, u64::MAX);
     for call in [
         copies::Call::BlockWithCapacityIn(1 << 61),
         copies::Call::BlockWithCapacityIn(usize::MAX),
@@ -38,7 +38,7 @@ fn no_room_is_made_past_the_limits(rt: HostRuntime) {
     assert!(rt; copies::called(call, &mut bytes, &heap) == End::NoMemory(fitting));
 }
 
-// Calls on the global allocator that hand on to those with an allocator.
+// Calls on the global allocator that pass on to those with an allocator.
 #[derive(Clone, Copy)]
 enum OnGlobal {
     WithCapacity,
@@ -84,7 +84,7 @@ fn no_vector_is_made_past_the_limits(rt: HostRuntime) {
 // Whether a call makes a vector of these, in just their places.
 fn makes(alloc: Global, call: OnGlobal, many: usize, items: &[u32]) -> bool {
     match made(alloc, call, many) {
-        Ok(v) => stands(&v, items, items.len()),
+        Ok(v) => has_items(&v, items, items.len()),
         Err(_) => false,
     }
 }
@@ -108,7 +108,7 @@ fn end_of_call(alloc: Global, call: Call) -> (End, bool) {
     let mut v = numbers(alloc, &[7], 1);
     let other = numbers(alloc, &[8], 1);
     let end = called(call, &mut v, &mut Some(8), other, alloc, &Cell::new(0));
-    (end, stands(&v, &[7], 1))
+    (end, has_items(&v, &[7], 1))
 }
 
 #[test]
@@ -142,7 +142,7 @@ fn no_more_places_are_reserved_than_can_be_counted(rt: HostRuntime) {
     assert!(rt; end_of_reserve(rt.alloc(), (), usize::MAX - 1) == End::Done);
 }
 
-// How it ends to make room for so many behind one number of a text.
+// Reserves capacity for so many after one number of a text, and returns how this ends.
 fn end_of_room_in_text(alloc: Global, many: usize) -> End {
     let mut text: GapBuffer<u32> = GapBuffer::new_in(alloc);
     let _ended = text.insert(7);
@@ -150,18 +150,19 @@ fn end_of_room_in_text(alloc: Global, many: usize) -> End {
 }
 
 #[test]
-fn no_room_is_made_in_a_text_past_the_limits(rt: HostRuntime) {
+fn no_capacity_is_reserved_in_a_text_past_the_limits(rt: HostRuntime) {
     for many in [(1 << 61) - 1, usize::MAX] {
         assert!(rt; end_of_room_in_text(rt.alloc(), many) == End::TooLong);
     }
 }
 
-// How a call that is given so many items ends on a 7 in its one place, and whether that is left.
+// Returns how a call that takes so many items ends on a 7 in its one place, and whether that is
+// left.
 fn end_of_fill(alloc: Global, call: Fill, many: usize) -> (End, bool) {
     let mut v = room_for(1, alloc);
     put(&mut v, 7);
     let end = filled(call, &mut v, 0..many, alloc);
-    (end, stands(&v, &[7], 1))
+    (end, has_items(&v, &[7], 1))
 }
 
 #[test]
@@ -191,7 +192,7 @@ fn most_units(alloc: Global) -> Vec<()> {
 
 const MOST: usize = 18446744073709551615;
 
-// How it ends to put a unit behind them.
+// Appends a unit, and returns how this ends.
 fn end_of_unit(call: Call, v: &mut Vec<()>, other: Vec<()>) -> End {
     match call {
         Call::Push | Call::Insert => called_with_one(call, v, &mut Some(())),
@@ -204,7 +205,7 @@ fn end_of_unit(call: Call, v: &mut Vec<()>, other: Vec<()>) -> End {
 }
 
 #[test]
-fn no_unit_is_put_behind_as_many_as_can_be_counted(rt: HostRuntime) {
+fn no_unit_is_appended_to_as_many_as_can_be_counted(rt: HostRuntime) {
     let mut v = most_units(rt.alloc());
     assert!(rt; v.len() == usize::MAX);
     for call in [
@@ -220,12 +221,12 @@ fn no_unit_is_put_behind_as_many_as_can_be_counted(rt: HostRuntime) {
 }
 
 #[test]
-fn elements_without_size_take_no_memory(rt: HostRuntime) {
-    assert!(rt; units(5, Refusing).len() == 5);
+fn zsts_do_not_allocate(rt: HostRuntime) {
+    assert!(rt; units(5, Failing).len() == 5);
 }
 
 // Units on an allocator whose allocations all fail.
-type Units = Vec<(), Refusing>;
+type Units = Vec<(), Failing>;
 
 fn drain_second(v: &mut Units) {
     let to = v.len().min(2);
@@ -234,8 +235,8 @@ fn drain_second(v: &mut Units) {
 
 // How it ends to append one unit by an iterator with the lower bound `usize::MAX`.
 fn end_of_one_more(v: &mut Units) -> End {
-    let (call, one) = (Call::ExtendHinted(usize::MAX), units(1, Refusing));
-    called(call, v, &mut None, one, Refusing, &Cell::new(0))
+    let (call, one) = (Call::ExtendHinted(usize::MAX), units(1, Failing));
+    called(call, v, &mut None, one, Failing, &Cell::new(0))
 }
 
 fn shape(v: &Units) -> (usize, usize) {
@@ -245,7 +246,7 @@ fn shape(v: &Units) -> (usize, usize) {
 // Pushes three units, drains the second, splits off the last, and appends one to the first. The
 // shapes of both vectors, or none if a call fails.
 fn shapes() -> Option<[(usize, usize); 2]> {
-    let Ok(mut v) = Vec::with_capacity_in(5, Refusing) else {
+    let Ok(mut v) = Vec::with_capacity_in(5, Failing) else {
         return None;
     };
     for _ in 0..3 {

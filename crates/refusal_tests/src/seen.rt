@@ -1,7 +1,7 @@
-//! What the tests of refused calls share: how a call ends, and the lists that it is given. What
-//! each place costs that calls the library is the reading of that call's contract, so a call stands
-//! in one place, in a helper without contract. Where a list is made nothing is refused: else the
-//! test sees a shorter one.
+//! What the tests of failed calls share: how a call ends, and the lists that it takes. What each
+//! place costs that calls the library is the reading of that call's contract, so a call is in one
+//! place, in a helper without contract. While a list is made no request fails: else the test sees a
+//! shorter one.
 use allocator_api2::boxed::Box;
 use allocator_api2::collections::{TryReserveError, TryReserveErrorKind};
 use allocator_api2::vec::Vec;
@@ -9,7 +9,7 @@ use allocator_api2::vec_of;
 use std::alloc::{Allocator, Global};
 use test_allocators::Faulty;
 
-// How a call ended: done, or refused for want of memory for so many elements, or for a length or a
+// How a call ended: done, or failed for lack of memory for so many elements, or for a length or a
 // size past the limits.
 #[derive(Clone, Copy, PartialEq, Drop)]
 pub(crate) enum End {
@@ -43,8 +43,8 @@ pub(crate) fn end_of_made<T: Drop>(ended: Result<T, TryReserveError>) -> End {
 // A list on the allocator of a test.
 pub(crate) type List<'a, T> = Vec<T, &'a Faulty<Global>>;
 
-// A number in memory of its own, whose clone takes memory: what is outstanding and what was given
-// back count the elements.
+// A number in a box, whose clone allocates: what is outstanding and what was freed count the
+// elements.
 pub(crate) type Held<'a> = Box<u32, &'a Faulty<Global>>;
 
 // A box of a value.
@@ -55,14 +55,14 @@ pub(crate) fn boxed<T: Drop, A: Allocator>(x: T, alloc: A) -> Result<Box<T, A>, 
     }
 }
 
-// An empty vector with room for so many.
+// Returns an empty vector with capacity for so many.
 pub(crate) fn room_for<T, A: Allocator>(capacity: usize, alloc: A) -> Vec<T, A> {
     let mut v = vec_of![in alloc];
     let _ended = v.reserve_exact(capacity);
     v
 }
 
-// Puts an element behind the last one.
+// Appends an element.
 pub(crate) fn put<T: Drop, A: Allocator>(v: &mut Vec<T, A>, x: T) {
     let _ended = v.push(x);
 }
@@ -100,8 +100,8 @@ pub(crate) fn units<A: Allocator>(count: usize, alloc: A) -> Vec<(), A> {
     v
 }
 
-// Whether a vector has these elements, and room for `capacity`.
-pub(crate) fn stands<T: PartialEq, A: Allocator>(
+// Returns whether a vector has these elements, and capacity `capacity`.
+pub(crate) fn has_items<T: PartialEq, A: Allocator>(
     v: &Vec<T, A>,
     items: &[T],
     capacity: usize,
@@ -118,7 +118,7 @@ pub(crate) fn digits(elements: &[Held<'_>]) -> u32 {
     all
 }
 
-// Whether each block was given back once.
-pub(crate) fn is_given_back(heap: &Faulty<Global>) -> bool {
-    heap.outstanding() == 0 && heap.frees().saturating_add(heap.refused()) == heap.requests()
+// Returns whether each block was freed once.
+pub(crate) fn is_all_freed(heap: &Faulty<Global>) -> bool {
+    heap.outstanding() == 0 && heap.frees().saturating_add(heap.failures()) == heap.requests()
 }

@@ -1,6 +1,6 @@
 use std::cell::Cell;
 
-/// A number that counts in `drops` how often such an element is dropped.
+/// A number that increments `drops` when it is dropped.
 pub struct Counted<'a> {
     pub value: u32,
     pub drops: &'a Cell<u32>,

@@ -1,11 +1,12 @@
-//! For tests, and no part of the library: an allocator that refuses the requests of a chosen range,
-//! passes the others on to an inner allocator, and counts what it was asked. Beside it is one that
-//! refuses every request, and an element that counts its drops.
+//! Allocators and elements for tests. Not part of the library.
+//!
+//! `Faulty` fails the requests of a chosen range, passes the others on to an inner allocator, and
+//! counts. `Failing` fails every request. `Counted` is an element that counts its drops.
 #![tactic(auto)]
 
 /// An element for tests that counts its drops.
 pub mod counted;
-/// An allocator for tests in which no request is granted.
-pub mod refusing;
+/// An allocator for tests that fails every request.
+pub mod failing;
 
 pub use ex_watched::faulty::Faulty;

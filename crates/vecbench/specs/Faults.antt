@@ -1,8 +1,8 @@
--- What a fault is told as, and the status that it gives.
+-- The text of a fault, and its exit status.
 use Rattle.std.specs.Prelude.{◌≡◌, ℕ, List, ◌++◌, ⊤, codes, decimal, ◌↔◌}
 use Rattle.std.specs.IoError.{error_kind}
 use Rattle.std.specs.declared.io.Error.{Error}
-use Rattle.std.specs.declared.io.ErrorKind.TheVariants.{OutOfMemory as MemoryRefused}
+use Rattle.std.specs.declared.io.ErrorKind.TheVariants.{OutOfMemory as OutOfMemoryError}
 use Rattle.vecbench.specs.declared.bench.Fault.{Fault}
 use Rattle.vecbench.specs.declared.bench.Fault.TheVariants.{BadLine, OutOfMemory, InputOutput}
 
@@ -16,13 +16,14 @@ fault_text (BadLine number) = codes "bad line " ++ decimal number
 fault_text OutOfMemory = codes "out of memory"
 fault_text InputOutput = codes "input or output failed"
 
--- the fault names no line
+-- `fault` names no line
 abbrev pub NamesNoLine : Fault → Type 0
 NamesNoLine (BadLine number) = ⊥
 NamesNoLine OutOfMemory = ⊤
 NamesNoLine InputOutput = ⊤
 
--- the error is no bad line, and only refused memory is told as such
+-- `fault` is the fault of an input or output error `error`: no bad line, and out of memory just if
+-- the error is
 pub record IsFaultOf (error : Error) (fault : Fault) : Type 0 where
   pub names_no_line : NamesNoLine fault
-  pub memory : (fault ≡ OutOfMemory) ↔ (error_kind error ≡ MemoryRefused)
+  pub memory : (fault ≡ OutOfMemory) ↔ (error_kind error ≡ OutOfMemoryError)

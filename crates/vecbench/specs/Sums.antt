@@ -1,11 +1,12 @@
--- A number that each element and the order of the elements decide.
+-- A checksum, which each element and the order of the elements determine.
 use Rattle.std.specs.Prelude.{ℕ, ◌+◌, ◌*◌, ◌%◌, ◌^◌, List, [], ◌∷◌}
 
--- from the number so far, 31 times it and the number of the next element, as often as there are
--- elements, in 64 bits
+-- the checksum of a list of elements after the checksum `sum`: for each element 31 times the sum so
+-- far, plus the number of the element, in 64 bits
 abbrev pub checksum_from : {E : Type 0} → (E → ℕ) → ℕ → List E → ℕ
 checksum_from number_of sum [] = sum
-checksum_from number_of sum (x ∷ xs) = checksum_from number_of ((sum * 31 % 2 ^ 64 + number_of x) % 2 ^ 64) xs
+checksum_from number_of sum (x ∷ xs) = checksum_from number_of
+    ((sum * 31 % 2 ^ 64 + number_of x) % 2 ^ 64) xs
 
 -- the number of an element of three parts: their sum, in 32 bits
 abbrev pub number_of_wide : ℕ → ℕ → ℕ → ℕ

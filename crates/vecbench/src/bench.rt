@@ -10,19 +10,19 @@ use std::rt::Clock;
 use std::time::{Duration, Instant};
 use std::{fmt, io};
 
-/// Why the program did not end well.
+/// An error that ends the program.
 #[derive(Drop)]
 pub enum Fault {
-    /// The line of this number, counted from 1, is no task.
+    /// The line of this number, counted from 1, is not a task.
     BadLine(u64),
-    /// Memory was refused.
+    /// An allocation failed.
     OutOfMemory,
     /// Reading, writing or the clock failed.
     InputOutput,
 }
 
 impl Fault {
-    /// The status of the process.
+    /// Returns the exit status of the process.
     pub fn status(&self) -> u8
         ensures { result ≡ status_of self.now }
     {
@@ -57,26 +57,30 @@ impl From<io::Error> for Fault {
     }
 }
 
-/// Vectors that the cases run on.
+/// The vectors that the cases run on.
 pub trait Lists: Sized + Drop {
-    /// The vectors as the case finds them, or `None` where memory is refused.
-    fn prepared(alloc: Global, task: Task<'_>) -> Option<Self>;
+    /// Returns the vectors as the case expects them, or `None` if an allocation fails.
+    fn try_new(alloc: Global, task: Task<'_>) -> Option<Self>;
 
-    /// Runs the case. It answers whether all memory was granted.
+    /// Runs the case, and returns whether every allocation succeeded.
     fn run(&mut self, task: Task<'_>) -> bool;
 
-    /// The checksum of what the vectors hold.
+    /// Returns the checksum of the elements of the vectors.
     fn checksum(&self) -> u64;
 }
 
-/// What is known of a case: the time of its fastest run, where it was run, and what it left.
+/// A measurement: the time of the fastest run, if the case was run, and the checksum.
 #[derive(Clone, Copy, Drop)]
 struct Measure {
     time: Option<Duration>,
     checksum: u64,
 }
 
-/// Runs the task of each line and prints what it answers, up to the first line that is no task.
+/// Runs the task of each line and prints its result.
+///
+/// # Errors
+/// The first line that is not a task, a failed allocation, or a failure to read or write or of the
+/// clock.
 pub fn bench<R: Input + Print + Clock + Alloc<A = Global>>(rt: &R) -> Result<(), Fault> {
     let alloc = rt.alloc();
     let mut number: u64 = 0;
@@ -89,15 +93,15 @@ pub fn bench<R: Input + Print + Clock + Alloc<A = Global>>(rt: &R) -> Result<(),
         let Some(task) = task_of(line.as_str()) else {
             return Err(Fault::BadLine(number));
         };
-        answer(rt, alloc, task)?;
+        run_task(rt, alloc, task)?;
     }
     Ok(())
 }
 
 // Runs a task over both vectors and prints its line.
-fn answer<R: Print + Clock>(rt: &R, alloc: Global, task: Task<'_>) -> Result<(), Fault> {
-    let first: Measure = measured::<ours::Vectors, R>(rt, alloc, task)?;
-    let second: Measure = measured::<standard::Vectors, R>(rt, alloc, task)?;
+fn run_task<R: Print + Clock>(rt: &R, alloc: Global, task: Task<'_>) -> Result<(), Fault> {
+    let first: Measure = measure_best::<ours::Vectors, R>(rt, alloc, task)?;
+    let second: Measure = measure_best::<standard::Vectors, R>(rt, alloc, task)?;
     let (name, count) = (task.name, task.count);
     let (a, b) = (first.checksum, second.checksum);
     match (first.time, second.time) {
@@ -115,16 +119,16 @@ fn answer<R: Print + Clock>(rt: &R, alloc: Global, task: Task<'_>) -> Result<(),
 }
 
 // Prepares the vectors and runs the case on them, as often as the task says.
-fn measured<L: Lists, R: Clock>(
+fn measure_best<L: Lists, R: Clock>(
     clock: &R,
     alloc: Global,
     task: Task<'_>,
 ) -> Result<Measure, Fault> {
     match task.mode {
         Mode::Time(repeat) => {
-            let mut best = timed::<L, R>(clock, alloc, task)?;
+            let mut best = measure_once::<L, R>(clock, alloc, task)?;
             for _ in 1..repeat {
-                let next = timed::<L, R>(clock, alloc, task)?;
+                let next = measure_once::<L, R>(clock, alloc, task)?;
                 if next.time < best.time {
                     best = next;
                 }
@@ -132,13 +136,13 @@ fn measured<L: Lists, R: Clock>(
             Ok(best)
         }
         Mode::Check => {
-            let measure = timed::<L, R>(clock, alloc, task)?;
+            let measure = measure_once::<L, R>(clock, alloc, task)?;
             Ok(Measure {
                 time: None,
                 checksum: measure.checksum,
             })
         }
-        Mode::Setup => match L::prepared(alloc, task) {
+        Mode::Setup => match L::try_new(alloc, task) {
             Some(lists) => Ok(Measure {
                 time: None,
                 checksum: lists.checksum(),
@@ -149,8 +153,12 @@ fn measured<L: Lists, R: Clock>(
 }
 
 // Prepares the vectors and runs the case on them once.
-fn timed<L: Lists, R: Clock>(clock: &R, alloc: Global, task: Task<'_>) -> Result<Measure, Fault> {
-    let Some(mut lists) = L::prepared(alloc, task) else {
+fn measure_once<L: Lists, R: Clock>(
+    clock: &R,
+    alloc: Global,
+    task: Task<'_>,
+) -> Result<Measure, Fault> {
+    let Some(mut lists) = L::try_new(alloc, task) else {
         return Err(Fault::OutOfMemory);
     };
     let start = Instant::now(clock)?;
@@ -165,7 +173,7 @@ fn timed<L: Lists, R: Clock>(clock: &R, alloc: Global, task: Task<'_>) -> Result
     })
 }
 
-// A time for each of so many elements, which is printed in nanoseconds with three decimals.
+// A time for each of `count` elements, which is printed in nanoseconds with three decimals.
 #[derive(Clone, Copy, Drop)]
 struct PerElement {
     time: Duration,

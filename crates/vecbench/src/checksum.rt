@@ -1,11 +1,12 @@
-//! A checksum of a list of elements.
+//! The checksum of a list of elements.
 ghost use Rattle.std.specs.Prelude.{◌≡◌};
 ghost use Rattle.vecbench.specs.Sums.{checksum_from};
 
 use crate::element::Element;
 
-/// The checksum of the elements, from that of what came before them. The number of each element and
-/// their order decide it.
+/// Returns the checksum of the elements, continuing from `sum`.
+///
+/// The number of each element and their order determine it.
 pub fn checksum_from<E: Element>(sum: u64, elements: &[E]) -> u64
     ensures { result ≡ checksum_from E.number_of sum elements.now }
 {

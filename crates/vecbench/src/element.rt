@@ -1,15 +1,15 @@
-//! What the vectors hold.
+//! The elements of the vectors.
 ghost use Rattle.std.specs.Prelude.{◌≡◌, ◌%◌, ◌^◌, ℕ};
 ghost use Rattle.vecbench.specs.Sums.{number_of_wide};
 
-/// An element. It is made from a number, and tells one that the checksum is made from.
+/// An element, which is made from a number, and has a number for the checksum.
 pub trait Element: Clone + Drop {
     ghost number_of: { Self → ℕ };
 
-    /// The element made from the number.
+    /// Returns the element made from `number`.
     fn of(number: u32) -> Self;
 
-    /// The number that the element tells.
+    /// Returns the number of the element for the checksum.
     fn number(&self) -> u32
         ensures { result ≡ number_of self.now };
 }
@@ -100,7 +100,7 @@ impl Element for Wide {
     }
 }
 
-// It has no size.
+// A zero-sized element.
 impl Element for () {
     ghost number_of = { λ x. 0 };
 

@@ -1,17 +1,19 @@
-//! Times the library's vector, and the table and the ring of this repository, beside the
+//! Measures the library's vector, and the table and the ring of this repository, beside the
 //! toolchain's own, case by case.
 //!
-//! Each line of the input is a case to run: `CASE COUNT [REPEAT]`. The answer is one line: the
-//! case, the count, nanoseconds for each element over this library's vector and over the
-//! toolchain's, the fastest of REPEAT runs each (1 where it is left out), and a checksum of what
-//! each left. `check CASE COUNT` prints the checksums without the times, which makes the output the
-//! same on each run. `setup CASE COUNT` prepares the case and does not run it, so that the
-//! instructions of the preparation can be told from those of the case.
+//! Each line of the input is a case to run: `CASE COUNT [REPEAT]`. The result is one line: the
+//! case, the count, and the nanoseconds for each element over this library's vector and over the
+//! toolchain's. The times are of the fastest of REPEAT runs each (1 if it is left out). The line
+//! ends with a checksum of what each left.
+//!
+//! `check CASE COUNT` prints the checksums without the times, so that the output is the same on
+//! each run. `setup CASE COUNT` prepares the case but does not run it. Its instructions can be
+//! subtracted from those of the case.
 #![tactic(auto)]
 
-// For each item one call, up to the first that is refused: whether none was, and the piece that is
-// taken first, if one is, was there. It stands in the function of a case, so that the compiler sees
-// the same loop over either vector.
+// Makes one call for each item, until one fails, and returns whether none failed. If a piece is to
+// be taken first, it must exist. This is expanded in the function of a case, so that the compiler
+// sees the same loop over either vector.
 macro_rules! each_is_granted {
     ($piece:ident of $part:expr, $item:pat in $items:expr, $call:expr) => {{
         let Some($piece) = $part else {
@@ -29,8 +31,7 @@ macro_rules! each_is_granted {
     }};
 }
 
-// The same where each number that is put in is followed by one that is taken out; their sum is put
-// in at the end.
+// Does the same, with a number taken after each number that is put. Their sum is put at the end.
 macro_rules! in_and_out {
     ($number:ty, $item:pat in $items:expr, $put:expr, $take:expr, |$sum:ident| $last:expr) => {{
         let mut $sum: $number = 0;
@@ -46,7 +47,7 @@ macro_rules! in_and_out {
     }};
 }
 
-// What programs do with vectors, over either vector: `$copied` is its call that puts bytes behind.
+// Small programs that use vectors, over either vector: `$copied` is its call that appends bytes.
 macro_rules! serialised {
     ($bytes:ident, $count:ident, $copied:ident) => {{
         for i in 0..$count {

@@ -15,13 +15,13 @@ use std::alloc::Global;
 use std::io::Write;
 use std::mem::replace;
 
-/// The vectors that a case finds and leaves.
+/// The vectors of a case, before and after its run.
 #[derive(Drop)]
 pub struct Vectors {
     alloc: Global,
     numbers: Pair<u32>,
-    // For the cases at the front and others, so that they share no code: that would change what the
-    // compiler inlines.
+    // For the cases at the front and others. They share no code with the rest, since this would
+    // change what the compiler inlines.
     longs: Pair<u64>,
     bytes: Pair<u8>,
     wides: Pair<Wide>,
@@ -41,7 +41,7 @@ struct Pair<E> {
 }
 
 impl Lists for Vectors {
-    fn prepared(alloc: Global, task: Task<'_>) -> Option<Self> {
+    fn try_new(alloc: Global, task: Task<'_>) -> Option<Self> {
         let mut vectors = Vectors {
             alloc,
             numbers: Pair::new(alloc),
@@ -118,7 +118,7 @@ impl Lists for Vectors {
 }
 
 impl Vectors {
-    // Fills the vectors as the case finds them. It answers whether all memory was granted.
+    // Fills the vectors as the case expects them, and returns whether every allocation succeeded.
     fn prepare(&mut self, case: Case, count: u32) -> bool {
         let numbers = &mut self.numbers.list;
         match case {
@@ -194,14 +194,14 @@ impl<E: Element> Pair<E> {
     }
 }
 
-// The elements of each number below `count`, divided by `runs`.
+// Appends the elements of each number below `count`, divided by `runs`.
 fn fill<E: Element>(list: &mut Vec<E>, count: u32, runs: u32) -> bool
     requires { 0 < runs }
 {
     each_is_granted!(i in 0..count, list.push(E::of(i / runs)))
 }
 
-// The elements of `count` numbers from 1 to `greatest`, in no regular order.
+// Appends the elements of `count` numbers from 1 to `greatest`, in no regular order.
 fn fill_at_random<E: Element>(list: &mut Vec<E>, count: u32, greatest: u32) -> bool
     requires { (0 < greatest) × (greatest ≤ 65536) }
 {
@@ -215,7 +215,7 @@ fn fill_at_random<E: Element>(list: &mut Vec<E>, count: u32, greatest: u32) -> b
     true
 }
 
-// What the choice is made from.
+// Fills the list that the choice is made from.
 fn fill_for(list: &mut Vec<u32>, choice: Choice, count: u32) -> bool {
     match choice {
         Choice::Dedup => fill(list, count, 3),
@@ -419,7 +419,7 @@ fn pieces_of_20(list: &mut Vec<u8>, source: &[u8], count: u32) -> bool {
     each_is_granted!(piece of source.get(0..20), _ in 0..count, list.extend_from_slice(piece))
 }
 
-// The bytes of `source` are the lengths.
+// The bytes of `source` are the lengths of the pieces.
 #[inline(never)]
 fn pieces_mixed(list: &mut Vec<u8>, source: &[u8]) -> bool {
     for length in source {

@@ -1,4 +1,4 @@
-//! Runs a script of commands on two empty lists of numbers, and prints what each command answered.
+//! Runs a script of commands on two empty lists of numbers, and prints the reply to each command.
 #![tactic(auto)]
 
 use std::process::ExitCode;

@@ -1,5 +1,5 @@
-//! Tests of whole scripts: what is printed, which line is bad, and what is told where memory is
-//! refused, or reading or writing fails.
+//! Tests of whole scripts: what is printed, which line is bad, and which fault is reported if an
+//! allocation, a read or a write fails.
 #![tactic(auto)]
 
 #[cfg(test)]

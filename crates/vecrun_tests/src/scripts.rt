@@ -151,41 +151,41 @@ const BAD_SCRIPTS: [(&[u8], u32); 35] = [
     (b"push1\n", 1),
 ];
 
-// A script's status, for a reader, a writer and one more that is told of faults.
+// Returns the exit status of a script, for a reader, a writer and one more for the faults.
 fn status_of<R: Read, W: Write, F: Write>(
     alloc: Global,
     input: &mut R,
     output: &mut W,
-    told: &mut F,
+    reported: &mut F,
 ) -> u8 {
-    script(alloc, input, output, told)
+    script(alloc, input, output, reported)
 }
 
-// What a script tells of faults, and its status.
-fn told_of<R: Read, W: Write>(alloc: Global, input: &mut R, output: &mut W) -> (Vec<u8>, u8) {
-    let mut told = Vec::new(alloc);
-    let status = status_of(alloc, input, output, &mut told);
-    (told, status)
+// Returns what a script reports of faults, and its exit status.
+fn reported_by<R: Read, W: Write>(alloc: Global, input: &mut R, output: &mut W) -> (Vec<u8>, u8) {
+    let mut reported = Vec::new(alloc);
+    let status = status_of(alloc, input, output, &mut reported);
+    (reported, status)
 }
 
-// Whether a script prints this, tells this of faults, and has this status.
-fn answers(alloc: Global, mut input: &[u8], output: &[u8], faults: &[u8], status: u8) -> bool {
+// Returns whether a script prints this, reports these faults, and returns this status.
+fn has_outcome(alloc: Global, mut input: &[u8], output: &[u8], faults: &[u8], status: u8) -> bool {
     let mut written = Vec::new(alloc);
-    let (told, code) = told_of(alloc, &mut input, &mut written);
-    written.as_slice() == output && told.as_slice() == faults && code == status
+    let (reported, code) = reported_by(alloc, &mut input, &mut written);
+    written.as_slice() == output && reported.as_slice() == faults && code == status
 }
 
 #[test]
-fn answers_good_scripts(rt: HostRuntime) {
+fn runs_good_scripts(rt: HostRuntime) {
     for (input, output) in GOOD_SCRIPTS {
         assert!(rt;
-            answers(rt.alloc(), input, output.as_bytes(), b"", 0),
+            has_outcome(rt.alloc(), input, output.as_bytes(), b"", 0),
             "{output}"
         );
     }
 }
 
-// What is told of a bad line.
+// Returns the report of a bad line.
 fn bad_line(number: u32) -> &'static [u8] {
     match number {
         1 => b"bad line 1\n",
@@ -198,7 +198,7 @@ fn bad_line(number: u32) -> &'static [u8] {
 fn names_the_first_bad_line(rt: HostRuntime) {
     for (input, number) in BAD_SCRIPTS {
         assert!(rt;
-            answers(rt.alloc(), input, b"", bad_line(number), 1),
+            has_outcome(rt.alloc(), input, b"", bad_line(number), 1),
             "{number}"
         );
     }
@@ -247,14 +247,14 @@ impl<T: Write> Write for Faulty<T> {
 
 const SCRIPT: &[u8] = b"push 1\npush 2\npop\n";
 
-const ANSWER: &str = "done\ndone\nitem 2\nmain len=1 cap=4: 1\nside len=0 cap=0:\n";
+const OUTPUT: &str = "done\ndone\nitem 2\nmain len=1 cap=4: 1\nside len=0 cap=0:\n";
 
 const FAILED: &str = "input or output failed\n";
 
 #[test]
-fn tells_a_failed_read(rt: HostRuntime) {
+fn reports_a_failed_read(rt: HostRuntime) {
     let rows: [(&[u8], ErrorKind, &str, &str, u8); 5] = [
-        (SCRIPT, ErrorKind::Interrupted, ANSWER, "", 0),
+        (SCRIPT, ErrorKind::Interrupted, OUTPUT, "", 0),
         (SCRIPT, ErrorKind::OutOfMemory, "", FAILED, 3),
         (SCRIPT, ErrorKind::Other, "", FAILED, 3),
         (SCRIPT, ErrorKind::UnexpectedEof, "", FAILED, 3),
@@ -268,17 +268,17 @@ fn tells_a_failed_read(rt: HostRuntime) {
             kind,
         };
         let mut written = Vec::new(rt.alloc());
-        let (told, answer) = told_of(rt.alloc(), &mut input, &mut written);
-        assert!(rt; told.as_slice() == faults.as_bytes() && answer == status);
+        let (reported, outcome) = reported_by(rt.alloc(), &mut input, &mut written);
+        assert!(rt; reported.as_slice() == faults.as_bytes() && outcome == status);
         assert!(rt; written.as_slice() == output.as_bytes());
     }
 }
 
-// Whether a script whose writer fails so has this status. It then tells of no fault and has written
-// its whole answer, or it tells of one and has written how the answer begins.
+// Returns whether a script whose writer fails like this returns this status. It must report no
+// fault and print the whole text, or report one and print a beginning of the text.
 fn ends_with(
     alloc: Global,
-    (mut input, answer): (&[u8], &[u8]),
+    (mut input, outcome): (&[u8], &[u8]),
     (most, calls, kind): (usize, u64, ErrorKind),
     status: u8,
 ) -> bool {
@@ -288,15 +288,18 @@ fn ends_with(
         calls,
         kind,
     };
-    let (told, code) = told_of(alloc, &mut input, &mut output);
+    let (reported, code) = reported_by(alloc, &mut input, &mut output);
     let written = output.inner.as_slice();
     let faults = if status == 0 { "" } else { FAILED };
-    let whole = status != 0 || written.len() == answer.len();
-    code == status && told.as_slice() == faults.as_bytes() && answer.starts_with(written) && whole
+    let whole = status != 0 || written.len() == outcome.len();
+    code == status
+        && reported.as_slice() == faults.as_bytes()
+        && outcome.starts_with(written)
+        && whole
 }
 
 #[test]
-fn tells_a_failed_write(rt: HostRuntime) {
+fn reports_a_failed_write(rt: HostRuntime) {
     for (most, calls, kind, status) in [
         (1, 0, ErrorKind::Other, 3),
         (1, 20, ErrorKind::Other, 3),
@@ -307,7 +310,7 @@ fn tells_a_failed_write(rt: HostRuntime) {
         (100, 1, ErrorKind::Other, 3),
         (1, 7, ErrorKind::Interrupted, 0),
     ] {
-        let case = (SCRIPT, ANSWER.as_bytes());
+        let case = (SCRIPT, OUTPUT.as_bytes());
         assert!(rt;
             ends_with(rt.alloc(), case, (most, calls, kind), status),
             "after {calls} calls"
@@ -315,17 +318,17 @@ fn tells_a_failed_write(rt: HostRuntime) {
     }
 }
 
-// Texts, and how often each of them comes.
+// Texts, and how often each of them is repeated.
 type Parts = &'static [(&'static [u8], u32)];
 
-// Puts the text behind the others so often.
+// Appends the text `count` times.
 fn repeat(all: &mut Vec<u8>, text: &[u8], count: u32) {
     for _ in 0..count {
         drop(all.extend_from_slice(text));
     }
 }
 
-// The texts one after another, each of them so often.
+// Returns the texts one after another, each of them repeated.
 fn joined(alloc: Global, parts: Parts) -> Vec<u8> {
     let mut all = Vec::new(alloc);
     for (text, count) in parts {
@@ -341,12 +344,12 @@ const NONES: Parts = &[
     (b"main len=0 cap=0:\nside len=0 cap=0:\n", 1),
 ];
 
-// The answer takes several writes.
+// What is printed takes several writes.
 #[test]
-fn fails_in_a_long_answer(rt: HostRuntime) {
-    let (pops, answer) = (joined(rt.alloc(), POPS), joined(rt.alloc(), NONES));
+fn fails_in_a_long_output(rt: HostRuntime) {
+    let (pops, outcome) = (joined(rt.alloc(), POPS), joined(rt.alloc(), NONES));
     for (calls, status) in [(0, 3), (1, 3), (4, 3), (9, 0)] {
-        let case = (pops.as_slice(), answer.as_slice());
+        let case = (pops.as_slice(), outcome.as_slice());
         assert!(rt;
             ends_with(rt.alloc(), case, (4096, calls, ErrorKind::Other), status),
             "after {calls} calls"
@@ -354,8 +357,8 @@ fn fails_in_a_long_answer(rt: HostRuntime) {
     }
 }
 
-// Scripts that are run in several pieces, what they print, what they tell of faults, and the status.
-// Where the first line chooses sparing growth, lines of all pieces count on from there.
+// Scripts that are run in several pieces, what they print, what they report of faults, and the
+// status. If the first line chooses sparing growth, the lines of all pieces are counted from there.
 const LONG_SCRIPTS: [(Parts, Parts, &str, u8); 4] = [
     (
         &[(b"push 7\r\n\nextend - 8 9\npop\nsplit_off 1\nclear\n", 1000)],
@@ -396,26 +399,26 @@ fn runs_long_scripts(rt: HostRuntime) {
     for (lines, output, faults, status) in LONG_SCRIPTS {
         let (lines, output) = (joined(rt.alloc(), lines), joined(rt.alloc(), output));
         assert!(rt;
-            answers(rt.alloc(), &lines, &output, faults.as_bytes(), status),
+            has_outcome(rt.alloc(), &lines, &output, faults.as_bytes(), status),
             "{faults}"
         );
     }
 }
 
-// Holds too where an allocation is refused, as `rt try --test --fail-alloc N` has it.
+// Holds too if an allocation fails, as with `rt try --test --fail-alloc N`.
 #[test]
-fn tells_refused_memory(rt: HostRuntime) {
-    let (Ok(mut written), Ok(mut told)) = (
+fn reports_out_of_memory(rt: HostRuntime) {
+    let (Ok(mut written), Ok(mut reported)) = (
         Vec::with_capacity(rt.alloc(), 256),
         Vec::with_capacity(rt.alloc(), 64),
     ) else {
         return;
     };
     let mut input = SCRIPT;
-    let status = status_of(rt.alloc(), &mut input, &mut written, &mut told);
-    let (output, faults) = (written.as_slice(), told.as_slice());
+    let status = status_of(rt.alloc(), &mut input, &mut written, &mut reported);
+    let (output, faults) = (written.as_slice(), reported.as_slice());
     if status == 0 {
-        assert!(rt; output == ANSWER.as_bytes() && faults.is_empty());
+        assert!(rt; output == OUTPUT.as_bytes() && faults.is_empty());
     } else {
         assert!(rt; status == 2 && output.is_empty() && faults == b"out of memory\n".as_slice());
     }
@@ -424,12 +427,12 @@ fn tells_refused_memory(rt: HostRuntime) {
 #[test]
 fn keeps_the_status_without_a_text(rt: HostRuntime) {
     let (mut input, mut written) = (b"push\n".as_slice(), Vec::new(rt.alloc()));
-    let mut told = Faulty {
+    let mut reported = Faulty {
         inner: Vec::new(rt.alloc()),
         most: 1,
         calls: 0,
         kind: ErrorKind::Other,
     };
-    assert!(rt; status_of(rt.alloc(), &mut input, &mut written, &mut told) == 1);
+    assert!(rt; status_of(rt.alloc(), &mut input, &mut written, &mut reported) == 1);
     assert!(rt; written.is_empty());
 }

@@ -31,5 +31,5 @@ whole-text E known kept same (inl whole) ends = whole
 whole-text E known kept same (inr dots) ends =
     absurd (true≢false (sym (rw dots at ends ∙ same)))
 
--- what each try to write stands on
+-- what each try to write relies on
 pub ruleset written = (HasWritten-next, HasWritten-all, Appends-nil, Appends-kept, take_rest, nat_tests)

@@ -20,7 +20,7 @@ pub use Rattle.std.specs.Prelude.{Err, IfSome, None, Ok, Option, Result, Some, c
 pub use Rattle.std.specs.Str.Lines.{lines}
 pub use Rattle.std.specs.Str.Parse.{AllDigits, digits_value}
 pub use Rattle.vecscript.specs.Faults.{ReadsAs}
-pub use Rattle.vecscript.specs.Lines.{AreBehind, HasNoBad, IsBad, Mean, Say, Writes, command_lines, growth_in, is_blank, words_of}
+pub use Rattle.vecscript.specs.Lines.{AreAfterBlank, HasNoBad, IsBad, Mean, Say, Denotes, command_lines, growth_in, is_blank, words_of}
 pub use Rattle.vecscript.specs.Print.{AppendsBeginning, replies_text}
-pub use Rattle.vecscript.specs.Runs.{MayAnswer, element_size}
+pub use Rattle.vecscript.specs.Runs.{IsTranscript, element_size}
 pub use Rattle.vecscript.specs.declared.script.Fault.{Fault}

@@ -15,5 +15,5 @@ put_two_before buffer at x y some within =
 pub length-decimal : (x : ℕ) → x < 2 ^ 32 → length (decimal x) ≤ 10
 length-decimal x fits = length-decimal-le 10 x (omega arith) (omega arith) (omega arith)
 
--- what each step of laying out stands on
+-- what each step of laying out relies on
 pub ruleset decimals = (put_before, put_two_before, length-decimal, decimal_digit, decimal_step, append_assoc, length-append, drop-set, length-set)

@@ -10,5 +10,5 @@ pub mod Read
 pub mod Sparing
 pub mod Taken
 pub mod TextLines
-pub mod Told
+pub mod Restated
 pub mod Words

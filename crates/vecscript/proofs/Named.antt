@@ -1,4 +1,4 @@
--- A command that is made of what stands behind its name.
+-- A command that is made of the words after its name.
 use Rattle.vecscript.proofs.Common.{Command, Err, Fault, Global, List, Ok, ReadsAs, Result, refl, subst, sym, ℕ, ◌≡◌}
 use Rattle.std.specs.Prelude.{MatchResult}
 

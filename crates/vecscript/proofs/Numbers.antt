@@ -1,4 +1,4 @@
--- The number that the bytes before a line's first blank write, taken from its front.
+-- The number that the bytes before a line's first blank denote, taken from its front.
 use Rattle.vecscript.proofs.Common.{◌≡◌, ℕ, ◌+◌, ◌-◌, ◌<◌, ◌≤◌, true, false, List, length, get_or, take, arith, length-take, length-drop, is_ascii_digit, position_or_len, AllDigits, digits_value, nat_tests, digits_value_more, take_all, take_rest, is_blank}
 use Rattle.std.proofs.Common.{◌*◌}
 use Rattle.std.specs.Char.{digit_value}
@@ -33,7 +33,7 @@ digit_or_blank xs i digits inside all other =
     let word = take (position_or_len is_blank xs) xs in
     grind (arith, nat_tests, digit_at word i all (omega (arith, length-take (position_or_len is_blank xs) xs)), get_or-take (position_or_len is_blank xs) xs i 0 later)
 
--- and then the word writes no smaller number
+-- and then the word denotes no smaller number
 pub no_smaller : (xs : List ℕ) (i : ℕ) → AllDigits 10 (take i xs) → i < length xs → is_ascii_digit (get_or xs i 0) ≡ true
     → digits_value 10 (take i xs) * 10 + digit_value (get_or xs i 0) ≤ digits_value 10 (take (position_or_len is_blank xs) xs)
 no_smaller xs i digits inside digit =

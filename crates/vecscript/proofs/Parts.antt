@@ -1,7 +1,7 @@
 -- A list cut at the elements that pass a test, taken from its front.
 use Rattle.vecscript.proofs.Common.{◌≡◌, ℕ, Bool, true, false, List, [], ◌∷◌, take, drop, refl, ⊎_elim, cases_Bool, one-add, slice_split, position_or_len}
 
--- what stands before the first element that passes, and what begins there
+-- what precedes the first element that passes, and what begins there
 abbrev pub front : (ℕ → Bool) → List ℕ → List ℕ
 front p xs = take (position_or_len p xs) xs
 

@@ -30,7 +30,7 @@ HasNoBad-none = record { all_good = search rules }
 pub HasNoBad-one : (line : List ℕ) → ¬ (IsBad line) → HasNoBad (line ∷ [])
 HasNoBad-one line this = record { all_good = search (rules, this) }
 
--- the lines of two texts, one behind the other
+-- the lines of two texts, one after the other
 pub HasNoBad-append : (ls ms : List (List ℕ)) → HasNoBad ls → HasNoBad ms → HasNoBad (ls ++ ms)
 HasNoBad-append ls ms good more = record { all_good = All-append (λ l. ¬ (IsBad l)) ls ms good.all_good more.all_good }
 

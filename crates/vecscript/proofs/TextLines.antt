@@ -24,7 +24,7 @@ pub length-lines : (xs : List ℕ) → length (lines xs) ≤ length xs
 length-lines [] = omega arith
 length-lines (x ∷ xs) = grind (arith, nat_tests, length-lines xs, slice_split-front is_line_feed xs)
 
--- cut behind a line feed, a text is cut between its lines
+-- cut after a line feed, a text is cut between its lines
 slice_split-at : (xs ys : List ℕ) → slice_split is_line_feed (xs ++ 10 ∷ ys) ≡ slice_split is_line_feed xs ++ slice_split is_line_feed ys
 slice_split-at [] ys = refl
 slice_split-at (x ∷ xs) ys = grind (arith, slice_split-at xs ys, slice_split-front is_line_feed xs)

@@ -31,5 +31,5 @@ pub word_or_end : (xs : List ℕ) → AtWord xs (unindented xs)
 word_or_end [] = inl (refl, refl)
 word_or_end (x ∷ xs) = at_word x xs (word_or_end xs)
 
--- what a step over a word stands on
+-- what a step over a word relies on
 pub ruleset first_word = (word_or_end, length-take, length-drop)

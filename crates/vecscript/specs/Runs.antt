@@ -1,4 +1,4 @@
--- What the run of a script prints.
+-- The run of a script, and the text that it prints.
 use Rattle.std.specs.Prelude.{◌≡◌, ℕ, ◌%◌, Bool, ◌==◌, List, [], ◌++◌, ⊤}
 use Rattle.std.specs.Global.{Global}
 use Rattle.aa_vec.specs.Choosing.{Equals}
@@ -17,8 +17,8 @@ abbrev pub element_size : ℕ
 element_size = 4
 
 module _ {K S : Type 0} (calls : Calls ℕ Global K S) where
-  -- the list machine may run the commands on two empty lists that grow so, with the closures in
-  -- these states, so that what it replies and leaves is printed as the text
+  -- the list machine may run the commands on two empty lists with this growth policy and the
+  -- closures in these states. Its replies and the lists are then printed as `text`
   pub record MayPrint (growth : Growth) (alloc : Global) (keep : K) (same : S)
       (commands : List (Command ℕ Global)) (text : List ℕ) : Type 0 where
     pub main : Vector ℕ Global
@@ -31,9 +31,9 @@ module _ {K S : Type 0} (calls : Calls ℕ Global K S) where
     pub is_text : text
         ≡ printed replies last.main.items last.main.capacity last.side.items last.side.capacity
 
-  -- none of the lines is bad, and they mean commands that may lead from the one state to the other,
-  -- and whose replies are printed behind the text
-  pub record Answers (old : State ℕ Global K S) (lines : List (List ℕ)) (text text' : List ℕ)
+  -- no line is bad, and the lines say commands that may lead from the state `old` to `new`. `text'`
+  -- is `text` with their replies appended
+  pub record RunsLines (old : State ℕ Global K S) (lines : List (List ℕ)) (text text' : List ℕ)
       (new : State ℕ Global K S) : Type 0 where
     pub good : HasNoBad lines
     pub commands : List (Command ℕ Global)
@@ -42,31 +42,31 @@ module _ {K S : Type 0} (calls : Calls ℕ Global K S) where
     pub run : RunsTo element_size calls old commands replies new
     pub shown : text' ≡ text ++ replies_text replies
 
-  -- the script's lines say how the two lists grow, and mean commands that may print the text
-  pub record MayAnswer (alloc : Global) (keep : K) (same : S) (lines : List (List ℕ))
+  -- the lines of the script say the growth policy of the lists, and commands that may print `text`
+  pub record IsTranscript (alloc : Global) (keep : K) (same : S) (lines : List (List ℕ))
       (text : List ℕ) : Type 0 where
     pub commands : List (Command ℕ Global)
     pub meant : Mean (command_lines lines) commands
     pub prints : MayPrint (growth_in lines) alloc keep same commands text
 
--- an even number stays, and is left as it was
+-- a call of `keep` that keeps even numbers and does not change them
 abbrev pub KeepsEven : Unit {0} → ℕ → Bool → Unit {0} → ℕ → Type 0
-KeepsEven s x answer t y = (answer ≡ (x % 2 == 0)) × (y ≡ x)
+KeepsEven s x kept t y = (kept ≡ (x % 2 == 0)) × (y ≡ x)
 
--- two numbers repeat each other where they are equal
+-- a call of `same` that returns whether the numbers are equal and does not change them
 abbrev pub RepeatsEqual : Unit {0} → ℕ → ℕ → Bool → Unit {0} → ℕ → ℕ → Type 0
 RepeatsEqual = Equals (λ x l. x == l)
 
--- the calls that a script's run makes, which may always be made, where the allocator is cloned so,
--- and then surely
+-- the calls in the run of a script, which are always allowed, with these clones of the allocator,
+-- which cannot fail if `infallible` holds
 abbrev pub script_calls : (Global → Global → Type 0) → (Global → Type 0)
     → Calls ℕ Global (Unit {0}) (Unit {0})
-script_calls clones sure =
+script_calls clones infallible =
     record {
       keeps = KeepsEven;
       repeats = RepeatsEqual;
-      takes_keep = λ s x. ⊤;
-      takes_same = λ s x l. ⊤;
+      keep_callable = λ s x. ⊤;
+      same_callable = λ s x l. ⊤;
       clones = clones;
-      sure = sure;
+      infallible = infallible;
     }

@@ -1,5 +1,5 @@
-//! Scripts of commands on two lists of numbers: what their lines mean, what runs them, and what is
-//! printed.
+//! Scripts of commands on two lists of numbers: parsing the lines, running the commands, and
+//! printing the replies and the lists.
 #![tactic(auto)]
 
 mod lines;

@@ -1,4 +1,4 @@
-//! From the bytes of a script to its commands.
+//! Parsing the bytes of a script into commands.
 ghost use Rattle.std.specs.Prelude.{◌≡◌, ◌≢◌, ℕ, ◌+◌, ◌++◌, ◌^◌, ◌<◌, ◌≤◌, ◌==◌, [], length, IfSome, IfNone, Option, MatchOption, codes, Bool, true, false, ◌⊎◌, IfOk, IfErr, OnOk, OnSome, MatchBool, List, ◌∷◌, take, drop};
 ghost use Rattle.std.specs.Iterator.{YieldsFirstRef, item_count};
 ghost use Rattle.std.specs.List.{AllZip, prefix_len, position_or_len};
@@ -6,8 +6,8 @@ ghost use Rattle.std.specs.Option.{SomeIff};
 ghost use Rattle.std.specs.Str.{bytes_eq};
 ghost use Rattle.std.specs.Str.Lines.{lines, strip_carriage_return};
 ghost use Rattle.std.specs.Str.Parse.{IsNumeral, AllDigits, digits_value};
-ghost use Rattle.vecscript.specs.Faults.{IsFoundAmong, ReadsAs, ReadsOrLacks, TellsWhether};
-ghost use Rattle.vecscript.specs.Lines.{is_blank, words_of, IsElement, IsNumber, AreNumberAndElement, AreNumbers, AreThreeNumbers, AreDrain, SaysKept, Writes, IsHint, SaysExtend, SaysSplice, SayAfter, SayAfterRarer, Say, are_sparing, growth_in, command_lines, AreBehind, Mean, IsBad, HasNoBad, IsFirstBad};
+ghost use Rattle.vecscript.specs.Faults.{IsFoundAmong, ReadsAs, ReadsAsOrOutOfMemory, Decides};
+ghost use Rattle.vecscript.specs.Lines.{is_blank, words_of, IsElement, IsNumber, AreNumberAndElement, AreNumbers, AreThreeNumbers, AreDrain, SaysKept, Denotes, IsHint, SaysExtend, SaysSplice, SayAfter, SayAfterUncommon, Say, are_sparing, growth_in, command_lines, AreAfterBlank, Mean, IsBad, HasNoBad, IsFirstBad};
 
 use crate::script::Fault;
 use allocator_api2::raw_vec::Growth;
@@ -15,12 +15,15 @@ use allocator_api2::runner::Command;
 use allocator_api2::vec::Vec;
 use std::alloc::Global;
 
-/// How the two lists of a script grow, how many of its lines say that, and the text behind these:
-/// where the first line that has words is `sparing` alone, the lists grow sparingly, and commands
-/// stand behind it; else in all of the text.
+/// Returns the growth policy of the lists, the number of lines that choose it, and the text after
+/// them.
+///
+/// If the first line with words is `sparing` alone, the lists grow sparingly, and the commands
+/// follow it. Otherwise the lists grow by doubling, the number is 0, and the text is all of it.
+/// Does not allocate.
 pub fn chosen_growth(text: &[u8]) -> (Growth, usize, &[u8])
     ensures growth { result.0 ≡ growth_in (lines text.now) }
-    ensures behind { AreBehind result.1 (lines result.2.now) (command_lines (lines text.now)) }
+    ensures after { AreAfterBlank result.1 (lines result.2.now) (command_lines (lines text.now)) }
 {
     let mut rest = Lines { rest: text };
     let mut count = 0;
@@ -35,7 +38,7 @@ pub fn chosen_growth(text: &[u8]) -> (Growth, usize, &[u8])
     (Growth::Doubling, 0, text)
 }
 
-// Whether the line's words are `sparing` alone, where it has some.
+// Returns whether the words of the line are `sparing` alone, or `None` if it has no words.
 fn is_sparing(line: &[u8]) -> Option<bool>
     ensures { MatchOption result (words_of line.now ≡ [])
         (λ b. (words_of line.now ≢ []) × (b ≡ are_sparing (words_of line.now))) }
@@ -47,11 +50,12 @@ fn is_sparing(line: &[u8]) -> Option<bool>
     }
 }
 
-/// Why lines could not be run: the first of them that is no known form, or else that memory was
-/// refused.
+/// Returns why these lines could not be run: the first bad line, or else a failed allocation.
+///
+/// Does not allocate.
 pub fn fault(text: &[u8]) -> Fault
     ensures found { IsFoundAmong (lines text.now) result × (result ≢ Fault.InputOutput) }
-    ensures refused { result ≡ Fault.OutOfMemory → HasNoBad (lines text.now) }
+    ensures good_if_out_of_memory { result ≡ Fault.OutOfMemory → HasNoBad (lines text.now) }
 {
     match first_bad(text) {
         Some(number) => Fault::BadLine(number),
@@ -59,7 +63,9 @@ pub fn fault(text: &[u8]) -> Fault
     }
 }
 
-/// The number of the first line that is no known form, counted from 1. It takes no memory.
+/// Returns the number of the first line that is not a command, counted from 1.
+///
+/// Returns `None` if each line is a command or has no words. Does not allocate.
 pub fn first_bad(text: &[u8]) -> Option<usize>
     ensures { MatchOption result (HasNoBad (lines text.now)) (IsFirstBad (lines text.now)) }
 {
@@ -71,7 +77,7 @@ pub fn first_bad(text: &[u8]) -> Option<usize>
     None
 }
 
-// Whether the line says a command, or has no words.
+// Returns whether the line is a command or has no words.
 #[tactic(auto, using(crate::proofs::Looks::good_if_said))]
 #[inline(never)]
 fn is_good(line: &[u8]) -> bool
@@ -84,9 +90,9 @@ fn is_good(line: &[u8]) -> bool
     says_command(name, Line { number: 0, words })
 }
 
-// Whether a line that begins with this word says a command.
+// Returns whether a line that begins with this word says a command.
 fn says_command(name: &[u8], line: Line<'_>) -> bool
-    ensures { TellsWhether result (Say (name.now ∷ words_of line.entry.words.rest.now)) }
+    ensures { Decides result (Say (name.now ∷ words_of line.entry.words.rest.now)) }
 {
     match name {
         _ if name == b"extend".as_slice() => is_extension(line),
@@ -95,9 +101,9 @@ fn says_command(name: &[u8], line: Line<'_>) -> bool
     }
 }
 
-// Whether the rest of the line is what the command of this name takes.
+// Returns whether the rest of the line has the arguments of the command of this name.
 fn is_command(name: &[u8], line: Line<'_>) -> bool
-    ensures { TellsWhether result (SayAfter name.now (words_of line.entry.words.rest.now)) }
+    ensures { Decides result (SayAfter name.now (words_of line.entry.words.rest.now)) }
 {
     match command(name, line) {
         Ok(_) => true,
@@ -105,9 +111,9 @@ fn is_command(name: &[u8], line: Line<'_>) -> bool
     }
 }
 
-// Whether the rest of the line is what `extension` takes.
+// Returns whether `extension` can parse the rest of the line.
 fn is_extension(mut line: Line<'_>) -> bool
-    ensures { TellsWhether result (SaysExtend (words_of line.entry.words.rest.now)) }
+    ensures { Decides result (SaysExtend (words_of line.entry.words.rest.now)) }
 {
     let Some(_) = line.words.hint() else {
         return false;
@@ -115,9 +121,9 @@ fn is_extension(mut line: Line<'_>) -> bool
     are_elements(line.words)
 }
 
-// Whether the rest of the line is what `replacement` takes.
+// Returns whether `replacement` can parse the rest of the line.
 fn is_replacement(mut line: Line<'_>) -> bool
-    ensures { TellsWhether result (SaysSplice (words_of line.entry.words.rest.now)) }
+    ensures { Decides result (SaysSplice (words_of line.entry.words.rest.now)) }
 {
     let Some(_) = line.words.number() else {
         return false;
@@ -131,9 +137,9 @@ fn is_replacement(mut line: Line<'_>) -> bool
     are_elements(line.words)
 }
 
-// Whether all of the words are elements.
+// Returns whether all words are elements.
 fn are_elements(mut words: Words<'_>) -> bool
-    ensures { TellsWhether result (AllZip (Writes (2 ^ 32)) (words_of words.entry.rest.now)) }
+    ensures { Decides result (AllZip (Denotes (2 ^ 32)) (words_of words.entry.rest.now)) }
 {
     'each: while !words.is_empty() {
         let Some(_) = words.element() else {
@@ -143,24 +149,24 @@ fn are_elements(mut words: Words<'_>) -> bool
     true
 }
 
-// How many bytes of a script are run at a time, with the rest of the last line: few enough for the
-// nearest cache to hold their commands.
+// The number of bytes of a script that are run at a time, with the rest of the last line. The
+// first-level cache can hold their commands.
 const PIECE: usize = 4096;
 
-// How many bytes the shortest command's line has: `pop` and a line feed. The commands of a piece get
-// room for as many such lines as begin in it.
+// The number of bytes of the shortest line of a command: `pop` and a line feed. The vector for the
+// commands of a piece gets capacity for as many such lines as begin in it.
 const SHORT_LINE: usize = 4;
 
-// How many elements, or places for them, a command may ask for before the lines behind it are
-// looked at.
+// The greatest number of elements, or of capacity, that a command may request before the lines
+// after it are checked.
 const MANY: usize = 1024;
 
-// How many digits a number above `MANY` has at least.
+// The least number of digits of a number above `MANY`.
 const MANY_DIGITS: usize = 4;
 
-// Whether the command asks for many elements or places by a number. One that has its elements in
-// its line does not.
-fn asks_for_many(command: &Command<u32>) -> bool {
+// Returns whether the command requests many elements, or much capacity, by a number. A command with
+// its elements in its line does not.
+fn requests_many(command: &Command<u32>) -> bool {
     match command {
         Command::Reserve(n) | Command::ReserveExact(n) | Command::Resize(n, _) => *n > MANY,
         Command::ExtendFromWithin(from, to) => to.saturating_sub(*from) > MANY,
@@ -169,17 +175,17 @@ fn asks_for_many(command: &Command<u32>) -> bool {
     }
 }
 
-/// The lines of a script that are left to run.
+/// The remaining lines of a script, which are to be run.
 #[derive(Drop)]
 pub struct Rest<'a> {
-    /// Their text.
+    /// The text of the lines.
     pub text: &'a [u8],
-    // Whether all of them were looked at.
+    // Whether all of them were checked.
     is_seen: bool,
 }
 
 impl<'a> Rest<'a> {
-    /// All lines of the text.
+    /// Returns all lines of the text, as the remaining ones.
     pub fn of(text: &'a [u8]) -> Rest<'a>
         ensures { result.text.now ≡ text.now }
     {
@@ -189,22 +195,26 @@ impl<'a> Rest<'a> {
         }
     }
 
-    /// Takes a piece of the lines from the front: their commands, in order. Before one of them that
-    /// asks for many elements or places, the lines behind are looked at, once for the script, so
-    /// that little is done where one of them is bad.
+    /// Removes a piece of the lines from the front, and returns their commands, in order.
     ///
-    /// It takes memory for the commands. An error says that the piece can't be run.
+    /// If a command requests many elements or much capacity, the lines after the piece are checked
+    /// first. So little is done if one of them is bad. They are checked once for the script.
+    ///
+    /// Allocates for the commands.
+    ///
+    /// # Errors
+    /// Any fault says that the piece cannot be run.
     pub fn next_commands(&mut self, alloc: Global) -> Result<Vec<Command<u32>, Global>, Fault>
-        ensures ok { IfOk result (λ commands. (piece : List (List ℕ))
+        ensures parsed { IfOk result (λ commands. (piece : List (List ℕ))
             × (lines self.old.text.now ≡ piece ++ lines self.new.text.now)
             × HasNoBad piece × Mean piece commands.items) }
         ensures fewer { OnOk result (0 < length self.old.text.now →
             length self.new.text.now < length self.old.text.now) }
     {
         let (piece, others) = first_lines(self.text);
-        let mut may_ask = false;
-        let read = commands(alloc, piece, &mut may_ask)?;
-        if may_ask && !self.is_seen && read.as_slice().iter().any(asks_for_many) {
+        let mut may_request_many = false;
+        let read = commands(alloc, piece, &mut may_request_many)?;
+        if may_request_many && !self.is_seen && read.as_slice().iter().any(requests_many) {
             if let Some(number) = first_bad(others) {
                 return Err(Fault::BadLine(number));
             }
@@ -215,32 +225,32 @@ impl<'a> Rest<'a> {
     }
 }
 
-// The commands of the lines, in order. A line without words is no command, but counts. Where
-// `may_ask` is not set, none of them asks for many elements or places.
+// Returns the commands of the lines, in order. A line without words is not a command, but is
+// counted. Sets the flag if one of the commands may request many elements or much capacity.
 //
-// It takes memory for the commands. The first line that is no known form is `Fault::BadLine`, and
-// refused memory is `Fault::OutOfMemory`.
+// Allocates for the commands. Returns `Fault::BadLine` for the first line that is not a command,
+// and `Fault::OutOfMemory` if an allocation fails.
 fn commands(
     alloc: Global,
     text: &[u8],
-    may_ask: &mut bool,
+    may_request_many: &mut bool,
 ) -> Result<Vec<Command<u32>, Global>, Fault>
     ensures items { IfOk result (λ commands. Mean (lines text.now) commands.items) }
-    ensures ok { OnOk result (HasNoBad (lines text.now)) }
-    ensures err { IfErr result
+    ensures good { OnOk result (HasNoBad (lines text.now)) }
+    ensures error { IfErr result
         (λ fault. IsFoundAmong (lines text.now) fault × (fault ≢ Fault.InputOutput)) }
 {
     let mut commands = Vec::with_capacity_in(text.len().min(PIECE) / SHORT_LINE + 1, alloc)?;
     for (index, line) in (Lines { rest: text }).enumerate() {
-        if let Some(command) = command_of_line(alloc, index + 1, line, may_ask)? {
+        if let Some(command) = command_of_line(alloc, index + 1, line, may_request_many)? {
             commands.push(command)?;
         }
     }
     Ok(commands)
 }
 
-// Cuts a text between two lines, behind the first one that ends past a piece's length, or at its
-// end.
+// Splits a text between two lines: after the first line that ends past the length of a piece, or at
+// the end of the text.
 fn first_lines(text: &[u8]) -> (&[u8], &[u8])
     ensures lines { lines text.now ≡ lines result.0.now ++ lines result.1.now }
     ensures fewer { 0 < length text.now → length result.1.now < length text.now }
@@ -255,7 +265,8 @@ fn first_lines(text: &[u8]) -> (&[u8], &[u8])
     }
 }
 
-// The lines of a text, as `str::lines` gives them: one carriage return before a line feed goes too.
+// The lines of a text, as `str::lines` returns them: one carriage return before a line feed is
+// removed too.
 #[derive(Drop)]
 struct Lines<'a> {
     rest: &'a [u8],
@@ -286,7 +297,7 @@ impl<'a> Iterator for Lines<'a> {
     }
 }
 
-// How many bytes stand before the text's first line feed.
+// Returns the number of bytes before the first line feed of the text.
 fn line_length(text: &[u8]) -> usize
     ensures length { result ≡ position_or_len (λ b. b == 10) text.now }
     ensures bound { result ≤ length text.now }
@@ -294,25 +305,25 @@ fn line_length(text: &[u8]) -> usize
     text.iter().take_while(|byte| **byte != b'\n').count()
 }
 
-// The line's text: a carriage return that ends it is left out, one and no more.
+// Returns the line without the carriage return that ends it, if there is one: one and no more.
 fn without_carriage_return(line: &[u8]) -> &[u8]
     ensures { result.now ≡ strip_carriage_return line.now }
 {
     line.strip_suffix(b"\r").unwrap_or(line)
 }
 
-// The command that the line says, or `None` where it has no words. Most lines are pushes, and are
-// known by their bytes.
+// Returns the command that the line says, or `None` if it has no words. Most lines are pushes, and
+// are recognized by their bytes.
 #[inline(always)]
 fn command_of_line(
     alloc: Global,
     number: usize,
     line: &[u8],
-    may_ask: &mut bool,
+    may_request_many: &mut bool,
 ) -> Result<Option<Command<u32>>, Fault>
-    ensures ok { IfOk result
+    ensures parsed { IfOk result
         (λ command. MatchOption command (words_of line.now ≡ []) (Say (words_of line.now))) }
-    ensures err { IfErr result
+    ensures error { IfErr result
         (λ fault. (fault ≡ Fault.OutOfMemory) ⊎ ((fault ≡ Fault.BadLine number) × IsBad line.now)) }
 {
     let mut words = Words { rest: line };
@@ -321,11 +332,12 @@ fn command_of_line(
     };
     match pushed(name, number, words.rest) {
         Some(command) => Ok(Some(command?)),
-        None => other_command(alloc, name, Line { number, words }, may_ask),
+        None => other_command(alloc, name, Line { number, words }, may_request_many),
     }
 }
 
-// The push that a line says which begins with this word, if it is `push`, and has this rest.
+// Returns the push that a line with this first word and this rest says, or `None` if the word is
+// not `push`.
 #[inline(always)]
 fn pushed(name: &[u8], number: usize, rest: &[u8]) -> Option<Result<Command<u32>, Fault>>
     ensures { MatchOption result (bytes_eq name.now (codes "push") ≡ false)
@@ -339,16 +351,16 @@ fn pushed(name: &[u8], number: usize, rest: &[u8]) -> Option<Result<Command<u32>
     }
 }
 
-// The command of a line that begins with another word.
+// Returns the command of a line that begins with another word.
 #[tactic(auto, using(crate::proofs::Looks::alone))]
 #[inline(always)]
 fn other_command(
     alloc: Global,
     name: &[u8],
     line: Line<'_>,
-    may_ask: &mut bool,
+    may_request_many: &mut bool,
 ) -> Result<Option<Command<u32>>, Fault>
-    ensures { ReadsOrLacks line.entry.number (λ command. MatchOption command ⊥
+    ensures { ReadsAsOrOutOfMemory line.entry.number (λ command. MatchOption command ⊥
         (Say (name.now ∷ words_of line.entry.words.rest.now))) result }
 {
     if line.words.rest.is_empty() {
@@ -356,11 +368,11 @@ fn other_command(
             return Ok(Some(command));
         }
     }
-    longer_command(alloc, name, line, may_ask)
+    longer_command(alloc, name, line, may_request_many)
 }
 
-// The command that the name says alone, if it says one. These are known first, where the line ends
-// with the name, since they are the shortest to read.
+// Returns the command that the name says alone, if it says one. These are tried first if the line
+// ends with the name, since they are the fastest to parse.
 #[inline(always)]
 fn wordless(name: &[u8]) -> Option<Command<u32>>
     ensures { IfSome result (Say (name.now ∷ [])) }
@@ -375,29 +387,29 @@ fn wordless(name: &[u8]) -> Option<Command<u32>>
     }
 }
 
-// The command of a line that is longer. The others do not wait for its room on the stack, and none
-// of them asks for many. Nor does this one where its words have no room for so many digits.
+// Returns the command of a longer line. The other commands do not need its stack frame, and none of
+// them requests many elements. Nor does this one if its words are too short for so many digits.
 #[inline(always)]
 fn longer_command(
     alloc: Global,
     name: &[u8],
     line: Line<'_>,
-    may_ask: &mut bool,
+    may_request_many: &mut bool,
 ) -> Result<Option<Command<u32>>, Fault>
-    ensures { ReadsOrLacks line.entry.number (λ command. MatchOption command ⊥
+    ensures { ReadsAsOrOutOfMemory line.entry.number (λ command. MatchOption command ⊥
         (Say (name.now ∷ words_of line.entry.words.rest.now))) result }
 {
     if line.words.rest.len() > MANY_DIGITS {
-        *may_ask = true;
+        *may_request_many = true;
     }
     Ok(Some(named_command(alloc, name, line)?))
 }
 
-// The command of a line that begins with this word. It stands apart, so that the code above it
-// stays short.
+// Returns the command of a line that begins with this word. Not inlined, so that the code of the
+// callers is short.
 #[inline(never)]
 fn named_command(alloc: Global, name: &[u8], mut line: Line<'_>) -> Result<Command<u32>, Fault>
-    ensures { ReadsOrLacks line.entry.number
+    ensures { ReadsAsOrOutOfMemory line.entry.number
         (Say (name.now ∷ words_of line.entry.words.rest.now)) result }
 {
     match name {
@@ -407,8 +419,8 @@ fn named_command(alloc: Global, name: &[u8], mut line: Line<'_>) -> Result<Comma
     }
 }
 
-// The command of this name, where the rest of the line is what it takes. A name is compared as
-// bytes, by its length first.
+// Returns the command of this name, if the rest of the line has its arguments. A name is compared
+// as bytes, by its length first.
 #[inline(always)]
 fn command(name: &[u8], mut line: Line<'_>) -> Result<Command<u32>, Fault>
     ensures { ReadsAs line.entry.number
@@ -429,15 +441,15 @@ fn command(name: &[u8], mut line: Line<'_>) -> Result<Command<u32>, Fault>
         _ if name == b"clear".as_slice() => line.end().map(|()| Command::Clear),
         _ if name == b"reserve".as_slice() => line.number().map(|n| Command::Reserve(n)),
         _ if name == b"reserve_exact".as_slice() => line.number().map(|n| Command::ReserveExact(n)),
-        _ => rarer_command(name, line),
+        _ => uncommon_command(name, line),
     }
 }
 
-// The command of one of the names that `command` does not know itself.
+// Returns the command of one of the names that `command` does not handle itself.
 #[inline(always)]
-fn rarer_command(name: &[u8], mut line: Line<'_>) -> Result<Command<u32>, Fault>
+fn uncommon_command(name: &[u8], mut line: Line<'_>) -> Result<Command<u32>, Fault>
     ensures { ReadsAs line.entry.number
-        (SayAfterRarer name.now (words_of line.entry.words.rest.now)) result }
+        (SayAfterUncommon name.now (words_of line.entry.words.rest.now)) result }
 {
     match name {
         _ if name == b"shrink_to".as_slice() => line.number().map(|n| Command::ShrinkTo(n)),
@@ -467,10 +479,10 @@ fn rarer_command(name: &[u8], mut line: Line<'_>) -> Result<Command<u32>, Fault>
     }
 }
 
-// The extension by the elements of the rest of the line, before which the hint stands. It takes
-// memory for the elements.
+// Returns the `Extend` of a line whose rest is the hint and then the elements. Allocates for the
+// elements.
 fn extension(alloc: Global, mut line: Line<'_>) -> Result<Command<u32>, Fault>
-    ensures { ReadsOrLacks line.entry.number
+    ensures { ReadsAsOrOutOfMemory line.entry.number
         (SaysExtend (words_of line.entry.words.rest.now)) result }
 {
     let Some(hint) = line.words.next().and_then(hint) else {
@@ -480,10 +492,10 @@ fn extension(alloc: Global, mut line: Line<'_>) -> Result<Command<u32>, Fault>
     Ok(Command::Extend { items, hint })
 }
 
-// The splice by the elements of the rest of the line, before which the range and the hint stand. It
-// takes memory for the elements.
+// Returns the `Splice` of a line whose rest is the range, the hint and then the elements. Allocates
+// for the elements.
 fn replacement(alloc: Global, mut line: Line<'_>) -> Result<Command<u32>, Fault>
-    ensures { ReadsOrLacks line.entry.number
+    ensures { ReadsAsOrOutOfMemory line.entry.number
         (SaysSplice (words_of line.entry.words.rest.now)) result }
 {
     let start = line.words.number();
@@ -501,10 +513,11 @@ fn replacement(alloc: Global, mut line: Line<'_>) -> Result<Command<u32>, Fault>
     })
 }
 
-// The elements that the words of the rest of the line write, all of them. It takes memory for them.
+// Returns the elements that the words of the rest of the line denote, all of them. Allocates for
+// them.
 fn elements(alloc: Global, line: Line<'_>) -> Result<Vec<u32>, Fault>
-    ensures { ReadsOrLacks line.entry.number
-        (λ v. AllZip (Writes (2 ^ 32)) (words_of line.entry.words.rest.now) v.items) result }
+    ensures { ReadsAsOrOutOfMemory line.entry.number
+        (λ v. AllZip (Denotes (2 ^ 32)) (words_of line.entry.words.rest.now) v.items) result }
 {
     let Line { number, mut words } = line;
     let mut items = Vec::new_in(alloc);
@@ -517,7 +530,7 @@ fn elements(alloc: Global, line: Line<'_>) -> Result<Vec<u32>, Fault>
     Ok(items)
 }
 
-// What is left of a line after its first word.
+// The rest of a line after its first word, and the number of the line.
 #[derive(Drop)]
 struct Line<'a> {
     number: usize,
@@ -525,16 +538,17 @@ struct Line<'a> {
 }
 
 impl Line<'_> {
+    // Returns the fault that this line is bad.
     fn bad(&self) -> Fault
         ensures { result ≡ Fault.BadLine self.now.number }
     {
         Fault::BadLine(self.number)
     }
 
-    // No word.
+    // Parses no word: fails if there is one.
     fn end(&mut self) -> Result<(), Fault>
-        ensures ok { OnOk result (words_of self.old.words.rest.now ≡ []) }
-        ensures err { IfErr result (λ fault. (fault ≡ Fault.BadLine self.old.number)
+        ensures empty { OnOk result (words_of self.old.words.rest.now ≡ []) }
+        ensures error { IfErr result (λ fault. (fault ≡ Fault.BadLine self.old.number)
             × (words_of self.old.words.rest.now ≢ [])) }
     {
         if self.words.is_empty() {
@@ -544,7 +558,7 @@ impl Line<'_> {
         }
     }
 
-    // One word, which is an element.
+    // Parses one word, an element, and returns it.
     #[inline]
     fn element(&mut self) -> Result<u32, Fault>
         ensures { ReadsAs self.old.number
@@ -556,7 +570,7 @@ impl Line<'_> {
         }
     }
 
-    // One word, which is a number.
+    // Parses one word, a number, and returns it.
     fn number(&mut self) -> Result<usize, Fault>
         ensures { ReadsAs self.old.number (IsNumber (words_of self.old.words.rest.now)) result }
     {
@@ -566,7 +580,7 @@ impl Line<'_> {
         }
     }
 
-    // Two words, which are numbers.
+    // Parses two words, numbers, and returns them.
     fn numbers(&mut self) -> Result<(usize, usize), Fault>
         ensures { ReadsAs self.old.number
             (AreNumbers (words_of self.old.words.rest.now)) result }
@@ -579,7 +593,7 @@ impl Line<'_> {
         }
     }
 
-    // Three words, which are numbers.
+    // Parses three words, numbers, and returns them.
     fn three_numbers(&mut self) -> Result<(usize, usize, usize), Fault>
         ensures { ReadsAs self.old.number
             (AreThreeNumbers (words_of self.old.words.rest.now)) result }
@@ -593,7 +607,7 @@ impl Line<'_> {
         }
     }
 
-    // Two words, a number and an element.
+    // Parses two words, a number and an element, and returns them.
     fn number_and_element(&mut self) -> Result<(usize, u32), Fault>
         ensures { ReadsAs self.old.number
             (AreNumberAndElement (words_of self.old.words.rest.now)) result }
@@ -606,7 +620,7 @@ impl Line<'_> {
         }
     }
 
-    // Five words, four numbers and whether what is left stays.
+    // Parses five words, four numbers and whether the others are kept, and returns them.
     fn drain(&mut self) -> Result<(usize, usize, usize, usize, bool), Fault>
         ensures { ReadsAs self.old.number (AreDrain (words_of self.old.words.rest.now)) result }
     {
@@ -624,7 +638,7 @@ impl Line<'_> {
     }
 }
 
-// Whether what is left of a range stays, if the word says so.
+// Returns whether the remaining elements of a range are kept, or `None` if the word says neither.
 fn says_keep(word: &[u8]) -> Option<bool>
     ensures some { IfSome result (SaysKept word.now) }
     ensures none { IfNone result ((b : Bool) → ¬ (SaysKept word.now b)) }
@@ -636,7 +650,7 @@ fn says_keep(word: &[u8]) -> Option<bool>
     }
 }
 
-// The hint that the word is: a number, or none where it is a hyphen.
+// Returns the hint that the word denotes: a number, or no hint if it is a hyphen.
 fn hint(word: &[u8]) -> Option<Option<usize>>
     ensures { MatchOption result ((h : Option ℕ) → ¬ (IsHint word.now h)) (IsHint word.now) }
 {
@@ -646,7 +660,7 @@ fn hint(word: &[u8]) -> Option<Option<usize>>
     number(word).map(|n| Some(n))
 }
 
-// The number that the word writes in decimal digits, if it fits.
+// Returns the number that the word denotes in decimal digits, if it fits.
 #[tactic(auto, using(crate::proofs::Numbers::whole_word))]
 fn number(word: &[u8]) -> Option<usize>
     ensures { SomeIff result (IsNumeral 10 word.now × (digits_value 10 word.now < 2 ^ 64))
@@ -663,11 +677,13 @@ fn number(word: &[u8]) -> Option<usize>
     }
 }
 
-// The number that the bytes before the line's first blank write, and what follows them, if each is
-// a decimal digit and the number fits. No digits write 0.
+// Returns the number that the bytes before the first blank of the line denote, and the bytes after
+// them. Returns `None` if one of them is not a decimal digit or the number does not fit. No digits
+// denote 0.
 #[tactic(auto, using(crate::proofs::Numbers::digits))]
 fn first_number(line: &[u8]) -> Option<(u64, &[u8])>
-    ensures some { IfSome result (λ r. let word = take (position_or_len is_blank line.now) line.now in
+    ensures some { IfSome result
+        (λ r. let word = take (position_or_len is_blank line.now) line.now in
         AllDigits 10 word × (r.0 ≡ digits_value 10 word)
         × (r.1.now ≡ drop (position_or_len is_blank line.now) line.now)
         × (r.0 < 2 ^ 64)) }
@@ -688,7 +704,7 @@ fn first_number(line: &[u8]) -> Option<(u64, &[u8])>
     Some((value, &line[line.len()..]))
 }
 
-// The words of a line, which spaces and tabs separate.
+// The words of a line, which are separated by spaces and tabs.
 #[derive(Drop)]
 struct Words<'a> {
     rest: &'a [u8],
@@ -711,7 +727,7 @@ impl<'a> Iterator for Words<'a> {
 }
 
 impl Words<'_> {
-    // Whether no word is left.
+    // Returns whether no word remains.
     fn is_empty(&self) -> bool
         ensures { MatchBool result (words_of self.now.rest.now ≡ [])
             (words_of self.now.rest.now ≢ []) }
@@ -719,13 +735,13 @@ impl Words<'_> {
         blank_count(self.rest) == self.rest.len()
     }
 
-    // The element that the next word writes, if there is one and it writes one.
+    // Returns the element that the next word denotes, if there is one and it denotes one.
     fn element(&mut self) -> Option<u32>
         ensures some { IfSome result (λ x. (word : List ℕ)
             × (words_of self.old.rest.now ≡ word ∷ words_of self.new.rest.now)
-            × Writes (2 ^ 32) word x) }
+            × Denotes (2 ^ 32) word x) }
         ensures none { IfNone result ((word : List ℕ) (rest : List (List ℕ)) (x : ℕ)
-            → words_of self.old.rest.now ≡ word ∷ rest → ¬ (Writes (2 ^ 32) word x)) }
+            → words_of self.old.rest.now ≡ word ∷ rest → ¬ (Denotes (2 ^ 32) word x)) }
         ensures fewer { OnSome result (length self.new.rest.now < length self.old.rest.now) }
     {
         let x = self.number()?;
@@ -736,7 +752,7 @@ impl Words<'_> {
         }
     }
 
-    // The hint that the next word is, if there is one and it is one.
+    // Returns the hint that the next word denotes, if there is one and it denotes one.
     fn hint(&mut self) -> Option<Option<usize>>
         ensures some { IfSome result (λ h. (word : List ℕ)
             × (words_of self.old.rest.now ≡ word ∷ words_of self.new.rest.now) × IsHint word h) }
@@ -747,14 +763,14 @@ impl Words<'_> {
         hint(word)
     }
 
-    // The number that the next word writes, if there is one and it writes one.
+    // Returns the number that the next word denotes, if there is one and it denotes one.
     #[tactic(auto, using(crate::proofs::Words::first_word))]
     fn number(&mut self) -> Option<usize>
         ensures some { IfSome result (λ n. (word : List ℕ)
             × (words_of self.old.rest.now ≡ word ∷ words_of self.new.rest.now)
-            × Writes (2 ^ 64) word n) }
+            × Denotes (2 ^ 64) word n) }
         ensures none { IfNone result ((word : List ℕ) (rest : List (List ℕ)) (n : ℕ)
-            → words_of self.old.rest.now ≡ word ∷ rest → ¬ (Writes (2 ^ 64) word n)) }
+            → words_of self.old.rest.now ≡ word ∷ rest → ¬ (Denotes (2 ^ 64) word n)) }
         ensures fewer { OnSome result (length self.new.rest.now < length self.old.rest.now) }
     {
         let (_, line) = self.rest.split_at(blank_count(self.rest));
@@ -767,7 +783,7 @@ impl Words<'_> {
     }
 }
 
-// How many blanks the line begins with.
+// Returns the number of blanks at the start of the line.
 fn blank_count(line: &[u8]) -> usize
     ensures count { result ≡ prefix_len is_blank line.now }
     ensures bound { result ≤ length line.now }
@@ -775,7 +791,7 @@ fn blank_count(line: &[u8]) -> usize
     line.iter().take_while(|byte| is_blank(**byte)).count()
 }
 
-// How many bytes stand before the line's first blank.
+// Returns the number of bytes before the first blank of the line.
 fn word_length(line: &[u8]) -> usize
     ensures length { result ≡ position_or_len is_blank line.now }
     ensures bound { result ≤ length line.now }
@@ -783,6 +799,7 @@ fn word_length(line: &[u8]) -> usize
     line.iter().take_while(|byte| !is_blank(**byte)).count()
 }
 
+// Returns whether the byte is a space or a tab.
 fn is_blank(byte: u8) -> bool
     ensures { result ≡ is_blank byte }
 {

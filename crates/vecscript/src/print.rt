@@ -1,4 +1,4 @@
-//! What a script prints: a line for each reply, and a line for each list.
+//! What a script prints: one line for each reply, and one line for each list.
 ghost use Rattle.std.specs.Prelude.{◌≡◌, ◌+◌, ◌≤◌, ◌++◌, ◌∷◌, codes, drop, length, decimal, OnOk};
 ghost use Rattle.vecscript.specs.Print.{line_of, reply_text, replies_text, elements_text, list_text};
 
@@ -9,10 +9,15 @@ use std::alloc::Global;
 use std::io;
 use std::io::Write;
 
-/// What is printed, as it is made in memory.
+/// The text to print, in memory.
 type Text = std::vec::Vec<u8>;
 
-/// Puts a line for each reply behind the text. It takes memory for them, and an error is a refusal.
+/// Appends one line for each reply to the text.
+///
+/// Allocates for the lines.
+///
+/// # Errors
+/// Returns an error if an allocation fails.
 pub fn print_replies(output: &mut Text, replies: &[Reply<u32>]) -> io::Result<()>
     ensures { OnOk result (output.new.items ≡ output.old.items ++ replies_text replies.now) }
 {
@@ -22,6 +27,7 @@ pub fn print_replies(output: &mut Text, replies: &[Reply<u32>]) -> io::Result<()
     Ok(())
 }
 
+// Appends the line of the reply to the text.
 fn print_reply(output: &mut Text, reply: &Reply<u32>) -> io::Result<()>
     ensures { OnOk result (output.new.items ≡ output.old.items ++ line_of (reply_text reply.now)) }
 {
@@ -38,7 +44,7 @@ fn print_reply(output: &mut Text, reply: &Reply<u32>) -> io::Result<()>
     }
 }
 
-// The word and the number in a line.
+// Appends a line of the word and the number.
 fn print_numbered(output: &mut Text, word: &[u8], x: u32) -> io::Result<()>
     ensures { OnOk result
         (output.new.items ≡ output.old.items ++ line_of (word.now ++ 32 ∷ decimal x)) }
@@ -49,8 +55,12 @@ fn print_numbered(output: &mut Text, word: &[u8], x: u32) -> io::Result<()>
     print_bytes(output, &buffer[start..])
 }
 
-/// Puts a line for each list behind the text: its name, length, capacity and elements. It takes
-/// memory for them, and an error is a refusal.
+/// Appends one line for each list to the text: its name, length, capacity and elements.
+///
+/// Allocates for the lines.
+///
+/// # Errors
+/// Returns an error if an allocation fails.
 pub fn print_lists(
     output: &mut Text,
     main: &Vec<u32, Global>,
@@ -64,6 +74,7 @@ pub fn print_lists(
     print_line(output, "side", side.capacity(), side.as_slice())
 }
 
+// Appends the line of the list to the text.
 fn print_line(output: &mut Text, name: &str, capacity: usize, elements: &[u32]) -> io::Result<()>
     ensures { OnOk result (output.new.items ≡ output.old.items
         ++ line_of (list_text name.now capacity elements.now)) }
@@ -74,6 +85,7 @@ fn print_line(output: &mut Text, name: &str, capacity: usize, elements: &[u32]) 
     print_bytes(output, b"\n")
 }
 
+// Appends each of the elements to the text, after a space.
 fn print_elements(output: &mut Text, elements: &[u32]) -> io::Result<()>
     ensures { OnOk result
         (output.new.items ≡ output.old.items ++ elements_text elements.now) }
@@ -86,7 +98,7 @@ fn print_elements(output: &mut Text, elements: &[u32]) -> io::Result<()>
     Ok(())
 }
 
-// Puts the bytes behind the text. Where memory is refused, the text stays. Inlined, so that a few
+// Appends the bytes to the text, which is unchanged if the allocation fails. Inlined, so that a few
 // known bytes are stored without a call.
 #[inline(always)]
 fn print_bytes(output: &mut Text, bytes: &[u8]) -> io::Result<()>
@@ -96,11 +108,11 @@ fn print_bytes(output: &mut Text, bytes: &[u8]) -> io::Result<()>
     Ok(())
 }
 
-// As many bytes as a space and the longest element take.
+// The number of bytes of a space and the longest element.
 const WIDTH: usize = 11;
 
-// Puts the element behind a space in front of the bytes from an index on, and tells where they
-// begin.
+// Writes a space and the element into the buffer, ending before index `end`, and returns the index
+// at which they begin.
 #[tactic(auto, using(crate::proofs::Decimals::decimals))]
 fn lay_out(x: u32, buffer: &mut [u8], end: usize) -> usize
     requires { (WIDTH ≤ end) × (end ≤ length buffer.old) }

@@ -1,4 +1,4 @@
-//! The reader of a script, told apart from the memory that its text takes.
+//! A reader of scripts whose errors differ from failed allocations of the text that is read.
 ghost use Rattle.std.specs.Prelude.{◌≡◌, ◌≢◌, IfErr};
 ghost use Rattle.std.specs.Io.{ReadsAtMost};
 ghost use Rattle.std.specs.Io.KnownBytes.{ReadConsumes};
@@ -9,8 +9,10 @@ ghost use Rattle.vecscript.specs.Faults.{read_kind};
 use std::io;
 use std::io::{ErrorKind, Read};
 
-/// A reader whose own want of memory is a read that failed, so that the kind `OutOfMemory` says
-/// that memory was refused to whoever reads from it.
+/// A reader that returns no error of the kind `OutOfMemory`.
+///
+/// If the inner reader returns one, the error becomes one of the kind `Other`. So this kind is left
+/// for allocations that fail where the text is collected.
 #[derive(Drop)]
 pub struct Reading<'a, R> {
     pub reader: &'a mut R,
@@ -21,7 +23,8 @@ impl<R: Read> Read for Reading<'_, R> {
 
     fn read(&mut self, buf: &mut [u8]) -> io::Result<usize>
         ensures bound { ReadsAtMost result buf.new }
-        ensures bytes { ReadConsumes (R.remaining self.old.reader.now) (R.remaining self.new.reader.now)
+        ensures bytes { ReadConsumes (R.remaining self.old.reader.now)
+            (R.remaining self.new.reader.now)
             result buf.new }
         ensures own { IfErr result (λ error. error_kind error ≢ OutOfMemory) }
     {
@@ -29,7 +32,7 @@ impl<R: Read> Read for Reading<'_, R> {
     }
 }
 
-// The error of a read that failed.
+// Returns the error of a failed read, which is not of the kind `OutOfMemory`.
 fn failed_read(error: io::Error) -> io::Error
     ensures { error_kind result ≡ read_kind (error_kind error) }
 {

@@ -1,4 +1,4 @@
-//! Writing a text, of which a beginning stands where a write fails.
+//! Writing a text, of which only a beginning is written if a write fails.
 ghost use Rattle.std.specs.Prelude.{◌≡◌, OnOk, IfErr};
 ghost use Rattle.std.specs.Io.KnownBytes.{Appends};
 ghost use Rattle.vecscript.specs.Print.{AppendsBeginning};
@@ -7,13 +7,18 @@ ghost use Rattle.vecscript.specs.declared.script.Fault.TheVariants.{InputOutput}
 use crate::script::Fault;
 use std::io::{ErrorKind, Write};
 
-/// Writes the text. A write that is interrupted is tried again; where another fails, or takes
-/// nothing, a beginning of the text was written.
+/// Writes the whole text.
+///
+/// An interrupted write is tried again. Does not allocate.
+///
+/// # Errors
+/// `Fault::InputOutput` if another write fails, or returns 0. A beginning of the text was written.
 #[tactic(auto, using(crate::proofs::Beginnings::written))]
 pub fn write_text<W: Write>(text: &[u8], output: &mut W) -> Result<(), Fault>
-    ensures ok { OnOk result (Appends (W.contents output.old) (W.contents output.new) text.now) }
+    ensures written { OnOk result (Appends (W.contents output.old)
+        (W.contents output.new) text.now) }
     ensures part { AppendsBeginning (W.contents output.old) (W.contents output.new) text.now }
-    ensures err { IfErr result (λ fault. fault ≡ InputOutput) }
+    ensures error { IfErr result (λ fault. fault ≡ InputOutput) }
 {
     let mut rest = text;
     'tries: for _ in 0..u64::MAX {

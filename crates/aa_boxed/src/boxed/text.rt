@@ -1,11 +1,11 @@
-//! `BoxedText`: text in a block that has room for it and no more.
+//! `BoxedText`, a text in a block without spare capacity.
 ghost use Rattle.std.specs.Prelude.{◌≡◌, ◌+◌, ◌<◌, ◌≤◌, ◌++◌, List, [], length, flat_map, None, IfOk, IfErr, OnOk, OnErr, MatchResult, IsUtf8};
 ghost use Rattle.std.specs.Iterator.{IsFinite, IsNearerEnd, Drains, YieldsThen};
 ghost use Rattle.std.specs.String.{string_bytes, string_capacity};
-ghost use Rattle.aa_raw.specs.Refusals.{IsRefusedAt};
+ghost use Rattle.aa_raw.specs.Errors.{IsErrorFor};
 ghost use Rattle.aa_raw.specs.declared.raw_vec.Growth.TheVariants.{Doubling};
 ghost use Rattle.aa_boxed.specs.Text.{Text, bytes_of, new_text, text_of_slice};
-ghost use Rattle.aa_boxed.specs.Text.{room_for, LacksBytes, PutsTexts, StopsAtText};
+ghost use Rattle.aa_boxed.specs.Text.{reserved_capacity, StringReserveFails, AppendsTexts, FailsAtText};
 
 use crate::boxed::slice::BoxedSlice;
 use aa_raw::collections::{TryReserveError, TryReserveErrorKind};
@@ -16,8 +16,9 @@ use std::marker::Model;
 use std::str;
 use std::string::String;
 
-/// A text, in UTF-8, whose bytes fill their block. It stands for
-/// `allocator_api2::boxed::Box<str, A>`.
+/// A text in UTF-8, whose bytes fill their block exactly.
+///
+/// Corresponds to allocator-api2's `Box<str, A>`.
 pub struct BoxedText<A: Allocator = Global> {
     bytes: BoxedSlice<u8, A>,
     ghost utf8: { ∥ IsUtf8 bytes.items ∥₁ },
@@ -30,12 +31,19 @@ impl<A: Allocator> Model for BoxedText<A> {
 }
 
 impl BoxedText<Global> {
-    /// A copy of the text, over the same allocator. It is refused as `from_text` is. It stands for
-    /// `Box<str>`'s `Clone`, which aborts on a refusal.
+    /// Returns a copy of the text, over the same allocator.
+    ///
+    /// Does not allocate if the text is empty.
+    ///
+    /// # Errors
+    /// `CapacityOverflow`; or `AllocError` with the number of bytes. The copy of an empty text
+    /// never fails.
+    ///
+    /// allocator-api2's `clone` aborts instead of returning an error.
     pub fn clone(&self) -> Result<Self, TryReserveError>
         ensures made { IfOk result (λ t. t ≡ self.now) }
-        ensures only_for_memory { OnErr result (0 < length self.now.bytes) }
-        ensures number { IfErr result (λ e. IsRefusedAt e (length self.now.bytes)) }
+        ensures only_if_allocating { OnErr result (0 < length self.now.bytes) }
+        ensures error { IfErr result (λ e. IsErrorFor e (length self.now.bytes)) }
     {
         let bytes = self.bytes.clone()?;
         Ok(BoxedText { bytes })
@@ -43,20 +51,33 @@ impl BoxedText<Global> {
 }
 
 impl<A: Allocator> BoxedText<A> {
-    /// A copy of `text`. It takes memory where there are bytes. A refusal is `CapacityOverflow`, or
-    /// `AllocError` with the number of bytes. It stands for `Box<str, A>`'s `From<&str>`, which
-    /// aborts on a refusal.
+    /// Returns a copy of `text`, allocated by `alloc`.
+    ///
+    /// Does not allocate if `text` is empty.
+    ///
+    /// # Errors
+    /// `CapacityOverflow`; or `AllocError` with the number of bytes. The copy of an empty text
+    /// never fails.
+    ///
+    /// Corresponds to allocator-api2's `From<&str>` for `Box<str, A>`, which aborts instead of
+    /// returning an error.
     pub fn from_text(alloc: A, text: &str) -> Result<Self, TryReserveError>
         ensures made { IfOk result (λ t. t ≡ new_text text.now alloc) }
-        ensures only_for_memory { OnErr result (0 < length text.now) }
-        ensures number { IfErr result (λ e. IsRefusedAt e (length text.now)) }
+        ensures only_if_allocating { OnErr result (0 < length text.now) }
+        ensures error { IfErr result (λ e. IsErrorFor e (length text.now)) }
     {
         let bytes = BoxedSlice::from_slice(alloc, text.as_bytes())?;
         Ok(BoxedText { bytes })
     }
 
-    /// The bytes as a text, in their own block, where they are UTF-8; else they are handed back as
-    /// they were. It takes no memory. The original has no such call.
+    /// Returns the bytes as a text, in the same block, if they are UTF-8.
+    ///
+    /// Does not allocate.
+    ///
+    /// # Errors
+    /// `bytes`, unchanged, if they are not UTF-8.
+    ///
+    /// Not in allocator-api2.
     pub fn from_bytes(bytes: BoxedSlice<u8, A>) -> Result<Self, BoxedSlice<u8, A>>
         ensures { MatchResult result
             (λ t. (bytes_of t ≡ bytes) × IsUtf8 bytes.items)
@@ -68,15 +89,20 @@ impl<A: Allocator> BoxedText<A> {
         }
     }
 
-    /// The text. It stands for the dereference of `Box<str, A>`.
+    /// Returns the text as a `&str`.
+    ///
+    /// Corresponds to the dereference of allocator-api2's `Box<str, A>`.
     pub fn as_str(&self) -> &str
         ensures { result.now ≡ self.now.bytes }
     {
         unsafe { str::from_utf8_unchecked(self.bytes.as_slice()) }
     }
 
-    /// The bytes of the text. It takes no memory. It stands for `Box<[u8], A>`'s
-    /// `From<Box<str, A>>`.
+    /// Returns the bytes of the text as a boxed slice, in the same block.
+    ///
+    /// Does not allocate.
+    ///
+    /// Corresponds to allocator-api2's `From<Box<str, A>>` for `Box<[u8], A>`.
     pub fn into_bytes(self) -> BoxedSlice<u8, A>
         ensures bytes { result ≡ bytes_of self }
         ensures utf8 { IsUtf8 result.items }
@@ -85,7 +111,7 @@ impl<A: Allocator> BoxedText<A> {
         bytes
     }
 
-    /// The allocator under the text. It stands for `Box::allocator`.
+    /// Returns a reference to the allocator.
     pub fn allocator(&self) -> &A
         ensures { result.now ≡ self.now.alloc }
     {
@@ -96,7 +122,9 @@ impl<A: Allocator> BoxedText<A> {
 impl<A: Allocator + Default> Default for BoxedText<A> {
     ghost is_default = { λ t. (t.bytes ≡ []) × (t.growth ≡ Doubling) × A.is_default t.alloc };
 
-    /// The empty text, over the default allocator. It takes no memory.
+    /// Returns an empty text, over the default allocator.
+    ///
+    /// Does not allocate.
     fn default() -> Self {
         BoxedText {
             bytes: BoxedSlice::default(),
@@ -105,55 +133,69 @@ impl<A: Allocator + Default> Default for BoxedText<A> {
 }
 
 impl<A: Allocator> Drop for BoxedText<A> {
-    /// Gives the memory back.
+    /// Deallocates the memory.
     fn drop(self) {
         let Self { bytes: _ } = self;
     }
 }
 
-/// Puts the texts of `iter`, which ends, behind `text`, each of them whole. It takes memory where
-/// one does not fit. Where that is refused, those before it stay, and it is dropped:
-/// `CapacityOverflow`, for sure where the length would pass `usize::MAX`, or `AllocError` with the
-/// capacity asked for. It stands for `String`'s `Extend<Box<str, A>>`, which aborts on a refusal.
+/// Appends the texts of `iter` to `text`, in order.
+///
+/// The iterator must be finite. Each text is appended whole, or not at all. Allocates only if a
+/// text does not fit in the capacity.
+///
+/// # Errors
+/// `CapacityOverflow`, always if the new length would exceed `usize::MAX`; or `AllocError` with the
+/// requested capacity. `text` then holds the texts that were appended before. The one that did not
+/// fit is dropped.
+///
+/// Corresponds to allocator-api2's `Extend<Box<str, A>>` for `String`, which aborts instead of
+/// returning an error.
 pub fn append_texts<S: Allocator, A: Allocator, I: Iterator<Item = BoxedText<A>>>(
     text: &mut String<S>,
     iter: I,
 ) -> Result<(), TryReserveError>
-    requires may_ask { I.can_next iter }
-    requires ends { IsFinite (I.remaining iter) }
+    requires callable { I.can_next iter }
+    requires finite { IsFinite (I.remaining iter) }
     ensures appended { OnOk result
-        ((ts : List (Text A)) × Drains I.next_gives iter ts × PutsTexts ts text.old text.new) }
-    ensures refused { IfErr result
-        (λ e. (after : I) × StopsAtText I.next_gives iter text.old e text.new after) }
-    ensures rises { string_capacity text.old ≤ string_capacity text.new }
+        ((ts : List (Text A)) × Drains I.next_gives iter ts × AppendsTexts ts text.old text.new) }
+    ensures failed { IfErr result
+        (λ e. (after : I) × FailsAtText I.next_gives iter text.old e text.new after) }
+    ensures never_shrinks { string_capacity text.old ≤ string_capacity text.new }
 {
     let mut rest = iter;
     append_texts_by(text, &mut rest)
 }
 
-/// `append_texts` by an iterator that is lent: no text is taken from it but those that were put
-/// and, on a refusal, one, which is dropped. It stands for `String`'s `Extend<Box<str, A>>` with
-/// `by_ref`.
+/// Like `append_texts`, but takes the iterator by `&mut`.
+///
+/// Takes only the texts that it appends and, if an allocation fails, the one that did not fit.
+/// Allocates as `append_texts` does.
+///
+/// # Errors
+/// As for `append_texts`.
+///
+/// Corresponds to allocator-api2's `Extend<Box<str, A>>` for `String`, called with `by_ref`.
 pub fn append_texts_by<S: Allocator, A: Allocator, I: Iterator<Item = BoxedText<A>>>(
     text: &mut String<S>,
     iter: &mut I,
 ) -> Result<(), TryReserveError>
-    // The iterator may be asked, and ends.
-    requires may_ask { I.can_next iter.old }
-    requires ends { IsFinite (I.remaining iter.old) }
+    // The iterator can be called, and is finite.
+    requires callable { I.can_next iter.old }
+    requires finite { IsFinite (I.remaining iter.old) }
 
-    // All texts are put there.
+    // Success appends all texts.
     ensures appended { OnOk result
         ((ts : List (Text A)) × YieldsThen I.next_gives iter.old ts None iter.new
-        × PutsTexts ts text.old text.new) }
+        × AppendsTexts ts text.old text.new) }
 
-    // A refusal tells where it stopped.
-    ensures refused { IfErr result
-        (λ e. StopsAtText I.next_gives iter.old text.old e text.new iter.new) }
-    ensures goes { IfErr result (λ _. IsNearerEnd I.can_next I.remaining iter.old iter.new) }
+    // Failure says which texts were appended, and advances the iterator.
+    ensures failed { IfErr result
+        (λ e. FailsAtText I.next_gives iter.old text.old e text.new iter.new) }
+    ensures advanced { IfErr result (λ _. IsNearerEnd I.can_next I.remaining iter.old iter.new) }
 
-    // The capacity never falls.
-    ensures rises { string_capacity text.old ≤ string_capacity text.new }
+    // The capacity never shrinks.
+    ensures never_shrinks { string_capacity text.old ≤ string_capacity text.new }
 {
     while let Some(next) = iter.next() {
         match append_text(text, next.as_str()) {
@@ -164,41 +206,44 @@ pub fn append_texts_by<S: Allocator, A: Allocator, I: Iterator<Item = BoxedText<
     Ok(())
 }
 
-// Puts `more` behind `text`, or changes nothing where room for it is refused.
+// Appends `more`, or leaves `text` unchanged if the allocation for it fails.
 fn append_text<S: Allocator>(text: &mut String<S>, more: &str) -> Result<(), TryReserveError>
-    // What it puts there, and the room for it.
+    // Success appends `more`, with the capacity that was reserved for it.
     ensures appended { OnOk result (string_bytes text.new ≡ string_bytes text.old ++ more.now) }
-    ensures room { OnOk result (string_capacity text.new
-        ≡ room_for (string_capacity text.old) (length (string_bytes text.old)) (length more.now)) }
+    ensures capacity { OnOk result (string_capacity text.new
+        ≡ reserved_capacity (string_capacity text.old) (length (string_bytes text.old))
+        (length more.now)) }
 
-    // A refusal changes nothing.
-    ensures kept { OnErr result (string_bytes text.new ≡ string_bytes text.old) }
-    ensures stays { OnErr result (string_capacity text.new ≡ string_capacity text.old) }
-    ensures lacks { IfErr result (LacksBytes text.new (length more.now)) }
+    // Failure changes nothing.
+    ensures unchanged { OnErr result (string_bytes text.new ≡ string_bytes text.old) }
+    ensures same_capacity { OnErr result (string_capacity text.new ≡ string_capacity text.old) }
+    ensures error { IfErr result (StringReserveFails text.new (length more.now)) }
 
-    // The capacity never falls.
-    ensures rises { string_capacity text.old ≤ string_capacity text.new }
+    // The capacity never shrinks.
+    ensures never_shrinks { string_capacity text.old ≤ string_capacity text.new }
 {
     make_room(text, more.len())?;
-    replace_with(text, more, with_behind);
+    replace_with(text, more, append_within_capacity);
     Ok(())
 }
 
-// Makes room for `additional` bytes behind `text`, with as much to spare as a vector's growth.
+// Reserves capacity for `additional` more bytes, and grows as a vector with the policy `Doubling`
+// does.
 fn make_room<S: Allocator>(text: &mut String<S>, additional: usize) -> Result<(), TryReserveError>
-    // The text is the same, with room behind it.
+    // The text does not change, and has the reserved capacity.
     ensures bytes { string_bytes text.new ≡ string_bytes text.old }
-    ensures room { OnOk result (string_capacity text.new
-        ≡ room_for (string_capacity text.old) (length (string_bytes text.old)) additional) }
-    ensures fits { OnOk result
+    ensures capacity { OnOk result (string_capacity text.new
+        ≡ reserved_capacity (string_capacity text.old) (length (string_bytes text.old))
+        additional) }
+    ensures reserved { OnOk result
         (length (string_bytes text.old) + additional ≤ string_capacity text.new) }
 
-    // A refusal changes nothing.
-    ensures stays { OnErr result (string_capacity text.new ≡ string_capacity text.old) }
-    ensures lacks { IfErr result (LacksBytes text.new additional) }
+    // Failure changes nothing.
+    ensures same_capacity { OnErr result (string_capacity text.new ≡ string_capacity text.old) }
+    ensures error { IfErr result (StringReserveFails text.new additional) }
 
-    // The capacity never falls.
-    ensures rises { string_capacity text.old ≤ string_capacity text.new }
+    // The capacity never shrinks.
+    ensures never_shrinks { string_capacity text.old ≤ string_capacity text.new }
 {
     let (len, capacity) = (text.len(), text.capacity());
     if additional <= capacity - len {
@@ -207,18 +252,21 @@ fn make_room<S: Allocator>(text: &mut String<S>, additional: usize) -> Result<()
     let Some(required) = len.checked_add(additional) else {
         return Err(TryReserveErrorKind::CapacityOverflow.into());
     };
-    let wanted = (capacity * 2).max(required).max(8);
-    match text.try_reserve_exact(wanted - len) {
+    let requested = (capacity * 2).max(required).max(8);
+    match text.try_reserve_exact(requested - len) {
         Ok(()) => Ok(()),
-        Err(_) => Err(TryReserveErrorKind::AllocError { capacity: wanted }.into()),
+        Err(_) => Err(TryReserveErrorKind::AllocError {
+            capacity: requested,
+        }
+        .into()),
     }
 }
 
-// The text with `more` behind it, in the same room.
-fn with_behind<S: Allocator>(text: String<S>, more: &str) -> (String<S>, ())
+// Returns `text` with `more` appended, without growth.
+fn append_within_capacity<S: Allocator>(text: String<S>, more: &str) -> (String<S>, ())
     requires { length (string_bytes text) + length more.now ≤ string_capacity text }
     ensures bytes { string_bytes result.0 ≡ string_bytes text ++ more.now }
-    ensures room { string_capacity result.0 ≡ string_capacity text }
+    ensures capacity { string_capacity result.0 ≡ string_capacity text }
 {
     let mut bytes = text.into_bytes();
     for byte in more.as_bytes() {

@@ -1,4 +1,4 @@
-//! `UninitBox`: room for one value.
+//! `UninitBox`, a box for a value that is still to be written.
 ghost use Rattle.std.specs.Prelude.{◌≡◌, ◌<◌, IfOk, IfErr, length};
 ghost use Rattle.std.specs.Mem.{type_size};
 ghost use Rattle.aa_boxed.specs.Room.{IsForOne};
@@ -8,8 +8,11 @@ use aa_raw::raw_vec::RawVec;
 use std::alloc::{AllocError, Allocator, Global};
 use std::marker::Model;
 
-/// A box that is to be written once. A contract sees it as its allocator. Its drop gives the memory
-/// back. It stands for `allocator_api2::boxed::Box<MaybeUninit<T>, A>`.
+/// A box whose value is still to be written, once.
+///
+/// Contracts see it as its allocator. When dropped, deallocates the memory.
+///
+/// Corresponds to allocator-api2's `Box<MaybeUninit<T>, A>`.
 pub struct UninitBox<T, A: Allocator = Global> {
     block: RawVec<T, A>,
     ghost room: { 0 < length block.places },
@@ -23,19 +26,23 @@ impl<T, A: Allocator> Model for UninitBox<T, A> {
 }
 
 impl<T, A: Allocator> UninitBox<T, A> {
-    /// The box with `x` in it. It takes no memory. It stands for `Box::write`.
+    /// Writes `x` into the box and returns it.
+    ///
+    /// Does not allocate.
+    ///
+    /// Corresponds to allocator-api2's `Box::write`.
     pub fn write(b: UninitBox<T, A>, x: T) -> Box<T, A>
         ensures { result ≡ record { value = x; alloc = b } }
     {
         let UninitBox { mut block } = b;
         block.put(0, x);
-        Box::of(block)
+        Box::from_filled_block(block)
     }
 
-    // Room in memory of `alloc`.
-    pub(crate) fn taken(alloc: A) -> Result<UninitBox<T, A>, AllocError>
+    // Allocates memory for one value by `alloc`.
+    pub(crate) fn allocate_in(alloc: A) -> Result<UninitBox<T, A>, AllocError>
         ensures made { IfOk result (λ b. b ≡ alloc) }
-        ensures refused { IfErr result (λ _. 0 < type_size T.row) }
+        ensures error { IfErr result (λ _. 0 < type_size T.row) }
     {
         match RawVec::with_capacity_in(1, alloc) {
             Ok(block) => Ok(UninitBox { block }),
@@ -45,7 +52,7 @@ impl<T, A: Allocator> UninitBox<T, A> {
 }
 
 impl<T, A: Allocator> Drop for UninitBox<T, A> {
-    /// Gives the memory back.
+    /// Deallocates the memory.
     fn drop(self) {
         let Self { block: _ } = self;
     }

@@ -1,4 +1,4 @@
-//! The elements of a whole text, one after the other.
+//! An iterator over the elements of a whole text.
 ghost use Rattle.std.specs.Prelude.{◌≡◌, length};
 ghost use Rattle.std.specs.Iterator.{at_most};
 ghost use Rattle.std.specs.Map.Iter.{TakesFirst, deref};
@@ -9,8 +9,10 @@ use std::alloc::Allocator;
 use std::fmt;
 use std::marker::Model;
 
-/// The elements that are left of a text, lent in order, those before the cursor first. A contract
-/// sees them as a list.
+/// An iterator over references to the elements of a text, in order.
+///
+/// Returns the elements before the cursor first. Contracts see it as the list of the remaining
+/// elements.
 #[derive(Drop)]
 pub struct Iter<'a, T> {
     before: &'a [T],
@@ -26,7 +28,7 @@ impl<'a, T> Model for Iter<'a, T> {
 }
 
 impl<T, A: Allocator> GapBuffer<T, A> {
-    /// The elements of the whole text, in order.
+    /// Returns an iterator over the elements of the whole text, in order.
     pub fn iter(&self) -> Iter<'_, T>
         ensures { result ≡ text self.now }
     {
@@ -44,7 +46,7 @@ impl<'a, T> Iterator for Iter<'a, T> {
 
     ghost remaining = { λ left. at_most (length left) };
 
-    /// The next element, if one is left.
+    /// Returns the next element, or `None` if no element remains.
     fn next(&mut self) -> Option<&'a T> {
         let before = self.before;
         if !before.is_empty() {
@@ -61,7 +63,7 @@ impl<'a, T> Iterator for Iter<'a, T> {
 }
 
 impl<T: fmt::Debug, A: Allocator> fmt::Debug for GapBuffer<T, A> {
-    /// Prints the whole text as a slice of its elements prints.
+    /// Formats the whole text as a slice of its elements is formatted.
     fn fmt<W: fmt::Write>(&self, f: &mut fmt::Formatter<W>) -> fmt::Result {
         f.debug_list().entries(self.iter()).finish()
     }

@@ -1,11 +1,11 @@
-//! `IntoIter`: the items of a block, taken from either end.
+//! `IntoIter`: the iterator by value over the items of a block, from either end.
 ghost use Rattle.std.specs.Prelude.{◌≡◌, ◌-◌, ◌≤◌, [], length, Some, IfSome};
 ghost use Rattle.std.specs.Borrow.{sem};
 ghost use Rattle.std.specs.Iterator.{YieldsFirst, YieldsLast, UpTo, item_count};
 ghost use Rattle.std.specs.Iterator.SizeHint.{IsWithinCount};
-ghost use Rattle.aa_raw.specs.IntoIter.{Left, left_in, gives_first, gives_last};
+ghost use Rattle.aa_raw.specs.IntoIter.{Remaining, remaining_in, takes_first, takes_last};
 ghost use Rattle.aa_raw.specs.Places.{IsRun, run};
-ghost use Rattle.aa_raw.specs.IntoIterInner.{left_of, IsBetween};
+ghost use Rattle.aa_raw.specs.IntoIterInner.{view_of, IsBetween};
 
 use crate::raw_vec::RawVec;
 use std::alloc::{Allocator, Global};
@@ -14,8 +14,10 @@ use std::fmt;
 use std::iter::FusedIterator;
 use std::marker::Model;
 
-/// An iterator over the items that are left of a block, from either end. Contracts also see the
-/// block's capacity and counts. When dropped, it drops the items in order and frees the memory.
+/// An iterator over the remaining items of a block, from either end.
+///
+/// When dropped, it drops the items in order and deallocates the memory. Contracts also see the
+/// capacity and the counters of the block.
 pub struct IntoIter<T, A: Allocator = Global> {
     block: RawVec<T, A>,
     front: usize,
@@ -23,22 +25,24 @@ pub struct IntoIter<T, A: Allocator = Global> {
 }
 
 impl<T, A: Allocator> Model for IntoIter<T, A> {
-    ghost Value = { Left T A };
+    ghost Value = { Remaining T A };
 
-    ghost view = { left_of };
+    ghost view = { view_of };
 
     ghost invariant = { IsBetween };
 }
 
 impl<T, A: Allocator> IntoIter<T, A> {
-    ghost use Rattle.aa_raw.specs.IntoIterLends.{lends_left};
+    ghost use Rattle.aa_raw.specs.IntoIterLends.{lends_remaining};
 
-    /// Returns an iterator over the values in the first `len` places of `block`, which it takes over.
-    /// Does not allocate. Not in allocator-api2: a vector there takes itself apart.
+    /// Returns an iterator over the values in the first `len` places of `block`, and takes the
+    /// block by value.
+    ///
+    /// Does not allocate. Not in allocator-api2, where a vector takes itself apart.
     #[tactic(auto, using(crate::proofs::Calls::in_runs))]
     pub fn from_block(block: RawVec<T, A>, len: usize) -> Self
         requires { IsRun block.places 0 len }
-        ensures { result ≡ left_in block (run block.places 0 len) }
+        ensures { result ≡ remaining_in block (run block.places 0 len) }
     {
         let mut block = block;
         block.forget_from(len);
@@ -49,7 +53,7 @@ impl<T, A: Allocator> IntoIter<T, A> {
         }
     }
 
-    /// The items that are left, in order. It stands for `IntoIter::as_slice`.
+    /// Returns the remaining items as a slice, in order.
     #[tactic(auto, using(crate::proofs::Calls::shown))]
     pub fn as_slice(&self) -> &[T]
         ensures { result.now ≡ self.now.items }
@@ -57,24 +61,25 @@ impl<T, A: Allocator> IntoIter<T, A> {
         self.block.slice(self.front, self.back - self.front)
     }
 
-    /// The items that are left, to write to. It stands for `IntoIter::as_mut_slice`.
+    /// Returns the remaining items as a mutable slice, in order.
     #[tactic(auto, using(crate::proofs::Calls::shown, crate::proofs::Beyond::around_run))]
     pub fn as_mut_slice(&mut self) -> &mut [T]
-        ensures* writes_back { sem 𝓛 (lends_left T.row A.row A.Allocator self.entry result) }
+        ensures* writes_back { sem 𝓛 (lends_remaining T.row A.row A.Allocator self.entry result) }
         ensures value { result.now ≡ self.old.items }
     {
         self.block.slice_mut(self.front, self.back - self.front)
     }
 
-    /// The allocator under the block. It stands for `IntoIter::allocator`.
+    /// Returns a reference to the underlying allocator.
     pub fn allocator(&self) -> &A
         ensures { result.now ≡ self.now.alloc }
     {
         self.block.allocator()
     }
 
-    /// How many items are left. It stands for `IntoIter::len`, and is right for elements without
-    /// size too.
+    /// Returns the number of remaining items.
+    ///
+    /// It is exact for zero-sized elements too.
     #[inline]
     #[tactic(auto, using(crate::proofs::Calls::shown))]
     pub fn len(&self) -> usize
@@ -83,7 +88,7 @@ impl<T, A: Allocator> IntoIter<T, A> {
         self.back - self.front
     }
 
-    /// How many items are left; they are dropped. It stands for `IntoIter::count`.
+    /// Returns the number of remaining items, and drops them.
     pub fn count(self) -> usize
     where
         T: Drop,
@@ -92,12 +97,13 @@ impl<T, A: Allocator> IntoIter<T, A> {
         self.len()
     }
 
-    /// Takes the first item. At the end it answers `None`, and so for good. It stands for
-    /// `IntoIter::next`.
+    /// Removes the first remaining item and returns it.
+    ///
+    /// Returns `None` at the end, and from then on always.
     #[inline(always)]
     #[tactic(auto, using(crate::proofs::Calls::at_ends, crate::proofs::Beyond::at_sides))]
     pub fn next(&mut self) -> Option<T>
-        ensures { gives_first self.old result self.new }
+        ensures { takes_first self.old result self.new }
     {
         let front = self.front;
         if front == self.back {
@@ -107,12 +113,14 @@ impl<T, A: Allocator> IntoIter<T, A> {
         Some(self.block.take(front))
     }
 
-    /// Takes the last item. At the end it answers `None`, and so for good. It stands for
-    /// `IntoIter::next_back`, which lets the length grow for elements without size.
+    /// Removes the last remaining item and returns it.
+    ///
+    /// Returns `None` at the end, and from then on always. In allocator-api2 this call lets the
+    /// length grow for zero-sized elements.
     #[inline(always)]
     #[tactic(auto, using(crate::proofs::Calls::at_ends, crate::proofs::Beyond::at_sides))]
     pub fn next_back(&mut self) -> Option<T>
-        ensures { gives_last self.old result self.new }
+        ensures { takes_last self.old result self.new }
     {
         if self.front == self.back {
             return None;
@@ -135,7 +143,7 @@ impl<T: Drop, A: Allocator> Iterator for IntoIter<T, A> {
         IntoIter::next(self)
     }
 
-    /// How many items are left, exactly.
+    /// Returns the exact number of remaining items as both bounds.
     fn size_hint(&self) -> (usize, Option<usize>)
         ensures lower { IsWithinCount result.0 (item_count (λ left. left.items) self.now) }
         ensures upper { IfSome result.1 (UpTo (item_count (λ left. left.items) self.now)) }
@@ -166,7 +174,9 @@ impl<T: Drop, A: Allocator> FusedIterator for IntoIter<T, A> {}
 impl<T, A: Allocator + Default> Default for IntoIter<T, A> {
     ghost is_default = { λ left. (left.items ≡ []) × A.is_default left.alloc };
 
-    /// No items, over the default allocator. It takes no memory.
+    /// Returns an empty iterator over the default allocator.
+    ///
+    /// Does not allocate.
     #[tactic(auto, using(crate::proofs::Calls::at_ends))]
     fn default() -> Self {
         IntoIter::from_block(RawVec::new_in(A::default()), 0)

@@ -1,4 +1,4 @@
-//! Comparisons, hash and text of a vector: those of its elements as a slice.
+//! Comparisons, hash and debug output of a vector: those of its elements as a slice.
 ghost use Rattle.std.specs.Hash as fed;
 ghost use Rattle.std.specs.Hash.{on_Alike, items_Alike};
 ghost use Rattle.std.specs.Cmp.{on_equiv, on_total, on_po, on_per};
@@ -6,7 +6,7 @@ ghost use Rattle.std.specs.Cmp.Lexicographic.{pointwise, slice_cmp, slice_partia
 ghost use Rattle.std.specs.Fmt.{debug_list};
 
 use crate::vec::Vec;
-use aa_boxed::slices::{compared, compared_in_part, same};
+use aa_boxed::slices::{compare, partial_compare, same};
 use std::alloc::Allocator;
 use std::cmp::Ordering;
 use std::fmt;
@@ -16,7 +16,7 @@ use std::hash::{Hash, Hasher};
 impl<T: Debug, A: Allocator> Debug for Vec<T, A> {
     ghost debug_output = { λ v. debug_list T.debug_output v.items };
 
-    /// Prints the elements as a slice prints them.
+    /// Formats the elements as a slice formats them.
     fn fmt<W: fmt::Write>(&self, f: &mut Formatter<W>) -> fmt::Result {
         Debug::fmt(&self.as_slice(), f)
     }
@@ -28,7 +28,7 @@ impl<T: Hash, A: Allocator> Hash for Vec<T, A> {
     ghost respects_eq = { (on_Alike (λ v. v.items)
         (items_Alike (record { fed = T.respects_eq }))).fed };
 
-    /// Hashes the length, and then the elements in order.
+    /// Feeds the length, and then the elements in order, into the hasher `state`.
     fn hash<H: Hasher>(&self, state: &mut H) {
         self.as_slice().hash(state);
     }
@@ -39,7 +39,7 @@ impl<T: PartialEq, A: Allocator> PartialEq for Vec<T, A> {
 
     ghost laws = { on_per (λ v. v.items) (lists_per T.laws) };
 
-    /// Whether the elements are equal, one by one.
+    /// Returns `true` if the elements are equal, one by one.
     fn eq(&self, other: &Self) -> bool {
         same(self.as_slice(), other.as_slice())
     }
@@ -54,10 +54,10 @@ impl<T: PartialOrd, A: Allocator> PartialOrd for Vec<T, A> {
 
     ghost laws = { on_po (λ v. v.items) (lists_po T.PartialOrd.laws) };
 
-    /// The order of the first elements that are not equal, or of the lengths where one list begins
-    /// the other.
+    /// Returns the order of the first elements that are not equal, or of the lengths if one list is
+    /// a prefix of the other.
     fn partial_cmp(&self, other: &Self) -> Option<Ordering> {
-        compared_in_part(self.as_slice(), other.as_slice())
+        partial_compare(self.as_slice(), other.as_slice())
     }
 }
 
@@ -71,9 +71,9 @@ impl<T: Ord, A: Allocator> Ord for Vec<T, A> {
     ghost matches_partial_cmp = { λ left right.
         lists_agrees T.matches_partial_cmp left.items right.items };
 
-    /// The order of the first elements that are not equal, or of the lengths where one list begins
-    /// the other.
+    /// Returns the order of the first elements that are not equal, or of the lengths if one list is
+    /// a prefix of the other.
     fn cmp(&self, other: &Self) -> Ordering {
-        compared(self.as_slice(), other.as_slice())
+        compare(self.as_slice(), other.as_slice())
     }
 }

@@ -1,9 +1,10 @@
-//! Copies of elements that are `Copy`. Each call is a second one beside that for `Clone`, since a
-//! call can't tell the two apart: it can't be refused for a clone. Where a clone is a plain copy it
-//! is no faster.
+//! Copies of elements that are `Copy`.
+//!
+//! Each call is a second one beside that for `Clone`, since a call can't distinguish the two. It
+//! can't fail for a clone. If a clone is a plain copy, it is no faster.
 ghost use Rattle.std.specs.Prelude.{◌≡◌, ◌+◌, ◌-◌, ◌<◌, ◌≤◌, ◌++◌, length, take, drop, slice_range, IfOk, IfErr, OnOk, OnErr, IsOk};
 ghost use Rattle.std.specs.Mem.{type_size};
-ghost use Rattle.aa_raw.specs.Refusals.{RefusesBlock, RefusesClones};
+ghost use Rattle.aa_raw.specs.Errors.{AllocationFails, ClonesFail};
 ghost use Rattle.aa_raw.specs.declared.raw_vec.Growth.TheVariants.{Doubling};
 ghost use Rattle.aa_vec.specs.Vector.{len, HasRoom, LacksRoom, GrowsTo, Holds};
 ghost use Rattle.aa_vec.specs.Copies.{WritesAtMost, IsMadeWithin};
@@ -15,56 +16,83 @@ use std::alloc::{Allocator, Global};
 use std::ops::Range;
 
 impl<T: Copy> Vec<T, Global> {
-    /// `from_slice` for elements that are `Copy`, which is refused only where memory is. It stands
-    /// for what the original's `From<&[T]>` compiles to for such elements.
+    /// Returns a vector of copies of the elements of `slice` on the global allocator.
+    ///
+    /// Like `from_slice`, for elements that are `Copy`: only the allocation can fail. Allocates as
+    /// that does.
+    ///
+    /// # Errors
+    /// Returns `CapacityOverflow`, or `AllocError` with the length of `slice`.
+    ///
+    /// Corresponds to what allocator-api2's `From<&[T]>` compiles to for such elements.
     pub fn from_slice_copied(alloc: Global, slice: &[T]) -> Result<Self, TryReserveError>
         ensures made { IfOk result (IsMadeWithin (type_size T.row) Doubling slice.now) }
         ensures alloc { IfOk result (λ v. v.alloc ≡ alloc) }
-        ensures refused { IfErr result (RefusesBlock (length slice.now) (type_size T.row)) }
+        ensures error { IfErr result (AllocationFails (length slice.now) (type_size T.row)) }
     {
         Vec::from_slice_copied_in(slice, alloc)
     }
 }
 
 impl<T: Copy, A: Allocator> Vec<T, A> {
-    /// `from_slice_in` for elements that are `Copy`, which is refused only where memory is. The
-    /// original has no such call.
+    /// Returns a vector of copies of the elements of `slice`, with capacity for exactly these.
+    ///
+    /// Like `from_slice_in`, for elements that are `Copy`: only the allocation can fail. Allocates
+    /// as that does.
+    ///
+    /// # Errors
+    /// Returns `CapacityOverflow`, or `AllocError` with the length of `slice`.
+    ///
+    /// Not in allocator-api2.
     pub fn from_slice_copied_in(slice: &[T], alloc: A) -> Result<Self, TryReserveError>
         ensures made { IfOk result (IsMadeWithin (type_size T.row) Doubling slice.now) }
         ensures alloc { IfOk result (λ v. v.alloc ≡ alloc) }
-        ensures refused { IfErr result (RefusesBlock (length slice.now) (type_size T.row)) }
+        ensures error { IfErr result (AllocationFails (length slice.now) (type_size T.row)) }
     {
         let mut made = Vec::with_capacity_in(slice.len(), alloc)?;
         made.put_copies(slice);
         Ok(made)
     }
 
-    /// `clone` for elements that are `Copy`, which is refused only where memory or the allocator's
-    /// clone is. It stands for what the original's `Clone` compiles to for such elements.
+    /// Returns a copy of the vector, over a clone of the allocator.
+    ///
+    /// Like `clone`, for elements that are `Copy`: only the allocation and the clone of the
+    /// allocator can fail. Allocates as that does.
+    ///
+    /// # Errors
+    /// Returns `CapacityOverflow`, or `AllocError` with the length.
+    ///
+    /// Corresponds to what allocator-api2's `Clone` compiles to for such elements.
     pub fn clone_copied(&self) -> Result<Self, TryReserveError>
     where
         A: Clone,
         ensures made { IfOk result (IsMadeWithin (type_size T.row) self.now.growth self.now.items) }
         ensures alloc { IfOk result (λ v. A.is_clone self.now.alloc v.alloc) }
-        ensures refused { IfErr result
-            (RefusesClones (A.is_infallible self.now.alloc) (len self.now) (type_size T.row)) }
+        ensures error { IfErr result
+            (ClonesFail (A.is_infallible self.now.alloc) (len self.now) (type_size T.row)) }
     {
         let mut made = self.empty_like(self.len())?;
         made.put_copies(self.as_slice());
         Ok(made)
     }
 
-    /// `extend_from_slice` for elements that are `Copy`, which is refused only as `try_reserve` is,
-    /// and then changes nothing. It stands for what the original's `extend_from_slice` compiles to
-    /// for such elements.
+    /// Appends a copy of each element of `other`.
+    ///
+    /// Like `extend_from_slice`, for elements that are `Copy`: only the allocation can fail.
+    /// Allocates as `try_reserve` does.
+    ///
+    /// # Errors
+    /// Returns the same errors as `try_reserve`. The vector is unchanged.
+    ///
+    /// Corresponds to what allocator-api2's `extend_from_slice` compiles to for such elements.
     #[inline(always)]
     #[tactic(auto, using(crate::proofs::Becoming::became))]
     pub fn extend_from_slice_copied(&mut self, other: &[T]) -> Result<(), TryReserveError>
         ensures fits { HasRoom self.old (length other.now) → IsOk result }
         ensures extended { OnOk result (GrowsTo (type_size T.row) self.old
             (length other.now) (self.old.items ++ other.now) self.new) }
-        ensures writes { OnOk result (WritesAtMost self.old (length other.now) self.new) }
-        ensures refused { IfErr result (LacksRoom (type_size T.row) self.old (length other.now)) }
+        ensures written { OnOk result (WritesAtMost self.old (length other.now) self.new) }
+        ensures error { IfErr result (LacksRoom (type_size T.row) self.old (length other.now)) }
         ensures unchanged { OnErr result (self.new ≡ self.old) }
     {
         if let Err(error) = self.try_reserve(other.len()) {
@@ -74,21 +102,27 @@ impl<T: Copy, A: Allocator> Vec<T, A> {
         Ok(())
     }
 
-    /// `extend_from_within` for elements that are `Copy`, which is refused only as `try_reserve`
-    /// is, and then changes nothing. It stands for what the original's `extend_from_within`
-    /// compiles to for such elements.
+    /// Appends a copy of each element of the range.
+    ///
+    /// Like `extend_from_within`, for elements that are `Copy`: only the allocation can fail.
+    /// Allocates as `try_reserve` does.
+    ///
+    /// # Errors
+    /// Returns the same errors as `try_reserve`. The vector is unchanged.
+    ///
+    /// Corresponds to what allocator-api2's `extend_from_within` compiles to for such elements.
     #[tactic(auto, using(crate::proofs::Becoming::became))]
     pub fn extend_from_within_copied(&mut self, range: Range<usize>) -> Result<(), TryReserveError>
         requires { (range.start ≤ range.end) × (range.end ≤ len self.old) }
 
-        // What fits is copied.
+        // Elements that fit are copied without an error.
         ensures fits { HasRoom self.old (range.end - range.start) → IsOk result }
         ensures extended { OnOk result (GrowsTo (type_size T.row) self.old (range.end - range.start)
             (self.old.items ++ slice_range self.old.items range.start range.end) self.new) }
-        ensures writes { OnOk result (WritesAtMost self.old (range.end - range.start) self.new) }
+        ensures written { OnOk result (WritesAtMost self.old (range.end - range.start) self.new) }
 
-        // A refusal changes nothing.
-        ensures refused { IfErr result
+        // An error changes nothing.
+        ensures error { IfErr result
             (LacksRoom (type_size T.row) self.old (range.end - range.start)) }
         ensures unchanged { OnErr result (self.new ≡ self.old) }
     {
@@ -100,37 +134,36 @@ impl<T: Copy, A: Allocator> Vec<T, A> {
         Ok(())
     }
 
-    // Puts copies of all of `source` behind the last element of a vector that has room for them.
+    // Appends copies of all elements of `source`, which fit.
     #[inline(always)]
     #[tactic(auto, using(aa_raw::proofs::Calls::in_runs))]
     fn put_copies(&mut self, source: &[T])
         requires room { HasRoom self.old (length source.now) }
         ensures items { Holds self.old (self.old.items ++ source.now) self.new }
-        ensures writes { WritesAtMost self.old (length source.now) self.new }
+        ensures written { WritesAtMost self.old (length source.now) self.new }
     {
         let len = self.len;
-        self.block.known();
+        self.block.prove_capacity_bounds();
         self.block.put_copies(len, source);
         self.len = len + source.len();
     }
 
-    // Puts copies of `count` of its own elements, from the index `from` on, behind the last one of
-    // a vector that has room for them.
+    // Appends copies of `count` of the vector's own elements, from the index `from` on. They fit.
     fn put_own_copies(&mut self, from: usize, count: usize)
         requires range { from + count ≤ len self.old }
         requires room { HasRoom self.old count }
         ensures items { Holds self.old
             (self.old.items ++ take count (drop from self.old.items)) self.new }
-        ensures writes { WritesAtMost self.old count self.new }
+        ensures written { WritesAtMost self.old count self.new }
     {
         replace_with(self, (from, count), with_own_copies)
     }
 }
 
 // The loop owns the vector that it fills: nothing that is stored in its places can then change its
-// fields, which stay in registers, and it compiles to copies of many elements at once.
+// fields, which are kept in registers. So it compiles to copies of many elements at once.
 
-// `put_own_copies`, from the first number on, and as many as the second says.
+// `put_own_copies`, of `own.1` elements from the index `own.0` on.
 fn with_own_copies<T: Copy, A: Allocator>(
     mut list: Vec<T, A>,
     own: (usize, usize),
@@ -138,7 +171,7 @@ fn with_own_copies<T: Copy, A: Allocator>(
     requires range { own.0 + own.1 ≤ len list }
     requires room { HasRoom list own.1 }
     ensures items { Holds list (list.items ++ take own.1 (drop own.0 list.items)) result.0 }
-    ensures writes { WritesAtMost list own.1 result.0 }
+    ensures written { WritesAtMost list own.1 result.0 }
 {
     let (from, count) = own;
     'each: for at in 0..count {

@@ -1,39 +1,45 @@
-//! Repeats that are dropped.
+//! Removal of repeated elements.
 ghost use Rattle.std.specs.Prelude.{◌≡◌, Bool, ◌+◌, ◌-◌, ◌<◌, [], ◌∷◌, ◌++◌, List, drop, length};
 ghost use Rattle.std.specs.List.{dedup};
 ghost use Rattle.std.specs.Fn.{CalledAtPairMut, ComparesKeys};
-ghost use Rattle.aa_raw.specs.Closures.{TakesPairMut};
-ghost use Rattle.aa_vec.specs.Behind.{StandsBehind, behind_items};
-ghost use Rattle.aa_vec.specs.Choosing.{TakesForKeys, Equals, IsCallableAlong, MayChainFrom, MayDeduplicate, IsSteady, Deduplicates};
-ghost use Rattle.aa_vec.specs.Until.{AsksLast, ChainsOn, ChainsBehind, AsksNeighbours, ChainsAlong};
+ghost use Rattle.aa_raw.specs.Closures.{CallableAtPairMut};
+ghost use Rattle.aa_vec.specs.Tail.{HasTail, tail_items};
+ghost use Rattle.aa_vec.specs.Choosing.{CallableAtKeys, Equals, IsCallableAlong, MayChainFrom, MayDeduplicate, IsPureTest, Deduplicates};
+ghost use Rattle.aa_vec.specs.Until.{CallsOnLast, ChainsInTail, ChainsOnTail, CallsOnNeighbours, ChainsAlong};
 ghost use Rattle.aa_vec.specs.Vector.{len};
 
 use crate::vec::Vec;
-use crate::vec::behind::steps::{step_over, step_over_any};
-use crate::vec::retain::ask;
+use crate::vec::retain::call_on;
+use crate::vec::tail::steps::{step_over, step_over_many};
 use core::mem::replace_with;
 use std::alloc::Allocator;
 
 impl<T: Drop, A: Allocator> Vec<T, A> {
-    /// Drops each element but the first whose key equals that of the last one that was kept before
-    /// it. `key` is asked anew for both elements of each comparison, first for the one under test.
-    /// The order and the capacity stay; it takes no memory. It stands for `Vec::dedup_by_key`.
+    /// Removes each element whose key equals the key of the last element kept before it.
+    ///
+    /// For each comparison `key` is called anew for both elements: first for the one under test,
+    /// then for the last one kept. The removed elements are dropped. Preserves the order. Does not
+    /// allocate, and does not change the capacity.
     pub fn dedup_by_key<K: PartialEq + Drop, F: FnMut(&mut T) -> K + Drop>(&mut self, mut key: F)
         requires { IsCallableAlong (ComparesKeys F.FnMut K.eq)
-            (TakesForKeys F.FnMut) key self.old.items }
+            (CallableAtKeys F.FnMut) key self.old.items }
         ensures removed { (last : F)
             × Deduplicates (ComparesKeys F.FnMut K.eq) key self.old last self.new }
-        ensures steady { (same : T → T → Bool) → IsSteady (ComparesKeys F.FnMut K.eq) same
+        ensures pure_test { (same : T → T → Bool) → IsPureTest (ComparesKeys F.FnMut K.eq) same
             → self.new.items ≡ dedup same self.old.items }
     {
         self.dedup_within_key(&mut key);
     }
 
-    /// Asks `same_bucket` of each element but the first, in order, beside the last one that was
-    /// kept before it, and drops it where the answer is true. Both stay as `same_bucket` leaves
-    /// them. The order and the capacity stay; it takes no memory. It stands for `Vec::dedup_by`.
+    /// Removes each element for which `same_bucket` returns `true` beside the last element kept
+    /// before it.
+    ///
+    /// `same_bucket(element, last)` is called for each element but the first, in order, where
+    /// `last` is the last element kept before it. Both are left as `same_bucket` leaves them. The
+    /// removed elements are dropped. Preserves the order. Does not allocate, and does not change
+    /// the capacity.
     pub fn dedup_by<F: FnMut(&mut T, &mut T) -> bool + Drop>(&mut self, mut same_bucket: F)
-        requires { IsCallableAlong (CalledAtPairMut F.FnMut) (TakesPairMut F.FnMut)
+        requires { IsCallableAlong (CalledAtPairMut F.FnMut) (CallableAtPairMut F.FnMut)
             same_bucket self.old.items }
         ensures { (last : F)
             × Deduplicates (CalledAtPairMut F.FnMut) same_bucket self.old last self.new }
@@ -41,35 +47,43 @@ impl<T: Drop, A: Allocator> Vec<T, A> {
         self.dedup_within(&mut same_bucket);
     }
 
-    /// Asks `same` of each element but the first, in order, beside the last one that was kept
-    /// before it, and drops it where the answer is true. Both stay as `same` leaves them. The order
-    /// and the capacity stay; it takes no memory. This is `dedup_by` by a closure that is lent, so
-    /// that the caller knows what becomes of it.
+    /// Like `dedup_by`, but takes the closure by `&mut`, so that contracts describe its final
+    /// state.
+    ///
+    /// Removes each element for which `same` returns `true` beside the last one kept before it.
+    /// Both are left as `same` leaves them. Preserves the order. Does not allocate, and does not
+    /// change the capacity.
+    ///
+    /// Not in allocator-api2.
     pub fn dedup_within<F: FnMut(&mut T, &mut T) -> bool>(&mut self, same: &mut F)
-        requires { IsCallableAlong (CalledAtPairMut F.FnMut) (TakesPairMut F.FnMut)
+        requires { IsCallableAlong (CalledAtPairMut F.FnMut) (CallableAtPairMut F.FnMut)
             same.old self.old.items }
         ensures { Deduplicates (CalledAtPairMut F.FnMut) same.old self.old same.new self.new }
     {
         let _same = replace_with(self, same, dedup_owned);
     }
 
-    /// Drops each element but the first whose key equals that of the last one that was kept before
-    /// it. `key` is asked anew for both elements of each comparison, first for the one under test.
-    /// The order and the capacity stay; it takes no memory. This is `dedup_by_key` by a closure
-    /// that is lent, so that the caller knows what becomes of it.
+    /// Like `dedup_by_key`, but takes the closure by `&mut`, so that contracts describe its final
+    /// state.
+    ///
+    /// For each comparison `key` is called anew for both elements: first for the one under test,
+    /// then for the last one kept. Preserves the order. Does not allocate, and does not change the
+    /// capacity.
+    ///
+    /// Not in allocator-api2.
     pub fn dedup_within_key<K: PartialEq + Drop, F: FnMut(&mut T) -> K>(&mut self, key: &mut F)
-        requires { IsCallableAlong (ComparesKeys F.FnMut K.eq) (TakesForKeys F.FnMut)
+        requires { IsCallableAlong (ComparesKeys F.FnMut K.eq) (CallableAtKeys F.FnMut)
             key.old self.old.items }
         ensures removed { Deduplicates (ComparesKeys F.FnMut K.eq)
             key.old self.old key.new self.new }
-        ensures steady { (same : T → T → Bool) → IsSteady (ComparesKeys F.FnMut K.eq) same
+        ensures pure_test { (same : T → T → Bool) → IsPureTest (ComparesKeys F.FnMut K.eq) same
             → self.new.items ≡ dedup same self.old.items }
     {
         self.dedup_within(
             &mut move |element: &mut T, last: &mut T|
-                requires { TakesForKeys F.FnMut key.now element.old last.old }
+                requires { CallableAtKeys F.FnMut key.now element.old last.old }
                 ensures same_reference { key.exit.ghost_name ≡ key.entry.ghost_name }
-                ensures asked { ComparesKeys F.FnMut K.eq key.entry.now element.old last.old result
+                ensures called { ComparesKeys F.FnMut K.eq key.entry.now element.old last.old result
                     key.exit.now element.new last.new }
             { same_keys(key, element, last) },
         );
@@ -77,8 +91,10 @@ impl<T: Drop, A: Allocator> Vec<T, A> {
 }
 
 impl<T: PartialEq + Drop, A: Allocator> Vec<T, A> {
-    /// Drops each element that equals the last one that was kept before it. The order and the
-    /// capacity stay; it takes no memory. It stands for `Vec::dedup`.
+    /// Removes each element that equals the last element kept before it.
+    ///
+    /// The removed elements are dropped. Preserves the order. Does not allocate, and does not
+    /// change the capacity.
     #[tactic(auto, using(crate::proofs::Callers::callers))]
     pub fn dedup(&mut self)
         ensures items { self.new.items ≡ dedup T.eq self.old.items }
@@ -94,11 +110,11 @@ impl<T: PartialEq + Drop, A: Allocator> Vec<T, A> {
 }
 
 impl<T, A: Allocator> Vec<T, A> {
-    // Asks the elements after the gap, which are those in the places from `at` up to `end`, in
-    // order, each beside the last one kept before it, up to the first repeat. It answers how many
-    // are kept before it.
+    // Calls `same` for the elements after the gap, which are those in the places from `at` up to
+    // `end`. It is called in order, each time with the last element kept before, up to the first
+    // repeat. Returns how many are kept before it.
     #[inline(always)]
-    fn chain_behind<F: FnMut(&mut T, &mut T) -> bool>(
+    fn chain_on_tail<F: FnMut(&mut T, &mut T) -> bool>(
         &mut self,
         gap: usize,
         at: usize,
@@ -107,53 +123,54 @@ impl<T, A: Allocator> Vec<T, A> {
     ) -> usize
         requires last { 0 < len self.old }
         requires some { at < end }
-        requires stands { StandsBehind self.old gap (end - at) }
+        requires has_tail { HasTail self.old gap (end - at) }
         requires callable { (front : List T) (last : T) → self.old.items ≡ front ++ last ∷ []
-            → MayChainFrom (CalledAtPairMut F.FnMut) (TakesPairMut F.FnMut) same.old last
-            (behind_items self.old gap (end - at)) }
-        ensures { ChainsBehind (CalledAtPairMut F.FnMut) same.old self.old gap (end - at)
+            → MayChainFrom (CalledAtPairMut F.FnMut) (CallableAtPairMut F.FnMut) same.old last
+            (tail_items self.old gap (end - at)) }
+        ensures { ChainsOnTail (CalledAtPairMut F.FnMut) same.old self.old gap (end - at)
             result same.new self.new }
     {
-        if self.ask_last(gap, same) {
+        if self.call_on_last(gap, same) {
             return 0;
         }
         if end - 1 <= at {
             return 1;
         }
-        1 + self.chain_on(gap, end - at, same)
+        1 + self.chain_in_tail(gap, end - at, same)
     }
 
-    // Asks the `count` elements after the gap behind the first of them in order, each beside the
-    // one before it, up to the first repeat. It answers how many are kept before it.
+    // Calls `same` for the `count` elements after the gap but the first, in order, each with the
+    // one before it, up to the first repeat. Returns how many of them are kept before it.
     #[inline(always)]
-    #[tactic(auto, using(crate::proofs::Chains::lents))]
-    fn chain_on<F: FnMut(&mut T, &mut T) -> bool>(
+    #[tactic(auto, using(crate::proofs::Chains::borrowed))]
+    fn chain_in_tail<F: FnMut(&mut T, &mut T) -> bool>(
         &mut self,
         gap: usize,
         count: usize,
         same: &mut F,
     ) -> usize
         requires some { 1 < count }
-        requires stands { StandsBehind self.old gap count }
-        requires callable { MayDeduplicate (CalledAtPairMut F.FnMut) (TakesPairMut F.FnMut) same.old
-            (behind_items self.old gap count) }
+        requires has_tail { HasTail self.old gap count }
+        requires callable { MayDeduplicate (CalledAtPairMut F.FnMut)
+            (CallableAtPairMut F.FnMut) same.old
+            (tail_items self.old gap count) }
         ensures within { result < count }
-        ensures asked { ChainsOn (CalledAtPairMut F.FnMut) same.old self.old gap count
+        ensures called { ChainsInTail (CalledAtPairMut F.FnMut) same.old self.old gap count
             result same.new self.new }
     {
         let _within = self.block.capacity();
         distinct_run(self.block.slice_mut(self.len + gap, count), same)
     }
 
-    // Asks the element after the gap beside the last item.
+    // Calls `same` with the element after the gap and the last item.
     #[inline(always)]
     #[tactic(auto, using(crate::proofs::Gaps::beside))]
-    fn ask_last<F: FnMut(&mut T, &mut T) -> bool>(&mut self, gap: usize, same: &mut F) -> bool
+    fn call_on_last<F: FnMut(&mut T, &mut T) -> bool>(&mut self, gap: usize, same: &mut F) -> bool
         requires some { 0 < len self.old }
-        requires stands { StandsBehind self.old gap 1 }
+        requires has_tail { HasTail self.old gap 1 }
         requires callable { (front : List T) (last x : T) → self.old.items ≡ front ++ last ∷ []
-            → behind_items self.old gap 1 ≡ x ∷ [] → TakesPairMut F.FnMut same.old x last }
-        ensures { AsksLast (CalledAtPairMut F.FnMut) same.old self.old gap
+            → tail_items self.old gap 1 ≡ x ∷ [] → CallableAtPairMut F.FnMut same.old x last }
+        ensures { CallsOnLast (CalledAtPairMut F.FnMut) same.old self.old gap
             result same.new self.new }
     {
         let len = self.len;
@@ -162,62 +179,63 @@ impl<T, A: Allocator> Vec<T, A> {
     }
 }
 
-// `dedup_within`. While the loop runs, two elements or more are left to ask, so that nothing else
-// tests whether one stands behind the next.
+// `dedup_within`, over an owned vector. While the loop runs, at least two elements remain to be
+// tested. So nothing else tests whether one has another after it.
 #[tactic(auto, using(crate::proofs::Deduplicating::ended))]
 fn dedup_owned<'a, T: Drop, A: Allocator, F: FnMut(&mut T, &mut T) -> bool>(
     mut list: Vec<T, A>,
     same: &'a mut F,
 ) -> (Vec<T, A>, &'a mut F)
     requires { IsCallableAlong (CalledAtPairMut F.FnMut)
-        (TakesPairMut F.FnMut) same.old list.items }
+        (CallableAtPairMut F.FnMut) same.old list.items }
     ensures same_reference { result.1.ghost_name ≡ same.entry.ghost_name }
-    ensures removes { Deduplicates (CalledAtPairMut F.FnMut) same.old list result.1.now result.0 }
+    ensures removed { Deduplicates (CalledAtPairMut F.FnMut) same.old list result.1.now result.0 }
 {
     if list.is_empty() {
         return (list, same);
     }
     let end = list.len();
     let mut at = 1;
-    let _left = list.set_back(at);
+    let _left = list.set_tail(at);
     if end <= at {
         return (list, same);
     }
-    let first = list.chain_behind(0, at, end, same);
-    (list, at) = step_over_any(list, 0, at, end, first);
+    let first = list.chain_on_tail(0, at, end, same);
+    (list, at) = step_over_many(list, 0, at, end, first);
     'runs: while at < end - 1 {
         let gap = at - list.len();
-        let kept = list.chain_behind(gap, at, end, same);
+        let kept = list.chain_on_tail(gap, at, end, same);
         (list, at) = step_over(list, gap, at, end, kept);
     }
     if end <= at {
         return (list, same);
     }
     let gap = at - list.len();
-    let rest = list.chain_behind(gap, at, end, same);
-    (list, _) = step_over_any(list, gap, at, end, rest);
+    let rest = list.chain_on_tail(gap, at, end, same);
+    (list, _) = step_over_many(list, gap, at, end, rest);
     (list, same)
 }
 
-// Asks the elements behind the first in order, each beside the one before it, up to the first
-// repeat. It answers how many are kept before it. The second is asked by itself, as above.
+// Calls `same` for the elements after the first, in order, each with the one before it, up to the
+// first repeat. Returns how many of them are kept before it. The second is tested on its own, as
+// above.
 #[inline]
-#[tactic(auto, using(crate::proofs::Asking::chains))]
+#[tactic(auto, using(crate::proofs::Calling::chains))]
 fn distinct_run<T, F: FnMut(&mut T, &mut T) -> bool>(elements: &mut [T], same: &mut F) -> usize
     requires some { 1 < length elements.old }
     requires callable { MayDeduplicate (CalledAtPairMut F.FnMut)
-        (TakesPairMut F.FnMut) same.old elements.old }
+        (CallableAtPairMut F.FnMut) same.old elements.old }
     ensures within { result < length elements.old }
-    ensures asked { ChainsAlong (CalledAtPairMut F.FnMut) same.old elements.old
+    ensures called { ChainsAlong (CalledAtPairMut F.FnMut) same.old elements.old
         result same.new elements.new }
 {
     let last = elements.len() - 1;
-    if ask_neighbours(same, elements, 0) {
+    if call_on_neighbours(same, elements, 0) {
         return 0;
     }
     let mut kept = 1;
     'each: while kept < last {
-        if ask_neighbours(same, elements, kept) {
+        if call_on_neighbours(same, elements, kept) {
             return kept;
         }
         kept += 1;
@@ -225,49 +243,49 @@ fn distinct_run<T, F: FnMut(&mut T, &mut T) -> bool>(elements: &mut [T], same: &
     last
 }
 
-// Asks the element behind the one at the index beside that one.
+// Calls `same` with the element after the one at the index, and with that one.
 #[inline(always)]
-fn ask_neighbours<T, F: FnMut(&mut T, &mut T) -> bool>(
+fn call_on_neighbours<T, F: FnMut(&mut T, &mut T) -> bool>(
     same: &mut F,
     elements: &mut [T],
     at: usize,
 ) -> bool
     requires within { at + 1 < length elements.old }
     requires callable { (l x : T) (xs : List T) → drop at elements.old ≡ l ∷ x ∷ xs
-        → TakesPairMut F.FnMut same.old x l }
-    ensures { AsksNeighbours (CalledAtPairMut F.FnMut) same.old elements.old at
+        → CallableAtPairMut F.FnMut same.old x l }
+    ensures { CallsOnNeighbours (CalledAtPairMut F.FnMut) same.old elements.old at
         result same.new elements.new }
 {
-    let (before, behind) = elements.split_at_mut(at + 1);
-    ask_pair(same, &mut behind[0], &mut before[at])
+    let (before, after) = elements.split_at_mut(at + 1);
+    call_on_pair(same, &mut after[0], &mut before[at])
 }
 
-// One call, at one lifetime for both.
+// Calls `same` once, with one lifetime for both elements.
 #[inline(always)]
-fn ask_pair<'a, T, F: FnMut(&mut T, &mut T) -> bool>(
+fn call_on_pair<'a, T, F: FnMut(&mut T, &mut T) -> bool>(
     same: &mut F,
     element: &'a mut T,
     last: &'a mut T,
 ) -> bool
-    requires { TakesPairMut F.FnMut same.old element.old last.old }
+    requires { CallableAtPairMut F.FnMut same.old element.old last.old }
     ensures { CalledAtPairMut F.FnMut same.old element.old last.old result
         same.new element.new last.new }
 {
     same(element, last)
 }
 
-// Whether the keys are equal, that of the element asked for first.
+// Returns whether the keys are equal. `key` is called for `element` first.
 #[inline(always)]
 fn same_keys<T, K: PartialEq + Drop, F: FnMut(&mut T) -> K>(
     key: &mut F,
     element: &mut T,
     last: &mut T,
 ) -> bool
-    requires { TakesForKeys F.FnMut key.old element.old last.old }
+    requires { CallableAtKeys F.FnMut key.old element.old last.old }
     ensures { ComparesKeys F.FnMut K.eq key.old element.old last.old result
         key.new element.new last.new }
 {
-    let first = ask(key, element);
-    let second = ask(key, last);
+    let first = call_on(key, element);
+    let second = call_on(key, last);
     first == second
 }

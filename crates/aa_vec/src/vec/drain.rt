@@ -1,9 +1,9 @@
-//! `Drain`: a range of a vector, taken from either end.
+//! `Drain`: an iterator over a range that is removed from a vector.
 ghost use Rattle.std.specs.Prelude.{◌≡◌, ◌-◌, ◌≤◌, length, Some, IfSome};
 ghost use Rattle.std.specs.Iterator.{UpTo, item_count};
 ghost use Rattle.std.specs.Iterator.SizeHint.{IsWithinCount};
 ghost use Rattle.aa_vec.specs.Vector.{len};
-ghost use Rattle.aa_vec.specs.Behind.{StandsBehind};
+ghost use Rattle.aa_vec.specs.Tail.{HasTail};
 
 use crate::vec::Vec;
 use std::alloc::{Allocator, Global};
@@ -11,44 +11,52 @@ use std::fmt;
 use std::iter::FusedIterator;
 use std::ops::Range;
 
-/// A range of a vector, whose items are taken from either end. While it lives the vector ends
-/// before the range. Dropped, it drops the items still to come and leaves the vector what is before
-/// the range and what is behind it; forgotten, it leaves what is before the range. It takes no
-/// memory. It stands for `allocator_api2::vec::Drain`.
+/// A double-ended iterator over a range that is removed from a vector.
+///
+/// Returned by `Vec::drain`. Until it is dropped, the vector holds only the elements before the
+/// range. Dropping it drops the elements not taken yet and closes the gap. The vector then holds
+/// what is before the range and what is after it. Forgetting it leaves the vector with what is
+/// before the range, and leaks the rest. Does not allocate.
 pub struct Drain<'a, T, A: Allocator = Global> {
     vec: &'a mut Vec<T, A>,
-    // Places behind the vector's last element: the items still to come stand from `front` up to
-    // `back`, and the elements behind the range from `end` up to `total`.
+    // Places after the vector's last element. The elements not taken yet are in those from `front`
+    // up to `back`. The elements after the range are in those from `end` up to `total`.
     front: usize,
     back: usize,
     end: usize,
     total: usize,
     ghost ordered: { (front ≤ back) × (back ≤ end) × (end ≤ total) },
-    ghost held: { StandsBehind vec.now front (back - front)
-        × StandsBehind vec.now end (total - end) },
+    ghost held: { HasTail vec.now front (back - front)
+        × HasTail vec.now end (total - end) },
 }
 
 impl<T, A: Allocator> Vec<T, A> {
     ghost use Rattle.std.specs.Prelude.{List};
     ghost use Rattle.std.specs.Iterator.{Yields};
     ghost use Rattle.std.specs.Iterator.Runs.{YieldsInOrder, YieldsInReverse};
-    ghost use Rattle.aa_vec.specs.Drain.{drain_lender, drain_rest, TakesRange, DrainKeeps, drains_first, drains_last};
+    ghost use Rattle.aa_vec.specs.Drain.{drain_lender, drain_remaining, TakesRange, DrainKeeps, drains_first, drains_last};
     ghost use Rattle.aa_vec.specs.declared.vec.drain.Drain.{Drain};
 
-    /// Takes the elements of the range out of the vector, which ends before them at once. They come
-    /// from either end of what this answers; its drop closes the gap. The capacity stays; it takes
-    /// no memory. It stands for `Vec::drain`.
+    /// Removes the range and returns a double-ended iterator over its elements.
+    ///
+    /// Until the iterator is dropped, the vector holds only the elements before the range. Dropping
+    /// it removes what was not taken and closes the gap; forgetting it leaks the rest of the
+    /// vector. Does not allocate, and does not change the capacity.
     #[tactic(auto, using(crate::proofs::DrainLemmas::ranges))]
     pub fn drain(&mut self, range: Range<usize>) -> Drain<'_, T, A>
         requires { (range.start ≤ range.end) × (range.end ≤ len self.old) }
+
+        // The iterator borrows the vector, and takes the range out of it.
         ensures lender { drain_lender result ≡ self.entry.ghost_name }
-        ensures drains { TakesRange self.old range.start range.end result }
-        ensures stays { (xs : List T) (later : Drain T A)
+        ensures drained { TakesRange self.old range.start range.end result }
+
+        // Calls of `next` and `next_back` take elements from either end, and keep all else.
+        ensures kept { (xs : List T) (later : Drain T A)
             → Yields drains_first result xs later → DrainKeeps result later }
-        ensures runs { YieldsInOrder (drains_first {T = T} {A = A}) drain_rest }
-        ensures runs_back { YieldsInReverse (drains_last {T = T} {A = A}) drain_rest }
+        ensures in_order { YieldsInOrder (drains_first {T = T} {A = A}) drain_remaining }
+        ensures in_reverse { YieldsInReverse (drains_last {T = T} {A = A}) drain_remaining }
     {
-        let total = self.set_back(range.start);
+        let total = self.set_tail(range.start);
         let count = range.end - range.start;
         Drain {
             vec: self,
@@ -61,25 +69,27 @@ impl<T, A: Allocator> Vec<T, A> {
 }
 
 impl<'a, T, A: Allocator> Drain<'a, T, A> {
-    ghost use Rattle.aa_vec.specs.Drain.{drain_vec, drain_rest, KeepsRest};
+    ghost use Rattle.aa_vec.specs.Drain.{drain_vec, drain_remaining, KeepsRest};
 
-    /// The items still to come, in order. It stands for `Drain::as_slice`.
+    /// Returns the elements not taken yet, in order.
     #[tactic(auto, using(crate::proofs::DrainLemmas::rest_is))]
     pub fn as_slice(&self) -> &[T]
-        ensures { result.now ≡ drain_rest self.now }
+        ensures { result.now ≡ drain_remaining self.now }
     {
-        self.vec.slice_behind(self.front, self.back - self.front)
+        self.vec.tail_slice(self.front, self.back - self.front)
     }
 
-    /// The allocator under the vector. It stands for `Drain::allocator`.
+    /// Returns the vector's allocator.
     pub fn allocator(&self) -> &A
         ensures { result.now ≡ (drain_vec self.now).alloc }
     {
         self.vec.allocator()
     }
 
-    /// Leaves the vector what is before the range, the items still to come, and what is behind the
-    /// range. The capacity stays; it takes no memory. It stands for `Drain::keep_rest`.
+    /// Ends the iterator and keeps the elements not taken yet.
+    ///
+    /// The vector then holds what is before the range, these elements, and what is after the range.
+    /// Does not allocate, and does not change the capacity.
     pub fn keep_rest(self)
         ensures { KeepsRest self.entry self.exit.0.now }
     {
@@ -95,15 +105,17 @@ impl<'a, T, A: Allocator> Drain<'a, T, A> {
 }
 
 impl<'a, T: Drop, A: Allocator> Iterator for Drain<'a, T, A> {
-    ghost use Rattle.aa_vec.specs.Drain.{drain_rest, drains_first};
+    ghost use Rattle.aa_vec.specs.Drain.{drain_remaining, drains_first};
 
     type Item = T;
 
     ghost next_gives = { drains_first };
 
-    ghost remaining = { item_count drain_rest };
+    ghost remaining = { item_count drain_remaining };
 
-    /// Takes the first item. At the end it answers `None`, and so for good.
+    /// Takes and returns the first element, or returns `None` if none remains.
+    ///
+    /// Once it has returned `None`, it always does.
     #[tactic(auto, using(crate::proofs::DrainLemmas::from_ends))]
     fn next(&mut self) -> Option<T> {
         let first = self.front;
@@ -111,17 +123,17 @@ impl<'a, T: Drop, A: Allocator> Iterator for Drain<'a, T, A> {
             return None;
         }
         self.front = first + 1;
-        Some(self.vec.take_behind(first))
+        Some(self.vec.take_from_tail(first))
     }
 
-    /// How many items are left, exactly.
-    #[tactic(auto, using(crate::proofs::DrainLemmas::count_left))]
+    /// Returns the exact number of remaining elements, as both bounds.
+    #[tactic(auto, using(crate::proofs::DrainLemmas::remaining_count))]
     fn size_hint(&self) -> (usize, Option<usize>)
-        ensures lower { IsWithinCount result.0 (item_count drain_rest self.now) }
-        ensures upper { IfSome result.1 (UpTo (item_count drain_rest self.now)) }
+        ensures lower { IsWithinCount result.0 (item_count drain_remaining self.now) }
+        ensures upper { IfSome result.1 (UpTo (item_count drain_remaining self.now)) }
         ensures exact { result ≡ (
-          length (drain_rest self.now),
-          Some (length (drain_rest self.now)),
+          length (drain_remaining self.now),
+          Some (length (drain_remaining self.now)),
         ) }
     {
         let left = self.back - self.front;
@@ -134,7 +146,9 @@ impl<'a, T: Drop, A: Allocator> DoubleEndedIterator for Drain<'a, T, A> {
 
     ghost next_back_gives = { drains_last };
 
-    /// Takes the last item. At the end it answers `None`, and so for good.
+    /// Takes and returns the last element, or returns `None` if none remains.
+    ///
+    /// Once it has returned `None`, it always does.
     #[tactic(auto, using(crate::proofs::DrainLemmas::from_ends))]
     fn next_back(&mut self) -> Option<T> {
         if self.front == self.back {
@@ -142,12 +156,12 @@ impl<'a, T: Drop, A: Allocator> DoubleEndedIterator for Drain<'a, T, A> {
         }
         let last = self.back - 1;
         self.back = last;
-        Some(self.vec.take_behind(last))
+        Some(self.vec.take_from_tail(last))
     }
 }
 
 impl<'a, T: Drop, A: Allocator> ExactSizeIterator for Drain<'a, T, A> {
-    #[tactic(auto, using(crate::proofs::DrainLemmas::count_left))]
+    #[tactic(auto, using(crate::proofs::DrainLemmas::remaining_count))]
     fn len(&self) -> usize {
         self.back - self.front
     }
@@ -164,7 +178,7 @@ impl<'a, T: fmt::Debug, A: Allocator> fmt::Debug for Drain<'a, T, A> {
 impl<'a, T: Drop, A: Allocator> Drop for Drain<'a, T, A> {
     ghost use Rattle.aa_vec.specs.Drain.{Closes};
 
-    /// Drops the items still to come, and closes the gap.
+    /// Drops the elements not taken yet, and closes the gap.
     fn drop(self)
         ensures { Closes self.entry self.exit.0.now }
     {

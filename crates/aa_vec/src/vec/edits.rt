@@ -1,4 +1,4 @@
-//! Edits at a position, and elements taken away.
+//! Insertion and removal at a position.
 ghost use Rattle.std.specs.Prelude.{◌≡◌, ◌+◌, ◌-◌, ◌<◌, ◌≤◌, [], ◌∷◌, ◌++◌, length, take, insert, remove, swap_remove, slice_get, slice_set, get_or, Some, None, IfErr, OnOk, OnErr, IsOk, if◌then◌else◌, ◌==◌};
 ghost use Rattle.std.specs.Mem.{type_size};
 ghost use Rattle.aa_raw.specs.Block.{with_places};
@@ -11,15 +11,20 @@ use aa_raw::raw_vec::RawVec;
 use std::alloc::Allocator;
 
 impl<T, A: Allocator> Vec<T, A> {
-    /// Puts `value` behind the last element where the vector is not full, and hands it back where
-    /// it is. It takes no memory. It stands for `Vec::push_within_capacity`.
+    /// Appends `value` if there is spare capacity.
+    ///
+    /// Does not allocate.
+    ///
+    /// # Errors
+    /// If the vector is full, `value` is returned in the error. The vector is unchanged.
     #[inline]
     #[tactic(auto, using(aa_raw::proofs::Calls::at_ends, crate::proofs::Becoming::becomes))]
     pub fn push_within_capacity(&mut self, value: T) -> Result<(), T>
         ensures fits { OnOk result (len self.old < self.old.capacity) }
-        ensures pushed { OnOk result (Becomes self.old (self.old.items ++ value ∷ []) 1 1 self.new) }
+        ensures pushed { OnOk result
+            (Becomes self.old (self.old.items ++ value ∷ []) 1 1 self.new) }
         ensures full { OnErr result (len self.old ≡ self.old.capacity) }
-        ensures handed_back { IfErr result (λ x. x ≡ value) }
+        ensures returned { IfErr result (λ x. x ≡ value) }
         ensures unchanged { OnErr result (self.new ≡ self.old) }
     {
         let len = self.len;
@@ -31,24 +36,28 @@ impl<T, A: Allocator> Vec<T, A> {
         Ok(())
     }
 
-    /// Puts `element` at `index`, which is at most the length, and moves those from there on up by
-    /// one. It takes memory only where the vector is full, and grows then with room to spare. A
-    /// refusal hands the element back and changes nothing, as that of `push`. It stands for
-    /// `Vec::insert`.
+    /// Inserts `element` at `index`, moving all elements from there on up by one.
+    ///
+    /// `index` is at most the length. Allocates only if the vector is full, and then grows by its
+    /// growth policy. Writes `len - index + 1` elements, besides those that a growth moves.
+    ///
+    /// # Errors
+    /// Returns the same errors as `push`. The vector is unchanged and `element` is returned in the
+    /// error.
     #[tactic(auto, using(aa_raw::proofs::Positions::at_positions, crate::proofs::Room::placed_in_room))]
     pub fn insert(&mut self, index: usize, element: T) -> Result<(), Refused<T>>
         requires { index ≤ length self.old.items }
 
-        // What fits is put in.
+        // An element that fits is inserted without an error.
         ensures fits { HasRoom self.old 1 → IsOk result }
         ensures inserted { let moved = length self.old.items - index in
             let roomy = with_room (type_size T.row) self.old (length self.old.items) 1 in
             OnOk result (Becomes roomy (insert self.old.items index element) (moved + 1)
             (run_count moved + 1) self.new) }
 
-        // A refusal hands the element back, and changes nothing.
-        ensures refused { IfErr result (λ r. LacksRoom (type_size T.row) self.old 1 r.error) }
-        ensures handed_back { IfErr result (λ r. r.source ≡ element) }
+        // An error returns the element, and changes nothing.
+        ensures error { IfErr result (λ r. LacksRoom (type_size T.row) self.old 1 r.error) }
+        ensures returned { IfErr result (λ r. r.source ≡ element) }
         ensures unchanged { OnErr result (self.new ≡ self.old) }
     {
         let len = self.len;
@@ -64,8 +73,10 @@ impl<T, A: Allocator> Vec<T, A> {
         Ok(())
     }
 
-    /// Takes the element at `index`, which is below the length, and moves those behind it down by
-    /// one. The capacity stays. It stands for `Vec::remove`.
+    /// Removes the element at `index` and returns it, moving all elements after it down by one.
+    ///
+    /// `index` is below the length. Moves `len - index - 1` elements. Does not allocate, and does
+    /// not change the capacity.
     #[tactic(auto, using(aa_raw::proofs::Positions::at_positions, crate::proofs::Becoming::becomes))]
     pub fn remove(&mut self, index: usize) -> T
         requires { index < len self.old }
@@ -80,8 +91,10 @@ impl<T, A: Allocator> Vec<T, A> {
         value
     }
 
-    /// Takes the element at `index`, which is below the length, and puts the last element there.
-    /// The capacity stays. It stands for `Vec::swap_remove`.
+    /// Removes the element at `index` and returns it, replacing it with the last element.
+    ///
+    /// `index` is below the length. Moves at most one element. Does not allocate, and does not
+    /// change the capacity.
     #[tactic(auto, using(aa_raw::proofs::Positions::at_positions, crate::proofs::Becoming::becomes))]
     pub fn swap_remove(&mut self, index: usize) -> T
         requires { index < len self.old }
@@ -91,7 +104,7 @@ impl<T, A: Allocator> Vec<T, A> {
     {
         let last = self.len - 1;
         if index == last {
-            let value = take_seldom(&mut self.block, index);
+            let value = take_slow(&mut self.block, index);
             self.len = last;
             return value;
         }
@@ -101,8 +114,10 @@ impl<T, A: Allocator> Vec<T, A> {
         value
     }
 
-    /// Drops all but the first `len` elements; where there are no more than that, it does nothing.
-    /// The capacity stays. It stands for `Vec::truncate`.
+    /// Keeps the first `len` elements, and drops the others.
+    ///
+    /// Does nothing if there are no more than `len`. Does not allocate, and does not change the
+    /// capacity.
     #[tactic(auto, using(aa_raw::proofs::Calls::in_runs, crate::proofs::Becoming::becomes))]
     pub fn truncate(&mut self, len: usize)
     where
@@ -117,7 +132,9 @@ impl<T, A: Allocator> Vec<T, A> {
         self.block.drop_run(len, count);
     }
 
-    /// Drops all elements. The capacity stays. It stands for `Vec::clear`.
+    /// Removes and drops all elements.
+    ///
+    /// Does not allocate, and does not change the capacity.
     pub fn clear(&mut self)
     where
         T: Drop,
@@ -127,10 +144,10 @@ impl<T, A: Allocator> Vec<T, A> {
     }
 }
 
-// `take`, out of line, so that the code behind it is for the common case.
+// `take`, out of line, so that the code after it is for the common case.
 #[cold]
 #[inline(never)]
-fn take_seldom<T, A: Allocator>(block: &mut RawVec<T, A>, at: usize) -> T
+fn take_slow<T, A: Allocator>(block: &mut RawVec<T, A>, at: usize) -> T
     requires { IsFilled block.old.places at }
     ensures value { get_or block.old.places at None ≡ Some result }
     ensures after { block.new ≡ with_places block.old (slice_set block.old.places at None) }

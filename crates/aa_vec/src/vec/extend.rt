@@ -1,27 +1,27 @@
-//! Items of an iterator, put behind the elements.
-ghost use Rattle.std.specs.Prelude.{length, ◌≡◌, ◌+◌, ◌-◌, ◌≤◌, ◌++◌, List, map, None, Ok, Err, IfOk, IfErr, OnOk, IsOk};
+//! Appending the items of an iterator.
+ghost use Rattle.std.specs.Prelude.{◌≡◌, ◌+◌, ◌-◌, ◌≤◌, ◌++◌, List, map, IfErr, OnOk, IsOk};
 ghost use Rattle.std.specs.Mem.{type_size};
 ghost use Rattle.std.specs.Iterator.{IsFinite, IsNearerEnd, Drains, size};
 ghost use Rattle.std.specs.Iterator.Runs.{WholeRun};
 ghost use Rattle.std.specs.Borrow.{Bor};
-ghost use Rattle.aa_vec.specs.Vector.{Vector, len, sized, HasRoom, IsNew};
-ghost use Rattle.aa_vec.specs.Filling.{FillsGap, GoesOn};
-ghost use Rattle.aa_vec.specs.Extend.{Extended, Takes, Extends, CopiesOf};
-ghost use Rattle.aa_vec.specs.Extend.{TellsAtMost, TellsExactly};
+ghost use Rattle.aa_vec.specs.Vector.{len, new_capacity, HasRoom};
+ghost use Rattle.aa_vec.specs.Filling.{FillsGap, CanContinue};
+ghost use Rattle.aa_vec.specs.Extend.{ExtendResult, CollectResult, YieldsCopies};
+ghost use Rattle.aa_vec.specs.Extend.{LowerAtMost, LowerExactly};
 
 use crate::vec::Vec;
 use crate::vec::extend::items::Hinted;
-use crate::vec::extend::told::{ByHint, ByLower, Reading, Telling};
+use crate::vec::extend::lower_bound::{ByHint, ByLower, LowerBound, Reading};
 use aa_raw::collections::TryReserveError;
 use aa_raw::raw_vec::Growth;
 use std::alloc::{Allocator, Global};
 
 pub mod hints;
 pub mod items;
-pub(crate) mod told;
+pub(crate) mod lower_bound;
 
 impl<T, A: Allocator> Vec<T, A> {
-    // How many places are free.
+    // Returns the number of empty places.
     #[inline(always)]
     fn free(&self) -> usize
         ensures { len self.now + result ≡ self.now.capacity }
@@ -29,37 +29,40 @@ impl<T, A: Allocator> Vec<T, A> {
         self.capacity() - self.len()
     }
 
-    // Puts items of `iter` behind the last element, until no place is left or they end. It answers
-    // how many places are left.
+    // Appends items of `iter` until no place is empty or the iterator ends. Returns how many places
+    // are empty then.
     #[inline(always)]
     fn fill_up<I: Iterator<Item = T>>(&mut self, iter: &mut I) -> usize
-        requires may_ask { I.can_next iter.old }
-        requires ends { IsFinite (I.remaining iter.old) }
-        ensures fills { FillsGap I.next_gives iter.old
+        requires callable { I.can_next iter.old }
+        requires finite { IsFinite (I.remaining iter.old) }
+        ensures filled { FillsGap I.next_gives iter.old
             self.old (self.old.capacity - len self.old) 0 result iter.new self.new }
-        ensures goes { result ≡ 0
-            → GoesOn I.Iterator iter.old (self.old.capacity - len self.old) iter.new }
+        ensures advanced { result ≡ 0
+            → CanContinue I.Iterator iter.old (self.old.capacity - len self.old) iter.new }
         ensures within { self.old.capacity - len self.old - result ≤ size (I.remaining iter.old) }
     {
         self.fill_gap(self.free(), 0, iter)
     }
 
-    // Puts the items of `iter` behind the last element: each is taken first, and where the vector
-    // is full then, room is made for it and as many more as are told. The calls below stand on it.
+    // Appends the items of `iter`. Each is taken first. If the vector is full then, capacity is
+    // reserved for it and as many more as the lower bound then says. The functions below are built
+    // on it.
     #[inline]
-    pub(crate) fn extend_telling<W: Telling<I>, I: Iterator<Item = T>>(
+    pub(crate) fn extend_with_bound<W: LowerBound<I>, I: Iterator<Item = T>>(
         &mut self,
         iter: &mut I,
     ) -> Result<(), TryReserveError>
     where
         T: Drop,
-        requires may_ask { I.can_next iter.old }
-        requires ends { IsFinite (I.remaining iter.old) }
-        ensures extends { Extended I.next_gives W.tells I.remaining (type_size T.row)
+        requires callable { I.can_next iter.old }
+        requires finite { IsFinite (I.remaining iter.old) }
+        ensures fits { HasRoom self.old (size (I.remaining iter.old)) → IsOk result }
+        ensures extended { ExtendResult I.next_gives W.lower_is (type_size T.row)
             iter.old self.old iter.new result self.new }
-        ensures goes { IfErr result (λ _. IsNearerEnd I.can_next I.remaining iter.old iter.new) }
+        ensures advanced { IfErr result
+            (λ _. IsNearerEnd I.can_next I.remaining iter.old iter.new) }
     {
-        self.known();
+        self.prove_capacity_bounds();
         'full: loop {
             if self.fill_up(iter) != 0 {
                 return Ok(());
@@ -67,43 +70,40 @@ impl<T, A: Allocator> Vec<T, A> {
             let Some(x) = iter.next() else {
                 return Ok(());
             };
-            self.try_reserve(W::told(iter).saturating_add(1))?;
+            self.try_reserve(W::lower_bound(iter).saturating_add(1))?;
             self.put_next(x);
         }
     }
 
-    /// Puts the items of `iter`, which ends, behind the last element; it takes each of them first,
-    /// and memory only where the vector is full then, with room to spare for that item and as many
-    /// as `lower` now tells. A refusal keeps what was placed, drops the item that found no place
-    /// and takes no other: `CapacityOverflow`, for sure where the length asked for passes
-    /// `usize::MAX`, or `AllocError` with the capacity asked for. It stands for `Vec::extend`, with
-    /// `lower` in place of `size_hint`.
+    /// Appends the items of `iter`, which must end, by the hint that `lower` returns.
+    ///
+    /// Each item is taken before it has a place. Allocates only if the vector is full then: it
+    /// grows by its growth policy, for that item and as many more as `lower` then returns.
+    ///
+    /// Corresponds to allocator-api2's `Vec::extend`, with `lower` in place of `size_hint`.
+    ///
+    /// # Errors
+    /// `CapacityOverflow` if the capacity overflows, which is certain if the requested length
+    /// exceeds `usize::MAX`; `AllocError` with the requested capacity if the allocation fails. The
+    /// items placed so far are kept. The item that found no place is dropped, and no other item is
+    /// taken.
     pub fn extend_hinted<I: Hinted<Item = T>>(&mut self, iter: I) -> Result<(), TryReserveError>
     where
         T: Drop,
-        requires may_ask { I.can_next iter }
-        requires ends { IsFinite (I.remaining iter) }
-        ensures items { OnOk result ((xs : List T) × Drains I.next_gives iter xs
-            × (self.new.items ≡ self.old.items ++ xs)) }
-        ensures runs { OnOk result
-            (WholeRun I.next_gives iter (λ p. self.new.items ≡ self.old.items ++ p.items)) }
+        requires callable { I.can_next iter }
+        requires finite { IsFinite (I.remaining iter) }
         ensures fits { HasRoom self.old (size (I.remaining iter)) → IsOk result }
-        ensures room { (after : I) × OnOk result (Takes I.next_gives
-            (TellsExactly I.lower_of) iter (λ lower xs last. I.next_gives last None after
-            × Extends (type_size T.row) lower self.old self.old.items xs (Ok tt) self.new)) }
-        ensures writes { let n = length self.new.items - length self.old.items in
-            (self.new.written ≡ self.old.written + n) × (self.new.runs ≡ self.old.runs + n) }
-        ensures refused { (after : I) × IfErr result (λ e. Takes I.next_gives
-            (TellsExactly I.lower_of) iter (λ lower xs last. (last ≡ after)
-            × (stop : Extends (type_size T.row) lower self.old self.old.items xs (Err e) self.new)
-            × (length stop.others ≡ 1))) }
+        ensures extended { (after : I) × ExtendResult I.next_gives (LowerExactly I.lower_of)
+            (type_size T.row) iter self.old after result self.new }
     {
         let mut rest = iter;
         self.extend_hinted_by(&mut rest)
     }
 
-    /// `extend_hinted` by an iterator that is lent: no item is taken from it but those that found a
-    /// place and, on a refusal, one, which is dropped. The original has no such call.
+    /// Like `extend_hinted`, but takes the iterator by `&mut`.
+    ///
+    /// Only the items that are appended are taken from it and, on an error, one more, which is
+    /// dropped. Not in allocator-api2.
     #[inline]
     pub fn extend_hinted_by<I: Hinted<Item = T>>(
         &mut self,
@@ -111,112 +111,85 @@ impl<T, A: Allocator> Vec<T, A> {
     ) -> Result<(), TryReserveError>
     where
         T: Drop,
-        requires may_ask { I.can_next iter.old }
-        requires ends { IsFinite (I.remaining iter.old) }
-        ensures items { OnOk result ((xs : List T) × Drains I.next_gives iter.old xs
-            × (self.new.items ≡ self.old.items ++ xs)) }
-        ensures runs { OnOk result
-            (WholeRun I.next_gives iter.old (λ p. self.new.items ≡ self.old.items ++ p.items)) }
+        requires callable { I.can_next iter.old }
+        requires finite { IsFinite (I.remaining iter.old) }
         ensures fits { HasRoom self.old (size (I.remaining iter.old)) → IsOk result }
-        ensures room { OnOk result (Takes I.next_gives (TellsExactly I.lower_of) iter.old
-            (λ lower xs last. I.next_gives last None iter.new
-            × Extends (type_size T.row) lower self.old self.old.items xs (Ok tt) self.new)) }
-        ensures writes { let n = length self.new.items - length self.old.items in
-            (self.new.written ≡ self.old.written + n) × (self.new.runs ≡ self.old.runs + n) }
-        ensures refused { IfErr result (λ e. Takes I.next_gives (TellsExactly I.lower_of)
-            iter.old (λ lower xs last. (last ≡ iter.new) × (stop : Extends (type_size T.row)
-            lower self.old self.old.items xs (Err e) self.new) × (length stop.others ≡ 1))) }
-        ensures goes { IfErr result (λ _. IsNearerEnd I.can_next I.remaining iter.old iter.new) }
+        ensures extended { ExtendResult I.next_gives (LowerExactly I.lower_of)
+            (type_size T.row) iter.old self.old iter.new result self.new }
+        ensures advanced { IfErr result
+            (λ _. IsNearerEnd I.can_next I.remaining iter.old iter.new) }
     {
-        self.extend_telling::<ByLower, I>(iter)
+        self.extend_with_bound::<ByLower, I>(iter)
     }
 
-    /// Puts the items of `iter`, which ends, behind the last element; it takes each of them first,
-    /// and memory only where the vector is full then, with room to spare for that item and the
-    /// lower bound that `size_hint` now has. It is refused as `extend_hinted` is. It stands for
-    /// `Vec::extend`, which aborts on a refusal.
+    /// Appends the items of `iter`, which must end.
+    ///
+    /// Each item is taken before it has a place. Allocates only if the vector is full then: it
+    /// grows by its growth policy, for that item and the lower bound that `size_hint` then returns.
+    ///
+    /// # Errors
+    /// As `extend_hinted`. The original aborts if an allocation fails.
     pub fn extend<I: Iterator<Item = T>>(&mut self, iter: I) -> Result<(), TryReserveError>
     where
         T: Drop,
-        requires may_ask { I.can_next iter }
-        requires ends { IsFinite (I.remaining iter) }
-        ensures items { OnOk result ((xs : List T) × Drains I.next_gives iter xs
-            × (self.new.items ≡ self.old.items ++ xs)) }
-        ensures runs { OnOk result
-            (WholeRun I.next_gives iter (λ p. self.new.items ≡ self.old.items ++ p.items)) }
+        requires callable { I.can_next iter }
+        requires finite { IsFinite (I.remaining iter) }
         ensures fits { HasRoom self.old (size (I.remaining iter)) → IsOk result }
-        ensures room { (after : I) × OnOk result (Takes I.next_gives
-            (TellsAtMost I.remaining) iter (λ lower xs last. I.next_gives last None after
-            × Extends (type_size T.row) lower self.old self.old.items xs (Ok tt) self.new)) }
-        ensures writes { let n = length self.new.items - length self.old.items in
-            (self.new.written ≡ self.old.written + n) × (self.new.runs ≡ self.old.runs + n) }
-        ensures refused { (after : I) × IfErr result (λ e. Takes I.next_gives
-            (TellsAtMost I.remaining) iter (λ lower xs last. (last ≡ after)
-            × (stop : Extends (type_size T.row) lower self.old self.old.items xs (Err e) self.new)
-            × (length stop.others ≡ 1))) }
+        ensures extended { (after : I) × ExtendResult I.next_gives (LowerAtMost I.remaining)
+            (type_size T.row) iter self.old after result self.new }
     {
         let mut rest = iter;
         self.extend_by(&mut rest)
     }
 
-    /// `extend` by an iterator that is lent: no item is taken from it but those that found a place
-    /// and, on a refusal, one, which is dropped. It stands for `Vec::extend` with `by_ref`.
+    /// Like `extend`, but takes the iterator by `&mut`.
+    ///
+    /// Only the items that are appended are taken from it and, on an error, one more, which is
+    /// dropped. Corresponds to allocator-api2's `Vec::extend` with `by_ref`.
     #[inline]
     pub fn extend_by<I: Iterator<Item = T>>(&mut self, iter: &mut I) -> Result<(), TryReserveError>
     where
         T: Drop,
-        requires may_ask { I.can_next iter.old }
-        requires ends { IsFinite (I.remaining iter.old) }
-        ensures items { OnOk result ((xs : List T) × Drains I.next_gives iter.old xs
-            × (self.new.items ≡ self.old.items ++ xs)) }
-        ensures runs { OnOk result
-            (WholeRun I.next_gives iter.old (λ p. self.new.items ≡ self.old.items ++ p.items)) }
+        requires callable { I.can_next iter.old }
+        requires finite { IsFinite (I.remaining iter.old) }
         ensures fits { HasRoom self.old (size (I.remaining iter.old)) → IsOk result }
-        ensures room { OnOk result (Takes I.next_gives (TellsAtMost I.remaining) iter.old
-            (λ lower xs last. I.next_gives last None iter.new
-            × Extends (type_size T.row) lower self.old self.old.items xs (Ok tt) self.new)) }
-        ensures writes { let n = length self.new.items - length self.old.items in
-            (self.new.written ≡ self.old.written + n) × (self.new.runs ≡ self.old.runs + n) }
-        ensures refused { IfErr result (λ e. Takes I.next_gives (TellsAtMost I.remaining)
-            iter.old (λ lower xs last. (last ≡ iter.new) × (stop : Extends (type_size T.row)
-            lower self.old self.old.items xs (Err e) self.new) × (length stop.others ≡ 1))) }
-        ensures goes { IfErr result (λ _. IsNearerEnd I.can_next I.remaining iter.old iter.new) }
+        ensures extended { ExtendResult I.next_gives (LowerAtMost I.remaining)
+            (type_size T.row) iter.old self.old iter.new result self.new }
+        ensures advanced { IfErr result
+            (λ _. IsNearerEnd I.can_next I.remaining iter.old iter.new) }
     {
-        self.extend_telling::<ByHint, I>(iter)
+        self.extend_with_bound::<ByHint, I>(iter)
     }
 
-    /// Puts copies of what the items of `iter`, which ends, refer to behind the last element; else
-    /// it is as `extend`. It stands for `Vec::extend` over references, which aborts on a refusal.
+    /// Appends copies of the elements that the items of `iter` refer to; `iter` must end.
+    ///
+    /// Allocates and fails as `extend` does. Corresponds to allocator-api2's `Vec::extend` over
+    /// references, which aborts if an allocation fails.
     pub fn extend_copied<'a, I: Iterator<Item = &'a T>>(
         &mut self,
         iter: I,
     ) -> Result<(), TryReserveError>
     where
         T: Copy + 'a,
-        requires may_ask { I.can_next iter }
-        requires ends { IsFinite (I.remaining iter) }
+        requires callable { I.can_next iter }
+        requires finite { IsFinite (I.remaining iter) }
+        ensures fits { HasRoom self.old (size (I.remaining iter)) → IsOk result }
         ensures items { OnOk result ((rs : List (Bor T)) × Drains I.next_gives iter rs
             × (self.new.items ≡ self.old.items ++ map (λ r. r.now) rs)) }
         ensures runs { OnOk result (WholeRun I.next_gives iter
             (λ p. self.new.items ≡ self.old.items ++ map (λ r. r.now) p.items)) }
-        ensures fits { HasRoom self.old (size (I.remaining iter)) → IsOk result }
-        ensures room { (after : I) × OnOk result (Takes (CopiesOf I.next_gives)
-            (TellsAtMost I.remaining) iter (λ lower xs last. I.next_gives last None after
-            × Extends (type_size T.row) lower self.old self.old.items xs (Ok tt) self.new)) }
-        ensures writes { let n = length self.new.items - length self.old.items in
-            (self.new.written ≡ self.old.written + n) × (self.new.runs ≡ self.old.runs + n) }
-        ensures refused { (after : I) × IfErr result (λ e. Takes (CopiesOf I.next_gives)
-            (TellsAtMost I.remaining) iter (λ lower xs last. (last ≡ after)
-            × (stop : Extends (type_size T.row) lower self.old self.old.items xs (Err e) self.new)
-            × (length stop.others ≡ 1))) }
+        ensures extended { (after : I) × ExtendResult (YieldsCopies I.next_gives)
+            (LowerAtMost I.remaining)
+            (type_size T.row) iter self.old after result self.new }
     {
         let mut rest = iter;
         self.extend_copied_by(&mut rest)
     }
 
-    /// `extend_copied` by an iterator that is lent: no reference is taken from it but those whose
-    /// copies found a place and, on a refusal, one. It stands for `Vec::extend` over references
-    /// with `by_ref`.
+    /// Like `extend_copied`, but takes the iterator by `&mut`.
+    ///
+    /// Only the references whose copies are appended are taken from it and, on an error, one more.
+    /// Corresponds to allocator-api2's `Vec::extend` over references with `by_ref`.
     #[inline]
     pub fn extend_copied_by<'a, I: Iterator<Item = &'a T>>(
         &mut self,
@@ -224,83 +197,61 @@ impl<T, A: Allocator> Vec<T, A> {
     ) -> Result<(), TryReserveError>
     where
         T: Copy + 'a,
-        requires may_ask { I.can_next iter.old }
-        requires ends { IsFinite (I.remaining iter.old) }
+        requires callable { I.can_next iter.old }
+        requires finite { IsFinite (I.remaining iter.old) }
+        ensures fits { HasRoom self.old (size (I.remaining iter.old)) → IsOk result }
         ensures items { OnOk result ((rs : List (Bor T)) × Drains I.next_gives iter.old rs
             × (self.new.items ≡ self.old.items ++ map (λ r. r.now) rs)) }
         ensures runs { OnOk result (WholeRun I.next_gives iter.old
             (λ p. self.new.items ≡ self.old.items ++ map (λ r. r.now) p.items)) }
-        ensures fits { HasRoom self.old (size (I.remaining iter.old)) → IsOk result }
-        ensures room { OnOk result (Takes (CopiesOf I.next_gives) (TellsAtMost I.remaining) iter.old
-            (λ lower xs last. I.next_gives last None iter.new
-            × Extends (type_size T.row) lower self.old self.old.items xs (Ok tt) self.new)) }
-        ensures writes { let n = length self.new.items - length self.old.items in
-            (self.new.written ≡ self.old.written + n) × (self.new.runs ≡ self.old.runs + n) }
-        ensures refused { IfErr result (λ e. Takes (CopiesOf I.next_gives) (TellsAtMost I.remaining)
-            iter.old (λ lower xs last. (last ≡ iter.new) × (stop : Extends (type_size T.row)
-            lower self.old self.old.items xs (Err e) self.new) × (length stop.others ≡ 1))) }
-        ensures goes { IfErr result (λ _. IsNearerEnd I.can_next I.remaining iter.old iter.new) }
+        ensures extended { ExtendResult (YieldsCopies I.next_gives) (LowerAtMost I.remaining)
+            (type_size T.row) iter.old self.old iter.new result self.new }
+        ensures advanced { IfErr result
+            (λ _. IsNearerEnd I.can_next I.remaining iter.old iter.new) }
     {
         let mut copies = Reading { iter };
         self.extend_by(&mut copies)
     }
 
-    /// A vector of the items of `iter`, which ends: a new one, extended as `extend` does, so it
-    /// takes no memory where no item comes or elements have no size. It is refused as `extend` is,
-    /// and then drops what came. The original has no such call.
+    /// Creates a vector of the items of `iter`, which must end, in the given allocator.
+    ///
+    /// A new vector is extended as `extend` does. So it does not allocate if there is no item, or
+    /// for zero-sized elements. Not in allocator-api2.
+    ///
+    /// # Errors
+    /// As `extend`. The items taken are dropped, and the error is returned.
     pub fn from_iter_in<I: Iterator<Item = T>>(iter: I, alloc: A) -> Result<Self, TryReserveError>
     where
         T: Drop,
-        requires may_ask { I.can_next iter }
-        requires ends { IsFinite (I.remaining iter) }
-        ensures items { IfOk result (λ v. Drains I.next_gives iter v.items) }
-        ensures runs { IfOk result (λ v. WholeRun I.next_gives iter (λ p. v.items ≡ p.items)) }
-        ensures fits { size (I.remaining iter) ≤ sized (type_size T.row) 0 → IsOk result }
-        ensures made { (after : I) × IfOk result (λ v. Takes I.next_gives
-            (TellsAtMost I.remaining) iter (λ lower xs last. I.next_gives last None after
-            × (new : Vector T A) × IsNew (type_size T.row) 0 alloc new
-            × Extends (type_size T.row) lower new new.items xs (Ok tt) v)) }
-        ensures growth { IfOk result (λ v. v.growth ≡ Growth.Doubling) }
-        ensures alloc { IfOk result (λ v. v.alloc ≡ alloc) }
-        ensures writes { IfOk result (λ v. (v.written ≡ len v) × (v.runs ≡ len v)) }
-        ensures refused { (after : I) × IfErr result (λ e. Takes I.next_gives
-            (TellsAtMost I.remaining) iter (λ lower xs last. (last ≡ after)
-            × (new : Vector T A) × (stop : Vector T A) × IsNew (type_size T.row) 0 alloc new
-            × (full : Extends (type_size T.row) lower new new.items xs (Err e) stop)
-            × (length full.others ≡ 1))) }
+        requires callable { I.can_next iter }
+        requires finite { IsFinite (I.remaining iter) }
+        ensures fits { size (I.remaining iter) ≤ new_capacity (type_size T.row) 0 → IsOk result }
+        ensures collected { (after : I) × CollectResult I.next_gives (LowerAtMost I.remaining)
+            (type_size T.row) iter alloc after result }
     {
         let mut rest = iter;
         Vec::from_iter_in_by(&mut rest, alloc)
     }
 
-    /// `from_iter_in` by an iterator that is lent: no item is taken from it but those that found a
-    /// place and, on a refusal, one. The original has no such call.
+    /// Like `from_iter_in`, but takes the iterator by `&mut`.
+    ///
+    /// Only the items that find a place are taken from it and, on an error, one more. Not in
+    /// allocator-api2.
     #[inline]
-    #[tactic(auto, using(crate::proofs::GrowthLemmas::kept_in_steps))]
     pub fn from_iter_in_by<I: Iterator<Item = T>>(
         iter: &mut I,
         alloc: A,
     ) -> Result<Self, TryReserveError>
     where
         T: Drop,
-        requires may_ask { I.can_next iter.old }
-        requires ends { IsFinite (I.remaining iter.old) }
-        ensures items { IfOk result (λ v. Drains I.next_gives iter.old v.items) }
-        ensures runs { IfOk result (λ v. WholeRun I.next_gives iter.old (λ p. v.items ≡ p.items)) }
-        ensures fits { size (I.remaining iter.old) ≤ sized (type_size T.row) 0 → IsOk result }
-        ensures made { IfOk result (λ v. Takes I.next_gives (TellsAtMost I.remaining) iter.old
-            (λ lower xs last. I.next_gives last None iter.new
-            × (new : Vector T A) × IsNew (type_size T.row) 0 alloc new
-            × Extends (type_size T.row) lower new new.items xs (Ok tt) v)) }
-        ensures growth { IfOk result (λ v. v.growth ≡ Growth.Doubling) }
-        ensures alloc { IfOk result (λ v. v.alloc ≡ alloc) }
-        ensures writes { IfOk result (λ v. (v.written ≡ len v) × (v.runs ≡ len v)) }
-        ensures refused { IfErr result (λ e. Takes I.next_gives (TellsAtMost I.remaining)
-            iter.old (λ lower xs last. (last ≡ iter.new)
-            × (new : Vector T A) × (stop : Vector T A) × IsNew (type_size T.row) 0 alloc new
-            × (full : Extends (type_size T.row) lower new new.items xs (Err e) stop)
-            × (length full.others ≡ 1))) }
-        ensures goes { IfErr result (λ _. IsNearerEnd I.can_next I.remaining iter.old iter.new) }
+        requires callable { I.can_next iter.old }
+        requires finite { IsFinite (I.remaining iter.old) }
+        ensures fits { size (I.remaining iter.old) ≤ new_capacity (type_size T.row) 0
+            → IsOk result }
+        ensures collected { CollectResult I.next_gives (LowerAtMost I.remaining)
+            (type_size T.row) iter.old alloc iter.new result }
+        ensures advanced { IfErr result
+            (λ _. IsNearerEnd I.can_next I.remaining iter.old iter.new) }
     {
         let mut v = Vec::new_in(alloc);
         match v.extend_by(iter) {
@@ -311,28 +262,17 @@ impl<T, A: Allocator> Vec<T, A> {
 }
 
 impl<T> Vec<T, Global> {
-    /// A vector of the items of `iter` on the global allocator; it is refused as `from_iter_in` is.
-    /// It stands for `Vec::from_iter`, which aborts on a refusal.
+    /// Creates a vector of the items of `iter`, which must end, in the global allocator.
+    ///
+    /// Allocates and fails as `from_iter_in` does. The original aborts if an allocation fails.
     pub fn from_iter<I: Iterator<Item = T>>(alloc: Global, iter: I) -> Result<Self, TryReserveError>
     where
         T: Drop,
-        requires may_ask { I.can_next iter }
-        requires ends { IsFinite (I.remaining iter) }
-        ensures items { IfOk result (λ v. Drains I.next_gives iter v.items) }
-        ensures runs { IfOk result (λ v. WholeRun I.next_gives iter (λ p. v.items ≡ p.items)) }
-        ensures fits { size (I.remaining iter) ≤ sized (type_size T.row) 0 → IsOk result }
-        ensures made { (after : I) × IfOk result (λ v. Takes I.next_gives
-            (TellsAtMost I.remaining) iter (λ lower xs last. I.next_gives last None after
-            × (new : Vector T Global) × IsNew (type_size T.row) 0 alloc new
-            × Extends (type_size T.row) lower new new.items xs (Ok tt) v)) }
-        ensures growth { IfOk result (λ v. v.growth ≡ Growth.Doubling) }
-        ensures alloc { IfOk result (λ v. v.alloc ≡ alloc) }
-        ensures writes { IfOk result (λ v. (v.written ≡ len v) × (v.runs ≡ len v)) }
-        ensures refused { (after : I) × IfErr result (λ e. Takes I.next_gives
-            (TellsAtMost I.remaining) iter (λ lower xs last. (last ≡ after)
-            × (new : Vector T Global) × (stop : Vector T Global) × IsNew (type_size T.row) 0 alloc new
-            × (full : Extends (type_size T.row) lower new new.items xs (Err e) stop)
-            × (length full.others ≡ 1))) }
+        requires callable { I.can_next iter }
+        requires finite { IsFinite (I.remaining iter) }
+        ensures fits { size (I.remaining iter) ≤ new_capacity (type_size T.row) 0 → IsOk result }
+        ensures collected { (after : I) × CollectResult I.next_gives (LowerAtMost I.remaining)
+            (type_size T.row) iter alloc after result }
     {
         Vec::from_iter_in(iter, alloc)
     }

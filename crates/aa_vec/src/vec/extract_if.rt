@@ -1,9 +1,9 @@
-//! `ExtractIf`: elements of a range that a closure takes out.
+//! `ExtractIf`: an iterator over the elements that a closure removes from a range.
 ghost use Rattle.std.specs.Prelude.{◌-◌, ◌≤◌, false};
 ghost use Rattle.std.specs.Fn.{CalledAtMut};
-ghost use Rattle.aa_vec.specs.Behind.{StandsBehind, behind_items};
-ghost use Rattle.aa_vec.specs.Choosing.{TakesMut, MayAskInOrder, IsCallableInOrder};
-ghost use Rattle.aa_vec.specs.Until.{StaysWhen, AsksBehind, KeepsDown, Picks};
+ghost use Rattle.aa_vec.specs.Tail.{HasTail, tail_items};
+ghost use Rattle.aa_vec.specs.Choosing.{CallableAtMut, MayCallInOrder, IsCallableInOrder};
+ghost use Rattle.aa_vec.specs.Until.{KeepsWhen, CallsOnTail, CallsAndShifts, Picks};
 ghost use Rattle.aa_vec.specs.Vector.{len};
 
 use crate::vec::Vec;
@@ -12,27 +12,31 @@ use std::alloc::{Allocator, Global};
 use std::iter::FusedIterator;
 use std::ops::Range;
 
-/// A range of a vector, out of which elements are taken by a closure that is lent at each call.
-/// While it lives the vector ends before the range. Dropped, it leaves the vector what is before
-/// the range, what stays of it, and what is behind it; forgotten, it leaves what is before the
-/// range. It takes no memory. This is `ExtractIf` whose caller knows what becomes of the closure.
+/// An iterator over the elements of a range that a closure removes, which borrows the closure at
+/// each call.
+///
+/// Like `ExtractIf`, but contracts describe the final state of the closure. Until it is dropped,
+/// the vector holds only the elements before the range. Dropping it closes the gaps. The vector
+/// then holds what is before the range, the kept and the untested elements of the range, and what
+/// is after it. Forgetting it leaves the vector with what is before the range, and leaks the rest.
+/// Does not allocate. Not in allocator-api2.
 pub struct ExtractBy<'a, T, A: Allocator = Global> {
     vec: &'a mut Vec<T, A>,
-    // Places behind the vector's last element: those that stay stand up to `kept`, those that were
-    // not asked yet from `front` up to `end`, and the elements behind the range from there up to
-    // `total`.
+    // Places after the vector's last element. The kept elements are in those up to `kept`, the
+    // untested ones in those from `front` up to `end`. The elements after the range are in those
+    // from there up to `total`.
     kept: usize,
     front: usize,
     end: usize,
     total: usize,
     ghost ordered: { (kept ≤ front) × (front ≤ end) × (end ≤ total) },
-    ghost held: { StandsBehind vec.now 0 kept × StandsBehind vec.now front (total - front) },
+    ghost held: { HasTail vec.now 0 kept × HasTail vec.now front (total - front) },
 }
 
 impl<T, A: Allocator> Vec<T, A> {
-    // Asks the elements in the places from `front` up to `end` in order, up to the first at which
-    // `f` answers true, and takes that one out. Those before it are moved down to the `kept` ones.
-    // It answers how many they are, and the first place that was not asked.
+    // Calls `f` for the elements in the places from `front` up to `end` in order, up to the first
+    // for which it returns `true`. Takes that one out, and moves those before it down to the `kept`
+    // ones. Returns how many were moved, the first place that was not tested, and the element.
     fn pick<F: FnMut(&mut T) -> bool>(
         &mut self,
         kept: usize,
@@ -41,9 +45,9 @@ impl<T, A: Allocator> Vec<T, A> {
         f: &mut F,
     ) -> (usize, usize, Option<T>)
         requires ordered { (kept ≤ front) × (front ≤ end) }
-        requires stands { StandsBehind self.old 0 kept × StandsBehind self.old front (end - front) }
-        requires callable { MayAskInOrder (StaysWhen false (CalledAtMut F.FnMut))
-            (TakesMut F.FnMut) f.old (behind_items self.old front (end - front)) }
+        requires has_tail { HasTail self.old 0 kept × HasTail self.old front (end - front) }
+        requires callable { MayCallInOrder (KeepsWhen false (CalledAtMut F.FnMut))
+            (CallableAtMut F.FnMut) f.old (tail_items self.old front (end - front)) }
         ensures { Picks (CalledAtMut F.FnMut) f.old self.old kept front end result.0 result.1
             result.2 f.new self.new }
     {
@@ -51,81 +55,84 @@ impl<T, A: Allocator> Vec<T, A> {
         let gap = front - kept;
         let count = end - front;
         self.close_gap(0, kept);
-        let stay = self.pass_over(gap, count, f);
-        let (next, item) = if stay < count {
-            (front + stay + 1, Some(self.take_behind(gap)))
+        let passed = self.pass_over(gap, count, f);
+        let (next, item) = if passed < count {
+            (front + passed + 1, Some(self.take_from_tail(gap)))
         } else {
             (end, None)
         };
-        self.set_back(len);
-        (stay, next, item)
+        self.set_tail(len);
+        (passed, next, item)
     }
 
-    // Asks the `count` elements after the gap in order, up to the first at which `f` answers true,
-    // and moves those before it down. It answers how many they are. None and one are far less work
-    // than a run.
+    // Calls `f` for the `count` elements after the gap in order, up to the first for which it
+    // returns `true`. Moves those before it down, and returns how many they are. For none or one
+    // this is far cheaper than a move of a run.
     fn pass_over<F: FnMut(&mut T) -> bool>(&mut self, gap: usize, count: usize, f: &mut F) -> usize
-        requires stands { StandsBehind self.old gap count }
-        requires callable { MayAskInOrder (StaysWhen false (CalledAtMut F.FnMut))
-            (TakesMut F.FnMut) f.old (behind_items self.old gap count) }
-        ensures { KeepsDown (StaysWhen false (CalledAtMut F.FnMut)) f.old self.old gap
+        requires has_tail { HasTail self.old gap count }
+        requires callable { MayCallInOrder (KeepsWhen false (CalledAtMut F.FnMut))
+            (CallableAtMut F.FnMut) f.old (tail_items self.old gap count) }
+        ensures { CallsAndShifts (KeepsWhen false (CalledAtMut F.FnMut)) f.old self.old gap
             count result f.new self.new }
     {
-        let stay = self.spare_behind(gap, count, f);
-        if stay == 0 {
+        let passed = self.count_passed(gap, count, f);
+        if passed == 0 {
             return 0;
         }
-        if stay == 1 && 0 < gap {
+        if passed == 1 && 0 < gap {
             self.close_gap_by_one(gap);
             return 1;
         }
-        self.close_gap(gap, stay);
-        stay
+        self.close_gap(gap, passed);
+        passed
     }
 
-    // Asks them. It answers how many there are before the first at which the answer is true.
+    // Calls `f` for them. Returns how many there are before the first for which it returns `true`.
     #[inline(always)]
-    #[tactic(auto, using(crate::proofs::Chains::lents))]
-    fn spare_behind<F: FnMut(&mut T) -> bool>(
+    #[tactic(auto, using(crate::proofs::Chains::borrowed))]
+    fn count_passed<F: FnMut(&mut T) -> bool>(
         &mut self,
         gap: usize,
         count: usize,
         f: &mut F,
     ) -> usize
-        requires stands { StandsBehind self.old gap count }
-        requires callable { MayAskInOrder (StaysWhen false (CalledAtMut F.FnMut))
-            (TakesMut F.FnMut) f.old (behind_items self.old gap count) }
-        ensures { AsksBehind (StaysWhen false (CalledAtMut F.FnMut)) f.old self.old gap
+        requires has_tail { HasTail self.old gap count }
+        requires callable { MayCallInOrder (KeepsWhen false (CalledAtMut F.FnMut))
+            (CallableAtMut F.FnMut) f.old (tail_items self.old gap count) }
+        ensures { CallsOnTail (KeepsWhen false (CalledAtMut F.FnMut)) f.old self.old gap
             count result f.new self.new }
     {
-        self.block.known();
+        self.block.prove_capacity_bounds();
         count_kept(self.block.slice_mut(self.len + gap, count), false, f)
     }
 }
 
 impl<'a, T, A: Allocator> ExtractBy<'a, T, A> {
     ghost use Rattle.std.specs.Prelude.{◌≡◌, length};
-    ghost use Rattle.aa_vec.specs.Extract.{extract_rest, Extracts};
+    ghost use Rattle.aa_vec.specs.Extract.{extract_remaining, Extracts};
 
-    /// Asks `f` of the elements that were not asked yet, in order, up to the first at which it
-    /// answers true, and takes that one out. At the end it answers `None`, and so for good, and
-    /// asks nothing.
+    /// Removes and returns the next element for which `f` returns `true`, or returns `None` if
+    /// there is none.
+    ///
+    /// `f` is called for the untested elements in order, up to the first for which it returns
+    /// `true`. The others are kept, as `f` leaves them. Once it has returned `None`, it always
+    /// does, and `f` is not called again.
     #[tactic(auto, using(crate::proofs::ExtractLemmas::picked))]
     pub fn next_by<F: FnMut(&mut T) -> bool>(&mut self, f: &mut F) -> Option<T>
-        requires { IsCallableInOrder (CalledAtMut F.FnMut) (TakesMut F.FnMut) f.old
-            (extract_rest self.old) }
+        requires { IsCallableInOrder (CalledAtMut F.FnMut) (CallableAtMut F.FnMut) f.old
+            (extract_remaining self.old) }
         ensures { Extracts (CalledAtMut F.FnMut) f.old self.old result f.new self.new }
     {
-        let (stay, next, item) = self.vec.pick(self.kept, self.front, self.end, f);
-        self.kept += stay;
+        let (passed, next, item) = self.vec.pick(self.kept, self.front, self.end, f);
+        self.kept += passed;
         self.front = next;
         item
     }
 
-    /// How many elements were not asked yet.
+    /// Returns the number of elements for which the closure was not called yet.
     #[tactic(auto, using(crate::proofs::ExtractLemmas::rest_count))]
-    pub fn left(&self) -> usize
-        ensures { result ≡ length (extract_rest self.now) }
+    pub fn remaining_len(&self) -> usize
+        ensures { result ≡ length (extract_remaining self.now) }
     {
         self.end - self.front
     }
@@ -134,7 +141,7 @@ impl<'a, T, A: Allocator> ExtractBy<'a, T, A> {
 impl<'a, T, A: Allocator> Drop for ExtractBy<'a, T, A> {
     ghost use Rattle.aa_vec.specs.Extract.{ClosesExtract};
 
-    // Moves down what was not asked, and what is behind the range.
+    // Moves down the untested elements, and what is after the range.
     fn drop(self)
         ensures { ClosesExtract self.entry self.exit.0.now }
     {
@@ -149,10 +156,14 @@ impl<'a, T, A: Allocator> Drop for ExtractBy<'a, T, A> {
     }
 }
 
-/// Elements of a range at which a closure answers true, taken out one by one. While it lives the
-/// vector ends before the range. Dropped, it leaves the vector what is before the range, what stays
-/// of it, what was not asked, and what is behind it; forgotten, it leaves what is before the range.
-/// It takes no memory. It stands for `ExtractIf` of Rust's library, which the original lacks.
+/// An iterator over the elements of a range for which a closure returns `true`, which are removed
+/// one by one.
+///
+/// Returned by `Vec::extract_if`. Until it is dropped, the vector holds only the elements before
+/// the range. Dropping it closes the gaps. The vector then holds what is before the range, the kept
+/// and the untested elements of the range, and what is after it. Forgetting it leaves the vector
+/// with what is before the range, and leaks the rest. Does not allocate. Corresponds to std's
+/// `ExtractIf`, which allocator-api2 lacks.
 #[derive(Drop)]
 pub struct ExtractIf<'a, T, F, A: Allocator = Global> {
     by: ExtractBy<'a, T, A>,
@@ -163,9 +174,10 @@ impl<T, A: Allocator> Vec<T, A> {
     ghost use Rattle.std.specs.Prelude.{◌≡◌};
     ghost use Rattle.aa_vec.specs.Extract.{ExtractsRange, ExtractsAlong, extract_lender};
 
-    /// Takes the elements of the range out of the vector at which `f` answers true. `f` is asked of
-    /// each in order, as it is taken, and what it leaves of the others stays. The capacity stays;
-    /// it takes no memory. It stands for `Vec::extract_if`.
+    /// Returns an iterator that removes the elements of the range for which `f` returns `true`.
+    ///
+    /// `f` is called for each element in order, as the iterator is advanced. The others are kept,
+    /// as `f` leaves them. Does not allocate, and does not change the capacity.
     #[tactic(auto, using(crate::proofs::ExtractRuns::extracts_along))]
     pub fn extract_if<F: FnMut(&mut T) -> bool>(
         &mut self,
@@ -175,8 +187,8 @@ impl<T, A: Allocator> Vec<T, A> {
         requires { (range.start ≤ range.end) × (range.end ≤ len self.old) }
         ensures lender { extract_lender result.by ≡ self.entry.ghost_name }
         ensures closure { result.f ≡ f }
-        ensures takes { ExtractsRange self.old range.start range.end result.by }
-        ensures extracts { ExtractsAlong (CalledAtMut F.FnMut) result }
+        ensures taken { ExtractsRange self.old range.start range.end result.by }
+        ensures extracted { ExtractsAlong (CalledAtMut F.FnMut) result }
     {
         ExtractIf {
             by: self.extract_by(range),
@@ -184,14 +196,17 @@ impl<T, A: Allocator> Vec<T, A> {
         }
     }
 
-    /// The same by a closure that is lent at each call, so that the caller knows what becomes of
-    /// it.
+    /// Like `extract_if`, but borrows the closure at each call, so that contracts describe its
+    /// final state.
+    ///
+    /// Returns an iterator whose `next_by` takes the closure by `&mut`. Does not allocate. Not in
+    /// allocator-api2.
     pub fn extract_by(&mut self, range: Range<usize>) -> ExtractBy<'_, T, A>
         requires { (range.start ≤ range.end) × (range.end ≤ len self.old) }
         ensures lender { extract_lender result ≡ self.entry.ghost_name }
-        ensures takes { ExtractsRange self.old range.start range.end result }
+        ensures taken { ExtractsRange self.old range.start range.end result }
     {
-        let total = self.set_back(range.start);
+        let total = self.set_tail(range.start);
         ExtractBy {
             vec: self,
             kept: 0,
@@ -206,32 +221,35 @@ impl<'a, T, F: FnMut(&mut T) -> bool + Drop, A: Allocator> Iterator for ExtractI
     ghost use Rattle.std.specs.Prelude.{◌≡◌, length, Some, IfSome};
     ghost use Rattle.std.specs.Iterator.{UpTo, at_most};
     ghost use Rattle.std.specs.Iterator.SizeHint.{IsWithinCount};
-    ghost use Rattle.aa_vec.specs.Extract.{extract_rest, Extracts};
+    ghost use Rattle.aa_vec.specs.Extract.{extract_remaining, Extracts};
 
     type Item = T;
 
     ghost can_next = { λ s. IsCallableInOrder (CalledAtMut F.FnMut)
-        (TakesMut F.FnMut) s.f (extract_rest s.by) };
+        (CallableAtMut F.FnMut) s.f (extract_remaining s.by) };
 
     ghost next_gives = { λ s r t. Extracts (CalledAtMut F.FnMut) s.f s.by r t.f t.by };
 
-    ghost remaining = { λ s. at_most (length (extract_rest s.by)) };
+    ghost remaining = { λ s. at_most (length (extract_remaining s.by)) };
 
-    /// Asks the elements in order, from where it stopped, up to the first at which the closure
-    /// answers true, and takes that one out. At the end it answers `None`, and so for good, and
-    /// asks nothing.
+    /// Removes and returns the next element for which the closure returns `true`, or returns `None`
+    /// if there is none.
+    ///
+    /// The closure is called for the untested elements in order, up to the first for which it
+    /// returns `true`. Once this has returned `None`, it always does, and the closure is not called
+    /// again.
     fn next(&mut self) -> Option<T> {
         let ExtractIf { by, f } = self;
         by.next_by(f)
     }
 
-    /// At most all that were not asked yet.
+    /// Returns 0 and the number of untested elements.
     fn size_hint(&self) -> (usize, Option<usize>)
-        ensures lower { IsWithinCount result.0 (at_most (length (extract_rest self.now.by))) }
-        ensures upper { IfSome result.1 (UpTo (at_most (length (extract_rest self.now.by)))) }
-        ensures exact { result ≡ (0, Some (length (extract_rest self.now.by))) }
+        ensures lower { IsWithinCount result.0 (at_most (length (extract_remaining self.now.by))) }
+        ensures upper { IfSome result.1 (UpTo (at_most (length (extract_remaining self.now.by)))) }
+        ensures exact { result ≡ (0, Some (length (extract_remaining self.now.by))) }
     {
-        (0, Some(self.by.left()))
+        (0, Some(self.by.remaining_len()))
     }
 }
 

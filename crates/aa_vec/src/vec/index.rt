@@ -1,4 +1,4 @@
-//! Elements by their index, and over all of them.
+//! Access to elements by index, and iteration over all of them.
 ghost use Rattle.std.specs.Prelude.{◌≡◌, ◌<◌, length, slice_index_or};
 ghost use Rattle.std.specs.Borrow.{sem};
 ghost use Rattle.std.specs.Iterator.Adapters.{IterYieldsInOrder, IterYieldsInReverse};
@@ -12,23 +12,28 @@ use std::slice::{Iter, IterMut};
 impl<T, A: Allocator> Vec<T, A> {
     ghost use Rattle.aa_vec.specs.VecLends.{lends_item, lends_all};
 
-    /// The elements in order, from either end. It stands for the slice's `iter`.
+    /// Returns a double-ended iterator over the elements, in order.
+    ///
+    /// Corresponds to the slice's `iter`.
     pub fn iter(&self) -> Iter<'_, T>
-        ensures rest { iter_rest result ≡ self.now.items }
-        ensures runs { IterYieldsInOrder T }
-        ensures runs_back { IterYieldsInReverse T }
+        ensures remaining { iter_rest result ≡ self.now.items }
+        ensures in_order { IterYieldsInOrder T }
+        ensures in_reverse { IterYieldsInReverse T }
     {
         self.as_slice().iter()
     }
 
-    /// The elements in order, from either end, to write to. It stands for the slice's `iter_mut`.
+    /// Returns a double-ended iterator over the elements, in order, that allows modifying each.
+    ///
+    /// Corresponds to the slice's `iter_mut`.
     pub fn iter_mut(&mut self) -> IterMut<'_, T>
         ensures* writes_back { sem 𝓛 (lends_all T.row A.row A.Allocator self.entry result) }
-        ensures rest { iter_mut_rest result ≡ self.old.items }
+        ensures remaining { iter_mut_rest result ≡ self.old.items }
     {
         self.as_mut_slice().iter_mut()
     }
 
+    // Returns a mutable reference to the element at `index`.
     #[tactic(auto, using(aa_raw::proofs::Positions::at_positions))]
     fn item_mut(&mut self, index: usize) -> &mut T
         requires { index < length self.old.items }
@@ -46,7 +51,7 @@ impl<T, A: Allocator> Index<usize> for Vec<T, A> {
 
     ghost index_gives = { λ v i x. x ≡ slice_index_or v.items i x };
 
-    /// The element at the index, which is below the length.
+    /// Returns a reference to the element at `index`, which is below the length.
     fn index(&self, index: usize) -> &T {
         &self.as_slice()[index]
     }
@@ -55,7 +60,7 @@ impl<T, A: Allocator> Index<usize> for Vec<T, A> {
 impl<T, A: Allocator> IndexMut<usize> for Vec<T, A> {
     ghost use Rattle.aa_vec.specs.VecLends.{lends_item};
 
-    /// The element at the index, which is below the length, to write to.
+    /// Returns a mutable reference to the element at `index`, which is below the length.
     fn index_mut(&mut self, index: usize) -> &mut T
         requires { index < length self.old.items }
         ensures* writes_back { sem 𝓛 (lends_item T.row A.row A.Allocator self.entry index result) }

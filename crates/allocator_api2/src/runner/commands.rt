@@ -1,13 +1,13 @@
-//! What `run` does at each command: the call of the vector that stands for it, after the test of
-//! its indices, and the reply.
+//! The commands of `run`: each tests its indices, calls the method of the vector that corresponds
+//! to it, and returns the reply.
 ghost use Rattle.std.specs.Prelude.{◌≡◌, ◌<◌};
 ghost use Rattle.std.specs.Fn.{CalledAtMut, CalledAtPairMut};
 ghost use Rattle.std.specs.Mem.{type_size};
-ghost use Rattle.aa_raw.specs.Closures.{TakesPairMut};
-ghost use Rattle.aa_vec.specs.Choosing.{TakesMut, IsCallableInOrder, IsCallableAlong, Retains, Deduplicates};
-ghost use Rattle.aa_vec.specs.Copies.{Copies};
+ghost use Rattle.aa_raw.specs.Closures.{CallableAtPairMut};
+ghost use Rattle.aa_vec.specs.Choosing.{CallableAtMut, IsCallableInOrder, IsCallableAlong, Retains, Deduplicates};
+ghost use Rattle.aa_vec.specs.Copies.{ClonesAreEqual};
 ghost use Rattle.aa_vec.specs.Vector.{Vector};
-ghost use Rattle.allocator_api2.specs.Commands.{Does, DoesOnMain};
+ghost use Rattle.allocator_api2.specs.Commands.{Performs, PerformsOnMain};
 ghost use Rattle.allocator_api2.specs.declared.runner.Command.TheVariants.{Push, Within, Pop, Insert, Remove, SwapRemove, Truncate, Clear, Reserve, ReserveExact, ShrinkTo, SplitOff, Append, Extend, ExtendFromWithin, Resize, Splice};
 ghost use Rattle.allocator_api2.specs.declared.runner.Reply.{Reply};
 
@@ -15,11 +15,11 @@ use crate::runner::Reply;
 use aa_vec::vec::{Items, Vec};
 use std::alloc::Allocator;
 
-#[tactic(auto, using(aa_vec::proofs::Becoming::became, crate::proofs::ByKind::told))]
+#[tactic(auto, using(aa_vec::proofs::Becoming::became, crate::proofs::ByKind::failed))]
 pub(crate) fn push<T, A: Allocator>(main: &mut Vec<T, A>, value: T) -> Reply<T>
 where
     T: Drop,
-    ensures { DoesOnMain (type_size T.row) main.old (Push value) result main.new }
+    ensures { PerformsOnMain (type_size T.row) main.old (Push value) result main.new }
 {
     match main.push(value) {
         Ok(()) => Reply::Done,
@@ -29,7 +29,7 @@ where
 
 #[tactic(auto, using(aa_vec::proofs::Becoming::became))]
 pub(crate) fn within<T, A: Allocator>(main: &mut Vec<T, A>, value: T) -> Reply<T>
-    ensures { DoesOnMain (type_size T.row) main.old (Within value) result main.new }
+    ensures { PerformsOnMain (type_size T.row) main.old (Within value) result main.new }
 {
     match main.push_within_capacity(value) {
         Ok(()) => Reply::Done,
@@ -39,7 +39,7 @@ pub(crate) fn within<T, A: Allocator>(main: &mut Vec<T, A>, value: T) -> Reply<T
 
 #[tactic(auto, using(aa_vec::proofs::Becoming::became))]
 pub(crate) fn pop<T, A: Allocator>(main: &mut Vec<T, A>) -> Reply<T>
-    ensures { DoesOnMain (type_size T.row) main.old Pop result main.new }
+    ensures { PerformsOnMain (type_size T.row) main.old Pop result main.new }
 {
     match main.pop() {
         Some(value) => Reply::Item(value),
@@ -47,13 +47,13 @@ pub(crate) fn pop<T, A: Allocator>(main: &mut Vec<T, A>) -> Reply<T>
     }
 }
 
-#[tactic(auto, using(aa_vec::proofs::Becoming::became, crate::proofs::ByKind::told))]
+#[tactic(auto, using(aa_vec::proofs::Becoming::became, crate::proofs::ByKind::failed))]
 pub(crate) fn insert<T: Drop, A: Allocator>(
     main: &mut Vec<T, A>,
     index: usize,
     value: T,
 ) -> Reply<T>
-    ensures { DoesOnMain (type_size T.row) main.old (Insert index value) result main.new }
+    ensures { PerformsOnMain (type_size T.row) main.old (Insert index value) result main.new }
 {
     if index > main.len() {
         return Reply::Range;
@@ -66,7 +66,7 @@ pub(crate) fn insert<T: Drop, A: Allocator>(
 
 #[tactic(auto, using(aa_vec::proofs::Becoming::became))]
 pub(crate) fn remove<T, A: Allocator>(main: &mut Vec<T, A>, index: usize) -> Reply<T>
-    ensures { DoesOnMain (type_size T.row) main.old (Remove index) result main.new }
+    ensures { PerformsOnMain (type_size T.row) main.old (Remove index) result main.new }
 {
     if index >= main.len() {
         return Reply::Range;
@@ -76,7 +76,7 @@ pub(crate) fn remove<T, A: Allocator>(main: &mut Vec<T, A>, index: usize) -> Rep
 
 #[tactic(auto, using(aa_vec::proofs::Becoming::became))]
 pub(crate) fn swap_remove<T, A: Allocator>(main: &mut Vec<T, A>, index: usize) -> Reply<T>
-    ensures { DoesOnMain (type_size T.row) main.old (SwapRemove index) result main.new }
+    ensures { PerformsOnMain (type_size T.row) main.old (SwapRemove index) result main.new }
 {
     if index >= main.len() {
         return Reply::Range;
@@ -86,7 +86,7 @@ pub(crate) fn swap_remove<T, A: Allocator>(main: &mut Vec<T, A>, index: usize) -
 
 #[tactic(auto, using(aa_vec::proofs::Becoming::became))]
 pub(crate) fn truncate<T: Drop, A: Allocator>(main: &mut Vec<T, A>, len: usize) -> Reply<T>
-    ensures { DoesOnMain (type_size T.row) main.old (Truncate len) result main.new }
+    ensures { PerformsOnMain (type_size T.row) main.old (Truncate len) result main.new }
 {
     main.truncate(len);
     Reply::Done
@@ -94,15 +94,15 @@ pub(crate) fn truncate<T: Drop, A: Allocator>(main: &mut Vec<T, A>, len: usize) 
 
 #[tactic(auto, using(aa_vec::proofs::Becoming::became))]
 pub(crate) fn clear<T: Drop, A: Allocator>(main: &mut Vec<T, A>) -> Reply<T>
-    ensures { DoesOnMain (type_size T.row) main.old Clear result main.new }
+    ensures { PerformsOnMain (type_size T.row) main.old Clear result main.new }
 {
     main.clear();
     Reply::Done
 }
 
-#[tactic(auto, using(aa_vec::proofs::Becoming::became, crate::proofs::ByKind::told))]
+#[tactic(auto, using(aa_vec::proofs::Becoming::became, crate::proofs::ByKind::failed))]
 pub(crate) fn reserve<T, A: Allocator>(main: &mut Vec<T, A>, additional: usize) -> Reply<T>
-    ensures { DoesOnMain (type_size T.row) main.old (Reserve additional) result main.new }
+    ensures { PerformsOnMain (type_size T.row) main.old (Reserve additional) result main.new }
 {
     match main.try_reserve(additional) {
         Ok(()) => Reply::Done,
@@ -110,9 +110,9 @@ pub(crate) fn reserve<T, A: Allocator>(main: &mut Vec<T, A>, additional: usize) 
     }
 }
 
-#[tactic(auto, using(aa_vec::proofs::Becoming::became, crate::proofs::ByKind::told))]
+#[tactic(auto, using(aa_vec::proofs::Becoming::became, crate::proofs::ByKind::failed))]
 pub(crate) fn reserve_exact<T, A: Allocator>(main: &mut Vec<T, A>, additional: usize) -> Reply<T>
-    ensures { DoesOnMain (type_size T.row) main.old (ReserveExact additional) result main.new }
+    ensures { PerformsOnMain (type_size T.row) main.old (ReserveExact additional) result main.new }
 {
     match main.try_reserve_exact(additional) {
         Ok(()) => Reply::Done,
@@ -120,9 +120,9 @@ pub(crate) fn reserve_exact<T, A: Allocator>(main: &mut Vec<T, A>, additional: u
     }
 }
 
-#[tactic(auto, using(aa_vec::proofs::Becoming::became, crate::proofs::ByKind::told))]
+#[tactic(auto, using(aa_vec::proofs::Becoming::became, crate::proofs::ByKind::failed))]
 pub(crate) fn shrink_to<T, A: Allocator>(main: &mut Vec<T, A>, capacity: usize) -> Reply<T>
-    ensures { DoesOnMain (type_size T.row) main.old (ShrinkTo capacity) result main.new }
+    ensures { PerformsOnMain (type_size T.row) main.old (ShrinkTo capacity) result main.new }
 {
     match main.shrink_to(capacity) {
         Ok(()) => Reply::Done,
@@ -130,13 +130,13 @@ pub(crate) fn shrink_to<T, A: Allocator>(main: &mut Vec<T, A>, capacity: usize) 
     }
 }
 
-#[tactic(auto, using(crate::proofs::ByKind::told))]
+#[tactic(auto, using(crate::proofs::ByKind::failed))]
 pub(crate) fn split_off<T: Drop, A: Allocator + Clone + Drop>(
     main: &mut Vec<T, A>,
     side: &mut Vec<T, A>,
     at: usize,
 ) -> Reply<T>
-    ensures does { Does (type_size T.row) ⊥ main.old side.old (SplitOff at)
+    ensures performed { Performs (type_size T.row) ⊥ main.old side.old (SplitOff at)
         result main.new side.new }
     ensures tail_clone { result ≡ Reply.Done → 0 < at → A.is_clone main.old.alloc side.new.alloc }
     ensures head_clone { result ≡ Reply.Done → at ≡ 0 → A.is_clone main.old.alloc main.new.alloc }
@@ -153,9 +153,9 @@ pub(crate) fn split_off<T: Drop, A: Allocator + Clone + Drop>(
     }
 }
 
-#[tactic(auto, using(aa_vec::proofs::Becoming::became, crate::proofs::ByKind::told))]
+#[tactic(auto, using(aa_vec::proofs::Becoming::became, crate::proofs::ByKind::failed))]
 pub(crate) fn append<T, A: Allocator>(main: &mut Vec<T, A>, side: &mut Vec<T, A>) -> Reply<T>
-    ensures { Does (type_size T.row) ⊥ main.old side.old Append result main.new side.new }
+    ensures { Performs (type_size T.row) ⊥ main.old side.old Append result main.new side.new }
 {
     match main.append(side) {
         Ok(()) => Reply::Done,
@@ -168,7 +168,7 @@ pub(crate) fn extend<T: Drop, A: Allocator + Drop>(
     items: Vec<T, A>,
     hint: Option<usize>,
 ) -> Reply<T>
-    ensures { DoesOnMain (type_size T.row) main.old (Extend items hint) result main.new }
+    ensures { PerformsOnMain (type_size T.row) main.old (Extend items hint) result main.new }
 {
     match main.extend_hinted(Items::new(items, hint)) {
         Ok(()) => Reply::Done,
@@ -176,14 +176,14 @@ pub(crate) fn extend<T: Drop, A: Allocator + Drop>(
     }
 }
 
-#[tactic(auto, using(aa_vec::proofs::Becoming::becomes, crate::proofs::ByKind::told))]
+#[tactic(auto, using(aa_vec::proofs::Becoming::becomes, crate::proofs::ByKind::failed))]
 pub(crate) fn extend_from_within<T: Clone + Drop, A: Allocator>(
     main: &mut Vec<T, A>,
     from: usize,
     to: usize,
 ) -> Reply<T>
-    requires copies { Copies T.is_clone }
-    ensures { DoesOnMain (type_size T.row) main.old (ExtendFromWithin from to) result main.new }
+    requires copies { ClonesAreEqual T.is_clone }
+    ensures { PerformsOnMain (type_size T.row) main.old (ExtendFromWithin from to) result main.new }
 {
     if from > to || to > main.len() {
         return Reply::Range;
@@ -194,14 +194,14 @@ pub(crate) fn extend_from_within<T: Clone + Drop, A: Allocator>(
     }
 }
 
-#[tactic(auto, using(aa_vec::proofs::Becoming::becomes, crate::proofs::ByKind::told))]
+#[tactic(auto, using(aa_vec::proofs::Becoming::becomes, crate::proofs::ByKind::failed))]
 pub(crate) fn resize<T: Clone + Drop, A: Allocator>(
     main: &mut Vec<T, A>,
     len: usize,
     value: T,
 ) -> Reply<T>
-    requires copies { Copies T.is_clone }
-    ensures { DoesOnMain (type_size T.row) main.old (Resize len value) result main.new }
+    requires copies { ClonesAreEqual T.is_clone }
+    ensures { PerformsOnMain (type_size T.row) main.old (Resize len value) result main.new }
 {
     match main.resize(len, value) {
         Ok(()) => Reply::Done,
@@ -214,9 +214,10 @@ where
     T: Drop,
     A: Allocator,
     K: FnMut(&mut T) -> bool,
-    requires { IsCallableInOrder (CalledAtMut K.FnMut) (TakesMut K.FnMut) keep.old main.old.items }
+    requires { IsCallableInOrder (CalledAtMut K.FnMut)
+        (CallableAtMut K.FnMut) keep.old main.old.items }
     ensures done { result ≡ Reply.Done }
-    ensures retains { Retains (CalledAtMut K.FnMut) keep.old main.old keep.new main.new }
+    ensures retained { Retains (CalledAtMut K.FnMut) keep.old main.old keep.new main.new }
 {
     main.retain_by(keep);
     Reply::Done
@@ -227,10 +228,10 @@ where
     T: Drop,
     A: Allocator,
     S: FnMut(&mut T, &mut T) -> bool,
-    requires { IsCallableAlong (CalledAtPairMut S.FnMut) (TakesPairMut S.FnMut)
+    requires { IsCallableAlong (CalledAtPairMut S.FnMut) (CallableAtPairMut S.FnMut)
         same.old main.old.items }
     ensures done { result ≡ Reply.Done }
-    ensures deduplicates { Deduplicates (CalledAtPairMut S.FnMut)
+    ensures deduplicated { Deduplicates (CalledAtPairMut S.FnMut)
         same.old main.old same.new main.new }
 {
     main.dedup_within(same);
@@ -245,7 +246,7 @@ pub(crate) fn splice<T: Drop, A: Allocator + Clone + Drop>(
     hint: Option<usize>,
 ) -> Reply<T>
     ensures { let fails = ¬ (A.is_infallible main.old.alloc) in
-        (side : Vector T A) → Does (type_size T.row) fails main.old side
+        (side : Vector T A) → Performs (type_size T.row) fails main.old side
         (Splice start end items hint) result main.new side }
 {
     if start > end || end > main.len() {

@@ -1,9 +1,9 @@
 //! The command `Drain` of `run`, and its parts.
 ghost use Rattle.std.specs.Prelude.{◌+◌, ◌-◌, ◌≤◌, length};
 ghost use Rattle.std.specs.Mem.{type_size};
-ghost use Rattle.aa_vec.specs.Drain.{drain_rest};
+ghost use Rattle.aa_vec.specs.Drain.{drain_remaining};
 ghost use Rattle.aa_vec.specs.Vector.{len, HasRoom};
-ghost use Rattle.allocator_api2.specs.Commands.{Does};
+ghost use Rattle.allocator_api2.specs.Commands.{Performs};
 ghost use Rattle.allocator_api2.specs.RangeCommands.{Drained, TakesFront, TakesBack, ends_at};
 ghost use Rattle.allocator_api2.specs.declared.runner.Command.{Command};
 
@@ -11,8 +11,8 @@ use crate::runner::{Reply, push_within};
 use aa_vec::vec::{Drain, Vec};
 use std::alloc::Allocator;
 
-// Tests the range, makes room in side for what is asked for, and then takes it.
-#[tactic(auto, using(aa_vec::proofs::Becoming::became, crate::proofs::ByKind::told))]
+// Tests the range, reserves capacity in side for the requested elements, and then moves them there.
+#[tactic(auto, using(aa_vec::proofs::Becoming::became, crate::proofs::ByKind::failed))]
 pub(crate) fn drain<T: Drop, A: Allocator>(
     main: &mut Vec<T, A>,
     side: &mut Vec<T, A>,
@@ -22,7 +22,7 @@ pub(crate) fn drain<T: Drop, A: Allocator>(
     back: usize,
     keep: bool,
 ) -> Reply<T>
-    ensures { Does (type_size T.row) ⊥ main.old side.old
+    ensures { Performs (type_size T.row) ⊥ main.old side.old
         (Command.Drain start end front back keep) result main.new side.new }
 {
     if start > end || end > main.len() {
@@ -37,8 +37,8 @@ pub(crate) fn drain<T: Drop, A: Allocator>(
     Reply::Done
 }
 
-// Takes so many items of a range from the front and then from the back, and keeps or drops the
-// others.
+// Takes `first` items of a range from its front and then `last` from its back, appends them to
+// side, and keeps or drops the others.
 fn drain_into<T: Drop, A: Allocator>(
     main: &mut Vec<T, A>,
     side: &mut Vec<T, A>,
@@ -60,15 +60,15 @@ fn drain_into<T: Drop, A: Allocator>(
     }
 }
 
-// Takes so many items from the front, and puts them behind the last element of a vector that has
-// room for them.
+// Takes `count` items from the front, and appends them to a vector that has spare capacity for
+// them.
 #[tactic(auto, using(crate::proofs::Taking::takes))]
 fn take_front<T: Drop, A: Allocator>(
     items: &mut Drain<'_, T, A>,
     side: &mut Vec<T, A>,
     count: usize,
 )
-    requires { (count ≤ length (drain_rest items.old)) × HasRoom side.old count }
+    requires { (count ≤ length (drain_remaining items.old)) × HasRoom side.old count }
     ensures { TakesFront items.old side.old count items.new side.new }
 {
     'each: for _taken in 0..count {
@@ -79,10 +79,10 @@ fn take_front<T: Drop, A: Allocator>(
     }
 }
 
-// The same from the back: the last item first.
+// Like `take_front`, but from the back, the last item first.
 #[tactic(auto, using(crate::proofs::Taking::takes))]
 fn take_back<T: Drop, A: Allocator>(items: &mut Drain<'_, T, A>, side: &mut Vec<T, A>, count: usize)
-    requires { (count ≤ length (drain_rest items.old)) × HasRoom side.old count }
+    requires { (count ≤ length (drain_remaining items.old)) × HasRoom side.old count }
     ensures { TakesBack items.old side.old count items.new side.new }
 {
     'each: for _taken in 0..count {

@@ -2,18 +2,19 @@
 ghost use Rattle.std.specs.Prelude.{◌≡◌, ◌+◌, ◌-◌, ◌≤◌, min, length, slice_range, ◌++◌};
 ghost use Rattle.std.specs.Fn.{CalledAtMut};
 ghost use Rattle.std.specs.Mem.{type_size};
-ghost use Rattle.aa_vec.specs.Choosing.{TakesMut, IsCallableInOrder};
-ghost use Rattle.aa_vec.specs.Extract.{extract_rest};
+ghost use Rattle.aa_vec.specs.Choosing.{CallableAtMut, IsCallableInOrder};
+ghost use Rattle.aa_vec.specs.Extract.{extract_remaining};
 ghost use Rattle.aa_vec.specs.Vector.{len, HasRoom};
-ghost use Rattle.allocator_api2.specs.Commands.{TakesChosen, asking};
+ghost use Rattle.allocator_api2.specs.Commands.{TakesChosen, state_with_keep};
 ghost use Rattle.allocator_api2.specs.RangeCommands.{Chosen, TakesUpTo};
 
 use crate::runner::{Reply, push_within};
 use aa_vec::vec::{ExtractBy, Vec};
 use std::alloc::Allocator;
 
-// Tests the range, makes room in side for as many as may be taken, and then takes them.
-#[tactic(auto, using(aa_vec::proofs::Becoming::became, crate::proofs::ByKind::told))]
+// Tests the range, reserves capacity in side for the most elements that may be taken, and then
+// moves those there that are.
+#[tactic(auto, using(aa_vec::proofs::Becoming::became, crate::proofs::ByKind::failed))]
 pub(crate) fn extract<T: Drop, A: Allocator, K: FnMut(&mut T) -> bool>(
     main: &mut Vec<T, A>,
     side: &mut Vec<T, A>,
@@ -22,11 +23,11 @@ pub(crate) fn extract<T: Drop, A: Allocator, K: FnMut(&mut T) -> bool>(
     take: usize,
     keep: &mut K,
 ) -> Reply<T>
-    requires { IsCallableInOrder (CalledAtMut K.FnMut) (TakesMut K.FnMut)
+    requires { IsCallableInOrder (CalledAtMut K.FnMut) (CallableAtMut K.FnMut)
         keep.old (slice_range main.old.items start end) }
     ensures { TakesChosen (type_size T.row) (CalledAtMut K.FnMut)
-        (asking main.old side.old keep.old) start end take result
-        (asking main.new side.new keep.new) }
+        (state_with_keep main.old side.old keep.old) start end take result
+        (state_with_keep main.new side.new keep.new) }
 {
     if start > end || end > main.len() {
         return Reply::Range;
@@ -39,8 +40,8 @@ pub(crate) fn extract<T: Drop, A: Allocator, K: FnMut(&mut T) -> bool>(
     Reply::Done
 }
 
-// Takes at most so many elements out of a range, and puts them behind the last element of a vector
-// that has room for them.
+// Removes at most `most` elements from a range, and appends them to a vector that has spare
+// capacity for them.
 fn extract_into<T: Drop, A: Allocator, K: FnMut(&mut T) -> bool>(
     main: &mut Vec<T, A>,
     side: &mut Vec<T, A>,
@@ -51,16 +52,17 @@ fn extract_into<T: Drop, A: Allocator, K: FnMut(&mut T) -> bool>(
 )
     requires range { (start ≤ end) × (end ≤ len main.old) }
     requires room { HasRoom side.old most }
-    requires callable { IsCallableInOrder (CalledAtMut K.FnMut) (TakesMut K.FnMut)
+    requires callable { IsCallableInOrder (CalledAtMut K.FnMut) (CallableAtMut K.FnMut)
         keep.old (slice_range main.old.items start end) }
-    ensures { Chosen (CalledAtMut K.FnMut) (asking main.old side.old keep.old) start end most
-        (asking main.new side.new keep.new) }
+    ensures { Chosen (CalledAtMut K.FnMut)
+        (state_with_keep main.old side.old keep.old) start end most
+        (state_with_keep main.new side.new keep.new) }
 {
     let mut range = main.extract_by(start..end);
     take_chosen(&mut range, side, most, keep);
 }
 
-// The same from a range out of which elements are taken.
+// Takes at most `most` elements from an extracting range, and appends them to side.
 #[tactic(auto, using(crate::proofs::ExtractParts::choosing))]
 fn take_chosen<T: Drop, A: Allocator, K: FnMut(&mut T) -> bool>(
     range: &mut ExtractBy<'_, T, A>,
@@ -69,8 +71,8 @@ fn take_chosen<T: Drop, A: Allocator, K: FnMut(&mut T) -> bool>(
     keep: &mut K,
 )
     requires room { HasRoom side.old most }
-    requires callable { IsCallableInOrder (CalledAtMut K.FnMut) (TakesMut K.FnMut)
-        keep.old (extract_rest range.old) }
+    requires callable { IsCallableInOrder (CalledAtMut K.FnMut) (CallableAtMut K.FnMut)
+        keep.old (extract_remaining range.old) }
     ensures { TakesUpTo (CalledAtMut K.FnMut)
         keep.old range.old side.old most keep.new range.new side.new }
 {

@@ -1,4 +1,4 @@
-//! Comparisons of rings: those of their items, one by one.
+//! Comparisons of rings, item by item.
 ghost use Rattle.std.specs.Prelude.{◌≡◌};
 ghost use Rattle.std.specs.Cmp.{on_equiv, on_total, on_po, on_per};
 ghost use Rattle.std.specs.Cmp.Lexicographic.{pointwise, slice_cmp, slice_partial_cmp, lists_equiv, lists_agrees, lists_total, lists_ties, lists_po, lists_per};
@@ -7,7 +7,7 @@ use crate::ring::Ring;
 use std::alloc::Allocator;
 use std::cmp::Ordering;
 
-/// Whether the items are equal, one by one, also of rings over different allocators.
+/// Returns whether the items are equal, one by one. The two allocators may be of different types.
 pub fn same<T: PartialEq, A: Allocator, B: Allocator>(left: &Ring<T, A>, right: &Ring<T, B>) -> bool
     ensures { result ≡ pointwise T.eq left.now.items right.now.items }
 {
@@ -26,9 +26,11 @@ pub fn same<T: PartialEq, A: Allocator, B: Allocator>(left: &Ring<T, A>, right: 
     }
 }
 
-/// The order of the first items that are not equal, if they have one, or of the lengths where one
-/// ring begins the other.
-pub fn compared_in_part<T: PartialOrd, A: Allocator, B: Allocator>(
+/// Compares the items of two rings lexicographically.
+///
+/// Returns the order of the first two items that are not equal: `None` if they have none. If one
+/// ring is a prefix of the other, returns the order of the lengths.
+pub fn partial_compare_items<T: PartialOrd, A: Allocator, B: Allocator>(
     left: &Ring<T, A>,
     right: &Ring<T, B>,
 ) -> Option<Ordering>
@@ -49,9 +51,11 @@ pub fn compared_in_part<T: PartialOrd, A: Allocator, B: Allocator>(
     }
 }
 
-/// The order of the first items that are not equal, or of the lengths where one ring begins the
-/// other.
-pub fn compared<T: Ord, A: Allocator, B: Allocator>(
+/// Compares the items of two rings lexicographically.
+///
+/// Returns the order of the first two items that are not equal. If one ring is a prefix of the
+/// other, returns the order of the lengths.
+pub fn compare_items<T: Ord, A: Allocator, B: Allocator>(
     left: &Ring<T, A>,
     right: &Ring<T, B>,
 ) -> Ordering
@@ -77,7 +81,7 @@ impl<T: PartialEq, A: Allocator> PartialEq for Ring<T, A> {
 
     ghost laws = { on_per (λ r. r.items) (lists_per T.laws) };
 
-    /// Whether the items are equal, one by one.
+    /// Returns whether the items are equal, one by one.
     fn eq(&self, other: &Self) -> bool {
         same(self, other)
     }
@@ -92,10 +96,9 @@ impl<T: PartialOrd, A: Allocator> PartialOrd for Ring<T, A> {
 
     ghost laws = { on_po (λ r. r.items) (lists_po T.PartialOrd.laws) };
 
-    /// The order of the first items that are not equal, or of the lengths where one ring begins the
-    /// other.
+    /// Returns the lexicographic order of the items, or `None` if the first unequal ones have none.
     fn partial_cmp(&self, other: &Self) -> Option<Ordering> {
-        compared_in_part(self, other)
+        partial_compare_items(self, other)
     }
 }
 
@@ -109,9 +112,8 @@ impl<T: Ord, A: Allocator> Ord for Ring<T, A> {
     ghost matches_partial_cmp = { λ left right.
         lists_agrees T.matches_partial_cmp left.items right.items };
 
-    /// The order of the first items that are not equal, or of the lengths where one ring begins the
-    /// other.
+    /// Returns the lexicographic order of the items.
     fn cmp(&self, other: &Self) -> Ordering {
-        compared(self, other)
+        compare_items(self, other)
     }
 }

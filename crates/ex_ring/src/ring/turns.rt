@@ -1,18 +1,20 @@
-//! A ring whose first items become its last, or the other way round.
+//! Rotations of a ring.
 ghost use Rattle.std.specs.Prelude.{◌≡◌, ◌-◌, ◌≤◌, ◌++◌, length, take, drop, min};
-ghost use Rattle.ex_ring.specs.Ringed.{wrote};
+ghost use Rattle.ex_ring.specs.Ringed.{with_written};
 
 use crate::ring::Ring;
 use std::alloc::Allocator;
 
 #[tactic(auto, using(crate::proofs::Turning::turning))]
 impl<T, A: Allocator> Ring<T, A> {
-    /// Puts the first `by` items behind the others, in order. It takes no memory, and moves those or
-    /// the others one by one, whichever are fewer.
+    /// Rotates the ring to the left by `by` items: the first `by` become the last, in order.
+    ///
+    /// Does not allocate, and does not change the capacity. Moves the first `by` items or the
+    /// others one by one, whichever are fewer.
     pub fn rotate_left(&mut self, by: usize)
         requires { by ≤ length self.old.items }
         ensures { let xs = self.old.items in
-            self.new ≡ wrote self.old (drop by xs ++ take by xs) (min by (length xs - by)) }
+            self.new ≡ with_written self.old (drop by xs ++ take by xs) (min by (length xs - by)) }
     {
         if by <= self.len() - by {
             self.first_to_back(by);
@@ -21,11 +23,14 @@ impl<T, A: Allocator> Ring<T, A> {
         }
     }
 
-    /// Puts the last `by` items before the others, in order, as `rotate_left` does the first ones.
+    /// Rotates the ring to the right by `by` items: the last `by` become the first, in order.
+    ///
+    /// Does not allocate, and does not change the capacity. Moves the last `by` items or the others
+    /// one by one, whichever are fewer.
     pub fn rotate_right(&mut self, by: usize)
         requires { by ≤ length self.old.items }
         ensures { let xs = self.old.items in let rest = length xs - by in
-            self.new ≡ wrote self.old (drop rest xs ++ take rest xs) (min rest by) }
+            self.new ≡ with_written self.old (drop rest xs ++ take rest xs) (min rest by) }
     {
         let rest = self.len() - by;
         if rest <= by {
@@ -35,13 +40,13 @@ impl<T, A: Allocator> Ring<T, A> {
         }
     }
 
-    // Puts the first `by` items behind the others, one by one.
+    // Moves the first `by` items to the back, one by one.
     fn first_to_back(&mut self, by: usize)
         requires { by ≤ length self.old.items }
         ensures { let xs = self.old.items in
-            self.new ≡ wrote self.old (drop by xs ++ take by xs) by }
+            self.new ≡ with_written self.old (drop by xs ++ take by xs) by }
     {
-        // It tells the prover that there are places for them.
+        // The contract of `len` says that the items are within the capacity.
         let _len = self.len();
         'each: for _done in 0..by {
             match self.pop_front() {
@@ -51,11 +56,11 @@ impl<T, A: Allocator> Ring<T, A> {
         }
     }
 
-    // Puts the items from `rest` on before the others, the last of them first.
+    // Moves the items from `rest` on to the front, the last one first.
     fn last_to_front(&mut self, rest: usize)
         requires { rest ≤ length self.old.items }
         ensures { let xs = self.old.items in
-            self.new ≡ wrote self.old (drop rest xs ++ take rest xs) (length xs - rest) }
+            self.new ≡ with_written self.old (drop rest xs ++ take rest xs) (length xs - rest) }
     {
         let mut at = self.len();
         'each: while at > rest {

@@ -1,6 +1,6 @@
-//! Allocators over one that counts: what they pass on, and that it comes back.
+//! Allocators over one that counts: what they pass on, and that it is freed.
 use crate::allocators::has_room;
-use crate::memory::is_given_back;
+use crate::memory::is_all_freed;
 use ex_allocators::pool::Pool;
 use ex_allocators::rack::Rack;
 use ex_allocators::recycler::Recycler;
@@ -26,28 +26,30 @@ enum Layer {
     Spaced,
 }
 
-// Whether a request for so many bytes is granted, and the blocks that came back below by then.
-fn asked<A: Allocator>(heap: A, below: &Faulty<Global>, bytes: usize) -> (bool, u64) {
+// Returns whether a request for so many bytes succeeds, and the blocks of the inner allocator that
+// were freed by then.
+fn request<A: Allocator>(heap: A, below: &Faulty<Global>, bytes: usize) -> (bool, u64) {
     let granted = has_room(&heap, bytes);
     (granted, below.frees())
 }
 
 // That of each layer, which is dropped then.
-fn asked_of(layer: Layer, below: &Faulty<Global>, bytes: usize) -> (bool, u64) {
+fn request_from(layer: Layer, below: &Faulty<Global>, bytes: usize) -> (bool, u64) {
     match layer {
-        Layer::Budget => asked(Budget::new(below, 64), below, bytes),
-        Layer::Counting => asked(Counting::new(below), below, bytes),
-        Layer::Faulty => asked(Faulty::new(below), below, bytes),
-        Layer::Pool => asked(Pool::new(below, 8), below, bytes),
-        Layer::Rack => asked(Rack::new(below, 64), below, bytes),
-        Layer::Recycler => asked(Recycler::new(below), below, bytes),
-        Layer::Rounded => asked(Rounded::over(below), below, bytes),
-        Layer::Spaced => asked(Spaced::new(below), below, bytes),
+        Layer::Budget => request(Budget::new(below, 64), below, bytes),
+        Layer::Counting => request(Counting::new(below), below, bytes),
+        Layer::Faulty => request(Faulty::new(below), below, bytes),
+        Layer::Pool => request(Pool::new(below, 8), below, bytes),
+        Layer::Rack => request(Rack::new(below, 64), below, bytes),
+        Layer::Recycler => request(Recycler::new(below), below, bytes),
+        Layer::Rounded => request(Rounded::over(below), below, bytes),
+        Layer::Spaced => request(Spaced::new(below), below, bytes),
     }
 }
 
-// A layer, the bytes that are asked of it, whether the one below refuses; and whether it grants
-// them, the requests below, and the blocks that came back there before it is dropped.
+// A layer, the bytes that are requested from it, whether the inner allocator fails; and whether the
+// request succeeds, the requests to the inner allocator, and its blocks that were freed before the
+// layer is dropped.
 type Row = (Layer, usize, bool, bool, u64, u64);
 
 fn rows() -> [Row; 17] {
@@ -72,12 +74,12 @@ fn rows() -> [Row; 17] {
     ]
 }
 
-// Whether a row is so, and all memory comes back.
-fn is_so(alloc: Global, (layer, bytes, refuses, granted, requests, frees): Row) -> bool {
+// Returns whether a row holds, and all memory is freed.
+fn is_so(alloc: Global, (layer, bytes, fails, granted, requests, frees): Row) -> bool {
     let below = Faulty::new(alloc);
-    below.refuse(0, u64::from(refuses));
-    let came = asked_of(layer, &below, bytes);
-    came == (granted, frees) && below.requests() == requests && is_given_back(&below)
+    below.fail_requests(0, u64::from(fails));
+    let came = request_from(layer, &below, bytes);
+    came == (granted, frees) && below.requests() == requests && is_all_freed(&below)
 }
 
 #[test]

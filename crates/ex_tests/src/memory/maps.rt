@@ -1,5 +1,5 @@
 //! The slot map, the ordered map and its leaves.
-use crate::memory::{End, end_by, end_of, is_given_back};
+use crate::memory::{End, end_by, end_of, is_all_freed};
 use ex_btree::leaf::Leaf;
 use ex_btree::map::OrderedMap;
 use ex_slots::map::{Key, SlotMap};
@@ -45,11 +45,11 @@ fn reserved(map: &mut Slots<'_>, additional: usize) -> End {
 fn slots_are_so<'a>(heap: &'a Faulty<Global>, drops: &'a Cell<u32>) -> bool {
     let mut map: Slots<'a> = SlotMap::new_in(heap);
     let mut all = heap.requests() == 0;
-    heap.refuse(0, 1);
+    heap.fail_requests(0, 1);
     all = put(&mut map, drops).err() == Some(End::NoMemory(4)) && drops.get() == 1 && all;
     all = five_come(&mut map, drops) == 2 && heap.requests() == 2 && all;
-    // Room to be made, how it ends, and all requests by then.
-    for (additional, refused, end, requests) in [
+    // The capacity to reserve, how this ends, and all requests by then.
+    for (additional, failed, end, requests) in [
         (0, 1, End::Done, 2),
         (2, 1, End::NoMemory(6), 3),
         (2, 0, End::Done, 4),
@@ -57,7 +57,7 @@ fn slots_are_so<'a>(heap: &'a Faulty<Global>, drops: &'a Cell<u32>) -> bool {
         (1 << 60, 0, End::TooLong, 4),
         (usize::MAX, 0, End::TooLong, 4),
     ] {
-        heap.refuse(0, refused);
+        heap.fail_requests(0, failed);
         all = reserved(&mut map, additional) == end && heap.requests() == requests && all;
     }
     all && map.len() == 4
@@ -67,10 +67,10 @@ fn slots_are_so<'a>(heap: &'a Faulty<Global>, drops: &'a Cell<u32>) -> bool {
 fn values_of_a_slot_map_are_dropped_once(rt: HostRuntime) {
     let heap = Faulty::new(rt.alloc());
     let drops = Cell::new(0);
-    assert!(rt; slots_are_so(&heap, &drops) && drops.get() == 6 && is_given_back(&heap));
+    assert!(rt; slots_are_so(&heap, &drops) && drops.get() == 6 && is_all_freed(&heap));
 }
 
-// Gives a key of an ordered map a value, and drops the one that it had: how that ends.
+// Sets the value of a key of an ordered map, and drops the old one. Returns how this ends.
 fn set<'a>(map: &mut Ordered<'a>, key: u64, drops: &'a Cell<u32>) -> End {
     match map.insert(key, Counted { value: 0, drops }) {
         Ok(_old) => End::Done,
@@ -124,8 +124,8 @@ fn rows() -> [Row; 9] {
 fn steps_taken<'a>(heap: &'a Faulty<Global>, drops: &'a Cell<u32>) -> usize {
     let mut map: Ordered<'a> = OrderedMap::new_in(heap);
     let mut right = 0usize;
-    for (step, refused, end, requests, dropped) in rows() {
-        heap.refuse(refused, 1);
+    for (step, failed, end, requests, dropped) in rows() {
+        heap.fail_requests(failed, 1);
         let came = stepped(&mut map, step, drops);
         if came == end && (heap.requests(), drops.get()) == (requests, dropped) {
             right = right.saturating_add(1);
@@ -139,7 +139,7 @@ fn values_of_an_ordered_map_are_dropped_once(rt: HostRuntime) {
     let heap = Faulty::new(rt.alloc());
     let drops = Cell::new(0);
     assert!(rt; steps_taken(&heap, &drops) == 9);
-    assert!(rt; drops.get() == 37 && is_given_back(&heap));
+    assert!(rt; drops.get() == 37 && is_all_freed(&heap));
 }
 
 // Puts three entries into a leaf of two places, one of them twice, takes one out, and splits what
@@ -167,10 +167,10 @@ fn entries_come<'a>(heap: &'a Faulty<Global>, drops: &'a Cell<u32>) -> Result<u3
 fn values_of_a_leaf_are_dropped_once(rt: HostRuntime) {
     let heap = Faulty::new(rt.alloc());
     let drops = Cell::new(0);
-    heap.refuse(1, 1);
+    heap.fail_requests(1, 1);
     assert!(rt; entries_come(&heap, &drops) == Err(End::NoMemory(2)) && heap.requests() == 2);
     assert!(rt; entries_come(&heap, &drops) == Ok(3) && drops.get() == 4);
-    assert!(rt; heap.requests() == 4 && is_given_back(&heap));
+    assert!(rt; heap.requests() == 4 && is_all_freed(&heap));
 }
 
 #[test]

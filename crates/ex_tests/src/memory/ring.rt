@@ -1,5 +1,5 @@
 //! The ring.
-use crate::memory::is_given_back;
+use crate::memory::is_all_freed;
 use ex_ring::ring::Ring;
 use std::alloc::Global;
 use std::cell::Cell;
@@ -75,13 +75,13 @@ fn seen(call: Call, ring: Small<'_>, heap: &Faulty<Global>, drops: &Cell<u32>) -
     (heap.requests().saturating_sub(before), dropped)
 }
 
-// Whether a call makes so many requests and drops so many items, each is dropped once then, and all
-// memory comes back.
+// Returns whether a call makes so many requests and drops so many items, each is dropped once then,
+// and all memory is freed.
 fn is_so(alloc: Global, (call, requests, dropped): (Call, u64, u32)) -> bool {
     let heap = Faulty::new(alloc);
     let drops = Cell::new(0);
     let came = seen(call, six(&heap, &drops), &heap, &drops);
-    came == (requests, dropped) && drops.get() == 6 && is_given_back(&heap)
+    came == (requests, dropped) && drops.get() == 6 && is_all_freed(&heap)
 }
 
 #[test]

@@ -1,5 +1,5 @@
 //! The smaller collections, and the guide's stack.
-use crate::memory::{End, end_by, end_of, is_given_back};
+use crate::memory::{End, end_by, end_of, is_all_freed};
 use ex_small::arena::Arena;
 use ex_small::editor::Editor;
 use ex_small::fixed::Fixed;
@@ -20,8 +20,8 @@ fn one<'a>(drops: &'a Cell<u32>) -> Counted<'a> {
     Counted { value: 0, drops }
 }
 
-// How it ends to put four values into an arena and replace the last: each but the first in what
-// room there is then.
+// Puts four values into an arena and replaces the last, and returns how this ends. Each but the
+// first finds the capacity that there is then.
 fn four_put<'a>(arena: &mut Values<'a>, drops: &'a Cell<u32>) -> End {
     for _ in 0..4 {
         match arena.alloc(one(drops)) {
@@ -36,12 +36,12 @@ fn four_put<'a>(arena: &mut Values<'a>, drops: &'a Cell<u32>) -> End {
 fn arena_is_so<'a>(heap: &'a Faulty<Global>, drops: &'a Cell<u32>) -> bool {
     let mut arena: Values<'a> = Arena::new_in(heap);
     let mut all = heap.requests() == 0;
-    for (refused, end, requests, dropped) in [
+    for (failed, end, requests, dropped) in [
         (1, End::NoMemory(4), 1, 1),
         (0, End::Done, 2, 5),
         (1, End::NoMemory(8), 3, 6),
     ] {
-        heap.refuse(0, refused);
+        heap.fail_requests(0, failed);
         all = four_put(&mut arena, drops) == end && all;
         all = (heap.requests(), drops.get()) == (requests, dropped) && all;
     }
@@ -51,7 +51,7 @@ fn arena_is_so<'a>(heap: &'a Faulty<Global>, drops: &'a Cell<u32>) -> bool {
         (1 << 60, End::TooLong, 4),
         (usize::MAX, End::TooLong, 4),
     ] {
-        heap.refuse(0, 1);
+        heap.fail_requests(0, 1);
         all = end_of(arena.reserve(additional)) == end && heap.requests() == requests && all;
     }
     all
@@ -61,10 +61,10 @@ fn arena_is_so<'a>(heap: &'a Faulty<Global>, drops: &'a Cell<u32>) -> bool {
 fn values_of_an_arena_are_dropped_once(rt: HostRuntime) {
     let heap = Faulty::new(rt.alloc());
     let drops = Cell::new(0);
-    assert!(rt; arena_is_so(&heap, &drops) && drops.get() == 10 && is_given_back(&heap));
+    assert!(rt; arena_is_so(&heap, &drops) && drops.get() == 10 && is_all_freed(&heap));
 }
 
-// How many values are dropped once a third one comes back, and another is taken out.
+// Returns how many values are dropped once a third one is returned, and another is taken out.
 fn two_kept<'a>(few: &mut Few<'a>, drops: &'a Cell<u32>) -> u32 {
     for _ in 0..3 {
         drop(few.push(one(drops)));
@@ -88,15 +88,15 @@ fn fixed<'a>(heap: &'a Faulty<Global>, capacity: usize, drops: &'a Cell<u32>) ->
 fn values_of_a_fixed_vector_are_dropped_once(rt: HostRuntime) {
     let heap = Faulty::new(rt.alloc());
     let drops = Cell::new(0);
-    for (capacity, refused, came, requests) in [
+    for (capacity, failed, came, requests) in [
         (2, 1, Err(End::NoMemory(2)), 1),
         (1 << 60, 0, Err(End::TooLong), 1),
         (2, 0, Ok(2), 2),
     ] {
-        heap.refuse(0, refused);
+        heap.fail_requests(0, failed);
         assert!(rt; fixed(&heap, capacity, &drops) == came && heap.requests() == requests);
     }
-    assert!(rt; drops.get() == 3 && is_given_back(&heap));
+    assert!(rt; drops.get() == 3 && is_all_freed(&heap));
 }
 
 fn pushed<'a>(pile: &mut Pile<'a>, drops: &'a Cell<u32>) -> End {
@@ -109,7 +109,7 @@ fn pushed<'a>(pile: &mut Pile<'a>, drops: &'a Cell<u32>) -> End {
 // How many values of four are dropped once the first and the last were taken, before the others.
 fn stack_used<'a>(heap: &'a Faulty<Global>, drops: &'a Cell<u32>) -> (End, u32) {
     let mut pile: Pile<'a> = Stack::new_in(heap);
-    heap.refuse(0, 1);
+    heap.fail_requests(0, 1);
     let end = pushed(&mut pile, drops);
     for _ in 0..4 {
         let _end = pushed(&mut pile, drops);
@@ -124,7 +124,7 @@ fn values_of_a_stack_are_dropped_once(rt: HostRuntime) {
     let heap = Faulty::new(rt.alloc());
     let drops = Cell::new(0);
     assert!(rt; stack_used(&heap, &drops) == (End::NoMemory(4), 3) && heap.requests() == 2);
-    assert!(rt; drops.get() == 5 && is_given_back(&heap));
+    assert!(rt; drops.get() == 5 && is_all_freed(&heap));
 }
 
 // A call on a text that is built, or on a line that is typed.
@@ -176,19 +176,19 @@ fn rows() -> [(Call, u64, End, u64); 16] {
     ]
 }
 
-// How many rows are so, and how it ends to finish the text where its block fails.
+// Returns how many rows hold, and how it ends to finish the text when its block fails.
 fn built(heap: &Faulty<Global>) -> (usize, End) {
     let (mut text, mut line) = (TextBuilder::new_in(heap), Editor::new_in(heap));
     let mut right = 0usize;
     for (call, refused, end, requests) in rows() {
-        heap.refuse(0, refused);
+        heap.fail_requests(0, refused);
         let before = heap.requests();
         let came = end_of_call(call, &mut text, &mut line);
         if came == end && heap.requests().wrapping_sub(before) == requests {
             right = right.saturating_add(1);
         }
     }
-    heap.refuse(0, 1);
+    heap.fail_requests(0, 1);
     match text.finish() {
         Ok(_) => (right, End::Done),
         Err(refused) => (right, end_by(refused.error)),
@@ -198,5 +198,5 @@ fn built(heap: &Faulty<Global>) -> (usize, End) {
 #[test]
 fn texts_and_lines_allocate_as_they_grow(rt: HostRuntime) {
     let heap = Faulty::new(rt.alloc());
-    assert!(rt; built(&heap) == (16, End::NoMemory(16)) && is_given_back(&heap));
+    assert!(rt; built(&heap) == (16, End::NoMemory(16)) && is_all_freed(&heap));
 }

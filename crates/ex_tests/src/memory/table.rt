@@ -1,5 +1,5 @@
 //! The hash table, with keys that have memory of their own.
-use crate::memory::{End, end_by, end_of, is_given_back};
+use crate::memory::{End, end_by, end_of, is_all_freed};
 use allocator_api2::boxed::BoxedText;
 use ex_table::table::Table;
 use std::alloc::Global;
@@ -31,7 +31,7 @@ fn key<'a>(heap: &'a Faulty<Global>, text: &str) -> Option<Key<'a>> {
     BoxedText::from_text(heap, text).ok()
 }
 
-// Gives a text a value, and drops the one that it had: how that ends.
+// Sets the value of a text, and drops the old one. Returns how this ends.
 fn put<'a>(table: &mut Small<'a>, key: Option<Key<'a>>, drops: &'a Cell<u32>) -> End {
     let Some(key) = key else {
         return End::TooLong;
@@ -87,7 +87,8 @@ fn taken_from_ends(table: Small<'_>, heap: &Faulty<Global>, drops: &Cell<u32>) -
     counts(heap, drops)
 }
 
-// All requests so far, all blocks that came back, and all values that were dropped.
+// Returns the numbers of all requests so far, of all freed blocks, and of all values that were
+// dropped.
 fn counts(heap: &Faulty<Global>, drops: &Cell<u32>) -> (u64, u64, u32) {
     (heap.requests(), heap.frees(), drops.get())
 }
@@ -111,7 +112,7 @@ fn seen<'a>(
 }
 
 // A call on four texts with values, its requests, the blocks that it frees, and the values that it
-// drops. A text that it is given is one request. A table has three blocks.
+// drops. A text that it takes is one request. A table has three blocks.
 fn rows() -> [(Call, u64, u64, u32); 9] {
     [
         (Call::Insert, 1, 1, 1),
@@ -126,7 +127,7 @@ fn rows() -> [(Call, u64, u64, u32); 9] {
     ]
 }
 
-// Whether a row is so, each value is dropped once then, and all memory comes back.
+// Returns whether a row holds, each value is dropped once then, and all memory is freed.
 fn is_so(alloc: Global, (call, requests, frees, dropped): (Call, u64, u64, u32)) -> bool {
     let heap = Faulty::new(alloc);
     let drops = Cell::new(0);
@@ -134,7 +135,7 @@ fn is_so(alloc: Global, (call, requests, frees, dropped): (Call, u64, u64, u32))
     let made = if matches!(call, Call::Insert) { 5 } else { 4 };
     came == (requests.saturating_add(7), frees, dropped)
         && drops.get() == made
-        && is_given_back(&heap)
+        && is_all_freed(&heap)
 }
 
 #[test]
@@ -144,11 +145,11 @@ fn entries_of_a_table_are_dropped_once(rt: HostRuntime) {
     }
 }
 
-// How it ends to put an entry into a new table, whose blocks are refused.
+// Puts an entry into a new table, whose blocks fail, and returns how this ends.
 fn first_entry<'a>(heap: &'a Faulty<Global>, drops: &'a Cell<u32>) -> End {
     let mut table: Small<'a> = Table::new_in(heap);
     let key = key(heap, "plum");
-    heap.refuse(0, 1);
+    heap.fail_requests(0, 1);
     put(&mut table, key, drops)
 }
 
@@ -168,11 +169,11 @@ fn a_new_table_fails_with_its_kind(rt: HostRuntime) {
         (usize::MAX, End::TooLong, 2),
         (9, End::NoMemory(14), 3),
     ] {
-        heap.refuse(0, 1);
+        heap.fail_requests(0, 1);
         assert!(rt;
             made(&heap, capacity) == end && heap.requests() == requests,
             "{capacity}"
         );
     }
-    assert!(rt; is_given_back(&heap));
+    assert!(rt; is_all_freed(&heap));
 }

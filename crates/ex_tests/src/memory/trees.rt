@@ -1,10 +1,10 @@
 //! Lists and trees.
-use crate::memory::{End, end_by, is_given_back};
+use crate::memory::{End, end_by, is_all_freed};
 use aa_boxed::boxed::Box;
 use aa_vec::vec::Vec;
 use ex_trees::derived::{Link, Sealed, Wood};
-use ex_trees::forms::{Behind, Boxes, Json, Rest, first_left, none_below};
-use ex_trees::list::{Node, copied, pop, push, reversed};
+use ex_trees::forms::{BoxedVec, Boxes, Json, Rest, first_left, none_below};
+use ex_trees::list::{Node, into_reversed, pop, push, try_clone};
 use ex_trees::search::{Search, insert};
 use ex_trees::tree::{Tree, leaf, pop_child, push_child};
 use std::alloc::{AllocError, Allocator, Global};
@@ -45,11 +45,11 @@ fn boxes<'a>(heap: Heap<'a>) -> Result<Boxes<Heap<'a>>, AllocError> {
 }
 
 // A vector in a box, twice: three blocks.
-fn behind<'a>(heap: Heap<'a>) -> Result<Behind<Heap<'a>>, AllocError> {
-    let inner = Behind {
+fn after<'a>(heap: Heap<'a>) -> Result<BoxedVec<Heap<'a>>, AllocError> {
+    let inner = BoxedVec {
         below: boxed(Vec::new_in(heap), heap)?,
     };
-    Ok(Behind {
+    Ok(BoxedVec {
         below: boxed(only(inner, heap), heap)?,
     })
 }
@@ -78,7 +78,7 @@ fn forms_made(heap: Heap<'_>) -> [u64; 4] {
     requests[0] = heap.requests();
     let _boxes = boxes(heap);
     requests[1] = heap.requests();
-    let _behind = behind(heap);
+    let _after = after(heap);
     requests[2] = heap.requests();
     let _rest = rest(heap);
     requests[3] = heap.requests();
@@ -88,12 +88,12 @@ fn forms_made(heap: Heap<'_>) -> [u64; 4] {
 #[test]
 fn values_that_hold_themselves_free_their_memory(rt: HostRuntime) {
     let heap = Faulty::new(rt.alloc());
-    assert!(rt; forms_made(&heap) == [6, 8, 11, 13] && is_given_back(&heap));
+    assert!(rt; forms_made(&heap) == [6, 8, 11, 13] && is_all_freed(&heap));
 }
 
 // Whether a value is cloned by one request, and fails to be if that fails.
 fn is_cloned_by_one<T: Clone + Drop>(x: &T, heap: Heap<'_>) -> bool {
-    heap.refuse(0, 1);
+    heap.fail_requests(0, 1);
     let failed = x.clone().is_err();
     let before = heap.requests();
     failed && x.clone().is_ok() && heap.requests().wrapping_sub(before) == 1
@@ -141,10 +141,10 @@ fn are_cloned_by_one<'a>(heap: Heap<'a>) -> Result<bool, AllocError> {
 #[test]
 fn what_is_derived_clones_once(rt: HostRuntime) {
     let heap = Faulty::new(rt.alloc());
-    assert!(rt; are_cloned_by_one(&heap) == Ok(true) && is_given_back(&heap));
+    assert!(rt; are_cloned_by_one(&heap) == Ok(true) && is_all_freed(&heap));
 }
 
-// Puts keys into a search tree: whether that goes well.
+// Puts keys into a search tree, and returns whether this succeeds.
 fn searched(heap: Heap<'_>) -> bool {
     let mut tree = Search::Leaf;
     for key in [5, 2, 8, 5] {
@@ -160,27 +160,28 @@ fn searched(heap: Heap<'_>) -> bool {
 // none.
 #[test]
 fn a_search_tree_that_fails_frees_its_memory(rt: HostRuntime) {
-    for refused in 0..9 {
+    for failed in 0..9 {
         let heap = Faulty::new(rt.alloc());
-        heap.refuse(refused, 1);
+        heap.fail_requests(failed, 1);
         assert!(rt;
-            searched(&heap) == (refused == 8) && is_given_back(&heap),
-            "{refused}"
+            searched(&heap) == (failed == 8) && is_all_freed(&heap),
+            "{failed}"
         );
-        assert!(rt; heap.requests() == refused.saturating_add(1).min(8));
+        assert!(rt; heap.requests() == failed.saturating_add(1).min(8));
     }
 }
 
-// Turns a list of three, copies it, and takes all: requests and blocks that came back after each.
+// Reverses a list of three, copies it, and takes all. Returns the requests and the freed blocks
+// after each.
 fn list_used<'a>(heap: Heap<'a>) -> [(u64, u64); 3] {
     let mut head: Option<Box<Node<Heap<'a>>, Heap<'a>>> = None;
     for value in 0..3 {
         let _pushed = push(&mut head, value, heap);
     }
-    let mut head = reversed(head);
+    let mut head = into_reversed(head);
     let turned = (heap.requests(), heap.frees());
     if let Some(first) = &head {
-        drop(copied(&**first, &heap));
+        drop(try_clone(&**first, &heap));
     }
     let after = (heap.requests(), heap.frees());
     for _ in 0..3 {
@@ -204,13 +205,13 @@ fn grown<'a>(tree: &mut Tree<Heap<'a>>, heap: Heap<'a>) -> End {
     }
 }
 
-// Puts four leaves below a tree, one more where the allocation fails, and takes one out.
+// Puts four leaves below a tree, one more when the allocation fails, and takes one out.
 fn tree_used(heap: Heap<'_>) -> End {
     let mut tree = leaf(1, heap);
     for _ in 0..4 {
         let _end = grown(&mut tree, heap);
     }
-    heap.refuse(0, 1);
+    heap.fail_requests(0, 1);
     let end = grown(&mut tree, heap);
     drop(pop_child(&mut tree));
     end
@@ -220,5 +221,5 @@ fn tree_used(heap: Heap<'_>) -> End {
 fn a_tree_allocates_as_its_vectors_grow(rt: HostRuntime) {
     let heap = Faulty::new(rt.alloc());
     assert!(rt; tree_used(&heap) == End::NoMemory(8) && heap.requests() == 2);
-    assert!(rt; is_given_back(&heap));
+    assert!(rt; is_all_freed(&heap));
 }

@@ -47,7 +47,7 @@ fn each_element_of_an_array_is_dropped_once(rt: HostRuntime) {
 }
 
 // The slice that does not become an array of one.
-fn handed_back(alloc: Global, array: [u32; 2]) -> Option<BoxedSlice<u32>> {
+fn returned(alloc: Global, array: [u32; 2]) -> Option<BoxedSlice<u32>> {
     match BoxedSlice::from_array_in(array, alloc) {
         Ok(list) => list.try_into_array::<1>().err(),
         Err(_) => None,
@@ -55,6 +55,6 @@ fn handed_back(alloc: Global, array: [u32; 2]) -> Option<BoxedSlice<u32>> {
 }
 
 #[test]
-fn a_slice_of_another_length_is_handed_back(rt: HostRuntime) {
-    assert!(rt; is_one_two(handed_back(rt.alloc(), [1, 2])));
+fn a_slice_of_another_length_is_returned(rt: HostRuntime) {
+    assert!(rt; is_one_two(returned(rt.alloc(), [1, 2])));
 }

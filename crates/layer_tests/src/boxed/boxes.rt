@@ -5,11 +5,11 @@ use std::alloc::{AllocError, Global};
 use std::cell::Cell;
 use std::mem::size_of;
 use test_allocators::counted::Counted;
-use test_allocators::refusing::Refusing;
+use test_allocators::failing::Failing;
 
 const _: () = prove!(size_of::<Box<u64, Global>>() == 24);
 
-// Each way to make room for a number.
+// Each way to allocate memory for a number.
 fn room(alloc: Global, way: u32) -> Result<UninitBox<u32>, AllocError> {
     match way {
         0 => Box::new_uninit(alloc),
@@ -49,7 +49,7 @@ fn boxes_are_made(rt: HostRuntime) {
 }
 
 #[test]
-fn room_is_given_back_unwritten(rt: HostRuntime) {
+fn an_unwritten_box_frees_its_memory(rt: HostRuntime) {
     for way in 0..4 {
         assert!(rt; room(rt.alloc(), way).is_ok());
     }
@@ -94,7 +94,7 @@ fn each_value_is_dropped_once(rt: HostRuntime) {
 
 // Whether the error is printed so if the allocation of a box fails.
 fn error_is_printed(alloc: Global, text: &str) -> Result<bool, AllocError> {
-    match Box::try_new_in(5u32, Refusing) {
+    match Box::try_new_in(5u32, Failing) {
         Ok(_) => Ok(false),
         Err(error) => Ok(error.to_string(alloc)?.as_str() == text),
     }

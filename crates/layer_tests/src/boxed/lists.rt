@@ -55,7 +55,7 @@ fn a_slice_and_a_text_are_printed(rt: HostRuntime) {
     assert!(rt; is_printed(rt.alloc(), "héllo", "is \"héllo\""));
 }
 
-// Whether these bytes become this text, whose bytes they are, or come back.
+// Returns whether these bytes become this text, with the same bytes, or are returned.
 fn is_text(alloc: Global, bytes: &[u8], text: Option<&str>) -> bool {
     let Ok(list) = BoxedSlice::from_slice(alloc, bytes) else {
         return false;

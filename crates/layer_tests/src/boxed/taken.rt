@@ -1,4 +1,4 @@
-//! How many items are taken of an iterator where memory is refused.
+//! How many items are taken from an iterator when an allocation fails.
 ghost use Rattle.std.specs.Prelude.{None, IfErr};
 ghost use Rattle.std.specs.Iterator.{IsFinite, IsNearerEnd};
 
@@ -11,15 +11,14 @@ use std::string::String;
 use std::vec::Vec;
 use test_allocators::Faulty;
 
-// An iterator whose calls of `next` are counted, and that tells nothing of how many items are to
-// come.
+// An iterator whose calls of `next` are counted, and which has no lower bound.
 #[derive(Drop)]
-struct Asked<'a, I> {
+struct Counting<'a, I> {
     iter: I,
     calls: &'a Cell<u32>,
 }
 
-impl<I: Iterator> Iterator for Asked<'_, I> {
+impl<I: Iterator> Iterator for Counting<'_, I> {
     type Item = I::Item;
 
     ghost can_next = { λ s. I.can_next s.iter };
@@ -34,33 +33,37 @@ impl<I: Iterator> Iterator for Asked<'_, I> {
     }
 }
 
-// Nine numbers of which nothing is told find no place at the first, the fifth and the ninth; at the
-// end the room behind them is given back. The number of the request that is refused, of the items
-// that were taken, and of the places that were asked for.
-const REFUSED: [(u64, u32, usize); 4] = [(0, 1, 4), (1, 5, 8), (2, 9, 16), (3, 10, 9)];
+// Nine numbers without a size hint need an allocation at the first, the fifth and the ninth. At the
+// end the spare capacity is freed. A row has the number of the request that fails, of the items
+// that were taken, and of the places that were requested.
+const FAILURES: [(u64, u32, usize); 4] = [(0, 1, 4), (1, 5, 8), (2, 9, 16), (3, 10, 9)];
 
-// Why there is no slice of nine items, that the call is lent or is given.
-fn refused(heap: &Faulty<Global>, lent: bool, calls: &Cell<u32>) -> Option<TryReserveError> {
-    let mut iter = Asked {
+// Returns the error of a slice of nine items, which the call takes by `&mut` or owned.
+fn slice_error(
+    heap: &Faulty<Global>,
+    borrowed: bool,
+    calls: &Cell<u32>,
+) -> Option<TryReserveError> {
+    let mut iter = Counting {
         iter: 0..9u32,
         calls,
     };
-    if lent {
+    if borrowed {
         return BoxedSlice::from_iter_in_by(&mut iter, heap).err();
     }
     BoxedSlice::from_iter_in(iter, heap).err()
 }
 
 #[test]
-fn a_refused_slice_takes_no_further_item(rt: HostRuntime) {
+fn a_failed_slice_takes_no_further_item(rt: HostRuntime) {
     let heap = Faulty::new(rt.alloc());
     let calls = Cell::new(0);
-    for (skip, taken, capacity) in REFUSED {
+    for (skip, taken, capacity) in FAILURES {
         let error = Some(TryReserveErrorKind::AllocError { capacity }.into());
-        for lent in [false, true] {
+        for borrowed in [false, true] {
             calls.set(0);
-            heap.refuse(skip, 1);
-            assert!(rt; refused(&heap, lent, &calls) == error && calls.get() == taken);
+            heap.fail_requests(skip, 1);
+            assert!(rt; slice_error(&heap, borrowed, &calls) == error && calls.get() == taken);
         }
     }
 }
@@ -76,15 +79,15 @@ fn texts(alloc: Global, all: [&str; 3]) -> Vec<BoxedText> {
     texts
 }
 
-// The texts that find room behind the first of two strings, and what is left of them behind the
-// other; whoever is refused there too may go on again.
+// Appends the texts that fit to the first of two strings, and the remaining ones to the other. If
+// this fails too, the caller may continue once more.
 fn append_over<I: Iterator<Item = BoxedText<A>>, A: Allocator, S: Allocator, R: Allocator>(
     first: &mut String<S>,
     other: &mut String<R>,
     iter: &mut I,
 ) -> Result<(), TryReserveError>
-    requires may_ask { I.can_next iter.old }
-    requires ends { IsFinite (I.remaining iter.old) }
+    requires callable { I.can_next iter.old }
+    requires finite { IsFinite (I.remaining iter.old) }
     ensures { IfErr result (λ _. IsNearerEnd I.can_next I.remaining iter.old iter.new) }
 {
     match append_texts_by(first, iter) {
@@ -93,16 +96,17 @@ fn append_over<I: Iterator<Item = BoxedText<A>>, A: Allocator, S: Allocator, R: 
     }
 }
 
-// The items in a block of the first allocator, or those that it leaves in one of the other. That an
-// iterator may be asked after its end counts where it is at its end when it is refused.
+// Collects the items into a block of the first allocator, or the remaining ones into one of the
+// other. That the iterator may be called after its end matters if it is at its end when an
+// allocation fails.
 fn slice_over<I: Iterator<Item = T>, T: Drop, A: Allocator>(
     iter: &mut I,
     first: A,
     other: A,
 ) -> Result<BoxedSlice<T, A>, TryReserveError>
-    requires may_ask { I.can_next iter.old }
-    requires ends { IsFinite (I.remaining iter.old) }
-    requires again { (s t : I) → I.next_gives s None t → I.can_next t }
+    requires callable { I.can_next iter.old }
+    requires finite { IsFinite (I.remaining iter.old) }
+    requires callable_after_end { (s t : I) → I.next_gives s None t → I.can_next t }
 {
     match BoxedSlice::from_iter_in_by(iter, first) {
         Ok(slice) => Ok(slice),
@@ -118,8 +122,8 @@ fn texts_are_appended(rt: HostRuntime) {
     assert!(rt; all.as_str() == "bcc");
 }
 
-// Whether texts find room in the first string, which has room for one byte more, or in the other;
-// and whether the first then reads so.
+// Returns whether texts fit in the first string, which has spare capacity for one byte, or in the
+// other, and whether the first then reads so.
 fn found_room(
     heap: &Faulty<Global>,
     other: &mut String,
@@ -129,15 +133,15 @@ fn found_room(
     let Ok(mut all) = String::with_capacity(heap, 2) else {
         return false;
     };
-    let begun = all.push_str("a").is_ok();
-    heap.refuse(0, 1);
+    let started = all.push_str("a").is_ok();
+    heap.fail_requests(0, 1);
     let well = append_over(&mut all, other, &mut texts.into_iter()).is_ok();
-    begun && well && all.as_str() == first
+    started && well && all.as_str() == first
 }
 
-// Of three texts the first finds room, and the second does not.
+// Of three texts the first fits, and the second does not.
 #[test]
-fn refused_texts_take_no_further_one(rt: HostRuntime) {
+fn a_failed_append_of_texts_takes_no_further_one(rt: HostRuntime) {
     let heap = Faulty::new(rt.alloc());
     let mut other = String::new(rt.alloc());
     let texts = texts(rt.alloc(), ["b", "ccc", "d"]);

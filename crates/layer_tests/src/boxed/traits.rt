@@ -1,4 +1,4 @@
-//! The traits that a box hands on, through their bounds.
+//! The traits that a box passes on, through their bounds.
 ghost use Rattle.std.specs.Prelude.{◌≡◌};
 
 use crate::boxed::{boxed, slice_of, text_of};
@@ -28,7 +28,7 @@ fn an_iterator_is_walked_in_its_box(rt: HostRuntime) -> Result<(), Fail> {
     Ok(())
 }
 
-// What a hasher of this kind answers of numbers of each kind.
+// Returns the hash of numbers of each kind by a hasher of this kind.
 fn hash_of_numbers<H: Hasher>(hasher: &mut H) -> u64 {
     hasher.write_u8(1);
     hasher.write_u16(2);
@@ -92,8 +92,8 @@ fn comparisons_and_clones_are_those_of_the_elements(rt: HostRuntime) {
     assert!(rt; matches!(ordered_and_cloned(&less, &more), Ok(true)));
 }
 
-// What a reader gives by `read`, then by `read_exact`, and whether these bytes are shown behind one
-// that is passed over.
+// Returns what a reader returns by `read`, then by `read_exact`, and whether these bytes are shown
+// after one that is skipped.
 fn parts_of<R: BufRead>(
     reader: &mut R,
     shown: &[u8],
@@ -115,7 +115,7 @@ enum Sought {
     Start,
 }
 
-// The position that is sought, as the value tells it then.
+// Returns the position after a seek, as the value reports it.
 fn position_after<S: Seek>(value: &mut S, sought: Sought) -> io::Result<u64> {
     match sought {
         Sought::Nowhere => {}
@@ -126,7 +126,7 @@ fn position_after<S: Seek>(value: &mut S, sought: Sought) -> io::Result<u64> {
     value.stream_position()
 }
 
-// Whether each position is told where it is sought after those before it.
+// Returns whether each position is reported after the seeks before it.
 fn are_sought<S: Seek>(value: &mut S, rows: [(Sought, Option<u64>); 4]) -> bool {
     let mut all = true;
     for (sought, position) in rows {
@@ -135,7 +135,7 @@ fn are_sought<S: Seek>(value: &mut S, rows: [(Sought, Option<u64>); 4]) -> bool 
     all
 }
 
-// Whether a box is read as `parts_of` has it, and each position is told behind that.
+// Returns whether a box is read as `parts_of` has it, and each position is reported after that.
 fn read_and_sought(mut b: Box<Cursor<&[u8]>>) -> bool {
     let read = parts_of(&mut b, b"wo").ok();
     let sought = are_sought(
@@ -183,8 +183,8 @@ fn all_read(mut b: Box<Cursor<&[u8]>>, rest: &mut Vec<u8>) -> (Option<usize>, Op
     (count_shown(&mut b).ok(), read_out(&mut b, rest).ok())
 }
 
-// Whether a number is written, how many bytes are taken behind it, and whether the box then has
-// these.
+// Returns whether a number is written, how many bytes are written after it, and whether the box
+// then has these.
 fn all_written(mut b: Box<Vec<u8>>, bytes: &[u8]) -> (bool, Option<usize>, bool) {
     let number = write_number(&mut b, 2).is_ok();
     let count = three_written(&mut b).ok();
@@ -194,13 +194,13 @@ fn all_written(mut b: Box<Vec<u8>>, bytes: &[u8]) -> (bool, Option<usize>, bool)
 #[test]
 fn a_box_is_read_and_written_through_its_value(rt: HostRuntime) -> Result<(), Fail> {
     let mut rest: Vec<u8> = Vec::new(rt.alloc());
-    let told = all_read(
+    let results = all_read(
         boxed(rt.alloc(), Cursor::new(b"one".as_slice()))?,
         &mut rest,
     );
-    assert!(rt; told == (Some(3), Some(3)));
-    let told = all_written(boxed(rt.alloc(), rest)?, b"one2one two3");
-    assert!(rt; told == (true, Some(3), true));
+    assert!(rt; results == (Some(3), Some(3)));
+    let results = all_written(boxed(rt.alloc(), rest)?, b"one2one two3");
+    assert!(rt; results == (true, Some(3), true));
     Ok(())
 }
 
@@ -265,7 +265,7 @@ impl Seek for Own {
     }
 }
 
-// How many bytes a writer takes of three, which it then writes all, and a number behind them.
+// Returns how many of three bytes a writer takes. It then writes all, and a number after them.
 fn three_written<W: Write>(writer: &mut W) -> io::Result<usize> {
     let count = writer.write(b"one")?;
     writer.write_all(b" two")?;

@@ -4,7 +4,7 @@ ghost use Rattle.std.specs.Prelude.{◌≡◌, ℕ, ◌+◌, ◌*◌, ◌<◌, �
 ghost use Rattle.std.specs.Mem.{type_size};
 ghost use Rattle.std.specs.Iterator.{IsFinite, YieldsThen};
 ghost use Rattle.aa_raw.specs.declared.raw_vec.Growth.TheVariants.{Doubling, Sparing};
-ghost use Rattle.aa_raw.specs.Growth.{sized};
+ghost use Rattle.aa_raw.specs.Growth.{new_capacity};
 ghost use Rattle.aa_gap.specs.Buffer.{empty, len, gap};
 ghost use Rattle.aa_gap.specs.Editing.{with_edit};
 ghost use Rattle.aa_gap.specs.Page.{inserts};
@@ -15,8 +15,8 @@ use aa_gap::gap_buffer::{Edit, GapBuffer};
 use aa_raw::collections::{Refused, TryReserveError};
 use std::alloc::Allocator;
 
-// An insert where no place is free: wherever the cursor is, it moves the text to the new block, each
-// element once, and writes nothing but its item.
+// An insert without spare capacity: wherever the cursor is, it moves the text to the new block,
+// each element once, and writes nothing but its item.
 fn added<T, A: Allocator>(text: &mut GapBuffer<T, A>, item: T) -> Result<(), Refused<T>>
     requires { gap text.old ≡ 0 }
     ensures grown { OnOk result (text.new.grown ≡ text.old.grown + len text.old) }
@@ -26,15 +26,18 @@ fn added<T, A: Allocator>(text: &mut GapBuffer<T, A>, item: T) -> Result<(), Ref
     text.insert(item)
 }
 
-// Room that is made writes nothing, also where places were free, and leaves the cursor.
-fn roomy<T, A: Allocator>(text: &mut GapBuffer<T, A>, count: usize) -> Result<(), TryReserveError>
+// Reserving capacity writes nothing, even if places were free, and leaves the cursor.
+fn reserves<T, A: Allocator>(
+    text: &mut GapBuffer<T, A>,
+    count: usize,
+) -> Result<(), TryReserveError>
     requires { gap text.old < count }
     ensures parts { OnOk result
         ((text.new.before ≡ text.old.before) × (text.new.after ≡ text.old.after)) }
     ensures grown { OnOk result (text.new.grown ≡ text.old.grown + len text.old) }
     ensures written { OnOk result (text.new.written ≡ text.old.written) }
     ensures runs { OnOk result (text.new.runs ≡ text.old.runs) }
-    ensures refused { OnErr result (text.new ≡ text.old) }
+    ensures unchanged { OnErr result (text.new ≡ text.old) }
 {
     text.reserve(count)
 }
@@ -46,12 +49,12 @@ fn made_by<T: Drop, A: Allocator, I: Iterator<Item = Edit<T>>>(
     edits: &mut I,
     alloc: A,
 ) -> Result<GapBuffer<T, A>, TryReserveError>
-    requires may_ask { I.can_next edits.old }
-    requires ends { IsFinite (I.remaining edits.old) }
+    requires callable { I.can_next edits.old }
+    requires finite { IsFinite (I.remaining edits.old) }
     ensures { let size = type_size T.row in
         IfOk result
         (λ text. (done : List (Edit T)) × YieldsThen I.next_gives edits.old done None edits.new
-        × (text ≡ fold (with_edit size) (empty (sized size 0) Doubling alloc) done)
+        × (text ≡ fold (with_edit size) (empty (new_capacity size 0) Doubling alloc) done)
         × (text.grown ≤ 2 * inserts done)) }
 {
     let mut text = GapBuffer::new_in(alloc);
@@ -60,7 +63,7 @@ fn made_by<T: Drop, A: Allocator, I: Iterator<Item = Edit<T>>>(
 }
 
 // Five inserts: 4 places, and at the fifth 8. The four before it are moved, and each is written
-// once. (A number stands for the allocator.)
+// once. (A number represents the allocator.)
 fn five_inserts()
     ensures { fold (with_edit {T = ℕ} {A = ℕ} 4) (empty 0 Doubling 0) (replicate 5 (Insert 7))
         ≡ record {
@@ -75,8 +78,8 @@ fn five_inserts()
         } }
 {}
 
-// 1, 2 and 3, a move back to behind the first, then 9 and 8; and what stands on either side of the
-// cursor is taken away.
+// 1, 2 and 3, a move back to after the first, then 9 and 8. Then the elements on either side of the
+// cursor are deleted.
 fn worked()
     ensures { fold (with_edit {T = ℕ} {A = ℕ} 4) (empty 0 Doubling 0)
         (Insert 1 ∷ Insert 2 ∷ Insert 3 ∷ MoveTo 1 ∷ Insert 9 ∷ Insert 8 ∷ DeleteForward
@@ -93,9 +96,9 @@ fn worked()
         } }
 {}
 
-// The fifth is put behind the first of four: growth moves the four, and writes none of them again.
-// Over a full text the cursor moves for nothing. The places stay through deletions, so that the
-// insert after them needs no more.
+// The fifth is inserted after the first of four: growth moves the four, and writes none of them
+// again. In a full text the cursor moves for free. Deletions do not change the capacity, so that
+// the insert after them does not allocate.
 fn inserts_in_the_middle()
     ensures { fold (with_edit {T = ℕ} {A = ℕ} 4) (empty 0 Doubling 0)
         (Insert 1 ∷ Insert 2 ∷ Insert 3 ∷ Insert 4 ∷ MoveTo 1 ∷ Insert 9 ∷ DeleteBack

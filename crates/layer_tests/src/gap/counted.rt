@@ -16,7 +16,7 @@ fn inserts(alloc: Global, drops: &Cell<u32>, count: u32) -> Vec<Edit<Counted<'_>
     edits
 }
 
-// The edits that are left behind a refused one, whether they go well, and how many elements are
+// Returns the number of edits after a failed one, whether they succeed, and how many elements are
 // dropped by then.
 fn edited(
     heap: &Faulty<Global>,
@@ -24,13 +24,13 @@ fn edited(
     drops: &Cell<u32>,
 ) -> (Option<usize>, bool, u32) {
     let mut text = GapBuffer::new_in(heap);
-    heap.refuse(0, 1);
+    heap.fail_requests(0, 1);
     let (left, well) = edited_twice(&mut text, edits);
     (left, well, drops.get())
 }
 
 #[test]
-fn edits_drop_what_is_refused_and_deleted(rt: HostRuntime) {
+fn edits_drop_what_fails_and_what_is_deleted(rt: HostRuntime) {
     let heap = Faulty::new(rt.alloc());
     let drops = Cell::new(0);
     let edits = inserts(rt.alloc(), &drops, 3);

@@ -8,7 +8,7 @@ use std::alloc::{Allocator, Global};
 use std::test::Fail;
 use test_allocators::Faulty;
 
-// A call on a text, with what it is given.
+// A call on a text, with its arguments.
 #[derive(Clone, Copy)]
 enum Call {
     Insert(u32),
@@ -19,7 +19,7 @@ enum Call {
     Clear,
 }
 
-// What a call gives, or hands back; and 0 where it is refused.
+// Returns the outcome of a call, or the value in its error, or 0 if it fails without one.
 fn called<A: Allocator>(call: Call, text: &mut GapBuffer<u32, A>) -> Option<u32> {
     let granted = match call {
         Call::Insert(x) => put(text, x),
@@ -35,7 +35,8 @@ fn called<A: Allocator>(call: Call, text: &mut GapBuffer<u32, A>) -> Option<u32>
     if granted { None } else { Some(0) }
 }
 
-// Two calls on `[1,9|2,3]`, what the second gives, and the digits and the capacity that they leave.
+// Two calls on `[1,9|2,3]`, the outcome of the second, and the digits and the capacity that they
+// leave.
 type Row = (Call, Call, Option<u32>, u32, u32, usize);
 
 fn rows() -> [Row; 8] {
@@ -55,13 +56,13 @@ fn rows() -> [Row; 8] {
 
 // Whether a row is as the text has it, and the second call makes one request if it needs a new
 // block, and else none.
-fn is_so(heap: &Faulty<Global>, (first, second, given, before, after, capacity): Row) -> bool {
+fn is_so(heap: &Faulty<Global>, (first, second, outcome, before, after, capacity): Row) -> bool {
     let mut text = nine_put(heap);
-    let begun = reads(&text, 19, 23, 4) && called(first, &mut text) != Some(0);
+    let started = reads(&text, 19, 23, 4) && called(first, &mut text) != Some(0);
     let (places, requests) = (text.capacity(), heap.requests());
     let came = called(second, &mut text);
     let due = has_due_requests(heap, requests, places, text.capacity());
-    begun && due && came == given && reads(&text, before, after, capacity)
+    started && due && came == outcome && reads(&text, before, after, capacity)
 }
 
 #[test]
@@ -96,11 +97,11 @@ fn a_text_is_taken_apart(rt: HostRuntime) {
 }
 
 #[test]
-fn room_is_as_asked(rt: HostRuntime) {
+fn capacity_is_as_requested(rt: HostRuntime) {
     let text: GapBuffer<u32> = GapBuffer::new_in(rt.alloc());
     assert!(rt; text.growth() == Growth::Doubling);
     let _alloc: &Global = text.allocator();
-    let mut sparing: GapBuffer<u8> = GapBuffer::new_growing_in(Growth::Sparing, rt.alloc());
+    let mut sparing: GapBuffer<u8> = GapBuffer::with_growth_in(Growth::Sparing, rt.alloc());
     for (count, capacity) in [(8, 8), (9, 12)] {
         assert!(rt; sparing.reserve(count).is_ok() && sparing.capacity() == capacity);
     }
@@ -141,15 +142,15 @@ fn script(alloc: Global, [first, deleted, second]: [u32; 3]) -> Vec<Edit<u32>> {
 
 // The capacity of a text of numbers after a script.
 fn grown(alloc: Global, growth: Growth, counts: [u32; 3]) -> Option<usize> {
-    let mut text: GapBuffer<u32> = GapBuffer::new_growing_in(growth, alloc);
+    let mut text: GapBuffer<u32> = GapBuffer::with_growth_in(growth, alloc);
     match edited_twice(&mut text, script(alloc, counts)) {
         (None, true) => Some(text.capacity()),
         _ => None,
     }
 }
 
-// Where it doubles and where it is sparing: 4, 8 and 16 places, or 4, 6, 9 and 14. A deletion gives
-// none back, and an insert that finds one free takes no more.
+// With doubling and with sparing growth: 4, 8 and 16 places, or 4, 6, 9 and 14. A deletion frees
+// none, and an insert into a free place does not allocate.
 fn capacities() -> [(u32, u32, u32, usize, usize); 6] {
     [
         (0, 3, 0, 0, 0),

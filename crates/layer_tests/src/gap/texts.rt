@@ -2,17 +2,18 @@
 use aa_gap::gap_buffer::{Edit, GapBuffer};
 use std::alloc::Allocator;
 
-/// Puts an element before the cursor: whether there was room. One that is refused is dropped.
+/// Inserts an element before the cursor, and returns whether this succeeded. If it fails, the
+/// element is dropped.
 pub(crate) fn put<T: Drop, A: Allocator>(text: &mut GapBuffer<T, A>, x: T) -> bool {
     text.insert(x).is_ok()
 }
 
-/// Puts an edit behind the others.
+/// Appends an edit.
 pub(crate) fn add<T: Drop>(edits: &mut Vec<Edit<T>>, edit: Edit<T>) {
     let _added = edits.push(edit);
 }
 
-/// `[1,9|2,3]`, the cursor behind the 9, in 4 places.
+/// Returns `[1,9|2,3]`, with the cursor after the 9, in 4 places.
 pub(crate) fn nine_put<A: Allocator>(alloc: A) -> GapBuffer<u32, A> {
     let mut text = GapBuffer::new_in(alloc);
     for x in 1..4u32 {
@@ -46,8 +47,8 @@ fn digits(items: &[u32]) -> u32 {
     number
 }
 
-/// Applies edits, and once more those behind a refused one. It answers how many these were, and
-/// whether they went well.
+/// Applies edits, and then those after a failed one. Returns the number of these, and whether they
+/// succeeded.
 pub(crate) fn edited_twice<T: Drop, A: Allocator>(
     text: &mut GapBuffer<T, A>,
     edits: Vec<Edit<T>>,

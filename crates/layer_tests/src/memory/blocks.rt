@@ -1,7 +1,7 @@
 //! The block.
-use crate::memory::is_given_back;
+use crate::memory::is_all_freed;
 use aa_raw::collections::{TryReserveError, TryReserveErrorKind};
-use aa_raw::raw_vec::{RawVec, first_refusal};
+use aa_raw::raw_vec::{RawVec, first_growth_error};
 use std::alloc::Global;
 use std::cell::Cell;
 use test_allocators::Faulty;
@@ -25,7 +25,7 @@ fn a_run_is_dropped_and_a_block_freed(rt: HostRuntime) {
     let heap = Faulty::new(rt.alloc());
     let drops = Cell::new(0);
     assert!(rt; two_dropped(&heap, &drops) == Ok(2) && drops.get() == 2);
-    assert!(rt; heap.requests() == 1 && is_given_back(&heap));
+    assert!(rt; heap.requests() == 1 && is_all_freed(&heap));
 }
 
 #[test]
@@ -36,6 +36,9 @@ fn a_first_growth_that_fails_has_its_kind(rt: HostRuntime) {
         (1 << 61, TryReserveErrorKind::CapacityOverflow),
         (usize::MAX, TryReserveErrorKind::CapacityOverflow),
     ] {
-        assert!(rt; first_refusal::<u32>(required).kind() == kind, "{required}");
+        assert!(rt;
+            first_growth_error::<u32>(required).kind() == kind,
+            "{required}"
+        );
     }
 }

@@ -1,5 +1,5 @@
 //! Boxes, boxed slices and boxed texts.
-use crate::memory::is_given_back;
+use crate::memory::is_all_freed;
 use aa_boxed::boxed::{Box, BoxedSlice, BoxedText, UninitBox};
 use aa_vec::vec::{SliceIntoVec, Vec};
 use std::alloc::Global;
@@ -9,7 +9,7 @@ use test_allocators::counted::Counted;
 
 type Room<'a> = UninitBox<Counted<'a>, &'a Faulty<Global>>;
 
-// How room for a value, or the box of a value, ends.
+// How uninitialized memory for a value, or the box of a value, ends.
 #[derive(Clone, Copy)]
 enum End {
     Unwritten,
@@ -19,8 +19,8 @@ enum End {
     MadeASlice,
 }
 
-// Ends room for a value. How many blocks came back, and how many values were dropped, while what it
-// became is there.
+// Ends the memory for a value. Returns how many blocks were freed, and how many values were
+// dropped, while what it became exists.
 fn ended<'a>(end: End, room: Room<'a>, heap: &Faulty<Global>, drops: &'a Cell<u32>) -> (u64, u32) {
     if matches!(end, End::Unwritten) {
         drop(room);
@@ -47,8 +47,8 @@ fn ended<'a>(end: End, room: Room<'a>, heap: &Faulty<Global>, drops: &'a Cell<u3
     }
 }
 
-// What an end gives, how many values are dropped then, and whether there was one request for memory
-// that came back.
+// Returns the result of an end, how many values are dropped then, and whether there was one request
+// for memory that was freed.
 fn seen(alloc: Global, end: End) -> Option<(u64, u32, u32, bool)> {
     let heap = Faulty::new(alloc);
     let drops = Cell::new(0);
@@ -56,7 +56,7 @@ fn seen(alloc: Global, end: End) -> Option<(u64, u32, u32, bool)> {
         Ok(room) => ended(end, room, &heap, &drops),
         Err(_) => return None,
     };
-    let once = heap.requests() == 1 && is_given_back(&heap);
+    let once = heap.requests() == 1 && is_all_freed(&heap);
     Some((frees, dropped, drops.get(), once))
 }
 
@@ -102,5 +102,5 @@ fn a_text_and_a_slice_keep_their_block(rt: HostRuntime) {
     assert!(rt; copied_and_back(&heap, &[0x68, 0xc3, 0xa9]) == 3 && heap.requests() == 1);
     assert!(rt; copied_and_back(&heap, &[0x68, 0xc3]) == 2 && heap.requests() == 2);
     assert!(rt; copied_and_back(&heap, &[]) == 0 && heap.requests() == 2);
-    assert!(rt; is_given_back(&heap));
+    assert!(rt; is_all_freed(&heap));
 }

@@ -1,6 +1,6 @@
 //! The gap buffer.
 use crate::gap::texts::put;
-use crate::memory::is_given_back;
+use crate::memory::is_all_freed;
 use aa_gap::gap_buffer::GapBuffer;
 use aa_raw::raw_vec::Growth;
 use std::alloc::Global;
@@ -56,13 +56,13 @@ fn seen(call: Call, text: Text<'_>, heap: &Faulty<Global>, drops: &Cell<u32>) ->
     (heap.requests().saturating_sub(before), drops.get())
 }
 
-// Whether a call makes so many requests and drops so many elements, each is dropped once then, and
-// all memory comes back.
+// Returns whether a call makes so many requests and drops so many elements, each is dropped once
+// then, and all memory is freed.
 fn is_so(alloc: Global, (call, requests, dropped): (Call, u64, u32)) -> bool {
     let heap = Faulty::new(alloc);
     let drops = Cell::new(0);
     let came = seen(call, three(&heap, &drops), &heap, &drops);
-    came == (requests, dropped) && drops.get() == 3 && is_given_back(&heap)
+    came == (requests, dropped) && drops.get() == 3 && is_all_freed(&heap)
 }
 
 #[test]
@@ -84,7 +84,7 @@ fn elements_of_a_text_are_dropped_once(rt: HostRuntime) {
 fn room_of_new(heap: &Faulty<Global>, growth: Option<Growth>) -> usize {
     let text: GapBuffer<u32, &Faulty<Global>> = match growth {
         None => GapBuffer::new_in(heap),
-        Some(growth) => GapBuffer::new_growing_in(growth, heap),
+        Some(growth) => GapBuffer::with_growth_in(growth, heap),
     };
     text.capacity()
 }

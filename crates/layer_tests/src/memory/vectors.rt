@@ -1,7 +1,7 @@
 //! Vectors, and what is made of them.
 use crate::calls::{Taking, taken};
 use crate::lists::counted_up;
-use crate::memory::is_given_back;
+use crate::memory::is_all_freed;
 use aa_raw::raw_vec::Growth;
 use aa_vec::vec::Vec;
 use std::alloc::Global;
@@ -86,12 +86,12 @@ fn rows() -> [(Call, u64, u32); 11] {
     ]
 }
 
-// Whether a row is so, each element is dropped once then, and all memory comes back.
+// Returns whether a row holds, each element is dropped once then, and all memory is freed.
 fn is_so(alloc: Global, (call, requests, dropped): (Call, u64, u32)) -> bool {
     let heap = Faulty::new(alloc);
     let drops = Cell::new(0);
     let came = seen(call, counted_up(&heap, &drops, 9), &heap, &drops);
-    came == (requests, dropped) && drops.get() == 9 && is_given_back(&heap)
+    came == (requests, dropped) && drops.get() == 9 && is_all_freed(&heap)
 }
 
 #[test]
@@ -101,11 +101,11 @@ fn elements_of_a_vector_are_dropped_once(rt: HostRuntime) {
     }
 }
 
-// How many elements have room in an empty vector that is made so, or none if it is not made.
+// Returns the capacity of an empty vector that is made so, or `None` if it is not made.
 fn room_of_new(heap: &Faulty<Global>, way: u32) -> Option<usize> {
     let v: Vec<u32, &Faulty<Global>> = match way {
         0 => Vec::new_in(heap),
-        1 => Vec::new_growing_in(Growth::Sparing, heap),
+        1 => Vec::with_growth_in(Growth::Sparing, heap),
         _ => Vec::with_capacity_in(0, heap).ok()?,
     };
     Some(v.capacity())

@@ -1,9 +1,8 @@
-//! What no clause says of a block: sizes, what the tables of capacities give, and each public call
-//! once.
+//! What no clause says of a block: sizes, the tables of capacities, and each public call once.
 ghost use Rattle.std.specs.Prelude.{◌≡◌, [], ◌∷◌, Some, None, IfOk};
 
 use crate::memory::has_due_requests;
-use crate::raw::told;
+use crate::raw::outcome_of;
 use aa_raw::collections::{Refused, TryReserveError, TryReserveErrorKind};
 use aa_raw::raw_vec::{Growth, RawVec};
 use std::alloc::{AllocError, Allocator, Global};
@@ -44,7 +43,7 @@ fn places_are_written_to(rt: HostRuntime) -> Result<(), Fail> {
 }
 
 #[test]
-fn values_stay_where_a_block_grows_and_is_cut(rt: HostRuntime) -> Result<(), Fail> {
+fn values_are_kept_when_a_block_grows_or_shrinks(rt: HostRuntime) -> Result<(), Fail> {
     let mut block = two_of_three(rt.alloc())?;
     block.reserve(2, 2)?;
     assert!(rt; block.capacity() == 6);
@@ -53,7 +52,7 @@ fn values_stay_where_a_block_grows_and_is_cut(rt: HostRuntime) -> Result<(), Fai
     Ok(())
 }
 
-// A call that makes room in an empty block, or gives it back.
+// A call that reserves capacity in an empty block, or frees it.
 #[derive(Clone, Copy)]
 enum Room {
     Reserve(usize),
@@ -75,15 +74,15 @@ fn made<T, A: Allocator>(room: Room, block: &mut RawVec<T, A>) -> Result<(), Try
     }
 }
 
-// The capacity of a new block after each of these calls, which is an overflow where there is none.
-// It makes one request if it takes a new block, and else none.
-fn goes_to<T>(
+// Returns whether a new block has this capacity after each of these calls, or an overflow if there
+// is none. A call makes one request if it allocates a new block, and else none.
+fn has_capacities<T>(
     heap: &Faulty<Global>,
     growth: Option<Growth>,
     rooms: &[(Room, Option<usize>)],
 ) -> bool {
     let mut block: RawVec<T, &Faulty<Global>> = match growth {
-        Some(growth) => RawVec::new_growing_in(growth, heap),
+        Some(growth) => RawVec::with_growth_in(growth, heap),
         None => RawVec::new_in(heap),
     };
     let mut all = block.growth() == growth.unwrap_or(Growth::Doubling);
@@ -96,10 +95,10 @@ fn goes_to<T>(
     all
 }
 
-fn is_so(answer: Result<(), TryReserveError>, capacity: usize, wanted: Option<usize>) -> bool {
+fn is_so(outcome: Result<(), TryReserveError>, capacity: usize, wanted: Option<usize>) -> bool {
     match wanted {
-        Some(wanted) => answer.is_ok() && capacity == wanted,
-        None => answer == Err(TryReserveErrorKind::CapacityOverflow.into()),
+        Some(wanted) => outcome.is_ok() && capacity == wanted,
+        None => outcome == Err(TryReserveErrorKind::CapacityOverflow.into()),
     }
 }
 
@@ -117,7 +116,7 @@ const ROOMS: [(Room, Option<usize>); 10] = [
     (Room::Shrink(0), Some(0)),
 ];
 
-// Doubling goes on from where an exact need led.
+// Doubling continues from an exact capacity.
 const DOUBLING: [(Room, Option<usize>); 3] = [
     (Room::TryReserve(1 << 63), None),
     (Room::Reserve(9), Some(9)),
@@ -129,7 +128,7 @@ const SPARING: [(Room, Option<usize>); 2] = [
     (Room::Reserve(9), Some(12)),
 ];
 
-const SIZELESS: [(Room, Option<usize>); 3] = [
+const ZST: [(Room, Option<usize>); 3] = [
     (Room::TryReserve(usize::MAX), Some(usize::MAX)),
     (Room::TryReserveExact(usize::MAX), Some(usize::MAX)),
     (Room::Shrink(0), Some(usize::MAX)),
@@ -138,16 +137,16 @@ const SIZELESS: [(Room, Option<usize>); 3] = [
 const FIRST: Room = Room::TryReserve(1);
 
 #[test]
-fn room_is_as_asked_and_as_growth_has_it(rt: HostRuntime) {
+fn capacity_is_as_requested_or_as_the_growth_policy_has_it(rt: HostRuntime) {
     let heap = Faulty::new(rt.alloc());
-    assert!(rt; goes_to::<u32>(&heap, None, &ROOMS));
-    assert!(rt; goes_to::<u8>(&heap, None, &DOUBLING));
-    assert!(rt; goes_to::<u8>(&heap, Some(Growth::Sparing), &SPARING));
-    assert!(rt; goes_to::<()>(&heap, None, &SIZELESS));
+    assert!(rt; has_capacities::<u32>(&heap, None, &ROOMS));
+    assert!(rt; has_capacities::<u8>(&heap, None, &DOUBLING));
+    assert!(rt; has_capacities::<u8>(&heap, Some(Growth::Sparing), &SPARING));
+    assert!(rt; has_capacities::<()>(&heap, None, &ZST));
     // The least capacity is by the size.
-    assert!(rt; goes_to::<u8>(&heap, None, &[(FIRST, Some(8))]));
-    assert!(rt; goes_to::<[u8; 1024]>(&heap, None, &[(FIRST, Some(4))]));
-    assert!(rt; goes_to::<[u8; 1025]>(&heap, None, &[(FIRST, Some(1))]));
+    assert!(rt; has_capacities::<u8>(&heap, None, &[(FIRST, Some(8))]));
+    assert!(rt; has_capacities::<[u8; 1024]>(&heap, None, &[(FIRST, Some(4))]));
+    assert!(rt; has_capacities::<[u8; 1025]>(&heap, None, &[(FIRST, Some(1))]));
     assert!(rt; heap.outstanding() == 0);
 }
 
@@ -158,27 +157,27 @@ fn made_with(alloc: Global, capacity: usize) -> Result<usize, TryReserveError> {
 }
 
 #[test]
-fn a_block_is_made_with_the_capacity_asked_for(rt: HostRuntime) {
+fn a_block_has_the_capacity_requested(rt: HostRuntime) {
     for (capacity, granted, has) in [(3, true, 3), (1 << 61, false, 0)] {
-        assert!(rt; told(made_with(rt.alloc(), capacity)) == (granted, has));
+        assert!(rt; outcome_of(made_with(rt.alloc(), capacity)) == (granted, has));
     }
 }
 
 #[test]
 #[tactic(auto, using(aa_raw::proofs::Calls::at_ends))]
-fn elements_without_size_take_no_memory(rt: HostRuntime) {
+fn zsts_do_not_allocate(rt: HostRuntime) {
     let mut block: RawVec<()> = RawVec::new(rt.alloc());
     block.put(5, ());
     let _unit: &() = block.place(5);
     block.take(5);
     block.put(0, ());
-    let refused = block.try_reserve(1, usize::MAX);
-    assert!(rt; refused == Err(TryReserveErrorKind::CapacityOverflow.into()));
+    let failed = block.try_reserve(1, usize::MAX);
+    assert!(rt; failed == Err(TryReserveErrorKind::CapacityOverflow.into()));
     assert!(rt; block.capacity() == usize::MAX);
 }
 
 #[test]
-fn errors_tell_their_kind(rt: HostRuntime) -> Result<(), Fail> {
+fn errors_have_their_kind(rt: HostRuntime) -> Result<(), Fail> {
     let refused = Refused {
         source: 7,
         error: TryReserveErrorKind::AllocError { capacity: 5 }.into(),
@@ -194,7 +193,7 @@ fn errors_tell_their_kind(rt: HostRuntime) -> Result<(), Fail> {
 #[test]
 fn a_growth_past_the_limits_is_no_capacity(rt: HostRuntime) {
     let many = 1 << 62;
-    for (growth, capacity, required, told) in [
+    for (growth, capacity, required, grown) in [
         (Growth::Doubling, many, many + 1, None),
         (Growth::Sparing, many, many + 1, Some(many + many / 2)),
         (Growth::Doubling, 3, 4, Some(8)),
@@ -202,7 +201,7 @@ fn a_growth_past_the_limits_is_no_capacity(rt: HostRuntime) {
         (Growth::Sparing, 8, 9, Some(12)),
         (Growth::Sparing, 8, 1 << 63, None),
     ] {
-        assert!(rt; growth.capacity_for::<u8>(capacity, required) == told);
+        assert!(rt; growth.capacity_for::<u8>(capacity, required) == grown);
     }
 }
 

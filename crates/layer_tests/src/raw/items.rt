@@ -11,7 +11,7 @@ use std::test::Fail;
 use test_allocators::Faulty;
 use test_allocators::counted::Counted;
 
-// The two values as items. Where memory is refused they are dropped.
+// Returns the two values as items. If an allocation fails, they are dropped.
 #[tactic(auto, using(aa_raw::proofs::Calls::at_ends))]
 fn two<T: Drop, A: Allocator>(
     alloc: A,
@@ -43,7 +43,7 @@ fn items_come_from_both_ends(rt: HostRuntime) -> Result<(), Fail> {
 
 // The length falls by one with each item.
 #[test]
-fn items_without_size_are_counted(rt: HostRuntime) -> Result<(), Fail> {
+fn zst_items_are_counted(rt: HostRuntime) -> Result<(), Fail> {
     let mut items = two(rt.alloc(), [(), ()])?;
     assert!(rt; last_taken(&mut items) == (Some(()), 1));
     assert!(rt; last_taken(&mut items) == (Some(()), 0));
@@ -51,7 +51,7 @@ fn items_without_size_are_counted(rt: HostRuntime) -> Result<(), Fail> {
     Ok(())
 }
 
-// How many items are told, whether both are threes once these are written to all, and whether they
+// Returns the size hint, whether both are threes once these are written to all, and whether they
 // are printed so.
 fn written_to(
     alloc: Global,
@@ -59,11 +59,11 @@ fn written_to(
 ) -> ((usize, Option<usize>), bool, bool) {
     let mut items = items;
     let _alloc: &&Faulty<Global> = items.allocator();
-    let told = items.size_hint();
+    let hint = items.size_hint();
     items.as_mut_slice().fill(3);
     let written = items.as_slice() == [3, 3].as_slice();
     let printed = are_printed(alloc, &"are", &items, "are IntoIter([3, 3])");
-    (told, written, matches!(printed, Ok(true)))
+    (hint, written, matches!(printed, Ok(true)))
 }
 
 #[test]
@@ -79,7 +79,7 @@ fn counted(drops: &Cell<u32>) -> [Counted<'_>; 2] {
     [Counted { value: 0, drops }, Counted { value: 0, drops }]
 }
 
-// How many items are dropped where one was taken, before the others are.
+// Returns how many items are dropped when one was taken, before the others are.
 fn one_taken<T: Drop>(items: IntoIter<T>, drops: &Cell<u32>) -> u32 {
     let mut items = items;
     drop(items.next());

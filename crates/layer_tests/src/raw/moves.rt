@@ -51,7 +51,7 @@ fn moves_down(block: &mut RawVec<u32, Global>, _a: u32, _b: u32, _c: u32)
     block.move_down(2, 1, 3);
 }
 
-// A closure that is lent the places 0 and 2 writes to the first of them.
+// A closure that borrows the places 0 and 2 writes to the first of them.
 fn writes_through(block: &mut RawVec<u32, Global>, _a: u32, _b: u32, _c: u32)
     requires { block.old.places ≡ Some _a ∷ Some _b ∷ Some _c ∷ None ∷ None ∷ [] }
     ensures { block.new ≡ with_places block.old (Some _c ∷ Some _b ∷ Some _c ∷ None ∷ None ∷ []) }
@@ -70,7 +70,7 @@ fn values_move_within_a_block(rt: HostRuntime) -> Result<(), Fail> {
 }
 
 #[test]
-fn values_go_to_another_block(rt: HostRuntime) -> Result<(), Fail> {
+fn values_move_to_another_block(rt: HostRuntime) -> Result<(), Fail> {
     let mut from = row(rt.alloc(), 10, 11, 12)?;
     let mut to: RawVec<u32, Global> = RawVec::with_capacity_in(4, rt.alloc())?;
     to.put(0, 9);
@@ -81,7 +81,7 @@ fn values_go_to_another_block(rt: HostRuntime) -> Result<(), Fail> {
 }
 
 #[test]
-fn arrays_go_in_and_out(rt: HostRuntime) -> Result<(), Fail> {
+fn arrays_are_put_and_taken(rt: HostRuntime) -> Result<(), Fail> {
     let mut block: RawVec<u16, Global> = RawVec::with_capacity_in(4, rt.alloc())?;
     block.put_array(0, [1, 2, 3]);
     let two: [u16; 2] = block.take_array();
@@ -98,14 +98,14 @@ fn copies_are_put(rt: HostRuntime) -> Result<(), Fail> {
     Ok(())
 }
 
-// Writes to the first of two places, and answers half of the second.
+// Writes to the first of two places, and returns half of the second.
 fn one_more(x: &mut u32, y: &mut u32) -> u32 {
     *x = y.wrapping_add(1);
     *y / 2
 }
 
 #[test]
-fn two_places_are_lent_at_once(rt: HostRuntime) -> Result<(), Fail> {
+fn two_places_are_borrowed_at_once(rt: HostRuntime) -> Result<(), Fail> {
     let mut block = row(rt.alloc(), 10, 11, 12)?;
     let half = block.pair_with(2, 0, &mut one_more);
     assert!(rt; half == 5 && block.slice(0, 3) == [10, 11, 11].as_slice());

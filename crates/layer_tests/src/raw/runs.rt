@@ -1,7 +1,7 @@
-//! Growth that keeps two runs of a block, and its refusals.
+//! Growth that keeps two runs of a block, and its errors.
 ghost use Rattle.std.specs.Prelude.{◌≡◌, [], ◌∷◌, Some, None, IfOk};
 
-use crate::raw::told;
+use crate::raw::outcome_of;
 use aa_raw::collections::TryReserveError;
 use aa_raw::raw_vec::RawVec;
 use std::alloc::Global;
@@ -22,7 +22,8 @@ fn around<'a>(heap: &'a Faulty<Global>) -> Result<Block<'a>, TryReserveError>
     Ok(block)
 }
 
-// Makes room in such a block, in line or at the ends, and drops it. The capacity then.
+// Reserves capacity in such a block, in line or at the ends, and drops it. Returns the capacity
+// then.
 fn room_of(mut block: Block<'_>, in_line: bool, additional: usize) -> Result<usize, TryReserveError>
     requires { block.places ≡ Some 12 ∷ Some 13 ∷ None ∷ Some 10 ∷ Some 11 ∷ [] }
 {
@@ -37,9 +38,9 @@ fn room_of(mut block: Block<'_>, in_line: bool, additional: usize) -> Result<usi
     Ok(block.capacity())
 }
 
-// In line or at the ends, how many more, how many requests are refused, whether there is room then,
-// and the capacity that there is or that was refused, or 0 past the limits. One more value has room
-// as it is; otherwise those in line stand so.
+// In line or at the ends, how many more, how many requests fail, whether the call succeeds, and the
+// capacity that there is or that was requested in vain, or 0 past the limits. One more value fits
+// without a growth; otherwise those in line are kept so.
 fn rooms() -> [(bool, usize, u64, bool, usize); 8] {
     [
         (true, 1, 1, true, 5),
@@ -54,12 +55,12 @@ fn rooms() -> [(bool, usize, u64, bool, usize); 8] {
 }
 
 #[test]
-fn a_growth_of_two_runs_can_be_refused(rt: HostRuntime) -> Result<(), Fail> {
+fn a_growth_of_two_runs_can_fail(rt: HostRuntime) -> Result<(), Fail> {
     let heap = Faulty::new(rt.alloc());
     for (in_line, additional, count, granted, capacity) in rooms() {
-        heap.refuse(1, count);
+        heap.fail_requests(1, count);
         let before = heap.requests();
-        let room = told(room_of(around(&heap)?, in_line, additional));
+        let room = outcome_of(room_of(around(&heap)?, in_line, additional));
         assert!(rt; room == (granted, capacity) && heap.outstanding() == 0);
         // The block itself is one request, and a growth is another.
         let growths = if capacity > 5 { 1u64 } else { 0 };

@@ -9,23 +9,23 @@ use ex_table::table::Table;
 use std::alloc::Global;
 use std::hash::{BuildHasherDefault, FoldHasher};
 
-// By the hasher that the toolchain's map has where no other is named.
+// With the default hasher of the toolchain's map.
 type Numbers = Table<u64, u64, BuildHasherDefault<FoldHasher>, Global>;
 
 type Queue = Ring<u32, Global>;
 
-// Up to eight items in place.
+// Up to eight items inline.
 type Few = InlineVec<u32, Global, 8>;
 
-/// What a case of a collection finds and leaves.
+/// The collections of a case, before and after its run.
 #[derive(Drop)]
 pub struct Held {
     alloc: Global,
-    // What is inserted, looked up or removed, in this order.
+    // The keys that are inserted, looked up or removed, in this order.
     keys: Vec<u64>,
     table: Numbers,
     queue: Queue,
-    // What the look-ups or removals gave.
+    // The sum of the results of the look-ups or removals.
     sum: u64,
 }
 
@@ -40,7 +40,7 @@ impl Held {
         }
     }
 
-    /// Fills the collection as the case finds it. It answers whether all memory was granted.
+    /// Fills the collection as the case expects it, and returns whether every allocation succeeded.
     pub fn prepare(&mut self, collection: Collection, count: u32) -> bool {
         match collection {
             Collection::TableInsert => fill_keys(&mut self.keys, count, 0),
@@ -60,7 +60,7 @@ impl Held {
         fill_keys(&mut self.keys, count, 0) && table_insert(&mut self.table, self.keys.as_slice())
     }
 
-    /// Runs the case. It answers whether all memory was granted.
+    /// Runs the case, and returns whether every allocation succeeded.
     pub fn run(&mut self, collection: Collection, count: u32) -> bool {
         let keys = self.keys.as_slice();
         match collection {
@@ -78,8 +78,9 @@ impl Held {
         true
     }
 
-    /// The checksum of what the collections hold and gave, from that of what came before. Keys are
-    /// looked up in their order here, since that of a table is its own.
+    /// Returns the checksum of the elements and of the results, continuing from `sum`.
+    ///
+    /// Keys are looked up in the order of the list, since the order of a table is unspecified.
     pub fn checksum(&self, sum: u64) -> u64 {
         let (first, others) = self.queue.as_slices();
         let items = checksum_from(checksum_from(sum, first), others);
@@ -92,8 +93,8 @@ impl Held {
     }
 }
 
-// So many keys, no two of them equal, in no regular order: from `least` on, and less than 2 ^ 32
-// above it.
+// Appends `count` distinct keys in no regular order: `least` or more, and less than 2 ^ 32 above
+// it.
 fn fill_keys(keys: &mut Vec<u64>, count: u32, least: u64) -> bool {
     let mut state: u32 = 1;
     for _ in 0..count {
@@ -121,7 +122,7 @@ fn table_hit(table: &Numbers, keys: &[u64]) -> u64 {
     sum
 }
 
-// How many keys are not there.
+// Returns the number of keys that are missing.
 #[inline(never)]
 fn table_miss(table: &Numbers, keys: &[u64]) -> u64 {
     let mut misses: u64 = 0;
@@ -154,7 +155,7 @@ fn ring_push(queue: &mut Queue, count: u32) -> bool {
     each_is_granted!(i in 0..count, queue.push_back(i))
 }
 
-// A vector of up to eight items in place for each eight numbers.
+// Makes a vector of up to eight inline items for each eight numbers.
 #[inline(never)]
 fn inline_few(alloc: Global, count: u32) -> Option<u64> {
     let mut sum: u32 = 0;

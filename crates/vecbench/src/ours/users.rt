@@ -1,4 +1,4 @@
-//! What programs do with vectors, over this library's vector.
+//! Small programs that use vectors, over this library's vector.
 
 use crate::checksum::checksum_from;
 use crate::element::Element;
@@ -10,12 +10,12 @@ use std::alloc::Global;
 use std::io::Write;
 use std::mem::replace;
 
-/// What the case of a use finds and leaves.
+/// The vectors of a use, before and after its run.
 #[derive(Drop)]
 pub struct Users {
     alloc: Global,
     source: Vec<u8>,
-    // Not `u32`, so that they share no code with the cases of single calls: that would change what
+    // Not `u32`, so that they share no code with the cases of single calls. This would change what
     // the compiler inlines.
     numbers: Vec<usize>,
     others: Vec<usize>,
@@ -39,7 +39,7 @@ impl Users {
         }
     }
 
-    /// Fills the vectors as the case finds them. It answers whether all memory was granted.
+    /// Fills the vectors as the case expects them, and returns whether every allocation succeeded.
     pub fn prepare(&mut self, used: Use, count: u32) -> bool {
         match used {
             Use::Tokenize | Use::Lines | Use::Lru => fill_at_random(&mut self.source, count, 24),
@@ -49,7 +49,7 @@ impl Users {
         }
     }
 
-    /// Runs the case. It answers whether all memory was granted.
+    /// Runs the case, and returns whether every allocation succeeded.
     pub fn run(&mut self, used: Use, count: u32) -> bool {
         let numbers = &mut self.numbers;
         let source = self.source.as_slice();
@@ -75,7 +75,7 @@ impl Users {
         }
     }
 
-    /// The checksum of what the vectors hold, from that of what came before.
+    /// Returns the checksum of the elements of the vectors, continuing from `sum`.
     pub fn checksum(&self, sum: u64) -> u64 {
         let numbers = checksum_from(sum, self.numbers.as_slice());
         let others = checksum_from(numbers, self.others.as_slice());
@@ -90,7 +90,7 @@ impl Users {
     }
 }
 
-// Texts of 8 bytes, each of them three times.
+// Appends texts of 8 bytes, each of them three times.
 fn fill_texts(list: &mut Vec<Vec<u8>>, alloc: Global, count: u32) -> bool {
     for i in 0..count {
         let mut text = Vec::new(alloc);
@@ -125,7 +125,7 @@ fn lru(keys: &mut Vec<usize>, source: &[u8]) -> Option<usize> {
     last_used!(keys, source)
 }
 
-// The place of the key, or how many keys there are where it is not among them.
+// Returns the index of the key, or the number of keys if it is not among them.
 fn place_of(keys: &[usize], key: usize) -> usize {
     for (at, other) in keys.iter().enumerate() {
         if *other == key {

@@ -23,7 +23,7 @@ use Rattle.aa_raw.specs.Block.{Block}
 use Rattle.aa_raw.specs.Places.{IsFilled}
 use Rattle.aa_raw.specs.contracts.raw_vec.Growth as growth
 use Rattle.aa_raw.specs.formers.raw_vec.RawVec as raw
-use Rattle.aa_boxed.specs.Boxed.{Boxed, held}
+use Rattle.aa_boxed.specs.Boxed.{Boxed, value_of}
 use Rattle.aa_boxed.specs.Room.{IsForOne}
 use Rattle.aa_boxed.specs.declared.boxed.Box.TheInside.{Inside}
 use Rattle.aa_boxed.specs.declared.boxed.Box.TheView.{view, invariant}
@@ -36,7 +36,7 @@ the_former g Z = via (pair g (const Z)) (λ X. Boxed (g.Of X) Z) (λ X b. (b.val
 abbrev pub the_weighed : {g : Former {0}} → Weighed g → (Z : Type 0) → Weighed (the_former g Z)
 the_weighed w Z = record { weight = λ X μ b. w.weight X μ b.value; puts = λ X μ b. w.puts X μ b.value }
 
--- what is asked of the block, which goes by its shape
+-- the invariant of the block `b`, which depends only on its shape
 abbrev Single : {X Z : Type 0} → Block X Z → Type 0
 Single b = IsFilled b.places 0 × IsForOne b
 
@@ -78,14 +78,14 @@ module _ {X Y : Type 0} (k : X → Y) where
     )
 
   held_over : (cs : List (Option X)) (p : is_some (get_or cs 0 None) ≡ true) (q : is_some (get_or (map (option_map k) cs) 0 None) ≡ true)
-      → held (get_or (map (option_map k) cs) 0 None) q ≡ k (held (get_or cs 0 None) p)
+      → value_of (get_or (map (option_map k) cs) 0 None) q ≡ k (value_of (get_or cs 0 None) p)
   held_over [] p q = absurd (true≢false (sym p))
   held_over (None ∷ cs) p q = absurd (true≢false (sym p))
   held_over (Some x ∷ cs) p q = refl
 
 module _ {X : Type 0} where
   one_held : (cs : List (Option X)) (p : is_some (get_or cs 0 None) ≡ true) → list_all is_none (drop 1 cs) ≡ true
-      → ◌≡◌ {A = placed.Held X} (one_more none_left, (held (get_or cs 0 None) p, tt)) (placed.held (slots this) X cs)
+      → ◌≡◌ {A = placed.Held X} (one_more none_left, (value_of (get_or cs 0 None) p, tt)) (placed.held (slots this) X cs)
   one_held [] p e = absurd (true≢false (sym p))
   one_held (None ∷ cs) p e = absurd (true≢false (sym p))
   one_held (Some x ∷ cs) p e = ap {B = placed.Held X} (λ (u : placed.Held X). (one_more u.0, (x, u.1))) (nothing_held cs e)

@@ -1,4 +1,4 @@
--- Empty places from the allocator, with the right to give them back. Assumes `Logic`.
+-- Empty places from the allocator, with the right to deallocate them. Assumes `Logic`.
 use Rattle.aa_raw.proofs.{ !, After, Al, Answer-typed, Answered, Body, Both, El, Err, Goes-dropped, IfOk, Incl-trans, Is, IsCapacity, IsGood as Good, None, Ok, R, RattleType, RefOf, Right, Spot, Sq, Stays, Struct, Struct-Makes, Takes, Takes-gives, Takes-goes, Val, Vals, Wp, [], after, after_seq, agg, align, align_word, alloc_all, and_then, answers, any_q, ap, arith, arm_body, as_written, at_ret, at_return, at_takes, await, bin, block_align, block_args as args, block_ptr, block_size, block_ty, calls_at, capped, capped_fits, done, each, elτ, ends_at, enter, env, err_of, exec, fact, false, first, first_Good, fjoin, fld, flft, framed, free_all, fsplit, ftrue, get, get_in, get_tag, head, heard, in_variant, inst_fn, is, join, keep, lands_as, later, layout, lit, lit<, live, look_at, lose as drop, mark, move, named, new_pair, no_more, nothing, of_opd, ok_of, owned, owns, pair_made, pair_val, param, pass_all, plain, prop, proved, qed, raw, refl, replicate, returns, right_made, row_of_room, says, sets, sets_last, shr_Tells, shr_vals, size_word, split, stay_dropped, stop, suffices, switches_on, sz, tables, tables_of, token, true, ty_array, types_at, uint_Tells, uint_vals, uncapped, use1, use2, usize, vcons, vint, vnil, vrt, vstruct, w64, walk_of, way_fits, whole, word, yes, ‵, ℕ, ◌$◌, ◌*◌, ◌<◌, ◌^◌, ◌∵◌, ◌∷◌, ◌≡◌, ◌⊑◌, ◌⊛◌}
 use denote.Struct.Declared as Declared
 use Rattle.core.specs.contracts.alloc.AllocError as AE

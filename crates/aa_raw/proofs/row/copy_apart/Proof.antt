@@ -38,7 +38,7 @@ copy_apart_spec 𝓤 𝓛 𝓜 𝓡 wired X LX =
     rewrite ! 0 (λ (cs : List (Place E)). ‵ (SpotsFrom E 𝓛 b o 0 cs)) (sym (take-append-drop n d.places)) refl $
     use1 𝓛 (‵ (SpotsFrom E 𝓛 b o 0 old) ⊛ ‵ (SpotsFrom E 𝓛 b o n rest)) (cut_spots 𝓛 (Spot E 𝓛 b o) old rest 0 n (omega (arith, many))) $ split ! $
     use1 𝓛 (‵ (froom (ty_array (elτ E) (length old)) b o)) (room_of_row E 𝓛 b o old) $ rewrite ! 0 (λ (k : ℕ). ‵ (froom (ty_array (elτ E) k) b o)) many refl $
-    -- [room in the row; its other places; the values; the source's other places; the token]
+    -- [memory in the row; its other places; the values; the source's other places; the token]
     let g : Copy.Ghost = at_copies X 𝓛 𝓜.mem 𝓡.returns κs.0 qs.0 rb ro b o n xs in
     move ! (2 ∷ 0 ∷ 4 ∷ []) $ use3 𝓛 (raw (Copy.pre g)) (Copies-goes X 𝓛 𝓜.mem 𝓡.returns κs.0 qs.0 rb ro b o n xs lives fn (times_below n (length d.places) (sz E) (2 ^ 63) fits small)) $ first ! $ blocks ! $
     calls_at_last ! (framed 𝓤 𝓛.H 𝓜 𝓣) Copy met g
@@ -48,7 +48,7 @@ copy_apart_spec 𝓤 𝓛 𝓜 𝓡 wired X LX =
     exec ! 𝓣.C 𝓣.Λ (env e.locals l) (after 1 e.body) (at_ret _ (W.post y)) $ sets ! (of_opd ! (get ! refl)) refl (tt, (tt, tt)) $ sets ! (of_opd ! (get ! refl)) refl (tt, (tt, tt)) $
     sets ! (agg ! (and_then ! (get ! refl) (and_then ! (get ! refl) (no_more !)))) refl (tt, ((tt, tt), ((tt, tt), tt))) $
     returns ! (look_at ! 0 refl) $ free_all ! refl $
-    -- [the values; room in the source; the token; the row's other places; the source's]
+    -- [the values; memory in the source; the token; the row's other places; the source's]
     use1 𝓛 (given (length xs ≡ n) (‵ (row (R E) full_share xs b o))) (array_apart E 𝓛 full_share n xs b o) $ learn ! (λ _.
     use1 𝓛 (‵ (cells (mem (R E)) xs b o)) (whole_in 𝓛 (R E) xs b o) $ rewrite ! 0 (λ (k : ℕ). ‵ (cells (mem (R E)) xs b k)) (sym (start E 𝓛 b o)) refl $
     use1 𝓛 (‵ (SpotsFrom E 𝓛 b o 0 (map Some xs))) (values_in E 𝓛 b o xs 0) $ rewrite ! 0 (λ (cs : List (Place E)). ‵ (SpotsFrom E 𝓛 b o 0 cs)) (sym it.1) refl $

@@ -1,4 +1,4 @@
--- The memory of a row goes back to its allocator. Assumes `Logic`.
+-- The memory of a row is deallocated by its allocator. Assumes `Logic`.
 use Rattle.aa_raw.proofs.{ !, Al, Cl, El, Gives, Gives-Gives, Gives-goes, Goes-blank, Goes-dropped, Incl-trans, Ptr, RefOf, Right, Rw, Stays, T as So, Val, Vals, WT, WpFn, [], after, align, align_word, alloc_all, and_then, ap, arith, as_raw, at_gives, at_ret, await, bin, block_align, block_args as args, block_ptr, block_size, block_ty, blocks, by, calls_at_last, capped, capped_fits, claim_had, done, elτ, ends_at, ent, enter, env, exec, fact, feq_i, first, fjoin, fld, flft, framed, free_all, froom, fsplit, fsplit3, ftrue, get, get_in, given, group, has_ty, heard, hidden_shr, inst_fn, is, join, keep, lands_last, later, learn, length, look_at, lose as drop, mark, move, no, no_more, nothing, of_opd, owns, param, pass_all, plain, proved_at, qed, raw, refl, returns, rewrite, right_had, room_of_row, row_had, sets, shr_vals, size_word, split, stay_dropped, stop, sub, subst, suffices, sym, sz, tables, tables_of, token, ty_array, ty_unit, types_at, uint_vals, uncapped, unit_lit, use1, usize, vint, vunit, w64, walk_of, way_fits, whole, word, yes, ‵, ℕ, ⋆, ◌$◌, ◌*◌, ◌<◌, ◌^◌, ◌∙◌, ◌∵◌, ◌∷◌, ◌≡◌, ◌⊑◌, ◌⊛◌}
 use Rattle.aa_raw.specs.contracts.row.deallocate as f
 use Rattle.aa_raw.proofs.row.deallocate.Code as code

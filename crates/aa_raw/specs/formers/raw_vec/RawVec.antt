@@ -1,4 +1,4 @@
--- A `RawVec` inside a recursive type: it holds what stands in its places.
+-- A `RawVec` inside a recursive type: it holds the values in its places.
 use Rattle.std.specs.Prelude.{ℕ, []}
 use mathlib.Core.Path.{refl, sym, ◌∙◌}
 use mathlib.Core.Former.{Former, this, const, pair, via}
@@ -19,7 +19,7 @@ use Rattle.aa_raw.specs.Block.{Block}
 use Rattle.aa_raw.specs.RawVecInner.{IsWhole}
 use Rattle.aa_raw.specs.declared.raw_vec.Growth.{Growth}
 use Rattle.aa_raw.specs.declared.raw_vec.Growth.TheVariants.{Doubling}
-use Rattle.aa_raw.specs.declared.tally.Tally.{Tally}
+use Rattle.aa_raw.specs.declared.counter.Counter.{Counter}
 use Rattle.aa_raw.specs.declared.raw_vec.RawVec.TheInside.{Inside}
 use Rattle.aa_raw.specs.declared.raw_vec.RawVec.TheView.{view, invariant}
 use Rattle.aa_raw.specs.contracts.raw_vec.RawVec as C
@@ -41,7 +41,7 @@ pub the_empty : (Z : Type 0) → Z → Block ⊥ Z
 the_empty Z z = record { places = []; growth = Doubling; grown = 0; written = 0; runs = 0; alloc = z }
 
 abbrev Others : Type 0 → Type 0
-Others Z = ℕ × (Growth × (Tally × (Tally × (Tally × Z))))
+Others Z = ℕ × (Growth × (Counter × (Counter × (Counter × Z))))
 
 abbrev fields : Type 0 → Former {0}
 fields Z = via (pair (row.the_former this) (pair (claim.the_former this Z) (const (Others Z)))) (λ X. Inside X Z)

@@ -14,7 +14,7 @@ use denote.Param.Weighed.{Weighed, none_max}
 use denote.Param.Nested.{deepest}
 use Rattle.std.specs.declared.alloc.Allocator.{Ghosts}
 use Rattle.core.specs.declared.marker.PhantomData.{PhantomData}
-use Rattle.aa_raw.specs.Placed.{claim_placed, roomy_placed}
+use Rattle.aa_raw.specs.Placed.{claim_owns_placed, capacity_bounds_placed}
 use Rattle.aa_raw.specs.declared.row.Claim.{Claim}
 use Rattle.aa_raw.specs.contracts.row.Claim as C
 
@@ -35,8 +35,8 @@ module _ (Z : RattleType) (G : Ghosts Z.Denot) (R S : RattleType) (h : R.Denot �
   pub the_places : Alike R S h → Alike (C.the_row R Z G) (C.the_row S Z G) ((the_former this Z.Denot).map R.Denot S.Denot h)
   the_places a = record {
     mir_same = refl;
-    own_same = λ d i vs. fsep ((Struct (shape (C.the_type R Z G))).own_val (to (C.the_type R Z G) d) vs) (claim_placed R S h a (G.dealloc_token d.alloc) d.ptr d.len i);
-    shr_same = λ d i b o. beside ((Struct (shape (C.the_type R Z G))).shr_at (to (C.the_type R Z G) d) b o) (said (roomy_placed R S h a d.len i));
+    own_same = λ d i vs. fsep ((Struct (shape (C.the_type R Z G))).own_val (to (C.the_type R Z G) d) vs) (claim_owns_placed R S h a (G.dealloc_token d.alloc) d.ptr d.len i);
+    shr_same = λ d i b o. beside ((Struct (shape (C.the_type R Z G))).shr_at (to (C.the_type R Z G) d) b o) (said (capacity_bounds_placed R S h a d.len i));
   }
 
   pub the_codes_placed : Recodes R S h → Recodes (C.the_row R Z G) (C.the_row S Z G) ((the_former this Z.Denot).map R.Denot S.Denot h)

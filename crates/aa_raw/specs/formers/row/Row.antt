@@ -1,4 +1,4 @@
--- A `Row` inside a recursive type: it holds what stands in its places.
+-- A `Row` inside a recursive type: it holds the values in its places.
 use Rattle.std.specs.Prelude.{[]}
 use mathlib.Core.Path.{refl, sym}
 use mathlib.Core.Former.{Former, this, const, pair, via}
@@ -12,7 +12,7 @@ use denote.HoleLaws.{Alike}
 use denote.HolePlaces.{Recodes}
 use denote.Param.Weighed.{Weighed}
 use Rattle.aa_raw.specs.Held.{slots, w_slots, slots_recoded, pair_recoded}
-use Rattle.aa_raw.specs.Placed.{owned_placed, lent_placed}
+use Rattle.aa_raw.specs.Placed.{row_owns_placed, row_shares_placed}
 use Rattle.aa_raw.specs.declared.row.Row.{Row}
 use Rattle.aa_raw.specs.contracts.row.Row as C
 
@@ -29,8 +29,8 @@ module _ (R S : RattleType) (h : R.Denot → S.Denot) where
   pub the_places : Alike R S h → Alike (C.the_row R) (C.the_row S) ((the_former this).map R.Denot S.Denot h)
   the_places a = record {
     mir_same = refl;
-    own_same = λ d i vs. fsep ((Struct (shape (C.the_type R))).own_val (to (C.the_type R) d) vs) (owned_placed R S h a d.ptr d.places i);
-    shr_same = λ d i b o. beside ((Struct (shape (C.the_type R))).shr_at (to (C.the_type R) d) b o) (lent_placed R S h a d.ptr d.places i);
+    own_same = λ d i vs. fsep ((Struct (shape (C.the_type R))).own_val (to (C.the_type R) d) vs) (row_owns_placed R S h a d.ptr d.places i);
+    shr_same = λ d i b o. beside ((Struct (shape (C.the_type R))).shr_at (to (C.the_type R) d) b o) (row_shares_placed R S h a d.ptr d.places i);
   }
 
   pub the_codes_placed : Recodes R S h → Recodes (C.the_row R) (C.the_row S) ((the_former this).map R.Denot S.Denot h)

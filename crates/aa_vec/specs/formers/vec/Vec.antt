@@ -1,4 +1,4 @@
--- A `Vec` inside a recursive type: it holds its items, and what stands in the places behind them.
+-- A `Vec` inside a recursive type: it has its items, and the elements in the places after them.
 use Rattle.std.specs.Prelude.{◌≡◌, ℕ, zero, suc, true, List, [], ◌∷◌, ◌++◌, map, take, drop, Option, Some, None, is_some}
 use Rattle.std.specs.List.{list_all}
 use Rattle.std.specs.Option.{option_map}
@@ -40,22 +40,22 @@ Rest Z = ℕ × (Growth × (ℕ × (ℕ × (ℕ × Z))))
 
 abbrev pub the_former : Former {0} → Type 0 → Former {0}
 the_former g Z = via (pair (list g) (pair (slots g) (const (Rest Z)))) (λ X. Vector (g.Of X) Z)
-    (λ X v. (v.items, (v.behind, (v.capacity, (v.growth, (v.grown, (v.written, (v.runs, v.alloc))))))))
-    (λ X u. record { items = u.0; capacity = u.1.1.0; growth = u.1.1.1.0; grown = u.1.1.1.1.0; written = u.1.1.1.1.1.0; runs = u.1.1.1.1.1.1.0; alloc = u.1.1.1.1.1.1.1; behind = u.1.0 }) (λ X v. refl) (λ X u. refl)
+    (λ X v. (v.items, (v.spare, (v.capacity, (v.growth, (v.grown, (v.written, (v.runs, v.alloc))))))))
+    (λ X u. record { items = u.0; capacity = u.1.1.0; growth = u.1.1.1.0; grown = u.1.1.1.1.0; written = u.1.1.1.1.1.0; runs = u.1.1.1.1.1.1.0; alloc = u.1.1.1.1.1.1.1; spare = u.1.0 }) (λ X v. refl) (λ X u. refl)
 
 abbrev pub the_weighed : {g : Former {0}} → Weighed g → (Z : Type 0) → Weighed (the_former g Z)
 the_weighed w Z =
     let v = w_pair (w_list w) (w_pair (w_slots w) (w_const (Rest Z))) in
     record {
-      weight = λ X μ d. v.weight X μ (d.items, (d.behind, (d.capacity, (d.growth, (d.grown, (d.written, (d.runs, d.alloc)))))));
-      puts = λ X μ d. v.puts X μ (d.items, (d.behind, (d.capacity, (d.growth, (d.grown, (d.written, (d.runs, d.alloc)))))));
+      weight = λ X μ d. v.weight X μ (d.items, (d.spare, (d.capacity, (d.growth, (d.grown, (d.written, (d.runs, d.alloc)))))));
+      puts = λ X μ d. v.puts X μ (d.items, (d.spare, (d.capacity, (d.growth, (d.grown, (d.written, (d.runs, d.alloc)))))));
     }
 
 pub the_empty : (Z : Type 0) → Z → Vector ⊥ Z
-the_empty Z z = record { items = []; capacity = 0; growth = Doubling; grown = 0; written = 0; runs = 0; alloc = z; behind = [] }
+the_empty Z z = record { items = []; capacity = 0; growth = Doubling; grown = 0; written = 0; runs = 0; alloc = z; spare = [] }
 
 abbrev pub the_items : (Z X : Type 0) → Vector X Z → List X
-the_items Z X d = d.items ++ somes d.behind
+the_items Z X d = d.items ++ somes d.spare
 
 module _ (X : Type 0) where
   slots_listed : (cs : List (Option X)) → listed _ (children (slots this) X cs) ≡ somes cs
@@ -68,7 +68,7 @@ module _ (X : Type 0) where
   both_listed (x ∷ xs) cs = ap (λ l. x ∷ l) (both_listed xs cs)
 
 pub the_items_listed : (Z X : Type 0) (d : Vector X Z) → listed _ (children (the_former this Z) X d) ≡ the_items Z X d
-the_items_listed Z X d = both_listed X d.items d.behind
+the_items_listed Z X d = both_listed X d.items d.spare
 
 module _ {X : Type 0} where
   abbrev both_held : List X → List (Option X) → placed.Held X
@@ -98,7 +98,7 @@ module _ (Z : RattleType) (G : Ghosts Z.Denot) (R S : RattleType) (h : R.Denot �
         written = u.block.written;
         runs = u.block.runs;
         alloc = u.block.alloc;
-        behind = drop-map (option_map k) u.len u.block.places i;
+        spare = drop-map (option_map k) u.len u.block.places i;
       })
       (λ X u. IsRun u.block.places 0 u.len) (λ X Y k u. IsRun-under k 0 u.len u.block.places) (λ X u. front_held u.len u.block.places)
       R.Denot S.Denot h (C.the_row R Z G).coded (C.the_row S Z G).coded
@@ -110,7 +110,7 @@ module _ (Z : RattleType) (G : Ghosts Z.Denot) (R S : RattleType) (h : R.Denot �
 
   pub the_codes_placed : Recodes R S h → Recodes (C.the_row R Z G) (C.the_row S Z G) ((the_former this Z.Denot).map R.Denot S.Denot h)
   the_codes_placed e d = pair_recoded (sym (code_map R.coded.code S.coded.code h (λ x. sym (e x)) d.items))
-      (pair_recoded refl (pair_recoded refl (pair_recoded refl (pair_recoded refl (pair_recoded refl (pair_recoded refl (slots_recoded _ _ h refl (λ x. pair_recoded refl (sym (e x))) d.behind)))))))
+      (pair_recoded refl (pair_recoded refl (pair_recoded refl (pair_recoded refl (pair_recoded refl (pair_recoded refl (slots_recoded _ _ h refl (λ x. pair_recoded refl (sym (e x))) d.spare)))))))
 
 module _ (Z X Y : Type 0) (h : X → Y) where
   pub the_eq_natural : (V : eq.Ghosts Y) (B : Ghosts Z) (a b : Vector X Z) → pointwise V.eq (map h a.items) (map h b.items) ≡ pointwise (λ x y. V.eq (h x) (h y)) a.items b.items

@@ -1,10 +1,11 @@
-//! How far a count that is only told is trusted.
+//! How far a reported number of elements is trusted.
 ghost use Rattle.std.specs.Prelude.{◌≡◌, min, unwrap_or};
 
 use std::cmp;
 
-/// The capacity to begin with where somebody else tells how many elements will come: that number,
-/// but never more than 4,096, and 0 where nothing is told. It stands for the original's `cautious`.
+/// Returns the initial capacity for a reported number of elements.
+///
+/// That is `hint`, but at most 4,096, and 0 for `None`. Corresponds to allocator-api2's `cautious`.
 pub fn cautious(hint: Option<usize>) -> usize
     ensures { result ≡ min (unwrap_or hint 0) 4096 }
 {

@@ -5,7 +5,7 @@ use Rattle.allocator_api2.proofs.runner.run.Goals as goal
 
 pub loop-command-init : goal.loop-command-init
 loop-command-init g c =
-    let possible = c.find_possible.ensures in
+    let possible = c.prove_possible.ensures in
     rw c.into_iter-command-iterator.ensures.into_iter_gives (record {
       run = HasRun-start _ _ _ _ _ possible;
       callable = c.requires.callable.along possible;
@@ -16,7 +16,7 @@ loop-command-init g c =
 pub loop-command-preserved : goal.loop-command-preserved
 loop-command-preserved g c =
     let h = rw c.in-Some.ensures.steps at c.loop-command.invariant in
-    let possible = c.find_possible-in-loop-command.ensures in
+    let possible = c.prove_possible-in-loop-command.ensures in
     let put = c.push_within.ensures in
     let m : length c.push_within.new.list.items ≡ length c.loop-command.replies.items + 1 = ap length put.items ∙ length-append c.loop-command.replies.items (c.step-reply.result ∷ []) in
     record {

@@ -13,7 +13,7 @@ returns-then-len-eq0-clause-same g c =
 pub returns-then-len-eq0-clause-used : goal.returns-then-len-eq0-clause-used
 returns-then-len-eq0-clause-used g c =
     let left : c.remove-empty.new.self.items ≡ remove c.args.leaves.now.items c.args.at = search rules in
-    rw left (used-removed c.args.leaves.now.items c.args.at c.requires.before c.requires.behind)
+    rw left (used-removed c.args.leaves.now.items c.args.at c.requires.before c.requires.after)
 
 pub returns-else-len-eq0-clause-used : goal.returns-else-len-eq0-clause-used
-returns-else-len-eq0-clause-used g c = used-kept c.args.leaves.now.items c.args.at c.index.ensures c.requires.within c.requires.before c.requires.behind (record { some = omega (arith, c.if-len-eq0.false, c.len.ensures.len); room = c.requires.room _ c.index.ensures })
+returns-else-len-eq0-clause-used g c = used-kept c.args.leaves.now.items c.args.at c.index.ensures c.requires.within c.requires.before c.requires.after (record { some = omega (arith, c.if-len-eq0.false, c.len.ensures.len); room = c.requires.room _ c.index.ensures })

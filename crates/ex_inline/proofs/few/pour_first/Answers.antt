@@ -13,6 +13,6 @@ each-preserved g c =
       drop-set-lt (i + 1) ys i c.take.new.dest (omega arith) ∙ drop_more_same ys xs i h.1,
       length-set ys i c.take.new.dest ∙ h.2,
       record { capacity = pushed.block.capacity ∙ h.3.capacity; growth = pushed.block.growth ∙ h.3.growth; grown = pushed.block.grown ∙ h.3.grown; alloc = pushed.block.alloc ∙ h.3.alloc },
-      record { written = omega (arith, pushed.writes.written, h.4.written); runs = omega (arith, pushed.writes.runs, h.4.runs) },
+      record { written = omega (arith, pushed.written.written, h.4.written); runs = omega (arith, pushed.written.runs, h.4.runs) },
       omega (arith, pushed.block.capacity, ap length pushed.items, length-append c.each.into.items (x ∷ []), h.5, c.each-test.true, length-set ys i c.take.new.dest),
     )

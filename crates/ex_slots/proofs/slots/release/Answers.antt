@@ -6,7 +6,7 @@ use Rattle.ex_slots.proofs.slots.release.Goals as goal
 pub overflow_add-free : goal.overflow_add-free
 overflow_add-free g c =
     let s = released-sound c.requires.sound c.args.at c.index_mut.ensures.value c.requires.held c.replace-old.ensures.after in
-    omega (arith, s.counted, length-set c.args.slots.now.items c.args.at c.replace-old.new.dest, c.known.ensures.within, c.known.ensures.few)
+    omega (arith, s.counted, length-set c.args.slots.now.items c.args.at c.replace-old.new.dest, c.prove_capacity_bounds.ensures.within, c.prove_capacity_bounds.ensures.fits_usize)
 
 pub returns-clause-sound : goal.returns-clause-sound
 returns-clause-sound g c = released-sound c.requires.sound c.args.at c.index_mut.ensures.value c.requires.held c.replace-old.ensures.after

@@ -2,7 +2,7 @@ use Rattle.std.proofs.Common.{None, get_or, length, ℕ, ◌<◌, ◌≡◌, ◌
 use Rattle.ex_table.specs.Slots.{tag_at}
 use Rattle.ex_table.proofs.growth.drop_between.Given as goal
 
--- the slots that were passed are dropped, the others as they were
+-- the entries of earlier slots are dropped, and the others are unchanged
 abbrev pub invariant-each : goal.invariant-each
 invariant-each g l = record {
   len : length l.places.places ≡ length l.fn.places.places;

@@ -3,7 +3,7 @@ use Rattle.ex_table.specs.Slots.{tag_at}
 use Rattle.ex_table.specs.Places.{key_at}
 use Rattle.ex_table.proofs.index.slot_with.Given as goal
 
--- none of the slots gone past has the key
+-- none of the slots passed has the key
 abbrev pub invariant-each : goal.invariant-each
 invariant-each g l = (s : ℕ) → l.from ≤ s → s < l.from + l.past → tag_at l.tags s ≡ l.tag → key_at g.K.PartialEq.eq l.key l.places.places s ≡ false
 

@@ -1,12 +1,12 @@
 use Rattle.std.proofs.Common.{replicate, ap, ◌∙◌, rules}
 use Rattle.allocator_api2.proofs.Callers.{all_same}
-use Rattle.ex_table.specs.declared.slots.Beyond.{Beyond}
+use Rattle.ex_table.specs.declared.slots.Overflow.{Overflow}
 use Rattle.ex_table.proofs.slots.clear_all.Goals as goal
 
 pub returns-clause-tags : goal.returns-clause-tags
 returns-clause-tags c = all_same _ 0 _ _ _ (λ f y h s. search rules) c.fill_with.ensures.ran.1 ∙ ap (λ n. replicate n 0) c.fill_with.ensures.len
 
-pub returns-clause-beyond : goal.returns-clause-beyond
-returns-clause-beyond c =
-    let none : Beyond = record { told = 0 } in
+pub returns-clause-overflows : goal.returns-clause-overflows
+returns-clause-overflows c =
+    let none : Overflow = record { byte = 0 } in
     all_same _ none _ _ _ (λ f y h s. search rules) c.fill_with-2.ensures.ran.1 ∙ ap (λ n. replicate n none) c.fill_with-2.ensures.len

@@ -1,4 +1,4 @@
-use Rattle.ex_table.proofs.Windows.{no_slot, first_slot}
+use Rattle.ex_table.proofs.Groups.{no_slot, first_slot}
 use Rattle.ex_table.proofs.slots.slot_past.Goals as goal
 
 pub returns-then-later-eq0-clause-none : goal.returns-then-later-eq0-clause-none

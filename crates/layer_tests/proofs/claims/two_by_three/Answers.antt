@@ -4,7 +4,7 @@ use Rattle.layer_tests.proofs.claims.two_by_three.Goals as goal
 
 pub returns : goal.returns
 returns g c =
-    let d = c.splice-range.ensures.drains in let s = c.in_ok-finish_hinted.ensures.replaces.room in let same = c.splice-range.ensures.items in
+    let d = c.splice-range.ensures.drained in let s = c.in_ok-finish_hinted.ensures.replaced.spliced in let same = c.splice-range.ensures.items in
     record {
       items = let e = five_there d s same c.requires.old c.requires.new in search rules;
       exact = λ hint. let e = told_some d s same c.requires.old c.requires.new None 1 8 hint refl (omega arith) refl (omega arith) in search rules;

@@ -15,7 +15,7 @@ loop-index-init c =
 pub loop-index-preserved-in-Continue-branch-4 : goal.loop-index-preserved-in-Continue-branch-4
 loop-index-preserved-in-Continue-branch-4 c =
     let read = HasSeen-next _ (AreRead (with_command c.loop-index.commands.items c.in_ok-command.field-0)) _ _ c.next.new.self.iter.rest.now _ _ _ c.loop-index.invariant.2 c.in-Some.ensures.steps.0 c.in-Some.ensures.steps.2
-    (AreRead-next c.in-Some.line.now c.loop-index.commands.items c.in_ok-command.field-0 c.in_ok-command.ensures.ok) in
+    (AreRead-next c.in-Some.line.now c.loop-index.commands.items c.in_ok-command.field-0 c.in_ok-command.ensures.parsed) in
     let more : c.push.new.self.items ≡ with_command c.loop-index.commands.items c.in_ok-command.field-0 =
     rw c.in-Some-2.is (ap (λ (v : Vector _ _). v.items) c.in_ok-push.ensures.pushed) in
     ((tt, tt, inl (omega arith)), tt, rw more read)
@@ -23,5 +23,5 @@ loop-index-preserved-in-Continue-branch-4 c =
 pub loop-index-preserved : goal.loop-index-preserved
 loop-index-preserved c =
     let read = HasSeen-next _ (AreRead (with_command c.loop-index.commands.items c.in_ok-command.field-0)) _ _ c.next.new.self.iter.rest.now _ _ _ c.loop-index.invariant.2 c.in-Some.ensures.steps.0 c.in-Some.ensures.steps.2
-    (AreRead-next c.in-Some.line.now c.loop-index.commands.items c.in_ok-command.field-0 c.in_ok-command.ensures.ok) in
+    (AreRead-next c.in-Some.line.now c.loop-index.commands.items c.in_ok-command.field-0 c.in_ok-command.ensures.parsed) in
     ((tt, tt, inl (omega arith)), tt, rw c.in_default.is at read)

@@ -1,4 +1,4 @@
-use Rattle.aa_boxed.proofs.{Joining-next, Joining-stopped, LacksBytes, arith, length, subst}
+use Rattle.aa_boxed.proofs.{Joining-next, Joining-fails, StringReserveFails, arith, length, subst}
 use Rattle.aa_boxed.proofs.boxed.text.append_texts_by.Goals as goal
 
 pub loop-next-preserved : goal.loop-next-preserved
@@ -8,13 +8,13 @@ loop-next-preserved g c =
     record {
       can = on.0;
       finite = on.1;
-      joining = Joining-next _ _ _ _ _ i.joining c.in-Some.next _ c.in-Some.ensures.steps _ _ c.as_str.ensures put.appended put.room;
-      rises = omega (arith, i.rises, put.rises);
+      joining = Joining-next _ _ _ _ _ i.joining c.in-Some.next _ c.in-Some.ensures.steps _ _ c.as_str.ensures put.appended put.capacity;
+      never_shrinks = omega (arith, i.never_shrinks, put.never_shrinks);
       nearer = omega (arith, i.nearer, on.2);
     }
 
-pub returns-in-Err-clause-refused : goal.returns-in-Err-clause-refused
-returns-in-Err-clause-refused g c =
+pub returns-in-Err-clause-failed : goal.returns-in-Err-clause-failed
+returns-in-Err-clause-failed g c =
     let e = c.in-Err.ensures in
-    Joining-stopped _ _ _ _ _ c.loop-next.invariant.joining c.in-Some.next _ c.in-Some.ensures.steps _ e.kept e.stays c.in-Err.error
-    (subst (λ bs. LacksBytes c.append_text.new.text (length bs) c.in-Err.error) c.as_str.ensures e.lacks)
+    Joining-fails _ _ _ _ _ c.loop-next.invariant.joining c.in-Some.next _ c.in-Some.ensures.steps _ e.unchanged e.same_capacity c.in-Err.error
+    (subst (λ bs. StringReserveFails c.append_text.new.text (length bs) c.in-Err.error) c.as_str.ensures e.error)

@@ -52,7 +52,7 @@ module _ {X : Type 0} where
   whole_once : {Z : Type 0} (v : Inside X Z) → IsProp (IsWhole v)
   whole_once v p q = λ i. record {
     filled = IsRun-once 0 v.len v.block.places p.filled q.filled i;
-    room = λ other. ℕ_set _ _ (p.room other) (q.room other) i;
+    exact = λ other. ℕ_set _ _ (p.exact other) (q.exact other) i;
     others = Bool-set _ _ p.others q.others i;
   }
 
@@ -69,14 +69,14 @@ module _ {X Y Z : Type 0} (k : X → Y) (v : Inside X Z) where
   whole_over : IsWhole v → IsWhole ((fields Z).map X Y k v)
   whole_over w = record {
     filled = IsRun-over k 0 v.len cs w.filled;
-    room = λ other. long ∙ w.room (λ e. other (long ∙ e));
+    exact = λ other. long ∙ w.exact (λ e. other (long ∙ e));
     others = others_over k v.len cs ∙ w.others;
   }
 
   whole_under : IsWhole ((fields Z).map X Y k v) → IsWhole v
   whole_under w = record {
     filled = IsRun-under k 0 v.len cs w.filled;
-    room = λ other. sym long ∙ w.room (λ e. other (sym long ∙ e));
+    exact = λ other. sym long ∙ w.exact (λ e. other (sym long ∙ e));
     others = sym (others_over k v.len cs) ∙ w.others;
   }
 

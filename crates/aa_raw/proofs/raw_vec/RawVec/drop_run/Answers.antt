@@ -1,4 +1,4 @@
-use Rattle.aa_raw.proofs.{None, ap, arith, gone_more, is_some, run_filled, slice_set, still_there, sym, with_places, ◌+◌, ◌∙◌}
+use Rattle.aa_raw.proofs.{None, ap, arith, emptied_more, is_some, run_filled, slice_set, still_there, sym, with_places, ◌+◌, ◌∙◌}
 use Rattle.aa_raw.proofs.raw_vec.RawVec.drop_run.Goals as goal
 
 pub take-requires : goal.take-requires
@@ -10,4 +10,4 @@ pub each-preserved : goal.each-preserved
 each-preserved g c =
     let k = c.each.dropped in let old = c.args.self.now in
     c.take.ensures.after ∙ ap (λ b. with_places b (slice_set b.places (c.args.from + k) None)) c.each.invariant
-    ∙ ap (with_places old) (sym (gone_more old.places c.args.from k (omega (arith, c.requires.0, c.each-test.true))))
+    ∙ ap (with_places old) (sym (emptied_more old.places c.args.from k (omega (arith, c.requires.0, c.each-test.true))))

@@ -1,8 +1,8 @@
 use Rattle.aa_raw.proofs.{arith, kept_runs}
 use Rattle.aa_raw.proofs.raw_vec.RawVec.grow_with.Goals as goal
 
-pub take_run-requires-in-Ok-clause-there : goal.take_run-requires-in-Ok-clause-there
-take_run-requires-in-Ok-clause-there g c = grind (arith, kept_runs)
+pub take_run-requires-in-Ok-clause-filled : goal.take_run-requires-in-Ok-clause-filled
+take_run-requires-in-Ok-clause-filled g c = grind (arith, kept_runs)
 
 pub invariant_of-self : goal.invariant_of-self
 invariant_of-self g c = grind (arith, kept_runs)

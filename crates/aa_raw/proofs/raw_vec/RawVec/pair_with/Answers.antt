@@ -3,7 +3,7 @@ use Rattle.aa_raw.proofs.raw_vec.RawVec.pair_with.Goals as goal
 
 pub returns : goal.returns
 returns g c =
-    let cs = c.self.inside.row.places in let i = c.args.i in let j = c.args.j in let A = c.call_at_one_lifetime-answer in let v = A.new.x in let w = A.new.y in
+    let cs = c.self.inside.row.places in let i = c.args.i in let j = c.args.j in let A = c.call_at_one_lifetime-returned in let v = A.new.x in let w = A.new.y in
     let ne = c.requires.filled.2 in let seen : cs ≡ c.args.self.now.places = ap (λ b. b.places) c.self.view_is in
     let x_empty = c.read-x.ensures.places.1 in let y_empty = c.read-y.ensures.places.1 in
     let within_i = filled_within cs i (subst (λ ds. IsFilled ds i) (sym seen) c.requires.filled.0) in

@@ -1,4 +1,4 @@
--- What stands in places side by side is forgotten: they are room then. Assumes `Logic`.
+-- The contents of adjacent places are forgotten: they are empty then. Assumes `Logic`.
 use Rattle.aa_raw.proofs.{ !, El, Goes-dropped, Goes-ref, None, Rw, SpotsFrom, Stays, Vals, [], all_room, alloc_all, args, arith, at, closes_places, done, drop as drop_l, elτ, empties, ends_at, enter, fact, feq_i, fjoin, fjoin3, flft, free_all, froom, fsplit, fsplit3, ftrue, heard, holding, inst_fn, join, keep, length, length-drop, length-replicate, length-take, look_at, lose as drop, move, mut_Tells, mut_vals, named, nothing, of_opd, opens_places, owns, pass_all, plain, proved, qed, raw, refl, replicate, returns, rewrite, says, sets, split, stay_dropped, stay_ref, suffices, take, ty_array, types_at, uint_Tells, uint_vals, unit_lit, use1, usize, vunit, w64, walk_of, with_run, yes, ‵, ℕ, ◌$◌, ◌+◌, ◌∵◌, ◌∷◌, ◌≡◌, ◌≤◌, ◌⊑◌, ◌⊛◌}
 use Rattle.aa_raw.specs.contracts.row.Row.forget as f
 use Rattle.aa_raw.proofs.row.Row.forget.Code as code

@@ -1,4 +1,4 @@
--- The places of a row that begins where another ends are put behind its own. Assumes `Logic`.
+-- The places of a row that begins where another ends are appended to its own. Assumes `Logic`.
 use Rattle.aa_raw.proofs.{ !, El, Fml, Goes-blank, Goes-ref, Ptr, R, Rw, Spot, SpotsFrom, Stays, Vals, WpFn, [], alloc_all, ap, args, arith, closes_row, done, ends_at, enter, fact, feq_i, fjoin, fjoin3, flft, free_all, from_ptr, fsplit, fsplit3, ftrue, heard, holding, inst_fn, join, join_spots, keep, length, length-append, look_at, lose as drop, move, mut_vals, no, nothing, of_opd, opens_row, owns, pass_all, plain, prop, proved_at, ptr_add, qed, raw, refl, regoal, returns, rewrite, row_had, same_spots, says, sets, split, stay_dropped, stay_ref, subst, suffices, sym, sz, tables, types_at, unit_lit, use2, vunit, walk_of, word, ‵, ◌$◌, ◌*◌, ◌++◌, ◌+◌, ◌<◌, ◌^◌, ◌∙◌, ◌∵◌, ◌∷◌, ◌≡◌, ◌⊑◌, ◌⊛◌}
 use Rattle.aa_raw.specs.contracts.row.Row.join as f
 use Rattle.aa_raw.proofs.row.Row.join.Code as code

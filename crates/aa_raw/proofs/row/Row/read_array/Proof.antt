@@ -1,4 +1,4 @@
--- The first values are moved out as an array, and their places are room then. Assumes `Logic`.
+-- The first values are moved out as an array, and their places are empty then. Assumes `Logic`.
 use Rattle.aa_raw.proofs.{ !, El, Goes-ref, IsRun, Items, List, None, Place, Rw, Some, SpotsFrom, Stays, Val, Vals, Whole, [], after, alloc_all, ap, arith, array_args, items_out, at, at_ret, blocks, closes_places, done, empties, ends_at, enter, env, exec, fact, fat, feq_i, first, fjoin, fjoin3, fld, flft, free_all, froom, fsplit, fsplit3, ftrue, full_share, get, given, heard, holding, inst_fn, items_ty, join, keep, layout, learn, length, length-map, length-replicate, length-take, load, look, look_at, look_in, lose as drop, move, mut_Tells, mut_vals, named, nothing, number, of_opd, opens_places, owns, pass_all, pick, plain, proved, qed, raw, refl, replicate, returns, rewrite, says_two, sets, sets_last, ty_size as size, some, split, start, stay_ref, stop, sub, suffices, sym, tables, take, through, types_at, use1, values_of, walk_of, whole, with_run, ‵, ℕ, ◌$◌, ◌<◌, ◌^◌, ◌∵◌, ◌∷◌, ◌≡◌, ◌⊑◌, ◌⊛◌}
 use Rattle.aa_raw.specs.contracts.row.Row.read_array as f
 use Rattle.aa_raw.proofs.row.Row.read_array.Code as code

@@ -1,4 +1,4 @@
--- An array is put into places side by side, whatever stood there. Assumes `Logic`.
+-- An array is written into adjacent places, whatever was there. Assumes `Logic`.
 use Rattle.aa_raw.proofs.{ !, El, Goes-dropped, Goes-ref, Items, List, Rw, Some, SpotsFrom, Stays, Vals, WpFn, [], after, all_rest, all_room, alloc_all, ap, arith, array_args, assigns_last, at, at_ret, bin, blocks, closes_places, done, drop as drop_l, el_x, elτ, ends_at, ent, enter, env, exec, fact, feq_i, first, fjoin, fjoin3, fld, flft, free_all, froom, fsplit, fsplit3, ftrue, get, given, heard, holding, init, inst_fn, is, items_in, items_lawful, items_ty, join, keep, layout, learn, length, length-drop, length-map, length-take, load, look_at, look_in, lose as drop, map, move, mut_vals, no, nothing, number, of_opd, one_val, opens_places, owns, pass_all, plain, proved_at, qed, raw, refl, returns, rewrite, says, sets, size_word, spent, split, stay_dropped, stay_ref, stop, sub, subst, suffices, sym, sz, tables, take, through, ty_array, ty_size as size, types_at, uint_vals, uncapped, unit_lit, use1, use2, usize, via, vint, vunit, w64, walk_of, way_fits, whole, with_run, yes, ‵, ℕ, ◌$◌, ◌+◌, ◌<◌, ◌^◌, ◌∙◌, ◌∵◌, ◌∷◌, ◌≡◌, ◌≤◌, ◌⊑◌, ◌⊛◌}
 use Rattle.aa_raw.specs.contracts.row.Row.write_array as f
 use Rattle.aa_raw.proofs.row.Row.write_array.Code as code

@@ -3,7 +3,7 @@ use Rattle.aa_raw.proofs.Calls.{IsRun-put, run-put}
 use Rattle.aa_raw.proofs.Runs.{IsRun-nil, run-zero}
 use Rattle.aa_raw.proofs.vec.clones.put_clones.Goals as goal
 
--- Clones of elements put into the first places of a block, one after another.
+-- Clones of elements written into the first places of a block, one after another.
 module _ {X : Type 0} (clones : X → X → Type 0) (places : List (Option X)) where
   none-cloned : HoldsClones clones [] places
   none-cloned = record { filled = IsRun-nil places 0 (omega arith); each = rw (run-zero places 0) tt }

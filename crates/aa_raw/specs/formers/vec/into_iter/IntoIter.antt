@@ -1,4 +1,4 @@
--- An `IntoIter` inside a recursive type: it holds the items that are left.
+-- An `IntoIter` inside a recursive type: it holds its remaining items.
 use Rattle.std.specs.Prelude.{◌≡◌, ℕ, ◌-◌, [], List}
 use Rattle.std.specs.Option.{option_map}
 use Rattle.std.proofs.Common.{arith}
@@ -17,7 +17,7 @@ use denote.Param.Weighed.{Weighed, most, List-puts}
 use denote.Model.Placed as placed
 use Rattle.std.specs.declared.alloc.Allocator.{Ghosts}
 use Rattle.aa_raw.specs.Held.{slots, pair_recoded}
-use Rattle.aa_raw.specs.IntoIter.{Left}
+use Rattle.aa_raw.specs.IntoIter.{Remaining}
 use Rattle.aa_raw.specs.IntoIterInner.{IsBetween}
 use Rattle.aa_raw.specs.Mapped.{first_none_over, others_over, run_over, IsRun-over, IsRun-under, IsRun-once, run_held}
 use Rattle.aa_raw.specs.Places.{run}
@@ -31,7 +31,7 @@ abbrev Rest : Type 0 → Type 0
 Rest Z = ℕ × (ℕ × (ℕ × (ℕ × Z)))
 
 abbrev pub the_former : Former {0} → Type 0 → Former {0}
-the_former g Z = via (pair (list g) (const (Rest Z))) (λ X. Left (g.Of X) Z)
+the_former g Z = via (pair (list g) (const (Rest Z))) (λ X. Remaining (g.Of X) Z)
     (λ X s. (s.items, (s.capacity, (s.grown, (s.written, (s.runs, s.alloc))))))
     (λ X v. record { items = v.0; capacity = v.1.0; grown = v.1.1.0; written = v.1.1.1.0; runs = v.1.1.1.1.0; alloc = v.1.1.1.1.1 })
     (λ X s. refl) (λ X v. refl)
@@ -39,13 +39,13 @@ the_former g Z = via (pair (list g) (const (Rest Z))) (λ X. Left (g.Of X) Z)
 abbrev pub the_weighed : {g : Former {0}} → Weighed g → (Z : Type 0) → Weighed (the_former g Z)
 the_weighed w Z = record { weight = λ X μ s. most (w.weight X μ) s.items; puts = λ X μ s. List-puts w X μ s.items }
 
-pub the_empty : (Z : Type 0) → Z → Left ⊥ Z
+pub the_empty : (Z : Type 0) → Z → Remaining ⊥ Z
 the_empty Z z = record { items = []; capacity = 0; grown = 0; written = 0; runs = 0; alloc = z }
 
-abbrev pub the_items : (Z X : Type 0) → Left X Z → List X
+abbrev pub the_items : (Z X : Type 0) → Remaining X Z → List X
 the_items Z X s = s.items
 
-pub the_items_listed : (Z X : Type 0) (s : Left X Z) → listed _ (children (the_former this Z) X s) ≡ the_items Z X s
+pub the_items_listed : (Z X : Type 0) (s : Remaining X Z) → listed _ (children (the_former this Z) X s) ≡ the_items Z X s
 the_items_listed Z X s = list-listed X s.items
 
 abbrev fields : Type 0 → Former {0}
@@ -53,14 +53,14 @@ fields Z = via (pair (raw.the_former this Z) (const (ℕ × ℕ))) (λ X. Inside
 
 module _ {X Z : Type 0} where
   between_held : (v : Inside X Z) → IsBetween v → placed.held (list this) X (run v.block.places v.front (v.back - v.front)) ≡ placed.held (slots this) X v.block.places
-  between_held v w = run_held v.front (v.back - v.front) v.back v.block.places (omega (arith, w.between)) w.before w.filled w.behind
+  between_held v w = run_held v.front (v.back - v.front) v.back v.block.places (omega (arith, w.between)) w.before w.filled w.after
 
   between_once : (v : Inside X Z) → IsProp (IsBetween v)
   between_once v p q = λ i. record {
     between = le_prop p.between q.between i;
     filled = IsRun-once v.front (v.back - v.front) v.block.places p.filled q.filled i;
     before = Bool-set _ _ p.before q.before i;
-    behind = Bool-set _ _ p.behind q.behind i;
+    after = Bool-set _ _ p.after q.after i;
   }
 
 module _ {X Y Z : Type 0} (k : X → Y) (v : Inside X Z) where
@@ -69,7 +69,7 @@ module _ {X Y Z : Type 0} (k : X → Y) (v : Inside X Z) where
     between = w.between;
     filled = IsRun-over k v.front (v.back - v.front) v.block.places w.filled;
     before = first_none_over k v.front v.block.places ∙ w.before;
-    behind = others_over k v.back v.block.places ∙ w.behind;
+    after = others_over k v.back v.block.places ∙ w.after;
   }
 
   between_under : IsBetween ((fields Z).map X Y k v) → IsBetween v
@@ -77,7 +77,7 @@ module _ {X Y Z : Type 0} (k : X → Y) (v : Inside X Z) where
     between = w.between;
     filled = IsRun-under k v.front (v.back - v.front) v.block.places w.filled;
     before = sym (first_none_over k v.front v.block.places) ∙ w.before;
-    behind = sym (others_over k v.back v.block.places) ∙ w.behind;
+    after = sym (others_over k v.back v.block.places) ∙ w.after;
   }
 
 module _ (Z : RattleType) (G : Ghosts Z.Denot) (R S : RattleType) (h : R.Denot → S.Denot) where

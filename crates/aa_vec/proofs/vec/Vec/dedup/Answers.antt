@@ -1,6 +1,6 @@
 use Rattle.aa_vec.proofs.Common.{rules, Equals, Deduplicates}
-use Rattle.aa_vec.proofs.Handed.{Deduplicates-on}
-use Rattle.aa_vec.proofs.Steady.{Deduplicates_dedup}
+use Rattle.aa_vec.proofs.Forwarded.{Deduplicates-on}
+use Rattle.aa_vec.proofs.PureTests.{Deduplicates_dedup}
 use Rattle.aa_vec.proofs.vec.Vec.dedup.Goals as goal
 
 pub returns : goal.returns

@@ -1,5 +1,5 @@
 use Rattle.std.proofs.Common.{rules}
-use Rattle.aa_vec.proofs.BehindLemmas.{closing}
+use Rattle.aa_vec.proofs.TailLemmas.{closing}
 use Rattle.aa_vec.proofs.vec.Vec.drop_and_close.Goals as goal
 
 pub returns : goal.returns

@@ -1,5 +1,5 @@
 use Rattle.aa_vec.proofs.Common.{rules, TakesAt, Reads}
-use Rattle.aa_vec.proofs.Handed.{Retains-on, IsCallableInOrder-on}
+use Rattle.aa_vec.proofs.Forwarded.{Retains-on, IsCallableInOrder-on}
 use Rattle.aa_vec.proofs.Callers.{Retains_filter_reading}
 use Rattle.aa_vec.proofs.vec.Vec.retain.Goals as goal
 
@@ -9,5 +9,5 @@ retain_by-requires g c = IsCallableInOrder-on (λ q. q.0) _ (Reads g.F.FnMut) (�
 pub returns-clause-retained : goal.returns-clause-retained
 returns-clause-retained g c = (_, Retains-on (λ q. q.0) _ (Reads g.F.FnMut) (λ q x answer r y a. search rules) _ c.args.self.now _ _ c.retain_by.ensures)
 
-pub returns-clause-steady : goal.returns-clause-steady
-returns-clause-steady g c = λ test told. Retains_filter_reading _ test _ _ _ _ (returns-clause-retained g c).1 (λ x answer next y a. let s = told x answer next a.0 in (s.0, a.1, s.1))
+pub returns-clause-pure_test : goal.returns-clause-pure_test
+returns-clause-pure_test g c = λ test pure. Retains_filter_reading _ test _ _ _ _ (returns-clause-retained g c).1 (λ x answer next y a. let s = pure x answer next a.0 in (s.0, a.1, s.1))

@@ -1,9 +1,9 @@
-use Rattle.aa_vec.proofs.Common.{◌-◌, CalledAtPairMut, TakesPairMut}
-use Rattle.aa_vec.proofs.Asking.{HasChained}
+use Rattle.aa_vec.proofs.Common.{◌-◌, CalledAtPairMut, CallableAtPairMut}
+use Rattle.aa_vec.proofs.Calling.{HasChained}
 use Rattle.aa_vec.proofs.vec.dedup.distinct_run.Given as goal
 
 abbrev pub invariant-each : goal.invariant-each
-invariant-each g l = HasChained (CalledAtPairMut g.F.FnMut) (TakesPairMut g.F.FnMut) l.fn.same l.fn.elements l.kept l.same l.elements
+invariant-each g l = HasChained (CalledAtPairMut g.F.FnMut) (CallableAtPairMut g.F.FnMut) l.fn.same l.fn.elements l.kept l.same l.elements
 
 abbrev pub decreases-each : goal.decreases-each
 decreases-each g l = l.last - l.kept

@@ -1,4 +1,4 @@
 use Rattle.aa_vec.proofs.vec.dedup.same_keys.Goals as goal
 
-pub ask-second-requires : goal.ask-second-requires
-ask-second-requires g c = c.requires.1 _ _ _ c.ask-first.ensures
+pub call_on-second-requires : goal.call_on-second-requires
+call_on-second-requires g c = c.requires.1 _ _ _ c.call_on-first.ensures

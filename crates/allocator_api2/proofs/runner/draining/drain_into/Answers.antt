@@ -5,13 +5,13 @@ use Rattle.allocator_api2.proofs.runner.draining.drain_into.Goals as goal
 pub returns-then-keep : goal.returns-then-keep
 returns-then-keep g c =
     let r = c.requires.range in let f = c.take_front in let b = c.take_back in
-    let done = Drained-kept _ _ _ _ _ _ r.0 r.1 r.2 _ _ _ _ _ c.drain-items.ensures.drains f.ensures b.ensures _ c.keep_rest.ensures c.if-keep.true in
+    let done = Drained-kept _ _ _ _ _ _ r.0 r.1 r.2 _ _ _ _ _ c.drain-items.ensures.drained f.ensures b.ensures _ c.keep_rest.ensures c.if-keep.true in
     let lender = b.ensures.keeps.lender ∙ f.ensures.keeps.lender in
     search rules
 
 pub returns-else-keep : goal.returns-else-keep
 returns-else-keep g c =
     let r = c.requires.range in let f = c.take_front in let b = c.take_back in
-    let done = Drained-dropped _ _ _ _ _ _ r.0 r.1 r.2 _ _ _ _ _ c.drain-items.ensures.drains f.ensures b.ensures _ c.drop-items.ensures c.if-keep.false in
+    let done = Drained-dropped _ _ _ _ _ _ r.0 r.1 r.2 _ _ _ _ _ c.drain-items.ensures.drained f.ensures b.ensures _ c.drop-items.ensures c.if-keep.false in
     let lender = b.ensures.keeps.lender ∙ f.ensures.keeps.lender in
     search rules

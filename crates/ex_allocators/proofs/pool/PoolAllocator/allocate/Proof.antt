@@ -1,5 +1,5 @@
 -- A block comes from the shelf, or else from the inner allocator. Assumes `Logic`.
-use Rattle.ex_allocators.proofs.Pooling.{◌≡◌, [], ◌∷◌, refl, w64, true, false, Ok, Err, block_if_ok, Al, seen, token, Answer, answer_val, Answer-typed, Answer-Ok, Answer-err, Takes, at_takes, Answered, Takes-goes, Takes-gives, answers, after, front, arm_body, proved, inst_fn, Fn, Body, Ty, Val, ftrue, flft, fex, ent, emp, ◌⊑◌, ⊑_trans, fact, tables, size, align, capped, Env, Wp, after_seq, at_return, alloc_all, pass_all, free_all, look_at, get, get_in, get_tag, through, sets, sets_last, lands_as, env, ‵, raw, ◌⊛◌, later, ◌$◌, ◌∵◌, !, qed, move, keep, use0, use1, use2, split, join, fsplit, fjoin, await, done, prop, at_ret, any_q, Sq, Post, suffices, group, fpack, sem, vrt, in_variant, agg, whole, stop, fld, addr, lit, no_more, and_then, of_opd, first, switches_on, exec, returns, returns_within, enter, uint_vals, uint_Tells, owns, block_ptr, shr_vals, types_at, nothing, heard, calls_at, triple_of, framed, walk_of, ends_at, inner_of, dropped, gone, trues, spent, generics, shelf_of, Shelved, hands_shelf, reaches}
+use Rattle.ex_allocators.proofs.Pooling.{◌≡◌, [], ◌∷◌, refl, w64, true, false, Ok, Err, block_if_ok, Al, seen, token, Answer, answer_val, Answer-typed, Answer-Ok, Answer-err, Takes, at_takes, Answered, Takes-goes, Takes-gives, answers, after, front, arm_body, proved, inst_fn, Fn, Body, Ty, Val, ftrue, flft, fex, ent, emp, ◌⊑◌, ⊑_trans, fact, tables, size, align, capped, Env, Wp, after_seq, at_return, alloc_all, pass_all, free_all, look_at, get, get_in, get_tag, through, sets, sets_last, lands_as, env, ‵, raw, ◌⊛◌, later, ◌$◌, ◌∵◌, !, qed, move, keep, use0, use1, use2, split, join, fsplit, fjoin, await, done, prop, at_ret, any_q, Sq, Post, suffices, group, fpack, sem, vrt, in_variant, agg, whole, stop, fld, addr, lit, no_more, and_then, of_opd, first, switches_on, exec, returns, returns_within, enter, uint_vals, uint_Tells, owns, block_ptr, shr_vals, types_at, nothing, heard, calls_at, triple_of, framed, walk_of, ends_at, inner_of, dropped, gone, trues, spent, generics, shelf_of, Shelved, passes_shelf, reaches}
 use Rattle.ex_allocators.proofs.shelf.Shelf.take.Met.{met}
 use Rattle.ex_allocators.specs.contracts.shelf.Shelf.take as take
 use Rattle.ex_allocators.specs.contracts.pool.PoolAllocator.allocate as F
@@ -32,11 +32,11 @@ allocate_spec 𝓤 𝓛 𝓜 𝓡 wired B L g d d' inner drops =
     let En : Env 𝓤 𝓛.H = env fn.locals l in let body : Body = fn.body in
     let Then : Post 𝓤 𝓛.H = any_q (after_seq 𝓤 𝓛.H (Wp 𝓤 𝓛.H 𝓣.C 𝓣.Λ En (after 3 body) (at_return 𝓤 𝓛.H En (Wk.post y))) (at_return 𝓤 𝓛.H En (Wk.post y))) in
     sets ! (addr ! (through ! refl (fld ! refl (stop !)))) refl (tt, tt) $
-    use2 𝓛 (raw (S.pre asked)) (hands_shelf Z 𝓛 κ lasts (take.signature B g d d') asked.0 (fact 𝓤 Fits) (λ le. Takes-goes K 𝓛 𝓜.mem 𝓡.returns κ q spot heap le n al τ fits.0 fits.1 n_fits al_fits)) $
+    use2 𝓛 (raw (S.pre asked)) (passes_shelf Z 𝓛 κ lasts (take.signature B g d d') asked.0 (fact 𝓤 Fits) (λ le. Takes-goes K 𝓛 𝓜.mem 𝓡.returns κ q spot heap le n al τ fits.0 fits.1 n_fits al_fits)) $
     calls_at ! (framed 𝓤 𝓛.H 𝓜 𝓣) S (met 𝓤 𝓛 𝓜 𝓡 (code.calls-ex_allocators::shelf::Shelf::take 𝓡.env wired) B L g d d' inner drops) asked
     (and_then ! (get ! refl) (and_then ! (get ! refl) (and_then ! (get ! refl) (no_more !)))) (λ v.
     use1 𝓛 (later (raw (Answered K 𝓛 𝓜.mem 𝓡.returns heap τ v) ⊛ ‵ (flft κ q))) (Takes-gives K 𝓛 𝓜.mem 𝓡.returns κ q spot heap n al τ v) $ await ! tt $ split ! $
-    -- [the answer; the token; the `&` to the inner allocator; the other token]
+    -- [the result; the token; the `&` to the inner allocator; the other token]
     answers K ! 𝓜.mem 𝓡.returns heap τ v
     (λ b o granted. lands_as ! granted refl (Answer-typed true b o) $
     first ! $ switches_on ! (get_tag ! (vrt ! refl (fld ! refl (stop !))) (whole !)) $ exec ! 𝓣.C 𝓣.Λ En (arm_body 0 (front (after 2 body))) Then $
@@ -49,7 +49,7 @@ allocate_spec 𝓤 𝓛 𝓜 𝓡 wired B L g d d' inner drops =
     use2 𝓛 (raw (T.pre taken)) (Takes-goes Z 𝓛 𝓜.mem 𝓡.returns κ q at heap lasts n al τ fits.0 fits.1 n_fits al_fits) $
     calls_at ! (framed 𝓤 𝓛.H 𝓜 𝓣) T (inner.allocate d') taken (and_then ! (get ! refl) (and_then ! (get ! refl) (and_then ! (get ! refl) (no_more !)))) (λ w.
     use1 𝓛 (later (raw (Answered Z 𝓛 𝓜.mem 𝓡.returns heap τ w) ⊛ ‵ (flft κ q))) (Takes-gives Z 𝓛 𝓜.mem 𝓡.returns κ q at heap n al τ w) $ await ! tt $ split ! $
-    -- [the answer; the token; the other token]
+    -- [the result; the token; the other token]
     answers Z ! 𝓜.mem 𝓡.returns heap τ w
     (λ b o granted. lands_as ! granted refl (Answer-typed true b o) $ returns_within ! (Wk.post y) refl (look_at ! 0 refl) $ free_all ! refl $
     move ! (1 ∷ []) $ fpack ! ((size τ ≡ size τ) × (align τ ≡ align τ)) (λ _. token Z heap τ (block_ptr b o)) (refl, refl) $

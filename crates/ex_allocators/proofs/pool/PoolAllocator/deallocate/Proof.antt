@@ -1,5 +1,5 @@
--- The block goes to the shelf, or else to the inner allocator. Assumes `Logic`.
-use Rattle.ex_allocators.proofs.Pooling.{◌≡◌, ℕ, Bool, List, [], ◌∷◌, refl, ap, w64, false, subst, sym, ◌∙◌, owned_block, bool, Al, seen, token, Gives, at_gives, Gives-goes, Gives-Gives, after, proved, inst_fn, Fn, Body, Val, vunit, vint, vptr, Fml, ftrue, flft, froom, fwand, sep, fst∗, never, ◌⊑◌, ⊑_trans, fact, tables, Dv, dv_self, size, align, capped, Env, WpFn, alloc_all, pass_all, free_all, look_at, get, through, sets, lands_as, env, ‵, raw, ◌⊛◌, later, ◌$◌, ◌∵◌, !, qed, move, keep, drop, use0, use1, split, split3, join, fsplit, feq_i, feq_l, await, done, prop, at_ret, Sq, given, learn, suffices, group, regoal, fpick, rewrite, sem, stop, fld, addr, no_more, and_then, of_opd, first, branches, skips, exec, returns, returns_within, enter, unit_lit, uint_vals, uint_Tells, owns, Ptr, block_ptr, null_ptr, ptr_val, in_a_block, rawptr_vals, rawptr_Tells, shr_vals, types_at, nothing, only, heard, calls_at, triple_of, framed, walk_of, ends_at, inner_of, dropped, gone, trues, spent, ended, block_unless, generics, shelf_of, Shelved, hands_shelf, reaches}
+-- The block is put on the shelf, or else deallocated with the inner allocator. Assumes `Logic`.
+use Rattle.ex_allocators.proofs.Pooling.{◌≡◌, ℕ, Bool, List, [], ◌∷◌, refl, ap, w64, false, subst, sym, ◌∙◌, owned_block, bool, Al, seen, token, Gives, at_gives, Gives-goes, Gives-Gives, after, proved, inst_fn, Fn, Body, Val, vunit, vint, vptr, Fml, ftrue, flft, froom, fwand, sep, fst∗, never, ◌⊑◌, ⊑_trans, fact, tables, Dv, dv_self, size, align, capped, Env, WpFn, alloc_all, pass_all, free_all, look_at, get, through, sets, lands_as, env, ‵, raw, ◌⊛◌, later, ◌$◌, ◌∵◌, !, qed, move, keep, drop, use0, use1, split, split3, join, fsplit, feq_i, feq_l, await, done, prop, at_ret, Sq, given, learn, suffices, group, regoal, fpick, rewrite, sem, stop, fld, addr, no_more, and_then, of_opd, first, branches, skips, exec, returns, returns_within, enter, unit_lit, uint_vals, uint_Tells, owns, Ptr, block_ptr, null_ptr, ptr_val, in_a_block, rawptr_vals, rawptr_Tells, shr_vals, types_at, nothing, only, heard, calls_at, triple_of, framed, walk_of, ends_at, inner_of, dropped, gone, trues, spent, ended, block_unless, generics, shelf_of, Shelved, passes_shelf, reaches}
 use lib.Ieee.Bits.{is_false}
 use Rattle.ex_allocators.proofs.shelf.Shelf.put.Met.{met}
 use Rattle.ex_allocators.specs.contracts.shelf.Shelf.put as put
@@ -34,7 +34,7 @@ deallocate_spec 𝓤 𝓛 𝓜 𝓡 wired B L g d d' inner drops =
     let S = triple_of 𝓛 (put.signature B g d d') (put.spec B g d d' 𝓛 𝓜.mem 𝓡.returns) in let puts : S.Ghost = at_gives K 𝓛 𝓜.mem 𝓡.returns κ q spot heap b o n al τ in
     let Unless : Bool → Fml = λ x. block_unless x (token K heap) τ (block_ptr b o) in
     sets ! (addr ! (through ! refl (fld ! refl (stop !)))) refl (tt, tt) $ fsplit ! $ group ! 4 $
-    use1 𝓛 (raw (S.pre puts)) (hands_shelf Z 𝓛 κ lasts (put.signature B g d d') puts.0 (sep 𝓤 (fact 𝓤 Fits) (sem 𝓛 (Unless false))) (λ le.
+    use1 𝓛 (raw (S.pre puts)) (passes_shelf Z 𝓛 κ lasts (put.signature B g d d') puts.0 (sep 𝓤 (fact 𝓤 Fits) (sem 𝓛 (Unless false))) (λ le.
     Gives-goes K 𝓛 𝓜.mem 𝓡.returns κ q spot heap le b o n al τ fits.0 fits.1 n_fits al_fits)) $
     calls_at ! (framed 𝓤 𝓛.H 𝓜 𝓣) S (met 𝓤 𝓛 𝓜 𝓡 (code.calls-ex_allocators::shelf::Shelf::put 𝓡.env wired) B L g d d' inner drops) puts
     (and_then ! (get ! refl) (and_then ! (get ! refl) (and_then ! (get ! refl) (and_then ! (get ! refl) (no_more !))))) (λ v.

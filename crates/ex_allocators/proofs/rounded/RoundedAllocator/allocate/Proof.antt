@@ -1,8 +1,8 @@
--- A wider block is asked for, and its first bytes are handed out. Assumes `Logic`.
-use Rattle.ex_allocators.proofs.Widening.{◌≡◌, ℕ, [], ◌∷◌, refl, ap, w64, true, false, Ok, Err, block_if_ok, Al, seen, token, Answer, answer_val, Answer-typed, Answer-Ok, Answer-err, Takes, at_takes, Answered, Takes-goes, Takes-gives, answers, proved, inst_fn, Fn, Ty, Val, ftrue, fsep, flft, fex, froom, fwand, usize, id⊢, ent, emp, ◌⊑◌, ⊑_trans, fact, tables, size, align, capped, alloc_all, pass_all, free_all, look_at, get, through, sets, lands_as, ‵, raw, ◌⊛◌, some, later, ◌$◌, ◌∵◌, !, qed, move, keep, drop, use0, use1, use2, split, join, pick, fsplit, fjoin, fpack, feq_l, flt_l, await, done, prop, Sq, suffices, group, sem, stop, fld, addr, no_more, and_then, returns, enter, uint_vals, uint_Tells, owns, block_ptr, shr_vals, types_at, nothing, only, heard, calls_at, framed, walk_of, ends_at, inner_of, dropped, gone, trues, spent, generics, reaches, Lasts, lasts, IsRoom, IsWide, wide_right, room_align, rounds, wider, is_sized, is_lined, is_wide, is_lent, Rooms, rooms, rooms_go, Aligns, aligns, aligns_go}
-use Rattle.ex_allocators.specs.contracts.rounded.room_of as room_of
+-- A wider block is requested, and its first bytes are returned. Assumes `Logic`.
+use Rattle.ex_allocators.proofs.Widening.{◌≡◌, ℕ, [], ◌∷◌, refl, ap, w64, true, false, Ok, Err, block_if_ok, Al, seen, token, Answer, answer_val, Answer-typed, Answer-Ok, Answer-err, Takes, at_takes, Answered, Takes-goes, Takes-gives, answers, proved, inst_fn, Fn, Ty, Val, ftrue, fsep, flft, fex, froom, fwand, usize, id⊢, ent, emp, ◌⊑◌, ⊑_trans, fact, tables, size, align, capped, alloc_all, pass_all, free_all, look_at, get, through, sets, lands_as, ‵, raw, ◌⊛◌, some, later, ◌$◌, ◌∵◌, !, qed, move, keep, drop, use0, use1, use2, split, join, pick, fsplit, fjoin, fpack, feq_l, flt_l, await, done, prop, Sq, suffices, group, sem, stop, fld, addr, no_more, and_then, returns, enter, uint_vals, uint_Tells, owns, block_ptr, shr_vals, types_at, nothing, only, heard, calls_at, framed, walk_of, ends_at, inner_of, dropped, gone, trues, spent, generics, reaches, Lasts, lasts, IsRoundedSize, IsWide, wide_right, rounded_align, rounds, wider, is_sized, is_lined, is_wide, has_part, Rooms, rooms, rooms_go, Aligns, aligns, aligns_go}
+use Rattle.ex_allocators.specs.contracts.rounded.rounded_size as rounded_size
 use Rattle.ex_allocators.specs.contracts.rounded.align_for as align_for
-use Rattle.ex_allocators.proofs.rounded.room_of.Met.{met as rooms_met}
+use Rattle.ex_allocators.proofs.rounded.rounded_size.Met.{met as rooms_met}
 use Rattle.ex_allocators.proofs.rounded.align_for.Met.{met as aligns_met}
 use Rattle.ex_allocators.specs.contracts.rounded.RoundedAllocator.allocate as F
 use Rattle.ex_allocators.proofs.rounded.RoundedAllocator.allocate.Statement.{statement}
@@ -32,23 +32,23 @@ allocate_spec 𝓤 𝓛 𝓜 𝓡 wired B L g d d' inner drops =
     -- [the `&` to the inner allocator; its token; the other token]
     enter ! _ _ _ _ _ $ alloc_all ! (λ l. pass_all ! refl ((tt, tt), ((tt, record { fits = n_fits }), ((tt, record { fits = al_fits }), tt))) $
     use0 𝓛 (raw (R.pre asks)) (rooms_go 𝓛 𝓜.mem 𝓡.returns n n_fits) $
-    calls_at ! (framed 𝓤 𝓛.H 𝓜 𝓣) R (rooms_met 𝓤 𝓛 𝓜 𝓡 (code.calls-ex_allocators::rounded::room_of 𝓡.env wired)) asks (and_then ! (get ! refl) (no_more !)) (λ v.
-    use1 𝓛 (later (some (λ (m : ℕ). (‵ ftrue ⊛ ‵ (usize.own_val m (v ∷ []))) ⊛ some (λ (ls : Lasts room_of.ended tt asks.0.3). ‵ (lasts room_of.ended tt asks.0.3 ls) ⊛ raw (fact 𝓤 (IsRoom n m)))))) (id⊢ 𝓤 (R.post asks v)) $
-    await ! tt $ pick ! (λ m. split ! $ move ! (1 ∷ []) $ pick ! (λ _. split ! $ drop ! $ heard ! (IsRoom n m) (λ roomy. split ! $ drop ! $ fsplit ! $ feq_l ! (λ e. flt_l ! (λ m_fits. lands_as ! (ap only e) refl (tt, record { fits = m_fits }) $
+    calls_at ! (framed 𝓤 𝓛.H 𝓜 𝓣) R (rooms_met 𝓤 𝓛 𝓜 𝓡 (code.calls-ex_allocators::rounded::rounded_size 𝓡.env wired)) asks (and_then ! (get ! refl) (no_more !)) (λ v.
+    use1 𝓛 (later (some (λ (m : ℕ). (‵ ftrue ⊛ ‵ (usize.own_val m (v ∷ []))) ⊛ some (λ (ls : Lasts rounded_size.ended tt asks.0.3). ‵ (lasts rounded_size.ended tt asks.0.3 ls) ⊛ raw (fact 𝓤 (IsRoundedSize n m)))))) (id⊢ 𝓤 (R.post asks v)) $
+    await ! tt $ pick ! (λ m. split ! $ move ! (1 ∷ []) $ pick ! (λ _. split ! $ drop ! $ heard ! (IsRoundedSize n m) (λ roomy. split ! $ drop ! $ fsplit ! $ feq_l ! (λ e. flt_l ! (λ m_fits. lands_as ! (ap only e) refl (tt, record { fits = m_fits }) $
     use0 𝓛 (raw (S.pre asks')) (aligns_go 𝓛 𝓜.mem 𝓡.returns n al n_fits al_fits) $
     calls_at ! (framed 𝓤 𝓛.H 𝓜 𝓣) S (aligns_met 𝓤 𝓛 𝓜 𝓡 (code.calls-ex_allocators::rounded::align_for 𝓡.env wired)) asks' (and_then ! (get ! refl) (and_then ! (get ! refl) (no_more !))) (λ v'.
-    use1 𝓛 (later (some (λ (k : ℕ). (‵ ftrue ⊛ ‵ (usize.own_val k (v' ∷ []))) ⊛ some (λ (ls : Lasts align_for.ended tt asks'.0.3). ‵ (lasts align_for.ended tt asks'.0.3 ls) ⊛ raw (fact 𝓤 (k ≡ room_align n al)))))) (id⊢ 𝓤 (S.post asks' v')) $
-    await ! tt $ pick ! (λ k. split ! $ move ! (1 ∷ []) $ pick ! (λ _. split ! $ drop ! $ heard ! (k ≡ room_align n al) (λ lined. split ! $ drop ! $ fsplit ! $ feq_l ! (λ e'. flt_l ! (λ k_fits. lands_as ! (ap only e') refl (tt, record { fits = k_fits }) $
+    use1 𝓛 (later (some (λ (k : ℕ). (‵ ftrue ⊛ ‵ (usize.own_val k (v' ∷ []))) ⊛ some (λ (ls : Lasts align_for.ended tt asks'.0.3). ‵ (lasts align_for.ended tt asks'.0.3 ls) ⊛ raw (fact 𝓤 (k ≡ rounded_align n al)))))) (id⊢ 𝓤 (S.post asks' v')) $
+    await ! tt $ pick ! (λ k. split ! $ move ! (1 ∷ []) $ pick ! (λ _. split ! $ drop ! $ heard ! (k ≡ rounded_align n al) (λ lined. split ! $ drop ! $ fsplit ! $ feq_l ! (λ e'. flt_l ! (λ k_fits. lands_as ! (ap only e') refl (tt, record { fits = k_fits }) $
     let σ : Ty = wider τ m (rounds n) in
     let T = Takes Z 𝓛 𝓜.mem 𝓡.returns in let taken : T.Ghost = at_takes Z 𝓛 𝓜.mem 𝓡.returns κ q at heap m k σ in
     sets ! (addr ! (through ! refl (fld ! refl (stop !)))) refl (tt, tt) $
     use2 𝓛 (raw (T.pre taken)) (Takes-goes Z 𝓛 𝓜.mem 𝓡.returns κ q at heap lasts' m k σ (is_sized 𝓛 τ n al m k fits roomy lined (rounds n) refl) (is_lined 𝓛 τ n al m k fits roomy lined (rounds n) refl) m_fits k_fits) $
     calls_at ! (framed 𝓤 𝓛.H 𝓜 𝓣) T (inner.allocate d') taken (and_then ! (get ! refl) (and_then ! (get ! refl) (and_then ! (get ! refl) (no_more !)))) (λ w.
     use1 𝓛 (later (raw (Answered Z 𝓛 𝓜.mem 𝓡.returns heap σ w) ⊛ ‵ (flft κ q))) (Takes-gives Z 𝓛 𝓜.mem 𝓡.returns κ q at heap m k σ w) $ await ! tt $ split ! $
-    -- [the answer; the token; the other token]
+    -- [the result; the token; the other token]
     answers Z ! 𝓜.mem 𝓡.returns heap σ w
     (λ b o granted. lands_as ! granted refl (Answer-typed true b o) $ returns ! (look_at ! 0 refl) $ free_all ! refl $
-    use1 𝓛 (‵ (froom τ b o) ⊛ ‵ (fwand (froom τ b o) (froom σ b o))) (is_lent 𝓛 τ n al m k fits roomy lined (rounds n) refl b o) $ split ! $
+    use1 𝓛 (‵ (froom τ b o) ⊛ ‵ (fwand (froom τ b o) (froom σ b o))) (has_part 𝓛 τ n al m k fits roomy lined (rounds n) refl b o) $ split ! $
     move ! (1 ∷ 2 ∷ []) $ fjoin ! $
     fpack ! (IsWide τ σ) (λ _. fsep (fwand (froom τ b o) (froom σ b o)) (token Z heap σ (block_ptr b o))) (is_wide 𝓛 τ n al m k fits roomy lined (rounds n) refl) $
     fpack ! Ty (λ ρ. fex (IsWide τ ρ) (λ _. fsep (fwand (froom τ b o) (froom ρ b o)) (token Z heap ρ (block_ptr b o)))) σ $ move ! (1 ∷ 0 ∷ []) $ fjoin ! $

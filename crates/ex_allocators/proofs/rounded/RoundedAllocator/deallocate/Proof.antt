@@ -1,8 +1,8 @@
--- The block that was asked for goes back to the inner allocator. Assumes `Logic`.
-use Rattle.ex_allocators.proofs.Widening.{◌≡◌, ℕ, ◌∙◌, sym, subst, List, [], ◌∷◌, refl, ap, w64, Al, seen, token, Gives, at_gives, Gives-goes, Gives-Gives, proved, inst_fn, Fn, Val, vunit, vint, vptr, ftrue, flft, froom, usize, fst∗, never, apply∗, id⊢, ◌⊑◌, ⊑_trans, fact, tables, size, align, capped, WpFn, alloc_all, pass_all, free_all, look_at, get, through, sets, lands_as, ‵, raw, ◌⊛◌, some, later, ◌$◌, ◌∵◌, !, qed, move, keep, drop, use0, use1, use2, split, split3, join, pick, fsplit, feq_i, feq_l, flt_l, await, done, prop, given, learn, suffices, group, regoal, fpick, sem, stop, fld, addr, no_more, and_then, of_opd, returns, enter, unit_lit, uint_vals, uint_Tells, owns, Ptr, block_ptr, null_ptr, ptr_val, in_a_block, rawptr_vals, rawptr_Tells, shr_vals, types_at, nothing, only, heard, calls_at, framed, walk_of, ends_at, inner_of, dropped, gone, trues, spent, generics, reaches, owned_block, Lasts, lasts, IsRoom, wide_right, room_align, one_room, Rooms, rooms, rooms_go, Aligns, aligns, aligns_go}
-use Rattle.ex_allocators.specs.contracts.rounded.room_of as room_of
+-- The wider block is deallocated with the inner allocator. Assumes `Logic`.
+use Rattle.ex_allocators.proofs.Widening.{◌≡◌, ℕ, ◌∙◌, sym, subst, List, [], ◌∷◌, refl, ap, w64, Al, seen, token, Gives, at_gives, Gives-goes, Gives-Gives, proved, inst_fn, Fn, Val, vunit, vint, vptr, ftrue, flft, froom, usize, fst∗, never, apply∗, id⊢, ◌⊑◌, ⊑_trans, fact, tables, size, align, capped, WpFn, alloc_all, pass_all, free_all, look_at, get, through, sets, lands_as, ‵, raw, ◌⊛◌, some, later, ◌$◌, ◌∵◌, !, qed, move, keep, drop, use0, use1, use2, split, split3, join, pick, fsplit, feq_i, feq_l, flt_l, await, done, prop, given, learn, suffices, group, regoal, fpick, sem, stop, fld, addr, no_more, and_then, of_opd, returns, enter, unit_lit, uint_vals, uint_Tells, owns, Ptr, block_ptr, null_ptr, ptr_val, in_a_block, rawptr_vals, rawptr_Tells, shr_vals, types_at, nothing, only, heard, calls_at, framed, walk_of, ends_at, inner_of, dropped, gone, trues, spent, generics, reaches, owned_block, Lasts, lasts, IsRoundedSize, wide_right, rounded_align, one_rounded_size, Rooms, rooms, rooms_go, Aligns, aligns, aligns_go}
+use Rattle.ex_allocators.specs.contracts.rounded.rounded_size as rounded_size
 use Rattle.ex_allocators.specs.contracts.rounded.align_for as align_for
-use Rattle.ex_allocators.proofs.rounded.room_of.Met.{met as rooms_met}
+use Rattle.ex_allocators.proofs.rounded.rounded_size.Met.{met as rooms_met}
 use Rattle.ex_allocators.proofs.rounded.align_for.Met.{met as aligns_met}
 use Rattle.ex_allocators.specs.contracts.rounded.RoundedAllocator.deallocate as F
 use Rattle.ex_allocators.proofs.rounded.RoundedAllocator.deallocate.Statement.{statement}
@@ -31,19 +31,19 @@ deallocate_spec 𝓤 𝓛 𝓜 𝓡 wired B L g d d' inner drops =
     -- [the `&` to the inner allocator; its token; the block; the other token]
     enter ! _ _ _ _ _ $ alloc_all ! (λ l. pass_all ! refl ((tt, tt), ((tt, tt), ((tt, record { fits = n_fits }), ((tt, record { fits = al_fits }), tt)))) $
     use0 𝓛 (raw (R.pre asks)) (rooms_go 𝓛 𝓜.mem 𝓡.returns n n_fits) $
-    calls_at ! (framed 𝓤 𝓛.H 𝓜 𝓣) R (rooms_met 𝓤 𝓛 𝓜 𝓡 (code.calls-ex_allocators::rounded::room_of 𝓡.env wired)) asks (and_then ! (get ! refl) (no_more !)) (λ v.
-    use1 𝓛 (later (some (λ (m : ℕ). (‵ ftrue ⊛ ‵ (usize.own_val m (v ∷ []))) ⊛ some (λ (ls : Lasts room_of.ended tt asks.0.3). ‵ (lasts room_of.ended tt asks.0.3 ls) ⊛ raw (fact 𝓤 (IsRoom n m)))))) (id⊢ 𝓤 (R.post asks v)) $
-    await ! tt $ pick ! (λ m. split ! $ move ! (1 ∷ []) $ pick ! (λ _. split ! $ drop ! $ heard ! (IsRoom n m) (λ roomy. split ! $ drop ! $ fsplit ! $ feq_l ! (λ e. flt_l ! (λ m_fits. lands_as ! (ap only e) refl (tt, record { fits = m_fits }) $
+    calls_at ! (framed 𝓤 𝓛.H 𝓜 𝓣) R (rooms_met 𝓤 𝓛 𝓜 𝓡 (code.calls-ex_allocators::rounded::rounded_size 𝓡.env wired)) asks (and_then ! (get ! refl) (no_more !)) (λ v.
+    use1 𝓛 (later (some (λ (m : ℕ). (‵ ftrue ⊛ ‵ (usize.own_val m (v ∷ []))) ⊛ some (λ (ls : Lasts rounded_size.ended tt asks.0.3). ‵ (lasts rounded_size.ended tt asks.0.3 ls) ⊛ raw (fact 𝓤 (IsRoundedSize n m)))))) (id⊢ 𝓤 (R.post asks v)) $
+    await ! tt $ pick ! (λ m. split ! $ move ! (1 ∷ []) $ pick ! (λ _. split ! $ drop ! $ heard ! (IsRoundedSize n m) (λ roomy. split ! $ drop ! $ fsplit ! $ feq_l ! (λ e. flt_l ! (λ m_fits. lands_as ! (ap only e) refl (tt, record { fits = m_fits }) $
     use0 𝓛 (raw (S.pre asks')) (aligns_go 𝓛 𝓜.mem 𝓡.returns n al n_fits al_fits) $
     calls_at ! (framed 𝓤 𝓛.H 𝓜 𝓣) S (aligns_met 𝓤 𝓛 𝓜 𝓡 (code.calls-ex_allocators::rounded::align_for 𝓡.env wired)) asks' (and_then ! (get ! refl) (and_then ! (get ! refl) (no_more !))) (λ v'.
-    use1 𝓛 (later (some (λ (k : ℕ). (‵ ftrue ⊛ ‵ (usize.own_val k (v' ∷ []))) ⊛ some (λ (ls : Lasts align_for.ended tt asks'.0.3). ‵ (lasts align_for.ended tt asks'.0.3 ls) ⊛ raw (fact 𝓤 (k ≡ room_align n al)))))) (id⊢ 𝓤 (S.post asks' v')) $
-    await ! tt $ pick ! (λ k. split ! $ move ! (1 ∷ []) $ pick ! (λ _. split ! $ drop ! $ heard ! (k ≡ room_align n al) (λ lined. split ! $ drop ! $ fsplit ! $ feq_l ! (λ e'. flt_l ! (λ k_fits. lands_as ! (ap only e') refl (tt, record { fits = k_fits }) $
+    use1 𝓛 (later (some (λ (k : ℕ). (‵ ftrue ⊛ ‵ (usize.own_val k (v' ∷ []))) ⊛ some (λ (ls : Lasts align_for.ended tt asks'.0.3). ‵ (lasts align_for.ended tt asks'.0.3 ls) ⊛ raw (fact 𝓤 (k ≡ rounded_align n al)))))) (id⊢ 𝓤 (S.post asks' v')) $
+    await ! tt $ pick ! (λ k. split ! $ move ! (1 ∷ []) $ pick ! (λ _. split ! $ drop ! $ heard ! (k ≡ rounded_align n al) (λ lined. split ! $ drop ! $ fsplit ! $ feq_l ! (λ e'. flt_l ! (λ k_fits. lands_as ! (ap only e') refl (tt, record { fits = k_fits }) $
     move ! (2 ∷ []) $ fsplit ! $ move ! (1 ∷ []) $ fpick ! (λ σ. fpick ! (λ wide. fsplit ! $ move ! (2 ∷ 0 ∷ []) $
     use2 𝓛 (‵ (froom σ b o)) (apply∗ 𝓤 (𝓛.H.room τ b o) (𝓛.H.room σ b o)) $
     -- [its room; its right; the `&` to the inner allocator; its token; the other token]
     sets ! (addr ! (through ! refl (fld ! refl (stop !)))) refl (tt, tt) $ group ! 4 $
     let G = Gives Z 𝓛 𝓜.mem 𝓡.returns in let give : G.Ghost = at_gives Z 𝓛 𝓜.mem 𝓡.returns κ q at heap b o m k σ in
-    use1 𝓛 (raw (G.pre give)) (Gives-goes Z 𝓛 𝓜.mem 𝓡.returns κ q at heap lasts' b o m k σ (one_room n (capped (size σ)) m (subst (λ (j : ℕ). IsRoom j (capped (size σ))) fits.0 wide.0) roomy) (wide.1 ∙ ((λ i. room_align (fits.0 i) (fits.1 i)) ∙ sym lined)) m_fits k_fits) $
+    use1 𝓛 (raw (G.pre give)) (Gives-goes Z 𝓛 𝓜.mem 𝓡.returns κ q at heap lasts' b o m k σ (one_rounded_size n (capped (size σ)) m (subst (λ (j : ℕ). IsRoundedSize j (capped (size σ))) fits.0 wide.0) roomy) (wide.1 ∙ ((λ i. rounded_align (fits.0 i) (fits.1 i)) ∙ sym lined)) m_fits k_fits) $
     calls_at ! (framed 𝓤 𝓛.H 𝓜 𝓣) G (inner.deallocate d') give (and_then ! (get ! refl) (and_then ! (get ! refl) (and_then ! (get ! refl) (and_then ! (get ! refl) (no_more !))))) (λ u.
     use1 𝓛 (later (given (u ≡ vunit) (‵ (flft κ q)))) (Gives-Gives Z 𝓛 𝓜.mem 𝓡.returns κ q at heap b o m k σ u) $ await ! tt $ learn ! (λ freed. lands_as ! freed refl (tt, tt) $
     sets ! (of_opd ! (unit_lit !)) refl (tt, tt) $ returns ! (look_at ! 0 refl) $ free_all ! refl $

@@ -1,4 +1,4 @@
--- The inner allocator is asked for a block for two. Assumes `Logic`.
+-- A block for two is requested from the inner allocator. Assumes `Logic`.
 use Rattle.ex_allocators.proofs.Spacing.{◌≡◌, ◌+◌, ◌<◌, ◌^◌, ◌*◌, ◌-◌, arith, [], ◌∷◌, refl, w64, true, false, Ok, Err, block_if_ok, Al, seen, token, Answer, answer_val, Answer-typed, Answer-Ok, Answer-err, Takes, at_takes, Answered, Takes-goes, Takes-gives, answers, after, proved, inst_fn, Fn, Body, Ty, ty_array, Val, ftrue, fsep, flft, froom, fwand, ent, emp, ◌⊑◌, ⊑_trans, fact, tables, size, align, capped, Env, alloc_all, pass_all, free_all, look_at, get, through, sets, lands_as, env, ‵, raw, ◌⊛◌, later, ◌$◌, ◌∵◌, !, qed, move, keep, use0, use1, use2, split, join, fsplit, fjoin, await, done, prop, at_ret, Sq, suffices, group, fpack, sem, agg, stop, fld, addr, lit, no_more, and_then, first, branches, skips, exec, returns, returns_within, enter, bin, neg_lit, uint_vals, uint_Tells, owns, block_ptr, shr_vals, types_at, nothing, heard, calls_at, framed, walk_of, ends_at, inner_of, dropped, gone, trues, spent, generics, reaches, tiny, doubled, halves, spaced, nltb→le}
 use Rattle.ex_allocators.specs.contracts.spaced.SpacedAllocator.allocate as F
 use Rattle.ex_allocators.proofs.spaced.SpacedAllocator.allocate.Statement.{statement}
@@ -39,7 +39,7 @@ allocate_spec 𝓤 𝓛 𝓜 𝓡 wired B L g d d' inner drops =
     use2 𝓛 (raw (T.pre taken)) (Takes-goes Z 𝓛 𝓜.mem 𝓡.returns κ q at heap lasts (n + n) al σ two.0 fits.1 two.1 al_fits) $
     calls_at ! (framed 𝓤 𝓛.H 𝓜 𝓣) T (inner.allocate d') taken (and_then ! (get ! refl) (and_then ! (get ! refl) (and_then ! (get ! refl) (no_more !)))) (λ w.
     use1 𝓛 (later (raw (Answered Z 𝓛 𝓜.mem 𝓡.returns heap σ w) ⊛ ‵ (flft κ q))) (Takes-gives Z 𝓛 𝓜.mem 𝓡.returns κ q at heap (n + n) al σ w) $ await ! tt $ split ! $
-    -- [the answer; the token; the other token]
+    -- [the result; the token; the other token]
     answers Z ! 𝓜.mem 𝓡.returns heap σ w
     (λ b o granted. lands_as ! granted refl (Answer-typed true b o) $ returns ! (look_at ! 0 refl) $ free_all ! refl $
     -- [room for two; the right to free it; the token; the other token]

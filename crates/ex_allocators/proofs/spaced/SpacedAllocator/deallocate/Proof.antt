@@ -1,4 +1,4 @@
--- The room behind the block is put to it, and the inner allocator takes both. Assumes `Logic`.
+-- The room after the block is joined to it, and the inner allocator deallocates both. Assumes `Logic`.
 use Rattle.ex_allocators.proofs.Spacing.{◌≡◌, ◌+◌, List, [], ◌∷◌, refl, w64, Al, seen, token, Gives, at_gives, Gives-goes, Gives-Gives, proved, inst_fn, Fn, Ty, ty_array, Val, vunit, vint, vptr, ftrue, flft, froom, fst∗, never, apply∗, ◌⊑◌, ⊑_trans, fact, tables, size, align, capped, WpFn, alloc_all, pass_all, free_all, look_at, get, through, sets, lands_as, ‵, raw, ◌⊛◌, later, ◌$◌, ◌∵◌, !, qed, move, keep, use0, use1, use2, split, split3, join, fsplit, feq_i, await, done, prop, given, learn, suffices, group, regoal, fpick, sem, stop, fld, addr, no_more, and_then, of_opd, returns, enter, unit_lit, bin, uint_vals, uint_Tells, owns, owned_block, Ptr, block_ptr, null_ptr, ptr_val, in_a_block, rawptr_vals, rawptr_Tells, shr_vals, types_at, nothing, heard, calls_at, framed, walk_of, ends_at, inner_of, dropped, gone, trues, spent, generics, reaches, doubled, spaced}
 use Rattle.ex_allocators.specs.contracts.spaced.SpacedAllocator.deallocate as F
 use Rattle.ex_allocators.proofs.spaced.SpacedAllocator.deallocate.Statement.{statement}

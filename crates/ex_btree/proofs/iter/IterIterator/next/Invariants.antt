@@ -2,7 +2,7 @@ use Rattle.std.proofs.Common.{◌≡◌, ◌++◌, length}
 use Rattle.ex_btree.specs.Leaves.{entries_of}
 use Rattle.ex_btree.proofs.iter.IterIterator.next.Given as goal
 
--- the entries that are left stay
+-- the remaining entries are unchanged
 abbrev pub invariant-loop-first : goal.invariant-loop-first
 invariant-loop-first g l = record {
   same : l.self-inside.front.now ++ entries_of l.self-inside.rest.now ≡ l.fn.self;

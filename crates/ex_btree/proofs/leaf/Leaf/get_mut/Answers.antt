@@ -1,6 +1,6 @@
 use Rattle.std.proofs.Common.{ap, inl, subst, sym, ◌∙◌}
 use Rattle.ex_btree.specs.Entries.{Ordered, IsAt, value}
-use Rattle.ex_btree.proofs.LeafLent.{lent-ascending, lent-run, lent-value, lent-view}
+use Rattle.ex_btree.proofs.LeafBorrowed.{lent-ascending, lent-run, lent-value, lent-view}
 use Rattle.ex_btree.proofs.leaf.Leaf.get_mut.Goals as goal
 
 pub invariant_of-self-lent : goal.invariant_of-self-lent

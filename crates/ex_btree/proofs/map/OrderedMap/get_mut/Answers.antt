@@ -3,7 +3,7 @@ use Rattle.std.proofs.Common.{◌≡◌, ◌∙◌, ap, is_some, rules, sym, tru
 use Rattle.std.specs.Option.{ghost_name_of}
 use Rattle.ex_btree.specs.Entries.{put, value}
 use Rattle.ex_btree.specs.Leaves.{entries_of}
-use Rattle.ex_btree.proofs.Lent.{lent-count, lent-put, lent-same, lent-sound}
+use Rattle.ex_btree.proofs.Borrowed.{lent-count, lent-put, lent-same, lent-sound}
 use Rattle.ex_btree.proofs.Order.{value-there}
 use Rattle.ex_btree.proofs.map.OrderedMap.get_mut.Goals as goal
 

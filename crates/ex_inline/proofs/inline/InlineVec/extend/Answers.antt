@@ -1,19 +1,19 @@
 use Rattle.std.proofs.Common.{length, rules, inl, ap, arith}
 use Rattle.std.specs.Mem.{type_size}
 use denote.Param.{param}
-use Rattle.allocator_api2.specs.Extend.{TellsAtMost}
-use Rattle.ex_inline.proofs.Extending.{came_behind, all_came, stopped}
+use Rattle.allocator_api2.specs.Extend.{LowerAtMost}
+use Rattle.ex_inline.proofs.Extending.{came_after, all_came, stopped}
 use Rattle.ex_inline.proofs.inline.InlineVec.extend.Goals as goal
 
-pub returns-in-Err-clause-refused : goal.returns-in-Err-clause-refused
-returns-in-Err-clause-refused g c = record { told = c.size_hint-told.result.0; tells = c.size_hint-told.ensures.lower; why = inl (c.in-Err.ensures.refused, c.in-Err.ensures.unchanged) }
+pub returns-in-Err-clause-failed : goal.returns-in-Err-clause-failed
+returns-in-Err-clause-failed g c = record { bound = c.size_hint-bound.result.0; is_lower = c.size_hint-bound.ensures.lower; why = inl (c.in-Err.ensures.error, c.in-Err.ensures.unchanged) }
 
 pub push_items-requires : goal.push_items-requires
 push_items-requires g c = (search rules, search rules)
 
 pub returns-clause-items : goal.returns-clause-items
 returns-clause-items g c =
-    came_behind g.I.Iterator.next_gives (type_size (param 0 g.row.T)) g.row.N c.args.iter c.args.self.now c.reserve.new.self c.push_items.new.self c.push_items.result c.in_default.ensures.items c.push_items.ensures.put
+    came_after g.I.Iterator.next_gives (type_size (param 0 g.row.T)) g.row.N c.args.iter c.args.self.now c.reserve.new.self c.push_items.new.self c.push_items.result c.in_default.ensures.items c.push_items.ensures.put
 
 pub returns-clause-kept : goal.returns-clause-kept
 returns-clause-kept g c = omega (arith, c.push_items.ensures.kept, ap length c.in_default.ensures.items)
@@ -21,9 +21,9 @@ returns-clause-kept g c = omega (arith, c.push_items.ensures.kept, ap length c.i
 pub returns-clause-extended : goal.returns-clause-extended
 returns-clause-extended g c =
     all_came g.I.Iterator.next_gives (type_size (param 0 g.row.T)) g.row.N c.args.iter c.args.self.now c.reserve.new.self c.push_items.new.self
-    (TellsAtMost g.I.Iterator.remaining) c.size_hint-told.result.0 c.size_hint-told.ensures.lower c.in_default.ensures.made c.push_items.result c.push_items.ensures.put
+    (LowerAtMost g.I.Iterator.remaining) c.size_hint-bound.result.0 c.size_hint-bound.ensures.lower c.in_default.ensures.reserved c.push_items.result c.push_items.ensures.put
 
-pub returns-clause-refused : goal.returns-clause-refused
-returns-clause-refused g c =
+pub returns-clause-failed : goal.returns-clause-failed
+returns-clause-failed g c =
     stopped g.I.Iterator.next_gives (type_size (param 0 g.row.T)) g.row.N c.args.iter c.args.self.now c.reserve.new.self c.push_items.new.self
-    (TellsAtMost g.I.Iterator.remaining) c.size_hint-told.result.0 c.size_hint-told.ensures.lower c.in_default.ensures.made c.push_items.result c.push_items.ensures.refused
+    (LowerAtMost g.I.Iterator.remaining) c.size_hint-bound.result.0 c.size_hint-bound.ensures.lower c.in_default.ensures.reserved c.push_items.result c.push_items.ensures.failed

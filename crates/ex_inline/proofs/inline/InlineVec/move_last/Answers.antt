@@ -21,7 +21,7 @@ each-preserved g c =
     let taken : ys ≡ ws ++ x ∷ [] = c.in-Some.ensures.taken in
     let one : length ws + 1 ≡ length ys = omega (arith, ap length taken, length-append ws (x ∷ [])) in (
       ap (λ s. ws ++ reverse s.items) c.put_last.ensures ∙ moved-on ys ws c.each.to.items c.args.self.now.items x inv.0 taken,
-      c.in-Some.ensures.rest ∙ ap (λ s. with_items s ws) inv.1,
+      c.in-Some.ensures.kept ∙ ap (λ s. with_items s ws) inv.1,
       put-on c.args.to.now c.each.to c.put_last.new.self x inv.2 c.put_last.ensures,
       omega (arith, one, c.each-test.true, c.len.ensures),
       room-on g.row.N c.each.to c.put_last.new.self x (length ys - c.args.rest) (length ws - c.args.rest) c.put_last.ensures inv.4 (omega (arith, one, c.each-test.true, c.len.ensures)),

@@ -16,15 +16,15 @@ each-preserved g c =
       λ all. rw c.in-Ok.ensures.pushed (room-pushed bytes n c.each.self x (size (left c.each.item-iterator)) (size (left c.next.new.self)) fewer (inv.1 all)),
     )
 
-pub returns-in-Err-clause-refused : goal.returns-in-Err-clause-refused
-returns-in-Err-clause-refused g c =
+pub returns-in-Err-clause-failed : goal.returns-in-Err-clause-failed
+returns-in-Err-clause-failed g c =
     let it = c.into_iter-item-iterator in let steps = g.I.Iterator.next_gives in let xs = c.each.yielded in let x = c.in-Some.item in
     let more = Yields-more steps it.result xs c.each.item-iterator x c.next.new.self c.each.yielded_by c.in-Some.ensures.steps in
     record {
       front = xs;
       item = x;
       last = c.next.new.self;
-      given = subst (λ s. Yields steps s (xs ++ x ∷ []) c.next.new.self) it.ensures.into_iter_gives more;
+      yields = subst (λ s. Yields steps s (xs ++ x ∷ []) c.next.new.self) it.ensures.into_iter_gives more;
       put = c.in-Err.ensures.unchanged ∙ c.each.invariant.0;
-      lacks = subst (λ s. LacksRoom (type_size (param 0 g.row.T)) g.row.N s 1 c.in-Err.refused.error) (sym c.in-Err.ensures.unchanged) c.in-Err.ensures.refused;
+      lacks = subst (λ s. LacksRoom (type_size (param 0 g.row.T)) g.row.N s 1 c.in-Err.refused.error) (sym c.in-Err.ensures.unchanged) c.in-Err.ensures.error;
     }

@@ -6,7 +6,7 @@ use Rattle.ex_inline.specs.Extending.{pushed_all}
 use Rattle.ex_inline.specs.Inlined.{HasRoom}
 use Rattle.ex_inline.proofs.inline.InlineVec.push_items.Given as goal
 
--- what came was pushed, and what may come has room where all had it
+-- the items so far were pushed, and the others fit if all did
 abbrev pub invariant-each : goal.invariant-each
 invariant-each g l =
     let left = g.I.Iterator.remaining in

@@ -1,5 +1,5 @@
 use Rattle.std.proofs.Common.{inl}
 use Rattle.ex_ring.proofs.ring.Ring.extend.Goals as goal
 
-pub returns-in-Err-clause-refused : goal.returns-in-Err-clause-refused
-returns-in-Err-clause-refused g c = record { told = c.size_hint-told.result.0; tells = c.size_hint-told.ensures.lower; why = inl (c.in-Err.ensures.refused, c.in-Err.ensures.unchanged) }
+pub returns-in-Err-clause-failed : goal.returns-in-Err-clause-failed
+returns-in-Err-clause-failed g c = record { bound = c.size_hint-bound.result.0; is_lower = c.size_hint-bound.ensures.lower; why = inl (c.in-Err.ensures.error, c.in-Err.ensures.unchanged) }

@@ -6,7 +6,7 @@ use Rattle.ex_ring.specs.Extending.{pushed_all}
 use Rattle.ex_ring.specs.Ringed.{HasRoom}
 use Rattle.ex_ring.proofs.ring.Ring.push_items.Given as goal
 
--- what came was pushed, and what may come has room where all had it
+-- the items so far were pushed, and the others fit if all did
 abbrev pub invariant-each : goal.invariant-each
 invariant-each g l =
     let left = g.I.Iterator.remaining in

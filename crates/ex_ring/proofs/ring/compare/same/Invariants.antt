@@ -2,7 +2,7 @@ use Rattle.std.proofs.Common.{◌≡◌, length}
 use Rattle.std.specs.Cmp.Lexicographic.{pointwise}
 use Rattle.ex_ring.proofs.ring.compare.same.Given as goal
 
--- what is left decides
+-- the remaining items decide
 abbrev pub invariant-each : goal.invariant-each
 invariant-each g l = pointwise g.T.PartialEq.eq l.items l.others ≡ pointwise g.T.PartialEq.eq l.left.items l.right.items
 

@@ -1,5 +1,5 @@
 use Rattle.std.proofs.Common.{sym, ◌∙◌}
-use Rattle.ex_table.proofs.Lefts.{goes-last, take-last, take-last-is}
+use Rattle.ex_table.proofs.Remaining.{goes-last, take-last, take-last-is}
 use Rattle.ex_table.proofs.iter.IntoIterDoubleEndedIterator.next_back.Goals as goal
 
 pub invariant_of-self : goal.invariant_of-self

@@ -1,5 +1,5 @@
 use Rattle.std.proofs.Common.{sym, ◌∙◌}
-use Rattle.ex_table.proofs.Lefts.{goes-next, take-next, take-next-is}
+use Rattle.ex_table.proofs.Remaining.{goes-next, take-next, take-next-is}
 use Rattle.ex_table.proofs.iter.IntoIterIterator.next.Goals as goal
 
 pub invariant_of-self : goal.invariant_of-self

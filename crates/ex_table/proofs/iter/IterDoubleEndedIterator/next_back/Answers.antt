@@ -1,5 +1,5 @@
 use Rattle.std.proofs.Common.{sym, ◌∙◌}
-use Rattle.ex_table.proofs.Lefts.{goes-last, last-left}
+use Rattle.ex_table.proofs.Remaining.{goes-last, last-left}
 use Rattle.ex_table.proofs.iter.IterDoubleEndedIterator.next_back.Goals as goal
 
 pub returns-clause-goes : goal.returns-clause-goes

@@ -1,5 +1,5 @@
 use Rattle.std.proofs.Common.{sym, ◌∙◌}
-use Rattle.ex_table.proofs.Lefts.{goes-next, next-left}
+use Rattle.ex_table.proofs.Remaining.{goes-next, next-left}
 use Rattle.ex_table.proofs.iter.IterIterator.next.Goals as goal
 
 pub returns-clause-steps : goal.returns-clause-steps

@@ -1,5 +1,5 @@
 use Rattle.std.proofs.Common.{ap, sym, ◌∙◌}
-use Rattle.ex_table.specs.Contents.{value, Filled}
+use Rattle.ex_table.specs.Contents.{value, TableView}
 use Rattle.ex_table.proofs.Sound.{absent, findable, read}
 use Rattle.ex_table.proofs.table.Table.get.Goals as goal
 
@@ -9,9 +9,9 @@ find_in-requires g c = findable c.self.invariant c.args.key.now c.hash_of-hash.r
 pub returns-in-Some : goal.returns-in-Some
 returns-in-Some g c =
     sym (read c.self.invariant c.args.key.now c.in-Some.slot c.place.result.now c.place.ensures c.in-Some.ensures.found)
-    ∙ ap (λ (f : Filled _ _ _). value g.K.PartialEq.eq f.entries c.args.key.now) c.self.view_is
+    ∙ ap (λ (f : TableView _ _ _). value g.K.PartialEq.eq f.entries c.args.key.now) c.self.view_is
 
 pub returns-in-None : goal.returns-in-None
 returns-in-None g c =
     sym (absent c.self.invariant c.args.key.now c.in-None.ensures.absent)
-    ∙ ap (λ (f : Filled _ _ _). value g.K.PartialEq.eq f.entries c.args.key.now) c.self.view_is
+    ∙ ap (λ (f : TableView _ _ _). value g.K.PartialEq.eq f.entries c.args.key.now) c.self.view_is

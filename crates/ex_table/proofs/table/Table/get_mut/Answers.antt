@@ -1,5 +1,5 @@
 use Rattle.std.proofs.Common.{ap, inl, inr, sym, ◌∙◌, refl}
-use Rattle.ex_table.specs.Contents.{value, Filled}
+use Rattle.ex_table.specs.Contents.{value, TableView}
 use Rattle.ex_table.proofs.Sound.{absent, findable, is-here, read, written, written-filled}
 use Rattle.ex_table.proofs.table.Table.get_mut.Goals as goal
 
@@ -8,7 +8,7 @@ find_in-requires g c = findable c.self.invariant c.args.key.now c.hash_of-hash.r
 
 pub returns-in-None : goal.returns-in-None
 returns-in-None g c =
-    let none = sym (absent c.self.invariant c.args.key.now c.in-None.ensures.absent) ∙ ap (λ (f : Filled _ _ _). value g.K.PartialEq.eq f.entries c.args.key.now) c.self.view_is in
+    let none = sym (absent c.self.invariant c.args.key.now c.in-None.ensures.absent) ∙ ap (λ (f : TableView _ _ _). value g.K.PartialEq.eq f.entries c.args.key.now) c.self.view_is in
     (λ i. inr (c.self.view_is i), record { writes_back = tt; value = none })
 
 pub invariant_of-self-lent : goal.invariant_of-self-lent
@@ -22,5 +22,5 @@ returns-in-Some g c =
     let t = c.self.invariant in let e = c.place_mut.result.now in let at = c.place_mut.ensures.value in
     let here = is-here t c.args.key.now c.in-Some.slot e at c.in-Some.ensures.found in (
       λ i. inl (c.self-in-Some-1.given, λ w. written-filled g.K.PartialEq.eq c.args.key.now c.self.inside.places.places c.in-Some.slot e w at here (t.once c.args.key.now) c.self.view_is i),
-      record { writes_back = tt; value = sym (read t c.args.key.now c.in-Some.slot e at c.in-Some.ensures.found) ∙ ap (λ (f : Filled _ _ _). value g.K.PartialEq.eq f.entries c.args.key.now) c.self.view_is },
+      record { writes_back = tt; value = sym (read t c.args.key.now c.in-Some.slot e at c.in-Some.ensures.found) ∙ ap (λ (f : TableView _ _ _). value g.K.PartialEq.eq f.entries c.args.key.now) c.self.view_is },
     )

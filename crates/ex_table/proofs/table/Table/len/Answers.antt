@@ -1,6 +1,6 @@
 use Rattle.std.proofs.Common.{ap, sym}
-use Rattle.ex_table.specs.Contents.{Filled}
+use Rattle.ex_table.specs.Contents.{TableView}
 use Rattle.ex_table.proofs.table.Table.len.Goals as goal
 
 pub returns-clause-once : goal.returns-clause-once
-returns-clause-once g c = rw (sym (ap (λ (f : Filled _ _ _). f.entries) c.self.view_is)) c.self.invariant.once
+returns-clause-once g c = rw (sym (ap (λ (f : TableView _ _ _). f.entries) c.self.view_is)) c.self.invariant.once

@@ -1,7 +1,7 @@
 use Rattle.std.proofs.Common.{Some, ap, arith, length, sym, ◌∙◌, ◌-◌}
 use Rattle.std.proofs.lemmas.List.{length-set}
 use Rattle.allocator_api2.specs.Places.{somes}
-use Rattle.ex_table.specs.Contents.{value, Filled}
+use Rattle.ex_table.specs.Contents.{value, TableView}
 use Rattle.ex_table.specs.Places.{hashes, hashes_of}
 use Rattle.ex_table.proofs.Maps.{sets-none}
 use Rattle.ex_table.proofs.Placed.{hash-here}
@@ -14,11 +14,11 @@ find_in-requires g c = findable c.self.invariant c.args.key.now c.hash_of-hash.r
 pub returns-in_default-clause-old : goal.returns-in_default-clause-old
 returns-in_default-clause-old g c =
     sym (absent c.self.invariant c.args.key.now c.in_default.ensures.absent)
-    ∙ ap (λ (f : Filled _ _ _). value g.K.PartialEq.eq f.entries c.args.key.now) c.self.view_is
+    ∙ ap (λ (f : TableView _ _ _). value g.K.PartialEq.eq f.entries c.args.key.now) c.self.view_is
 
 pub returns-in_default-clause-removed : goal.returns-in_default-clause-removed
 returns-in_default-clause-removed g c =
-    rw (ap (λ (f : Filled _ _ _). f.entries) (sym c.self.view_is)) (sets-none g.K.PartialEq.eq c.self.invariant.keys.equality c.args.key.now (somes c.self.inside.places.places) (absent-keys c.self.invariant c.args.key.now c.in_default.ensures.absent))
+    rw (ap (λ (f : TableView _ _ _). f.entries) (sym c.self.view_is)) (sets-none g.K.PartialEq.eq c.self.invariant.keys.equality c.args.key.now (somes c.self.inside.places.places) (absent-keys c.self.invariant c.args.key.now c.in_default.ensures.absent))
 
 -- each of these knows the entry by what was taken out
 pub overflow_sub-self : goal.overflow_sub-self
@@ -40,22 +40,22 @@ invariant_of-self g c =
 pub returns-clause-old : goal.returns-clause-old
 returns-clause-old g c =
     sym (read c.self.invariant c.args.key.now c.in-Some.slot c.take_out-entry.result c.take_out-entry.ensures.value c.in-Some.ensures.found)
-    ∙ ap (λ (f : Filled _ _ _). value g.K.PartialEq.eq f.entries c.args.key.now) c.self.view_is
+    ∙ ap (λ (f : TableView _ _ _). value g.K.PartialEq.eq f.entries c.args.key.now) c.self.view_is
 
 pub returns-clause-removed : goal.returns-clause-removed
 returns-clause-removed g c =
     let entry = c.take_out-entry.result in let out = c.take_out-entry.ensures in
     let here = is-here c.self.invariant c.args.key.now c.in-Some.slot entry out.value c.in-Some.ensures.found in
-    rw (out.taken, ap (λ (f : Filled _ _ _). f.entries) (sym c.self.view_is)) (sets-removed c.self.invariant c.args.key.now c.in-Some.slot entry out.value here)
+    rw (out.taken, ap (λ (f : TableView _ _ _). f.entries) (sym c.self.view_is)) (sets-removed c.self.invariant c.args.key.now c.in-Some.slot entry out.value here)
 
 pub returns-clause-one_less : goal.returns-clause-one_less
 returns-clause-one_less g c = λ _.
     let entry = c.take_out-entry.result in let out = c.take_out-entry.ensures in
     let here = is-here c.self.invariant c.args.key.now c.in-Some.slot entry out.value c.in-Some.ensures.found in
-    rw (out.taken, ap (λ (f : Filled _ _ _). f.entries) (sym c.self.view_is)) (one-less c.self.invariant c.args.key.now c.in-Some.slot entry out.value here)
+    rw (out.taken, ap (λ (f : TableView _ _ _). f.entries) (sym c.self.view_is)) (one-less c.self.invariant c.args.key.now c.in-Some.slot entry out.value here)
 
 pub returns-clause-room : goal.returns-clause-room
 returns-clause-room g c = λ _.
     let t = c.self.invariant in let entry = c.take_out-entry.result in let out = c.take_out-entry.ensures in
     let here = is-here t c.args.key.now c.in-Some.slot entry out.value c.in-Some.ensures.found in
-    omega (arith, ap (λ cs. length (somes cs)) out.taken, one-less t c.args.key.now c.in-Some.slot entry out.value here, t.counted, t.within, ap (λ (f : Filled _ _ _). f.capacity) c.self.view_is)
+    omega (arith, ap (λ cs. length (somes cs)) out.taken, one-less t c.args.key.now c.in-Some.slot entry out.value here, t.counted, t.within, ap (λ (f : TableView _ _ _). f.capacity) c.self.view_is)

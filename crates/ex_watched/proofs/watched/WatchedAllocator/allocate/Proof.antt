@@ -1,5 +1,5 @@
--- The request is counted, and refused or passed on. A block that comes of it is counted too. Assumes `Logic`.
-use Rattle.ex_watched.proofs.Watching.{◌≡◌, [], ◌∷◌, refl, ap, w64, true, false, Ok, Err, T, block_if_ok, bool, unit, Al, seen, token, Answer, answer_val, Answer-typed, Answer-Ok, Answer-err, Takes, at_takes, Answered, Takes-goes, Takes-gives, answers, after, front, arm_body, proved, leaves, inst_fn, Fn, Body, Val, ftrue, flft, ent, emp, ◌⊑◌, ⊑_trans, fact, tables, size, align, capped, Env, Wp, after_seq, at_return, alloc_all, pass_all, free_all, look_at, get, get_in, get_tag, through, sets, sets_last, lands_as, env, ‵, raw, ◌⊛◌, later, ◌$◌, ◌∵◌, !, qed, move, keep, drop, use0, use1, use2, split, split3, join, fsplit, fjoin, feq_l, await, done, prop, at_ret, any_q, Sq, Post, suffices, group, sem, vrt, in_variant, agg, whole, stop, fld, addr, lit, no_more, and_then, of_opd, first, branches, skips, switches_on, exec, returns, returns_within, enter, shr_dup, uint_vals, uint_Tells, owns, block_ptr, shr_vals, types_at, nothing, only, heard, calls_at, framed, walk_of, ends_at, inner_of, dropped, gone, trues, spent, ended, Wa, generics, watch_of, watched_by, reaches, Asks, asking, asks, Notes}
+-- The request is counted, and fails or is passed on. A block that is allocated is counted too. Assumes `Logic`.
+use Rattle.ex_watched.proofs.Watching.{◌≡◌, [], ◌∷◌, refl, ap, w64, true, false, Ok, Err, T, block_if_ok, bool, unit, Al, seen, token, Answer, answer_val, Answer-typed, Answer-Ok, Answer-err, Takes, at_takes, Answered, Takes-goes, Takes-gives, answers, after, front, arm_body, proved, leaves, inst_fn, Fn, Body, Val, ftrue, flft, ent, emp, ◌⊑◌, ⊑_trans, fact, tables, size, align, capped, Env, Wp, after_seq, at_return, alloc_all, pass_all, free_all, look_at, get, get_in, get_tag, through, sets, sets_last, lands_as, env, ‵, raw, ◌⊛◌, later, ◌$◌, ◌∵◌, !, qed, move, keep, drop, use0, use1, use2, split, split3, join, fsplit, fjoin, feq_l, await, done, prop, at_ret, any_q, Sq, Post, suffices, group, sem, vrt, in_variant, agg, whole, stop, fld, addr, lit, no_more, and_then, of_opd, first, branches, skips, switches_on, exec, returns, returns_within, enter, shr_dup, uint_vals, uint_Tells, owns, block_ptr, shr_vals, types_at, nothing, only, heard, calls_at, framed, walk_of, ends_at, inner_of, dropped, gone, trues, spent, ended, Wa, generics, watch_of, watched_by, reaches, ShouldFail, calling, calls, Notes}
 use Rattle.ex_watched.specs.contracts.watched.WatchedAllocator.allocate as F
 use Rattle.ex_watched.proofs.watched.WatchedAllocator.allocate.Statement.{statement}
 use Rattle.ex_watched.proofs.watched.WatchedAllocator.allocate.Code as code
@@ -15,7 +15,7 @@ allocate_spec 𝓤 𝓛 𝓜 𝓡 wired B W L LW g d gw dw d' dw' inner watch _ 
     let heap : B.Denot = r.now.inner in let at = inner_of Z r.ref_ptr in let eye : W.Denot = r.now.watch in let spot = watch_of Z Y r.ref_ptr in
     let y : Wk.Ghost = ((κs, qs, bounds, a, (shr_vals r, (uint_vals w64 n, (uint_vals w64 al, tt)))), τ) in
     let Fits : Type 0 = (capped (size τ) ≡ n) × (capped (align τ) ≡ al) in
-    let Q = Asks Y 𝓛 𝓜.mem 𝓡.returns in let N = Notes Y 𝓛 𝓜.mem 𝓡.returns in let ask : Q.Ghost = asking Y 𝓛 𝓜.mem 𝓡.returns κ q eye spot n al in
+    let Q = ShouldFail Y 𝓛 𝓜.mem 𝓡.returns in let N = Notes Y 𝓛 𝓜.mem 𝓡.returns in let ask : Q.Ghost = calling Y 𝓛 𝓜.mem 𝓡.returns κ q eye spot n al in
     let T = Takes Z 𝓛 𝓜.mem 𝓡.returns in let take : T.Ghost = at_takes Z 𝓛 𝓜.mem 𝓡.returns κ q at heap n al τ in
     let leaves : (x : Answer.Denot) (v : Val) → ent 𝓤 (emp 𝓤) (sem 𝓛 (Answer.own_val x (v ∷ [])))
     → Sq 𝓛 (‵ (block_if_ok (token Z heap) τ x) ∷ ‵ (flft κ q) ∷ (‵ (flft κs.1.0 qs.1.0) ⊛ ‵ (flft κs.1.1.0 qs.1.1.0) ⊛ ‵ ftrue) ∷ []) (prop (Wk.post y v)) = λ x v made.
@@ -32,8 +32,8 @@ allocate_spec 𝓤 𝓛 𝓜 𝓡 wired B W L LW g d gw dw d' dw' inner watch _ 
     let Then : Post 𝓤 𝓛.H = any_q (after_seq 𝓤 𝓛.H (Wp 𝓤 𝓛.H 𝓣.C 𝓣.Λ En (after 6 body) (at_return 𝓤 𝓛.H En (Wk.post y))) (at_return 𝓤 𝓛.H En (Wk.post y))) in
     shr_dup ! W LW.shr_laws eye spot.0 spot.1 κ $ move ! (0 ∷ 2 ∷ []) $
     sets ! (addr ! (through ! refl (fld ! refl (stop !)))) refl (tt, tt) $
-    use2 𝓛 (raw (Q.pre ask)) (asks Y 𝓛 𝓜.mem 𝓡.returns κ q eye spot n al lasts n_fits al_fits) $
-    calls_at ! (framed 𝓤 𝓛.H 𝓜 𝓣) Q (watch.refuses dw') ask (and_then ! (get ! refl) (and_then ! (get ! refl) (and_then ! (get ! refl) (no_more !)))) (λ v.
+    use2 𝓛 (raw (Q.pre ask)) (calls Y 𝓛 𝓜.mem 𝓡.returns κ q eye spot n al lasts n_fits al_fits) $
+    calls_at ! (framed 𝓤 𝓛.H 𝓜 𝓣) Q (watch.should_fail dw') ask (and_then ! (get ! refl) (and_then ! (get ! refl) (and_then ! (get ! refl) (no_more !)))) (λ v.
     ended 𝓛 κ q 3 bool v (λ _. ftrue) _ ! tt (λ no. feq_l ! (λ told. drop ! $ lands_as ! (ap only told) refl (tt, tt) $
     -- [the token; the `&` to the watch; the `&` to the inner allocator; the other token]
     first ! $ branches ! (get ! refl)
@@ -44,23 +44,23 @@ allocate_spec 𝓤 𝓛 𝓜 𝓡 wired B W L LW g d gw dw d' dw' inner watch _ 
     use2 𝓛 (raw (T.pre take)) (Takes-goes Z 𝓛 𝓜.mem 𝓡.returns κ q at heap (⊑_trans κ κs.1.0 B.lives bounds.0 lives) n al τ fits.0 fits.1 n_fits al_fits) $
     calls_at ! (framed 𝓤 𝓛.H 𝓜 𝓣) T (inner.allocate d') take (and_then ! (get ! refl) (and_then ! (get ! refl) (and_then ! (get ! refl) (no_more !)))) (λ w.
     use1 𝓛 (later (raw (Answered Z 𝓛 𝓜.mem 𝓡.returns heap τ w) ⊛ ‵ (flft κ q))) (Takes-gives Z 𝓛 𝓜.mem 𝓡.returns κ q at heap n al τ w) $ await ! tt $ split ! $
-    -- [the answer; the token; the `&` to the watch; the other token]
+    -- [the result; the token; the `&` to the watch; the other token]
     answers Z ! 𝓜.mem 𝓡.returns heap τ w
     (λ b o granted. lands_as ! granted refl (Answer-typed true b o) $
     first ! $ switches_on ! (get_tag ! (vrt ! refl (fld ! refl (stop !))) (whole !)) $ exec ! 𝓣.C 𝓣.Λ En (arm_body 0 (front (after 5 body))) Then $
     sets_last ! (of_opd ! (get_in ! (vrt ! refl (fld ! refl (stop !))) (in_variant ! 0 0 refl refl (whole !)))) refl (tt, tt) $ exec ! 𝓣.C 𝓣.Λ En (after 6 body) (at_ret En (Wk.post y)) $
     -- [the block's room; the right to free it; the token; the `&` to the watch; the other token]
     sets ! (addr ! (through ! refl (fld ! refl (stop !)))) refl (tt, tt) $ move ! (3 ∷ 2 ∷ []) $
-    use2 𝓛 (raw (N.pre ask)) (asks Y 𝓛 𝓜.mem 𝓡.returns κ q eye spot n al lasts n_fits al_fits) $
-    calls_at ! (framed 𝓤 𝓛.H 𝓜 𝓣) N (watch.grants dw') ask (and_then ! (get ! refl) (and_then ! (get ! refl) (and_then ! (get ! refl) (no_more !)))) (λ u.
+    use2 𝓛 (raw (N.pre ask)) (calls Y 𝓛 𝓜.mem 𝓡.returns κ q eye spot n al lasts n_fits al_fits) $
+    calls_at ! (framed 𝓤 𝓛.H 𝓜 𝓣) N (watch.on_allocate dw') ask (and_then ! (get ! refl) (and_then ! (get ! refl) (and_then ! (get ! refl) (no_more !)))) (λ u.
     ended 𝓛 κ q 3 unit u (λ _. ftrue) _ ! tt (λ _. feq_l ! (λ counted. drop ! $ lands_as ! (ap only counted) refl (tt, tt) $
     sets ! (agg ! (and_then ! (lit ! tt) (and_then ! (get ! refl) (no_more !)))) refl (Answer-typed true b o) $ returns ! (look_at ! 0 refl) $ free_all ! refl $
     move ! (1 ∷ 2 ∷ []) $ fjoin ! $ leaves (Ok (block_ptr b o)) (answer_val true b o) (Answer-Ok 𝓛 b o)))))
     (λ refused. lands_as ! refused refl (Answer-typed false 0 0) $
     first ! $ switches_on ! (get_tag ! (vrt ! refl (fld ! refl (stop !))) (whole !)) $ exec ! 𝓣.C 𝓣.Λ En (arm_body 1 (front (after 5 body))) Then $
     sets ! (addr ! (through ! refl (fld ! refl (stop !)))) refl (tt, tt) $ move ! (1 ∷ 0 ∷ []) $
-    use2 𝓛 (raw (N.pre ask)) (asks Y 𝓛 𝓜.mem 𝓡.returns κ q eye spot n al lasts n_fits al_fits) $
-    calls_at ! (framed 𝓤 𝓛.H 𝓜 𝓣) N (watch.misses dw') ask (and_then ! (get ! refl) (and_then ! (get ! refl) (and_then ! (get ! refl) (no_more !)))) (λ u.
+    use2 𝓛 (raw (N.pre ask)) (calls Y 𝓛 𝓜.mem 𝓡.returns κ q eye spot n al lasts n_fits al_fits) $
+    calls_at ! (framed 𝓤 𝓛.H 𝓜 𝓣) N (watch.on_failure dw') ask (and_then ! (get ! refl) (and_then ! (get ! refl) (and_then ! (get ! refl) (no_more !)))) (λ u.
     ended 𝓛 κ q 3 unit u (λ _. ftrue) _ ! tt (λ _. feq_l ! (λ counted. drop ! $ lands_as ! (ap only counted) refl (tt, tt) $
     sets ! (agg ! (no_more !)) refl (tt, tt) $ sets ! (agg ! (and_then ! (lit ! tt) (and_then ! (get ! refl) (no_more !)))) refl (Answer-typed false 0 0) $
     returns_within ! (Wk.post y) refl (look_at ! 0 refl) $ free_all ! refl $ keep ! (0 ∷ 1 ∷ []) $ nothing ! $ leaves (Err (record {})) (answer_val false 0 0) (Answer-err 𝓛)))))))))))))))

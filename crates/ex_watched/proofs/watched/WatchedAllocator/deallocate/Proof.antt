@@ -1,5 +1,5 @@
--- The block is counted as given back, and the inner allocator takes it. Assumes `Logic`.
-use Rattle.ex_watched.proofs.Watching.{◌≡◌, List, [], ◌∷◌, refl, ap, w64, unit, Al, seen, token, Gives, at_gives, Gives-goes, Gives-Gives, proved, inst_fn, Fn, Val, vunit, vint, vptr, ftrue, fsep, flft, fst∗, never, ◌⊑◌, ⊑_trans, fact, tables, size, align, capped, WpFn, alloc_all, pass_all, free_all, look_at, get, through, sets, lands_as, ‵, raw, ◌⊛◌, later, ◌$◌, ◌∵◌, !, qed, move, keep, drop, use0, use1, use2, split, split3, join, fsplit, feq_i, feq_l, await, done, prop, given, learn, suffices, group, regoal, sem, stop, fld, addr, no_more, and_then, of_opd, returns, enter, unit_lit, uint_vals, uint_Tells, owns, Ptr, block_ptr, null_ptr, ptr_val, room_for, in_a_block, rawptr_vals, rawptr_Tells, shr_vals, types_at, nothing, only, heard, calls_at, framed, walk_of, ends_at, inner_of, dropped, gone, trues, spent, ended, Wa, generics, watch_of, watched_by, reaches, asking, asks, Notes}
+-- The block is counted as deallocated, and the inner allocator deallocates it. Assumes `Logic`.
+use Rattle.ex_watched.proofs.Watching.{◌≡◌, List, [], ◌∷◌, refl, ap, w64, unit, Al, seen, token, Gives, at_gives, Gives-goes, Gives-Gives, proved, inst_fn, Fn, Val, vunit, vint, vptr, ftrue, fsep, flft, fst∗, never, ◌⊑◌, ⊑_trans, fact, tables, size, align, capped, WpFn, alloc_all, pass_all, free_all, look_at, get, through, sets, lands_as, ‵, raw, ◌⊛◌, later, ◌$◌, ◌∵◌, !, qed, move, keep, drop, use0, use1, use2, split, split3, join, fsplit, feq_i, feq_l, await, done, prop, given, learn, suffices, group, regoal, sem, stop, fld, addr, no_more, and_then, of_opd, returns, enter, unit_lit, uint_vals, uint_Tells, owns, Ptr, block_ptr, null_ptr, ptr_val, room_for, in_a_block, rawptr_vals, rawptr_Tells, shr_vals, types_at, nothing, only, heard, calls_at, framed, walk_of, ends_at, inner_of, dropped, gone, trues, spent, ended, Wa, generics, watch_of, watched_by, reaches, calling, calls, Notes}
 use Rattle.ex_watched.specs.contracts.watched.WatchedAllocator.deallocate as F
 use Rattle.ex_watched.proofs.watched.WatchedAllocator.deallocate.Statement.{statement}
 use Rattle.ex_watched.proofs.watched.WatchedAllocator.deallocate.Code as code
@@ -16,7 +16,7 @@ deallocate_spec 𝓤 𝓛 𝓜 𝓡 wired B W L LW g d gw dw d' dw' inner watch 
     let heap : B.Denot = r.now.inner in let at = inner_of Z r.ref_ptr in let eye : W.Denot = r.now.watch in let spot = watch_of Z Y r.ref_ptr in
     let y : Ptr → Wk.Ghost = λ p. ((κs, qs, bounds, (r, (p, (n, (al, tt)))), (shr_vals r, (rawptr_vals p, (uint_vals w64 n, (uint_vals w64 al, tt))))), τ) in
     let Fits : Type 0 = (capped (size τ) ≡ n) × (capped (align τ) ≡ al) in
-    let N = Notes Y 𝓛 𝓜.mem 𝓡.returns in let note : N.Ghost = asking Y 𝓛 𝓜.mem 𝓡.returns κ q eye spot n al in
+    let N = Notes Y 𝓛 𝓜.mem 𝓡.returns in let note : N.Ghost = calling Y 𝓛 𝓜.mem 𝓡.returns κ q eye spot n al in
     qed 𝓛 (((‵ (flft κ q) ⊛ ‵ (flft κs.1.0 qs.1.0) ⊛ ‵ (flft κs.1.1.0 qs.1.1.0) ⊛ ‵ ftrue) ⊛ ‵ (owns (types_at E.signature.params κs) a (y a.1.0).0.4))
     ∷ (raw (fact 𝓤 (κs.1.0 ⊑ B.lives)) ⊛ raw (fact 𝓤 (κs.1.1.0 ⊑ W.lives)) ⊛ raw (fact 𝓤 Fits) ⊛ ‵ (fsep (room_for τ a.1.0) (token Z heap τ a.1.0))) ∷ []) ∵
     move ! (1 ∷ []) $ split ! $ heard ! _ (λ lives. split3 ! $ heard ! _ (λ lives'. let lasts = ⊑_trans κ κs.1.1.0 W.lives bounds.1.0 lives' in heard ! Fits (λ fits.
@@ -28,8 +28,8 @@ deallocate_spec 𝓤 𝓛 𝓜 𝓡 wired B W L LW g d gw dw d' dw' inner watch 
     -- [the `&` to the watch; its token; the `&` to the inner allocator; the block; the other token]
     enter ! _ _ _ _ _ $ alloc_all ! (λ l. pass_all ! refl ((tt, tt), ((tt, tt), ((tt, record { fits = n_fits }), ((tt, record { fits = al_fits }), tt)))) $
     sets ! (addr ! (through ! refl (fld ! refl (stop !)))) refl (tt, tt) $
-    use2 𝓛 (raw (N.pre note)) (asks Y 𝓛 𝓜.mem 𝓡.returns κ q eye spot n al lasts n_fits al_fits) $
-    calls_at ! (framed 𝓤 𝓛.H 𝓜 𝓣) N (watch.takes_back dw') note (and_then ! (get ! refl) (and_then ! (get ! refl) (and_then ! (get ! refl) (no_more !)))) (λ v.
+    use2 𝓛 (raw (N.pre note)) (calls Y 𝓛 𝓜.mem 𝓡.returns κ q eye spot n al lasts n_fits al_fits) $
+    calls_at ! (framed 𝓤 𝓛.H 𝓜 𝓣) N (watch.on_deallocate dw') note (and_then ! (get ! refl) (and_then ! (get ! refl) (and_then ! (get ! refl) (no_more !)))) (λ v.
     ended 𝓛 κ q 3 unit v (λ _. ftrue) _ ! tt (λ _. feq_l ! (λ counted. drop ! $ lands_as ! (ap only counted) refl (tt, tt) $
     -- [the token; the `&` to the inner allocator; the block; the other token]
     sets ! (addr ! (through ! refl (fld ! refl (stop !)))) refl (tt, tt) $

@@ -1,0 +1,37 @@
+-- What the errors say and print.
+use Rattle.std.specs.Prelude.{◌≡◌, ℕ, ◌<◌, ◌≤◌, List, codes, ⊤}
+use Rattle.aa_raw.specs.declared.collections.TryReserveError.{TryReserveError}
+use Rattle.aa_raw.specs.declared.collections.TryReserveErrorKind.{TryReserveErrorKind}
+use Rattle.aa_raw.specs.declared.collections.TryReserveErrorKind.TheVariants.{CapacityOverflow, AllocError}
+
+-- `e` is an error for at least `n` places: the number of an `AllocError` is at least `n`; a
+-- `CapacityOverflow` has no number
+abbrev pub IsErrorForAtLeast : TryReserveError → (n : ℕ) → Type 0
+IsErrorForAtLeast e n =
+    elim e.kind as (λ _. Type 0) [ CapacityOverflow ↦ ⊤ | AllocError capacity ↦ n ≤ capacity ]
+
+-- `e` is an error for `n` places: the number of an `AllocError` is exactly `n`
+abbrev pub IsErrorFor : TryReserveError → (n : ℕ) → Type 0
+IsErrorFor e n =
+    elim e.kind as (λ _. Type 0) [ CapacityOverflow ↦ ⊤ | AllocError capacity ↦ capacity ≡ n ]
+
+-- the allocation of a block of `n` elements of `size` bytes failed with `e`: neither is 0, and the
+-- number of `e` is `n`
+abbrev pub AllocationFails : (n size : ℕ) → TryReserveError → Type 0
+AllocationFails n size e = (0 < n) × (0 < size) × IsErrorFor e n
+
+-- making `n` clones in a new block failed with `e`, whose number is `n`. If no clone can fail, the
+-- allocation of the block failed
+abbrev pub ClonesFail : (infallible : Type 0) → (n size : ℕ) → TryReserveError → Type 0
+ClonesFail infallible n size e = (infallible → (0 < n) × (0 < size)) × IsErrorFor e n
+
+-- the text that an error of this kind prints
+abbrev pub text_of_kind : TryReserveErrorKind → List ℕ
+text_of_kind CapacityOverflow =
+    codes "memory allocation failed because the computed capacity exceeded the collection's maximum"
+text_of_kind (AllocError capacity) =
+    codes "memory allocation failed because the memory allocator returned an error"
+
+-- the text that the error `e` prints
+abbrev pub text_of : TryReserveError → List ℕ
+text_of e = text_of_kind e.kind

@@ -1,0 +1,5 @@
+use Rattle.aa_vec.proofs.Calling.{result_is}
+use Rattle.aa_vec.proofs.vec.retain.call_keeps.Goals as goal
+
+pub returns : goal.returns
+returns g c = rw (← result_is c.call_on.result c.args.keep_when) c.call_on.ensures

@@ -1,0 +1,16 @@
+use Rattle.aa_vec.proofs.Common.{arith}
+use Rattle.aa_vec.proofs.Filling.{Placed-start, Placed-put}
+use Rattle.aa_vec.proofs.vec.tail.gap.with_gap_filled.Goals as goal
+
+pub loop-left-init : goal.loop-left-init
+loop-left-init g c = record { can = c.requires.callable; finite = c.requires.finite; placed = Placed-start _ _ _ _ _ c.requires.has_tail; fewer = omega arith }
+
+pub loop-left-preserved : goal.loop-left-preserved
+loop-left-preserved g c =
+    let i = c.loop-left.invariant in let on = c.in-Some.ensures.goes.on i.finite in
+    record {
+      can = on.0;
+      finite = on.1;
+      placed = Placed-put _ _ _ _ _ _ _ c.loop-left.list i.placed (omega (arith, c.loop-left-test.true)) c.in-Some.x _ c.in-Some.ensures.steps c.put_next.new.self c.put_next.ensures.put c.put_next.ensures.spare;
+      fewer = omega (arith, i.fewer, on.2, c.loop-left-test.true);
+    }

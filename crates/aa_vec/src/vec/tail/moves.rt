@@ -1,0 +1,128 @@
+//! Elements in the places after the last item: a call sets items apart as the tail, and closes the
+//! gaps that it makes. Places are counted from the last item on.
+ghost use Rattle.std.specs.Prelude.{◌≡◌, ◌+◌, ◌-◌, ◌<◌, ◌≤◌, [], ◌∷◌, slice_set, None};
+ghost use Rattle.aa_vec.specs.Vector.{len};
+ghost use Rattle.aa_vec.specs.Tail.{HasTail, SetsTail, ClosesGap, DropsTail, ShiftsDown, ClosesTwoGaps, tail_items, with_spare};
+
+use crate::vec::Vec;
+use std::alloc::Allocator;
+
+impl<T, A: Allocator> Vec<T, A> {
+    // Sets the elements from the index `at` on apart as the tail. Returns their number.
+    #[tactic(auto, using(crate::proofs::Gaps::set_apart, crate::proofs::Becoming::becomes))]
+    pub(crate) fn set_tail(&mut self, at: usize) -> usize
+        requires { at ≤ len self.old }
+        ensures count { at + result ≡ len self.old }
+        ensures tail_set { SetsTail self.old at self.new }
+    {
+        let count = self.len - at;
+        self.len = at;
+        count
+    }
+
+    // Moves the `count` elements after the gap down to the last item.
+    #[inline]
+    #[tactic(auto, using(crate::proofs::Gaps::closed, crate::proofs::Becoming::becomes))]
+    pub(crate) fn close_gap(&mut self, gap: usize, count: usize)
+        requires { HasTail self.old gap count }
+        ensures { ClosesGap self.old gap count self.new }
+    {
+        let len = self.len;
+        // Like `prove_capacity_bounds`; but the loops that this is inlined into are faster if the
+        // capacity is read.
+        let _within = self.block.capacity();
+        self.len = len + count;
+        self.block.move_down(len + gap, len, count);
+    }
+
+    // Like `close_gap`, for one element and a gap of at least one place. This is far less work than
+    // moving a run.
+    #[inline(always)]
+    #[tactic(auto, using(crate::proofs::Tails::closing))]
+    pub(crate) fn close_gap_by_one(&mut self, gap: usize)
+        requires some { 0 < gap }
+        requires has_tail { HasTail self.old gap 1 }
+        ensures { ClosesGap self.old gap 1 self.new }
+    {
+        let item = self.take_from_tail(gap);
+        self.put_next(item);
+    }
+
+    // Takes the first element after the gap out of its place, and returns it.
+    #[inline]
+    #[tactic(auto, using(crate::proofs::Gaps::emptied))]
+    pub(crate) fn take_from_tail(&mut self, gap: usize) -> T
+        requires { HasTail self.old gap 1 }
+        ensures value { tail_items self.old gap 1 ≡ result ∷ [] }
+        ensures after { self.new ≡ with_spare self.old (slice_set self.old.spare gap None) }
+    {
+        let _within = self.block.capacity();
+        self.block.take(self.len + gap)
+    }
+
+    // Returns a slice of the `count` elements after the gap.
+    #[tactic(auto, using(crate::proofs::Gaps::borrowed))]
+    pub(crate) fn tail_slice(&self, gap: usize, count: usize) -> &[T]
+        requires { HasTail self.now gap count }
+        ensures { result.now ≡ tail_items self.now gap count }
+    {
+        let _within = self.block.capacity();
+        self.block.slice(self.len + gap, count)
+    }
+
+    // Drops the `count` elements after the gap.
+    #[tactic(auto, using(crate::proofs::Gaps::cleared))]
+    pub(crate) fn drop_from_tail(&mut self, gap: usize, count: usize)
+    where
+        T: Drop,
+        requires { HasTail self.old gap count }
+        ensures { DropsTail self.old gap count self.new }
+    {
+        let len = self.len;
+        let _within = self.block.capacity();
+        self.block.drop_run(len + gap, count);
+    }
+
+    // Drops the elements of the tail from place `front` up to `back`, and moves those from `end` up
+    // to `total` down.
+    #[tactic(auto, using(crate::proofs::TailLemmas::closing))]
+    pub(crate) fn drop_and_close(&mut self, front: usize, back: usize, end: usize, total: usize)
+    where
+        T: Drop,
+        requires ordered { (front ≤ back) × (back ≤ end) × (end ≤ total) }
+        requires has_tail { HasTail self.old front (back - front)
+            × HasTail self.old end (total - end) }
+        ensures { ShiftsDown self.old end (total - end) self.new }
+    {
+        self.drop_from_tail(front, back - front);
+        self.close_gap(end, total - end);
+    }
+
+    // Moves the elements of the tail from place `front` up to `back` down, and then those from
+    // `end` up to `total`.
+    #[tactic(auto, using(crate::proofs::TailLemmas::closing))]
+    pub(crate) fn close_gaps(&mut self, front: usize, back: usize, end: usize, total: usize)
+        requires ordered { (front ≤ back) × (back ≤ end) × (end ≤ total) }
+        requires has_tail { HasTail self.old front (back - front)
+            × HasTail self.old end (total - end) }
+        ensures { ClosesTwoGaps self.old front (back - front) end (total - end) self.new }
+    {
+        let kept = back - front;
+        self.close_gap(front, kept);
+        self.close_gap(end - kept, total - end);
+    }
+
+    // Moves the first `kept` elements of the tail down, and then those from place `front` up to
+    // `total`.
+    #[tactic(auto, using(crate::proofs::TailLemmas::closing))]
+    pub(crate) fn close_kept(&mut self, kept: usize, front: usize, end: usize, total: usize)
+        requires ordered { (kept ≤ front) × (front ≤ end) × (end ≤ total) }
+        requires has_tail { HasTail self.old 0 kept × HasTail self.old front (total - front) }
+        ensures { ClosesTwoGaps self.old 0 kept front (total - front) self.new }
+    {
+        // Only the contract mentions the end of the range: a function has no parameter for
+        // contracts alone.
+        let _range_end = end;
+        self.close_gaps(0, kept, front, total);
+    }
+}
