@@ -4,4 +4,5 @@ unfoldable pub use Common.*
 pub use Texts.*
 pub mod Common
 pub mod Coming
+pub mod Indexed
 pub mod Texts

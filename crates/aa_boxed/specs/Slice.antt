@@ -1,5 +1,7 @@
 -- The model of a `BoxedSlice`, and of the builder that becomes one.
-use Rattle.std.specs.Prelude.{◌≡◌, ℕ, ◌+◌, ◌<◌, ◌≤◌, List, [], ◌∷◌, ◌++◌, length, Option, None, ◌⊎◌}
+use Rattle.std.specs.Prelude.{◌≡◌, ℕ, ◌+◌, ◌<◌, ◌≤◌, List, [], ◌∷◌, ◌++◌, length, Option, None, Result, IfOk, IfErr, ◌⊎◌}
+use Rattle.std.specs.Iterator.{YieldsThen}
+use Rattle.std.specs.Iterator.Runs.{WholeRun}
 use Rattle.aa_raw.specs.Growth.{amortized, min_capacity, usize_max}
 use Rattle.aa_raw.specs.Room.{LacksRoom}
 use Rattle.aa_raw.specs.declared.collections.TryReserveError.{TryReserveError}
@@ -32,6 +34,10 @@ module _ {T A : Type 0} where
   -- a builder without items, in a block with capacity for `capacity`
   abbrev pub empty_builder : (capacity : ℕ) → Growth → A → Building T A
   empty_builder capacity g a = record { items = []; capacity = capacity; growth = g; alloc = a }
+
+  -- the boxed slice `s` with the items `xs`, as many as it had
+  abbrev pub with_items : Slice T A → List T → Slice T A
+  with_items s xs = record { items = xs; growth = s.growth; alloc = s.alloc }
 
   -- the first `n` values of the block `b` as a boxed slice
   abbrev pub slice_of : Block T A → ℕ → Slice T A
@@ -73,3 +79,17 @@ module _ {S T : Type 0} (steps : S → Option T → S → Type 0) (LowerIs : S �
   -- an allocation for the items of `iter` failed with `error`, while they came or at their end
   abbrev pub FromIterFails : Type 0
   FromIterFails = FailsAtItem ⊎ FailsAtEnd
+
+-- `iter` was collected over the allocator `a`, and `after` is what is left of it; the result is the
+-- boxed slice of its items, of `size` bytes each, or an error
+pub record CollectResult {S T A : Type 0} (steps : S → Option T → S → Type 0)
+    (LowerIs : S → ℕ → Type 0) (size : ℕ) (iter : S) (a : A) (after : S)
+    (result : Result (Slice T A) TryReserveError) : Type 0 where
+  -- on success it has all items, in order
+  pub items : IfOk result (λ b. YieldsThen steps iter b.items None after)
+  pub runs : IfOk result (λ b. WholeRun steps iter (λ p. b.items ≡ p.items))
+  -- and would grow by doubling
+  pub growth : IfOk result (λ b. b.growth ≡ Doubling)
+  pub alloc : IfOk result (λ b. b.alloc ≡ a)
+  -- an error says which items were taken, and which allocation failed
+  pub error : IfErr result (λ e. FromIterFails steps LowerIs size iter e after)

@@ -8,6 +8,7 @@ ghost use Rattle.aa_boxed.specs.Slice.{new_slice};
 
 use aa_raw::raw_vec::{Growth, RawVec};
 use std::alloc::{AllocError, Allocator, Global};
+use std::convert::{AsMut, AsRef};
 use std::default::Default;
 use std::marker::Model;
 use std::ops::{Deref, DerefMut};
@@ -20,6 +21,7 @@ mod forward;
 mod io;
 mod slice;
 mod slice_compare;
+mod slice_traits;
 mod text;
 mod text_compare;
 mod uninit;
@@ -274,5 +276,26 @@ impl<T, A: Allocator> DerefMut for Box<T, A> {
         ensures value { result.now ≡ self.old.value }
     {
         self.block.place_mut(0)
+    }
+}
+
+impl<T, A: Allocator> AsRef<T> for Box<T, A> {
+    /// Returns a reference to the value, as `deref` does.
+    fn as_ref(&self) -> &T
+        ensures { result.now ≡ self.now.value }
+    {
+        self.deref()
+    }
+}
+
+impl<T, A: Allocator> AsMut<T> for Box<T, A> {
+    ghost use Rattle.aa_boxed.specs.BoxLends.{lends_value};
+
+    /// Returns a mutable reference to the value, as `deref_mut` does.
+    fn as_mut(&mut self) -> &mut T
+        ensures* writes_back { sem 𝓛 (lends_value T.row A.row A.Allocator self.entry result) }
+        ensures value { result.now ≡ self.old.value }
+    {
+        self.deref_mut()
     }
 }

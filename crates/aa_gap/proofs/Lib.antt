@@ -4,6 +4,9 @@ pub use Pages.*
 pub use Texts.*
 pub mod Common
 pub mod Callers
+pub mod Extending
 pub mod Pages
 pub mod Parts
+pub mod Printing
 pub mod Texts
+pub mod Walking

@@ -1,5 +1,5 @@
 -- A list in two parts, cut after the first.
-use Rattle.aa_gap.proofs.Common.{Bor, IsItemAt, List, None, Option, Some, ap, arith, drop, drop-append-add, length, nat_tests, option_copied, refl, slice_get, slice_get-after, slice_get-front, slice_get_past, slice_get_read, sym, take, take-append-add, ℕ, ◌++◌, ◌+◌, ◌-◌, ◌∙◌, ◌≡◌, ◌≤◌}
+use Rattle.aa_gap.proofs.Common.{Bor, IsItemAt, List, None, Option, Some, ap, arith, drop, drop-append-add, length, length-append, nat_tests, option_copied, refl, slice_get, slice_get-after, slice_get-front, slice_get_past, slice_get_read, sym, take, take-append-add, ℕ, ◌++◌, ◌+◌, ◌-◌, ◌∙◌, ◌≡◌, ◌≤◌}
 
 pub take_after : {T : Type 0} (xs ys : List T) (k : ℕ) → length xs ≤ k → take k (xs ++ ys) ≡ xs ++ take (k - length xs) ys
 take_after xs ys k h = let e : k ≡ length xs + (k - length xs) = omega arith in ap (λ i. take i (xs ++ ys)) e ∙ take-append-add xs ys (k - length xs)
@@ -16,3 +16,6 @@ pub ruleset cut_after = (take_after, drop_after)
 
 -- and what the two of a text return
 pub ruleset get_item = (get_at, slice_get-front, slice_get-after, nat_tests)
+
+-- a list in two parts is empty if both are
+pub ruleset none_of_both = (length-append, nat_tests)

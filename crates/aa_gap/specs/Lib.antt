@@ -3,3 +3,5 @@ pub mod GapBufferInner
 pub mod Page
 pub mod Editing
 pub mod IntoParts
+pub mod Extending
+pub mod Texts

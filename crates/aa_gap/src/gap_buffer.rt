@@ -1,5 +1,5 @@
 //! `GapBuffer`, a text with a cursor, in one block whose free places are at the cursor.
-ghost use Rattle.std.specs.Prelude.{◌≡◌, ◌+◌, ◌-◌, ◌*◌, ◌<◌, ◌≤◌, ◌∷◌, ◌++◌, [], length, take, drop, slice_get, option_copied, IfOk, IfErr, OnOk, OnErr, IsOk, IsTrue, false, MatchOption};
+ghost use Rattle.std.specs.Prelude.{◌≡◌, ◌+◌, ◌-◌, ◌*◌, ◌<◌, ◌≤◌, ◌∷◌, ◌++◌, [], length, take, drop, slice_get, option_copied, IfOk, IfErr, OnOk, OnErr, IsOk, IsTrue, false, MatchOption, ◌↔◌};
 ghost use Rattle.std.specs.Mem.{type_size};
 ghost use Rattle.std.specs.Iterator.{IsFinite};
 ghost use Rattle.aa_raw.specs.Growth.{new_capacity, usize_max};
@@ -12,10 +12,15 @@ ghost use Rattle.aa_gap.specs.GapBufferInner.{view_of, IsParted};
 use aa_raw::collections::{Refused, TryReserveError, TryReserveErrorKind};
 use aa_raw::raw_vec::{Growth, RawVec};
 pub use iter::Iter;
-use std::alloc::{Allocator, Global};
+use std::alloc::{AllocError, Allocator, Global};
+use std::default::{Emptied, MadeWith};
 use std::marker::Model;
 
+mod compare;
+mod format;
 mod iter;
+mod many;
+mod texts;
 
 /// An edit at the cursor of a text.
 #[derive(Debug, Drop)]
@@ -112,6 +117,14 @@ impl<T, A: Allocator> GapBuffer<T, A> {
         ensures within { len self.now ≤ self.now.capacity }
     {
         self.start + (self.block.capacity() - self.end)
+    }
+
+    /// Returns `true` if the text has no elements.
+    #[tactic(auto, using(crate::proofs::Texts::none_of_both))]
+    pub fn is_empty(&self) -> bool
+        ensures { IsTrue result ↔ (text self.now ≡ []) }
+    {
+        self.len() == 0
     }
 
     /// Returns the position of the cursor, which is the number of elements before it.
@@ -486,6 +499,30 @@ impl<T, A: Allocator> GapBuffer<T, A> {
                 Ok(())
             }
         }
+    }
+}
+
+impl<T, A: Allocator> MadeWith<A> for GapBuffer<T, A> {
+    ghost use Rattle.aa_raw.specs.declared.raw_vec.Growth.TheVariants.{Doubling};
+
+    ghost is_made_with = { λ b. b ≡ empty (new_capacity (type_size T.row) 0) Doubling b.alloc };
+
+    /// Returns an empty text, as `new_in` does.
+    fn made_with(alloc: A) -> Self {
+        Self::new_in(alloc)
+    }
+}
+
+impl<T, A: Allocator + Clone> Emptied for GapBuffer<T, A> {
+    ghost use Rattle.aa_raw.specs.declared.raw_vec.Growth.TheVariants.{Doubling};
+
+    ghost is_emptied = { λ b. b ≡ empty (new_capacity (type_size T.row) 0) Doubling b.alloc };
+
+    /// Returns an empty text over a clone of the allocator of `like`.
+    ///
+    /// Does not allocate.
+    fn emptied(like: &Self) -> Result<Self, AllocError> {
+        Ok(GapBuffer::new_in(like.allocator().clone()?))
     }
 }
 

@@ -14,7 +14,7 @@ pub use Rattle.aa_vec.specs.Arrays.{flattened}
 pub use Rattle.aa_vec.specs.Tail.{ClosesGap, ClosesTwoGaps, DropsTail, LeavesInTail, ShiftsDown, SetsTail, HasTail, tail_items, with_spare}
 pub use Rattle.aa_vec.specs.Choosing.{Call, CalledInOrder, ChainsFrom, Deduplicated, Deduplicates, EndsTrue, Equals, IsCallableAlong, IsCallableInOrder, IsPureTest, MayCallInOrder, MayChainFrom, MayDeduplicate, Reads, Retains, CallableAtKeys, CallableAtMut, results_of, kept, kept_after_removed, passed_over}
 pub use Rattle.aa_vec.specs.Copies.{AppendsClones, AppendsResults, AssignsPart, ClonesAreEqual, AppendsCopies, IsMade, IsMadeOfOne, MayCallTimes, AppendFails, RolledBack, WritesAtMost}
-pub use Rattle.aa_vec.specs.Extend.{GrowsInSteps, YieldsCopies, CollectResult, ExtendResult, Extends, RemainingItems, EndsAt, Takes, LowerAtMost, LowerExactly, YieldsWithLower, requested_with, takes_item, grows, lower_bound_of, unchanged}
+pub use Rattle.aa_vec.specs.Extend.{GrowsInSteps, YieldsCopies, CollectResult, ExtendResult, HasCollected, HasExtended, Extends, RemainingItems, EndsAt, Takes, LowerAtMost, LowerExactly, YieldsWithLower, requested_with, takes_item, grows, lower_bound_of, unchanged}
 pub use Rattle.aa_vec.specs.Extract.{ClosesExtract, Extracted, Extracts, ExtractsAlong, ExtractsRange, extract_count, extract_kept, extract_remaining, extract_tail, extract_vec}
 pub use Rattle.aa_vec.specs.Filling.{FillsAndCloses, FillsGap, Collects, LacksRest, OpensGap, Placed, Puts, PutsAll, PutsFront, PutsRest, WidensGap, YieldsForGap}
 pub use Rattle.aa_vec.specs.VecInner.{IsFront, view_of}
@@ -37,7 +37,7 @@ pub use Rattle.std.specs.Iterator.{Count, Drains, IsFinite, IsNearerEnd, MakesPr
 pub use Rattle.std.specs.Iterator.Runs.{WholeRun, YieldsInOrder, YieldsInReverse}
 pub use Rattle.std.specs.List.{AllZip, FoldsTo, dedup, dedup_from, length_refill, refill}
 pub use Rattle.std.specs.Mem.{type_size}
-pub use Rattle.std.specs.Prelude.{All, Err, IfErr, MatchOption, Ok, OnOk, Result, cond, count_by, filter, if◌then◌else◌, insert, min, nat_le, slice_range, slice_set, ⊤, ◌==◌}
+pub use Rattle.std.specs.Prelude.{All, Err, IfErr, MatchOption, MatchResult, Ok, OnOk, Result, cond, count_by, filter, if◌then◌else◌, insert, min, nat_le, slice_range, slice_set, ⊤, ◌==◌}
 pub use Rattle.std.specs.declared.alloc.Allocator.{Ghosts}
 pub use base.Logic.{emp, emp∗, ent, id⊢, mono∗, sep, via}
 pub use borrow.Rule.Reborrow.{re_v}

@@ -18,6 +18,10 @@ module _ {T A : Type 0} where
       → AppendFails failure size old k error new
   AppendFails-rolled_back failure size old mid new k error e u cause number = inr (record { cause = cause; number = number; rolled_back = RolledBack-made (with_room size old (len old) k) mid new e k u })
 
+  -- the same of clones of a range, between the two ends that `bounds_of` returned
+  pub AppendFails-bounds : (failure : ℕ → ℕ → Type 0) {size s e : ℕ} {p : ℕ × ℕ} {old new : Vector T A} {error : TryReserveError} → p ≡ (s, e) → AppendFails (failure p.0 p.1) size old (p.1 - p.0) error new → AppendFails (failure s e) size old (e - s) error new
+  AppendFails-bounds failure {size} {old = old} {new} {error} same f = subst (λ p. AppendFails (failure p.0 p.1) size old (p.1 - p.0) error new) same f
+
   module _ (clones : T → T → Type 0) where
     -- clones appended come after the old items
     pub AppendsClones-made : (old mid new : Vector T A) → Becomes old old.items 0 0 mid → (xs : List T) → AppendsClones clones mid xs new → AppendsClones clones old xs new

@@ -7,7 +7,15 @@ use Rattle.aa_vec.proofs.Becoming.{Becomes-refl, Becomes-then}
 use Rattle.aa_vec.proofs.TailLemmas.{part_tail, later_part}
 use Rattle.aa_vec.proofs.Tails.{first_are}
 
+-- the two ends that `bounds_of` returned
+pub range_bounds : {n s e : ℕ} {Known : Type 0} {p : ℕ × ℕ} → p ≡ (s, e) → (s ≤ e) × (e ≤ n) × Known → (p.0 ≤ p.1) × (p.1 ≤ n)
+range_bounds {n} same within = subst (λ p. (p.0 ≤ p.1) × (p.1 ≤ n)) (sym same) (within.0, within.1)
+
 module _ {T A : Type 0} where
+  -- a drain between these ends
+  pub TakesRange-bounds : {old : Vector T A} {d : Drain T A} {p : ℕ × ℕ} {s e : ℕ} → p ≡ (s, e) → TakesRange old p.0 p.1 d → TakesRange old s e d
+  TakesRange-bounds {old} {d} same t = subst (λ p. TakesRange old p.0 p.1 d) same t
+
   -- nothing is changed where the drain is
   pub keeps-same : (d : Drain T A) → DrainKeeps d d
   keeps-same d = record { lender = refl; becomes = Becomes-refl d.vec.now; tail = refl; range = refl }

@@ -1,5 +1,5 @@
 -- A vector to which items of an iterator are appended.
-use Rattle.aa_vec.proofs.Common.{◌≡◌, ℕ, zero, suc, ◌+◌, ◌-◌, ◌<◌, ◌≤◌, List, [], ◌∷◌, ◌++◌, length, Option, Some, None, Ok, append_assoc, refl, sym, ap, ◌∙◌, subst, arith, length-append, min, map, Yields, Drains, append-nil, TryReserveError, usize_max, Vector, len, HasRoom, LacksRoom, Writes, Placed, FillsGap, GrowsInSteps, YieldsWithLower, Takes, Extends, ExtendResult, YieldsCopies, Result, Err, OnOk, IfErr, WholeRun, Becomes, with_room, IsNew, CollectResult}
+use Rattle.aa_vec.proofs.Common.{◌≡◌, ℕ, zero, suc, ◌+◌, ◌-◌, ◌<◌, ◌≤◌, List, [], ◌∷◌, ◌++◌, length, Option, Some, None, Ok, append_assoc, refl, sym, ap, ◌∙◌, subst, arith, length-append, min, map, Yields, Drains, append-nil, TryReserveError, usize_max, Vector, len, HasRoom, LacksRoom, Writes, Placed, FillsGap, GrowsInSteps, YieldsWithLower, Takes, Extends, ExtendResult, YieldsCopies, Result, Err, OnOk, IfErr, WholeRun, Becomes, with_room, IsNew, CollectResult, HasExtended, MatchResult}
 use Rattle.std.specs.Borrow.{Bor}
 use Rattle.aa_vec.proofs.Outcomes.{on_ok}
 use Rattle.std.proofs.iter.runs.Consumers.{total_runs}
@@ -38,6 +38,11 @@ module _ {S T : Type 0} (steps : S → Option T → S → Type 0) (LowerIs : S �
       let Q : List T → Type 0 = λ l. YieldsWithLower steps LowerIs r.0 s l u in
       (r.0, subst Q (append_assoc front (x ∷ []) xs) r.1, λ k. r.2 (suc k) ∙ ap r.0 (omega arith))
 
+  -- the first of the items that came
+  Yields-front : (s : S) (front others : List T) (t : S) → Yields steps s (front ++ others) t → (u : S) × Yields steps s front u
+  Yields-front s [] others t y = (s, refl)
+  Yields-front s (x ∷ xs) others t y = let r = Yields-front y.0 xs others t y.2 in (r.0, (y.0, y.1, r.1))
+
   module _ {A : Type 0} (size : ℕ) (iter : S) (alloc : A) (new : Vector T A) (made : IsNew size 0 alloc new) (after : S) where
     -- a new vector that was extended, or whose extension failed
     pub CollectResult-made : (v : Vector T A) → ExtendResult steps LowerIs size iter new after (Ok tt) v → CollectResult steps LowerIs size iter alloc after (Ok v)
@@ -74,6 +79,22 @@ module _ {S T : Type 0} (steps : S → Option T → S → Type 0) (LowerIs : S �
     ExtendResult-left after r new room failed writes =
         let ran = on_ok r room (λ e. (e.taken, (after, (e.last, Yields-with_lower e.lower iter e.taken e.last e.yields, e.outcome.0)), Extends-items e.outcome.1)) in
         record { items = ran; runs = on_ok r ran (whole_run steps iter (λ xs. new.items ≡ old.items ++ xs)); appended = room; written = (writes.written, writes.runs); error = failed }
+
+    -- the block of an extension, and the items that it appended
+    Extends-has : (lower : ℕ → ℕ) (taken xs : List T) (r : Result Unit TryReserveError) (new : Vector T A) → Extends size lower old old.items taken r new → new.items ≡ old.items ++ xs
+        → (new.written ≡ old.written + (len new - len old)) × (new.runs ≡ old.runs + (len new - len old)) → HasExtended old xs new
+    Extends-has lower taken xs r new x e w =
+        let k = GrowsInSteps-keeps _ _ _ x.in_steps in let count : len new ≡ len old + length xs = ap length e ∙ length-append old.items xs in
+        record { items = e; capacity = GrowsInSteps-rises _ _ _ x.in_steps; growth = k.0; alloc = k.1; written = omega (arith, w.0, count); runs = omega (arith, w.1, count) }
+
+    -- an extension in the words of the trait `Extend`
+    pub Extends-ran : (after : S) (r : Result Unit TryReserveError) (new : Vector T A) → ExtendResult steps LowerIs size iter old after r new
+        → (xs : List T) × HasExtended old xs new × MatchResult r (λ _. Drains steps iter xs) (λ _. (t : S) × Yields steps iter xs t)
+    Extends-ran after (Ok u) new e =
+        let t = e.appended in let all = e.items in (all.0, Extends-has t.lower t.taken all.0 (Ok tt) new t.outcome.1 all.2 e.written, all.1)
+    Extends-ran after (Err f) new e =
+        let t = e.error in let x = t.outcome.1 in
+        (x.front, Extends-has t.lower t.taken x.front (Err f) new x x.items e.written, Yields-front iter x.front x.others t.last (subst (λ l. Yields steps iter l t.last) x.begins (Yields-with_lower t.lower iter t.taken t.last t.yields)))
 
     -- of what came from iter, which is now s, `front` was placed, and the vector is v
     pub record Placing (s : S) (v : Vector T A) : Type 0 where
@@ -168,3 +189,13 @@ module _ {S T : Type 0} (steps : S → Option (Bor T) → S → Type 0) where
 
   pub Drains-read : (s : S) (xs ys : List T) → (zs : List T) × Drains (YieldsCopies steps) s zs × (ys ≡ xs ++ zs) → (rs : List (Bor T)) × Drains steps s rs × (ys ≡ xs ++ map (λ r. r.now) rs)
   Drains-read s xs ys d = grind (arith, Yields-read)
+
+  -- an extension by copies, in the words of the trait `Extend`
+  pub Extends-read : {A : Type 0} (LowerIs : S → ℕ → Type 0) (size : ℕ) (iter : S) (old : Vector T A) (after : S) (r : Result Unit TryReserveError) (new : Vector T A) → ExtendResult (YieldsCopies steps) LowerIs size iter old after r new
+      → (rs : List (Bor T)) × HasExtended old (map (λ x. x.now) rs) new × MatchResult r (λ _. Drains steps iter rs) (λ _. (t : S) × Yields steps iter rs t)
+  Extends-read LowerIs size iter old after (Ok u) new e =
+      let ran = Extends-ran (YieldsCopies steps) LowerIs size iter old after (Ok u) new e in let d : Drains (YieldsCopies steps) iter ran.0 = ran.2 in
+      let y = Yields-read iter ran.0 d.1.0 d.1.1 in (y.0, subst (λ xs. HasExtended old xs new) y.2 ran.1, (d.0, (d.1.0, y.1, d.1.2)))
+  Extends-read LowerIs size iter old after (Err f) new e =
+      let ran = Extends-ran (YieldsCopies steps) LowerIs size iter old after (Err f) new e in let d : (t : S) × Yields (YieldsCopies steps) iter ran.0 t = ran.2 in
+      let y = Yields-read iter ran.0 d.0 d.1 in (y.0, subst (λ xs. HasExtended old xs new) y.2 ran.1, (d.0, y.1))

@@ -14,6 +14,10 @@ module _ {F T : Type 0} (Calls : F → T → Bool → F → T → Type 0) (Takes
   may_spare f [] may = tt
   may_spare f (x ∷ xs) may = (may.0, λ stays next y a. may_spare next xs (may.1 (not stays) next y a))
 
+-- a range between these ends is taken
+pub ExtractsRange-bounds : {T A : Type 0} {old : Vector T A} {d : ExtractBy T A} {p : ℕ × ℕ} {s e : ℕ} → p ≡ (s, e) → ExtractsRange old p.0 p.1 d → ExtractsRange old s e d
+ExtractsRange-bounds {old = old} {d} same t = subst (λ p. ExtractsRange old p.0 p.1 d) same t
+
 -- a range is taken, and the closure was not called yet
 module _ {T A : Type 0} (old new : Vector T A) (a b total : ℕ) (range : (a ≤ b) × (b ≤ len old)) (set_count : a + total ≡ len old) (sets : SetsTail old a new) where
   pub range_extracts : (lent : MutBor (Vector T A)) (ordered : (0 ≤ 0) × (0 ≤ b - a) × (b - a ≤ total)) (held : HasTail new 0 0 × HasTail new 0 (total - 0))

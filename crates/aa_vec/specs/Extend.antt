@@ -121,3 +121,20 @@ pub record CollectResult {S T A : Type 0} (next_gives : S → Option T → S →
   pub error : IfErr result (λ e. Takes next_gives LowerIs iter (λ lower xs last. (last ≡ after)
       × (new : Vector T A) × (stop : Vector T A) × IsNew size 0 a new
       × (full : Extends size lower new new.items xs (Err e) stop) × (length full.others ≡ 1)))
+
+module _ {T A : Type 0} where
+  -- `v` has the items `xs`, each of which was written once, and grew by doubling
+  pub record HasCollected (xs : List T) (v : Vector T A) : Type 0 where
+    pub items : v.items ≡ xs
+    pub growth : v.growth ≡ Doubling
+    pub written : v.written ≡ length xs
+    pub runs : v.runs ≡ length xs
+
+  -- `new` is `old` with the items `xs` appended, each of which was written once
+  pub record HasExtended (old : Vector T A) (xs : List T) (new : Vector T A) : Type 0 where
+    pub items : new.items ≡ old.items ++ xs
+    pub capacity : old.capacity ≤ new.capacity
+    pub growth : new.growth ≡ old.growth
+    pub alloc : new.alloc ≡ old.alloc
+    pub written : new.written ≡ old.written + length xs
+    pub runs : new.runs ≡ old.runs + length xs

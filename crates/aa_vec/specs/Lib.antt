@@ -14,6 +14,7 @@ pub mod Tail
 pub mod Choosing
 pub mod Until
 pub mod Boxes
+pub mod Ranges
 pub mod Drain
 pub mod SpliceItems
 pub mod Filling

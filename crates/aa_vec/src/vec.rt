@@ -24,6 +24,7 @@ pub use splice::Splice;
 use std::alloc::{Allocator, Global};
 use std::default::Default;
 use std::marker::Model;
+pub use std_alloc::part::SliceRange;
 
 mod append;
 mod bytes;
@@ -39,10 +40,12 @@ pub mod extract_if;
 mod index;
 mod new;
 mod put;
+mod ranges;
 mod reserve;
 mod retain;
 pub mod splice;
 mod tail;
+mod traits;
 
 /// A growable list over the allocator `A`.
 ///

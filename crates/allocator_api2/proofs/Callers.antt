@@ -7,3 +7,4 @@ pub use Rattle.aa_vec.proofs.Callers.{callers, all_same, filled_up, filled_new, 
 pub use Rattle.aa_vec.proofs.Counted.{items-all}
 pub use Rattle.allocator_api2.proofs.Sifting.{sifts, left-end, Extracts_filter, Extends_filter, takes}
 pub use Rattle.allocator_api2.proofs.Repeats.{Deduplicates_dedup, Deduplicates_fewer, Deduplicates_numbers}
+pub use Rattle.allocator_api2.proofs.Slices.{positions, position_cases, ranged, range_items, mapped, map_in_place, searches, found_in_order, absent_in_order}

@@ -23,4 +23,6 @@ pub mod BlocksMoved
 pub mod Blocks
 pub mod Repeats
 pub mod Sifting
+pub mod Slices
 pub mod Callers
+pub mod Printing

@@ -1,5 +1,5 @@
 -- Elements that a test takes out of a range: the items, one after another, and what the vector has at the end.
-use Rattle.aa_vec.proofs.Common.{◌≡◌, ℕ, ◌-◌, Bool, not, List, [], ◌∷◌, ◌++◌, length, map, take, drop, Option, Some, None, sym, ap, ◌∙◌, arith, append_assoc, filter, Result, Ok, Err, OnOk, Yields, Drains, append-nil, map-id, take-append-drop, take_all, drop_all, filter-append, Call, kept, Extracts, ExtractsRange, ClosesExtract, extract_remaining, Vector, len, ExtractsAlong}
+use Rattle.aa_vec.proofs.Common.{◌≡◌, ℕ, ◌-◌, Bool, not, List, [], ◌∷◌, ◌++◌, length, map, take, drop, Option, Some, None, subst, sym, ap, ◌∙◌, arith, append_assoc, filter, Result, Ok, Err, OnOk, Yields, Drains, append-nil, map-id, take-append-drop, take_all, drop_all, filter-append, Call, kept, Extracts, ExtractsRange, ClosesExtract, extract_remaining, Vector, len, ExtractsAlong}
 use Rattle.aa_vec.specs.declared.vec.extract_if.ExtractBy.{ExtractBy}
 use Rattle.aa_vec.specs.declared.vec.extract_if.ExtractIf.{ExtractIf}
 use Rattle.aa_vec.specs.Sifting.{remaining_matches, items_at_end}
@@ -83,10 +83,11 @@ module _ {F T A : Type 0} (Calls : F → T → Bool → F → T → Type 0) (tes
   Extracts_filter old n s xs range all d steady = drained steady s d.1.0 xs d.0 d.1.1 d.1.2 ∙ Range_taken test old n s.by range all
 
   -- and is appended to another
-  pub Extends_filter : {E : Type 0} (r : Result Unit E) (old : Vector T A) (n : ℕ) (s : ExtractIf T F A) (zs new : List T) → ExtractsAlong Calls s → ExtractsRange old 0 n s.by → n ≡ len old
-      → OnOk r ((xs : List T) × Drains Steps s xs × (new ≡ zs ++ xs)) → ((f : F) (x : T) (answer : Bool) (g : F) (y : T) → Calls f x answer g y → (answer ≡ test x) × (y ≡ x)) → OnOk r (new ≡ zs ++ filter test old.items)
-  Extends_filter (Err e) old n s zs new along range whole all steady = tt
-  Extends_filter (Ok u) old n s zs new along range whole all steady = all.2 ∙ ap (λ l. zs ++ l) (Extracts_filter old n s all.0 range whole all.1 steady)
+  pub Extends_filter : {E : Type 0} (r : Result Unit E) (old : Vector T A) (n : ℕ) (s it : ExtractIf T F A) (zs new : List T) → ExtractsAlong Calls s → ExtractsRange old 0 n s.by → n ≡ len old
+      → it ≡ s → OnOk r ((xs : List T) × Drains Steps it xs × (new ≡ zs ++ xs)) → ((f : F) (x : T) (answer : Bool) (g : F) (y : T) → Calls f x answer g y → (answer ≡ test x) × (y ≡ x)) → OnOk r (new ≡ zs ++ filter test old.items)
+  Extends_filter (Err e) old n s it zs new along range all same whole steady = tt
+  Extends_filter (Ok u) old n s it zs new along range all same whole steady =
+      let drains = subst (λ i. Drains Steps i whole.0) same whole.1 in whole.2 ∙ ap (λ l. zs ++ l) (Extracts_filter old n s whole.0 range all drains steady)
 
 -- what a loop over such a range needs
 pub ruleset sifts = (IsCallableInOrder-any, extracts_fewer, taken-more, left-more, taken-end, left-end)

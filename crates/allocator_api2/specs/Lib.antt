@@ -1,14 +1,24 @@
+pub use Rattle.aa_boxed.specs.Arrays as BoxArrays
+pub use Rattle.aa_boxed.specs.BoxLends
+pub use Rattle.aa_boxed.specs.Boxed
+pub use Rattle.aa_boxed.specs.BoxedSliceLends
+pub use Rattle.aa_boxed.specs.Hints
+pub use Rattle.aa_boxed.specs.Room as BoxRoom
+pub use Rattle.aa_boxed.specs.Slice
+pub use Rattle.aa_boxed.specs.Text
 pub use Rattle.aa_gap.specs.Buffer
 pub use Rattle.aa_gap.specs.Editing
-pub use Rattle.aa_gap.specs.Page
 pub use Rattle.aa_gap.specs.IntoParts
+pub use Rattle.aa_gap.specs.Page
 pub use Rattle.aa_raw.specs.Block
+pub use Rattle.aa_raw.specs.BlockLends
 pub use Rattle.aa_raw.specs.Clones
 pub use Rattle.aa_raw.specs.Closures
+pub use Rattle.aa_raw.specs.Errors
 pub use Rattle.aa_raw.specs.Growth
 pub use Rattle.aa_raw.specs.IntoIter
+pub use Rattle.aa_raw.specs.IntoIterLends
 pub use Rattle.aa_raw.specs.Places
-pub use Rattle.aa_raw.specs.Errors
 pub use Rattle.aa_raw.specs.Room
 pub use Rattle.aa_raw.specs.TwoRuns
 pub use Rattle.aa_vec.specs.Arrays
@@ -19,9 +29,14 @@ pub use Rattle.aa_vec.specs.Drain
 pub use Rattle.aa_vec.specs.Extend
 pub use Rattle.aa_vec.specs.Extract
 pub use Rattle.aa_vec.specs.Filling
+pub use Rattle.aa_vec.specs.Ranges
 pub use Rattle.aa_vec.specs.Sifting
 pub use Rattle.aa_vec.specs.Splice
 pub use Rattle.aa_vec.specs.SpliceItems
+pub use Rattle.aa_vec.specs.Split
+pub use Rattle.aa_vec.specs.Tail
+pub use Rattle.aa_vec.specs.Until
+pub use Rattle.aa_vec.specs.VecLends
 pub use Rattle.aa_vec.specs.Vector
 pub mod Laws
 pub mod Machine

@@ -18,6 +18,7 @@ pub mod positions;
 pub mod ranges;
 pub mod room;
 pub mod rows;
+pub mod slices;
 pub mod sorted;
 pub mod stack;
 pub mod texts;

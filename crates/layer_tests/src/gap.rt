@@ -4,3 +4,4 @@ mod counted;
 mod failures;
 mod rows;
 pub(crate) mod texts;
+mod traits;

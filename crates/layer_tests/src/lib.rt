@@ -39,3 +39,5 @@ mod ranges;
 mod raw;
 #[cfg(test)]
 mod recorded;
+#[cfg(test)]
+mod slices;

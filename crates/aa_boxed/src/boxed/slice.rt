@@ -1,5 +1,5 @@
 //! `BoxedSlice`, a list in a block without spare capacity.
-ghost use Rattle.std.specs.Prelude.{◌≡◌, ◌<◌, ◌≤◌, ◌⊎◌, [], None, length, All, IfOk, IfErr, IsOk};
+ghost use Rattle.std.specs.Prelude.{◌≡◌, ◌<◌, ◌≤◌, ◌⊎◌, [], None, length, All, IfOk, IfErr, IsOk, slice_index_or};
 ghost use Rattle.std.specs.List.{AllZip};
 ghost use Rattle.std.specs.Mem.{type_size};
 ghost use Rattle.std.specs.Borrow.{sem};
@@ -11,7 +11,7 @@ ghost use Rattle.aa_raw.specs.Places.{IsRun};
 ghost use Rattle.aa_raw.specs.Errors.{AllocationFails, ClonesFail};
 ghost use Rattle.aa_raw.specs.declared.raw_vec.Growth.TheVariants.{Doubling};
 ghost use Rattle.aa_boxed.specs.Room.{IsExactFor};
-ghost use Rattle.aa_boxed.specs.Slice.{new_slice, slice_of, FromIterFails, FailsAtEnd};
+ghost use Rattle.aa_boxed.specs.Slice.{new_slice, slice_of, CollectResult, FromIterFails, FailsAtEnd};
 ghost use Rattle.aa_boxed.specs.Hints.{LowerAtMost};
 ghost use Rattle.aa_boxed.specs.Slice.{Slice};
 ghost use Rattle.aa_boxed.specs.BoxedSliceInner.{view_of, IsWhole};
@@ -21,6 +21,7 @@ use aa_raw::collections::{TryReserveError, TryReserveErrorKind};
 use aa_raw::raw_vec::{Growth, RawVec};
 use std::alloc::{Allocator, Global};
 use std::default::Default;
+use std::iter::IntoIterator;
 use std::marker::Model;
 
 /// A list whose elements fill their block exactly.
@@ -51,33 +52,32 @@ impl<T> BoxedSlice<T, Global> {
     ///
     /// Corresponds to allocator-api2's `FromIterator` for `Box<[T]>`, which aborts instead of
     /// returning an error.
-    pub fn from_iter<I: Iterator<Item = T>>(alloc: Global, iter: I) -> Result<Self, TryReserveError>
+    pub fn from_iter<I: IntoIterator<Item = T>>(
+        alloc: Global,
+        iter: I,
+    ) -> Result<Self, TryReserveError>
     where
         T: Drop,
-        // The iterator can be called, and is finite.
-        requires callable { I.can_next iter }
-        requires finite { IsFinite (I.remaining iter) }
+        // The iterator that is made of `iter` can be called, and is finite.
+        requires callable { (it : I.IntoIter) → I.into_iter_gives iter it → I.IntoIter.can_next it }
+        requires finite { (it : I.IntoIter) → I.into_iter_gives iter it
+            → IsFinite (I.IntoIter.remaining it) }
 
-        // Success returns all items, in order.
-        ensures fits { size (I.remaining iter) ≤ new_capacity (type_size T.row) 0 → IsOk result }
-        ensures collected { IfOk result (λ b. Drains I.next_gives iter b.items) }
-        ensures runs { IfOk result (λ b. WholeRun I.next_gives iter (λ p. b.items ≡ p.items)) }
+        // Items that fit in no block that has to grow are collected without an error.
+        ensures fits { ((it : I.IntoIter) → I.into_iter_gives iter it
+            → size (I.IntoIter.remaining it) ≤ new_capacity (type_size T.row) 0) → IsOk result }
 
-        // The block grows by doubling, over the given allocator.
-        ensures growth { IfOk result (λ b. b.growth ≡ Doubling) }
-        ensures alloc { IfOk result (λ b. b.alloc ≡ alloc) }
-
-        // Failure says which items were taken, and which allocation failed.
-        ensures failed { IfErr result
-            (λ e. (after : I)
-            × FromIterFails I.next_gives (LowerAtMost I.remaining) (type_size T.row) iter e after) }
+        // The record says what success returns, and which items were taken before an error.
+        ensures collected { (it : I.IntoIter) × (after : I.IntoIter) × I.into_iter_gives iter it
+            × CollectResult I.IntoIter.next_gives (LowerAtMost I.IntoIter.remaining)
+            (type_size T.row) it alloc after result }
     {
         BoxedSlice::from_iter_in(iter, alloc)
     }
 }
 
 impl<T, A: Allocator> BoxedSlice<T, A> {
-    ghost use Rattle.aa_boxed.specs.BoxedSliceLends.{lends_items};
+    ghost use Rattle.aa_boxed.specs.BoxedSliceLends.{lends_items, lends_item};
 
     /// Returns a copy of `source`, allocated by `alloc`.
     ///
@@ -112,28 +112,27 @@ impl<T, A: Allocator> BoxedSlice<T, A> {
     /// block fails. The items that were taken are dropped.
     ///
     /// Not in allocator-api2.
-    pub fn from_iter_in<I: Iterator<Item = T>>(iter: I, alloc: A) -> Result<Self, TryReserveError>
+    pub fn from_iter_in<I: IntoIterator<Item = T>>(
+        iter: I,
+        alloc: A,
+    ) -> Result<Self, TryReserveError>
     where
         T: Drop,
-        // The iterator can be called, and is finite.
-        requires callable { I.can_next iter }
-        requires finite { IsFinite (I.remaining iter) }
+        // The iterator that is made of `iter` can be called, and is finite.
+        requires callable { (it : I.IntoIter) → I.into_iter_gives iter it → I.IntoIter.can_next it }
+        requires finite { (it : I.IntoIter) → I.into_iter_gives iter it
+            → IsFinite (I.IntoIter.remaining it) }
 
-        // Success returns all items, in order.
-        ensures fits { size (I.remaining iter) ≤ new_capacity (type_size T.row) 0 → IsOk result }
-        ensures collected { IfOk result (λ b. Drains I.next_gives iter b.items) }
-        ensures runs { IfOk result (λ b. WholeRun I.next_gives iter (λ p. b.items ≡ p.items)) }
+        // Items that fit in no block that has to grow are collected without an error.
+        ensures fits { ((it : I.IntoIter) → I.into_iter_gives iter it
+            → size (I.IntoIter.remaining it) ≤ new_capacity (type_size T.row) 0) → IsOk result }
 
-        // The block grows by doubling, over the given allocator.
-        ensures growth { IfOk result (λ b. b.growth ≡ Doubling) }
-        ensures alloc { IfOk result (λ b. b.alloc ≡ alloc) }
-
-        // Failure says which items were taken, and which allocation failed.
-        ensures failed { IfErr result
-            (λ e. (after : I)
-            × FromIterFails I.next_gives (LowerAtMost I.remaining) (type_size T.row) iter e after) }
+        // The record says what success returns, and which items were taken before an error.
+        ensures collected { (it : I.IntoIter) × (after : I.IntoIter) × I.into_iter_gives iter it
+            × CollectResult I.IntoIter.next_gives (LowerAtMost I.IntoIter.remaining)
+            (type_size T.row) it alloc after result }
     {
-        let mut rest = iter;
+        let mut rest = iter.into_iter();
         BoxedSlice::from_iter_in_by(&mut rest, alloc)
     }
 
@@ -271,6 +270,16 @@ impl<T, A: Allocator> BoxedSlice<T, A> {
         ensures value { result.now ≡ self.old.items }
     {
         self.block.slice_mut(0, self.len)
+    }
+
+    /// Returns a mutable reference to the element at `index`.
+    #[tactic(auto, using(aa_raw::proofs::Positions::at_positions, crate::proofs::Indexed::at_index))]
+    pub(crate) fn item_mut(&mut self, index: usize) -> &mut T
+        requires { index < length self.old.items }
+        ensures* writes_back { sem 𝓛 (lends_item T.row A.row A.Allocator self.entry index result) }
+        ensures value { result.now ≡ slice_index_or self.old.items index result.now }
+    {
+        self.block.place_mut(index)
     }
 
     /// Returns a reference to the allocator.

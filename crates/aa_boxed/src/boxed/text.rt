@@ -11,8 +11,10 @@ use crate::boxed::slice::BoxedSlice;
 use aa_raw::collections::{TryReserveError, TryReserveErrorKind};
 use core::mem::replace_with;
 use std::alloc::{Allocator, Global};
+use std::convert::AsStr;
 use std::default::Default;
 use std::marker::Model;
+use std::ops::{AsDeref, DerefStr};
 use std::str;
 use std::string::String;
 
@@ -116,6 +118,42 @@ impl<A: Allocator> BoxedText<A> {
         ensures { result.now ≡ self.now.alloc }
     {
         self.bytes.allocator()
+    }
+}
+
+impl<A: Allocator> DerefStr for BoxedText<A> {
+    ghost deref_gives = { λ t bytes. bytes ≡ t.bytes };
+
+    /// Returns the text as a `&str`, as `as_str` does.
+    fn deref(&self) -> &str {
+        self.as_str()
+    }
+}
+
+impl<A: Allocator> AsStr for BoxedText<A> {
+    ghost text = { λ t. t.bytes };
+
+    /// Returns the text as a `&str`. Corresponds to allocator-api2's `AsRef<str>`.
+    fn as_str(&self) -> &str {
+        BoxedText::as_str(self)
+    }
+}
+
+impl<'a, A: Allocator + 'a> AsDeref<'a> for BoxedText<A> {
+    ghost use Rattle.std.specs.Prelude.{ℕ};
+
+    type Shown = &'a str;
+
+    ghost as_deref_gives = { λ t s. s.now ≡ t.bytes };
+
+    ghost View = { List ℕ };
+
+    ghost view = { λ t. t.bytes };
+
+    ghost output_view = { λ s. s.now };
+
+    fn shown(&'a self) -> &'a str {
+        self.as_str()
     }
 }
 

@@ -9,10 +9,12 @@ ghost use Rattle.aa_raw.specs.IntoIterInner.{view_of, IsBetween};
 
 use crate::raw_vec::RawVec;
 use std::alloc::{Allocator, Global};
+use std::convert::AsSlice;
 use std::default::Default;
 use std::fmt;
 use std::iter::FusedIterator;
 use std::marker::Model;
+use std::ops::{DerefSlice, DerefSliceMut};
 
 /// An iterator over the remaining items of a block, from either end.
 ///
@@ -128,6 +130,38 @@ impl<T, A: Allocator> IntoIter<T, A> {
         let last = self.back - 1;
         self.back = last;
         Some(self.block.take(last))
+    }
+}
+
+impl<T, A: Allocator> DerefSlice for IntoIter<T, A> {
+    type Elem = T;
+
+    ghost deref_gives = { λ left xs. xs ≡ left.items };
+
+    /// Returns the remaining items as a slice, as `as_slice` does.
+    fn deref(&self) -> &[T] {
+        self.as_slice()
+    }
+}
+
+impl<T, A: Allocator> DerefSliceMut for IntoIter<T, A> {
+    ghost use Rattle.aa_raw.specs.IntoIterLends.{lends_remaining};
+
+    /// Returns the remaining items as a mutable slice, as `as_mut_slice` does.
+    fn deref_mut(&mut self) -> &mut [T]
+        ensures* writes_back { sem 𝓛 (lends_remaining T.row A.row A.Allocator self.entry result) }
+        ensures value { result.now ≡ self.old.items }
+    {
+        self.as_mut_slice()
+    }
+}
+
+impl<T, A: Allocator> AsSlice<T> for IntoIter<T, A> {
+    ghost items = { λ left. left.items };
+
+    /// Returns the remaining items as a slice. Corresponds to the original's `AsRef<[T]>`.
+    fn as_slice(&self) -> &[T] {
+        IntoIter::as_slice(self)
     }
 }
 

@@ -2,13 +2,14 @@
 ghost use Rattle.std.specs.Prelude.{◌≡◌, ◌+◌, ◌-◌, ◌<◌, ◌≤◌, [], ◌++◌, false, length, take, drop, slice_range, replicate, All, IsTrue, IfErr, OnOk, OnErr, IsOk};
 ghost use Rattle.std.specs.Mem.{type_size};
 ghost use Rattle.aa_vec.specs.Vector.{len, HasRoom, LacksRoom, Becomes, with_items, with_room};
+ghost use Rattle.aa_vec.specs.Ranges.{IsRangeOf};
 ghost use Rattle.aa_vec.specs.Copies.{ClonesAreEqual, AppendsClones, AppendsResults, AppendsCopies, RolledBack, MayCallTimes, AppendFails, AssignFails};
 
 use crate::vec::Vec;
 use aa_raw::collections::{TryReserveError, TryReserveErrorKind};
 use core::mem::replace_with;
 use std::alloc::Allocator;
-use std::ops::Range;
+use std_alloc::part::SliceRange;
 
 impl<T: Clone, A: Allocator> Vec<T, A> {
     /// Appends a clone of each element of `other`.
@@ -56,30 +57,35 @@ impl<T: Clone, A: Allocator> Vec<T, A> {
     /// # Errors
     /// Returns the same errors as `extend_from_slice`, and leaves the same.
     #[tactic(auto, using(crate::proofs::CopiesLemmas::cloned, crate::proofs::Becoming::became))]
-    pub fn extend_from_within(&mut self, range: Range<usize>) -> Result<(), TryReserveError>
-        requires { (range.start ≤ range.end) × (range.end ≤ len self.old) }
-        ensures fits { HasRoom self.old (range.end - range.start)
-            → All T.is_infallible (slice_range self.old.items range.start range.end) → IsOk result }
-        ensures extended { let own = slice_range self.old.items range.start range.end in
+    pub fn extend_from_within<R: SliceRange>(&mut self, range: R) -> Result<(), TryReserveError>
+        requires range { IsRangeOf R.SliceRange range (len self.old) }
+        ensures fits { let end = R.end range (len self.old) in
+            HasRoom self.old (end - R.start range)
+            → All T.is_infallible (slice_range self.old.items (R.start range) end) → IsOk result }
+        ensures extended { let end = R.end range (len self.old) in
+            let own = slice_range self.old.items (R.start range) end in
             let roomy = with_room (type_size T.row) self.old
-            (len self.old) (range.end - range.start) in
+            (len self.old) (end - R.start range) in
             OnOk result (AppendsClones T.is_clone roomy own self.new) }
-        ensures copied { let own = slice_range self.old.items range.start range.end in
-            let n = range.end - range.start in
+        ensures copied { let end = R.end range (len self.old) in
+            let own = slice_range self.old.items (R.start range) end in
+            let n = end - R.start range in
             let roomy = with_room (type_size T.row) self.old (len self.old) n in
             ClonesAreEqual T.is_clone → OnOk result (Becomes roomy
             (self.old.items ++ own) n n self.new) }
-        ensures failed { let own = slice_range self.old.items range.start range.end in
+        ensures failed { let end = R.end range (len self.old) in
+            let own = slice_range self.old.items (R.start range) end in
             IfErr result (λ e. AppendFails (¬ (All T.is_infallible own))
-            (type_size T.row) self.old (range.end - range.start) e self.new) }
+            (type_size T.row) self.old (end - R.start range) e self.new) }
     {
         let len = self.len();
-        let count = range.end - range.start;
+        let (start, end) = self.bounds_of(range);
+        let count = end - start;
         if let Err(error) = self.try_reserve(count) {
             return Err(error);
         }
         self.prove_capacity_bounds();
-        if self.push_own(range.start, count) {
+        if self.push_own(start, count) {
             return Ok(());
         }
         Err(TryReserveErrorKind::AllocError {

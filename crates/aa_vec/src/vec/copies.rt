@@ -8,12 +8,13 @@ ghost use Rattle.aa_raw.specs.Errors.{AllocationFails, ClonesFail};
 ghost use Rattle.aa_raw.specs.declared.raw_vec.Growth.TheVariants.{Doubling};
 ghost use Rattle.aa_vec.specs.Vector.{len, HasRoom, LacksRoom, GrowsTo, Holds};
 ghost use Rattle.aa_vec.specs.Copies.{WritesAtMost, IsMadeWithin};
+ghost use Rattle.aa_vec.specs.Ranges.{IsRangeOf};
 
 use crate::vec::Vec;
 use aa_raw::collections::TryReserveError;
 use core::mem::replace_with;
 use std::alloc::{Allocator, Global};
-use std::ops::Range;
+use std_alloc::part::SliceRange;
 
 impl<T: Copy> Vec<T, Global> {
     /// Returns a vector of copies of the elements of `slice` on the global allocator.
@@ -112,25 +113,33 @@ impl<T: Copy, A: Allocator> Vec<T, A> {
     ///
     /// Corresponds to what allocator-api2's `extend_from_within` compiles to for such elements.
     #[tactic(auto, using(crate::proofs::Becoming::became))]
-    pub fn extend_from_within_copied(&mut self, range: Range<usize>) -> Result<(), TryReserveError>
-        requires { (range.start ≤ range.end) × (range.end ≤ len self.old) }
+    pub fn extend_from_within_copied<R: SliceRange>(
+        &mut self,
+        range: R,
+    ) -> Result<(), TryReserveError>
+        requires range { IsRangeOf R.SliceRange range (len self.old) }
 
         // Elements that fit are copied without an error.
-        ensures fits { HasRoom self.old (range.end - range.start) → IsOk result }
-        ensures extended { OnOk result (GrowsTo (type_size T.row) self.old (range.end - range.start)
-            (self.old.items ++ slice_range self.old.items range.start range.end) self.new) }
-        ensures written { OnOk result (WritesAtMost self.old (range.end - range.start) self.new) }
+        ensures fits { let end = R.end range (len self.old) in
+            HasRoom self.old (end - R.start range) → IsOk result }
+        ensures extended { let end = R.end range (len self.old) in
+            let own = slice_range self.old.items (R.start range) end in
+            OnOk result (GrowsTo (type_size T.row) self.old (end - R.start range)
+            (self.old.items ++ own) self.new) }
+        ensures written { let end = R.end range (len self.old) in
+            OnOk result (WritesAtMost self.old (end - R.start range) self.new) }
 
         // An error changes nothing.
-        ensures error { IfErr result
-            (LacksRoom (type_size T.row) self.old (range.end - range.start)) }
+        ensures error { let end = R.end range (len self.old) in
+            IfErr result (LacksRoom (type_size T.row) self.old (end - R.start range)) }
         ensures unchanged { OnErr result (self.new ≡ self.old) }
     {
-        let count = range.end - range.start;
+        let (start, end) = self.bounds_of(range);
+        let count = end - start;
         if let Err(error) = self.try_reserve(count) {
             return Err(error);
         }
-        self.put_own_copies(range.start, count);
+        self.put_own_copies(start, count);
         Ok(())
     }
 

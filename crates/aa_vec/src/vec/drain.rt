@@ -3,13 +3,16 @@ ghost use Rattle.std.specs.Prelude.{◌≡◌, ◌-◌, ◌≤◌, length, Some,
 ghost use Rattle.std.specs.Iterator.{UpTo, item_count};
 ghost use Rattle.std.specs.Iterator.SizeHint.{IsWithinCount};
 ghost use Rattle.aa_vec.specs.Vector.{len};
+ghost use Rattle.aa_vec.specs.Ranges.{IsRangeOf};
 ghost use Rattle.aa_vec.specs.Tail.{HasTail};
 
 use crate::vec::Vec;
 use std::alloc::{Allocator, Global};
+use std::convert::AsSlice;
 use std::fmt;
 use std::iter::FusedIterator;
-use std::ops::Range;
+use std::ops::DerefSlice;
+use std_alloc::part::SliceRange;
 
 /// A double-ended iterator over a range that is removed from a vector.
 ///
@@ -43,12 +46,12 @@ impl<T, A: Allocator> Vec<T, A> {
     /// it removes what was not taken and closes the gap; forgetting it leaks the rest of the
     /// vector. Does not allocate, and does not change the capacity.
     #[tactic(auto, using(crate::proofs::DrainLemmas::ranges))]
-    pub fn drain(&mut self, range: Range<usize>) -> Drain<'_, T, A>
-        requires { (range.start ≤ range.end) × (range.end ≤ len self.old) }
+    pub fn drain<R: SliceRange>(&mut self, range: R) -> Drain<'_, T, A>
+        requires range { IsRangeOf R.SliceRange range (len self.old) }
 
         // The iterator borrows the vector, and takes the range out of it.
         ensures lender { drain_lender result ≡ self.entry.ghost_name }
-        ensures drained { TakesRange self.old range.start range.end result }
+        ensures drained { TakesRange self.old (R.start range) (R.end range (len self.old)) result }
 
         // Calls of `next` and `next_back` take elements from either end, and keep all else.
         ensures kept { (xs : List T) (later : Drain T A)
@@ -56,8 +59,9 @@ impl<T, A: Allocator> Vec<T, A> {
         ensures in_order { YieldsInOrder (drains_first {T = T} {A = A}) drain_remaining }
         ensures in_reverse { YieldsInReverse (drains_last {T = T} {A = A}) drain_remaining }
     {
-        let total = self.set_tail(range.start);
-        let count = range.end - range.start;
+        let (start, end) = self.bounds_of(range);
+        let total = self.set_tail(start);
+        let count = end - start;
         Drain {
             vec: self,
             front: 0,
@@ -101,6 +105,30 @@ impl<'a, T, A: Allocator> Drain<'a, T, A> {
             total,
         } = self;
         vec.close_gaps(front, back, end, total);
+    }
+}
+
+impl<'a, T, A: Allocator> DerefSlice for Drain<'a, T, A> {
+    ghost use Rattle.aa_vec.specs.Drain.{drain_remaining};
+
+    type Elem = T;
+
+    ghost deref_gives = { λ d xs. xs ≡ drain_remaining d };
+
+    /// Returns the elements not taken yet as a slice, as `as_slice` does.
+    fn deref(&self) -> &[T] {
+        self.as_slice()
+    }
+}
+
+impl<'a, T, A: Allocator> AsSlice<T> for Drain<'a, T, A> {
+    ghost use Rattle.aa_vec.specs.Drain.{drain_remaining};
+
+    ghost items = { drain_remaining };
+
+    /// Returns the elements not taken yet as a slice. Corresponds to the original's `AsRef<[T]>`.
+    fn as_slice(&self) -> &[T] {
+        Drain::as_slice(self)
     }
 }
 

@@ -15,6 +15,7 @@ use crate::vec::extend::lower_bound::{ByHint, ByLower, LowerBound, Reading};
 use aa_raw::collections::TryReserveError;
 use aa_raw::raw_vec::Growth;
 use std::alloc::{Allocator, Global};
+use std::iter::IntoIterator;
 
 pub mod hints;
 pub mod items;
@@ -129,16 +130,19 @@ impl<T, A: Allocator> Vec<T, A> {
     ///
     /// # Errors
     /// As `extend_hinted`. The original aborts if an allocation fails.
-    pub fn extend<I: Iterator<Item = T>>(&mut self, iter: I) -> Result<(), TryReserveError>
+    pub fn extend<I: IntoIterator<Item = T>>(&mut self, iter: I) -> Result<(), TryReserveError>
     where
         T: Drop,
-        requires callable { I.can_next iter }
-        requires finite { IsFinite (I.remaining iter) }
-        ensures fits { HasRoom self.old (size (I.remaining iter)) → IsOk result }
-        ensures extended { (after : I) × ExtendResult I.next_gives (LowerAtMost I.remaining)
-            (type_size T.row) iter self.old after result self.new }
+        requires callable { (it : I.IntoIter) → I.into_iter_gives iter it → I.IntoIter.can_next it }
+        requires finite { (it : I.IntoIter) → I.into_iter_gives iter it
+            → IsFinite (I.IntoIter.remaining it) }
+        ensures fits { ((it : I.IntoIter) → I.into_iter_gives iter it
+            → HasRoom self.old (size (I.IntoIter.remaining it))) → IsOk result }
+        ensures extended { (it : I.IntoIter) × (after : I.IntoIter) × I.into_iter_gives iter it
+            × ExtendResult I.IntoIter.next_gives (LowerAtMost I.IntoIter.remaining)
+            (type_size T.row) it self.old after result self.new }
     {
-        let mut rest = iter;
+        let mut rest = iter.into_iter();
         self.extend_by(&mut rest)
     }
 
@@ -165,24 +169,28 @@ impl<T, A: Allocator> Vec<T, A> {
     ///
     /// Allocates and fails as `extend` does. Corresponds to allocator-api2's `Vec::extend` over
     /// references, which aborts if an allocation fails.
-    pub fn extend_copied<'a, I: Iterator<Item = &'a T>>(
+    pub fn extend_copied<'a, I: IntoIterator<Item = &'a T>>(
         &mut self,
         iter: I,
     ) -> Result<(), TryReserveError>
     where
         T: Copy + 'a,
-        requires callable { I.can_next iter }
-        requires finite { IsFinite (I.remaining iter) }
-        ensures fits { HasRoom self.old (size (I.remaining iter)) → IsOk result }
-        ensures items { OnOk result ((rs : List (Bor T)) × Drains I.next_gives iter rs
+        requires callable { (it : I.IntoIter) → I.into_iter_gives iter it → I.IntoIter.can_next it }
+        requires finite { (it : I.IntoIter) → I.into_iter_gives iter it
+            → IsFinite (I.IntoIter.remaining it) }
+        ensures fits { ((it : I.IntoIter) → I.into_iter_gives iter it
+            → HasRoom self.old (size (I.IntoIter.remaining it))) → IsOk result }
+        ensures items { OnOk result ((it : I.IntoIter) × (rs : List (Bor T))
+            × I.into_iter_gives iter it × Drains I.IntoIter.next_gives it rs
             × (self.new.items ≡ self.old.items ++ map (λ r. r.now) rs)) }
-        ensures runs { OnOk result (WholeRun I.next_gives iter
+        ensures runs { OnOk result ((it : I.IntoIter) × I.into_iter_gives iter it
+            × WholeRun I.IntoIter.next_gives it
             (λ p. self.new.items ≡ self.old.items ++ map (λ r. r.now) p.items)) }
-        ensures extended { (after : I) × ExtendResult (YieldsCopies I.next_gives)
-            (LowerAtMost I.remaining)
-            (type_size T.row) iter self.old after result self.new }
+        ensures extended { (it : I.IntoIter) × (after : I.IntoIter) × I.into_iter_gives iter it
+            × ExtendResult (YieldsCopies I.IntoIter.next_gives) (LowerAtMost I.IntoIter.remaining)
+            (type_size T.row) it self.old after result self.new }
     {
-        let mut rest = iter;
+        let mut rest = iter.into_iter();
         self.extend_copied_by(&mut rest)
     }
 
@@ -220,16 +228,22 @@ impl<T, A: Allocator> Vec<T, A> {
     ///
     /// # Errors
     /// As `extend`. The items taken are dropped, and the error is returned.
-    pub fn from_iter_in<I: Iterator<Item = T>>(iter: I, alloc: A) -> Result<Self, TryReserveError>
+    pub fn from_iter_in<I: IntoIterator<Item = T>>(
+        iter: I,
+        alloc: A,
+    ) -> Result<Self, TryReserveError>
     where
         T: Drop,
-        requires callable { I.can_next iter }
-        requires finite { IsFinite (I.remaining iter) }
-        ensures fits { size (I.remaining iter) ≤ new_capacity (type_size T.row) 0 → IsOk result }
-        ensures collected { (after : I) × CollectResult I.next_gives (LowerAtMost I.remaining)
-            (type_size T.row) iter alloc after result }
+        requires callable { (it : I.IntoIter) → I.into_iter_gives iter it → I.IntoIter.can_next it }
+        requires finite { (it : I.IntoIter) → I.into_iter_gives iter it
+            → IsFinite (I.IntoIter.remaining it) }
+        ensures fits { ((it : I.IntoIter) → I.into_iter_gives iter it
+            → size (I.IntoIter.remaining it) ≤ new_capacity (type_size T.row) 0) → IsOk result }
+        ensures collected { (it : I.IntoIter) × (after : I.IntoIter) × I.into_iter_gives iter it
+            × CollectResult I.IntoIter.next_gives (LowerAtMost I.IntoIter.remaining)
+            (type_size T.row) it alloc after result }
     {
-        let mut rest = iter;
+        let mut rest = iter.into_iter();
         Vec::from_iter_in_by(&mut rest, alloc)
     }
 
@@ -265,14 +279,20 @@ impl<T> Vec<T, Global> {
     /// Creates a vector of the items of `iter`, which must end, in the global allocator.
     ///
     /// Allocates and fails as `from_iter_in` does. The original aborts if an allocation fails.
-    pub fn from_iter<I: Iterator<Item = T>>(alloc: Global, iter: I) -> Result<Self, TryReserveError>
+    pub fn from_iter<I: IntoIterator<Item = T>>(
+        alloc: Global,
+        iter: I,
+    ) -> Result<Self, TryReserveError>
     where
         T: Drop,
-        requires callable { I.can_next iter }
-        requires finite { IsFinite (I.remaining iter) }
-        ensures fits { size (I.remaining iter) ≤ new_capacity (type_size T.row) 0 → IsOk result }
-        ensures collected { (after : I) × CollectResult I.next_gives (LowerAtMost I.remaining)
-            (type_size T.row) iter alloc after result }
+        requires callable { (it : I.IntoIter) → I.into_iter_gives iter it → I.IntoIter.can_next it }
+        requires finite { (it : I.IntoIter) → I.into_iter_gives iter it
+            → IsFinite (I.IntoIter.remaining it) }
+        ensures fits { ((it : I.IntoIter) → I.into_iter_gives iter it
+            → size (I.IntoIter.remaining it) ≤ new_capacity (type_size T.row) 0) → IsOk result }
+        ensures collected { (it : I.IntoIter) × (after : I.IntoIter) × I.into_iter_gives iter it
+            × CollectResult I.IntoIter.next_gives (LowerAtMost I.IntoIter.remaining)
+            (type_size T.row) it alloc after result }
     {
         Vec::from_iter_in(iter, alloc)
     }

@@ -5,12 +5,13 @@ ghost use Rattle.aa_vec.specs.Tail.{HasTail, tail_items};
 ghost use Rattle.aa_vec.specs.Choosing.{CallableAtMut, MayCallInOrder, IsCallableInOrder};
 ghost use Rattle.aa_vec.specs.Until.{KeepsWhen, CallsOnTail, CallsAndShifts, Picks};
 ghost use Rattle.aa_vec.specs.Vector.{len};
+ghost use Rattle.aa_vec.specs.Ranges.{IsRangeOf};
 
 use crate::vec::Vec;
 use crate::vec::retain::count_kept;
 use std::alloc::{Allocator, Global};
 use std::iter::FusedIterator;
-use std::ops::Range;
+use std_alloc::part::SliceRange;
 
 /// An iterator over the elements of a range that a closure removes, which borrows the closure at
 /// each call.
@@ -179,15 +180,16 @@ impl<T, A: Allocator> Vec<T, A> {
     /// `f` is called for each element in order, as the iterator is advanced. The others are kept,
     /// as `f` leaves them. Does not allocate, and does not change the capacity.
     #[tactic(auto, using(crate::proofs::ExtractRuns::extracts_along))]
-    pub fn extract_if<F: FnMut(&mut T) -> bool>(
+    pub fn extract_if<R: SliceRange, F: FnMut(&mut T) -> bool>(
         &mut self,
-        range: Range<usize>,
+        range: R,
         f: F,
     ) -> ExtractIf<'_, T, F, A>
-        requires { (range.start ≤ range.end) × (range.end ≤ len self.old) }
+        requires range { IsRangeOf R.SliceRange range (len self.old) }
         ensures lender { extract_lender result.by ≡ self.entry.ghost_name }
         ensures closure { result.f ≡ f }
-        ensures taken { ExtractsRange self.old range.start range.end result.by }
+        ensures taken { let end = R.end range (len self.old) in
+            ExtractsRange self.old (R.start range) end result.by }
         ensures extracted { ExtractsAlong (CalledAtMut F.FnMut) result }
     {
         ExtractIf {
@@ -201,17 +203,19 @@ impl<T, A: Allocator> Vec<T, A> {
     ///
     /// Returns an iterator whose `next_by` takes the closure by `&mut`. Does not allocate. Not in
     /// allocator-api2.
-    pub fn extract_by(&mut self, range: Range<usize>) -> ExtractBy<'_, T, A>
-        requires { (range.start ≤ range.end) × (range.end ≤ len self.old) }
+    pub fn extract_by<R: SliceRange>(&mut self, range: R) -> ExtractBy<'_, T, A>
+        requires range { IsRangeOf R.SliceRange range (len self.old) }
         ensures lender { extract_lender result ≡ self.entry.ghost_name }
-        ensures taken { ExtractsRange self.old range.start range.end result }
+        ensures taken { let end = R.end range (len self.old) in
+            ExtractsRange self.old (R.start range) end result }
     {
-        let total = self.set_tail(range.start);
+        let (start, end) = self.bounds_of(range);
+        let total = self.set_tail(start);
         ExtractBy {
             vec: self,
             kept: 0,
             front: 0,
-            end: range.end - range.start,
+            end: end - start,
             total,
         }
     }

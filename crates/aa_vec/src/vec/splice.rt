@@ -3,6 +3,7 @@ ghost use Rattle.std.specs.Prelude.{◌≡◌, ℕ, ◌+◌, ◌-◌, ◌*◌, �
 ghost use Rattle.std.specs.Mem.{type_size};
 ghost use Rattle.std.specs.Iterator.{IsFinite};
 ghost use Rattle.aa_vec.specs.Vector.{len, HasRoom};
+ghost use Rattle.aa_vec.specs.Ranges.{IsRangeOf};
 ghost use Rattle.aa_vec.specs.Tail.{HasTail, tail_items};
 ghost use Rattle.aa_vec.specs.Extend.{LowerAtMost, LowerExactly};
 ghost use Rattle.aa_vec.specs.SpliceItems.{Replaced, gapped};
@@ -13,7 +14,8 @@ use crate::vec::extend::lower_bound::{ByHint, ByLower, LowerBound};
 use aa_raw::collections::TryReserveError;
 use std::alloc::{Allocator, Global};
 use std::fmt;
-use std::ops::Range;
+use std::iter::IntoIterator;
+use std_alloc::part::SliceRange;
 
 /// A splice: a range of a vector that is replaced by the items of an iterator.
 ///
@@ -45,27 +47,29 @@ impl<T, A: Allocator> Vec<T, A> {
     ///
     /// The vector holds only the elements before the range until then. The splice returns the
     /// elements of the range from either end. Does not allocate, and does not change the capacity.
-    pub fn splice<I: Iterator<Item = T>>(
+    pub fn splice<R: SliceRange, I: IntoIterator<Item = T>>(
         &mut self,
-        range: Range<usize>,
+        range: R,
         iter: I,
-    ) -> Splice<'_, I, A>
+    ) -> Splice<'_, I::IntoIter, A>
     where
         A: Clone,
-        requires { (range.start ≤ range.end) × (range.end ≤ len self.old) }
+        requires range { IsRangeOf R.SliceRange range (len self.old) }
         ensures lender { drain_lender (splice_range result) ≡ self.entry.ghost_name }
-        ensures drained { TakesRange self.old range.start range.end (splice_range result) }
-        ensures items { splice_iter result ≡ iter }
+        ensures drained { let end = R.end range (len self.old) in
+            TakesRange self.old (R.start range) end (splice_range result) }
+        ensures items { I.into_iter_gives iter (splice_iter result) }
     {
-        let total = self.set_tail(range.start);
-        let count = range.end - range.start;
+        let (start, end) = self.bounds_of(range);
+        let total = self.set_tail(start);
+        let count = end - start;
         Splice {
             vec: self,
             front: 0,
             back: count,
             end: count,
             total,
-            iter,
+            iter: iter.into_iter(),
         }
     }
 }

@@ -1,11 +1,12 @@
 //! Callers whose contracts say what a worked example counts, what an insert writes at the end, and
 //! what edits leave of a new text; and the numbers of a few scripts.
-ghost use Rattle.std.specs.Prelude.{◌≡◌, ℕ, ◌+◌, ◌*◌, ◌<◌, ◌≤◌, List, None, [], ◌∷◌, replicate, fold, IfOk, OnErr, OnOk};
+ghost use Rattle.std.specs.Prelude.{◌≡◌, ℕ, ◌+◌, ◌*◌, ◌<◌, ◌≤◌, List, None, [], ◌∷◌, replicate, reverse, fold, IfOk, IsTrue, OnErr, OnOk};
 ghost use Rattle.std.specs.Mem.{type_size};
 ghost use Rattle.std.specs.Iterator.{IsFinite, YieldsThen};
 ghost use Rattle.aa_raw.specs.declared.raw_vec.Growth.TheVariants.{Doubling, Sparing};
 ghost use Rattle.aa_raw.specs.Growth.{new_capacity};
-ghost use Rattle.aa_gap.specs.Buffer.{empty, len, gap};
+ghost use Rattle.std.specs.List.{Contains};
+ghost use Rattle.aa_gap.specs.Buffer.{empty, len, gap, text as whole};
 ghost use Rattle.aa_gap.specs.Editing.{with_edit};
 ghost use Rattle.aa_gap.specs.Page.{inserts};
 ghost use Rattle.aa_gap.specs.declared.gap_buffer.Edit.{Edit};
@@ -13,7 +14,7 @@ ghost use Rattle.aa_gap.specs.declared.gap_buffer.Edit.TheVariants.{Insert, Dele
 
 use aa_gap::gap_buffer::{Edit, GapBuffer};
 use aa_raw::collections::{Refused, TryReserveError};
-use std::alloc::Allocator;
+use std::alloc::{AllocError, Allocator, Global};
 
 // An insert without spare capacity: wherever the cursor is, it moves the text to the new block,
 // each element once, and writes nothing but its item.
@@ -60,6 +61,47 @@ fn made_by<T: Drop, A: Allocator, I: Iterator<Item = Edit<T>>>(
     let mut text = GapBuffer::new_in(alloc);
     text.edit_all(edits)?;
     Ok(text)
+}
+
+// A `for` loop sees the elements of the whole text.
+fn has<A: Allocator>(text: &GapBuffer<u32, A>, x: u32) -> bool
+    ensures { IsTrue result → Contains (whole text.now) x }
+{
+    for y in text {
+        if *y == x {
+            return true;
+        }
+    }
+    false
+}
+
+// Copies of the elements are collected in order, or in reverse.
+fn copied<A: Allocator>(
+    text: &GapBuffer<u32, A>,
+    alloc: Global,
+) -> Result<GapBuffer<u32>, AllocError>
+    ensures { IfOk result (λ v. v.before ≡ whole text.now) }
+{
+    text.iter().copied().collect(alloc)
+}
+
+fn reversed<A: Allocator>(
+    text: &GapBuffer<u32, A>,
+    alloc: Global,
+) -> Result<GapBuffer<u32>, AllocError>
+    ensures { IfOk result (λ v. v.before ≡ reverse (whole text.now)) }
+{
+    text.iter().rev().copied().collect(alloc)
+}
+
+// The elements by value are collected in order.
+fn moved<T: Drop, A: Allocator>(
+    text: GapBuffer<T, A>,
+    alloc: Global,
+) -> Result<GapBuffer<T>, AllocError>
+    ensures { IfOk result (λ v. v.before ≡ whole text) }
+{
+    text.into_iter().collect(alloc)
 }
 
 // Five inserts: 4 places, and at the fifth 8. The four before it are moved, and each is written

@@ -19,6 +19,8 @@ enum Call {
     Reserve(usize),
     Clear,
     Drop,
+    // With an element taken from each end.
+    IntoIter,
 }
 
 fn called(call: Call, text: &mut Text<'_>) {
@@ -30,7 +32,7 @@ fn called(call: Call, text: &mut Text<'_>) {
             let _made = text.reserve(count);
         }
         Call::Clear => text.clear(),
-        Call::Drop => {}
+        Call::Drop | Call::IntoIter => {}
     }
 }
 
@@ -44,14 +46,21 @@ fn three<'a>(heap: &'a Faulty<Global>, drops: &'a Cell<u32>) -> Text<'a> {
     text
 }
 
+// Takes the first and the last element of a text, and drops the others.
+fn take_ends(text: Text<'_>) {
+    let mut items = text.into_iter();
+    drop(items.next());
+    drop(items.next_back());
+}
+
 // How many requests a call makes, and how many elements it drops.
 fn seen(call: Call, text: Text<'_>, heap: &Faulty<Global>, drops: &Cell<u32>) -> (u64, u32) {
     let mut text = text;
     let before = heap.requests();
-    if matches!(call, Call::Drop) {
-        drop(text);
-    } else {
-        called(call, &mut text);
+    match call {
+        Call::Drop => drop(text),
+        Call::IntoIter => take_ends(text),
+        _ => called(call, &mut text),
     }
     (heap.requests().saturating_sub(before), drops.get())
 }
@@ -75,6 +84,7 @@ fn elements_of_a_text_are_dropped_once(rt: HostRuntime) {
         (Call::Reserve(2), 1, 0),
         (Call::Clear, 0, 3),
         (Call::Drop, 0, 3),
+        (Call::IntoIter, 0, 3),
     ] {
         assert!(rt; is_so(rt.alloc(), row), "{} of {}", row.2, row.1);
     }

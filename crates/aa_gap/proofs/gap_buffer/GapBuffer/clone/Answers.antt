@@ -1,0 +1,45 @@
+use Rattle.aa_gap.proofs.{[], empty, len, refl, type_size, ◌∙◌, ◌≡◌}
+use Rattle.aa_raw.proofs.Places.{length-empty_places}
+use Rattle.aa_raw.specs.Growth.{new_capacity}
+use Rattle.std.proofs.lemmas.List.Elements.{same_from_all_zip}
+use denote.Param.{param}
+use Rattle.aa_gap.proofs.Extending.{IsCopy-made, parts-made}
+use Rattle.aa_gap.proofs.gap_buffer.GapBuffer.clone.Given.{Over}
+use Rattle.aa_gap.proofs.gap_buffer.GapBuffer.clone.Goals as goal
+
+-- the text that the clones are inserted into
+made-empty : (g : Over) (c : goal.After-move_to g) → let size = type_size (param 0 g.row.T) in
+    c.with_block-copy.result
+    ≡ empty (new_capacity size (len c.args.self.now)) c.args.self.now.growth c.in-Ok.alloc
+made-empty g c =
+    let T = param 0 g.row.T in let b = c.args.self.now in
+    let long = length-empty_places T.Denot (type_size T) (len b) in
+    let block = c.in_ok-block.ensures.made in
+    let sizes = c.len-capacity.ensures.count in let growth = c.growth-growth.ensures in
+    c.with_block-copy.ensures ∙ rw (block, sizes, growth) (λ i. record {
+      before = [];
+      after = [];
+      capacity = long i;
+      growth = b.growth;
+      grown = 0;
+      written = 0;
+      runs = 0;
+      alloc = c.in-Ok.alloc;
+    })
+
+pub returns-clause-made : goal.returns-clause-made
+returns-clause-made g c =
+    let size = type_size (param 0 g.row.T) in let b = c.args.self.now in
+    let none = c.with_block-copy.result in let t = c.if-not-insert_text.ensures.added refl in
+    let made = IsCopy-made g.T.Clone.is_clone size b none t.0 c.insert_text.new.self t.1 t.2 in
+    rw (c.move_to.ensures, c.cursor.ensures) (made c.in-Ok.alloc (made-empty g c))
+
+pub returns-clause-copied : goal.returns-clause-copied
+returns-clause-copied g c =
+    λ equal. let size = type_size (param 0 g.row.T) in let b = c.args.self.now in
+    let none = c.with_block-copy.result in let t = c.if-not-insert_text.ensures.added refl in
+    let clones = g.T.Clone.is_clone in let same = same_from_all_zip clones in
+    let parts = parts-made clones size b none t.0 c.insert_text.new.self t.1 t.2 in
+    let is = parts c.in-Ok.alloc (made-empty g c) in
+    rw (c.move_to.ensures, c.cursor.ensures)
+    (is.0 ∙ same _ _ t.1.each equal, is.1 ∙ same _ _ t.2.each equal)

@@ -1,0 +1,11 @@
+use Rattle.std.proofs.Common.{◌≡◌, length}
+use Rattle.std.specs.Cmp.Lexicographic.{slice_cmp}
+use Rattle.aa_gap.specs.Buffer.{text}
+use Rattle.aa_gap.proofs.gap_buffer.compare.compare.Given as goal
+
+-- the remaining elements decide
+abbrev pub invariant-each : goal.invariant-each
+invariant-each g l = slice_cmp g.T.Ord.cmp l.items l.others ≡ slice_cmp g.T.Ord.cmp (text l.left) (text l.right)
+
+abbrev pub decreases-each : goal.decreases-each
+decreases-each g l = length l.items
