@@ -1,5 +1,5 @@
 -- Keys remain in order, and the entry at the rank of a key decides whether the entries have it.
-use Rattle.std.proofs.Common.{◌≡◌, ◌+◌, ◌-◌, ◌≤◌, ◌<◌, ◌++◌, ℕ, suc, zero, List, [], ◌∷◌, Option, Some, None, inl, inr, refl, arith, length, take, drop, add-one, sym, ap, ◌∙◌, length-append, take-append-drop}
+use Rattle.std.proofs.Common.{◌≡◌, ◌+◌, ◌-◌, ◌≤◌, ◌<◌, ◌++◌, ℕ, suc, zero, List, [], ◌∷◌, Some, None, inl, inr, refl, arith, length, take, drop, add-one, sym, ap, ◌∙◌, length-append, take-append-drop}
 use Rattle.std.specs.Prelude.{slice_get, slice_set, ◌≢◌}
 use Rattle.std.proofs.lemmas.Bool.Decides.{nat_tests}
 use Rattle.std.proofs.lemmas.Bool.{cases_lt}

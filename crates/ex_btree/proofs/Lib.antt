@@ -4,3 +4,4 @@ pub mod Order
 pub mod Splitting
 pub mod Borrowed
 pub mod Ranges
+pub mod Extending

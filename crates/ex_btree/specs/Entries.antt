@@ -24,6 +24,16 @@ module _ {V : Type 0} where
       if nat_lt e.0 key then e ∷ put key v es
       else (if nat_eq key e.0 then (key, v) ∷ es else (key, v) ∷ e ∷ es)
 
+  -- the entries `es` after each pair of `xs` was put in turn, so that the last of equal keys sets
+  -- the value
+  abbrev pub put_all : List (ℕ × V) → List (ℕ × V) → List (ℕ × V)
+  put_all [] es = es
+  put_all (x ∷ xs) es = put_all xs (put x.0 x.1 es)
+
+  -- the entries `new` are those of `es` with the pairs `xs` put in turn
+  abbrev pub PutsAll : List (ℕ × V) → List (ℕ × V) → List (ℕ × V) → Type 0
+  PutsAll es xs new = new ≡ put_all xs es
+
   -- the entries `es` without `key`
   abbrev pub without : (key : ℕ) → List (ℕ × V) → List (ℕ × V)
   without key es = filter (λ e. not (nat_eq key e.0)) es

@@ -1,12 +1,12 @@
 //! The ordered map: a sorted map from integer keys to values.
-ghost use Rattle.std.specs.Prelude.{◌≡◌, ◌+◌, ◌-◌, ◌<◌, ◌≤◌, ◌^◌, [], length, is_some, true, false, None, IfErr, IfOk, IsOk, IsTrue, OnErr, OnOk, ◌↔◌, option_copied, option_map, slice_get};
+ghost use Rattle.std.specs.Prelude.{◌≡◌, ◌+◌, ◌-◌, ◌<◌, ◌≤◌, ◌^◌, [], length, map, is_some, true, false, None, IfErr, IfOk, IsOk, IsTrue, OnErr, OnOk, ◌↔◌, option_copied, option_map, slice_get};
 ghost use Rattle.std.specs.Borrow.{sem};
 ghost use Rattle.std.specs.Option.{option_copied_mut};
 ghost use Rattle.allocator_api2.specs.declared.collections.TryReserveErrorKind.TheVariants.{CapacityOverflow};
 ghost use Rattle.ex_btree.specs.Entries.{between, put, value, without, IsAscending};
 ghost use Rattle.ex_btree.specs.Leaves.{leaf_room, most_places, IsErrorForAtMost};
 
-use crate::iter::{Iter, Range};
+use crate::iter::{Iter, Keys, Range, Values};
 use crate::leaf::Leaf;
 use crate::leaves::{find, leaf_for, make_room, put_in, take_out};
 use allocator_api2::collections::{Refused, TryReserveErrorKind};
@@ -53,6 +53,11 @@ impl<V, A: Allocator> OrderedMap<V, A> {
             leaves: Vec::new_in(alloc),
             len: 0,
         }
+    }
+
+    // Returns a reference to the underlying allocator.
+    pub(crate) fn allocator(&self) -> &A {
+        self.leaves.allocator()
     }
 
     /// Returns the number of entries.
@@ -107,8 +112,23 @@ impl<V, A: Allocator> OrderedMap<V, A> {
         Iter {
             front: &[],
             rest: self.leaves.as_slice(),
+            back: &[],
             left: self.len,
         }
+    }
+
+    /// Returns an iterator over the keys, in order.
+    pub fn keys(&self) -> Keys<'_, V, A>
+        ensures all { result ≡ map (λ e. e.0) self.now }
+    {
+        Keys { rest: self.iter() }
+    }
+
+    /// Returns an iterator over the values, in the order of the keys.
+    pub fn values(&self) -> Values<'_, V, A>
+        ensures all { result ≡ map (λ e. e.1) self.now }
+    {
+        Values { rest: self.iter() }
     }
 
     /// Returns an iterator over the entries with keys in `low..high`, in the order of the keys.

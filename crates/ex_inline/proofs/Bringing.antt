@@ -54,7 +54,6 @@ rewritten_by false n xs ws e = refl
 
 module _ {T A : Type 0} where
   pub written-same : (s : Inlined T A) (ws : List T) → length ws ≡ length s.items → written s ws ≡ ws
-  unfolding written
   written-same s ws e = rewritten_by s.spilled (length s.items) s.items ws e
 
   -- the items that were appended to an empty one, so far
@@ -79,6 +78,12 @@ module _ {T A E : Type 0} (s new : Inlined T A) (f : Inlined T A → Inlined T A
   pub failed-of : (r : Result Unit E) (P : E → Inlined T A → Type 0) → IfErr r (λ e. P e s) → IfErr r (λ e. (x : Inlined T A) × P e x × (new ≡ f x))
   failed-of (Ok u) P p = tt
   failed-of (Err e) P p = (s, p, is)
+
+-- the items that were appended are inserted at `i`
+pub came-in : {S T E : Type 0} (r : Result Unit E) (P : S → Type 0) (D : S → List T → Type 0) (old mid new : List T) (i n : ℕ) → i ≤ n → n ≡ length old → new ≡ with_tail_at i n mid
+    → OnOk r ((it : S) × P it × (xs : List T) × D it xs × (mid ≡ old ++ xs)) → OnOk r ((it : S) × P it × (xs : List T) × D it xs × (new ≡ take i old ++ (xs ++ drop i old)))
+came-in (Ok u) P D old mid new i n h e is p = (p.0, p.1, p.2, p.3, is ∙ ap (with_tail_at i n) p.4 ∙ with_tail_at-append old p.2 i n h e)
+came-in (Err x) P D old mid new i n h e is p = tt
 
 pub ruleset bringing = (with_tail_at-is, length-drop, length-with_tail_at, length-reverse, written-same)
 

@@ -1,9 +1,10 @@
 -- What calls of a `Few` need: items at the first places of an array, and a value that is carried through a list.
 use Rattle.std.proofs.Common.{◌≡◌, ℕ, zero, suc, ◌+◌, ◌-◌, ◌<◌, ◌≤◌, List, [], ◌∷◌, ◌++◌, length, take, drop, get_or, Some, refl, sym, ap, ap₂, ◌∙◌, arith, length-set, length-take-le, take-take, length-append, length-drop}
 use Rattle.std.specs.Iterator.{MakesProgress, item_count}
-use Rattle.std.specs.Prelude.{None, Option, MatchOption, insert, remove, slice_get, slice_set}
+use Rattle.std.specs.Prelude.{None, Option, MatchOption, insert, remove, slice_get, slice_set, swap_remove}
 use Rattle.ex_inline.specs.FewInner.{in_front}
 use Rattle.std.proofs.lemmas.Bool.Decides.{nat_tests}
+use Rattle.std.proofs.Math.Seq.{get_or-append_seam}
 use Rattle.std.proofs.lemmas.Grind.{take-set_at}
 use Rattle.std.proofs.lemmas.Option.{get_or_from_slice_get}
 use Rattle.std.proofs.lemmas.List.{take_at, drop-append-le, drop-set-lt, drop_all, drop_more, take_all, take_more, take-set-le}
@@ -40,6 +41,14 @@ module _ {X : Type 0} where
   take-pop xs n x b some few e =
       let next : n - 1 + 1 ≡ n = omega arith in
       (λ t. take (sym next t) xs) ∙ take_more xs (n - 1) x (omega arith) ∙ ap (λ y. take (n - 1) xs ++ y ∷ []) (sym e) ∙ ap (λ ys. ys ++ x ∷ []) (sym (take-set-le (n - 1) xs (n - 1) b (omega arith)))
+
+  -- the last of them taken, and put in the place of the one at i
+  pub swap-removed : (xs ys : List X) (x d : X) (i : ℕ) → xs ≡ ys ++ x ∷ [] → i < length ys → slice_set ys i x ≡ swap_remove xs i d
+  swap-removed xs ys x d i e few =
+      let n : length xs - 1 ≡ length ys = omega (arith, ap length e, length-append ys (x ∷ [])) in
+      let last : get_or xs (length ys) d ≡ x = ap (λ zs. get_or zs (length ys) d) e ∙ get_or-append_seam ys x [] d in
+      let front : take (length ys) xs ≡ ys = ap (take (length ys)) e ∙ take_at ys (x ∷ []) (length ys) refl in
+      sym (ap (λ k. take k (slice_set xs i (get_or xs k d))) n ∙ take-set_in xs (length ys) i (get_or xs (length ys) d) few ∙ (λ t. slice_set (front t) i (last t)))
 
   -- one more of a list that another one ends as
   pub read_ahead : (xs ys : List X) (i : ℕ) (x d : X) → i < length ys → length ys ≡ length xs → drop i ys ≡ drop i xs → x ≡ get_or ys i d → take (i + 1) xs ≡ take i xs ++ x ∷ []
@@ -99,3 +108,5 @@ pub ruleset in_places = (front, front-none, front-lent, nat_tests, length-set, l
 pub ruleset carried = (insert-end, get-insert, remove-insert)
 
 pub ruleset left = (nat_tests, left-next, left-last, none-left, length-drop, length-set)
+
+pub ruleset cut = (take-set-le, take-take, length-set)

@@ -1,5 +1,5 @@
 -- A small vector after items were appended, one by one, and one with clones.
-use Rattle.std.specs.Prelude.{◌≡◌, ℕ, List, [], ◌∷◌, ◌++◌, length, take, drop, Option, ◌⊎◌}
+use Rattle.std.specs.Prelude.{◌≡◌, ℕ, ◌+◌, ◌<◌, List, [], ◌∷◌, ◌++◌, length, take, drop, Option, ◌⊎◌}
 use Rattle.std.specs.Iterator.{Drains, Yields}
 use Rattle.std.specs.List.{AllZip, fold, slice_range}
 use Rattle.allocator_api2.specs.declared.collections.TryReserveError.{TryReserveError}
@@ -26,6 +26,19 @@ module _ {T A : Type 0} where
     pub each : AllZip clones xs added
     pub put : new ≡ with_written old (old.items ++ added) (length xs)
 
+  -- `new` is `old` with the first items of `n` appended, and not all of them
+  pub record AppendsPart (old : Inlined T A) (n : ℕ) (new : Inlined T A) : Type 0 where
+    pub added : List T
+    pub done : ℕ
+    pub fewer : done < n
+    pub put : new ≡ with_written old (old.items ++ added) done
+
+  -- `new` is `old` after fewer than `n` items were appended and removed again
+  pub record RolledBack (old : Inlined T A) (n : ℕ) (new : Inlined T A) : Type 0 where
+    pub done : ℕ
+    pub fewer : done < n
+    pub put : new ≡ with_written old old.items done
+
   -- `s` is a new small vector over `a` with a clone of each of `xs`; capacity for all of them was
   -- reserved at once
   pub record IsMadeOf (clones : T → T → Type 0) (size N : ℕ) (xs : List T) (a : A)
@@ -39,6 +52,15 @@ module _ {T A : Type 0} where
       → TryReserveError → Type 0
   CloningFails failure size N s n error =
       LacksRoom size N s n error ⊎ (failure × (error.kind ≡ AllocError n))
+
+  -- `n` items were not appended to `old`: capacity for them could not be reserved and `new` is
+  -- `old`, or `failure` holds and those appended are removed again
+  abbrev pub AppendFails : (failure : Type 0) (size N : ℕ) → Inlined T A → (n : ℕ)
+      → TryReserveError → Inlined T A → Type 0
+  AppendFails failure size N old n error new =
+      (LacksRoom size N old n error × (new ≡ old))
+      ⊎ (failure × (error.kind ≡ AllocError (length old.items + n))
+      × RolledBack (with_room size N old n) n new)
 
 module _ {S T A : Type 0} (next_gives : S → Option T → S → Type 0) (size N : ℕ) (iter : S)
     (old : Inlined T A) where

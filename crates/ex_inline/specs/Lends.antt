@@ -9,7 +9,7 @@ use Rattle.ex_inline.specs.Inlined.{Inlined, with_items}
 use Rattle.ex_inline.specs.contracts.inline.InlineVec.{the_row}
 
 -- the items of `s` after a mutable slice of all of them ended as `ws`: these, which are as many
-unfoldable pub written : {T A : Type 0} → Inlined T A → List T → List T
+abbrev pub written : {T A : Type 0} → Inlined T A → List T → List T
 written s ws = if s.spilled then refill (length s.items) s.items ws else ws
 
 module _ (T A N : RattleType) (g : Ghosts A.Denot) (s : MutBor (Inlined T.Denot A.Denot)) where

@@ -1,4 +1,5 @@
 pub mod Inlined
+pub mod Retaining
 pub mod InlinedInner
 pub mod FewInner
 pub mod FewLends

@@ -1,7 +1,10 @@
 //! `Few`: up to `N` items in an array.
-ghost use Rattle.std.specs.Prelude.{◌≡◌, ◌+◌, ◌-◌, ◌<◌, ◌≤◌, [], ◌∷◌, ◌++◌, length, slice_get, slice_index_or, slice_set, insert, remove, take, Some};
+ghost use Rattle.std.specs.Prelude.{◌≡◌, ◌+◌, ◌-◌, ◌<◌, ◌≤◌, [], ◌∷◌, ◌++◌, length, slice_get, slice_index_or, slice_set, insert, remove, swap_remove, take, Some};
 ghost use Rattle.std.specs.Borrow.{sem};
+ghost use Rattle.std.specs.Fn.{CalledAt, TakesAt};
+ghost use Rattle.allocator_api2.specs.Choosing.{IsCallableInOrder, Reads};
 ghost use Rattle.allocator_api2.specs.Vector.{HasRoom, SameBlock, Writes};
+ghost use Rattle.ex_inline.specs.Retaining.{Sifts};
 
 use allocator_api2::vec::Vec;
 use std::alloc::Allocator;
@@ -143,6 +146,56 @@ impl<T: Default, const N: usize> Few<T, N> {
         carried
     }
 
+    /// Removes the item at `index` and returns it. The last item replaces it.
+    pub fn swap_remove(&mut self, index: usize) -> T
+        requires { index < length self.old }
+        ensures value { slice_get self.old index ≡ Some result }
+        ensures items { self.new ≡ swap_remove self.old index result }
+    {
+        let last = self.pop();
+        if index == self.len() {
+            return last;
+        }
+        self.replace(index, last)
+    }
+
+    /// Keeps the first `len` items, and drops the others, in order.
+    #[tactic(auto, using(crate::proofs::Fews::in_places, crate::proofs::Fews::cut))]
+    pub fn truncate(&mut self, len: usize)
+    where
+        T: Drop,
+        ensures { self.new ≡ take len self.old }
+    {
+        if len >= self.len() {
+            return;
+        }
+        'each: for i in len..self.len() {
+            drop(self.replace(i, T::default()));
+        }
+        self.len = len;
+    }
+
+    /// Keeps only the items for which `keep` returns `true`, in order, and drops the others.
+    ///
+    /// Each item is moved out for its call.
+    #[tactic(auto, using(crate::proofs::Fews::in_places, crate::proofs::Sifting::sifted))]
+    pub fn retain<F: FnMut(&T) -> bool + Drop>(&mut self, mut keep: F)
+    where
+        T: Drop,
+        requires { IsCallableInOrder (Reads F.FnMut) (TakesAt F.FnMut) keep self.old }
+        ensures { (last : F) × Sifts (Reads F.FnMut) keep self.old last self.new }
+    {
+        let mut kept = 0;
+        'each: for i in 0..self.len() {
+            let item = self.replace(i, T::default());
+            if call_on(&mut keep, &item) {
+                drop(self.replace(kept, item));
+                kept += 1;
+            }
+        }
+        self.len = kept;
+    }
+
     /// Moves all items, in order, to the end of a vector, in which they must fit. Leaves this list
     /// empty.
     pub fn pour<A: Allocator>(&mut self, into: &mut Vec<T, A>)
@@ -155,6 +208,15 @@ impl<T: Default, const N: usize> Few<T, N> {
         pour_first(&mut self.places, self.len, into);
         self.len = 0;
     }
+}
+
+// Calls `test` at `item`.
+#[inline(always)]
+fn call_on<T, F: FnMut(&T) -> bool>(test: &mut F, item: &T) -> bool
+    requires { TakesAt F.FnMut test.old item.now }
+    ensures { CalledAt F.FnMut test.old item.now result test.new }
+{
+    test(item)
 }
 
 // Replaces the value at `i` by `item` and returns the old one.

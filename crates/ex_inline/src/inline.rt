@@ -12,9 +12,13 @@ use std::alloc::Allocator;
 use std::marker::Model;
 use std::mem;
 
+mod collect;
+mod compare;
 mod edits;
 mod many;
 mod places;
+mod removals;
+mod slices;
 
 // Where the items are, and the allocator.
 #[derive(Drop)]

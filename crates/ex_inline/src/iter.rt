@@ -1,19 +1,22 @@
 //! The items of a small vector: by their index, and by its iterators.
-ghost use Rattle.std.specs.Prelude.{◌≡◌, ◌<◌, length, slice_get, slice_index_or, IfSome, Some};
+ghost use Rattle.std.specs.Prelude.{◌≡◌, ◌<◌, ◌≤◌, ◌^◌, All, length, slice_get, slice_index_or, IfSome, Some};
 ghost use Rattle.std.specs.Borrow.{sem};
+ghost use Rattle.std.specs.List.{AllZip};
 ghost use Rattle.std.specs.Option.{option_copied_mut};
 ghost use Rattle.std.specs.Iterator.{UpTo, YieldsFirst, YieldsLast, item_count};
-ghost use Rattle.std.specs.Iterator.Adapters.{IterYieldsInOrder, IterYieldsInReverse};
+ghost use Rattle.std.specs.Iterator.Adapters.{IterYieldsInOrder, IterYieldsInReverse, IterMutYieldsInOrder, IterMutYieldsInReverse};
 ghost use Rattle.std.specs.Iterator.SizeHint.{IsWithinCount};
+ghost use Rattle.std.specs.Iterator.Runs.{YieldsInOrder, YieldsInReverse};
 ghost use Rattle.std.specs.Slice.Iter.{iter_rest, iter_mut_rest};
 
 use crate::inline::{Data, InlineVec};
-use std::alloc::Allocator;
+use std::alloc::{AllocError, Allocator};
+use std::fmt::{Debug, Formatter};
 use std::iter::FusedIterator;
 use std::marker::Model;
-use std::mem;
 use std::ops::{Index, IndexMut};
 use std::slice::{Iter, IterMut};
+use std::{fmt, mem};
 
 impl<T, A: Allocator, const N: usize> InlineVec<T, A, N> {
     ghost use Rattle.ex_inline.specs.Lends.{lends_item, lends_if_there, lends_items, lends_all};
@@ -28,7 +31,6 @@ impl<T, A: Allocator, const N: usize> InlineVec<T, A, N> {
     }
 
     /// Returns the items as a mutable slice.
-    #[tactic(auto, unfolding(crate::specs::Lends::written))]
     pub fn as_mut_slice(&mut self) -> &mut [T]
         ensures* writes_back { sem 𝓛
             (lends_items T.row A.row N.row A.Allocator self.entry result) }
@@ -44,6 +46,8 @@ impl<T, A: Allocator, const N: usize> InlineVec<T, A, N> {
     pub fn iter_mut(&mut self) -> IterMut<'_, T>
         ensures* writes_back { sem 𝓛 (lends_all T.row A.row N.row A.Allocator self.entry result) }
         ensures remaining { iter_mut_rest result ≡ self.old.items }
+        ensures runs { IterMutYieldsInOrder T }
+        ensures runs_back { IterMutYieldsInReverse T }
     {
         self.as_mut_slice().iter_mut()
     }
@@ -73,6 +77,46 @@ impl<T, A: Allocator, const N: usize> InlineVec<T, A, N> {
             return Some(self.item_mut(index));
         }
         None
+    }
+}
+
+impl<'a, T, A: Allocator, const N: usize> IntoIterator for &'a InlineVec<T, A, N> {
+    type Item = &'a T;
+
+    type IntoIter = Iter<'a, T>;
+
+    ghost into_iter_gives = { λ s i. (iter_rest i ≡ s.now.items) × (length (iter_rest i) < 2 ^ 64)
+        × IterYieldsInOrder T × IterYieldsInReverse T };
+
+    /// Returns the same as `iter`.
+    #[inline]
+    fn into_iter(self) -> Iter<'a, T> {
+        let items = self.as_slice();
+        items.iter()
+    }
+}
+
+impl<'a, T, A: Allocator, const N: usize> IntoIterator for &'a mut InlineVec<T, A, N> {
+    ghost use Rattle.ex_inline.specs.Lends.{lends_all};
+
+    type Item = &'a mut T;
+
+    type IntoIter = IterMut<'a, T>;
+
+    ghost into_iter_gives = { λ s i.
+        (iter_mut_rest i ≡ s.now.items) × (length (iter_mut_rest i) < 2 ^ 64)
+        × IterMutYieldsInOrder T × IterMutYieldsInReverse T };
+
+    /// Returns the same as `iter_mut`.
+    #[inline]
+    fn into_iter(self) -> IterMut<'a, T>
+        ensures* writes_back { sem 𝓛 (lends_all T.row A.row N.row A.Allocator self.entry result) }
+        ensures into_iter_gives { (iter_mut_rest result ≡ self.old.items)
+            × (length (iter_mut_rest result) < 2 ^ 64)
+            × IterMutYieldsInOrder T × IterMutYieldsInReverse T }
+    {
+        let items = self.as_mut_slice();
+        items.iter_mut()
     }
 }
 
@@ -124,12 +168,23 @@ impl<T, A: Allocator, const N: usize> Model for IntoIter<T, A, N> {
     ghost invariant = { λ i. i.front ≤ length i.rest.items };
 }
 
+impl<T, A: Allocator, const N: usize> IntoIter<T, A, N> {
+    /// Returns the remaining items as a slice, in order.
+    pub fn as_slice(&self) -> &[T]
+        ensures { result.now ≡ self.now }
+    {
+        &self.rest.as_slice()[self.front..]
+    }
+}
+
 impl<T, A: Allocator, const N: usize> InlineVec<T, A, N> {
     /// Returns a double-ended iterator that owns the items.
     ///
     /// Does not allocate.
     pub fn into_iter(self) -> IntoIter<T, A, N>
-        ensures { result ≡ self.items }
+        ensures items { result ≡ self.items }
+        ensures runs { YieldsInOrder (YieldsFirst {A = T} (λ rest. rest)) (λ rest. rest) }
+        ensures runs_back { YieldsInReverse (YieldsLast {A = T} (λ rest. rest)) (λ rest. rest) }
     {
         IntoIter {
             rest: self,
@@ -143,7 +198,9 @@ impl<T: Default + Drop, A: Allocator + Copy, const N: usize> IntoIterator for In
 
     type IntoIter = IntoIter<T, A, N>;
 
-    ghost into_iter_gives = { λ s i. i ≡ s.items };
+    ghost into_iter_gives = { λ s i. (i ≡ s.items)
+        × YieldsInOrder (YieldsFirst {A = T} (λ rest. rest)) (λ rest. rest)
+        × YieldsInReverse (YieldsLast {A = T} (λ rest. rest)) (λ rest. rest) };
 
     fn into_iter(self) -> IntoIter<T, A, N> {
         InlineVec::into_iter(self)
@@ -203,3 +260,25 @@ impl<T: Default + Drop, A: Allocator + Copy, const N: usize> ExactSizeIterator
 }
 
 impl<T: Default + Drop, A: Allocator + Copy, const N: usize> FusedIterator for IntoIter<T, A, N> {}
+
+impl<T: Default + Clone, A: Allocator + Copy, const N: usize> Clone for IntoIter<T, A, N> {
+    ghost is_clone = { AllZip T.is_clone };
+
+    ghost is_infallible = { λ left. (length left ≤ N) × All T.is_infallible left };
+
+    /// Returns an iterator over clones of the remaining items.
+    ///
+    /// Allocates only if they are more than `N`.
+    fn clone(&self) -> Result<Self, AllocError> {
+        match InlineVec::from_slice_in(self.as_slice(), *self.rest.allocator()) {
+            Ok(rest) => Ok(IntoIter { rest, front: 0 }),
+            Err(_) => Err(AllocError),
+        }
+    }
+}
+
+impl<T: Debug, A: Allocator, const N: usize> Debug for IntoIter<T, A, N> {
+    fn fmt<W: fmt::Write>(&self, f: &mut Formatter<W>) -> fmt::Result {
+        f.debug_tuple("IntoIter").field(&self.as_slice()).finish()
+    }
+}

@@ -1,11 +1,12 @@
 -- Items that are appended to a ring, one by one.
-use Rattle.std.proofs.Common.{◌≡◌, ℕ, ◌<◌, List, [], ◌∷◌, ◌++◌, refl, sym, ◌∙◌, arith, append_assoc, length-append}
+use Rattle.std.proofs.Common.{le-leb, ◌≡◌, ℕ, ◌-◌, ◌<◌, ◌≤◌, List, [], ◌∷◌, ◌++◌, Option, refl, sym, ap, ◌∙◌, arith, append_assoc, length, length-append}
 use Rattle.std.proofs.lemmas.Bool.Decides.{nat_tests}
 use Rattle.std.proofs.lemmas.List.{append-nil}
 use Rattle.std.proofs.lemmas.List.Elements.{same_from_all_zip}
-use Rattle.allocator_api2.proofs.Blocks.{with_room}
-use Rattle.ex_ring.specs.Extending.{pushed, pushed_all}
-use Rattle.ex_ring.specs.Ringed.{Ringed, HasRoom}
+use Rattle.std.specs.Iterator.{Yields}
+use Rattle.allocator_api2.proofs.Blocks.{with_room as with_capacity}
+use Rattle.ex_ring.specs.Extending.{pushed, pushed_all, HasExtended}
+use Rattle.ex_ring.specs.Ringed.{Ringed, HasRoom, with_room}
 
 module _ {T A : Type 0} (size : ℕ) where
   -- one more of them
@@ -22,6 +23,37 @@ module _ {T A : Type 0} (size : ℕ) where
   pub room-pushed : (r : Ringed T A) (x : T) (m n : ℕ) → n < m → HasRoom r m → HasRoom (pushed size r x) n
   room-pushed r x m n fewer room = grind (arith, nat_tests, length-append r.items (x ∷ []))
 
+  -- no capacity reserved
+  pub with_none : (r : Ringed T A) → with_room size r 0 ≡ r
+  with_none r = let fits : 0 ≤ r.capacity - length r.items = omega arith in rw (le-leb 0
+      (r.capacity - length r.items) fits) refl
+
+  -- what `Ring::extend` left, as the trait says it
+  pub extended-all : (old : Ringed T A) (bound : ℕ) (xs : List T) (new : Ringed T A)
+      → new ≡ pushed_all size (with_room size old bound) xs → HasExtended size old xs new
+  extended-all old bound xs new e =
+      record {
+        items = ap (λ r. r.items) e
+            ∙ items-pushed_all (with_room size old bound) xs;
+        bound = bound;
+        put = e;
+      }
+
+  pub extended-by-pushes : (old : Ringed T A) (xs : List T) (new : Ringed T A)
+      → new ≡ pushed_all size old xs → HasExtended size old xs new
+  extended-by-pushes old xs new e = extended-all old 0 xs new (e
+      ∙ ap (λ r. pushed_all size r xs) (sym (with_none old)))
+
+-- the items without the last
+pub front-yielded : {S X : Type 0} (steps : S → Option X → S
+    → Type 0) (s : S) (xs : List X) (x : X) (t : S)
+    → Yields steps s (xs ++ x ∷ []) t → (u : S) × Yields steps s xs u
+front-yielded steps s [] x t y = (s, refl)
+front-yielded steps s (z ∷ xs) x t y = let rest = front-yielded steps y.0 xs x t y.2 in (
+  rest.0,
+  (y.0, y.1, rest.1),
+)
+
 pub ruleset pushes = (pushed_all-push, items-pushed_all)
 
-pub ruleset copied = (with_room, same_from_all_zip)
+pub ruleset copied = (with_capacity, same_from_all_zip)

@@ -3,6 +3,8 @@ use Rattle.std.proofs.Common.{◌≡◌, ℕ, ◌+◌, ◌-◌, ◌<◌, ◌≤�
 use Rattle.std.specs.Prelude.{slice_set, reverse, replicate, is_some}
 use Rattle.std.specs.List.{list_all, refill}
 use Rattle.std.proofs.lemmas.Bool.Decides.{nat_tests}
+use Rattle.std.proofs.lemmas.Grind.{flat_map-append, fold-append}
+use Rattle.std.proofs.lemmas.List.Folds.{list_any-append}
 use Rattle.std.proofs.lemmas.List.{append-nil, drop_at, length-map, length-reverse, length-take-le, reverse-append, reverse-reverse, take-append-drop, set-append_left, set-append_right, take-append-le, take-take, take_at}
 use Rattle.allocator_api2.specs.Places.{IsFilled, IsRun, run, with_run}
 use Rattle.allocator_api2.proofs.Blocks.{apart, two_runs, shown, length-run, run-push, IsRun-push, run-pop, IsRun-pop, run-shift, IsRun-shift, run-unshift, IsRun-unshift, run-none, IsRun-joined, IsRun-part, run-split, IsRun-nil, run-set-above, run-set-below, run-set-same, IsRun-set-above, IsRun-set-below, first-filled, last-filled}
@@ -45,7 +47,7 @@ module _ {X : Type 0} where
   none_at cs w e = rw e (IsRun-nil cs 0 (omega arith))
 
   -- there is no wrapped item
-  no_others : (cs : List (Option X)) (f n w : ℕ) → w ≡ 0 → parts cs f n w ≡ run cs f n
+  pub no_others : (cs : List (Option X)) (f n w : ℕ) → w ≡ 0 → parts cs f n w ≡ run cs f n
   no_others cs f n w e = ap (λ ys. run cs f n ++ ys) (run-none cs 0 w e) ∙ append-nil (run cs f n)
 
   module _ (cs : List (Option X)) (f n w : ℕ) (h : HasParts cs f n w) where
@@ -226,3 +228,6 @@ pub ruleset put_at_front = (nat_tests, length-set, length-parts, has-put_before,
 pub ruleset taken_first = (nat_tests, length-set, no_parts, first-filled, take_first, has-take_first, around-there, take_around, has-take_around)
 
 pub ruleset taken_last = (nat_tests, length-set, no_parts, other-there, take_other, has-take_other, last-there, take_last, has-take_last)
+
+-- what is computed of the two slices in turn
+pub ruleset as_two = (flat_map-append, fold-append, list_any-append)

@@ -16,6 +16,13 @@ module _ {T A : Type 0} where
   pushed_all size r [] = r
   pushed_all size r (x ∷ xs) = pushed_all size (pushed size r x) xs
 
+  -- `new` is `old` after some capacity was reserved and the items `xs` were pushed
+  pub record HasExtended (size : ℕ) (old : Ringed T A) (xs : List T) (new : Ringed T A)
+      : Type 0 where
+    pub items : new.items ≡ old.items ++ xs
+    pub bound : ℕ
+    pub put : new ≡ pushed_all size (with_room size old bound) xs
+
   -- `copy` has a clone of each item of `r`, in a new block for exactly these, with the growth
   -- policy of `r`
   pub record IsCopy (clones : T → T → Type 0) (size : ℕ) (r copy : Ringed T A) : Type 0 where

@@ -1,11 +1,14 @@
 //! The iterators of a ring.
-ghost use Rattle.std.specs.Prelude.{◌≡◌, length, IfSome, Some};
+ghost use Rattle.std.specs.Prelude.{◌≡◌, ◌^◌, ◌<◌, length, IfSome, Some, ⊤};
 ghost use Rattle.std.specs.Iterator.{UpTo, YieldsFirst, YieldsLast, at_most, item_count};
 ghost use Rattle.std.specs.Iterator.SizeHint.{IsWithinCount};
-ghost use Rattle.std.specs.Map.Iter.{TakesFirst, TakesLast, deref};
+ghost use Rattle.std.specs.List.{AllZip};
+ghost use Rattle.std.specs.Map.Iter.{TakesFirst, TakesLast, ShowsInOrder, ShowsInReverse, GivesInOrder, GivesInReverse, deref};
 
 use crate::ring::Ring;
-use std::alloc::{Allocator, Global};
+use std::alloc::{AllocError, Allocator, Global};
+use std::fmt;
+use std::fmt::{Debug, Formatter};
 use std::iter::FusedIterator;
 use std::marker::Model;
 
@@ -31,7 +34,10 @@ impl<'a, T> Model for Iter<'a, T> {
 impl<T, A: Allocator> Ring<T, A> {
     /// Returns a double-ended iterator over references to the items, from front to back.
     pub fn iter(&self) -> Iter<'_, T>
-        ensures { result ≡ self.now.items }
+        ensures items { result ≡ self.now.items }
+        ensures fits_usize { length result < 2 ^ 64 }
+        ensures in_order { ShowsInOrder (deref {X = T}) }
+        ensures in_reverse { ShowsInReverse (deref {X = T}) }
     {
         // The contract of `len` says that the number of items is a `usize`.
         let _len = self.len();
@@ -102,12 +108,35 @@ impl<'a, T> ExactSizeIterator for Iter<'a, T> {
 
 impl<'a, T> FusedIterator for Iter<'a, T> {}
 
+impl<'a, T> Clone for Iter<'a, T> {
+    ghost is_clone = { λ left copy. copy ≡ left };
+
+    ghost is_infallible = { λ _. ⊤ };
+
+    /// Returns an iterator over the remaining items.
+    fn clone(&self) -> Result<Self, AllocError> {
+        Ok(Iter {
+            first: self.first,
+            others: self.others,
+        })
+    }
+}
+
+impl<'a, T: Debug> Debug for Iter<'a, T> {
+    /// Formats the remaining items as two slices.
+    fn fmt<W: fmt::Write>(&self, f: &mut Formatter<W>) -> fmt::Result {
+        let (first, others) = (self.first, self.others);
+        f.debug_tuple("Iter").field(&first).field(&others).finish()
+    }
+}
+
 impl<'a, T, A: Allocator> IntoIterator for &'a Ring<T, A> {
     type Item = &'a T;
 
     type IntoIter = Iter<'a, T>;
 
-    ghost into_iter_gives = { λ ring i. i ≡ ring.now.items };
+    ghost into_iter_gives = { λ ring i. (i ≡ ring.now.items) × (length i < 2 ^ 64)
+        × ShowsInOrder (deref {X = T}) × ShowsInReverse (deref {X = T}) };
 
     fn into_iter(self) -> Iter<'a, T> {
         self.iter()
@@ -136,8 +165,13 @@ impl<T, A: Allocator> Ring<T, A> {
     ///
     /// It owns the block as well, so this does not allocate.
     pub fn into_iter(self) -> IntoIter<T, A>
-        ensures { result ≡ self.items }
+        ensures items { result ≡ self.items }
+        ensures fits_usize { length result < 2 ^ 64 }
+        ensures in_order { GivesInOrder T }
+        ensures in_reverse { GivesInReverse T }
     {
+        // The contract of `len` says that the number of items is a `usize`.
+        let _len = self.len();
         IntoIter { rest: self }
     }
 }
@@ -147,7 +181,8 @@ impl<T: Drop, A: Allocator> IntoIterator for Ring<T, A> {
 
     type IntoIter = IntoIter<T, A>;
 
-    ghost into_iter_gives = { λ ring i. i ≡ ring.items };
+    ghost into_iter_gives = { λ ring i. (i ≡ ring.items) × (length i < 2 ^ 64)
+        × GivesInOrder T × GivesInReverse T };
 
     fn into_iter(self) -> IntoIter<T, A> {
         Ring::into_iter(self)
@@ -193,3 +228,22 @@ impl<T: Drop, A: Allocator> ExactSizeIterator for IntoIter<T, A> {
 }
 
 impl<T: Drop, A: Allocator> FusedIterator for IntoIter<T, A> {}
+
+impl<T: Clone, A: Allocator + Clone> Clone for IntoIter<T, A> {
+    ghost is_clone = { AllZip T.is_clone };
+
+    /// Returns an iterator over a clone of each remaining item, as `Ring`'s `clone` makes them.
+    fn clone(&self) -> Result<Self, AllocError> {
+        match self.rest.clone() {
+            Ok(rest) => Ok(IntoIter { rest }),
+            Err(_) => Err(AllocError),
+        }
+    }
+}
+
+impl<T: Debug, A: Allocator> Debug for IntoIter<T, A> {
+    /// Formats the remaining items as a ring of them is formatted.
+    fn fmt<W: fmt::Write>(&self, f: &mut Formatter<W>) -> fmt::Result {
+        f.debug_tuple("IntoIter").field(&self.rest).finish()
+    }
+}

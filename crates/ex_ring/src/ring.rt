@@ -14,6 +14,8 @@ use std::marker::Model;
 
 mod access;
 mod compare;
+mod format;
+mod made;
 mod many;
 mod turns;
 
@@ -292,6 +294,29 @@ impl<T, A: Allocator> Ring<T, A> {
         self.front = 0;
         self.count = 0;
         self.wrapped = 0;
+    }
+
+    /// Keeps the first `len` items, and drops the others in order.
+    ///
+    /// Does nothing if there are no more than `len`. Does not allocate, and does not change the
+    /// capacity.
+    #[tactic(auto, using(allocator_api2::proofs::Blocks::in_runs))]
+    pub fn truncate(&mut self, len: usize)
+    where
+        T: Drop,
+        ensures truncated { self.new ≡ with_written self.old (take len self.old.items) 0 }
+    {
+        self.block.prove_capacity_bounds();
+        if len < self.count {
+            self.block.drop_run(self.front + len, self.count - len);
+            self.block.drop_run(0, self.wrapped);
+            self.count = len;
+            self.wrapped = 0;
+        } else if len - self.count < self.wrapped {
+            let kept = len - self.count;
+            self.block.drop_run(kept, self.wrapped - kept);
+            self.wrapped = kept;
+        }
     }
 
     /// Reserves capacity for at least `additional` more items.

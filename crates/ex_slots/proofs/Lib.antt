@@ -1,3 +1,4 @@
 pub mod Common
 pub mod Finds
+pub mod Iterating
 pub mod Writing

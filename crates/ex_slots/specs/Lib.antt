@@ -1,3 +1,4 @@
 pub mod Slotted
 pub mod Inside
 pub mod Lends
+pub mod Iterating

@@ -75,3 +75,7 @@ module _ {T : Type 0} where
   -- the map `m` without the value of the key `k`, which has one
   abbrev pub without : Slotted T → Key → Slotted T
   without m k = record m { slots = slice_set m.slots k.index None }
+
+  -- the map `m` without its values
+  abbrev pub cleared : Slotted T → Slotted T
+  cleared m = record m { slots = [] }

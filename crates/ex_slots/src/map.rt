@@ -1,9 +1,10 @@
 //! The slot map: a map from keys that it issues to values, in which no key is issued twice.
-ghost use Rattle.std.specs.Prelude.{◌≡◌, ◌≢◌, ◌+◌, ◌<◌, ◌^◌, [], length, is_some, nat_lt, if◌then◌else◌, None, Some, IfErr, IfOk, IfSome, IfNone, IsOk, OnErr, OnOk, option_copied};
+ghost use Rattle.std.specs.Prelude.{◌≡◌, ◌≢◌, ◌+◌, ◌<◌, ◌^◌, [], length, is_some, nat_lt, if◌then◌else◌, None, Some, IfErr, IfOk, IfSome, IfNone, IsOk, IsTrue, OnErr, OnOk, option_copied, ◌↔◌};
 ghost use Rattle.std.specs.Borrow.{sem};
 ghost use Rattle.std.specs.Option.{option_copied_mut};
 ghost use Rattle.allocator_api2.specs.Errors.{IsErrorFor};
-ghost use Rattle.ex_slots.specs.Slotted.{count, entries, find, grown, with_room, without, HasRoom, Puts};
+ghost use Rattle.ex_slots.specs.Iterating.{YieldsPairsInOrder, YieldsPairsInReverse};
+ghost use Rattle.ex_slots.specs.Slotted.{cleared, count, entries, find, grown, with_room, without, HasRoom, Puts};
 ghost use Rattle.ex_slots.specs.declared.map.Key.{Key};
 
 use crate::iter::Iter;
@@ -13,11 +14,13 @@ use allocator_api2::vec::Vec;
 use std::alloc::Allocator;
 use std::marker::Model;
 
+mod traits;
+
 /// A key of one value in the map that issued it.
 ///
 /// It consists of the index of its slot, and its serial: the number of keys issued before it. It
 /// does not identify its map: in another map it may find a value.
-#[derive(Clone, Copy, PartialEq, Eq, Drop)]
+#[derive(Clone, Copy, PartialEq, Eq, Debug, Drop)]
 pub struct Key {
     pub(crate) index: usize,
     pub(crate) serial: u64,
@@ -74,6 +77,13 @@ impl<T: Drop, A: Allocator> SlotMap<T, A> {
         self.slots.len() - self.free.count
     }
 
+    /// Returns `true` if the map has no values.
+    pub fn is_empty(&self) -> bool
+        ensures { IsTrue result ↔ (count self.now.slots ≡ 0) }
+    {
+        self.len() == 0
+    }
+
     /// Returns a reference to the value of `key`, or `None` if it has none.
     pub fn get(&self, key: Key) -> Option<&T>
         ensures { option_copied result ≡ find self.now key }
@@ -103,14 +113,18 @@ impl<T: Drop, A: Allocator> SlotMap<T, A> {
         }
     }
 
-    /// Returns an iterator over the keys and their values, in the order of the slots.
+    /// Returns a double-ended iterator over the keys and their values, in the order of the slots.
+    #[tactic(auto, using(crate::proofs::Iterating::walked))]
     pub fn iter(&self) -> Iter<'_, T>
         ensures all { result ≡ entries self.now }
         ensures count { length result ≡ count self.now.slots }
+        ensures in_order { YieldsPairsInOrder T }
+        ensures in_reverse { YieldsPairsInReverse T }
     {
         Iter {
             slots: self.slots.as_slice(),
             at: 0,
+            left: self.len(),
         }
     }
 
@@ -231,5 +245,16 @@ impl<T: Drop, A: Allocator> SlotMap<T, A> {
         } else {
             None
         }
+    }
+
+    /// Removes and drops all values.
+    ///
+    /// Afterwards no key that was issued has a value. The capacity does not change.
+    pub fn clear(&mut self)
+        ensures removed { self.new ≡ cleared self.old }
+        ensures absent { (k : Key) → find self.new k ≡ None }
+    {
+        self.slots.clear();
+        self.free = Chain { first: 0, count: 0 };
     }
 }

@@ -1,6 +1,8 @@
 -- The contents of a table as its users see them, and its growth policy.
-use Rattle.std.specs.Prelude.{◌≡◌, ℕ, ◌+◌, ◌-◌, ◌≤◌, ◌==◌, max, nat_le, Bool, cond, if◌then◌else◌, List, length, count_by, Option}
+use Rattle.std.specs.Prelude.{◌≡◌, ℕ, ◌+◌, ◌-◌, ◌≤◌, ◌==◌, ◌&&◌, max, nat_le, Bool, cond, if◌then◌else◌, List, [], ◌++◌, length, reverse, count_by, Option}
+use Rattle.std.specs.List.{list_all, AllZip}
 use Rattle.std.specs.Map.{lookup}
+use Rattle.std.specs.Option.{option_eq}
 use Rattle.allocator_api2.specs.Growth.{amortized}
 use Rattle.allocator_api2.specs.declared.raw_vec.Growth.TheVariants.{Doubling}
 
@@ -24,13 +26,47 @@ module _ {K V : Type 0} (eq : K → K → Bool) where
   abbrev pub Sets : List (K × V) → K → Option V → List (K × V) → Type 0
   Sets es k o new = (q : K) → value new q ≡ cond (eq q k) o (value es q)
 
+  -- the entries `new` have the values of `es` after each pair of `xs` was inserted in turn, so that
+  -- the last of equal keys sets the value
+  abbrev pub SetsAll : List (K × V) → List (K × V) → List (K × V) → Type 0
+  SetsAll es xs new = (q : K) → value new q ≡ value (reverse xs ++ es) q
+
   -- no two of the entries `es` have equal keys
   abbrev pub IsMap : List (K × V) → Type 0
   IsMap es = (k : K) → keys_like k es ≤ 1
 
+  -- the table `u` has the entries of `t` after each pair of `xs` was inserted in turn, and the
+  -- builder of `t`
+  pub record InsertsAll {S : Type 0} (t : TableView K V S) (xs : List (K × V))
+      (u : TableView K V S) : Type 0 where
+    pub entries : SetsAll t.entries xs u.entries
+    pub builder : u.builder ≡ t.builder
+
+  -- the table `u` has clones of the entries of `t`, inserted in turn, and a clone of its builder,
+  -- where `C`, `D` and `B` relate a key, a value and a builder to its clone
+  pub record IsCopy {S : Type 0} (C : K → K → Type 0) (D : V → V → Type 0) (B : S → S → Type 0)
+      (t u : TableView K V S) : Type 0 where
+    pub clones : List (K × V)
+    pub each : AllZip (λ e f. C e.0 f.0 × D e.1 f.1) t.entries clones
+    pub entries : SetsAll [] clones u.entries
+    pub builder : B t.builder u.builder
+
+  -- the entries `es` and `fs` have values that are equal by `like`, or none, for the key `k`
+  abbrev pub agree : (V → V → Bool) → (es fs : List (K × V)) → K → Bool
+  agree like es fs k = option_eq like (value es k) (value fs k)
+
+  -- the entries `es` and `fs` have equal keys, each with values that are equal by `like`
+  abbrev pub same_entries : (V → V → Bool) → (es fs : List (K × V)) → Bool
+  same_entries like es fs =
+      list_all (λ e. agree like es fs e.0) es && list_all (λ e. agree like es fs e.0) fs
+
 -- the most keys for which a table allocates
 abbrev pub max_keys : ℕ
 max_keys = 2_000_000_000
+
+-- an empty table with the builder `b`, and no capacity
+abbrev pub empty : {K V S : Type 0} → S → TableView K V S
+empty b = record { entries = []; capacity = 0; builder = b }
 
 module _ {K V S : Type 0} where
   -- the table `f` has spare capacity for `k` new keys

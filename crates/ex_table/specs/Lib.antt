@@ -4,3 +4,4 @@ pub mod Places
 pub mod Remaining
 pub mod Inside
 pub mod Lends
+pub mod SameEntries

@@ -63,6 +63,19 @@ impl<'a, K, V, A: Allocator> Iter<'a, K, V, A> {
             left: count,
         }
     }
+
+    // Returns an iterator over the same remaining entries.
+    pub(crate) fn duplicate(&self) -> Self
+        ensures { result ≡ self.now }
+    {
+        Iter {
+            tags: self.tags,
+            places: self.places,
+            from: self.from,
+            end: self.end,
+            left: self.left,
+        }
+    }
 }
 
 impl<'a, K, V, A: Allocator> Iterator for Iter<'a, K, V, A> {

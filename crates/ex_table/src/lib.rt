@@ -3,8 +3,12 @@
 //! It is built on the library's block and vector.
 #![tactic(auto)]
 
+pub mod clone;
+pub mod compare;
+pub mod extend;
 pub mod growth;
 pub mod index;
 pub mod iter;
 pub mod slots;
 pub mod table;
+pub mod traits;

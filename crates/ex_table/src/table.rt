@@ -121,6 +121,18 @@ impl<K: Eq + Hash + Drop, V: Drop, S: BuildHasher, A: Allocator + Clone> Table<K
         }
     }
 
+    /// Returns a reference to the builder of the hashers.
+    pub fn hasher(&self) -> &S
+        ensures { result.now ≡ self.now.builder }
+    {
+        &self.builder
+    }
+
+    // Returns a reference to the underlying allocator.
+    pub(crate) fn allocator(&self) -> &A {
+        self.places.allocator()
+    }
+
     /// Returns the number of keys, each of which is counted once.
     pub fn len(&self) -> usize
         ensures count { result ≡ length self.now.entries }

@@ -1,7 +1,9 @@
 //! The ordered map.
 use ex_btree::map::OrderedMap;
-use std::alloc::Global;
+use std::alloc::{AllocError, Global};
+use std::default::{Emptied, MadeWith};
 use std::ops::Range;
+use std::test::Fail;
 use test_allocators::Faulty;
 
 // A map over an allocator that may fail.
@@ -123,4 +125,42 @@ fn a_failed_call_changes_nothing(rt: HostRuntime) {
         }
         assert!(rt; heap.failures() == 1 && has(&map, 119) == Some(119));
     }
+}
+
+// A map of pairs, over the global allocator.
+fn made(alloc: Global, pairs: &[(u64, u64)]) -> Result<OrderedMap<u64, Global>, AllocError> {
+    pairs.iter().copied().collect(alloc)
+}
+
+#[test]
+fn maps_of_pairs_are_compared_and_printed(rt: HostRuntime) -> Result<(), Fail> {
+    let heap = rt.alloc();
+    let mut map = made(heap, &[(3, 4), (1, 2), (1, 5)])?;
+    let other = made(heap, &[(1, 5), (3, 4)])?;
+    assert!(rt;
+        map == other
+            && map == map.clone()?
+            && OrderedMap::emptied(&map)? == OrderedMap::made_with(heap)
+    );
+    map.extend([(2, 0)])?;
+    assert!(rt; map < other && map.partial_cmp(&other) == Some(map.cmp(&other)));
+    let text = format!(in heap; "{map:?} {:?}", other.iter())?;
+    assert!(rt; text.as_str() == "{1: 5, 2: 0, 3: 4} [(1, 5), (3, 4)]");
+    Ok(())
+}
+
+// The first key and the last value, and how many of each remain then.
+fn ends_by(map: &OrderedMap<u64, Global>) -> (Option<u64>, Option<u64>, usize, usize) {
+    let mut keys = map.keys();
+    let mut values = map.values();
+    let first = keys.next();
+    let last = values.next_back().copied();
+    (first, last, keys.len(), values.len())
+}
+
+#[test]
+fn keys_and_values_are_iterated(rt: HostRuntime) -> Result<(), Fail> {
+    let map = made(rt.alloc(), &[(3, 4), (1, 2), (5, 6)])?;
+    assert!(rt; ends_by(&map) == (Some(1), Some(6), 2, 2));
+    Ok(())
 }

@@ -3,10 +3,12 @@ use crate::memory::{End, end_by, end_of, is_all_freed};
 use allocator_api2::collections::TryReserveError;
 use allocator_api2::vec::Vec;
 use ex_inline::inline::InlineVec;
-use std::alloc::Global;
+use std::alloc::{AllocError, Global};
 use std::cell::Cell;
+use std::cmp::Ordering;
 use std::mem::{self, size_of};
 use std::ops::Range;
+use std::test::Fail;
 use test_allocators::Faulty;
 use test_allocators::counted::Counted;
 
@@ -188,6 +190,96 @@ fn each_item_is_dropped_once(rt: HostRuntime) {
     assert!(rt; is_all_freed(&heap));
 }
 
+// Keeps the items whose number is not 1.
+#[tactic(auto, using(allocator_api2::proofs::Callers::callers))]
+fn keep_others(v: &mut Drops<'_>) {
+    v.retain(|item| match item {
+        Some(counted) => counted.value != 1,
+        None => false,
+    });
+}
+
+// The number of items dropped after each of four calls, on a vector of so many.
+fn dropped_by<'a>(heap: &'a Faulty<Global>, drops: &'a Cell<u32>, len: u32) -> [u32; 4] {
+    let mut v: Drops<'a> = InlineVec::new_in(heap);
+    for value in 0..len {
+        let _pushed = v.push(Some(Counted { value, drops }));
+    }
+    keep_others(&mut v);
+    let retained = drops.get();
+    if v.len() > 0 {
+        drop(v.swap_remove(0));
+    }
+    let swapped = drops.get();
+    v.truncate(1);
+    let truncated = drops.get();
+    v.clear();
+    [retained, swapped, truncated, drops.get()]
+}
+
+#[test]
+fn each_removed_item_is_dropped_at_once(rt: HostRuntime) {
+    let heap = Faulty::new(rt.alloc());
+    let drops = Cell::new(0);
+    for (len, dropped) in [(2, [1, 2, 2, 2]), (5, [1, 2, 4, 5])] {
+        drops.set(0);
+        assert!(rt; dropped_by(&heap, &drops, len) == dropped);
+    }
+    assert!(rt; is_all_freed(&heap));
+}
+
+// The sum of the items, each of which is halved before.
+fn sum_of_halves(v: &mut Small<'_>) -> u64 {
+    for item in &mut *v {
+        *item /= 2;
+    }
+    let mut sum = 0u64;
+    for item in &*v {
+        sum = sum.wrapping_add(*item);
+    }
+    sum
+}
+
+// Whether the items are sorted and found as those of a slice are.
+fn is_sorted_as_a_slice(v: &mut Small<'_>) -> bool {
+    v.sort_unstable();
+    v.first() == Some(&1) && v.contains(&9) && v[1..] == [3, 4, 9]
+}
+
+fn collected_of<'a>(items: &[u64], heap: &'a Faulty<Global>) -> Option<Small<'a>> {
+    items.iter().copied().collect(heap).ok()
+}
+
+#[test]
+fn a_small_vector_is_a_slice(rt: HostRuntime) {
+    let heap = Faulty::new(rt.alloc());
+    let mut small = collected_of(&[9, 3, 4, 1], &heap).unwrap_or(none(&heap));
+    assert!(rt; is_sorted_as_a_slice(&mut small) && sum_of_halves(&mut small) == 7);
+    let other = collected_of(&[0, 1, 2, 5], &heap).unwrap_or(none(&heap));
+    assert!(rt; small < other && small.cmp(&other) == Ordering::Less && small != other);
+}
+
+// What a vector prints, and an iterator over clones of its items.
+fn printed(v: Small<'_>, alloc: Global) -> Result<String, AllocError> {
+    let text = format!(in alloc; "{v:?}")?;
+    let mut items = v.into_iter();
+    drop(items.next_back());
+    let copies = items.clone()?;
+    if copies.as_slice() == items.as_slice() {
+        return format!(in alloc; "{text} {copies:?}");
+    }
+    Ok(text)
+}
+
+#[test]
+fn a_small_vector_prints_as_a_slice(rt: HostRuntime) -> Result<(), Fail> {
+    let heap = Faulty::new(rt.alloc());
+    let small = collected_of(&[1, 2], &heap).unwrap_or(none(&heap));
+    let text = printed(small, rt.alloc())?;
+    assert!(rt; text.as_str() == "[1, 2] IntoIter([1])");
+    Ok(())
+}
+
 #[test]
 fn an_empty_place_takes_what_an_item_takes(rt: HostRuntime) {
     assert!(rt; size_of::<InlineVec<u64, Global, 4>>() == 48);
@@ -273,6 +365,8 @@ enum Call {
     Clone,
     FromIter(u64),
     FromSlice,
+    WithCapacity(usize),
+    ExtendFromSlice,
 }
 
 // How it ends on a vector. What it makes is dropped.
@@ -291,6 +385,8 @@ fn end_of_call(call: Call, v: &mut Small<'_>, heap: &Faulty<Global>) -> End {
         Call::Clone => end_of(cloned(v)),
         Call::FromIter(end) => end_of(Small::from_iter_in(0..end, heap)),
         Call::FromSlice => end_of(copied(&[1, 2, 3, 4], heap)),
+        Call::WithCapacity(capacity) => end_of(Small::with_capacity_in(capacity, heap)),
+        Call::ExtendFromSlice => end_of(v.extend_from_slice(&[1, 2, 3, 4])),
     }
 }
 
@@ -307,7 +403,7 @@ fn seen(heap: &Faulty<Global>, call: Call, count: u64, failed: u64) -> (End, u64
 
 // A call on so many items, of which three fit inline, and the number of elements that it allocates;
 // 0 if it does not allocate.
-fn rows() -> [(Call, u64, usize); 22] {
+fn rows() -> [(Call, u64, usize); 25] {
     [
         (Call::Push, 3, 4),
         (Call::Push, 2, 0),
@@ -331,6 +427,9 @@ fn rows() -> [(Call, u64, usize); 22] {
         (Call::FromIter(3), 0, 0),
         (Call::FromIter(4), 0, 4),
         (Call::FromSlice, 0, 4),
+        (Call::WithCapacity(9), 0, 9),
+        (Call::WithCapacity(2), 0, 0),
+        (Call::ExtendFromSlice, 3, 7),
     ]
 }
 
@@ -361,6 +460,7 @@ fn no_small_vector_grows_past_the_limits(rt: HostRuntime) {
         Call::InsertMany(u64::MAX),
         Call::SetPlaces(1 << 60),
         Call::FromIter(u64::MAX),
+        Call::WithCapacity(1 << 60),
     ] {
         assert!(rt; seen(&heap, call, 3, 0) == (End::TooLong, 0));
     }

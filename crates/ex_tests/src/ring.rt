@@ -2,9 +2,14 @@
 use allocator_api2::collections::{TryReserveError, TryReserveErrorKind};
 use allocator_api2::vec::Vec;
 use ex_ring::ring::Ring;
-use std::alloc::Global;
+use std::alloc::{AllocError, Global};
+use std::default::{Emptied, MadeWith};
+use std::fmt::Debug;
+use std::hash::{DefaultHasher, Hash, Hasher};
+use std::iter::Extend;
 use std::mem::size_of;
 use std::ops::Range;
+use std::test::Fail;
 use test_allocators::Faulty;
 
 // A ring over an allocator that may fail.
@@ -256,4 +261,55 @@ fn a_ring_turns_both_ways(rt: HostRuntime) {
     ] {
         assert!(rt; turns(&mut ring, left, by) && has(&ring, &items), "{by}");
     }
+}
+
+// A ring of what an iterator returns, extended by each kind of item.
+fn collected<'a>(heap: &'a Faulty<Global>) -> Result<Small<'a>, AllocError> {
+    let mut ring: Small<'_> = (0..2).collect(heap)?;
+    Extend::extend(&mut ring, 2..3)?;
+    Extend::extend(&mut ring, &[3u64])?;
+    match ring.extend([4, 5]) {
+        Ok(()) => Ok(ring),
+        Err(_) => Err(AllocError),
+    }
+}
+
+#[test]
+fn items_are_collected(rt: HostRuntime) -> Result<(), Fail> {
+    let heap = Faulty::new(rt.alloc());
+    let ring = collected(&heap)?;
+    assert!(rt; has(&ring, &[0, 1, 2, 3, 4, 5]));
+    assert!(rt; ring.contains(&5) && !ring.contains(&6) && ring.allocator().requests() == 2);
+    Ok(())
+}
+
+#[test]
+fn rings_are_made_empty(rt: HostRuntime) -> Result<(), Fail> {
+    let heap = Faulty::new(rt.alloc());
+    let made: Small<'_> = MadeWith::made_with(&heap);
+    assert!(rt; made.is_empty() && Small::emptied(&turned(&heap, 0..4))?.is_empty());
+    Ok(())
+}
+
+fn hash_of<T: Hash>(value: &T) -> u64 {
+    let mut hasher = DefaultHasher::new();
+    value.hash(&mut hasher);
+    hasher.finish()
+}
+
+// Whether a value is printed so.
+fn prints<T: Debug>(alloc: Global, value: &T, text: &str) -> Result<bool, AllocError> {
+    Ok(format!(in alloc; "{value:?}")?.as_str() == text)
+}
+
+#[test]
+fn rings_print_and_hash_as_their_items(rt: HostRuntime) -> Result<(), Fail> {
+    let heap = Faulty::new(rt.alloc());
+    let ring = turned(&heap, 0..4);
+    let items: &[u64] = &[0, 1, 2, 3];
+    assert!(rt; hash_of(&ring) == hash_of(&items));
+    assert!(rt; prints(rt.alloc(), &ring, "[0, 1, 2, 3]")?);
+    assert!(rt; prints(rt.alloc(), &ring.iter(), "Iter([0, 1], [2, 3])")?);
+    assert!(rt; prints(rt.alloc(), &ring.into_iter(), "IntoIter([0, 1, 2, 3])")?);
+    Ok(())
 }

@@ -1,7 +1,9 @@
 //! The slot map.
 use allocator_api2::collections::TryReserveErrorKind;
 use ex_slots::map::{Key, SlotMap};
-use std::alloc::Global;
+use std::alloc::{AllocError, Global};
+use std::default::{Emptied, MadeWith};
+use std::test::Fail;
 use test_allocators::Faulty;
 
 // A map over an allocator that may fail.
@@ -122,4 +124,89 @@ fn reserved_capacity_is_used_when_the_heap_fails(rt: HostRuntime) {
     assert!(rt; is_steady(&mut map));
     let failed = TryReserveErrorKind::AllocError { capacity: 7 };
     assert!(rt; returned(&mut map, 4) == Some((4, failed)) && map.len() == 3);
+}
+
+// A map with 1 and 3, and between them a free slot.
+fn one_and_three<'a>(heap: &'a Faulty<Global>) -> Small<'a> {
+    let mut map: Small<'a> = MadeWith::made_with(heap);
+    for value in 1u32..4 {
+        if let (2, Some(key)) = (value, put(&mut map, value)) {
+            let _removed = taken(&mut map, key);
+        }
+    }
+    map
+}
+
+fn value_of(pair: Option<(Key, &u32)>) -> Option<u32> {
+    match pair {
+        Some((_, value)) => Some(*value),
+        None => None,
+    }
+}
+
+// The number of pairs, the values at the two ends, and how many are left.
+fn ends(map: &Small<'_>) -> (usize, Option<u32>, Option<u32>, Option<usize>) {
+    let mut pairs = map.iter();
+    let len = pairs.len();
+    let last = value_of(pairs.next_back());
+    let first = value_of(pairs.next());
+    (len, first, last, pairs.size_hint().1)
+}
+
+// Writes 7 by index for each key, and returns what a loop over the map then sees.
+fn sevens(map: &mut Small<'_>, key: Option<Key>) -> (u32, u32) {
+    let mut read = 0;
+    if let Some(key) = key {
+        if map.contains_key(key) {
+            map[key] = 7;
+            read = map[key];
+        }
+    }
+    let mut sum = 0u32;
+    for (_, value) in &*map {
+        sum = sum.wrapping_add(*value);
+    }
+    (read, sum)
+}
+
+#[test]
+fn pairs_come_from_both_ends(rt: HostRuntime) {
+    let heap = Faulty::new(rt.alloc());
+    let mut map = one_and_three(&heap);
+    assert!(rt; ends(&map) == (2, Some(1), Some(3), Some(0)));
+    let key = put(&mut map, 5);
+    assert!(rt; sevens(&mut map, key) == (7, 11));
+}
+
+// What a map of 1 and 3 prints.
+fn printed(alloc: Global, heap: &Faulty<Global>) -> Result<String, AllocError> {
+    let map = one_and_three(heap);
+    format!(in alloc; "{map:?}")
+}
+
+#[test]
+fn a_map_prints_its_keys_and_values(rt: HostRuntime) -> Result<(), Fail> {
+    let heap = Faulty::new(rt.alloc());
+    let text = printed(rt.alloc(), &heap)?;
+    let first = "{Key { index: 0, serial: 0 }: 1, ";
+    assert!(rt; text.as_str().starts_with(first));
+    Ok(())
+}
+
+// Whether an empty map is made on a clone of the allocator.
+fn is_emptied(map: &Small<'_>) -> bool {
+    match Small::emptied(map) {
+        Ok(made) => made.is_empty() && !map.is_empty(),
+        Err(_) => false,
+    }
+}
+
+#[test]
+fn a_map_is_emptied(rt: HostRuntime) {
+    let heap = Faulty::new(rt.alloc());
+    let mut map = one_and_three(&heap);
+    assert!(rt; is_emptied(&map));
+    map.clear();
+    assert!(rt; map.is_empty() && put(&mut map, 4).is_some() && map.len() == 1);
+    assert!(rt; heap.requests() == 1);
 }

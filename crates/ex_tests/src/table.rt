@@ -3,7 +3,8 @@ use allocator_api2::boxed::BoxedText;
 use allocator_api2::collections::TryReserveErrorKind;
 use allocator_api2::vec::Vec;
 use ex_table::table::Table;
-use std::alloc::Global;
+use std::alloc::{AllocError, Global};
+use std::default::{Emptied, MadeWith};
 use std::hash::{BuildHasher, BuildHasherDefault, FoldHasher, Hasher};
 use std::ops::Range;
 use std::test::Fail;
@@ -323,4 +324,42 @@ fn a_key_with_a_value_is_an_index(rt: HostRuntime) {
         assert!(rt; table[&3] == 4);
     }
     assert!(rt; table.len() == 1);
+}
+
+// A table over the global allocator.
+type Plain = Table<u64, u64, BuildHasherDefault<FoldHasher>, Global>;
+
+// A table of pairs.
+fn made(alloc: Global, pairs: &[(u64, u64)]) -> Result<Plain, AllocError> {
+    pairs.iter().copied().collect(alloc)
+}
+
+// Whether a table is printed so, as its iterators are.
+fn prints(alloc: Global, table: &Plain, text: &str) -> Result<bool, AllocError> {
+    let (all, keys, values) = (table.iter(), table.keys(), table.values());
+    let printed = format!(in alloc; "{table:?} {all:?} {keys:?} {values:?}")?;
+    Ok(printed.as_str() == text)
+}
+
+#[test]
+fn the_last_of_equal_keys_sets_the_value(rt: HostRuntime) -> Result<(), Fail> {
+    let heap = rt.alloc();
+    let mut table = made(heap, &[(1, 2), (3, 4), (1, 5)])?;
+    let other = made(heap, &[(3, 4), (1, 5)])?;
+    assert!(rt;
+        table == other
+            && table == table.clone()?
+            && Plain::emptied(&table)? == Plain::made_with(heap)
+    );
+    table.extend([(1, 2)])?;
+    assert!(rt; table != other && table.get(&1) == Some(&2));
+    let mut sum = 0u64;
+    for (key, value) in &table {
+        sum = sum.saturating_add(*key).saturating_add(*value);
+    }
+    for (key, value) in other {
+        sum = sum.saturating_add(key).saturating_add(value);
+    }
+    assert!(rt; sum == 23 && prints(heap, &made(heap, &[(1, 2)])?, "{1: 2} [(1, 2)] [1] [2]")?);
+    Ok(())
 }

@@ -12,7 +12,7 @@ use allocator_api2::collections::TryReserveError;
 use std::alloc::Allocator;
 
 impl<T: Default + Drop, A: Allocator + Copy, const N: usize> InlineVec<T, A, N> {
-    /// Inserts the items of the finite iterator `iter` at `index`, in order.
+    /// Inserts the items of `iter`, which must end, at `index`, in order.
     ///
     /// Allocates as `extend` does: not at all if the remaining items of `iter` fit in the capacity.
     ///
@@ -20,27 +20,34 @@ impl<T: Default + Drop, A: Allocator + Copy, const N: usize> InlineVec<T, A, N> 
     /// `CapacityOverflow` or `AllocError`, as `extend` returns them. The items that `extend` would
     /// keep are inserted at `index`.
     #[tactic(auto, using(crate::proofs::Bringing::ranging))]
-    pub fn insert_many<I: Iterator<Item = T>>(
+    pub fn insert_many<U: IntoIterator<Item = T>>(
         &mut self,
         index: usize,
-        iter: I,
+        iter: U,
     ) -> Result<(), TryReserveError>
-        // The index is at most the length. The iterator can be called, and is finite.
+        // The index is at most the length. The iterator that `iter` becomes can be called, and is
+        // finite.
         requires within { index ≤ length self.old.items }
-        requires callable { I.can_next iter }
-        requires finite { IsFinite (I.remaining iter) }
+        requires callable { (it : U.IntoIter) → U.into_iter_gives iter it
+            → U.IntoIter.can_next it × IsFinite (U.IntoIter.remaining it) }
 
         // Success inserts all items. If they fit, the call succeeds.
-        ensures items { OnOk result ((xs : List T) × Drains I.next_gives iter xs
+        ensures items { OnOk result ((it : U.IntoIter) × U.into_iter_gives iter it
+            × (xs : List T) × Drains U.IntoIter.next_gives it xs
             × (self.new.items ≡ take index self.old.items ++ (xs ++ drop index self.old.items))) }
-        ensures fits { HasRoom N self.old (size (I.remaining iter)) → IsOk result }
-        ensures inserted { OnOk result ((s : Inlined T A) × ExtendsByAll I.next_gives
-            (LowerAtMost I.remaining) (type_size T.row) N iter self.old s
+        ensures fits { (it : U.IntoIter) × U.into_iter_gives iter it
+            × (HasRoom N self.old (size (U.IntoIter.remaining it)) → IsOk result) }
+        ensures inserted { OnOk result ((s : Inlined T A)
+            × ((it : U.IntoIter) × U.into_iter_gives iter it
+            × ExtendsByAll U.IntoIter.next_gives (LowerAtMost U.IntoIter.remaining)
+            (type_size T.row) N it self.old s)
             × (self.new ≡ with_items s (with_tail_at index (length self.old.items) s.items))) }
 
         // Failure inserts the items that were taken before the error.
-        ensures failed { IfErr result (λ e. (s : Inlined T A) × ExtendFails I.next_gives
-            (LowerAtMost I.remaining) (type_size T.row) N iter self.old e s
+        ensures failed { IfErr result (λ e. (s : Inlined T A)
+            × ((it : U.IntoIter) × U.into_iter_gives iter it
+            × ExtendFails U.IntoIter.next_gives (LowerAtMost U.IntoIter.remaining)
+            (type_size T.row) N it self.old e s)
             × (self.new ≡ with_items s (with_tail_at index (length self.old.items) s.items))) }
     {
         let len = self.len();

@@ -1,5 +1,5 @@
 //! Places for exactly so many items.
-ghost use Rattle.std.specs.Prelude.{◌≡◌, ◌<◌, ◌≤◌, length, IfErr, IfOk, IsOk, OnErr, OnOk};
+ghost use Rattle.std.specs.Prelude.{◌≡◌, ◌<◌, ◌≤◌, [], length, IfErr, IfOk, IsOk, OnErr, OnOk};
 ghost use Rattle.std.specs.Mem.{type_size};
 ghost use Rattle.allocator_api2.specs.Errors.{IsErrorFor};
 ghost use Rattle.allocator_api2.specs.declared.raw_vec.Growth.TheVariants.{Doubling};
@@ -13,6 +13,23 @@ use std::alloc::Allocator;
 use std::mem;
 
 impl<T: Default + Drop, A: Allocator + Copy, const N: usize> InlineVec<T, A, N> {
+    /// Returns an empty vector with capacity for `capacity` items, or for `N` if that is more.
+    ///
+    /// Allocates only if `capacity` is more than `N`, and then a block of exactly that many places.
+    ///
+    /// # Errors
+    /// `CapacityOverflow`, or `AllocError` with `capacity`, if the allocation fails.
+    pub fn with_capacity_in(capacity: usize, alloc: A) -> Result<Self, TryReserveError>
+        ensures fits { capacity ≤ N → IsOk result }
+        ensures made { IfOk result
+            (λ s. s ≡ with_places (type_size T.row) N capacity (in_place [] alloc)) }
+        ensures error { IfErr result (λ e. IsErrorFor e capacity) }
+    {
+        let mut small = InlineVec::new_in(alloc);
+        small.grow(capacity)?;
+        Ok(small)
+    }
+
     /// Changes the capacity to `capacity`, which must be at least the length.
     ///
     /// If `capacity` is at most `N`, the items are stored inline, which does not allocate. Else

@@ -1,5 +1,6 @@
 //! Items by their index, and at the two ends.
 ghost use Rattle.std.specs.Prelude.{◌≡◌, ◌-◌, ◌<◌, length, slice_get, slice_index_or, option_copied, Some};
+ghost use Rattle.std.specs.List.{list_any};
 ghost use Rattle.std.specs.Option.{option_copied_mut};
 ghost use Rattle.std.specs.Borrow.{sem};
 
@@ -69,6 +70,24 @@ impl<T, A: Allocator> Ring<T, A> {
     {
         let last = self.len().saturating_sub(1);
         self.get_mut(last)
+    }
+
+    /// Returns `true` if an item equals `x`.
+    #[tactic(auto, using(crate::proofs::Rings::as_two))]
+    pub fn contains(&self, x: &T) -> bool
+    where
+        T: PartialEq,
+        ensures { result ≡ list_any (λ y. T.eq y x.now) self.now.items }
+    {
+        let (first, others) = self.as_slices();
+        first.contains(x) || others.contains(x)
+    }
+
+    /// Returns a reference to the allocator.
+    pub fn allocator(&self) -> &A
+        ensures { result.now ≡ self.now.alloc }
+    {
+        self.block.allocator()
     }
 }
 

@@ -1,11 +1,14 @@
-//! Comparisons of rings, item by item.
+//! Comparisons and hashes of rings, item by item.
 ghost use Rattle.std.specs.Prelude.{◌≡◌};
+ghost use Rattle.std.specs.Hash as fed;
+ghost use Rattle.std.specs.Hash.{on_Alike, items_Alike};
 ghost use Rattle.std.specs.Cmp.{on_equiv, on_total, on_po, on_per};
 ghost use Rattle.std.specs.Cmp.Lexicographic.{pointwise, slice_cmp, slice_partial_cmp, lists_equiv, lists_agrees, lists_total, lists_ties, lists_po, lists_per};
 
 use crate::ring::Ring;
 use std::alloc::Allocator;
 use std::cmp::Ordering;
+use std::hash::{Hash, Hasher};
 
 /// Returns whether the items are equal, one by one. The two allocators may be of different types.
 pub fn same<T: PartialEq, A: Allocator, B: Allocator>(left: &Ring<T, A>, right: &Ring<T, B>) -> bool
@@ -115,5 +118,21 @@ impl<T: Ord, A: Allocator> Ord for Ring<T, A> {
     /// Returns the lexicographic order of the items.
     fn cmp(&self, other: &Self) -> Ordering {
         compare_items(self, other)
+    }
+}
+
+impl<T: Hash, A: Allocator> Hash for Ring<T, A> {
+    ghost hash_input = { λ r. fed.slice T.hash_input r.items };
+
+    ghost respects_eq = { (on_Alike (λ r. r.items)
+        (items_Alike (record { fed = T.respects_eq }))).fed };
+
+    /// Feeds the length, and then the items in order, into the hasher `state`.
+    #[tactic(auto, using(crate::proofs::Rings::as_two))]
+    fn hash<H: Hasher>(&self, state: &mut H) {
+        let (first, others) = self.as_slices();
+        state.write_usize(self.len());
+        T::hash_slice(first, state);
+        T::hash_slice(others, state);
     }
 }

@@ -17,40 +17,45 @@ use std::alloc::{AllocError, Allocator};
 impl<T, A: Allocator> Ring<T, A> {
     ghost use Rattle.allocator_api2.specs.declared.raw_vec.Growth.TheVariants.{Doubling};
 
-    /// Appends the items of the finite iterator `iter`.
+    /// Appends the items of the finite iterator that `iter` is turned into.
     ///
     /// Reserves capacity for the lower bound of `size_hint` as `reserve` does, then pushes each
-    /// item as `push_back` does. Does not allocate if the remaining items of `iter` fit in the
-    /// capacity.
+    /// item as `push_back` does. Does not allocate if the items fit in the capacity.
     ///
     /// # Errors
     /// `CapacityOverflow` or `AllocError`, as `reserve` returns them. If the lower bound cannot be
     /// reserved, the ring is unchanged. If a later item cannot be pushed, that item is dropped, and
     /// the ring keeps the items that were pushed.
     #[tactic(auto, using(crate::proofs::Extending::pushes))]
-    pub fn extend<I: Iterator<Item = T>>(&mut self, iter: I) -> Result<(), TryReserveError>
+    pub fn extend<I: IntoIterator<Item = T>>(&mut self, iter: I) -> Result<(), TryReserveError>
     where
         T: Drop,
         // The iterator can be called, and is finite.
-        requires callable { I.can_next iter }
-        requires finite { IsFinite (I.remaining iter) }
+        requires callable { (it : I.IntoIter) → I.into_iter_gives iter it → I.IntoIter.can_next it }
+        requires finite { (it : I.IntoIter) → I.into_iter_gives iter it
+            → IsFinite (I.IntoIter.remaining it) }
 
         // Success appends all items. If they fit, the call succeeds.
-        ensures items { OnOk result ((xs : List T) × Drains I.next_gives iter xs
+        ensures items { OnOk result ((it : I.IntoIter) × (xs : List T)
+            × I.into_iter_gives iter it × Drains I.IntoIter.next_gives it xs
             × (self.new.items ≡ self.old.items ++ xs)) }
-        ensures fits { HasRoom self.old (size (I.remaining iter)) → IsOk result }
-        ensures extended { OnOk result (ExtendsByAll I.next_gives (LowerAtMost I.remaining)
-            (type_size T.row) iter self.old self.new) }
+        ensures fits { ((it : I.IntoIter) → I.into_iter_gives iter it
+            → HasRoom self.old (size (I.IntoIter.remaining it))) → IsOk result }
+        ensures extended { OnOk result ((it : I.IntoIter) × I.into_iter_gives iter it
+            × ExtendsByAll I.IntoIter.next_gives (LowerAtMost I.IntoIter.remaining)
+            (type_size T.row) it self.old self.new) }
 
         // Failure keeps the items that were pushed before the error.
-        ensures failed { IfErr result (λ e. ExtendFails I.next_gives (LowerAtMost I.remaining)
-            (type_size T.row) iter self.old e self.new) }
+        ensures failed { IfErr result (λ e. (it : I.IntoIter) × I.into_iter_gives iter it
+            × ExtendFails I.IntoIter.next_gives (LowerAtMost I.IntoIter.remaining)
+            (type_size T.row) it self.old e self.new) }
     {
-        let bound = iter.size_hint().0;
+        let items = iter.into_iter();
+        let bound = items.size_hint().0;
         if let Err(error) = self.reserve(bound) {
             return Err(error);
         }
-        self.push_items(iter)
+        self.push_items(items)
     }
 
     // Pushes the items of `iter` to the back, one by one.
@@ -75,33 +80,42 @@ impl<T, A: Allocator> Ring<T, A> {
         Ok(())
     }
 
-    /// Returns a new ring of the items of the finite iterator `iter`.
+    /// Returns a new ring of the items of the finite iterator that `iter` is turned into.
     ///
     /// The ring is extended as `extend` does. So it allocates at most once if the lower bound of
     /// `size_hint` is the number of items. Does not allocate for no items, or for zero-sized items.
     ///
     /// # Errors
     /// `CapacityOverflow` or `AllocError`, as `extend` returns them. The items that were taken from
-    /// `iter` are dropped.
+    /// the iterator are dropped.
     #[tactic(auto, using(crate::proofs::Extending::pushes))]
-    pub fn from_iter_in<I: Iterator<Item = T>>(iter: I, alloc: A) -> Result<Self, TryReserveError>
+    pub fn from_iter_in<I: IntoIterator<Item = T>>(
+        iter: I,
+        alloc: A,
+    ) -> Result<Self, TryReserveError>
     where
         T: Drop,
         // The iterator can be called, and is finite.
-        requires callable { I.can_next iter }
-        requires finite { IsFinite (I.remaining iter) }
+        requires callable { (it : I.IntoIter) → I.into_iter_gives iter it → I.IntoIter.can_next it }
+        requires finite { (it : I.IntoIter) → I.into_iter_gives iter it
+            → IsFinite (I.IntoIter.remaining it) }
 
         // Success returns all items. If no allocation is needed, the call succeeds.
-        ensures items { IfOk result (λ r. Drains I.next_gives iter r.items) }
-        ensures fits { size (I.remaining iter) ≤ new_capacity (type_size T.row) 0 → IsOk result }
+        ensures items { IfOk result (λ r. (it : I.IntoIter) × I.into_iter_gives iter it
+            × Drains I.IntoIter.next_gives it r.items) }
+        ensures fits { ((it : I.IntoIter) → I.into_iter_gives iter it
+            → size (I.IntoIter.remaining it) ≤ new_capacity (type_size T.row) 0) → IsOk result }
         ensures made { let none = empty (new_capacity (type_size T.row) 0) Doubling alloc in
-            IfOk result (ExtendsByAll I.next_gives (LowerAtMost I.remaining)
-            (type_size T.row) iter none) }
+            IfOk result (λ r. (it : I.IntoIter) × I.into_iter_gives iter it
+            × ExtendsByAll I.IntoIter.next_gives (LowerAtMost I.IntoIter.remaining)
+            (type_size T.row) it none r) }
 
         // Failure is that of `extend` on an empty ring.
         ensures error { let none = empty (new_capacity (type_size T.row) 0) Doubling alloc in
-            IfErr result (λ e. (left : Ringed T A) × ExtendFails I.next_gives
-            (LowerAtMost I.remaining) (type_size T.row) iter none e left) }
+            IfErr result (λ e. (it : I.IntoIter) × (left : Ringed T A)
+            × I.into_iter_gives iter it
+            × ExtendFails I.IntoIter.next_gives (LowerAtMost I.IntoIter.remaining)
+            (type_size T.row) it none e left) }
     {
         let mut ring = Ring::new_in(alloc);
         match ring.extend(iter) {

@@ -1,4 +1,10 @@
 use Rattle.ex_ring.proofs.ring.Ring.from_iter_in.Goals as goal
 
 pub returns-in-Err-clause-error : goal.returns-in-Err-clause-error
-returns-in-Err-clause-error g c = (c.extend.new.self, rw c.new_in-ring.ensures at c.in-Err.ensures.failed)
+returns-in-Err-clause-error g c =
+    let why = c.in-Err.ensures.failed in (
+      why.0,
+      c.extend.new.self,
+      why.1,
+      rw c.new_in-ring.ensures at why.2,
+    )

@@ -1,11 +1,13 @@
-use Rattle.std.proofs.Common.{◌≡◌, ◌-◌, drop, length}
+use Rattle.std.proofs.Common.{◌≡◌, ◌+◌, ◌^◌, ◌<◌, length}
 use Rattle.ex_slots.specs.Inside.{seen}
-use Rattle.ex_slots.specs.Slotted.{entries_from}
+use Rattle.ex_slots.specs.Slotted.{count, entries_from}
 use Rattle.ex_slots.proofs.iter.IterIterator.next.Given as goal
 
 -- only free slots were passed over
-abbrev pub invariant-loop-self : goal.invariant-loop-self
-invariant-loop-self g l = entries_from l.self-inside.at (seen (drop l.self-inside.at l.self-inside.slots.now)) ≡ l.fn.self
+abbrev pub invariant-each : goal.invariant-each
+invariant-each g l =
+    let it = l.self-inside in let slots = it.slots.now in
+    (entries_from it.at (seen slots) ≡ l.fn.self) × (it.at + length slots < 2 ^ 64) × (it.left ≡ count (seen slots))
 
-abbrev pub decreases-loop-self : goal.decreases-loop-self
-decreases-loop-self g l = length l.self-inside.slots.now - l.self-inside.at
+abbrev pub decreases-each : goal.decreases-each
+decreases-each g l = length l.self-inside.slots.now

@@ -1,0 +1,13 @@
+use Rattle.std.proofs.Common.{◌≡◌, length}
+use Rattle.std.specs.Ordering.{nat_cmp, ordering_then}
+use Rattle.std.specs.Cmp.Lexicographic.{slice_cmp}
+use Rattle.ex_btree.proofs.compare.OrderedMapOrd.cmp.Given as goal
+
+-- the remaining entries decide
+abbrev pub invariant-each : goal.invariant-each
+invariant-each g l =
+    let decides = slice_cmp (λ e f. ordering_then (nat_cmp e.0 f.0) (g.V.Ord.cmp e.1 f.1)) in
+    decides l.entries l.others ≡ decides l.self l.other
+
+abbrev pub decreases-each : goal.decreases-each
+decreases-each g l = length l.entries

@@ -1,0 +1,53 @@
+use Rattle.std.proofs.Common.{[], ◌∷◌, map, sym, ap, ◌∙◌}
+use Rattle.std.proofs.lemmas.List.{map-append}
+use Rattle.std.specs.Mem.{type_size}
+use denote.Param.{copied}
+use Rattle.ex_ring.specs.Extending.{pushed, pushed_all}
+use Rattle.ex_ring.proofs.Extending.{pushed_all-push, extended-by-pushes}
+use Rattle.ex_ring.proofs.ring.made.RingExtendRef.extend.Goals as goal
+
+pub each-preserved : goal.each-preserved
+each-preserved g c =
+    let bytes = type_size (copied 0 g.row.T) in let old = c.args.self.now in
+    let x = c.in-Some.item in let xs = c.each.yielded in
+    c.in-Ok.ensures.pushed ∙ ap (λ s. pushed bytes s x.now) c.each.invariant
+    ∙ sym (pushed_all-push bytes old (map (λ y. y.now) xs) x.now)
+    ∙ ap (pushed_all bytes old) (sym (map-append (λ y. y.now) xs (x ∷ [])))
+
+pub returns-in-Err : goal.returns-in-Err
+returns-in-Err g c =
+    let bytes = type_size (copied 0 g.row.T) in let it = c.into_iter-item-iterator in
+    let xs = c.each.yielded in
+    let put = extended-by-pushes bytes c.args.self.now (map (λ y. y.now) xs) c.push_back.new.self
+    (c.in-Err.ensures.unchanged ∙ c.each.invariant) in
+    record {
+      ran = (
+        it.result,
+        xs,
+        it.ensures.into_iter_gives,
+        put,
+        (
+          c.each.item-iterator,
+          c.each.yielded_by,
+        ),
+      );
+    }
+
+pub returns : goal.returns
+returns g c =
+    let bytes = type_size (copied 0 g.row.T) in let it = c.into_iter-item-iterator in
+    let xs = c.each.yielded in
+    let put = extended-by-pushes bytes c.args.self.now (map
+    (λ y. y.now) xs) c.each.self c.each.invariant in
+    record {
+      ran = (
+        it.result,
+        xs,
+        it.ensures.into_iter_gives,
+        put,
+        (
+          c.next.new.self,
+          (c.each.item-iterator, c.each.yielded_by, c.in-None.ensures.steps),
+        ),
+      );
+    }

@@ -1,0 +1,10 @@
+use Rattle.std.proofs.Common.{◌≡◌, map}
+use Rattle.std.specs.Mem.{type_size}
+use denote.Param.{copied}
+use Rattle.ex_ring.specs.Extending.{pushed_all}
+use Rattle.ex_ring.proofs.ring.made.RingExtendRef.extend.Given as goal
+
+-- a copy of each item so far was pushed
+abbrev pub invariant-each : goal.invariant-each
+invariant-each g l = l.self ≡ pushed_all (type_size (copied 0 g.row.T)) l.fn.self (map
+    (λ x. x.now) l.yielded)
