@@ -7,8 +7,8 @@
 
 pub mod alloc;
 pub mod collections;
-mod counter;
+pub mod counter;
 pub mod raw_vec;
 mod row;
-mod size;
+pub mod size;
 pub mod vec;

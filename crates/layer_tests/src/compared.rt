@@ -1,6 +1,7 @@
 //! What no clause says of comparing, printing and writing vectors: each once, and by callers that
 //! know a bound alone.
 use crate::lists::{has_items, list};
+use aa_boxed::slices::partial_compare;
 use aa_raw::collections::TryReserveError;
 use aa_vec::vec::{Vec, same};
 use std::alloc::{AllocError, Global};
@@ -31,6 +32,26 @@ fn is_before(short: &Vec<u32>, long: &Vec<u32>) -> bool {
 fn vectors_compare_as_their_slices(rt: HostRuntime) {
     let short = list(rt.alloc(), &[1, 2], 2);
     assert!(rt; is_before(&short, &list(rt.alloc(), &[1, 2, 0], 3)));
+}
+
+// How a slice of 1,100 zeros compares with one whose byte at `index` is 1.
+fn order_with_one_at(index: usize) -> Option<Ordering> {
+    let zeros = [0u8; 1100];
+    let mut other = [0u8; 1100];
+    if let Some(byte) = other.get_mut(index) {
+        *byte = 1;
+    }
+    partial_compare(&zeros, &other)
+}
+
+#[test]
+fn bytes_compare_wherever_they_differ(rt: HostRuntime) {
+    for index in [0, 1, 31, 32, 511, 512, 1055, 1099] {
+        assert!(rt; order_with_one_at(index) == Some(Ordering::Less));
+    }
+    assert!(rt; order_with_one_at(1100) == Some(Ordering::Equal));
+    assert!(rt; partial_compare(&[f32::NAN], &[0.0]) == None);
+    assert!(rt; partial_compare(&[0u8; 40], &[0u8; 39]) == Some(Ordering::Greater));
 }
 
 // What a vector prints, and whether its hash is that of a slice.
