@@ -66,6 +66,10 @@ module _ {T A : Type 0} where
       let passed = (cursor b - position) + (position - cursor b) in
       with_written (with_parts b before after) (moved_over (gap b) passed)
 
+  -- `b` with the elements `xs` in place of its text, after the cursor moved to the end
+  abbrev pub contiguous : Buffer T A → (xs : List T) → Buffer T A
+  contiguous b xs = with_parts (moved_to b (len b)) xs []
+
   -- `b` has spare capacity for `k` more elements
   abbrev pub HasRoom : Buffer T A → ℕ → Type 0
   HasRoom b k = k ≤ b.capacity - len b

@@ -5,3 +5,4 @@ pub mod Editing
 pub mod IntoParts
 pub mod Extending
 pub mod Texts
+pub mod BufferLends

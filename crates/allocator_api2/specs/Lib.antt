@@ -7,6 +7,7 @@ pub use Rattle.aa_boxed.specs.Room as BoxRoom
 pub use Rattle.aa_boxed.specs.Slice
 pub use Rattle.aa_boxed.specs.Text
 pub use Rattle.aa_gap.specs.Buffer
+pub use Rattle.aa_gap.specs.BufferLends
 pub use Rattle.aa_gap.specs.Editing
 pub use Rattle.aa_gap.specs.IntoParts
 pub use Rattle.aa_gap.specs.Page

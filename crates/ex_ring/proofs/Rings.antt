@@ -7,7 +7,7 @@ use Rattle.std.proofs.lemmas.Grind.{flat_map-append, fold-append}
 use Rattle.std.proofs.lemmas.List.Folds.{list_any-append}
 use Rattle.std.proofs.lemmas.List.{append-nil, drop_at, length-map, length-reverse, length-take-le, reverse-append, reverse-reverse, take-append-drop, set-append_left, set-append_right, take-append-le, take-take, take_at}
 use Rattle.allocator_api2.specs.Places.{IsFilled, IsRun, run, with_run}
-use Rattle.allocator_api2.proofs.Blocks.{apart, two_runs, shown, length-run, run-push, IsRun-push, run-pop, IsRun-pop, run-shift, IsRun-shift, run-unshift, IsRun-unshift, run-none, IsRun-joined, IsRun-part, run-split, IsRun-nil, run-set-above, run-set-below, run-set-same, IsRun-set-above, IsRun-set-below, first-filled, last-filled}
+use Rattle.allocator_api2.proofs.Blocks.{apart, two_runs, shown, length-run, run-push, IsRun-push, run-pop, IsRun-pop, run-shift, IsRun-shift, run-unshift, IsRun-unshift, run-none, IsRun-joined, IsRun-part, run-split, IsRun-nil, run-set-above, run-set-below, run-set-same, IsRun-set-above, IsRun-set-below, first-filled, last-filled, rotated}
 use Rattle.ex_ring.specs.RingInner.{HasParts}
 
 module _ {X : Type 0} where
@@ -182,9 +182,9 @@ others-left {X} cs f n w h =
 pub no_parts : {X : Type 0} (cs : List (Option X)) (f n w : ℕ) → n ≡ 0 → w ≡ 0 → parts cs f n w ≡ []
 no_parts cs f n w e z = no_others cs f n w z ∙ run-none cs f n e
 
--- all items in line at the first places
-pub in_line : {X : Type 0} (cs : List (Option X)) (n : ℕ) → parts cs 0 n 0 ≡ run cs 0 n
-in_line cs n = no_others cs 0 n 0 refl
+-- all items in line, from any place on
+pub in_line : {X : Type 0} (cs : List (Option X)) (f n : ℕ) → parts cs f n 0 ≡ run cs f n
+in_line cs f n = no_others cs f n 0 refl
 
 -- a list of which both parts were reversed, after the whole
 pub turned : {X : Type 0} (xs : List X) (n k : ℕ) → n ≤ length xs → k ≡ length xs - n → reverse (take k (reverse xs)) ++ reverse (drop k (reverse xs)) ≡ drop n xs ++ take n xs
@@ -228,6 +228,25 @@ pub ruleset put_at_front = (nat_tests, length-set, length-parts, has-put_before,
 pub ruleset taken_first = (nat_tests, length-set, no_parts, first-filled, take_first, has-take_first, around-there, take_around, has-take_around)
 
 pub ruleset taken_last = (nat_tests, length-set, no_parts, other-there, take_other, has-take_other, last-there, take_last, has-take_last)
+
+-- all items in one run: none was wrapped
+pub straight : {X : Type 0} (cs : List (Option X)) (f n w : ℕ) → w ≡ 0 → run cs f (n + w) ≡ parts cs f n w
+straight cs f n w e = let all : n + w ≡ n = omega arith in ap (run cs f) all ∙ sym (no_others cs f n w e)
+
+-- or the two runs were joined as ds, and then turned as es
+pub turned_straight : {X : Type 0} (cs ds es : List (Option X)) (f n w : ℕ) → IsRun cs 0 w → run ds 0 (w + n) ≡ run cs 0 w ++ run cs f n
+    → run es 0 (w + n) ≡ drop w (run ds 0 (w + n)) ++ take w (run ds 0 (w + n)) → run es 0 (n + w) ≡ parts cs f n w
+turned_straight cs ds es f n w r whole turn =
+    let order : n + w ≡ w + n = omega arith in
+    ap (run es 0) order ∙ turn ∙ (λ i. drop w (whole i) ++ take w (whole i)) ∙ rotated (run cs 0 w) (run cs f n) w (length-run cs 0 w r)
+
+-- and no value is elsewhere
+pub IsRun-none : {X : Type 0} (cs : List (Option X)) → IsRun cs 0 0
+IsRun-none cs = IsRun-nil cs 0 (omega arith)
+
+pub ruleset straightened = (nat_tests, straight, turned_straight)
+
+pub ruleset in_one_run = (nat_tests, length-parts, IsRun-none, in_line)
 
 -- what is computed of the two slices in turn
 pub ruleset as_two = (flat_map-append, fold-append, list_any-append)

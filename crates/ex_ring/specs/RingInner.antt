@@ -21,7 +21,7 @@ module _ {T A : Type 0} where
         capacity = length r.block.places;
         growth = r.block.growth;
         grown = r.block.grown;
-        written = r.block.written;
+        written = r.added.count + r.block.written;
         alloc = r.block.alloc;
       }
 

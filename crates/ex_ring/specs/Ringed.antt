@@ -11,7 +11,7 @@ pub record Ringed (T A : Type 0) : Type 0 where
   pub capacity : ℕ  -- how many items fit before the ring allocates
   pub growth : Growth
   pub grown : ℕ  -- items moved by growth so far
-  pub written : ℕ  -- items written into places so far
+  pub written : ℕ  -- items written into places so far; `make_contiguous` counts each item once
   pub alloc : A
 
 module _ {T A : Type 0} where
@@ -30,6 +30,11 @@ module _ {T A : Type 0} where
   -- `r` with the items `xs`, after `n` items were written
   abbrev pub with_written : Ringed T A → List T → (n : ℕ) → Ringed T A
   with_written r xs n = record r { items = xs; written = r.written + n }
+
+  -- `r` with the items `xs`, after its items were moved into one slice, which counts each of them as
+  -- written once
+  abbrev pub contiguous : Ringed T A → (xs : List T) → Ringed T A
+  contiguous r xs = with_written r xs (length r.items)
 
   -- the capacity that `r` requests when it grows for `k` more items of `size` bytes
   abbrev pub growth_capacity : (size : ℕ) → Ringed T A → (k : ℕ) → ℕ

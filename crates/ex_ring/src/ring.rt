@@ -1,19 +1,19 @@
 //! `Ring`: a double-ended queue.
-ghost use Rattle.std.specs.Prelude.{◌≡◌, ◌+◌, ◌-◌, ◌<◌, ◌≤◌, [], ◌∷◌, ◌++◌, length, take, drop, slice_get, option_copied, IfErr, IfOk, OnErr, OnOk, IsOk, IsTrue, MatchOption, ◌↔◌};
+ghost use Rattle.std.specs.Prelude.{◌≡◌, ◌<◌, ◌≤◌, [], ◌∷◌, ◌++◌, length, take, slice_get, option_copied, IfErr, IfOk, OnErr, OnOk, IsOk, IsTrue, MatchOption, ◌↔◌};
 ghost use Rattle.std.specs.Mem.{type_size};
-ghost use Rattle.allocator_api2.specs.Block.{with_places};
 ghost use Rattle.allocator_api2.specs.Growth.{new_capacity};
-ghost use Rattle.allocator_api2.specs.Places.{IsRun, run};
 ghost use Rattle.allocator_api2.specs.Errors.{AllocationFails};
 ghost use Rattle.ex_ring.specs.Ringed.{empty, with_written, with_room, HasRoom, LacksRoom};
 
 use allocator_api2::collections::{Refused, TryReserveError};
+use allocator_api2::counter::Counter;
 use allocator_api2::raw_vec::RawVec;
 use std::alloc::{Allocator, Global};
 use std::marker::Model;
 
 mod access;
 mod compare;
+mod contiguous;
 mod format;
 mod made;
 mod many;
@@ -29,6 +29,8 @@ pub struct Ring<T, A: Allocator = Global> {
     count: usize,
     // The `wrapped` items after them are at the first places of the block.
     wrapped: usize,
+    // What `make_contiguous` counts as written beyond what the block counts.
+    added: Counter,
 }
 
 impl<T, A: Allocator> Model for Ring<T, A> {
@@ -89,6 +91,7 @@ impl<T, A: Allocator> Ring<T, A> {
             front: 0,
             count: 0,
             wrapped: 0,
+            added: Counter::zero(),
         }
     }
 
@@ -348,74 +351,6 @@ impl<T, A: Allocator> Ring<T, A> {
         self.wrapped = 0;
         Ok(())
     }
-
-    /// Moves the items into one slice, the first that `as_slices` returns.
-    ///
-    /// Preserves their order. Does not allocate, and does not change the capacity.
-    pub fn make_contiguous(&mut self)
-        ensures items { self.new.items ≡ self.old.items }
-        ensures written { self.new.written ≤ self.old.written + length self.old.items }
-        ensures kept { let n = self.new.written - self.old.written in
-            self.new ≡ with_written self.old self.old.items n }
-    {
-        let len = self.len();
-        if self.wrapped == 0 {
-            return;
-        }
-        close(&mut self.block, self.front, self.count, self.wrapped);
-        turn(&mut self.block, len, self.wrapped);
-        self.front = 0;
-        self.count = len;
-        self.wrapped = 0;
-    }
-}
-
-// Moves the run from `from` on down to the end of the run at the first places.
-#[tactic(auto, using(allocator_api2::proofs::Blocks::in_runs))]
-fn close<T, A: Allocator>(block: &mut RawVec<T, A>, from: usize, count: usize, others: usize)
-    // The two runs are filled, and do not overlap.
-    requires { IsRun block.old.places 0 others × IsRun block.old.places from count
-        × (others ≤ from) }
-
-    // They are one run now, at the first places.
-    ensures filled { IsRun block.new.places 0 (others + count) }
-    ensures items { run block.new.places 0 (others + count)
-        ≡ run block.old.places 0 others ++ run block.old.places from count }
-
-    // Everything else of the block is as before, and at most `count` elements were written.
-    ensures capacity { length block.new.places ≡ length block.old.places }
-    ensures kept { (block.new.growth ≡ block.old.growth) × (block.new.grown ≡ block.old.grown)
-        × (block.new.alloc ≡ block.old.alloc) }
-    ensures written { (block.old.written ≤ block.new.written)
-        × (block.new.written ≤ block.old.written + count) }
-{
-    block.move_run(from, others, count);
-}
-
-// Rotates the first `len` values of the block to the left by `by`.
-#[tactic(auto, using(crate::proofs::Rings::rewritten))]
-fn turn<T, A: Allocator>(block: &mut RawVec<T, A>, len: usize, by: usize)
-    requires { IsRun block.old.places 0 len × (by ≤ len) }
-    ensures filled { IsRun block.new.places 0 len }
-    ensures items { let before = run block.old.places 0 len in
-        run block.new.places 0 len ≡ drop by before ++ take by before }
-    ensures kept { block.new ≡ with_places block.old block.new.places }
-    ensures capacity { length block.new.places ≡ length block.old.places }
-{
-    rotate(block.slice_mut(0, len), by);
-}
-
-// Rotates a slice to the left by `by`.
-#[tactic(auto, using(crate::proofs::Rings::turned))]
-fn rotate<T>(items: &mut [T], by: usize)
-    requires { by ≤ length items.old }
-    ensures { items.new ≡ drop by items.old ++ take by items.old }
-{
-    let rest = items.len() - by;
-    items.reverse();
-    let (first, others) = items.split_at_mut(rest);
-    first.reverse();
-    others.reverse();
 }
 
 impl<T: Drop, A: Allocator> Drop for Ring<T, A> {
@@ -427,6 +362,7 @@ impl<T: Drop, A: Allocator> Drop for Ring<T, A> {
             front,
             count,
             wrapped,
+            added: _,
         } = self;
         block.drop_run(front, count);
         block.drop_run(0, wrapped);

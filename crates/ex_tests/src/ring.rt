@@ -71,8 +71,22 @@ fn items_are_turned_into_one_slice(rt: HostRuntime) {
     let heap = Faulty::new(rt.alloc());
     let mut ring = turned(&heap, 0..4);
     assert!(rt; ring.as_slices().0 == [0, 1].as_slice());
-    ring.make_contiguous();
-    assert!(rt; ring.as_slices().0 == [0, 1, 2, 3].as_slice());
+    ring.make_contiguous().reverse();
+    assert!(rt; ring.as_slices().0 == [3, 2, 1, 0].as_slice());
+}
+
+#[test]
+fn all_items_are_written_in_place(rt: HostRuntime) {
+    let heap = Faulty::new(rt.alloc());
+    let mut ring = turned(&heap, 0..5);
+    for item in &mut ring {
+        *item = item.wrapping_add(10);
+    }
+    if let Some(last) = ring.iter_mut().next_back() {
+        *last = 24;
+    }
+    // Blocks for four items and for eight.
+    assert!(rt; has(&ring, &[10, 11, 12, 13, 24]) && heap.requests() == 2);
 }
 
 #[test]

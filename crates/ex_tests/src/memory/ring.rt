@@ -42,7 +42,9 @@ fn called(call: Call, ring: &mut Small<'_>) {
         Call::PopBack => drop(ring.pop_back()),
         Call::Clear => ring.clear(),
         Call::Truncate(len) => ring.truncate(len),
-        Call::MakeContiguous => ring.make_contiguous(),
+        Call::MakeContiguous => {
+            let _items = ring.make_contiguous();
+        }
         Call::RotateLeft => ring.rotate_left(ring.len().min(1)),
         Call::Reserve(count) => {
             let _made = ring.reserve(count);

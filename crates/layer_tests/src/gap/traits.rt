@@ -45,6 +45,25 @@ fn a_text_is_iterated_from_both_ends(rt: HostRuntime) -> Result<(), Fail> {
     Ok(())
 }
 
+#[test]
+fn a_text_is_written_in_place(rt: HostRuntime) {
+    let heap = Faulty::new(rt.alloc());
+    let mut text = nine_put(&heap);
+    let requests = heap.requests();
+    text.make_contiguous().reverse();
+    assert!(rt; reads(&text, 3291, 0, 4));
+    text.move_to(0);
+    for x in &mut text {
+        *x = x.wrapping_sub(1);
+    }
+    assert!(rt; reads(&text, 2180, 0, 4));
+    text.move_to(text.len().min(1));
+    if let Some(last) = text.iter_mut().next_back() {
+        *last = 7;
+    }
+    assert!(rt; reads(&text, 2187, 0, 4) && heap.requests() == requests);
+}
+
 fn hash_of<T: Hash>(x: &T) -> u64 {
     let mut hasher = DefaultHasher::new();
     x.hash(&mut hasher);

@@ -16,7 +16,7 @@ returns-then-index-self g c =
           capacity = length-set r.block.places (r.front + i) (Some w) t;
           growth = r.block.growth;
           grown = r.block.grown;
-          written = r.block.written;
+          written = r.added.count + r.block.written;
           alloc = r.block.alloc;
         }),
       ),

@@ -18,7 +18,7 @@ invariant_of-self g c = rw (
 pub returns-then-len-self : goal.returns-then-len-self
 returns-then-len-self g c =
     let r = c.self.inside in let b = r.block in
-    let none : b.written ≡ b.written + 0 = omega arith in
+    let none : r.added.count + b.written ≡ r.added.count + b.written + 0 = omega arith in
     record {
       truncated = rw (
         c.drop_run-then-len-self.ensures,
@@ -37,7 +37,7 @@ returns-then-len-self g c =
 pub returns-then-len-self-2 : goal.returns-then-len-self-2
 returns-then-len-self-2 g c =
     let r = c.self.inside in let b = r.block in
-    let none : b.written ≡ b.written + 0 = omega arith in
+    let none : r.added.count + b.written ≡ r.added.count + b.written + 0 = omega arith in
     let past : r.count ≤ c.args.len = omega (arith, c.if-len-self.false) in
     let few : c.args.len - r.count < r.wrapped = c.if-len-self-2.true in
     record {
