@@ -5,3 +5,4 @@ pub mod Splitting
 pub mod Borrowed
 pub mod Ranges
 pub mod Extending
+pub mod Passing

@@ -42,6 +42,15 @@ module _ {V : Type 0} where
   abbrev pub between : (low high : ℕ) → List (ℕ × V) → List (ℕ × V)
   between low high es = filter (λ e. nat_le low e.0 && nat_lt e.0 high) es
 
+  -- the entries of `es` whose keys are greater than `key`
+  abbrev pub above : (key : ℕ) → List (ℕ × V) → List (ℕ × V)
+  above key es = filter (λ e. nat_lt key e.0) es
+
+  -- the entries of `es` after the key `last`, all without one
+  abbrev pub after : (last : Option ℕ) → List (ℕ × V) → List (ℕ × V)
+  after None es = es
+  after (Some key) es = above key es
+
   -- each key is greater than the one before it, and the first is at least `low`
   abbrev pub IsAscending : (low : ℕ) → List (ℕ × V) → Type 0
   IsAscending low [] = Unit {0}

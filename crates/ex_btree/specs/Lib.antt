@@ -4,3 +4,5 @@ pub mod LeafLends
 pub mod Leaves
 pub mod Inside
 pub mod Lends
+pub mod Passing
+pub mod CursorLends

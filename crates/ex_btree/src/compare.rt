@@ -1,12 +1,15 @@
-//! Comparisons of maps, entry by entry in the order of the keys.
-ghost use Rattle.std.specs.Prelude.{◌≡◌, ◌&&◌, Some, nat_eq};
-ghost use Rattle.std.specs.Cmp.{and_equiv, and_per, both_tied, nat_cmp_total, nat_eq_equiv, on_equiv, on_per, on_po, on_total, partial_equiv_from_equiv, then_agrees, then_po, then_total, unsigned_po, unsigned_ties};
+//! Comparisons and hashes of maps, entry by entry in the order of the keys.
+ghost use Rattle.std.specs.Prelude.{◌≡◌, ◌&&◌, ◌++◌, Some, nat_eq};
+ghost use Rattle.std.specs.Hash as fed;
+ghost use Rattle.std.specs.Hash.{and-Alike, items_Alike, on_Alike, same_Alike};
+ghost use Rattle.std.specs.Cmp.{and_equiv, and_per, both_tied, nat_cmp_total, nat_eq_equiv, on_equiv, on_per, on_po, on_total, partial_equiv_from_equiv, then_agrees, then_po, then_total, unsigned_Decides, unsigned_po, unsigned_ties};
 ghost use Rattle.std.specs.Cmp.Lexicographic.{pointwise, slice_cmp, slice_partial_cmp, lists_equiv, lists_agrees, lists_total, lists_ties, lists_po, lists_per};
 ghost use Rattle.std.specs.Ordering.{nat_cmp, ordering_then, partial_ordering_then};
 
 use crate::map::OrderedMap;
 use std::alloc::Allocator;
 use std::cmp::Ordering;
+use std::hash::{Hash, Hasher};
 
 // Returns `true` if both the keys and the values are equal.
 fn same_entry<V: PartialEq>(left: (u64, &V), right: (u64, &V)) -> bool
@@ -123,6 +126,24 @@ impl<V: Ord, A: Allocator> Ord for OrderedMap<V, A> {
                     unequal => return unequal,
                 },
             }
+        }
+    }
+}
+
+impl<V: Hash, A: Allocator> Hash for OrderedMap<V, A> {
+    ghost hash_input = { fed.slice (λ e. fed.u64 e.0 ++ V.hash_input e.1) };
+
+    ghost respects_eq = { (items_Alike (and-Alike
+        (on_Alike (λ e. e.0) (same_Alike fed.u64 unsigned_Decides))
+        (on_Alike (λ e. e.1) (record { fed = V.respects_eq })))).fed };
+
+    /// Feeds the length, and then each key with its value in order, into the hasher `state`.
+    fn hash<H: Hasher>(&self, state: &mut H) {
+        state.write_usize(self.len());
+        let mut entries = self.iter();
+        'each: while let Some((key, item)) = entries.next() {
+            state.write_u64(key);
+            item.hash(state);
         }
     }
 }

@@ -3,7 +3,7 @@ ghost use Rattle.std.specs.Prelude.{◌≡◌, ℕ, ◌+◌, ◌/◌, ◌<◌, �
 ghost use Rattle.std.specs.Borrow.{sem};
 ghost use Rattle.std.specs.Option.{option_copied_mut};
 ghost use Rattle.allocator_api2.specs.Errors.{IsErrorFor};
-ghost use Rattle.ex_btree.specs.Entries.{between, put, rank, value, without, IsAscending, IsAt, IsGap};
+ghost use Rattle.ex_btree.specs.Entries.{above, between, put, rank, value, without, IsAscending, IsAt, IsGap};
 
 use crate::moves::{insert_at, join, remove_at, replace_at, split_off};
 use allocator_api2::collections::TryReserveError;
@@ -102,6 +102,20 @@ impl<V, A: Allocator> Leaf<V, A> {
         let from = self.rank(low);
         let to = self.rank(high).max(from);
         &self.entries()[from..to]
+    }
+
+    /// Returns a slice of the entries whose keys are greater than `key`, in order.
+    #[tactic(auto, using(crate::proofs::Passing::above_in_leaf))]
+    pub fn above(&self, key: u64) -> &[(u64, V)]
+        ensures { result.now ≡ above key self.now.entries }
+    {
+        let entries = self.entries();
+        let at = rank_of(entries, key);
+        if has_key(entries, at, key) {
+            &entries[at + 1..]
+        } else {
+            &entries[at..]
+        }
     }
 
     /// Returns a mutable reference to the value of `key`, or `None` if the key is absent.

@@ -1,6 +1,7 @@
 //! Operations on the leaves of a map: finding the leaf of a key, splitting and removing leaves.
 ghost use Rattle.std.specs.Prelude.{◌≡◌, ℕ, ◌+◌, ◌*◌, ◌<◌, ◌≤◌, ◌↔◌, [], All, drop, false, length, max, take, slice_get, slice_index_or, is_some, true, None, Some, IsOk, IsTrue, IfErr, IfOk, IfSome, OnErr, OnOk};
-ghost use Rattle.ex_btree.specs.Entries.{put, value, without, Ordered};
+ghost use Rattle.std.specs.Option.{option_map};
+ghost use Rattle.ex_btree.specs.Entries.{above, put, value, without, Ordered};
 ghost use Rattle.ex_btree.specs.Leaves.{entries_of, leaf_room, most_places, HasPlace, HasRoom, IsFull, IsErrorForAtMost, IsSound, IsSplit, IsUsed, Accepts};
 
 use crate::leaf::Leaf;
@@ -47,6 +48,21 @@ pub fn find<V, A: Allocator>(leaves: &[Leaf<V, A>], key: u64) -> Option<usize>
     } else {
         None
     }
+}
+
+/// Returns the least key of all leaves that is greater than `key`, or `None` if there is none.
+#[tactic(auto, using(crate::proofs::Passing::above_in_leaves))]
+pub fn first_above<V, A: Allocator>(leaves: &[Leaf<V, A>], key: u64) -> Option<u64>
+    requires { IsSound leaves.now }
+    ensures { result ≡ option_map (λ e. e.0) (slice_get (above key (entries_of leaves.now)) 0) }
+{
+    let at = leaf_for(leaves, key);
+    let leaf = leaves.get(at)?;
+    if let Some(entry) = leaf.above(key).first() {
+        return Some(entry.0);
+    }
+    let next = leaves.get(at + 1)?;
+    Some(next.entries()[0].0)
 }
 
 // Returns `true` if the first key of a leaf is greater than `key`.

@@ -5,6 +5,7 @@
 
 pub mod clone;
 pub mod compare;
+pub mod cursor;
 pub mod extend;
 pub mod iter;
 pub mod leaf;

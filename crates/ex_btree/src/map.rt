@@ -1,14 +1,14 @@
 //! The ordered map: a sorted map from integer keys to values.
-ghost use Rattle.std.specs.Prelude.{◌≡◌, ◌+◌, ◌-◌, ◌<◌, ◌≤◌, ◌^◌, [], length, map, is_some, true, false, None, IfErr, IfOk, IsOk, IsTrue, OnErr, OnOk, ◌↔◌, option_copied, option_map, slice_get};
+ghost use Rattle.std.specs.Prelude.{◌≡◌, ◌+◌, ◌-◌, ◌<◌, ◌≤◌, ◌^◌, [], length, map, is_some, true, false, None, Some, IfErr, IfOk, IsOk, IsTrue, OnErr, OnOk, ◌↔◌, option_copied, option_map, slice_get};
 ghost use Rattle.std.specs.Borrow.{sem};
 ghost use Rattle.std.specs.Option.{option_copied_mut};
 ghost use Rattle.allocator_api2.specs.declared.collections.TryReserveErrorKind.TheVariants.{CapacityOverflow};
-ghost use Rattle.ex_btree.specs.Entries.{between, put, value, without, IsAscending};
+ghost use Rattle.ex_btree.specs.Entries.{after, between, put, value, without, IsAscending};
 ghost use Rattle.ex_btree.specs.Leaves.{leaf_room, most_places, IsErrorForAtMost};
 
 use crate::iter::{Iter, Keys, Range, Values};
 use crate::leaf::Leaf;
-use crate::leaves::{find, leaf_for, make_room, put_in, take_out};
+use crate::leaves::{find, first_above, leaf_for, make_room, put_in, take_out};
 use allocator_api2::collections::{Refused, TryReserveErrorKind};
 use allocator_api2::vec::Vec;
 use std::alloc::Allocator;
@@ -41,7 +41,7 @@ impl<V, A: Allocator> Model for OrderedMap<V, A> {
 }
 
 impl<V, A: Allocator> OrderedMap<V, A> {
-    ghost use Rattle.ex_btree.specs.Lends.{lends_value};
+    ghost use Rattle.ex_btree.specs.Lends.{lends_there, lends_value};
 
     /// Returns an empty map.
     ///
@@ -101,6 +101,32 @@ impl<V, A: Allocator> OrderedMap<V, A> {
         match find(self.leaves.as_slice(), key) {
             Some(at) => self.leaves[at].get_mut(key),
             None => None,
+        }
+    }
+
+    // Returns a mutable reference to the value of `key`, which is present.
+    pub(crate) fn value_mut(&mut self, key: u64) -> &mut V
+        requires { is_some (value key self.old) ≡ true }
+        ensures* writes_back { sem 𝓛 (lends_there V.row A.row A.Allocator self.entry key result) }
+        ensures value { value key self.old ≡ Some result.now }
+    {
+        match self.get_mut(key) {
+            Some(item) => item,
+            None => unreachable!(),
+        }
+    }
+
+    // Returns the least key that is greater than `last`, or the least of all without one.
+    pub(crate) fn key_after(&self, last: Option<u64>) -> Option<u64>
+        ensures ascending { IsAscending 0 self.now }
+        ensures first { result ≡ option_map (λ e. e.0) (slice_get (after last self.now) 0) }
+    {
+        match last {
+            Some(key) => first_above(self.leaves.as_slice(), key),
+            None => match self.first_key_value() {
+                Some((key, _)) => Some(key),
+                None => None,
+            },
         }
     }
 

@@ -1,5 +1,5 @@
 //! A map as the standard traits see it: made empty, extended by an iterator, and formatted.
-ghost use Rattle.std.specs.Prelude.{◌≡◌, [], ⊤};
+ghost use Rattle.std.specs.Prelude.{◌≡◌, [], ⊤, IfOk, IsOk};
 
 use crate::iter::Iter;
 use crate::map::OrderedMap;
@@ -28,7 +28,10 @@ impl<V, A: Allocator + Clone> Emptied for OrderedMap<V, A> {
     ///
     /// # Errors
     /// `AllocError` if the clone fails.
-    fn emptied(like: &Self) -> Result<Self, AllocError> {
+    fn emptied(like: &Self) -> Result<Self, AllocError>
+        ensures made { IfOk result (λ map. map ≡ []) }
+        ensures fits { ((a : A) → A.is_infallible a) → IsOk result }
+    {
         Ok(OrderedMap::new_in(like.allocator().clone()?))
     }
 }

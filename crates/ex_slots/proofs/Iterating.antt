@@ -1,5 +1,5 @@
 -- The remaining pairs of an iterator, as it takes slots from either end.
-use Rattle.ex_slots.proofs.Common.{Free, Held, Key, List, None, Option, Slot, Some, [], ap, arith, cond, count, drop, entries_from, held, is_some, length, refl, seen, sym, ℕ, ◌++◌, ◌+◌, ◌<◌, ◌∙◌, ◌∷◌, ◌≡◌}
+use Rattle.ex_slots.proofs.Common.{Free, Held, Key, List, None, Option, Slot, Some, [], ap, arith, cond, count, entries_from, held, is_some, length, refl, seen, sym, ℕ, ◌++◌, ◌+◌, ◌<◌, ◌∙◌, ◌∷◌, ◌≡◌}
 use Rattle.ex_slots.proofs.Finds.{count-cons, length-entries}
 use Rattle.ex_slots.specs.Iterating.{pair_of, YieldsPairsInOrder, YieldsPairsInReverse}
 use Rattle.std.proofs.Math.Seq.{take-length}
@@ -68,6 +68,41 @@ module _ {T : Type 0} where
         let pairs = entries-last ∙ ap (λ o. entries_from i (seen (take n ss)) ++ pairs_of (i + n) o) some in
         let counts = count-last ∙ ap (λ o. count (seen (take n ss)) + cond (is_some o) 1 0) some in
         (pairs, counts)
+
+  -- the same, with the last slot named
+  module _ (i : ℕ) (ss rest : List (Slot T)) (s : Slot T) (split : ss ≡ rest ++ s ∷ []) where
+    entries-back : entries_from i (seen ss)
+        ≡ entries_from i (seen rest) ++ pairs_of (i + length rest) (held s)
+    entries-back =
+        let long = length-map rest held in
+        ap (λ xs. entries_from i (seen xs)) split
+        ∙ ap (entries_from i) (map-append held rest (s ∷ []))
+        ∙ entries-push i (i + length rest) (seen rest) (held s) (omega (arith, long))
+
+    count-back : count (seen ss) ≡ count (seen rest) + cond (is_some (held s)) 1 0
+    count-back =
+        ap (λ xs. count (seen xs)) split
+        ∙ ap count (map-append held rest (s ∷ []))
+        ∙ count-push (seen rest) (held s)
+
+    pub free-back : (next after : ℕ) → s ≡ Free next after
+        → (entries_from i (seen rest) ≡ entries_from i (seen ss))
+        × (count (seen rest) ≡ count (seen ss))
+    free-back next after is =
+        let after = ap (λ t. entries_from i (seen rest) ++ pairs_of (i + length rest) (held t)) is in
+        let pairs = entries-back ∙ after in
+        let counts = count-back ∙ ap (λ t. count (seen rest) + cond (is_some (held t)) 1 0) is in
+        (sym (pairs ∙ append-nil (entries_from i (seen rest))), omega (arith, counts))
+
+    pub held-back : (serial : ℕ) (x : T) → s ≡ Held serial x
+        → (entries_from i (seen ss)
+        ≡ entries_from i (seen rest)
+        ++ (record { index = i + length rest; serial = serial }, x) ∷ [])
+        × (count (seen ss) ≡ count (seen rest) + 1)
+    held-back serial x is = (
+      entries-back ∙ ap (λ t. entries_from i (seen rest) ++ pairs_of (i + length rest) (held t)) is,
+      count-back ∙ ap (λ t. count (seen rest) + cond (is_some (held t)) 1 0) is,
+    )
 
   pub in-order : YieldsPairsInOrder T
   in-order = from_front (YieldsFirstBy pair_of (λ rest. rest)) pair_of (λ s. s) (λ s t h. ap length h.0) (λ s x t h. h)

@@ -22,6 +22,11 @@ module _ {T : Type 0} where
   rewritten (Free next after) w = Free next after
   rewritten (Held serial x) w = Held serial w
 
+  -- the slot `copy` is free as the given one is, or has a clone of its value for the same key
+  abbrev pub IsSlotCopy : (clones : T → T → Type 0) → Slot T → Slot T → Type 0
+  IsSlotCopy clones (Free next after) copy = copy ≡ Free next after
+  IsSlotCopy clones (Held serial x) copy = (y : T) × (copy ≡ Held serial y) × clones x y
+
   -- the view of the slots `ss`
   abbrev pub seen : List (Slot T) → List (Option (ℕ × T))
   seen ss = map held ss

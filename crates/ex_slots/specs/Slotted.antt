@@ -1,5 +1,7 @@
 -- The view of a slot map.
-use Rattle.std.specs.Prelude.{◌≡◌, ℕ, zero, suc, ◌+◌, ◌-◌, ◌≤◌, max, List, [], ◌∷◌, length, count_by, is_some, Option, None, Some, nat_eq, nat_lt, nat_le, if◌then◌else◌, slice_index_or, slice_set}
+use Rattle.std.specs.Prelude.{◌≡◌, ℕ, zero, suc, ◌+◌, ◌-◌, ◌≤◌, ◌&&◌, Bool, max, List, [], ◌∷◌, length, count_by, is_some, Option, None, Some, nat_eq, nat_le, if◌then◌else◌, slice_index_or, slice_set}
+use Rattle.std.specs.Cmp.Lexicographic.{pointwise}
+use Rattle.std.specs.List.{AllZip}
 use Rattle.ex_slots.specs.declared.map.Key.{Key}
 
 -- the view of a slot map: its slots, each free or with the serial of a key and its value; the
@@ -79,3 +81,24 @@ module _ {T : Type 0} where
   -- the map `m` without its values
   abbrev pub cleared : Slotted T → Slotted T
   cleared m = record m { slots = [] }
+
+  -- the slot `copy` is free as the given one is, or has a clone of its value for the same key
+  abbrev pub IsClonedSlot : (clones : T → T → Type 0) → Option (ℕ × T) → Option (ℕ × T) → Type 0
+  IsClonedSlot clones None copy = copy ≡ None
+  IsClonedSlot clones (Some e) copy = (x : T) × (copy ≡ Some (e.0, x)) × clones e.1 x
+
+  -- the map `copy` has a clone of each value of `m`, in the same slot for the same key; it has
+  -- capacity for exactly these slots, and has issued as many keys
+  pub record IsClonedMap (clones : T → T → Type 0) (m copy : Slotted T) : Type 0 where
+    pub each : AllZip (IsClonedSlot clones) m.slots copy.slots
+    pub capacity : copy.capacity ≡ length m.slots
+    pub issued : copy.issued ≡ m.issued
+
+  -- the keys are equal, and so are the values by `same`
+  abbrev pub same_entry : (same : T → T → Bool) → Key × T → Key × T → Bool
+  same_entry same e f =
+      (nat_eq e.0.index f.0.index && nat_eq e.0.serial f.0.serial) && same e.1 f.1
+
+  -- both maps have the same keys, with values that are equal by `same`
+  abbrev pub same_entries : (same : T → T → Bool) → Slotted T → Slotted T → Bool
+  same_entries same m n = pointwise (same_entry same) (entries m) (entries n)

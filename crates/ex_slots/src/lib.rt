@@ -3,6 +3,8 @@
 //! It is built on the library's vector.
 #![tactic(auto)]
 
+pub mod cursor;
+pub mod into_iter;
 pub mod iter;
 pub mod map;
 pub mod slots;

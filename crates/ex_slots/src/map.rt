@@ -1,19 +1,24 @@
 //! The slot map: a map from keys that it issues to values, in which no key is issued twice.
-ghost use Rattle.std.specs.Prelude.{◌≡◌, ◌≢◌, ◌+◌, ◌<◌, ◌^◌, [], length, is_some, nat_lt, if◌then◌else◌, None, Some, IfErr, IfOk, IfSome, IfNone, IsOk, IsTrue, OnErr, OnOk, option_copied, ◌↔◌};
+ghost use Rattle.std.specs.Prelude.{◌≡◌, ◌≢◌, ◌+◌, ◌<◌, ◌^◌, [], length, map, is_some, nat_lt, if◌then◌else◌, None, Some, IfErr, IfOk, IfSome, IfNone, IsOk, IsTrue, OnErr, OnOk, option_copied, option_map, slice_get, drop, ◌↔◌};
 ghost use Rattle.std.specs.Borrow.{sem};
 ghost use Rattle.std.specs.Option.{option_copied_mut};
 ghost use Rattle.allocator_api2.specs.Errors.{IsErrorFor};
 ghost use Rattle.ex_slots.specs.Iterating.{YieldsPairsInOrder, YieldsPairsInReverse};
-ghost use Rattle.ex_slots.specs.Slotted.{cleared, count, entries, find, grown, with_room, without, HasRoom, Puts};
+ghost use Rattle.ex_slots.specs.Slotted.{cleared, count, entries, entries_from, find, grown, with_room, without, HasRoom, Puts};
 ghost use Rattle.ex_slots.specs.declared.map.Key.{Key};
 
-use crate::iter::Iter;
-use crate::slots::{Chain, Slot, put, release};
+use crate::iter::{Iter, Keys, Values};
+use crate::slots::{Chain, Slot, first_held, put, release};
 use allocator_api2::collections::{Refused, TryReserveError, TryReserveErrorKind};
 use allocator_api2::vec::Vec;
 use std::alloc::Allocator;
 use std::marker::Model;
 
+mod capacity;
+mod clone;
+mod compare;
+mod into;
+mod retain;
 mod traits;
 
 /// A key of one value in the map that issued it.
@@ -59,8 +64,10 @@ impl<T: Drop, A: Allocator> SlotMap<T, A> {
     /// Returns an empty map that has issued no keys.
     ///
     /// Does not allocate.
+    #[tactic(auto, using(crate::proofs::Cloning::sized_slots))]
     pub fn new_in(alloc: A) -> Self
         ensures slots { result.slots ≡ [] }
+        ensures capacity { result.capacity ≡ 0 }
         ensures issued { result.issued ≡ 0 }
     {
         SlotMap {
@@ -128,6 +135,29 @@ impl<T: Drop, A: Allocator> SlotMap<T, A> {
         }
     }
 
+    /// Returns a double-ended iterator over the keys that have a value, in the order of the slots.
+    pub fn keys(&self) -> Keys<'_, T>
+        ensures all { result ≡ map (λ e. e.0) (entries self.now) }
+    {
+        Keys { rest: self.iter() }
+    }
+
+    /// Returns a double-ended iterator over the values, in the order of the slots.
+    pub fn values(&self) -> Values<'_, T>
+        ensures all { result ≡ map (λ e. e.1) (entries self.now) }
+    {
+        Values { rest: self.iter() }
+    }
+
+    // Returns the key of the first value in the slots from `from` on, or `None` if there is none.
+    pub(crate) fn key_from(&self, from: usize) -> Option<Key>
+        ensures within { IfSome result (λ k. k.index + 1 < 2 ^ 64) }
+        ensures first { result ≡ option_map (λ e. e.0)
+            (slice_get (entries_from from (drop from self.now.slots)) 0) }
+    {
+        first_held(self.slots.as_slice(), from)
+    }
+
     /// Reserves capacity for exactly `additional` more values.
     ///
     /// Does not allocate if the capacity is already sufficient.
@@ -153,6 +183,7 @@ impl<T: Drop, A: Allocator> SlotMap<T, A> {
 
     // Reserves capacity for one more value. If the map is full, doubles the capacity, or adds four
     // if that is more.
+    #[inline]
     fn make_room(&mut self) -> Result<(), TryReserveError>
         // If the map is not full, it succeeds.
         ensures fits { HasRoom self.old 1 → IsOk result }
@@ -169,10 +200,26 @@ impl<T: Drop, A: Allocator> SlotMap<T, A> {
         ensures error { IfErr result (λ e. IsErrorFor e (grown self.old.capacity)) }
         ensures unchanged { OnErr result (self.new ≡ self.old) }
     {
-        let len = self.len();
-        if len < self.slots.capacity() {
+        if self.len() < self.slots.capacity() {
             return Ok(());
         }
+        self.grow()
+    }
+
+    // Doubles the capacity of a full map, or adds four if that is more. Rarely called, so its code
+    // is apart.
+    #[cold]
+    #[inline(never)]
+    fn grow(&mut self) -> Result<(), TryReserveError>
+        requires { count self.old.slots ≡ self.old.capacity }
+        ensures enough { OnOk result (count self.new.slots < self.new.capacity) }
+        ensures slots { self.new.slots ≡ self.old.slots }
+        ensures issued { self.new.issued ≡ self.old.issued }
+        ensures capacity { OnOk result (self.new.capacity ≡ grown self.old.capacity) }
+        ensures error { IfErr result (λ e. IsErrorFor e (grown self.old.capacity)) }
+        ensures unchanged { OnErr result (self.new ≡ self.old) }
+    {
+        let len = self.len();
         self.reserve(len.max(4))
     }
 
@@ -185,6 +232,7 @@ impl<T: Drop, A: Allocator> SlotMap<T, A> {
     /// `CapacityOverflow` if 2^64 - 1 keys were issued, or the bytes exceed `isize::MAX`;
     /// `AllocError` with the requested capacity if the allocation fails.
     /// The map is unchanged, and `value` is returned in the error.
+    #[inline]
     pub fn insert(&mut self, value: T) -> Result<Key, Refused<T>>
         // If the map is not full, and keys remain to be issued, it succeeds.
         ensures fits { HasRoom self.old 1 → self.old.issued + 1 < 2 ^ 64 → IsOk result }
@@ -229,6 +277,7 @@ impl<T: Drop, A: Allocator> SlotMap<T, A> {
     /// Removes the value of `key` and returns it, or `None` if the key has none.
     ///
     /// Afterwards the key has no value. Does not allocate.
+    #[inline]
     pub fn remove(&mut self, key: Key) -> Option<T>
         // It returns the value of the key. If there was none, nothing changes.
         ensures value { result ≡ find self.old key }

@@ -1,12 +1,13 @@
 //! The slots of a map: each has a value or is free, and the free slots form a linked list.
-ghost use Rattle.std.specs.Prelude.{◌≡◌, ◌<◌, ◌≤◌, [], ◌∷◌, ◌++◌, length, is_some, true, None, Some, option_copied, option_map, slice_set};
+ghost use Rattle.std.specs.Prelude.{◌≡◌, ◌+◌, ◌^◌, ◌<◌, ◌≤◌, IfSome, [], ◌∷◌, ◌++◌, length, is_some, true, None, Some, option_copied, option_map, slice_get, slice_set, drop};
 ghost use Rattle.std.specs.Borrow.{sem, Lends};
-ghost use Rattle.ex_slots.specs.Inside.{held, rewritten, seen, value_of, IsSound};
+ghost use Rattle.ex_slots.specs.Inside.{held, rewritten, seen, value_of, IsSlotCopy, IsSound};
 ghost use Rattle.ex_slots.specs.declared.slots.Slot.TheVariants.{Held};
-ghost use Rattle.ex_slots.specs.Slotted.{count, slot_at, value_under, Puts};
+ghost use Rattle.ex_slots.specs.Slotted.{count, entries_from, slot_at, value_under, Puts};
 
+use crate::map::Key;
 use allocator_api2::vec::Vec;
-use std::alloc::Allocator;
+use std::alloc::{AllocError, Allocator};
 use std::mem;
 
 /// A slot for one value.
@@ -25,8 +26,30 @@ pub struct Chain {
     pub count: usize,
 }
 
+impl<T: Clone> Clone for Slot<T> {
+    ghost is_clone = { IsSlotCopy T.is_clone };
+
+    /// Returns a slot for the same key with a clone of the value, or the same free slot.
+    fn clone(&self) -> Result<Self, AllocError> {
+        match self {
+            Slot::Held(serial, value) => Ok(Slot::Held(*serial, value.clone()?)),
+            Slot::Free(next, after) => Ok(Slot::Free(*next, *after)),
+        }
+    }
+}
+
 impl<T> Slot<T> {
     ghost use Rattle.ex_slots.specs.contracts.slots.Slot.{the_row};
+
+    /// Returns the serial of the key whose value is in this slot, or `None` if the slot is free.
+    pub fn serial(&self) -> Option<u64>
+        ensures { result ≡ option_map (λ e. e.0) (held self.now) }
+    {
+        match self {
+            Slot::Held(serial, _) => Some(*serial),
+            Slot::Free(_, _) => None,
+        }
+    }
 
     /// Returns a reference to the value of the key with this serial, or `None` if it is not here.
     pub fn value(&self, serial: u64) -> Option<&T>
@@ -62,7 +85,26 @@ impl<T> Slot<T> {
     }
 }
 
+/// Returns the key of the first value in the slots from `from` on, or `None` if there is none.
+#[tactic(auto, using(crate::proofs::Passing::steps))]
+pub fn first_held<T>(slots: &[Slot<T>], from: usize) -> Option<Key>
+    ensures within { IfSome result (λ k. k.index + 1 < 2 ^ 64) }
+    ensures first { result ≡ option_map (λ e. e.0)
+        (slice_get (entries_from from (drop from (seen slots.now))) 0) }
+{
+    'each: for index in from..slots.len() {
+        if let Slot::Held(serial, _) = &slots[index] {
+            return Some(Key {
+                index,
+                serial: *serial,
+            });
+        }
+    }
+    None
+}
+
 // Writes a value into the first free slot, and returns its index.
+#[inline]
 fn put_first<T: Drop, A: Allocator>(
     slots: &mut Vec<Slot<T>, A>,
     free: &mut Chain,
@@ -89,6 +131,7 @@ fn put_first<T: Drop, A: Allocator>(
 
 // Appends a new slot with a value, and returns its index.
 #[tactic(auto, using(crate::proofs::Writing::after))]
+#[inline]
 fn push_new<T, A: Allocator>(slots: &mut Vec<Slot<T>, A>, serial: u64, value: T) -> usize
     requires { length slots.old.items < slots.old.capacity }
     ensures pushed { slots.new.items ≡ slots.old.items ++ Held serial value ∷ [] }
@@ -107,6 +150,7 @@ fn push_new<T, A: Allocator>(slots: &mut Vec<Slot<T>, A>, serial: u64, value: T)
 /// Writes a value into a free slot, or into a new one if no slot is free, and returns its index.
 ///
 /// Does not allocate: there is capacity for one more value.
+#[inline]
 pub fn put<T: Drop, A: Allocator>(
     slots: &mut Vec<Slot<T>, A>,
     free: &mut Chain,
@@ -130,6 +174,7 @@ pub fn put<T: Drop, A: Allocator>(
 /// Removes the value from a slot and returns it. The slot is then the first free one.
 ///
 /// Does not allocate.
+#[inline]
 pub fn release<T: Drop, A: Allocator>(
     slots: &mut Vec<Slot<T>, A>,
     free: &mut Chain,

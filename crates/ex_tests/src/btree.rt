@@ -1,7 +1,9 @@
 //! The ordered map.
+use ex_btree::cursor::CursorMut;
 use ex_btree::map::OrderedMap;
 use std::alloc::{AllocError, Global};
 use std::default::{Emptied, MadeWith};
+use std::hash::{DefaultHasher, Hash, Hasher};
 use std::ops::Range;
 use std::test::Fail;
 use test_allocators::Faulty;
@@ -40,6 +42,37 @@ fn ends(map: &Small<'_>, low: u64, high: u64) -> Option<(u64, u64)> {
     let (first, _) = map.range(low, high).next()?;
     let (last, _) = map.range(low, high).last()?;
     Some((first, last))
+}
+
+// Passes keys in order, and doubles the value of each.
+fn doubles(entries: &mut CursorMut<'_, u64, &Faulty<Global>>, keys: Range<u64>) -> bool {
+    let mut all = true;
+    for key in keys {
+        let next = entries.peek_key() == Some(key);
+        all = all && next;
+        if let Some(value) = entries.next() {
+            *value = value.wrapping_mul(2);
+        }
+    }
+    all
+}
+
+// Over more than one leaf, to the greatest key of all.
+#[test]
+fn a_cursor_writes_each_value(rt: HostRuntime) {
+    let heap = Faulty::new(rt.alloc());
+    let mut map = none(&heap);
+    assert!(rt; map.cursor_mut().next().is_none());
+    assert!(rt; takes(&mut map, 0..100) && put(&mut map, u64::MAX, 7) == Ok(None));
+    let before = heap.requests();
+    let mut entries = map.cursor_mut();
+    assert!(rt; doubles(&mut entries, 0..100));
+    assert!(rt; entries.peek_key() == Some(u64::MAX) && entries.next() == Some(&mut 7));
+    assert!(rt; entries.peek_key().is_none() && entries.next().is_none());
+    assert!(rt; has(&map, 0) == Some(0) && has(&map, 99) == Some(98));
+    map.fill(5);
+    assert!(rt; has(&map, 0) == Some(5) && has(&map, u64::MAX) == Some(5));
+    assert!(rt; map.len() == 101 && heap.requests() == before);
 }
 
 #[test]
@@ -146,6 +179,20 @@ fn maps_of_pairs_are_compared_and_printed(rt: HostRuntime) -> Result<(), Fail> {
     assert!(rt; map < other && map.partial_cmp(&other) == Some(map.cmp(&other)));
     let text = format!(in heap; "{map:?} {:?}", other.iter())?;
     assert!(rt; text.as_str() == "{1: 5, 2: 0, 3: 4} [(1, 5), (3, 4)]");
+    Ok(())
+}
+
+fn hash_of<T: Hash>(value: &T) -> u64 {
+    let mut hasher = DefaultHasher::new();
+    value.hash(&mut hasher);
+    hasher.finish()
+}
+
+#[test]
+fn maps_hash_as_their_pairs(rt: HostRuntime) -> Result<(), Fail> {
+    let map = made(rt.alloc(), &[(3, 4), (1, 2), (1, 5)])?;
+    let (pairs, others): (&[(u64, u64)], &[(u64, u64)]) = (&[(1, 5), (3, 4)], &[(1, 5), (2, 4)]);
+    assert!(rt; hash_of(&map) == hash_of(&pairs) && hash_of(&map) != hash_of(&others));
     Ok(())
 }
 

@@ -1,5 +1,6 @@
 //! The slot map.
 use allocator_api2::collections::TryReserveErrorKind;
+use ex_slots::cursor::CursorMut;
 use ex_slots::map::{Key, SlotMap};
 use std::alloc::{AllocError, Global};
 use std::default::{Emptied, MadeWith};
@@ -54,6 +55,48 @@ fn finds(map: &Small<'_>, key: Key, value: Option<u32>) -> bool {
 fn has_new_key(map: &Small<'_>, first: Key, second: Key) -> bool {
     let mut keys = map.iter();
     keys.next() == Some((first, &3)) && keys.next() == Some((second, &20))
+}
+
+// Passes a value with this key, and doubles it.
+fn doubles(values: &mut CursorMut<'_, u32, &Faulty<Global>>, key: Key) -> bool {
+    let next = values.peek_key() == Some(key);
+    match values.next() {
+        Some(value) => {
+            *value = value.wrapping_mul(2);
+            next
+        }
+        None => false,
+    }
+}
+
+// Whether a cursor passes the values in order, but not the free slots, and writes each.
+fn doubles_all(map: &mut Small<'_>) -> Option<bool> {
+    let a = put(map, 1)?;
+    let b = put(map, 2)?;
+    let c = put(map, 3)?;
+    let removed = taken(map, b) == Some(2);
+    let mut values = map.cursor_mut();
+    let doubled = doubles(&mut values, a) && doubles(&mut values, c);
+    let ended = values.peek_key().is_none() && values.next().is_none();
+    Some(
+        removed
+            && doubled
+            && ended
+            && finds(map, a, Some(2))
+            && finds(map, b, None)
+            && finds(map, c, Some(6))
+            && map.len() == 2,
+    )
+}
+
+#[test]
+fn a_cursor_writes_each_value(rt: HostRuntime) {
+    let heap = Faulty::new(rt.alloc());
+    let mut map: Small<'_> = SlotMap::new_in(&heap);
+    assert!(rt; doubles_all(&mut map) == Some(true));
+    map.fill(9);
+    assert!(rt; map.iter().all(|(_, value)| *value == 9) && map.len() == 2);
+    assert!(rt; heap.requests() == 1);
 }
 
 #[test]
@@ -126,7 +169,7 @@ fn reserved_capacity_is_used_when_the_heap_fails(rt: HostRuntime) {
     assert!(rt; returned(&mut map, 4) == Some((4, failed)) && map.len() == 3);
 }
 
-// A map with 1 and 3, and between them a free slot.
+// A map with 1 and 3, where 3 is in the slot of a value that was removed.
 fn one_and_three<'a>(heap: &'a Faulty<Global>) -> Small<'a> {
     let mut map: Small<'a> = MadeWith::made_with(heap);
     for value in 1u32..4 {
@@ -178,18 +221,20 @@ fn pairs_come_from_both_ends(rt: HostRuntime) {
     assert!(rt; sevens(&mut map, key) == (7, 11));
 }
 
-// What a map of 1 and 3 prints.
+// What a map of 1 and 3 and its iterator print.
 fn printed(alloc: Global, heap: &Faulty<Global>) -> Result<String, AllocError> {
     let map = one_and_three(heap);
-    format!(in alloc; "{map:?}")
+    let pairs = map.iter().clone()?;
+    format!(in alloc; "{map:?} {pairs:?}")
 }
 
 #[test]
 fn a_map_prints_its_keys_and_values(rt: HostRuntime) -> Result<(), Fail> {
     let heap = Faulty::new(rt.alloc());
     let text = printed(rt.alloc(), &heap)?;
-    let first = "{Key { index: 0, serial: 0 }: 1, ";
-    assert!(rt; text.as_str().starts_with(first));
+    let pairs = "{Key { index: 0, serial: 0 }: 1, Key { index: 1, serial: 2 }: 3} \
+        [(Key { index: 0, serial: 0 }, 1), (Key { index: 1, serial: 2 }, 3)]";
+    assert!(rt; text.as_str() == pairs);
     Ok(())
 }
 
@@ -209,4 +254,106 @@ fn a_map_is_emptied(rt: HostRuntime) {
     map.clear();
     assert!(rt; map.is_empty() && put(&mut map, 4).is_some() && map.len() == 1);
     assert!(rt; heap.requests() == 1);
+}
+
+// Returns whether a map equals its clone, whether it still does once a value was written, and
+// whether both issue the same key.
+fn is_cloned(map: &mut Small<'_>, key: Option<Key>) -> Option<(bool, bool, bool)> {
+    let mut copy = map.clone().ok()?;
+    let same = *map == copy && copy.len() == map.len();
+    write(map, key?, 30);
+    let still = *map == copy;
+    Some((same, still, put(map, 9) == put(&mut copy, 9)))
+}
+
+// Returns the kind of the error of a clone.
+fn clone_fails(map: &Small<'_>) -> Option<TryReserveErrorKind> {
+    match map.clone() {
+        Ok(_) => None,
+        Err(error) => Some(error.kind()),
+    }
+}
+
+#[test]
+fn a_map_equals_its_clone(rt: HostRuntime) {
+    let heap = Faulty::new(rt.alloc());
+    let mut map = one_and_three(&heap);
+    let key = put(&mut map, 5);
+    assert!(rt; insert_and_remove(&mut map, 7));
+    let failed = TryReserveErrorKind::AllocError { capacity: 4 };
+    heap.fail_requests(0, 1);
+    assert!(rt; clone_fails(&map) == Some(failed));
+    assert!(rt; is_cloned(&mut map, key) == Some((true, false, true)));
+    drop(map);
+    assert!(rt; heap.outstanding() == 0);
+}
+
+// The keys from the front and the values from the back, one of each, and how many remain.
+fn first_and_last(map: &Small<'_>) -> (Option<Key>, Option<u32>, usize, usize) {
+    let mut keys = map.keys();
+    let mut values = map.values();
+    let (key, value) = (keys.next(), values.next_back().copied());
+    (key, value, keys.len(), values.len())
+}
+
+#[test]
+fn keys_and_values_come_from_both_ends(rt: HostRuntime) {
+    let heap = Faulty::new(rt.alloc());
+    let mut map: Small<'_> = SlotMap::new_in(&heap);
+    let key = put(&mut map, 1);
+    assert!(rt; put(&mut map, 2).is_some() && first_and_last(&map) == (key, Some(2), 1, 1));
+}
+
+// The first value and the last one, taken out of a map, and how many remain.
+fn taken_out(map: Small<'_>) -> (Option<u32>, Option<u32>, usize) {
+    let mut pairs = map.into_iter();
+    let first = pairs.next().map(|(_, value)| value);
+    let last = pairs.next_back().map(|(_, value)| value);
+    (first, last, pairs.len())
+}
+
+#[test]
+fn values_are_taken_out(rt: HostRuntime) {
+    let heap = Faulty::new(rt.alloc());
+    let mut map = one_and_three(&heap);
+    let key = put(&mut map, 5);
+    let last = put(&mut map, 7);
+    assert!(rt; key.is_some() && last.is_some());
+    assert!(rt; taken_out(map) == (Some(1), Some(7), 2) && heap.outstanding() == 0);
+}
+
+// Keeps the odd values and adds one to each of them; returns how many there were.
+fn keeps_odd(map: &mut Small<'_>) -> u32 {
+    let mut calls = 0u32;
+    map.retain(|_, value| {
+        calls = calls.wrapping_add(1);
+        let keep = *value % 2 == 1;
+        *value = value.wrapping_add(1);
+        keep
+    });
+    calls
+}
+
+#[test]
+fn values_are_retained_by_a_closure(rt: HostRuntime) {
+    let heap = Faulty::new(rt.alloc());
+    let mut map = one_and_three(&heap);
+    let (four, five) = (put(&mut map, 4), put(&mut map, 5));
+    assert!(rt; keeps_odd(&mut map) == 4 && map.len() == 3 && heap.requests() == 1);
+    assert!(rt; finds_any(&map, four) == None && finds_any(&map, five) == Some(6));
+}
+
+// The capacity of a new map for 5 values, once one was inserted.
+fn capacity_of_five<'a>(heap: &'a Faulty<Global>) -> Option<usize> {
+    let mut map = Small::with_capacity_in(5, heap).ok()?;
+    let _key = put(&mut map, 1)?;
+    Some(map.capacity())
+}
+
+#[test]
+fn a_map_is_made_with_capacity(rt: HostRuntime) {
+    let heap = Faulty::new(rt.alloc());
+    assert!(rt; capacity_of_five(&heap) == Some(5) && heap.requests() == 1);
+    heap.fail_requests(0, 1);
+    assert!(rt; capacity_of_five(&heap) == None && heap.outstanding() == 0);
 }

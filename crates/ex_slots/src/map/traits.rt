@@ -1,5 +1,5 @@
 //! A slot map as traits see it: values by their keys, empty maps, and debug output.
-ghost use Rattle.std.specs.Prelude.{◌≡◌, [], is_some, true, Some};
+ghost use Rattle.std.specs.Prelude.{◌≡◌, [], is_some, true, Some, IfOk, IsOk};
 ghost use Rattle.std.specs.Borrow.{sem};
 ghost use Rattle.ex_slots.specs.Slotted.{find};
 
@@ -55,7 +55,10 @@ impl<T: Drop, A: Allocator + Clone> Emptied for SlotMap<T, A> {
     ghost is_emptied = { λ m. (m.slots ≡ []) × (m.issued ≡ 0) };
 
     /// Returns an empty map that has issued no keys, over a clone of the allocator of `like`.
-    fn emptied(like: &Self) -> Result<Self, AllocError> {
+    fn emptied(like: &Self) -> Result<Self, AllocError>
+        ensures made { IfOk result (λ m. (m.slots ≡ []) × (m.issued ≡ 0)) }
+        ensures fits { ((a : A) → A.is_infallible a) → IsOk result }
+    {
         Ok(SlotMap::new_in(like.slots.allocator().clone()?))
     }
 }

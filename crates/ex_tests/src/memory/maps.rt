@@ -70,6 +70,22 @@ fn values_of_a_slot_map_are_dropped_once(rt: HostRuntime) {
     assert!(rt; slots_are_so(&heap, &drops) && drops.get() == 6 && is_all_freed(&heap));
 }
 
+// Whether each value of a slot map is dropped once that is iterated over by value.
+fn pairs_are_so<'a>(heap: &'a Faulty<Global>, drops: &'a Cell<u32>) -> bool {
+    let mut map: Slots<'a> = SlotMap::new_in(heap);
+    let before = five_come(&mut map, drops);
+    let mut pairs = map.into_iter();
+    drop(pairs.next());
+    before == 1 && drops.get() == 2 && pairs.len() == 3
+}
+
+#[test]
+fn pairs_of_a_slot_map_are_dropped_once(rt: HostRuntime) {
+    let heap = Faulty::new(rt.alloc());
+    let drops = Cell::new(0);
+    assert!(rt; pairs_are_so(&heap, &drops) && drops.get() == 5 && is_all_freed(&heap));
+}
+
 // Sets the value of a key of an ordered map, and drops the old one. Returns how this ends.
 fn set<'a>(map: &mut Ordered<'a>, key: u64, drops: &'a Cell<u32>) -> End {
     match map.insert(key, Counted { value: 0, drops }) {
