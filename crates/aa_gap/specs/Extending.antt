@@ -16,6 +16,10 @@ module _ {T A : Type 0} where
   abbrev pub Inserts : (size : ℕ) → (old : Buffer T A) → List T → (new : Buffer T A) → Type 0
   Inserts size old xs new = Edits size old (map Insert xs) new
 
+  -- `new` is `old` with the items `xs` inserted before the cursor
+  abbrev pub HasInserted : Buffer T A → List T → Buffer T A → Type 0
+  HasInserted old xs new = (new.before ≡ old.before ++ xs) × (new.after ≡ old.after)
+
   -- `copy` has a clone of each element of `b`, the cursor at the same position, and capacity for
   -- exactly these. Each clone was written once, and those that the cursor passed once more if there
   -- is a gap

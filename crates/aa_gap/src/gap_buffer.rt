@@ -17,6 +17,7 @@ use std::default::{Emptied, MadeWith};
 use std::marker::Model;
 
 mod compare;
+mod contiguous;
 mod format;
 mod iter;
 mod many;
@@ -521,7 +522,11 @@ impl<T, A: Allocator + Clone> Emptied for GapBuffer<T, A> {
     /// Returns an empty text over a clone of the allocator of `like`.
     ///
     /// Does not allocate.
-    fn emptied(like: &Self) -> Result<Self, AllocError> {
+    fn emptied(like: &Self) -> Result<Self, AllocError>
+        ensures made { IfOk result
+            (λ b. b ≡ empty (new_capacity (type_size T.row) 0) Doubling b.alloc) }
+        ensures fits { A.is_infallible like.now.alloc → IsOk result }
+    {
         Ok(GapBuffer::new_in(like.allocator().clone()?))
     }
 }

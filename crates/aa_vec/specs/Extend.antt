@@ -1,6 +1,6 @@
 -- A vector to which the items of an iterator are appended one by one, and the lower bounds that the
 -- iterator returns of how many remain.
-use Rattle.std.specs.Prelude.{◌≡◌, ℕ, ◌+◌, ◌-◌, ◌<◌, ◌≤◌, List, [], ◌++◌, length, Option, Some, None, Result, Ok, Err, IfOk, IfErr, OnOk}
+use Rattle.std.specs.Prelude.{◌≡◌, ℕ, ◌+◌, ◌-◌, ◌<◌, ◌≤◌, List, [], ◌++◌, length, map, Option, Some, None, Result, Ok, Err, IfOk, IfErr, OnOk}
 use Rattle.std.specs.Borrow.{Bor}
 use Rattle.std.specs.Iterator.{YieldsFirst, Drains}
 use Rattle.std.specs.Iterator.Runs.{WholeRun}
@@ -138,3 +138,7 @@ module _ {T A : Type 0} where
     pub alloc : new.alloc ≡ old.alloc
     pub written : new.written ≡ old.written + length xs
     pub runs : new.runs ≡ old.runs + length xs
+
+  -- `new` is `old` with copies appended of what `rs` refer to, each of which was written once
+  abbrev pub HasCopied : (old : Vector T A) → List (Bor T) → (new : Vector T A) → Type 0
+  HasCopied old rs new = HasExtended old (map (λ r. r.now) rs) new

@@ -1,8 +1,8 @@
 -- Items that are appended to a small vector, one by one.
 use Rattle.std.proofs.Common.{◌≡◌, ℕ, ◌+◌, ◌-◌, ◌<◌, Bool, true, false, List, [], ◌∷◌, ◌++◌, length, take, refl, sym, ap, ◌∙◌, arith, append_assoc, length-append}
 use Rattle.std.proofs.Common.{inl, inr, subst}
-use Rattle.std.specs.Iterator.{Drains, Yields}
-use Rattle.std.specs.Prelude.{◌⊎◌, Option, Result, Ok, Err, IfErr, OnOk, nat_le, if◌then◌else◌}
+use Rattle.std.specs.Iterator.{Drains, DrainsIf, Yields}
+use Rattle.std.specs.Prelude.{◌⊎◌, Option, Result, Ok, Err, IfErr, IfOk, OnOk, nat_le, if◌then◌else◌}
 use Rattle.std.proofs.lemmas.Bool.Decides.{nat_tests}
 use Rattle.std.proofs.lemmas.List.{append-nil, take_at}
 use Rattle.std.proofs.lemmas.List.Elements.{same_from_all_zip}
@@ -107,3 +107,11 @@ module _ {S T A : Type 0} (next_gives : S → Option T → S → Type 0) where
 pub ruleset pushes = (pushed_all-push, items-pushed_all, length-pushed_all)
 
 pub ruleset copied = (Blocks.with_room, same_from_all_zip)
+
+module _ {X E S T : Type 0} (steps : S → Option T → S → Type 0) (becomes : S → Type 0) (items : X → List T) where
+  -- of all items, as the trait says it
+  pub ok-drained : (W : X → Type 0) (r : Result X E)
+      → IfOk r (λ v. (it : S) × (xs : List T) × becomes it × Drains steps it xs × (items v ≡ xs))
+      → IfOk r (λ v. (it : S) × (xs : List T) × becomes it × DrainsIf steps (W v) it xs × (items v ≡ xs))
+  ok-drained W (Ok v) h = (h.0, h.1, h.2, (h.3.1.0, h.3.1.1, λ _. (h.3.0, h.3.1.2)), h.4)
+  ok-drained W (Err e) h = h

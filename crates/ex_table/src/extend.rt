@@ -79,7 +79,14 @@ impl<K: Eq + Hash + Drop, V: Drop, S: BuildHasher, A: Allocator + Clone> Extend<
     ghost extend_gives = { InsertsAll K.eq };
 
     /// Inserts the items as the inherent `extend` does, whose error also has the number.
-    fn extend<U: IntoIterator<Item = (K, V)>>(&mut self, iter: U) -> Result<(), AllocError> {
+    fn extend<U: IntoIterator<Item = (K, V)>>(&mut self, iter: U) -> Result<(), AllocError>
+        requires finite { IsFiniteIterable U.into_iter_gives U.IntoIter.can_next
+            U.IntoIter.remaining iter }
+        ensures extended { ExtendsWithItems U.into_iter_gives U.IntoIter.next_gives
+            (InsertsAll K.eq) iter self.old self.new result }
+        ensures fits { ((it : U.IntoIter) → U.into_iter_gives iter it
+            → HasRoom self.old (size (U.IntoIter.remaining it))) → IsOk result }
+    {
         match Table::extend(self, iter) {
             Ok(()) => Ok(()),
             Err(_) => Err(AllocError),

@@ -1,5 +1,5 @@
 //! A table as the standard traits see it: made empty, iterated over, formatted, and compared.
-ghost use Rattle.std.specs.Prelude.{◌≡◌, [], ⊤};
+ghost use Rattle.std.specs.Prelude.{◌≡◌, [], ⊤, IfOk, IsOk};
 
 use crate::iter::{IntoIter, Iter, Keys, Values};
 use crate::table::Table;
@@ -31,7 +31,11 @@ impl<K: Eq + Hash + Drop, V: Drop, S: BuildHasher + Clone, A: Allocator + Clone>
     ///
     /// # Errors
     /// `AllocError` if a clone fails.
-    fn emptied(like: &Self) -> Result<Self, AllocError> {
+    fn emptied(like: &Self) -> Result<Self, AllocError>
+        ensures made { IfOk result (λ t. (t.entries ≡ []) × (t.capacity ≡ 0)) }
+        ensures fits { S.is_infallible like.now.builder → ((a : A) → A.is_infallible a)
+            → IsOk result }
+    {
         let alloc = like.allocator().clone()?;
         Ok(Table::with_hasher_in(like.hasher().clone()?, alloc))
     }

@@ -3,7 +3,7 @@ ghost use Rattle.std.specs.Prelude.{◌≡◌, ◌<◌, ◌≤◌, ◌⊎◌, []
 ghost use Rattle.std.specs.List.{AllZip};
 ghost use Rattle.std.specs.Mem.{type_size};
 ghost use Rattle.std.specs.Borrow.{sem};
-ghost use Rattle.std.specs.Iterator.{IsFinite, IsNearerEnd, Drains, YieldsThen, size};
+ghost use Rattle.std.specs.Iterator.{IsFinite, IsFiniteIterable, IsNearerEnd, Drains, YieldsThen, size};
 ghost use Rattle.std.specs.Iterator.Runs.{WholeRun};
 ghost use Rattle.aa_raw.specs.Clones.{ClonesAreEqual};
 ghost use Rattle.aa_raw.specs.Growth.{new_capacity};
@@ -59,9 +59,8 @@ impl<T> BoxedSlice<T, Global> {
     where
         T: Drop,
         // The iterator that is made of `iter` can be called, and is finite.
-        requires callable { (it : I.IntoIter) → I.into_iter_gives iter it → I.IntoIter.can_next it }
-        requires finite { (it : I.IntoIter) → I.into_iter_gives iter it
-            → IsFinite (I.IntoIter.remaining it) }
+        requires finite { IsFiniteIterable I.into_iter_gives I.IntoIter.can_next
+            I.IntoIter.remaining iter }
 
         // Items that fit in no block that has to grow are collected without an error.
         ensures fits { ((it : I.IntoIter) → I.into_iter_gives iter it
@@ -119,9 +118,8 @@ impl<T, A: Allocator> BoxedSlice<T, A> {
     where
         T: Drop,
         // The iterator that is made of `iter` can be called, and is finite.
-        requires callable { (it : I.IntoIter) → I.into_iter_gives iter it → I.IntoIter.can_next it }
-        requires finite { (it : I.IntoIter) → I.into_iter_gives iter it
-            → IsFinite (I.IntoIter.remaining it) }
+        requires finite { IsFiniteIterable I.into_iter_gives I.IntoIter.can_next
+            I.IntoIter.remaining iter }
 
         // Items that fit in no block that has to grow are collected without an error.
         ensures fits { ((it : I.IntoIter) → I.into_iter_gives iter it

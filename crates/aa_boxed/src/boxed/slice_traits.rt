@@ -1,8 +1,11 @@
 //! A boxed slice as a slice: by dot, in a `for` loop, and collected from an iterator.
-ghost use Rattle.std.specs.Prelude.{◌≡◌, ◌^◌, ◌<◌, length, slice_index_or};
+ghost use Rattle.std.specs.Prelude.{◌≡◌, ◌^◌, ◌<◌, ◌≤◌, length, slice_index_or, IfOk, IsOk};
+ghost use Rattle.std.specs.Mem.{type_size};
 ghost use Rattle.std.specs.Borrow.{sem};
+ghost use Rattle.std.specs.Iterator.{Drains, IsFiniteIterable, size};
 ghost use Rattle.std.specs.Iterator.Adapters.{IterYieldsInOrder, IterYieldsInReverse, IterMutYieldsInOrder};
 ghost use Rattle.std.specs.Slice.Iter.{iter_rest, iter_mut_rest};
+ghost use Rattle.aa_raw.specs.Growth.{new_capacity};
 ghost use Rattle.aa_raw.specs.declared.raw_vec.Growth.TheVariants.{Doubling};
 
 use crate::boxed::slice::BoxedSlice;
@@ -121,13 +124,15 @@ impl<T: Drop, A: Allocator> IntoIterator for BoxedSlice<T, A> {
 
     type IntoIter = IntoIter<T, A>;
 
-    ghost into_iter_gives = { λ b i. (i.items ≡ b.items) × (i.alloc ≡ b.alloc) };
+    ghost into_iter_gives = { λ b i. (i.items ≡ b.items) × (i.alloc ≡ b.alloc)
+        × (i.capacity ≡ new_capacity (type_size T.row) (length b.items)) };
 
     /// Returns a double-ended iterator over the elements, by value, in the same block.
     ///
     /// Does not allocate.
     fn into_iter(self) -> IntoIter<T, A> {
         let (block, len) = self.into_block();
+        block.prove_capacity_bounds();
         IntoIter::from_block(block, len)
     }
 }
@@ -141,7 +146,14 @@ impl<T: Drop, A: Allocator> FromIterator<T> for BoxedSlice<T, A> {
     fn from_iter<U: IntoIterator<Item = T>>(
         alloc: A,
         iter: U,
-    ) -> Result<BoxedSlice<T, A>, AllocError> {
+    ) -> Result<BoxedSlice<T, A>, AllocError>
+        requires finite { IsFiniteIterable U.into_iter_gives U.IntoIter.can_next
+            U.IntoIter.remaining iter }
+        ensures collected { IfOk result (λ b. (it : U.IntoIter) × U.into_iter_gives iter it
+            × Drains U.IntoIter.next_gives it b.items × (b.growth ≡ Doubling)) }
+        ensures fits { ((it : U.IntoIter) → U.into_iter_gives iter it
+            → size (U.IntoIter.remaining it) ≤ new_capacity (type_size T.row) 0) → IsOk result }
+    {
         match BoxedSlice::from_iter_in(iter, alloc) {
             Ok(list) => Ok(list),
             Err(_) => Err(AllocError),

@@ -1,12 +1,12 @@
 //! Many elements at once: the items of an iterator, and clones.
 ghost use Rattle.std.specs.Prelude.{◌≡◌, ◌+◌, ◌≤◌, List, [], ◌++◌, length, All, IfErr, IfOk, IsOk, IsTrue, OnErr, OnOk, false};
 ghost use Rattle.std.specs.Mem.{type_size};
-ghost use Rattle.std.specs.Iterator.{IsFinite, Drains, size};
+ghost use Rattle.std.specs.Iterator.{IsFinite, IsFiniteIterable, ExtendsWithItems, Drains, size};
 ghost use Rattle.aa_raw.specs.Clones.{ClonesCannotFail, ClonesAreEqual};
 ghost use Rattle.aa_raw.specs.Growth.{new_capacity};
 ghost use Rattle.aa_raw.specs.Errors.{ClonesFail};
 ghost use Rattle.aa_gap.specs.Buffer.{Buffer, empty, text, len, HasRoom, LacksRoom};
-ghost use Rattle.aa_gap.specs.Extending.{ExtendsByAll, ExtendFails, FailsAtItem, Inserts, IsCopy, InsertsClones};
+ghost use Rattle.aa_gap.specs.Extending.{HasInserted, ExtendsByAll, ExtendFails, FailsAtItem, Inserts, IsCopy, InsertsClones};
 
 use crate::gap_buffer::GapBuffer;
 use aa_raw::collections::{TryReserveError, TryReserveErrorKind};
@@ -30,9 +30,8 @@ impl<T, A: Allocator> GapBuffer<T, A> {
     where
         T: Drop,
         // The iterator that is made of `iter` can be called, and is finite.
-        requires callable { (it : I.IntoIter) → I.into_iter_gives iter it → I.IntoIter.can_next it }
-        requires finite { (it : I.IntoIter) → I.into_iter_gives iter it
-            → IsFinite (I.IntoIter.remaining it) }
+        requires finite { IsFiniteIterable I.into_iter_gives I.IntoIter.can_next
+            I.IntoIter.remaining iter }
 
         // Success inserts all items. If they fit, the call succeeds.
         ensures items { OnOk result ((it : I.IntoIter) × (xs : List T) × I.into_iter_gives iter it
@@ -98,9 +97,8 @@ impl<T, A: Allocator> GapBuffer<T, A> {
     where
         T: Drop,
         // The iterator that is made of `iter` can be called, and is finite.
-        requires callable { (it : I.IntoIter) → I.into_iter_gives iter it → I.IntoIter.can_next it }
-        requires finite { (it : I.IntoIter) → I.into_iter_gives iter it
-            → IsFinite (I.IntoIter.remaining it) }
+        requires finite { IsFiniteIterable I.into_iter_gives I.IntoIter.can_next
+            I.IntoIter.remaining iter }
 
         // Success returns all items. If no allocation is needed, the call succeeds.
         ensures items { IfOk result (λ b. (it : I.IntoIter) × I.into_iter_gives iter it
@@ -127,12 +125,18 @@ impl<T, A: Allocator> GapBuffer<T, A> {
 }
 
 impl<T: Drop, A: Allocator> Extend<T> for GapBuffer<T, A> {
-    ghost extend_gives = { λ old xs new. (new.before ≡ old.before ++ xs)
-        × (new.after ≡ old.after) };
+    ghost extend_gives = { HasInserted };
 
     /// Inserts the items before the cursor, as the inherent `extend` does, whose error also has the
     /// number.
-    fn extend<U: IntoIterator<Item = T>>(&mut self, iter: U) -> Result<(), AllocError> {
+    fn extend<U: IntoIterator<Item = T>>(&mut self, iter: U) -> Result<(), AllocError>
+        requires finite { IsFiniteIterable U.into_iter_gives U.IntoIter.can_next
+            U.IntoIter.remaining iter }
+        ensures extended { ExtendsWithItems U.into_iter_gives U.IntoIter.next_gives HasInserted iter
+            self.old self.new result }
+        ensures fits { ((it : U.IntoIter) → U.into_iter_gives iter it
+            → HasRoom self.old (size (U.IntoIter.remaining it))) → IsOk result }
+    {
         match GapBuffer::extend(self, iter) {
             Ok(()) => Ok(()),
             Err(_) => Err(AllocError),
@@ -146,7 +150,14 @@ impl<T: Drop, A: Allocator> FromIterator<T> for GapBuffer<T, A> {
     ghost from_iter_gives = { λ xs b. (b.before ≡ xs) × (b.after ≡ []) };
 
     /// Returns a text of the items as `from_iter_in` does, whose error also has the number.
-    fn from_iter<U: IntoIterator<Item = T>>(alloc: A, iter: U) -> Result<Self, AllocError> {
+    fn from_iter<U: IntoIterator<Item = T>>(alloc: A, iter: U) -> Result<Self, AllocError>
+        requires finite { IsFiniteIterable U.into_iter_gives U.IntoIter.can_next
+            U.IntoIter.remaining iter }
+        ensures collected { IfOk result (λ b. (it : U.IntoIter) × U.into_iter_gives iter it
+            × Drains U.IntoIter.next_gives it b.before × (b.after ≡ [])) }
+        ensures fits { ((it : U.IntoIter) → U.into_iter_gives iter it
+            → size (U.IntoIter.remaining it) ≤ new_capacity (type_size T.row) 0) → IsOk result }
+    {
         match GapBuffer::from_iter_in(iter, alloc) {
             Ok(text) => Ok(text),
             Err(_) => Err(AllocError),

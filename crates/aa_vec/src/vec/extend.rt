@@ -1,7 +1,7 @@
 //! Appending the items of an iterator.
 ghost use Rattle.std.specs.Prelude.{◌≡◌, ◌+◌, ◌-◌, ◌≤◌, ◌++◌, List, map, IfErr, OnOk, IsOk};
 ghost use Rattle.std.specs.Mem.{type_size};
-ghost use Rattle.std.specs.Iterator.{IsFinite, IsNearerEnd, Drains, size};
+ghost use Rattle.std.specs.Iterator.{IsFinite, IsFiniteIterable, IsNearerEnd, Drains, size};
 ghost use Rattle.std.specs.Iterator.Runs.{WholeRun};
 ghost use Rattle.std.specs.Borrow.{Bor};
 ghost use Rattle.aa_vec.specs.Vector.{len, new_capacity, HasRoom};
@@ -133,9 +133,8 @@ impl<T, A: Allocator> Vec<T, A> {
     pub fn extend<I: IntoIterator<Item = T>>(&mut self, iter: I) -> Result<(), TryReserveError>
     where
         T: Drop,
-        requires callable { (it : I.IntoIter) → I.into_iter_gives iter it → I.IntoIter.can_next it }
-        requires finite { (it : I.IntoIter) → I.into_iter_gives iter it
-            → IsFinite (I.IntoIter.remaining it) }
+        requires finite { IsFiniteIterable I.into_iter_gives I.IntoIter.can_next
+            I.IntoIter.remaining iter }
         ensures fits { ((it : I.IntoIter) → I.into_iter_gives iter it
             → HasRoom self.old (size (I.IntoIter.remaining it))) → IsOk result }
         ensures extended { (it : I.IntoIter) × (after : I.IntoIter) × I.into_iter_gives iter it
@@ -175,9 +174,8 @@ impl<T, A: Allocator> Vec<T, A> {
     ) -> Result<(), TryReserveError>
     where
         T: Copy + 'a,
-        requires callable { (it : I.IntoIter) → I.into_iter_gives iter it → I.IntoIter.can_next it }
-        requires finite { (it : I.IntoIter) → I.into_iter_gives iter it
-            → IsFinite (I.IntoIter.remaining it) }
+        requires finite { IsFiniteIterable I.into_iter_gives I.IntoIter.can_next
+            I.IntoIter.remaining iter }
         ensures fits { ((it : I.IntoIter) → I.into_iter_gives iter it
             → HasRoom self.old (size (I.IntoIter.remaining it))) → IsOk result }
         ensures items { OnOk result ((it : I.IntoIter) × (rs : List (Bor T))
@@ -234,9 +232,8 @@ impl<T, A: Allocator> Vec<T, A> {
     ) -> Result<Self, TryReserveError>
     where
         T: Drop,
-        requires callable { (it : I.IntoIter) → I.into_iter_gives iter it → I.IntoIter.can_next it }
-        requires finite { (it : I.IntoIter) → I.into_iter_gives iter it
-            → IsFinite (I.IntoIter.remaining it) }
+        requires finite { IsFiniteIterable I.into_iter_gives I.IntoIter.can_next
+            I.IntoIter.remaining iter }
         ensures fits { ((it : I.IntoIter) → I.into_iter_gives iter it
             → size (I.IntoIter.remaining it) ≤ new_capacity (type_size T.row) 0) → IsOk result }
         ensures collected { (it : I.IntoIter) × (after : I.IntoIter) × I.into_iter_gives iter it
@@ -285,9 +282,8 @@ impl<T> Vec<T, Global> {
     ) -> Result<Self, TryReserveError>
     where
         T: Drop,
-        requires callable { (it : I.IntoIter) → I.into_iter_gives iter it → I.IntoIter.can_next it }
-        requires finite { (it : I.IntoIter) → I.into_iter_gives iter it
-            → IsFinite (I.IntoIter.remaining it) }
+        requires finite { IsFiniteIterable I.into_iter_gives I.IntoIter.can_next
+            I.IntoIter.remaining iter }
         ensures fits { ((it : I.IntoIter) → I.into_iter_gives iter it
             → size (I.IntoIter.remaining it) ≤ new_capacity (type_size T.row) 0) → IsOk result }
         ensures collected { (it : I.IntoIter) × (after : I.IntoIter) × I.into_iter_gives iter it

@@ -1,9 +1,13 @@
 //! A vector as a slice: by dot, in a `for` loop, and collected from an iterator.
-ghost use Rattle.std.specs.Prelude.{◌≡◌, ◌^◌, ◌<◌, length, map};
+ghost use Rattle.std.specs.Prelude.{◌≡◌, ◌^◌, ◌<◌, ◌≤◌, List, length, IfOk, IsOk};
+ghost use Rattle.std.specs.Mem.{type_size};
 ghost use Rattle.std.specs.Borrow.{sem};
+ghost use Rattle.std.specs.Iterator.{Drains, ExtendsWithItems, IsFiniteIterable, size};
 ghost use Rattle.std.specs.Iterator.Adapters.{IterYieldsInOrder, IterYieldsInReverse, IterMutYieldsInOrder, IterMutYieldsInReverse};
 ghost use Rattle.std.specs.Slice.Iter.{iter_rest, iter_mut_rest};
-ghost use Rattle.aa_vec.specs.Extend.{HasCollected, HasExtended};
+ghost use Rattle.aa_raw.specs.Growth.{new_capacity};
+ghost use Rattle.aa_vec.specs.Extend.{HasCollected, HasExtended, HasCopied};
+ghost use Rattle.aa_vec.specs.Vector.{HasRoom};
 
 use crate::vec::Vec;
 use core::ops::AsDerefMut;
@@ -125,7 +129,14 @@ impl<T: Drop, A: Allocator> FromIterator<T> for Vec<T, A> {
     ghost from_iter_gives = { HasCollected };
 
     /// Returns the items of `iter` as `from_iter_in` does, but its error has no number.
-    fn from_iter<I: IntoIterator<Item = T>>(alloc: A, iter: I) -> Result<Vec<T, A>, AllocError> {
+    fn from_iter<I: IntoIterator<Item = T>>(alloc: A, iter: I) -> Result<Vec<T, A>, AllocError>
+        requires finite { IsFiniteIterable I.into_iter_gives I.IntoIter.can_next
+            I.IntoIter.remaining iter }
+        ensures collected { IfOk result (λ v. (it : I.IntoIter) × (xs : List T)
+            × I.into_iter_gives iter it × Drains I.IntoIter.next_gives it xs × HasCollected xs v) }
+        ensures fits { ((it : I.IntoIter) → I.into_iter_gives iter it
+            → size (I.IntoIter.remaining it) ≤ new_capacity (type_size T.row) 0) → IsOk result }
+    {
         match Vec::from_iter_in(iter, alloc) {
             Ok(v) => Ok(v),
             Err(_) => Err(AllocError),
@@ -137,7 +148,14 @@ impl<T: Drop, A: Allocator> Extend<T> for Vec<T, A> {
     ghost extend_gives = { HasExtended };
 
     /// Appends the items of `iter` as `Vec::extend` does, but its error has no number.
-    fn extend<I: IntoIterator<Item = T>>(&mut self, iter: I) -> Result<(), AllocError> {
+    fn extend<I: IntoIterator<Item = T>>(&mut self, iter: I) -> Result<(), AllocError>
+        requires finite { IsFiniteIterable I.into_iter_gives I.IntoIter.can_next
+            I.IntoIter.remaining iter }
+        ensures extended { ExtendsWithItems I.into_iter_gives I.IntoIter.next_gives HasExtended iter
+            self.old self.new result }
+        ensures fits { ((it : I.IntoIter) → I.into_iter_gives iter it
+            → HasRoom self.old (size (I.IntoIter.remaining it))) → IsOk result }
+    {
         match Vec::extend(self, iter) {
             Ok(()) => Ok(()),
             Err(_) => Err(AllocError),
@@ -146,10 +164,17 @@ impl<T: Drop, A: Allocator> Extend<T> for Vec<T, A> {
 }
 
 impl<'a, T: Copy + 'a, A: Allocator> Extend<&'a T> for Vec<T, A> {
-    ghost extend_gives = { λ v rs w. HasExtended v (map (λ r. r.now) rs) w };
+    ghost extend_gives = { HasCopied };
 
     /// Appends copies as `Vec::extend_copied` does, but its error has no number.
-    fn extend<I: IntoIterator<Item = &'a T>>(&mut self, iter: I) -> Result<(), AllocError> {
+    fn extend<I: IntoIterator<Item = &'a T>>(&mut self, iter: I) -> Result<(), AllocError>
+        requires finite { IsFiniteIterable I.into_iter_gives I.IntoIter.can_next
+            I.IntoIter.remaining iter }
+        ensures extended { ExtendsWithItems I.into_iter_gives I.IntoIter.next_gives HasCopied iter
+            self.old self.new result }
+        ensures fits { ((it : I.IntoIter) → I.into_iter_gives iter it
+            → HasRoom self.old (size (I.IntoIter.remaining it))) → IsOk result }
+    {
         match self.extend_copied(iter) {
             Ok(()) => Ok(()),
             Err(_) => Err(AllocError),

@@ -1,8 +1,9 @@
 //! Small vectors that collections and iterators make: by the traits of std.
-ghost use Rattle.std.specs.Prelude.{◌≡◌, ◌≤◌, ◌++◌, [], length, map, All, IfOk, Ok};
+ghost use Rattle.std.specs.Prelude.{◌≡◌, ◌≤◌, ◌++◌, List, [], length, map, All, IfOk, IsOk, Ok};
 ghost use Rattle.std.specs.Mem.{type_size};
+ghost use Rattle.std.specs.Iterator.{Drains, ExtendsWithItems, IsFiniteIterable, size};
 ghost use Rattle.ex_inline.specs.Extending.{IsMadeOf};
-ghost use Rattle.ex_inline.specs.Inlined.{in_place};
+ghost use Rattle.ex_inline.specs.Inlined.{in_place, HasRoom};
 
 use crate::inline::InlineVec;
 use std::alloc::{AllocError, Allocator};
@@ -16,7 +17,14 @@ impl<T: Default + Drop, A: Allocator + Copy, const N: usize> FromIterator<T>
     ghost from_iter_gives = { λ xs s. s.items ≡ xs };
 
     /// Returns the same as `from_iter_in`, whose error also has the number.
-    fn from_iter<U: IntoIterator<Item = T>>(alloc: A, iter: U) -> Result<Self, AllocError> {
+    fn from_iter<U: IntoIterator<Item = T>>(alloc: A, iter: U) -> Result<Self, AllocError>
+        requires finite { IsFiniteIterable U.into_iter_gives U.IntoIter.can_next
+            U.IntoIter.remaining iter }
+        ensures collected { IfOk result (λ s. (it : U.IntoIter) × (xs : List T)
+            × U.into_iter_gives iter it × Drains U.IntoIter.next_gives it xs × (s.items ≡ xs)) }
+        ensures fits { ((it : U.IntoIter) → U.into_iter_gives iter it
+            → size (U.IntoIter.remaining it) ≤ N) → IsOk result }
+    {
         match InlineVec::from_iter_in(iter, alloc) {
             Ok(small) => Ok(small),
             Err(_) => Err(AllocError),
@@ -28,7 +36,14 @@ impl<T: Default + Drop, A: Allocator + Copy, const N: usize> Extend<T> for Inlin
     ghost extend_gives = { λ s xs t. t.items ≡ s.items ++ xs };
 
     /// Appends the items as the inherent `extend` does, whose error also has the number.
-    fn extend<U: IntoIterator<Item = T>>(&mut self, iter: U) -> Result<(), AllocError> {
+    fn extend<U: IntoIterator<Item = T>>(&mut self, iter: U) -> Result<(), AllocError>
+        requires finite { IsFiniteIterable U.into_iter_gives U.IntoIter.can_next
+            U.IntoIter.remaining iter }
+        ensures extended { ExtendsWithItems U.into_iter_gives U.IntoIter.next_gives
+            (λ s xs t. t.items ≡ s.items ++ xs) iter self.old self.new result }
+        ensures fits { ((it : U.IntoIter) → U.into_iter_gives iter it
+            → HasRoom N self.old (size (U.IntoIter.remaining it))) → IsOk result }
+    {
         match InlineVec::extend(self, iter) {
             Ok(()) => Ok(()),
             Err(_) => Err(AllocError),

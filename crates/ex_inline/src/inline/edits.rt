@@ -2,7 +2,7 @@
 ghost use Rattle.std.specs.Prelude.{◌≡◌, ◌-◌, ◌≤◌, List, [], ◌++◌, length, take, drop, reverse, IfErr, IfOk, IsOk, OnErr, OnOk};
 ghost use Rattle.std.specs.List.{slice_range};
 ghost use Rattle.std.specs.Mem.{type_size};
-ghost use Rattle.std.specs.Iterator.{IsFinite, Drains, size};
+ghost use Rattle.std.specs.Iterator.{IsFiniteIterable, Drains, size};
 ghost use Rattle.allocator_api2.specs.Extend.{LowerAtMost};
 ghost use Rattle.ex_inline.specs.Extending.{ExtendsByAll, ExtendFails, with_tail_at};
 ghost use Rattle.ex_inline.specs.Inlined.{Inlined, in_place, with_items, with_room, with_written, HasRoom, LacksRoom};
@@ -28,8 +28,8 @@ impl<T: Default + Drop, A: Allocator + Copy, const N: usize> InlineVec<T, A, N> 
         // The index is at most the length. The iterator that `iter` becomes can be called, and is
         // finite.
         requires within { index ≤ length self.old.items }
-        requires callable { (it : U.IntoIter) → U.into_iter_gives iter it
-            → U.IntoIter.can_next it × IsFinite (U.IntoIter.remaining it) }
+        requires finite { IsFiniteIterable U.into_iter_gives U.IntoIter.can_next
+            U.IntoIter.remaining iter }
 
         // Success inserts all items. If they fit, the call succeeds.
         ensures items { OnOk result ((it : U.IntoIter) × U.into_iter_gives iter it

@@ -1,7 +1,7 @@
 //! Many items at once: the items of an iterator, and clones.
 ghost use Rattle.std.specs.Prelude.{◌≡◌, ◌+◌, ◌-◌, ◌<◌, ◌≤◌, List, [], ◌++◌, length, All, IfErr, IfOk, IsOk, IsTrue, OnErr, OnOk, false};
 ghost use Rattle.std.specs.Mem.{type_size};
-ghost use Rattle.std.specs.Iterator.{IsFinite, Drains, size};
+ghost use Rattle.std.specs.Iterator.{IsFinite, IsFiniteIterable, Drains, size};
 ghost use Rattle.allocator_api2.specs.Clones.{ClonesAreEqual};
 ghost use Rattle.allocator_api2.specs.Extend.{LowerAtMost};
 ghost use Rattle.ex_inline.specs.Extending.{ExtendsByAll, ExtendFails, FailsAtItem, CloningFails, IsMadeOf, AppendFails, AppendsClones, AppendsPart, pushed_all};
@@ -24,8 +24,8 @@ impl<T: Default + Drop, A: Allocator + Copy, const N: usize> InlineVec<T, A, N> 
     #[tactic(auto, using(crate::proofs::Extending::pushes), unfolding(crate::specs::Inlined::with_room))]
     pub fn extend<U: IntoIterator<Item = T>>(&mut self, iter: U) -> Result<(), TryReserveError>
         // The iterator that `iter` becomes can be called, and is finite.
-        requires callable { (it : U.IntoIter) → U.into_iter_gives iter it
-            → U.IntoIter.can_next it × IsFinite (U.IntoIter.remaining it) }
+        requires finite { IsFiniteIterable U.into_iter_gives U.IntoIter.can_next
+            U.IntoIter.remaining iter }
 
         // Success appends all items. If they fit, the call succeeds.
         ensures items { OnOk result ((it : U.IntoIter) × U.into_iter_gives iter it
@@ -91,8 +91,8 @@ impl<T: Default + Drop, A: Allocator + Copy, const N: usize> InlineVec<T, A, N> 
         alloc: A,
     ) -> Result<Self, TryReserveError>
         // The iterator that `iter` becomes can be called, and is finite.
-        requires callable { (it : U.IntoIter) → U.into_iter_gives iter it
-            → U.IntoIter.can_next it × IsFinite (U.IntoIter.remaining it) }
+        requires finite { IsFiniteIterable U.into_iter_gives U.IntoIter.can_next
+            U.IntoIter.remaining iter }
 
         // Success returns all items. If there are at most `N`, the call succeeds.
         ensures items { IfOk result (λ s. (it : U.IntoIter) × U.into_iter_gives iter it

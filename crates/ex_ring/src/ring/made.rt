@@ -1,10 +1,11 @@
 //! Rings that are made of nothing, or of the items of an iterator.
-ghost use Rattle.std.specs.Prelude.{◌≡◌, map};
+ghost use Rattle.std.specs.Prelude.{◌≡◌, ◌≤◌, List, map, IfOk, IsOk};
 ghost use Rattle.std.specs.Mem.{type_size};
+ghost use Rattle.std.specs.Iterator.{Drains, ExtendsWithItems, IsFiniteIterable, size};
 ghost use Rattle.allocator_api2.specs.Growth.{new_capacity};
 ghost use Rattle.allocator_api2.specs.declared.raw_vec.Growth.TheVariants.{Doubling};
 ghost use Rattle.ex_ring.specs.Extending.{HasExtended};
-ghost use Rattle.ex_ring.specs.Ringed.{empty};
+ghost use Rattle.ex_ring.specs.Ringed.{empty, HasRoom};
 
 use crate::ring::Ring;
 use std::alloc::{AllocError, Allocator};
@@ -26,7 +27,11 @@ impl<T, A: Allocator + Clone> Emptied for Ring<T, A> {
     ghost is_emptied = { λ r. r ≡ empty (new_capacity (type_size T.row) 0) Doubling r.alloc };
 
     /// Returns an empty ring over a clone of the allocator of `like`.
-    fn emptied(like: &Self) -> Result<Self, AllocError> {
+    fn emptied(like: &Self) -> Result<Self, AllocError>
+        ensures made { IfOk result
+            (λ r. r ≡ empty (new_capacity (type_size T.row) 0) Doubling r.alloc) }
+        ensures fits { A.is_infallible like.now.alloc → IsOk result }
+    {
         Ok(Ring::new_in(like.allocator().clone()?))
     }
 }
@@ -38,7 +43,16 @@ impl<T: Drop, A: Allocator> FromIterator<T> for Ring<T, A> {
         (empty (new_capacity (type_size T.row) 0) Doubling a) xs r };
 
     /// Returns the items of `iter` as `from_iter_in` does, but its error has no number.
-    fn from_iter<I: IntoIterator<Item = T>>(alloc: A, iter: I) -> Result<Self, AllocError> {
+    fn from_iter<I: IntoIterator<Item = T>>(alloc: A, iter: I) -> Result<Self, AllocError>
+        requires finite { IsFiniteIterable I.into_iter_gives I.IntoIter.can_next
+            I.IntoIter.remaining iter }
+        ensures collected { IfOk result (λ r. (it : I.IntoIter) × (xs : List T)
+            × I.into_iter_gives iter it × Drains I.IntoIter.next_gives it xs × (a : A)
+            × HasExtended (type_size T.row) (empty (new_capacity (type_size T.row) 0) Doubling a)
+            xs r) }
+        ensures fits { ((it : I.IntoIter) → I.into_iter_gives iter it
+            → size (I.IntoIter.remaining it) ≤ new_capacity (type_size T.row) 0) → IsOk result }
+    {
         match Ring::from_iter_in(iter, alloc) {
             Ok(ring) => Ok(ring),
             Err(_) => Err(AllocError),
@@ -50,7 +64,14 @@ impl<T: Drop, A: Allocator> Extend<T> for Ring<T, A> {
     ghost extend_gives = { HasExtended (type_size T.row) };
 
     /// Appends the items of `iter` as `Ring::extend` does, but its error has no number.
-    fn extend<I: IntoIterator<Item = T>>(&mut self, iter: I) -> Result<(), AllocError> {
+    fn extend<I: IntoIterator<Item = T>>(&mut self, iter: I) -> Result<(), AllocError>
+        requires finite { IsFiniteIterable I.into_iter_gives I.IntoIter.can_next
+            I.IntoIter.remaining iter }
+        ensures extended { ExtendsWithItems I.into_iter_gives I.IntoIter.next_gives
+            (HasExtended (type_size T.row)) iter self.old self.new result }
+        ensures fits { ((it : I.IntoIter) → I.into_iter_gives iter it
+            → HasRoom self.old (size (I.IntoIter.remaining it))) → IsOk result }
+    {
         match Ring::extend(self, iter) {
             Ok(()) => Ok(()),
             Err(_) => Err(AllocError),

@@ -1,7 +1,7 @@
 //! Many items at once: the items of an iterator or of another ring, and clones.
 ghost use Rattle.std.specs.Prelude.{◌≡◌, ◌+◌, ◌-◌, ◌≤◌, List, [], ◌++◌, length, All, IfErr, IfOk, IsOk, IsTrue, OnErr, OnOk, false};
 ghost use Rattle.std.specs.Mem.{type_size};
-ghost use Rattle.std.specs.Iterator.{IsFinite, Drains, size};
+ghost use Rattle.std.specs.Iterator.{IsFinite, IsFiniteIterable, Drains, size};
 ghost use Rattle.allocator_api2.specs.Clones.{ClonesCannotFail, ClonesAreEqual};
 ghost use Rattle.allocator_api2.specs.Extend.{LowerAtMost};
 ghost use Rattle.allocator_api2.specs.Growth.{new_capacity};
@@ -31,9 +31,8 @@ impl<T, A: Allocator> Ring<T, A> {
     where
         T: Drop,
         // The iterator can be called, and is finite.
-        requires callable { (it : I.IntoIter) → I.into_iter_gives iter it → I.IntoIter.can_next it }
-        requires finite { (it : I.IntoIter) → I.into_iter_gives iter it
-            → IsFinite (I.IntoIter.remaining it) }
+        requires finite { IsFiniteIterable I.into_iter_gives I.IntoIter.can_next
+            I.IntoIter.remaining iter }
 
         // Success appends all items. If they fit, the call succeeds.
         ensures items { OnOk result ((it : I.IntoIter) × (xs : List T)
@@ -96,9 +95,8 @@ impl<T, A: Allocator> Ring<T, A> {
     where
         T: Drop,
         // The iterator can be called, and is finite.
-        requires callable { (it : I.IntoIter) → I.into_iter_gives iter it → I.IntoIter.can_next it }
-        requires finite { (it : I.IntoIter) → I.into_iter_gives iter it
-            → IsFinite (I.IntoIter.remaining it) }
+        requires finite { IsFiniteIterable I.into_iter_gives I.IntoIter.can_next
+            I.IntoIter.remaining iter }
 
         // Success returns all items. If no allocation is needed, the call succeeds.
         ensures items { IfOk result (λ r. (it : I.IntoIter) × I.into_iter_gives iter it

@@ -11,7 +11,7 @@ returns-in-Err-clause-failed g c =
     (it.result, it.ensures.into_iter_gives, record { bound = c.size_hint-bound.result.0; is_lower = c.size_hint-bound.ensures.lower; why = inl (c.in-Err.ensures.error, c.in-Err.ensures.unchanged) })
 
 pub push_items-requires : goal.push_items-requires
-push_items-requires g c = let it = c.into_iter-items in (search rules, c.requires.callable it.result it.ensures.into_iter_gives)
+push_items-requires g c = let it = c.into_iter-items in (search rules, c.requires.finite it.result it.ensures.into_iter_gives)
 
 pub returns-clause-items : goal.returns-clause-items
 returns-clause-items g c =

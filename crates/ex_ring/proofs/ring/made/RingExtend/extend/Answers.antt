@@ -5,28 +5,26 @@ use Rattle.ex_ring.proofs.Extending.{extended-all, extended-by-pushes, front-yie
 use Rattle.ex_ring.proofs.ring.made.RingExtend.extend.Goals as goal
 
 -- the items that were pushed before the error
-pub returns-in-Err : goal.returns-in-Err
-returns-in-Err g c =
+pub returns-in-Err-clause-extended : goal.returns-in-Err-clause-extended
+returns-in-Err-clause-extended g c =
     let bytes = type_size (param 0 g.row.T) in let steps = g.I.IntoIter.Iterator.next_gives in
     let old = c.args.self.now in let new = c.extend.new.self in
     let failed = c.in-Err.ensures.failed in let it = failed.0 in let fails = failed.2 in
-    record {
-      ran = elim fails.why [
-        | inl early ↦ (it, [], failed.1, extended-by-pushes bytes old [] new early.1, (it, refl))
-        | inr late ↦
-            let put = extended-all bytes old fails.bound late.front new late.put in (
-              it,
-              late.front,
-              failed.1,
-              put,
-              front-yielded steps it late.front late.item late.last late.yields,
-            )
-      ];
-    }
+    elim fails.why [
+      | inl early ↦ (it, [], failed.1, extended-by-pushes bytes old [] new early.1, (it, refl))
+      | inr late ↦
+          let put = extended-all bytes old fails.bound late.front new late.put in (
+            it,
+            late.front,
+            failed.1,
+            put,
+            front-yielded steps it late.front late.item late.last late.yields,
+          )
+    ]
 
-pub returns-in-Ok : goal.returns-in-Ok
-returns-in-Ok g c =
+pub returns-in-Ok-clause-extended : goal.returns-in-Ok-clause-extended
+returns-in-Ok-clause-extended g c =
     let all = c.in-Ok.ensures.extended in let ran = all.2 in
     let put = extended-all (type_size
     (param 0 g.row.T)) c.args.self.now ran.bound ran.added c.extend.new.self ran.put in
-    record { ran = (all.0, ran.added, all.1, put, ran.yields) }
+    (all.0, ran.added, all.1, put, ran.yields)
