@@ -154,7 +154,6 @@ def of_sources():
     yield "CONTRIBUTING.md", "read and write of {} of them in turn", [failing_scripts()]
     yield "docs/DECISIONS.md", "The {} that stand for a promise", [must_fail()]
     yield "docs/ALLOCATORS.md", "has {} wrong allocators. The fault of {} is named, in {} steps. At {} `rt try`", wrong_allocators()
-    yield "docs/CALLING.md", "(`ex_slots`) has {} lines of proof", [("lines", lines_of("ex_slots", "proofs"))]
     yield "docs/EXAMPLES.md", "Of the {} lines of code {} are for lists, {} for trees, {} for search trees.", trees
     yield "docs/EXAMPLES.md", "search trees. The tests have {}.", [("lines", lines_of("ex_tests", "src", ["trees"]))]
     yield "docs/EXAMPLES.md", "the recycler and their shelf {};", [proofs_by_hand("ex_allocators", ["spaced"])]
