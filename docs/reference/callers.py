@@ -3,7 +3,7 @@ import collections
 import re
 
 from sources import text_of, type_of
-from words import TOP
+from words import CRATES, TOP, parted
 
 # A function that calls others: its crate, file, name, first line and text, and what it calls.
 Caller = collections.namedtuple("Caller", "crate file name line text calls")
@@ -37,34 +37,58 @@ def functions(file):
         yield found.group(2), at + 1, lines[start : end + 1], owner
 
 
-def types_in(text, types):
-    """The types of names in a text: of parameters, of fields and of what a type's functions return."""
-    known = {}
-    for name, of in re.findall(r"\b(\w+): (?:&(?:'\w+ )?(?:mut )?)?(?:\w+::)*(\w+)", text):
-        if of in types:
-            known[name] = of
-    for name, of in re.findall(r"let (?:mut )?(\w+) = (?:\w+::)*(\w+)::", text):
-        if of in types:
-            known[name] = of
-    return known
+def leaves(tree, before=()):
+    """The names that a tree of a `use` brings into scope, each with its path."""
+    head, brace, inside = tree.strip().partition("{")
+    if brace:
+        inside = inside.rsplit("}", 1)[0]
+        while inside.strip():
+            part, _, inside = parted(inside, ",")
+            yield from leaves(part, before + tuple(it for it in head.strip().split("::") if it)) if part.strip() else ()
+        return
+    path, _, alias = head.partition(" as ")
+    path = before + tuple(path.strip().split("::"))
+    path = path[:-1] if path[-1] == "self" else path
+    yield alias.strip() or path[-1], path
 
 
-def fields_in(file, types):
+class Scope:
+    """What a file's names mean, by its `use` lines: a name that no line imports is the toolchain's, or the file's own."""
+
+    def __init__(self, text, types, is_own=False):
+        trees = re.findall(r"^[ ]*(?:pub(?:\(\w+\))? )?use ([^;]+);", text, re.M)
+        self.names = {name: path for tree in trees for name, path in leaves(tree)}
+        self.types, self.roots = types, {*CRATES, *(("crate", "super", "self") if is_own else ())}
+
+    def type(self, written):
+        """The library's type that a path names, or none."""
+        first, *rest = written.split("::")
+        path = self.names.get(first, (first,)) + tuple(rest)
+        return path[-1] if path[0] in self.roots and path[-1] in self.types else None
+
+    def typed(self, text):
+        """The names in a text that have a type of the library: parameters, fields, and what a type's functions return."""
+        written = re.findall(r"\b(\w+): (?:&(?:'\w+ )?(?:mut )?)?((?:\w+::)*\w+)", text)
+        written += re.findall(r"let (?:mut )?(\w+) = ((?:\w+::)*\w+)(?:::<[^>]*>)?::\w+\(", text)
+        return {name: self.type(path) for name, path in written if self.type(path)}
+
+
+def fields_in(text, scope):
     """The fields of the file's structs that have a type of the library."""
-    inside = re.findall(r"^(?:pub(?:\(crate\))? )?struct \w+.*?\{\n(.*?)^\}", text_of(file), re.M | re.S)
-    return types_in("\n".join(inside), types)
+    inside = re.findall(r"^(?:pub(?:\(crate\))? )?struct \w+.*?\{\n(.*?)^\}", text, re.M | re.S)
+    return scope.typed("\n".join(inside))
 
 
-def calls_of(lines, fields, types, methods):
+def calls_of(lines, fields, scope, methods):
     """The library's functions that a function calls, each as its type and name. `methods` has the type that each returns, or none."""
     text = "\n".join(line for line in lines if not line.strip().startswith("//"))
     parts = re.split(r"\n\s*\{\n|\n\{\n", text, maxsplit=1)
-    known = types_in(text, types)
+    known = scope.typed(text)
     inside = parts[1] if len(parts) > 1 else text
     found = set()
-    for of, name in re.findall(r"\b(\w+)(?:::<[^>]*>)?::(\w+)\(", inside):
-        if (of, name) in methods:
-            found.add((of, name))
+    for of, name in re.findall(r"\b((?:\w+::)*\w+)(?:::<[^>]*>)?::(\w+)\(", inside):
+        if (scope.type(of), name) in methods:
+            found.add((scope.type(of), name))
     for named, path, name in re.findall(r"(?:let (?:mut )?(\w+) = )?((?:\w+\.)*\w+)\.(\w+)(?:::<[^>]*>)?\(", inside):
         parts = path.split(".")
         of = fields.get(parts[-1]) if len(parts) > 1 else known.get(parts[0])
@@ -82,13 +106,40 @@ def callers(types, methods):
     """The callers of each function of the library."""
     found = collections.defaultdict(list)
     for crate, file in sources():
-        fields = fields_in(file, types)
+        scope = Scope(text_of(file), types, crate in CRATES)
+        fields = fields_in(text_of(file), scope)
         for name, line, lines, owner in functions(file):
-            shadowed = {of for of in types if re.search(rf"^(?:pub )?(?:struct|enum) {of}\b", text_of(file), re.M)}
-            made = {call for call in calls_of(lines, fields, types, methods) if call[0] not in shadowed}
+            made = calls_of(lines, fields, scope, methods)
             caller = Caller(crate, file, f"{owner}::{name}" if owner else name, line, lines, made)
             for call in made:
                 found[call].append(caller)
     for there in found.values():
         there.sort(key=lambda it: (it.crate != "guide", len(it.text)))
     return found
+
+
+# Whose vector a file calls, by its `use` lines: the library's, or not.
+IMPORTS = {
+    "": False,
+    "use std::vec::Vec;": False,
+    "use allocator_api2::collections::Refused;\nuse std::vec::{self, Vec};": False,
+    "use allocator_api2::vec::Vec as Ours;": False,
+    "use crate::vec::Vec;": False,
+    "use allocator_api2::vec::Vec;\nuse std::vec::Vec as Theirs;": True,
+    "use allocator_api2::{collections::{Refused, TryReserveError}, vec::Vec};": True,
+    "    use aa_vec::vec::{\n        IntoIter,\n        Vec,\n    };": True,
+}
+CALLER = "fn made<A: Allocator>(v: &mut Vec<u8, A>, alloc: A) -> Vec<u8, A> {\n    v.push(1);\n    Vec::new_in(alloc)\n}"
+
+
+def faults(found):
+    """What is wrong with the callers: whose vector is whose, and a caller whose file does not name the library."""
+    methods = {("Vec", "push"): None, ("Vec", "new_in"): "Vec"}
+    for lines, ours in IMPORTS.items():
+        made = calls_of(CALLER.split("\n"), {}, Scope(lines, {"Vec"}), methods)
+        if made != (set(methods) if ours else set()):
+            yield f"docs/reference/callers.py: after `{lines}` a file calls {sorted(made)} of the library"
+    files = {it.file for there in found.values() for it in there}
+    for file in sorted(files):
+        if not re.search(rf"\b(?:{'|'.join(CRATES)})::", text_of(file)):
+            yield f"{file.relative_to(TOP)} is a caller of the library, but does not name it"
