@@ -1,6 +1,7 @@
 """Checks the reference in a folder: each link leads to an anchor, each item and definition has a page, and nothing is loaded from
 elsewhere."""
 import html
+import json
 import re
 import urllib.parse
 
@@ -51,11 +52,22 @@ def faults(folder):
             if re.match(r"(\w+:)?//", target):
                 yield f"{name} loads {target} from elsewhere"
     yield from missing(pages)
-    style, script = ((folder / it).read_text(encoding="utf-8") for it in ("reference.css", "reference.js"))
-    if re.search(r"url\(|@import", style) or re.search(r"\b(fetch|XMLHttpRequest|import)\b\s*\(", script):
-        yield "the stylesheet or the script loads something"
-    if script.count("\n") > 200:
-        yield f"the script has {script.count(chr(10))} lines, of 200"
+    for name, of, _, target, *_ in entries(folder):
+        wrong = lost(folder, pages, "index.html", target)
+        if wrong:
+            yield f"the search finds {name} {of} at {target}: {wrong}"
+    style, *scripts = ((folder / it).read_text(encoding="utf-8") for it in ("reference.css", "reference.js", "search.js"))
+    for script in scripts:
+        if re.search(r"url\(|@import", style) or re.search(r"\b(fetch|XMLHttpRequest|import)\b\s*\(", script):
+            yield "the stylesheet or a script loads something"
+        if script.count("\n") > 200:
+            yield f"a script has {script.count(chr(10))} lines, of 200"
+
+
+def entries(folder):
+    """What the search box looks through."""
+    line = (folder / "data.js").read_text(encoding="utf-8").split("\n")[0]
+    return json.loads(line.removeprefix("const ITEMS = ").removesuffix(";"))
 
 
 def lost(folder, pages, name, target):

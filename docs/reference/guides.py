@@ -2,6 +2,7 @@
 import html
 import re
 
+import aliases
 from carried import modules_in
 from markdown import Renderer
 from tags import link, plain
@@ -37,6 +38,8 @@ class Guide:
         self.renderer.block = self.block
         if name == "docs/SPECIFICATION.md":
             self.renderer.bracket = self.carried
+        if name == "docs/DIFFERENCES.md":
+            self.renderer.mark, self.renderer.item = self.row_mark, self.row
 
     def made(self):
         body = self.renderer.page((TOP / self.name).read_text(encoding="utf-8"))
@@ -46,6 +49,20 @@ class Guide:
         first, rest = body.split("</h1>", 1) if "</h1>" in body else ("", body)
         listed = "".join(f'<li><a href="#{anchor}">{self.renderer.bare(title)}</a></li>' for anchor, title in inner)
         return f'{first}</h1><details class="here" open><summary>On this page</summary><ul>{listed}</ul></details>{rest}'
+
+    def row_mark(self, lines):
+        """The anchor of a row on the original's items, to which the search leads."""
+        row = aliases.row_of(lines)
+        return f' id="{row.anchor}"' if row else ""
+
+    def row(self, lines):
+        """A row; if its names are left out, with what to use in place of each."""
+        row, instead = aliases.row_of(lines), {}
+        for name in row.names if row and row.is_left_out else ():
+            if name in aliases.instead():
+                instead.setdefault(aliases.instead()[name], []).append(f"<code>{plain(name)}</code>")
+        uses = "".join(f"<li>{', '.join(names)}: {self.renderer.inline(use)}</li>" for use, names in instead.items())
+        return Renderer.item(self.renderer, lines) + (f'<p class="why">Use, in place of</p><ul class="why">{uses}</ul>' if uses else "")
 
     def carried(self, bracket):
         """What carries a rule, each name with its link."""

@@ -141,13 +141,17 @@ class Renderer:
             else:
                 inside.append(line[min(items[-1][1], len(line) - len(line.lstrip())) :])
             at += 1
-        made = "".join(f"<li>{self.item(it)}</li>\n" for it, _ in items)
+        made = "".join(f"<li{self.mark(it)}>{self.item(it)}</li>\n" for it, _ in items)
         return f"<{kind}{first}>\n{made}</{kind}>", at
 
     def goes_on(self, lines, at, column):
         rest = next((it for it in lines[at:] if it.strip()), "")
         found = BULLET.match(rest)
         return rest.startswith(" " * (len(column) + 2)) or bool(found and len(found.group(1)) == len(column))
+
+    def mark(self, lines):
+        """The attributes of an item."""
+        return ""
 
     def item(self, lines):
         """An item: a single paragraph has no tag of its own."""

@@ -10,6 +10,7 @@ from carried import Carried
 from items import Items
 from library import LIBRARY, Reference
 from linked import slug
+from search import Search
 from sources import text_of
 from tags import code, entry, folded, here, link, piece, plain, section
 from words import CRATES, TOP, cited, files, uses
@@ -144,11 +145,8 @@ class Site:
 
     def data(self):
         """What the search and the notes of words read."""
-        items, notes = [], {}
-        for name, of, kind, what in self.library.entries():
-            items.append([name, of, kind, self.library.href(what), self.items.first_sentence(what.doc).replace("`", "")])
+        items, notes = Search(self).entries(), {}
         for word, href in self.reference.words.items():
-            items.append([word.name, word.file.key[1], "word", href, word.sentence().replace("`", "")])
             notes[href] = [word.name, word.sentence().replace("`", ""), textwrap.dedent(word.text)]
         for far in self.links.far.values():
             notes[f"toolchain.html#{slug(far.key)}"] = [far.name, far.comment.replace("`", ""), textwrap.dedent(far.text)]
@@ -161,7 +159,7 @@ class Site:
         for name in self.pages:
             (folder / name).write_text(self.whole(name), encoding="utf-8")
         (folder / "data.js").write_text(self.data(), encoding="utf-8")
-        for name in ("reference.css", "reference.js"):
+        for name in ("reference.css", "search.js", "reference.js"):
             shutil.copyfile(HERE / name, folder / name)
         for picture in sorted((TOP / "docs").glob("*.svg")):
             shutil.copyfile(picture, folder / picture.name)
@@ -195,6 +193,7 @@ TEMPLATE = """<!doctype html>
 <title>{title} - Bozhenaw</title>
 <link rel="stylesheet" href="{root}reference.css">
 <script defer src="{root}data.js"></script>
+<script defer src="{root}search.js"></script>
 <script defer src="{root}reference.js"></script>
 </head>
 <body class="{kind}" data-root="{root}">
@@ -202,7 +201,7 @@ TEMPLATE = """<!doctype html>
 <header>
 <a class="name" href="{root}index.html">Bozhenaw</a>
 <div class="search" role="search">
-<input id="search" type="search" placeholder="Search items and words ( / )" aria-label="Search items and words" autocomplete="off" spellcheck="false"
+<input id="search" type="search" placeholder="Search items, words, pages, names of std ( / )" aria-label="Search items, words, pages and names of std" autocomplete="off" spellcheck="false"
  role="combobox" aria-expanded="false" aria-controls="found" aria-autocomplete="list">
 <ul id="found" role="listbox" aria-label="What was found" hidden></ul>
 </div>

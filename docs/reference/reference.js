@@ -1,28 +1,9 @@
 "use strict";
-// The search box, the notes that words show, and the contents on a narrow screen. All that it reads is in data.js; it requests
-// nothing from elsewhere.
+// The search box (search.js says what it finds), the notes that words show, and the contents on a narrow screen. All that it reads is
+// in data.js; it requests nothing from elsewhere.
 
 const root = document.body.dataset.root;
 const MOST = 40;
-
-// How well an entry matches the search: the less the better, or null if it does not.
-function rank([name, of, , , summary], wanted) {
-  const low = name.toLowerCase();
-  if (name === wanted) return 0;
-  if (low === wanted.toLowerCase()) return 1;
-  const path = `${of}::${name}`.toLowerCase();
-  const words = wanted.toLowerCase().split(/\s+/).filter((it) => it);
-  if (words.length === 1) {
-    const word = words[0];
-    if (word.includes("::") && path.endsWith(word)) return 1;
-    if (low.startsWith(word)) return 2;
-    if (low.split("_").includes(word)) return 3;
-    if (low.includes(word)) return 4;
-    if (path.includes(word)) return 5;
-  }
-  const all = `${path} ${summary.toLowerCase()}`;
-  return words.every((it) => all.includes(it)) ? 6 : null;
-}
 
 function setUpSearch() {
   const box = document.getElementById("search");
@@ -61,7 +42,7 @@ function setUpSearch() {
     link.tabIndex = -1;
     const place = document.createElement("span");
     place.className = "of";
-    place.textContent = kind === "word" ? `word of ${of}` : `${kind} of ${of}`;
+    place.textContent = of ? `${kind} of ${of}` : kind;
     const code = document.createElement("code");
     code.textContent = name;
     const more = document.createElement("small");
@@ -74,14 +55,13 @@ function setUpSearch() {
   function look() {
     const wanted = box.value.trim();
     if (!wanted) return close();
-    const found = ITEMS.map((it, at) => [rank(it, wanted), at, it]).filter(([good]) => good !== null);
-    found.sort((a, b) => a[0] - b[0] || a[1] - b[1]);
-    list.replaceChildren(...found.slice(0, MOST).map(([, , it], at) => option(it, at)));
-    if (!found.length) {
+    const { found, whole } = search(ITEMS, wanted);
+    list.replaceChildren(...found.slice(0, MOST).map(option));
+    if (!whole) {
       const none = document.createElement("li");
       none.className = "none";
-      none.textContent = "Nothing has these words.";
-      list.append(none);
+      none.textContent = found.length ? "Nothing has all of these words. These have some:" : "Nothing has these words.";
+      list.prepend(none);
     }
     list.hidden = false;
     box.setAttribute("aria-expanded", "true");
