@@ -10,9 +10,9 @@ Caller = collections.namedtuple("Caller", "crate file name line text calls")
 SKIPPED = {"faulty"}
 
 
-def sources():
+def sources(tests=()):
     crates = ["guide"] + sorted(it.name for it in (TOP / "crates").glob("ex_*") if not it.name.endswith("_tests"))
-    for crate in crates:
+    for crate in [*crates, *tests]:
         for file in sorted((TOP / "crates" / crate / "src").rglob("*.rt")):
             if not SKIPPED & set(file.relative_to(TOP).with_suffix("").parts):
                 yield crate, file
@@ -53,24 +53,37 @@ def leaves(tree, before=()):
 
 
 class Scope:
-    """What a file's names mean, by its `use` lines: a name that no line imports is the toolchain's, or the file's own."""
+    """What a file's names mean, by its `use` lines: a name that no line imports is the toolchain's, or the file's own.
 
-    def __init__(self, text, types, is_own=False):
+    `returned` has the types that the file's functions return.
+    """
+
+    def __init__(self, text, types, crates):
         trees = re.findall(r"^[ ]*(?:pub(?:\(\w+\))? )?use ([^;]+);", text, re.M)
         self.names = {name: path for tree in trees for name, path in leaves(tree)}
-        self.types, self.roots = types, {*CRATES, *(("crate", "super", "self") if is_own else ())}
+        self.types, self.crates, self.returned = types, crates, {}
+        for name, path in re.findall(r"^(?:pub(?:\(\w+\))? )?type (\w+)(?:<[^=]*>)? = ((?:\w+::)*\w+)", text, re.M):
+            self.names.setdefault(name, self.path(path))
+        for name, of in re.findall(r"^(?:pub(?:\(\w+\))? )?fn (\w+)[^;{]*?\) -> (.*)", text, re.M):
+            self.returned[name] = next((it for it in map(self.type, re.findall(r"(?:\w+::)*\w+", of)) if it), None)
 
     def type(self, written):
-        """The library's type that a path names, or none."""
+        """The type that a path names, if it is one of these crates', or none."""
+        path = self.path(written)
+        return path[-1] if path[0] in self.crates and path[-1] in self.types else None
+
+    def path(self, written):
+        """A path from its crate on, if the file imports its first name."""
         first, *rest = written.split("::")
-        path = self.names.get(first, (first,)) + tuple(rest)
-        return path[-1] if path[0] in self.roots and path[-1] in self.types else None
+        return self.names.get(first, (first,)) + tuple(rest)
 
     def typed(self, text):
         """The names in a text that have a type of the library: parameters, fields, and what a type's functions return."""
         written = re.findall(r"\b(\w+): (?:&(?:'\w+ )?(?:mut )?)?((?:\w+::)*\w+)", text)
         written += re.findall(r"let (?:mut )?(\w+) = ((?:\w+::)*\w+)(?:::<[^>]*>)?::\w+\(", text)
-        return {name: self.type(path) for name, path in written if self.type(path)}
+        found = {name: self.returned.get(call) for name, call in re.findall(r"let (?:mut )?(\w+) = (\w+)\(", text)}
+        found.update({name: self.type(path) for name, path in written})
+        return {name: of for name, of in found.items() if of}
 
 
 def fields_in(text, scope):
@@ -102,11 +115,13 @@ def calls_of(lines, fields, scope, methods):
     return found
 
 
-def callers(types, methods):
-    """The callers of each function of the library."""
+def callers(types, methods, crates=tuple(CRATES), tests=()):
+    """The callers of each function of some crates, by default the library's, in the guide, the examples and these tests."""
     found = collections.defaultdict(list)
-    for crate, file in sources():
-        scope = Scope(text_of(file), types, crate in CRATES)
+    for crate, file in sources(tests):
+        if crate in crates:
+            continue
+        scope = Scope(text_of(file), types, crates)
         fields = fields_in(text_of(file), scope)
         for name, line, lines, owner in functions(file):
             made = calls_of(lines, fields, scope, methods)
@@ -125,8 +140,10 @@ IMPORTS = {
     "use allocator_api2::collections::Refused;\nuse std::vec::{self, Vec};": False,
     "use allocator_api2::vec::Vec as Ours;": False,
     "use crate::vec::Vec;": False,
+    "use std::vec::Vec as Theirs;\ntype Vec<T> = Theirs<T>;": False,
     "use allocator_api2::vec::Vec;\nuse std::vec::Vec as Theirs;": True,
     "use allocator_api2::{collections::{Refused, TryReserveError}, vec::Vec};": True,
+    "use allocator_api2::vec;\ntype Vec<T, A> = vec::Vec<T, A>;": True,
     "    use aa_vec::vec::{\n        IntoIter,\n        Vec,\n    };": True,
 }
 CALLER = "fn made<A: Allocator>(v: &mut Vec<u8, A>, alloc: A) -> Vec<u8, A> {\n    v.push(1);\n    Vec::new_in(alloc)\n}"
@@ -136,7 +153,7 @@ def faults(found):
     """What is wrong with the callers: whose vector is whose, and a caller whose file does not name the library."""
     methods = {("Vec", "push"): None, ("Vec", "new_in"): "Vec"}
     for lines, ours in IMPORTS.items():
-        made = calls_of(CALLER.split("\n"), {}, Scope(lines, {"Vec"}), methods)
+        made = calls_of(CALLER.split("\n"), {}, Scope(lines, {"Vec"}, CRATES), methods)
         if made != (set(methods) if ours else set()):
             yield f"docs/reference/callers.py: after `{lines}` a file calls {sorted(made)} of the library"
     files = {it.file for there in found.values() for it in there}

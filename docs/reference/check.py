@@ -5,9 +5,9 @@ import json
 import re
 import urllib.parse
 
-from sources import all_modules, hidden_types, text_of
+from sources import all_modules, examples, hidden_types, text_of
 from text import reached_words
-from words import TOP
+from words import CRATES, EXAMPLES, TOP
 
 
 class Page:
@@ -88,19 +88,19 @@ def missing(pages):
     """The public functions, types and definitions that no page has; found in the sources anew, line by line."""
     links = [it for name, page in pages.items() if not name.startswith("source/") for it in page.links]
     named = {urllib.parse.unquote(it) for it in links if it.startswith("source/")}
-    for module in all_modules():
+    for module in all_modules((*CRATES, *examples())):
         hidden, owner, shown = hidden_types(module), "", True
         for at, line in enumerate(text_of(module.file).split("\n"), 1):
             if re.match(r"impl\b", line):
                 owner, shown = line, not any(re.search(rf"\b{it}\b", line) for it in hidden)
             elif line == "}":
                 owner, shown = "", True
-            of_module = re.match(r"pub (?:fn|struct|enum|trait) (\w+)", line) if module.public else None
+            of_module = re.match(r"pub (?:fn|struct|enum|trait|type|const) (\w+)", line) if module.public else None
             there = re.match(r"    pub fn (\w+)", line) if owner else of_module
             where = f"source/{'.'.join(module.file.relative_to(TOP / 'crates').parts)}.html#L{at}"
             if there and shown and where not in named:
                 yield f"no page has {there.group(1)} of {module.file.relative_to(TOP)}, line {at}"
     ids = {it for page in pages.values() for it in page.ids}
-    for word in reached_words():
+    for word in [*reached_words(), *(it for it in reached_words(tuple(examples())) if it.file.crate in [*CRATES, *EXAMPLES])]:
         if f"{word.file.key[1]}.{word.name}" not in ids:
             yield f"no page has the word {word.name} of {word.file.path.relative_to(TOP)}"

@@ -8,7 +8,7 @@ from markdown import Renderer
 from sources import ORIGINAL, comment_of, passed_on, text_of
 from tags import code, entry, folded, here, link, piece, plain, section
 from text import sentence
-from words import TOP, reached, uses
+from words import EXAMPLES, TOP, reached, uses
 
 # How many callers are quoted whole.
 QUOTED = 2
@@ -20,17 +20,18 @@ OF_TYPES = {
 
 
 class Items:
-    """Makes the HTML of items."""
+    """Makes the HTML of items of a library; `below` are the makers of those it stands on, whose names it has, too."""
 
-    def __init__(self, reference, source_link):
+    def __init__(self, reference, source_link, below=()):
         self.reference, self.library, self.links = reference, reference.library, reference.links
         self.source_link = source_link
         self.renderer = Renderer(lambda target: target, self.code)
-        self.names = {}
+        names = {}
         for name, of, kind, what in self.library.entries():
-            self.names.setdefault(f"{of}::{name}" if kind == "call" else name, self.library.href(what))
-        self.names.update({page.title.split("::", 1)[-1]: page.file for page in self.library.pages.values() if page.key})
-        self.differences = differences()
+            names.setdefault(f"{of}::{name}" if kind == "call" else name, self.library.href(what))
+        names.update({page.title.split("::", 1)[-1]: page.file for page in self.library.pages.values() if page.key})
+        self.names = {name: href for it in below for name, href in it.names.items()} | names
+        self.differences = [] if below else differences()
         self.of, self.given = "", set()  # the type that a comment is of, and the names of the function's parameters
 
     def prose(self, text):
@@ -77,8 +78,10 @@ class Items:
 
     def page(self, page):
         """A module's page."""
-        kind = "Module" if page.key else "Library"
+        kind = "Crate" if page.key == page.crate else "Module" if page.key else "Library"
         out = [f'<h1><span class="kind">{kind}</span> {code(plain(page.title))}</h1>']
+        if page.crate != LIBRARY:
+            out.append(self.example_note(page.crate))
         # If two crates have the path, the comment is that of the upper one's file.
         module = [it for it in page.modules if it.public][-1]
         out.append(self.renderer.page(comment_of(module.file)))
@@ -86,14 +89,31 @@ class Items:
         named = [code(link(self.names[it], plain(it))) if it in self.names else code(plain(it)) for it in dict.fromkeys(uses)]
         passed = f"Re-exports {', '.join(named)}. " if uses else ""
         out.append(f'<p class="where">{passed}{self.source(module.file, 1)}</p>')
+        out.append(self.modules(page) if page.key == page.crate else "")
         out.append(self.local_contents(page))
         out += [self.type(it) for it in page.types]
-        for title, items in (("Functions", page.functions), ("Macros", page.macros)):
+        by_kind = [[it for it in page.functions if (it[1].kind == "fn") == is_function] for is_function in (False, True)]
+        for title, items in (("Constants", by_kind[0]), ("Functions", by_kind[1]), ("Macros", page.macros)):
             if items:
                 out.append(f"<h2>{title}</h2>" + "\n".join(self.item(section_of, item, None) for section_of, item in items))
         for section_of, items in page.others:
             out.append(self.impl(section_of, items, slug(f"{section_of.type}.{section_of.trait}")))
         return "\n".join(out)
+
+    def example_note(self, crate):
+        """What a page of an example begins with: that it is one, and where it is explained."""
+        what, href = EXAMPLES[crate]
+        name = code(crate)
+        text = f"{what}: an example of this repository. It is a crate of its own, {name}, and no part of {code(LIBRARY)}; a crate that uses it "
+        text += f"lists {name} in {code('crates.txt')}. {link(href, 'What it shows')}."
+        if any(it.file.crate == crate for it in self.reference.words):
+            text += f" {link(f'words-{crate}.html', 'The words of its contracts')}."
+        return f'<p class="example">{text}</p>'
+
+    def modules(self, page):
+        """The modules of an example's crate, and their items."""
+        others = [it for it in self.library.pages.values() if it is not page]
+        return "\n".join(map(self.list_of, others))
 
     def local_contents(self, page):
         """The contents of a page: its types with their methods, its functions and macros."""
@@ -151,7 +171,7 @@ class Items:
 
     def impl(self, section_of, items, anchor=None):
         name = anchor or self.library.anchors[section_of][1]
-        head = code(self.signature([section_of.head], section_of.file))
+        head = code(self.signature([section_of.shown], section_of.file))
         inside = "\n".join(self.item(section_of, item, None) for item in items)
         title = f'<h4>{here(name, "§")} {head} {self.source(section_of.file, section_of.line)}</h4>'
         return section("impl", name, title + self.facts(section_of) + inside)
@@ -159,7 +179,7 @@ class Items:
     def item(self, section_of, item, of):
         name, head = self.library.anchors[item][1], section_of.head
         place = f'<span class="of">{code(plain(head))}</span>' if of and head.startswith("impl") else ""
-        more = self.reaches(section_of, item) + self.differing(of.name if of else section_of.type, item) + self.called(section_of, item)
+        more = self.reaches(section_of, item) + self.differing(of.name if of else section_of.type, item) + self.called(section_of, item, of)
         return section(
             "item",
             name,
@@ -211,9 +231,9 @@ class Items:
         rest = link("DIFFERENCES.html", "All differences")
         return folded(f"How it differs from the original ({len(rows)})", f"<ul>{listed}</ul><p>{rest}</p>")
 
-    def called(self, section_of, item):
+    def called(self, section_of, item, of):
         """Its callers in the guide and the examples: some quoted whole."""
-        there = self.reference.callers.get((section_of.type, item.name), [])
+        there = self.reference.callers.get((of.name if of else section_of.type, item.name), [])
         if not there or section_of.trait:
             return ""
         quoted = "".join(self.quote(it, item.name) for it in there[:QUOTED])
@@ -232,11 +252,12 @@ class Items:
 
     def list_of_all(self):
         out = [f"<h1>Every item of {code(LIBRARY)}</h1>"]
-        for page in self.library.pages.values():
-            listed = self.local_contents(page)
-            if listed:
-                out.append(f"<h2>{link(page.file, code(plain(page.title)))}</h2>{listed}")
-        return "\n".join(out)
+        return "\n".join([*out, *map(self.list_of, self.library.pages.values())])
+
+    def list_of(self, page, head="h2"):
+        """A page's contents, under its name."""
+        listed = self.local_contents(page)
+        return f"<{head}>{link(page.file, code(plain(page.title)))}</{head}>{listed}" if listed else ""
 
 
 def last_names(path):

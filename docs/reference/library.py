@@ -6,9 +6,9 @@ import callers
 import original
 import toolchain
 from linked import Context, Links, fields_of, names_of_equations, slug
-from sources import all_modules, open_sections, text_of
+from sources import all_modules, examples, open_sections, text_of
 from text import reached_words
-from words import CRATES, reached, uses
+from words import CRATES, EXAMPLES, reached, uses
 
 LIBRARY = "allocator_api2"
 # Members of traits that are proofs, or that relate a type to its fields: no contract names them.
@@ -28,10 +28,10 @@ class Type:
 
 
 class Page:
-    """A module's page."""
+    """A module's page: that of a module of the library, or of one of an example's crate."""
 
-    def __init__(self, key):
-        self.key, self.modules = key, []
+    def __init__(self, key, crate):
+        self.key, self.crate, self.modules = key, crate, []
         self.types, self.functions, self.macros, self.others = [], [], [], []
 
     @property
@@ -40,20 +40,22 @@ class Page:
 
     @property
     def title(self):
-        return LIBRARY + ("::" + self.key if self.key else "")
+        return self.key if self.crate != LIBRARY else LIBRARY + ("::" + self.key if self.key else "")
 
 
 class Library:
-    """The pages of the library's modules."""
+    """The pages of the library's modules, or of those of an example's crate."""
 
-    def __init__(self):
+    def __init__(self, crate=LIBRARY):
+        self.crate, self.crates = crate, tuple(CRATES) if crate == LIBRARY else (crate,)
         self.pages, self.types, self.anchors = {}, {}, {}
+        self.aliases = {}  # the names of types, by what a `pub type` makes them of
         self.collect()
         self.order()
 
     def collect(self):
         left = []
-        for module in all_modules():
+        for module in all_modules(self.crates):
             page = self.page_of(module)
             page.modules.append(module)
             for section, items in open_sections(module):
@@ -70,12 +72,12 @@ class Library:
         """The page of a module: its own if it is public, else that of the module around it."""
         parts = module.path.split("::")[1:]
         if not module.public:
-            opened = {it.path for it in all_modules() if it.public}
+            opened = {it.path for it in all_modules(self.crates) if it.public}
             while parts and "::".join([module.crate, *parts]) not in opened:
                 parts.pop()
         key = "::".join(parts)
-        key = original.HOMES.get(key, key)
-        return self.pages.setdefault(key, Page(key))
+        key = original.HOMES.get(key, key) if self.crate == LIBRARY else "::".join([self.crate, *parts])
+        return self.pages.setdefault(key, Page(key, self.crate))
 
     def add_type(self, page, name, item, section):
         made = self.types.setdefault(name, Type(page, name, item, section))
@@ -84,13 +86,15 @@ class Library:
         return made
 
     def add_item(self, page, section, item):
-        if item.kind in ("struct", "enum", "trait"):
+        if item.kind in ("struct", "enum", "trait", "type"):
             self.add_type(page, item.name, item, section)
+            self.aliases[item.shown[0].partition(" = ")[2].rstrip(";")] = item.name
         else:
             (page.macros if item.kind == "macro" else page.functions).append((section, item))
 
     def add_impl(self, page, section, items):
-        there = self.types.get(section.type)
+        alias = self.aliases.get(re.sub(r"^impl(<.*?>)? ", "", section.head))
+        there = self.types.get(alias or section.type)
         if not there:
             if items:
                 page.others.append((section, items))
@@ -102,18 +106,21 @@ class Library:
             there.calls += [(section, it) for it in items]
 
     def order(self):
-        """Puts pages, types and methods in the original's order, and makes an anchor for each item."""
-        rank = {key: at for at, key in enumerate(original.MODULES)}
+        """Puts pages, types and methods in the original's order, and makes an anchor for each item. An example has that of its sources."""
+        rank = {key: at for at, key in enumerate(original.MODULES if self.crate == LIBRARY else [self.crate])}
         empty = [key for key, page in self.pages.items() if not any((page.types, page.functions, page.macros, page.others)) and key not in rank]
         for key in empty:
             del self.pages[key]
         self.pages = dict(sorted(self.pages.items(), key=lambda it: (it[0] != "", rank.get(it[0], len(rank)), it[0])))
         for page in self.pages.values():
-            types = original.TYPES
+            types = original.TYPES if self.crate == LIBRARY else []
             page.types.sort(key=lambda it: (types.index(it.name) if it.name in types else len(types)))
             page.taken = set()
             for it in page.types:
-                it.calls = [it.calls[at] for at in original.place(it.name, [(section.file, call.name) for section, call in it.calls])]
+                if self.crate == LIBRARY:
+                    it.calls = [it.calls[at] for at in original.place(it.name, [(section.file, call.name) for section, call in it.calls])]
+                else:
+                    it.calls.sort(key=lambda call: call[0].file != it.section.file)
                 self.name_calls(page, it)
             for _, item in page.functions + page.macros:
                 self.anchor(page, item.name, item)
@@ -160,41 +167,56 @@ class Library:
                     yield item.name, section.type, "call", item
 
 
-class Reference:
-    """The library with what its pages link to: definitions, those of the toolchain, sources and callers."""
+def libraries():
+    """The library, and the examples' crates, by their names."""
+    return {it: Library(it) for it in [LIBRARY, *examples()]}
 
-    def __init__(self):
-        self.library = Library()
-        self.words = {word: f"words-{word.file.crate}.html#{slug(word.file.key[1] + '.' + word.name)}" for word in self.all_words()}
-        types = {name: it.href for name, it in self.library.types.items()}
-        members = {name: it.href for it in self.library.types.values() for name, *_ in (it.section.facts if it.section else [])}
+
+def all_words(those):
+    """The link of each definition that clauses reach, or an `impl` by what it says of its trait's members."""
+    seen = list(reached_words()) + [it for it in reached_words(tuple(examples())) if it.file.crate in [*CRATES, *EXAMPLES]]
+    seen = list(dict.fromkeys(seen))
+    for of in [it for library in those for it in library.types.values()]:
+        for section in [it for it, _ in of.impls] + ([of.model] if of.model else []):
+            scope = uses(text_of(section.file).split("\n"))
+            for name, lines, *_ in section.facts:
+                there = [it for it in reached(" ".join(lines), scope) if it not in seen and name not in INNER]
+                seen += [it for it in there if it.file.crate in [*CRATES, *EXAMPLES]]
+    return {word: f"words-{word.file.crate}.html#{slug(word.file.key[1] + '.' + word.name)}" for word in seen}
+
+
+class Reference:
+    """A library with what its pages link to: definitions, those of the toolchain, sources and callers; `below` are those it stands on."""
+
+    def __init__(self, library, words, below=()):
+        self.library = library
+        those = [*(it.library for it in below), library]
+        crates = [crate for it in those for crate in it.crates]
+        near = sorted((it for it in words if it.file.crate in crates), key=lambda it: crates.index(it.file.crate))
+        self.words = {word: words[word] for word in near}
+        self.known = {name: it for there in those for name, it in there.types.items()}
+        types = {name: it.href for name, it in self.known.items()}
+        members = {name: it.href for it in self.known.values() for name, *_ in (it.section.facts if it.section else [])}
         self.links = Links(self.words, types, members)
-        for name, it in self.library.types.items():
+        for it in below[:1]:
+            self.links.far, self.links.counts, self.links.unknown = it.links.far, it.links.counts, it.links.unknown
+        for name, it in self.known.items():
             fields = re.findall(r"^    (?:pub )?(\w+):", "\n".join(struct_of(it)), re.M)
             self.links.by_record.setdefault(name, set(fields))
-        self.callers = callers.callers(set(types), self.methods())
+        tests = () if library.crate == LIBRARY else ("ex_tests",)
+        self.callers = callers.callers(set(library.types), self.methods(), library.crates, tests)
         self.named = {}
         for word, href in self.words.items():
             self.named.setdefault(word.name, []).append(href)
 
     def methods(self):
-        """The methods of types, each with the first type of the library in what it returns, if there is one."""
+        """The methods of types, each with the first of these types in what it returns, if there is one."""
         found = {}
         for it in self.library.types.values():
             for _, call in it.calls:
                 returned = call.signature.partition("->")[2].replace("Self", it.name)
                 found[it.name, call.name] = next((name for name in re.findall(r"\w+", returned) if name in self.library.types), None)
         return found
-
-    def all_words(self):
-        """The definitions that clauses reach, and those that an `impl` reaches by what it says of its trait's members."""
-        seen = list(reached_words())
-        for of in self.library.types.values():
-            for section in [it for it, _ in of.impls] + ([of.model] if of.model else []):
-                scope = uses(text_of(section.file).split("\n"))
-                for name, lines, *_ in section.facts:
-                    seen += [it for it in reached(" ".join(lines), scope) if it not in seen and name not in INNER and it.file.crate in CRATES]
-        return seen
 
     def context(self, section, item=None):
         """The context of an item's clauses."""
@@ -215,7 +237,7 @@ class Reference:
         """The names of the records that are the models of the types in a text."""
         found = []
         for name in re.findall(r"\w+", text.replace("Self", own)):
-            of = self.library.types.get(name)
+            of = self.known.get(name)
             record = self.model(of)
             found += [record.name if record else name] if of else []
         return found
@@ -227,7 +249,8 @@ class Reference:
         value = next((" ".join(lines) for name, lines, *_ in of.model.facts if name == "Value"), "")
         name = (re.findall(r"\w+", value) or [""])[0]
         path, there = scope_of(of.model.file).get(name, (None, None))
-        return next((word for word in self.words if path and word.name == there and fields_of(word) and path.endswith(word.file.key[1])), None)
+        found = [word for word in self.words if path and word.name == there and fields_of(word) and path.endswith(word.file.key[1])]
+        return next((it for it in found if f".{it.file.crate}." in path), found[0] if found else None)
 
     def word_context(self, word):
         """The context of a definition's text."""

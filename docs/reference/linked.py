@@ -5,7 +5,7 @@ import re
 
 import toolchain
 from signs import SIGNS
-from words import CRATES, parted, word_at
+from words import CRATES, EXAMPLES, parted, word_at
 
 TOKEN = re.compile(r"--[^\n]*|\[\]|[^\W\d](?:[\w'-]*[\w'])?|\d+|[^\s\w(){},;.\[\]]+|[\s\S]")
 # How a clause binds names.
@@ -105,7 +105,7 @@ class Links:
 
     def word_of(self, path, there, name):
         found = re.match(r"Rattle\.(\w+)\.specs\.([\w.]+)$", path)
-        if found and found.group(1) in CRATES:
+        if found and found.group(1) in [*CRATES, *EXAMPLES]:
             word = word_at(found.group(1), found.group(2), there)
             if word in self.words:
                 return "own", self.words[word]

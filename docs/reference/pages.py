@@ -4,16 +4,17 @@ import json
 import shutil
 import textwrap
 
+import allocator
 import guides
 import toolchain
 from carried import Carried
 from items import Items
-from library import LIBRARY, Reference
+from library import LIBRARY, Reference, all_words, libraries
 from linked import slug
 from search import Search
-from sources import text_of
+from sources import examples, text_of
 from tags import code, entry, folded, here, link, piece, plain, section
-from words import CRATES, TOP, cited, files, uses
+from words import ALLOCATORS, COLLECTIONS, CRATES, TOP, cited, files, uses
 
 HERE = TOP / "docs" / "reference"
 # The groups of the table of contents, each with its pages of markdown in order; a page that no group names is in the last.
@@ -29,11 +30,20 @@ class Site:
     """All pages: made in memory, and written to a folder."""
 
     def __init__(self):
-        self.reference = Reference()
+        self.sources, self.pages = {}, {}
+        self.libraries = libraries()
+        self.words = all_words(self.libraries.values())
+        self.reference = Reference(self.libraries[LIBRARY], self.words)
         self.links, self.library = self.reference.links, self.reference.library
         self.items = Items(self.reference, self.source_link)
+        self.makers = {LIBRARY: self.items, **{crate: self.items for crate in CRATES}}
+        for crate in examples():
+            below = [self.items, *(self.makers[it] for it in stands_on(crate) if it in self.makers and it not in CRATES)]
+            reference = Reference(self.libraries[crate], self.words, [it.reference for it in below])
+            self.makers[crate] = Items(reference, self.source_link, below)
+        for it in set(self.makers.values()):
+            it.links.members.setdefault("dealloc_token", "alloc.html#Allocator")
         self.carried = Carried(self.reference)
-        self.sources, self.pages = {}, {}
         self.guides = self.guide_pages()
 
     def guide_pages(self):
@@ -50,9 +60,12 @@ class Site:
         return f"source/{name}" + (f"#L{line}" if line else "")
 
     def make(self):
-        for page in self.library.pages.values():
-            self.add(page.file, page.title, self.items.page(page), "module")
+        for crate, library in self.libraries.items():
+            for page in library.pages.values():
+                self.add(page.file, page.title, self.makers[crate].page(page), "module")
         self.add("items.html", "Every item", self.items.list_of_all(), "wide")
+        self.add("example-items.html", "Every item of the examples", self.example_items(), "wide")
+        self.pages["alloc.html"] = (self.pages["alloc.html"][0], self.pages["alloc.html"][1] + allocator.section(self), "module")
         for _, names in self.guides:
             for name in names:
                 renderer = guides.Guide(name, self)
@@ -63,44 +76,56 @@ class Site:
             self.add(f"source/{name}", str(file.relative_to(TOP)), source_page(file), "source")
         return self
 
+    def example_items(self):
+        """The contents of all pages of examples."""
+        out = ["<h1>Every item of the examples</h1>", "<p>Crates of their own, over the library; it has none of these.</p>"]
+        for crate in examples():
+            items = self.makers[crate]
+            listed = [items.list_of(page, "h3") for page in self.libraries[crate].pages.values()]
+            out.append(f"<h2>{link(f'{crate}.html', code(crate))}</h2>{items.example_note(crate)}" + "".join(listed))
+        return "\n".join(out)
+
     def add(self, name, title, body, kind):
         self.pages[name] = (title, body, kind)
 
     def words_pages(self):
         rows, users = [], self.citing()
-        for crate in CRATES:
-            there = [(file, [it for it in file.words.values() if it in self.reference.words]) for file in files().values() if file.crate == crate]
+        for crate in [*CRATES, *examples()]:
+            there = [(file, [it for it in file.words.values() if it in self.words]) for file in files().values() if file.crate == crate]
             there = [(file, words) for file, words in there if words]
-            self.add(f"words-{crate}.html", f"Words of {crate}", self.words_page(crate, there, users), "words")
+            if there or crate in CRATES:
+                self.add(f"words-{crate}.html", f"Words of {crate}", self.words_page(crate, there, users), "words")
             for file, words in there:
                 head = link(f"words-{crate}.html#{slug(file.key[1])}", self.items.unlinked(heading(file)))
-                named = ", ".join(link(self.reference.words[it], plain(it.name), "w own") for it in words)
+                named = ", ".join(link(self.words[it], plain(it.name), "w own") for it in words)
                 rows.append(f"<li>{head}: {named}</li>")
-        count = f"{len(self.reference.words)} definitions, by file: those that clauses of public functions reach, or an {code('impl')} of a trait."
+        count = f"{len(self.words)} definitions, by file: those that clauses of public functions reach, or an {code('impl')} of a trait. "
+        count += "The library's crates come first, then the examples'."
         self.add("words.html", "Words", f'<h1>The words of the contracts</h1><p>{count}</p><ul class="plain">{"".join(rows)}</ul>', "words")
 
     def words_page(self, crate, there, users):
+        items = self.makers[crate]
         out = [f"<h1>Words of {code(crate)}</h1>"]
         for file, words in there:
-            title = f'<h2 id="{slug(file.key[1])}">{self.items.prose(heading(file))}</h2>'
+            title = f'<h2 id="{slug(file.key[1])}">{items.prose(heading(file))}</h2>'
             out.append(f'{title}<p class="where">{self.items.source(file.path, 1)}</p>')
             out += [self.word(word, users.get(word, [])) for word in words]
         return "\n".join(out)
 
     def word(self, word, calls):
-        name = self.reference.words[word].split("#")[1]
+        name, items = self.words[word].split("#")[1], self.makers[word.file.crate]
         head = f"<h3>{here(name, code(plain(word.name)))} {self.items.source(word.file.path, word.line)}</h3>"
         used = folded(f"Functions whose clauses name it: {len(calls)}", f"<p>{', '.join(calls)}</p>") if calls else ""
-        comment = f"<p>{self.items.prose(word.sentence())}</p>"
-        return section("word", name, head + comment + piece(self.items.definition(word, "definition")) + used)
+        comment = f"<p>{items.prose(word.sentence())}</p>"
+        return section("word", name, head + comment + piece(items.definition(word, "definition")) + used)
 
     def citing(self):
         """The functions whose clauses name a definition, by the definition."""
         found = {}
-        for name, of, kind, what in self.library.entries():
+        for library, (name, of, kind, what) in ((library, it) for library in self.libraries.values() for it in library.entries()):
             if kind in ("call", "function"):
                 scope = uses(text_of(what.section.file).split("\n"))
-                there = link(self.library.href(what), code(plain(f"{of}::{name}" if kind == "call" else name)))
+                there = link(library.href(what), code(plain(f"{of}::{name}" if kind == "call" else name)))
                 for word in dict.fromkeys(it for clause in what.clauses for it in cited(" ".join(clause.lines), scope)):
                     found.setdefault(word, []).append(there)
         return found
@@ -132,8 +157,20 @@ class Site:
         parts = [(title, [row(guides.page_name(it), guides.title_of(it)) for it in names]) for title, names in self.guides]
         modules = [row(page.file, page.key or LIBRARY, "::" in page.key) for page in self.library.pages.values()]
         words = [row(f"words-{crate}.html", crate, True) for crate in CRATES]
+        beside = []
+        for title, crates in (("Example collections", COLLECTIONS), ("Example allocators", ALLOCATORS)):
+            rows = []
+            for crate in [it for it in crates if it in self.libraries]:
+                inside = [it for it in self.libraries[crate].pages.values() if it.key != crate]
+                here = name.split(".")[0] in (crate, f"words-{crate}")
+                rows.append(row(f"{crate}.html", f"{crate}: {crates[crate][0].lower()}"))
+                rows += [row(it.file, it.key.split("::", 1)[1], True) for it in inside if here]
+                rows += [row(f"words-{crate}.html", "words", True)] if here and f"words-{crate}.html" in self.pages else []
+            beside.append((title, rows))
+        beside[0][1].insert(0, row("example-items.html", "Every item of the examples"))
         parts[1:1] = [
             ("Reference", [row("items.html", "Every item"), *modules]),
+            *beside,
             ("Words", [row("words.html", "Every word"), *words, row("toolchain.html", "The toolchain")]),
         ]
         return "".join(f"<h2>{title}</h2><ul>{''.join(rows)}</ul>" for title, rows in parts)
@@ -146,11 +183,11 @@ class Site:
     def data(self):
         """What the search and the notes of words read."""
         items, notes = Search(self).entries(), {}
-        for word, href in self.reference.words.items():
+        for word, href in self.words.items():
             notes[href] = [word.name, word.sentence().replace("`", ""), textwrap.dedent(word.text)]
         for far in self.links.far.values():
             notes[f"toolchain.html#{slug(far.key)}"] = [far.name, far.comment.replace("`", ""), textwrap.dedent(far.text)]
-        for of in self.library.types.values():
+        for of in [it for library in self.libraries.values() for it in library.types.values()]:
             notes[of.href] = [of.name, self.items.first_sentence((of.item or of.section).doc).replace("`", ""), ""]
         return f"const ITEMS = {json.dumps(items, ensure_ascii=False)};\nconst WORDS = {json.dumps(notes, ensure_ascii=False)};\n"
 
@@ -173,6 +210,12 @@ class Site:
             f"{len(self.pages)} pages; of {sum(of.values())} words in contracts {linked} are links: {of['own'] + of['type'] + of['member']} to "
             f"the library's words and types, {of['field']} to fields, {of['far']} to words of the toolchain, {of['sign']} to signs"
         )
+
+
+def stands_on(crate):
+    """The crates that a crate stands on, by its line of crates.txt."""
+    line = next(it for it in text_of(TOP / "crates.txt").split("\n") if it.startswith(f"{crate}:"))
+    return line.partition(":")[2].partition("#")[0].split()
 
 
 def heading(file):
@@ -201,7 +244,8 @@ TEMPLATE = """<!doctype html>
 <header>
 <a class="name" href="{root}index.html">Bozhenaw</a>
 <div class="search" role="search">
-<input id="search" type="search" placeholder="Search items, words, pages, names of std ( / )" aria-label="Search items, words, pages and names of std" autocomplete="off" spellcheck="false"
+<input id="search" type="search" placeholder="Search items, words, pages, names of std ( / )"
+ aria-label="Search items, words, pages and names of std" autocomplete="off" spellcheck="false"
  role="combobox" aria-expanded="false" aria-controls="found" aria-autocomplete="list">
 <ul id="found" role="listbox" aria-label="What was found" hidden></ul>
 </div>

@@ -5,7 +5,9 @@ An entry is a name, what it is of, its kind, its link, a line on it, and other n
 import re
 
 import aliases
+import allocator
 import guides
+from library import LIBRARY
 from linked import slug
 from markdown import anchor
 from sources import comment_of, text_of
@@ -17,7 +19,7 @@ class Search:
     """Makes the entries."""
 
     def __init__(self, site):
-        self.site, self.items, self.library = site, site.items, site.library
+        self.site, self.items, self.libraries = site, site.items, site.libraries.values()
         self.impls = {}
 
     def entries(self):
@@ -26,14 +28,20 @@ class Search:
         return [[name, of, kind, href, summary.replace("`", "")] + ([also] if also else []) for name, of, kind, href, summary, also in found]
 
     def of_items(self):
-        for page in self.library.pages.values():
-            module = [it for it in page.modules if it.public][-1]
-            yield page.title.split("::", 1)[-1], "", "module", page.file, sentence(comment_of(module.file).split("\n")), []
-        for name, of, kind, what in self.library.entries():
-            yield name, of, kind, self.library.href(what), self.items.first_sentence(what.doc), []
+        for library in self.libraries:
+            for page in library.pages.values():
+                module = [it for it in page.modules if it.public][-1]
+                said = sentence(comment_of(module.file).split("\n"))
+                yield page.title.removeprefix(f"{LIBRARY}::"), "", "module" if library.crate == LIBRARY else "example", page.file, said, []
+            for name, of, kind, what in library.entries():
+                place = of if library.crate == LIBRARY or of.startswith(library.crate) else f"{library.crate}::{of}"
+                yield name, place, kind, library.href(what), self.items.first_sentence(what.doc), []
+
+        for name, of, kind, href, said in allocator.entries():
+            yield name, of, kind, href, sentence([said]), []
 
     def of_words(self):
-        for word, href in self.site.reference.words.items():
+        for word, href in self.site.words.items():
             yield word.name, word.file.key[1], "word", href, word.sentence(), []
 
     def of_toolchain(self):
@@ -42,19 +50,21 @@ class Search:
 
     def of_impls(self):
         """The traits that a type implements, named as `Vec as Write`."""
-        for page in self.library.pages.values():
+        for library, page in [(library, page) for library in self.libraries for page in library.pages.values()]:
             there = [(of.name, section) for of in page.types for section, _ in of.impls] + [(section.type, section) for section, _ in page.others]
             for of, section in there:
                 name = f"{of} as {section.trait.split('::')[-1]}"
-                href = self.library.href(section) if section in self.library.anchors else page.file
+                name = name if library.crate == LIBRARY else f"{library.crate}::{name}"
                 if name not in self.impls:
-                    self.impls[name] = href
-                    yield name, page.title, "impl", href, f"`{section.head}`", []
+                    self.impls[name] = library.href(section) if section in library.anchors else page.file
+                    yield name, page.title, "impl", self.impls[name], f"`{section.head}`", []
 
     def target(self, name):
         """The link of an item, an `impl`, a page or a heading."""
-        page, _, heading = name.partition("#")
-        return self.impls.get(name) or self.items.names.get(name) or f"{page}.html{'#' if heading else ''}{heading}"
+        crate, _, item = name.partition("::")
+        there = self.site.makers[crate].names.get(item) if crate in self.site.libraries else self.items.names.get(name)
+        page, mark, heading = name.partition("#")
+        return self.impls.get(name) or there or f"{page}.html{mark}{heading}"
 
     def of_aliases(self):
         for names, target, said in aliases.ALIASES:

@@ -6,7 +6,7 @@ import collections
 import functools
 import re
 
-from words import CRATES, TOP, whole_clauses
+from words import CRATES, EXAMPLES, TOP, whole_clauses
 
 ITEM = re.compile(r"^(\s*)pub (fn|struct|enum|trait|error|source|const|type|union) (\w+)")
 FACT = re.compile(r"\s+ghost (\w+) ?[=:] \{")
@@ -20,9 +20,10 @@ class Section:
     """An `impl`, a trait, or a file's items outside of both (with no head): what it says of ghost members, and its items."""
 
     def __init__(self, file, head, line):
-        self.file, self.head, self.line = file, head, line
+        self.file, self.head, self.line = file, head.replace("unsafe ", "", 1), line
+        self.shown = head
         self.facts, self.items, self.doc = [], [], []
-        self.of_trait = head.startswith("pub trait") or head.startswith("impl") and " for " in head
+        self.of_trait = self.head.startswith("pub trait") or self.head.startswith("impl") and " for " in head
 
     @property
     def type(self):
@@ -99,14 +100,14 @@ def signature_of(text):
 
 
 def is_method(line):
-    return re.match(r"^\s+(pub )?fn \w+", line)
+    return re.match(r"^\s+(pub )?(unsafe )?fn \w+", line)
 
 
 class Reader:
     """Reads a file's lines once, and keeps its sections."""
 
-    def __init__(self, file):
-        self.file, self.lines = file, text_of(file).split("\n")
+    def __init__(self, file, lines=None):
+        self.file, self.lines = file, lines or text_of(file).split("\n")
         self.section = Section(file, "", 1)
         self.sections, self.doc, self.derives = [self.section], [], []
 
@@ -123,7 +124,7 @@ class Reader:
         if bare.startswith("///"):
             self.doc.append(bare[3:].strip())
             return at + 1
-        if re.match(r"^(pub )?(impl|trait)\b", line):
+        if re.match(r"^(pub )?(unsafe )?(impl|trait)\b", line):
             return self.head(at)
         if line == "}":
             self.section = self.sections[0]
@@ -260,5 +261,11 @@ def comment_of(file):
 
 
 @functools.lru_cache(maxsize=None)
-def all_modules():
-    return [module for crate in CRATES for module in modules(crate)]
+def all_modules(crates=tuple(CRATES)):
+    return [module for crate in crates for module in modules(crate)]
+
+
+@functools.lru_cache(maxsize=None)
+def examples():
+    """The crates of examples that are there."""
+    return [it for it in EXAMPLES if (TOP / "crates" / it / "src").is_dir()]

@@ -101,9 +101,9 @@ def page():
     return re.sub(r"\n{3,}", "\n\n", "\n".join(out))
 
 
-def contracts():
+def contracts(crates):
     """The clauses of all public functions, each with the names of its file."""
-    for module in all_modules():
+    for module in all_modules(crates):
         lines = text_of(module.file).split("\n")
         scope, trait = uses(lines), False
         for at, line in enumerate(lines):
@@ -117,10 +117,10 @@ def contracts():
 
 
 @functools.lru_cache(maxsize=None)
-def reached_words():
+def reached_words(crates=tuple(CRATES)):
     """The definitions that clauses of public functions reach, each once."""
     seen = []
-    for scope, text in contracts():
+    for scope, text in contracts(crates):
         seen += [it for it in reached(text, scope) if it not in seen]
     return seen
 
