@@ -94,7 +94,7 @@ def method(items, there, item):
     """A function of the trait."""
     name = f"Allocator.{item.name}"
     head = f"<h3>{here(name, code(item.name))}</h3>" + piece(plain("\n".join(item.shown)), "signature")
-    return section_of_page("item", name, head + items.renderer.page("\n".join(item.doc)) + items.contract(there, item, name))
+    return section_of_page("item", name, head + items.renderer.page("\n".join(item.doc), 3) + items.contract(there, item, name))
 
 
 def implementations(site):

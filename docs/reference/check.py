@@ -11,10 +11,11 @@ from words import CRATES, EXAMPLES, TOP
 
 
 class Page:
-    """The anchors of a page, those that it has twice, what it links to and loads, and links within others."""
+    """The anchors of a page, those that it has twice, what it links to and loads, links within others, and how many first headings."""
 
     def __init__(self, text):
         self.ids, self.links, self.loads, self.twice = set(), [], [], []
+        self.tops = text.count("<h1")
         self.nested = re.findall(r"<a [^>]*>(?:(?!</a>)[^\n])*<a [^>]*>", text)
         for tag, attributes in re.findall(r"<([a-z]\w*)((?:\s[^<>]*)?)>", text):
             for name, value in re.findall(r'\s(id|href|src)="([^"]*)"', attributes):
@@ -43,6 +44,8 @@ def faults(folder):
     pages = {str(file.relative_to(folder)): read(file) for file in folder.rglob("*.html")}
     for name, page in pages.items():
         yield from (f"{name} has a link within a link: {it}" for it in page.nested)
+        if page.tops != 1:
+            yield f"{name} has {page.tops} headings of the first level"
         yield from (f"{name} has the anchor {it} twice" for it in page.twice)
         for target in page.links + page.loads:
             wrong = lost(folder, pages, name, target)

@@ -84,7 +84,7 @@ class Items:
             out.append(self.example_note(page.crate))
         # If two crates have the path, the comment is that of the upper one's file.
         module = [it for it in page.modules if it.public][-1]
-        out.append(self.renderer.page(comment_of(module.file)))
+        out.append(self.renderer.page(comment_of(module.file), 1))
         uses = [name for it in page.modules if it.public for path in passed_on(it.file) for name in last_names(path)]
         named = [code(link(self.names[it], plain(it))) if it in self.names else code(plain(it)) for it in dict.fromkeys(uses)]
         passed = f"Re-exports {', '.join(named)}. " if uses else ""
@@ -192,7 +192,7 @@ class Items:
 
     def comment(self, doc, of="", signature=""):
         self.of, self.given = of, set(re.findall(r"\b(\w+):", signature))
-        text = self.renderer.page("\n".join(doc))
+        text = self.renderer.page("\n".join(doc), 3)
         self.of, self.given = "", set()
         return ORIGINAL.sub(r'<span class="original">\g<0></span>', text, count=1)
 
