@@ -1,5 +1,6 @@
-"""The proved functions of the guide and the examples, and which functions of the library each calls."""
+"""The proved functions of the guide and the examples, and the tests, and which functions of the library or of an example each calls."""
 import collections
+import functools
 import re
 
 from sources import text_of, type_of
@@ -8,19 +9,26 @@ from words import CRATES, TOP, parted
 # A function that calls others: its crate, file, name, first line and text, and what it calls.
 Caller = collections.namedtuple("Caller", "crate file name line text calls")
 SKIPPED = {"faulty"}
+# The crates of tests whose functions are quoted, too.
+TESTS = ["ex_tests", "layer_tests"]
 
 
-def sources(tests=()):
+def sources():
     crates = ["guide"] + sorted(it.name for it in (TOP / "crates").glob("ex_*") if not it.name.endswith("_tests"))
-    for crate in [*crates, *tests]:
+    for crate in [*crates, *TESTS]:
         for file in sorted((TOP / "crates" / crate / "src").rglob("*.rt")):
             if not SKIPPED & set(file.relative_to(TOP).with_suffix("").parts):
                 yield crate, file
 
 
+@functools.lru_cache(maxsize=None)
 def functions(file):
     """Each function of a file with a body: its name, its first line, the lines of its comment and text, and its type."""
-    lines, owner = text_of(file).split("\n"), ""
+    return list(read_functions(text_of(file).split("\n")))
+
+
+def read_functions(lines):
+    owner = ""
     for at, line in enumerate(lines):
         if line.startswith("impl"):
             owner = type_of(line)
@@ -115,13 +123,14 @@ def calls_of(lines, fields, scope, methods):
     return found
 
 
-def callers(types, methods, crates=tuple(CRATES), tests=()):
-    """The callers of each function of some crates, by default the library's, in the guide, the examples and these tests."""
+def callers(types, methods, crates=tuple(CRATES)):
+    """The callers of each function of some crates, by default the library's: in the guide first, then in the examples, then in tests."""
     found = collections.defaultdict(list)
-    for crate, file in sources(tests):
+    passing = {it.parent.parent.name for it in (TOP / "crates").glob("*/src/lib.rt") for of in crates if f"pub use {of}::" in text_of(it)}
+    for crate, file in sources():
         if crate in crates:
             continue
-        scope = Scope(text_of(file), types, crates)
+        scope = Scope(text_of(file), types, {*crates, *passing})
         fields = fields_in(text_of(file), scope)
         for name, line, lines, owner in functions(file):
             made = calls_of(lines, fields, scope, methods)
@@ -129,7 +138,7 @@ def callers(types, methods, crates=tuple(CRATES), tests=()):
             for call in made:
                 found[call].append(caller)
     for there in found.values():
-        there.sort(key=lambda it: (it.crate != "guide", len(it.text)))
+        there.sort(key=lambda it: (it.crate in TESTS, it.crate != "guide", len(it.text)))
     return found
 
 

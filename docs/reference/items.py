@@ -2,6 +2,7 @@
 import re
 import textwrap
 
+import callers
 from library import INNER, LIBRARY
 from linked import slug
 from markdown import Renderer
@@ -10,8 +11,8 @@ from tags import code, entry, folded, here, link, piece, plain, section
 from text import sentence
 from words import EXAMPLES, TOP, reached, uses
 
-# How many callers are quoted whole.
-QUOTED = 2
+# How many callers are quoted whole, and how many more are named.
+QUOTED, NAMED = 2, 12
 # The original's types, and what DIFFERENCES calls several of them.
 OF_TYPES = {
     "Vec": "vectors?", "Box": "boxes|a box", "RawVec": "blocks", "Drain": "drains", "Splice": "splices", "IntoIter": "iterators",
@@ -232,14 +233,22 @@ class Items:
         return folded(f"How it differs from the original ({len(rows)})", f"<ul>{listed}</ul><p>{rest}</p>")
 
     def called(self, section_of, item, of):
-        """Its callers in the guide and the examples: some quoted whole."""
+        """Its callers in the guide, the examples and the tests: some quoted whole."""
         there = self.reference.callers.get((of.name if of else section_of.type, item.name), [])
-        if not there or section_of.trait:
+        if section_of.trait:
+            return ""
+        proved, tests = ([it for it in there if (it.crate in callers.TESTS) == is_test] for is_test in (False, True))
+        return self.calling("Proved callers", proved, item) + self.calling("Tests that call it", tests, item)
+
+    def calling(self, title, there, item):
+        """A list of callers."""
+        if not there:
             return ""
         quoted = "".join(self.quote(it, item.name) for it in there[:QUOTED])
-        others = [link(self.source_link(it.file, it.line), code(f"{it.crate}::{it.name}")) for it in there[QUOTED:]]
-        rest = f"<p>Also by {', '.join(others)}.</p>" if others else ""
-        return folded(f"Proved callers: {len(there)}", quoted + rest)
+        others = [link(self.source_link(it.file, it.line), code(f"{it.crate}::{it.name}")) for it in there[QUOTED : QUOTED + NAMED]]
+        more = f", and {len(there) - QUOTED - NAMED} more" if len(there) > QUOTED + NAMED else ""
+        rest = f"<p>Also by {', '.join(others)}{more}.</p>" if others else ""
+        return folded(f"{title}: {len(there)}", quoted + rest)
 
     def quote(self, caller, name):
         text = self.rust(textwrap.dedent("\n".join(caller.text)))

@@ -203,8 +203,7 @@ class Reference:
         for name, it in self.known.items():
             fields = re.findall(r"^    (?:pub )?(\w+):", "\n".join(struct_of(it)), re.M)
             self.links.by_record.setdefault(name, set(fields))
-        tests = () if library.crate == LIBRARY else ("ex_tests",)
-        self.callers = callers.callers(set(library.types), self.methods(), library.crates, tests)
+        self.callers = callers.callers(set(library.types), self.methods(), library.crates)
         self.named = {}
         for word, href in self.words.items():
             self.named.setdefault(word.name, []).append(href)
