@@ -55,6 +55,9 @@ ALIASES = [
     ("pool, free list, recycler, cache", "ALLOCATORS#a-pool", "Allocators that keep freed blocks."),
     ("fuzz, stress test, test an allocator", "ALLOCATORS#the-allocator-test-suite",
      "Random calls over an allocator, with a report or the first fault."),
+    ("contract, requires, ensures, clause, precondition, postcondition, specification, v.old, v.new", "CALLING#reserve-and-push",
+     "The contract of `push`, read aloud: what a clause, `OnOk` and `IfErr` say."),
+    ("proof, prove, does not prove, rt check fails, unproved, help", "CALLING#when-it-does-not-prove", "What to do if a function does not prove."),
     ("install, getting started, quick start, dependency, Cargo.toml, cargo add", "CALLING#in-a-repository-of-your-own",
      "The lines that make a crate over the library."),
     ("no_std, alloc crate, feature", "DIFFERENCES#left-nightly", "There are no features."),
@@ -88,7 +91,7 @@ INSTEAD = {
         "`RawVec`, which knows its filled places, then `BoxedSlice::from_block`",
     "spare_capacity_mut, split_at_spare_mut": "`push_within_capacity`, or `put` of `RawVec`",
     "unsize_box!, downcast, Any, Box<dyn Error>, Error, CStr": "an `enum`, a type parameter, `BoxedSlice` or `BoxedText`",
-    "Send, Sync, Pin, Unpin, pin, pin_in, into_pin, Future": "nothing in their place; a value is moved, or borrowed by `&mut`",
+    "Send, Sync, Pin, Unpin, pin, pin_in, into_pin, Future": "Nothing in its place: a value is moved, or borrowed by `&mut`",
     "alloc, alloc_zeroed, dealloc, realloc, GlobalAlloc, System": "`Global`, which a caller holds and passes on",
     "handle_alloc_error": "the `Result` of each call that allocates",
     "by_ref, &mut A": "`&A`, which is an allocator if `A` is",
@@ -96,7 +99,7 @@ INSTEAD = {
     "Borrow, BorrowMut": "`AsSlice`, or `&v[..]`",
     "write_vectored": "`write_all` for each piece",
     "clone_from": "`assign_from` of a vector; of a box, `clone`",
-    "nightly, fresh-rust, must_use, const fn": "nothing in their place",
+    "nightly, fresh-rust, must_use, const fn": "Nothing in its place",
     "InPlaceSeed": "a function of your own that writes and reads bytes, as `records` in EXAMPLES",
 }  # fmt: skip
 # Names in those rows that are here under the same name, or are plain words.

@@ -32,13 +32,26 @@ function stem(word) {
   return short.length > 3 ? short : word;
 }
 
-// How many of the words an entry has; those of its name count more.
-function count([name, , kind, , summary, also = []], words) {
+// How well each entry has each of the words: as a name, as a part of one, or in its line. A word counts more the fewer entries have it.
+function scores(entries, words) {
   const parts = (text) => text.toLowerCase().split(/[_\W]+/);
-  const names = [name, ...also].flatMap(parts);
-  const all = parts(summary);
-  const has = (list, word) => list.some((it) => it.startsWith(word));
-  return words.reduce((sum, word) => sum + (has(names, word) ? (kind === "see" ? 4 : 2) : has(all, word) ? 1 : 0), 0);
+  const has = (list, word) => list.some((it) => it.startsWith(word) && (word.length > 2 || it === word));
+  const sums = entries.map(() => 0);
+  for (const word of words) {
+    const found = entries.map(([name, , kind, , summary, also = []]) => {
+      const names = [name, ...also].map((it) => it.toLowerCase());
+      if (names.some((it) => it === word || stem(it) === word)) return kind === "see" ? 4 : 3;
+      return has(names.flatMap(parts), word) ? 2 : has(parts(summary), word) ? 1 : 0;
+    });
+    const worth = Math.log(entries.length / (1 + found.filter((it) => it).length));
+    found.forEach((it, at) => (sums[at] += it * worth));
+  }
+  return sums;
+}
+
+// A call as its path alone: `v.push(x)` is `push`, and `Vec::<T>::new()` is `Vec::new`.
+function bare(wanted) {
+  return wanted.replace(/(?:::)?<.*>|\(.*$/g, "").replace(/^[a-z]\w*\./, "").trim() || wanted;
 }
 
 // The entry by the one of its names that is wanted.
@@ -52,8 +65,10 @@ function search(entries, wanted) {
     const those = ranked.map((good, at) => [good, at]).filter(([good]) => good !== null);
     return those.sort((a, b) => a[0] - b[0] || a[1] - b[1]).map(([, at]) => named(entries[at], wanted));
   };
-  const found = best(entries.map((it) => rank(it, wanted)));
-  if (found.length) return { found, whole: true };
-  const words = wanted.toLowerCase().split(/[_\W]+/).filter((it) => it && !NOISE.has(it)).map(stem);
-  return { found: best(entries.map((it) => -count(it, words) || null)), whole: false };
+  for (const form of new Set([wanted, bare(wanted)])) {
+    const found = best(entries.map((it) => rank(it, form)));
+    if (found.length) return { found, whole: true };
+  }
+  const words = wanted.toLowerCase().split(/[_\W]+/).filter((it) => it.length > 1 && !NOISE.has(it)).map(stem);
+  return { found: best(scores(entries, words).map((it) => -it || null)), whole: false };
 }

@@ -84,7 +84,8 @@ class Search:
             for name in row.names:
                 href = f"DIFFERENCES.html#{row.anchor}"
                 if row.is_left_out and name not in aliases.KEPT:
-                    yield name, "", "left out", href, f"{row.said}. Use {instead.get(name, '')}.", []
+                    use = instead.get(name, "")
+                    yield name, "", "left out", href, f"{row.said}. {use if use.startswith('Nothing') else f'Use {use}'}.", []
                 elif not row.is_left_out and not row.said.startswith(("kept", "left out")) and name not in self.items.names:
                     yield name, "", "in the original", href, f"Here: {row.said}", []
 
