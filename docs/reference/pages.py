@@ -19,7 +19,7 @@ from words import ALLOCATORS, COLLECTIONS, CRATES, TOP, cited, files, uses
 HERE = TOP / "docs" / "reference"
 # The groups of the table of contents, each with its pages of markdown in order; a page that no group names is in the last.
 GUIDES = [
-    ("Begin", ["README.md", "docs/CALLING.md", "docs/EXAMPLES.md", "docs/ALLOCATORS.md"]),
+    ("Begin", ["README.md", "docs/TUTORIAL.md", "docs/CALLING.md", "docs/EXAMPLES.md", "docs/ALLOCATORS.md"]),
     ("Rules", ["docs/SPECIFICATION.md", "docs/DIFFERENCES.md", "docs/RULESETS.md"]),
     ("This project", ["docs/DESIGN.md", "docs/DECISIONS.md", "CONTRIBUTING.md", "tools/vim/README.md", "CHANGELOG.md"]),
     ("Measures and tests", ["bench/README.md", "bench/TRIED.md", "tests/scripts/README.md"]),
