@@ -1,6 +1,6 @@
 -- The names from elsewhere that proofs here cite, passed on.
 pub use Rattle.aa_boxed.specs.Boxed.{value_of}
-pub use Rattle.aa_boxed.specs.Room.{IsForOne, IsExactFor}
+pub use Rattle.aa_boxed.specs.Room.{IsExactFor}
 pub use Rattle.aa_boxed.specs.Slice.{Building, Slice, FromIterFails, FailsAtEnd, finished, slice_of, with_pushed}
 pub use Rattle.aa_boxed.specs.BoxedSliceInner.{IsWhole}
 pub use Rattle.aa_boxed.specs.Hints.{LowerAtMost, YieldsWithLower, requested_with}
@@ -10,6 +10,7 @@ pub use Rattle.aa_raw.proofs.Beyond.{IsRun-forgot, forgot, length-forgot, none-f
 pub use Rattle.aa_raw.proofs.Common.{AllZip, AllZip-push, Block, IsRun, Logic, SProp, Ura, emp, empty_places, ent, eqb_tells, ex, fact, fresh, length-replicate, list_all, nat_tests, param, run, sep, new_capacity, take_at_read, type_size, usize_max, via, wand, with_run, with_written}
 pub use Rattle.aa_raw.proofs.Places.{endless-empty, filled_within, length-empty_places, new_capacity-empty}
 pub use Rattle.aa_raw.proofs.Runs.{IsRun-with, length-run, run-is, run-one, run-with}
+pub use Rattle.aa_raw.proofs.Singles.{IsRun-as_block, run-as_block}
 pub use Rattle.aa_raw.specs.Growth.{amortized, min_capacity}
 pub use Rattle.aa_raw.specs.Errors.{IsErrorFor}
 pub use Rattle.aa_raw.specs.Room.{LacksRoom}

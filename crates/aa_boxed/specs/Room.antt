@@ -1,9 +1,6 @@
 -- Blocks without spare capacity.
-use Rattle.std.specs.Prelude.{◌≡◌, ℕ, List, length, drop, Option, is_none, true}
-use Rattle.std.specs.List.{list_all}
+use Rattle.std.specs.Prelude.{◌≡◌, ℕ, List, length, Option}
 use Rattle.aa_raw.specs.Growth.{usize_max}
-use Rattle.aa_raw.specs.Block.{Block}
-use Rattle.aa_raw.specs.declared.raw_vec.Growth.TheVariants.{Doubling}
 
 module _ {T : Type 0} where
   -- there are `n` places `cs`
@@ -18,10 +15,3 @@ module _ {T : Type 0} where
   -- hold no choice
   abbrev pub IsExactFor : ℕ → List (Option T) → Type 0
   IsExactFor n cs = ¬ HasPlaces n cs → HasZstPlaces cs
-
--- the block `b` is that of a box: it has one place, or `usize::MAX`, only its first may be filled,
--- and it grows by doubling
-pub record IsForOne {T A : Type 0} (b : Block T A) : Type 0 where
-  pub capacity : IsExactFor 1 b.places
-  pub growth : b.growth ≡ Doubling
-  pub others : list_all is_none (drop 1 b.places) ≡ true

@@ -1,12 +1,10 @@
 //! `Box`, which holds one value in memory of an allocator.
-ghost use Rattle.std.specs.Prelude.{◌≡◌, ◌<◌, IfOk, IfErr, Some, None, get_or, [], ◌∷◌};
+ghost use Rattle.std.specs.Prelude.{◌≡◌, ◌<◌, IfOk, IfErr, IsSome, Some, [], ◌∷◌};
 ghost use Rattle.std.specs.Mem.{type_size};
 ghost use Rattle.std.specs.Borrow.{sem};
-ghost use Rattle.aa_raw.specs.Places.{IsFilled};
-ghost use Rattle.aa_boxed.specs.Room.{IsForOne};
 ghost use Rattle.aa_boxed.specs.Slice.{new_slice};
 
-use aa_raw::raw_vec::{Growth, RawVec};
+use aa_raw::raw_box::RawBox;
 use std::alloc::{AllocError, Allocator, Global};
 use std::convert::{AsMut, AsRef};
 use std::default::Default;
@@ -37,9 +35,8 @@ pub use uninit::UninitBox;
 ///
 /// Unlike allocator-api2's, holds only values of sized types.
 pub struct Box<T, A: Allocator = Global> {
-    block: RawVec<T, A>,
-    ghost filled: { IsFilled block.places 0 },
-    ghost one: { IsForOne block },
+    block: RawBox<T, A>,
+    ghost filled: { IsSome block.place },
 }
 
 impl<T, A: Allocator> Model for Box<T, A> {
@@ -171,7 +168,7 @@ impl<T, A: Allocator> Box<T, A> {
         ensures { result ≡ new_slice (b.value ∷ []) b.alloc }
     {
         let Box { block } = b;
-        BoxedSlice::from_block(block, 1)
+        BoxedSlice::from_block(block.into_raw_vec(), 1)
     }
 
     /// Moves the value out of the box and returns it.
@@ -181,7 +178,7 @@ impl<T, A: Allocator> Box<T, A> {
         ensures { result ≡ b.value }
     {
         let Box { mut block } = b;
-        block.take(0)
+        block.take()
     }
 
     /// Returns a reference to the allocator.
@@ -232,11 +229,11 @@ impl<T, A: Allocator> Box<T, A> {
         Box::new_in((**self).clone()?, alloc)
     }
 
-    // Returns the box of a block for one value, which is in its first place.
-    fn from_filled_block(block: RawVec<T, A>) -> Self
-        requires { IsFilled block.places 0 × IsForOne block }
+    // Returns the box of a filled place.
+    fn from_filled_block(block: RawBox<T, A>) -> Self
+        requires { IsSome block.place }
         ensures alloc { result.alloc ≡ block.alloc }
-        ensures value { get_or block.places 0 None ≡ Some result.value }
+        ensures value { block.place ≡ Some result.value }
     {
         Box { block }
     }
@@ -246,7 +243,7 @@ impl<T: Drop, A: Allocator> Drop for Box<T, A> {
     /// Drops the value and deallocates the memory.
     fn drop(self) {
         let Box { mut block } = self;
-        let _value = block.take(0);
+        let _value = block.take();
     }
 }
 
@@ -259,7 +256,7 @@ impl<T, A: Allocator> Deref for Box<T, A> {
     fn deref(&self) -> &T
         ensures { result.now ≡ self.now.value }
     {
-        self.block.place(0)
+        self.block.get()
     }
 }
 
@@ -275,7 +272,7 @@ impl<T, A: Allocator> DerefMut for Box<T, A> {
         ensures* writes_back { sem 𝓛 (lends_value T.row A.row A.Allocator self.entry result) }
         ensures value { result.now ≡ self.old.value }
     {
-        self.block.place_mut(0)
+        self.block.get_mut()
     }
 }
 

@@ -13,7 +13,7 @@ pub use Rattle.aa_raw.proofs.Runs.{IsRun-joined, IsRun-long, IsRun-part, IsRun-s
 pub use Rattle.aa_raw.proofs.TwoRuns.{AreApart-before}
 pub use Rattle.aa_raw.specs.Growth.{amortized, min_capacity}
 pub use Rattle.aa_raw.specs.declared.raw_vec.Growth.{Growth}
-pub use Rattle.aa_raw.specs.declared.raw_vec.Growth.TheVariants.{Doubling, Sparing}
+pub use Rattle.aa_raw.specs.declared.raw_vec.Growth.TheVariants.{Doubling, InPlace, Sparing}
 pub use Rattle.std.proofs.Common.{Bor, List, MatchOption, None, Option, Some, [], ap, append_assoc, arith, drop, inl, inr, insert, length, length-append, length-drop, length-set, length-take, length-take-le, min, option_copied, refl, remove, rules, slice_get, subst, sym, take, take-append-drop, ℕ, ◌*◌, ◌++◌, ◌+◌, ◌-◌, ◌∙◌, ◌∷◌, ◌≡◌, ◌≤◌}
 pub use Rattle.std.proofs.Math.Seq.{drop-append-add, drop-append_seam, take-append-add, take-append_seam}
 pub use Rattle.std.proofs.iter.Next.{Yields-more}

@@ -1,5 +1,5 @@
 -- What edits take, one after another, where the text fits into its places.
-use Rattle.aa_gap.proofs.Common.{Buffer, DeleteBack, DeleteForward, Doubling, Edit, Edits, GrowsWithin, Growth, Insert, List, MoveTo, Page, Sparing, [], amortized, ap, append_assoc, arith, cursor, drop, drop-append_seam, edited, fold, gap, insert, inserts, min_capacity, len, length, length-append, length-drop, length-take, min, moved_over, nat_tests, page, put, refl, remove, remove-append_right, rules, run_count, subst, sym, take, take-append-drop, take-append-le, take-append_seam, text, total, with_edit, with_room, written_by, ℕ, ◌++◌, ◌+◌, ◌-◌, ◌∙◌, ◌∷◌, ◌≡◌, ◌≤◌}
+use Rattle.aa_gap.proofs.Common.{Buffer, DeleteBack, DeleteForward, Doubling, Edit, Edits, GrowsWithin, Growth, Insert, InPlace, List, MoveTo, Page, Sparing, [], amortized, ap, append_assoc, arith, cursor, drop, drop-append_seam, edited, fold, gap, insert, inserts, min_capacity, len, length, length-append, length-drop, length-take, min, moved_over, nat_tests, page, put, refl, remove, remove-append_right, rules, run_count, subst, sym, take, take-append-drop, take-append-le, take-append_seam, text, total, with_edit, with_room, written_by, ℕ, ◌++◌, ◌+◌, ◌-◌, ◌∙◌, ◌∷◌, ◌≡◌, ◌≤◌}
 
 -- Edits, one after another, and what they leave of the text machine's page.
 module _ {T : Type 0} where
@@ -40,16 +40,19 @@ module _ {T A : Type 0} where
   GrowsWithin-stays : (g : Growth) (old new : Buffer T A) (n : ℕ) → new.grown ≡ old.grown → new.capacity ≡ old.capacity → GrowsWithin g old n new
   GrowsWithin-stays Doubling old new n same room = (omega arith, omega arith)
   GrowsWithin-stays Sparing old new n same room = (omega arith, omega arith)
+  GrowsWithin-stays InPlace old new n same room = (omega arith, omega arith)
 
   -- growth of a full block
   GrowsWithin-grows : (g : Growth) (old new : Buffer T A) (least : ℕ) → len old ≡ old.capacity → new.grown ≡ old.grown + len old → new.capacity ≡ amortized g old.capacity (len old + 1) least → GrowsWithin g old 1 new
   GrowsWithin-grows Doubling old new least full moved room = (omega arith, omega arith)
   GrowsWithin-grows Sparing old new least full moved room = (omega arith, omega arith)
+  GrowsWithin-grows InPlace old new least full moved room = (omega arith, omega arith)
 
   -- and then more
   GrowsWithin-push : (g : Growth) (old mid new : Buffer T A) (m n k : ℕ) → len mid ≤ len old + m → m + n ≡ k → GrowsWithin g old m mid → GrowsWithin g mid n new → GrowsWithin g old k new
   GrowsWithin-push Doubling old mid new m n k longer all d e = (omega (arith, d.0, e.0), omega (arith, d.0, d.1, e.1))
   GrowsWithin-push Sparing old mid new m n k longer all d e = (omega (arith, d.0, e.0), omega (arith, d.0, d.1, e.1))
+  GrowsWithin-push InPlace old mid new m n k longer all d e = (omega (arith, d.0, e.0), omega (arith, d.0, d.1, e.1))
 
   -- how much is written and in how many runs where elements pass the gap
   moved_over-le : (b : Buffer T A) (n : ℕ) → moved_over (gap b) n ≤ n

@@ -1,7 +1,7 @@
 -- The model of a gap buffer: a text in two parts, and a block with ghost counters.
 use Rattle.std.specs.Prelude.{ℕ, ◌+◌, ◌-◌, ◌*◌, ◌≤◌, max, List, [], ◌∷◌, ◌++◌, length, take, drop, nat_le, if◌then◌else◌}
 use Rattle.aa_raw.specs.declared.raw_vec.Growth.{Growth}
-use Rattle.aa_raw.specs.declared.raw_vec.Growth.TheVariants.{Doubling, Sparing}
+use Rattle.aa_raw.specs.declared.raw_vec.Growth.TheVariants.{Doubling, Sparing, InPlace}
 use Rattle.aa_raw.specs.declared.collections.TryReserveError.{TryReserveError}
 use Rattle.aa_raw.specs.Growth.{amortized, min_capacity}
 pub use Rattle.aa_raw.specs.Room.{run_count, moved_over}
@@ -99,6 +99,9 @@ module _ {T A : Type 0} where
   GrowsWithin Sparing old n new =
       (new.grown + 2 * old.capacity ≤ old.grown + 2 * new.capacity)
       × (new.grown + 2 * old.capacity ≤ old.grown + max (2 * old.capacity) (3 * (len old + n)))
+  GrowsWithin InPlace old n new =
+      (new.grown + old.capacity ≤ old.grown + new.capacity)
+      × (new.grown + old.capacity ≤ old.grown + max old.capacity (2 * (len old + n)))
 
   -- `k` more elements of `size` bytes did not fit in `old`, and an amortized growth for them failed
   -- with `error`

@@ -8,7 +8,8 @@ pub use Rattle.aa_raw.specs.RowLends.{holding}
 unfoldable pub use Rattle.aa_raw.specs.Places.{IsCapacity, IsFilled, IsRun, empty_places, zst_places, moved, run, somes, with_run}
 pub use Rattle.aa_raw.specs.TwoRuns.{AreApart, AreJoined, AreParted, IsFull, ReservesRuns, both, grown_with}
 pub use Rattle.aa_raw.specs.contracts.counter.Counter.{the_row as tally_row}
-pub use Rattle.core.proofs.alloc.Calls.{Al, Answer-typed, Answered, Gives, Gives-Gives, Gives-goes, Goes-blank, Takes, Takes-gives, Takes-goes, answers, at_gives, at_takes, token}
+pub use Rattle.core.proofs.alloc.Calls.{Al, Answer, Answer-typed, Answered, Gives, Gives-Gives, Gives-goes, Goes-blank, Takes, Takes-gives, Takes-goes, answers, at_gives, at_takes, token}
+pub use Rattle.core.proofs.alloc.Resizes.{Grows, Resized, Resizes, Resizes-gives, Resizes-goes, Shrinks, at_resizes, flagged}
 pub use Rattle.core.proofs.mem.Facts.{says_three, says_two}
 pub use Rattle.core.proofs.mem.Param.{El as MemEl, lawful, one}
 pub use Rattle.core.proofs.ptr.Rows.{El, Good, R, add_times, apart as array_apart, el_in, el_out, el_x, elτ, sz, times_below, whole as whole_array}
@@ -17,6 +18,7 @@ pub use Rattle.core.proofs.slots.Lent.{pointer_in, pointer_out}
 pub use Rattle.core.proofs.slots.Opens.{row_had as slots_had, row_made as slots_made, row_val}
 pub use Rattle.core.proofs.slots.Places.{to_row}
 pub use Rattle.core.proofs.slots.Runs.{of_space}
+pub use Rattle.core.specs.Allocator.{array_of, block_with_items, resized_if_ok}
 pub use Rattle.core.specs.Mem.Slots.{IsFull as slots_full, slots_counts, slots_filled, slots_items, slots_len}
 pub use Rattle.core.specs.Ptr.{ptr_add}
 pub use Rattle.core.specs.declared.alloc.Allocator.{Ghosts}
@@ -80,10 +82,11 @@ pub use denote.Triple.Call.{calls_at, calls_at_last}
 pub use denote.Triple.Entry.{Res, Vals}
 pub use denote.Triple.Table.{framed}
 pub use denote.Triple.Walked.{Goes-dropped, Goes-ref, Goes-spent_ref, Stays, ends_at, says, stay_dropped, stay_ref, walk_of}
+pub use mathlib.Core.Bool.{false≢true, true≢false}
 pub use mir.MapTy.{inst_fn}
 pub use mir.Raw.{raw as raw_ty}
 pub use mir.Syntax.{Args, Body, Ty, a_number, a_type, named, ty_array, ty_unit}
-pub use mir.Val.{Val, WT, has_ty, of_list, vcons, vint, vnil, vptr, vstruct, vunit}
+pub use mir.Val.{Val, WT, has_ty, of_list, vbool, vcons, vint, vnil, vptr, vstruct, vunit}
 pub use prog.Align.{dv_self}
 pub use prog.Capped.{capped_fits}
 pub use prog.Memory.{align, capped, size as ty_size}
@@ -93,6 +96,6 @@ pub use types.ByLocal.{alloc_all, env, free_all, get, get_in, get_tag, is, lands
 pub use types.Kit.{ !, Goal, Item, Post as After, Seq, Soaks, Sq, Step, any_q, at_ret, await, by, check, done, drop as lose, feq_i, feq_l, fjoin, fjoin3, flt_i, flt_l, fpack, fpick, frame, fsplit, fsplit3, given, group, join, keep, later, learn, move, pick, prop, qed, raw, regoal, rewrite, show, some, split, split3, step, suffices, use0, use1, use2, ‵, ⋆, ◌$◌, ◌∵◌, ◌⊛◌}
 pub use types.Logic.{Logic, sem}
 pub use types.Match.{in_variant, live, vrt}
-pub use types.Part.{agg, look_in, sub, whole}
-pub use types.Run.{addr, align_word, and_then, assigns_last, bin, blocks, enter, exec, first, fld, from, init, lit, load, look, no_more, of_opd, returns, size_word, stop, switches_on, unit_lit}
+pub use types.Part.{agg, look_in, store_in, sub, whole}
+pub use types.Run.{addr, align_word, and_then, assigns, assigns_last, bin, blocks, enter, exec, false_lit, first, fld, from, init, lit, load, look, no_more, of_opd, returns, size_word, stop, switches_on, true_lit, unit_lit}
 pub use types.SemTy.{Body as BodyAt, cells}

@@ -1,6 +1,6 @@
 -- What a reserve leaves, and how many places there are after the calls of a block.
 use Rattle.aa_raw.proofs.Common.{Block, Reserves, length, length_refill, nat_tests, rules, usize_max, ℕ, ◌+◌, ◌-◌, ◌≤◌}
-use Rattle.aa_raw.proofs.Places.{endless-empty, lengths, new_capacity-empty, with_none}
+use Rattle.aa_raw.proofs.Places.{endless-empty, lengths, moved_over, new_capacity-empty, with_none}
 
 module _ {X A : Type 0} (size : ℕ) (old : Block X A) (n k requested : ℕ) where
   -- if they fit, the block is unchanged
@@ -9,4 +9,4 @@ module _ {X A : Type 0} (size : ℕ) (old : Block X A) (n k requested : ℕ) whe
 
 pub ruleset made_empty = (endless-empty, new_capacity-empty, lengths)
 
-pub ruleset after_calls = (lengths, with_none, length_refill, Reserves-unchanged)
+pub ruleset after_calls = (lengths, with_none, length_refill, Reserves-unchanged, moved_over)

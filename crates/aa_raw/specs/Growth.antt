@@ -1,7 +1,7 @@
 -- The capacity of a block, and the capacity that a growth requests.
 use Rattle.std.specs.Prelude.{ℕ, ◌+◌, ◌-◌, ◌*◌, ◌/◌, ◌^◌, max, ◌==◌, nat_lt, if◌then◌else◌}
 use Rattle.aa_raw.specs.declared.raw_vec.Growth.{Growth}
-use Rattle.aa_raw.specs.declared.raw_vec.Growth.TheVariants.{Doubling, Sparing}
+use Rattle.aa_raw.specs.declared.raw_vec.Growth.TheVariants.{Doubling, Sparing, InPlace}
 
 -- `usize::MAX`
 abbrev pub usize_max : ℕ
@@ -20,3 +20,4 @@ min_capacity size = if size == 1 then 8 else (if nat_lt 1024 size then 1 else 4)
 abbrev pub amortized : Growth → (c required least : ℕ) → ℕ
 amortized Doubling c required least = max (max (2 * c) required) least
 amortized Sparing c required least = max (max (c + (c + 1) / 2) required) least
+amortized InPlace c required least = max (max (2 * c) required) least

@@ -1,12 +1,14 @@
 -- Places whose values are changed one by one: as many are in the same places, in the same order.
 --     none_over, first_none_over, others_over      no value is there, or none in the first n
 --                                                  places, or none after them
+--     first_over                         the first place has the changed value
 --     run_over                           the values of a run are the changed ones
 --     IsRun-over, IsRun-under, IsRun-once      the places of a run hold values where they did, of
 --                                              which there is one proof
---     nothing_held, run_held             a former counts no value in places without one, and those
---                                        of a run if no other place is filled
-use Rattle.std.specs.Prelude.{◌≡◌, ℕ, zero, suc, ◌+◌, ◌≤◌, true, List, [], ◌∷◌, map, length, take, drop, Option, Some, None, is_some, is_none}
+--     nothing_held, first_held, run_held      a former counts no value in places without one, and
+--                                        that of the first place or those of a run if no other
+--                                        place is filled
+use Rattle.std.specs.Prelude.{◌≡◌, ℕ, zero, suc, ◌+◌, ◌≤◌, true, get_or, List, [], ◌∷◌, map, length, take, drop, Option, Some, None, is_some, is_none}
 use Rattle.std.specs.List.{list_all, take-map, drop-map}
 use Rattle.std.specs.Option.{option_map}
 use Rattle.std.proofs.Common.{true≢false, arith}
@@ -17,7 +19,7 @@ use mathlib.Core.Former.{none_left, one_more, this, list}
 use native.Mathlib.Bridge.{le_prop}
 use lib.ListN.{length-map}
 use denote.Model.Placed as placed
-use Rattle.aa_raw.specs.Held.{slots}
+use Rattle.aa_raw.specs.Held.{option, slots}
 use Rattle.aa_raw.specs.Places.{run, somes, IsRun}
 
 module _ {X Y : Type 0} (k : X → Y) where
@@ -35,6 +37,11 @@ module _ {X Y : Type 0} (k : X → Y) where
   pub others_over : (n : ℕ) (cs : List (Option X))
       → list_all is_none (drop n (map (option_map k) cs)) ≡ list_all is_none (drop n cs)
   others_over n cs = ap (list_all is_none) (drop-map (option_map k) n cs) ∙ none_over (drop n cs)
+
+  pub first_over : (cs : List (Option X))
+      → get_or (map (option_map k) cs) 0 None ≡ option_map k (get_or cs 0 None)
+  first_over [] = refl
+  first_over (c ∷ cs) = refl
 
   some_over : (cs : List (Option X))
       → list_all is_some (map (option_map k) cs) ≡ list_all is_some cs
@@ -86,6 +93,13 @@ module _ {X : Type 0} where
   nothing_held [] e = refl
   nothing_held (None ∷ cs) e = nothing_held cs e
   nothing_held (Some x ∷ cs) e = absurd (true≢false (sym e))
+
+  pub first_held : (cs : List (Option X)) → list_all is_none (drop 1 cs) ≡ true
+      → placed.held (option this) X (get_or cs 0 None) ≡ placed.held (slots this) X cs
+  first_held [] e = refl
+  first_held (None ∷ cs) e = nothing_held cs e
+  first_held (Some x ∷ cs) e =
+      ap {B = placed.Held X} (λ (u : placed.Held X). (one_more u.0, (x, u.1))) (nothing_held cs e)
 
   front_held : (n : ℕ) (cs : List (Option X)) → list_all is_some (take n cs) ≡ true
       → list_all is_none (drop n cs) ≡ true

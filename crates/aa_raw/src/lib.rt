@@ -8,6 +8,7 @@
 pub mod alloc;
 pub mod collections;
 pub mod counter;
+pub mod raw_box;
 pub mod raw_vec;
 mod row;
 pub mod size;

@@ -11,6 +11,7 @@ ghost use Rattle.aa_raw.specs.Block.{fresh, with_places, without, with_moved, wi
 ghost use Rattle.aa_raw.specs.Closures.{CallableAtPairMut, CalledAtPlaces};
 ghost use Rattle.aa_raw.specs.Growth.{amortized, min_capacity, usize_max};
 ghost use Rattle.aa_raw.specs.Errors.{IsErrorFor, AllocationFails};
+ghost use Rattle.aa_raw.specs.Packed.{CanPack, capacity_in};
 ghost use Rattle.aa_raw.specs.Room.{LacksRoom, NeedsNewBlock};
 
 use crate::collections::{TryReserveError, TryReserveErrorKind};
@@ -21,7 +22,13 @@ use std::alloc::{AllocError, Allocator, Global};
 use std::marker::Model;
 use std::mem::replace;
 
+mod in_place;
+mod packed;
+mod pairs;
 mod two_runs;
+
+pub use crate::row::EntriesMut;
+use packed::{MAX_PACKED, packed, policy_of, unpacked};
 
 /// The growth policy: how much spare capacity a growth requests.
 #[derive(Clone, Copy, PartialEq, Eq, Debug, Drop)]
@@ -30,6 +37,9 @@ pub enum Growth {
     Doubling,
     /// Adds half of the capacity.
     Sparing,
+    /// Doubles the capacity, and grows the block by the allocator's `grow`, which may extend it in
+    /// place.
+    InPlace,
 }
 
 impl Growth {
@@ -46,7 +56,7 @@ impl Growth {
             IfNone result (2 ^ 63 ≤ c * type_size T.row) }
     {
         let next = match self {
-            Growth::Doubling => 2 * capacity,
+            Growth::Doubling | Growth::InPlace => 2 * capacity,
             Growth::Sparing => capacity + (capacity + 1) / 2,
         };
         block_capacity::<T>(next.max(required).max(min_non_zero_capacity::<T>()))
@@ -67,9 +77,8 @@ enum ReserveKind {
 /// zero-sized elements has `usize::MAX` places and never allocates. In allocator-api2 this type is
 /// private.
 pub struct RawVec<T, A: Allocator = Global> {
-    row: Row<T>,
-    capacity: usize,
-    growth: Growth,
+    pub(crate) row: Row<T>,
+    word: usize,
     claim: Claim<T, A>,
     grown: Counter,
     written: Counter,
@@ -174,7 +183,7 @@ impl<T, A: Allocator> RawVec<T, A> {
         if !fits_in_block::<T>(capacity) {
             return Err(TryReserveErrorKind::CapacityOverflow.into());
         }
-        match allocate(&alloc, capacity) {
+        match new_row(&alloc, capacity) {
             Ok(row) => Ok(from_row(alloc, growth, capacity, row)),
             Err(_) => Err(TryReserveErrorKind::AllocError { capacity }.into()),
         }
@@ -187,13 +196,7 @@ impl<T, A: Allocator> RawVec<T, A> {
         ensures possible { IsCapacity T.row result }
     {
         self.claim.prove_capacity_bounds();
-        let capacity = self.capacity;
-        // Zero-sized elements have `usize::MAX` places. With this call of `max` the compiler knows
-        // it and reads no field.
-        if is_zst::<T>() {
-            return capacity.max(usize::MAX);
-        }
-        capacity
+        unpacked::<T>(self.word)
     }
 
     /// Proves that the number of places is a valid capacity, of at most `usize::MAX`.
@@ -204,8 +207,7 @@ impl<T, A: Allocator> RawVec<T, A> {
         ensures fits_usize { length self.now.places ≤ usize_max }
         ensures possible { IsCapacity T.row (length self.now.places) }
     {
-        self.claim.prove_capacity_bounds();
-        let _capacity = self.capacity;
+        let _capacity = self.capacity();
     }
 
     /// Returns a reference to the underlying allocator.
@@ -219,7 +221,7 @@ impl<T, A: Allocator> RawVec<T, A> {
     pub fn growth(&self) -> Growth
         ensures { result ≡ self.now.growth }
     {
-        self.growth
+        policy_of(self.word)
     }
 
     /// Writes `item` into the place `at`.
@@ -255,7 +257,7 @@ impl<T, A: Allocator> RawVec<T, A> {
         requires { from ≤ length self.old.places }
         ensures { self.new ≡ without self.old from (length self.old.places - from) }
     {
-        let count = self.capacity - from;
+        let count = self.capacity() - from;
         self.row.forget(from, count);
     }
 
@@ -290,32 +292,6 @@ impl<T, A: Allocator> RawVec<T, A> {
         ensures value { get_or self.old.places at None ≡ Some result.now }
     {
         self.row.get_mut(at)
-    }
-
-    /// Calls `f` once with mutable references to the values in two different filled places, and
-    /// returns its result.
-    ///
-    /// What `f` leaves of the values is in their places afterwards. Nothing is counted as written.
-    /// Not in allocator-api2.
-    #[inline(always)]
-    pub fn pair_with<R, F: FnMut(&mut T, &mut T) -> R>(
-        &mut self,
-        i: usize,
-        j: usize,
-        f: &mut F,
-    ) -> R
-        requires filled { IsFilled self.old.places i × IsFilled self.old.places j × (i ≢ j) }
-        requires callable { (x y : T) → get_or self.old.places i None ≡ Some x
-            → get_or self.old.places j None ≡ Some y → CallableAtPairMut F.FnMut f.old x y }
-        ensures { CalledAtPlaces (CalledAtPairMut F.FnMut)
-            f.old self.old i j result f.new self.new }
-    {
-        let mut x = self.row.read(i);
-        let mut y = self.row.read(j);
-        let returned = call_at_one_lifetime(f, &mut x, &mut y);
-        self.row.write(i, x);
-        self.row.write(j, y);
-        returned
     }
 
     /// Returns the `count` values from the place `from` on as a slice.
@@ -474,7 +450,7 @@ impl<T, A: Allocator> RawVec<T, A> {
         ensures { ReserveResult (type_size T.row) self.old len additional
             (growth_capacity (type_size T.row) self.old (len + additional)) result self.new }
     {
-        if additional <= self.capacity - len
+        if additional <= self.capacity() - len
             || self.grow_for(ReserveKind::Amortized, len, additional)
         {
             return Ok(());
@@ -513,7 +489,9 @@ impl<T, A: Allocator> RawVec<T, A> {
         ensures { ReserveResult (type_size T.row) self.old len additional (len + additional)
             result self.new }
     {
-        if additional <= self.capacity - len || self.grow_for(ReserveKind::Exact, len, additional) {
+        if additional <= self.capacity() - len
+            || self.grow_for(ReserveKind::Exact, len, additional)
+        {
             return Ok(());
         }
         Err(self.reserve_error(ReserveKind::Exact, len, additional))
@@ -566,7 +544,7 @@ impl<T, A: Allocator> RawVec<T, A> {
         ensures error { IfErr result (λ e. e.kind ≡ TryReserveErrorKind.AllocError capacity) }
         ensures unchanged { OnErr result (self.new ≡ self.old) }
     {
-        if capacity == self.capacity || is_zst::<T>() {
+        if capacity == self.capacity() || is_zst::<T>() {
             return Ok(());
         }
         self.claim.prove_capacity_bounds();
@@ -625,23 +603,31 @@ impl<T, A: Allocator> RawVec<T, A> {
         let required = len.checked_add(additional)?;
         match room {
             ReserveKind::Exact => block_capacity::<T>(required),
-            ReserveKind::Amortized => self.growth.capacity_for::<T>(self.capacity, required),
+            ReserveKind::Amortized => self.growth().capacity_for::<T>(self.capacity(), required),
         }
     }
 
-    // Grows to a new block of `capacity` places that holds the first `len` values. Returns `false`
-    // if the allocation fails.
+    // Grows to `capacity` places, of which the first `len` hold their values. Returns `false` if the
+    // allocation fails.
+    //
+    // By the policy `InPlace` a full block is extended. The allocator's `grow` says nothing of
+    // places after the values, and these are unchanged if a growth fails; so a block that is not
+    // full moves.
     fn grow_to(&mut self, len: usize, capacity: usize) -> bool
         requires { IsRun self.old.places 0 len × (len ≤ capacity) × (0 < type_size T.row)
             × IsCapacity T.row capacity }
         ensures grown { IsTrue result → self.new ≡ grown_to self.old len capacity }
         ensures unchanged { result ≡ false → self.new ≡ self.old }
     {
-        if !self.move_to(len, capacity) {
-            return false;
+        let grown = if self.is_extended(len) {
+            self.extend_to(capacity)
+        } else {
+            self.move_to(len, capacity)
+        };
+        if grown {
+            self.grown.add(len);
         }
-        self.grown.add(len);
-        true
+        grown
     }
 
     // Moves the first `len` values to a new block of `capacity` places and deallocates the old one.
@@ -654,39 +640,39 @@ impl<T, A: Allocator> RawVec<T, A> {
         match new_row(&self.alloc, capacity) {
             Ok((mut row, claim)) => {
                 row.take_run(0, &mut self.row, 0, len);
-                let old_row = replace(&mut self.row, row);
-                let old_claim = replace(&mut self.claim, claim);
-                free_block(&self.alloc, self.capacity, old_row, old_claim);
-                self.capacity = capacity;
+                self.replace_row(capacity, row, claim);
                 true
             }
             Err(_) => false,
         }
     }
-}
 
-// Calls `f` with two references of one lifetime, which the borrow checker's proof needs.
-#[inline(always)]
-fn call_at_one_lifetime<'a, T, R, F: FnMut(&mut T, &mut T) -> R>(
-    f: &mut F,
-    x: &'a mut T,
-    y: &'a mut T,
-) -> R
-    requires { CallableAtPairMut F.FnMut f.old x.old y.old }
-    ensures { CalledAtPairMut F.FnMut f.old x.old y.old result f.new x.new y.new }
-{
-    f(x, y)
+    // Makes the `capacity` places of `row` those of the block, and deallocates the memory of the
+    // old places. The values in them are forgotten.
+    fn replace_row(&mut self, capacity: usize, row: Row<T>, claim: Claim<T, A>)
+        requires row { (claim.ptr ≡ row.ptr) × (claim.len ≡ capacity)
+            × (claim.alloc ≡ self.old.alloc) × (length row.places ≡ capacity) }
+        requires possible { CanPack capacity }
+        ensures { self.new ≡ with_places self.old row.places }
+    {
+        let old_capacity = self.capacity();
+        self.word = packed(capacity, self.growth());
+        let old_row = replace(&mut self.row, row);
+        let old_claim = replace(&mut self.claim, claim);
+        free_block(&self.alloc, old_capacity, old_row, old_claim);
+    }
 }
 
 // Returns a new block over `row`.
-fn from_row<T, A: Allocator>(
+pub(crate) fn from_row<T, A: Allocator>(
     alloc: A,
     growth: Growth,
     capacity: usize,
     row: (Row<T>, Claim<T, A>),
 ) -> RawVec<T, A>
-    requires { (row.1.ptr ≡ row.0.ptr) × (row.1.len ≡ capacity) × (row.1.alloc ≡ alloc)
+    requires row { (row.1.ptr ≡ row.0.ptr) × (row.1.len ≡ capacity) × (row.1.alloc ≡ alloc)
         × (length row.0.places ≡ capacity) }
+    requires possible { CanPack capacity }
     ensures { result ≡ record {
       places = row.0.places;
       growth = growth;
@@ -699,8 +685,7 @@ fn from_row<T, A: Allocator>(
     let (row, claim) = row;
     RawVec {
         row,
-        capacity,
-        growth,
+        word: packed(capacity, growth),
         claim,
         grown: Counter::zero(),
         written: Counter::zero(),
@@ -742,17 +727,25 @@ fn new_row<T, A: Allocator>(alloc: &A, capacity: usize) -> Result<(Row<T>, Claim
     requires { IsCapacity T.row capacity }
     ensures row { IfOk result (λ r. (r.0.places ≡ replicate capacity None) × (r.1.ptr ≡ r.0.ptr)
         × (r.1.len ≡ capacity) × (r.1.alloc ≡ alloc.now)) }
+    ensures possible { OnOk result (CanPack capacity) }
     ensures only_if_allocating { OnErr result (0 < capacity) }
 {
     if capacity == 0 {
         Ok(dangling(alloc, capacity))
+    } else if MAX_PACKED <= capacity {
+        Err(AllocError)
     } else {
         allocate(alloc, capacity)
     }
 }
 
 // Deallocates the memory of a row, if it has any, and forgets the values in its places.
-fn free_block<T, A: Allocator>(alloc: &A, capacity: usize, row: Row<T>, claim: Claim<T, A>)
+pub(crate) fn free_block<T, A: Allocator>(
+    alloc: &A,
+    capacity: usize,
+    row: Row<T>,
+    claim: Claim<T, A>,
+)
     requires { (length row.places ≡ capacity) × (claim.ptr ≡ row.ptr) × (claim.len ≡ capacity)
         × (claim.alloc ≡ alloc.now) }
 {
@@ -769,14 +762,14 @@ impl<T, A: Allocator> Drop for RawVec<T, A> {
     fn drop(self) {
         let RawVec {
             row,
-            capacity,
-            growth: _,
+            word,
             claim,
             grown: _,
             written: _,
             runs: _,
             alloc,
         } = self;
-        free_block(&alloc, capacity, row, claim);
+        claim.prove_capacity_bounds();
+        free_block(&alloc, unpacked::<T>(word), row, claim);
     }
 }

@@ -9,11 +9,14 @@ ghost use Rattle.aa_raw.specs.Places.{IsRun, IsFilled, IsCapacity, moved, with_r
 ghost use Rattle.aa_raw.specs.Ownership.{row_owns, row_shares, claim_owns, capacity_bounds};
 
 mod across;
+mod entries_mut;
+pub(crate) mod resize;
 
 use crate::size::{element_size, is_long};
 use across::move_across;
 use core::ptr::copy_nonoverlapping;
 use core::slots::Slots;
+pub use entries_mut::EntriesMut;
 use std::alloc::{AllocError, Allocator};
 use std::marker::{Model, PhantomData};
 use std::mem::{align_of, size_of};

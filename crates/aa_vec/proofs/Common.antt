@@ -9,7 +9,7 @@ pub use Rattle.aa_raw.specs.Places.{IsRun, IsFilled}
 unfoldable pub use Rattle.aa_raw.specs.Places.{moved, run, with_run}
 pub use Rattle.aa_raw.specs.declared.collections.TryReserveError.{TryReserveError}
 pub use Rattle.aa_raw.specs.declared.raw_vec.Growth.{Growth}
-pub use Rattle.aa_raw.specs.declared.raw_vec.Growth.TheVariants.{Doubling, Sparing}
+pub use Rattle.aa_raw.specs.declared.raw_vec.Growth.TheVariants.{Doubling, InPlace, Sparing}
 pub use Rattle.aa_vec.specs.Arrays.{flattened}
 pub use Rattle.aa_vec.specs.Tail.{ClosesGap, ClosesTwoGaps, DropsTail, LeavesInTail, ShiftsDown, SetsTail, HasTail, tail_items, with_spare}
 pub use Rattle.aa_vec.specs.Choosing.{Call, CalledInOrder, ChainsFrom, Deduplicated, Deduplicates, EndsTrue, Equals, IsCallableAlong, IsCallableInOrder, IsPureTest, MayCallInOrder, MayChainFrom, MayDeduplicate, Reads, Retains, CallableAtKeys, CallableAtMut, results_of, kept, kept_after_removed, passed_over}

@@ -1,10 +1,11 @@
 -- Lemmas on a vector that grew while it was full.
-use Rattle.aa_vec.proofs.Common.{◌≡◌, ℕ, ◌+◌, ◌-◌, ◌<◌, ◌≤◌, List, ◌++◌, length, append_assoc, append-nil, sym, Ok, Extends, refl, ap, ◌∙◌, subst, arith, min, usize_max, Growth, Doubling, Sparing, amortized, min_capacity, Vector, SameBlock, Holds, with_room, GrowsInSteps, unchanged, grows, nat_tests, requested_with}
+use Rattle.aa_vec.proofs.Common.{◌≡◌, ℕ, ◌+◌, ◌-◌, ◌<◌, ◌≤◌, List, ◌++◌, length, append_assoc, append-nil, sym, Ok, Extends, refl, ap, ◌∙◌, subst, arith, min, usize_max, Growth, Doubling, InPlace, Sparing, amortized, min_capacity, Vector, SameBlock, Holds, with_room, GrowsInSteps, unchanged, grows, nat_tests, requested_with}
 
 -- a growth requests no less than what is needed
 pub amortized-enough : (G : Growth) (c needed m : ℕ) → needed ≤ amortized G c needed m
 amortized-enough Doubling c needed m = omega arith
 amortized-enough Sparing c needed m = omega arith
+amortized-enough InPlace c needed m = omega arith
 
 module _ {T A : Type 0} where
   pub SameBlock-refl : (v : Vector T A) → SameBlock v v

@@ -1,7 +1,7 @@
 -- What a vector was moved by growth is paid for by what was added to it.
 use Rattle.allocator_api2.proofs.Common.{◌≡◌, ℕ, ◌+◌, ◌*◌, ◌-◌, ◌<◌, ◌≤◌, min, max, Option, None, ap, ◌∙◌, arith, Growth, Doubling, min_capacity, Vector, len, moves_each}
 use Rattle.std.specs.Prelude.{◌/◌}
-use Rattle.aa_raw.specs.declared.raw_vec.Growth.TheVariants.{Sparing}
+use Rattle.aa_raw.specs.declared.raw_vec.Growth.TheVariants.{InPlace, Sparing}
 use Rattle.aa_raw.specs.Growth.{amortized}
 use Rattle.aa_vec.proofs.GrowthLemmas.{MakesRoom-fits, MakesRoom-grows, MakesRoom-rises}
 use Rattle.allocator_api2.proofs.Added.{moves_each-le}
@@ -21,18 +21,22 @@ min_capacity-le size = grind arith
 abbrev pub places_for : Growth → (most : ℕ) → ℕ
 places_for Doubling most = 2 * most
 places_for Sparing most = most + most / 2 - 1
+places_for InPlace most = 2 * most
 
 places_for-mono : (G : Growth) (n k : ℕ) → n ≤ k → places_for G n ≤ places_for G k
 places_for-mono Doubling n k h = omega arith
 places_for-mono Sparing n k h = omega arith
+places_for-mono InPlace n k h = omega arith
 
 pub places_for-le : (G : Growth) (most : ℕ) → places_for G most ≤ 2 * most
 places_for-le Doubling most = omega arith
 places_for-le Sparing most = omega arith
+places_for-le InPlace most = omega arith
 
 amortized-within : (G : Growth) (c needed m most : ℕ) → c < needed → needed ≤ most → m ≤ 8 → amortized G c needed m ≤ max 8 (places_for G most)
 amortized-within Doubling c needed m most lt h e = omega arith
 amortized-within Sparing c needed m most lt h e = omega arith
+amortized-within InPlace c needed m most lt h e = omega arith
 
 module _ {T A : Type 0} (size : ℕ) where
   Moves-rises : {hint : Option ℕ} {needed : ℕ} {u v : Vector T A} → Moves size hint needed u v → u.capacity ≤ v.capacity

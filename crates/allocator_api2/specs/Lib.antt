@@ -15,12 +15,16 @@ pub use Rattle.aa_raw.specs.Block
 pub use Rattle.aa_raw.specs.BlockLends
 pub use Rattle.aa_raw.specs.Clones
 pub use Rattle.aa_raw.specs.Closures
+pub use Rattle.aa_raw.specs.Entries
+pub use Rattle.aa_raw.specs.EntriesLends
 pub use Rattle.aa_raw.specs.Errors
 pub use Rattle.aa_raw.specs.Growth
 pub use Rattle.aa_raw.specs.IntoIter
 pub use Rattle.aa_raw.specs.IntoIterLends
 pub use Rattle.aa_raw.specs.Places
 pub use Rattle.aa_raw.specs.Room
+pub use Rattle.aa_raw.specs.Single
+pub use Rattle.aa_raw.specs.SingleLends
 pub use Rattle.aa_raw.specs.TwoRuns
 pub use Rattle.aa_vec.specs.Arrays
 pub use Rattle.aa_vec.specs.Boxes

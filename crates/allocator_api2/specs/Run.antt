@@ -2,7 +2,7 @@
 use Rattle.std.specs.Prelude.{◌≡◌, ℕ, ◌+◌, ◌-◌, ◌*◌, ◌/◌, ◌≤◌, max, Bool, not, List, [], ◌∷◌, map, slice_range, sum_by, if◌then◌else◌, Option, None, ⊤}
 use Rattle.std.specs.List.{AllByRecursion}
 use Rattle.aa_raw.specs.declared.raw_vec.Growth.{Growth}
-use Rattle.aa_raw.specs.declared.raw_vec.Growth.TheVariants.{Doubling, Sparing}
+use Rattle.aa_raw.specs.declared.raw_vec.Growth.TheVariants.{Doubling, Sparing, InPlace}
 use Rattle.aa_vec.specs.Choosing.{IsCallableInOrder, IsCallableAlong, kept_after_removed}
 use Rattle.aa_vec.specs.Vector.{Vector, len}
 use Rattle.allocator_api2.specs.declared.runner.Command.{Command}
@@ -136,6 +136,7 @@ module _ {T A K S : Type 0} (size : ℕ) (calls : Calls T A K S) where
 abbrev pub moves_each : Growth → ℕ
 moves_each Doubling = 2
 moves_each Sparing = 3
+moves_each InPlace = 2
 
 module _ {T A K S : Type 0} (size : ℕ) (calls : Calls T A K S) (old : State T A K S)
     (commands : List (Command T A)) where

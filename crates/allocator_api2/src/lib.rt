@@ -6,7 +6,7 @@
 
 pub use aa_boxed::boxed;
 pub use aa_gap::gap_buffer;
-pub use aa_raw::{alloc, collections, counter, raw_vec, size};
+pub use aa_raw::{alloc, collections, counter, raw_box, raw_vec, size};
 pub use aa_vec::vec;
 pub use slice::SliceExt;
 

@@ -2,7 +2,7 @@
 use Rattle.std.proofs.Common.{◌≡◌, ℕ, ◌+◌, List, length, refl, arith}
 use Rattle.std.proofs.lemmas.Bool.Decides.{nat_tests}
 use Rattle.allocator_api2.specs.declared.raw_vec.Growth.{Growth}
-use Rattle.allocator_api2.specs.declared.raw_vec.Growth.TheVariants.{Doubling, Sparing}
+use Rattle.allocator_api2.specs.declared.raw_vec.Growth.TheVariants.{Doubling, InPlace, Sparing}
 use Rattle.ex_ring.specs.Paid.{IsPaid}
 use Rattle.ex_ring.specs.Ringed.{Ringed, empty, with_room, with_written}
 
@@ -14,6 +14,7 @@ module _ {T A : Type 0} where
   doubled : (size n : ℕ) (xs : List T) (items : List T) (c : ℕ) (g : Growth) (grown written : ℕ) (a : A) → g ≡ Doubling
       → let r : Ringed T A = record { items = items; capacity = c; growth = g; grown = grown; written = written; alloc = a } in IsPaid n r → length xs ≡ length items + 1 → IsPaid (n + 1) (with_written (with_room size r 1) xs 1)
   doubled size n xs items c Sparing grown written a e p more = cc
+  doubled size n xs items c InPlace grown written a e p more = cc
   doubled size n xs items c Doubling grown written a e p more = record {
     doubles = refl;
     items = let few = p.items in omega (arith, more);

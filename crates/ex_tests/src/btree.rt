@@ -130,7 +130,7 @@ fn thins(map: &mut Small<'_>, end: u64) -> bool {
 }
 
 // Leaves are not joined. Keys in ascending order leave 16 in each. Where one of them is left, it
-// keeps a leaf of 32 places of 16 bytes, and its share of the 128 places for leaves, of 40 bytes.
+// keeps a leaf of 32 places of 16 bytes, and its share of the 128 places for leaves, of 32 bytes.
 #[test]
 fn few_entries_may_keep_many_leaves(rt: HostRuntime) {
     let heap = Faulty::new(rt.alloc());
@@ -138,7 +138,7 @@ fn few_entries_may_keep_many_leaves(rt: HostRuntime) {
     assert!(rt; takes(&mut map, 0..1601) && map.remove(1600).is_some());
     assert!(rt; thins(&mut map, 1600) && map.len() == 100);
     let bytes = heap.outstanding();
-    assert!(rt; bytes == 100 * 32 * 16 + 128 * 40, "{bytes}");
+    assert!(rt; bytes == 100 * 32 * 16 + 128 * 32, "{bytes}");
 }
 
 #[test]

@@ -283,7 +283,7 @@ fn a_small_vector_prints_as_a_slice(rt: HostRuntime) -> Result<(), Fail> {
 #[test]
 fn an_empty_place_takes_what_an_item_takes(rt: HostRuntime) {
     assert!(rt; size_of::<InlineVec<u64, Global, 4>>() == 48);
-    assert!(rt; size_of::<InlineVec<u8, Global, 16>>() == 40);
+    assert!(rt; size_of::<InlineVec<u8, Global, 16>>() == 32);
     assert!(rt; size_of::<InlineVec<Option<u64>, Global, 4>>() == 80);
 }
 

@@ -240,7 +240,7 @@ fn no_ring_grows_past_the_limits(rt: HostRuntime) {
 
 #[test]
 fn a_ring_has_its_size(rt: HostRuntime) {
-    assert!(rt; size_of::<Ring<u64, Global>>() == 48);
+    assert!(rt; size_of::<Ring<u64, Global>>() == 40);
 }
 
 #[test]

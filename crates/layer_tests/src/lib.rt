@@ -40,4 +40,6 @@ mod raw;
 #[cfg(test)]
 mod recorded;
 #[cfg(test)]
+mod sizes;
+#[cfg(test)]
 mod slices;

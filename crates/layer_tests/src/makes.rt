@@ -7,7 +7,7 @@ use aa_vec::vec::{SliceIntoVec, Vec, cautious};
 use std::alloc::Global;
 use std::mem::size_of;
 
-const _: () = prove!(size_of::<Vec<u64, Global>>() == 32);
+const _: () = prove!(size_of::<Vec<u64, Global>>() == 24);
 
 // A call that makes a vector.
 #[derive(Clone, Copy)]

@@ -2,6 +2,7 @@
 mod blocks;
 mod items;
 mod moves;
+mod places;
 mod runs;
 
 use aa_raw::collections::{TryReserveError, TryReserveErrorKind};

@@ -1,10 +1,9 @@
 //! `UninitBox`, a box for a value that is still to be written.
-ghost use Rattle.std.specs.Prelude.{◌≡◌, ◌<◌, IfOk, IfErr, length};
+ghost use Rattle.std.specs.Prelude.{◌≡◌, ◌<◌, IfOk, IfErr};
 ghost use Rattle.std.specs.Mem.{type_size};
-ghost use Rattle.aa_boxed.specs.Room.{IsForOne};
 
 use crate::boxed::Box;
-use aa_raw::raw_vec::RawVec;
+use aa_raw::raw_box::RawBox;
 use std::alloc::{AllocError, Allocator, Global};
 use std::marker::Model;
 
@@ -14,9 +13,7 @@ use std::marker::Model;
 ///
 /// Corresponds to allocator-api2's `Box<MaybeUninit<T>, A>`.
 pub struct UninitBox<T, A: Allocator = Global> {
-    block: RawVec<T, A>,
-    ghost room: { 0 < length block.places },
-    ghost one: { IsForOne block },
+    block: RawBox<T, A>,
 }
 
 impl<T, A: Allocator> Model for UninitBox<T, A> {
@@ -35,7 +32,7 @@ impl<T, A: Allocator> UninitBox<T, A> {
         ensures { result ≡ record { value = x; alloc = b } }
     {
         let UninitBox { mut block } = b;
-        block.put(0, x);
+        block.put(x);
         Box::from_filled_block(block)
     }
 
@@ -44,10 +41,8 @@ impl<T, A: Allocator> UninitBox<T, A> {
         ensures made { IfOk result (λ b. b ≡ alloc) }
         ensures error { IfErr result (λ _. 0 < type_size T.row) }
     {
-        match RawVec::with_capacity_in(1, alloc) {
-            Ok(block) => Ok(UninitBox { block }),
-            Err(_) => Err(AllocError),
-        }
+        let block = RawBox::allocate_in(alloc)?;
+        Ok(UninitBox { block })
     }
 }
 

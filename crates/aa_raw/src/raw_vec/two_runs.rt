@@ -5,10 +5,9 @@ ghost use Rattle.aa_raw.specs.Places.{IsCapacity, IsRun};
 ghost use Rattle.aa_raw.specs.Block.{growth_capacity};
 ghost use Rattle.aa_raw.specs.TwoRuns.{AreApart, AreJoined, AreParted, IsFull, ReserveRunsResult, ReservesRuns, both, grown_with};
 
-use super::{RawVec, ReserveKind, free_block, new_row};
+use super::{RawVec, ReserveKind, new_row};
 use crate::collections::TryReserveError;
 use std::alloc::Allocator;
-use std::mem::replace;
 
 #[tactic(auto, using(crate::proofs::TwoRuns::kept_runs))]
 impl<T, A: Allocator> RawVec<T, A> {
@@ -41,7 +40,7 @@ impl<T, A: Allocator> RawVec<T, A> {
             → OnOk result (AreJoined self.old self.new first second) }
     {
         let len = self.count_both(first, second);
-        if additional <= self.capacity - len {
+        if additional <= self.capacity() - len {
             return Ok(());
         }
         if self.grow_runs(first, second, false, additional) {
@@ -72,7 +71,7 @@ impl<T, A: Allocator> RawVec<T, A> {
             → OnOk result (AreParted self.old self.new first second) }
     {
         let len = self.count_both(first, second);
-        if additional <= self.capacity - len {
+        if additional <= self.capacity() - len {
             return Ok(());
         }
         if self.grow_runs(first, second, true, additional) {
@@ -154,10 +153,7 @@ impl<T, A: Allocator> RawVec<T, A> {
             Ok((mut row, claim)) => {
                 row.take_run(0, &mut self.row, first.0, first.1);
                 row.take_run(to, &mut self.row, second.0, second.1);
-                let old_row = replace(&mut self.row, row);
-                let old_claim = replace(&mut self.claim, claim);
-                free_block(&self.alloc, self.capacity, old_row, old_claim);
-                self.capacity = capacity;
+                self.replace_row(capacity, row, claim);
                 self.grown.add(first.1 + second.1);
                 true
             }

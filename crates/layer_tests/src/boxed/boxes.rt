@@ -7,7 +7,7 @@ use std::mem::size_of;
 use test_allocators::counted::Counted;
 use test_allocators::failing::Failing;
 
-const _: () = prove!(size_of::<Box<u64, Global>>() == 24);
+const _: () = prove!(size_of::<Box<u64, Global>>() == 8);
 
 // Each way to allocate memory for a number.
 fn room(alloc: Global, way: u32) -> Result<UninitBox<u32>, AllocError> {

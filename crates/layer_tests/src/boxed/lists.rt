@@ -6,7 +6,7 @@ use std::alloc::Global;
 use std::mem::size_of;
 use std::test::Fail;
 
-const _: () = prove!(size_of::<BoxedSlice<u64, Global>>() == 32);
+const _: () = prove!(size_of::<BoxedSlice<u64, Global>>() == 24);
 
 // Whether a slice has these elements, and fives once it is filled with them; and the capacity and
 // the length of its block.

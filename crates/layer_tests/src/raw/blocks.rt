@@ -10,7 +10,7 @@ use std::mem::size_of;
 use std::test::Fail;
 use test_allocators::Faulty;
 
-const _: () = prove!(size_of::<RawVec<u64, Global>>() == 24);
+const _: () = prove!(size_of::<RawVec<u64, Global>>() == 16);
 
 // A block `10 11 _`.
 fn two_of_three(alloc: Global) -> Result<RawVec<u32>, TryReserveError>
@@ -142,6 +142,8 @@ fn capacity_is_as_requested_or_as_the_growth_policy_has_it(rt: HostRuntime) {
     assert!(rt; has_capacities::<u32>(&heap, None, &ROOMS));
     assert!(rt; has_capacities::<u8>(&heap, None, &DOUBLING));
     assert!(rt; has_capacities::<u8>(&heap, Some(Growth::Sparing), &SPARING));
+    assert!(rt; has_capacities::<u32>(&heap, Some(Growth::InPlace), &ROOMS));
+    assert!(rt; has_capacities::<u8>(&heap, Some(Growth::InPlace), &DOUBLING));
     assert!(rt; has_capacities::<()>(&heap, None, &ZST));
     // The least capacity is by the size.
     assert!(rt; has_capacities::<u8>(&heap, None, &[(FIRST, Some(8))]));

@@ -41,12 +41,12 @@ pub the_empty : (Z : Type 0) → Z → Block ⊥ Z
 the_empty Z z = record { places = []; growth = Doubling; grown = 0; written = 0; runs = 0; alloc = z }
 
 abbrev Others : Type 0 → Type 0
-Others Z = ℕ × (Growth × (Counter × (Counter × (Counter × Z))))
+Others Z = ℕ × (Counter × (Counter × (Counter × Z)))
 
 abbrev fields : Type 0 → Former {0}
 fields Z = via (pair (row.the_former this) (pair (claim.the_former this Z) (const (Others Z)))) (λ X. Inside X Z)
-    (λ X a. (a.row, (a.claim, (a.capacity, (a.growth, (a.grown, (a.written, (a.runs, a.alloc))))))))
-    (λ X v. record { row = v.0; claim = v.1.0; capacity = v.1.1.0; growth = v.1.1.1.0; grown = v.1.1.1.1.0; written = v.1.1.1.1.1.0; runs = v.1.1.1.1.1.1.0; alloc = v.1.1.1.1.1.1.1 }) (λ X a. refl) (λ X v. refl)
+    (λ X a. (a.row, (a.claim, (a.word, (a.grown, (a.written, (a.runs, a.alloc)))))))
+    (λ X v. record { row = v.0; claim = v.1.0; word = v.1.1.0; grown = v.1.1.1.0; written = v.1.1.1.1.0; runs = v.1.1.1.1.1.0; alloc = v.1.1.1.1.1.1 }) (λ X a. refl) (λ X v. refl)
 
 module _ (Z : RattleType) (G : Ghosts Z.Denot) (R S : RattleType) (h : R.Denot → S.Denot) where
   whole_once : {X : Type 0} (v : Inside X Z.Denot) → IsProp (IsWhole v)
@@ -62,16 +62,13 @@ module _ (Z : RattleType) (G : Ghosts Z.Denot) (R S : RattleType) (h : R.Denot �
       (λ u w. record { claim = w.claim; long = sym (length-map u.row.places (option_map h)) ∙ w.long })
       (over (I.the_row R Z G)) (over (I.the_row S Z G))
       (struct_places (I.the_type R Z G) (I.the_type S Z G)
-      ((row.the_former this).map R.Denot S.Denot h, (λ n. n, (λ n. n, ((claim.the_former this Z.Denot).map R.Denot S.Denot h, (λ n. n, (λ n. n, (λ n. n, (λ n. n, tt)))))))) _ (λ d. refl) refl (
+      ((row.the_former this).map R.Denot S.Denot h, (λ n. n, ((claim.the_former this Z.Denot).map R.Denot S.Denot h, (λ n. n, (λ n. n, (λ n. n, (λ n. n, tt))))))) _ (λ d. refl) refl (
         laid _ _ _ (row.the_places R S h a),
         (
           (refl, (λ n. refl, λ n. refl)),
           (
-            (refl, (λ n. refl, λ n. refl)),
-            (
-              laid _ _ _ (claim.the_places Z G R S h a),
-              ((refl, (λ n. refl, λ n. refl)), ((refl, (λ n. refl, λ n. refl)), ((refl, (λ n. refl, λ n. refl)), ((refl, (λ n. refl, λ n. refl)), tt)))),
-            ),
+            laid _ _ _ (claim.the_places Z G R S h a),
+            ((refl, (λ n. refl, λ n. refl)), ((refl, (λ n. refl, λ n. refl)), ((refl, (λ n. refl, λ n. refl)), ((refl, (λ n. refl, λ n. refl)), tt)))),
           ),
         ),
       ))

@@ -1,12 +1,19 @@
-use Rattle.aa_boxed.proofs.{Doubling, None, Option, Some, [], filled_within, get_or, value_of, is_some, refl, run, run-one, true, ◌∙◌, ◌∷◌, ◌≡◌}
+use Rattle.aa_boxed.proofs.{IsRun-as_block, None, Option, Some, [], ap, is_some, param, refl, run-as_block, slice_of, true, type_size, value_of, ◌∙◌, ◌∷◌, ◌≡◌}
 use Rattle.aa_boxed.proofs.boxed.Box.into_boxed_slice.Goals as goal
+use Rattle.aa_boxed.specs.Slice.{new_slice}
 
-held-is : {T : Type 0} (o : Option T) (h : is_some o ≡ true) → o ≡ Some (value_of o h)
+held-is : {T : Type 0} (c : Option T) (h : is_some c ≡ true) → c ≡ Some (value_of c h)
 held-is (Some x) h = refl
 held-is None h = cc
 
+pub from_block-requires-clause-filled : goal.from_block-requires-clause-filled
+from_block-requires-clause-filled g c =
+    let v = c.b.inside in let x = value_of v.block.place v.filled in
+    rw c.into_raw_vec.ensures (IsRun-as_block _ v.block x (held-is v.block.place v.filled))
+
 pub returns : goal.returns
 returns g c =
-    let v = c.b.inside in let cs = v.block.places in let x = value_of (get_or cs 0 None) v.filled in
-    let items : run cs 0 1 ≡ x ∷ [] = run-one cs 0 x (filled_within cs 0 v.filled) (held-is (get_or cs 0 None) v.filled) in
-    c.from_block.ensures ∙ (λ i. record { items = items i; growth = v.one.growth i; alloc = v.block.alloc }) ∙ (λ i. record { items = (c.b.view_is i).value ∷ []; growth = Doubling; alloc = (c.b.view_is i).alloc })
+    let v = c.b.inside in let x = value_of v.block.place v.filled in
+    let items = run-as_block (type_size (param 0 g.row.T)) v.block x (held-is v.block.place v.filled) in
+    c.from_block.ensures ∙ ap (λ b. slice_of b 1) c.into_raw_vec.ensures ∙ ap (λ xs. new_slice xs v.block.alloc) items
+    ∙ ap (λ b. new_slice (b.value ∷ []) b.alloc) c.b.view_is
