@@ -1,12 +1,13 @@
 -- One look-up for each entry decides whether two tables are equal.
-use Rattle.std.proofs.Common.{All, Bool, List, Some, [], arith, false, refl, sym, ◌∙◌, ◌∷◌, ◌≡◌}
-use Rattle.std.specs.Prelude.{◌&&◌}
-use Rattle.std.specs.Cmp.{IsEquivalence, IsPartialEquivalence}
+use Rattle.std.proofs.Common.{All, Bool, List, None, Option, Some, [], ap, arith, false, inl, inr, length, refl, sym, true, true≢false, ◌∙◌, ◌∷◌, ◌≡◌, ◌≢◌}
+use Rattle.std.specs.Prelude.{is_some, ◌&&◌}
+use Rattle.std.specs.Cmp.{IsEquivalence, IsPartialEquivalence, first_so, second_so}
 use Rattle.std.specs.List.{list_all}
 use Rattle.std.specs.Option.{option_eq}
 use Rattle.std.proofs.lemmas.List.Elements.{All-cons, All-head, All-nil, All-tail}
 use Rattle.ex_table.specs.Contents.{agree, keys_like, same_entries, value, IsMap}
-use Rattle.ex_table.specs.SameEntries.{turned}
+use Rattle.ex_table.specs.SameEntries.{none-or-agree, turned}
+use Rattle.ex_table.proofs.Matching.{as-many, covered, covers}
 use Rattle.ex_table.proofs.Maps.{keys-cons}
 
 module _ {X : Type 0} where
@@ -54,3 +55,47 @@ module _ {K V : Type 0} (eq : K → K → Bool) (like : V → V → Bool) (E : I
 
   pub unlike : IsPartialEquivalence like → (es fs : List (K × V)) → IsMap eq es → IsMap eq fs → list_all (has fs) es ≡ false → false ≡ same_entries eq like es fs
   unlike v es fs m n e = (λ i. sym e i && list_all (has es) fs) ∙ decided v es fs m n
+
+  some-of : (x : V) (o : Option V) → option_eq like (Some x) o ≡ true → is_some o ≡ true
+  some-of x None h = h
+  some-of x (Some y) h = refl
+
+  covers-of : (fs part : List (K × V)) → list_all (has fs) part ≡ true → covers eq E fs part ≡ true
+  covers-of fs [] h = refl
+  covers-of fs (e ∷ part) h =
+      let first = some-of e.1 (value eq fs e.0) (first_so (has fs e) (list_all (has fs) part) h) in
+      let later = covers-of fs part (second_so (has fs e) (list_all (has fs) part) h) in
+      λ i. first i && later i
+
+  agreeing : (es fs part : List (K × V)) → list_all (λ e. agree eq like es fs e.0) es ≡ true → covers eq E es part ≡ true → list_all (λ e. agree eq like es fs e.0) part ≡ true
+  agreeing es fs [] h c = refl
+  agreeing es fs (f ∷ part) h c =
+      let some = first_so (is_some (value eq es f.0)) (covers eq E es part) c in
+      let first : agree eq like es fs f.0 ≡ true = elim (none-or-agree eq like E es fs es f.0 h) [
+        | inl n ↦ absurd (true≢false (sym some ∙ ap is_some n))
+        | inr a ↦ a
+      ] in
+      let later = agreeing es fs part h (second_so (is_some (value eq es f.0)) (covers eq E es part) c) in
+      λ i. first i && later i
+
+  -- of as many entries, those of one table decide
+  pub decided-once : IsPartialEquivalence like → (es fs : List (K × V)) → IsMap eq es → IsMap eq fs → length es ≡ length fs → list_all (has fs) es ≡ same_entries eq like es fs
+  decided-once v es fs m n l = by (list_all (has fs) es) refl
+    where
+      by : (b : Bool) → list_all (has fs) es ≡ b → b ≡ same_entries eq like es fs
+      by true t =
+          let here = by-entries es fs m ∙ t in
+          let there = agreeing es fs fs here (covered eq E es fs m l (covers-of fs es t)) in
+          λ i. sym here i && sym there i
+      by false f = unlike v es fs m n f
+
+  pub unlike-many : IsPartialEquivalence like → (es fs : List (K × V)) → IsMap eq es → IsMap eq fs → length es ≢ length fs → false ≡ same_entries eq like es fs
+  unlike-many v es fs m n l = by (same_entries eq like es fs) refl
+    where
+      by : (b : Bool) → same_entries eq like es fs ≡ b → false ≡ b
+      by true t =
+          let both = decided v es fs m n ∙ t in
+          let here = as-many eq E es fs m (covers-of fs es (first_so (list_all (has fs) es) (list_all (has es) fs) both)) in
+          let there = as-many eq E fs es n (covers-of es fs (second_so (list_all (has fs) es) (list_all (has es) fs) both)) in
+          absurd (l (omega (arith, here, there)))
+      by false f = refl

@@ -20,7 +20,7 @@ window ts from = chunk 0 16 (take (from + 16 - from) (drop from ts))
 abbrev pub compared : List ℕ → ℕ → ℕ
 compared ws t = mask_l (map (top (hbits w8)) (zip2 (λ a b. cond (eqb a b) (2 ^ bits w8 - 1) 0) ws (replicate 16 t))) % 2 ^ 64
 
-none_set : {X : Type 0} (p : X → Bool) (xs : List X) → length xs ≤ prefix_len (λ x. not (p x)) xs → mask_l (map p xs) ≡ 0
+pub none_set : {X : Type 0} (p : X → Bool) (xs : List X) → length xs ≤ prefix_len (λ x. not (p x)) xs → mask_l (map p xs) ≡ 0
 none_set p [] h = refl
 none_set p (x ∷ xs) h = grind (arith, none_set p xs)
 
@@ -41,10 +41,10 @@ like : (a t : ℕ) → not (eqb a t) ≡ false → a ≡ t
 like a t h = grind arith
 
 module _ (ts : List ℕ) (from t : ℕ) (room : from + 16 ≤ length ts) where
-  sixteen : length (window ts from) ≡ 16
+  pub sixteen : length (window ts from) ≡ 16
   sixteen = length-chunk 0 16 (take (from + 16 - from) (drop from ts)) (omega (arith, length-take-le (from + 16 - from) (drop from ts) (omega (arith, length-drop from ts)), length-drop from ts))
 
-  in_window : (k : ℕ) → k < 16 → get_or (window ts from) k 0 ≡ get_or ts (from + k) 0
+  pub in_window : (k : ℕ) → k < 16 → get_or (window ts from) k 0 ≡ get_or ts (from + k) 0
   in_window k b =
       let same : 0 + k ≡ k = omega arith in
       get_or-chunk 0 16 (take (from + 16 - from) (drop from ts)) k 0 b ∙ ap (λ i. get_or (take (from + 16 - from) (drop from ts)) i 0) same ∙ get_or-take (from + 16 - from) (drop from ts) k 0 (omega arith) ∙ get_or-drop from ts k 0

@@ -10,6 +10,7 @@ use Rattle.ex_table.specs.Inside.{view_of}
 use Rattle.ex_table.specs.Contents.{TableView, value, keys_like, IsMap, Sets}
 use Rattle.ex_table.specs.Slots.{IsIndex, IsMemory}
 use Rattle.ex_table.specs.Places.{AreFindable, AreFree, AreHeld, AreKeys, IsIndexed, IsTable, hashes_of, key_at, tags_of}
+use Rattle.ex_table.specs.Walks.{AreGroups}
 use Rattle.ex_table.specs.declared.index.HashIndex.{HashIndex}
 use Rattle.ex_table.proofs.Maps.{alike-keys, emptied, filled, gone, map-gone, map-new, map-permuted, sets-gone, sets-new, value-gone, value-none, value-permuted}
 use Rattle.ex_table.proofs.Moving.{none-left}
@@ -55,6 +56,10 @@ module _ {K V A : Type 0} (eq : K → K → Bool) (h : K → ℕ) where
   placed-any cs None x = omega arith
   placed-any cs (Some i) x = places h cs x
 
+  whole-any : (cs : List (Option (K × V))) (i : Option (HashIndex A)) → IsIndexed eq h i cs → AreGroups (tags_of i)
+  whole-any cs None x = refl
+  whole-any cs (Some i) x = x.slots.groups
+
 module _ {K V A : Type 0} {eq : K → K → Bool} {h : K → ℕ} where
   find-any : (cs : List (Option (K × V))) (keys : AreKeys eq h) (i : Option (HashIndex A)) → IsIndexed eq h i cs → (k : K) (hash : ℕ) → hash ≡ h k → AreFindable eq i cs hash k
   find-any cs keys None x k hash e = x
@@ -73,6 +78,9 @@ module _ {K V A : Type 0} {eq : K → K → Bool} {h : K → ℕ} where
 
     pub all-placed : length (tags_of index) ≤ length b.places
     all-placed = placed-any eq h b.places index t.indexed
+
+    pub all-whole : AreGroups (tags_of index)
+    all-whole = whole-any eq h b.places index t.indexed
 
     pub is-here : (k : K) (s : ℕ) (e : K × V) → get_or b.places s None ≡ Some e → key_at eq k b.places s ≡ true → eq k e.0 ≡ true
     is-here k s e at here = rw at at here

@@ -4,4 +4,7 @@ pub mod Places
 pub mod Remaining
 pub mod Inside
 pub mod Lends
+pub mod IterMut
+pub mod IterMutLends
 pub mod SameEntries
+pub mod Walks

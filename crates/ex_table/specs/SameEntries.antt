@@ -47,7 +47,7 @@ module _ {K V : Type 0} (eq : K → K → Bool) (like : V → V → Bool) (E : I
   agree-alike es fs q k e = λ i. option_eq like (value-alike es q k e i) (value-alike fs q k e i)
 
   -- the key `q` has no value in `part`, or both agree at it
-  none-or-agree : (es fs part : List (K × V)) (q : K)
+  pub none-or-agree : (es fs part : List (K × V)) (q : K)
       → list_all (λ e. agree eq like es fs e.0) part ≡ true
       → (value eq part q ≡ None) ⊎ (agree eq like es fs q ≡ true)
   none-or-agree es fs [] q h = inl refl

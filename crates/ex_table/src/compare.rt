@@ -48,9 +48,8 @@ impl<K: Eq + Hash + Drop, V: PartialEq + Drop, S: BuildHasher, A: Allocator + Cl
 
     /// Returns `true` if the tables have equal keys with equal values, in any order.
     fn eq(&self, other: &Self) -> bool {
-        // The contract of `len` says that no two keys are equal.
-        let _counts = (self.len(), other.len());
-        has_all(self, other) && has_all(other, self)
+        // No table has two equal keys, so keys that are all among as many others are the same.
+        self.len() == other.len() && has_all(self, other)
     }
 }
 

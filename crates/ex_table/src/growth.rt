@@ -7,9 +7,11 @@ ghost use Rattle.allocator_api2.specs.declared.collections.TryReserveErrorKind.T
 ghost use Rattle.ex_table.specs.Contents.{fresh_capacity};
 ghost use Rattle.ex_table.specs.Slots.{tag_at, HasPlaces, IsIndex, IsMemory, IsSlotCount, IsSlots};
 ghost use Rattle.ex_table.specs.Places.{hashes, hashes_of, tags_of, AreFree, AreHeld, AreHeldBetween, IsIndexed};
+ghost use Rattle.ex_table.specs.Walks.{AreGroups};
 
 use crate::index::{HashIndex, hash_of, put_new, tags_in};
 use crate::slots::{GROUP_SIZE, Overflow, is_free};
+use crate::walk::taken_in;
 use allocator_api2::collections::{TryReserveError, TryReserveErrorKind};
 use allocator_api2::raw_vec::RawVec;
 use allocator_api2::vec::Vec;
@@ -330,8 +332,8 @@ pub fn fit<K: Eq + Hash, V, S: BuildHasher, A: Allocator + Clone>(
     }
 }
 
-/// Drops the keys with their values in the slots from `from` on and before `end`.
-pub fn drop_between<K: Drop, V: Drop, A: Allocator>(
+// Drops the keys with their values in the slots from `from` on and before `end`, one by one.
+fn drop_slots<K: Drop, V: Drop, A: Allocator>(
     tags: &[u8],
     places: &mut RawVec<(K, V), A>,
     from: usize,
@@ -344,10 +346,40 @@ pub fn drop_between<K: Drop, V: Drop, A: Allocator>(
         → get_or places.new.places s None ≡ None }
     ensures others { (s : ℕ) → get_or places.old.places s None ≡ None
         → get_or places.new.places s None ≡ None }
+    ensures after { (s : ℕ) → end ≤ s
+        → get_or places.new.places s None ≡ get_or places.old.places s None }
 {
     'each: for slot in from..end {
         if !is_free(tags, slot) {
             drop(places.take(slot));
+        }
+    }
+}
+
+/// Drops the keys with their values in the slots from `from` on and before `end`.
+///
+/// Skips each group without a key at once.
+pub fn drop_between<K: Drop, V: Drop, A: Allocator>(
+    tags: &[u8],
+    places: &mut RawVec<(K, V), A>,
+    from: usize,
+    end: usize,
+)
+    requires groups { AreGroups tags.now }
+    requires within { end ≤ length tags.now }
+    requires held { AreHeldBetween tags.now places.old.places from end }
+    ensures len { length places.new.places ≡ length places.old.places }
+    ensures dropped { (s : ℕ) → from ≤ s → s < end → tag_at tags.now s ≢ 0
+        → get_or places.new.places s None ≡ None }
+    ensures others { (s : ℕ) → get_or places.old.places s None ≡ None
+        → get_or places.new.places s None ≡ None }
+{
+    // Such loops are seen to do nothing where nothing has to be dropped.
+    'each: for group in from / GROUP_SIZE..end.div_ceil(GROUP_SIZE) {
+        let base = group * GROUP_SIZE;
+        if taken_in(tags, base) != 0 {
+            let last = end.min(base + GROUP_SIZE);
+            drop_slots(tags, places, from.max(base), last);
         }
     }
 }

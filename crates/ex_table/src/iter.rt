@@ -4,10 +4,11 @@ ghost use Rattle.std.specs.Iterator.{YieldsFirst, YieldsFirstBy, YieldsLast, Yie
 ghost use Rattle.std.specs.Iterator.SizeHint.{IsWithinCount};
 ghost use Rattle.allocator_api2.specs.Places.{somes};
 ghost use Rattle.ex_table.specs.Places.{tags_of, AreFree, AreHeld};
+ghost use Rattle.ex_table.specs.Walks.{AreGroups};
 
 use crate::growth::drop_between;
 use crate::index::{HashIndex, tags_in};
-use crate::slots::{last_taken, next_taken};
+use crate::walk::{Walk, last_taken};
 use allocator_api2::raw_vec::RawVec;
 use std::alloc::Allocator;
 use std::iter::FusedIterator;
@@ -28,8 +29,8 @@ fn exact_hint(left: usize) -> (usize, Option<usize>)
 pub struct Iter<'a, K, V, A: Allocator> {
     tags: &'a [u8],
     places: &'a RawVec<(K, V), A>,
-    // the remaining slots, and the number of keys in them
-    from: usize,
+    // the walk over the remaining slots, where they end, and the number of keys in them
+    walk: Walk,
     end: usize,
     left: usize,
 }
@@ -40,15 +41,16 @@ impl<'a, K, V, A: Allocator> Model for Iter<'a, K, V, A> {
 
     ghost Value = { List (K × V) };
 
-    ghost view = { λ it. remaining_in it.places.now.places it.from it.end };
+    ghost view = { λ it. remaining_in it.places.now.places it.walk.from it.end };
 
-    ghost invariant = { λ it. IsRemaining it.tags.now it.places.now.places it.from it.end it.left };
+    ghost invariant = { λ it. IsRemaining it.tags.now it.places.now.places it.walk it.end it.left };
 }
 
 impl<'a, K, V, A: Allocator> Iter<'a, K, V, A> {
     /// Returns an iterator over all keys of a table with `count` keys.
     #[tactic(auto, using(crate::proofs::Remaining::all_slots))]
     pub(crate) fn over(tags: &'a [u8], places: &'a RawVec<(K, V), A>, count: usize) -> Self
+        requires groups { AreGroups tags.now }
         requires places { length tags.now ≤ length places.now.places }
         requires held { AreHeld tags.now places.now.places }
         requires free { AreFree tags.now places.now.places }
@@ -58,7 +60,7 @@ impl<'a, K, V, A: Allocator> Iter<'a, K, V, A> {
         Iter {
             tags,
             places,
-            from: 0,
+            walk: Walk::start(tags),
             end: tags.len(),
             left: count,
         }
@@ -71,7 +73,7 @@ impl<'a, K, V, A: Allocator> Iter<'a, K, V, A> {
         Iter {
             tags: self.tags,
             places: self.places,
-            from: self.from,
+            walk: self.walk,
             end: self.end,
             left: self.left,
         }
@@ -87,10 +89,13 @@ impl<'a, K, V, A: Allocator> Iterator for Iter<'a, K, V, A> {
 
     /// Returns the next key with its value, or `None` if none remains.
     #[tactic(auto, using(crate::proofs::Remaining::from_first))]
+    #[inline]
     fn next(&mut self) -> Option<(&'a K, &'a V)> {
-        let slot = next_taken(self.tags, self.from, self.end)?;
+        if self.left == 0 {
+            return None;
+        }
+        let slot = self.walk.next_taken(self.tags);
         let entry = self.places.place(slot);
-        self.from = slot + 1;
         self.left -= 1;
         Some((&entry.0, &entry.1))
     }
@@ -111,7 +116,7 @@ impl<'a, K, V, A: Allocator> DoubleEndedIterator for Iter<'a, K, V, A> {
     /// Returns the last remaining key with its value, or `None` if none remains.
     #[tactic(auto, using(crate::proofs::Remaining::from_last))]
     fn next_back(&mut self) -> Option<(&'a K, &'a V)> {
-        let slot = last_taken(self.tags, self.from, self.end)?;
+        let slot = last_taken(self.tags, self.walk.from, self.end)?;
         let entry = self.places.place(slot);
         self.end = slot;
         self.left -= 1;
@@ -151,6 +156,7 @@ impl<'a, K, V, A: Allocator> Iterator for Keys<'a, K, V, A> {
     ghost remaining = { item_count (λ rest. rest) };
 
     /// Returns the next key, or `None` if none remains.
+    #[inline]
     fn next(&mut self) -> Option<&'a K> {
         match self.rest.next() {
             Some((key, _)) => Some(key),
@@ -200,6 +206,7 @@ impl<'a, K, V, A: Allocator> Iterator for Values<'a, K, V, A> {
     ghost remaining = { item_count (λ rest. rest) };
 
     /// Returns the next value, or `None` if none remains.
+    #[inline]
     fn next(&mut self) -> Option<&'a V> {
         match self.rest.next() {
             Some((_, value)) => Some(value),
@@ -231,8 +238,8 @@ impl<'a, K, V, A: Allocator> FusedIterator for Values<'a, K, V, A> {}
 pub struct IntoIter<K, V, A: Allocator> {
     index: Option<HashIndex<A>>,
     places: RawVec<(K, V), A>,
-    // the remaining slots, and the number of keys in them
-    from: usize,
+    // the walk over the remaining slots, where they end, and the number of keys in them
+    walk: Walk,
     end: usize,
     left: usize,
 }
@@ -244,27 +251,29 @@ impl<K, V, A: Allocator> Model for IntoIter<K, V, A> {
 
     ghost Value = { List (K × V) };
 
-    ghost view = { λ it. remaining_in it.places.places it.from it.end };
+    ghost view = { λ it. remaining_in it.places.places it.walk.from it.end };
 
     ghost invariant = { λ it. IsRemaining
-        (tags_of it.index) it.places.places it.from it.end it.left };
+        (tags_of it.index) it.places.places it.walk it.end it.left };
 }
 
 impl<K, V, A: Allocator> IntoIter<K, V, A> {
     /// Returns an iterator over all keys of a table with `count` keys.
     #[tactic(auto, using(crate::proofs::Remaining::all_slots))]
     pub(crate) fn over(index: Option<HashIndex<A>>, places: RawVec<(K, V), A>, count: usize) -> Self
+        requires groups { AreGroups (tags_of index) }
         requires places { length (tags_of index) ≤ length places.places }
         requires held { AreHeld (tags_of index) places.places }
         requires free { AreFree (tags_of index) places.places }
         requires count { count ≡ length (somes places.places) }
         ensures { result ≡ somes places.places }
     {
-        let end = tags_in(&index).len();
+        let tags = tags_in(&index);
+        let (walk, end) = (Walk::start(tags), tags.len());
         IntoIter {
             index,
             places,
-            from: 0,
+            walk,
             end,
             left: count,
         }
@@ -277,11 +286,11 @@ impl<K: Drop, V: Drop, A: Allocator> Drop for IntoIter<K, V, A> {
         let IntoIter {
             index,
             mut places,
-            from,
+            walk,
             end,
             left: _,
         } = self;
-        drop_between(tags_in(&index), &mut places, from, end);
+        drop_between(tags_in(&index), &mut places, walk.from, end);
         drop(index);
     }
 }
@@ -295,9 +304,12 @@ impl<K: Drop, V: Drop, A: Allocator> Iterator for IntoIter<K, V, A> {
 
     /// Returns the next key with its value, or `None` if none remains.
     #[tactic(auto, using(crate::proofs::Remaining::from_first))]
+    #[inline]
     fn next(&mut self) -> Option<(K, V)> {
-        let slot = next_taken(tags_in(&self.index), self.from, self.end)?;
-        self.from = slot + 1;
+        if self.left == 0 {
+            return None;
+        }
+        let slot = self.walk.next_taken(tags_in(&self.index));
         self.left -= 1;
         Some(self.places.take(slot))
     }
@@ -318,7 +330,7 @@ impl<K: Drop, V: Drop, A: Allocator> DoubleEndedIterator for IntoIter<K, V, A> {
     /// Returns the last remaining key with its value, or `None` if none remains.
     #[tactic(auto, using(crate::proofs::Remaining::from_last))]
     fn next_back(&mut self) -> Option<(K, V)> {
-        let slot = last_taken(tags_in(&self.index), self.from, self.end)?;
+        let slot = last_taken(tags_in(&self.index), self.walk.from, self.end)?;
         self.end = slot;
         self.left -= 1;
         Some(self.places.take(slot))

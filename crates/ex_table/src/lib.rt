@@ -9,6 +9,8 @@ pub mod extend;
 pub mod growth;
 pub mod index;
 pub mod iter;
+pub mod iter_mut;
 pub mod slots;
 pub mod table;
 pub mod traits;
+pub mod walk;

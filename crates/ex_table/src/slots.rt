@@ -281,44 +281,6 @@ pub fn release(tags: &mut [u8], overflows: &mut [Overflow], hash: u64, slot: usi
     }
 }
 
-/// Returns the first slot with a key, from `from` on and before `end`.
-///
-/// Returns `None` if there is none.
-#[inline]
-pub fn next_taken(tags: &[u8], from: usize, end: usize) -> Option<usize>
-    requires { end ≤ length tags.now }
-    ensures some { IfSome result
-        (λ s. (from ≤ s) × (s < end) × (tag_at tags.now s ≢ 0)) }
-    ensures first { IfSome result (λ s. (i : ℕ) → from ≤ i → i < s → tag_at tags.now i ≡ 0) }
-    ensures none { IfNone result ((i : ℕ) → from ≤ i → i < end → tag_at tags.now i ≡ 0) }
-{
-    'each: for slot in from..end {
-        if !is_free(tags, slot) {
-            return Some(slot);
-        }
-    }
-    None
-}
-
-/// Returns the last slot with a key, from `from` on and before `end`.
-///
-/// Returns `None` if there is none.
-#[inline]
-pub fn last_taken(tags: &[u8], from: usize, end: usize) -> Option<usize>
-    requires { end ≤ length tags.now }
-    ensures some { IfSome result
-        (λ s. (from ≤ s) × (s < end) × (tag_at tags.now s ≢ 0)) }
-    ensures last { IfSome result (λ s. (i : ℕ) → s < i → i < end → tag_at tags.now i ≡ 0) }
-    ensures none { IfNone result ((i : ℕ) → from ≤ i → i < end → tag_at tags.now i ≡ 0) }
-{
-    'each: for slot in (from..end).rev() {
-        if !is_free(tags, slot) {
-            return Some(slot);
-        }
-    }
-    None
-}
-
 /// Frees all slots and clears their overflow bytes.
 pub fn clear_all(tags: &mut [u8], overflows: &mut [Overflow])
     ensures tags { tags.new ≡ replicate (length tags.old) 0 }

@@ -18,6 +18,8 @@ use std::marker::Model;
 use std::mem;
 use std::ops::Index;
 
+mod lend;
+
 // The most keys for which `reserve` allocates.
 const MAX_KEYS: usize = 2_000_000_000;
 

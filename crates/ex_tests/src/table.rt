@@ -6,6 +6,7 @@ use ex_table::table::Table;
 use std::alloc::{AllocError, Global};
 use std::default::{Emptied, MadeWith};
 use std::hash::{BuildHasher, BuildHasherDefault, FoldHasher, Hasher};
+use std::mem;
 use std::ops::Range;
 use std::test::Fail;
 use test_allocators::Faulty;
@@ -75,6 +76,35 @@ fn values_are_written_and_all_are_seen(rt: HostRuntime) {
     }
     assert!(rt; sums == (55, 385) && table.contains_key(&10));
     assert!(rt; table.insert(10, 0).ok() == Some(Some(100)) && heap.requests() == 3);
+}
+
+#[test]
+fn values_are_borrowed_all_at_once(rt: HostRuntime) {
+    let heap = Faulty::new(rt.alloc());
+    let mut table = none(&heap);
+    assert!(rt; table.iter_mut().next().is_none() && takes(&mut table, 1..11));
+    for (key, value) in &mut table {
+        *value = key.wrapping_mul(3);
+    }
+    for value in table.values_mut() {
+        *value = value.wrapping_add(1);
+    }
+    let (mut one, mut other) = (0, 0);
+    let mut lent = table.iter_mut();
+    assert!(rt; lent.len() == 10);
+    if let (Some(first), Some(second)) = (lent.next(), lent.next()) {
+        (one, other) = (*first.0, *second.0);
+        mem::swap(first.1, second.1);
+    }
+    assert!(rt; lent.len() == 8);
+    drop(lent);
+    assert!(rt; one != other && has(&table, one) == Some(other.wrapping_mul(3).wrapping_add(1)));
+    assert!(rt; has(&table, other) == Some(one.wrapping_mul(3).wrapping_add(1)));
+    let mut sum = 0u64;
+    for value in table.values() {
+        sum = sum.saturating_add(*value);
+    }
+    assert!(rt; sum == 175 && heap.requests() == 3);
 }
 
 // Reserves capacity. Returns the spare capacity then, or the kind of the error.

@@ -1,15 +1,18 @@
-use Rattle.std.proofs.Common.{sym, ◌∙◌}
-use Rattle.std.specs.Prelude.{◌&&◌}
-use Rattle.ex_table.proofs.Comparing.{decided, unlike}
+use Rattle.std.proofs.Common.{arith, false, length, ◌∙◌, ◌≡◌, ◌≢◌}
+use Rattle.std.specs.Prelude.{nat_eq}
+use Rattle.std.proofs.lemmas.Bool.Decides.{nat_tests}
+use Rattle.ex_table.proofs.Comparing.{decided-once, unlike-many}
 use Rattle.ex_table.proofs.compare.TablePartialEq.eq.Goals as goal
 
-pub returns-then-has_all : goal.returns-then-has_all
-returns-then-has_all g c =
-    let all = sym c.has_all.ensures ∙ c.if-has_all.true in
-    (λ i. sym all i && c.has_all-then-has_all.ensures i)
-    ∙ decided g.K.PartialEq.eq g.V.PartialEq.eq g.met.K.Eq.laws g.met.V.PartialEq.laws c.args.self.now.entries c.args.other.now.entries c.len.ensures.once c.len-2.ensures.once
+pub returns-then-len : goal.returns-then-len
+returns-then-len g c =
+    let same : length c.args.self.now.entries ≡ length c.args.other.now.entries = grind (arith, nat_tests, c.if-len.true, c.len.ensures.count, c.len-2.ensures.count) in
+    c.has_all.ensures
+    ∙ decided-once g.K.PartialEq.eq g.V.PartialEq.eq g.met.K.Eq.laws g.met.V.PartialEq.laws c.args.self.now.entries c.args.other.now.entries c.len.ensures.once c.len-2.ensures.once same
 
-pub returns-else-has_all : goal.returns-else-has_all
-returns-else-has_all g c =
-    c.if-has_all.false
-    ∙ unlike g.K.PartialEq.eq g.V.PartialEq.eq g.met.K.Eq.laws g.met.V.PartialEq.laws c.args.self.now.entries c.args.other.now.entries c.len.ensures.once c.len-2.ensures.once (sym c.has_all.ensures ∙ c.if-has_all.false)
+pub returns-else-len : goal.returns-else-len
+returns-else-len g c =
+    let other : length c.args.self.now.entries ≢ length c.args.other.now.entries = grind (arith, nat_tests, c.if-len.false, c.len.ensures.count, c.len-2.ensures.count) in
+    let apart : nat_eq c.len.result c.len-2.result ≡ false = grind (arith, nat_tests, c.if-len.false) in
+    apart
+    ∙ unlike-many g.K.PartialEq.eq g.V.PartialEq.eq g.met.K.Eq.laws g.met.V.PartialEq.laws c.args.self.now.entries c.args.other.now.entries c.len.ensures.once c.len-2.ensures.once other

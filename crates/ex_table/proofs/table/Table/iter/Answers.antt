@@ -1,4 +1,4 @@
-use Rattle.ex_table.proofs.Sound.{all-free, all-held, all-placed}
+use Rattle.ex_table.proofs.Sound.{all-free, all-held, all-placed, all-whole}
 use Rattle.ex_table.proofs.table.Table.iter.Goals as goal
 
 pub over-requires-clause-free : goal.over-requires-clause-free
@@ -9,3 +9,6 @@ over-requires-clause-held g c = rw c.tags_in-tags.ensures (all-held c.self.invar
 
 pub over-requires-clause-places : goal.over-requires-clause-places
 over-requires-clause-places g c = rw c.tags_in-tags.ensures (all-placed c.self.invariant)
+
+pub over-requires-clause-groups : goal.over-requires-clause-groups
+over-requires-clause-groups g c = rw c.tags_in-tags.ensures (all-whole c.self.invariant)

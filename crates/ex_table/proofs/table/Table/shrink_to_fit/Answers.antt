@@ -14,3 +14,6 @@ returns-clause-shrunk g c =
     let count = c.self.invariant.counted ∙ ap (λ (f : TableView _ _ _). length f.entries) c.self.view_is in
     let requested : c.fresh_capacity-requested.result ≡ fresh_capacity (length c.args.self.now.entries) = c.fresh_capacity-requested.ensures ∙ ap fresh_capacity count in
     grind (arith, nat_tests, requested, c.if-self-requested.false, ap (λ (f : TableView _ _ _). f.capacity) c.self.view_is)
+
+pub returns-clause-sufficient : goal.returns-clause-sufficient
+returns-clause-sufficient g c = λ small. absurd (grind (arith, small, c.if-self-requested.false, c.fresh_capacity-requested.ensures, c.self.invariant.counted, c.self.view_is))

@@ -1,6 +1,6 @@
 use Rattle.std.proofs.Common.{◌≡◌, ℕ, ◌<◌, ◌≤◌}
 use Rattle.ex_table.specs.Slots.{tag_at}
-use Rattle.ex_table.proofs.slots.last_taken.Given as goal
+use Rattle.ex_table.proofs.walk.last_of_few.Given as goal
 
 -- none of the slots after has a key
 abbrev pub invariant-each : goal.invariant-each
