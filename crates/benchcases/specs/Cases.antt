@@ -3,7 +3,7 @@ use Rattle.std.specs.Prelude.{ℕ, List, codes, ◌++◌}
 use Rattle.benchcases.specs.declared.case.Case.{Case}
 use Rattle.benchcases.specs.declared.case.Case.TheVariants.{Sized, Chosen, Pieces as PiecesCase, Held, Used, PushPop, PushReserved, PushFull, FibPush, RetainWide, InsertFront, RemoveFront, SwapRemove, ExtendFromSlice, Extend, ExtendUnhinted, ExtendThrice, Append, SplitJoin, DrainTaken, DrainDropped, DrainFront, DrainBack, IntoIter, SpliceGrowing, SpliceInPlace, SpliceFront, InsertMiddle, GapInsert, GapTyping}
 use Rattle.benchcases.specs.declared.case.Call.{Call}
-use Rattle.benchcases.specs.declared.case.Call.TheVariants.{Push, InsertPop, RemovePush, Clone}
+use Rattle.benchcases.specs.declared.case.Call.TheVariants.{Push, PushInPlace, InsertPop, RemovePush, Clone}
 use Rattle.benchcases.specs.declared.case.Choice.{Choice}
 use Rattle.benchcases.specs.declared.case.Choice.TheVariants.{RetainHalf, RetainMost, RetainRandom, RetainNone, ExtractHalf, Dedup, DedupByKey}
 use Rattle.benchcases.specs.declared.case.Pieces.{Pieces}
@@ -17,6 +17,7 @@ use Rattle.benchcases.specs.declared.case.Size.TheVariants.{Four, One, TwentyFou
 
 abbrev pub name_of_call : Call → List ℕ
 name_of_call Push = codes "push"
+name_of_call PushInPlace = codes "push_in_place"
 name_of_call InsertPop = codes "insert_pop"
 name_of_call RemovePush = codes "remove_push"
 name_of_call Clone = codes "clone"

@@ -77,6 +77,8 @@ pub enum Case {
 pub enum Call {
     /// Pushes elements onto an empty vector.
     Push,
+    /// Pushes elements onto an empty vector that grows in place.
+    PushInPlace,
     /// Inserts in the middle of 1,000 and pops.
     InsertPop,
     /// Removes from the middle of 1,000 and pushes.
@@ -257,6 +259,10 @@ fn call_and_size(name: &str) -> Option<(Call, Size)>
         "push_u8" => (Call::Push, Size::One),
         "push_24" => (Call::Push, Size::TwentyFour),
         "push_zst" => (Call::Push, Size::Zero),
+        "push_in_place" => (Call::PushInPlace, Size::Four),
+        "push_in_place_u8" => (Call::PushInPlace, Size::One),
+        "push_in_place_24" => (Call::PushInPlace, Size::TwentyFour),
+        "push_in_place_zst" => (Call::PushInPlace, Size::Zero),
         "insert_pop" => (Call::InsertPop, Size::Four),
         "insert_pop_u8" => (Call::InsertPop, Size::One),
         "insert_pop_24" => (Call::InsertPop, Size::TwentyFour),

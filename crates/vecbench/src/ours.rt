@@ -10,6 +10,7 @@ use crate::element::{Element, Wide};
 use crate::ours::collections::Held;
 use crate::ours::users::Users;
 use allocator_api2::gap_buffer::GapBuffer;
+use allocator_api2::raw_vec::Growth;
 use allocator_api2::vec::Vec;
 use benchcases::case::{Call, Case, Choice, Pieces, Size};
 use benchcases::lines::Task;
@@ -179,6 +180,10 @@ impl<E: Element> Pair<E> {
     fn prepare(&mut self, call: Call, count: u32) -> bool {
         match call {
             Call::Push => true,
+            Call::PushInPlace => {
+                self.list = Vec::with_growth_in(Growth::InPlace, *self.list.allocator());
+                true
+            }
             Call::InsertPop | Call::RemovePush => fill(&mut self.list, 1000, 1),
             Call::Clone => fill(&mut self.list, count, 1),
         }
@@ -187,6 +192,7 @@ impl<E: Element> Pair<E> {
     fn run(&mut self, call: Call, count: u32) -> bool {
         match call {
             Call::Push => push(&mut self.list, count),
+            Call::PushInPlace => push_in_place(&mut self.list, count),
             Call::InsertPop => insert_pop(&mut self.list, count),
             Call::RemovePush => remove_push(&mut self.list, count),
             Call::Clone => clone(&self.list, &mut self.other),
@@ -263,6 +269,11 @@ fn fill_text(text: &mut GapBuffer<u16>, count: u32) -> bool {
 
 #[inline(never)]
 fn push<E: Element>(list: &mut Vec<E>, count: u32) -> bool {
+    each_is_granted!(i in 0..count, list.push(E::of(i)))
+}
+
+#[inline(never)]
+fn push_in_place<E: Element>(list: &mut Vec<E>, count: u32) -> bool {
     each_is_granted!(i in 0..count, list.push(E::of(i)))
 }
 

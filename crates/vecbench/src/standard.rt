@@ -173,7 +173,7 @@ impl<E: Element> Pair<E> {
 
     fn prepare(&mut self, call: Call, count: u32) -> bool {
         match call {
-            Call::Push => true,
+            Call::Push | Call::PushInPlace => true,
             Call::InsertPop | Call::RemovePush => fill(&mut self.list, 1000, 1),
             Call::Clone => fill(&mut self.list, count, 1),
         }
@@ -182,6 +182,7 @@ impl<E: Element> Pair<E> {
     fn run(&mut self, call: Call, count: u32) -> bool {
         match call {
             Call::Push => push(&mut self.list, count),
+            Call::PushInPlace => push_in_place(&mut self.list, count),
             Call::InsertPop => insert_pop(&mut self.list, count),
             Call::RemovePush => remove_push(&mut self.list, count),
             Call::Clone => clone(&self.list, &mut self.other),
@@ -247,6 +248,11 @@ fn put_pieces(list: &mut Vec<u8>, source: &[u8], pieces: Pieces, count: u32) -> 
 
 #[inline(never)]
 fn push<E: Element>(list: &mut Vec<E>, count: u32) -> bool {
+    each_is_granted!(i in 0..count, list.push(E::of(i)))
+}
+
+#[inline(never)]
+fn push_in_place<E: Element>(list: &mut Vec<E>, count: u32) -> bool {
     each_is_granted!(i in 0..count, list.push(E::of(i)))
 }
 
