@@ -59,7 +59,7 @@ def faults(folder):
         wrong = lost(folder, pages, "index.html", target)
         if wrong:
             yield f"the search finds {name} {of} at {target}: {wrong}"
-    style, *scripts = ((folder / it).read_text(encoding="utf-8") for it in ("reference.css", "reference.js", "search.js"))
+    style, *scripts = ((folder / it).read_text(encoding="utf-8") for it in ("reference.css", "reference.js", "search.js", "buttons.js"))
     for script in scripts:
         if re.search(r"url\(|@import", style) or re.search(r"\b(fetch|XMLHttpRequest|import)\b\s*\(", script):
             yield "the stylesheet or a script loads something"

@@ -165,16 +165,13 @@ def of_types():
     small, bytes_, optional = (size(f"InlineVec<{it}>") for it in ("u64, Global, 4", "u8, Global, 16", "Option<u64>, Global, 4"))
     yield "docs/DECISIONS.md", "now they take {} and {} (", [small, bytes_]
     yield "docs/DECISIONS.md", "four of 64 bits make {} bytes", [optional]
-    yield "docs/DECISIONS.md", "**`Box` is {} bytes** over", [box]
-    yield "docs/DECISIONS.md", "**A vector is {}**", [vector]
-    yield "docs/DIFFERENCES.md", "block: {} bytes for a `Box` over", [box]
-    yield "docs/DIFFERENCES.md", "A boxed slice and a vector have {},", [slice_]
-    yield "docs/DIFFERENCES.md", "A boxed slice and a vector have {},", [vector]
+    yield "docs/DECISIONS.md", "A `Box` is {} bytes over `Global`, and a vector {},", [box, vector]
+    yield "docs/DECISIONS.md", "**A boxed slice is {} bytes**", [slice_]
+    yield "docs/DIFFERENCES.md", "A `Box` has {} bytes over `Global`, and a vector {},", [box, vector]
+    yield "docs/DIFFERENCES.md", "A boxed slice has {},", [slice_]
     yield "docs/DIFFERENCES.md", "a ring has {}, and an `InlineVec<u64, Global, 4>` {}.", [ring, small]
     yield "docs/EXAMPLES.md", "A ring of numbers takes {} bytes", [ring]
     yield "docs/EXAMPLES.md", "four numbers of 64 bits in place make {} bytes, and sixteen bytes {}.", [small, bytes_]
-    yield "bench/README.md", "a box has {} bytes here, and a vector {}.", [box, vector]
-    yield "bench/README.md", "box and the vector themselves, {} and {} bytes", [box, vector]
 
 
 def of_bench():
@@ -190,8 +187,7 @@ def of_bench():
     yield "bench/README.md", "The toolchain is ahead in {}, and behind in {}.", [ahead("toolchain"), slower("toolchain")]
     yield "bench/README.md", "{} take more than 1.2 times the time", [beyond()]
     yield "bench/README.md", "`window`, beside std, by {}:", [takes("window", "std")]
-    yield "bench/README.md", "`boxes` takes {} times its time", [takes("boxes", "original")]
-    yield "bench/README.md", "`lines` {} times its instructions", [takes("lines", "original", "instructions")]
+    yield "bench/README.md", "`lines`, beside the original, by {} of its instructions", [takes("lines", "original", "instructions")]
     yield "bench/README.md", "`gap_typing` at 100,000 takes {} of the time", [takes("gap_typing", "original")]
     yield "bench/README.md", "over the original, and {} over std", [takes("gap_typing", "std")]
     yield "bench/README.md", "std takes {} of `pieces_of_4`", [taken("pieces_of_4", "std", "instructions")]

@@ -3,6 +3,7 @@ import re
 import textwrap
 
 import callers
+import groups
 from library import INNER, LIBRARY
 from linked import slug
 from markdown import Renderer
@@ -120,13 +121,19 @@ class Items:
         """The contents of a page: its types with their methods, its functions and macros."""
         rows = []
         for it in page.types:
-            calls = ", ".join(link(self.library.href(call), plain(call.name)) for _, call in it.calls)
+            parts = "".join(f'<br><span class="calls">{part}</span>' for part in self.grouped(it))
             said = self.prose(self.first_sentence((it.item or it.section).doc))
-            rows.append(entry(link(it.href, code(it.name)), f'{said}<br><span class="calls">{calls}</span>'))
+            rows.append(entry(link(it.href, code(it.name)), said + parts))
         for _, item in page.functions + page.macros:
             name = item.name + ("!" if item.kind == "macro" else "")
             rows.append(entry(link(self.library.href(item), code(name)), self.prose(self.first_sentence(item.doc))))
         return f'<dl class="contents">{"".join(rows)}</dl>' if rows else ""
+
+    def grouped(self, of):
+        """The calls of a type as links, by group."""
+        for title, calls in groups.grouped([call for _, call in of.calls]):
+            there = ", ".join(link(self.library.href(call), plain(call.name)) for call in calls)
+            yield f"<b>{title}</b>: {there}" if title else there
 
     def type(self, of):
         what = of.item or of.section

@@ -216,4 +216,6 @@ def shown(token, kind, href):
         return f'<i class="c">{text}</i>'
     if kind == "missing":
         return f'<span class="far" title="a word of the toolchain: {html.escape(str(href))}">{text}</span>'
-    return f'<a class="w {kind}" href="{href}">{text}</a>' if href else text
+    # A sign is in nearly every clause, so the Tab key passes over it.
+    skipped = ' tabindex="-1"' if kind == "sign" else ""
+    return f'<a class="w {kind}" href="{href}"{skipped}>{text}</a>' if href else text

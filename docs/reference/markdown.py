@@ -120,7 +120,7 @@ class Renderer:
         head = "".join(f"<th>{self.inline(it)}</th>" for it in rows[0])
         ruled = len(rows) > 1 and all(re.fullmatch(r":?-+:?", it) for it in rows[1])
         body = "".join("<tr>" + "".join(f"<td>{self.inline(it)}</td>" for it in row) + "</tr>\n" for row in rows[2 if ruled else 1 :])
-        return f'<div class="wide"><table><thead><tr>{head}</tr></thead><tbody>\n{body}</tbody></table></div>', end
+        return f'<div class="wide" tabindex="0"><table><thead><tr>{head}</tr></thead><tbody>\n{body}</tbody></table></div>', end
 
     def list(self, lines, at):
         """The list that begins here: items of its column, with what has a greater indent inside of them."""

@@ -1,6 +1,7 @@
 """Makes the pages for a browser in a folder: `docs/index --html FOLDER`."""
 import html
 import json
+import re
 import shutil
 import textwrap
 
@@ -17,6 +18,8 @@ from tags import code, entry, folded, here, link, piece, plain, section
 from words import ALLOCATORS, COLLECTIONS, CRATES, TOP, cited, files, uses
 
 HERE = TOP / "docs" / "reference"
+# The version is the first that CHANGELOG names.
+VERSION = re.search(r"^## (.+)$", text_of(TOP / "CHANGELOG.md"), re.M).group(1)
 # The groups of the table of contents, each with its pages of markdown in order; a page that no group names is in the last.
 GUIDES = [
     ("Begin", ["README.md", "docs/TUTORIAL.md", "docs/CALLING.md", "docs/EXAMPLES.md", "docs/ALLOCATORS.md"]),
@@ -155,7 +158,10 @@ class Site:
             return f'<li{" class=deep" if deep else ""}><a href="{root}{target}"{current}>{plain(label)}</a></li>'
 
         parts = [(title, [row(guides.page_name(it), guides.title_of(it)) for it in names]) for title, names in self.guides]
-        modules = [row(page.file, page.key or LIBRARY, "::" in page.key) for page in self.library.pages.values()]
+        modules = []
+        for page in self.library.pages.values():
+            modules.append(row(page.file, page.key or LIBRARY, "::" in page.key))
+            modules += self.on_page(page, self.items) if page.file == name else []
         words = [row(f"words-{crate}.html", crate, True) for crate in CRATES]
         beside = []
         for title, crates in (("Example collections", COLLECTIONS), ("Example allocators", ALLOCATORS)):
@@ -164,7 +170,9 @@ class Site:
                 inside = [it for it in self.libraries[crate].pages.values() if it.key != crate]
                 here = name.split(".")[0] in (crate, f"words-{crate}")
                 rows.append(row(f"{crate}.html", f"{crate}: {crates[crate][0].lower()}"))
-                rows += [row(it.file, it.key.split("::", 1)[1], True) for it in inside if here]
+                for it in inside if here else []:
+                    rows.append(row(it.file, it.key.split("::", 1)[1], True))
+                    rows += self.on_page(it, self.makers[crate]) if it.file == name else []
                 rows += [row(f"words-{crate}.html", "words", True)] if here and f"words-{crate}.html" in self.pages else []
             beside.append((title, rows))
         beside[0][1].insert(0, row("example-items.html", "Every item of the examples"))
@@ -175,10 +183,16 @@ class Site:
         ]
         return "".join(f"<h2>{title}</h2><ul>{''.join(rows)}</ul>" for title, rows in parts)
 
+    def on_page(self, page, items):
+        """The rows of the table of contents for the types of the page that is shown, with their calls."""
+        for of in page.types:
+            yield f'<li class="deep">{link(of.href, plain(of.name))}</li>'
+            yield from (f'<li class="deep calls">{part}</li>' for part in items.grouped(of))
+
     def whole(self, name):
         title, body, kind = self.pages[name]
         root = "../" * name.count("/")
-        return TEMPLATE.format(title=html.escape(title), root=root, contents=self.contents(name, root), body=body, kind=kind)
+        return TEMPLATE.format(title=html.escape(title), root=root, contents=self.contents(name, root), body=body, kind=kind, version=VERSION)
 
     def data(self):
         """What the search and the notes of words read."""
@@ -196,7 +210,7 @@ class Site:
         for name in self.pages:
             (folder / name).write_text(self.whole(name), encoding="utf-8")
         (folder / "data.js").write_text(self.data(), encoding="utf-8")
-        for name in ("reference.css", "search.js", "reference.js"):
+        for name in ("reference.css", "search.js", "reference.js", "buttons.js"):
             shutil.copyfile(HERE / name, folder / name)
         for picture in sorted((TOP / "docs").glob("*.svg")):
             shutil.copyfile(picture, folder / picture.name)
@@ -238,11 +252,12 @@ TEMPLATE = """<!doctype html>
 <script defer src="{root}data.js"></script>
 <script defer src="{root}search.js"></script>
 <script defer src="{root}reference.js"></script>
+<script defer src="{root}buttons.js"></script>
 </head>
 <body class="{kind}" data-root="{root}">
 <a class="skip" href="#main">To the text</a>
 <header>
-<a class="name" href="{root}index.html">Bozhenaw</a>
+<a class="name" href="{root}index.html">Bozhenaw <small>{version}</small></a>
 <div class="search" role="search">
 <input id="search" type="search" placeholder="Search items, words, pages, names of std ( / )"
  aria-label="Search items, words, pages and names of std" autocomplete="off" spellcheck="false"

@@ -102,6 +102,7 @@ function setUpNotes() {
   const note = document.getElementById("note");
   let of = null;
   let leaving = 0;
+  let touched = null;
 
   function hide() {
     note.hidden = true;
@@ -145,6 +146,14 @@ function setUpNotes() {
     if (link && link !== of) show(link);
     else if (link || event.target.closest("#note")) clearTimeout(leaving);
     else if (of && of !== document.activeElement) leave();
+  });
+  // A first touch shows the note, and a second one follows the link.
+  document.addEventListener("click", (event) => {
+    const link = event.target.closest("a.w");
+    if (!link || event.pointerType !== "touch") return;
+    if (link !== touched) event.preventDefault();
+    touched = link;
+    if (link !== of) show(link);
   });
   document.addEventListener("focusin", (event) => {
     const link = event.target.closest("a.w");
