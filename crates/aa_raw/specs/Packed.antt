@@ -1,5 +1,5 @@
 -- A capacity and a growth policy in one word of a block.
-use Rattle.std.specs.Prelude.{◌≡◌, ℕ, ◌*◌, ◌+◌, ◌-◌, ◌/◌, ◌%◌, ◌^◌, ◌<◌, ◌==◌, if◌then◌else◌}
+use Rattle.std.specs.Prelude.{◌≡◌, ℕ, ◌*◌, ◌+◌, ◌-◌, ◌/◌, ◌%◌, ◌^◌, ◌<◌, ◌==◌, ◌⊎◌, if◌then◌else◌}
 use Rattle.aa_raw.specs.Growth.{usize_max}
 use Rattle.aa_raw.specs.declared.raw_vec.Growth.{Growth}
 use Rattle.aa_raw.specs.declared.raw_vec.Growth.TheVariants.{Doubling, Sparing, InPlace}
@@ -17,7 +17,6 @@ capacity_in w = if w / 4 == max_packed then usize_max else w / 4
 abbrev pub growth_in : (w : ℕ) → Growth
 growth_in w = if w % 4 == 0 then Doubling else (if w % 4 == 1 then Sparing else InPlace)
 
--- the capacity `c` fits in a word. Said as an implication, since a field of a type may hold no
--- choice
+-- the capacity `c` fits in a word
 abbrev pub CanPack : (c : ℕ) → Type 0
-CanPack c = ¬ (c < max_packed) → c ≡ usize_max
+CanPack c = (c < max_packed) ⊎ (c ≡ usize_max)

@@ -17,6 +17,7 @@ pub use Rattle.aa_raw.specs.Clones
 pub use Rattle.aa_raw.specs.Closures
 pub use Rattle.aa_raw.specs.Entries
 pub use Rattle.aa_raw.specs.EntriesLends
+pub use Rattle.aa_raw.specs.EntriesMut
 pub use Rattle.aa_raw.specs.Errors
 pub use Rattle.aa_raw.specs.Growth
 pub use Rattle.aa_raw.specs.IntoIter

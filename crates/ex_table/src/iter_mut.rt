@@ -2,6 +2,7 @@
 ghost use Rattle.std.specs.Prelude.{◌≡◌, ◌≤◌, length, Some, IfSome};
 ghost use Rattle.std.specs.Iterator.{YieldsFirstBy, UpTo, item_count};
 ghost use Rattle.std.specs.Iterator.SizeHint.{IsWithinCount};
+ghost use Rattle.aa_raw.specs.EntriesMut.{borrow_name, places_left};
 ghost use Rattle.aa_raw.specs.Places.{somes};
 ghost use Rattle.ex_table.specs.IterMut.{values};
 ghost use Rattle.ex_table.specs.Places.{AreFree, AreHeld};
@@ -27,18 +28,19 @@ pub struct IterMut<'a, K, V> {
 
 impl<'a, K, V> Model for IterMut<'a, K, V> {
     ghost use Rattle.std.specs.Prelude.{length};
+    ghost use Rattle.aa_raw.specs.EntriesMut.{borrow_name, places_left};
     ghost use Rattle.ex_table.specs.Remaining.{remaining_in, IsRemaining};
     ghost use Rattle.ex_table.specs.IterMut.{Lent};
 
     ghost Value = { Lent K V };
 
     ghost view = { λ it. record {
-      entries = remaining_in it.entries.places it.walk.from (length it.tags.now);
-      borrow = it.entries.tie;
+      entries = remaining_in (places_left it.entries) it.walk.from (length it.tags.now);
+      borrow = borrow_name it.entries;
     } };
 
     ghost invariant = { λ it. IsRemaining
-        it.tags.now it.entries.places it.walk (length it.tags.now) it.left };
+        it.tags.now (places_left it.entries) it.walk (length it.tags.now) it.left };
 }
 
 impl<'a, K, V> IterMut<'a, K, V> {
@@ -46,12 +48,12 @@ impl<'a, K, V> IterMut<'a, K, V> {
     #[tactic(auto, using(crate::proofs::Remaining::all_slots))]
     pub(crate) fn over(tags: &'a [u8], entries: EntriesMut<'a, K, V>, count: usize) -> Self
         requires slots { AreGroups tags.now }
-        requires places { length tags.now ≤ length entries.places }
-        requires held { AreHeld tags.now entries.places }
-        requires free { AreFree tags.now entries.places }
-        requires count { count ≡ length (somes entries.places) }
-        ensures entries { result.entries ≡ somes entries.entry.places }
-        ensures borrow { result.borrow ≡ entries.entry.tie }
+        requires places { length tags.now ≤ length (places_left entries) }
+        requires held { AreHeld tags.now (places_left entries) }
+        requires free { AreFree tags.now (places_left entries) }
+        requires count { count ≡ length (somes (places_left entries)) }
+        ensures entries { result.entries ≡ somes (places_left entries.entry) }
+        ensures borrow { result.borrow ≡ borrow_name entries.entry }
     {
         IterMut {
             tags,

@@ -2,11 +2,56 @@
 ghost use Rattle.std.specs.Prelude.{◌≡◌, ◌+◌, ◌^◌, ◌<◌, ◌≤◌, None, length, take, drop, replicate};
 ghost use Rattle.aa_raw.specs.Places.{IsRun, with_run};
 
-use super::Row;
+use super::{Row, copy_apart};
 use crate::size::element_size;
 
 // The maximum number of bytes in one copy to another row.
 const PART: usize = 8128;
+
+impl<T> Row<T> {
+    /// Moves the `count` values from the place `from` of `other` on to the places from `to` on.
+    #[inline]
+    pub(crate) fn take_run(&mut self, to: usize, other: &mut Row<T>, from: usize, count: usize)
+        requires room { (to + count ≤ length self.old.places) × (length self.old.places < 2 ^ 64) }
+        requires filled { IsRun other.old.places from count × (length other.old.places < 2 ^ 64) }
+        ensures moved { (self.new.ptr ≡ self.old.ptr)
+            × (self.new.places
+            ≡ with_run self.old.places to count (take count (drop from other.old.places))) }
+        ensures emptied { (other.new.ptr ≡ other.old.ptr)
+            × (other.new.places ≡ with_run other.old.places from count (replicate count None)) }
+    {
+        let row = self.cut(0);
+        let source = other.cut(0);
+        let (row, source) = move_across(row, to, source, from, count);
+        self.join(row);
+        other.join(source);
+    }
+
+    // Like `take_run`, with one copy of memory.
+    #[inline(always)]
+    #[tactic(auto, using(crate::proofs::Places::put_runs))]
+    pub(super) fn take_run_in_one_copy(
+        &mut self,
+        to: usize,
+        other: &mut Row<T>,
+        from: usize,
+        count: usize,
+    )
+        requires room { to + count ≤ length self.old.places }
+        requires filled { IsRun other.old.places from count }
+        ensures moved { (self.new.ptr ≡ self.old.ptr)
+            × (self.new.places
+            ≡ with_run self.old.places to count (take count (drop from other.old.places))) }
+        ensures emptied { (other.new.ptr ≡ other.old.ptr)
+            × (other.new.places ≡ with_run other.old.places from count (replicate count None)) }
+    {
+        let row = self.cut(to);
+        let source = other.cut(from);
+        let (row, source) = copy_apart(row, source, count);
+        self.join(row);
+        other.join(source);
+    }
+}
 
 /// Moves the `count` values from the place `from` of `source` on to the places from `to` of `row`
 /// on, and returns both rows.

@@ -36,13 +36,16 @@ impl<K, V> Drop for EntriesMut<'_, K, V> {
 }
 
 impl<'a, K, V> EntriesMut<'a, K, V> {
+    ghost use Rattle.aa_raw.specs.EntriesMut.{borrow_name, places_left};
+
     /// Takes the entry in the filled place `index`: returns references to its key and its value.
     #[inline(always)]
     pub fn take(&mut self, index: usize) -> (&'a K, &'a mut V)
-        requires { IsFilled self.old.places index }
-        ensures value { get_or self.old.places index None ≡ Some (result.0.now, result.1.now) }
-        ensures places { self.new.places ≡ slice_set self.old.places index None }
-        ensures same { self.new.tie ≡ self.old.tie }
+        requires { IsFilled (places_left self.old) index }
+        ensures value { get_or (places_left self.old) index None
+            ≡ Some (result.0.now, result.1.now) }
+        ensures places { places_left self.new ≡ slice_set (places_left self.old) index None }
+        ensures same { borrow_name self.new ≡ borrow_name self.old }
     {
         let entry = unsafe { self.ptr.add(index) };
         unsafe { (&(*entry).0, &mut (*entry).1) }
@@ -51,6 +54,7 @@ impl<'a, K, V> EntriesMut<'a, K, V> {
 
 impl<K, V, A: Allocator> RawVec<(K, V), A> {
     ghost use Rattle.aa_raw.specs.EntriesLends.{lends_entries};
+    ghost use Rattle.aa_raw.specs.EntriesMut.{borrow_name, places_left};
 
     /// Borrows all entries of the block at once: the keys shared, and the values mutably.
     ///
@@ -58,8 +62,8 @@ impl<K, V, A: Allocator> RawVec<(K, V), A> {
     #[inline(always)]
     pub fn entries_mut(&mut self) -> EntriesMut<'_, K, V>
         ensures* writes_back { sem 𝓛
-            (lends_entries K.row V.row A.row A.Allocator self.entry result.tie) }
-        ensures places { result.places ≡ self.old.places }
+            (lends_entries K.row V.row A.row A.Allocator self.entry (borrow_name result)) }
+        ensures places { places_left result ≡ self.old.places }
     {
         EntriesMut {
             ptr: self.row.ptr,

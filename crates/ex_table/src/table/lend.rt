@@ -1,6 +1,7 @@
 //! Mutable borrows of all values of a table.
 ghost use Rattle.std.specs.Prelude.{◌≡◌, ◌≤◌, length, map};
 ghost use Rattle.std.specs.Borrow.{sem};
+ghost use Rattle.aa_raw.specs.EntriesMut.{borrow_name, places_left};
 ghost use Rattle.allocator_api2.specs.Places.{somes};
 ghost use Rattle.ex_table.specs.IterMut.{values, KeepsKeys};
 ghost use Rattle.ex_table.specs.Places.{tags_of, AreFree, AreHeld};
@@ -19,11 +20,11 @@ impl<K: Eq + Hash, V, S: BuildHasher, A: Allocator> Table<K, V, S, A> {
     // Borrows the index, and the entries in their places.
     fn lend(&mut self) -> (&Option<HashIndex<A>>, EntriesMut<'_, K, V>)
         ensures* writes_back { sem 𝓛 (lends_values K.row V.row S.row A.row S.Hasher.row
-            K.Hash S.BuildHasher S.Hasher.Hasher A.Allocator self.entry result.1.tie) }
-        ensures entries { somes result.1.places ≡ self.old.entries }
-        ensures indexed { AreHeld (tags_of result.0.now) result.1.places
-            × AreFree (tags_of result.0.now) result.1.places
-            × (length (tags_of result.0.now) ≤ length result.1.places)
+            K.Hash S.BuildHasher S.Hasher.Hasher A.Allocator self.entry (borrow_name result.1)) }
+        ensures entries { somes (places_left result.1) ≡ self.old.entries }
+        ensures indexed { AreHeld (tags_of result.0.now) (places_left result.1)
+            × AreFree (tags_of result.0.now) (places_left result.1)
+            × (length (tags_of result.0.now) ≤ length (places_left result.1))
             × AreGroups (tags_of result.0.now) }
     {
         let entries = self.places.entries_mut();

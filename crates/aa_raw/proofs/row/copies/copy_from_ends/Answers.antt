@@ -1,5 +1,5 @@
 use Rattle.aa_raw.proofs.{ends_copied, ◌∙◌}
-use Rattle.aa_raw.proofs.row.copy_from_ends.Goals as goal
+use Rattle.aa_raw.proofs.row.copies.copy_from_ends.Goals as goal
 
 pub returns : goal.returns
 returns g c = (
