@@ -35,8 +35,8 @@ impl<T, A: Allocator> GapBuffer<T, A> {
 
         // Success inserts all items. If they fit, the call succeeds.
         ensures items { OnOk result ((it : I.IntoIter) × (xs : List T) × I.into_iter_gives iter it
-            × Drains I.IntoIter.next_gives it xs
-            × (self.new.before ≡ self.old.before ++ xs) × (self.new.after ≡ self.old.after)) }
+            × Drains I.IntoIter.next_gives it xs × (self.new.before ≡ self.old.before ++ xs)) }
+        ensures after { OnOk result (self.new.after ≡ self.old.after) }
         ensures fits { ((it : I.IntoIter) → I.into_iter_gives iter it
             → HasRoom self.old (size (I.IntoIter.remaining it))) → IsOk result }
         ensures extended { OnOk result ((it : I.IntoIter) × I.into_iter_gives iter it
@@ -102,7 +102,8 @@ impl<T, A: Allocator> GapBuffer<T, A> {
 
         // Success returns all items. If no allocation is needed, the call succeeds.
         ensures items { IfOk result (λ b. (it : I.IntoIter) × I.into_iter_gives iter it
-            × Drains I.IntoIter.next_gives it b.before × (b.after ≡ [])) }
+            × Drains I.IntoIter.next_gives it b.before) }
+        ensures after { IfOk result (λ b. b.after ≡ []) }
         ensures fits { ((it : I.IntoIter) → I.into_iter_gives iter it
             → size (I.IntoIter.remaining it) ≤ new_capacity (type_size T.row) 0) → IsOk result }
         ensures made { let none = empty (new_capacity (type_size T.row) 0) Doubling alloc in
