@@ -8,9 +8,20 @@ use Rattle.aa_raw.specs.declared.collections.TryReserveError.{TryReserveError}
 use Rattle.std.proofs.Math.Seq.{take-append_seam, drop-append_seam}
 use Rattle.std.proofs.lemmas.List.{append-nil}
 use Rattle.std.proofs.lemmas.List.Elements.{All-take, All-drop, length_all_zip, same_from_all_zip}
-use Rattle.std.specs.Iterator.{Count}
+use Rattle.std.specs.Iterator.{Count, Drains}
+use Rattle.std.specs.Iterator.Runs.{WholeRun}
+use Rattle.std.proofs.iter.runs.Consumers.{total_runs}
 use Rattle.std.specs.List.{AllZip}
-use Rattle.std.specs.Prelude.{◌⊎◌, map, All}
+use Rattle.std.specs.Prelude.{◌⊎◌, map, All, Err, Ok, OnOk, Result}
+
+-- the items that came, as one run
+module _ {S T E : Type 0} (steps : S → Option T → S → Type 0) (Gives : S → Type 0) where
+  pub whole_run : (r : Result (Unit {0}) E) (s : S) (old mid new : List T) (R : Type 0) (Q : List T → Type 0) → Gives s → mid ≡ old
+      → OnOk r ((xs : List T) × Drains steps s xs × (new ≡ mid ++ xs) × R × Q xs)
+      → OnOk r ((t : S) × Gives t × WholeRun steps t (λ p. new ≡ old ++ p.items))
+  whole_run (Ok u) s old mid new R Q given same d =
+      (s, given, total_runs steps s (Unit {0}) (λ xs. new ≡ old ++ xs) (d.0, λ _. d.1, d.2 ∙ ap (λ ys. ys ++ d.0) same) tt)
+  whole_run (Err e) s old mid new R Q given same d = tt
 
 module _ {T A : Type 0} (size : ℕ) where
   -- one more of them

@@ -2,6 +2,7 @@
 ghost use Rattle.std.specs.Prelude.{◌≡◌, ◌+◌, ◌≤◌, List, [], ◌++◌, length, All, IfErr, IfOk, IsOk, IsTrue, OnErr, OnOk, false};
 ghost use Rattle.std.specs.Mem.{type_size};
 ghost use Rattle.std.specs.Iterator.{IsFinite, IsFiniteIterable, ExtendsWithItems, Drains, size};
+ghost use Rattle.std.specs.Iterator.Runs.{WholeRun};
 ghost use Rattle.aa_raw.specs.Clones.{ClonesCannotFail, ClonesAreEqual};
 ghost use Rattle.aa_raw.specs.Growth.{new_capacity};
 ghost use Rattle.aa_raw.specs.Errors.{ClonesFail};
@@ -37,6 +38,9 @@ impl<T, A: Allocator> GapBuffer<T, A> {
         ensures items { OnOk result ((it : I.IntoIter) × (xs : List T) × I.into_iter_gives iter it
             × Drains I.IntoIter.next_gives it xs × (self.new.before ≡ self.old.before ++ xs)) }
         ensures after { OnOk result (self.new.after ≡ self.old.after) }
+        ensures runs { OnOk result ((it : I.IntoIter) × I.into_iter_gives iter it
+            × WholeRun I.IntoIter.next_gives it
+            (λ p. self.new.before ≡ self.old.before ++ p.items)) }
         ensures fits { ((it : I.IntoIter) → I.into_iter_gives iter it
             → HasRoom self.old (size (I.IntoIter.remaining it))) → IsOk result }
         ensures extended { OnOk result ((it : I.IntoIter) × I.into_iter_gives iter it
@@ -104,6 +108,8 @@ impl<T, A: Allocator> GapBuffer<T, A> {
         ensures items { IfOk result (λ b. (it : I.IntoIter) × I.into_iter_gives iter it
             × Drains I.IntoIter.next_gives it b.before) }
         ensures after { IfOk result (λ b. b.after ≡ []) }
+        ensures runs { IfOk result (λ b. (it : I.IntoIter) × I.into_iter_gives iter it
+            × WholeRun I.IntoIter.next_gives it (λ p. b.before ≡ p.items)) }
         ensures fits { ((it : I.IntoIter) → I.into_iter_gives iter it
             → size (I.IntoIter.remaining it) ≤ new_capacity (type_size T.row) 0) → IsOk result }
         ensures made { let none = empty (new_capacity (type_size T.row) 0) Doubling alloc in
