@@ -1,18 +1,28 @@
 -- Entries that are put one by one.
-use Rattle.std.proofs.Common.{List, [], ◌∷◌, ◌++◌, ◌≡◌, ◌≤◌, ◌<◌, ℕ, Some, arith, refl, sym, subst}
-use Rattle.std.specs.Prelude.{slice_get}
+use Rattle.std.proofs.Common.{List, [], ◌∷◌, ◌++◌, ◌≡◌, ◌≤◌, ◌<◌, ◌+◌, ℕ, Some, ap, arith, refl, sym, subst}
+use Rattle.std.specs.Prelude.{length, slice_get}
 use Rattle.std.specs.List.{AllZip}
 use Rattle.std.proofs.lemmas.Bool.Decides.{nat_tests}
 use Rattle.std.proofs.lemmas.List.Elements.{All-cons, All-head, All-nil, All-tail, AllZip-push}
 use Rattle.ex_btree.specs.Entries.{put, put_all, IsAscending}
-use Rattle.ex_btree.specs.Leaves.{AreLess}
-use Rattle.ex_btree.proofs.Order.{less-before}
+use Rattle.ex_btree.specs.Leaves.{AreLess, FitsInLeaf}
+use Rattle.ex_btree.proofs.Order.{less-before, some-put}
 
 module _ {V : Type 0} where
   -- one more of them
   pub put_all-push : (xs : List (ℕ × V)) (x : ℕ × V) (es : List (ℕ × V)) → put_all (xs ++ x ∷ []) es ≡ put x.0 x.1 (put_all xs es)
   put_all-push [] x es = refl
   put_all-push (y ∷ xs) x es = put_all-push xs x (put y.0 y.1 es)
+
+  -- and at most one entry more
+  pub put-fewer : (key : ℕ) (v : V) (es : List (ℕ × V)) → length (put key v es) ≤ length es + 1
+  put-fewer key v [] = omega arith
+  put-fewer key v (e ∷ es) = grind (arith, nat_tests, put-fewer key v es)
+
+  -- if m items fit, one fits and then n, which are fewer
+  pub fits-after : (key : ℕ) (v : V) (es fs : List (ℕ × V)) (m n : ℕ) → n < m → FitsInLeaf (length es) m → fs ≡ put key v es → FitsInLeaf (length fs) n
+  fits-after key v es fs m n fewer room is = λ some. let had = room (omega (arith, fewer)) in
+      (subst (λ gs. 0 < length gs) (sym is) (some-put key v es), omega (arith, fewer, had.1, put-fewer key v es, ap length is))
 
   module _ (key : ℕ) where
     abbrev IsLess : ℕ × V → Type 0

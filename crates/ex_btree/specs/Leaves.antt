@@ -12,6 +12,10 @@ leaf_room = 32
 abbrev pub most_places : (n : ℕ) → ℕ
 most_places n = max leaf_room (2 * n)
 
+-- a map of `n` entries needs no other leaf for `k` items more: there are none, or a leaf has room
+abbrev pub FitsInLeaf : (n k : ℕ) → Type 0
+FitsInLeaf n k = 0 < k → (0 < n) × (n + k ≤ leaf_room)
+
 -- the error `e` of a request for at most `n` places: an `AllocError` has the number requested, at
 -- least one, and a `CapacityOverflow` has none
 abbrev pub IsErrorForAtMost : TryReserveError → (n : ℕ) → Type 0

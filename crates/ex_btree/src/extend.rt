@@ -1,8 +1,8 @@
 //! A map made of the items of an iterator, or extended by them.
-ghost use Rattle.std.specs.Prelude.{◌≡◌, ℕ, List, length, [], Err, IfErr, IfOk};
-ghost use Rattle.std.specs.Iterator.{Drains, ExtendsWithItems, IsFiniteIterable};
+ghost use Rattle.std.specs.Prelude.{◌≡◌, ℕ, List, length, [], Err, IfErr, IfOk, IsOk};
+ghost use Rattle.std.specs.Iterator.{Drains, ExtendsWithItems, IsFiniteIterable, size};
 ghost use Rattle.ex_btree.specs.Entries.{PutsAll};
-ghost use Rattle.ex_btree.specs.Leaves.{most_places, IsErrorForAtMost};
+ghost use Rattle.ex_btree.specs.Leaves.{most_places, FitsInLeaf, IsErrorForAtMost};
 
 use crate::map::OrderedMap;
 use allocator_api2::collections::TryReserveError;
@@ -25,6 +25,11 @@ impl<V: Drop, A: Allocator + Copy> OrderedMap<V, A> {
             U.IntoIter.remaining iter }
         ensures extended { ExtendsWithItems U.into_iter_gives U.IntoIter.next_gives
             PutsAll iter self.old self.new result }
+
+        // Without items it succeeds, and with so few that a map which is not empty has room for
+        // them.
+        ensures fits { ((it : U.IntoIter) → U.into_iter_gives iter it
+            → FitsInLeaf (length self.old) (size (U.IntoIter.remaining it))) → IsOk result }
         ensures error { IfErr result (λ e. IsErrorForAtMost e (most_places (length self.new))) }
     {
         'each: for entry in iter {
@@ -52,6 +57,8 @@ impl<V: Drop, A: Allocator + Copy> OrderedMap<V, A> {
         ensures collected { IfOk result (λ map. (it : U.IntoIter) × (xs : List (ℕ × V))
             × U.into_iter_gives iter it × Drains U.IntoIter.next_gives it xs
             × PutsAll [] xs map) }
+        ensures fits { ((it : U.IntoIter) → U.into_iter_gives iter it
+            → size (U.IntoIter.remaining it) ≡ 0) → IsOk result }
         ensures failed { IfErr result (λ e. (map : List (ℕ × V))
             × ExtendsWithItems U.into_iter_gives U.IntoIter.next_gives PutsAll iter [] map (Err e)
             × IsErrorForAtMost e (most_places (length map))) }
@@ -68,7 +75,14 @@ impl<V: Drop, A: Allocator + Copy> Extend<(u64, V)> for OrderedMap<V, A> {
     ghost extend_gives = { PutsAll };
 
     /// Inserts the items as the inherent `extend` does, whose error also has the number.
-    fn extend<U: IntoIterator<Item = (u64, V)>>(&mut self, iter: U) -> Result<(), AllocError> {
+    fn extend<U: IntoIterator<Item = (u64, V)>>(&mut self, iter: U) -> Result<(), AllocError>
+        requires finite { IsFiniteIterable U.into_iter_gives U.IntoIter.can_next
+            U.IntoIter.remaining iter }
+        ensures extended { ExtendsWithItems U.into_iter_gives U.IntoIter.next_gives
+            PutsAll iter self.old self.new result }
+        ensures fits { ((it : U.IntoIter) → U.into_iter_gives iter it
+            → FitsInLeaf (length self.old) (size (U.IntoIter.remaining it))) → IsOk result }
+    {
         match OrderedMap::extend(self, iter) {
             Ok(()) => Ok(()),
             Err(_) => Err(AllocError),
@@ -82,7 +96,15 @@ impl<V: Drop, A: Allocator + Copy> FromIterator<(u64, V)> for OrderedMap<V, A> {
     ghost from_iter_gives = { PutsAll [] };
 
     /// Returns a map of the items as `from_iter_in` does, whose error also has the number.
-    fn from_iter<U: IntoIterator<Item = (u64, V)>>(alloc: A, iter: U) -> Result<Self, AllocError> {
+    fn from_iter<U: IntoIterator<Item = (u64, V)>>(alloc: A, iter: U) -> Result<Self, AllocError>
+        requires finite { IsFiniteIterable U.into_iter_gives U.IntoIter.can_next
+            U.IntoIter.remaining iter }
+        ensures collected { IfOk result (λ map. (it : U.IntoIter) × (xs : List (ℕ × V))
+            × U.into_iter_gives iter it × Drains U.IntoIter.next_gives it xs
+            × PutsAll [] xs map) }
+        ensures fits { ((it : U.IntoIter) → U.into_iter_gives iter it
+            → size (U.IntoIter.remaining it) ≡ 0) → IsOk result }
+    {
         match OrderedMap::from_iter_in(iter, alloc) {
             Ok(map) => Ok(map),
             Err(_) => Err(AllocError),
