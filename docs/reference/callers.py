@@ -11,11 +11,15 @@ Caller = collections.namedtuple("Caller", "crate file name line text calls")
 SKIPPED = {"faulty"}
 # The crates of tests whose functions are quoted, too.
 TESTS = ["ex_tests", "layer_tests"]
+# The layers that stand on the block, whose functions are quoted if no other calls an item.
+LAYERS = ["aa_boxed", "aa_vec", "aa_gap"]
+# The traits whose methods are called by dot on a type of another crate.
+TRAITS = {"SliceExt"}
 
 
 def sources():
     crates = ["guide"] + sorted(it.name for it in (TOP / "crates").glob("ex_*") if not it.name.endswith("_tests"))
-    for crate in [*crates, *TESTS]:
+    for crate in [*crates, *TESTS, *LAYERS]:
         for file in sorted((TOP / "crates" / crate / "src").rglob("*.rt")):
             if not SKIPPED & set(file.relative_to(TOP).with_suffix("").parts):
                 yield crate, file
@@ -117,6 +121,13 @@ def calls_of(lines, fields, scope, methods):
             found.add((of, name))
             if named and methods[of, name]:
                 known[named] = methods[of, name]
+    # Functions that belong to no type, and methods of a trait that the file imports.
+    for name in re.findall(r"(?<![\w.:])(\w+)(?:::<[^>]*>)?\(", inside):
+        if scope.path(name)[0] in scope.crates and ("", name) in methods:
+            found.add(("", name))
+    traits = {of for of in scope.names if scope.type(of)}
+    for name in re.findall(r"\.(\w+)(?:::<[^>]*>)?\(", inside):
+        found |= {(of, name) for of in traits & TRAITS if (of, name) in methods}
     # What is called on what a call returns.
     for first, name in re.findall(r"\.(\w+)\((?:[^()]|\([^()]*\))*\)\??\.(\w+)(?=\()", inside):
         found |= {(of, name) for of in {methods[it] for it in found if it[1] == first} if (of, name) in methods}
@@ -127,16 +138,18 @@ def callers(types, methods, crates=tuple(CRATES)):
     """The callers of each function of some crates, by default the library's: in the guide first, then in the examples, then in tests."""
     found = collections.defaultdict(list)
     passing = {it.parent.parent.name for it in (TOP / "crates").glob("*/src/lib.rt") for of in crates if f"pub use {of}::" in text_of(it)}
+    inner = collections.defaultdict(list)
     for crate, file in sources():
-        if crate in crates:
+        if crate in crates and (crate not in LAYERS or "aa_raw" not in crates):
             continue
-        scope = Scope(text_of(file), types, {*crates, *passing})
+        scope = Scope(text_of(file), types, {"aa_raw"} if crate in LAYERS else {*crates, *passing})
         fields = fields_in(text_of(file), scope)
         for name, line, lines, owner in functions(file):
             made = calls_of(lines, fields, scope, methods)
             caller = Caller(crate, file, f"{owner}::{name}" if owner else name, line, lines, made)
             for call in made:
-                found[call].append(caller)
+                (inner if crate in LAYERS else found)[call].append(caller)
+    found.update({call: there for call, there in inner.items() if call not in found})
     for there in found.values():
         there.sort(key=lambda it: (it.crate in TESTS, it.crate != "guide", len(it.text)))
     return found

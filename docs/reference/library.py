@@ -209,13 +209,13 @@ class Reference:
             self.named.setdefault(word.name, []).append(href)
 
     def methods(self):
-        """The methods of types, each with the first of these types in what it returns, if there is one."""
+        """The methods of types, each with the first of these types in what it returns, if there is one; and functions of no type."""
         found = {}
         for it in self.library.types.values():
             for _, call in it.calls:
                 returned = call.signature.partition("->")[2].replace("Self", it.name)
                 found[it.name, call.name] = next((name for name in re.findall(r"\w+", returned) if name in self.library.types), None)
-        return found
+        return found | {("", item.name): None for page in self.library.pages.values() for _, item in page.functions}
 
     def context(self, section, item=None):
         """The context of an item's clauses."""

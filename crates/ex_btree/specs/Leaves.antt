@@ -12,7 +12,7 @@ leaf_room = 32
 abbrev pub most_places : (n : ℕ) → ℕ
 most_places n = max leaf_room (2 * n)
 
--- a map of `n` entries needs no other leaf for `k` items more: there are none, or a leaf has room
+-- a map of `n` entries needs no other leaf for `k` items more: there are none, or each fits in one
 abbrev pub FitsInLeaf : (n k : ℕ) → Type 0
 FitsInLeaf n k = 0 < k → (0 < n) × (n + k ≤ leaf_room)
 

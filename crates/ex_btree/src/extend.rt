@@ -26,8 +26,7 @@ impl<V: Drop, A: Allocator + Copy> OrderedMap<V, A> {
         ensures extended { ExtendsWithItems U.into_iter_gives U.IntoIter.next_gives
             PutsAll iter self.old self.new result }
 
-        // Without items it succeeds, and with so few that a map which is not empty has room for
-        // them.
+        // It succeeds without items, and if all entries fit in the first leaf, which is there.
         ensures fits { ((it : U.IntoIter) → U.into_iter_gives iter it
             → FitsInLeaf (length self.old) (size (U.IntoIter.remaining it))) → IsOk result }
         ensures error { IfErr result (λ e. IsErrorForAtMost e (most_places (length self.new))) }

@@ -2,7 +2,7 @@
 ghost use Rattle.std.specs.Prelude.{◌≡◌, ◌+◌, ◌<◌, ◌^◌, IfErr, IfOk};
 
 use allocator_api2::boxed::{Box, BoxedSlice, UninitBox};
-use allocator_api2::collections::Refused;
+use allocator_api2::collections::{Refused, TryReserveError};
 use allocator_api2::vec::{SliceIntoVec, Vec};
 use std::alloc::{AllocError, Allocator};
 
@@ -54,4 +54,39 @@ pub fn thaw<A: Allocator>(b: BoxedSlice<u64, A>) -> Vec<u64, A>
     ensures { result.items ≡ b.items }
 {
     b.into_vec()
+}
+
+/// Returns a second box with the same value.
+///
+/// # Errors
+/// If the allocation fails, or the clone of the allocator.
+pub fn duplicated<A: Allocator + Clone>(b: &Box<u64, A>) -> Result<Box<u64, A>, AllocError>
+    ensures { IfOk result (λ c. c.value ≡ b.now.value) }
+{
+    b.clone()
+}
+
+/// Returns a second slice with the same elements.
+///
+/// # Errors
+/// If the allocation fails, or the clone of the allocator.
+pub fn duplicated_all<A: Allocator + Clone>(
+    b: &BoxedSlice<u64, A>,
+) -> Result<BoxedSlice<u64, A>, TryReserveError>
+    ensures { IfOk result (λ c. c.items ≡ b.now.items) }
+{
+    b.clone()
+}
+
+/// Returns the elements as a boxed array of three.
+///
+/// # Errors
+/// If there are not three, or the allocation fails, the slice is returned unchanged.
+pub fn three<A: Allocator + Clone>(
+    b: BoxedSlice<u64, A>,
+) -> Result<Box<[u64; 3], A>, BoxedSlice<u64, A>>
+    ensures made { IfOk result (λ a. a.value ≡ b.items) }
+    ensures returned { IfErr result (λ c. c.items ≡ b.items) }
+{
+    b.try_into_array::<3>()
 }

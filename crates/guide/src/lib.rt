@@ -12,7 +12,9 @@ ghost use Rattle.allocator_api2.specs.Vector.{HasRoom};
 ghost use Rattle.allocator_api2.specs.declared.raw_vec.Growth.TheVariants.{Doubling};
 
 pub mod boxes;
+pub mod buffers;
 pub mod chosen;
+pub mod compared;
 pub mod moved;
 pub mod positions;
 pub mod ranges;

@@ -1,9 +1,9 @@
 //! Bytes and texts.
-ghost use Rattle.std.specs.Prelude.{◌≡◌, ◌+◌, ◌++◌, ℕ, List, length, codes, decimal, IfOk, IfErr, OnErr, OnOk};
+ghost use Rattle.std.specs.Prelude.{◌≡◌, ◌+◌, ◌++◌, ℕ, List, length, codes, decimal, IfOk, IfErr, IsTrue, OnErr, OnOk, ◌↔◌};
 ghost use Rattle.std.specs.Io.KnownBytes.{Consumes, IsAtEnd};
 ghost use Rattle.allocator_api2.specs.Errors.{IsErrorForAtLeast};
 
-use allocator_api2::boxed::BoxedText;
+use allocator_api2::boxed::{BoxedSlice, BoxedText};
 use allocator_api2::collections::{Refused, TryReserveError};
 use allocator_api2::vec::Vec;
 use std::alloc::Allocator;
@@ -71,4 +71,32 @@ pub fn add_piece_or_fail<'a, A: Allocator>(
 {
     v.push(piece)?;
     Ok(())
+}
+
+/// Returns `true` if the text begins with `start`.
+pub fn begins_with<A: Allocator>(t: &BoxedText<A>, start: &str) -> bool
+    ensures { IsTrue result ↔ ((rest : List ℕ) × (t.now.bytes ≡ start.now ++ rest)) }
+{
+    t.as_str().starts_with(start)
+}
+
+/// Returns the bytes of the text, in its block.
+pub fn bytes_of<A: Allocator>(t: BoxedText<A>) -> BoxedSlice<u8, A>
+    ensures { result.items ≡ t.bytes }
+{
+    t.into_bytes()
+}
+
+/// Returns a copy of the text by its own allocator.
+pub fn beside<A: Allocator + Clone>(t: &BoxedText<A>) -> Result<BoxedText<A>, TryReserveError>
+    ensures { IfOk result (λ c. c.bytes ≡ t.now.bytes) }
+{
+    BoxedText::from_text(t.allocator().clone()?, t.as_str())
+}
+
+/// Returns a copy of the text.
+pub fn another(t: &BoxedText) -> Result<BoxedText, TryReserveError>
+    ensures { IfOk result (λ c. c ≡ t.now) }
+{
+    t.clone()
 }
