@@ -1,12 +1,12 @@
 -- Keys in places, and the index that has their slots.
 use Rattle.std.proofs.Common.{Bool, List, None, Option, Some, [], ap, arith, cond, false, get_or, length, refl, set, suc, true, zero, ℕ, ◌+◌, ◌<◌, ◌∙◌, ◌∷◌, ◌≡◌, ◌≢◌, ◌≤◌, ◌==◌}
 use Rattle.std.specs.Prelude.{count_by, is_some}
-use Rattle.std.specs.Map.{set_value}
+use Rattle.std.specs.Map.{lookup_entry, remove_entry, set_value}
 use Rattle.std.specs.Option.{option_map}
 use Rattle.std.proofs.lemmas.Bool.Decides.{nat_tests}
 use Rattle.std.proofs.lemmas.List.Sums.{sum_by-cons}
 use Rattle.allocator_api2.specs.Places.{somes}
-use Rattle.ex_table.specs.Contents.{keys_like}
+use Rattle.ex_table.specs.Contents.{keys_like, value}
 use Rattle.ex_table.specs.Slots.{tag_at, IsIndex}
 use Rattle.ex_table.specs.Places.{AreKeys, AreFree, AreHeld, IsReachable, has_key, hashes_of, key_at}
 use Rattle.ex_table.specs.declared.slots.Overflow.{Overflow}
@@ -60,6 +60,42 @@ module _ {K V : Type 0} (eq : K → K → Bool) (k : K) where
   value-written (Some x ∷ cs) zero e v at t c = grind arith
   value-written (None ∷ cs) (suc s) e v at t c = value-written cs s e v at t c
   value-written (Some x ∷ cs) (suc s) e v at t c = grind (arith, somewhere cs s e at t, value-written cs s e v at t, keys-cons eq k x (somes cs))
+
+  -- the entry in the place is the one of the key
+  pub entry-read : (cs : List (Option (K × V))) (s : ℕ) (e : K × V) → get_or cs s None ≡ Some e → eq k e.0 ≡ true → keys_like eq k (somes cs) ≤ 1
+      → lookup_entry (eq k) (somes cs) ≡ Some e
+  entry-read [] s e at t c = absurd cc
+  entry-read (None ∷ cs) zero e at t c = absurd cc
+  entry-read (Some x ∷ cs) zero e at t c = grind arith
+  entry-read (None ∷ cs) (suc s) e at t c = entry-read cs s e at t c
+  entry-read (Some x ∷ cs) (suc s) e at t c = grind (arith, somewhere cs s e at t, entry-read cs s e at t, keys-cons eq k x (somes cs))
+
+  -- the place without the entry of the key
+  pub entry-emptied : (cs : List (Option (K × V))) (s : ℕ) (e : K × V) → get_or cs s None ≡ Some e → eq k e.0 ≡ true → keys_like eq k (somes cs) ≤ 1
+      → somes (set cs s None) ≡ remove_entry (eq k) (somes cs)
+  entry-emptied [] s e at t c = absurd cc
+  entry-emptied (None ∷ cs) zero e at t c = absurd cc
+  entry-emptied (Some x ∷ cs) zero e at t c = grind arith
+  entry-emptied (None ∷ cs) (suc s) e at t c = entry-emptied cs s e at t c
+  entry-emptied (Some x ∷ cs) (suc s) e at t c = grind (arith, somewhere cs s e at t, entry-emptied cs s e at t, keys-cons eq k x (somes cs))
+
+  -- a key that is absent has no entry
+  pub no-entry : (es : List (K × V)) → keys_like eq k es ≡ 0 → lookup_entry (eq k) es ≡ None
+  no-entry [] n = refl
+  no-entry (e ∷ es) n = grind (arith, no-entry es, keys-cons eq k e es)
+
+  pub all-others : (es : List (K × V)) → keys_like eq k es ≡ 0 → remove_entry (eq k) es ≡ es
+  all-others [] n = refl
+  all-others (e ∷ es) n = grind (arith, all-others es, keys-cons eq k e es)
+
+  -- the value of the key is that of its entry
+  pub value-of : (es : List (K × V)) → value eq es k ≡ option_map (λ e. e.1) (lookup_entry (eq k) es)
+  value-of [] = refl
+  value-of (e ∷ es) = by (eq k e.0) (value-of es)
+    where
+      by : (b : Bool) → value eq es k ≡ option_map (λ e. e.1) (lookup_entry (eq k) es) → cond b (Some e.1) (value eq es k) ≡ option_map (λ e. e.1) (cond b (Some e) (lookup_entry (eq k) es))
+      by true h = refl
+      by false h = h
 
 module _ {K V : Type 0} (h : K → ℕ) where
   pub hash-at : (cs : List (Option (K × V))) (s : ℕ) → get_or (hashes_of h cs) s None ≡ option_map (λ (e : K × V). h e.0) (get_or cs s None)

@@ -1,6 +1,6 @@
 -- A table remains one: a key is inserted, removed, or replaced by its equal.
 use Rattle.std.proofs.Common.{Bool, List, None, Option, Some, [], ap, arith, false, get_or, length, refl, set, subst, suc, sym, true, zero, ℕ, ◌+◌, ◌<◌, ◌∙◌, ◌∷◌, ◌≡◌, ◌≤◌}
-use Rattle.std.specs.Prelude.{IsPermutation, ◌⊎◌, ◌^◌}
+use Rattle.std.specs.Prelude.{IsPermutation, is_some, ◌⊎◌, ◌^◌}
 use Rattle.std.proofs.lemmas.List.{length-set}
 use Rattle.std.proofs.lemmas.List.Sorted.{length_permutation}
 use Rattle.allocator_api2.specs.Block.{Block}
@@ -14,7 +14,7 @@ use Rattle.ex_table.specs.Walks.{AreGroups}
 use Rattle.ex_table.specs.declared.index.HashIndex.{HashIndex}
 use Rattle.ex_table.proofs.Maps.{alike-keys, emptied, filled, gone, map-gone, map-new, map-permuted, sets-gone, sets-new, value-gone, value-none, value-permuted}
 use Rattle.ex_table.proofs.Moving.{none-left}
-use Rattle.ex_table.proofs.Placed.{free, hash-here, hashes-set, held, reachable, nowhere, places, value-written}
+use Rattle.ex_table.proofs.Placed.{entry-at, free, hash-here, hashes-set, held, reachable, nowhere, places, value-written}
 
 module _ {X : Type 0} where
   set-set : (cs : List X) (s : ℕ) (x y : X) → set (set cs s x) s y ≡ set cs s y
@@ -88,6 +88,9 @@ module _ {K V A : Type 0} {eq : K → K → Bool} {h : K → ℕ} where
     -- a place with the key has its value
     pub read : (k : K) (s : ℕ) (e : K × V) → get_or b.places s None ≡ Some e → key_at eq k b.places s ≡ true → value eq (somes b.places) k ≡ Some e.1
     read k s e at here = value-gone eq t.keys.equality k e (somes b.places) (somes (set b.places s None)) (emptied b.places s e at) (is-here k s e at here) t.once
+
+    pub present : (k : K) (s : ℕ) → key_at eq k b.places s ≡ true → is_some (value eq (somes b.places) k) ≡ true
+    present k s h = let x = entry-at eq k b.places s h in ap is_some (read k s x.entry x.at h)
 
     pub absent-keys : (k : K) → ((s : ℕ) → key_at eq k b.places s ≡ false) → keys_like eq k (somes b.places) ≡ 0
     absent-keys k none = nowhere eq k b.places none

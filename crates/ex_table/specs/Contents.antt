@@ -1,7 +1,7 @@
 -- The contents of a table as its users see them, and its growth policy.
 use Rattle.std.specs.Prelude.{◌≡◌, ℕ, ◌+◌, ◌-◌, ◌≤◌, ◌==◌, ◌&&◌, max, nat_le, Bool, cond, if◌then◌else◌, List, [], ◌++◌, length, reverse, count_by, Option}
 use Rattle.std.specs.List.{list_all, AllZip}
-use Rattle.std.specs.Map.{lookup}
+use Rattle.std.specs.Map.{lookup, lookup_entry}
 use Rattle.std.specs.Option.{option_eq}
 use Rattle.allocator_api2.specs.Growth.{amortized}
 use Rattle.allocator_api2.specs.declared.raw_vec.Growth.TheVariants.{Doubling}
@@ -17,6 +17,10 @@ module _ {K V : Type 0} (eq : K → K → Bool) where
   -- the value of the key `k` in the entries `es`
   abbrev pub value : List (K × V) → K → Option V
   value es k = lookup (eq k) es
+
+  -- the entry with a key equal to `k` in the entries `es`
+  abbrev pub entry_of : List (K × V) → K → Option (K × V)
+  entry_of es k = lookup_entry (eq k) es
 
   -- the number of entries of `es` with a key equal to `k`
   abbrev pub keys_like : K → List (K × V) → ℕ
@@ -68,17 +72,19 @@ max_keys = 2_000_000_000
 abbrev pub empty : {K V S : Type 0} → S → TableView K V S
 empty b = record { entries = []; capacity = 0; builder = b }
 
+-- the capacity of a table with `n` keys and the capacity `c` after it reserved `k` new keys: `c` if
+-- it is sufficient, else the greatest of twice `c`, the number of keys with `k` more, and 14
+abbrev pub reserved_capacity : (c n k : ℕ) → ℕ
+reserved_capacity c n k = if nat_le k (c - n) then c else amortized Doubling c (n + k) 14
+
 module _ {K V S : Type 0} where
   -- the table `f` has spare capacity for `k` new keys
   abbrev pub HasRoom : TableView K V S → (k : ℕ) → Type 0
   HasRoom f k = k ≤ f.capacity - length f.entries
 
-  -- the capacity of the table `f` after it reserved `k` new keys: the old one if it is sufficient,
-  -- else the greatest of twice the old one, the number of keys with `k` more, and 14
+  -- the capacity of the table `f` after it reserved `k` new keys
   abbrev pub capacity_for : TableView K V S → (k : ℕ) → ℕ
-  capacity_for f k =
-      let n = length f.entries in
-      if nat_le k (f.capacity - n) then f.capacity else amortized Doubling f.capacity (n + k) 14
+  capacity_for f k = reserved_capacity f.capacity (length f.entries) k
 
 -- the capacity of a new table for `n` keys
 abbrev pub fresh_capacity : (n : ℕ) → ℕ

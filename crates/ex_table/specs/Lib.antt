@@ -8,3 +8,9 @@ pub mod IterMut
 pub mod IterMutLends
 pub mod SameEntries
 pub mod Walks
+pub mod Retaining
+pub mod Inserting
+pub mod Draining
+pub mod SetContents
+pub mod SameElements
+pub mod InsertLends

@@ -1,5 +1,5 @@
 //! A table made of the items of an iterator, or extended by them.
-ghost use Rattle.std.specs.Prelude.{List, length, [], Err, IfErr, IfOk, IsOk};
+ghost use Rattle.std.specs.Prelude.{◌≡◌, List, length, [], Err, IfErr, IfOk, IsOk};
 ghost use Rattle.std.specs.Iterator.{Drains, ExtendsWithItems, IsFiniteIterable, size};
 ghost use Rattle.allocator_api2.specs.Room.{LacksRoom};
 ghost use Rattle.ex_table.specs.Contents.{capacity_for, empty, HasRoom, InsertsAll, SetsAll, TableView};
@@ -61,6 +61,8 @@ impl<K: Eq + Hash + Drop, V: Drop, A: Allocator + Clone> Table<
         ensures collected { IfOk result (λ t. (it : U.IntoIter) × (xs : List (K × V))
             × U.into_iter_gives iter it × Drains U.IntoIter.next_gives it xs
             × SetsAll K.eq [] xs t.entries) }
+        ensures fits { ((it : U.IntoIter) → U.into_iter_gives iter it
+            → size (U.IntoIter.remaining it) ≡ 0) → IsOk result }
         ensures failed { IfErr result (λ e. (t : TableView K V (BuildHasherDefault FoldHasher))
             × ExtendsWithItems U.into_iter_gives U.IntoIter.next_gives (InsertsAll K.eq)
             iter (empty t.builder) t (Err e)
@@ -105,7 +107,15 @@ impl<
     ghost from_iter_gives = { λ xs t. SetsAll K.eq [] xs t.entries };
 
     /// Returns a table of the items, with a default builder of hashers.
-    fn from_iter<U: IntoIterator<Item = (K, V)>>(alloc: A, iter: U) -> Result<Self, AllocError> {
+    fn from_iter<U: IntoIterator<Item = (K, V)>>(alloc: A, iter: U) -> Result<Self, AllocError>
+        requires finite { IsFiniteIterable U.into_iter_gives U.IntoIter.can_next
+            U.IntoIter.remaining iter }
+        ensures collected { IfOk result (λ t. (it : U.IntoIter) × (xs : List (K × V))
+            × U.into_iter_gives iter it × Drains U.IntoIter.next_gives it xs
+            × SetsAll K.eq [] xs t.entries) }
+        ensures fits { ((it : U.IntoIter) → U.into_iter_gives iter it
+            → size (U.IntoIter.remaining it) ≡ 0) → IsOk result }
+    {
         let mut table = Table::with_hasher_in(S::default(), alloc);
         match Table::extend(&mut table, iter) {
             Ok(()) => Ok(table),

@@ -1,14 +1,16 @@
 //! The hash table: a finite map from keys to values, by the equality of the keys.
-ghost use Rattle.std.specs.Prelude.{◌≡◌, ◌+◌, ◌-◌, ◌<◌, ◌≤◌, [], ◌∷◌, None, Some, IfOk, IfErr, OnOk, OnErr, IsOk, IsSome, option_copied, is_some, map, max, min, if◌then◌else◌, true, false, length, ◌==◌, IsPermutation};
+ghost use Rattle.std.specs.Prelude.{◌≡◌, ◌+◌, ◌-◌, ◌<◌, ◌≤◌, [], ◌∷◌, None, Some, IfOk, IfErr, OnOk, OnErr, IsOk, IsSome, option_copied, option_map, is_some, map, max, min, if◌then◌else◌, true, false, length, ◌==◌, IsPermutation};
 ghost use Rattle.std.specs.Borrow.{sem};
+ghost use Rattle.std.specs.Map.{remove_entry, set_value};
 ghost use Rattle.std.specs.Option.{option_copied_mut};
 ghost use Rattle.allocator_api2.specs.declared.collections.TryReserveErrorKind.TheVariants.{AllocError, CapacityOverflow};
 ghost use Rattle.allocator_api2.specs.Room.{LacksRoom};
-ghost use Rattle.ex_table.specs.Contents.{value, keys_like, Sets, IsMap, HasRoom, capacity_for, fresh_capacity, max_keys};
+ghost use Rattle.ex_table.specs.Contents.{value, entry_of, keys_like, Sets, IsMap, HasRoom, capacity_for, fresh_capacity, max_keys};
 ghost use Rattle.ex_table.specs.Places.{hashes};
 
 use crate::growth::{MIN_CAPACITY, drop_between, fit, fresh_capacity, resize};
 use crate::index::{HashIndex, find_in, free_all, hash_of, put_new, tags_in, take_out};
+use crate::into_parts::{IntoKeys, IntoValues};
 use crate::iter::{IntoIter, Iter, Keys, Values};
 use allocator_api2::collections::{Refused, TryReserveError, TryReserveErrorKind};
 use allocator_api2::raw_vec::RawVec;
@@ -18,7 +20,10 @@ use std::marker::Model;
 use std::mem;
 use std::ops::Index;
 
+pub mod drain;
 mod lend;
+mod retain;
+mod vacant;
 
 // The most keys for which `reserve` allocates.
 const MAX_KEYS: usize = 2_000_000_000;
@@ -35,6 +40,15 @@ pub struct Table<K: Eq + Hash, V, S: BuildHasher, A: Allocator> {
     builder: S,
     count: usize,
     capacity: usize,
+}
+
+/// Why `try_insert` did not insert a key with its value, both of which it returns.
+#[derive(Drop)]
+pub enum TryInsertError<K, V> {
+    /// The key is present.
+    Occupied { key: K, value: V },
+    /// The table is full, and could not reserve capacity.
+    Refused(Refused<(K, V)>),
 }
 
 impl<K: Eq + Hash, V, S: BuildHasher, A: Allocator> Model for Table<K, V, S, A> {
@@ -177,6 +191,24 @@ impl<K: Eq + Hash + Drop, V: Drop, S: BuildHasher, A: Allocator + Clone> Table<K
         }
     }
 
+    /// Returns references to the stored key and the value of `key`, or `None` if the key is absent.
+    ///
+    /// The stored key is equal to `key`.
+    #[inline]
+    pub fn get_key_value(&self, key: &K) -> Option<(&K, &V)>
+        ensures { option_map (λ e. (e.0.now, e.1.now)) result
+            ≡ entry_of K.eq self.now.entries key.now }
+    {
+        let hash = hash_of(&self.builder, key);
+        match find_in(&self.index, &self.places, hash, key) {
+            Some(slot) => {
+                let entry = self.places.place(slot);
+                Some((&entry.0, &entry.1))
+            }
+            None => None,
+        }
+    }
+
     /// Returns `true` if the table has a value for `key`.
     #[inline]
     pub fn contains_key(&self, key: &K) -> bool
@@ -266,9 +298,44 @@ impl<K: Eq + Hash + Drop, V: Drop, S: BuildHasher, A: Allocator + Clone> Table<K
         self.add(hash, key, item);
     }
 
+    // Inserts an absent key, and first reserves capacity for it if the table is full.
+    #[inline(always)]
+    fn insert_new(&mut self, hash: u64, key: K, item: V) -> Result<(), Refused<(K, V)>>
+        requires hash { hash
+            ≡ hashes S.BuildHasher S.Hasher.Hasher K.hash_input self.old.builder key }
+        requires absent { keys_like K.eq key self.old.entries ≡ 0 }
+
+        // On success, the table has the entry too. Only the order of the others may change.
+        ensures fits { HasRoom self.old 1 → IsOk result }
+        ensures added { OnOk result
+            (IsPermutation ((key, item) ∷ self.old.entries) self.new.entries) }
+        ensures made { OnOk result (self.new.capacity ≡ capacity_for self.old 1) }
+        ensures builder { self.new.builder ≡ self.old.builder }
+
+        // An error is that of `reserve(1)`.
+        ensures returned { IfErr result (λ r. r.source ≡ (key, item)) }
+        ensures error { IfErr result
+            (λ r. LacksRoom self.old.capacity (length self.old.entries) 1 (capacity_for self.old 1)
+            r.error) }
+        ensures unchanged { OnErr result (self.new ≡ self.old) }
+    {
+        if self.room() > 0 {
+            self.add(hash, key, item);
+            return Ok(());
+        }
+        if let Err(error) = self.reserve(1) {
+            return Err(Refused {
+                source: (key, item),
+                error,
+            });
+        }
+        self.add_slow(hash, key, item);
+        Ok(())
+    }
+
     /// Inserts `key` with the value `item`, and returns the old value of the key, if it had one.
     ///
-    /// A key that is present is replaced by `key`, which is equal to it.
+    /// A key that is present is kept, and `key`, which is equal to it, is dropped.
     /// Allocates only if the key is absent and the table is full, and then as `reserve(1)` does.
     ///
     /// # Errors
@@ -283,6 +350,13 @@ impl<K: Eq + Hash + Drop, V: Drop, S: BuildHasher, A: Allocator + Clone> Table<K
         ensures old { IfOk result (λ old. old ≡ value K.eq self.old.entries key) }
         ensures inserted { OnOk result
             (Sets K.eq self.old.entries key (Some item) self.new.entries) }
+
+        // The entry of a key that is present keeps its key and its place in the order. A new key
+        // may change the order of the others.
+        ensures written { IfOk result (λ old. is_some old ≡ true →
+            self.new.entries ≡ set_value (K.eq key) self.old.entries item) }
+        ensures added { IfOk result (λ old. is_some old ≡ false →
+            IsPermutation ((key, item) ∷ self.old.entries) self.new.entries) }
 
         // The number of keys and the capacity grow only for a new key.
         ensures one_more { IfOk result (λ old. is_some old ≡ false →
@@ -307,21 +381,13 @@ impl<K: Eq + Hash + Drop, V: Drop, S: BuildHasher, A: Allocator + Clone> Table<K
     {
         let hash = hash_of(&self.builder, &key);
         if let Some(slot) = find_in(&self.index, &self.places, hash, &key) {
-            let old = mem::replace(self.places.place_mut(slot), (key, item));
-            return Ok(Some(old.1));
+            let old = mem::replace(&mut self.places.place_mut(slot).1, item);
+            return Ok(Some(old));
         }
-        if self.room() > 0 {
-            self.add(hash, key, item);
-            return Ok(None);
+        match self.insert_new(hash, key, item) {
+            Ok(()) => Ok(None),
+            Err(refused) => Err(refused),
         }
-        if let Err(error) = self.reserve(1) {
-            return Err(Refused {
-                source: (key, item),
-                error,
-            });
-        }
-        self.add_slow(hash, key, item);
-        Ok(None)
     }
 
     /// Reserves capacity for at least `additional` new keys.
@@ -370,12 +436,41 @@ impl<K: Eq + Hash + Drop, V: Drop, S: BuildHasher, A: Allocator + Clone> Table<K
 
     /// Removes `key` and returns its value, or `None` if the key is absent.
     ///
-    /// Does not allocate, and does not change the capacity: another key can then be inserted.
+    /// Preserves the order of the other keys. Does not allocate, and does not change the capacity:
+    /// another key can then be inserted.
     #[inline]
     pub fn remove(&mut self, key: &K) -> Option<V>
         // It returns the value of the key, which then has none.
         ensures old { result ≡ value K.eq self.old.entries key.now }
         ensures removed { Sets K.eq self.old.entries key.now None self.new.entries }
+        ensures others { self.new.entries ≡ remove_entry (K.eq key.now) self.old.entries }
+
+        // If the key was present, there is one key less, and capacity for one more.
+        ensures one_less { IsSome result
+            → length self.new.entries + 1 ≡ length self.old.entries }
+        ensures room { IsSome result → HasRoom self.new 1 }
+
+        // Capacity and builder do not change; if the key was absent, nothing does.
+        ensures capacity { self.new.capacity ≡ self.old.capacity }
+        ensures builder { self.new.builder ≡ self.old.builder }
+        ensures absent { result ≡ None → self.new ≡ self.old }
+    {
+        match self.remove_entry(key) {
+            Some(entry) => Some(entry.1),
+            None => None,
+        }
+    }
+
+    /// Removes `key` and returns the stored key and its value, or `None` if the key is absent.
+    ///
+    /// The stored key is equal to `key`. Preserves the order of the other keys. Does not allocate,
+    /// and does not change the capacity: another key can then be inserted.
+    #[inline]
+    pub fn remove_entry(&mut self, key: &K) -> Option<(K, V)>
+        // It returns the entry of the key, which then has none.
+        ensures old { result ≡ entry_of K.eq self.old.entries key.now }
+        ensures removed { Sets K.eq self.old.entries key.now None self.new.entries }
+        ensures others { self.new.entries ≡ remove_entry (K.eq key.now) self.old.entries }
 
         // If the key was present, there is one key less, and capacity for one more.
         ensures one_less { IsSome result
@@ -396,28 +491,7 @@ impl<K: Eq + Hash + Drop, V: Drop, S: BuildHasher, A: Allocator + Clone> Table<K
             None => unreachable!(),
         };
         self.count -= 1;
-        Some(entry.1)
-    }
-
-    /// Removes all keys and drops them with their values.
-    ///
-    /// Does not allocate, and does not change the capacity.
-    pub fn clear(&mut self)
-        ensures { self.new ≡ record {
-          entries = [];
-          capacity = self.old.capacity;
-          builder = self.old.builder;
-        } }
-    {
-        self.count = 0;
-        match &mut self.index {
-            Some(index) => {
-                let tags = index.tags.as_slice();
-                drop_between(tags, &mut self.places, 0, tags.len());
-                free_all(index);
-            }
-            None => {}
-        }
+        Some(entry)
     }
 
     /// Shrinks the capacity to that of a new table for as many keys, if that is less.
@@ -460,6 +534,29 @@ impl<K: Eq + Hash + Drop, V: Drop, S: BuildHasher, A: Allocator + Clone> Table<K
     }
 }
 
+impl<K: Eq + Hash + Drop, V: Drop, S: BuildHasher, A: Allocator> Table<K, V, S, A> {
+    /// Removes all keys and drops them with their values.
+    ///
+    /// Does not allocate, and does not change the capacity.
+    pub fn clear(&mut self)
+        ensures { self.new ≡ record {
+          entries = [];
+          capacity = self.old.capacity;
+          builder = self.old.builder;
+        } }
+    {
+        self.count = 0;
+        match &mut self.index {
+            Some(index) => {
+                let tags = index.tags.as_slice();
+                drop_between(tags, &mut self.places, 0, tags.len());
+                free_all(index);
+            }
+            None => {}
+        }
+    }
+}
+
 impl<K: Eq + Hash + Drop, V: Drop, S: BuildHasher + Drop, A: Allocator> Table<K, V, S, A> {
     /// Consumes the table and returns an iterator over its keys and values.
     ///
@@ -476,6 +573,26 @@ impl<K: Eq + Hash + Drop, V: Drop, S: BuildHasher + Drop, A: Allocator> Table<K,
         } = self;
         drop(builder);
         IntoIter::over(index, places, count)
+    }
+
+    /// Consumes the table and returns an iterator over its keys, in the order of `iter`.
+    ///
+    /// Does not allocate.
+    pub fn into_keys(self) -> IntoKeys<K, V, A>
+        ensures { result ≡ map (λ e. e.0) self.entries }
+    {
+        let keys = self.into_iter();
+        IntoKeys { rest: keys }
+    }
+
+    /// Consumes the table and returns an iterator over its values, in the order of `iter`.
+    ///
+    /// Does not allocate.
+    pub fn into_values(self) -> IntoValues<K, V, A>
+        ensures { result ≡ map (λ e. e.1) self.entries }
+    {
+        let values = self.into_iter();
+        IntoValues { rest: values }
     }
 }
 

@@ -21,6 +21,8 @@ mod recycler;
 #[cfg(test)]
 mod ring;
 #[cfg(test)]
+mod set;
+#[cfg(test)]
 mod slots;
 #[cfg(test)]
 mod small;

@@ -2,7 +2,7 @@
 use allocator_api2::boxed::BoxedText;
 use allocator_api2::collections::TryReserveErrorKind;
 use allocator_api2::vec::Vec;
-use ex_table::table::Table;
+use ex_table::table::{Table, TryInsertError};
 use std::alloc::{AllocError, Global};
 use std::default::{Emptied, MadeWith};
 use std::hash::{BuildHasher, BuildHasherDefault, FoldHasher, Hasher};
@@ -392,4 +392,91 @@ fn the_last_of_equal_keys_sets_the_value(rt: HostRuntime) -> Result<(), Fail> {
     }
     assert!(rt; sum == 23 && prints(heap, &made(heap, &[(1, 2)])?, "{1: 2} [(1, 2)] [1] [2]")?);
     Ok(())
+}
+
+#[test]
+fn an_entry_is_read_and_removed(rt: HostRuntime) {
+    let heap = Faulty::new(rt.alloc());
+    let mut table = none(&heap);
+    assert!(rt; table.get_key_value(&3).is_none() && table.remove_entry(&3).is_none());
+    assert!(rt; takes(&mut table, 0..10) && table.get_key_value(&3) == Some((&3, &3)));
+    assert!(rt; table.remove_entry(&3) == Some((3, 3)) && table.remove_entry(&3) == None);
+    assert!(rt; table.len() == 9 && heap.requests() == 3);
+}
+
+// The pair in the error of a failed `try_insert`, and the kind of the error if it is not that the
+// key is present.
+fn refused(
+    table: &mut Small<'_>,
+    key: u64,
+    value: u64,
+) -> Option<((u64, u64), Option<TryReserveErrorKind>)> {
+    match table.try_insert(key, value) {
+        Ok(lent) => {
+            *lent = lent.wrapping_add(1);
+            None
+        }
+        Err(TryInsertError::Occupied { key, value }) => Some(((key, value), None)),
+        Err(TryInsertError::Refused(back)) => Some((back.source, Some(back.error.kind()))),
+    }
+}
+
+#[test]
+fn a_present_key_is_not_inserted(rt: HostRuntime) {
+    let heap = Faulty::new(rt.alloc());
+    let mut table = none(&heap);
+    assert!(rt; refused(&mut table, 1, 2) == None && takes(&mut table, 2..15));
+    heap.fail_requests(0, 1);
+    assert!(rt; refused(&mut table, 15, 3) == Some(((15, 3), Some(too_many(28)))));
+    assert!(rt; refused(&mut table, 1, 3) == Some(((1, 3), None)));
+    assert!(rt; has(&table, 1) == Some(3) && has(&table, 15) == None);
+}
+
+#[test]
+fn keys_that_a_closure_keeps_remain(rt: HostRuntime) {
+    let heap = Faulty::new(rt.alloc());
+    let mut table = none(&heap);
+    assert!(rt; takes(&mut table, 0..100));
+    let mut calls = 0u64;
+    table.retain(|key, value| {
+        calls = calls.wrapping_add(1);
+        *value = value.wrapping_add(1);
+        *key & 3 == 0
+    });
+    assert!(rt; calls == 100 && table.len() == 25 && table.capacity() == 112);
+    assert!(rt; has(&table, 4) == Some(5) && has(&table, 5) == None);
+}
+
+#[test]
+fn a_table_is_turned_into_keys_or_values(rt: HostRuntime) {
+    let heap = Faulty::new(rt.alloc());
+    let mut table = none(&heap);
+    assert!(rt; takes(&mut table, 1..11));
+    let mut keys = table.into_keys();
+    let mut sum = 0u64;
+    assert!(rt; keys.len() == 10 && keys.next().is_some());
+    drop(keys);
+    let mut table = none(&heap);
+    assert!(rt; takes(&mut table, 1..11));
+    for value in table.into_values() {
+        sum = sum.saturating_add(value);
+    }
+    assert!(rt; sum == 55 && heap.outstanding() == 0);
+}
+
+#[test]
+fn a_table_is_drained(rt: HostRuntime) {
+    let heap = Faulty::new(rt.alloc());
+    let mut table = none(&heap);
+    assert!(rt; takes(&mut table, 1..11));
+    let mut sum = 0u64;
+    for (key, _) in table.drain() {
+        sum = sum.saturating_add(key);
+    }
+    assert!(rt; sum == 55 && table.is_empty() && table.capacity() == 14);
+    assert!(rt; takes(&mut table, 1..11));
+    let mut drain = table.drain();
+    assert!(rt; drain.len() == 10 && drain.next().is_some() && drain.len() == 9);
+    drop(drain);
+    assert!(rt; table.is_empty() && table.capacity() == 14 && has(&table, 1) == None);
 }

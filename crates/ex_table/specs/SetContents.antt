@@ -1,0 +1,34 @@
+-- The contents of a set as its users see them.
+use Rattle.std.specs.Prelude.{ℕ, ◌-◌, ◌≤◌, ◌&&◌, Bool, List, map, length, count_by}
+use Rattle.std.specs.List.{list_all}
+use Rattle.std.specs.Set.{is_member}
+use Rattle.ex_table.specs.Contents.{reserved_capacity, TableView}
+
+-- the view of a set: its elements in the order of `iter`, the number of elements that it can hold
+-- without another allocation, and the builder of its hashers
+pub record SetView (T S : Type 0) : Type 0 where
+  pub elements : List T
+  pub capacity : ℕ
+  pub builder : S
+
+-- the set of the keys of the table `t`
+abbrev pub set_of : {T V S : Type 0} → TableView T V S → SetView T S
+set_of t =
+    record { elements = map (λ e. e.0) t.entries; capacity = t.capacity; builder = t.builder }
+
+-- no two of the elements `xs` are equal
+abbrev pub AreDistinct : {T : Type 0} → (T → T → Bool) → List T → Type 0
+AreDistinct {T} eq xs = (x : T) → count_by (eq x) xs ≤ 1
+
+-- each of the elements `xs` is equal to one of `ys`, and the other way round
+abbrev pub same_elements : {T : Type 0} → (T → T → Bool) → (xs ys : List T) → Bool
+same_elements eq xs ys = list_all (is_member eq ys) xs && list_all (is_member eq xs) ys
+
+module _ {T S : Type 0} where
+  -- the set `s` has spare capacity for `k` new elements
+  abbrev pub SetHasRoom : SetView T S → (k : ℕ) → Type 0
+  SetHasRoom s k = k ≤ s.capacity - length s.elements
+
+  -- the capacity of the set `s` after it reserved `k` new elements
+  abbrev pub set_capacity_for : SetView T S → (k : ℕ) → ℕ
+  set_capacity_for s k = reserved_capacity s.capacity (length s.elements) k

@@ -1,0 +1,98 @@
+//! The hash set.
+use allocator_api2::collections::TryReserveErrorKind;
+use ex_table::set::Set;
+use std::alloc::{AllocError, Global};
+use std::hash::{BuildHasherDefault, FoldHasher};
+use std::ops::Range;
+use std::test::Fail;
+use test_allocators::Faulty;
+
+// A set over an allocator that may fail.
+type Small<'a> = Set<u64, BuildHasherDefault<FoldHasher>, &'a Faulty<Global>>;
+
+fn none<'a>(heap: &'a Faulty<Global>) -> Small<'a> {
+    Set::new_in(heap)
+}
+
+// Whether values go in as new ones.
+fn takes(set: &mut Small<'_>, values: Range<u64>) -> bool {
+    let mut all = true;
+    for value in values {
+        all = matches!(set.insert(value), Ok(true)) && all;
+    }
+    all
+}
+
+// The value in the error of a failed insert, and the kind of the error.
+fn returned(set: &mut Small<'_>, value: u64) -> Option<(u64, TryReserveErrorKind)> {
+    match set.insert(value) {
+        Ok(_) => None,
+        Err(back) => Some((back.source, back.error.kind())),
+    }
+}
+
+#[test]
+fn elements_are_inserted_once_and_removed(rt: HostRuntime) {
+    let heap = Faulty::new(rt.alloc());
+    let mut set = none(&heap);
+    assert!(rt; takes(&mut set, 0..14) && matches!(set.insert(3), Ok(false)));
+    assert!(rt; set.contains(&3) && set.get(&3) == Some(&3) && set.get(&20).is_none());
+    heap.fail_requests(0, 1);
+    let kind = TryReserveErrorKind::AllocError { capacity: 28 };
+    assert!(rt; returned(&mut set, 14) == Some((14, kind)) && set.len() == 14);
+    assert!(rt; set.remove(&3) && !set.remove(&3) && set.take(&4) == Some(4));
+    assert!(rt; (set.len(), set.capacity()) == (12, 14) && set.take(&4).is_none());
+    let mut sum = 0u64;
+    for value in &set {
+        sum = sum.saturating_add(*value);
+    }
+    assert!(rt; sum == 84 && set.reserve(3).is_ok() && set.capacity() == 28);
+    set.clear();
+    assert!(rt; set.is_empty() && set.into_iter().next().is_none());
+    assert!(rt; heap.outstanding() == 0);
+}
+
+// Whether a set is a subset of another, is one the other way round, and is disjoint from it.
+fn compared(left: &Small<'_>, right: &Small<'_>) -> (bool, bool, bool) {
+    (
+        left.is_subset(right),
+        left.is_superset(right),
+        left.is_disjoint(right),
+    )
+}
+
+#[test]
+fn sets_are_compared_and_printed(rt: HostRuntime) -> Result<(), Fail> {
+    let heap = Faulty::new(rt.alloc());
+    let (mut few, mut many, mut others) = (none(&heap), none(&heap), none(&heap));
+    assert!(rt; takes(&mut few, 2..3) && takes(&mut many, 1..20) && takes(&mut others, 20..30));
+    assert!(rt; compared(&few, &many) == (true, false, false));
+    assert!(rt; compared(&many, &few) == (false, true, false));
+    assert!(rt; compared(&many, &others) == (false, false, true));
+    assert!(rt; few == few && few != many && prints(rt.alloc(), &few, "{2}")?);
+    Ok(())
+}
+
+#[test]
+fn sets_are_joined(rt: HostRuntime) {
+    let heap = Faulty::new(rt.alloc());
+    let (mut left, mut right) = (none(&heap), none(&heap));
+    assert!(rt; takes(&mut left, 1..5) && takes(&mut right, 3..9));
+    let (mut both, mut only, mut any) = (0u64, 0u64, 0u64);
+    for value in left.intersection(&right) {
+        both = both.saturating_add(*value);
+    }
+    for value in left.difference(&right) {
+        only = only.saturating_add(*value);
+    }
+    for value in left.union(&right) {
+        any = any.saturating_add(*value);
+    }
+    assert!(rt; (both, only, any) == (7, 3, 36));
+}
+
+// Whether a set is printed so.
+fn prints(alloc: Global, set: &Small<'_>, text: &str) -> Result<bool, AllocError> {
+    let printed = format!(in alloc; "{set:?}")?;
+    Ok(printed.as_str() == text)
+}
