@@ -84,7 +84,15 @@ impl<'a, T: Copy + 'a, A: Allocator> Extend<&'a T> for Ring<T, A> {
         HasExtended (type_size T.row) r (map (λ x. x.now) xs) after };
 
     /// Appends a copy of each item of `iter`, as `push_back` does.
-    fn extend<I: IntoIterator<Item = &'a T>>(&mut self, iter: I) -> Result<(), AllocError> {
+    fn extend<I: IntoIterator<Item = &'a T>>(&mut self, iter: I) -> Result<(), AllocError>
+        requires finite { IsFiniteIterable I.into_iter_gives I.IntoIter.can_next
+            I.IntoIter.remaining iter }
+        ensures extended { ExtendsWithItems I.into_iter_gives I.IntoIter.next_gives
+            (λ r xs after. HasExtended (type_size T.row) r (map (λ x. x.now) xs) after)
+            iter self.old self.new result }
+        ensures fits { ((it : I.IntoIter) → I.into_iter_gives iter it
+            → HasRoom self.old (size (I.IntoIter.remaining it))) → IsOk result }
+    {
         'each: for item in iter {
             match self.push_back(*item) {
                 Ok(()) => {}
