@@ -1,6 +1,12 @@
+pub mod Carrying
+pub mod Draining
 pub mod Extending
+pub mod Filling
 pub mod Paid
 pub mod Rings
+pub mod Retaining
+pub mod Searching
 pub mod Showing
+pub mod Swapping
 pub mod Turning
 pub mod Truncating

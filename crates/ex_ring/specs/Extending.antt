@@ -1,9 +1,10 @@
 -- A ring after items were appended, one by one, and a ring with clones of another's items.
-use Rattle.std.specs.Prelude.{◌≡◌, ℕ, List, [], ◌∷◌, ◌++◌, length, Option, ◌⊎◌}
+use Rattle.std.specs.Prelude.{◌≡◌, ℕ, ◌+◌, ◌-◌, ◌<◌, List, [], ◌∷◌, ◌++◌, length, replicate, Option, ◌⊎◌}
 use Rattle.std.specs.Iterator.{Drains, Yields}
 use Rattle.std.specs.List.{AllZip}
 use Rattle.allocator_api2.specs.Growth.{new_capacity}
 use Rattle.allocator_api2.specs.declared.collections.TryReserveError.{TryReserveError}
+use Rattle.allocator_api2.specs.declared.collections.TryReserveErrorKind.TheVariants.{AllocError}
 use Rattle.ex_ring.specs.Ringed.{Ringed, with_written, with_room, LacksRoom}
 
 module _ {T A : Type 0} where
@@ -38,6 +39,35 @@ module _ {T A : Type 0} where
     pub added : List T
     pub each : AllZip clones xs added
     pub put : new ≡ with_written old (old.items ++ added) (length xs)
+
+  -- `new` is `old` with the first items of `n` appended, and not all of them
+  pub record AppendsPart (old : Ringed T A) (n : ℕ) (new : Ringed T A) : Type 0 where
+    pub added : List T
+    pub done : ℕ
+    pub fewer : done < n
+    pub put : new ≡ with_written old (old.items ++ added) done
+
+  -- `new` is `old` with `k` items appended: clones of `x`, and last `x` itself
+  pub record AppendsCopies (clones : T → T → Type 0) (old : Ringed T A) (k : ℕ) (x : T)
+      (new : Ringed T A) : Type 0 where
+    pub added : List T
+    pub each : AllZip clones (replicate (k - 1) x) added
+    pub put : new ≡ with_written old (old.items ++ (added ++ x ∷ [])) k
+
+  -- `new` is `old` after fewer than `k` items were appended and removed again
+  pub record RolledBack (old : Ringed T A) (k : ℕ) (new : Ringed T A) : Type 0 where
+    pub done : ℕ
+    pub fewer : done < k
+    pub put : new ≡ with_written old old.items done
+
+  -- `k` items were not appended to `old`: capacity for them could not be reserved and `new` is
+  -- `old`, or `failure` holds and those appended are removed again
+  abbrev pub AppendFails : (failure : Type 0) (size : ℕ) → Ringed T A → (k : ℕ)
+      → TryReserveError → Ringed T A → Type 0
+  AppendFails failure size old k error new =
+      (LacksRoom size old k error × (new ≡ old))
+      ⊎ (failure × (error.kind ≡ AllocError (length old.items + k))
+      × RolledBack (with_room size old k) k new)
 
 module _ {S T A : Type 0} (next_gives : S → Option T → S → Type 0) (size : ℕ) (iter : S)
     (old : Ringed T A) where

@@ -2,4 +2,6 @@ pub mod Ringed
 pub mod RingInner
 pub mod Paid
 pub mod Lends
+pub mod Drain
 pub mod Extending
+pub mod Retaining

@@ -1,9 +1,14 @@
 -- The model of a ring: what contracts see.
-use Rattle.std.specs.Prelude.{ℕ, ◌+◌, ◌-◌, ◌≤◌, List, [], length, nat_le, if◌then◌else◌}
+use Rattle.std.specs.Prelude.{ℕ, ◌+◌, ◌-◌, ◌≤◌, List, [], drop, length, slice_index_or, slice_set, nat_le, if◌then◌else◌}
 use Rattle.allocator_api2.specs.Growth.{amortized, min_capacity}
 use Rattle.allocator_api2.specs.Room as Room
 use Rattle.allocator_api2.specs.declared.collections.TryReserveError.{TryReserveError}
 use Rattle.allocator_api2.specs.declared.raw_vec.Growth.{Growth}
+
+-- the list `xs` without the item at `index`, whose place the first item takes; `d` is read only of an
+-- empty list
+abbrev pub swap_remove_front : {T : Type 0} → List T → (index : ℕ) → (d : T) → List T
+swap_remove_front xs index d = drop 1 (slice_set xs index (slice_index_or xs 0 d))
 
 -- a list with a capacity, in a block that counts the elements it moves and writes
 pub record Ringed (T A : Type 0) : Type 0 where

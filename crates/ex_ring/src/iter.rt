@@ -1,9 +1,10 @@
 //! The iterators of a ring.
-ghost use Rattle.std.specs.Prelude.{◌≡◌, ◌^◌, ◌<◌, length, IfSome, Some, ⊤};
+ghost use Rattle.std.specs.Prelude.{◌≡◌, ◌+◌, ◌^◌, ◌<◌, ◌≤◌, ◌++◌, length, slice_range, IfSome, Some, ⊤};
 ghost use Rattle.std.specs.Iterator.{UpTo, YieldsFirst, YieldsLast, at_most, item_count};
 ghost use Rattle.std.specs.Iterator.SizeHint.{IsWithinCount};
 ghost use Rattle.std.specs.List.{AllZip};
 ghost use Rattle.std.specs.Map.Iter.{TakesFirst, TakesLast, ShowsInOrder, ShowsInReverse, GivesInOrder, GivesInReverse, deref};
+ghost use Rattle.allocator_api2.specs.Ranges.{IsRangeOf};
 
 use crate::ring::Ring;
 use std::alloc::{AllocError, Allocator, Global};
@@ -11,6 +12,7 @@ use std::fmt;
 use std::fmt::{Debug, Formatter};
 use std::iter::FusedIterator;
 use std::marker::Model;
+use std_alloc::part::SliceRange;
 
 /// A double-ended iterator over references to the items.
 ///
@@ -44,6 +46,45 @@ impl<T, A: Allocator> Ring<T, A> {
         let (first, others) = self.as_slices();
         Iter { first, others }
     }
+
+    /// Returns a double-ended iterator over references to the items of the range, from front to
+    /// back.
+    #[tactic(auto, using(crate::proofs::Showing::ranged))]
+    pub fn range<R: SliceRange>(&self, range: R) -> Iter<'_, T>
+        // The range is within the length.
+        requires range { IsRangeOf R.SliceRange range (length self.now.items) }
+
+        // The iterator has the items of the range.
+        ensures items { let end = R.end range (length self.now.items) in
+            result ≡ slice_range self.now.items (R.start range) end }
+        ensures fits_usize { length result < 2 ^ 64 }
+        ensures in_order { ShowsInOrder (deref {X = T}) }
+        ensures in_reverse { ShowsInReverse (deref {X = T}) }
+    {
+        let (start, end) = range.within(self.len());
+        let (first, others) = self.as_slices();
+        let part = part_of(first, others, start, end);
+        Iter {
+            first: part.0,
+            others: part.1,
+        }
+    }
+}
+
+// Returns the items from `start` up to `end` of two slices in line, as two slices.
+#[tactic(auto, using(crate::proofs::Showing::ranged))]
+fn part_of<'a, T>(first: &'a [T], others: &'a [T], start: usize, end: usize) -> (&'a [T], &'a [T])
+    requires { (start ≤ end) × (end ≤ length first.now + length others.now) }
+    ensures items { let xs = first.now ++ others.now in
+        result.0.now ++ result.1.now ≡ slice_range xs start end }
+    ensures fewer { length result.0.now + length result.1.now
+        ≤ length first.now + length others.now }
+{
+    let count = first.len();
+    (
+        &first[start.min(count)..end.min(count)],
+        &others[start.saturating_sub(count)..end.saturating_sub(count)],
+    )
 }
 
 impl<'a, T> Iterator for Iter<'a, T> {

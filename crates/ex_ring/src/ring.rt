@@ -14,9 +14,13 @@ use std::marker::Model;
 mod access;
 mod compare;
 mod contiguous;
+mod edits;
 mod format;
 mod made;
 mod many;
+mod resize;
+mod retain;
+mod search;
 mod turns;
 
 /// A double-ended queue over the allocator `A`.

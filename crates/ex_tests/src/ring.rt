@@ -146,6 +146,9 @@ enum Call {
     FromIter(u64),
     Append,
     Clone,
+    // Before the second item.
+    Insert,
+    Resize(usize),
 }
 
 // Does it to a ring, and to another. It returns the length of what it makes or changes.
@@ -164,13 +167,16 @@ fn called<'a>(
         Call::FromIter(end) => return Ok(Small::from_iter_in(4..end, heap)?.len()),
         Call::Append => ring.append(other)?,
         Call::Clone => return Ok(ring.clone()?.len()),
+        Call::Insert if ring.len() > 0 => ring.insert(1, 4)?,
+        Call::Insert => {}
+        Call::Resize(len) => ring.resize(len, 4)?,
     }
     Ok(ring.len())
 }
 
 // The calls, the length of what each makes or leaves of a ring of four items in four places, and
 // the capacity that it requests.
-const CALLS: [(Call, usize, usize); 8] = [
+const CALLS: [(Call, usize, usize); 10] = [
     (Call::WithCapacity(5), 5, 5),
     (Call::PushBack, 5, 8),
     (Call::PushFront, 5, 8),
@@ -179,6 +185,8 @@ const CALLS: [(Call, usize, usize); 8] = [
     (Call::FromIter(9), 5, 5),
     (Call::Append, 5, 8),
     (Call::Clone, 4, 4),
+    (Call::Insert, 5, 8),
+    (Call::Resize(9), 9, 9),
 ];
 
 #[test]
@@ -208,6 +216,9 @@ fn what_fits_does_not_allocate(rt: HostRuntime) {
         (Call::PushFront, 6, 0),
         (Call::Extend(9), 11, 0),
         (Call::Append, 12, 0),
+        (Call::Insert, 13, 0),
+        (Call::Resize(15), 15, 0),
+        (Call::Resize(2), 2, 0),
         (Call::WithCapacity(0), 0, 0),
         (Call::FromIter(4), 0, 0),
     ] {
@@ -231,6 +242,7 @@ fn no_ring_grows_past_the_limits(rt: HostRuntime) {
         Call::Reserve(usize::MAX),
         Call::Extend(u64::MAX),
         Call::FromIter(u64::MAX),
+        Call::Resize(usize::MAX),
     ] {
         let error = Err(TryReserveErrorKind::CapacityOverflow.into());
         assert!(rt; called(call, &mut ring, &mut other, &heap) == error);
@@ -275,6 +287,50 @@ fn a_ring_turns_both_ways(rt: HostRuntime) {
     ] {
         assert!(rt; turns(&mut ring, left, by) && has(&ring, &items), "{by}");
     }
+}
+
+// Inserts an item, if the index is within the ring.
+fn inserts(ring: &mut Small<'_>, index: usize, item: u64) -> bool {
+    index <= ring.len() && ring.insert(index, item).is_ok()
+}
+
+#[test]
+fn items_are_inserted_and_removed_anywhere(rt: HostRuntime) {
+    let heap = Faulty::new(rt.alloc());
+    let mut ring = turned(&heap, 0..6);
+    assert!(rt; (ring.remove(1), ring.remove(4), ring.remove(4)) == (Some(1), Some(5), None));
+    assert!(rt;
+        inserts(&mut ring, 1, 10) && inserts(&mut ring, 4, 11) && inserts(&mut ring, 6, 12)
+    );
+    assert!(rt; has(&ring, &[0, 10, 2, 3, 11, 4, 12]));
+    assert!(rt; (ring.swap_remove_back(1), ring.swap_remove_front(3)) == (Some(10), Some(3)));
+    assert!(rt; has(&ring, &[12, 2, 0, 11, 4]));
+    assert!(rt; (ring.swap_remove_back(5), ring.swap_remove_front(5)) == (None, None));
+}
+
+#[test]
+fn sorted_items_are_found_and_shown(rt: HostRuntime) {
+    let heap = Faulty::new(rt.alloc());
+    let mut ring = turned(&heap, 0..9);
+    ring.retain(|item: &u64| -> bool { *item % 2 == 0 });
+    assert!(rt; has(&ring, &[0, 2, 4, 6, 8]));
+    for (item, found) in [(0, Ok(0)), (6, Ok(3)), (8, Ok(4)), (1, Err(1)), (9, Err(5))] {
+        assert!(rt; ring.binary_search(&item) == found);
+    }
+    if ring.len() == 5 {
+        let mut part = ring.range(1..);
+        assert!(rt; (part.next(), part.next_back(), part.len()) == (Some(&2), Some(&8), 2));
+    }
+}
+
+#[test]
+fn all_items_are_taken_out(rt: HostRuntime) {
+    let heap = Faulty::new(rt.alloc());
+    let mut ring = turned(&heap, 0..6);
+    let mut items = ring.drain(..);
+    assert!(rt; (items.next(), items.next_back(), items.len()) == (Some(0), Some(5), 4));
+    drop(items);
+    assert!(rt; ring.is_empty() && ring.capacity() == 8);
 }
 
 // A ring of what an iterator returns, extended by each kind of item.

@@ -13,7 +13,7 @@ impl<T, A: Allocator> Ring<T, A> {
 
     // Returns a mutable reference to the item at `index`.
     #[tactic(auto, using(crate::proofs::Rings::written_anew))]
-    fn item_mut(&mut self, index: usize) -> &mut T
+    pub(super) fn item_mut(&mut self, index: usize) -> &mut T
         requires { index < length self.old.items }
         ensures* writes_back { sem 𝓛 (lends_item T.row A.row A.Allocator self.entry index result) }
         ensures value { slice_get self.old.items index ≡ Some result.now }
