@@ -1,5 +1,5 @@
 -- Items that are appended to a small vector, one by one.
-use Rattle.std.proofs.Common.{◌≡◌, ℕ, ◌+◌, ◌-◌, ◌<◌, Bool, true, false, List, [], ◌∷◌, ◌++◌, length, take, refl, sym, ap, ◌∙◌, arith, append_assoc, length-append}
+use Rattle.std.proofs.Common.{◌≡◌, ℕ, ◌+◌, ◌-◌, ◌<◌, ◌≤◌, Bool, true, false, List, [], ◌∷◌, ◌++◌, length, take, refl, sym, ap, ◌∙◌, arith, append_assoc, length-append}
 use Rattle.std.proofs.Common.{inl, inr, subst}
 use Rattle.std.specs.Iterator.{Drains, DrainsIf, Yields}
 use Rattle.std.specs.Prelude.{◌⊎◌, Option, Result, Ok, Err, IfErr, IfOk, OnOk, nat_le, if◌then◌else◌}
@@ -33,12 +33,23 @@ module _ {T A : Type 0} (size N : ℕ) where
   pub length-pushed_all : (s : Inlined T A) (xs : List T) → length (pushed_all size N s xs).items ≡ length s.items + length xs
   length-pushed_all s xs = ap length (items-pushed_all s xs) ∙ length-append s.items xs
 
+  pub items-push : (s new : Inlined T A) (x : T) → new ≡ pushed size N s x → new.items ≡ s.items ++ x ∷ []
+  items-push s new x e = ap (λ t. t.items) e
+
   -- if m items fit, one fits and then fewer others
   pub room-pushed : (s : Inlined T A) (x : T) (m n : ℕ) → n < m → HasRoom N s m → HasRoom N (pushed size N s x) n
   unfolding with_room
   room-pushed s x m n fewer room =
       let one : nat_le 1 (capacity N s - length s.items) ≡ true = grind (arith, nat_tests, fewer, room) in
       rw one (omega (arith, length-append s.items (x ∷ []), fewer, room))
+
+  -- and if they fit, no capacity was reserved for a part of them
+  pub room-reserved : (old mid : Inlined T A) (k n : ℕ) → mid ≡ with_room size N old k → k ≤ n → HasRoom N old n → HasRoom N mid n
+  unfolding with_room
+  room-reserved old mid k n made few room =
+      let fits : nat_le k (capacity N old - length old.items) ≡ true = grind (arith, nat_tests, few, room) in
+      let same : mid ≡ old = made ∙ ap (λ b. if b then old else in_block size (length old.items + k) old) fits in
+      subst (λ s. HasRoom N s n) (sym same) room
 
 -- what was moved, if the items are in a block
 twice : (b : Bool) (k m n : ℕ) → k + (if b then m else 0) + (if b then n else 0) ≡ k + (if b then m + n else 0)

@@ -1,5 +1,5 @@
 -- A small vector after items were appended, one by one, and one with clones.
-use Rattle.std.specs.Prelude.{◌≡◌, ℕ, ◌+◌, ◌<◌, List, [], ◌∷◌, ◌++◌, length, take, drop, Option, ◌⊎◌}
+use Rattle.std.specs.Prelude.{◌≡◌, ℕ, ◌+◌, ◌-◌, ◌<◌, List, [], ◌∷◌, ◌++◌, length, take, drop, replicate, Option, ◌⊎◌}
 use Rattle.std.specs.Iterator.{Drains, Yields}
 use Rattle.std.specs.List.{AllZip, fold, slice_range}
 use Rattle.allocator_api2.specs.declared.collections.TryReserveError.{TryReserveError}
@@ -25,6 +25,13 @@ module _ {T A : Type 0} where
     pub added : List T
     pub each : AllZip clones xs added
     pub put : new ≡ with_written old (old.items ++ added) (length xs)
+
+  -- `new` is `old` with `k` items appended: clones of `x`, and last `x` itself
+  pub record AppendsCopies (clones : T → T → Type 0) (old : Inlined T A) (k : ℕ) (x : T)
+      (new : Inlined T A) : Type 0 where
+    pub added : List T
+    pub each : AllZip clones (replicate (k - 1) x) added
+    pub put : new ≡ with_written old (old.items ++ (added ++ x ∷ [])) k
 
   -- `new` is `old` with the first items of `n` appended, and not all of them
   pub record AppendsPart (old : Inlined T A) (n : ℕ) (new : Inlined T A) : Type 0 where

@@ -12,12 +12,16 @@ use std::alloc::Allocator;
 use std::marker::Model;
 use std::mem;
 
+mod bytes;
 mod collect;
 mod compare;
+mod convert;
+mod dedup;
 mod edits;
 mod many;
 mod places;
 mod removals;
+mod resize;
 mod slices;
 
 // Where the items are, and the allocator.

@@ -1,5 +1,5 @@
 //! The items of a small vector: by their index, and by its iterators.
-ghost use Rattle.std.specs.Prelude.{◌≡◌, ◌<◌, ◌≤◌, ◌^◌, All, length, slice_get, slice_index_or, IfSome, Some};
+ghost use Rattle.std.specs.Prelude.{◌≡◌, ◌<◌, ◌≤◌, ◌^◌, [], All, length, slice_get, slice_index_or, IfSome, Some};
 ghost use Rattle.std.specs.Borrow.{sem};
 ghost use Rattle.std.specs.List.{AllZip};
 ghost use Rattle.std.specs.Option.{option_copied_mut};
@@ -8,13 +8,14 @@ ghost use Rattle.std.specs.Iterator.Adapters.{IterYieldsInOrder, IterYieldsInRev
 ghost use Rattle.std.specs.Iterator.SizeHint.{IsWithinCount};
 ghost use Rattle.std.specs.Iterator.Runs.{YieldsInOrder, YieldsInReverse};
 ghost use Rattle.std.specs.Slice.Iter.{iter_rest, iter_mut_rest};
+ghost use Rattle.ex_inline.specs.Inlined.{in_place};
 
 use crate::inline::{Data, InlineVec};
 use std::alloc::{AllocError, Allocator};
 use std::fmt::{Debug, Formatter};
 use std::iter::FusedIterator;
 use std::marker::Model;
-use std::ops::{Index, IndexMut};
+use std::ops::{Index, IndexMut, RangeFull};
 use std::slice::{Iter, IterMut};
 use std::{fmt, mem};
 
@@ -190,6 +191,26 @@ impl<T, A: Allocator, const N: usize> InlineVec<T, A, N> {
             rest: self,
             front: 0,
         }
+    }
+}
+
+impl<T: Default + Drop, A: Allocator + Copy, const N: usize> InlineVec<T, A, N> {
+    /// Removes all items and returns a double-ended iterator that owns them. The range is `..`.
+    ///
+    /// Does not allocate. The iterator has the block too, if there is one, and the vector is inline
+    /// afterwards.
+    pub fn drain(&mut self, _all: RangeFull) -> IntoIter<T, A, N>
+        // The iterator has all items.
+        ensures items { result ≡ self.old.items }
+        ensures runs { YieldsInOrder (YieldsFirst {A = T} (λ rest. rest)) (λ rest. rest) }
+        ensures runs_back { YieldsInReverse (YieldsLast {A = T} (λ rest. rest)) (λ rest. rest) }
+
+        // The vector is as a new one.
+        ensures emptied { self.new ≡ in_place [] self.old.alloc }
+    {
+        let alloc = *self.allocator();
+        let items = mem::replace(self, InlineVec::new_in(alloc));
+        items.into_iter()
     }
 }
 

@@ -6,6 +6,8 @@ use ex_inline::inline::InlineVec;
 use std::alloc::{AllocError, Global};
 use std::cell::Cell;
 use std::cmp::Ordering;
+use std::io::Write;
+use std::iter::Extend;
 use std::mem::{self, size_of};
 use std::ops::Range;
 use std::test::Fail;
@@ -101,6 +103,21 @@ fn poured(v: Small<'_>) -> Result<usize, TryReserveError> {
         Ok(items) => Ok(items.len()),
         Err(refused) => Err(refused.error),
     }
+}
+
+// How many items go into a boxed slice.
+fn boxed(v: Small<'_>) -> Result<usize, TryReserveError> {
+    match v.into_boxed_slice() {
+        Ok(items) => Ok(items.as_slice().len()),
+        Err(refused) => Err(refused.error),
+    }
+}
+
+// Appends two items of another vector.
+fn appends(v: &mut Small<'_>) -> Result<(), TryReserveError> {
+    let mut other = none(*v.allocator());
+    takes(&mut other, 8..10);
+    v.append(&mut other)
 }
 
 fn cloned<'a>(v: &Small<'a>) -> Result<Small<'a>, TryReserveError> {
@@ -226,6 +243,55 @@ fn each_removed_item_is_dropped_at_once(rt: HostRuntime) {
         assert!(rt; dropped_by(&heap, &drops, len) == dropped);
     }
     assert!(rt; is_all_freed(&heap));
+}
+
+// Whether all items are taken out, and none is left.
+fn is_drained(v: &mut Small<'_>) -> bool {
+    let mut items = v.drain(..);
+    let ends = (items.next(), items.next_back());
+    drop(items);
+    ends == (Some(4), Some(7)) && v.is_empty()
+}
+
+#[test]
+fn items_are_appended_and_repeats_removed(rt: HostRuntime) {
+    let heap = Faulty::new(rt.alloc());
+    let mut v = collected_of(&[4, 4, 5, 5, 5, 4], &heap).unwrap_or(none(&heap));
+    v.dedup();
+    assert!(rt; has(&v, &[4, 5, 4]));
+    assert!(rt; appends(&mut v).is_ok() && has(&v, &[4, 5, 4, 8, 9]));
+    assert!(rt; v.resize(2, 7).is_ok() && v.resize(4, 7).is_ok() && has(&v, &[4, 5, 7, 7]));
+    assert!(rt; is_drained(&mut v) && heap.outstanding() == 0);
+}
+
+// The bytes that are written to a vector of up to five inline.
+fn written(heap: &Faulty<Global>) -> Option<InlineVec<u8, &Faulty<Global>, 5>> {
+    let mut bytes: InlineVec<u8, &Faulty<Global>, 5> = InlineVec::new_in(heap);
+    bytes.write_all(b"small").ok()?;
+    Some(bytes)
+}
+
+#[test]
+fn bytes_are_written(rt: HostRuntime) {
+    let heap = Faulty::new(rt.alloc());
+    match written(&heap) {
+        Some(bytes) => assert!(rt; bytes.as_slice() == b"small".as_slice() && heap.requests() == 0),
+        None => assert!(rt; false),
+    }
+}
+
+// A vector of the items, to which references are appended.
+fn extended<'a>(heap: &'a Faulty<Global>) -> Result<Small<'a>, AllocError> {
+    let mut v = none(heap);
+    Extend::extend(&mut v, &[1u64, 2])?;
+    Ok(v)
+}
+
+#[test]
+fn references_are_appended(rt: HostRuntime) -> Result<(), Fail> {
+    let heap = Faulty::new(rt.alloc());
+    assert!(rt; has(&extended(&heap)?, &[1, 2]) && heap.requests() == 0);
+    Ok(())
 }
 
 // The sum of the items, each of which is halved before.
@@ -367,6 +433,9 @@ enum Call {
     FromSlice,
     WithCapacity(usize),
     ExtendFromSlice,
+    Append,
+    Resize(usize),
+    IntoBoxedSlice,
 }
 
 // How it ends on a vector. What it makes is dropped.
@@ -387,6 +456,9 @@ fn end_of_call(call: Call, v: &mut Small<'_>, heap: &Faulty<Global>) -> End {
         Call::FromSlice => end_of(copied(&[1, 2, 3, 4], heap)),
         Call::WithCapacity(capacity) => end_of(Small::with_capacity_in(capacity, heap)),
         Call::ExtendFromSlice => end_of(v.extend_from_slice(&[1, 2, 3, 4])),
+        Call::Append => end_of(appends(v)),
+        Call::Resize(len) => end_of(v.resize(len, 7)),
+        Call::IntoBoxedSlice => end_of(boxed(mem::replace(v, none(*v.allocator())))),
     }
 }
 
@@ -403,7 +475,7 @@ fn seen(heap: &Faulty<Global>, call: Call, count: u64, failed: u64) -> (End, u64
 
 // A call on so many items, of which three fit inline, and the number of elements that it allocates;
 // 0 if it does not allocate.
-fn rows() -> [(Call, u64, usize); 25] {
+fn rows() -> [(Call, u64, usize); 31] {
     [
         (Call::Push, 3, 4),
         (Call::Push, 2, 0),
@@ -430,6 +502,12 @@ fn rows() -> [(Call, u64, usize); 25] {
         (Call::WithCapacity(9), 0, 9),
         (Call::WithCapacity(2), 0, 0),
         (Call::ExtendFromSlice, 3, 7),
+        (Call::Append, 1, 0),
+        (Call::Append, 2, 4),
+        (Call::Resize(3), 2, 0),
+        (Call::Resize(9), 3, 9),
+        (Call::IntoBoxedSlice, 2, 2),
+        (Call::IntoBoxedSlice, 4, 0),
     ]
 }
 
@@ -461,6 +539,7 @@ fn no_small_vector_grows_past_the_limits(rt: HostRuntime) {
         Call::SetPlaces(1 << 60),
         Call::FromIter(u64::MAX),
         Call::WithCapacity(1 << 60),
+        Call::Resize(1 << 60),
     ] {
         assert!(rt; seen(&heap, call, 3, 0) == (End::TooLong, 0));
     }

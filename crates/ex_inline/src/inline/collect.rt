@@ -98,7 +98,14 @@ impl<'a, T: Default + Copy + 'a, A: Allocator + Copy, const N: usize> Extend<&'a
     /// Appends copies of what the items of `iter` refer to.
     ///
     /// Allocates and fails as for items by value.
-    fn extend<U: IntoIterator<Item = &'a T>>(&mut self, iter: U) -> Result<(), AllocError> {
+    fn extend<U: IntoIterator<Item = &'a T>>(&mut self, iter: U) -> Result<(), AllocError>
+        requires finite { IsFiniteIterable U.into_iter_gives U.IntoIter.can_next
+            U.IntoIter.remaining iter }
+        ensures extended { ExtendsWithItems U.into_iter_gives U.IntoIter.next_gives
+            (λ s rs t. t.items ≡ s.items ++ map (λ r. r.now) rs) iter self.old self.new result }
+        ensures fits { ((it : U.IntoIter) → U.into_iter_gives iter it
+            → HasRoom N self.old (size (U.IntoIter.remaining it))) → IsOk result }
+    {
         let items = iter.into_iter();
         let bound = items.size_hint().0;
         if let Err(_) = self.reserve(bound) {

@@ -93,6 +93,47 @@ impl<T: Default + Drop, A: Allocator + Copy, const N: usize> InlineVec<T, A, N> 
         Ok(taken)
     }
 
+    /// Moves all items of `other` to the end of this vector, and leaves `other` empty.
+    ///
+    /// Allocates only if the items do not fit, as `reserve` does. The capacity of `other` does not
+    /// change.
+    ///
+    /// # Errors
+    /// `CapacityOverflow` or `AllocError`, as `reserve` returns them. Both vectors are unchanged.
+    pub fn append(&mut self, other: &mut Self) -> Result<(), TryReserveError>
+        // If the items fit, the call succeeds.
+        ensures fits { HasRoom N self.old (length other.old.items) → IsOk result }
+
+        // Success moves all items.
+        ensures moved { let n = length other.old.items in
+            let roomy = with_room (type_size T.row) N self.old n in
+            OnOk result (self.new ≡ with_written roomy (self.old.items ++ other.old.items) n) }
+        ensures emptied { OnOk result (other.new ≡ with_items other.old []) }
+
+        // Failure changes nothing.
+        ensures error { IfErr result
+            (LacksRoom (type_size T.row) N self.old (length other.old.items)) }
+        ensures unchanged { OnErr result ((self.new ≡ self.old) × (other.new ≡ other.old)) }
+    {
+        self.reserve(other.len())?;
+        other.reverse_items();
+        self.take_reversed(other);
+        Ok(())
+    }
+
+    // Moves all items of `other`, the last one first, to the end. They must fit.
+    #[tactic(auto, using(crate::proofs::Bringing::moving))]
+    fn take_reversed(&mut self, other: &mut Self)
+        requires { HasRoom N self.old (length other.old.items) }
+        ensures moved { let xs = other.old.items in
+            self.new ≡ with_written self.old (self.old.items ++ reverse xs) (length xs) }
+        ensures emptied { other.new ≡ with_items other.old [] }
+    {
+        'each: while let Some(item) = other.pop() {
+            self.put_last(item);
+        }
+    }
+
     // Moves the items from `from` on before the one at `index`.
     #[tactic(auto, using(crate::proofs::Bringing::bringing))]
     fn move_tail(&mut self, index: usize, from: usize)

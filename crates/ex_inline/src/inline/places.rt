@@ -121,7 +121,7 @@ impl<T: Default + Drop, A: Allocator + Copy, const N: usize> InlineVec<T, A, N> 
 // Moves the items of `few` into a new block of exactly `capacity` places, and returns it as a
 // vector.
 #[tactic(auto, unfolding(crate::specs::Inlined::in_new_block))]
-fn move_to_exact_block<T: Default + Drop, A: Allocator, const N: usize>(
+pub(super) fn move_to_exact_block<T: Default + Drop, A: Allocator, const N: usize>(
     few: &mut Few<T, N>,
     alloc: A,
     capacity: usize,

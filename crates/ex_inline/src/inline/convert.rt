@@ -1,0 +1,72 @@
+//! Conversions of a small vector.
+ghost use Rattle.std.specs.Prelude.{◌≡◌, length, true, IfErr, IfOk, IsOk, OnErr};
+ghost use Rattle.allocator_api2.specs.Errors.{IsErrorFor};
+ghost use Rattle.allocator_api2.specs.declared.raw_vec.Growth.TheVariants.{Doubling};
+
+use crate::few::Few;
+use crate::inline::places::move_to_exact_block;
+use crate::inline::{Data, InlineVec};
+use allocator_api2::boxed::BoxedSlice;
+use allocator_api2::collections::{Refused, TryReserveError};
+use std::alloc::Allocator;
+
+impl<T: Default + Drop, A: Allocator + Copy, const N: usize> InlineVec<T, A, N> {
+    /// Returns the items as a boxed slice.
+    ///
+    /// Allocates a block for exactly the items, except if they are in such a block already.
+    ///
+    /// # Errors
+    /// `CapacityOverflow`, or `AllocError` with the length, if the allocation fails. The small
+    /// vector is returned in the error, as it was.
+    pub fn into_boxed_slice(self) -> Result<BoxedSlice<T, A>, Refused<Self>>
+        ensures fits { self.spilled ≡ true → length self.items ≡ self.block → IsOk result }
+        ensures made { IfOk result (λ b.
+            b ≡ record { items = self.items; growth = Doubling; alloc = self.alloc }) }
+        ensures returned { IfErr result (λ r. r.source ≡ self) }
+        ensures error { IfErr result (λ r. IsErrorFor r.error (length self.items)) }
+    {
+        let InlineVec { data } = self;
+        match data {
+            Data::InBlock(heap) => match heap.into_boxed_slice() {
+                Ok(boxed) => Ok(boxed),
+                Err(refused) => Err(Refused {
+                    source: InlineVec {
+                        data: Data::InBlock(refused.source),
+                    },
+                    error: refused.error,
+                }),
+            },
+            Data::InPlace(few, alloc) => {
+                let mut few = few;
+                match move_to_boxed_slice(&mut few, alloc) {
+                    Ok(boxed) => Ok(boxed),
+                    Err(error) => Err(Refused {
+                        source: InlineVec {
+                            data: Data::InPlace(few, alloc),
+                        },
+                        error,
+                    }),
+                }
+            }
+        }
+    }
+}
+
+// Moves the items of `few` into a new block for exactly these, and returns it as a boxed slice.
+#[tactic(auto, unfolding(crate::specs::Inlined::in_new_block), using(allocator_api2::proofs::Blocks::with_room))]
+fn move_to_boxed_slice<T: Default + Drop, A: Allocator, const N: usize>(
+    few: &mut Few<T, N>,
+    alloc: A,
+) -> Result<BoxedSlice<T, A>, TryReserveError>
+    ensures made { IfOk result (λ b.
+        b ≡ record { items = few.old; growth = Doubling; alloc = alloc }) }
+    ensures error { IfErr result (λ e. IsErrorFor e (length few.old)) }
+    ensures unchanged { OnErr result (few.new ≡ few.old) }
+{
+    let len = few.len();
+    let heap = move_to_exact_block(few, alloc, len)?;
+    match heap.into_boxed_slice() {
+        Ok(boxed) => Ok(boxed),
+        Err(_) => unreachable!(),
+    }
+}
