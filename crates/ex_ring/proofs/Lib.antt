@@ -1,5 +1,6 @@
 pub mod Carrying
 pub mod Draining
+pub mod Exchanging
 pub mod Extending
 pub mod Filling
 pub mod Paid

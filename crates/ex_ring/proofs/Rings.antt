@@ -248,5 +248,13 @@ pub ruleset straightened = (nat_tests, straight, turned_straight)
 
 pub ruleset in_one_run = (nat_tests, length-parts, IsRun-none, in_line)
 
+-- the two runs were joined as ds at the first places, where none was wrapped
+pub gathered_straight : {X : Type 0} (cs ds : List (Option X)) (f n w : ℕ) → w ≡ 0 → run ds 0 (w + n) ≡ run cs 0 w ++ run cs f n → run ds 0 (n + w) ≡ parts cs f n w
+gathered_straight cs ds f n w e whole =
+    let order : n + w ≡ w + n = omega arith in
+    ap (run ds 0) order ∙ whole ∙ ap (λ ys. ys ++ run cs f n) (run-none cs 0 w e) ∙ sym (no_others cs f n w e)
+
+pub ruleset gathered = (nat_tests, gathered_straight, turned_straight)
+
 -- what is computed of the two slices in turn
 pub ruleset as_two = (flat_map-append, fold-append, list_any-append)

@@ -1,5 +1,5 @@
 -- The fields of a `Ring`: what holds of them, and what contracts see.
-use Rattle.std.specs.Prelude.{◌≡◌, ℕ, ◌+◌, ◌<◌, ◌≤◌, List, ◌++◌, length, Option}
+use Rattle.std.specs.Prelude.{◌≡◌, ℕ, ◌+◌, ◌-◌, ◌<◌, ◌≤◌, List, ◌++◌, length, nat_lt, if◌then◌else◌, Option}
 use Rattle.allocator_api2.specs.Places.{IsRun, run}
 use Rattle.ex_ring.specs.Ringed.{Ringed}
 use Rattle.ex_ring.specs.declared.ring.Ring.TheInside.{Inside}
@@ -11,6 +11,10 @@ pub record HasParts {X : Type 0} (places : List (Option X)) (front count wrapped
   pub others : IsRun places 0 wrapped
   pub apart : wrapped ≤ front
   pub ends : 0 < wrapped → front + count ≡ length places
+
+-- the place of the item at `index`, if the first `count` items are at the places from `front` on
+abbrev pub place_at : (front count index : ℕ) → ℕ
+place_at front count index = if nat_lt index count then front + index else index - count
 
 module _ {T A : Type 0} where
   -- the model of the ring with the fields `r`

@@ -1,6 +1,6 @@
 -- The model of a ring: what contracts see.
-use Rattle.std.specs.Prelude.{ℕ, ◌+◌, ◌-◌, ◌≤◌, List, [], drop, length, slice_index_or, slice_set, nat_le, if◌then◌else◌}
-use Rattle.allocator_api2.specs.Growth.{amortized, min_capacity}
+use Rattle.std.specs.Prelude.{ℕ, ◌+◌, ◌-◌, ◌≤◌, List, [], drop, length, min, slice_index_or, slice_set, nat_le, if◌then◌else◌}
+use Rattle.allocator_api2.specs.Growth.{amortized, min_capacity, new_capacity}
 use Rattle.allocator_api2.specs.Room as Room
 use Rattle.allocator_api2.specs.declared.collections.TryReserveError.{TryReserveError}
 use Rattle.allocator_api2.specs.declared.raw_vec.Growth.{Growth}
@@ -40,6 +40,15 @@ module _ {T A : Type 0} where
   -- written once
   abbrev pub contiguous : Ringed T A → (xs : List T) → Ringed T A
   contiguous r xs = with_written r xs (length r.items)
+
+  -- `r` with capacity for `n` items of `size` bytes, or with its own if that is less
+  abbrev pub with_less : (size : ℕ) → Ringed T A → (n : ℕ) → Ringed T A
+  with_less size r n = record r { capacity = min r.capacity (new_capacity size n) }
+
+  -- `r` after a shrink to `n` items of `size` bytes: if it had more capacity, its items were moved
+  -- into one slice
+  abbrev pub shrunk : (size : ℕ) → Ringed T A → (n : ℕ) → Ringed T A
+  shrunk size r n = if nat_le r.capacity n then r else with_less size (contiguous r r.items) n
 
   -- the capacity that `r` requests when it grows for `k` more items of `size` bytes
   abbrev pub growth_capacity : (size : ℕ) → Ringed T A → (k : ℕ) → ℕ

@@ -21,6 +21,7 @@ mod many;
 mod resize;
 mod retain;
 mod search;
+mod shrink;
 mod turns;
 
 /// A double-ended queue over the allocator `A`.

@@ -323,6 +323,29 @@ fn sorted_items_are_found_and_shown(rt: HostRuntime) {
     }
 }
 
+// Exchanges two items, if they are there.
+fn exchanges(ring: &mut Small<'_>, i: usize, j: usize) -> bool {
+    if i < ring.len() && j < ring.len() {
+        ring.swap(i, j);
+        return true;
+    }
+    false
+}
+
+#[test]
+fn items_are_exchanged_and_capacity_is_freed(rt: HostRuntime) {
+    let heap = Faulty::new(rt.alloc());
+    let mut ring = turned(&heap, 0..6);
+    assert!(rt; exchanges(&mut ring, 1, 4) && exchanges(&mut ring, 0, 1));
+    assert!(rt; has(&ring, &[4, 0, 2, 3, 1, 5]) && ring.capacity() == 8);
+    heap.fail_requests(0, 1);
+    let error = TryReserveErrorKind::AllocError { capacity: 6 }.into();
+    assert!(rt; ring.shrink_to_fit() == Err(error) && ring.capacity() == 8);
+    assert!(rt; ring.shrink_to(7) == Ok(()) && ring.capacity() == 7);
+    assert!(rt; ring.shrink_to_fit() == Ok(()) && ring.capacity() == 6);
+    assert!(rt; has(&ring, &[4, 0, 2, 3, 1, 5]));
+}
+
 #[test]
 fn all_items_are_taken_out(rt: HostRuntime) {
     let heap = Faulty::new(rt.alloc());

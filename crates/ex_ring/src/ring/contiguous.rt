@@ -105,7 +105,7 @@ fn straighten<T, A: Allocator>(
 // Moves the run from `from` on down to the end of the run at the first places. Returns how many
 // values were written.
 #[tactic(auto, using(allocator_api2::proofs::Blocks::in_runs))]
-fn close<T, A: Allocator>(
+pub(super) fn close<T, A: Allocator>(
     block: &mut RawVec<T, A>,
     from: usize,
     count: usize,
@@ -133,7 +133,7 @@ fn close<T, A: Allocator>(
 
 // Rotates the first `len` values of the block to the left by `by`.
 #[tactic(auto, using(crate::proofs::Rings::rewritten))]
-fn turn<T, A: Allocator>(block: &mut RawVec<T, A>, len: usize, by: usize)
+pub(super) fn turn<T, A: Allocator>(block: &mut RawVec<T, A>, len: usize, by: usize)
     requires { IsRun block.old.places 0 len × (by ≤ len) }
     ensures filled { IsRun block.new.places 0 len }
     ensures items { let before = run block.old.places 0 len in

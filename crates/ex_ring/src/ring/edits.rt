@@ -1,8 +1,10 @@
 //! Items inserted, removed and exchanged anywhere in a ring.
-ghost use Rattle.std.specs.Prelude.{◌≡◌, ◌+◌, ◌-◌, ◌<◌, ◌≤◌, length, insert, remove, min, swap_remove, slice_get, slice_set, IfErr, IfNone, IfSome, IsOk, OnErr, OnOk, Some};
+ghost use Rattle.std.specs.Prelude.{◌≡◌, ◌+◌, ◌-◌, ◌^◌, ◌<◌, ◌≤◌, length, insert, remove, min, swap_remove, slice_get, slice_set, IfErr, IfNone, IfSome, IsOk, OnErr, OnOk, Some};
 ghost use Rattle.std.specs.Mem.{type_size};
 ghost use Rattle.allocator_api2.specs.Vector.{run_count};
-ghost use Rattle.ex_ring.specs.Ringed.{swap_remove_front, with_written, with_room, HasRoom, LacksRoom};
+ghost use Rattle.std.specs.List.{swap};
+ghost use Rattle.ex_ring.specs.RingInner.{place_at};
+ghost use Rattle.ex_ring.specs.Ringed.{swap_remove_front, with_items, with_written, with_room, HasRoom, LacksRoom};
 
 use crate::ring::Ring;
 use allocator_api2::collections::Refused;
@@ -187,6 +189,29 @@ impl<T, A: Allocator> Ring<T, A> {
         }
     }
 
+    /// Exchanges the items at `i` and `j`.
+    ///
+    /// Both indices are below the length. Nothing is counted as written.
+    #[tactic(auto, using(crate::proofs::Rings::counted))]
+    pub fn swap(&mut self, i: usize, j: usize)
+        requires { (i < length self.old.items) × (j < length self.old.items) }
+        ensures { self.new ≡ with_items self.old (swap self.old.items i j) }
+    {
+        if i == j {
+            return;
+        }
+        self.block.prove_capacity_bounds();
+        let first = place_of(self.front, self.count, i);
+        let second = place_of(self.front, self.count, j);
+        self.block.pair_with(
+            first,
+            second,
+            &mut |x: &mut T, y: &mut T|
+                ensures { (x.new ≡ y.old) × (y.new ≡ x.old) }
+            { mem::swap(x, y) },
+        );
+    }
+
     // Replaces the item at `index` by `item`, which counts as written, and returns the old one.
     fn exchange(&mut self, index: usize, item: T) -> T
         requires { index < length self.old.items }
@@ -197,4 +222,16 @@ impl<T, A: Allocator> Ring<T, A> {
         self.added.add(1);
         mem::replace(self.item_mut(index), item)
     }
+}
+
+// Returns the place of the item at `index`, if the first `count` items are at the places from
+// `front` on, and the others at the first places.
+fn place_of(front: usize, count: usize, index: usize) -> usize
+    requires { front + count < 2 ^ 64 }
+    ensures { result ≡ place_at front count index }
+{
+    if index < count {
+        return front + index;
+    }
+    index - count
 }

@@ -14,8 +14,8 @@ impl<T: Ord, A: Allocator> Ring<T, A> {
     /// inserted so that the items remain sorted, as `Err`.
     pub fn binary_search(&self, x: &T) -> Result<usize, usize>
         ensures bound { IsSearchInRange result (length self.now.items) }
-        ensures ok { IfOk result (HoldsAt (λ y. T.cmp y x.now ≡ Equal) self.now.items) }
-        ensures position { IsBinarySearchResult (λ y. T.cmp y x.now) self.now.items result }
+        ensures found { IfOk result (HoldsAt (λ y. T.cmp y x.now ≡ Equal) self.now.items) }
+        ensures cases { IsBinarySearchResult (λ y. T.cmp y x.now) self.now.items result }
     {
         // The contract of `len` says that the number of items is a `usize`.
         let _len = self.len();
@@ -33,10 +33,10 @@ impl<T: Ord, A: Allocator> Ring<T, A> {
 // Returns `true` if the first of the items is greater than `x`, or if there are none.
 #[tactic(auto, using(std::proofs::lemmas::Option::get_or_from_slice_get))]
 fn begins_above<T: Ord>(items: &[T], x: &T) -> bool
-    ensures above { IsTrue result → (d : T) → 0 < length items.now
+    ensures good { IsTrue result → (d : T) → 0 < length items.now
         → T.cmp (slice_index_or items.now 0 d) x.now ≡ Greater }
     ensures some { result ≡ false → 0 < length items.now }
-    ensures not_above { result ≡ false → (d : T)
+    ensures found { result ≡ false → (d : T)
         → ¬ (T.cmp (slice_index_or items.now 0 d) x.now ≡ Greater) }
 {
     match items.first() {

@@ -6,23 +6,23 @@ use Rattle.std.specs.declared.cmp.Ordering.TheVariants.{Equal}
 use Rattle.ex_ring.proofs.Searching.{in-first, found-second, none-second}
 use Rattle.ex_ring.proofs.ring.Ring.binary_search.Goals as goal
 
-pub returns-then-begins_above-clause-position : goal.returns-then-begins_above-clause-position
-returns-then-begins_above-clause-position g c =
+pub returns-then-begins_above-clause-cases : goal.returns-then-begins_above-clause-cases
+returns-then-begins_above-clause-cases g c =
     let ord : g.row.T.Denot → Ordering = λ y. g.T.Ord.cmp y c.args.x.now in let found = c.binary_search.ensures in
     subst (λ l. IsBinarySearchResult ord l c.binary_search.result) c.as_slices.ensures
-    (in-first ord c.as_slices.result.0.now c.as_slices.result.1.now (c.if-begins_above.ensures.above refl) c.binary_search.result found.bound found.position)
+    (in-first ord c.as_slices.result.0.now c.as_slices.result.1.now (c.if-begins_above.ensures.good refl) c.binary_search.result found.bound found.position)
 
-pub returns-in-Ok-clause-ok : goal.returns-in-Ok-clause-ok
-returns-in-Ok-clause-ok g c =
+pub returns-in-Ok-clause-found : goal.returns-in-Ok-clause-found
+returns-in-Ok-clause-found g c =
     let ord : g.row.T.Denot → Ordering = λ y. g.T.Ord.cmp y c.args.x.now in let xs = c.as_slices.result.0.now in
     subst (λ l. HoldsAt (λ y. ord y ≡ Equal) l (length xs + c.in-Ok.index)) c.as_slices.ensures
-    (found-second ord xs c.as_slices.result.1.now (c.if-begins_above.ensures.some refl) (c.if-begins_above.ensures.not_above refl) c.in-Ok.index c.in-Ok.ensures.ok)
+    (found-second ord xs c.as_slices.result.1.now (c.if-begins_above.ensures.some refl) (c.if-begins_above.ensures.found refl) c.in-Ok.index c.in-Ok.ensures.ok)
 
-pub returns-in-Ok-clause-position : goal.returns-in-Ok-clause-position
-returns-in-Ok-clause-position g c = returns-in-Ok-clause-ok g c
+pub returns-in-Ok-clause-cases : goal.returns-in-Ok-clause-cases
+returns-in-Ok-clause-cases g c = returns-in-Ok-clause-found g c
 
-pub returns-in-Err-clause-position : goal.returns-in-Err-clause-position
-returns-in-Err-clause-position g c =
+pub returns-in-Err-clause-cases : goal.returns-in-Err-clause-cases
+returns-in-Err-clause-cases g c =
     let ord : g.row.T.Denot → Ordering = λ y. g.T.Ord.cmp y c.args.x.now in let xs = c.as_slices.result.0.now in
     subst (λ l. IsBinarySearchResult ord l (Err (length xs + c.in-Err.index))) c.as_slices.ensures
-    (none-second ord xs c.as_slices.result.1.now (c.if-begins_above.ensures.some refl) (c.if-begins_above.ensures.not_above refl) c.in-Err.index c.in-Err.ensures.bound c.in-Err.ensures.position)
+    (none-second ord xs c.as_slices.result.1.now (c.if-begins_above.ensures.some refl) (c.if-begins_above.ensures.found refl) c.in-Err.index c.in-Err.ensures.bound c.in-Err.ensures.position)
