@@ -308,11 +308,17 @@ fn items_are_inserted_and_removed_anywhere(rt: HostRuntime) {
     assert!(rt; (ring.swap_remove_back(5), ring.swap_remove_front(5)) == (None, None));
 }
 
+// Keeps the even items.
+#[tactic(auto, using(allocator_api2::proofs::Callers::callers))]
+fn keep_even(ring: &mut Small<'_>) {
+    ring.retain(|item| *item % 2 == 0);
+}
+
 #[test]
 fn sorted_items_are_found_and_shown(rt: HostRuntime) {
     let heap = Faulty::new(rt.alloc());
     let mut ring = turned(&heap, 0..9);
-    ring.retain(|item: &u64| -> bool { *item % 2 == 0 });
+    keep_even(&mut ring);
     assert!(rt; has(&ring, &[0, 2, 4, 6, 8]));
     for (item, found) in [(0, Ok(0)), (6, Ok(3)), (8, Ok(4)), (1, Err(1)), (9, Err(5))] {
         assert!(rt; ring.binary_search(&item) == found);
