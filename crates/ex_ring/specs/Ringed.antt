@@ -5,8 +5,8 @@ use Rattle.allocator_api2.specs.Room as Room
 use Rattle.allocator_api2.specs.declared.collections.TryReserveError.{TryReserveError}
 use Rattle.allocator_api2.specs.declared.raw_vec.Growth.{Growth}
 
--- the list `xs` without the item at `index`, whose place the first item takes; `d` is read only of an
--- empty list
+-- the list `xs` without the item at `index`, whose place the first item takes; `d` is read only of
+-- an empty list
 abbrev pub swap_remove_front : {T : Type 0} → List T → (index : ℕ) → (d : T) → List T
 swap_remove_front xs index d = drop 1 (slice_set xs index (slice_index_or xs 0 d))
 

@@ -7,9 +7,9 @@ use Rattle.ex_table.specs.declared.table.TryInsertError.TheVariants.{Occupied, R
 
 -- the pair of `k` and `v` was not inserted into the table `t`, and is returned: the key is present,
 -- or it is absent and the table could not reserve capacity
-abbrev pub IsRefused : {K V S : Type 0} (eq : K → K → Bool) (t : TableView K V S) (k : K) (v : V)
-    → TryInsertError K V → Type 0
-IsRefused eq t k v (Occupied key value_of) =
+abbrev pub TryInsertFails : {K V S : Type 0} (eq : K → K → Bool) (t : TableView K V S) (k : K)
+    (v : V) → TryInsertError K V → Type 0
+TryInsertFails eq t k v (Occupied key value_of) =
     (key ≡ k) × (value_of ≡ v) × (is_some (value eq t.entries k) ≡ true)
-IsRefused eq t k v (Refused r) = (r.source ≡ (k, v)) × (value eq t.entries k ≡ None)
+TryInsertFails eq t k v (Refused r) = (r.source ≡ (k, v)) × (value eq t.entries k ≡ None)
     × LacksRoom t.capacity (length t.entries) 1 (capacity_for t 1) r.error

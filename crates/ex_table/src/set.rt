@@ -153,7 +153,7 @@ impl<T: Eq + Hash + Drop, S: BuildHasher, A: Allocator + Clone> Set<T, S, A> {
             self.new.capacity ≡ set_capacity_for self.old 1) }
 
         // If it is not new, nothing changes. The builder never does.
-        ensures present { IfOk result (λ new. new ≡ false → self.new ≡ self.old) }
+        ensures kept { IfOk result (λ new. new ≡ false → self.new ≡ self.old) }
         ensures builder { self.new.builder ≡ self.old.builder }
 
         // An error returns the value, says why it failed, and leaves the set unchanged.

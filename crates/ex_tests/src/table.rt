@@ -406,7 +406,7 @@ fn an_entry_is_read_and_removed(rt: HostRuntime) {
 
 // The pair in the error of a failed `try_insert`, and the kind of the error if it is not that the
 // key is present.
-fn refused(
+fn failed_try(
     table: &mut Small<'_>,
     key: u64,
     value: u64,
@@ -425,10 +425,10 @@ fn refused(
 fn a_present_key_is_not_inserted(rt: HostRuntime) {
     let heap = Faulty::new(rt.alloc());
     let mut table = none(&heap);
-    assert!(rt; refused(&mut table, 1, 2) == None && takes(&mut table, 2..15));
+    assert!(rt; failed_try(&mut table, 1, 2) == None && takes(&mut table, 2..15));
     heap.fail_requests(0, 1);
-    assert!(rt; refused(&mut table, 15, 3) == Some(((15, 3), Some(too_many(28)))));
-    assert!(rt; refused(&mut table, 1, 3) == Some(((1, 3), None)));
+    assert!(rt; failed_try(&mut table, 15, 3) == Some(((15, 3), Some(too_many(28)))));
+    assert!(rt; failed_try(&mut table, 1, 3) == Some(((1, 3), None)));
     assert!(rt; has(&table, 1) == Some(3) && has(&table, 15) == None);
 }
 

@@ -1,4 +1,4 @@
-//! Capacity that is given back.
+//! Calls that shrink the capacity.
 ghost use Rattle.std.specs.Prelude.{◌≡◌, ◌+◌, ◌<◌, ◌≤◌, ◌++◌, length, max, IfErr, OnErr, OnOk};
 ghost use Rattle.std.specs.Mem.{type_size};
 ghost use Rattle.allocator_api2.specs.Places.{IsRun, run};

@@ -12,7 +12,7 @@ use std::alloc::Allocator;
 use std::hash::{BuildHasher, Hash};
 
 impl<K: Eq + Hash + Drop, V: Drop, S: BuildHasher, A: Allocator + Clone> Table<K, V, S, A> {
-    ghost use Rattle.ex_table.specs.Inserting.{IsRefused};
+    ghost use Rattle.ex_table.specs.Inserting.{TryInsertFails};
     ghost use Rattle.ex_table.specs.InsertLends.{lends_added};
 
     // Inserts an absent key, and returns a mutable reference to its value.
@@ -47,6 +47,7 @@ impl<K: Eq + Hash + Drop, V: Drop, S: BuildHasher, A: Allocator + Clone> Table<K
         self.count += 1;
         Ok(&mut self.places.place_mut(slot).1)
     }
+
     /// Inserts `key` with the value `item`, if the key is absent, and returns a mutable reference
     /// to the value.
     ///
@@ -70,7 +71,7 @@ impl<K: Eq + Hash + Drop, V: Drop, S: BuildHasher, A: Allocator + Clone> Table<K
         ensures value { IfOk result (λ v. v.now ≡ item) }
 
         // An error returns key and value, and says why it failed.
-        ensures error { IfErr result (IsRefused K.eq self.old key item) }
+        ensures error { IfErr result (TryInsertFails K.eq self.old key item) }
     {
         let hash = hash_of(&self.builder, &key);
         if let Some(_) = find_in(&self.index, &self.places, hash, &key) {
