@@ -16,14 +16,24 @@ type Small<'a> = Table<Key<'a>, Counted<'a>, BuildHasherDefault<FoldHasher>, &'a
 #[derive(Clone, Copy)]
 enum Call {
     Insert,
+    // Of a key that is there.
+    TryInsert,
     Remove,
+    RemoveEntry,
     Get,
     Clear,
+    // Of all entries.
+    Drain,
+    // Of none.
+    Retain,
     Reserve(usize),
     ShrinkToFit,
     Drop,
     // With an entry taken from each end.
     IntoIter,
+    // With one taken.
+    IntoKeys,
+    IntoValues,
 }
 
 // A text in memory of its own; none if that allocation fails.
@@ -42,15 +52,25 @@ fn put<'a>(table: &mut Small<'a>, key: Option<Key<'a>>, drops: &'a Cell<u32>) ->
     }
 }
 
+// Tries to insert a text with a value.
+fn try_put<'a>(table: &mut Small<'a>, key: Option<Key<'a>>, drops: &'a Cell<u32>) {
+    let Some(key) = key else {
+        return;
+    };
+    let _is_new = table.try_insert(key, Counted { value: 0, drops }).is_ok();
+}
+
 // Looks a text up, or takes it out.
 fn look_up<'a>(table: &mut Small<'a>, key: Option<Key<'a>>, call: Call) {
     let Some(key) = key else {
         return;
     };
-    if matches!(call, Call::Remove) {
-        drop(table.remove(&key));
-    } else {
-        let _value = table.get(&key).is_some();
+    match call {
+        Call::Remove => drop(table.remove(&key)),
+        Call::RemoveEntry => drop(table.remove_entry(&key)),
+        _ => {
+            let _value = table.get(&key).is_some();
+        }
     }
 }
 
@@ -74,6 +94,9 @@ fn called<'a>(
         Call::Reserve(count) => return end_of(table.reserve(count)),
         Call::ShrinkToFit => return end_of(table.shrink_to_fit()),
         Call::Clear => table.clear(),
+        Call::Drain => drop(table.drain()),
+        Call::Retain => table.retain(|_, _| false),
+        Call::TryInsert => try_put(table, key(heap, "fig"), drops),
         _ => look_up(table, key(heap, "fig"), call),
     }
     End::Done
@@ -84,6 +107,24 @@ fn taken_from_ends(table: Small<'_>, heap: &Faulty<Global>, drops: &Cell<u32>) -
     let mut entries = table.into_iter();
     drop(entries.next());
     drop(entries.next_back());
+    counts(heap, drops)
+}
+
+// The same of the keys alone, one of which is taken.
+fn taken_from_keys(table: Small<'_>, heap: &Faulty<Global>, drops: &Cell<u32>) -> (u64, u64, u32) {
+    let mut keys = table.into_keys();
+    drop(keys.next());
+    counts(heap, drops)
+}
+
+// The same of the values.
+fn taken_from_values(
+    table: Small<'_>,
+    heap: &Faulty<Global>,
+    drops: &Cell<u32>,
+) -> (u64, u64, u32) {
+    let mut values = table.into_values();
+    drop(values.next());
     counts(heap, drops)
 }
 
@@ -104,6 +145,8 @@ fn seen<'a>(
     match call {
         Call::Drop => drop(table),
         Call::IntoIter => return taken_from_ends(table, heap, drops),
+        Call::IntoKeys => return taken_from_keys(table, heap, drops),
+        Call::IntoValues => return taken_from_values(table, heap, drops),
         _ => {
             let _end = called(call, &mut table, heap, drops);
         }
@@ -113,17 +156,23 @@ fn seen<'a>(
 
 // A call on four texts with values, its requests, the blocks that it frees, and the values that it
 // drops. A text that it takes is one request. A table has three blocks.
-fn rows() -> [(Call, u64, u64, u32); 9] {
+fn rows() -> [(Call, u64, u64, u32); 15] {
     [
         (Call::Insert, 1, 1, 1),
+        (Call::TryInsert, 1, 1, 1),
         (Call::Remove, 1, 2, 1),
+        (Call::RemoveEntry, 1, 2, 1),
         (Call::Get, 1, 1, 0),
         (Call::Clear, 0, 4, 4),
+        (Call::Drain, 0, 4, 4),
+        (Call::Retain, 0, 4, 4),
         (Call::Reserve(10), 0, 0, 0),
         (Call::Reserve(11), 3, 3, 0),
         (Call::ShrinkToFit, 0, 0, 0),
         (Call::Drop, 0, 7, 4),
         (Call::IntoIter, 0, 2, 2),
+        (Call::IntoKeys, 0, 1, 1),
+        (Call::IntoValues, 0, 1, 1),
     ]
 }
 
@@ -132,7 +181,11 @@ fn is_so(alloc: Global, (call, requests, frees, dropped): (Call, u64, u64, u32))
     let heap = Faulty::new(alloc);
     let drops = Cell::new(0);
     let came = seen(call, four(&heap, &drops), &heap, &drops);
-    let made = if matches!(call, Call::Insert) { 5 } else { 4 };
+    let made = if matches!(call, Call::Insert | Call::TryInsert) {
+        5
+    } else {
+        4
+    };
     came == (requests.saturating_add(7), frees, dropped)
         && drops.get() == made
         && is_all_freed(&heap)
