@@ -18,6 +18,13 @@ enum Call {
     MakeContiguous,
     RotateLeft,
     Reserve(usize),
+    Remove(usize),
+    SwapRemoveBack(usize),
+    // With one item taken.
+    Drain,
+    // Of none.
+    Retain,
+    ShrinkToFit,
     Drop,
     // With an item taken from each end.
     IntoIter,
@@ -48,6 +55,16 @@ fn called(call: Call, ring: &mut Small<'_>) {
         Call::RotateLeft => ring.rotate_left(ring.len().min(1)),
         Call::Reserve(count) => {
             let _made = ring.reserve(count);
+        }
+        Call::Remove(index) => drop(ring.remove(index)),
+        Call::SwapRemoveBack(index) => drop(ring.swap_remove_back(index)),
+        Call::Drain => {
+            let mut items = ring.drain(..);
+            drop(items.next());
+        }
+        Call::Retain => ring.retain(|_| false),
+        Call::ShrinkToFit => {
+            let _shrunk = ring.shrink_to_fit();
         }
         Call::Drop | Call::IntoIter => {}
     }
@@ -100,6 +117,12 @@ fn items_of_a_ring_are_dropped_once(rt: HostRuntime) {
         (Call::RotateLeft, 0, 0),
         (Call::Reserve(2), 0, 0),
         (Call::Reserve(3), 1, 0),
+        (Call::Remove(2), 0, 1),
+        (Call::Remove(6), 0, 0),
+        (Call::SwapRemoveBack(1), 0, 1),
+        (Call::Drain, 0, 6),
+        (Call::Retain, 0, 6),
+        (Call::ShrinkToFit, 1, 0),
         (Call::Drop, 0, 6),
         (Call::IntoIter, 0, 2),
     ] {
