@@ -1,89 +1,39 @@
 -- A clone of the slots: the same list of free ones, and the same keys.
-use Rattle.ex_slots.proofs.Common.{Chain, Free, Held, IsChain, IsSound, List, None, Option, Slot, Some, [], ap, arith, count, held, refl, seen, slice_get, suc, zero, ℕ, ◌<◌, ◌∙◌, ◌∷◌, ◌≡◌}
-use Rattle.ex_slots.proofs.Finds.{count-cons}
-use Rattle.std.proofs.lemmas.List.Elements.{length_all_zip}
-use Rattle.std.specs.Borrow.{RattleType}
+use Rattle.ex_slots.proofs.Common.{AreClones, AreHeld, Chain, Free, Held, IsSound, List, Option, Some, State, [], ap, arith, is_some, length, refl, seen, suc, sym, ℕ, ⊤, ◌∙◌, ◌∷◌, ◌≡◌, ◌≤◌}
+use Rattle.ex_slots.proofs.Seen.{count-held, seen-same}
 use Rattle.std.specs.List.{AllZip}
-use Rattle.std.specs.Mem.{type_size}
 use Rattle.allocator_api2.specs.Clones.{ClonesAreEqual}
-use Rattle.allocator_api2.specs.Copies.{IsMadeOf}
-use Rattle.allocator_api2.specs.Growth.{new_capacity}
-use Rattle.allocator_api2.specs.Vector.{Vector}
-use Rattle.allocator_api2.specs.declared.raw_vec.Growth.{Growth}
-use Rattle.ex_slots.specs.Inside.{IsSlotCopy}
 use Rattle.ex_slots.specs.Slotted.{IsClonedSlot}
-use Rattle.ex_slots.specs.contracts.slots.Slot.{the_row}
 
--- a slot has at least the two numbers of a free one
-pub sized : (T : RattleType) → 0 < type_size (the_row T)
-sized T = omega arith
+module _ {T : Type 0} {C : T → T → Type 0} where
+  pub clones-held : (ss : List State) (cs ds : List (Option (⊤ × T))) → AreClones C ss cs ds → AreHeld ss ds
+  clones-held ss cs ds h i a = let f = h i a in ap is_some f.3
 
-pub slots-capacity : (T : RattleType) (n : ℕ) → new_capacity (type_size (the_row T)) n ≡ n
-slots-capacity T n = let some = sized T in grind (arith, some)
+  pub each-cloned : (ss : List State) (cs ds : List (Option (⊤ × T))) → AreClones C ss cs ds
+      → AllZip (IsClonedSlot C) (seen ss cs) (seen ss ds)
+  each-cloned [] cs ds h = tt
+  each-cloned (Free next ∷ ss) [] [] h = (refl, each-cloned ss [] [] (λ i. h (suc i)))
+  each-cloned (Free next ∷ ss) [] (d ∷ ds) h = (refl, each-cloned ss [] ds (λ i. h (suc i)))
+  each-cloned (Free next ∷ ss) (c ∷ cs) [] h = (refl, each-cloned ss cs [] (λ i. h (suc i)))
+  each-cloned (Free next ∷ ss) (c ∷ cs) (d ∷ ds) h = (refl, each-cloned ss cs ds (λ i. h (suc i)))
+  each-cloned (Held serial ∷ ss) [] ds h = absurd (let f = (h 0 refl).2 in cc)
+  each-cloned (Held serial ∷ ss) (c ∷ cs) [] h = absurd (let f = (h 0 refl).3 in cc)
+  each-cloned (Held serial ∷ ss) (c ∷ cs) (d ∷ ds) h =
+      let f = h 0 refl in
+      (rw (f.2, f.3) (f.1, refl, f.4), each-cloned ss cs ds (λ i. h (suc i)))
 
-module _ {T : Type 0} (C : T → T → Type 0) where
-  pub same-slot : ClonesAreEqual C → ClonesAreEqual (IsSlotCopy C)
-  same-slot h (Free next after) t c = c
-  same-slot h (Held serial x) t c = c.1 ∙ ap (Held serial) (h x c.0 c.2)
+  pub same-cloned : ClonesAreEqual C → (ss : List State) (cs ds : List (Option (⊤ × T)))
+      → AreClones C ss cs ds → seen ss ds ≡ seen ss cs
+  same-cloned equal ss cs ds h = seen-same ss ds cs (λ i a. let f = h i a in f.3 ∙ ap (λ x. Some (tt, x)) (equal f.0 f.1 f.4) ∙ sym f.2)
 
-  pub cloned-slots : (ss ts : List (Slot T)) → AllZip (IsSlotCopy C) ss ts
-      → AllZip (IsClonedSlot C) (seen ss) (seen ts)
-  cloned-slots [] [] z = tt
-  cloned-slots [] (t ∷ ts) z = absurd z
-  cloned-slots (s ∷ ss) [] z = absurd z
-  cloned-slots (Free next after ∷ ss) (t ∷ ts) z = (ap held z.0, cloned-slots ss ts z.1)
-  cloned-slots (Held serial x ∷ ss) (t ∷ ts) z =
-      ((z.0.0, ap held z.0.1, z.0.2), cloned-slots ss ts z.1)
-
-  count-cloned : (ss ts : List (Slot T)) → AllZip (IsSlotCopy C) ss ts
-      → count (seen ts) ≡ count (seen ss)
-  count-cloned [] [] z = refl
-  count-cloned [] (t ∷ ts) z = absurd z
-  count-cloned (s ∷ ss) [] z = absurd z
-  count-cloned (Free next after ∷ ss) (t ∷ ts) z =
-      let one = count-cons None (seen ss) in let other = count-cons None (seen ts) in
-      rw z.0 (omega (arith, count-cloned ss ts z.1, one, other))
-  count-cloned (Held serial x ∷ ss) (t ∷ ts) z =
-      let e : Option (ℕ × T) = Some (serial, x) in let f : Option (ℕ × T) = Some (serial, z.0.0) in
-      let one = count-cons e (seen ss) in let other = count-cons f (seen ts) in
-      rw z.0.1 (omega (arith, count-cloned ss ts z.1, one, other))
-
-  -- a free slot is in the clone too
-  free-cloned : (ss ts : List (Slot T)) (i next after : ℕ) → AllZip (IsSlotCopy C) ss ts
-      → slice_get ss i ≡ Some (Free next after) → slice_get ts i ≡ Some (Free next after)
-  free-cloned [] ts i next after z h = absurd (cc)
-  free-cloned (s ∷ ss) [] i next after z h = absurd z
-  free-cloned (Free link rest ∷ ss) (t ∷ ts) zero next after z h = rw z.0 h
-  free-cloned (Held serial x ∷ ss) (t ∷ ts) zero next after z h = absurd (cc)
-  free-cloned (s ∷ ss) (t ∷ ts) (suc i) next after z h = free-cloned ss ts i next after z.1 h
-
-  chain-cloned : (ss ts : List (Slot T)) (first n : ℕ) → AllZip (IsSlotCopy C) ss ts
-      → IsChain ss first n → IsChain ts first n
-  chain-cloned ss ts first zero z c = tt
-  chain-cloned ss ts first (suc n) z c =
-      (c.0, free-cloned ss ts first c.0 n z c.1, chain-cloned ss ts c.0 n z c.2)
-
-  pub sound-cloned : (ss ts : List (Slot T)) (free : Chain) → AllZip (IsSlotCopy C) ss ts
-      → IsSound ss free → IsSound ts free
-  sound-cloned ss ts free z sound = record {
-    chain = chain-cloned ss ts free.first free.count z sound.chain;
-    counted =
-        let long = length_all_zip (IsSlotCopy C) ss ts z in
-        omega (arith, sound.counted, count-cloned ss ts z, long);
+  pub sound-cloned : (ss : List State) (cs ds : List (Option (⊤ × T))) (free : Chain) (capacity : ℕ)
+      → IsSound ss cs free capacity → AreClones C ss cs ds → length ss ≤ length ds
+      → IsSound ss ds free (length ss)
+  sound-cloned ss cs ds free capacity sound h room = record {
+    chain = sound.chain;
+    first = sound.first;
+    counted = omega (arith, sound.counted, count-held ss cs sound.held, count-held ss ds (clones-held ss cs ds h));
+    held = clones-held ss cs ds h;
+    within = omega arith;
+    room = room;
   }
-
--- the slots of a cloned vector
-module _ {T A : Type 0} (C : T → T → Type 0) {size : ℕ} {growth : Growth} (ss : List (Slot T))
-    (v : Vector (Slot T) A) (m : IsMadeOf (IsSlotCopy C) size growth ss v) where
-  copied : AllZip (IsSlotCopy C) ss v.items
-  copied = rw m.made.items m.each
-
-  pub made-slots : AllZip (IsClonedSlot C) (seen ss) (seen v.items)
-  made-slots = cloned-slots C ss v.items copied
-
-  pub made-sound : (free : Chain) → IsSound ss free → IsSound v.items free
-  made-sound free sound = sound-cloned C ss v.items free copied sound
-
-pub ruleset sized_slots = (slots-capacity)
-
-pub ruleset cloned = (slots-capacity, same-slot, made-slots, made-sound)

@@ -3,5 +3,10 @@ pub mod Common
 pub mod Passing
 pub mod Finds
 pub mod Iterating
+pub mod Remaining
 pub mod Retaining
+pub mod Seen
 pub mod Writing
+pub mod Rights
+pub mod Values
+pub mod Lent

@@ -1,47 +1,37 @@
 -- The pairs before and after a cursor, as it passes the slots.
-use Rattle.ex_slots.proofs.Common.{Free, Held, Key, List, None, Option, Slot, Slotted, Some, [], ap, arith, drop, entries_from, find, get_or, held, is_some, length, refl, seen, slice_get, slice_set, slot_at, suc, sym, true, value_under, zero, ℕ, ◌++◌, ◌+◌, ◌<◌, ◌∙◌, ◌∷◌, ◌≡◌, ◌≤◌}
+use Rattle.ex_slots.proofs.Common.{AreFree, AreHeld, Held, Key, List, None, Option, Some, State, [], ap, arith, drop, entries_from, get_or, is_some, length, refl, seen, slice_get, slice_set, slot_at, state_at, subst, suc, sym, take, true, value_under, ℕ, ⊤, ◌++◌, ◌+◌, ◌<◌, ◌∙◌, ◌∷◌, ◌≡◌, ◌≤◌}
 use Rattle.ex_slots.proofs.Iterating.{entries-push}
+use Rattle.ex_slots.proofs.Remaining.{rest-next, rest-none, rest-onward}
+use Rattle.ex_slots.proofs.Seen.{length-seen, slot-free, value-of}
 use Rattle.ex_slots.specs.Passing.{first_key}
-use Rattle.std.proofs.Common.{map, drop-drop, drop-set-lt, subst, get_or-drop, length-drop, length-set, take, take-add, take-append-drop}
+use Rattle.std.proofs.Common.{map, drop-drop, drop-set-lt, get_or-drop, length-drop, length-set, take-add, take-append-drop}
 use Rattle.std.proofs.lemmas.Bool.Decides.{nat_tests}
-use Rattle.std.proofs.lemmas.List.{append-nil, drop_all, length-map, length-take-le, take_more_set}
+use Rattle.std.proofs.lemmas.List.{append-nil, length-take-le, take_more_set}
 use Rattle.std.specs.Option.{option_map}
-use Rattle.std.specs.Prelude.{slice_index_or}
 
 module _ {T : Type 0} where
-  -- the slots from one on
-  drop-seen : (ss : List (Slot T)) (i : ℕ) (s : Slot T) → i < length ss → s
-      ≡ slice_index_or ss i s → drop i (seen ss) ≡ held s ∷ drop (suc i) (seen ss)
-  drop-seen [] i s h r = absurd (omega (arith, h))
-  drop-seen (z ∷ ss) zero s h r = ap (λ t. held t ∷ seen ss) (sym r)
-  drop-seen (z ∷ ss) (suc i) s h r = drop-seen ss i s (omega (arith, h)) r
+  -- the key of the first pair in the slots from one on
+  pub first-is : (ss : List State) (cs : List (Option (⊤ × T))) (from : ℕ) (k : Key)
+      → AreHeld ss cs → from ≤ k.index → k.index < length ss
+      → state_at ss k.index ≡ Held k.serial → AreFree ss from k.index
+      → Some k ≡ option_map (λ e. e.0) (slice_get (entries_from from (drop from (seen ss cs))) 0)
+  first-is ss cs from k held a b is free =
+      let v = value-of ss cs held k.index k.serial is in
+      let serial : v.serial ≡ k.serial = let p : Held v.serial ≡ Held k.serial = sym v.is ∙ is in cc in
+      let here : slot_at (seen ss cs) k.index ≡ Some (k.serial, v.entry.1) =
+      v.slot ∙ ap (λ n. Some (n, v.entry.1)) serial in
+      let first = rest-next (seen ss cs) from k.index (length (seen ss cs)) k.serial v.entry.1 a
+      (omega (arith, b, length-seen ss cs)) (omega arith)
+      (λ i c d. slot-free ss cs i (free i c d)) here in
+      ap (λ l. option_map (λ e. e.0) (slice_get l 0)) (sym first ∙ rest-onward (seen ss cs) from)
 
-  seen-drop : (ss : List (Slot T)) (i : ℕ) (s : Slot T) → i < length ss → s
-      ≡ slice_index_or ss i s → drop i (seen ss) ≡ held s ∷ drop (i + 1) (seen ss)
-  seen-drop ss i s h r = let next : suc i ≡ i + 1 = omega arith in drop-seen ss i s h r
-      ∙ ap (λ k. held s ∷ drop k (seen ss)) next
-
-  -- a free slot has no pair
-  pub free-first : (i : ℕ) (ss : List (Slot T)) (s : Slot T) (next after : ℕ) → i < length ss → s
-      ≡ slice_index_or ss i s → s ≡ Free next after
-      → entries_from (i + 1) (drop (i + 1) (seen ss)) ≡ entries_from i (drop i (seen ss))
-  free-first i ss s next after h r is =
-      sym (ap (entries_from i) (seen-drop ss i s h r)
-      ∙ ap (λ t. entries_from i (held t ∷ drop (i + 1) (seen ss))) is)
-
-  -- and another slot has the first one
-  pub held-first : (i : ℕ) (ss : List (Slot T)) (s : Slot T) (serial : ℕ) (x : T) → i < length ss
-      → s ≡ slice_index_or ss i s → s ≡ Held serial x
-      → entries_from i (drop i (seen ss))
-      ≡ (record { index = i; serial = serial }, x)
-      ∷ entries_from (i + 1) (drop (i + 1) (seen ss))
-  held-first i ss s serial x h r is = ap (entries_from i) (seen-drop ss i s h r)
-      ∙ ap (λ t. entries_from i (held t ∷ drop (i + 1) (seen ss))) is
-
-  pub none-past : (i : ℕ) (ss : List (Slot T)) → length ss ≤ i → entries_from i (drop i (seen ss))
-      ≡ []
-  none-past i ss h =
-      ap (entries_from i) (drop_all i (seen ss) (omega (arith, h, length-map ss held)))
+  pub first-none : (ss : List State) (cs : List (Option (⊤ × T))) (from end : ℕ) → end ≡ length ss
+      → AreFree ss from end
+      → None ≡ option_map (λ e. e.0) (slice_get (entries_from from (drop from (seen ss cs))) 0)
+  first-none ss cs from end e free =
+      let none = rest-none (seen ss cs) from (length (seen ss cs)) (omega arith)
+      (λ i c d. slot-free ss cs i (free i c (omega (arith, d, e, length-seen ss cs)))) in
+      ap (λ l. option_map (λ e. e.0) (slice_get l 0)) (sym none ∙ rest-onward (seen ss cs) from)
 
   entries-append : (i : ℕ) (xs ys : List (Option (ℕ × T))) → entries_from i (xs ++ ys)
       ≡ entries_from i xs ++ entries_from (i + length xs) ys
@@ -248,4 +238,4 @@ module _ {T : Type 0} (w : T) where
   filled-all bs [] h = refl
   filled-all bs (e ∷ rest) h = absurd (cc)
 
-pub ruleset steps = (free-first, held-first, none-past)
+pub ruleset firsts = (first-is, first-none)

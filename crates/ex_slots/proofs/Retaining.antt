@@ -1,9 +1,10 @@
 -- The slots while `retain` passes over them.
-use Rattle.ex_slots.proofs.Common.{Key, List, None, Option, Slotted, Some, [], ap, arith, cond, find, length, length-set, refl, slice_set, slot_at, suc, sym, value_under, with_value, zero, ℕ, ◌++◌, ◌+◌, ◌<◌, ◌∙◌, ◌∷◌, ◌≡◌, ◌≤◌}
+use Rattle.ex_slots.proofs.Common.{Key, List, None, Option, Slotted, Some, [], ap, arith, cond, entries_from, false, find, length, length-set, refl, slice_set, slot_at, suc, sym, true, value_under, with_value, zero, ℕ, ◌++◌, ◌+◌, ◌<◌, ◌∙◌, ◌∷◌, ◌≡◌, ◌≤◌}
 use Rattle.std.proofs.Common.{Bool, MutBor, drop, option_map, subst, take}
 use Rattle.std.proofs.lemmas.Bool.Decides.{nat_tests}
 use Rattle.std.proofs.lemmas.List.{append-nil, append_assoc, drop-set-lt, drop_all, drop_more, get_or-set_same, take_all, take_more, take_more_set}
 use Rattle.ex_slots.specs.Retaining.{Keeps, MayReturn}
+use Rattle.std.specs.Prelude.{if◌then◌else◌}
 
 module _ {T : Type 0} where
   within-slots : (ss : List (Option (ℕ × T))) (i : ℕ) (e : ℕ × T)
@@ -38,6 +39,19 @@ module _ {T : Type 0} where
       (same, rw same at (under-some (slot_at ss k.index) k.serial x h))
 
 module _ {T F : Type 0} (step : F → Key → MutBor T → Bool → MutBor T → F → Type 0) where
+  -- `f` was called for each key of the slots from index `i` on, in order, and is `g` then; the
+  -- slots are `kept` then: a value for which it returned `true` is as the call left it, and others
+  -- are removed
+  abbrev pub KeepsSlots : (f : F) → (i : ℕ) → (ss kept : List (Option (ℕ × T))) → (g : F) → Type 0
+  KeepsSlots f i [] kept g = (kept ≡ []) × (g ≡ f)
+  KeepsSlots f i (None ∷ ss) kept g =
+      (others : List (Option (ℕ × T))) × (kept ≡ None ∷ others) × KeepsSlots f (i + 1) ss others g
+  KeepsSlots f i (Some e ∷ ss) kept g =
+      (keep : Bool) × (y : T) × (next : F)
+      × MayReturn step f (record { index = i; serial = e.0 }) e.1 keep y next
+      × (others : List (Option (ℕ × T)))
+      × (kept ≡ (if keep then Some (e.0, y) else None) ∷ others) × KeepsSlots next (i + 1) ss others g
+
   pub may-return : (f : F) (k : Key) (before : MutBor T) (keep : Bool) (after : MutBor T) (g : F)
       → step f k before keep after g → MayReturn step f k before.now keep after.now g
   may-return f k before keep after g call =
@@ -49,8 +63,8 @@ module _ {T F : Type 0} (step : F → Key → MutBor T → Bool → MutBor T →
   IsPassed first old f now i =
       (length now ≡ length old)
       × (drop i now ≡ drop i old)
-      × ((others : List (Option (ℕ × T))) (g : F) → Keeps step f i (drop i old) others g
-      → Keeps step first 0 old (take i now ++ others) g)
+      × ((others : List (Option (ℕ × T))) (g : F) → KeepsSlots f i (drop i old) others g
+      → KeepsSlots first 0 old (take i now ++ others) g)
 
   module _ (first : F) (old now : List (Option (ℕ × T))) (f : F) (i : ℕ) (within : i < length now)
       (inv : IsPassed first old f now i) where
@@ -100,10 +114,32 @@ module _ {T F : Type 0} (step : F → Key → MutBor T → Bool → MutBor T →
         )
 
   pub passed-all : (first : F) (old now : List (Option (ℕ × T))) (f : F) (i : ℕ) → length old ≤ i
-      → IsPassed first old f now i → Keeps step first 0 old now f
+      → IsPassed first old f now i → KeepsSlots first 0 old now f
   passed-all first old now f i past inv =
       let whole : take i now ++ [] ≡ now =
       append-nil (take i now) ∙ take_all i now (omega (arith, inv.0)) in
       rw whole at (inv.2 [] f (rw (drop_all i old past) (refl, refl)))
+
+  one-kept : (i serial : ℕ) (y : T) (keep : Bool) (others : List (Option (ℕ × T)))
+      → entries_from i ((if keep then Some (serial, y) else None) ∷ others)
+      ≡ (if keep then (record { index = i; serial = serial }, y) ∷ entries_from (i + 1) others
+      else entries_from (i + 1) others)
+  one-kept i serial y true others = refl
+  one-kept i serial y false others = refl
+
+  -- the same of the pairs in the slots
+  pub pairs-kept : (f : F) (i : ℕ) (ss kept : List (Option (ℕ × T))) (g : F)
+      → KeepsSlots f i ss kept g → Keeps step f (entries_from i ss) (entries_from i kept) g
+  pairs-kept f i [] kept g h = (ap (entries_from i) h.0, h.1)
+  pairs-kept f i (None ∷ ss) kept g h = rw h.1 (pairs-kept f (i + 1) ss h.0 g h.2)
+  pairs-kept f i (Some e ∷ ss) kept g h = (
+    h.0,
+    h.1,
+    h.2,
+    h.3,
+    entries_from (i + 1) h.4,
+    ap (entries_from i) h.5 ∙ one-kept i e.0 h.1 h.0 h.4,
+    pairs-kept h.2 (i + 1) ss h.4 g h.6,
+  )
 
 pub ruleset passing = (found-written, passed-free)

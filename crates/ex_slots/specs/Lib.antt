@@ -5,3 +5,5 @@ pub mod Iterating
 pub mod Retaining
 pub mod Passing
 pub mod CursorLends
+pub mod IterMutLends
+pub mod IterMut

@@ -1,6 +1,6 @@
 -- A cursor over the values of a slot map, as contracts see it.
 use base.Fml.{GName}
-use Rattle.std.specs.Prelude.{ℕ, ◌+◌, List, [], ◌∷◌, take, drop}
+use Rattle.std.specs.Prelude.{◌+◌, List, [], ◌∷◌, take, drop}
 use Rattle.ex_slots.specs.declared.cursor.CursorMut.{CursorMut}
 use Rattle.ex_slots.specs.declared.map.Key.{Key}
 use Rattle.ex_slots.specs.Slotted.{Slotted, entries_from, with_value}

@@ -3,10 +3,12 @@ ghost use Rattle.std.specs.Prelude.{◌≡◌, length, Some, IfSome, ⊤};
 ghost use Rattle.std.specs.Iterator.{YieldsFirst, YieldsFirstBy, YieldsLast, YieldsLastBy, UpTo, item_count};
 ghost use Rattle.std.specs.Iterator.SizeHint.{IsWithinCount};
 ghost use Rattle.ex_slots.specs.Iterating.{pair_of, YieldsPairsInOrder, YieldsPairsInReverse};
-ghost use Rattle.ex_slots.specs.Slotted.{count, entries};
+ghost use Rattle.ex_slots.specs.Inside.{seen, AreHeld};
+ghost use Rattle.ex_slots.specs.Slotted.{count, entries, entries_from};
 
 use crate::map::{Key, SlotMap};
-use crate::slots::Slot;
+use crate::slots::{Slot, first_held, last_held};
+use allocator_api2::raw_vec::RawVec;
 use std::alloc::{AllocError, Allocator};
 use std::fmt;
 use std::fmt::{Debug, Formatter};
@@ -17,28 +19,59 @@ use std::marker::Model;
 ///
 /// Returned by `SlotMap::iter`. A contract sees it as the list of the remaining pairs.
 #[derive(Drop)]
-pub struct Iter<'a, T> {
-    // The remaining slots, the index of the first of them, and how many of them have a value.
-    pub(crate) slots: &'a [Slot<T>],
-    pub(crate) at: usize,
-    pub(crate) left: usize,
+pub struct Iter<'a, T, A: Allocator> {
+    slots: &'a [Slot],
+    values: &'a RawVec<((), T), A>,
+    // where the remaining slots begin and end, and how many of them have a value
+    at: usize,
+    end: usize,
+    left: usize,
 }
 
-impl<'a, T> Model for Iter<'a, T> {
-    ghost use Rattle.std.specs.Prelude.{◌≡◌, ◌+◌, ◌^◌, ◌<◌, List, length};
+impl<'a, T, A: Allocator> Model for Iter<'a, T, A> {
+    ghost use Rattle.std.specs.Prelude.{List};
     ghost use Rattle.ex_slots.specs.declared.map.Key.{Key};
-    ghost use Rattle.ex_slots.specs.Inside.{seen};
-    ghost use Rattle.ex_slots.specs.Slotted.{count, entries_from};
+    ghost use Rattle.ex_slots.specs.Inside.{rest_of, seen, IsRest};
 
     ghost Value = { List (Key × T) };
 
-    ghost view = { λ it. entries_from it.at (seen it.slots.now) };
+    ghost view = { λ it. rest_of (seen it.slots.now it.values.now.places) it.at it.end };
 
-    ghost invariant = { λ it. (it.at + length it.slots.now < 2 ^ 64)
-        × (it.left ≡ count (seen it.slots.now)) };
+    ghost invariant = { λ it. IsRest it.slots.now it.values.now.places it.at it.end it.left };
 }
 
-impl<'a, T> Iterator for Iter<'a, T> {
+impl<'a, T, A: Allocator> Iter<'a, T, A> {
+    /// Returns an iterator over all values of these slots, of which there are `left`.
+    #[tactic(auto, using(crate::proofs::Remaining::all_slots))]
+    pub(crate) fn over(slots: &'a [Slot], values: &'a RawVec<((), T), A>, left: usize) -> Self
+        requires held { AreHeld slots.now values.now.places }
+        requires count { left ≡ count (seen slots.now values.now.places) }
+        ensures { result ≡ entries_from 0 (seen slots.now values.now.places) }
+    {
+        Iter {
+            slots,
+            values,
+            at: 0,
+            end: slots.len(),
+            left,
+        }
+    }
+
+    // Returns an iterator over the same remaining pairs.
+    fn duplicate(&self) -> Self
+        ensures { result ≡ self.now }
+    {
+        Iter {
+            slots: self.slots,
+            values: self.values,
+            at: self.at,
+            end: self.end,
+            left: self.left,
+        }
+    }
+}
+
+impl<'a, T, A: Allocator> Iterator for Iter<'a, T, A> {
     type Item = (Key, &'a T);
 
     ghost next_gives = { YieldsFirstBy pair_of (λ rest. rest) };
@@ -46,23 +79,13 @@ impl<'a, T> Iterator for Iter<'a, T> {
     ghost remaining = { item_count (λ rest. rest) };
 
     /// Returns the next key with its value, or `None` if none remains.
-    #[tactic(auto, using(crate::proofs::Iterating::firsts))]
+    #[tactic(auto, using(crate::proofs::Remaining::from_first))]
     fn next(&mut self) -> Option<(Key, &'a T)> {
-        'each: while !self.slots.is_empty() {
-            let slots = self.slots;
-            let index = self.at;
-            self.slots = &slots[1..];
-            self.at = index + 1;
-            if let Slot::Held(serial, value) = &slots[0] {
-                self.left -= 1;
-                let key = Key {
-                    index,
-                    serial: *serial,
-                };
-                return Some((key, value));
-            }
-        }
-        None
+        let key = first_held(self.slots, self.at, self.end)?;
+        let entry = self.values.place(key.index);
+        self.at = key.index + 1;
+        self.left -= 1;
+        Some((key, &entry.1))
     }
 
     /// Returns the exact number of the remaining pairs.
@@ -71,57 +94,33 @@ impl<'a, T> Iterator for Iter<'a, T> {
         ensures upper { IfSome result.1 (UpTo (item_count (λ rest. rest) self.now)) }
         ensures exact { result ≡ (length self.now, Some (length self.now)) }
     {
-        let left = self.len();
-        (left, Some(left))
+        (self.left, Some(self.left))
     }
 }
 
-impl<'a, T> DoubleEndedIterator for Iter<'a, T> {
+impl<'a, T, A: Allocator> DoubleEndedIterator for Iter<'a, T, A> {
     ghost next_back_gives = { YieldsLastBy pair_of (λ rest. rest) };
 
     /// Returns the last of the remaining keys with its value, or `None` if none remains.
-    #[tactic(auto, using(crate::proofs::Iterating::lasts))]
+    #[tactic(auto, using(crate::proofs::Remaining::from_last))]
     fn next_back(&mut self) -> Option<(Key, &'a T)> {
-        'each: while !self.slots.is_empty() {
-            let slots = self.slots;
-            let last = slots.len() - 1;
-            self.slots = &slots[..last];
-            if let Slot::Held(serial, value) = &slots[last] {
-                self.left -= 1;
-                let key = Key {
-                    index: self.at + last,
-                    serial: *serial,
-                };
-                return Some((key, value));
-            }
-        }
-        None
+        let key = last_held(self.slots, self.at, self.end)?;
+        let entry = self.values.place(key.index);
+        self.end = key.index;
+        self.left -= 1;
+        Some((key, &entry.1))
     }
 }
 
-impl<'a, T> ExactSizeIterator for Iter<'a, T> {
-    #[tactic(auto, using(crate::proofs::Finds::finds))]
+impl<'a, T, A: Allocator> ExactSizeIterator for Iter<'a, T, A> {
     fn len(&self) -> usize {
         self.left
     }
 }
 
-impl<'a, T> FusedIterator for Iter<'a, T> {}
+impl<'a, T, A: Allocator> FusedIterator for Iter<'a, T, A> {}
 
-impl<'a, T> Iter<'a, T> {
-    // Returns an iterator over the same remaining pairs.
-    fn duplicate(&self) -> Self
-        ensures { result ≡ self.now }
-    {
-        Iter {
-            slots: self.slots,
-            at: self.at,
-            left: self.left,
-        }
-    }
-}
-
-impl<'a, T> Clone for Iter<'a, T> {
+impl<'a, T, A: Allocator> Clone for Iter<'a, T, A> {
     ghost is_clone = { λ it copy. copy ≡ it };
 
     ghost is_infallible = { λ _. ⊤ };
@@ -132,7 +131,7 @@ impl<'a, T> Clone for Iter<'a, T> {
     }
 }
 
-impl<'a, T: Debug> Debug for Iter<'a, T> {
+impl<'a, T: Debug, A: Allocator> Debug for Iter<'a, T, A> {
     /// Formats the remaining pairs as a list.
     fn fmt<W: fmt::Write>(&self, f: &mut Formatter<W>) -> fmt::Result {
         f.debug_list().entries(self.duplicate()).finish()
@@ -143,11 +142,11 @@ impl<'a, T: Debug> Debug for Iter<'a, T> {
 ///
 /// Returned by `SlotMap::keys`. A contract sees it as the list of the remaining keys.
 #[derive(Drop)]
-pub struct Keys<'a, T> {
-    pub(crate) rest: Iter<'a, T>,
+pub struct Keys<'a, T, A: Allocator> {
+    pub(crate) rest: Iter<'a, T, A>,
 }
 
-impl<'a, T> Model for Keys<'a, T> {
+impl<'a, T, A: Allocator> Model for Keys<'a, T, A> {
     ghost use Rattle.std.specs.Prelude.{List, map};
     ghost use Rattle.ex_slots.specs.declared.map.Key.{Key};
 
@@ -156,7 +155,7 @@ impl<'a, T> Model for Keys<'a, T> {
     ghost view = { λ it. map (λ (e : Key × T). e.0) it.rest };
 }
 
-impl<'a, T> Iterator for Keys<'a, T> {
+impl<'a, T, A: Allocator> Iterator for Keys<'a, T, A> {
     type Item = Key;
 
     ghost next_gives = { YieldsFirst (λ rest. rest) };
@@ -181,7 +180,7 @@ impl<'a, T> Iterator for Keys<'a, T> {
     }
 }
 
-impl<'a, T> DoubleEndedIterator for Keys<'a, T> {
+impl<'a, T, A: Allocator> DoubleEndedIterator for Keys<'a, T, A> {
     ghost next_back_gives = { YieldsLast (λ rest. rest) };
 
     /// Returns the last of the remaining keys, or `None` if none remains.
@@ -193,23 +192,23 @@ impl<'a, T> DoubleEndedIterator for Keys<'a, T> {
     }
 }
 
-impl<'a, T> ExactSizeIterator for Keys<'a, T> {
+impl<'a, T, A: Allocator> ExactSizeIterator for Keys<'a, T, A> {
     fn len(&self) -> usize {
         self.rest.len()
     }
 }
 
-impl<'a, T> FusedIterator for Keys<'a, T> {}
+impl<'a, T, A: Allocator> FusedIterator for Keys<'a, T, A> {}
 
 /// A double-ended iterator over the values of a slot map, in the order of the slots.
 ///
 /// Returned by `SlotMap::values`. A contract sees it as the list of the remaining values.
 #[derive(Drop)]
-pub struct Values<'a, T> {
-    pub(crate) rest: Iter<'a, T>,
+pub struct Values<'a, T, A: Allocator> {
+    pub(crate) rest: Iter<'a, T, A>,
 }
 
-impl<'a, T> Model for Values<'a, T> {
+impl<'a, T, A: Allocator> Model for Values<'a, T, A> {
     ghost use Rattle.std.specs.Prelude.{List, map};
     ghost use Rattle.ex_slots.specs.declared.map.Key.{Key};
 
@@ -218,7 +217,7 @@ impl<'a, T> Model for Values<'a, T> {
     ghost view = { λ it. map (λ (e : Key × T). e.1) it.rest };
 }
 
-impl<'a, T> Iterator for Values<'a, T> {
+impl<'a, T, A: Allocator> Iterator for Values<'a, T, A> {
     type Item = &'a T;
 
     ghost next_gives = { YieldsFirstBy (λ value. value.now) (λ rest. rest) };
@@ -243,7 +242,7 @@ impl<'a, T> Iterator for Values<'a, T> {
     }
 }
 
-impl<'a, T> DoubleEndedIterator for Values<'a, T> {
+impl<'a, T, A: Allocator> DoubleEndedIterator for Values<'a, T, A> {
     ghost next_back_gives = { YieldsLastBy (λ value. value.now) (λ rest. rest) };
 
     /// Returns the last of the remaining values, or `None` if none remains.
@@ -255,23 +254,23 @@ impl<'a, T> DoubleEndedIterator for Values<'a, T> {
     }
 }
 
-impl<'a, T> ExactSizeIterator for Values<'a, T> {
+impl<'a, T, A: Allocator> ExactSizeIterator for Values<'a, T, A> {
     fn len(&self) -> usize {
         self.rest.len()
     }
 }
 
-impl<'a, T> FusedIterator for Values<'a, T> {}
+impl<'a, T, A: Allocator> FusedIterator for Values<'a, T, A> {}
 
-impl<'a, T: Drop, A: Allocator> IntoIterator for &'a SlotMap<T, A> {
+impl<'a, T, A: Allocator> IntoIterator for &'a SlotMap<T, A> {
     type Item = (Key, &'a T);
 
-    type IntoIter = Iter<'a, T>;
+    type IntoIter = Iter<'a, T, A>;
 
     ghost into_iter_gives = { λ m i. (i ≡ entries m.now) × (length i ≡ count m.now.slots)
         × YieldsPairsInOrder T × YieldsPairsInReverse T };
 
-    fn into_iter(self) -> Iter<'a, T> {
+    fn into_iter(self) -> Iter<'a, T, A> {
         self.iter()
     }
 }

@@ -3,8 +3,10 @@
 //! It is built on the library's vector.
 #![tactic(auto)]
 
+mod blocks;
 pub mod cursor;
 pub mod into_iter;
 pub mod iter;
+pub mod iter_mut;
 pub mod map;
 pub mod slots;

@@ -1,5 +1,5 @@
 //! The slot map: a map from keys that it issues to values, in which no key is issued twice.
-ghost use Rattle.std.specs.Prelude.{◌≡◌, ◌≢◌, ◌+◌, ◌<◌, ◌^◌, [], length, map, is_some, nat_lt, if◌then◌else◌, None, Some, IfErr, IfOk, IfSome, IfNone, IsOk, IsTrue, OnErr, OnOk, option_copied, option_map, slice_get, drop, ◌↔◌};
+ghost use Rattle.std.specs.Prelude.{◌≡◌, ◌≢◌, ◌+◌, ◌<◌, ◌≤◌, ◌^◌, [], length, map, is_some, nat_lt, if◌then◌else◌, None, Some, IfErr, IfOk, IfSome, IfNone, IsOk, IsTrue, OnErr, OnOk, option_copied, option_map, slice_get, drop, ◌↔◌};
 ghost use Rattle.std.specs.Borrow.{sem};
 ghost use Rattle.std.specs.Option.{option_copied_mut};
 ghost use Rattle.allocator_api2.specs.Errors.{IsErrorFor};
@@ -7,17 +7,23 @@ ghost use Rattle.ex_slots.specs.Iterating.{YieldsPairsInOrder, YieldsPairsInReve
 ghost use Rattle.ex_slots.specs.Slotted.{cleared, count, entries, entries_from, find, grown, with_room, without, HasRoom, Puts};
 ghost use Rattle.ex_slots.specs.declared.map.Key.{Key};
 
+use crate::blocks::drop_between;
 use crate::iter::{Iter, Keys, Values};
-use crate::slots::{Chain, Slot, first_held, put, release};
+use crate::slots::{Chain, Slot, first_held, put, release, serial_at, slots_in};
 use allocator_api2::collections::{Refused, TryReserveError, TryReserveErrorKind};
+use allocator_api2::raw_vec::RawVec;
 use allocator_api2::vec::Vec;
 use std::alloc::Allocator;
 use std::marker::Model;
+
+// The number of keys that a map can issue.
+const KEYS: u64 = 1 << 63;
 
 mod capacity;
 mod clone;
 mod compare;
 mod into;
+mod lend;
 mod retain;
 mod traits;
 
@@ -38,9 +44,11 @@ pub struct Key {
 ///
 /// Use a key only with the map that returned it. Maps have no key type of their own, and keys do
 /// not identify their map. So a key of another map finds a value if slot and serial are the same.
-#[derive(Drop)]
 pub struct SlotMap<T, A: Allocator> {
-    slots: Vec<Slot<T>, A>,
+    // each value in the place with the index of its slot
+    values: RawVec<((), T), A>,
+    // `None` until the map first allocates
+    slots: Option<Vec<Slot, A>>,
     free: Chain,
     issued: u64,
 }
@@ -50,28 +58,44 @@ impl<T, A: Allocator> Model for SlotMap<T, A> {
 
     ghost Value = { Slotted T };
 
-    ghost use Rattle.ex_slots.specs.Inside.{view_of, IsSound};
+    ghost use Rattle.ex_slots.specs.Inside.{capacity_of, states_of, view_of, IsSound};
 
-    ghost view = { λ m. view_of m.slots m.issued };
+    ghost view = { λ m. view_of m.slots m.values.places m.issued };
 
-    ghost invariant = { λ m. IsSound m.slots.items m.free };
+    ghost invariant = { λ m. IsSound
+        (states_of m.slots) m.values.places m.free (capacity_of m.slots) };
+}
+
+impl<T: Drop, A: Allocator> Drop for SlotMap<T, A> {
+    /// Drops all values and frees the blocks.
+    fn drop(self) {
+        let SlotMap {
+            mut values,
+            slots,
+            free: _,
+            issued: _,
+        } = self;
+        let all = slots_in(&slots);
+        drop_between(all, &mut values, 0, all.len());
+        drop(slots);
+    }
 }
 
 #[tactic(auto, using(crate::proofs::Finds::finds))]
-impl<T: Drop, A: Allocator> SlotMap<T, A> {
+impl<T, A: Allocator> SlotMap<T, A> {
     ghost use Rattle.ex_slots.specs.Lends.{lends_value};
 
     /// Returns an empty map that has issued no keys.
     ///
     /// Does not allocate.
-    #[tactic(auto, using(crate::proofs::Cloning::sized_slots))]
     pub fn new_in(alloc: A) -> Self
         ensures slots { result.slots ≡ [] }
         ensures capacity { result.capacity ≡ 0 }
         ensures issued { result.issued ≡ 0 }
     {
         SlotMap {
-            slots: Vec::new_in(alloc),
+            values: RawVec::new_in(alloc),
+            slots: None,
             free: Chain { first: 0, count: 0 },
             issued: 0,
         }
@@ -79,9 +103,10 @@ impl<T: Drop, A: Allocator> SlotMap<T, A> {
 
     /// Returns the number of values.
     pub fn len(&self) -> usize
-        ensures { result ≡ count self.now.slots }
+        ensures count { result ≡ count self.now.slots }
+        ensures within { result ≤ self.now.capacity }
     {
-        self.slots.len() - self.free.count
+        slots_in(&self.slots).len() - self.free.count
     }
 
     /// Returns `true` if the map has no values.
@@ -95,9 +120,10 @@ impl<T: Drop, A: Allocator> SlotMap<T, A> {
     pub fn get(&self, key: Key) -> Option<&T>
         ensures { option_copied result ≡ find self.now key }
     {
-        match self.slots.as_slice().get(key.index) {
-            Some(slot) => slot.value(key.serial),
-            None => None,
+        if self.contains_key(key) {
+            Some(&self.values.place(key.index).1)
+        } else {
+            None
         }
     }
 
@@ -105,7 +131,10 @@ impl<T: Drop, A: Allocator> SlotMap<T, A> {
     pub fn contains_key(&self, key: Key) -> bool
         ensures { result ≡ is_some (find self.now key) }
     {
-        self.get(key).is_some()
+        match serial_at(slots_in(&self.slots), key.index) {
+            Some(serial) => serial == key.serial,
+            None => false,
+        }
     }
 
     /// Returns a mutable reference to the value of `key`, or `None` if it has none.
@@ -114,7 +143,7 @@ impl<T: Drop, A: Allocator> SlotMap<T, A> {
         ensures value { option_copied_mut result ≡ find self.old key }
     {
         if self.contains_key(key) {
-            Some(self.slots[key.index].value_mut())
+            Some(&mut self.values.place_mut(key.index).1)
         } else {
             None
         }
@@ -122,65 +151,43 @@ impl<T: Drop, A: Allocator> SlotMap<T, A> {
 
     /// Returns a double-ended iterator over the keys and their values, in the order of the slots.
     #[tactic(auto, using(crate::proofs::Iterating::walked))]
-    pub fn iter(&self) -> Iter<'_, T>
+    pub fn iter(&self) -> Iter<'_, T, A>
         ensures all { result ≡ entries self.now }
         ensures count { length result ≡ count self.now.slots }
         ensures in_order { YieldsPairsInOrder T }
         ensures in_reverse { YieldsPairsInReverse T }
     {
-        Iter {
-            slots: self.slots.as_slice(),
-            at: 0,
-            left: self.len(),
-        }
+        Iter::over(slots_in(&self.slots), &self.values, self.len())
     }
 
     /// Returns a double-ended iterator over the keys that have a value, in the order of the slots.
-    pub fn keys(&self) -> Keys<'_, T>
+    pub fn keys(&self) -> Keys<'_, T, A>
         ensures all { result ≡ map (λ e. e.0) (entries self.now) }
     {
         Keys { rest: self.iter() }
     }
 
     /// Returns a double-ended iterator over the values, in the order of the slots.
-    pub fn values(&self) -> Values<'_, T>
+    pub fn values(&self) -> Values<'_, T, A>
         ensures all { result ≡ map (λ e. e.1) (entries self.now) }
     {
         Values { rest: self.iter() }
     }
 
     // Returns the key of the first value in the slots from `from` on, or `None` if there is none.
+    #[tactic(auto, using(crate::proofs::Passing::firsts))]
     pub(crate) fn key_from(&self, from: usize) -> Option<Key>
         ensures within { IfSome result (λ k. k.index + 1 < 2 ^ 64) }
         ensures first { result ≡ option_map (λ e. e.0)
             (slice_get (entries_from from (drop from self.now.slots)) 0) }
     {
-        first_held(self.slots.as_slice(), from)
+        let slots = slots_in(&self.slots);
+        first_held(slots, from, slots.len())
     }
+}
 
-    /// Reserves capacity for exactly `additional` more values.
-    ///
-    /// Does not allocate if the capacity is already sufficient.
-    ///
-    /// # Errors
-    /// `CapacityOverflow` if the bytes exceed `isize::MAX`; `AllocError` with the requested
-    /// capacity, the number of values with `additional` more, if the allocation fails. The map is
-    /// unchanged.
-    pub fn reserve(&mut self, additional: usize) -> Result<(), TryReserveError>
-        ensures fits { HasRoom self.old additional → IsOk result }
-        ensures enough { OnOk result (HasRoom self.new additional) }
-        ensures reserved { OnOk result (self.new ≡ with_room self.old additional) }
-        ensures error { IfErr result
-            (λ e. IsErrorFor e (count self.old.slots + additional)) }
-        ensures unchanged { OnErr result (self.new ≡ self.old) }
-    {
-        self.slots.prove_capacity_bounds();
-        if additional <= self.free.count {
-            return Ok(());
-        }
-        self.slots.try_reserve_exact(additional - self.free.count)
-    }
-
+#[tactic(auto, using(crate::proofs::Finds::finds))]
+impl<T: Drop, A: Allocator + Clone> SlotMap<T, A> {
     // Reserves capacity for one more value. If the map is full, doubles the capacity, or adds four
     // if that is more.
     #[inline]
@@ -200,7 +207,7 @@ impl<T: Drop, A: Allocator> SlotMap<T, A> {
         ensures error { IfErr result (λ e. IsErrorFor e (grown self.old.capacity)) }
         ensures unchanged { OnErr result (self.new ≡ self.old) }
     {
-        if self.len() < self.slots.capacity() {
+        if self.len() < self.capacity() {
             return Ok(());
         }
         self.grow()
@@ -229,13 +236,13 @@ impl<T: Drop, A: Allocator> SlotMap<T, A> {
     /// more.
     ///
     /// # Errors
-    /// `CapacityOverflow` if 2^64 - 1 keys were issued, or the bytes exceed `isize::MAX`;
-    /// `AllocError` with the requested capacity if the allocation fails.
+    /// `CapacityOverflow` if 2^63 keys were issued, or the bytes exceed `isize::MAX`; `AllocError`
+    /// with the requested capacity if an allocation or a clone of the allocator fails.
     /// The map is unchanged, and `value` is returned in the error.
     #[inline]
     pub fn insert(&mut self, value: T) -> Result<Key, Refused<T>>
         // If the map is not full, and keys remain to be issued, it succeeds.
-        ensures fits { HasRoom self.old 1 → self.old.issued + 1 < 2 ^ 64 → IsOk result }
+        ensures fits { HasRoom self.old 1 → self.old.issued < 2 ^ 63 → IsOk result }
 
         // On success, the key is new and finds the value; the other keys find what they found.
         ensures put { IfOk result (λ k. Puts self.old.slots k value self.new.slots) }
@@ -257,7 +264,7 @@ impl<T: Drop, A: Allocator> SlotMap<T, A> {
         ensures unchanged { OnErr result (self.new ≡ self.old) }
     {
         let serial = self.issued;
-        if serial == u64::MAX {
+        if serial >= KEYS {
             return Err(Refused {
                 source: value,
                 error: TryReserveErrorKind::CapacityOverflow.into(),
@@ -269,11 +276,17 @@ impl<T: Drop, A: Allocator> SlotMap<T, A> {
                 error,
             });
         }
-        let index = put(&mut self.slots, &mut self.free, serial, value);
+        let index = match &mut self.slots {
+            Some(slots) => put(slots, &mut self.values, &mut self.free, serial, value),
+            None => unreachable!(),
+        };
         self.issued = serial + 1;
         Ok(Key { index, serial })
     }
+}
 
+#[tactic(auto, using(crate::proofs::Finds::finds))]
+impl<T: Drop, A: Allocator> SlotMap<T, A> {
     /// Removes the value of `key` and returns it, or `None` if the key has none.
     ///
     /// Afterwards the key has no value. Does not allocate.
@@ -289,11 +302,14 @@ impl<T: Drop, A: Allocator> SlotMap<T, A> {
         ensures others { (j : Key) → j ≢ key → find self.new j ≡ find self.old j }
         ensures count { IfSome result (λ _. count self.new.slots + 1 ≡ count self.old.slots) }
     {
-        if self.contains_key(key) {
-            release(&mut self.slots, &mut self.free, key.index)
-        } else {
-            None
+        if !self.contains_key(key) {
+            return None;
         }
+        let removed = match &mut self.slots {
+            Some(slots) => release(slots, &mut self.values, &mut self.free, key.index),
+            None => unreachable!(),
+        };
+        Some(removed)
     }
 
     /// Removes and drops all values.
@@ -303,7 +319,12 @@ impl<T: Drop, A: Allocator> SlotMap<T, A> {
         ensures removed { self.new ≡ cleared self.old }
         ensures absent { (k : Key) → find self.new k ≡ None }
     {
-        self.slots.clear();
+        let all = slots_in(&self.slots);
+        drop_between(all, &mut self.values, 0, all.len());
         self.free = Chain { first: 0, count: 0 };
+        match &mut self.slots {
+            Some(slots) => slots.clear(),
+            None => {}
+        }
     }
 }

@@ -1,22 +1,33 @@
 //! The slots of a map: each has a value or is free, and the free slots form a linked list.
-ghost use Rattle.std.specs.Prelude.{◌≡◌, ◌+◌, ◌^◌, ◌<◌, ◌≤◌, IfSome, [], ◌∷◌, ◌++◌, length, is_some, true, None, Some, option_copied, option_map, slice_get, slice_set, drop};
-ghost use Rattle.std.specs.Borrow.{sem, Lends};
-ghost use Rattle.ex_slots.specs.Inside.{held, rewritten, seen, value_of, IsSlotCopy, IsSound};
-ghost use Rattle.ex_slots.specs.declared.slots.Slot.TheVariants.{Held};
-ghost use Rattle.ex_slots.specs.Slotted.{count, entries_from, slot_at, value_under, Puts};
+//!
+//! A slot is one word. The values are in a second block, each in the place with the index of its
+//! slot.
+ghost use Rattle.std.specs.Prelude.{◌≡◌, ◌+◌, ◌^◌, ◌<◌, ◌≤◌, IfNone, IfSome, length, is_some, None, Some, true, option_map, slice_set};
+ghost use Rattle.ex_slots.specs.Inside.{number_in, seen, serial_in, state_at, states_of, AreFree, IsSound};
+ghost use Rattle.ex_slots.specs.Slotted.{count, slot_at, Puts};
+ghost use Rattle.ex_slots.specs.declared.slots.State.TheVariants.{Free, Held};
 
 use crate::map::Key;
+use allocator_api2::raw_vec::RawVec;
 use allocator_api2::vec::Vec;
 use std::alloc::{AllocError, Allocator};
-use std::mem;
+use std::marker::Model;
 
-/// A slot for one value.
+/// What a slot is.
+#[derive(Clone, Copy, Drop)]
+pub enum State {
+    /// No value: the index of the next free slot.
+    Free(usize),
+    /// A value: the serial of its key.
+    Held(u64),
+}
+
+/// A slot: its state as one word, which is odd if the slot has a value.
+///
+/// A contract sees it as its state.
 #[derive(Drop)]
-pub enum Slot<T> {
-    /// No value: the index of the next free slot, and the number of free slots after this one.
-    Free(usize, usize),
-    /// The serial of a key, and its value.
-    Held(u64, T),
+pub struct Slot {
+    word: u64,
 }
 
 /// The list of free slots: the index of the first, and their number.
@@ -26,77 +37,124 @@ pub struct Chain {
     pub count: usize,
 }
 
-impl<T: Clone> Clone for Slot<T> {
-    ghost is_clone = { IsSlotCopy T.is_clone };
+impl Model for Slot {
+    ghost use Rattle.ex_slots.specs.Inside.{state_of};
+    ghost use Rattle.ex_slots.specs.declared.slots.State.{State};
 
-    /// Returns a slot for the same key with a clone of the value, or the same free slot.
+    ghost Value = { State };
+
+    ghost view = { λ s. state_of s.word };
+}
+
+impl Slot {
+    /// Returns a free slot, before the free slot `next`.
+    #[inline(always)]
+    pub fn free(next: usize) -> Slot
+        requires { next < 2 ^ 63 }
+        ensures { result ≡ Free next }
+    {
+        Slot {
+            word: 2 * next as u64,
+        }
+    }
+
+    /// Returns a slot that has the value of the key with this serial.
+    #[inline(always)]
+    pub fn held(serial: u64) -> Slot
+        requires { serial < 2 ^ 63 }
+        ensures { result ≡ Held serial }
+    {
+        Slot {
+            word: 2 * serial + 1,
+        }
+    }
+
+    /// Returns the state of the slot.
+    #[inline(always)]
+    pub fn state(&self) -> State
+        ensures state { result ≡ self.now }
+        ensures small { number_in result < 2 ^ 63 }
+    {
+        if self.word % 2 == 0 {
+            State::Free((self.word / 2) as usize)
+        } else {
+            State::Held(self.word / 2)
+        }
+    }
+}
+
+impl Clone for Slot {
+    ghost use Rattle.std.specs.Prelude.{⊤};
+
+    ghost is_clone = { λ s copy. copy ≡ s };
+
+    ghost is_infallible = { λ _. ⊤ };
+
+    /// Returns a slot with the same state.
     fn clone(&self) -> Result<Self, AllocError> {
-        match self {
-            Slot::Held(serial, value) => Ok(Slot::Held(*serial, value.clone()?)),
-            Slot::Free(next, after) => Ok(Slot::Free(*next, *after)),
-        }
+        Ok(Slot { word: self.word })
     }
 }
 
-impl<T> Slot<T> {
-    ghost use Rattle.ex_slots.specs.contracts.slots.Slot.{the_row};
-
-    /// Returns the serial of the key whose value is in this slot, or `None` if the slot is free.
-    pub fn serial(&self) -> Option<u64>
-        ensures { result ≡ option_map (λ e. e.0) (held self.now) }
-    {
-        match self {
-            Slot::Held(serial, _) => Some(*serial),
-            Slot::Free(_, _) => None,
-        }
-    }
-
-    /// Returns a reference to the value of the key with this serial, or `None` if it is not here.
-    pub fn value(&self, serial: u64) -> Option<&T>
-        ensures { option_copied result ≡ value_under serial (held self.now) }
-    {
-        match self {
-            Slot::Held(own, value) => { if *own == serial { Some(value) } else { None } }
-            Slot::Free(_, _) => None,
-        }
-    }
-
-    /// Returns a mutable reference to the value in this slot, which is not free.
-    pub fn value_mut(&mut self) -> &mut T
-        requires { is_some (held self.old) ≡ true }
-        ensures* writes_back { sem 𝓛 (Lends (the_row T.row) T.row
-            self.entry result (rewritten self.old)) }
-        ensures value { value_of self.old ≡ Some result.now }
-    {
-        match self {
-            Slot::Held(_, value) => value,
-            Slot::Free(_, _) => unreachable!(),
-        }
-    }
-
-    /// Consumes the slot and returns its value, or `None` if it is free.
-    pub fn into_value(self) -> Option<T>
-        ensures { result ≡ value_of self }
-    {
-        match self {
-            Slot::Held(_, value) => Some(value),
-            Slot::Free(_, _) => None,
-        }
-    }
-}
-
-/// Returns the key of the first value in the slots from `from` on, or `None` if there is none.
-#[tactic(auto, using(crate::proofs::Passing::steps))]
-pub fn first_held<T>(slots: &[Slot<T>], from: usize) -> Option<Key>
-    ensures within { IfSome result (λ k. k.index + 1 < 2 ^ 64) }
-    ensures first { result ≡ option_map (λ e. e.0)
-        (slice_get (entries_from from (drop from (seen slots.now))) 0) }
+/// Returns the slots of a map, none if it has not allocated.
+#[inline(always)]
+pub fn slots_in<A: Allocator>(slots: &Option<Vec<Slot, A>>) -> &[Slot]
+    ensures { result.now ≡ states_of slots.now }
 {
-    'each: for index in from..slots.len() {
-        if let Slot::Held(serial, _) = &slots[index] {
+    match slots {
+        Some(made) => made.as_slice(),
+        None => &[],
+    }
+}
+
+/// Returns the serial of the key whose value is in the slot at `index`, if there is one.
+#[inline(always)]
+pub fn serial_at(slots: &[Slot], index: usize) -> Option<u64>
+    ensures { result ≡ serial_in (state_at slots.now index) }
+{
+    match slots.get(index) {
+        Some(slot) => match slot.state() {
+            State::Held(serial) => Some(serial),
+            State::Free(_) => None,
+        },
+        None => None,
+    }
+}
+
+/// Returns the key of the first value in the slots from `from` on and before `end`, if there is
+/// one.
+#[inline]
+pub fn first_held(slots: &[Slot], from: usize, end: usize) -> Option<Key>
+    requires { end ≤ length slots.now }
+    ensures within { IfSome result (λ k. (from ≤ k.index) × (k.index < end)) }
+    ensures held { IfSome result (λ k. state_at slots.now k.index ≡ Held k.serial) }
+    ensures first { IfSome result (λ k. AreFree slots.now from k.index) }
+    ensures none { IfNone result (AreFree slots.now from end) }
+{
+    'each: for index in from..end {
+        if let State::Held(serial) = slots[index].state() {
+            return Some(Key { index, serial });
+        }
+    }
+    None
+}
+
+/// Returns the key of the last value in the slots from `from` on and before `end`, if there is
+/// one.
+pub fn last_held(slots: &[Slot], from: usize, end: usize) -> Option<Key>
+    requires { end ≤ length slots.now }
+    ensures within { IfSome result (λ k. (from ≤ k.index) × (k.index < end)) }
+    ensures held { IfSome result (λ k. state_at slots.now k.index ≡ Held k.serial) }
+    ensures last { IfSome result (λ k. AreFree slots.now (k.index + 1) end) }
+    ensures none { IfNone result (AreFree slots.now from end) }
+{
+    let mut past = end;
+    'each: while from < past {
+        past -= 1;
+        if let State::Held(serial) = slots[past].state() {
             return Some(Key {
-                index,
-                serial: *serial,
+                index: past,
+                serial,
             });
         }
     }
@@ -105,45 +163,58 @@ pub fn first_held<T>(slots: &[Slot<T>], from: usize) -> Option<Key>
 
 // Writes a value into the first free slot, and returns its index.
 #[inline]
-fn put_first<T: Drop, A: Allocator>(
-    slots: &mut Vec<Slot<T>, A>,
+fn put_first<T, A: Allocator>(
+    slots: &mut Vec<Slot, A>,
+    values: &mut RawVec<((), T), A>,
     free: &mut Chain,
     serial: u64,
     value: T,
 ) -> usize
-    requires sound { IsSound slots.old.items free.old }
+    requires sound { IsSound slots.old.items values.old.places free.old slots.old.capacity }
     requires some { 0 < free.old.count }
-    ensures sound { IsSound slots.new.items free.new }
-    ensures put { Puts (seen slots.old.items) (record { index = result; serial = serial }) value
-        (seen slots.new.items) }
+    requires serial { serial < 2 ^ 63 }
+    ensures sound { IsSound slots.new.items values.new.places free.new slots.new.capacity }
+    ensures put { Puts (seen slots.old.items values.old.places)
+        (record { index = result; serial = serial }) value
+        (seen slots.new.items values.new.places) }
     ensures capacity { slots.new.capacity ≡ slots.old.capacity }
 {
     let at = free.first;
-    match mem::replace(&mut slots[at], Slot::Held(serial, value)) {
-        Slot::Free(next, after) => {
-            free.first = next;
-            free.count = after;
-        }
-        Slot::Held(_, _) => unreachable!(),
+    match slots[at].state() {
+        State::Free(next) => free.first = next,
+        State::Held(_) => unreachable!(),
     }
+    slots[at] = Slot::held(serial);
+    values.put(at, ((), value));
+    free.count -= 1;
     at
 }
 
 // Appends a new slot with a value, and returns its index.
-#[tactic(auto, using(crate::proofs::Writing::after))]
 #[inline]
-fn push_new<T, A: Allocator>(slots: &mut Vec<Slot<T>, A>, serial: u64, value: T) -> usize
-    requires { length slots.old.items < slots.old.capacity }
-    ensures pushed { slots.new.items ≡ slots.old.items ++ Held serial value ∷ [] }
-    ensures put { Puts (seen slots.old.items) (record { index = result; serial = serial }) value
-        (seen slots.new.items) }
+fn push_new<T, A: Allocator>(
+    slots: &mut Vec<Slot, A>,
+    values: &mut RawVec<((), T), A>,
+    free: &Chain,
+    serial: u64,
+    value: T,
+) -> usize
+    requires sound { IsSound slots.old.items values.old.places free.now slots.old.capacity }
+    requires none { free.now.count ≡ 0 }
+    requires room { length slots.old.items < slots.old.capacity }
+    requires serial { serial < 2 ^ 63 }
+    ensures sound { IsSound slots.new.items values.new.places free.now slots.new.capacity }
+    ensures put { Puts (seen slots.old.items values.old.places)
+        (record { index = result; serial = serial }) value
+        (seen slots.new.items values.new.places) }
     ensures capacity { slots.new.capacity ≡ slots.old.capacity }
 {
     let at = slots.len();
-    match slots.push_within_capacity(Slot::Held(serial, value)) {
+    match slots.push_within_capacity(Slot::held(serial)) {
         Ok(()) => {}
         Err(_) => unreachable!(),
     }
+    values.put(at, ((), value));
     at
 }
 
@@ -151,23 +222,26 @@ fn push_new<T, A: Allocator>(slots: &mut Vec<Slot<T>, A>, serial: u64, value: T)
 ///
 /// Does not allocate: there is capacity for one more value.
 #[inline]
-pub fn put<T: Drop, A: Allocator>(
-    slots: &mut Vec<Slot<T>, A>,
+pub fn put<T, A: Allocator>(
+    slots: &mut Vec<Slot, A>,
+    values: &mut RawVec<((), T), A>,
     free: &mut Chain,
     serial: u64,
     value: T,
 ) -> usize
-    requires sound { IsSound slots.old.items free.old }
-    requires room { count (seen slots.old.items) < slots.old.capacity }
-    ensures sound { IsSound slots.new.items free.new }
-    ensures put { Puts (seen slots.old.items) (record { index = result; serial = serial }) value
-        (seen slots.new.items) }
+    requires sound { IsSound slots.old.items values.old.places free.old slots.old.capacity }
+    requires room { count (seen slots.old.items values.old.places) < slots.old.capacity }
+    requires serial { serial < 2 ^ 63 }
+    ensures sound { IsSound slots.new.items values.new.places free.new slots.new.capacity }
+    ensures put { Puts (seen slots.old.items values.old.places)
+        (record { index = result; serial = serial }) value
+        (seen slots.new.items values.new.places) }
     ensures capacity { slots.new.capacity ≡ slots.old.capacity }
 {
     if free.count == 0 {
-        push_new(slots, serial, value)
+        push_new(slots, values, free, serial, value)
     } else {
-        put_first(slots, free, serial, value)
+        put_first(slots, values, free, serial, value)
     }
 }
 
@@ -175,24 +249,27 @@ pub fn put<T: Drop, A: Allocator>(
 ///
 /// Does not allocate.
 #[inline]
-pub fn release<T: Drop, A: Allocator>(
-    slots: &mut Vec<Slot<T>, A>,
+pub fn release<T, A: Allocator>(
+    slots: &mut Vec<Slot, A>,
+    values: &mut RawVec<((), T), A>,
     free: &mut Chain,
     at: usize,
-) -> Option<T>
+) -> T
     // The slot has a value.
-    requires sound { IsSound slots.old.items free.old }
-    requires held { is_some (slot_at (seen slots.old.items) at) ≡ true }
+    requires sound { IsSound slots.old.items values.old.places free.old slots.old.capacity }
+    requires held { is_some (slot_at (seen slots.old.items values.old.places) at) ≡ true }
 
     // The value is returned, and the slot is free.
-    ensures sound { IsSound slots.new.items free.new }
-    ensures value { result ≡ option_map (λ e. e.1) (slot_at (seen slots.old.items) at) }
-    ensures freed { seen slots.new.items ≡ slice_set (seen slots.old.items) at None }
+    ensures sound { IsSound slots.new.items values.new.places free.new slots.new.capacity }
+    ensures value { Some result
+        ≡ option_map (λ e. e.1) (slot_at (seen slots.old.items values.old.places) at) }
+    ensures freed { seen slots.new.items values.new.places
+        ≡ slice_set (seen slots.old.items values.old.places) at None }
     ensures capacity { slots.new.capacity ≡ slots.old.capacity }
 {
     slots.prove_capacity_bounds();
-    let old = mem::replace(&mut slots[at], Slot::Free(free.first, free.count));
+    slots[at] = Slot::free(free.first);
     free.first = at;
     free.count += 1;
-    old.into_value()
+    values.take(at).1
 }

@@ -96,7 +96,7 @@ fn a_cursor_writes_each_value(rt: HostRuntime) {
     assert!(rt; doubles_all(&mut map) == Some(true));
     map.fill(9);
     assert!(rt; map.iter().all(|(_, value)| *value == 9) && map.len() == 2);
-    assert!(rt; heap.requests() == 1);
+    assert!(rt; heap.requests() == 2);
 }
 
 #[test]
@@ -104,7 +104,7 @@ fn a_key_is_never_found_again(rt: HostRuntime) {
     let heap = Faulty::new(rt.alloc());
     let mut map: Small<'_> = SlotMap::new_in(&heap);
     assert!(rt; keeps_keys_apart(&mut map) == Some(true));
-    assert!(rt; heap.requests() == 1 && map.len() == 2);
+    assert!(rt; heap.requests() == 2 && map.len() == 2);
 }
 
 // A key has no mark of its map: another map finds what has the same slot and serial.
@@ -159,10 +159,13 @@ fn is_steady(map: &mut Small<'_>) -> bool {
 fn reserved_capacity_is_used_when_the_heap_fails(rt: HostRuntime) {
     let heap = Faulty::new(rt.alloc());
     let mut map: Small<'_> = SlotMap::new_in(&heap);
-    heap.fail_requests(0, 1);
-    for granted in [false, true] {
-        assert!(rt; makes_room(&mut map, 3) == granted);
+    // Each of the two blocks may be refused.
+    for granted in 0..2 {
+        heap.fail_requests(granted, 1);
+        assert!(rt; !makes_room(&mut map, 3) && map.capacity() == 0);
     }
+    heap.fail_requests(0, 0);
+    assert!(rt; makes_room(&mut map, 3) && map.capacity() == 3);
     heap.fail_requests(0, u64::MAX);
     assert!(rt; is_steady(&mut map));
     let failed = TryReserveErrorKind::AllocError { capacity: 7 };
@@ -253,7 +256,7 @@ fn a_map_is_emptied(rt: HostRuntime) {
     assert!(rt; is_emptied(&map));
     map.clear();
     assert!(rt; map.is_empty() && put(&mut map, 4).is_some() && map.len() == 1);
-    assert!(rt; heap.requests() == 1);
+    assert!(rt; heap.requests() == 2);
 }
 
 // Returns whether a map equals its clone, whether it still does once a value was written, and
@@ -339,8 +342,76 @@ fn values_are_retained_by_a_closure(rt: HostRuntime) {
     let heap = Faulty::new(rt.alloc());
     let mut map = one_and_three(&heap);
     let (four, five) = (put(&mut map, 4), put(&mut map, 5));
-    assert!(rt; keeps_odd(&mut map) == 4 && map.len() == 3 && heap.requests() == 1);
+    assert!(rt; keeps_odd(&mut map) == 4 && map.len() == 3 && heap.requests() == 2);
     assert!(rt; finds_any(&map, four) == None && finds_any(&map, five) == Some(6));
+}
+
+// Doubles the values from the front, and adds one to the last of them. Returns how many values were
+// lent, and their keys in order.
+fn doubled<'a>(map: &mut Small<'a>) -> (usize, Option<Key>, Option<Key>) {
+    let mut pairs = map.iter_mut();
+    let all = pairs.len();
+    let mut first = None;
+    if let Some((key, value)) = pairs.next() {
+        *value = value.wrapping_mul(2);
+        first = Some(key);
+    }
+    let mut last = None;
+    if let Some((key, value)) = pairs.next_back() {
+        *value = value.wrapping_add(1);
+        last = Some(key);
+    }
+    (all, first, last)
+}
+
+// Writes the index of each value, in order, plus 10 to all values, and plus 100 in a loop.
+fn numbered(map: &mut Small<'_>) -> usize {
+    let mut index = 0u32;
+    for value in map.values_mut() {
+        *value = value.wrapping_add(10).wrapping_add(index);
+        index = index.wrapping_add(1);
+    }
+    for (_, value) in &mut *map {
+        *value = value.wrapping_add(100);
+    }
+    map.values_mut().len()
+}
+
+#[test]
+fn values_are_borrowed_all_at_once(rt: HostRuntime) {
+    let heap = Faulty::new(rt.alloc());
+    let mut map = one_and_three(&heap);
+    let key = put(&mut map, 5);
+    let (all, first, last) = doubled(&mut map);
+    assert!(rt; all == 3 && last == key && finds_any(&map, last) == Some(6));
+    assert!(rt; finds_any(&map, first) == Some(2) && numbered(&mut map) == 3);
+    assert!(rt; finds_any(&map, first) == Some(112) && finds_any(&map, last) == Some(118));
+    assert!(rt; heap.requests() == 2 && map.len() == 3);
+}
+
+// Writes all values of a map that has none, and returns how many there were.
+fn none_written(map: &mut Small<'_>) -> usize {
+    let mut count = 0usize;
+    for value in map.values_mut() {
+        *value = 7;
+        count = count.wrapping_add(1);
+    }
+    count
+}
+
+#[test]
+fn an_empty_map_lends_no_values(rt: HostRuntime) {
+    let heap = Faulty::new(rt.alloc());
+    let mut map: Small<'_> = SlotMap::new_in(&heap);
+    assert!(rt; none_written(&mut map) == 0);
+    let key = put(&mut map, 1);
+    assert!(rt; removed_any(&mut map, key) == Some(1) && none_written(&mut map) == 0);
+    assert!(rt; map.iter_mut().next().is_none() && finds_any(&map, key) == None);
+}
+
+// Removes a key, if there is one, and returns its value.
+fn removed_any(map: &mut Small<'_>, key: Option<Key>) -> Option<u32> {
+    taken(map, key?)
 }
 
 // The capacity of a new map for 5 values, once one was inserted.
@@ -353,7 +424,9 @@ fn capacity_of_five<'a>(heap: &'a Faulty<Global>) -> Option<usize> {
 #[test]
 fn a_map_is_made_with_capacity(rt: HostRuntime) {
     let heap = Faulty::new(rt.alloc());
-    assert!(rt; capacity_of_five(&heap) == Some(5) && heap.requests() == 1);
-    heap.fail_requests(0, 1);
-    assert!(rt; capacity_of_five(&heap) == None && heap.outstanding() == 0);
+    assert!(rt; capacity_of_five(&heap) == Some(5) && heap.requests() == 2);
+    for granted in 0..2 {
+        heap.fail_requests(granted, 1);
+        assert!(rt; capacity_of_five(&heap) == None && heap.outstanding() == 0);
+    }
 }

@@ -4,20 +4,21 @@ ghost use Rattle.allocator_api2.specs.Clones.{ClonesAreEqual};
 ghost use Rattle.allocator_api2.specs.Errors.{IsErrorFor};
 ghost use Rattle.ex_slots.specs.Slotted.{IsClonedMap};
 
+use crate::blocks::{clone_slots, clone_values};
 use crate::map::SlotMap;
+use crate::slots::slots_in;
 use allocator_api2::collections::TryReserveError;
 use std::alloc::{AllocError, Allocator};
 
-impl<T: Clone, A: Allocator + Clone> SlotMap<T, A> {
+impl<T: Clone + Drop, A: Allocator + Clone> SlotMap<T, A> {
     /// Returns a map with a clone of each value for the same key, over a clone of the allocator.
     ///
     /// It has capacity for exactly the slots of this one, free ones included, and issues the keys
-    /// that this one would issue. Allocates once, before the first clone of a value.
+    /// that this one would issue. Allocates before the first clone of a value.
     ///
     /// # Errors
     /// `CapacityOverflow`, or `AllocError` with the number of slots, also if a clone of the
     /// allocator or of a value fails. The clones made so far are dropped.
-    #[tactic(auto, using(crate::proofs::Cloning::cloned))]
     pub fn clone(&self) -> Result<Self, TryReserveError>
         // On success, each key of this map finds a clone of its value, or an equal one.
         ensures made { IfOk result (IsClonedMap T.is_clone self.now) }
@@ -29,8 +30,10 @@ impl<T: Clone, A: Allocator + Clone> SlotMap<T, A> {
         ensures fits { ((a : A) → A.is_infallible a) → self.now.slots ≡ [] → IsOk result }
         ensures error { IfErr result (λ e. IsErrorFor e (length self.now.slots)) }
     {
-        let slots = self.slots.clone()?;
+        let slots = clone_slots(&self.slots)?;
+        let values = clone_values(slots_in(&self.slots), &self.values)?;
         Ok(SlotMap {
+            values,
             slots,
             free: self.free,
             issued: self.issued,
@@ -38,7 +41,7 @@ impl<T: Clone, A: Allocator + Clone> SlotMap<T, A> {
     }
 }
 
-impl<T: Clone, A: Allocator + Clone> Clone for SlotMap<T, A> {
+impl<T: Clone + Drop, A: Allocator + Clone> Clone for SlotMap<T, A> {
     ghost is_clone = { IsClonedMap T.is_clone };
 
     ghost is_infallible = { λ m. ((a : A) → A.is_infallible a) × (m.slots ≡ []) };

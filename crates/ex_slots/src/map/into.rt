@@ -16,18 +16,14 @@ impl<T: Drop, A: Allocator> SlotMap<T, A> {
         ensures all { result ≡ entries self }
         ensures count { length result ≡ count self.slots }
     {
-        let left = self.len();
-        self.slots.prove_capacity_bounds();
+        let count = self.len();
         let SlotMap {
+            values,
             slots,
             free: _,
             issued: _,
         } = self;
-        IntoIter {
-            slots: slots.into_iter(),
-            at: 0,
-            left,
-        }
+        IntoIter::over(slots, values, count)
     }
 }
 

@@ -1,9 +1,10 @@
 //! Removal of the values that a closure does not keep.
 ghost use Rattle.std.specs.Prelude.{◌≡◌, is_some, length, option_map, true};
 ghost use Rattle.ex_slots.specs.Retaining.{Keeps};
-ghost use Rattle.ex_slots.specs.Slotted.{find, slot_at, without};
+ghost use Rattle.ex_slots.specs.Slotted.{entries, find, slot_at, without};
 
 use crate::map::{Key, SlotMap};
+use crate::slots::{serial_at, slots_in};
 use std::alloc::Allocator;
 
 impl<T: Drop, A: Allocator> SlotMap<T, A> {
@@ -11,7 +12,7 @@ impl<T: Drop, A: Allocator> SlotMap<T, A> {
     fn slot_count(&self) -> usize
         ensures { result ≡ length self.now.slots }
     {
-        self.slots.len()
+        slots_in(&self.slots).len()
     }
 
     // Returns the key whose value is in the slot at `index`, or `None` if the slot is free.
@@ -19,8 +20,7 @@ impl<T: Drop, A: Allocator> SlotMap<T, A> {
         ensures { result ≡ option_map (λ e. record { index = index; serial = e.0 })
             (slot_at self.now.slots index) }
     {
-        let slot = self.slots.as_slice().get(index)?;
-        let serial = slot.serial()?;
+        let serial = serial_at(slots_in(&self.slots), index)?;
         Some(Key { index, serial })
     }
 
@@ -39,7 +39,8 @@ impl<T: Drop, A: Allocator> SlotMap<T, A> {
     #[tactic(auto, using(crate::proofs::Retaining::passing))]
     pub fn retain<F: FnMut(Key, &mut T) -> bool + Drop>(&mut self, mut f: F)
         requires { F.IsAlwaysCallable f }
-        ensures kept { (last : F) × Keeps F.step f 0 self.old.slots self.new.slots last }
+        ensures kept { (last : F) × Keeps F.step f (entries self.old) (entries self.new) last }
+        ensures slots { length self.new.slots ≡ length self.old.slots }
         ensures capacity { self.new.capacity ≡ self.old.capacity }
         ensures issued { self.new.issued ≡ self.old.issued }
     {

@@ -59,7 +59,7 @@ impl<T: Drop, A: Allocator + Clone> Emptied for SlotMap<T, A> {
         ensures made { IfOk result (λ m. (m.slots ≡ []) × (m.issued ≡ 0)) }
         ensures fits { ((a : A) → A.is_infallible a) → IsOk result }
     {
-        Ok(SlotMap::new_in(like.slots.allocator().clone()?))
+        Ok(SlotMap::new_in(like.values.allocator().clone()?))
     }
 }
 

@@ -47,15 +47,15 @@ fn slots_are_so<'a>(heap: &'a Faulty<Global>, drops: &'a Cell<u32>) -> bool {
     let mut all = heap.requests() == 0;
     heap.fail_requests(0, 1);
     all = put(&mut map, drops).err() == Some(End::NoMemory(4)) && drops.get() == 1 && all;
-    all = five_come(&mut map, drops) == 2 && heap.requests() == 2 && all;
+    all = five_come(&mut map, drops) == 2 && heap.requests() == 3 && all;
     // The capacity to reserve, how this ends, and all requests by then.
     for (additional, failed, end, requests) in [
-        (0, 1, End::Done, 2),
-        (2, 1, End::NoMemory(6), 3),
-        (2, 0, End::Done, 4),
-        (2, 1, End::Done, 4),
-        (1 << 60, 0, End::TooLong, 4),
-        (usize::MAX, 0, End::TooLong, 4),
+        (0, 1, End::Done, 3),
+        (2, 1, End::NoMemory(6), 4),
+        (2, 0, End::Done, 6),
+        (2, 1, End::Done, 6),
+        (1 << 60, 0, End::TooLong, 6),
+        (usize::MAX, 0, End::TooLong, 6),
     ] {
         heap.fail_requests(0, failed);
         all = reserved(&mut map, additional) == end && heap.requests() == requests && all;

@@ -1,23 +1,18 @@
-use Rattle.std.proofs.Common.{rules, ap, arith, length, length-append, sym, ◌∙◌, ◌∷◌, []}
-use Rattle.ex_slots.proofs.Iterating.{free-back, held-back}
+use Rattle.ex_slots.proofs.Common.{ap, length-append, rules, sym, ◌∙◌}
+use Rattle.allocator_api2.specs.Block.{Block}
+use Rattle.ex_slots.proofs.Remaining.{take-last, take-last-is}
 use Rattle.ex_slots.proofs.into_iter.IntoIterDoubleEndedIterator.next_back.Goals as goal
 
-pub returns-in-Held-clause-steps : goal.returns-in-Held-clause-steps
-returns-in-Held-clause-steps g c =
-    let it = c.each.self-inside in let rest = c.next_back.new.self.items in
-    let one = held-back it.at it.slots.items rest c.in-Some.slot c.in-Some.ensures.0 in
-    let last = one c.in-Held.serial c.in-Held.value c.in-Held.is in
-    rw c.len.ensures (sym c.each.invariant.0 ∙ last.0)
+pub invariant_of-self : goal.invariant_of-self
+invariant_of-self g c =
+    let key = c.in_ok-key.key in let f = c.in_ok-key.ensures in
+    take-last-is c.self.invariant key c.take.result f.within (rw c.slots_in.ensures at f.held) c.take.ensures.value (rw c.slots_in.ensures at f.last) _ (ap (λ (b : Block _ _). b.places) c.take.ensures.after)
 
-pub returns-in-Held-clause-goes : goal.returns-in-Held-clause-goes
-returns-in-Held-clause-goes g c =
-    let steps = returns-in-Held-clause-steps g c in search (rules, length-append)
+pub returns-clause-steps : goal.returns-clause-steps
+returns-clause-steps g c =
+    let key = c.in_ok-key.key in let f = c.in_ok-key.ensures in
+    sym c.self.view_is ∙ take-last c.self.invariant key c.take.result f.within (rw c.slots_in.ensures at f.held) c.take.ensures.value (rw c.slots_in.ensures at f.last) _ (ap (λ (b : Block _ _). b.places) c.take.ensures.after)
 
-pub each-preserved : goal.each-preserved
-each-preserved g c =
-    let it = c.each.self-inside in let inv = c.each.invariant in
-    let rest = c.next_back.new.self.items in
-    let none = free-back it.at it.slots.items rest c.in-Some.slot c.in-Some.ensures.0 in
-    let free = none c.in_default-slot.field-0 c.in_default-slot.field-1 c.in_default-slot.is in
-    let long = ap length c.in-Some.ensures.0 ∙ length-append rest (c.in-Some.slot ∷ []) in
-    (free.0 ∙ inv.0, omega (arith, long, inv.1), inv.2 ∙ sym free.1)
+pub returns-clause-goes : goal.returns-clause-goes
+returns-clause-goes g c =
+    let steps = returns-clause-steps g c in search (rules, length-append)

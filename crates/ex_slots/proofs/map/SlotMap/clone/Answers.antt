@@ -1,21 +1,48 @@
-use denote.Param.{param}
-use Rattle.ex_slots.proofs.Common.{held, length, refl, sym, ◌∙◌}
-use Rattle.std.proofs.lemmas.List.{length-map}
-use Rattle.ex_slots.proofs.Cloning.{made-slots, made-sound, slots-capacity}
+use Rattle.ex_slots.proofs.Common.{Slotted, ap, length, refl, rules, sym, ◌∙◌, ◌≡◌}
+use Rattle.ex_slots.proofs.Cloning.{each-cloned, same-cloned, sound-cloned}
+use Rattle.ex_slots.proofs.Seen.{length-seen, none-seen}
+use Rattle.ex_slots.specs.Inside.{states_of}
 use Rattle.ex_slots.proofs.map.SlotMap.clone.Goals as goal
+
+pub returns-in_err-slots-clause-fits : goal.returns-in_err-slots-clause-fits
+returns-in_err-slots-clause-fits g c = λ h e.
+    let none = none-seen _ c.self.inside.values.places (ap (λ (m : Slotted _). m.slots) c.self.view_is ∙ e) in
+    let made = c.clone_slots.ensures.fits h none in absurd (let bad = rw c.in_err-slots.was at made in cc)
+
+pub returns-in_err-slots-clause-error : goal.returns-in_err-slots-clause-error
+returns-in_err-slots-clause-error g c =
+    let long : length (states_of c.self.inside.slots) ≡ length c.args.self.now.slots =
+    sym (length-seen _ c.self.inside.values.places) ∙ ap (λ (m : Slotted _). length m.slots) c.self.view_is in
+    search rules
+
+pub returns-in_err-values-clause-fits : goal.returns-in_err-values-clause-fits
+returns-in_err-values-clause-fits g c = λ h e.
+    let none = none-seen _ c.self.inside.values.places (ap (λ (m : Slotted _). m.slots) c.self.view_is ∙ e) in
+    let made = c.clone_values.ensures.fits h (c.slots_in.ensures ∙ none) in absurd (let bad = rw c.in_err-values.was at made in cc)
+
+pub returns-in_err-values-clause-error : goal.returns-in_err-values-clause-error
+returns-in_err-values-clause-error g c =
+    let long : length (states_of c.self.inside.slots) ≡ length c.args.self.now.slots =
+    sym (length-seen _ c.self.inside.values.places) ∙ ap (λ (m : Slotted _). length m.slots) c.self.view_is in
+    search rules
+
+pub returns-clause-copied : goal.returns-clause-copied
+returns-clause-copied g c = λ equal.
+    let made = rw c.slots_in.ensures at c.in_ok-values.ensures.made in
+    rw c.in_ok-slots.ensures.slots (same-cloned equal _ _ _ made)
+    ∙ ap (λ (m : Slotted _). m.slots) c.self.view_is
 
 pub invariant_of-result : goal.invariant_of-result
 invariant_of-result g c =
-    let made = c.in_ok-slots.ensures.made in
-    let self = c.self.inside in
-    made-sound g.T.Clone.is_clone self.slots.items c.in_ok-slots.slots made self.free c.self.invariant
+    let made = rw c.slots_in.ensures at c.in_ok-values.ensures.made in
+    let room = rw c.slots_in.ensures at c.in_ok-values.ensures.room in
+    rw (c.in_ok-slots.ensures.slots, c.in_ok-slots.ensures.capacity) (sound-cloned _ _ _ _ _ c.self.invariant made room)
 
 pub returns-clause-made : goal.returns-clause-made
 returns-clause-made g c =
-    let ss = c.self.inside.slots.items in let made = c.in_ok-slots.ensures.made in
-    let exact = slots-capacity (param 0 g.row.T) (length ss) in
+    let made = rw c.slots_in.ensures at c.in_ok-values.ensures.made in
     rw (← c.self.view_is) (record {
-      each = made-slots g.T.Clone.is_clone ss c.in_ok-slots.slots made;
-      capacity = made.made.capacity ∙ exact ∙ sym (length-map ss held);
+      each = rw c.in_ok-slots.ensures.slots (each-cloned _ _ _ made);
+      capacity = c.in_ok-slots.ensures.capacity ∙ sym (length-seen _ c.self.inside.values.places);
       issued = refl;
     })

@@ -1,7 +1,7 @@
 use Rattle.std.proofs.Common.{None, Some, ap, arith, cond, of_calls, refl, set-set, sym, ◌∙◌, ◌≡◌}
 use Rattle.std.specs.Prelude.{slice_set}
 use Rattle.ex_slots.specs.Slotted.{slot_at}
-use Rattle.ex_slots.proofs.Retaining.{called-slot, may-return, passed-all, passed-called}
+use Rattle.ex_slots.proofs.Retaining.{called-slot, may-return, pairs-kept, passed-all, passed-called}
 use Rattle.ex_slots.proofs.map.SlotMap.retain.Goals.{then-not-f, else-not-f}
 use Rattle.ex_slots.proofs.map.SlotMap.retain.Goals as goal
 
@@ -31,6 +31,9 @@ each-preserved g c =
 pub returns-clause-kept : goal.returns-clause-kept
 returns-clause-kept g c = (
   c.each.f,
-  passed-all (goal.F-step g) _ _ _ _ _
-      (omega (arith, c.each-test.false, c.slot_count-index-end.ensures)) c.each.invariant.3,
+  pairs-kept (goal.F-step g) _ 0 _ _ _ (passed-all (goal.F-step g) _ _ _ _ _
+      (omega (arith, c.each-test.false, c.slot_count-index-end.ensures)) c.each.invariant.3),
 )
+
+pub returns-clause-slots : goal.returns-clause-slots
+returns-clause-slots g c = c.each.invariant.3.0
