@@ -159,7 +159,7 @@ fn is_steady(map: &mut Small<'_>) -> bool {
 fn reserved_capacity_is_used_when_the_heap_fails(rt: HostRuntime) {
     let heap = Faulty::new(rt.alloc());
     let mut map: Small<'_> = SlotMap::new_in(&heap);
-    // Each of the two blocks may be refused.
+    // The request of each of the two blocks may fail.
     for granted in 0..2 {
         heap.fail_requests(granted, 1);
         assert!(rt; !makes_room(&mut map, 3) && map.capacity() == 0);
@@ -346,8 +346,8 @@ fn values_are_retained_by_a_closure(rt: HostRuntime) {
     assert!(rt; finds_any(&map, four) == None && finds_any(&map, five) == Some(6));
 }
 
-// Doubles the values from the front, and adds one to the last of them. Returns how many values were
-// lent, and their keys in order.
+// Doubles the values from the front, and adds one to the last of them. Returns how many values there
+// were, and their keys in order.
 fn doubled<'a>(map: &mut Small<'a>) -> (usize, Option<Key>, Option<Key>) {
     let mut pairs = map.iter_mut();
     let all = pairs.len();
