@@ -53,7 +53,7 @@ fn elements_are_inserted_once_and_removed(rt: HostRuntime) {
 }
 
 // Whether a set is a subset of another, is one the other way round, and is disjoint from it.
-fn compared(left: &Small<'_>, right: &Small<'_>) -> (bool, bool, bool) {
+fn compared<'a>(left: &Small<'a>, right: &Small<'a>) -> (bool, bool, bool) {
     (
         left.is_subset(right),
         left.is_superset(right),

@@ -43,6 +43,11 @@ fn six<'a>(heap: &'a Faulty<Global>, drops: &'a Cell<u32>) -> Small<'a> {
     ring
 }
 
+#[tactic(auto, using(allocator_api2::proofs::Callers::callers))]
+fn keep_none(ring: &mut Small<'_>) {
+    ring.retain(|_| false);
+}
+
 fn called(call: Call, ring: &mut Small<'_>) {
     match call {
         Call::PopFront => drop(ring.pop_front()),
@@ -62,7 +67,7 @@ fn called(call: Call, ring: &mut Small<'_>) {
             let mut items = ring.drain(..);
             drop(items.next());
         }
-        Call::Retain => ring.retain(|_| false),
+        Call::Retain => keep_none(ring),
         Call::ShrinkToFit => {
             let _shrunk = ring.shrink_to_fit();
         }
