@@ -1,5 +1,5 @@
 use Rattle.vecscript.proofs.Common.{◌≡◌, ◌<◌, ◌^◌, take, AllDigits, digits_value}
-use Rattle.vecscript.proofs.lines.first_number.Given as goal
+use Rattle.vecscript.proofs.lines.words.first_number.Given as goal
 
 abbrev pub invariant-digits : goal.invariant-digits
 invariant-digits l =
