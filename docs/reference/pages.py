@@ -29,6 +29,14 @@ GUIDES = [
 ]
 
 
+def importing(word):
+    """The line by which a user imports a definition: by the crate that passes the library's on, if it does."""
+    crate, file = word.file.key
+    doors = {place[:2]: name for name, place in files()[LIBRARY, "Lib"].scope.items() if place[2] is None}
+    crate, file = (LIBRARY, doors[crate, file]) if (crate, file) in doors else (crate, file)
+    return f"ghost use Rattle.{crate}.specs.{file}.{{{word.name}}};"
+
+
 class Site:
     """All pages: made in memory, and written to a folder."""
 
@@ -120,7 +128,7 @@ class Site:
         head = f"<h3>{here(name, code(plain(word.name)))} {self.items.source(word.file.path, word.line)}</h3>"
         used = folded(f"Functions whose clauses name it: {len(calls)}", f"<p>{', '.join(calls)}</p>") if calls else ""
         comment = f"<p>{items.prose(word.sentence())}</p>"
-        return section("word", name, head + comment + piece(items.definition(word, "definition")) + used)
+        return section("word", name, head + comment + piece(items.definition(word, "definition")) + piece(html.escape(importing(word)), "import") + used)
 
     def citing(self):
         """The functions whose clauses name a definition, by the definition."""
