@@ -178,13 +178,13 @@ def of_bench():
     """The same of the bench's tables."""
     of_table = [takes(f"table_{it}", side) for it in ("insert", "hit", "miss", "remove") for side in ("std", "toolchain")]
     yield "README.md", "the original's instructions in {} of {} cases", as_original()
-    yield "README.md", "by more than a tenth in {} of {} cases, and behind in {}.", [ahead("toolchain"), ("cases", len(cases())), slower("toolchain")]
-    yield "README.md", "Rust's std is ahead in {}, and behind in {}.", [ahead("std"), slower("std")]
+    yield "README.md", "by more than a tenth in {} of {} cases, and slower in {}.", [ahead("toolchain"), ("cases", len(cases())), slower("toolchain")]
+    yield "README.md", "Rust's std is ahead in {}, and slower in {}.", [ahead("std"), slower("std")]
     yield "bench/README.md", "{} cases are measured over this library", [("cases", len(cases()))]
     yield "bench/README.md", "Of the {} cases that also run over the original, ours takes at most 1.05 times its instructions in {}.", list(as_original())[::-1]
     yield "bench/README.md", "than 1.1 times its time in {}.", [ahead("original")]
-    yield "bench/README.md", "std is ahead by more than a tenth in {} of the {} cases, and behind in {}.", [ahead("std"), ("cases", len(cases())), slower("std")]
-    yield "bench/README.md", "The toolchain is ahead in {}, and behind in {}.", [ahead("toolchain"), slower("toolchain")]
+    yield "bench/README.md", "std is ahead by more than a tenth in {} of the {} cases, and slower in {}.", [ahead("std"), ("cases", len(cases())), slower("std")]
+    yield "bench/README.md", "The toolchain is ahead in {}, and slower in {}.", [ahead("toolchain"), slower("toolchain")]
     yield "bench/README.md", "{} take more than 1.2 times the time", [beyond()]
     yield "bench/README.md", "`window`, beside std, by {}:", [takes("window", "std")]
     yield "bench/README.md", "`lines`, beside the original, by {} of its instructions", [takes("lines", "original", "instructions")]
