@@ -72,7 +72,7 @@ module _ {S T : Type 0} (steps : S → Option T → S → Type 0) where
           many z = omega (arith, p.zst z, full)
 
           pub Coming-fails : (remaining : S → Count) (yields : ℕ) → LowerAtMost remaining t yields → (k : ℕ) → k ≡ requested_with yields → (e : TryReserveError)
-              → LacksRoom f.capacity (length f.items) k (amortized f.growth f.capacity (length f.items + k) (min_capacity size)) e → FromIterFails steps (LowerAtMost remaining) size iter e t
+              → LacksRoom size f.capacity (length f.items) k (amortized f.growth f.capacity (length f.items + k) (min_capacity size)) e → FromIterFails steps (LowerAtMost remaining) size iter e t
           Coming-fails remaining yields tells k asked e lacks = inl (record {
             taken = f.items ++ x ∷ [];
             lower = lower_at_end yields;

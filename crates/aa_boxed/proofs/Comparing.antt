@@ -1,5 +1,5 @@
 -- Slices with equal fronts compare as what follows does, for the search.
-use Rattle.std.proofs.Common.{Bool, List, Option, Some, [], refl, sym, true, ◌++◌, ◌∙◌, ◌∷◌, ◌≡◌}
+use Rattle.std.proofs.Common.{Bool, List, Option, [], refl, sym, true, ◌++◌, ◌∷◌, ◌≡◌}
 use Rattle.std.specs.Cmp.{IsPartialOrder, first_so, second_so}
 use Rattle.std.specs.Cmp.Lexicographic.{pointwise, slice_partial_cmp}
 use Rattle.std.specs.Ordering.{partial_ordering_then}

@@ -65,7 +65,7 @@ module _ {S T : Type 0} (steps : S → Option T → S → Type 0) (LowerIs : S �
   FailsAtItem = Takes steps LowerIs iter (λ lower xs last. (last ≡ after)
       × (placed : List T) × (item : T) × (xs ≡ placed ++ item ∷ [])
       × (size ≡ 0 → usize_max ≤ length placed)
-      × LacksRoom (length placed) (length placed) (requested_with (lower 0))
+      × LacksRoom size (length placed) (length placed) (requested_with (lower 0))
       (amortized Doubling (length placed) (length placed + requested_with (lower 0))
       (min_capacity size))
       error)

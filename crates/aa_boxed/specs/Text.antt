@@ -47,7 +47,7 @@ appended_capacity capacity len (t ∷ ts) =
 abbrev pub StringReserveFails : {Z : Type 0} → String Z → (n : ℕ) → TryReserveError → Type 0
 StringReserveFails text n =
     let capacity = string_capacity text in let len = length (string_bytes text) in
-    LacksRoom capacity len n (amortized Doubling capacity (len + n) (min_capacity 1))
+    LacksRoom 1 capacity len n (amortized Doubling capacity (len + n) (min_capacity 1))
 
 -- the string `new` is `old` with the texts `ts` appended, with the capacity that they reserved one
 -- by one

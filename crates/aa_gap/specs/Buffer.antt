@@ -108,6 +108,6 @@ module _ {T A : Type 0} where
   abbrev pub LacksRoom : (size : ℕ) → Buffer T A → (k : ℕ) → TryReserveError → Type 0
   LacksRoom size old k error =
       let n = len old in
-      Room.LacksRoom old.capacity n k (amortized old.growth old.capacity (n + k)
+      Room.LacksRoom size old.capacity n k (amortized old.growth old.capacity (n + k)
       (min_capacity size))
       error

@@ -1,5 +1,5 @@
 -- What a gap buffer becomes once a `&mut` to its elements has ended.
-use Rattle.std.specs.Prelude.{List, []}
+use Rattle.std.specs.Prelude.{List}
 use Rattle.std.specs.Borrow.{Fml, RattleType, MutBor, Array, Lends, follows}
 use Rattle.std.specs.List.{refill}
 use Rattle.std.specs.Slice.Iter.{iter_mut_name}

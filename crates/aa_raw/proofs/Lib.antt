@@ -12,6 +12,7 @@ pub mod Entries
 pub mod EntriesLent
 pub mod EntriesTaken
 mod Claims
+pub mod Errors
 pub mod Calls
 pub mod Firsts
 pub mod Places
@@ -19,6 +20,7 @@ pub mod Positions
 pub mod Reserving
 pub mod Singles
 mod Resizing
+pub mod Rights
 pub mod Runs
 mod Spots
 pub mod Beyond

@@ -124,4 +124,4 @@ module _ {X A : Type 0} where
       (result : Result Unit TryReserveError) (new : Block X A) : Type 0 where
     pub fits : k ≤ length old.places - n → IsOk result
     pub made : OnOk result (Reserves size old n k requested new)
-    pub failed : IfErr result (λ e. (new ≡ old) × LacksRoom (length old.places) n k requested e)
+    pub failed : IfErr result (λ e. (new ≡ old) × LacksRoom size (length old.places) n k requested e)

@@ -1,5 +1,5 @@
 -- A capacity and a growth policy in one word of a block.
-use Rattle.std.specs.Prelude.{◌≡◌, ℕ, ◌*◌, ◌+◌, ◌-◌, ◌/◌, ◌%◌, ◌^◌, ◌<◌, ◌==◌, ◌⊎◌, if◌then◌else◌}
+use Rattle.std.specs.Prelude.{◌≡◌, ℕ, ◌-◌, ◌/◌, ◌%◌, ◌^◌, ◌<◌, ◌==◌, ◌⊎◌, if◌then◌else◌}
 use Rattle.aa_raw.specs.Growth.{usize_max}
 use Rattle.aa_raw.specs.declared.raw_vec.Growth.{Growth}
 use Rattle.aa_raw.specs.declared.raw_vec.Growth.TheVariants.{Doubling, Sparing, InPlace}

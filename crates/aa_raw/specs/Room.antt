@@ -1,10 +1,9 @@
 -- Spare capacity of a block. The definitions are about numbers, so that a block, a vector and any
 -- other collection share them.
-use Rattle.std.specs.Prelude.{◌≡◌, ℕ, ◌+◌, ◌-◌, ◌^◌, ◌<◌, ◌≤◌, ◌==◌, if◌then◌else◌}
+use Rattle.std.specs.Prelude.{◌≡◌, ℕ, ◌-◌, ◌<◌, ◌==◌, if◌then◌else◌}
 use Rattle.aa_raw.specs.Growth.{usize_max}
-use Rattle.aa_raw.specs.Errors.{IsErrorFor}
+use Rattle.aa_raw.specs.Errors.{error_for}
 use Rattle.aa_raw.specs.declared.collections.TryReserveError.{TryReserveError}
-use Rattle.aa_raw.specs.declared.collections.TryReserveErrorKind.TheVariants.{CapacityOverflow}
 
 -- the number of calls of a block that move a run of `n` elements: 0 if there are none, and else 1
 abbrev pub run_count : (n : ℕ) → ℕ
@@ -14,12 +13,11 @@ run_count n = if n == 0 then 0 else 1
 abbrev pub moved_over : (gap n : ℕ) → ℕ
 moved_over gap n = if gap == 0 then 0 else n
 
--- `k` more than `n` elements did not fit in `capacity` places, and a growth to `requested` places
--- failed with `error`
-pub record LacksRoom (capacity n k requested : ℕ) (error : TryReserveError) : Type 0 where
+-- `k` more than `n` elements of `size` bytes did not fit in `capacity` places, and a growth to
+-- `requested` places failed with `error`
+pub record LacksRoom (size capacity n k requested : ℕ) (error : TryReserveError) : Type 0 where
   pub full : capacity - n < k
-  pub number : IsErrorFor error requested
-  pub overflow : 2 ^ 64 ≤ n + k → error.kind ≡ CapacityOverflow
+  pub exact : error ≡ error_for size requested
 
 -- shrinking a block of `capacity` places, for elements of `size` bytes, to `n` places needs a new
 -- block

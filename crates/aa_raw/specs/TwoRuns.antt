@@ -59,7 +59,7 @@ module _ {X A : Type 0} where
     pub made : let c = growth_capacity size old (both first second + k) in
         OnOk result (ReservesRuns size old first second k c to new)
     pub failed : let c = growth_capacity size old (both first second + k) in
-        IfErr result (λ e. (new ≡ old) × LacksRoom (length old.places) (both first second) k c e)
+        IfErr result (λ e. (new ≡ old) × LacksRoom size (length old.places) (both first second) k c e)
 
   -- `old` has no capacity for `k` more values than its two runs have
   abbrev pub IsFull : (old : Block X A) → (first second : ℕ × ℕ) → (k : ℕ) → Type 0

@@ -1,7 +1,9 @@
 //! The errors returned by calls that allocate.
 ghost use Rattle.std.specs.Prelude.{◌≡◌, Some};
-ghost use Rattle.aa_raw.specs.Errors.{text_of};
+ghost use Rattle.std.specs.Mem.{type_size};
+ghost use Rattle.aa_raw.specs.Errors.{error_for, text_of};
 
+use crate::size::{fits_in_block, is_zst};
 use std::alloc::AllocError;
 use std::convert::From;
 use std::error::Error;
@@ -9,9 +11,9 @@ use std::fmt;
 
 /// Why a reserve failed.
 ///
-/// Contracts say which of the two it is if a length would exceed `usize::MAX`, and if only the
-/// allocator can fail. Elsewhere the tests of `refusal_tests` show it: more than `isize::MAX` bytes
-/// are a `CapacityOverflow` (`overflows`), and a failed allocation is an `AllocError` (all others).
+/// A capacity that no block can have is a `CapacityOverflow`: trying again can't succeed. A failed
+/// allocation is an `AllocError`: it may succeed once memory is free. Contracts say which of the two
+/// a call returns (`error_for`), unless a clone of the allocator or of an element failed.
 #[derive(Clone, Copy, PartialEq, Eq, Debug, Drop)]
 pub enum TryReserveErrorKind {
     /// The required capacity exceeds `usize::MAX` elements or `isize::MAX` bytes.
@@ -28,6 +30,21 @@ pub struct TryReserveError {
 }
 
 impl TryReserveError {
+    /// Returns the error of a failed request for `capacity` elements of type `T`.
+    ///
+    /// It is `CapacityOverflow` if these take more than `isize::MAX` bytes or are zero-sized, and
+    /// else `AllocError` with `capacity`. For collections that allocate by other means than a block.
+    /// Not in allocator-api2.
+    pub fn for_capacity<T>(capacity: usize) -> TryReserveError
+        ensures { result ≡ error_for (type_size T.row) capacity }
+    {
+        if is_zst::<T>() || !fits_in_block::<T>(capacity) {
+            TryReserveErrorKind::CapacityOverflow.into()
+        } else {
+            TryReserveErrorKind::AllocError { capacity }.into()
+        }
+    }
+
     /// Returns the kind of the error: `CapacityOverflow` or `AllocError`.
     pub fn kind(&self) -> TryReserveErrorKind
         ensures { result ≡ self.now.kind }

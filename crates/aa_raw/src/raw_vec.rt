@@ -10,7 +10,7 @@ ghost use Rattle.aa_raw.specs.Places.{IsCapacity, IsFilled, IsRun, moved, with_r
 ghost use Rattle.aa_raw.specs.Block.{fresh, with_places, without, with_moved, with_written, grown_to, shrunk_to, cut_to, growth_capacity, reserve_capacity, Reserves, ReserveResult};
 ghost use Rattle.aa_raw.specs.Closures.{CallableAtPairMut, CalledAtPlaces};
 ghost use Rattle.aa_raw.specs.Growth.{amortized, min_capacity, usize_max};
-ghost use Rattle.aa_raw.specs.Errors.{IsErrorFor, AllocationFails};
+ghost use Rattle.aa_raw.specs.Errors.{error_for, AllocationFails, IsErrorFor};
 ghost use Rattle.aa_raw.specs.Packed.{CanPack, capacity_in};
 ghost use Rattle.aa_raw.specs.Room.{LacksRoom, NeedsNewBlock};
 
@@ -575,7 +575,7 @@ impl<T, A: Allocator> RawVec<T, A> {
     #[inline(never)]
     fn reserve_error(&self, room: ReserveKind, len: usize, additional: usize) -> TryReserveError
         requires { (len ≤ length self.now.places) × (length self.now.places < len + additional) }
-        ensures { LacksRoom (length self.now.places) len additional
+        ensures { LacksRoom (type_size T.row) (length self.now.places) len additional
             (reserve_capacity room (type_size T.row) self.now (len + additional)) result }
     {
         match self.capacity_for(room, len, additional) {
@@ -596,8 +596,10 @@ impl<T, A: Allocator> RawVec<T, A> {
         ensures has_size { IfSome result (λ _. 0 < type_size T.row) }
         ensures possible { IfSome result (IsCapacity T.row) }
 
-        // There is none if the number of elements exceeds `usize::MAX`.
-        ensures none { usize_max < len + additional → result ≡ None }
+        // There is none if so many elements are no block's.
+        ensures none { let c = reserve_capacity room (type_size T.row) self.now (len + additional)
+            in IfNone result ((error_for (type_size T.row) c).kind
+            ≡ TryReserveErrorKind.CapacityOverflow) }
     {
         self.claim.prove_capacity_bounds();
         let required = len.checked_add(additional)?;

@@ -2,7 +2,7 @@
 use Rattle.std.specs.Prelude.{◌≡◌, ℕ, ◌*◌, ◌<◌, ◌≤◌, List, length}
 use Rattle.std.specs.List.{flat_map}
 use Rattle.aa_raw.specs.Growth.{usize_max}
-use Rattle.aa_raw.specs.Errors.{IsErrorFor}
+use Rattle.aa_raw.specs.Errors.{AllocationFails, IsErrorFor}
 use Rattle.aa_raw.specs.declared.collections.TryReserveError.{TryReserveError}
 use Rattle.aa_raw.specs.declared.collections.TryReserveErrorKind.TheVariants.{CapacityOverflow}
 use Rattle.aa_raw.specs.declared.raw_vec.Growth.TheVariants.{Doubling}
@@ -20,7 +20,7 @@ module _ {T A : Type 0} where
   pub record LacksRoomForFlattened (sure : Type 0) (n size : ℕ) (v : Vector (List T) A)
       (error : TryReserveError) : Type 0 where
     pub overflow : usize_max < len v * n → error.kind ≡ CapacityOverflow
-    pub cause : len v * n ≤ usize_max → sure → (0 < v.capacity * n) × (0 < size)
+    pub cause : len v * n ≤ usize_max → sure → AllocationFails (v.capacity * n) size error
     pub number : IsErrorFor error (new_capacity size (v.capacity * n))
 
   -- `v` has the elements, of `size` bytes each, of the array in `b`, no spare capacity, and a clone

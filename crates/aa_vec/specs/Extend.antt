@@ -69,7 +69,7 @@ module _ {T A : Type 0} where
     pub error : IfErr result (λ e.
         let more = requested_with (lower (length others - 1)) in
         (0 < length others) × (length xs + length front ≡ new.capacity)
-        × LacksRoom new.capacity (length new.items) more
+        × LacksRoom size new.capacity (length new.items) more
         (amortized new.growth new.capacity (length new.items + more) (min_capacity size)) e)
 
 -- a call that yielded a `&` yielded a value equal to what it refers to

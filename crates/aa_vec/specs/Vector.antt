@@ -58,15 +58,15 @@ module _ {T A : Type 0} where
   abbrev pub LacksRoom : (size : ℕ) → Vector T A → (k : ℕ) → TryReserveError → Type 0
   LacksRoom size old k error =
       let n = length old.items in
-      Room.LacksRoom old.capacity n k (amortized old.growth old.capacity (n + k)
+      Room.LacksRoom size old.capacity n k (amortized old.growth old.capacity (n + k)
       (min_capacity size))
       error
 
   -- `old` has no spare capacity for `k` more elements, and growing to exactly the new length failed
   -- with this `error`
-  abbrev pub LacksExactRoom : Vector T A → (k : ℕ) → TryReserveError → Type 0
-  LacksExactRoom old k error =
-      let n = length old.items in Room.LacksRoom old.capacity n k (n + k) error
+  abbrev pub LacksExactRoom : (size : ℕ) → Vector T A → (k : ℕ) → TryReserveError → Type 0
+  LacksExactRoom size old k error =
+      let n = length old.items in Room.LacksRoom size old.capacity n k (n + k) error
 
   -- `v` is new and empty, with capacity for `n` elements of `size` bytes, over the allocator `a`
   pub record IsNew (size n : ℕ) (a : A) (v : Vector T A) : Type 0 where

@@ -9,9 +9,11 @@
 --     with_room     the constructors, the reserves and the shrinks
 --     shown     slice, slice_mut, and what a loan wrote back
 --     in_runs     move_one, move_run, transfer, drop_run, put_array, take_array
+--     numbers     the kind and the number of the error of a failed allocation
 -- With many lemmas the search proves less: name no more of them than a function needs. Proofs by hand cite the single lemmas.
 pub use Rattle.aa_raw.proofs.Calls.{at_ends, with_room, shown}
 pub use Rattle.allocator_api2.proofs.BlocksMoved.{at_positions, in_runs}
+pub use Rattle.aa_raw.proofs.Errors.{numbers}
 pub use Rattle.aa_raw.proofs.TwoRuns.{apart}
 pub use Rattle.aa_raw.proofs.BothEnds.{at_both_ends, between, two_runs, by_arithmetic, rotated, slice_get-front, slice_get-after, slice_get-run_from, run-unshift, IsRun-unshift}
 pub use Rattle.aa_raw.proofs.Runs.{length-run, run-push, IsRun-push, run-pop, IsRun-pop, run-shift, IsRun-shift, run-split, IsRun-part, run-none, run-one, IsRun-nil, IsRun-joined, run-set-above, run-set-below, run-set-same, IsRun-set-above, IsRun-set-below, first-filled, last-filled}

@@ -1,6 +1,6 @@
 -- What callers of the slices of a vector close their goals by: the index that `position` returns,
 -- the items of a range, a loop that writes `f x` over each element `x`, and a binary search.
-use Rattle.std.proofs.Common.{◌≡◌, ℕ, ◌+◌, ◌-◌, ◌<◌, ◌≤◌, Bool, true, false, List, [], ◌∷◌, ◌++◌, length, map, take, drop, get_or, slice_set, refl, ap, sym, ◌∙◌, arith, inl, inr, ◌⊎◌, Err, Some, None}
+use Rattle.std.proofs.Common.{◌≡◌, ℕ, ◌+◌, ◌-◌, ◌<◌, Bool, true, false, List, [], ◌∷◌, ◌++◌, length, map, take, drop, get_or, slice_set, refl, sym, ◌∙◌, arith, inl, inr, ◌⊎◌, Err, Some, None}
 use Rattle.std.specs.Iterator.Runs.{EveryRun}
 use Rattle.std.specs.List.{insert, position, position_or_len, range_with_len}
 use Rattle.std.specs.List.Sorted.{IsBinarySearchResult, IsNonDecreasing}

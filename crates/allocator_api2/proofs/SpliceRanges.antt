@@ -23,11 +23,11 @@ module _ {T A : Type 0} (size : ℕ) (old : Vector T A) (start end : ℕ) (order
   few w = omega (arith, ap len drains.becomes, ap (λ v. v.written) drains.becomes, length-take start old.items, ap length drains.tail, length-drop end old.items)
 
   -- what it does of a command of the machine
-  abbrev Splicing : (fails : Type 0) → Reply T → Type 0
-  Splicing fails reply = (side : Vector T A) → Performs size fails old side (Splice start end items hint) reply new side
+  abbrev Splicing : (sure : Type 0) → Reply T → Type 0
+  Splicing sure reply = (side : Vector T A) → Performs size sure old side (Splice start end items hint) reply new side
 
-  pub Spliced-done : {fails : Type 0} → SplicesByAll takes_item (LowerExactly items_lower) size iter (cut_off (drain_vec d) (range_len d) (drain_tail d)) new
-      → PutsWithin (drain_vec d) (len (drain_vec d) + length (drain_tail d)) (length (drain_tail d)) new → Splicing fails Done
+  pub Spliced-done : {sure : Type 0} → SplicesByAll takes_item (LowerExactly items_lower) size iter (cut_off (drain_vec d) (range_len d) (drain_tail d)) new
+      → PutsWithin (drain_vec d) (len (drain_vec d) + length (drain_tail d)) (length (drain_tail d)) new → Splicing sure Done
   Spliced-done s w side =
       let lent = SplicesAll-items (record { items = items.items; hint = hint }) size (drain_vec d) (range_len d) (drain_tail d) new (rw all at s) in
       let spliced = SplicesAll-from size (lower_bound_of hint) (SameBlock-becomes _ _ _ _ _ drains.becomes) (drain_vec d).items (range_len d) (drain_tail d) items.items new lent in
@@ -36,7 +36,7 @@ module _ {T A : Type 0} (size : ℕ) (old : Vector T A) (start end : ℕ) (order
   -- the clone of the allocator may fail if it is not infallible
   pub Spliced-failed : (infallible : A → Type 0) (error : TryReserveError) (kind : TryReserveErrorKind) → kind ≡ error.kind
       → SplicesByFront takes_item (LowerExactly items_lower) size iter (cut_off (drain_vec d) (range_len d) (drain_tail d)) (¬ (infallible (drain_vec d).alloc)) error new
-      → PutsWithin (drain_vec d) (len (drain_vec d) + length (drain_tail d)) (length (drain_tail d)) new → Splicing (¬ (infallible old.alloc)) (Refused kind)
+      → PutsWithin (drain_vec d) (len (drain_vec d) + length (drain_tail d)) (length (drain_tail d)) new → Splicing (infallible old.alloc) (Refused kind)
   Spliced-failed infallible error kind is s w side =
       let xs : List T = items.items in let fails : A → Type 0 = λ a. ¬ (infallible a) in
       let lent = SpliceFails-items (record { items = xs; hint = hint }) size (drain_vec d) (range_len d) (drain_tail d) error new (rw all at s) in

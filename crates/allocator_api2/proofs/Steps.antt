@@ -84,19 +84,19 @@ module _ {T A : Type 0} (size : ℕ) where
   change_done main side command reply main' side' a r m = search rules
 
   -- what one that failed has left of it
-  change_failed : (fails : Type 0) (main side : Vector T A) (command : Command T A) (kind : TryReserveErrorKind) (main' : Vector T A) → AddsOrRemoves command → FailsWith size fails main side command (record { kind = kind }) main' → Change (hint_of command) main (added_by main side command (Refused kind) main') main'
-  change_failed fails main side (Extend items hint) kind main' a s = extends hint main items.items (Err (record { kind = kind })) main' s
-  change_failed fails main side command kind main' a s = search (rules, same)
+  change_failed : (sure : Type 0) (main side : Vector T A) (command : Command T A) (kind : TryReserveErrorKind) (main' : Vector T A) → AddsOrRemoves command → FailsWith size sure main side command (record { kind = kind }) main' → Change (hint_of command) main (added_by main side command (Refused kind) main') main'
+  change_failed sure main side (Extend items hint) kind main' a s = extends hint main items.items (Err (record { kind = kind })) main' s
+  change_failed sure main side command kind main' a s = search (rules, same)
 
   -- and one whose range is out of bounds
   change_range : (main side : Vector T A) (command : Command T A) (main' : Vector T A) → AddsOrRemoves command → main' ≡ main → Change (hint_of command) main (added_by main side command Range main') main'
   change_range main side (Extend items hint) main' a e = let none : len main' - len main ≡ 0 = omega (arith, ap len e) in rw none (same main main' e)
   change_range main side command main' a e = same main main' e
 
-  change_lists : (fails : Type 0) (main side : Vector T A) (command : Command T A) (reply : Reply T) (main' side' : Vector T A) → AddsOrRemoves command → Replies size fails main side command reply main' side' → Change (hint_of command) main (added_by main side command reply main') main'
-  change_lists fails main side command Range main' side' a s = change_range main side command main' a s.1
-  change_lists fails main side command (Refused kind) main' side' a s = change_failed fails main side command kind main' a s.2
-  change_lists fails main side command reply main' side' a s = change_done main side command reply main' side' a s.0 s.1
+  change_lists : (sure : Type 0) (main side : Vector T A) (command : Command T A) (reply : Reply T) (main' side' : Vector T A) → AddsOrRemoves command → Replies size sure main side command reply main' side' → Change (hint_of command) main (added_by main side command reply main') main'
+  change_lists sure main side command Range main' side' a s = change_range main side command main' a s.1
+  change_lists sure main side command (Refused kind) main' side' a s = change_failed sure main side command kind main' a s.2
+  change_lists sure main side command reply main' side' a s = change_done main side command reply main' side' a s.0 s.1
 
   module _ {K S : Type 0} (calls : Calls T A K S) where
     pub change_of : (old : State T A K S) (command : Command T A) (results : List Bool) (reply : Reply T) (new : State T A K S) → AddsOrRemoves command → Step size calls old command results reply new → Change (hint_of command) old.main (added_by old.main old.side command reply new.main) new.main

@@ -4,27 +4,29 @@ use Rattle.aa_vec.specs.Choosing.{Deduplicates, Retains}
 use Rattle.allocator_api2.specs.Machine.{CallsNone, TakesOut}
 use Rattle.allocator_api2.specs.Commands.{TakesChosen}
 
--- for any other command it does not matter whether a clone of the allocator may fail
-abbrev IsNoSplice : {T A : Type 0} → Command T A → Type 0
-IsNoSplice (Splice start end items hint) = ⊥
-IsNoSplice command = ⊤
+-- the command clones no allocator, so that it does not matter whether a clone may fail
+abbrev ClonesNone : {T A : Type 0} → Command T A → Type 0
+ClonesNone (SplitOff at) = ⊥
+ClonesNone (Splice start end items hint) = ⊥
+ClonesNone command = ⊤
 
 -- so the same replies are possible
-whichever_fails : {T A : Type 0} (f g : Type 0) (size : ℕ) (main side : Vector T A) (command : Command T A) (reply : Reply T) (main' side' : Vector T A) → IsNoSplice command → Replies size f main side command reply main' side' → Replies size g main side command reply main' side'
-whichever_fails f g size main side (Splice start end items hint) reply main' side' c a = absurd c
-whichever_fails f g size main side command reply main' side' c a = a
+for_any : {T A : Type 0} (f g : Type 0) (size : ℕ) (main side : Vector T A) (command : Command T A) (reply : Reply T) (main' side' : Vector T A) → ClonesNone command → Replies size f main side command reply main' side' → Replies size g main side command reply main' side'
+for_any f g size main side (SplitOff at) reply main' side' c a = absurd c
+for_any f g size main side (Splice start end items hint) reply main' side' c a = absurd c
+for_any f g size main side command reply main' side' c a = a
 
 module _ {T A K S : Type 0} {size : ℕ} {calls : Calls T A K S} {main side main' : Vector T A} {k : K} {s : S} where
   -- where the command calls no closure
-  none : {side' : Vector T A} (command : Command T A) (reply : Reply T) → IsNoSplice command → Replies size ⊥ main side command reply main' side' → CallsNone size calls (state_of main side k s) command [] reply (state_of main' side' k s)
-  none {side' = side'} command reply c a = record { none = refl; keep = refl; same = refl; lists = whichever_fails ⊥ (¬ (calls.infallible main.alloc)) size main side command reply main' side' c a }
+  none : {side' : Vector T A} (command : Command T A) (reply : Reply T) → ClonesNone command → Replies size ⊤ main side command reply main' side' → CallsNone size calls (state_of main side k s) command [] reply (state_of main' side' k s)
+  none {side' = side'} command reply c a = record { none = refl; keep = refl; same = refl; lists = for_any ⊤ (calls.infallible main.alloc) size main side command reply main' side' c a }
 
   module _ {reply : Reply T} {stated command : Command T A} (e : stated ≡ command) where
-    pub takes_both : {side' : Vector T A} → IsNoSplice command → (CallsNone size calls (state_of main side k s) command [] reply (state_of main' side' k s) → Step size calls (state_of main side k s) command [] reply (state_of main' side' k s))
-        → Performs size ⊥ main side command reply main' side' → PerformsStep size calls (state_of main side k s) stated reply (state_of main' side' k s)
+    pub takes_both : {side' : Vector T A} → ClonesNone command → (CallsNone size calls (state_of main side k s) command [] reply (state_of main' side' k s) → Step size calls (state_of main side k s) command [] reply (state_of main' side' k s))
+        → Performs size ⊤ main side command reply main' side' → PerformsStep size calls (state_of main side k s) stated reply (state_of main' side' k s)
     takes_both c calls_none t = rw e (record { results = []; step = calls_none (none command reply c t.replies); writes = t.writes })
 
-    pub takes_alone : IsNoSplice command → (CallsNone size calls (state_of main side k s) command [] reply (state_of main' side k s) → Step size calls (state_of main side k s) command [] reply (state_of main' side k s))
+    pub takes_alone : ClonesNone command → (CallsNone size calls (state_of main side k s) command [] reply (state_of main' side k s) → Step size calls (state_of main side k s) command [] reply (state_of main' side k s))
         → PerformsOnMain size main command reply main' → PerformsStep size calls (state_of main side k s) stated reply (state_of main' side k s)
     takes_alone c calls_none t = takes_both c calls_none (t side)
 
@@ -37,7 +39,7 @@ module _ {T A K S : Type 0} {size : ℕ} {calls : Calls T A K S} {main side main
         record { calls = h.calls; called = h.called; enough = h.enough; leaves = h.leaves; appends = h.appends } in
         record { results = results_of h.calls; step = record { in_range = t.0; same = refl; takes = takes; called = refl }; writes = t.2 }
     chosen reply t =
-        let lists = whichever_fails ⊥ (¬ (calls.infallible main.alloc)) size main side (ExtractIf start end count) reply main' side' tt t.1.replies in
+        let lists = for_any ⊤ (calls.infallible main.alloc) size main side (ExtractIf start end count) reply main' side' tt t.1.replies in
         record { results = []; step = record { none = refl; keep = t.0; same = refl; lists = lists }; writes = t.1.writes }
 
     pub takes_chosen : {reply : Reply T} {stated : Command T A} → stated ≡ ExtractIf start end count → TakesChosen size calls.keeps (state_with_keep main side k) start end count reply (state_with_keep main' side' k')
@@ -45,11 +47,11 @@ module _ {T A K S : Type 0} {size : ℕ} {calls : Calls T A K S} {main side main
     takes_chosen {reply} e t = rw e (chosen reply t)
 
   module _ {reply : Reply T} {stated : Command T A} where
-    pub takes_cut : {side' : Vector T A} {at : ℕ} → stated ≡ SplitOff at → Performs size ⊥ main side (SplitOff at) reply main' side' → (reply ≡ Done → 0 < at → calls.clones main.alloc side'.alloc)
+    pub takes_cut : {side' : Vector T A} {at : ℕ} → stated ≡ SplitOff at → Performs size (calls.infallible main.alloc) main side (SplitOff at) reply main' side' → (reply ≡ Done → 0 < at → calls.clones main.alloc side'.alloc)
         → (reply ≡ Done → at ≡ 0 → calls.clones main.alloc main'.alloc) → PerformsStep size calls (state_of main side k s) stated reply (state_of main' side' k s)
-    takes_cut {at = at} e t tail head = rw e (record { results = []; step = record { cut = none (SplitOff at) reply tt t.replies; tail_clone = tail; head_clone = head }; writes = t.writes })
+    takes_cut {at = at} e t tail head = rw e (record { results = []; step = record { cut = record { none = refl; keep = refl; same = refl; lists = t.replies }; tail_clone = tail; head_clone = head }; writes = t.writes })
 
-    pub takes_spliced : {start end : ℕ} {items : Vector T A} {hint : Option ℕ} → stated ≡ Splice start end items hint → ((side : Vector T A) → Performs size (¬ (calls.infallible main.alloc)) main side (Splice start end items hint) reply main' side)
+    pub takes_spliced : {start end : ℕ} {items : Vector T A} {hint : Option ℕ} → stated ≡ Splice start end items hint → ((side : Vector T A) → Performs size (calls.infallible main.alloc) main side (Splice start end items hint) reply main' side)
         → PerformsStep size calls (state_of main side k s) stated reply (state_of main' side k s)
     takes_spliced {start} {end} {items} {hint} e t = let d = t side in rw e (record { results = []; step = record { none = refl; keep = refl; same = refl; lists = d.replies }; writes = d.writes })
 

@@ -1,5 +1,5 @@
 -- What the functions of single commands ensure.
-use Rattle.std.specs.Prelude.{◌≡◌, ℕ, ◌+◌, ◌-◌, ◌≤◌, Bool, List, []}
+use Rattle.std.specs.Prelude.{◌≡◌, ℕ, ◌+◌, ◌-◌, ◌≤◌, Bool, List, [], ⊤}
 use Rattle.aa_vec.specs.Vector.{Vector, len}
 use Rattle.allocator_api2.specs.declared.runner.Command.{Command}
 use Rattle.allocator_api2.specs.declared.runner.Command.TheVariants.{ExtractIf}
@@ -10,18 +10,18 @@ use Rattle.allocator_api2.specs.Run.{cost_of}
 
 module _ {T A : Type 0} (size : ℕ) where
   -- `command`, which calls no closure, returns `reply` and leaves `main'` and `side'`, as the
-  -- machine may, and writes no more elements than it costs. `fails` says that a clone of the
-  -- allocator may fail
-  pub record Performs (fails : Type 0) (main side : Vector T A) (command : Command T A)
+  -- machine may, and writes no more elements than it costs. `sure` says that a clone of the
+  -- allocator can't fail
+  pub record Performs (sure : Type 0) (main side : Vector T A) (command : Command T A)
       (reply : Reply T) (main' side' : Vector T A) : Type 0 where
-    pub replies : Replies size fails main side command reply main' side'
+    pub replies : Replies size sure main side command reply main' side'
     pub writes : main'.written ≤ main.written + cost_of main side command [] reply main'
 
   -- the same for a command that changes `main` alone, whatever side is, and clones no allocator
   abbrev pub PerformsOnMain : (main : Vector T A) → Command T A → Reply T
       → (main' : Vector T A) → Type 0
   PerformsOnMain main command reply main' =
-      (side : Vector T A) → Performs ⊥ main side command reply main' side
+      (side : Vector T A) → Performs ⊤ main side command reply main' side
 
 module _ {T A K S : Type 0} (size : ℕ) (calls : Calls T A K S) where
   -- from the state `old`, the machine may return `reply` to `command` and move to the state `new`,
@@ -47,4 +47,4 @@ module _ {T A K S : Type 0} (size : ℕ) (Keeps : K → T → Bool → K → T �
       × (new.main.written ≤ old.main.written + (len new.main - start))
   TakesChosen old start end count reply new =
       (new.keep ≡ old.keep)
-      × Performs size ⊥ old.main old.side (ExtractIf start end count) reply new.main new.side
+      × Performs size ⊤ old.main old.side (ExtractIf start end count) reply new.main new.side

@@ -9,8 +9,10 @@ pub use Rattle.aa_boxed.specs.Text
 pub use Rattle.aa_gap.specs.Buffer
 pub use Rattle.aa_gap.specs.BufferLends
 pub use Rattle.aa_gap.specs.Editing
+pub use Rattle.aa_gap.specs.Extending
 pub use Rattle.aa_gap.specs.IntoParts
 pub use Rattle.aa_gap.specs.Page
+pub use Rattle.aa_gap.specs.Texts
 pub use Rattle.aa_raw.specs.Block
 pub use Rattle.aa_raw.specs.BlockLends
 pub use Rattle.aa_raw.specs.Clones

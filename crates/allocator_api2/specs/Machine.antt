@@ -6,7 +6,7 @@ use Rattle.std.specs.Fn.{CalledAtMut, CalledAtPairMut}
 use Rattle.aa_raw.specs.Closures.{CallableAtPairMut}
 use Rattle.aa_raw.specs.declared.collections.TryReserveError.{TryReserveError}
 use Rattle.aa_raw.specs.declared.collections.TryReserveErrorKind.TheVariants.{AllocError}
-use Rattle.aa_raw.specs.Errors.{IsErrorFor}
+use Rattle.aa_raw.specs.Errors.{ClonesFail}
 use Rattle.aa_raw.specs.Growth.{usize_max}
 use Rattle.aa_vec.specs.Vector.{Vector, len, HasRoom, LacksRoom, LacksExactRoom, GrowsTo, Holds, Becomes, run_count, with_room, with_exact_room, with_less}
 use Rattle.aa_vec.specs.Split.{Splits}
@@ -214,49 +214,50 @@ module _ {T A : Type 0} (size : ℕ) where
   Succeeds main side command reply main' side' = SucceedsOnMain main command reply main'
       × (side' ≡ side)
 
-  -- the command fails with `error` and leaves `main'`. `fails` says that a clone of the allocator
-  -- may fail, which a `Splice` may make for a vector of its own
-  abbrev pub FailsWith : (fails : Type 0) (main side : Vector T A) → Command T A → TryReserveError
+  -- the command fails with `error` and leaves `main'`. `sure` says that a clone of the
+  -- allocator can't fail, which a `SplitOff` makes, and a `Splice` may for a vector of its own
+  abbrev pub FailsWith : (sure : Type 0) (main side : Vector T A) → Command T A → TryReserveError
       → (main' : Vector T A) → Type 0
-  FailsWith fails main side (Push x) error main' = LacksRoom size main 1 error × (main' ≡ main)
-  FailsWith fails main side (Insert i x) error main' = LacksRoom size main 1 error × (main' ≡ main)
-  FailsWith fails main side (Reserve k) error main' = LacksRoom size main k error × (main' ≡ main)
-  FailsWith fails main side (ReserveExact k) error main' =
-      LacksExactRoom main k error × (main' ≡ main)
-  FailsWith fails main side (ShrinkTo k) error main' =
+  FailsWith sure main side (Push x) error main' = LacksRoom size main 1 error × (main' ≡ main)
+  FailsWith sure main side (Insert i x) error main' = LacksRoom size main 1 error × (main' ≡ main)
+  FailsWith sure main side (Reserve k) error main' = LacksRoom size main k error × (main' ≡ main)
+  FailsWith sure main side (ReserveExact k) error main' =
+      LacksExactRoom size main k error × (main' ≡ main)
+  FailsWith sure main side (ShrinkTo k) error main' =
       (error.kind ≡ AllocError (max (len main) k)) × (main' ≡ main)
-  FailsWith fails main side (SplitOff at) error main' =
-      IsErrorFor error (if at == 0 then main.capacity else len main - at) × (main' ≡ main)
-  FailsWith fails main side Append error main' =
+  FailsWith sure main side (SplitOff at) error main' =
+      ClonesFail sure (if at == 0 then main.capacity else len main - at) size error
+      × (main' ≡ main)
+  FailsWith sure main side Append error main' =
       LacksRoom size main (len side) error × (main' ≡ main)
-  FailsWith fails main side (Extend items hint) error main' =
+  FailsWith sure main side (Extend items hint) error main' =
       Extends size (lower_bound_of hint) main main.items items.items (Err error) main'
-  FailsWith fails main side (ExtendFromWithin from to) error main' =
+  FailsWith sure main side (ExtendFromWithin from to) error main' =
       AppendingClonesFails size main (to - from) error main'
-  FailsWith fails main side (Resize n x) error main' =
+  FailsWith sure main side (Resize n x) error main' =
       AppendingClonesFails size main (n - len main) error main'
-  FailsWith fails main side (Drain start end front back keep) error main' =
+  FailsWith sure main side (Drain start end front back keep) error main' =
       let ends = ends_of start end front back in
       LacksRoom size side (ends.front + ends.back) error × (main' ≡ main)
-  FailsWith fails main side (ExtractIf start end count) error main' =
+  FailsWith sure main side (ExtractIf start end count) error main' =
       LacksRoom size side (min count (end - start)) error × (main' ≡ main)
-  FailsWith fails main side (Splice start end items hint) error main' =
+  FailsWith sure main side (Splice start end items hint) error main' =
       SpliceFails size (lower_bound_of hint)
-      (without_range main start end) items.items fails ⊤ error
+      (without_range main start end) items.items (¬ sure) ⊤ error
       main'
   -- no other command fails
-  FailsWith fails main side command error main' = ⊥
+  FailsWith sure main side command error main' = ⊥
 
   -- the command, which calls no closure, may return `reply` and leave `main'` and `side'`. Either
   -- an index is out of bounds, or the command failed with an error of this kind, or it succeeded
-  abbrev pub Replies : (fails : Type 0) (main side : Vector T A) → Command T A → Reply T
+  abbrev pub Replies : (sure : Type 0) (main side : Vector T A) → Command T A → Reply T
       → (main' side' : Vector T A) → Type 0
-  Replies fails main side command Range main' side' =
+  Replies sure main side command Range main' side' =
       ¬ InRange main command × (main' ≡ main) × (side' ≡ side)
-  Replies fails main side command (Refused kind) main' side' =
+  Replies sure main side command (Refused kind) main' side' =
       InRange main command × ¬ Fits main side command
-      × FailsWith fails main side command (record { kind = kind }) main' × (side' ≡ side)
-  Replies fails main side command reply main' side' =
+      × FailsWith sure main side command (record { kind = kind }) main' × (side' ≡ side)
+  Replies sure main side command reply main' side' =
       InRange main command × Succeeds main side command reply main' side'
 
 -- neither vector has more elements than places, or more than `usize::MAX` places
@@ -303,8 +304,8 @@ module _ {T A K S : Type 0} (size : ℕ) (calls : Calls T A K S) where
     pub none : results ≡ []
     pub keep : new.keep ≡ old.keep
     pub same : new.same ≡ old.same
-    pub lists : let fails = ¬ (calls.infallible old.main.alloc) in
-        Replies size fails old.main old.side command reply new.main new.side
+    pub lists : let sure = calls.infallible old.main.alloc in
+        Replies size sure old.main old.side command reply new.main new.side
 
   -- and the allocator is cloned for the new block, when main is split at `at`
   pub record CallsClone (old : State T A K S) (at : ℕ) (results : List Bool) (reply : Reply T)

@@ -1,9 +1,9 @@
 //! Capacity that is reserved first, and pushes that use it.
-ghost use Rattle.std.specs.Prelude.{◌≡◌, ◌+◌, ◌≤◌, max, [], ◌∷◌, ◌++◌, length, replicate, IfErr, IfOk, OnErr, OnOk, IsOk};
-ghost use Rattle.allocator_api2.specs.Errors.{IsErrorFor};
+ghost use Rattle.std.specs.Prelude.{◌≡◌, ◌+◌, ◌*◌, ◌^◌, ◌<◌, ◌≤◌, ◌↔◌, max, [], ◌∷◌, ◌++◌, length, replicate, IfErr, IfOk, OnErr, OnOk, IsOk, IsTrue};
+ghost use Rattle.allocator_api2.specs.Errors.{error_for};
 ghost use Rattle.allocator_api2.specs.Vector.{HasRoom, Holds, SameBlock};
 
-use allocator_api2::collections::{Refused, TryReserveError};
+use allocator_api2::collections::{Refused, TryReserveError, TryReserveErrorKind};
 use allocator_api2::vec::Vec;
 use std::alloc::Allocator;
 
@@ -49,14 +49,32 @@ pub fn add_pair<A: Allocator>(v: &mut Vec<u64, A>, a: u64, b: u64) -> Result<(),
     ensures appended { OnOk result (v.new.items ≡ v.old.items ++ a ∷ b ∷ []) }
     ensures capacity { OnOk result (v.new.capacity ≡ max v.old.capacity (length v.old.items + 2)) }
     ensures counts { OnOk result (v.new.grown ≤ v.old.grown + length v.old.items) }
-    // Failure changes nothing. An `AllocError` has the capacity that was requested.
-    ensures error { IfErr result (λ e. IsErrorFor e (length v.old.items + 2)) }
+    // Failure changes nothing. The error is that of a request for so many elements of 8 bytes.
+    ensures error { IfErr result (λ e. e ≡ error_for 8 (length v.old.items + 2)) }
     ensures unchanged { OnErr result (v.new ≡ v.old) }
 {
     v.try_reserve_exact(2)?;
     push_within(v, a);
     push_within(v, b);
     Ok(())
+}
+
+/// Reserves capacity for `count` more numbers.
+///
+/// # Errors
+/// Returns `true` if it may succeed once memory is free, and `false` if no block can have so many.
+/// The vector is unchanged.
+pub fn reserve_or_wait<A: Allocator>(v: &mut Vec<u64, A>, count: usize) -> Result<(), bool>
+    ensures room { OnOk result (HasRoom v.new count) }
+    ensures items { v.new.items ≡ v.old.items }
+    ensures error { let bytes = (length v.old.items + count) * 8 in
+        IfErr result (λ wait. IsTrue wait ↔ (bytes < 2 ^ 63)) }
+    ensures unchanged { OnErr result (v.new ≡ v.old) }
+{
+    match v.try_reserve_exact(count) {
+        Ok(()) => Ok(()),
+        Err(error) => Err(error.kind() != TryReserveErrorKind::CapacityOverflow),
+    }
 }
 
 /// Returns a vector of two numbers.

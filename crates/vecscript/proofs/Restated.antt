@@ -31,7 +31,7 @@ module _ {K S : Type 0} (calls restated : Calls ℕ Global K S)
   none-restated : (old : State ℕ Global K S) (command : Command ℕ Global) (results : List Bool) (reply : Reply ℕ) (new : State ℕ Global K S)
       → CallsNone element_size calls old command results reply new → CallsNone element_size restated old command results reply new
   none-restated old command results reply new s =
-      let lists = subst (λ (f : Global → Type 0). Lists element_size (¬ (f old.main.alloc)) old.main old.side command reply new.main new.side) infallible s.lists in
+      let lists = subst (λ (f : Global → Type 0). Lists element_size (f old.main.alloc) old.main old.side command reply new.main new.side) infallible s.lists in
       search (s, lists)
 
   Step-restated : (old : State ℕ Global K S) (command : Command ℕ Global) (results : List Bool) (reply : Reply ℕ) (new : State ℕ Global K S)

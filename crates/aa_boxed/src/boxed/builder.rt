@@ -84,7 +84,7 @@ impl<T, A: Allocator> Builder<T, A> {
         ensures error { let items = length self.old.items in let capacity = self.old.capacity in
             let least = min_capacity (type_size T.row) in
             let requested = amortized self.old.growth capacity (items + additional) least in
-            IfErr result (LacksRoom capacity items additional requested) }
+            IfErr result (LacksRoom (type_size T.row) capacity items additional requested) }
     {
         self.block.try_reserve(self.len, additional)
     }

@@ -2,7 +2,7 @@
 ghost use Rattle.std.specs.Prelude.{◌≡◌, ◌+◌, ◌<◌, ◌≤◌, ◌++◌, List, [], length, flat_map, None, IfOk, IfErr, OnOk, OnErr, MatchResult, IsUtf8};
 ghost use Rattle.std.specs.Iterator.{IsFinite, IsNearerEnd, Drains, YieldsThen};
 ghost use Rattle.std.specs.String.{string_bytes, string_capacity};
-ghost use Rattle.aa_raw.specs.Errors.{IsErrorFor};
+ghost use Rattle.aa_raw.specs.Errors.{AllocationFails};
 ghost use Rattle.aa_raw.specs.declared.raw_vec.Growth.TheVariants.{Doubling};
 ghost use Rattle.aa_boxed.specs.Text.{Text, bytes_of, new_text, text_of_slice};
 ghost use Rattle.aa_boxed.specs.Text.{reserved_capacity, StringReserveFails, AppendsTexts, FailsAtText};
@@ -44,8 +44,7 @@ impl BoxedText<Global> {
     /// allocator-api2's `clone` aborts instead of returning an error.
     pub fn clone(&self) -> Result<Self, TryReserveError>
         ensures made { IfOk result (λ t. t ≡ self.now) }
-        ensures only_if_allocating { OnErr result (0 < length self.now.bytes) }
-        ensures error { IfErr result (λ e. IsErrorFor e (length self.now.bytes)) }
+        ensures error { IfErr result (AllocationFails (length self.now.bytes) 1) }
     {
         let bytes = self.bytes.clone()?;
         Ok(BoxedText { bytes })
@@ -65,8 +64,7 @@ impl<A: Allocator> BoxedText<A> {
     /// returning an error.
     pub fn from_text(alloc: A, text: &str) -> Result<Self, TryReserveError>
         ensures made { IfOk result (λ t. t ≡ new_text text.now alloc) }
-        ensures only_if_allocating { OnErr result (0 < length text.now) }
-        ensures error { IfErr result (λ e. IsErrorFor e (length text.now)) }
+        ensures error { IfErr result (AllocationFails (length text.now) 1) }
     {
         let bytes = BoxedSlice::from_slice(alloc, text.as_bytes())?;
         Ok(BoxedText { bytes })
@@ -293,10 +291,7 @@ fn make_room<S: Allocator>(text: &mut String<S>, additional: usize) -> Result<()
     let requested = (capacity * 2).max(required).max(8);
     match text.try_reserve_exact(requested - len) {
         Ok(()) => Ok(()),
-        Err(_) => Err(TryReserveErrorKind::AllocError {
-            capacity: requested,
-        }
-        .into()),
+        Err(_) => Err(TryReserveError::for_capacity::<u8>(requested)),
     }
 }
 

@@ -41,7 +41,7 @@ impl<T, A: Allocator> Vec<T, A> {
         ensures reserved { let n = length self.old.items in
             let roomy = with_exact_room self.old n additional in
             OnOk result (Becomes roomy self.old.items 0 0 self.new) }
-        ensures error { IfErr result (LacksExactRoom self.old additional) }
+        ensures error { IfErr result (LacksExactRoom (type_size T.row) self.old additional) }
         ensures unchanged { OnErr result (self.new ≡ self.old) }
     {
         self.block.try_reserve_exact(self.len, additional)
@@ -75,7 +75,7 @@ impl<T, A: Allocator> Vec<T, A> {
         ensures reserved { let n = length self.old.items in
             let roomy = with_exact_room self.old n additional in
             OnOk result (Becomes roomy self.old.items 0 0 self.new) }
-        ensures error { IfErr result (LacksExactRoom self.old additional) }
+        ensures error { IfErr result (LacksExactRoom (type_size T.row) self.old additional) }
         ensures unchanged { OnErr result (self.new ≡ self.old) }
     {
         self.try_reserve_exact(additional)

@@ -1,6 +1,6 @@
 //! The commands of `run`: each tests its indices, calls the method of the vector that corresponds
 //! to it, and returns the reply.
-ghost use Rattle.std.specs.Prelude.{◌≡◌, ◌<◌};
+ghost use Rattle.std.specs.Prelude.{◌≡◌, ◌<◌, ⊤};
 ghost use Rattle.std.specs.Fn.{CalledAtMut, CalledAtPairMut};
 ghost use Rattle.std.specs.Mem.{type_size};
 ghost use Rattle.aa_raw.specs.Closures.{CallableAtPairMut};
@@ -136,8 +136,8 @@ pub(crate) fn split_off<T: Drop, A: Allocator + Clone + Drop>(
     side: &mut Vec<T, A>,
     at: usize,
 ) -> Reply<T>
-    ensures performed { Performs (type_size T.row) ⊥ main.old side.old (SplitOff at)
-        result main.new side.new }
+    ensures performed { let sure = A.is_infallible main.old.alloc in
+        Performs (type_size T.row) sure main.old side.old (SplitOff at) result main.new side.new }
     ensures tail_clone { result ≡ Reply.Done → 0 < at → A.is_clone main.old.alloc side.new.alloc }
     ensures head_clone { result ≡ Reply.Done → at ≡ 0 → A.is_clone main.old.alloc main.new.alloc }
 {
@@ -155,7 +155,7 @@ pub(crate) fn split_off<T: Drop, A: Allocator + Clone + Drop>(
 
 #[tactic(auto, using(aa_vec::proofs::Becoming::became, crate::proofs::ByKind::failed))]
 pub(crate) fn append<T, A: Allocator>(main: &mut Vec<T, A>, side: &mut Vec<T, A>) -> Reply<T>
-    ensures { Performs (type_size T.row) ⊥ main.old side.old Append result main.new side.new }
+    ensures { Performs (type_size T.row) ⊤ main.old side.old Append result main.new side.new }
 {
     match main.append(side) {
         Ok(()) => Reply::Done,
@@ -245,8 +245,8 @@ pub(crate) fn splice<T: Drop, A: Allocator + Clone + Drop>(
     items: Vec<T, A>,
     hint: Option<usize>,
 ) -> Reply<T>
-    ensures { let fails = ¬ (A.is_infallible main.old.alloc) in
-        (side : Vector T A) → Performs (type_size T.row) fails main.old side
+    ensures { let sure = A.is_infallible main.old.alloc in
+        (side : Vector T A) → Performs (type_size T.row) sure main.old side
         (Splice start end items hint) result main.new side }
 {
     if start > end || end > main.len() {

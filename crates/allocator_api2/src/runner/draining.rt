@@ -1,5 +1,5 @@
 //! The command `Drain` of `run`, and its parts.
-ghost use Rattle.std.specs.Prelude.{◌+◌, ◌-◌, ◌≤◌, length};
+ghost use Rattle.std.specs.Prelude.{◌+◌, ◌-◌, ◌≤◌, length, ⊤};
 ghost use Rattle.std.specs.Mem.{type_size};
 ghost use Rattle.aa_vec.specs.Drain.{drain_remaining};
 ghost use Rattle.aa_vec.specs.Vector.{len, HasRoom};
@@ -22,7 +22,7 @@ pub(crate) fn drain<T: Drop, A: Allocator>(
     back: usize,
     keep: bool,
 ) -> Reply<T>
-    ensures { Performs (type_size T.row) ⊥ main.old side.old
+    ensures { Performs (type_size T.row) ⊤ main.old side.old
         (Command.Drain start end front back keep) result main.new side.new }
 {
     if start > end || end > main.len() {
