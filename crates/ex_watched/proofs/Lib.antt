@@ -1,2 +1,4 @@
+pub mod Alone
+pub mod Noting
 pub mod Walk
 pub mod Watching

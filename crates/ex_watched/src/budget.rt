@@ -1,8 +1,11 @@
-ghost use Rattle.std.specs.Prelude.{◌≡◌, ◌<◌, ◌≤◌, IsTrue};
+ghost use Rattle.std.specs.Prelude.{◌≡◌, ℕ, ◌<◌, ◌≤◌, IsTrue};
+ghost use Rattle.ex_watched.specs.Ledgers.{account_of};
 
+use crate::ledger::Ledger;
+use crate::noted::Noted;
 use crate::watched::{Watch, Watched};
 use std::alloc::{AllocError, Allocator};
-use std::cell::Cell;
+use std::marker::Model;
 
 /// An allocator that limits the number of bytes that are allocated at once from an inner one.
 ///
@@ -20,73 +23,103 @@ impl<B: Allocator> Watched<B, Purse> {
 }
 
 /// The limit of a `Budget`, and the number of bytes that are allocated.
+///
+/// The model of a purse is its limit. The numbers are read and changed as a `Ledger`.
 #[derive(Drop)]
 pub struct Purse {
-    limit: usize,
-    granted: Cell<usize>,
-    most: Cell<usize>,
+    noted: Noted,
+}
+
+impl Model for Purse {
+    ghost Value = { ℕ };
+
+    ghost view = { λ purse. purse.noted };
 }
 
 impl Purse {
     /// Creates a purse of `limit` bytes, of which none is allocated.
     pub fn new(limit: usize) -> Purse
-        ensures { result.limit ≡ limit }
+        ensures { result ≡ limit }
     {
         Purse {
-            limit,
-            granted: Cell::new(0),
-            most: Cell::new(0),
+            noted: Noted::new(limit),
         }
+    }
+
+    /// Returns the limit, the number of bytes that are allocated, and the most that ever were.
+    ///
+    /// These numbers are of one moment, so `allocated() <= most() <= limit()`.
+    pub fn ledger(&self) -> Ledger
+        ensures { (account_of result).limit ≡ self.now }
+    {
+        let numbers = self.noted.get();
+        Ledger::with_numbers(numbers.limit, numbers.allocated, numbers.most)
+    }
+
+    // Replaces the numbers, except for the limit.
+    fn set(&self, ledger: Ledger)
+        requires { (account_of ledger).limit ≡ self.now }
+    {
+        self.noted.set(ledger.allocated(), ledger.most());
     }
 
     /// Returns the maximum number of bytes that may be allocated at once.
     pub fn limit(&self) -> usize
-        ensures { result ≡ self.now.limit }
+        ensures { result ≡ self.now }
     {
-        self.limit
+        self.ledger().limit()
     }
 
     /// Returns the number of bytes that are allocated.
-    pub fn granted(&self) -> usize {
-        self.granted.get()
+    pub fn granted(&self) -> usize
+        ensures { result ≤ self.now }
+    {
+        self.ledger().allocated()
     }
 
     /// Returns the number of bytes that may still be allocated.
     pub fn remaining(&self) -> usize
-        ensures { result ≤ self.now.limit }
+        ensures { result ≤ self.now }
     {
-        self.limit.saturating_sub(self.granted.get())
+        self.ledger().remaining()
     }
 
     /// Returns the largest number of bytes that were ever allocated at once.
-    pub fn most(&self) -> usize {
-        self.most.get()
+    pub fn most(&self) -> usize
+        ensures { result ≤ self.now }
+    {
+        self.ledger().most()
     }
 }
 
 impl Watch for Purse {
     fn should_fail(&self, size: usize, _align: usize) -> bool
-        ensures { self.now.limit < size → IsTrue result }
+        ensures past { self.now < size → IsTrue result }
+        ensures none { IsTrue result → 0 < size }
     {
-        self.remaining() < size
+        !self.ledger().allows(size)
     }
 
     fn on_allocate(&self, size: usize, _align: usize) {
-        let granted = self.granted.get().saturating_add(size);
-        self.granted.set(granted);
-        self.most.set(self.most.get().max(granted));
+        let mut ledger = self.ledger();
+        ledger.allocate(size);
+        self.set(ledger);
     }
 
     fn on_failure(&self, _size: usize, _align: usize) {}
 
     fn on_deallocate(&self, size: usize, _align: usize) {
-        self.granted.set(self.granted.get().saturating_sub(size));
+        let mut ledger = self.ledger();
+        ledger.deallocate(size);
+        self.set(ledger);
     }
 }
 
 /// Returns a purse with the same limit, of which no byte is allocated.
 impl Clone for Purse {
+    ghost is_clone = { λ purse twin. twin ≡ purse };
+
     fn clone(&self) -> Result<Purse, AllocError> {
-        Ok(Purse::new(self.limit))
+        Ok(Purse::new(self.limit()))
     }
 }

@@ -1,4 +1,5 @@
-ghost use Rattle.std.specs.Prelude.{◌≡◌, ◌<◌};
+ghost use Rattle.std.specs.Prelude.{◌≡◌, ℕ, ◌<◌};
+ghost use Rattle.ex_watched.specs.Counted.{freed, granted, requested};
 ghost use Rattle.ex_watched.specs.Sizes.{IsClass, greatest_of};
 
 use crate::watched::{Watch, Watched};
@@ -84,7 +85,9 @@ pub struct Counts {
 
 impl Counts {
     // Returns the counts after a request for `size` bytes.
-    fn with_request(self, size: usize) -> Counts {
+    fn with_request(self, size: usize) -> Counts
+        ensures { (class : ℕ) × IsClass size class × (result ≡ requested self size class) }
+    {
         let mut by_size = self.by_size;
         let class = class_of(size);
         by_size[class] = by_size[class].saturating_add(1);
@@ -97,7 +100,9 @@ impl Counts {
     }
 
     // Returns the counts after a block of `size` bytes is allocated.
-    fn with_grant(self, size: usize) -> Counts {
+    fn with_grant(self, size: usize) -> Counts
+        ensures { result ≡ granted self size }
+    {
         let outstanding = self.outstanding.saturating_add(size as u64);
         Counts {
             granted: self.granted.saturating_add(1),
@@ -109,7 +114,9 @@ impl Counts {
     }
 
     // Returns the counts after a block of `size` bytes is deallocated.
-    fn with_free(self, size: usize) -> Counts {
+    fn with_free(self, size: usize) -> Counts
+        ensures { result ≡ freed self size }
+    {
         Counts {
             frees: self.frees.saturating_add(1),
             outstanding: self.outstanding.saturating_sub(size as u64),

@@ -8,5 +8,9 @@ pub mod budget;
 pub mod counting;
 /// An allocator for tests that fails the requests of a chosen range.
 pub mod faulty;
+/// A limit on the bytes in use, as a plain value.
+pub mod ledger;
+// A cell that notes how many bytes are allocated under a limit.
+mod noted;
 /// An allocator that calls a watch before each allocation.
 pub mod watched;

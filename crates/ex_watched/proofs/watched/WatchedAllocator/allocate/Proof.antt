@@ -1,5 +1,5 @@
 -- The request is counted, and fails or is passed on. A block that is allocated is counted too. Assumes `Logic`.
-use Rattle.ex_watched.proofs.Watching.{◌≡◌, [], ◌∷◌, refl, ap, w64, true, false, Ok, Err, T, block_if_ok, bool, unit, Al, seen, token, Answer, answer_val, Answer-typed, Answer-Ok, Answer-err, Takes, at_takes, Answered, Takes-goes, Takes-gives, answers, after, front, arm_body, proved, leaves, inst_fn, Fn, Body, Val, ftrue, flft, ent, emp, ◌⊑◌, ⊑_trans, fact, tables, size, align, capped, Env, Wp, after_seq, at_return, alloc_all, pass_all, free_all, look_at, get, get_in, get_tag, through, sets, sets_last, lands_as, env, ‵, raw, ◌⊛◌, later, ◌$◌, ◌∵◌, !, qed, move, keep, drop, use0, use1, use2, split, split3, join, fsplit, fjoin, feq_l, await, done, prop, at_ret, any_q, Sq, Post, suffices, group, sem, vrt, in_variant, agg, whole, stop, fld, addr, lit, no_more, and_then, of_opd, first, branches, skips, switches_on, exec, returns, returns_within, enter, shr_dup, uint_vals, uint_Tells, owns, block_ptr, shr_vals, types_at, nothing, only, heard, calls_at, framed, walk_of, ends_at, inner_of, dropped, gone, trues, spent, ended, Wa, generics, watch_of, watched_by, reaches, ShouldFail, calling, calls, Notes}
+use Rattle.ex_watched.proofs.Watching.{◌≡◌, [], ◌∷◌, refl, ap, w64, true, false, Ok, Err, block_if_ok, bool, unit, Al, seen, token, Answer, answer_val, Answer-typed, Answer-Ok, Answer-err, Takes, at_takes, Answered, Takes-goes, Takes-gives, answers, after, front, arm_body, proved, inst_fn, Fn, Body, Val, ftrue, flft, ent, emp, ◌⊑◌, ⊑_trans, fact, tables, size, align, capped, Env, Wp, after_seq, at_return, alloc_all, pass_all, free_all, look_at, get, get_in, get_tag, through, sets, sets_last, lands_as, env, ‵, raw, ◌⊛◌, later, ◌$◌, ◌∵◌, !, qed, move, keep, drop, use0, use1, use2, split, split3, join, fsplit, fjoin, feq_l, await, done, prop, at_ret, any_q, Sq, Post, suffices, group, sem, vrt, in_variant, agg, whole, stop, fld, addr, lit, no_more, and_then, of_opd, first, branches, skips, switches_on, exec, returns, returns_within, enter, shr_dup, uint_vals, uint_Tells, owns, block_ptr, shr_vals, types_at, nothing, only, heard, calls_at, framed, walk_of, ends_at, inner_of, dropped, gone, trues, spent, ended, Wa, generics, watch_of, watched_by, reaches, ShouldFail, calling, calls, Notes}
 use Rattle.ex_watched.specs.contracts.watched.WatchedAllocator.allocate as F
 use Rattle.ex_watched.proofs.watched.WatchedAllocator.allocate.Statement.{statement}
 use Rattle.ex_watched.proofs.watched.WatchedAllocator.allocate.Code as code
