@@ -1,5 +1,9 @@
-mod Pooling
+mod Choosing
+mod Layering
+pub mod Placing
+pub mod Pooling
 mod Racking
-mod Shelving
-mod Spacing
-mod Widening
+mod Rounding
+pub mod Shelving
+mod Suffixing
+mod Zeroed

@@ -9,17 +9,13 @@
 --     carves      the room of a block has room for a pointer in it
 --     regrants, readies      so a free block can be allocated again, and a freed one can be kept
 pub use Rattle.ex_watched.proofs.Walk.{◌≡◌, ℕ, ◌+◌, ◌<◌, ◌^◌, Bool, List, [], ◌∷◌, refl, ap, w64, true, false, Ok, Err, T, arith, lit<, subst, suc, sym, ◌*◌, ◌++◌, ◌-◌, ◌/◌, ◌∙◌, block_if_ok, owned_block, full_share, usize, Ghosts, Answer, answer_val, Answer-typed, Answer-Ok, Answer-err, after, head, inside, is_not, is_so, leaves, proved_at, Ura, inst_fn, Args, Dict, a_type, dnil, dcons, Fn, Body, Ty, ty_array, ty_ptr, Callee, ty_int, ty_struct, tcons, tnil, Val, vint, vptr, vbool, WT, has_ty, vstruct, vcons, vnil, of_list, Fml, Lft, Share, ftrue, fsep, flft, fat, fex, froom, ftok, fwand, Incl-refl, SProp, ent, emp, sep, fst∗, never, apply∗, wand, via, snd∗, every, less, ◌⊑◌, fact, fact_i, fact_use, tables, Running, Carries, bare_tables, Dv, dv_self, capped_is, capped_small, size, align, capped, over, ◌≼⁺◌, Env, Wp, after_seq, WpFn, Calls, Loops, Tables, after_block, alloc_all, pass_all, free_all, look_at, get, through, sets, sets_last, env, ‵, raw, ◌⊛◌, some, later, ◌$◌, ◌∵◌, !, qed, move, keep, drop, use0, use1, use2, split, split3, join, fsplit, fjoin, feq_i, await, done, prop, at_ret, any_q, Sq, Post, regoal, by, fjoin3, fpack, fpick, fsplit3, rewrite, post, Item, Goal, Seq, Step, Soaks, step, use3, frame, assume, Logic, sem, na_acc_in, agg, whole, look_in, store_in, sub, stop, fld, addr, lit, no_more, and_then, of_opd, first, branches, skips, exec, returns, returns_within, enter, assigns, bin, blocks, false_lit, load, true_lit, neg_lit, init, look, Ises, Are, owns_show, showss, Typed, hidden_shr, cell_at, unhide, bounded, param, RattleType, owns, RawPtr, Ptr, block_ptr, null_ptr, ptr_val, in_a_block, rawptr_Lawful, types_at, nothing, heard, Ended, Clauses, closing, on_entry, alive, triple_of, Meets, entered, Stays, walk_of, AllGo, walk_Meets, dropped, gone, trues, spent}
-use prog.Model.{Model}
 use prog.Align.{align_w, align-bytes, →dv}
 use mir.Syntax.{Width, w8, w16, w32, w128}
 use mir.Val.{bytes}
-use contract.Named.{bare_unfolds}
-use contract.Running.{tables_of}
-use sound.WpLaws.{WpFn-mono}
 use denote.RawPtr.Room.{room_cut, room_glue, past}
 use denote.Shadow.{shadow, makes_shadow, pure_l}
 use denote.Struct.Struct.{Struct}
-use denote.Triple.Handed.{holding, hands}
+pub use Rattle.ex_watched.proofs.Alone.{holding_token, proved_alone}
 pub use Rattle.ex_allocators.specs.Shelves.{HasSizeAndAlign, IsKept, block_unless, free_block, holds_at, kept_blocks, right_to, stack}
 use Rattle.ex_allocators.specs.contracts.shelf.Shelf as shelf
 use Rattle.ex_allocators.specs.contracts.shelf.Shelf.TheInside as within
@@ -115,32 +111,6 @@ align_exact τ a e = sym (capped_is (align τ) (subst (λ (j : ℕ). j < 2 ^ 64)
 
 pub fills : (τ : Ty) (m b n a : ℕ) → IsKept m b → m ≡ n → b ≡ a → (capped (size τ) ≡ n) × (capped (align τ) ≡ a) → HasSizeAndAlign τ m b
 fills τ m b n a kept same alike is = (exact (size τ) m (is.0 ∙ sym same) kept.2, align_exact τ b (is.1 ∙ sym alike))
-
-module _ {M : Type 1} {𝓤 : Ura M} (𝓛 : Logic 𝓤) (E : Ended) (stays : Stays E.signature.params E.kept) (c : Clauses 𝓤 E) where
-  open 𝓛 use {H, A}
-
-  abbrev pub holding_token : Clauses 𝓤 E
-  holding_token = holding 𝓤 E (A.tok every) c
-
-  pub proved_alone : (𝓜 : Model 𝓤 H) (𝓡 : Running 𝓤 H 𝓜) → AllGo 𝓛 E.signature.lifetimes E.signature.params E.kept stays
-      → (k : Callee) (f : Fn) → over 𝓡.env f ≼⁺ 𝓡.env k
-      → ((C : Calls 𝓤 H) (Λ : Loops 𝓤 H) (y : (walk_of 𝓛 E stays holding_token).Ghost)
-      → Are (types_at E.signature.params y.0.0) (Ises (types_at E.signature.params y.0.0)) y.0.3 y.0.4
-      → ent 𝓤 ((walk_of 𝓛 E stays holding_token).pre y)
-      (WpFn 𝓤 H C Λ f ((walk_of 𝓛 E stays holding_token).args y) ((walk_of 𝓛 E stays holding_token).post y)))
-      → Meets 𝓛 E.signature (𝓡.run (𝓡.env k)) (closing 𝓛 E c)
-  unfolding tables_of
-  proved_alone 𝓜 𝓡 go k f is walk =
-      let 𝓒 : Carries 𝓤 H 𝓜 (A.tok every) = subst (Carries 𝓤 H 𝓜) 𝓛.turn_is 𝓡.carries in
-      let 𝓣 : Tables 𝓤 H = tables_of 𝓤 H 𝓒.inner (bare_tables 𝓤 H 𝓒.inner 𝓡.allowed 𝓡.how 𝓡.env) in
-      hands 𝓛 E (A.tok every) c 𝓜 𝓒 𝓡 (𝓡.env k)
-      (entered 𝓤 H (triple_of 𝓛 E.signature (closing 𝓛 E holding_token)) 𝓣.C 𝓣.Λ k f (bare_unfolds 𝓤 H 𝓒.inner 𝓡.allowed 𝓡.how 𝓡.env k f is)
-      (walk_Meets 𝓛 E stays go holding_token (WpFn 𝓤 H 𝓣.C 𝓣.Λ f) (WpFn-mono 𝓤 H 𝓛.laws 𝓣 f) (λ y.
-      let Rs : List RattleType = types_at E.signature.params y.0.0 in let a = y.0.3 in let vss = y.0.4 in
-      fact_use 𝓤 (Are Rs (Ises Rs) a vss)
-      (via 𝓤 (sem 𝓛 (owns Rs a vss)) (via 𝓤 (on_entry 𝓛 E.signature y.0.0 y.0.1 a vss)
-      (fst∗ 𝓤 (on_entry 𝓛 E.signature y.0.0 y.0.1 a vss) ((holding_token y.0.0 a).requires y.1))
-      (snd∗ 𝓤 (alive 𝓛 E.signature y.0.0 y.0.1) (sem 𝓛 (owns Rs a vss)))) (owns_show 𝓛 Rs (Ises Rs) (showss 𝓛 Rs) a vss)) (walk 𝓣.C 𝓣.Λ y))))
 
 module _ {M : Type 1} {𝓤 : Ura M} (𝓛 : Logic 𝓤) where
   open 𝓛 use {H}

@@ -1,17 +1,13 @@
 -- What a shelf owns: free blocks of n bytes at alignment a, each of which points to the next. t is
 -- the inner allocator's right to free a block.
-use Rattle.std.specs.Prelude.{◌≡◌, ℕ, zero, suc, ◌%◌, ◌^◌, ◌<◌, ◌≤◌, List, Bool, true, false}
+use Rattle.std.specs.Prelude.{◌≡◌, ℕ, zero, suc, ◌%◌, ◌^◌, ◌<◌, ◌≤◌, Bool, true, false}
 use mir.Syntax.{Ty, ty_ptr}
-use mir.Val.{Val}
 use prog.Memory.{size, align}
 use base.Fraction.{full_share}
-use base.Fml.{Lft, Fml, ffalse, ftrue, fsep, fex, fwand, fat, froom}
-use denote.RattleType.{RattleType}
-use denote.Memory.{cell_at}
-use denote.RawPtr.{Ptr, block_ptr, null_ptr, ptr_val}
-use denote.Sharing.{said}
-use denote.Hidden.{guarded}
+use base.Fml.{Fml, ftrue, fsep, fex, fwand, fat, froom}
+use denote.RawPtr.{Ptr, block_ptr, ptr_val}
 use Rattle.std.specs.Allocator.{owned_block}
+pub use Rattle.ex_watched.specs.Cells.{holds_at, seen_by_one}
 
 -- blocks of `n` bytes at alignment `a` can be kept: each has room for one or more pointers, and for
 -- nothing else
@@ -51,15 +47,3 @@ module _ (t : Ty → Ptr → Fml) where
 abbrev pub block_unless : Bool → (Ty → Ptr → Fml) → Ty → Ptr → Fml
 block_unless true right τ p = ftrue
 block_unless false right τ p = owned_block right τ p
-
-module _ (F : RattleType) (I : F.Denot → Fml) where
-  -- the fields of a shelf at the block `b` and offset `o`, such that `I` holds of them
-  abbrev pub holds_at : ℕ → ℕ → Fml
-  holds_at b o =
-      fex (List Val) (λ vs. fsep (cell_at full_share F.mir vs b o)
-      (fex F.Denot (λ i. fsep (F.own_val i vs) (I i))))
-
-  -- through a `&`, one call at a time reaches the fields, and `I` holds again after it
-  abbrev pub seen_by_one : Ptr → Lft → Fml
-  seen_by_one null_ptr = said ffalse
-  seen_by_one (block_ptr b o) = guarded (b, o) (holds_at b o)

@@ -1,5 +1,6 @@
 //! An allocator that keeps freed blocks of many sizes.
 ghost use Rattle.std.specs.Prelude.{◌≡◌, ◌^◌, ◌<◌, ◌≤◌, ◌%◌};
+ghost use Rattle.ex_allocators.specs.Racks.{IsPlace, class_size};
 ghost use Rattle.ex_allocators.specs.Shelves.{IsKept, right_to};
 
 use crate::rounded::LEAST;
@@ -8,6 +9,9 @@ use std::alloc::{AllocError, Allocator};
 
 /// The number of classes: blocks of 16, 32, 64 .. bytes, up to 16 MiB.
 pub(crate) const CLASSES: usize = 21;
+
+// The smallest class is of 2 to this power of bytes.
+const LEAST_LOG: usize = 4;
 
 // The alignment of the blocks.
 const ALIGN: usize = 16;
@@ -59,11 +63,19 @@ fn empty<B: Allocator>(inner: &B, size: usize, limit: usize) -> Shelf<B>
 
 // Returns the index of the shelf for blocks of `size` bytes, if that is a class.
 fn place_of(size: usize) -> usize
-    ensures { result < 21 }
+    ensures { IsPlace size result }
 {
     (size.max(LEAST).ilog2() as usize)
-        .saturating_sub(LEAST.ilog2() as usize)
+        .saturating_sub(LEAST_LOG)
         .min(CLASSES - 1)
+}
+
+// Returns the number of bytes of the blocks of a class.
+pub(crate) fn class_size(class: usize) -> usize
+    requires { class < 21 }
+    ensures { result ≡ class_size class }
+{
+    LEAST << class
 }
 
 impl<B: Allocator> Seven<B> {
@@ -169,7 +181,7 @@ impl<B: Allocator> Rack<B> {
     /// Deallocates all kept blocks with the inner allocator.
     pub fn clear(&self) {
         for class in 0..CLASSES {
-            let size = LEAST << class;
+            let size = class_size(class);
             for _ in 0..u64::MAX {
                 if !free_one(self.shelf(size), &self.inner, size, ALIGN) {
                     break;

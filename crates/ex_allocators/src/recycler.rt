@@ -1,8 +1,9 @@
 //! An allocator that rounds sizes up and reuses freed blocks.
-ghost use Rattle.std.specs.Prelude.{◌≡◌};
+ghost use Rattle.std.specs.Prelude.{◌≡◌, ◌<◌};
+ghost use Rattle.ex_allocators.specs.Kepts.{with_blocks};
 
-use crate::rack::{CLASSES, Rack};
-use crate::rounded::{LEAST, Rounded};
+use crate::rack::{CLASSES, Rack, class_size};
+use crate::rounded::Rounded;
 use std::alloc::Allocator;
 
 /// An allocator that keeps freed blocks of up to 16 MiB and reuses them.
@@ -23,6 +24,20 @@ pub struct Kept {
     pub blocks: usize,
     /// The total size of the blocks in bytes.
     pub bytes: usize,
+}
+
+impl Kept {
+    // Adds `count` blocks of a class.
+    fn with_blocks(self, class: usize, count: usize) -> Kept
+        requires { class < 21 }
+        ensures { result ≡ with_blocks self class count }
+    {
+        let bytes = count.saturating_mul(class_size(class));
+        Kept {
+            blocks: self.blocks.saturating_add(count),
+            bytes: self.bytes.saturating_add(bytes),
+        }
+    }
 }
 
 impl<B: Allocator> Rounded<Rack<B>> {
@@ -59,14 +74,13 @@ impl<B: Allocator> Rounded<Rack<B>> {
 
     /// Returns the number and the total size of the kept blocks.
     pub fn kept(&self) -> Kept {
-        let mut blocks = 0usize;
-        let mut bytes = 0usize;
+        let mut kept = Kept {
+            blocks: 0,
+            bytes: 0,
+        };
         for class in 0..CLASSES {
-            let size = LEAST << class;
-            let count = self.inner().count(size);
-            blocks = blocks.saturating_add(count);
-            bytes = bytes.saturating_add(count.saturating_mul(size));
+            kept = kept.with_blocks(class, self.inner().count(class_size(class)));
         }
-        Kept { blocks, bytes }
+        kept
     }
 }

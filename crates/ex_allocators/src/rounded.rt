@@ -1,8 +1,11 @@
 //! A layer that rounds up the sizes of requests.
-ghost use Rattle.std.specs.Prelude.{◌≡◌};
-ghost use Rattle.ex_allocators.specs.Rounding.{IsRoundedSize, rounded_align, wide_right};
+ghost use Rattle.std.specs.Prelude.{◌≡◌, ◌^◌, ◌<◌, ◌≤◌, IfSome};
+ghost use Rattle.std.specs.Option.{SomeIff};
+ghost use Rattle.ex_allocators.specs.Layers.{IsAlignment};
+ghost use Rattle.ex_allocators.specs.Rounding.{IsRoundedSize, rounded_align, rounded_size};
 
-use std::alloc::{AllocError, Allocator};
+use crate::layered::{Layer, Layered};
+use std::alloc::Allocator;
 
 /// The size in bytes of the smallest class.
 pub(crate) const LEAST: usize = 16;
@@ -15,27 +18,18 @@ const ALIGN: usize = 16;
 
 /// An allocator that rounds each request of up to 16 MiB up to a power of two of bytes.
 ///
-/// It requests from `inner` the least power of two that is large enough and at least 16 bytes, at
-/// alignment 16. Larger requests are passed on unchanged.
-pub struct Rounded<B: Allocator> {
-    inner: B,
-}
+/// It requests from an inner allocator the least power of two that is large enough and at least 16
+/// bytes, at alignment 16. Larger requests are passed on unchanged.
+pub type Rounded<B> = Layered<B, Classes>;
 
-impl<B: Allocator> Rounded<B> {
-    /// Creates a layer over `inner`.
+impl<B: Allocator> Layered<B, Classes> {
+    /// Creates an allocator over `inner` that rounds up the sizes of requests.
     ///
     /// Does not allocate.
     pub fn over(inner: B) -> Rounded<B>
         ensures { result.inner ≡ inner }
     {
-        Rounded { inner }
-    }
-
-    /// Returns a reference to the inner allocator.
-    pub fn inner(&self) -> &B
-        ensures { result.now ≡ self.now.inner }
-    {
-        &self.inner
+        Layered::with_layer(inner, Classes)
     }
 }
 
@@ -49,49 +43,27 @@ fn rounded_size(size: usize) -> usize
     size.max(LEAST).next_power_of_two()
 }
 
-// Returns the alignment that is requested in place of `align`.
-fn align_for(size: usize, align: usize) -> usize
-    ensures { result ≡ rounded_align size align }
-{
-    if size > GREATEST {
-        return align;
-    }
-    ALIGN
-}
+/// The layer of a `Rounded` allocator.
+#[derive(Clone, Copy)]
+pub struct Classes;
 
-impl<B: Allocator> Drop for Rounded<B> {
-    fn drop(self) {
-        let Rounded { inner: _ } = self;
-    }
-}
+impl Layer for Classes {
+    ghost size_for = { λ _ size _. rounded_size size };
 
-unsafe impl<B: Allocator> Allocator for Rounded<B> {
-    // The right to free a block is the inner allocator's right to free the wider block.
-    ghost dealloc_token = { λ heap. wide_right (B.dealloc_token heap.inner) };
+    ghost align_for = { λ _ size align. rounded_align size align };
 
-    fn allocate(&self, size: usize, align: usize) -> Result<*mut u8, AllocError> {
-        let room = rounded_size(size);
-        let with = align_for(size, align);
-        self.inner.allocate(room, with)
+    fn size_for(&self, size: usize, _align: usize) -> Option<usize>
+        ensures value { SomeIff result (rounded_size size < 2 ^ 64) (rounded_size size) }
+        ensures sufficient { size ≤ rounded_size size }
+        ensures rounded { IfSome result (IsRoundedSize size) }
+    {
+        Some(rounded_size(size))
     }
 
-    unsafe fn deallocate(&self, ptr: *mut u8, size: usize, align: usize) {
-        let room = rounded_size(size);
-        let with = align_for(size, align);
-        self.inner.deallocate(ptr, room, with);
-    }
-}
-
-/// Returns a layer over a clone of `inner`.
-///
-/// # Errors
-/// `AllocError` if the clone of `inner` fails.
-impl<B: Allocator + Clone> Clone for Rounded<B> {
-    ghost is_clone = { λ heap twin. B.is_clone heap.inner twin.inner };
-
-    ghost is_infallible = { λ heap. B.is_infallible heap.inner };
-
-    fn clone(&self) -> Result<Rounded<B>, AllocError> {
-        Ok(Rounded::over(self.inner.clone()?))
+    fn align_for(&self, size: usize, align: usize) -> usize {
+        if size > GREATEST {
+            return align;
+        }
+        ALIGN
     }
 }

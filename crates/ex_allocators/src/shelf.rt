@@ -1,4 +1,4 @@
-//! The list of freed blocks of a pool.
+//! A list of free blocks of one layout, as a pool keeps them.
 ghost use Rattle.std.specs.Prelude.{◌≡◌, ◌%◌, ◌⊎◌};
 ghost use mir.Syntax.{Ty};
 ghost use base.Fml.{fex, fsep};
@@ -13,7 +13,7 @@ use std::ptr::null_mut;
 /// A list of at most `most` free blocks of one layout that an allocator `B` allocated.
 ///
 /// The first word of each block points to the next one.
-pub(crate) struct Shelf<B: Allocator> {
+pub struct Shelf<B: Allocator> {
     // The block that was put last, if `count` is not 0.
     top: *mut u8,
     count: usize,
@@ -40,7 +40,7 @@ impl<B: Allocator> Shelf<B> {
     /// Creates an empty shelf for at most `most` blocks of `_heap`.
     ///
     /// Does not allocate.
-    pub(crate) fn new(_heap: &B, size: usize, align: usize, most: usize) -> Shelf<B>
+    pub fn new(_heap: &B, size: usize, align: usize, most: usize) -> Shelf<B>
         requires { IsKept size align }
         ensures { result ≡ _heap.now }
     {
@@ -55,7 +55,7 @@ impl<B: Allocator> Shelf<B> {
     }
 
     /// Returns the number of blocks.
-    pub(crate) fn count(&self) -> usize {
+    pub fn count(&self) -> usize {
         let this = self as *const Shelf<B> as *mut Shelf<B>;
         unsafe { (*this).count }
     }
@@ -64,7 +64,7 @@ impl<B: Allocator> Shelf<B> {
     ///
     /// # Errors
     /// `AllocError` if the shelf is empty or the layout is not that of the shelf.
-    pub(crate) fn take(&self, size: usize, align: usize) -> Result<*mut u8, AllocError>
+    pub fn take(&self, size: usize, align: usize) -> Result<*mut u8, AllocError>
         ghost ty: { Ty }
         requires { HasLayout ty size align }
         ensures* { sem 𝓛 (block_if_ok (right_to (B.dealloc_token self.now)) ty result) }
@@ -91,7 +91,7 @@ impl<B: Allocator> Shelf<B> {
     /// Adds a block, if its layout is that of the shelf and the shelf is not full.
     ///
     /// Returns whether it did. If it returns `false`, the caller still owns the block.
-    pub(crate) unsafe fn put(&self, block: *mut u8, size: usize, align: usize) -> bool
+    pub unsafe fn put(&self, block: *mut u8, size: usize, align: usize) -> bool
         ghost ty: { Ty }
         requires layout { HasLayout ty size align }
         requires* block { sem 𝓛 (owned_block (right_to (B.dealloc_token self.now)) ty block) }
@@ -120,7 +120,7 @@ impl<B: Allocator> Shelf<B> {
 /// Removes one block from a shelf and deallocates it with `inner`, which allocated it.
 ///
 /// Returns `false` if the shelf is empty.
-pub(crate) fn free_one<B: Allocator>(shelf: &Shelf<B>, inner: &B, size: usize, align: usize) -> bool
+pub fn free_one<B: Allocator>(shelf: &Shelf<B>, inner: &B, size: usize, align: usize) -> bool
     requires granter { shelf.now ≡ inner.now }
     requires units { size % align ≡ 0 }
     requires words { (align ≡ 8) ⊎ (align ≡ 16) }

@@ -1,46 +1,41 @@
 //! A layer that requests twice the bytes, so that no other block follows a block directly.
-ghost use Rattle.std.specs.Prelude.{◌≡◌};
-ghost use Rattle.ex_allocators.specs.Spacing.{spaced};
+ghost use Rattle.std.specs.Prelude.{◌≡◌, ◌*◌};
 
-use std::alloc::{AllocError, Allocator};
+use crate::layered::{Layer, Layered};
+use std::alloc::Allocator;
 
-/// An allocator that requests twice the bytes of each request from `inner`, at its alignment.
+/// An allocator that requests twice the bytes of each request from an inner one, at its alignment.
 ///
 /// # Errors
-/// `allocate` returns `AllocError` if twice the size exceeds `usize::MAX`, or if `inner` does.
-pub struct Spaced<B: Allocator> {
-    inner: B,
-}
+/// `allocate` returns `AllocError` if twice the size exceeds `isize::MAX`, or if the inner
+/// allocator does.
+pub type Spaced<B> = Layered<B, Doubled>;
 
-impl<B: Allocator> Spaced<B> {
-    /// Creates a layer over `inner`.
+impl<B: Allocator> Layered<B, Doubled> {
+    /// Creates an allocator over `inner` that requests twice the bytes.
     ///
     /// Does not allocate.
     pub fn new(inner: B) -> Spaced<B>
         ensures { result.inner ≡ inner }
     {
-        Spaced { inner }
+        Layered::with_layer(inner, Doubled)
     }
 }
 
-impl<B: Allocator> Drop for Spaced<B> {
-    fn drop(self) {
-        let Spaced { inner: _ } = self;
-    }
-}
+/// The layer of a `Spaced` allocator.
+#[derive(Clone, Copy)]
+pub struct Doubled;
 
-unsafe impl<B: Allocator> Allocator for Spaced<B> {
-    // The right to free a block is the inner allocator's right to free both halves.
-    ghost dealloc_token = { λ heap. spaced (B.dealloc_token heap.inner) };
+impl Layer for Doubled {
+    ghost size_for = { λ _ size _. size * 2 };
 
-    fn allocate(&self, size: usize, align: usize) -> Result<*mut u8, AllocError> {
-        if usize::MAX - size < size {
-            return Err(AllocError);
-        }
-        self.inner.allocate(size + size, align)
+    ghost align_for = { λ _ _ align. align };
+
+    fn size_for(&self, size: usize, _align: usize) -> Option<usize> {
+        size.checked_mul(2)
     }
 
-    unsafe fn deallocate(&self, ptr: *mut u8, size: usize, align: usize) {
-        self.inner.deallocate(ptr, size + size, align);
+    fn align_for(&self, _size: usize, align: usize) -> usize {
+        align
     }
 }
