@@ -7,7 +7,8 @@ pub struct Config {
     pub steps: u64,
     /// A request of at most so many bytes must succeed ..
     pub guaranteed_size: usize,
-    /// .. if no more than so many bytes are allocated with it, and the limits below are kept.
+    /// .. if no more than so many bytes are allocated with it, and the limits below are kept. If
+    /// this is 0, no request must succeed, not even one of no bytes.
     pub guaranteed_bytes: usize,
     /// The maximum number of bytes that are ever allocated at once.
     pub bytes: usize,
@@ -38,6 +39,8 @@ impl Config {
     /// Returns whether a request for `size` bytes must succeed, if with it `bytes` bytes are
     /// allocated, in `blocks` blocks.
     pub(crate) fn promises(&self, size: usize, bytes: usize, blocks: usize) -> bool {
-        size <= self.guaranteed_size && bytes <= self.guaranteed_bytes && self.allows(bytes, blocks)
+        size <= self.guaranteed_size
+            && bytes.max(1) <= self.guaranteed_bytes
+            && self.allows(bytes, blocks)
     }
 }

@@ -32,6 +32,8 @@ pub enum Broken {
     OtherSize,
     /// A block of the inner allocator was deallocated with another alignment.
     OtherAlignment,
+    /// A block of one of two inner allocators was deallocated to the other.
+    FreedToOther,
 }
 
 /// The first fault that a test run found.
@@ -41,6 +43,10 @@ pub struct Fault {
     pub broken: Broken,
     /// Whether it was found in the clone.
     pub of_clone: bool,
+    /// The seed of the run.
+    pub seed: u64,
+    /// The number of steps in each part of the run. With the seed it says which steps were made.
+    pub steps: u64,
     /// The step, counted from 1, or 0 after the drop.
     pub step: u64,
     /// The size in bytes of an element of the block with the fault.
@@ -66,6 +72,8 @@ impl Fault {
         Fault {
             broken,
             of_clone: false,
+            seed: 0,
+            steps: 0,
             step: 0,
             element: 1,
             count: 0,
@@ -97,7 +105,8 @@ impl fmt::Display for Fault {
             | Broken::PastLimit
             | Broken::NeverReuses => { self.write_request(f) }
             _ => self.write_books(f),
-        }
+        }?;
+        write!(f, " (seed {}, {} steps)", self.seed, self.steps)
     }
 }
 
@@ -124,25 +133,24 @@ impl Fault {
     fn write_request<W: fmt::Write>(&self, f: &mut fmt::Formatter<W>) -> fmt::Result {
         let size = self.count;
         match self.broken {
-            Broken::GrantsNothing => write!(f, "nothing is granted, ")?,
+            Broken::GrantsNothing => write!(f, "no request succeeds, ")?,
             Broken::NeverReuses => {
                 let again = "freed blocks are not reused";
                 write!(
                     f,
-                    "{again}: a request for {size} bytes fails with nothing in use, "
+                    "{again}: a request for {size} bytes fails with nothing allocated, "
                 )?;
             }
             _ => {
                 let (bytes, blocks) = (self.bytes, self.blocks);
-                let claim = if self.broken == Broken::FailsUnexpectedly {
-                    "not granted, though claimed"
+                let what = if self.broken == Broken::FailsUnexpectedly {
+                    "a guaranteed request fails"
                 } else {
-                    "granted past the limit"
+                    "a request past the limit succeeds"
                 };
-                let out = "out with them";
                 write!(
                     f,
-                    "{size} bytes are {claim}, {bytes} {out} in {blocks} blocks, "
+                    "{what}: {size} bytes, with which {bytes} are allocated in {blocks} blocks, "
                 )?;
             }
         }
@@ -157,13 +165,17 @@ impl Fault {
                 let kept = "neither used again nor passed on";
                 return write!(
                     f,
-                    "what came back is {kept}: {bytes} bytes in {blocks} blocks"
+                    "freed blocks are {kept}: {bytes} bytes in {blocks} blocks"
                 );
             }
             Broken::LeaksAtDrop => {
                 return write!(f, "{bytes} bytes leak, in {blocks} blocks");
             }
             Broken::PassedOnTwice => "more blocks were passed on than taken",
+            Broken::FreedToOther => {
+                let wrong = "passed on to the wrong one of two allocators";
+                return write!(f, "a block of {} bytes was {wrong}", self.count);
+            }
             Broken::OtherSize => "a block was passed on with another size",
             _ => "a block was passed on with another alignment",
         };

@@ -153,6 +153,24 @@ impl Pattern for Large {
     }
 }
 
+/// An element of no bytes with the alignment 16.
+#[derive(Clone, Copy)]
+pub struct Nil {
+    none: [u128; 0],
+}
+
+impl Pattern for Nil {
+    const BYTES: usize = 0;
+
+    fn marked(_mark: u64) -> Self {
+        Nil { none: [] }
+    }
+
+    fn has(&self, _mark: u64) -> bool {
+        true
+    }
+}
+
 /// An element of 4,096 bytes, whose first and last words hold the mark.
 #[derive(Clone, Copy)]
 pub struct Page {
@@ -178,5 +196,27 @@ impl Pattern for Page {
 
     fn begins(&self, mark: u64) -> bool {
         self.first == mark
+    }
+}
+
+/// An element of 4,096 bytes, each of whose words holds the mark.
+#[derive(Clone, Copy)]
+pub struct Sheet {
+    words: [u64; 512],
+}
+
+impl Pattern for Sheet {
+    const BYTES: usize = 4_096;
+
+    fn marked(mark: u64) -> Self {
+        Sheet { words: [mark; 512] }
+    }
+
+    fn has(&self, mark: u64) -> bool {
+        self.words.iter().all(|it| *it == mark)
+    }
+
+    fn begins(&self, mark: u64) -> bool {
+        self.words[0] == mark
     }
 }

@@ -1,5 +1,6 @@
-use crate::below::{Ledger, spread};
+use crate::below::{Ledgers, spread};
 use crate::config::Config;
+use crate::reach::Reach;
 use ex_watched::watched::{Watch, Watched};
 use std::cell::Cell;
 
@@ -22,14 +23,15 @@ pub(crate) struct Breach {
 #[derive(Drop)]
 pub(crate) struct Referee<'a> {
     config: Config,
-    // The counts of the inner allocator.
-    below: &'a Ledger,
+    // The counts of the inner allocators.
+    below: Ledgers<'a>,
     step: Cell<u64>,
     requests: Requests,
     outcomes: Outcomes,
     out: Out,
     denied: Cell<Option<Breach>>,
     passed: Cell<Option<Breach>>,
+    reach: Cell<Reach>,
 }
 
 // The number of requests, and which of them are to fail.
@@ -64,8 +66,8 @@ struct Out {
 }
 
 impl<'a> Referee<'a> {
-    /// Creates a referee before the first step, over the counts of the inner allocator.
-    pub(crate) fn new(config: Config, below: &'a Ledger) -> Referee<'a> {
+    /// Creates a referee before the first step, over the counts of the inner allocators.
+    pub(crate) fn new(config: Config, below: Ledgers<'a>) -> Referee<'a> {
         Referee {
             config,
             below,
@@ -75,6 +77,7 @@ impl<'a> Referee<'a> {
             out: Out::default(),
             denied: Cell::new(None),
             passed: Cell::new(None),
+            reach: Cell::new(Reach::default()),
         }
     }
 
@@ -162,6 +165,48 @@ impl<'a> Referee<'a> {
         self.passed.get()
     }
 
+    /// Returns the counts of the inner allocators.
+    pub(crate) fn below(&self) -> Ledgers<'a> {
+        self.below
+    }
+
+    /// Returns how near the run came to each claim.
+    pub(crate) fn reach(&self) -> Reach {
+        self.reach.get()
+    }
+
+    /// Checks that the blocks of vectors that grow and shrink are within the limits.
+    pub(crate) fn check_held(&self, bytes: usize, blocks: usize) {
+        if self.passed.get().is_none() && !self.config.allows(bytes, blocks) {
+            self.passed.set(Some(Breach {
+                step: self.step.get(),
+                size: bytes,
+                bytes,
+                blocks,
+            }));
+        }
+    }
+
+    // Adds a request that succeeded to what was reached.
+    fn add_to_reach(&self, with: Breach) {
+        let Breach {
+            step: _,
+            size,
+            bytes,
+            blocks,
+        } = with;
+        let is_guaranteed = self.config.promises(size, bytes, blocks);
+        self.reach.set(
+            self.reach.get().max(Reach {
+                bytes,
+                blocks,
+                size,
+                guaranteed_size: if is_guaranteed { size } else { 0 },
+                guaranteed_bytes: if is_guaranteed { bytes } else { 0 },
+            }),
+        );
+    }
+
     // Returns the bytes and blocks that would be allocated with a request of `size` bytes.
     fn with(&self, size: usize) -> Breach {
         Breach {
@@ -195,6 +240,7 @@ impl Watch for Referee<'_> {
         let with = self.with(size);
         self.out.bytes.set(with.bytes);
         self.out.blocks.set(with.blocks);
+        self.add_to_reach(with);
         if self.passed.get().is_none() && !self.config.allows(with.bytes, with.blocks) {
             self.passed.set(Some(with));
         }

@@ -3,36 +3,19 @@
 //! A mark is written into each place and checked. The blocks that are returned to the inner
 //! allocator are checked too.
 
-use crate::below::{Below, Ledger, Mismatch};
+use crate::below::{Below, Ledgers, Mismatch};
 use crate::config::Config;
+use crate::edge::{EDGES, Edges};
 use crate::fault::{Broken, Fault};
 use crate::grown::{Done, Growing};
-use crate::random::Random;
+use crate::reach::Report;
 use crate::referee::{Breach, Referee, Refereed};
+use crate::script::{Plan, Script, Step};
 use crate::sets::Spot;
 use crate::zoo::Zoo;
 use allocator_api2::vec::Vec;
 use ex_watched::watched::Watched;
-use std::alloc::{Allocator, Global};
-
-/// The counts of a test run without a fault.
-#[derive(Clone, Copy, PartialEq, Eq, Debug)]
-pub struct Report {
-    /// The number of steps.
-    pub steps: u64,
-    /// The number of blocks that were requested, except by `grow` and `shrink`.
-    pub requests: u64,
-    /// The number of these requests that the test run itself failed. They never reached the
-    /// allocator.
-    pub injected_failures: u64,
-    /// The number of requests that the allocator failed.
-    pub failures: u64,
-    /// The number of blocks that were deallocated.
-    pub frees: u64,
-    /// The largest number of bytes of the inner allocator that were allocated while nothing was in
-    /// use.
-    pub kept: u64,
-}
+use std::alloc::{AllocError, Allocator, Global};
 
 /// Tests an allocator with random calls, drops it, and checks that no block of the inner allocator
 /// leaks.
@@ -48,10 +31,89 @@ pub fn stress<B: Allocator, A: Allocator>(
     heap: A,
     config: Config,
 ) -> Result<Report, Fault> {
-    let report = stress_one(books, below, &heap, config)?;
+    stress_over(books, ledgers_of(below), heap, Plan::all(config))
+}
+
+/// Tests an allocator as `stress` does, by the steps of a script.
+///
+/// # Errors
+/// The first fault that was found.
+pub fn replay<B: Allocator, A: Allocator>(
+    books: Global,
+    below: &Below<B>,
+    heap: A,
+    script: &Script,
+) -> Result<Report, Fault> {
+    stress_over(books, ledgers_of(below), heap, Plan::of(script))
+}
+
+/// Tests an allocator over two inner ones with random calls, drops it, and checks that no block of
+/// either leaks.
+///
+/// It also checks that each block is deallocated to the inner allocator that allocated it. Only
+/// layouts are compared, so two blocks of one layout that are exchanged are not found. If `second`
+/// is only called once `first` fails, `first` must fail at times, as a `Budget` does.
+///
+/// # Errors
+/// The first fault that was found.
+pub fn stress_over_two<B: Allocator, C: Allocator, A: Allocator>(
+    books: Global,
+    first: &Below<B>,
+    second: &Below<C>,
+    heap: A,
+    config: Config,
+) -> Result<Report, Fault> {
+    stress_over(
+        books,
+        ledgers_of_two(first, second),
+        heap,
+        Plan::all(config),
+    )
+}
+
+/// Tests an allocator over two inner ones as `stress_over_two` does, by the steps of a script.
+///
+/// # Errors
+/// The first fault that was found.
+pub fn replay_over_two<B: Allocator, C: Allocator, A: Allocator>(
+    books: Global,
+    first: &Below<B>,
+    second: &Below<C>,
+    heap: A,
+    script: &Script,
+) -> Result<Report, Fault> {
+    stress_over(books, ledgers_of_two(first, second), heap, Plan::of(script))
+}
+
+// Returns the counts of one inner allocator.
+fn ledgers_of<B: Allocator>(below: &Below<B>) -> Ledgers<'_> {
+    Ledgers {
+        first: below.watch(),
+        second: None,
+    }
+}
+
+// Returns the counts of two inner allocators.
+fn ledgers_of_two<'a, B: Allocator, C: Allocator>(
+    first: &'a Below<B>,
+    second: &'a Below<C>,
+) -> Ledgers<'a> {
+    Ledgers {
+        first: first.watch(),
+        second: Some(second.watch()),
+    }
+}
+
+// Tests an allocator, drops it, and checks that all blocks were deallocated.
+fn stress_over<A: Allocator>(
+    books: Global,
+    below: Ledgers<'_>,
+    heap: A,
+    plan: Plan<'_>,
+) -> Result<Report, Fault> {
+    let result = stress_one(books, below, &heap, plan);
     drop(heap);
-    check_all_freed(below.watch())?;
-    Ok(report)
+    plan.signed(and_all_freed(result, below))
 }
 
 /// Tests an allocator and then a clone of it with random calls, drops both, and checks that no
@@ -68,33 +130,66 @@ pub fn stress_with_clone<B: Allocator, A: Allocator + Clone>(
     heap: A,
     config: Config,
 ) -> Result<Report, Fault> {
-    let first = stress_one(books, below, &heap, config)?;
-    let second = match heap.clone() {
-        Ok(twin) => stress_clone(books, below, twin, config)?,
-        Err(_) => first,
+    stress_both(books, ledgers_of(below), heap, Plan::all(config))
+}
+
+/// Tests an allocator and a clone of it as `stress_with_clone` does, by the steps of a script.
+///
+/// # Errors
+/// The first fault that was found, with `of_clone` set if the clone has it.
+pub fn replay_with_clone<B: Allocator, A: Allocator + Clone>(
+    books: Global,
+    below: &Below<B>,
+    heap: A,
+    script: &Script,
+) -> Result<Report, Fault> {
+    stress_both(books, ledgers_of(below), heap, Plan::of(script))
+}
+
+// Tests an allocator and its clone, drops both, and checks that all blocks were deallocated.
+fn stress_both<A: Allocator + Clone>(
+    books: Global,
+    below: Ledgers<'_>,
+    heap: A,
+    plan: Plan<'_>,
+) -> Result<Report, Fault> {
+    let result = match stress_one(books, below, &heap, plan) {
+        Ok(first) => and_clone(first, heap.clone(), books, below, plan),
+        Err(fault) => Err(fault),
     };
     drop(heap);
-    check_all_freed(below.watch())?;
-    Ok(Report {
-        steps: first.steps.saturating_add(second.steps),
-        requests: first.requests.saturating_add(second.requests),
-        injected_failures: first
-            .injected_failures
-            .saturating_add(second.injected_failures),
-        failures: first.failures.saturating_add(second.failures),
-        frees: first.frees.saturating_add(second.frees),
-        kept: first.kept.max(second.kept),
-    })
+    plan.signed(and_all_freed(result, below))
+}
+
+// Tests a clone too, if there is one, and adds its counts.
+fn and_clone<A: Allocator>(
+    first: Report,
+    twin: Result<A, AllocError>,
+    books: Global,
+    below: Ledgers<'_>,
+    plan: Plan<'_>,
+) -> Result<Report, Fault> {
+    match twin {
+        Ok(twin) => Ok(first.and(stress_clone(books, below, twin, plan)?)),
+        Err(_) => Ok(first),
+    }
+}
+
+// Returns the report, if all blocks of the inner allocators were deallocated.
+fn and_all_freed(outcome: Result<Report, Fault>, below: Ledgers<'_>) -> Result<Report, Fault> {
+    let report = outcome?;
+    check_all_freed(below)?;
+    Ok(report)
 }
 
 // Tests a clone, and marks its faults as those of a clone.
-fn stress_clone<B: Allocator, A: Allocator>(
+fn stress_clone<A: Allocator>(
     books: Global,
-    below: &Below<B>,
+    below: Ledgers<'_>,
     twin: A,
-    config: Config,
+    plan: Plan<'_>,
 ) -> Result<Report, Fault> {
-    match stress_one(books, below, &twin, config) {
+    match stress_one(books, below, &twin, plan) {
         Ok(report) => Ok(report),
         Err(fault) => Err(Fault {
             of_clone: true,
@@ -112,31 +207,33 @@ fn probe<H: Allocator>(heap: H) -> bool {
 }
 
 // Tests one handle: three times the same steps.
-fn stress_one<B: Allocator, A: Allocator>(
+fn stress_one<A: Allocator>(
     books: Global,
-    below: &Below<B>,
+    below: Ledgers<'_>,
     heap: &A,
-    config: Config,
+    plan: Plan<'_>,
 ) -> Result<Report, Fault> {
-    let refereed = Watched::with_watch(heap, Referee::new(config, below.watch()));
+    let refereed = Watched::with_watch(heap, Referee::new(plan.config, below));
     let granted = probe(&refereed);
-    let first = part(books, below.watch(), &refereed, heap, config, granted)?;
-    let second = part(books, below.watch(), &refereed, heap, config, granted)?;
-    let third = part(books, below.watch(), &refereed, heap, config, granted)?;
+    let first = part(books, below, &refereed, heap, plan, granted)?;
+    let second = part(books, below, &refereed, heap, plan, granted)?;
+    let third = part(books, below, &refereed, heap, plan, granted)?;
     let referee = refereed.watch();
     if grows(first, second) && grows(second, third) {
         return Err(Fault {
             step: referee.step(),
-            ..fault_below(Broken::NeverPassesOn, below.watch())
+            ..fault_below(Broken::NeverPassesOn, below)
         });
     }
     Ok(Report {
+        config: plan.config,
         steps: referee.step(),
         requests: referee.requests(),
         injected_failures: referee.injected_failures(),
         failures: referee.failures(),
         frees: referee.frees(),
         kept: third.bytes,
+        reach: referee.reach(),
     })
 }
 
@@ -167,36 +264,38 @@ fn is_granted_again<A: Allocator>(refereed: &Refereed<A>, tries: u64) -> bool {
     false
 }
 
-// Runs one part: the library's calls, the same request again and again, then `grow` and `shrink`.
+// Runs one part: the library's calls, the same request again and again, the claims at their edges,
+// then `grow` and `shrink`.
 fn part<A: Allocator>(
     books: Global,
-    ledger: &Ledger,
+    below: Ledgers<'_>,
     refereed: &Refereed<A>,
     heap: &A,
-    config: Config,
+    plan: Plan<'_>,
     granted: bool,
 ) -> Result<PartResult, Fault> {
     let referee = refereed.watch();
     referee.next_part();
-    walk(books, refereed, referee, config)?;
+    walk(books, refereed, referee, plan)?;
     check_claims(referee)?;
-    for _ in 0..config.steps {
-        if granted && !is_granted_again(refereed, config.steps) {
+    for _ in 0..plan.config.steps {
+        if granted && !is_granted_again(refereed, plan.config.steps) {
             return Err(Fault {
                 count: PROBE,
                 ..fault_above(Broken::NeverReuses, referee)
             });
         }
     }
-    grow_and_shrink(heap, referee, config)?;
-    if let Some(broken) = mismatch(ledger) {
+    reach_claims(books, refereed, referee, plan)?;
+    grow_and_shrink(heap, referee, plan)?;
+    if let Some(broken) = mismatch(below) {
         return Err(Fault {
             step: referee.step(),
-            ..fault_below(broken, ledger)
+            ..fault_below(broken, below)
         });
     }
     Ok(PartResult {
-        bytes: ledger.bytes(),
+        bytes: below.bytes(),
         results: referee.results(),
     })
 }
@@ -206,28 +305,28 @@ fn walk<H: Allocator + Copy>(
     books: Global,
     heap: H,
     referee: &Referee,
-    config: Config,
+    plan: Plan<'_>,
 ) -> Result<(), Fault> {
     let mut zoo = Zoo::new(books, heap);
-    steps(&mut zoo, referee, config)
+    steps(&mut zoo, referee, plan)
 }
 
 // Makes random steps, before each of which a request may be chosen that is to fail.
 fn steps<H: Allocator + Copy>(
     zoo: &mut Zoo<H>,
     referee: &Referee,
-    config: Config,
+    plan: Plan<'_>,
 ) -> Result<(), Fault> {
-    let mut random = Random::new(config.seed);
-    for _ in 0..config.steps {
+    for number in 0..plan.config.steps {
+        let Some(mut random) = plan.random(Step::Call(number)) else {
+            continue;
+        };
         referee.next_step();
         referee.inject_failures(random.draw() % 4, random.draw() % 2);
         if let Err(spot) = zoo.step(&mut random) {
             return Err(fault_at(spot, broken_at(spot), referee));
         }
-        if let Some(breach) = referee.passed() {
-            return Err(fault_of(breach, Broken::PastLimit, referee));
-        }
+        check_step(referee)?;
     }
     referee.inject_failures(0, 0);
     match zoo.check() {
@@ -236,27 +335,74 @@ fn steps<H: Allocator + Copy>(
     }
 }
 
+// Comes to each claim exactly, and to one more and one fewer.
+fn reach_claims<H: Allocator + Copy>(
+    books: Global,
+    heap: H,
+    referee: &Referee,
+    plan: Plan<'_>,
+) -> Result<(), Fault> {
+    let mut edges = Edges::new(books, heap);
+    for number in 0..EDGES {
+        let Some(mut random) = plan.random(Step::Edge(number)) else {
+            continue;
+        };
+        referee.next_step();
+        if let Err(spot) = edges.step(number, plan.config, &mut random) {
+            return Err(fault_at(spot, broken_at(spot), referee));
+        }
+        check_step(referee)?;
+        check_claims(referee)?;
+    }
+    Ok(())
+}
+
+// The largest limit in bytes that a vector is grown to.
+const LIMIT: usize = 16_777_216;
+
 // Makes random steps of vectors that call `grow` and `shrink`. All places are checked after each
-// step, so a wrong mark is due to the call that was made in it.
+// step, so a wrong mark in the vector that was called is due to that call.
 fn grow_and_shrink<H: Allocator + Copy>(
     heap: H,
     referee: &Referee,
-    config: Config,
+    plan: Plan<'_>,
 ) -> Result<(), Fault> {
     let mut growing = Growing::new(heap);
-    let mut random = Random::new(config.seed);
-    for _ in 0..config.steps {
+    let limit = plan.config.bytes;
+    for number in 0..plan.config.steps {
+        let Some(mut random) = plan.random(Step::Resize(number)) else {
+            continue;
+        };
         referee.next_step();
-        let done = growing.step(&mut random);
-        if let Err(spot) = growing.check() {
-            let broken = match done {
-                Done::Made => broken_at(spot),
-                Done::Grown => Broken::GrowLoses,
-                Done::Shrunk => Broken::ShrinkLoses,
-            };
-            return Err(fault_at(spot, broken, referee));
+        let done = if number == 1 && limit <= LIMIT {
+            growing.exceed(limit)
+        } else {
+            growing.step(&mut random)
+        };
+        referee.check_held(growing.held(), growing.blocks());
+        if let Err(spot) = growing.check_last() {
+            return Err(fault_at(spot, lost_by(done, spot), referee));
         }
+        if let Err(spot) = growing.check() {
+            return Err(fault_at(spot, broken_at(spot), referee));
+        }
+        check_step(referee)?;
         referee.add_result(growing.capacity());
+    }
+    Ok(())
+}
+
+// Checks after a step that the limits were kept, and that no block went to the wrong one of two
+// inner allocators.
+fn check_step(referee: &Referee) -> Result<(), Fault> {
+    if let Some(breach) = referee.passed() {
+        return Err(fault_of(breach, Broken::PastLimit, referee));
+    }
+    if referee.below().crossed().is_some() {
+        return Err(Fault {
+            step: referee.step(),
+            ..fault_below(Broken::FreedToOther, referee.below())
+        });
     }
     Ok(())
 }
@@ -273,19 +419,22 @@ fn check_claims(referee: &Referee) -> Result<(), Fault> {
 }
 
 // Checks that all blocks of the inner allocator were deallocated.
-fn check_all_freed(ledger: &Ledger) -> Result<(), Fault> {
-    if let Some(broken) = mismatch(ledger) {
-        return Err(fault_below(broken, ledger));
+fn check_all_freed(below: Ledgers<'_>) -> Result<(), Fault> {
+    if let Some(broken) = mismatch(below) {
+        return Err(fault_below(broken, below));
     }
-    if ledger.blocks() > 0 {
-        return Err(fault_below(Broken::LeaksAtDrop, ledger));
+    if below.blocks() > 0 {
+        return Err(fault_below(Broken::LeaksAtDrop, below));
     }
     Ok(())
 }
 
 // Returns how the deallocated blocks of the inner allocator differ from the allocated ones.
-fn mismatch(ledger: &Ledger) -> Option<Broken> {
-    match ledger.mismatch() {
+fn mismatch(below: Ledgers<'_>) -> Option<Broken> {
+    if below.crossed().is_some() {
+        return Some(Broken::FreedToOther);
+    }
+    match below.mismatch() {
         None => None,
         Some(Mismatch::TooMany) => Some(Broken::PassedOnTwice),
         Some(Mismatch::Sizes) => Some(Broken::OtherSize),
@@ -299,6 +448,15 @@ fn broken_at(spot: Spot) -> Broken {
         Broken::AllocatedTwice
     } else {
         Broken::Overlaps
+    }
+}
+
+// Returns the kind of fault that a wrong mark shows in a vector that was just called.
+fn lost_by(done: Done, spot: Spot) -> Broken {
+    match done {
+        Done::Made => broken_at(spot),
+        Done::Grown => Broken::GrowLoses,
+        Done::Shrunk => Broken::ShrinkLoses,
     }
 }
 
@@ -334,11 +492,12 @@ fn fault_of(breach: Breach, broken: Broken, referee: &Referee) -> Fault {
     }
 }
 
-// Returns a fault that shows at the inner allocator.
-fn fault_below(broken: Broken, ledger: &Ledger) -> Fault {
+// Returns a fault that shows at the inner allocators.
+fn fault_below(broken: Broken, below: Ledgers<'_>) -> Fault {
     Fault {
-        bytes: ledger.bytes(),
-        blocks: ledger.blocks(),
+        count: below.crossed().map_or(0, |it| it.size),
+        bytes: below.bytes(),
+        blocks: below.blocks(),
         ..Fault::new(broken)
     }
 }

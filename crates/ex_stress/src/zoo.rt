@@ -76,6 +76,46 @@ impl<H: Allocator + Copy> Zoo<H> {
     }
 }
 
+// The names of the collections, as `step` chooses them.
+const COLLECTIONS: [&str; 10] = [
+    "elements of no bytes",
+    "elements of 1 byte",
+    "elements of 2 bytes",
+    "elements of 4 bytes",
+    "elements of 16 bytes",
+    "elements of 24 bytes",
+    "elements of 1,025 bytes",
+    "a text",
+    "blocks of up to 300 bytes",
+    "blocks of 16 KiB to a MiB",
+];
+
+// The names of their calls, as the `step` of a `Set` chooses them.
+const CALLS: [&str; 10] = [
+    "push",
+    "push",
+    "push",
+    "truncate",
+    "reserve or shrink",
+    "split and append",
+    "boxes",
+    "boxes",
+    "boxed slice",
+    "release all",
+];
+
+/// Returns the names of the collection and of the call of a step with these random numbers.
+pub(crate) fn name_of(random: &mut Random) -> (&'static str, &'static str) {
+    let _injected = (random.draw(), random.draw());
+    let collection = random.up_to(9);
+    let call = if collection < 7 {
+        CALLS[random.up_to(9)]
+    } else {
+        "replace one"
+    };
+    (COLLECTIONS[collection], call)
+}
+
 impl<H: Allocator + Copy> Small<H> {
     fn new(books: Global, heap: H) -> Small<H> {
         Small {
