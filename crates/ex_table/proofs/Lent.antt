@@ -41,12 +41,12 @@ use Rattle.core.specs.declared.hash.build.BuildHasher as builder
 use Rattle.core.specs.contracts.option.Option as option
 use Rattle.core.proofs.option.Option.TheLaws as option_laws
 use Rattle.aa_raw.proofs.raw_vec.RawVec.TheLaws as block_laws
-use Rattle.aa_raw.specs.Block.{Block, with_places}
+use Rattle.aa_raw.specs.Block.{with_places}
 use Rattle.aa_raw.specs.Entries.{Entry, values_of, with_values}
 use Rattle.aa_raw.specs.EntriesLends as block_lends
 use Rattle.aa_raw.specs.Places.{somes}
 use Rattle.aa_raw.specs.contracts.raw_vec.RawVec as block
-use Rattle.ex_table.proofs.Rights.{Back, both_rights, closes_late}
+use Rattle.aa_raw.proofs.Rights.{Back, both_rights, closes_late}
 use Rattle.ex_table.proofs.Values.{read, same, stays}
 use Rattle.ex_table.proofs.index.HashIndex.TheLaws as index_laws
 use Rattle.ex_table.proofs.table.Table.TheLaws as table_laws

@@ -45,7 +45,7 @@ module _ {K V : Type 0} (eq : K → K → Bool) (k : K) where
   nowhere (None ∷ cs) h = nowhere cs (λ s. h (suc s))
   nowhere (Some e ∷ cs) h = grind (arith, keys-cons eq k e (somes cs), nowhere cs (λ s. h (suc s)), h zero)
 
-  somewhere : (cs : List (Option (K × V))) (s : ℕ) (e : K × V) → get_or cs s None ≡ Some e → eq k e.0 ≡ true → 1 ≤ keys_like eq k (somes cs)
+  pub somewhere : (cs : List (Option (K × V))) (s : ℕ) (e : K × V) → get_or cs s None ≡ Some e → eq k e.0 ≡ true → 1 ≤ keys_like eq k (somes cs)
   somewhere [] s e at t = absurd cc
   somewhere (None ∷ cs) zero e at t = absurd cc
   somewhere (Some x ∷ cs) zero e at t = grind (arith, keys-cons eq k x (somes cs))

@@ -1,6 +1,6 @@
 -- The errors of insertion.
 use Rattle.std.specs.Prelude.{◌≡◌, Bool, true, None, is_some, length}
-use Rattle.allocator_api2.specs.Room.{LacksRoom}
+use Rattle.ex_table.specs.Full.{LacksRoom}
 use Rattle.ex_table.specs.Contents.{capacity_for, value, TableView}
 use Rattle.ex_table.specs.declared.table.TryInsertError.{TryInsertError}
 use Rattle.ex_table.specs.declared.table.TryInsertError.TheVariants.{Occupied, Refused}

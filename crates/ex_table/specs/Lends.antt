@@ -1,6 +1,6 @@
 -- The final state of a table after a mutable borrow of one of its values has ended.
 use Rattle.std.specs.Prelude.{Bool, Option}
-use Rattle.std.specs.Borrow.{Fml, RattleType, MutBor, LendsIf}
+use Rattle.std.specs.Borrow.{Fml, RattleType, MutBor, Lends, LendsIf}
 use Rattle.std.specs.Hash.{HashWrites}
 use Rattle.std.specs.Map.{set_value}
 use Rattle.std.specs.declared.alloc.Allocator as alloc
@@ -26,3 +26,16 @@ lends_value K V S A H g b w a t key r =
       capacity = t.now.capacity;
       builder = t.now.builder;
     }) t.now
+
+-- the final state of the table `t`: `k`, which is present, has the last value written through `r`
+abbrev pub lends_there : (K V S A H : RattleType) (g : OfKeys K.Denot)
+    (b : builder.Ghosts S.Denot H.Denot) (w : hasher.Ghosts H.Denot) (a : alloc.Ghosts A.Denot)
+    → MutBor (TableView K.Denot V.Denot S.Denot) → K.Denot → MutBor V.Denot → Fml
+lends_there K V S A H g b w a t key r =
+    Lends (the_row K V S A H (record { eq = g.eq }) (record { hash_input = g.hash_input }) b w a)
+    V t r
+    (λ x. record {
+      entries = set_value (g.eq key) t.now.entries x;
+      capacity = t.now.capacity;
+      builder = t.now.builder;
+    })

@@ -9,8 +9,12 @@ pub mod IterMutLends
 pub mod SameEntries
 pub mod Walks
 pub mod Retaining
+pub mod Full
 pub mod Inserting
 pub mod Draining
 pub mod SetContents
 pub mod SameElements
 pub mod InsertLends
+pub mod Entry
+pub mod EntryLends
+pub mod SetDraining

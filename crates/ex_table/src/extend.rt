@@ -1,7 +1,8 @@
 //! A table made of the items of an iterator, or extended by them.
-ghost use Rattle.std.specs.Prelude.{◌≡◌, List, length, [], Err, IfErr, IfOk, IsOk};
+ghost use Rattle.std.specs.Prelude.{◌≡◌, List, length, [], Err, IfErr, IfOk, IsOk, OnOk};
 ghost use Rattle.std.specs.Iterator.{Drains, ExtendsWithItems, IsFiniteIterable, size};
-ghost use Rattle.allocator_api2.specs.Room.{LacksRoom};
+ghost use Rattle.std.specs.Iterator.Runs.{WholeRun};
+ghost use Rattle.ex_table.specs.Full.{LacksRoom};
 ghost use Rattle.ex_table.specs.Contents.{capacity_for, empty, HasRoom, InsertsAll, SetsAll, TableView};
 
 use crate::table::Table;
@@ -24,6 +25,9 @@ impl<K: Eq + Hash + Drop, V: Drop, S: BuildHasher, A: Allocator + Clone> Table<K
             U.IntoIter.remaining iter }
         ensures extended { ExtendsWithItems U.into_iter_gives U.IntoIter.next_gives
             (InsertsAll K.eq) iter self.old self.new result }
+        ensures runs { OnOk result ((it : U.IntoIter) × U.into_iter_gives iter it
+            × WholeRun U.IntoIter.next_gives it
+            (λ p. InsertsAll K.eq self.old p.items self.new)) }
         ensures fits { ((it : U.IntoIter) → U.into_iter_gives iter it
             → HasRoom self.old (size (U.IntoIter.remaining it))) → IsOk result }
         ensures error { IfErr result (LacksRoom self.new.capacity (length self.new.entries) 1
@@ -61,6 +65,8 @@ impl<K: Eq + Hash + Drop, V: Drop, A: Allocator + Clone> Table<
         ensures collected { IfOk result (λ t. (it : U.IntoIter) × (xs : List (K × V))
             × U.into_iter_gives iter it × Drains U.IntoIter.next_gives it xs
             × SetsAll K.eq [] xs t.entries) }
+        ensures runs { IfOk result (λ t. (it : U.IntoIter) × U.into_iter_gives iter it
+            × WholeRun U.IntoIter.next_gives it (λ p. SetsAll K.eq [] p.items t.entries)) }
         ensures fits { ((it : U.IntoIter) → U.into_iter_gives iter it
             → size (U.IntoIter.remaining it) ≡ 0) → IsOk result }
         ensures failed { IfErr result (λ e. (t : TableView K V (BuildHasherDefault FoldHasher))

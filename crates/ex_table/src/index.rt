@@ -1,12 +1,12 @@
 //! The index of a table: finds the slot of a key by the hash of the key.
-ghost use Rattle.std.specs.Prelude.{◌≡◌, ◌≢◌, ℕ, ◌+◌, ◌*◌, ◌/◌, ◌<◌, ◌≤◌, suc, true, false, List, Option, None, Some, length, get_or, slice_set, replicate, count_by, ◌==◌, IfSome, IfNone};
+ghost use Rattle.std.specs.Prelude.{◌≡◌, ◌≢◌, ℕ, ◌+◌, ◌*◌, ◌/◌, ◌<◌, ◌≤◌, suc, true, false, List, Option, None, Some, length, get_or, slice_set, replicate, count_by, ◌==◌, IfSome, IfNone, IsTrue};
 ghost use Rattle.allocator_api2.specs.Places.{IsFilled};
 ghost use Rattle.ex_table.specs.Slots.{tag_at, tag_of, probe_start, reach_of, IsSlots, IsIndex};
 ghost use Rattle.ex_table.specs.Places.{key_at, hashes, tags_of, AreHeld, Lacks, IsReachable, AreFindable};
 
 use crate::slots::{
-    GROUP_SIZE, Overflow, clear_all, has_overflow, home, probe_group, put, reach, release, slot_of,
-    slot_past, tag,
+    GROUP_SIZE, Overflow, clear_all, has_overflow, home, is_free, probe_group, put, reach, release,
+    slot_of, slot_past, tag,
 };
 use allocator_api2::raw_vec::RawVec;
 use allocator_api2::vec::Vec;
@@ -185,6 +185,49 @@ pub fn find_in<K: Eq, V, A: Allocator>(
             hash,
             key,
         ),
+        None => None,
+    }
+}
+
+// Returns `true` only if the slot has a key equal to `key`.
+#[inline(always)]
+fn has_at<K: Eq, V, A: Allocator>(
+    tags: &[u8],
+    places: &RawVec<(K, V), A>,
+    slot: usize,
+    key: &K,
+) -> bool
+    requires { AreHeld tags.now places.now.places }
+    ensures { IsTrue result → (slot < length tags.now)
+        × (key_at K.eq key.now places.now.places slot ≡ true) }
+{
+    slot < tags.len() && !is_free(tags, slot) && is_at(places, slot, key)
+}
+
+/// Like `find_in`, but hashes the key and searches for it only if it is not in the slot `hint`.
+#[inline]
+pub fn find_near<K: Eq + Hash, V, S: BuildHasher, A: Allocator>(
+    builder: &S,
+    index: &Option<HashIndex<A>>,
+    places: &RawVec<(K, V), A>,
+    hint: usize,
+    key: &K,
+) -> Option<usize>
+    requires { AreFindable K.eq index.now places.now.places
+        (hashes S.BuildHasher S.Hasher.Hasher K.hash_input builder.now key.now) key.now }
+    ensures within { IfSome result (λ s. s < length (tags_of index.now)) }
+    ensures found { IfSome result (λ s. key_at K.eq key.now places.now.places s ≡ true) }
+    ensures absent { IfNone result ((s : ℕ) → key_at K.eq key.now places.now.places s ≡ false) }
+{
+    match index {
+        Some(made) => {
+            let tags = made.tags.as_slice();
+            if has_at(tags, places, hint, key) {
+                return Some(hint);
+            }
+            let hash = hash_of(builder, key);
+            find(tags, made.overflows.as_slice(), places, hash, key)
+        }
         None => None,
     }
 }

@@ -1,9 +1,9 @@
 //! A hash set over any allocator that can be cloned: a table whose keys have no values.
-ghost use Rattle.std.specs.Prelude.{◌≡◌, ◌-◌, ◌+◌, ◌<◌, ◌≤◌, [], ◌∷◌, IfOk, IfErr, OnOk, OnErr, IsOk, IsSome, IsTrue, None, option_copied, true, false, not, min, max, find, length, ◌==◌, IsPermutation};
+ghost use Rattle.std.specs.Prelude.{◌≡◌, ◌-◌, ◌+◌, ◌<◌, ◌≤◌, [], ◌∷◌, IfOk, IfErr, OnOk, OnErr, IsOk, IsSome, IsTrue, None, option_copied, true, false, not, min, max, find, length, ◌==◌, is_some, IsPermutation};
 ghost use Rattle.std.specs.List.{list_all};
-ghost use Rattle.std.specs.Set.{is_member, remove_key};
+ghost use Rattle.std.specs.Set.{is_member, remove_key, swap_key};
 ghost use Rattle.allocator_api2.specs.declared.collections.TryReserveErrorKind.TheVariants.{AllocError, CapacityOverflow};
-ghost use Rattle.allocator_api2.specs.Room.{LacksRoom};
+ghost use Rattle.ex_table.specs.Full.{LacksRoom};
 ghost use Rattle.ex_table.specs.Contents.{fresh_capacity, max_keys};
 ghost use Rattle.ex_table.specs.SetContents.{set_capacity_for, AreDistinct, SetHasRoom};
 
@@ -16,6 +16,8 @@ use std::hash::{BuildHasher, BuildHasherDefault, FoldHasher, Hash};
 use std::marker::Model;
 
 pub mod algebra;
+pub mod drain;
+mod extend;
 mod traits;
 
 /// A hash set over any allocator that can be cloned.
@@ -175,6 +177,53 @@ impl<T: Eq + Hash + Drop, S: BuildHasher, A: Allocator + Clone> Set<T, S, A> {
         Ok(old.is_none())
     }
 
+    /// Inserts `value` in the place of the element that is equal to it, and returns that element, or
+    /// `None` if there was none.
+    ///
+    /// Preserves the order if there was one. Allocates only if `value` is new and the set is full,
+    /// and then as `reserve(1)` does.
+    ///
+    /// # Errors
+    /// The errors of `reserve(1)`. The set is unchanged, and `value` is returned in the error.
+    #[tactic(auto, using(crate::proofs::Elements::elements))]
+    pub fn replace(&mut self, value: T) -> Result<Option<T>, Refused<T>>
+        // If the set is not full, it succeeds.
+        ensures fits { SetHasRoom self.old 1 → IsOk result }
+
+        // On success, the result is the old element, whose place the value has. Without one, only
+        // the order of the other elements may change.
+        ensures old { IfOk result (λ old. old ≡ find (T.eq value) self.old.elements) }
+        ensures replaced { IfOk result (λ old. is_some old ≡ true → self.new ≡ record {
+          elements = swap_key (T.eq value) self.old.elements value;
+          capacity = self.old.capacity;
+          builder = self.old.builder;
+        }) }
+        ensures added { IfOk result (λ old. is_some old ≡ false →
+            IsPermutation (value ∷ self.old.elements) self.new.elements) }
+        ensures made { IfOk result (λ old. is_some old ≡ false →
+            self.new.capacity ≡ set_capacity_for self.old 1) }
+        ensures builder { self.new.builder ≡ self.old.builder }
+
+        // An error returns the value, says why it failed, and leaves the set unchanged.
+        ensures returned { IfErr result (λ r. r.source ≡ value) }
+        ensures absent { OnErr result (find (T.eq value) self.old.elements ≡ None) }
+        ensures error { IfErr result (λ r. LacksRoom self.old.capacity (length self.old.elements) 1
+            (set_capacity_for self.old 1) r.error) }
+        ensures unchanged { OnErr result (self.new ≡ self.old) }
+    {
+        let value = match self.table.replace_key(value) {
+            Ok(old) => return Ok(Some(old)),
+            Err(value) => value,
+        };
+        if let Err(refused) = self.table.insert(value, ()) {
+            return Err(Refused {
+                source: refused.source.0,
+                error: refused.error,
+            });
+        }
+        Ok(None)
+    }
+
     /// Reserves capacity for at least `additional` new elements.
     ///
     /// Does not allocate if the capacity is already sufficient, and then changes nothing. Otherwise
@@ -273,19 +322,6 @@ impl<T: Eq + Hash + Drop, S: BuildHasher, A: Allocator + Clone> Set<T, S, A> {
         Some(element)
     }
 
-    /// Removes all elements and drops them.
-    ///
-    /// Does not allocate, and does not change the capacity.
-    pub fn clear(&mut self)
-        ensures { self.new ≡ record {
-          elements = [];
-          capacity = self.old.capacity;
-          builder = self.old.builder;
-        } }
-    {
-        self.table.clear();
-    }
-
     /// Returns `true` if each element is in `other`.
     pub fn is_subset(&self, other: &Set<T, S, A>) -> bool
         ensures { result ≡ list_all (is_member T.eq other.now.elements) self.now.elements }
@@ -325,6 +361,21 @@ impl<T: Eq + Hash + Drop, S: BuildHasher, A: Allocator + Clone> Set<T, S, A> {
         ensures { result ≡ self.now.elements }
     {
         self.table.keys()
+    }
+}
+
+impl<T: Eq + Hash + Drop, S: BuildHasher, A: Allocator> Set<T, S, A> {
+    /// Removes all elements and drops them.
+    ///
+    /// Does not allocate, and does not change the capacity.
+    pub fn clear(&mut self)
+        ensures { self.new ≡ record {
+          elements = [];
+          capacity = self.old.capacity;
+          builder = self.old.builder;
+        } }
+    {
+        self.table.clear();
     }
 }
 

@@ -4,7 +4,7 @@ ghost use Rattle.std.specs.Borrow.{sem};
 ghost use Rattle.std.specs.Map.{remove_entry, set_value};
 ghost use Rattle.std.specs.Option.{option_copied_mut};
 ghost use Rattle.allocator_api2.specs.declared.collections.TryReserveErrorKind.TheVariants.{AllocError, CapacityOverflow};
-ghost use Rattle.allocator_api2.specs.Room.{LacksRoom};
+ghost use Rattle.ex_table.specs.Full.{LacksRoom};
 ghost use Rattle.ex_table.specs.Contents.{value, entry_of, keys_like, Sets, IsMap, HasRoom, capacity_for, fresh_capacity, max_keys};
 ghost use Rattle.ex_table.specs.Places.{hashes};
 
@@ -21,7 +21,9 @@ use std::mem;
 use std::ops::Index;
 
 pub mod drain;
+pub mod entry;
 mod lend;
+mod replace;
 mod retain;
 mod vacant;
 

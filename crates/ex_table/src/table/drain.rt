@@ -50,14 +50,14 @@ impl<K: Eq + Hash + Drop, V: Drop, S: BuildHasher, A: Allocator> Table<K, V, S, 
     ghost use Rattle.ex_table.specs.Draining.{drain_lender, drain_table};
 
     // Returns the number of keys.
-    fn remaining(&self) -> usize
+    pub(crate) fn remaining(&self) -> usize
         ensures { result ≡ length self.now.entries }
     {
         self.count
     }
 
     // Removes an entry and returns it: the first in a slot from `from` on, if there is one.
-    fn take_next(&mut self, from: &mut usize) -> Option<(K, V)>
+    pub(crate) fn take_next(&mut self, from: &mut usize) -> Option<(K, V)>
         ensures taken { MatchOption result
             ((self.old.entries ≡ []) × (self.new.entries ≡ []))
             (λ e. IsPermutation self.old.entries (e ∷ self.new.entries)) }

@@ -1,7 +1,7 @@
 //! Insertion of an absent key, by a mutable reference to its value.
 ghost use Rattle.std.specs.Prelude.{◌≡◌, None, IfOk, IfErr, IsOk, OnOk, length};
 ghost use Rattle.std.specs.Borrow.{sem};
-ghost use Rattle.allocator_api2.specs.Room.{LacksRoom};
+ghost use Rattle.ex_table.specs.Full.{LacksRoom};
 ghost use Rattle.ex_table.specs.Contents.{keys_like, value, HasRoom, capacity_for};
 ghost use Rattle.ex_table.specs.Places.{hashes};
 
@@ -17,7 +17,12 @@ impl<K: Eq + Hash + Drop, V: Drop, S: BuildHasher, A: Allocator + Clone> Table<K
 
     // Inserts an absent key, and returns a mutable reference to its value.
     #[inline]
-    fn insert_vacant(&mut self, hash: u64, key: K, item: V) -> Result<&mut V, Refused<(K, V)>>
+    pub(crate) fn insert_vacant(
+        &mut self,
+        hash: u64,
+        key: K,
+        item: V,
+    ) -> Result<&mut V, Refused<(K, V)>>
         requires hash { hash
             ≡ hashes S.BuildHasher S.Hasher.Hasher K.hash_input self.old.builder key }
         requires absent { keys_like K.eq key self.old.entries ≡ 0 }

@@ -1,6 +1,7 @@
-use Rattle.std.proofs.Common.{arith, refl, subst, sym}
+use Rattle.std.proofs.Common.{arith, refl, rules, subst, sym}
 use Rattle.std.specs.Prelude.{is_some}
-use Rattle.std.specs.Iterator.{size}
+use Rattle.std.specs.Iterator.{size, Drains}
+use Rattle.std.proofs.iter.runs.Consumers.{total_runs}
 use Rattle.ex_table.specs.Contents.{InsertsAll}
 use Rattle.ex_table.proofs.Extending.{insert-more, room-after}
 use Rattle.ex_table.proofs.table.Table.extend.Goals as goal
@@ -30,3 +31,10 @@ pub returns-in-Err-clause-fits : goal.returns-in-Err-clause-fits
 returns-in-Err-clause-fits g c = λ all.
     let fewer = (c.in-Some.ensures.goes.on c.each.iterator.1).2 in
     c.in-Err.ensures.fits (omega (arith, c.each.invariant.room all, fewer))
+
+pub returns-clause-runs : goal.returns-clause-runs
+returns-clause-runs g c =
+    let made = c.into_iter-entry-iterator in
+    let drained : Drains g.U.IntoIter.Iterator.next_gives made.result c.each.yielded = search rules in
+    let all = total_runs g.U.IntoIter.Iterator.next_gives made.result (Unit {0}) (λ xs. InsertsAll g.K.PartialEq.eq c.args.self.now xs c.each.self) in
+    (made.result, made.ensures.into_iter_gives, all (c.each.yielded, λ _. drained, c.each.invariant.inserted) tt)

@@ -1,6 +1,6 @@
 -- The index of a table and the entries in its places, lent at once. Assumes `Logic`.
-use Rattle.aa_raw.proofs.Common.{ !, Goes-spent_ref, Is, MutRef, Stays, Struct, Tuple, Val, Vals, Valss, [], addr, after, agg, alloc_all, and_then, ap, at_ret, await, block_ptr, by, calls_at, done, ends_at, enter, env, exec, fact, feq_i, first, fjoin, fjoin3, fld, flft, fpack, frame, framed, follows, free_all, fsplit, fsplit3, ftrue, get, group, heard, hide, id⊢, inst_fn, join, keep, lands_as, later, look_at, lose as drop, move, mut_Tells, mut_ref_to, mut_vals, named, no, no_more, nothing, of_opd, owns, pass_all, pick, plain, proved, qed, raw, refl, returns, says, sets, sets_last, shows, some, split, split3, stay_dropped, stop, suffices, tables, through, tuple_type, types_at, use0, use1, use2, vcons, vnil, vptr, vstruct, walk_of, within, ‵, ◌$◌, ◌+◌, ◌∵◌, ◌∷◌, ◌≡◌, ◌⊑◌, ◌⊛◌, fpick, in_a_block, never, of_list, ptr_val, pure_i, shape, feq_l, Ptr, ◌++◌, ◌∙◌, subst, sym, length, ◌≤◌}
-use base.Fml.{Incl, Incl-refl, Incl-trans}
+use Rattle.aa_raw.proofs.Common.{ !, Goes-spent_ref, Stays, Struct, Val, Vals, Valss, [], addr, agg, alloc_all, and_then, ap, await, block_ptr, calls_at, done, ends_at, enter, fact, feq_i, fjoin, fjoin3, fld, flft, fpack, frame, framed, follows, free_all, fsplit, fsplit3, ftrue, get, group, heard, hide, id⊢, inst_fn, join, keep, lands_as, later, look_at, lose as drop, move, mut_Tells, mut_ref_to, mut_vals, named, no, no_more, nothing, of_opd, owns, pass_all, pick, plain, proved, qed, raw, refl, returns, sets, some, split, stay_dropped, stop, suffices, tables, through, tuple_type, types_at, use0, use1, use2, vcons, vnil, vptr, vstruct, walk_of, within, ‵, ◌$◌, ◌+◌, ◌∵◌, ◌∷◌, ◌≡◌, ◌⊑◌, ◌⊛◌, fpick, in_a_block, never, of_list, ptr_val, pure_i, shape, feq_l, Ptr, ◌++◌, ◌∙◌, subst, sym, length, ◌≤◌}
+use base.Fml.{Incl-refl, Incl-trans}
 use base.Logic.{emp}
 use base.Share
 use contract.Fact.{fact_i}
@@ -15,7 +15,6 @@ use mir.Syntax.{Args, a_type, dcons, dnil}
 use Rattle.aa_raw.specs.Entries.{entries_owned}
 use Rattle.aa_raw.specs.EntriesLends.{with_values_of}
 use Rattle.aa_raw.specs.contracts.row.entries_mut.EntriesMut as token
-use Rattle.aa_raw.proofs.row.entries_mut.EntriesMut.TheLaws as token_laws
 use Rattle.aa_raw.specs.contracts.row.entries_mut.RawVec+tuple2+K+V+A.entries_mut as callee
 use Rattle.aa_raw.proofs.row.entries_mut.RawVec+tuple2+K+V+A.entries_mut.Met.{met as callee_met}
 use Rattle.ex_table.proofs.Lent.{A, Bk, Ix, K, Tb, V, begins_lent, block_at, ends_lent, index_at, the_index_laws}
