@@ -1,5 +1,6 @@
 -- The values that keys find, and their number, when a slot is written.
 use Rattle.ex_slots.proofs.Common.{Key, List, None, Option, Puts, Some, [], arith, cond, count, entries_from, inl, inr, is_some, length, refl, slice_set, slot_at, suc, true, value_under, with_at, zero, ℕ, ◌++◌, ◌+◌, ◌<◌, ◌∷◌, ◌≡◌, ◌≢◌, ◌≤◌}
+use Rattle.ex_slots.proofs.Chains.{chain-none}
 use Rattle.std.proofs.Common.{get_or-set_other}
 use Rattle.std.proofs.lemmas.Bool.{cases_eq}
 use Rattle.std.proofs.lemmas.Bool.Decides.{nat_tests}
@@ -34,7 +35,7 @@ module _ {T : Type 0} where
   slot-with_at_other (s ∷ ss) (suc i) zero o h n = refl
   slot-with_at_other (s ∷ ss) (suc i) (suc j) o h n = slot-with_at_other ss i j o (omega arith) (λ e. n (omega arith))
 
-  slot-freed : (ss : List (Option (ℕ × T))) (i : ℕ) → slot_at (slice_set ss i None) i ≡ None
+  pub slot-freed : (ss : List (Option (ℕ × T))) (i : ℕ) → slot_at (slice_set ss i None) i ≡ None
   slot-freed [] i = refl
   slot-freed (s ∷ ss) zero = refl
   slot-freed (s ∷ ss) (suc i) = slot-freed ss i
@@ -86,4 +87,4 @@ module _ {T : Type 0} where
       | inr o ↦ rw (get_or-set_other ss k.index j.index None None o) refl
     ]
 
-pub ruleset finds = (nat_tests, found-put, others-put, count-put, absent, others-freed, count-freed, length-entries)
+pub ruleset finds = (nat_tests, chain-none, found-put, others-put, count-put, absent, others-freed, count-freed, length-entries)

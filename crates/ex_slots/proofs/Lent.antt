@@ -46,7 +46,7 @@ use Rattle.aa_raw.specs.Block.{with_places}
 use Rattle.aa_raw.specs.Entries.{Entry, values_of, with_values}
 use Rattle.aa_raw.specs.EntriesLends as block_lends
 use Rattle.aa_raw.specs.contracts.raw_vec.RawVec as block
-use Rattle.ex_slots.proofs.Rights.{Back, both_rights, closes_late}
+use Rattle.aa_raw.proofs.Rights.{Back, both_rights, closes_late}
 use Rattle.ex_slots.proofs.Values.{read, same, stays-lent}
 use Rattle.ex_slots.proofs.slots.Chain.TheLaws as chain_laws
 use Rattle.ex_slots.proofs.slots.Slot.TheLaws as slot_laws

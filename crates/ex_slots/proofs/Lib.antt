@@ -1,5 +1,7 @@
+pub mod Chains
 pub mod Cloning
 pub mod Common
+pub mod Draining
 pub mod Passing
 pub mod Finds
 pub mod Iterating
@@ -7,6 +9,5 @@ pub mod Remaining
 pub mod Retaining
 pub mod Seen
 pub mod Writing
-pub mod Rights
 pub mod Values
 pub mod Lent

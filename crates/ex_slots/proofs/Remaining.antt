@@ -21,7 +21,7 @@ module _ {T : Type 0} (ss : List (Option (ℕ × T))) where
       ∙ entries-cons from (slot_at ss from) (take (end - (from + 1)) (drop (from + 1) ss))
 
   -- free slots have no pairs
-  rest-free : (n from end : ℕ) → from + n ≤ end → end ≤ length ss
+  pub rest-free : (n from end : ℕ) → from + n ≤ end → end ≤ length ss
       → ((i : ℕ) → from ≤ i → i < from + n → slot_at ss i ≡ None)
       → rest_of ss from end ≡ rest_of ss (from + n) end
   rest-free zero from end l m h = let same : from ≡ from + 0 = omega arith in ap (λ i. rest_of ss i end) same
@@ -66,7 +66,7 @@ module _ {T : Type 0} (ss : List (Option (ℕ × T))) where
       ∙ ap (λ o. rest_of ss from k ++ pairs_of k o)
       (get_or-drop from ss (k - from) None ∙ ap (λ i. get_or ss i None) at)
 
-  back-free : (n from k : ℕ) → from ≤ k → k + n ≤ length ss
+  pub back-free : (n from k : ℕ) → from ≤ k → k + n ≤ length ss
       → ((i : ℕ) → k ≤ i → i < k + n → slot_at ss i ≡ None)
       → rest_of ss from (k + n) ≡ rest_of ss from k
   back-free zero from k a m h = let same : k + 0 ≡ k = omega arith in ap (λ i. rest_of ss from i) same
@@ -100,12 +100,12 @@ module _ {T : Type 0} (ss : List (Option (ℕ × T))) where
       (take_all (length ss - from) (drop from ss) (omega (arith, length-drop from ss)))
 
   -- a slot that no longer remains is emptied
-  rest-below : (from end k : ℕ) (o : Option (ℕ × T)) → k < from
+  pub rest-below : (from end k : ℕ) (o : Option (ℕ × T)) → k < from
       → rest_of (slice_set ss k o) from end ≡ rest_of ss from end
   rest-below from end k o l =
       ap (λ xs. entries_from from (take (end - from) xs)) (drop-set-lt from ss k o l)
 
-  rest-above : (from k : ℕ) (o : Option (ℕ × T))
+  pub rest-above : (from k : ℕ) (o : Option (ℕ × T))
       → rest_of (slice_set ss k o) from k ≡ rest_of ss from k
   rest-above from k o = elim (cases_lt k from) [
     | inl l ↦ rest-below from k k o l

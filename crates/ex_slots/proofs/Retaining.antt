@@ -7,13 +7,13 @@ use Rattle.ex_slots.specs.Retaining.{Keeps, MayReturn}
 use Rattle.std.specs.Prelude.{if◌then◌else◌}
 
 module _ {T : Type 0} where
-  within-slots : (ss : List (Option (ℕ × T))) (i : ℕ) (e : ℕ × T)
+  pub within-slots : (ss : List (Option (ℕ × T))) (i : ℕ) (e : ℕ × T)
       → slot_at ss i ≡ Some e → i < length ss
   within-slots [] i e h = absurd (cc)
   within-slots (s ∷ ss) zero e h = omega arith
   within-slots (s ∷ ss) (suc i) e h = omega (arith, within-slots ss i e h)
 
-  under-some : (o : Option (ℕ × T)) (serial : ℕ) (x : T)
+  pub under-some : (o : Option (ℕ × T)) (serial : ℕ) (x : T)
       → value_under serial o ≡ Some x → o ≡ Some (serial, x)
   under-some None serial x h = absurd (cc)
   under-some (Some e) serial x h = grind (arith, nat_tests, h)

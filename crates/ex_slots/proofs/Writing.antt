@@ -1,56 +1,9 @@
 -- What slots are once one of them is written.
-use Rattle.ex_slots.proofs.Common.{AreHeld, Chain, Free, Held, IsChain, IsSound, List, None, Option, Puts, Some, State, [], ap, arith, cases_eq, count, get_or, get_or-set_other, get_or-set_same, held, inl, inr, is_held, is_some, length, length-append, length-set, refl, seen, set-set, slice_get, slice_set, slot_at, subst, suc, sym, true, zero, ℕ, ⊤, ◌++◌, ◌+◌, ◌-◌, ◌^◌, ◌<◌, ◌∙◌, ◌∷◌, ◌≡◌, ◌≢◌, ◌≤◌}
+use Rattle.ex_slots.proofs.Common.{AreHeld, Chain, Free, Held, IsChain, IsSound, List, None, Option, Puts, Some, State, [], ap, arith, cases_eq, count, get_or, get_or-set_other, get_or-set_same, held, inl, inr, is_held, is_some, length, length-append, length-set, refl, seen, slice_get, slice_set, slot_at, suc, sym, true, zero, ℕ, ⊤, ◌++◌, ◌+◌, ◌-◌, ◌^◌, ◌<◌, ◌∙◌, ◌∷◌, ◌≡◌, ◌≤◌}
+use Rattle.ex_slots.proofs.Chains.{chain-first, chain-none, first-of, get-past, get-set_same, got, held-apart, linked-set, one-more}
 use Rattle.ex_slots.proofs.Finds.{count-freed, count-put, with_at-after, with_at-within}
 use Rattle.ex_slots.proofs.Seen.{HasValue, count-held, has-value, length-seen, seen-push, seen-set, slot-free}
 use Rattle.std.proofs.lemmas.List.{get_or_past}
-
-module _ {X : Type 0} where
-  get-set_same : (xs : List X) (i : ℕ) (y : X) → i < length xs → slice_get (slice_set xs i y) i ≡ Some y
-  get-set_same [] i y l = absurd (omega (arith, l))
-  get-set_same (x ∷ xs) zero y l = refl
-  get-set_same (x ∷ xs) (suc i) y l = get-set_same xs i y (omega (arith, l))
-
-  get-set_other : (xs : List X) (i j : ℕ) (y : X) → j ≢ i → slice_get (slice_set xs i y) j ≡ slice_get xs j
-  get-set_other [] i j y h = refl
-  get-set_other (x ∷ xs) zero zero y h = absurd (h refl)
-  get-set_other (x ∷ xs) zero (suc j) y h = refl
-  get-set_other (x ∷ xs) (suc i) zero y h = refl
-  get-set_other (x ∷ xs) (suc i) (suc j) y h = get-set_other xs i j y (λ e. h (omega arith))
-
-  get-past : (xs : List X) (i : ℕ) (x : X) → slice_get xs i ≡ Some x → i < length xs
-  get-past [] i x h = absurd (cc)
-  get-past (y ∷ xs) zero x h = omega arith
-  get-past (y ∷ xs) (suc i) x h = omega (arith, get-past xs i x h)
-
-  got : (xs : List X) (i : ℕ) (x d : X) → slice_get xs i ≡ Some x → get_or xs i d ≡ x
-  got [] i x d h = absurd (cc)
-  got (y ∷ xs) zero x d h = let e : y ≡ x = cc in e
-  got (y ∷ xs) (suc i) x d h = got xs i x d h
-
--- the list of free slots is one wherever these slots are free too
-pub chain-kept : (ss ts : List State) (first n : ℕ)
-    → ((i next : ℕ) → slice_get ss i ≡ Some (Free next) → slice_get ts i ≡ Some (Free next))
-    → IsChain ss first n → IsChain ts first n
-chain-kept ss ts first zero h c = tt
-chain-kept ss ts first (suc n) h c = (
-  c.0,
-  h first c.0 c.1,
-  chain-kept (slice_set ss first (Held 0)) (slice_set ts first (Held 0)) c.0 n (λ i next e. elim (cases_eq i first) [
-    | inl same ↦ absurd (let p = get-set_same ss first (Held 0) (get-past ss first (Free c.0) c.1) in let q = rw same at e in let r : Some (Held 0) ≡ Some (Free next) = sym p ∙ q in cc)
-    | inr other ↦ get-set_other ts first i (Held 0) other ∙ h i next (sym (get-set_other ss first i (Held 0) other) ∙ e)
-  ]) c.2,
-)
-
--- the first of the chain
-chain-first : (ss : List State) (first n : ℕ) (old : State) (next : ℕ) → 0 < n → IsChain ss first n
-    → old ≡ get_or ss first old → old ≡ Free next
-    → (slice_get ss first ≡ Some (Free next)) × IsChain (slice_set ss first (Held 0)) next (n - 1)
-chain-first ss first zero old next h c r e = absurd (omega (arith, h))
-chain-first ss first (suc n) old next h c r e =
-    let p : Free c.0 ≡ Free next = sym (r ∙ got ss first (Free c.0) old c.1) ∙ e in
-    let a : c.0 ≡ next = grind (arith, p) in
-    let one : suc n - 1 ≡ n = omega arith in
-    (rw a at c.1, rw one (rw a at c.2))
 
 module _ {T : Type 0} where
   pub held-set : (ss : List State) (cs : List (Option (⊤ × T))) (i : ℕ) (s : State) (e : ⊤ × T)
@@ -88,34 +41,46 @@ module _ {T : Type 0} where
       room = room;
     }
 
-    -- the first free slot is filled
-    module _ {old : State} {next : ℕ} (some : 0 < free.count) (read : old ≡ get_or ss free.first old) (was : old ≡ Free next) (small : next < 2 ^ 63) where
-      first : (slice_get ss free.first ≡ Some (Free next)) × IsChain (slice_set ss free.first (Held 0)) next (free.count - 1)
-      first = chain-first ss free.first free.count old next some sound.chain read was
+    -- the first free slot
+    module _ (some : 0 < free.count) where
+      pub first-free : (next : ℕ) × (slice_get ss free.first ≡ Some (Free next))
+      first-free = chain-first ss free.first free.count some sound.chain
 
       pub first-within : free.first < length ss
-      first-within = get-past ss free.first (Free next) first.0
+      first-within = get-past ss free.first (Free first-free.0) first-free.1
 
       pub first-place : free.first < length cs
       first-place = omega (arith, first-within, sound.within, sound.room)
 
+      pub first-read : (old : State) → old ≡ get_or ss free.first old → old ≡ Free first-free.0
+      first-read old read = read ∙ got ss free.first (Free first-free.0) old first-free.1
+
+    -- is filled
+    module _ {old : State} {next : ℕ} (some : 0 < free.count) (read : old ≡ get_or ss free.first old) (was : old ≡ Free next) (small : next < 2 ^ 63) where
+      within : free.first < length ss
+      within = first-within some
+
+      place : free.first < length cs
+      place = first-place some
+
+      first : (s : State) → (slice_get ss free.first ≡ Some (Free next)) × IsChain (slice_set ss free.first s) next (free.count - 1)
+      first s = let c = sound.chain in
+          first-of ss free.first free.count old next s some c.slots c.count c.distinct c.linked read was
+
       module _ (serial : ℕ) (x : T) where
         pub filled-puts : Puts (seen ss cs) (record { index = free.first; serial = serial }) x (seen (slice_set ss free.first (Held serial)) (slice_set cs free.first (Some (tt, x))))
         filled-puts = record {
-          free = slot-free ss cs free.first (ap is_held (got ss free.first (Free next) (Free 0) first.0));
-          within = omega (arith, first-within, length-seen ss cs);
-          put = seen-set ss cs free.first (Held serial) (Some (tt, x)) first-within first-place ∙ sym (with_at-within (seen ss cs) free.first (Some (serial, x)) (omega (arith, first-within, length-seen ss cs)));
+          free = slot-free ss cs free.first (ap is_held (got ss free.first (Free next) (Free 0) (first (Held serial)).0));
+          within = omega (arith, within, length-seen ss cs);
+          put = seen-set ss cs free.first (Held serial) (Some (tt, x)) within place ∙ sym (with_at-within (seen ss cs) free.first (Some (serial, x)) (omega (arith, within, length-seen ss cs)));
         }
 
         pub filled-sound : IsSound (slice_set ss free.first (Held serial)) (slice_set cs free.first (Some (tt, x))) (record { first = next; count = free.count - 1 }) capacity
         filled-sound = record {
-          chain = chain-kept (slice_set ss free.first (Held 0)) (slice_set ss free.first (Held serial)) next (free.count - 1) (λ i q e. elim (cases_eq i free.first) [
-            | inl same ↦ absurd (let p = get-set_same ss free.first (Held 0) first-within in let r : Some (Held 0) ≡ Some (Free q) = sym p ∙ rw same at e in cc)
-            | inr other ↦ get-set_other ss free.first i (Held serial) other ∙ sym (get-set_other ss free.first i (Held 0) other) ∙ e
-          ]) first.1;
+          chain = (first (Held serial)).1;
           first = small;
           counted = omega (arith, some, sound.counted, count-put (seen ss cs) (seen (slice_set ss free.first (Held serial)) (slice_set cs free.first (Some (tt, x)))) free.first serial x filled-puts, length-set ss free.first (Held serial));
-          held = held-set ss cs free.first (Held serial) (tt, x) first-place sound.held;
+          held = held-set ss cs free.first (Held serial) (tt, x) place sound.held;
           within = omega (arith, sound.within, length-set ss free.first (Held serial));
           room = omega (arith, sound.room, length-set cs free.first (Some (tt, x)));
         }
@@ -135,7 +100,7 @@ module _ {T : Type 0} where
 
         pub pushed-sound : IsSound (ss ++ Held serial ∷ []) (slice_set cs (length ss) (Some (tt, x))) free capacity
         pushed-sound = record {
-          chain = subst (λ n. IsChain (ss ++ Held serial ∷ []) free.first n) (sym none) tt;
+          chain = chain-none (ss ++ Held serial ∷ []) free.first free.count none;
           first = sound.first;
           counted = omega (arith, sound.counted, count-put (seen ss cs) (seen (ss ++ Held serial ∷ []) (slice_set cs (length ss) (Some (tt, x)))) (length ss) serial x pushed-puts, length-append ss (Held serial ∷ []));
           held = held-push ss cs (Held serial) (tt, x) last-place sound.held;
@@ -164,14 +129,14 @@ module _ {T : Type 0} where
 
       pub released-sound : i < 2 ^ 63 → IsSound (slice_set ss i (Free free.first)) (slice_set cs i None) (record { first = i; count = free.count + 1 }) capacity
       released-sound small =
-          let ts : List State = slice_set ss i (Free free.first) in
-          let kept : IsChain (slice_set ts i (Held 0)) free.first free.count = rw (set-set ss i (Free free.first) (Held 0)) (chain-kept ss (slice_set ss i (Held 0)) free.first free.count (λ j q e. elim (cases_eq j i) [
-            | inl p ↦ absurd (let r : Free q ≡ Held here.serial = sym (got ss i (Free q) (Free 0) (rw p at e)) ∙ here.is in cc)
-            | inr n ↦ get-set_other ss i j (Held 0) n ∙ e
-          ]) sound.chain) in
-          let chain : IsChain ts i (suc free.count) = (free.first, get-set_same ss i (Free free.first) here.within, kept) in
-          let more : free.count + 1 ≡ suc free.count = omega arith in record {
-            chain = rw more chain;
+          let c = sound.chain in
+          let others = held-apart ss i (ap is_held here.is) free.first c.slots c.linked in record {
+            chain = record {
+              slots = i ∷ c.slots;
+              count = omega (arith, c.count);
+              distinct = one-more i c.slots others c.distinct;
+              linked = (refl, free.first, get-set_same ss i (Free free.first) here.within, linked-set ss i (Free free.first) free.first c.slots others c.linked);
+            };
             first = small;
             counted = omega (arith, sound.counted, ap count (freed free.first), count-freed (seen ss cs) i has, length-set ss i (Free free.first));
             held = held-freed ss cs i free.first here.within sound.held;

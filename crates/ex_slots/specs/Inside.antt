@@ -1,5 +1,6 @@
 -- The invariant of the fields of a slot map, and their view.
-use Rattle.std.specs.Prelude.{◌≡◌, ℕ, zero, suc, ◌+◌, ◌-◌, ◌/◌, ◌%◌, ◌^◌, ◌<◌, ◌≤◌, ◌==◌, Bool, true, false, ⊤, List, [], ◌∷◌, length, take, drop, Option, None, Some, slice_get, slice_set, slice_index_or, get_or, if◌then◌else◌}
+use Rattle.std.specs.Prelude.{◌≡◌, ℕ, ◌+◌, ◌-◌, ◌/◌, ◌%◌, ◌^◌, ◌<◌, ◌≤◌, ◌==◌, Bool, true, false, ⊤, List, [], ◌∷◌, length, take, drop, Option, None, Some, nat_eq, slice_get, slice_index_or, get_or, if◌then◌else◌}
+use Rattle.std.specs.List.{IsDistinct}
 use Rattle.allocator_api2.specs.Places.{IsFilled}
 use Rattle.allocator_api2.specs.Vector.{Vector}
 use Rattle.ex_slots.specs.declared.map.Key.{Key}
@@ -45,13 +46,19 @@ capacity_of (Some v) = v.capacity
 abbrev pub AreFree : List State → (from end : ℕ) → Type 0
 AreFree ss from end = (i : ℕ) → from ≤ i → i < end → is_held (state_at ss i) ≡ false
 
--- the slots of the list of `n` free ones from index `first` on are linked: the first is free, and
--- so are the others once it has a value
-abbrev pub IsChain : List State → (first n : ℕ) → Type 0
-IsChain ss first zero = Unit {0}
-IsChain ss first (suc n) =
-    (next : ℕ) × (slice_get ss first ≡ Some (Free next))
-    × IsChain (slice_set ss first (Held 0)) next n
+-- the slots with these indices are free: the first one has index `first`, and each slot has the
+-- index of the next one
+abbrev pub AreLinked : List State → (first : ℕ) → (slots : List ℕ) → Type 0
+AreLinked ss first [] = Unit {0}
+AreLinked ss first (i ∷ is) =
+    (i ≡ first) × (next : ℕ) × (slice_get ss i ≡ Some (Free next)) × AreLinked ss next is
+
+-- the list of free slots that begins at index `first` has `n` slots, and no slot twice
+pub record IsChain (ss : List State) (first n : ℕ) : Type 0 where
+  pub slots : List ℕ
+  pub count : length slots ≡ n
+  pub distinct : IsDistinct nat_eq slots
+  pub linked : AreLinked ss first slots
 
 module _ {T : Type 0} where
   -- the view of a slot with this state and place

@@ -1,8 +1,10 @@
 pub mod Slotted
+pub mod Absent
 pub mod Inside
 pub mod Lends
 pub mod Iterating
 pub mod Retaining
+pub mod Draining
 pub mod Passing
 pub mod CursorLends
 pub mod IterMutLends

@@ -1,6 +1,7 @@
 //! Growing, copying and dropping the two blocks of a slot map.
 ghost use Rattle.std.specs.Prelude.{◌≡◌, ◌<◌, ◌≤◌, [], length, IfErr, IfOk, OnErr, OnOk, IsOk, IsTrue};
-ghost use Rattle.allocator_api2.specs.Errors.{IsErrorFor};
+ghost use Rattle.std.specs.Mem.{type_size};
+ghost use Rattle.allocator_api2.specs.Errors.{ClonesFail, IsErrorFor};
 ghost use Rattle.ex_slots.specs.Inside.{capacity_of, seen, states_of, AreClones, AreHeld, AreHeldBetween};
 ghost use Rattle.allocator_api2.specs.declared.collections.TryReserveErrorKind.TheVariants.{AllocError};
 
@@ -54,16 +55,17 @@ fn move_all<T, A: Allocator>(
     }
 }
 
-// Returns a block with capacity for `capacity` values, allocated by a clone of `alloc`.
+// Returns a block with capacity for `capacity` elements, allocated by a clone of `alloc`.
 //
 // An `AllocError` has the number `capacity`.
-fn values_for<T, A: Allocator + Clone>(
+fn block_for<E, A: Allocator + Clone>(
     alloc: &A,
     capacity: usize,
-) -> Result<RawVec<((), T), A>, TryReserveError>
+) -> Result<RawVec<E, A>, TryReserveError>
     ensures room { IfOk result (λ b. capacity ≤ length b.places) }
-    ensures fits { ((a : A) → A.is_infallible a) → capacity ≡ 0 → IsOk result }
-    ensures error { IfErr result (λ e. IsErrorFor e capacity) }
+    ensures fits { A.is_infallible alloc.now → capacity ≡ 0 → IsOk result }
+    ensures error { IfErr result
+        (ClonesFail (A.is_infallible alloc.now) capacity (type_size E.row)) }
 {
     let Ok(own) = alloc.clone() else {
         return Err(alloc_error(capacity));
@@ -91,7 +93,7 @@ fn reserve_places<T, A: Allocator + Clone>(
     if capacity <= values.capacity() {
         return Ok(());
     }
-    let mut fresh = values_for(values.allocator(), capacity)?;
+    let mut fresh = block_for(values.allocator(), capacity)?;
     move_all(slots, values, &mut fresh);
     *values = fresh;
     Ok(())
@@ -107,7 +109,7 @@ fn reserve_slots<A: Allocator + Clone>(
     requires more { capacity_of slots.old < capacity }
     ensures slots { states_of slots.new ≡ states_of slots.old }
     ensures room { OnOk result (capacity_of slots.new ≡ capacity) }
-    ensures error { IfErr result (λ e. IsErrorFor e capacity) }
+    ensures error { IfErr result (ClonesFail (A.is_infallible alloc.now) capacity 8) }
     ensures unchanged { OnErr result (slots.new ≡ slots.old) }
 {
     match slots {
@@ -164,7 +166,8 @@ pub fn clone_slots<A: Allocator + Clone>(
     ensures slots { IfOk result (λ copy. states_of copy ≡ states_of slots.now) }
     ensures capacity { IfOk result (λ copy. capacity_of copy ≡ length (states_of slots.now)) }
     ensures fits { ((a : A) → A.is_infallible a) → states_of slots.now ≡ [] → IsOk result }
-    ensures error { IfErr result (λ e. IsErrorFor e (length (states_of slots.now))) }
+    ensures error { IfErr result
+        (ClonesFail ((a : A) → A.is_infallible a) (length (states_of slots.now)) 8) }
 {
     match slots {
         Some(made) => Ok(Some(made.clone()?)),
@@ -212,7 +215,7 @@ pub fn clone_values<T: Clone + Drop, A: Allocator + Clone>(
     ensures fits { ((a : A) → A.is_infallible a) → slots.now ≡ [] → IsOk result }
     ensures error { IfErr result (λ e. IsErrorFor e (length slots.now)) }
 {
-    let mut copy = values_for(values.allocator(), slots.len())?;
+    let mut copy = block_for(values.allocator(), slots.len())?;
     if put_clones(slots, values, &mut copy) {
         Ok(copy)
     } else {

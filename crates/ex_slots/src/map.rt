@@ -22,6 +22,7 @@ const KEYS: u64 = 1 << 63;
 mod capacity;
 mod clone;
 mod compare;
+pub mod drain;
 mod into;
 mod lend;
 mod retain;

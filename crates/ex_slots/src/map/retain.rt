@@ -9,7 +9,7 @@ use std::alloc::Allocator;
 
 impl<T: Drop, A: Allocator> SlotMap<T, A> {
     // Returns the number of slots.
-    fn slot_count(&self) -> usize
+    pub(super) fn slot_count(&self) -> usize
         ensures { result ≡ length self.now.slots }
     {
         slots_in(&self.slots).len()

@@ -1,7 +1,22 @@
-use Rattle.ex_slots.proofs.Common.{ap, sym, ◌∙◌}
-use Rattle.ex_slots.proofs.Writing.{filled-puts, filled-sound}
+use Rattle.ex_slots.proofs.Common.{Free, Held, ap, sym, ◌∙◌, ◌≡◌}
+use Rattle.ex_slots.proofs.Writing.{filled-puts, filled-sound, first-free, first-place, first-read, first-within}
 use Rattle.allocator_api2.specs.Block.{Block}
 use Rattle.ex_slots.proofs.slots.put_first.Goals as goal
+
+pub index-requires : goal.index-requires
+index-requires g c = first-within c.requires.sound c.requires.some
+
+pub unreachable-requires : goal.unreachable-requires
+unreachable-requires g c =
+    let next = (first-free c.requires.sound c.requires.some).0 in
+    let read = first-read c.requires.sound c.requires.some c.index.result.now c.index.ensures in
+    let both : Held c.in-Held.field-0 ≡ Free next = sym c.in-Held.is ∙ c.state.ensures.state ∙ read in cc
+
+pub index_mut-requires : goal.index_mut-requires
+index_mut-requires g c = first-within c.requires.sound c.requires.some
+
+pub put-requires : goal.put-requires
+put-requires g c = first-place c.requires.sound c.requires.some
 
 pub returns-clause-sound : goal.returns-clause-sound
 returns-clause-sound g c =
