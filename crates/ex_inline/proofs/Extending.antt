@@ -1,7 +1,9 @@
 -- Items that are appended to a small vector, one by one.
 use Rattle.std.proofs.Common.{◌≡◌, ℕ, ◌+◌, ◌-◌, ◌<◌, ◌≤◌, Bool, true, false, List, [], ◌∷◌, ◌++◌, length, take, refl, sym, ap, ◌∙◌, arith, append_assoc, length-append}
 use Rattle.std.proofs.Common.{inl, inr, subst}
+use Rattle.std.proofs.iter.runs.Consumers.{total_runs}
 use Rattle.std.specs.Iterator.{Drains, DrainsIf, Yields}
+use Rattle.std.specs.Iterator.Runs.{WholeRun}
 use Rattle.std.specs.Prelude.{◌⊎◌, Option, Result, Ok, Err, IfErr, IfOk, OnOk, nat_le, if◌then◌else◌}
 use Rattle.std.proofs.lemmas.Bool.Decides.{nat_tests}
 use Rattle.std.proofs.lemmas.List.{append-nil, take_at}
@@ -83,6 +85,14 @@ module _ {U S T A : Type 0} (gives : U → S → Type 0) (next_gives : S → Opt
       → OnOk r ((it : S) × gives source it × (xs : List T) × Drains next_gives it xs × (new.items ≡ old.items ++ xs))
   came_after (Ok u) e p = (iter, given, p.0, p.1, ap (λ s. s.items) p.2 ∙ items-pushed_all size N mid p.0 ∙ ap (λ ys. ys ++ p.0) e)
   came_after (Err e) same p = tt
+
+  -- and they are one run
+  pub ran_after : (r : Result Unit TryReserveError) → mid.items ≡ old.items → OnOk r ((xs : List T) × Drains next_gives iter xs × (new ≡ pushed_all size N mid xs))
+      → OnOk r ((it : S) × gives source it × WholeRun next_gives it (λ p. new.items ≡ old.items ++ p.items))
+  ran_after (Ok u) e p =
+      let items = ap (λ s. s.items) p.2 ∙ items-pushed_all size N mid p.0 ∙ ap (λ ys. ys ++ p.0) e in
+      (iter, given, total_runs next_gives iter (Unit {0}) (λ xs. new.items ≡ old.items ++ xs) (p.0, λ _. p.1, items) tt)
+  ran_after (Err e) same p = tt
 
   module _ (LowerIs : S → ℕ → Type 0) (bound : ℕ) (is_lower : LowerIs iter bound) (made : mid ≡ with_room size N old bound) where
     pub all_came : (r : Result Unit TryReserveError) → OnOk r ((xs : List T) × Drains next_gives iter xs × (new ≡ pushed_all size N mid xs)) → OnOk r ((it : S) × gives source it × ExtendsByAll next_gives LowerIs size N it old new)

@@ -21,7 +21,7 @@ grown_to size c n = amortized Doubling c n (min_capacity size)
 -- a new block for `needed` items of `size` bytes could not be allocated, with `error`
 unfoldable pub LacksBlock : (size needed : ℕ) → TryReserveError → Type 0
 LacksBlock size needed error =
-    let c = new_capacity size 0 in Room.LacksRoom c 0 needed (grown_to size c needed) error
+    let c = new_capacity size 0 in Room.LacksRoom size c 0 needed (grown_to size c needed) error
 
 module _ {T A : Type 0} where
   -- the items `xs`, inline, over the allocator `a`
@@ -71,7 +71,7 @@ module _ {T A : Type 0} where
   unfoldable pub LacksRoom : (size N : ℕ) → Inlined T A → (k : ℕ) → TryReserveError → Type 0
   LacksRoom size N s k error =
       let n = length s.items in
-      Room.LacksRoom (capacity N s) n k (grown_to size (places size s) (n + k)) error
+      Room.LacksRoom size (capacity N s) n k (grown_to size (places size s) (n + k)) error
 
   -- `s` with its items, of `size` bytes each, in a block
   unfoldable pub all_in_block : (size : ℕ) → Inlined T A → Inlined T A

@@ -314,7 +314,7 @@ impl<T: Default + Drop, A: Allocator + Copy, const N: usize> InlineVec<T, A, N> 
 
     // Moves the items into a block, or into a larger one, with capacity for `additional` more
     // items, which do not fit.
-    #[tactic(auto, unfolding(crate::specs::Inlined::in_block, crate::specs::Inlined::LacksRoom, crate::specs::Inlined::LacksBlock))]
+    #[tactic(auto, using(allocator_api2::proofs::Blocks::numbers), unfolding(crate::specs::Inlined::in_block, crate::specs::Inlined::LacksRoom, crate::specs::Inlined::LacksBlock))]
     fn spill(&mut self, additional: usize) -> Result<(), TryReserveError>
         // The additional items do not fit.
         requires { capacity N self.old - length self.old.items < additional }

@@ -3,7 +3,10 @@ use Rattle.std.proofs.Common.{le-leb, ◌≡◌, ℕ, ◌-◌, ◌<◌, ◌≤�
 use Rattle.std.proofs.lemmas.Bool.Decides.{nat_tests}
 use Rattle.std.proofs.lemmas.List.{append-nil}
 use Rattle.std.proofs.lemmas.List.Elements.{same_from_all_zip}
-use Rattle.std.specs.Iterator.{Yields}
+use Rattle.std.proofs.iter.runs.Consumers.{total_runs}
+use Rattle.std.specs.Iterator.{Drains, Yields}
+use Rattle.std.specs.Iterator.Runs.{WholeRun}
+use Rattle.std.specs.Prelude.{Err, Ok, OnOk, Result}
 use Rattle.allocator_api2.proofs.Blocks.{with_room as with_capacity}
 use Rattle.ex_ring.specs.Extending.{pushed, pushed_all, HasExtended}
 use Rattle.ex_ring.specs.Ringed.{Ringed, HasRoom, with_room}
@@ -43,6 +46,16 @@ module _ {T A : Type 0} (size : ℕ) where
       → new ≡ pushed_all size old xs → HasExtended size old xs new
   extended-by-pushes old xs new e = extended-all old 0 xs new (e
       ∙ ap (λ r. pushed_all size r xs) (sym (with_none old)))
+
+-- the items that were pushed, as one run
+module _ {S T A E : Type 0} (size : ℕ) (steps : S → Option T → S → Type 0) (Gives : S → Type 0) where
+  pub whole_run : (r : Result (Unit {0}) E) (s : S) (old mid new : Ringed T A) → Gives s → mid.items ≡ old.items
+      → OnOk r ((xs : List T) × Drains steps s xs × (new ≡ pushed_all size mid xs))
+      → OnOk r ((t : S) × Gives t × WholeRun steps t (λ p. new.items ≡ old.items ++ p.items))
+  whole_run (Ok u) s old mid new given same d =
+      let items = ap (λ r. r.items) d.2 ∙ items-pushed_all size mid d.0 ∙ ap (λ ys. ys ++ d.0) same in
+      (s, given, total_runs steps s (Unit {0}) (λ xs. new.items ≡ old.items ++ xs) (d.0, λ _. d.1, items) tt)
+  whole_run (Err e) s old mid new given same d = tt
 
 -- the items without the last
 pub front-yielded : {S X : Type 0} (steps : S → Option X → S

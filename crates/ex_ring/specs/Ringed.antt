@@ -68,5 +68,5 @@ module _ {T A : Type 0} where
 
   -- `k` more items did not fit in `r`, and growing failed with `error`
   abbrev pub LacksRoom : (size : ℕ) → Ringed T A → (k : ℕ) → TryReserveError → Type 0
-  LacksRoom size r k error = Room.LacksRoom r.capacity (length r.items) k
+  LacksRoom size r k error = Room.LacksRoom size r.capacity (length r.items) k
       (growth_capacity size r k) error

@@ -2,6 +2,7 @@
 ghost use Rattle.std.specs.Prelude.{◌≡◌, ◌+◌, ◌-◌, ◌<◌, ◌≤◌, List, [], ◌++◌, length, All, IfErr, IfOk, IsOk, IsTrue, OnErr, OnOk, false};
 ghost use Rattle.std.specs.Mem.{type_size};
 ghost use Rattle.std.specs.Iterator.{IsFinite, IsFiniteIterable, Drains, size};
+ghost use Rattle.std.specs.Iterator.Runs.{WholeRun};
 ghost use Rattle.allocator_api2.specs.Clones.{ClonesAreEqual};
 ghost use Rattle.allocator_api2.specs.Extend.{LowerAtMost};
 ghost use Rattle.ex_inline.specs.Extending.{ExtendsByAll, ExtendFails, FailsAtItem, CloningFails, IsMadeOf, AppendFails, AppendsClones, AppendsPart, pushed_all};
@@ -31,6 +32,9 @@ impl<T: Default + Drop, A: Allocator + Copy, const N: usize> InlineVec<T, A, N> 
         ensures items { OnOk result ((it : U.IntoIter) × U.into_iter_gives iter it
             × (xs : List T) × Drains U.IntoIter.next_gives it xs
             × (self.new.items ≡ self.old.items ++ xs)) }
+        ensures runs { OnOk result ((it : U.IntoIter) × U.into_iter_gives iter it
+            × WholeRun U.IntoIter.next_gives it
+            (λ p. self.new.items ≡ self.old.items ++ p.items)) }
         ensures kept { length self.old.items ≤ length self.new.items }
         ensures fits { (it : U.IntoIter) × U.into_iter_gives iter it
             × (HasRoom N self.old (size (U.IntoIter.remaining it)) → IsOk result) }
@@ -97,6 +101,8 @@ impl<T: Default + Drop, A: Allocator + Copy, const N: usize> InlineVec<T, A, N> 
         // Success returns all items. If there are at most `N`, the call succeeds.
         ensures items { IfOk result (λ s. (it : U.IntoIter) × U.into_iter_gives iter it
             × Drains U.IntoIter.next_gives it s.items) }
+        ensures runs { IfOk result (λ s. (it : U.IntoIter) × U.into_iter_gives iter it
+            × WholeRun U.IntoIter.next_gives it (λ p. s.items ≡ p.items)) }
         ensures fits { (it : U.IntoIter) × U.into_iter_gives iter it
             × (size (U.IntoIter.remaining it) ≤ N → IsOk result) }
         ensures made { IfOk result (λ s. (it : U.IntoIter) × U.into_iter_gives iter it

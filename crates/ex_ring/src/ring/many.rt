@@ -2,6 +2,7 @@
 ghost use Rattle.std.specs.Prelude.{◌≡◌, ◌+◌, ◌-◌, ◌≤◌, List, [], ◌++◌, length, All, IfErr, IfOk, IsOk, IsTrue, OnErr, OnOk, false};
 ghost use Rattle.std.specs.Mem.{type_size};
 ghost use Rattle.std.specs.Iterator.{IsFinite, IsFiniteIterable, Drains, size};
+ghost use Rattle.std.specs.Iterator.Runs.{WholeRun};
 ghost use Rattle.allocator_api2.specs.Clones.{ClonesCannotFail, ClonesAreEqual};
 ghost use Rattle.allocator_api2.specs.Extend.{LowerAtMost};
 ghost use Rattle.allocator_api2.specs.Growth.{new_capacity};
@@ -38,6 +39,9 @@ impl<T, A: Allocator> Ring<T, A> {
         ensures items { OnOk result ((it : I.IntoIter) × (xs : List T)
             × I.into_iter_gives iter it × Drains I.IntoIter.next_gives it xs
             × (self.new.items ≡ self.old.items ++ xs)) }
+        ensures runs { OnOk result ((it : I.IntoIter) × I.into_iter_gives iter it
+            × WholeRun I.IntoIter.next_gives it
+            (λ p. self.new.items ≡ self.old.items ++ p.items)) }
         ensures fits { ((it : I.IntoIter) → I.into_iter_gives iter it
             → HasRoom self.old (size (I.IntoIter.remaining it))) → IsOk result }
         ensures extended { OnOk result ((it : I.IntoIter) × I.into_iter_gives iter it
@@ -101,6 +105,8 @@ impl<T, A: Allocator> Ring<T, A> {
         // Success returns all items. If no allocation is needed, the call succeeds.
         ensures items { IfOk result (λ r. (it : I.IntoIter) × I.into_iter_gives iter it
             × Drains I.IntoIter.next_gives it r.items) }
+        ensures runs { IfOk result (λ r. (it : I.IntoIter) × I.into_iter_gives iter it
+            × WholeRun I.IntoIter.next_gives it (λ p. r.items ≡ p.items)) }
         ensures fits { ((it : I.IntoIter) → I.into_iter_gives iter it
             → size (I.IntoIter.remaining it) ≤ new_capacity (type_size T.row) 0) → IsOk result }
         ensures made { let none = empty (new_capacity (type_size T.row) 0) Doubling alloc in

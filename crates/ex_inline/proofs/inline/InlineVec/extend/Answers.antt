@@ -2,7 +2,7 @@ use Rattle.std.proofs.Common.{length, rules, inl, ap, arith}
 use Rattle.std.specs.Mem.{type_size}
 use denote.Param.{param}
 use Rattle.allocator_api2.specs.Extend.{LowerAtMost}
-use Rattle.ex_inline.proofs.Extending.{came_after, all_came, stopped}
+use Rattle.ex_inline.proofs.Extending.{came_after, all_came, ran_after, stopped}
 use Rattle.ex_inline.proofs.inline.InlineVec.extend.Goals as goal
 
 pub returns-in-Err-clause-failed : goal.returns-in-Err-clause-failed
@@ -17,6 +17,12 @@ pub returns-clause-items : goal.returns-clause-items
 returns-clause-items g c =
     let it = c.into_iter-items in
     came_after g.U.IntoIterator.into_iter_gives g.U.IntoIter.Iterator.next_gives (type_size (param 0 g.row.T)) g.row.N c.args.iter it.result it.ensures.into_iter_gives c.args.self.now c.reserve.new.self c.push_items.new.self
+    c.push_items.result c.in_default.ensures.items c.push_items.ensures.put
+
+pub returns-clause-runs : goal.returns-clause-runs
+returns-clause-runs g c =
+    let it = c.into_iter-items in
+    ran_after g.U.IntoIterator.into_iter_gives g.U.IntoIter.Iterator.next_gives (type_size (param 0 g.row.T)) g.row.N c.args.iter it.result it.ensures.into_iter_gives c.args.self.now c.reserve.new.self c.push_items.new.self
     c.push_items.result c.in_default.ensures.items c.push_items.ensures.put
 
 pub returns-clause-kept : goal.returns-clause-kept

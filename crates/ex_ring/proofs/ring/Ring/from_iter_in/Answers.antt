@@ -8,3 +8,7 @@ returns-in-Err-clause-error g c =
       why.1,
       rw c.new_in-ring.ensures at why.2,
     )
+
+pub returns-in-Ok-clause-runs : goal.returns-in-Ok-clause-runs
+returns-in-Ok-clause-runs g c =
+    let run = c.in-Ok.ensures.runs in (run.0, run.1, rw c.new_in-ring.ensures at run.2)
