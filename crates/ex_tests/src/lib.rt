@@ -13,7 +13,11 @@ mod cases;
 #[cfg(test)]
 mod inline;
 #[cfg(test)]
+mod layers;
+#[cfg(test)]
 mod leaf;
+#[cfg(test)]
+mod ledgers;
 #[cfg(test)]
 mod memory;
 #[cfg(test)]

@@ -2,6 +2,7 @@
 use allocator_api2::collections::TryReserveErrorKind;
 use ex_table::set::Set;
 use std::alloc::{AllocError, Global};
+use std::default::{Emptied, MadeWith};
 use std::hash::{BuildHasherDefault, FoldHasher};
 use std::ops::Range;
 use std::test::Fail;
@@ -95,4 +96,71 @@ fn sets_are_joined(rt: HostRuntime) {
 fn prints(alloc: Global, set: &Small<'_>, text: &str) -> Result<bool, AllocError> {
     let printed = format!(in alloc; "{set:?}")?;
     Ok(printed.as_str() == text)
+}
+
+// A set over the global allocator.
+type Plain = Set<u64, BuildHasherDefault<FoldHasher>, Global>;
+
+// A set of these values.
+fn made(alloc: Global, values: &[u64]) -> Result<Plain, AllocError> {
+    values.iter().copied().collect(alloc)
+}
+
+#[test]
+fn sets_are_collected_and_cloned(rt: HostRuntime) -> Result<(), Fail> {
+    let heap = rt.alloc();
+    let mut set = made(heap, &[1, 2, 1, 3])?;
+    assert!(rt; set.len() == 3 && set == set.clone()?);
+    assert!(rt; Plain::emptied(&set)? == Plain::made_with(heap));
+    set.extend([3, 4])?;
+    assert!(rt; set == made(heap, &[4, 3, 2, 1])?);
+    let all = Set::from_iter_in(set, heap)?;
+    assert!(rt; all.len() == 4 && all.contains(&4));
+    Ok(())
+}
+
+#[test]
+fn elements_are_replaced_and_drained(rt: HostRuntime) {
+    let heap = Faulty::new(rt.alloc());
+    let mut set = none(&heap);
+    assert!(rt; takes(&mut set, 0..10));
+    assert!(rt; set.replace(4).ok() == Some(Some(4)) && set.replace(10).ok() == Some(None));
+    let mut sum = 0u64;
+    for value in set.drain() {
+        sum = sum.saturating_add(value);
+    }
+    assert!(rt; sum == 55 && set.is_empty() && set.capacity() == 14);
+    assert!(rt; takes(&mut set, 0..9));
+    let mut drain = set.drain();
+    assert!(rt; drain.len() == 9 && drain.next().is_some() && drain.len() == 8);
+    drop(drain);
+    assert!(rt; set.is_empty() && heap.requests() == 3);
+}
+
+// The value in the error of a failed replacement, and the kind of the error.
+fn replaced(set: &mut Small<'_>, value: u64) -> Option<(u64, TryReserveErrorKind)> {
+    match set.replace(value) {
+        Ok(_) => None,
+        Err(back) => Some((back.source, back.error.kind())),
+    }
+}
+
+// The kind of the error of an extension.
+fn extended(set: &mut Small<'_>, values: Range<u64>) -> Option<TryReserveErrorKind> {
+    match set.extend(values) {
+        Ok(()) => None,
+        Err(error) => Some(error.kind()),
+    }
+}
+
+#[test]
+fn a_set_that_cannot_grow_keeps_its_elements(rt: HostRuntime) {
+    let heap = Faulty::new(rt.alloc());
+    let mut set = none(&heap);
+    assert!(rt; takes(&mut set, 0..12));
+    let kind = TryReserveErrorKind::AllocError { capacity: 28 };
+    heap.fail_requests(0, 2);
+    assert!(rt; extended(&mut set, 12..20) == Some(kind) && set.len() == 14);
+    assert!(rt; replaced(&mut set, 20) == Some((20, kind)) && replaced(&mut set, 13) == None);
+    assert!(rt; set.len() == 14 && set.contains(&13) && !set.contains(&20));
 }

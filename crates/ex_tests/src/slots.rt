@@ -4,6 +4,7 @@ use ex_slots::cursor::CursorMut;
 use ex_slots::map::{Key, SlotMap};
 use std::alloc::{AllocError, Global};
 use std::default::{Emptied, MadeWith};
+use std::mem::forget;
 use std::test::Fail;
 use test_allocators::Faulty;
 
@@ -429,4 +430,55 @@ fn a_map_is_made_with_capacity(rt: HostRuntime) {
         heap.fail_requests(granted, 1);
         assert!(rt; capacity_of_five(&heap) == None && heap.outstanding() == 0);
     }
+}
+
+// How many pairs a drain has, the first and the last, and how many it then has.
+fn ends_drained(map: &mut Small<'_>) -> (usize, Option<u32>, Option<(Key, u32)>, usize) {
+    let mut pairs = map.drain();
+    let all = pairs.len();
+    let first = pairs.next().map(|(_, value)| value);
+    let last = pairs.next_back();
+    (all, first, last, pairs.len())
+}
+
+// Removes all values, and returns their digits in order.
+fn digits_drained(map: &mut Small<'_>) -> u32 {
+    let mut digits = 0u32;
+    for (_, value) in map.drain() {
+        digits = digits.wrapping_mul(10).wrapping_add(value);
+    }
+    digits
+}
+
+#[test]
+fn a_map_is_drained(rt: HostRuntime) {
+    let heap = Faulty::new(rt.alloc());
+    let mut map = one_and_three(&heap);
+    let five = put(&mut map, 5);
+    assert!(rt; digits_drained(&mut map) == 135 && map.is_empty() && map.capacity() == 4);
+    let six = put(&mut map, 6);
+    assert!(rt; finds_any(&map, five) == None && six.is_some() && six != five);
+    let seven = put(&mut map, 7);
+    let eight = put(&mut map, 8);
+    let last = eight.map(|key| (key, 8));
+    assert!(rt; ends_drained(&mut map) == (3, Some(6), last, 1) && map.is_empty());
+    assert!(rt; finds_any(&map, seven) == None && heap.requests() == 2);
+}
+
+// Takes the first of three values out of a drain, and forgets the drain.
+fn forgotten(map: &mut Small<'_>) -> Option<u32> {
+    let mut pairs = map.drain();
+    let first = pairs.next().map(|(_, value)| value);
+    forget(pairs);
+    first
+}
+
+#[test]
+fn a_forgotten_drain_leaves_values_in_the_map(rt: HostRuntime) {
+    let heap = Faulty::new(rt.alloc());
+    let mut map = one_and_three(&heap);
+    let five = put(&mut map, 5);
+    assert!(rt; forgotten(&mut map) == Some(1) && map.len() == 2);
+    assert!(rt; finds_any(&map, five) == Some(5) && put(&mut map, 7).is_some());
+    assert!(rt; digits_drained(&mut map) == 735 && map.len() == 0);
 }

@@ -4,9 +4,11 @@ use ex_allocators::pool::Pool;
 use ex_allocators::recycler::Recycler;
 use ex_stress::below::{Below, count_below};
 use ex_stress::config::Config;
-use ex_stress::fault::Fault;
+use ex_stress::fault::{Broken, Fault};
 use ex_stress::random::Random;
-use ex_stress::stress::{Report, stress, stress_with_clone};
+use ex_stress::reach::Report;
+use ex_stress::script::{Replay, Script, Step};
+use ex_stress::stress::{replay, stress, stress_over_two, stress_with_clone};
 use ex_watched::budget::Budget;
 use ex_watched::counting::Counting;
 use ex_watched::watched::{Watch, Watched};
@@ -27,7 +29,7 @@ fn report_of<B: Allocator, A: Allocator + Clone>(
 fn kept_of(report: Option<Report>, config: Config) -> Option<u64> {
     match report {
         Some(report)
-            if report.steps == config.steps.saturating_mul(12)
+            if report.steps > config.steps.saturating_mul(12)
                 && report.requests > report.steps
                 && report.injected_failures > 0 => { Some(report.kept) }
         _ => None,
@@ -63,6 +65,24 @@ fn a_budget_keeps_its_limit(rt: HostRuntime) {
     }
 }
 
+// A budget is filled exactly, by blocks of each number that is claimed.
+#[test]
+fn a_run_comes_to_each_claim(rt: HostRuntime) {
+    let below = count_below(rt.alloc());
+    let config = Config {
+        blocks: usize::MAX,
+        ..claims(3_000, 5_000, 5_000)
+    };
+    let report = stress(rt.alloc(), &below, Budget::new(&below, 5_000), config);
+    let Ok(report) = report else {
+        assert!(rt; false);
+        return;
+    };
+    let reach = report.reach;
+    assert!(rt; reach.bytes == 5_000 && reach.size == 5_000);
+    assert!(rt; reach.guaranteed_size == 3_000 && reach.guaranteed_bytes == 5_000);
+}
+
 // Returns the report of a run over a counting allocator, if there was no fault.
 fn counted(books: Global) -> Option<Report> {
     let below = count_below(books);
@@ -73,6 +93,72 @@ fn counted(books: Global) -> Option<Report> {
 fn a_stress_run_is_the_same_each_time(rt: HostRuntime) {
     let one = counted(rt.alloc());
     assert!(rt; one.is_some() && one == counted(rt.alloc()));
+}
+
+// An allocator of 5,000 bytes and of 8 more.
+#[derive(Drop)]
+struct EightMore {
+    granted: Cell<usize>,
+}
+
+impl Watch for EightMore {
+    fn should_fail(&self, size: usize, _align: usize) -> bool {
+        5_008usize.saturating_sub(self.granted.get()) < size
+    }
+
+    fn on_allocate(&self, size: usize, _align: usize) {
+        self.granted.set(self.granted.get().saturating_add(size));
+    }
+
+    fn on_failure(&self, _size: usize, _align: usize) {}
+
+    fn on_deallocate(&self, size: usize, _align: usize) {
+        self.granted.set(self.granted.get().saturating_sub(size));
+    }
+}
+
+// Tests it by a script.
+#[derive(Drop)]
+struct OfEightMore {
+    books: Global,
+}
+
+impl Replay for OfEightMore {
+    fn replay(&self, script: &Script) -> Result<Report, Fault> {
+        let below = count_below(self.books);
+        let granted = Cell::new(0);
+        let heap = Watched::with_watch(&below, EightMore { granted });
+        replay(self.books, &below, heap, script)
+    }
+}
+
+// The fault of a limit that is eight bytes too large, in one step.
+#[test]
+fn a_fault_is_shown_by_one_step(rt: HostRuntime) {
+    let config = Config {
+        guaranteed_bytes: 0,
+        ..claims(16, 16, 5_000)
+    };
+    let subject = OfEightMore { books: rt.alloc() };
+    let Ok(mut script) = Script::new(rt.alloc(), config) else {
+        return;
+    };
+    assert!(rt; script.has(Step::Call(0)) && script.len() == 104);
+    let before = subject.replay(&script).err();
+    assert!(rt; before.is_some_and(|it| it.broken == Broken::PastLimit && it.seed == 7));
+    script.minimise(Broken::PastLimit, &subject);
+    let after = subject.replay(&script).err();
+    assert!(rt; after.is_some_and(|it| it.broken == Broken::PastLimit && it.step == 1));
+    assert!(rt; script.len() == 1);
+}
+
+// Two inner allocators, of which the second is used by nobody.
+#[test]
+fn one_of_two_is_enough(rt: HostRuntime) {
+    let (first, second) = (count_below(rt.alloc()), count_below(rt.alloc()));
+    let heap = Counting::new(&first);
+    let report = stress_over_two(rt.alloc(), &first, &second, heap, Config::new(7, 40));
+    assert!(rt; report.is_ok() && first.watch().stray().is_none());
 }
 
 #[test]

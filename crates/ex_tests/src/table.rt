@@ -2,6 +2,7 @@
 use allocator_api2::boxed::BoxedText;
 use allocator_api2::collections::TryReserveErrorKind;
 use allocator_api2::vec::Vec;
+use ex_table::table::entry::Entry;
 use ex_table::table::{Table, TryInsertError};
 use std::alloc::{AllocError, Global};
 use std::default::{Emptied, MadeWith};
@@ -479,4 +480,69 @@ fn a_table_is_drained(rt: HostRuntime) {
     assert!(rt; drain.len() == 10 && drain.next().is_some() && drain.len() == 9);
     drop(drain);
     assert!(rt; table.is_empty() && table.capacity() == 14 && has(&table, 1) == None);
+}
+
+// Counts a key once more. Returns how often it was counted then, or the kind of the error.
+fn counted(table: &mut Small<'_>, key: u64) -> Result<u64, TryReserveErrorKind> {
+    match table
+        .entry(key)
+        .and_modify(|n| *n = n.wrapping_add(1))
+        .or_insert(1)
+    {
+        Ok(count) => Ok(*count),
+        Err(back) => Err(back.error.kind()),
+    }
+}
+
+#[test]
+fn keys_are_counted_by_their_entries(rt: HostRuntime) {
+    let heap = Faulty::new(rt.alloc());
+    let mut table = none(&heap);
+    assert!(rt; counted(&mut table, 3) == Ok(1) && counted(&mut table, 3) == Ok(2));
+    assert!(rt; takes(&mut table, 4..17) && table.len() == 14);
+    heap.fail_requests(0, 1);
+    assert!(rt; counted(&mut table, 17) == Err(too_many(28)) && has(&table, 17) == None);
+    assert!(rt; counted(&mut table, 3) == Ok(3) && has(&table, 3) == Some(3));
+}
+
+// Sets the value of a key to the sum of both, and then to 9. Returns the sum of the old value and of
+// those two, or the key if it is absent.
+fn seen(table: &mut Small<'_>, key: u64) -> Result<u64, u64> {
+    match table.entry(key) {
+        Entry::Occupied(mut entry) => {
+            let sum = entry.get().wrapping_add(*entry.key());
+            let old = entry.insert(sum);
+            Ok(entry.insert(9).wrapping_add(old).wrapping_add(*entry.get()))
+        }
+        Entry::Vacant(entry) => Err(entry.into_key()),
+    }
+}
+
+#[test]
+fn an_entry_is_changed(rt: HostRuntime) {
+    let heap = Faulty::new(rt.alloc());
+    let mut table = none(&heap);
+    assert!(rt; takes(&mut table, 1..11) && *table.entry(5).key() == 5);
+    assert!(rt; seen(&mut table, 5) == Ok(24) && has(&table, 5) == Some(9));
+    assert!(rt; seen(&mut table, 20) == Err(20) && *table.entry(20).key() == 20);
+    assert!(rt; table.len() == 10 && heap.requests() == 3);
+}
+
+// The value of a key that is inserted by its entry, if it is absent, by a closure or as 0.
+fn made_value(table: &mut Small<'_>, key: u64, by: bool) -> Option<u64> {
+    if by {
+        Some(*table.entry(key).or_insert_with(|| 7).ok()?)
+    } else {
+        Some(*table.entry(key).or_default().ok()?)
+    }
+}
+
+#[test]
+fn an_absent_key_is_given_a_value(rt: HostRuntime) {
+    let heap = Faulty::new(rt.alloc());
+    let mut table = none(&heap);
+    for (key, by, value) in [(1, true, 7), (2, false, 0), (1, false, 7), (2, true, 0)] {
+        assert!(rt; made_value(&mut table, key, by) == Some(value), "{key}");
+    }
+    assert!(rt; table.len() == 2);
 }

@@ -1,11 +1,15 @@
 //! Allocators over one that counts: what they pass on, and that it is freed.
 use crate::allocators::has_room;
 use crate::memory::is_all_freed;
+use ex_allocators::fallback::Fallback;
+use ex_allocators::guarded::Guarded;
 use ex_allocators::pool::Pool;
 use ex_allocators::rack::Rack;
 use ex_allocators::recycler::Recycler;
 use ex_allocators::rounded::Rounded;
+use ex_allocators::segregated::Segregated;
 use ex_allocators::spaced::Spaced;
+use ex_allocators::zeroing::Zeroing;
 use ex_watched::budget::Budget;
 use ex_watched::counting::Counting;
 use std::alloc::{Allocator, Global};
@@ -17,13 +21,18 @@ enum Layer {
     // Of 64 bytes.
     Budget,
     Counting,
+    // Both allocators of it are the same one, as of `Segregated`.
+    Fallback,
     Faulty,
+    Guarded,
     // Of blocks of 8 bytes, which has none.
     Pool,
     Rack,
     Recycler,
     Rounded,
+    Segregated,
     Spaced,
+    Zeroing,
 }
 
 // Returns whether a request for so many bytes succeeds, and the blocks of the inner allocator that
@@ -38,12 +47,16 @@ fn request_from(layer: Layer, below: &Faulty<Global>, bytes: usize) -> (bool, u6
     match layer {
         Layer::Budget => request(Budget::new(below, 64), below, bytes),
         Layer::Counting => request(Counting::new(below), below, bytes),
+        Layer::Fallback => request(Fallback::new(below, below), below, bytes),
         Layer::Faulty => request(Faulty::new(below), below, bytes),
+        Layer::Guarded => request(Guarded::new(below), below, bytes),
         Layer::Pool => request(Pool::new(below, 8), below, bytes),
         Layer::Rack => request(Rack::new(below, 64), below, bytes),
         Layer::Recycler => request(Recycler::new(below), below, bytes),
         Layer::Rounded => request(Rounded::over(below), below, bytes),
+        Layer::Segregated => request(Segregated::new(below, below, 64), below, bytes),
         Layer::Spaced => request(Spaced::new(below), below, bytes),
+        Layer::Zeroing => request(Zeroing::new(below), below, bytes),
     }
 }
 
@@ -52,15 +65,19 @@ fn request_from(layer: Layer, below: &Faulty<Global>, bytes: usize) -> (bool, u6
 // layer is dropped.
 type Row = (Layer, usize, bool, bool, u64, u64);
 
-fn rows() -> [Row; 17] {
+fn rows() -> [Row; 25] {
     [
         (Layer::Budget, 64, false, true, 1, 1),
         (Layer::Budget, 65, false, false, 0, 0),
         (Layer::Budget, 64, true, false, 1, 0),
         (Layer::Counting, 64, false, true, 1, 1),
         (Layer::Counting, 64, true, false, 1, 0),
+        (Layer::Fallback, 64, false, true, 1, 1),
+        (Layer::Fallback, 64, true, true, 2, 1),
         (Layer::Faulty, 64, false, true, 1, 1),
         (Layer::Faulty, 64, true, false, 1, 0),
+        (Layer::Guarded, 64, false, true, 1, 1),
+        (Layer::Guarded, 64, true, false, 1, 0),
         (Layer::Pool, 64, false, true, 1, 1),
         (Layer::Pool, 64, true, false, 1, 0),
         (Layer::Rack, 64, false, true, 1, 1),
@@ -69,8 +86,12 @@ fn rows() -> [Row; 17] {
         (Layer::Recycler, 64, true, false, 1, 0),
         (Layer::Rounded, 64, false, true, 1, 1),
         (Layer::Rounded, 64, true, false, 1, 0),
+        (Layer::Segregated, 64, false, true, 1, 1),
+        (Layer::Segregated, 65, true, false, 1, 0),
         (Layer::Spaced, 64, false, true, 1, 1),
         (Layer::Spaced, 64, true, false, 1, 0),
+        (Layer::Zeroing, 64, false, true, 1, 1),
+        (Layer::Zeroing, 64, true, false, 1, 0),
     ]
 }
 

@@ -86,6 +86,25 @@ fn pairs_of_a_slot_map_are_dropped_once(rt: HostRuntime) {
     assert!(rt; pairs_are_so(&heap, &drops) && drops.get() == 5 && is_all_freed(&heap));
 }
 
+// Whether a drain drops each value of a slot map once, those not taken too, and allocates nothing.
+fn drained_are_so<'a>(heap: &'a Faulty<Global>, drops: &'a Cell<u32>) -> bool {
+    let mut map: Slots<'a> = SlotMap::new_in(heap);
+    let before = five_come(&mut map, drops);
+    let requests = heap.requests();
+    let mut pairs = map.drain();
+    drop(pairs.next());
+    let taken = drops.get();
+    drop(pairs);
+    (before, taken, drops.get()) == (1, 2, 5) && heap.requests() == requests && map.is_empty()
+}
+
+#[test]
+fn drained_values_of_a_slot_map_are_dropped_once(rt: HostRuntime) {
+    let heap = Faulty::new(rt.alloc());
+    let drops = Cell::new(0);
+    assert!(rt; drained_are_so(&heap, &drops) && drops.get() == 5 && is_all_freed(&heap));
+}
+
 // Sets the value of a key of an ordered map, and drops the old one. Returns how this ends.
 fn set<'a>(map: &mut Ordered<'a>, key: u64, drops: &'a Cell<u32>) -> End {
     match map.insert(key, Counted { value: 0, drops }) {
