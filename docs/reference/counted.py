@@ -14,6 +14,7 @@ SMALL = "no one two three four five six seven eight nine ten eleven twelve".spli
 NUMBER = rf"(\d[\d,]*(?:\.\d+)?|(?i:\b(?:{'|'.join(SMALL)})\b))"
 # The examples that are a part of a crate, by the first words of their row: the files and folders of its src, specs and proofs. A row that
 # says `the rest` counts what is in no other, and any other row counts its whole crate.
+LAYERS = "choice fallback guarded layered rounded segregated spaced suffix zeroing"
 PARTS = {
     "A leaf of a B-tree": ("leaf moves", "Entries LeafInside LeafLends", "LeafBorrowed LeafOrder leaf"),
     "An arena by handles": ("arena", "Lends", ""),
@@ -23,7 +24,7 @@ PARTS = {
     "A line editor": ("editor", "Editor", "editor"),
     "Records as bytes": ("records", "Records", "Decoding Rooms records"),
     "Allocators with a watch": ("budget counting watched", "Sizes", "Walk Watching watched"),
-    "A layer that": ("spaced", "Spacing", "Spacing spaced"),
+    "Layers and choices": (LAYERS, "Choices Layers Rounding Suffixes Zeros", "Choosing Layering Rounding Suffixing Zeroed " + LAYERS),
 }
 FOLDERS = ("src", "specs", "proofs")
 # The columns of the bench's tables, of instructions and then of times.
@@ -149,14 +150,14 @@ def proofs_by_hand(crate, but=()):
 def of_sources():
     """Sentences with a number of lines, edits or files: the file, the sentence, and for each number what it counts and the count."""
     trees = [("lines", lines_of("ex_trees", "src", it)) for it in (None, ["list"], ["tree"], ["search"])]
-    yield "README.md", "take in the library's {} crates", [("crates", len(CRATES))]
+    yield "README.md", "here the library's {} crates", [("crates", len(CRATES))]
     yield "CONTRIBUTING.md", "`allocator_api2` alone, has {} exact ones", [must_fail()]
     yield "CONTRIBUTING.md", "read and write of {} of them in turn", [failing_scripts()]
     yield "docs/DECISIONS.md", "The {} that stand for a promise", [must_fail()]
     yield "docs/ALLOCATORS.md", "has {} wrong allocators. The fault of {} is named, in {} steps. At {} `rt try`", wrong_allocators()
     yield "docs/EXAMPLES.md", "Of the {} lines of code {} are for lists, {} for trees, {} for search trees.", trees
     yield "docs/EXAMPLES.md", "search trees. The tests have {}.", [("lines", lines_of("ex_tests", "src", ["trees"]))]
-    yield "docs/EXAMPLES.md", "the recycler and their shelf {};", [proofs_by_hand("ex_allocators", ["spaced"])]
+    yield "docs/EXAMPLES.md", "twelve for layers and choices, and for the pool, the rack and their shelf {};", [proofs_by_hand("ex_allocators", LAYERS.split())]
 
 
 def of_types():

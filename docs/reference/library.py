@@ -80,7 +80,10 @@ class Library:
         return self.pages.setdefault(key, Page(key, self.crate))
 
     def add_type(self, page, name, item, section):
-        made = self.types.setdefault(name, Type(page, name, item, section))
+        # Of two types of one name, as the drains of a table and of a set, the second has its module in its key.
+        there = self.types.get(name)
+        key = f"{page.key}::{name}" if item and there and there.item and there.item is not item else name
+        made = self.types.setdefault(key, Type(page, name, item, section))
         if made not in page.types:
             page.types.append(made)
         return made
@@ -94,7 +97,7 @@ class Library:
 
     def add_impl(self, page, section, items):
         alias = self.aliases.get(re.sub(r"^impl(<.*?>)? ", "", section.head))
-        there = self.types.get(alias or section.type)
+        there = self.types.get(f"{page.key}::{section.type}") or self.types.get(alias or section.type)
         if not there:
             if items:
                 page.others.append((section, items))

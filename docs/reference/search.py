@@ -36,9 +36,10 @@ class Search:
             for name, of, kind, what in library.entries():
                 place = of if library.crate == LIBRARY or of.startswith(library.crate) else f"{library.crate}::{of}"
                 yield name, place, kind, library.href(what), self.items.first_sentence(what.doc), []
-
-        for name, of, kind, href, said in allocator.entries():
-            yield name, of, kind, href, sentence([said]), []
+            # The trait `Allocator` comes after the library, and before the examples.
+            if library.crate == LIBRARY:
+                for name, of, kind, href, said in allocator.entries():
+                    yield name, of, kind, href, sentence([said]), []
 
     def of_words(self):
         for word, href in self.site.words.items():
